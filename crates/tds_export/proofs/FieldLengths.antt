@@ -1,6 +1,5 @@
 -- How long the text of so many bytes is at most.
-use Rattle.tds_export.proofs.Words.{AreBytes, Conversion, Err, FitsWidths, HexDigits, Kind, List, None, Ok, Option, Result, ScalarValue, Some, ValueFault, [], and_parts, arith, begun_by_test, cast_signed, checked, choose, conversion_rest, conversion_text, datetime_of, doubled, doubled-append, doubled_byte, doubled_length, drop, emit, encode_utf8_all, fit_by_test, integer_of, is_begun, is_decimal_length, is_fit, is_length_allowed, joins_by_name, length, length-append, length-encode_with, length-map, length-take, length-text_of, little_number, long_field, money_of, nat_le, nat_tests, open_field, quote, read_of, take, text_of, true, unsigned_abs, utf16_chars, value_of, w16, w32, w64, ℕ, ◌*◌, ◌++◌, ◌+◌, ◌-◌, ◌<◌, ◌==◌, ◌^◌, ◌∷◌, ◌≡◌, ◌≤◌}
-use Rattle.tds_export.proofs.SomeBytes.{AreBytes-drop, byte_below, little_below, one_of_four}
+use Rattle.tds_export.proofs.{Words.{AreBytes, Conversion, Err, FitsWidths, HexDigits, Kind, List, None, Ok, Option, Result, ScalarValue, Some, ValueFault, [], and_parts, arith, begun_by_test, cast_signed, checked, choose, conversion_rest, conversion_text, datetime_of, doubled, doubled-append, doubled_byte, doubled_length, drop, emit, encode_utf8_all, fit_by_test, integer_of, is_begun, is_decimal_length, is_fit, is_length_allowed, joins_by_name, length, length-append, length-encode_with, length-map, length-take, length-text_of, little_number, long_field, money_of, nat_le, nat_tests, open_field, quote, read_of, take, text_of, true, unsigned_abs, utf16_chars, value_of, w16, w32, w64, ℕ, ◌*◌, ◌++◌, ◌+◌, ◌-◌, ◌<◌, ◌==◌, ◌^◌, ◌∷◌, ◌≡◌, ◌≤◌, ⊤}, SomeBytes.{AreBytes-drop, byte_below, little_below, one_of_four}}
 use Rattle.tds_csv.specs.Utf16 as utf16
 use Rattle.tds_values.specs.declared.kind.Kind.TheVariants as kinds
 use Rattle.tds_values.specs.declared.scalar.ScalarValue.TheVariants as values
@@ -98,7 +97,7 @@ magnitude_fits n xs h k = grind (arith, little_below, one_of_four)
 
 -- the numbers of a value, if there is one, fit
 abbrev AllFit : Option ScalarValue → Type 0
-AllFit None = Unit {0}
+AllFit None = ⊤
 AllFit (Some v) = FitsWidths v
 
 -- a date and time has no wide number
@@ -124,7 +123,7 @@ values_fit kind e h k = tt
 -- the text of a value that is read
 abbrev pub ReadShort : Result ScalarValue ValueFault → Type 0
 ReadShort (Ok v) = length (text_of v) ≤ 41
-ReadShort (Err f) = Unit {0}
+ReadShort (Err f) = ⊤
 
 -- a value in its range has a short text
 checked_short : (o : Option ScalarValue) → AllFit o → ReadShort (checked o)

@@ -1,16 +1,11 @@
 -- What is read grows by each element: the text so far, and the greatest span.
-use Rattle.tds_export.proofs.Words.{BeforeCount, Between, Charset, Column, Describing, DescriptionPart, Fields, Grows, InReturn, InRow, IsNext, Lead, List, Metadata, NoDescription, NoMetadata, None, Open, Option, Part, ReturnPart, Returned, RowPart, Some, Spelt, Spelt-induct, Token, TokenBody, TokenLength, WholeDescription, WholeReturn, [], add_described, after_first, append-nil, arith, bare_type, begun, bodied, choose, described_after, description, eq_true, false, fixed, greatest_span, grows_all, grows_same, grows_trans, grows_under, is_some_value, known_type, lead_of, length-append, little, max, nbc_row_start, open_span, open_text, part_add, response, return_add, row, row_add, row_grows, row_so_far, row_start, slice_index, span, span_so_far, start_of_row, text, text_after, text_so_far, with_described, with_return, with_row, with_token, ℕ, ◌++◌, ◌==◌, ◌∷◌, ◌≡◌, ◌≤◌}
-use Rattle.tds_export.proofs.{TokenLaws.begun_after, TokenLaws.greatest_span-append, TokenLaws.text_after-snoc, ReturnLaws.some_kind}
-
--- a part by its tokens and where it is read
-abbrev pub part_at : List Token → Open → Part
-part_at tokens at = record { tokens = tokens; at = at }
+use Rattle.tds_export.proofs.{Words.{BeforeCount, Between, Charset, Column, Describing, DescriptionPart, Fields, Grows, InReturn, InRow, IsNext, Lead, List, Metadata, NoDescription, NoMetadata, None, Open, Option, Part, ReturnPart, Returned, RowPart, Some, Spelt, Spelt-induct, Token, TokenBody, TokenLength, WholeDescription, WholeReturn, [], add_described, after_first, append-nil, arith, bare_type, begun, bodied, choose, described_after, description, eq_true, false, fixed, greatest_span, grows_all, grows_same, grows_trans, grows_under, is_some_value, known_type, lead_of, length-append, little, max, nbc_row_start, open_span, open_text, part_add, response, return_add, row, row_add, row_grows, row_so_far, row_start, slice_index, span, span_so_far, start_of_row, text, text_after, text_so_far, with_described, with_return, with_row, with_token, ℕ, ◌++◌, ◌==◌, ◌∷◌, ◌≡◌, ◌≤◌, ⊤}, TokenLaws.{begun_after, greatest_span-append, text_after-snoc}, ReturnLaws.some_kind, ResponseLaws.part_at}
 
 -- what a token byte other than that of a row begins
 abbrev pub IsFresh : Open → Type 0
 IsFresh (Describing d) = d ≡ BeforeCount
 IsFresh (InRow part) = ⊥
-IsFresh at = Unit {0}
+IsFresh at = ⊤
 
 -- the cases of what a byte begins
 pub lead_cases : (charset : Charset) (P : Part → Type 0) (tokens : List Token) (begun : Option Lead) → ((at : Open) → IsFresh at → P (part_at tokens at)) → P (start_of_row tokens (row_start charset) (described_after None tokens)) → P (start_of_row tokens nbc_row_start (described_after None tokens)) → P (after_first charset tokens begun)

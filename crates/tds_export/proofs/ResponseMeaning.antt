@@ -1,6 +1,5 @@
 -- What the bytes that lead to a part of a response spell.
-use Rattle.tds_export.proofs.Words.{AMetadata, APassed, AReturn, ARow, AnNbcRow, AreBytes, AreBytes-back, AreBytes-front, BadNotice, Between, Bodied, Bool, Cell, Charset, Column, DescribedMeans, Describing, DescriptionPart, Fields, InReturn, InRow, IsFirst, IsNext, Lead, List, NoDescription, None, Open, Option, Part, Response, ReturnPart, RowMeans, RowPart, Some, SpellsBody, SpellsNotice, SpellsRowToken, SpellsToken, SpellsTokens, Spelt, Spelt-induct, Token, TokenBody, TokenLength, WholeDescription, WholeReturn, WholeRow, WithBody, WithFields, [], add-one, after_first, after_lead, ap, append-nil, append_assoc, arith, bodied, choose, described_after, described_step, drop, drop-cons, drop-drop, eq_true, false, fixed, holds_notice, if◌then◌else◌, inl, inr, is_final, is_notice, is_row_lead, lead, lead_fault, lead_of, length, length-drop, length-take-le, line_at, little, message, nat_lt, not, notice_of, one_byte, part_add, passed, procedure_at, refl, response, response_start, row_byte_fault, row_start, row_start_means, row_step, server_at, slice_index, start_of_row, sym, take, take-append-drop, true, two_bytes, with_described, with_return, with_row, with_token, ℕ, ◌%◌, ◌&&◌, ◌*◌, ◌++◌, ◌+◌, ◌/◌, ◌<◌, ◌∙◌, ◌∷◌, ◌≡◌, ◌≤◌}
-use Rattle.tds_export.proofs.{ReturnLaws.ReturnMeans, ReturnLaws.return_step, ResponseLaws.described_after-append, ResponseLaws.fixed_spelt, NoticeReading.parts_within}
+use Rattle.tds_export.proofs.{Words.{AMetadata, APassed, AReturn, ARow, AnNbcRow, AreBytes, BadNotice, Between, Bodied, Bool, Cell, Charset, Column, DescribedMeans, Describing, DescriptionPart, Fields, InReturn, InRow, IsFirst, IsNext, Lead, List, NoDescription, None, Open, Option, Part, Response, ReturnPart, RowMeans, RowPart, Some, SpellsBody, SpellsNotice, SpellsRowToken, SpellsToken, SpellsTokens, Spelt, Token, TokenBody, TokenLength, WholeDescription, WholeReturn, WholeRow, WithBody, WithFields, [], add-one, after_first, after_lead, ap, append-nil, append_assoc, arith, bodied, choose, described_after, described_step, drop, drop-cons, drop-drop, eq_true, false, fixed, holds_notice, if◌then◌else◌, inl, inr, is_final, is_notice, is_row_lead, lead, lead_fault, lead_of, length, length-drop, length-take-le, line_at, little, message, nat_lt, not, notice_of, one_byte, part_add, passed, procedure_at, refl, response, response_start, row_byte_fault, row_start, row_start_means, row_step, server_at, slice_index, start_of_row, sym, take, take-append-drop, true, two_bytes, with_described, with_return, with_row, with_token, ℕ, ◌%◌, ◌&&◌, ◌*◌, ◌++◌, ◌+◌, ◌/◌, ◌<◌, ◌∙◌, ◌∷◌, ◌≡◌, ◌≤◌, after_tokens}, ReturnLaws.{ReturnMeans, return_step}, ResponseLaws.{described_after-append, fixed_spelt, part_at, IsFree}, NoticeLaws.parts_within, SomeBytes.bytes_induct}
 
 -- so many of the bytes after the first n, and those after them
 piece : (body : List ℕ) (n k m : ℕ) {r : List ℕ} → n + k ≡ m → drop m body ≡ r → drop n body ≡ take k (drop n body) ++ r
@@ -52,7 +51,7 @@ notice_spelt body h =
       line = (long body la 4 t.2, refl);
     }
 
-empty_body : (k : Bodied) → ((if is_notice k && nat_lt 0 14 then Some BadNotice else None) ≡ None) → ((if is_notice k && not (holds_notice []) then Some BadNotice else None) ≡ None)
+empty_body : (k : Bodied) → ((if is_notice k && nat_lt 0 14 then Some BadNotice else None) ≡ None) → IsFree k []
 empty_body k h = grind arith
 
 -- what a byte begins has it as its first byte
@@ -129,15 +128,15 @@ module _ (charset : Charset) (room : ℕ) where
   byte_step tokens b x None is h free = cc
   byte_step tokens b x (Some lead) is h free = lead_step _ b x _ is (leads_first x _ is) h free
 
-  body_means : (tokens : List Token) (k : Bodied) (body b : List ℕ) → (h : AfterLead tokens (WithBody k) (SpellsBody body) b) → ((if is_notice k && not (holds_notice body) then Some BadNotice else None) ≡ None) → PartMeans (with_token tokens (bodied k body)) b
+  body_means : (tokens : List Token) (k : Bodied) (body b : List ℕ) → (h : AfterLead tokens (WithBody k) (SpellsBody body) b) → IsFree k body → PartMeans (with_token tokens (bodied k body)) b
   body_means tokens k body b h f = token_means _ _ h (spelt k h.begins f)
     where
-      spelt : (k : Bodied) → IsFirst (WithBody k) h.first → ((if is_notice k && not (holds_notice body) then Some BadNotice else None) ≡ None) → SpellsToken charset room (described_after None tokens) (bodied k body) (h.first ∷ h.rest)
+      spelt : (k : Bodied) → IsFirst (WithBody k) h.first → IsFree k body → SpellsToken charset room (described_after None tokens) (bodied k body) (h.first ∷ h.rest)
       spelt (APassed passed) begins f = (h.rest, (h.first, refl, begins), h.follows)
       spelt b begins f = (h.rest, body, (h.first, refl, begins), h.follows, notice_spelt _ (held _ f))
 
   -- each element keeps the meaning
-  part_step : (tokens : List Token) (at : Open) (b e : List ℕ) → AreBytes e → OpenMeans tokens at b → IsNext (response charset room) (record { tokens = tokens; at = at }) e → PartMeans (part_add charset tokens at e) (b ++ e)
+  part_step : (tokens : List Token) (at : Open) (b e : List ℕ) → AreBytes e → OpenMeans tokens at b → IsNext (response charset room) (part_at tokens at) e → PartMeans (part_add charset tokens at e) (b ++ e)
   part_step tokens Between b e bytes h n = grind (arith, byte_step, one_byte)
   part_step tokens (Describing d) b e bytes h n =
       with_described_means _ _ _
@@ -161,12 +160,9 @@ module _ (charset : Charset) (room : ℕ) where
       token_means tokens (fixed f e) to (fixed_spelt _ _ _ f e _ (to.first, cc, to.begins) n.whole)
 
   -- What is read as a part of a response is spelt so.
-  part_keeps : (p : Part) (b e : List ℕ) → (AreBytes b → PartMeans p b) → IsNext (response charset room) p e → AreBytes (b ++ e) → PartMeans (part_add charset p.tokens p.at e) (b ++ e)
-  part_keeps p b e h n bytes = part_step _ _ b e (AreBytes-back b e bytes) (h (AreBytes-front b e bytes)) n
-
   part_is_spelt : (bytes : List ℕ) (p : Part) → AreBytes bytes → Spelt (response charset room) response_start bytes p → PartMeans p bytes
-  part_is_spelt bytes p are h = Spelt-induct _ (λ q b. AreBytes b → PartMeans q b) (λ q b e k n. part_keeps q b e k n) _ (λ t. refl) _ p h are
+  part_is_spelt bytes p are h = bytes_induct _ PartMeans (λ q b e k are n. part_step _ _ b e are k n) _ refl _ p are h
 
   -- What is read between tokens, after a final one, is a response.
-  pub response_is_spelt : (payload : List ℕ) (tokens : List Token) → AreBytes payload → is_final tokens ≡ true → Spelt (response charset room) response_start payload (record { tokens = tokens; at = Between }) → Response charset room tokens payload
+  pub response_is_spelt : (payload : List ℕ) (tokens : List Token) → AreBytes payload → is_final tokens ≡ true → Spelt (response charset room) response_start payload (after_tokens tokens) → Response charset room tokens payload
   response_is_spelt payload tokens are final h = record { spelt = part_is_spelt _ _ are h; final = final }
