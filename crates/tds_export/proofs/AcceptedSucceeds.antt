@@ -1,5 +1,5 @@
 -- What an export answers of an accepted response: it succeeds, but for a device that fails.
-use Rattle.tds_export.proofs.{Words.{AfterLast, AreBefore, BeforeBody, BeforeHeader, Err, Fault, IsRefused, List, Longest, Message, Ok, Outcome, Packet, Packets, Part, Payload, Place, Reading, Report, Response, Result, Run, Some, Spelt-induct, Stopped, Stops, SucceedsIfAccepted, Text, Token, Told, Wire, WireFault, WirePart, WirePlace, [], after_last, after_tokens, ap, append-nil, append_assoc, arith, before_are_read, before_packet, choose, drop, feed-Spelt, feed_all, feed_all-append, flat_map-append, grammar, header_length, inl, inr, length, longest_cut, more, no_wire, one_longest, one_message, packet_of, payload_of, read, read_longest, read_to_end, refl, response_start, subst, sym, take, take-append-drop, told, wire, wire_add, wire_end, wire_of, wire_size, with_packet, ℕ, ◌++◌, ◌+◌, ◌==◌, ◌∙◌, ◌∷◌, ◌≡◌, ◌≤◌, limits, IsAccepted, FailsToRead, FailsToWrite}, ResponseLaws.{one_accepted, refused_response, response_is_read}}
+use Rattle.tds_export.proofs.{Words.{AfterLast, AreBefore, BeforeBody, BeforeHeader, Err, Fault, IsRefused, List, Longest, Message, Ok, Outcome, Packet, Packets, Part, Payload, Place, Reading, Report, Response, Result, Run, Some, Spelt-induct, Stopped, Stops, SucceedsIfAccepted, Text, Token, Told, Wire, WireFault, WirePart, WirePlace, [], after_last, after_tokens, ap, append-nil, append_assoc, arith, before_are_read, before_packet, choose, drop, feed-Spelt, feed_all, feed_all-append, flat_map-append, grammar, header_length, inl, inr, length, longest_cut, more, no_wire, one_longest, one_message, payload_of, read, read_longest, read_to_end, refl, response_start, subst, sym, take, take-append-drop, told, wire, wire_add, wire_end, wire_of, wire_size, with_packet, ℕ, ◌++◌, ◌+◌, ◌==◌, ◌∙◌, ◌∷◌, ◌≡◌, ◌≤◌, limits, IsAccepted, FailsToRead, FailsToWrite}, ResponseLaws.{one_accepted, refused_response, response_is_read}}
 
 -- ---- packets at the front of a message
 
@@ -12,7 +12,7 @@ begins_more front packets p h = (h.0 ++ p ∷ [], cc (append_assoc front h.0 (p 
 
 pub begins_added : (front packets : List Packet) (place : WirePlace) (element : List ℕ) → BeginsWith packets front → BeginsWith (wire_add packets place element).packets front
 begins_added front packets BeforeHeader element h =
-    choose (λ w. BeginsWith w.packets front) (header_length element == 8) (with_packet packets (packet_of element [])) (record { packets = packets; place = BeforeBody element }) (λ z. begins_more front packets (packet_of element []) h) (λ z. h)
+    choose (λ w. BeginsWith w.packets front) (header_length element == 8) (with_packet packets _) (record { packets = packets; place = BeforeBody element }) (λ z. begins_more front packets _ h) (λ z. h)
 begins_added front packets (BeforeBody header) element h = begins_more _ _ _ h
 begins_added front packets AfterLast element h = h
 

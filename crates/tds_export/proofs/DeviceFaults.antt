@@ -51,7 +51,7 @@ reading_fault charset room size limit failures left b place at stop x = elim x.c
     | inl z ↦ rw (ap (λ (s : Stop). s.fault) z.1.2) (of_none IsOfPayload (λ h. h) (λ h. h) _ _ _ (end_fault charset room at z.1.0 z.1.1))
     | inr z ↦ rw (ap (λ (s : Stop). s.fault) z.1) (elim (ends_of_wire _ _ _ _ b _ _ y.ends) [
       | inl w ↦ of_none IsOfWire (λ h. h) (λ h. h) _ _ _ w
-      | inr w ↦ (λ e. (let no = sym w.0 ∙ e in cc), λ e. w.1)
+      | inr w ↦ (λ e. (cc), λ e. w.1)
     ])
   ]
 ]

@@ -1,5 +1,5 @@
 -- How an export ended, by the packets of its input.
-use Rattle.tds_export.proofs.Words.{AreBytes, Describing, EndsInLast, EndsMessage, Fault, InLast, IsHolding, IsKept, IsRefused, List, Open, Packet, Part, RefusesNext, Rose, Run, Seen, Some, Space, Spelt, Stop, StopsAfterPackets, StopsInPayload, StopsOnWire, Token, [], ap, append_assoc, arith, begun, description_of, drop, drop-append_seam, grammar, in_last, inl, inr, length, length-append, longest_cut, longest_refused, more, payload_of, refl, response_start, rose, subst, sym, take, take-append_seam, takes_begins, text, text_so_far, wire_of, ℕ, ◌++◌, ◌<◌, ◌∙◌, ◌≡◌, limits, CutsNext, ends_front, Stops, wire_goes_on, Payload, StopsReading, text_put, ◌+◌, Keeps}
+use Rattle.tds_export.proofs.Words.{AreBytes, Describing, EndsInLast, EndsMessage, Fault, InLast, IsHolding, IsKept, IsRefused, List, Open, Packet, Part, RefusesNext, Rose, Run, Seen, Some, Space, Spelt, Stop, StopsAfterPackets, StopsInPayload, StopsOnWire, Token, [], ap, append_assoc, arith, begun, description_of, drop, drop-append_seam, grammar, in_last, inl, inr, length, length-append, longest_cut, longest_refused, more, refl, response_start, rose, subst, sym, take, take-append_seam, takes_begins, text, text_so_far, wire_of, ℕ, ◌++◌, ◌<◌, ◌∙◌, ◌≡◌, limits, CutsNext, ends_front, Stops, wire_goes_on, Payload, StopsReading, text_put, ◌+◌, Keeps}
 
 -- what the area holds at a part is kept, whatever follows
 pub kept_at : (area : Space) (tokens : List Token) (at : Open) (rest : List ℕ) → area.bytes ≡ description_of tokens at → IsKept area.bytes tokens at rest
@@ -41,7 +41,7 @@ module _ (run : Run) {q : Seen} {part : Part} {bytes : List ℕ} (side : ReaderS
       let g = grammar run in
       let e = x.element in
       let more = x.ahead ++ (q.future []).bytes in
-      let b = takes_begins _ _ _ _ _ q _ (length (bytes ++ e)) side.bytes side.left x.takes x.between in
+      let b = takes_begins _ _ _ _ _ q _ _ side.bytes side.left x.takes x.between in
       let s = split_payload _ e _ _ (b.payload_is ∙ append_assoc (bytes ++ e) x.ahead (q.future []).bytes) in
       let l = in_last _ _ _ _ _ _ q _ _ side.left x.takes b (omega (arith, length-append ((bytes ++ e) ++ x.ahead) (q.future []).bytes, length-append (bytes ++ e) x.ahead, length-append bytes e)) in
       let refused : IsRefused g part (e ++ more) fault = record { some = omega arith; whole = omega (arith, length-append e more); first = cc (take-append_seam e more) } in
@@ -71,7 +71,7 @@ module _ (run : Run) {q : Seen} {part : Part} {bytes : List ℕ} (side : ReaderS
     -- the payload stopped on the wire
     stopped_on_wire : {stop : Stop} → (x : StopsAfterPackets (limits run).packet_size (limits run).max_wire run.input run.left (bytes ++ cut) run.given.before.reader.failures q.failures stop) → StopsOnWire run stop.fault (length (wire_of x.packets))
     stopped_on_wire x =
-        let rest = rest_of bytes cut (payload_of x.packets) x.payload_is in
+        let rest = rest_of bytes cut _ x.payload_is in
         record {
           packets = x.packets;
           rest = x.more;
@@ -100,7 +100,7 @@ module _ (run : Run) {q : Seen} {part : Part} {bytes : List ℕ} (side : ReaderS
     ]
     | inr x ↦ elim c.stop_is [
       | inl e ↦ absurd (elim x.cause [
-        | inl y ↦ (let differ = sym y.0 ∙ e.0 in cc)
+        | inl y ↦ (cc)
         | inr y ↦ wire_goes_on _ _ _ _ _ y.0 e.0
       ])
       | inr e ↦ rw e.1 (subst (Stops run c.own.fault) (sym x.place) (stopped_on_wire c.part c.cut x))

@@ -60,7 +60,7 @@ module _ (run : Run) (q : Seen) (are : AreBytes run.input) (left : q.left ≡ So
 
   pub reached_stopped : {at : Part} {stop : Stop} → StopsReading (grammar run) response_start (start run) q 0 at stop → Reached run at
   reached_stopped s = elim s.cause [
-    | inl r ↦ taken (r.0.element ++ r.0.ahead) (length (s.bytes ++ r.0.element)) (rw (append_assoc s.bytes r.0.element r.0.ahead) at r.0.takes) r.0.between s.spelt
+    | inl r ↦ taken _ _ (rw (append_assoc s.bytes r.0.element r.0.ahead) at r.0.takes) r.0.between s.spelt
     | inr c ↦ elim (ends_front _ _ _ _ _ q _ _ are left c.ends) [
       | inl m ↦ record { packets = m.packets; rest = run.left; begin = m.begin; each = inl m.each; within = m.within; bytes = s.bytes; more = c.part; spelt = s.spelt; payload_is = m.payload_is }
       | inr x ↦ record { packets = x.packets; rest = x.more; begin = x.begin; each = inr x.each; within = x.within; bytes = s.bytes; more = c.part; spelt = s.spelt; payload_is = x.payload_is }

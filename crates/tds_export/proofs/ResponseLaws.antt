@@ -134,8 +134,8 @@ module _ (charset : Charset) (room : ℕ) where
   tokens_are_read before current (t ∷ ts) bytes is some h =
       let one : Leads (after_tokens before) h.0 (with_token before t) = token_is_read _ t _ (rw is some) (rw is h.3) in
       let now : described_after None (before ++ t ∷ []) ≡ described_after current (t ∷ []) = cc (described_after-append None before (t ∷ [])) in
-      let rest : Leads (with_token before t) h.1 (after_tokens ((before ++ t ∷ []) ++ ts)) = tokens_are_read (before ++ t ∷ []) (described_after current (t ∷ [])) ts h.1 now (next_HasColumns _ t _ some h.3) h.4 in
-      grind (arith, token_is_read, HasColumns, described_after-append, next_HasColumns, Spelt-append, append_assoc)
+      let rest = tokens_are_read (before ++ t ∷ []) (described_after current (t ∷ [])) ts h.1 now (next_HasColumns _ t _ some h.3) h.4 in
+      grind (arith, token_is_read, HasColumns, next_HasColumns, Spelt-append, append_assoc)
 
   -- What spells a response is read as its tokens, all of it.
   pub response_is_read : (tokens : List Token) (payload : List ℕ) → Response charset room tokens payload → Leads response_start payload (after_tokens tokens)

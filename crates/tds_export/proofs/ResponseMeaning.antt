@@ -43,7 +43,7 @@ notice_spelt body h =
       procedure = take (2 * p) (drop (pa + 1) body);
       last = take 4 (drop la body);
       ignored = drop (la + 4) body;
-      spelt = regroup (take 4 body) (slice_index body 4) (slice_index body 5) (take 2 (drop 6 body)) (take (2 * u) (drop 8 body)) s (take (2 * s) (drop (sa + 1) body)) p (take (2 * p) (drop (pa + 1) body)) (take 4 (drop la body)) (drop (la + 4) body) body all s_is p_is;
+      spelt = regroup (take 4 body) (slice_index body 4) (slice_index body 5) _ _ s _ p _ _ (drop (la + 4) body) body all s_is p_is;
       number = (length-take-le 4 body (omega arith), refl);
       message = (long body 6 2 (omega arith), long body 8 (2 * u) (omega arith));
       servers = omega arith;
@@ -154,7 +154,7 @@ module _ (charset : Charset) (room : ℕ) where
       (λ z. body_means tokens k [] (b ++ e) (further e h (read ∙ ap (λ v. v % 256 ∷ v / 256 ∷ []) (eq_true _ 0 z), omega arith)) (empty_body k (rw (eq_true _ 0 z) at n.free)))
       (λ z. further e h (read, t.1))
   part_step tokens (TokenBody k m) b e bytes h n =
-      body_means _ k e _ (further e h (cc, (let w = h.follows.1 in omega arith))) n.free
+      body_means _ k e _ (further e h (cc, (omega arith))) n.free
   part_step tokens (Fields f) b e bytes h n =
       let to : AfterLead tokens (WithFields f) (λ rest. rest ≡ e) (b ++ e) = further e h (cc) in
       token_means tokens (fixed f e) to (fixed_spelt _ _ _ f e _ (to.first, cc, to.begins) n.whole)

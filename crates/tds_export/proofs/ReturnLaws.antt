@@ -52,7 +52,7 @@ return_is_read r bytes h =
     let info = byte_and_rest r.kind h.info h.type in
     let type = spelt_both (head_is_read r.name h.ignored info.byte (length info.rest) h.seven info.whole) (info_is_read r.name info.byte info.rest r.kind info.whole info.allowed) in
     let same = append_assoc h.ignored (info.byte ∷ []) info.rest ∙ ap (λ v. h.ignored ++ v) (sym info.spelt) in
-    let value = spelt_inside (value_agrees r.name r.kind) (cell_is_read return_column r.kind (shape return_charset r.kind) r.value h.value (shape-HasBytes return_charset r.kind) h.cell) in
+    let value = spelt_inside (value_agrees r.name r.kind) (cell_is_read return_column r.kind _ r.value h.value (shape-HasBytes return_charset r.kind) h.cell) in
     rw h.spelt (spelt_both (front_is_read r.name h.front h.named) (spelt_both (rw same at type) value))
 
 -- the bytes up to the value's, and what is read of it
@@ -114,7 +114,7 @@ return_step (InReturnCell name kind part) b e bytes h n =
       ignored = h.ignored;
       info = h.info;
       value = h.value ++ e;
-      spelt = cc (append_assoc h.front ((h.ignored ++ h.info) ++ h.value) e, append_assoc (h.ignored ++ h.info) h.value e);
+      spelt = cc (append_assoc h.front ((h.ignored ++ h.info) ++ h.value) e, append_assoc _ h.value e);
       named = h.named;
       seven = h.seven;
       type = h.type;

@@ -1,5 +1,5 @@
 -- What one more token adds to a response.
-use Rattle.tds_export.proofs.{Words.{APassed, Bodied, Bool, Cell, Column, Done, DoneInProc, Error, Fixed, Info, List, Metadata, NoMetadata, None, Notice, Option, PassedOver, Progress, ReturnValue, Returned, Row, ServerError, Some, Token, Tracks, TracksBefore, [], add_none, append_assoc, arith, before, begun, between, bodied, columns_of, described_after, encoded_after, false, field, first_error, fixed, greatest_span, header_line, how_many, is_error, is_final, is_notice, is_set, line, map, max, more, nat_lt, option_map, passed, refl, return_status_after, server_error, sym, test_lt, text_after, true, ℕ, ◌++◌, ◌+◌, ◌<◌, ◌∙◌, ◌∷◌, ◌≡◌, Reflects}, ResponseLaws.described_after-append}
+use Rattle.tds_export.proofs.{Words.{APassed, Bodied, Bool, Cell, Column, Done, DoneInProc, Error, Fixed, Info, List, Metadata, NoMetadata, None, Notice, Option, PassedOver, Progress, ReturnValue, Returned, Row, ServerError, Some, Token, Tracks, TracksBefore, [], add_none, append_assoc, arith, before, begun, bodied, columns_of, described_after, encoded_after, false, first_error, fixed, greatest_span, how_many, is_error, is_final, is_notice, is_set, max, more, nat_lt, option_map, passed, refl, return_status_after, server_error, sym, test_lt, text_after, true, ℕ, ◌++◌, ◌+◌, ◌<◌, ◌∙◌, ◌∷◌, ◌≡◌, Reflects}, ResponseLaws.described_after-append}
 
 -- whether a set has begun after these tokens
 abbrev pub begun_after : Bool → List Token → Bool
@@ -9,8 +9,8 @@ begun_after begun (t ∷ ts) = begun_after begun ts
 
 pub text_after-snoc : (begun : Bool) (ts : List Token) (t : Token) → text_after begun (ts ++ t ∷ []) ≡ text_after begun ts ++ text_after (begun_after begun ts) (t ∷ [])
 text_after-snoc begun [] t = refl
-text_after-snoc begun (Metadata bytes columns ∷ ts) t = cc (text_after-snoc true ts t, append_assoc (between begun ++ header_line columns) (text_after true ts) (text_after (begun_after true ts) (t ∷ [])))
-text_after-snoc begun (Row cells ∷ ts) t = cc (text_after-snoc begun ts t, append_assoc (line (map field cells)) (text_after begun ts) (text_after (begun_after begun ts) (t ∷ [])))
+text_after-snoc begun (Metadata bytes columns ∷ ts) t = cc (text_after-snoc true ts t, append_assoc _ (text_after true ts) (text_after _ (t ∷ [])))
+text_after-snoc begun (Row cells ∷ ts) t = cc (text_after-snoc begun ts t, append_assoc _ _ (text_after _ (t ∷ [])))
 text_after-snoc begun (u ∷ ts) t = text_after-snoc begun ts t
 
 begun_true : (ts : List Token) → begun_after true ts ≡ true

@@ -43,7 +43,7 @@ fits run fault place are x = grind (arith, fits_at, length-append)
 
 -- the count of the bytes delivered is exact
 exact : (run : Run) (delivered : ℕ) → delivered ≡ counted 0 (length run.gained) → length (text_put run) ≤ 64 * (limits run).max_wire → delivered ≡ length run.gained
-exact run delivered e few = let most = (limits run).max_wire_in_range in omega (arith, length-append run.gained (waiting run))
+exact run delivered e few = omega (arith, length-append run.gained (waiting run))
 
 -- ---- a run that stopped in writing
 
@@ -206,7 +206,7 @@ module _ (given : Given) (input left : List ℕ) (q : Seen) (stop : Stop) (are :
   stop_at_end : (k : Held) → IsWriter given k → StopsAtEnd (grammar_of given) response_start began q (fresh_at given) k given.after.areas.description stop → StopTold given input left stop k
   stop_at_end k writer y =
       let p = whole_puts y.whole in
-      let d = sends _ _ k (text y.whole.tokens) [] _ writer p y.fails.1 in
+      let d = sends _ _ k _ [] _ writer p y.fails.1 in
       let run = run_of given input left d.gained in
       let whole = whole_message_of run (reader_side given input left d.gained q are ql reader) y.whole in
       let rises = subst (Rose given.before.writer.failures) (cc) (rose _) in
@@ -259,7 +259,7 @@ report_tells given report x = λ input are e.
     let same = d.all ∙ append-nil (text tokens) in
     let gained = sym (append-nil run.gained) ∙ ap (λ w. run.gained ++ w) (sym empty) ∙ same in
     let few = fits_at run whole.packets left.0 (length (payload_of whole.packets)) (after_tokens tokens) (length (text_put run)) are whole.stands.begin whole.stands.within
-    (rw (take_payload (payload_of whole.packets)) whole.spelt) (omega (arith, ap length same, ap length (text_after_tokens tokens))) in
+    (rw (take_payload _) whole.spelt) (omega (arith, ap length same, ap length (text_after_tokens tokens))) in
     let written = exact run x.held.delivered d.delivered few ∙ ap length gained in
     let outcome : Reported run report = record {
       tokens = tokens;
