@@ -21,7 +21,7 @@ module _ (charset : Charset) (room : ℕ) {n place middle : ℕ} {tokens : List 
   after_length : {stop : Stop} → 0 < n → StopsReading (response charset room) (in_body which tokens n) b c middle (in_body which tokens n) stop → StopsReading (response charset room) (in_length which tokens) a c place (in_body which tokens n) stop
   after_length {stop = stop} some stops =
       let to : (response charset room).add (in_length which tokens) element ≡ in_body which tokens n = rw (number_is l) (choose_false _ _ _ (ne_eqb n 0 (λ z. omega arith))) in
-      let one = reads_one (response charset room) (in_length which tokens) a b element (in_body which tokens n) (record { some = omega arith; whole = l.two; free = length_free room n tokens _ _ long (number_is l) }) l.takes to in
+      let one = reads_one _ _ a b element _ (record { some = omega arith; whole = l.two; free = length_free room n tokens _ _ long (number_is l) }) l.takes to in
       stops_after (response charset room) (in_length which tokens) (in_body which tokens n) a b c place (in_body which tokens n) stop one (rw l.at at stops)
 
   -- the body was read
@@ -34,7 +34,7 @@ module _ (charset : Charset) (room : ℕ) {n place middle : ℕ} {tokens : List 
 
 -- no token is a notice and isn't one
 no_notice : {P : Type 0} (which : Bodied) → is_notice which ≡ false → is_notice which ≡ true → P
-no_notice which quiet loud = absurd (let both = sym quiet ∙ loud in cc)
+no_notice which quiet loud = absurd (cc)
 
 module _ (charset : Charset) {n middle : ℕ} {tokens : List Token} {which : Bodied} {element : List ℕ} {s : Progress} {u : View} {b c : Seen} (begun : Begun tokens s u) (quiet : is_notice which ≡ false) (l : LengthRead element n u.seen b u.place middle) where
   -- a body of which nothing is kept was read

@@ -1,5 +1,5 @@
 -- What completes a cell and a row is read as their rest.
-use Rattle.tds_export.proofs.{Words.{AreBytes, Binary, BitN, Bitmap, Bool, Cell, CellPart, ChunkData, ChunkLength, Column, Conversion, DataCell, Date, DateTime2, DateTimeN, DateTimeOffset, Decimal, Guid, InCell, Inside-Spelt, IntN, IsNext, Kind, List, MoneyN, Narrow, None, Null, Ok, Option, Result, RowPart, ScalarBytes, ScalarCell, ScalarLength, ScalarValue, Shape, ShortData, ShortLength, Some, Spelt, Spelt-none, Time, Total, Utf8Text, ValueFault, WholeCell, WholeRow, Wide, Windows1252, [], add-one, all_clear, and_parts, ap, append_assoc, arith, before, begins_open, begun, bit, bitmap_length, cell, cell_add, cell_in_row, cell_start, checked, choose, choose_false, div-eq_of_lt, eq-eqb, eq_false, eq_true, false, fixed_length, fixed_some, is_begun, is_decimal_length, is_fit, is_length_allowed, is_scalar, is_total, is_valid, le_true, length, length-append, length-replicate, marked, nat_le, nat_tests, next_cell, one-le-pow, or_cases, read_of, refl, rest_of_cell, rest_of_cells, rest_of_chunks, rest_of_row, row, row_add, shape, slice_index, some_bitmap, subst, suc, sym, terminator, test_le, test_lt, time_length, true, unit, unless_none, unwrap_or, value_of, value_part, with_cell, within_total, zero, zero_chunks, zeros, ℕ, ⊤, ◌%◌, ◌&&◌, ◌++◌, ◌+◌, ◌<◌, ◌∙◌, ◌∷◌, ◌≡◌, ◌≤◌}, Cuts.{spelt_both, spelt_one}, SomeBytes.{exactly, little_below, one_of_four, one_of_two}}
+use Rattle.tds_export.proofs.{Words.{AreBytes, Binary, BitN, Bitmap, Bool, Cell, CellPart, ChunkData, ChunkLength, Column, Conversion, DataCell, Date, DateTime2, DateTimeN, DateTimeOffset, Decimal, Guid, InCell, Inside-Spelt, IntN, IsNext, Kind, List, MoneyN, Narrow, None, Null, Ok, Option, Result, RowPart, ScalarBytes, ScalarCell, ScalarLength, ScalarValue, Shape, ShortData, ShortLength, Some, Spelt, Spelt-none, Time, Total, Utf8Text, ValueFault, WholeCell, WholeRow, Wide, Windows1252, [], add-one, all_clear, and_parts, ap, append_assoc, arith, before, begins_open, begun, bit, bitmap_length, cell, cell_add, cell_in_row, cell_start, checked, choose, choose_false, div-eq_of_lt, eq-eqb, eq_false, eq_true, false, fixed_some, is_begun, is_decimal_length, is_fit, is_length_allowed, is_scalar, is_total, is_valid, le_true, length, length-append, length-replicate, marked, nat_le, nat_tests, next_cell, one-le-pow, or_cases, read_of, refl, rest_of_cell, rest_of_cells, rest_of_chunks, rest_of_row, row, row_add, shape, slice_index, subst, suc, sym, terminator, test_le, test_lt, time_length, true, unit, unless_none, value_of, value_part, with_cell, within_total, zero, zero_chunks, zeros, ℕ, ⊤, ◌%◌, ◌&&◌, ◌++◌, ◌+◌, ◌<◌, ◌∙◌, ◌∷◌, ◌≡◌, ◌≤◌}, Cuts.{spelt_both, spelt_one}, SomeBytes.{exactly, little_below, one_of_four, one_of_two}}
 
 -- the conversions that Windows-1252 names: none judges data before its end
 abbrev pub is_plain : Conversion → Bool
@@ -43,7 +43,7 @@ ZerosAre kind n = IsRead (read_of kind (zeros n))
 zero_decimal : (d p s n : ℕ) → is_valid (Decimal d p s) ≡ true → is_length_allowed (Decimal d p s) n ≡ true → ZerosAre (Decimal d p s) n
 zero_decimal d p s n valid allowed =
     let one = and_parts (is_decimal_length d && nat_le 1 p && nat_le p 38) (nat_le s p) valid in
-    let small = test_le s 38 (omega (arith, le_true s p one.1, le_true p 38 (and_parts (is_decimal_length d && nat_le 1 p) (nat_le p 38) one.0).1)) in
+    let small = test_le s 38 (omega (arith, le_true s p one.1, le_true p 38 (and_parts _ (nat_le p 38) one.0).1)) in
     let long : is_length_allowed (Decimal d p s) (length (zeros n)) ≡ true = simp (length-replicate, allowed) in
     choose IsRead (is_length_allowed (Decimal d p s) (length (zeros n))) (checked (value_of (Decimal d p s) (zeros n))) _
     (λ t. choose IsRead (nat_le s 38) (Ok _) _ (λ u. (_, refl)) (λ f. cc))
@@ -66,7 +66,7 @@ zeros_are_a_value (DateTimeOffset sc) n v s h =
 zeros_are_a_value (Binary r) n v s h = cc
 zeros_are_a_value (Narrow r) n v s h = cc
 zeros_are_a_value (Wide r) n v s h = cc
-zeros_are_a_value kind n v s h = exactly (ZerosAre kind) n (unwrap_or (fixed_length kind) 0) h (_, refl)
+zeros_are_a_value kind n v s h = exactly (ZerosAre kind) n _ h (_, refl)
 
 zeros_next : (n : ℕ) → 0 ∷ zeros (n + 1) ≡ zeros (suc n + 1)
 zeros_next n = cc (add-one n, add-one (suc n))
@@ -108,7 +108,7 @@ module _ (column : ℕ) where
       (DataCell c content, spelt_one (omega arith) refl (rw (rw same at all, sum, plain_fit c content plain sum) refl) refl)
   chunks_end c total (suc n) content plain all even =
       let same : length content + suc n ≡ length (content ++ 0 ∷ []) + n = omega (arith, length-append content (0 ∷ [])) in
-      let fits = within total (length content + suc n) (length content + 1) all (omega arith) in
+      let fits = within total _ (length content + 1) all (omega arith) in
       let one : Spelt (cell column) (ChunkLength c total content) (1 ∷ 0 ∷ 0 ∷ 0 ∷ []) (ChunkData c total 0 content) = spelt_one (omega arith) refl (rw fits refl) refl in
       let more = chunks_end c total n (content ++ 0 ∷ []) plain (rw same at all) (rw same at even) in
       (more.0, spelt_both (spelt_both one (chunk_ends c _ 0 _ plain)) more.1)
@@ -201,7 +201,7 @@ part_ends before part ks h next =
 cells_end : (before : List Cell) (ks : List (Column × Bool)) → AreMarkedValid ks → (cells : List Cell) × Spelt (row Windows1252) (next_cell Windows1252 before ks) (rest_of_cells ks) (WholeRow cells)
 cells_end before [] h = (before, Spelt-none _ _)
 cells_end before ((k, true) ∷ ks) (v, h) = cells_end (before ++ Null ∷ []) ks h
-cells_end before ((k, false) ∷ ks) (v, h) = rw (← begins_open Windows1252 before ks k.kind (shape Windows1252 k.kind)) (part_ends before (cell_start k.kind (shape Windows1252 k.kind)) ks (start_reached k.kind v) (λ b. cells_end b ks h))
+cells_end before ((k, false) ∷ ks) (v, h) = rw (← begins_open Windows1252 before ks k.kind _) (part_ends before _ ks (start_reached k.kind v) (λ b. cells_end b ks h))
 
 stays_open : (cells : List Cell) (ks : List (Column × Bool)) (part : CellPart) → IsOpenCell part → with_cell Windows1252 cells ks part ≡ InCell cells part ks
 stays_open cells ks part h = grind arith
@@ -224,8 +224,8 @@ pub row_ends : (p : RowPart) → RowReached p → (cells : List Cell) × Spelt (
 row_ends (Bitmap columns) (some, h) =
     let n = bitmap_length (length columns) in
     let l = length-replicate n 0 in
-    let one : Spelt (row Windows1252) (Bitmap columns) (zeros n) (next_cell Windows1252 [] (marked columns (bit (zeros n)) 0)) = spelt_one (omega (arith, l, some_bitmap columns some)) l refl refl in
-    let clear : marked columns (bit (zeros n)) 0 ≡ all_clear columns = marked_clear _ _ 0 (clear_at n) in
+    let one : Spelt (row Windows1252) (Bitmap columns) (zeros n) (next_cell Windows1252 [] (marked columns (bit (zeros n)) 0)) = spelt_one (omega (arith, l)) l refl refl in
+    let clear = marked_clear _ _ 0 (clear_at n) in
     let more = cells_end _ _ (subst AreMarkedValid clear (marked_valid _ _ 0 h)) in
     (more.0, spelt_both (rw clear at one) more.1)
 row_ends (InCell cells part ks) (begun, h, m) = rw (← stays_open cells ks part begun) (part_ends _ _ _ h (λ b. cells_end b ks m))

@@ -47,7 +47,7 @@ ints_are_spelt (suc n) = (int_column, int_columns n, refl, int_is_spelt, ints_ar
 
 length-int_columns : (n : ℕ) → length (int_columns n) ≡ 8 * n
 length-int_columns zero = refl
-length-int_columns (suc n) = let l = length-int_columns n in omega (arith, length-append int_column (int_columns n))
+length-int_columns (suc n) = let l = length-int_columns n in omega arith
 
 -- the rest of a description, up to its end
 abbrev Ends : ℕ → DescriptionPart → List ℕ → Type 0
@@ -58,7 +58,7 @@ module _ (room : ℕ) where
   ints_end : (bytes : List ℕ) (count : ℕ) (cols : List Column) (n : ℕ) → count ≡ length cols + (1 + n) → length bytes + (8 + 8 * n) ≤ room → Ends room (InColumn bytes count cols ColumnHead) (int_column ++ int_columns n)
   ints_end bytes count cols n e fits =
       let l : length (int_columns (suc n)) ≡ 8 * suc n = length-int_columns _ in
-      let m : length (replicate n int) ≡ n = length-replicate n int in
+      let m = length-replicate n int in
       (bytes ++ int_columns (suc n), cols ++ int ∷ replicate n int, columns_are_read _ _ _ _ _ _ _ (omega (arith, m)) (omega arith) (ints_are_spelt (suc n)))
 
   -- after a column

@@ -1,5 +1,5 @@
 -- What completes a response is read as its rest, and is bytes.
-use Rattle.tds_export.proofs.{Words.{ADone, APassed, AreBytes, Between, Bool, CanBeCompleted, CellPart, Column, Describing, DescriptionPart, Done, Fields, InReturn, InReturnCell, InRow, IsNext, Kind, Lead, List, Metadata, None, Open, Option, Part, PassedOver, ReturnHead, ReturnInfo, ReturnName, ReturnNameCount, ReturnOrdinal, ReturnPart, Returned, Row, RowPart, Some, Spelt, Spelt-none, Token, TokenBody, TokenLength, WholeReturn, WholeRow, Windows1252, [], after_first, after_tokens, arith, begun, bodied, cell_start, choose, common_steps, completion, described_after, done, done_byte, eq_false, false, fields_length, fixed, holds_notice, int_column, int_columns, is_notice, lead_of, length, length-replicate, nat_tests, part_add, passed, refl, replicate-append-replicate, response, response_start, rest_of_cell, rest_of_cells, rest_of_return, rest_of_return_head, rest_of_token, rest_of_value, shape, slice_index, start_of_row, suc, test_le, test_lt, true, with_described, with_return, with_row, with_token, zero, zero_chunks, zeros, ℕ, ⊤, ◌++◌, ◌<◌, ◌∙◌, ◌∷◌, ◌≡◌, ◌≤◌}, SomeBytes.{AreBytes-append, AreBytes-replicate, bytes_induct}, CompletedDescriptions.{DescribedReached, IsOpenDescription, described_ends, described_keeps}, CompletedReturns.{ReturnReached, return_ends, return_keeps}, CompletedCells.{RowReached, AreValid, marked_valid, next_reached, row_ends, row_keeps}, LeastTypes.least_type, ResponseMeaning.response_is_spelt, Cuts.{spelt_both, spelt_one}, TokenLaws.{bare, bare_body, bare_fixed, is_bare, is_final-snoc}, ResponseLaws.{body_free, body_is_read, described_after-append, length_free, some_fields, description_agrees, row_agrees, return_agrees, part_at}, ReturnLaws.spelt_inside}
+use Rattle.tds_export.proofs.{Words.{ADone, APassed, AreBytes, Between, Bool, CanBeCompleted, CellPart, Column, Describing, DescriptionPart, Done, Fields, InReturn, InReturnCell, InRow, IsNext, Kind, Lead, List, Metadata, None, Open, Option, Part, PassedOver, ReturnHead, ReturnInfo, ReturnName, ReturnNameCount, ReturnOrdinal, ReturnPart, Returned, Row, RowPart, Some, Spelt, Spelt-none, Token, TokenBody, TokenLength, WholeReturn, WholeRow, Windows1252, [], after_first, after_tokens, arith, begun, bodied, cell_start, choose, common_steps, completion, described_after, done, done_byte, eq_false, false, fields_length, fixed, holds_notice, int_column, int_columns, is_notice, length, length-replicate, nat_tests, part_add, passed, refl, response, response_start, rest_of_cell, rest_of_cells, rest_of_return, rest_of_return_head, rest_of_token, rest_of_value, start_of_row, suc, test_le, test_lt, true, with_described, with_return, with_row, with_token, zero, zero_chunks, zeros, ℕ, ⊤, ◌++◌, ◌<◌, ◌∙◌, ◌∷◌, ◌≡◌, ◌≤◌}, SomeBytes.{AreBytes-append, AreBytes-replicate, bytes_induct}, CompletedDescriptions.{DescribedReached, IsOpenDescription, described_ends, described_keeps}, CompletedReturns.{ReturnReached, return_ends, return_keeps}, CompletedCells.{RowReached, AreValid, marked_valid, next_reached, row_ends, row_keeps}, LeastTypes.least_type, ResponseMeaning.response_is_spelt, Cuts.{spelt_both, spelt_one}, TokenLaws.{bare, bare_body, bare_fixed, is_bare, is_final-snoc}, ResponseLaws.{body_free, body_is_read, described_after-append, length_free, some_fields, description_agrees, row_agrees, return_agrees, part_at}, ReturnLaws.spelt_inside}
 
 -- a row, and a return value, that isn't whole
 abbrev pub IsOpenRow : RowPart → Type 0
@@ -33,12 +33,12 @@ AreBytes-zero_chunks zero = tt
 AreBytes-zero_chunks (suc n) = (omega arith, AreBytes-append (zeros 4) _ (AreBytes-zeros 4) (AreBytes-zero_chunks n))
 
 AreBytes-cell : (p : CellPart) → AreBytes (rest_of_cell p)
-AreBytes-cell p = grind (arith, AreBytes-append, AreBytes-zero_chunks, AreBytes-replicate, AreBytes-zeros)
+AreBytes-cell p = grind (arith, AreBytes-append, AreBytes-zero_chunks, AreBytes-zeros)
 
 AreBytes-cells : (ks : List (Column × Bool)) → AreBytes (rest_of_cells ks)
 AreBytes-cells [] = tt
 AreBytes-cells ((k, true) ∷ ks) = AreBytes-cells ks
-AreBytes-cells ((k, false) ∷ ks) = AreBytes-append _ _ (AreBytes-cell (cell_start k.kind (shape Windows1252 k.kind))) (AreBytes-cells ks)
+AreBytes-cells ((k, false) ∷ ks) = AreBytes-append _ _ (AreBytes-cell (cell_start k.kind _)) (AreBytes-cells ks)
 
 AreBytes-head : AreBytes rest_of_return_head
 AreBytes-head = AreBytes-append (zeros 7) (0x24 ∷ 16 ∷ 0 ∷ []) (AreBytes-zeros 7) (omega arith, (omega arith, (omega arith, tt)))
@@ -73,12 +73,12 @@ PartReached room p = CurrentReached (described_after None p.tokens) × OpenReach
 
 -- a notice of zero bytes holds its inner lengths
 zeros_hold : (n : ℕ) → 14 ≤ n → holds_notice (zeros n) ≡ true
-zeros_hold n h = grind (arith, common_steps, zeros, replicate-append-replicate, test_le, test_lt)
+zeros_hold n h = grind (arith, common_steps, zeros, test_le, test_lt)
 
 module _ (room : ℕ) where
   -- a token that describes nothing
   token_reached : (tokens : List Token) (t : Token) → ((c : Option (List Column)) → described_after c (t ∷ []) ≡ c) → CurrentReached (described_after None tokens) → PartReached room (with_token tokens t)
-  token_reached tokens t same h = (rw (described_after-append None tokens (t ∷ []) ∙ same (described_after None tokens)) h, tt)
+  token_reached tokens t same h = (rw (described_after-append None tokens (t ∷ []) ∙ same _) h, tt)
 
   bare_reached : (tokens : List Token) (t : Token) → is_bare t ≡ true → CurrentReached (described_after None tokens) → PartReached room (with_token tokens t)
   bare_reached tokens t is h = token_reached tokens t (bare t is).columns h
@@ -100,7 +100,7 @@ module _ (room : ℕ) where
 
   -- Each element keeps what is known.
   open_keeps : (tokens : List Token) (at : Open) (e : List ℕ) → AreBytes e → CurrentReached (described_after None tokens) → OpenReached room at → IsNext (response Windows1252 room) (part_at tokens at) e → PartReached room (part_add Windows1252 tokens at e)
-  open_keeps tokens Between e are h o n = lead_reached tokens (lead_of (slice_index e 0)) h
+  open_keeps tokens Between e are h o n = lead_reached tokens _ h
   open_keeps tokens (Describing d) e are h (begun, r) n = described_reached _ _ h (described_keeps _ d e are r (record { some = n.some; whole = n.whole; free = n.free }))
   open_keeps tokens (InRow part) e are h (begun, r) n = row_reached _ _ h (row_keeps _ e are r (record { some = n.some; whole = n.whole; free = n.free }))
   open_keeps tokens (InReturn part) e are h (begun, r) n = return_reached _ _ h (return_keeps _ e are r (record { some = n.some; whole = n.whole; free = n.free }))
@@ -146,7 +146,7 @@ module _ (room : ℕ) where
       (tokens ++ bodied b (zeros n) ∷ [], spelt_one (omega arith) l (body_free b (zeros n) (λ e. zeros_hold n (long e))) refl)
   token_ends ten tokens (Fields f) o =
       let l = length-replicate (fields_length f) 0 in
-      (tokens ++ fixed f (zeros (fields_length f)) ∷ [], spelt_one (rw l (some_fields f)) l refl refl)
+      (tokens ++ fixed f _ ∷ [], spelt_one (rw l (some_fields f)) l refl refl)
 
   done_ends : (tokens : List Token) → Spelt (response Windows1252 room) (after_tokens tokens) done (with_token tokens (Done false))
   done_ends tokens =

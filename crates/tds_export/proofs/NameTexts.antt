@@ -74,20 +74,20 @@ module _ {W : Type 0} {contents : W → Option (List ℕ)} {columns left rest : 
   begins : (more : List ℕ) × ((joined (map name_field x.done) ++ (mark ++ name_field c)) ++ more ≡ joined (map name_field columns))
   begins =
       let fields = map name_field x.done in
-      let all = ap (map name_field) (sym x.split ∙ ap (λ l. x.done ++ l) is) ∙ map-append name_field x.done (c ∷ rest) ∙ sym (append_assoc fields (name_field c ∷ []) (map name_field rest)) in
+      let all = ap (map name_field) (sym x.split ∙ ap (λ l. x.done ++ l) is) ∙ map-append name_field x.done (c ∷ rest) ∙ sym (append_assoc fields (name_field c ∷ []) _) in
       let grows = joined_more (fields ++ name_field c ∷ []) (map name_field rest) in
       (grows.0, cc (joined-snoc fields (name_field c), grows.1, all))
 
   -- the writer failed at the comma
   pub comma_breaks : {d : Sink W} {stop : Stop} (r : Result (Unit {0}) Stop) → PutsPiece {U = Unit {0}} contents b d (text_if (not first) (codes ",")) (Err stop) → IsErrAnd r (λ s. s ≡ stop) → PutsPiece contents a d (joined (map name_field columns)) r
-  comma_breaks r broke is_passed = rw (← begins.1, ← regroup (joined (map name_field x.done)) mark (name_field c) begins.0) (passed_piece _ is_passed (then_puts x.puts (rw x.first_is at broke)))
+  comma_breaks r broke is_passed = rw (← begins.1, ← regroup _ mark (name_field c) begins.0) (passed_piece _ is_passed (then_puts x.puts (rw x.first_is at broke)))
 
   module _ {d e : Sink W} (comma : PutsPiece contents b d (text_if (not first) (codes ",")) (Ok (tt {0}))) where
     -- one more name was put
     pub names_more : PutsPiece contents d e (name_field c) (Ok (tt {0})) → NamesPut contents columns rest false a e
     names_more name =
         let more = map-append name_field x.done (c ∷ []) in
-        let all = ap joined more ∙ joined-snoc (map name_field x.done) (name_field c) in
+        let all = ap joined more ∙ joined-snoc _ (name_field c) in
         record {
           done = x.done ++ c ∷ [];
           split = cc (append_assoc x.done (c ∷ []) rest);

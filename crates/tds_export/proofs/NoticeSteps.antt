@@ -1,5 +1,5 @@
 -- ERROR and INFO in their response, and the text of the first error.
-use Rattle.tds_export.proofs.{Words.{AnError, AnInfo, Bodied, Charset, Error, IsHolding, IsInBody, List, Option, Part, Progress, ReadsNotice, ReadsTokens, Report, Seen, ServerError, Some, Space, Stop, StopsInNotice, Token, TracksBefore, [], after_tokens, ap, appended, arith, characters, empty, first_error, how_many, in_length, inl, inr, is_error, length, length-append, length-take, message_text, notice_of, option_map, refl, response, server_error, sym, text, text_so_far, utf8_valid_len_le, whole_within, ℕ, ◌++◌, ◌+◌, ◌-◌, ◌<◌, ◌∙◌, ◌∷◌, ◌≡◌, ◌≤◌, View, ReadsNext}, TokenSteps.{Begun, bare_reads, quietly, stops_quietly, ReadsQuiet, StopsQuiet}, TokenLaws.{first_next, first_stays, no_errors, tracks_error, tracks_info}}
+use Rattle.tds_export.proofs.{Words.{AnError, AnInfo, Bodied, Charset, Error, IsHolding, IsInBody, List, Option, Part, Progress, ReadsNotice, ReadsTokens, Report, Seen, ServerError, Some, Space, Stop, StopsInNotice, Token, TracksBefore, [], after_tokens, ap, appended, arith, characters, empty, first_error, how_many, in_length, inl, inr, is_error, length, length-append, length-take, notice_of, option_map, refl, response, server_error, sym, text, text_so_far, utf8_valid_len_le, whole_within, ℕ, ◌++◌, ◌+◌, ◌-◌, ◌<◌, ◌∙◌, ◌∷◌, ◌≡◌, ◌≤◌, View, ReadsNext}, TokenSteps.{Begun, bare_reads, quietly, stops_quietly, ReadsQuiet, StopsQuiet}, TokenLaws.{first_next, first_stays, no_errors, tracks_error, tracks_info}}
 
 -- a text as far as it fits stays within the room
 pub within_room : (s : Space) (text : List ℕ) → s.bytes ≡ [] → s.peak ≤ s.room → (appended s (whole_within (s.room - length s.bytes) text)).peak ≤ s.room
@@ -33,7 +33,6 @@ module _ (charset : Charset) {tokens : List Token} {s : Progress} {u : View} {b 
     first_error_reads cleared {after = after} none no_bytes room_is put x =
         let n = notice_of body in
         let first = first_next tokens n (no_errors tokens (sym (errors_are s _ begun.tracks) ∙ none)) in
-        let text : after.bytes ≡ message_text (Some n) = rw (put, no_bytes, room_is) refl in
         (error_reads _ (cc) x, cc)
 
     -- a later ERROR was read

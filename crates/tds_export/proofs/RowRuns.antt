@@ -21,7 +21,7 @@ module _ (which : RowToken) (charset : Charset) (room : ℕ) (all : List Column)
   in_rows p = with_row (tokens ++ map Row p.before) p.at
 
   in_rows_text : (p : RowsPart) → text_so_far (in_rows p) ≡ text tokens ++ rows_so_far p
-  in_rows_text p = cc (row_text (tokens ++ map Row p.before) p.at, rows_text tokens p.before, append_assoc (text tokens) (lines p.before) (row_so_far p.at))
+  in_rows_text p = cc (row_text _ p.at, rows_text tokens p.before, append_assoc (text tokens) (lines p.before) (row_so_far p.at))
 
   module _ (known : described_after None tokens ≡ Some all) where
     -- an element leads from one of these to another
@@ -104,4 +104,4 @@ module _ (which : RowToken) (charset : Charset) {columns : List Column} {after :
   rows_stop y =
       let x = rw shown at y in
       let known = columns_known tokens _ _ described begun.holds.bytes begun.tracks.described in
-      stops_further (rows_stream _ _ _ _ _ known x.streams) {middle = u.place + length x.streams.bytes} refl (row_stops charset u.area.room (tokens ++ map Row x.earlier) (rows_hold u.area tokens x.earlier begun.holds) x.stops)
+      stops_further (rows_stream _ _ _ _ _ known x.streams) {middle = u.place + length x.streams.bytes} refl (row_stops charset u.area.room _ (rows_hold u.area tokens x.earlier begun.holds) x.stops)

@@ -1,5 +1,5 @@
 -- Tokens by their first bytes.
-use Rattle.tds_export.proofs.{Words.{Bool, Charset, Ends, Fault, Held, IsBetween, IsDescription, IsHolding, IsNext, IsOfKind, IsRefusedByte, IsUnder, Lead, List, MessageEnded, None, Part, Payload, Progress, ReadsTokens, Seen, Some, Space, StepStops, Stop, StopsReading, Streams, Takes, Token, TokenKind, [], after_tokens, ap, arith, begun, between, columns_of, cut_at_once, described_after, description_shows, encoded_after, false, in_kind, in_lead, inl, inr, lead_fault, lead_of, length, length-append, reads_one, refl, refused_at_once, response, row_byte_fault, sym, text_so_far, true, ℕ, ◌+◌, ◌-◌, ◌<◌, ◌^◌, ◌∙◌, ◌∷◌, ◌≡◌, ◌≤◌}, RowRuns.{columns_known, Describe}, ResponseLaws.no_row, TokenSteps.{same_text, start_text, stops_further, stops_quietly, streams_both}}
+use Rattle.tds_export.proofs.{Words.{Bool, Charset, Ends, Fault, Held, IsBetween, IsDescription, IsHolding, IsNext, IsOfKind, IsRefusedByte, IsUnder, Lead, List, MessageEnded, Part, Payload, Progress, ReadsTokens, Seen, Some, Space, StepStops, Stop, StopsReading, Streams, Takes, Token, TokenKind, [], after_tokens, ap, arith, begun, between, columns_of, cut_at_once, description_shows, encoded_after, false, in_kind, in_lead, inl, inr, lead_fault, lead_of, length, length-append, reads_one, refl, refused_at_once, response, row_byte_fault, sym, text_so_far, true, ℕ, ◌+◌, ◌-◌, ◌<◌, ◌^◌, ◌∙◌, ◌∷◌, ◌≡◌, ◌≤◌}, RowRuns.{columns_known, Describe}, ResponseLaws.no_row, TokenSteps.{same_text, start_text, stops_further, stops_quietly, streams_both}}
 
 -- a token byte that is accepted
 pub record BeginsToken (charset : Charset) (room : ℕ) (tokens : List Token) (byte : ℕ) (to : Part) : Type 0 where
@@ -46,7 +46,7 @@ module _ {charset : Charset} {room byte : ℕ} {tokens : List Token} {to : Part}
 refused : (charset : Charset) (room : ℕ) (tokens : List Token) (a b : Seen) (place byte : ℕ) (described : Bool) (fault : Fault) → Describe tokens described → IsRefusedByte described byte fault → Takes a b (byte ∷ []) 1 → IsBetween b
     → StopsReading (response charset room) (after_tokens tokens) a b place (after_tokens tokens) (record { fault = fault; place = Payload place })
 refused charset room tokens a b place byte described fault k (inl x) t between =
-    let first = ap (lead_fault (described_after None tokens) byte) x.1 ∙ ap Some (sym x.0) in
+    let first = ap (lead_fault _ byte) x.1 ∙ ap Some (sym x.0) in
     refused_at_once (response charset room) (after_tokens tokens) a b place (byte ∷ []) fault (omega arith) refl first t between
 refused charset room tokens a b place byte described fault k (inr x) t between =
     let none = rw x.1 at k in

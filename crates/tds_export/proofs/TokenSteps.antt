@@ -116,7 +116,7 @@ module _ (charset : Charset) (room : ℕ) {place : ℕ} {start : RowPart} {area 
           record {
             at = with_row tokens x.at;
             stops = stop_inside agrees y.0;
-            puts = puts_inside (row charset) (response charset room) (with_row tokens) (inside agrees) row_so_far text_so_far (text tokens) (row_front tokens) start x.at before after y.1;
+            puts = puts_inside (row charset) _ (with_row tokens) (inside agrees) row_so_far text_so_far (text tokens) (row_front tokens) start x.at before after y.1;
             holds = row_holds area tokens x.at holds;
           },
           y.2,
@@ -124,8 +124,8 @@ module _ (charset : Charset) (room : ℕ) {place : ℕ} {start : RowPart} {area 
         | inr y ↦ inr (
           record {
             at = with_row tokens x.at;
-            breaks = breaks_inside (row charset) (response charset room) (with_row tokens) (inside agrees) row_so_far text_so_far (text tokens) (row_front tokens) start a b before after x.at stop y.0;
-            holds = rw ((inside agrees).add x.at y.0.element (next_some (row charset) x.at y.0.element y.0.next)) (row_holds area tokens ((row charset).add x.at y.0.element) holds);
+            breaks = breaks_inside (row charset) _ (with_row tokens) (inside agrees) row_so_far text_so_far (text tokens) (row_front tokens) start a b before after x.at stop y.0;
+            holds = rw ((inside agrees).add x.at y.0.element (next_some (row charset) x.at y.0.element y.0.next)) (row_holds area tokens _ holds);
           },
           y.1,
         )
@@ -176,7 +176,7 @@ module _ (charset : Charset) {tokens : List Token} {s : Progress} {u : View} {ar
         → ReadsNext charset (in_metadata tokens) tokens u (record u { seen = b; place = place; held = after; area = area }) (record s { report = record s.report { sets = s.report.sets + 1 }; described = true })
     metadata_reads puts =
         let r = read_inside (description_agrees charset _ tokens) x.reads in
-        let header = between (nat_lt 0 s.report.sets) ++ header_line columns in
+        let header = between _ ++ header_line columns in
         let put = rw shown at puts in
         quietly begun refl (record {
           more = Metadata area.bytes columns ∷ [];
@@ -189,7 +189,7 @@ module _ (charset : Charset) {tokens : List Token} {s : Progress} {u : View} {ar
     -- the description was read, and the writer failed at its header
     pub metadata_breaks : {stop : Stop} → length u.held.waiting < 4096 → IsBetween b → Breaks u.held after (between (nat_lt 0 s.report.sets) ++ header_line (columns_of area.bytes)) stop → StopsInWriting (response charset u.area.room) (in_metadata tokens) u.seen b u.held after area stop
     metadata_breaks few between_b breaks =
-        let header = between (nat_lt 0 s.report.sets) ++ header_line columns in
+        let header = between _ ++ header_line columns in
         let l = last_inside _ _ _ (inside (description_agrees charset u.area.room tokens)) _ _ _ x.reads.spelt (some_bytes _ _ _ _ x.reads.spelt) in
         let open_text = open_text_none tokens l.at l.size in
         record {
@@ -200,7 +200,7 @@ module _ (charset : Charset) {tokens : List Token} {s : Progress} {u : View} {ar
             ahead = [];
             spelt = l.spelt;
             next = l.next;
-            takes = rw (append-nil (l.front ++ l.element)) (subst (λ v. Takes u.seen b v (length v)) (sym l.joined) x.reads.takes);
+            takes = rw (append-nil _) (subst (λ v. Takes u.seen b v (length v)) (sym l.joined) x.reads.takes);
             between = between_b;
             middle = u.held;
             few = few;
