@@ -1,5 +1,5 @@
 -- How an export ended, by the packets of its input.
-use Rattle.tds_export.proofs.Words.{AreBytes, Describing, EndsInLast, EndsMessage, Fault, InLast, IsHolding, IsKept, IsRefused, List, Open, Packet, Part, RefusesNext, Rose, Run, Seen, Some, Space, Spelt, Stop, StopsAfterPackets, StopsInPayload, StopsOnWire, Token, [], ap, append_assoc, arith, begun, description_of, drop, drop-append_seam, grammar, in_last, inl, inr, length, length-append, longest_cut, longest_refused, more, refl, response_start, rose, subst, sym, take, take-append_seam, takes_begins, text, text_so_far, wire_of, ℕ, ◌++◌, ◌<◌, ◌∙◌, ◌≡◌, limits, CutsNext, ends_front, Stops, wire_goes_on, Payload, StopsReading, text_put, ◌+◌, Keeps}
+use Rattle.tds_export.proofs.Words.{AreBytes, Describing, EndsInLast, EndsMessage, Fault, InLast, IsHolding, IsKept, IsRefused, List, Open, Packet, Part, RefusesNext, Run, Seen, Some, Space, Spelt, Stop, StopsAfterPackets, StopsInPayload, StopsOnWire, Token, [], ap, append_assoc, arith, begun, description_of, drop, drop-append_seam, grammar, in_last, inl, inr, length, length-append, longest_cut, longest_refused, more, refl, response_start, subst, sym, take, take-append_seam, takes_begins, text, text_so_far, wire_of, ℕ, ◌++◌, ◌<◌, ◌∙◌, ◌≡◌, limits, CutsNext, ends_front, Stops, wire_goes_on, Payload, StopsReading, text_put, ◌+◌, Keeps}
 
 -- what the area holds at a part is kept, whatever follows
 pub kept_at : (area : Space) (tokens : List Token) (at : Open) (rest : List ℕ) → area.bytes ≡ description_of tokens at → IsKept area.bytes tokens at rest
@@ -44,7 +44,7 @@ module _ (run : Run) {q : Seen} {part : Part} {bytes : List ℕ} (side : ReaderS
       let b = takes_begins _ _ _ _ _ q _ _ side.bytes side.left x.takes x.between in
       let s = split_payload _ e _ _ (b.payload_is ∙ append_assoc (bytes ++ e) x.ahead (q.future []).bytes) in
       let l = in_last _ _ _ _ _ _ q _ _ side.left x.takes b (omega (arith, length-append ((bytes ++ e) ++ x.ahead) (q.future []).bytes, length-append (bytes ++ e) x.ahead, length-append bytes e)) in
-      let refused : IsRefused g part (e ++ more) fault = record { some = omega arith; whole = omega (arith, length-append e more); first = cc (take-append_seam e more) } in
+      let refused : IsRefused g part (e ++ more) fault = grind (arith, length-append, take-append_seam) in
       record {
         packets = b.packets;
         part = part;
@@ -82,7 +82,7 @@ module _ (run : Run) {q : Seen} {part : Part} {bytes : List ℕ} (side : ReaderS
           within = x.within;
           taken_is = refl;
           first = elim x.cause [
-            | inl c ↦ inl (c.0, record { read = c.2.read; split = c.2.split; cut = c.2.cut; failed = subst (Rose run.given.before.reader.failures) (sym c.1 ∙ side.failures) (rose run.given.before.reader.failures) })
+            | inl c ↦ inl (c.0, record { read = c.2.read; split = c.2.split; cut = c.2.cut; failed = grind arith })
             | inr c ↦ inr c.0
           ];
           leads = rw x.payload_is (longest_cut (grammar run) response_start bytes cut part spelt short);

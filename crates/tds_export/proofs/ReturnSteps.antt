@@ -4,7 +4,7 @@ use Rattle.tds_export.proofs.{Words.{Bool, Charset, Ends, Err, IfOk, IsHolding, 
 module _ {s t : ReturnPart} {a b c : Seen} {place middle : ℕ} (x : ReadsReturn s t a b place middle) where
   -- what stops a call stops one that began before it
   pub return_stops_after : {stop : Stop} → StopsReturn t b c middle stop → StopsReturn s a c place stop
-  return_stops_after {stop = stop} y = record { at = y.at; stops = stops_after return_value s t a b c place y.at stop x.reads (rw x.place_is at y.stops) }
+  return_stops_after {stop = stop} y = grind (arith, stops_after)
 
   -- and so it is where nothing stops
   pub return_reads_after : {u : ReturnPart} {place' : ℕ} → ReadsReturn t u b c middle place' → ReadsReturn s u a c place place'

@@ -1,5 +1,5 @@
 -- Rows of one token after one another, in their response.
-use Rattle.tds_export.proofs.{Words.{Bool, Cell, Charset, Column, Held, IsDescribed, IsHolding, IsNext, List, None, Option, Part, Progress, PutsText, ReadsRows, RefusedToken, Row, RowPart, RowToken, RowsPart, RowsStop, Seen, Some, Space, Spelt, Stop, Streams, Token, Tracks, TracksBefore, WholeRow, [], after_tokens, ap, append-nil, append_assoc, arith, before, columns_of, counted, described_after, encoded_after, if◌then◌else◌, length, length-append, lines, map, map-append, next_inside, next_some, refl, response, row, row_so_far, rows, rows_so_far, rows_start, subst, sym, text, text_so_far, token_byte, token_start, true, with_row, ℕ, ◌++◌, ◌+◌, ◌==◌, ◌∙◌, ◌∷◌, ◌≡◌, View, ReadsNext, StopsIn, Spelt-induct, Spelt-one, Spelt-none}, TokenSteps.{Begun, holds-snoc, quietly, row_stops, row_text, stops_further}, ResponseLaws.{described_after-append, row_agrees}, TokenLaws.{text_after-snoc, tracks_row, with_rows}, ReturnLaws.inside, Cuts.spelt_both}
+use Rattle.tds_export.proofs.{Words.{Bool, Cell, Charset, Column, Held, IsDescribed, IsHolding, IsNext, List, None, Option, Part, Progress, ReadsRows, RefusedToken, Row, RowPart, RowToken, RowsPart, RowsStop, Seen, Some, Space, Spelt, Stop, Streams, Token, Tracks, TracksBefore, WholeRow, [], after_tokens, ap, append-nil, append_assoc, arith, before, columns_of, counted, described_after, encoded_after, if◌then◌else◌, length, length-append, lines, map, map-append, next_inside, next_some, refl, response, row, row_so_far, rows, rows_so_far, rows_start, subst, sym, text, text_so_far, token_byte, token_start, true, with_row, ℕ, ◌++◌, ◌+◌, ◌==◌, ◌∙◌, ◌∷◌, ◌≡◌, View, ReadsNext, StopsIn, Spelt-induct, Spelt-one, Spelt-none}, TokenSteps.{Begun, holds-snoc, quietly, row_stops, row_text, stops_further}, ResponseLaws.{described_after-append, row_agrees}, TokenLaws.{text_after-snoc, tracks_row, with_rows}, ReturnLaws.inside, Cuts.spelt_both}
 
 -- a byte that is no other token's
 is_token_byte : (byte x : ℕ) → (if x == byte then None else Some (RefusedToken x)) ≡ None → x ≡ byte
@@ -56,7 +56,7 @@ tracks_rows s tokens r [] k = tracks_row k r
 tracks_rows s tokens r (q ∷ qs) k =
     let first = tracks_row k r in
     let n : (s.report.rows + 1) + length (q ∷ qs) ≡ s.report.rows + length (r ∷ q ∷ qs) = omega arith in
-    rw (append_assoc tokens (Row r ∷ []) (map Row (q ∷ qs))) at (subst (λ (n : ℕ). Tracks (record s { report = record s.report { rows = n } }) ((tokens ++ Row r ∷ []) ++ map Row (q ∷ qs))) n (tracks_rows (with_rows s 1) (tokens ++ Row r ∷ []) q qs (record { report = first.report; described = first.described; final = k.final })))
+    rw (append_assoc tokens (Row r ∷ []) (map Row (q ∷ qs))) at (subst (λ (n : ℕ). Tracks (record s { report = record s.report { rows = n } }) ((tokens ++ Row r ∷ []) ++ map Row (q ∷ qs))) n (tracks_rows (with_rows s 1) (tokens ++ Row r ∷ []) q qs (grind arith)))
 
 -- the same, the last row named
 tracks_all : (s : Progress) (tokens : List Token) (earlier : List (List Cell)) (last : List Cell) (count : ℕ) → count ≡ length earlier + 1 → TracksBefore s tokens → Tracks (with_rows s count) (tokens ++ map Row (earlier ++ last ∷ []))
@@ -93,7 +93,7 @@ module _ (which : RowToken) (charset : Charset) {columns : List Column} {after :
       let end = ap after_tokens (append_assoc tokens (map Row x.earlier) (Row x.last ∷ []) ∙ ap (λ l. tokens ++ l) (sym (map-append Row x.earlier (x.last ∷ [])))) in
       quietly begun refl (record {
         more = map Row (x.earlier ++ x.last ∷ []);
-        streams = record { bytes = x.streams.bytes; spelt = rw (← end) there.spelt; takes = x.streams.takes; puts = subst (λ (v : Part). PutsText text_so_far (with_row tokens (token_start which charset (columns_of u.area.bytes))) v u.held after) end there.puts };
+        streams = record { bytes = x.streams.bytes; spelt = rw (← end) there.spelt; takes = x.streams.takes; puts = grind arith };
         place_is = x.place_is;
         tracks = tracks_all s _ x.earlier x.last _ x.counted begun.tracks;
         holds = rows_hold _ _ (x.earlier ++ x.last ∷ []) begun.holds;

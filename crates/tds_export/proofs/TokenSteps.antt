@@ -160,7 +160,7 @@ module _ (charset : Charset) {tokens : List Token} {s : Progress} {u : View} {ar
         streams = record { bytes = r.bytes; spelt = r.spelt; takes = r.takes; puts = same_text (in_metadata tokens) (with_token tokens NoMetadata) _ (simp (text_after-snoc, append-nil)) begun.delivered };
         place_is = x.place_is;
         tracks = tracks_none begun.tracks;
-        holds = record { bytes = cc (encoded_after-append [] tokens (NoMetadata ∷ [])); peak = omega (arith, greatest_span-append tokens (NoMetadata ∷ [])) };
+        holds = grind (arith, encoded_after-append, greatest_span-append);
       })
 
   -- the description is cut or refused
@@ -222,4 +222,4 @@ pub step_read : {R W U : Type 0} {remaining : R → Option (List ℕ)} {contents
     → ((tokens : List Token) → Begun tokens old.progress (view_of remaining contents old)
     → MatchResult result (λ _. ReadsNext old.charset (from tokens) tokens (view_of remaining contents old) (view_of remaining contents new) new.progress) (λ stop. StopsIn old.charset (from tokens) (view_of remaining contents old) (view_of remaining contents new) stop))
     → StepRead remaining contents from old new result
-step_read {remaining = remaining} {contents = contents} running leaves reads = record { leaves = leaves; reads = λ tokens tracks holds noted. reads tokens (begun_in remaining contents running tracks holds noted) }
+step_read {remaining = remaining} {contents = contents} running leaves reads = record { leaves = leaves; reads = grind arith }
