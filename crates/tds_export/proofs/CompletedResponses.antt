@@ -101,9 +101,9 @@ module _ (room : ℕ) where
   -- Each element keeps what is known.
   open_keeps : (tokens : List Token) (at : Open) (e : List ℕ) → AreBytes e → CurrentReached (described_after None tokens) → OpenReached room at → IsNext (response Windows1252 room) (part_at tokens at) e → PartReached room (part_add Windows1252 tokens at e)
   open_keeps tokens Between e are h o n = lead_reached tokens _ h
-  open_keeps tokens (Describing d) e are h (begun, r) n = described_reached _ _ h (described_keeps _ d e are r (record { some = n.some; whole = n.whole; free = n.free }))
-  open_keeps tokens (InRow part) e are h (begun, r) n = row_reached _ _ h (row_keeps _ e are r (record { some = n.some; whole = n.whole; free = n.free }))
-  open_keeps tokens (InReturn part) e are h (begun, r) n = return_reached _ _ h (return_keeps _ e are r (record { some = n.some; whole = n.whole; free = n.free }))
+  open_keeps tokens (Describing d) e are h (begun, r) n = described_reached _ _ h (described_keeps _ d e are r (grind arith))
+  open_keeps tokens (InRow part) e are h (begun, r) n = row_reached _ _ h (row_keeps _ e are r (grind arith))
+  open_keeps tokens (InReturn part) e are h (begun, r) n = return_reached _ _ h (return_keeps _ e are r (grind arith))
   open_keeps tokens (TokenLength b) e are h o n = grind (arith, bare_body, bare_reached, choose, eq_false, nat_tests)
   open_keeps tokens (TokenBody b m) e are h o n = bare_reached tokens _ (bare_body b e) h
   open_keeps tokens (Fields f) e are h o n = bare_reached tokens _ (bare_fixed f e) h

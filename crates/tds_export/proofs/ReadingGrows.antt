@@ -61,7 +61,7 @@ module _ (charset : Charset) (room : ℕ) where
   part_grows tokens (Describing d) e n = with_described_grows tokens (add_described d e)
   part_grows tokens (InRow part) e n =
       grows_trans _ _ _
-      (grows_under (text tokens) (row_so_far part) _ (row_grows charset part e (record { some = n.some; whole = n.whole; free = n.free })))
+      (grows_under (text tokens) (row_so_far part) _ (row_grows charset part e (grind arith)))
       (with_row_grows tokens _)
   part_grows tokens (InReturn part) e n = with_return_grows tokens (return_add part e)
   part_grows tokens (TokenLength b) e n = choose (λ p. Grows (text tokens ++ []) (text_so_far p)) (little e == 0) _ _ (λ z. token_grows tokens (bodied b [])) (λ z. grows_same (text tokens ++ []))

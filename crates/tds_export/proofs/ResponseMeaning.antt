@@ -140,13 +140,13 @@ module _ (charset : Charset) (room : ℕ) where
   part_step tokens Between b e bytes h n = grind (arith, byte_step, one_byte)
   part_step tokens (Describing d) b e bytes h n =
       with_described_means _ _ _
-      (further e h (described_step _ d _ e bytes h.follows (record { some = n.some; whole = n.whole; free = n.free })))
+      (further e h (described_step _ d _ e bytes h.follows (grind arith)))
   part_step tokens (InRow part) b e bytes (columns, nbc, is, h) n =
       with_row_means _ _ _ _ _ is
-      (further e h (row_step _ _ _ _ _ e bytes h.follows (record { some = n.some; whole = n.whole; free = n.free })))
+      (further e h (row_step _ _ _ _ _ e bytes h.follows (grind arith)))
   part_step tokens (InReturn part) b e bytes h n =
       with_return_means _ _ _
-      (further e h (return_step _ _ e bytes h.follows (record { some = n.some; whole = n.whole; free = n.free })))
+      (further e h (return_step _ _ e bytes h.follows (grind arith)))
   part_step tokens (TokenLength k) b e bytes h n =
       let t = two_bytes e n.whole bytes in
       let read = ap (λ v. v ++ e) h.follows ∙ t.0 in

@@ -39,7 +39,7 @@ module _ (which : RowToken) (charset : Charset) (room : ℕ) (all : List Column)
     element_next before (WholeRow cells) (x ∷ []) n =
         rw (is_token_byte _ x n.free) (token_next _ _)
     element_next before (WholeRow cells) (x ∷ y ∷ r) n = absurd (let w = n.whole in omega arith)
-    element_next before p e n = row_next _ p e (record { some = n.some; whole = n.whole; free = n.free })
+    element_next before p e n = row_next _ p e (grind arith)
 
     -- what is read of rows from their start on and put, is read of the response and put
     abbrev rows_stream : {t : RowsPart} {a b : Seen} {h j : Held} → Streams (rows which charset all) rows_so_far (rows_start which charset all) a b h j t → Streams (response charset room) text_so_far (with_row tokens (token_start which charset all)) a b h j (in_rows t)
