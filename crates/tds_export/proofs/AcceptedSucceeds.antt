@@ -1,6 +1,5 @@
 -- What an export answers of an accepted response: it succeeds, but for a device that fails.
-use Rattle.tds_export.proofs.Words.{Accepted, AfterLast, AreBefore, BeforeBody, BeforeHeader, Err, Fault, IsRefused, List, Longest, Message, Ok, Outcome, Packet, Packets, Part, Payload, Place, Reading, Report, Response, Result, Rose, Run, Some, Spelt-induct, Stopped, Stops, SucceedsIfAccepted, Text, Token, Told, Wire, WireFault, WirePart, WirePlace, [], after_last, after_tokens, ap, append-nil, append_assoc, arith, before_are_read, before_packet, choose, drop, feed-Spelt, feed_all, feed_all-append, flat_map-append, grammar, header_length, inl, inr, length, longest_cut, more, no_wire, one_longest, one_message, packet_of, payload_of, read, read_longest, read_to_end, refl, response_start, subst, sym, take, take-append-drop, told, wire, wire_add, wire_end, wire_of, wire_size, with_packet, ℕ, ◌++◌, ◌+◌, ◌==◌, ◌∙◌, ◌∷◌, ◌≡◌, ◌≤◌, limits}
-use Rattle.tds_export.proofs.ResponseLaws.{one_accepted, refused_response, response_is_read}
+use Rattle.tds_export.proofs.{Words.{AfterLast, AreBefore, BeforeBody, BeforeHeader, Err, Fault, IsRefused, List, Longest, Message, Ok, Outcome, Packet, Packets, Part, Payload, Place, Reading, Report, Response, Result, Run, Some, Spelt-induct, Stopped, Stops, SucceedsIfAccepted, Text, Token, Told, Wire, WireFault, WirePart, WirePlace, [], after_last, after_tokens, ap, append-nil, append_assoc, arith, before_are_read, before_packet, choose, drop, feed-Spelt, feed_all, feed_all-append, flat_map-append, grammar, header_length, inl, inr, length, longest_cut, more, no_wire, one_longest, one_message, payload_of, read, read_longest, read_to_end, refl, response_start, subst, sym, take, take-append-drop, told, wire, wire_add, wire_end, wire_of, wire_size, with_packet, ℕ, ◌++◌, ◌+◌, ◌==◌, ◌∙◌, ◌∷◌, ◌≡◌, ◌≤◌, limits, IsAccepted, FailsToRead, FailsToWrite}, ResponseLaws.{one_accepted, refused_response, response_is_read}}
 
 -- ---- packets at the front of a message
 
@@ -13,7 +12,7 @@ begins_more front packets p h = (h.0 ++ p ∷ [], cc (append_assoc front h.0 (p 
 
 pub begins_added : (front packets : List Packet) (place : WirePlace) (element : List ℕ) → BeginsWith packets front → BeginsWith (wire_add packets place element).packets front
 begins_added front packets BeforeHeader element h =
-    choose (λ w. BeginsWith w.packets front) (header_length element == 8) (with_packet packets (packet_of element [])) (record { packets = packets; place = BeforeBody element }) (λ z. begins_more front packets (packet_of element []) h) (λ z. h)
+    choose (λ w. BeginsWith w.packets front) (header_length element == 8) (with_packet packets _) (record { packets = packets; place = BeforeBody element }) (λ z. begins_more front packets _ h) (λ z. h)
 begins_added front packets (BeforeBody header) element h = begins_more _ _ _ h
 begins_added front packets AfterLast element h = h
 
@@ -63,7 +62,7 @@ refused_accepted run tokens payload more place part fault r l refused =
     refused_response _ _ _ _ _ _ _ _ l refused (rw split at r)
 
 -- the packets read are those of the message, or begin it
-read_begin : (run : Run) (tokens : List Token) (read packets : List Packet) → Packets run read → (a : Accepted run.given.charset (limits run).packet_size (limits run).column_room (limits run).max_wire tokens packets run.input) → (more : List ℕ) × (payload_of packets ≡ payload_of read ++ more)
+read_begin : (run : Run) (tokens : List Token) (read packets : List Packet) → Packets run read → (a : IsAccepted run tokens packets) → (more : List ℕ) × (payload_of packets ≡ payload_of read ++ more)
 read_begin run tokens read packets p a = elim p.each [
   | inl h ↦ (let same = one_message _ _ _ _ _ _ _ _ (record { spelt = refl; each = h; within = p.within }) a.message (p.begin ∙ a.begins) in
       ([], cc (append-nil (payload_of read))))
@@ -72,8 +71,8 @@ read_begin run tokens read packets p a = elim p.each [
 ]
 
 -- no run of an accepted response stops but by a device
-none_stops : (run : Run) (fault : Fault) (place : Place) → Stops run fault place → (tokens : List Token) (packets : List Packet) → Accepted run.given.charset (limits run).packet_size (limits run).column_room (limits run).max_wire tokens packets run.input
-    → (Rose run.given.before.reader.failures run.given.after.reader.failures → ⊥) → (Rose run.given.before.writer.failures run.given.after.writer.failures → ⊥) → ⊥
+none_stops : (run : Run) (fault : Fault) (place : Place) → Stops run fault place → (tokens : List Token) (packets : List Packet) → IsAccepted run tokens packets
+    → (FailsToRead run.given → ⊥) → (FailsToWrite run.given → ⊥) → ⊥
 none_stops run fault (Payload place) x tokens packets a reads writes = elim x.first [
   | inl r ↦ (let b = read_begin _ _ _ _ x.stands a in
       refused_accepted run tokens (payload_of x.packets) b.0 place x.part fault (rw b.1 at a.response) x.leads r.0)

@@ -1,7 +1,5 @@
--- What completes a cell is read as its rest.
-use Rattle.tds_export.proofs.Words.{AreBytes, Binary, BitN, Bool, Cell, CellPart, ChunkData, ChunkLength, Conversion, DataCell, Date, DateTime2, DateTimeN, DateTimeOffset, Decimal, Guid, IntN, IsNext, Kind, List, MoneyN, Narrow, None, Null, Ok, Option, Result, ScalarBytes, ScalarCell, ScalarLength, ScalarValue, ShortData, ShortLength, Some, Spelt, Spelt-none, Time, Total, Utf8Text, ValueFault, WholeCell, Wide, Windows1252, [], add-one, and_parts, ap, append_assoc, arith, cell, cell_add, cell_start, checked, choose, choose_false, eq-eqb, eq_false, eq_true, false, fixed_length, fixed_some, is_begun, is_decimal_length, is_fit, is_length_allowed, is_scalar, is_total, is_valid, le_true, length, length-append, length-replicate, nat_le, nat_tests, or_cases, read_of, refl, rest_of_cell, rest_of_chunks, shape, suc, sym, terminator, test_le, test_lt, time_length, true, unit, unless_none, unwrap_or, value_of, value_part, within_total, zero, zero_chunks, zeros, ℕ, ◌%◌, ◌&&◌, ◌++◌, ◌+◌, ◌<◌, ◌∙◌, ◌∷◌, ◌≡◌, ◌≤◌}
-use Rattle.tds_export.proofs.SomeBytes.{exactly, little_below, one_of_four, one_of_two}
-use Rattle.tds_export.proofs.Cuts.{spelt_both, spelt_one}
+-- What completes a cell and a row is read as their rest.
+use Rattle.tds_export.proofs.{Words.{AreBytes, Binary, BitN, Bitmap, Bool, Cell, CellPart, ChunkData, ChunkLength, Column, Conversion, DataCell, Date, DateTime2, DateTimeN, DateTimeOffset, Decimal, Guid, InCell, Inside-Spelt, IntN, IsNext, Kind, List, MoneyN, Narrow, None, Null, Ok, Option, Result, RowPart, ScalarBytes, ScalarCell, ScalarLength, ScalarValue, Shape, ShortData, ShortLength, Some, Spelt, Spelt-none, Time, Total, Utf8Text, ValueFault, WholeCell, WholeRow, Wide, Windows1252, [], add-one, all_clear, and_parts, ap, append_assoc, arith, before, begins_open, begun, bit, bitmap_length, cell, cell_add, cell_in_row, cell_start, checked, choose, choose_false, div-eq_of_lt, eq-eqb, eq_false, eq_true, false, fixed_some, is_begun, is_decimal_length, is_fit, is_length_allowed, is_scalar, is_total, is_valid, le_true, length, length-append, length-replicate, marked, nat_le, nat_tests, next_cell, one-le-pow, or_cases, read_of, refl, rest_of_cell, rest_of_cells, rest_of_chunks, rest_of_row, row, row_add, shape, slice_index, subst, suc, sym, terminator, test_le, test_lt, time_length, true, unit, unless_none, value_of, value_part, with_cell, within_total, zero, zero_chunks, zeros, ℕ, ⊤, ◌%◌, ◌&&◌, ◌++◌, ◌+◌, ◌<◌, ◌∙◌, ◌∷◌, ◌≡◌, ◌≤◌}, Cuts.{spelt_both, spelt_one}, SomeBytes.{exactly, little_below, one_of_four, one_of_two}}
 
 -- the conversions that Windows-1252 names: none judges data before its end
 abbrev pub is_plain : Conversion → Bool
@@ -16,7 +14,7 @@ plain_fit c b h e = grind arith
 
 -- a known total is of whole units, and the sum may still become it
 abbrev pub HoldsTotal : Conversion → Option ℕ → ℕ → Type 0
-HoldsTotal c None sum = Unit {0}
+HoldsTotal c None sum = ⊤
 HoldsTotal c (Some total) sum = (sum ≤ total) × (total % unit c ≡ 0)
 
 -- what is known of a part of a cell that bytes led to
@@ -28,7 +26,7 @@ CellReached (ShortData c left content) = (is_plain c ≡ true) × ((length conte
 CellReached (Total c) = is_plain c ≡ true
 CellReached (ChunkLength c total content) = (is_plain c ≡ true) × HoldsTotal c total (length content)
 CellReached (ChunkData c total left content) = (is_plain c ≡ true) × HoldsTotal c total (length content + (left + 1))
-CellReached (WholeCell x) = Unit {0}
+CellReached (WholeCell x) = ⊤
 
 -- numbers up to 7
 below_eight : (P : ℕ → Type 0) → P 0 → P 1 → P 2 → P 3 → P 4 → P 5 → P 6 → P 7 → (s : ℕ) → s ≤ 7 → P s
@@ -45,7 +43,7 @@ ZerosAre kind n = IsRead (read_of kind (zeros n))
 zero_decimal : (d p s n : ℕ) → is_valid (Decimal d p s) ≡ true → is_length_allowed (Decimal d p s) n ≡ true → ZerosAre (Decimal d p s) n
 zero_decimal d p s n valid allowed =
     let one = and_parts (is_decimal_length d && nat_le 1 p && nat_le p 38) (nat_le s p) valid in
-    let small = test_le s 38 (omega (arith, le_true s p one.1, le_true p 38 (and_parts (is_decimal_length d && nat_le 1 p) (nat_le p 38) one.0).1)) in
+    let small = test_le s 38 (omega (arith, le_true s p one.1, le_true p 38 (and_parts _ (nat_le p 38) one.0).1)) in
     let long : is_length_allowed (Decimal d p s) (length (zeros n)) ≡ true = simp (length-replicate, allowed) in
     choose IsRead (is_length_allowed (Decimal d p s) (length (zeros n))) (checked (value_of (Decimal d p s) (zeros n))) _
     (λ t. choose IsRead (nat_le s 38) (Ok _) _ (λ u. (_, refl)) (λ f. cc))
@@ -68,7 +66,7 @@ zeros_are_a_value (DateTimeOffset sc) n v s h =
 zeros_are_a_value (Binary r) n v s h = cc
 zeros_are_a_value (Narrow r) n v s h = cc
 zeros_are_a_value (Wide r) n v s h = cc
-zeros_are_a_value kind n v s h = exactly (ZerosAre kind) n (unwrap_or (fixed_length kind) 0) h (_, refl)
+zeros_are_a_value kind n v s h = exactly (ZerosAre kind) n _ h (_, refl)
 
 zeros_next : (n : ℕ) → 0 ∷ zeros (n + 1) ≡ zeros (suc n + 1)
 zeros_next n = cc (add-one n, add-one (suc n))
@@ -110,7 +108,7 @@ module _ (column : ℕ) where
       (DataCell c content, spelt_one (omega arith) refl (rw (rw same at all, sum, plain_fit c content plain sum) refl) refl)
   chunks_end c total (suc n) content plain all even =
       let same : length content + suc n ≡ length (content ++ 0 ∷ []) + n = omega (arith, length-append content (0 ∷ [])) in
-      let fits = within total (length content + suc n) (length content + 1) all (omega arith) in
+      let fits = within total _ (length content + 1) all (omega arith) in
       let one : Spelt (cell column) (ChunkLength c total content) (1 ∷ 0 ∷ 0 ∷ 0 ∷ []) (ChunkData c total 0 content) = spelt_one (omega arith) refl (rw fits refl) refl in
       let more = chunks_end c total n (content ++ 0 ∷ []) plain (rw same at all) (rw same at even) in
       (more.0, spelt_both (spelt_both one (chunk_ends c _ 0 _ plain)) more.1)
@@ -154,3 +152,81 @@ module _ (column : ℕ) where
 -- A cell of a valid kind begins so.
 pub start_reached : (kind : Kind) → is_valid kind ≡ true → CellReached (cell_start kind (shape Windows1252 kind))
 start_reached kind v = grind (arith, fixed_some)
+
+-- the kinds of the columns are valid
+abbrev pub AreValid : List Column → Type 0
+AreValid [] = ⊤
+AreValid (c ∷ cs) = (is_valid c.kind ≡ true) × AreValid cs
+
+-- so are those of columns with their null bits
+abbrev pub AreMarkedValid : List (Column × Bool) → Type 0
+AreMarkedValid [] = ⊤
+AreMarkedValid ((c, null) ∷ ks) = (is_valid c.kind ≡ true) × AreMarkedValid ks
+
+-- a part of a cell that isn't all of it
+abbrev pub IsOpenCell : CellPart → Type 0
+IsOpenCell (WholeCell x) = ⊥
+IsOpenCell p = ⊤
+
+-- what is known of a part of a row that bytes led to
+abbrev pub RowReached : RowPart → Type 0
+RowReached (Bitmap columns) = (0 < length columns) × AreValid columns
+RowReached (InCell cells part ks) = IsOpenCell part × CellReached part × AreMarkedValid ks
+RowReached (WholeRow cells) = ⊤
+
+pub marked_valid : (columns : List Column) (nulls : ℕ → Bool) (k : ℕ) → AreValid columns → AreMarkedValid (marked columns nulls k)
+marked_valid [] nulls k h = tt
+marked_valid (c ∷ cs) nulls k (v, h) = (v, marked_valid cs nulls (k + 1) h)
+
+starts_open : (kind : Kind) (sh : Shape) → IsOpenCell (cell_start kind sh)
+starts_open kind sh = grind arith
+
+pub next_reached : (cells : List Cell) (ks : List (Column × Bool)) → AreMarkedValid ks → RowReached (next_cell Windows1252 cells ks)
+next_reached cells [] h = tt
+next_reached cells ((k, true) ∷ ks) (v, h) = next_reached (cells ++ Null ∷ []) ks h
+next_reached cells ((k, false) ∷ ks) (v, h) = (starts_open _ _, start_reached _ v, h)
+
+-- Each element keeps what is known.
+pub row_keeps : (p : RowPart) (e : List ℕ) → AreBytes e → RowReached p → IsNext (row Windows1252) p e → RowReached (row_add Windows1252 p e)
+row_keeps p e are h3 n = grind (arith, cell_keeps, marked_valid, next_reached)
+
+-- the cell that is read, and those to come
+part_ends : (before : List Cell) (part : CellPart) (ks : List (Column × Bool)) → CellReached part → ((b : List Cell) → (cells : List Cell) × Spelt (row Windows1252) (next_cell Windows1252 b ks) (rest_of_cells ks) (WholeRow cells)) → (cells : List Cell) × Spelt (row Windows1252) (with_cell Windows1252 before ks part) (rest_of_cell part ++ rest_of_cells ks) (WholeRow cells)
+part_ends before part ks h next =
+    let one = cell_ends _ _ h in
+    let more = next (before ++ one.0 ∷ []) in
+    (more.0, spelt_both (Inside-Spelt _ _ _ (cell_in_row Windows1252 _ _) _ _ _ one.1) more.1)
+
+-- the cells to come
+cells_end : (before : List Cell) (ks : List (Column × Bool)) → AreMarkedValid ks → (cells : List Cell) × Spelt (row Windows1252) (next_cell Windows1252 before ks) (rest_of_cells ks) (WholeRow cells)
+cells_end before [] h = (before, Spelt-none _ _)
+cells_end before ((k, true) ∷ ks) (v, h) = cells_end (before ++ Null ∷ []) ks h
+cells_end before ((k, false) ∷ ks) (v, h) = rw (← begins_open Windows1252 before ks k.kind _) (part_ends before _ ks (start_reached k.kind v) (λ b. cells_end b ks h))
+
+stays_open : (cells : List Cell) (ks : List (Column × Bool)) (part : CellPart) → IsOpenCell part → with_cell Windows1252 cells ks part ≡ InCell cells part ks
+stays_open cells ks part h = grind arith
+
+zero_at : (n i : ℕ) → slice_index (zeros n) i ≡ 0
+zero_at zero i = refl
+zero_at (suc n) zero = refl
+zero_at (suc n) (suc i) = zero_at n i
+
+-- no bit of zero bytes is set
+clear_at : (n k : ℕ) → bit (zeros n) k ≡ false
+clear_at n k = grind (arith, div-eq_of_lt, one-le-pow, zero_at)
+
+marked_clear : (columns : List Column) (nulls : ℕ → Bool) (k : ℕ) → ((i : ℕ) → nulls i ≡ false) → marked columns nulls k ≡ all_clear columns
+marked_clear [] nulls k h = refl
+marked_clear (c ∷ cs) nulls k h = λ i. (c, h k i) ∷ marked_clear cs nulls (k + 1) h i
+
+-- A part of a row followed by what completes it is a whole row.
+pub row_ends : (p : RowPart) → RowReached p → (cells : List Cell) × Spelt (row Windows1252) p (rest_of_row p) (WholeRow cells)
+row_ends (Bitmap columns) (some, h) =
+    let n = bitmap_length (length columns) in
+    let l = length-replicate n 0 in
+    let one : Spelt (row Windows1252) (Bitmap columns) (zeros n) (next_cell Windows1252 [] (marked columns (bit (zeros n)) 0)) = spelt_one (omega (arith, l)) l refl refl in
+    let clear = marked_clear _ _ 0 (clear_at n) in
+    let more = cells_end _ _ (subst AreMarkedValid clear (marked_valid _ _ 0 h)) in
+    (more.0, spelt_both (rw clear at one) more.1)
+row_ends (InCell cells part ks) (begun, h, m) = rw (← stays_open cells ks part begun) (part_ends _ _ _ h (λ b. cells_end b ks m))
+row_ends (WholeRow cells) h = (cells, Spelt-none _ _)

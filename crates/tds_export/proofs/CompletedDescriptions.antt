@@ -1,6 +1,5 @@
 -- What completes a description is read as its rest.
-use Rattle.tds_export.proofs.Words.{AreBytes, BadTypeInfo, BeforeCount, Column, ColumnHead, ColumnInfo, ColumnPlace, DescriptionPart, InColumn, Int4, IsNext, Kind, List, NameCount, NameUnits, NoDescription, None, Some, SpellsColumn, SpellsColumns, Spelt, Spelt-none, WholeDescription, [], add_described, ap, append_assoc, arith, bare_type, choose, choose_false, choose_true, columns_are_read, description, eq_false, eq_true, fits_in, if◌then◌else◌, int_column, int_columns, is_some, is_some_value, is_valid, known_type, least_info, length, length-append, length-replicate, more, named_kind, nat_tests, ne_eqb, not_long, not_zero, refl, replicate, rest_length, rest_of_description, room_for, suc, true, valid_of, with_column, with_kind, zero, zeros, ℕ, ◌*◌, ◌++◌, ◌+◌, ◌-◌, ◌<◌, ◌==◌, ◌∙◌, ◌∷◌, ◌≡◌, ◌≤◌}
-use Rattle.tds_export.proofs.{CompletedRows.AreValid, LeastTypes.least_type, ReturnLaws.some_kind, Cuts.spelt_both, Cuts.spelt_one}
+use Rattle.tds_export.proofs.{Words.{AreBytes, BadTypeInfo, BeforeCount, Column, ColumnHead, ColumnInfo, ColumnPlace, DescriptionPart, InColumn, Int4, IsNext, Kind, List, NameCount, NameUnits, NoDescription, None, Some, SpellsColumn, SpellsColumns, Spelt, Spelt-none, WholeDescription, [], add_described, ap, append_assoc, arith, bare_type, choose, choose_false, choose_true, columns_are_read, description, eq_false, eq_true, fits_in, if◌then◌else◌, int_column, int_columns, is_some, is_some_value, is_valid, known_type, least_info, length, length-append, length-replicate, more, named_kind, nat_tests, ne_eqb, not_long, not_zero, refl, replicate, rest_length, rest_of_description, room_for, suc, true, valid_of, with_column, with_kind, zero, zeros, ℕ, ◌*◌, ◌++◌, ◌+◌, ◌-◌, ◌<◌, ◌==◌, ◌∙◌, ◌∷◌, ◌≡◌, ◌≤◌, ⊤}, CompletedCells.AreValid, LeastTypes.least_type, ReturnLaws.some_kind, Cuts.{spelt_both, spelt_one}}
 
 -- what is known of the place in a column after these bytes, with so many columns to follow: the room is enough for what must still come
 abbrev pub PlaceReached : ℕ → List ℕ → ℕ → ColumnPlace → Type 0
@@ -11,15 +10,15 @@ PlaceReached room bytes left (NameUnits kind n) = (is_valid kind ≡ true) × (0
 
 -- what is known of a part of a description that bytes led to
 abbrev pub DescribedReached : ℕ → DescriptionPart → Type 0
-DescribedReached room BeforeCount = Unit {0}
-DescribedReached room NoDescription = Unit {0}
+DescribedReached room BeforeCount = ⊤
+DescribedReached room NoDescription = ⊤
 DescribedReached room (InColumn bytes count cols place) = (length cols < count) × AreValid cols × PlaceReached room bytes (count - (length cols + 1)) place
 DescribedReached room (WholeDescription bytes cols) = (0 < length cols) × AreValid cols
 
 -- a part of a description that isn't all of it
 abbrev pub IsOpenDescription : DescriptionPart → Type 0
-IsOpenDescription BeforeCount = Unit {0}
-IsOpenDescription (InColumn bytes count cols place) = Unit {0}
+IsOpenDescription BeforeCount = ⊤
+IsOpenDescription (InColumn bytes count cols place) = ⊤
 IsOpenDescription d = ⊥
 
 AreValid-append : (cs : List Column) (c : Column) → AreValid cs → is_valid c.kind ≡ true → AreValid (cs ++ c ∷ [])
@@ -48,7 +47,7 @@ ints_are_spelt (suc n) = (int_column, int_columns n, refl, int_is_spelt, ints_ar
 
 length-int_columns : (n : ℕ) → length (int_columns n) ≡ 8 * n
 length-int_columns zero = refl
-length-int_columns (suc n) = let l = length-int_columns n in omega (arith, length-append int_column (int_columns n))
+length-int_columns (suc n) = let l = length-int_columns n in omega arith
 
 -- the rest of a description, up to its end
 abbrev Ends : ℕ → DescriptionPart → List ℕ → Type 0
@@ -59,7 +58,7 @@ module _ (room : ℕ) where
   ints_end : (bytes : List ℕ) (count : ℕ) (cols : List Column) (n : ℕ) → count ≡ length cols + (1 + n) → length bytes + (8 + 8 * n) ≤ room → Ends room (InColumn bytes count cols ColumnHead) (int_column ++ int_columns n)
   ints_end bytes count cols n e fits =
       let l : length (int_columns (suc n)) ≡ 8 * suc n = length-int_columns _ in
-      let m : length (replicate n int) ≡ n = length-replicate n int in
+      let m = length-replicate n int in
       (bytes ++ int_columns (suc n), cols ++ int ∷ replicate n int, columns_are_read _ _ _ _ _ _ _ (omega (arith, m)) (omega arith) (ints_are_spelt (suc n)))
 
   -- after a column

@@ -1,16 +1,70 @@
--- What completes a response is read as its rest.
-use Rattle.tds_export.proofs.Words.{common_steps, ADone, APassed, AreBytes, AreBytes-back, AreBytes-front, Between, CanBeCompleted, Column, Describing, DescriptionPart, Done, Fields, InReturn, InRow, Inside-Spelt, IsNext, Lead, List, Metadata, None, Open, Option, Part, PassedOver, ReturnPart, Returned, Row, RowPart, Some, Spelt, Spelt-induct, Spelt-none, Token, TokenBody, TokenLength, Windows1252, [], after_first, arith, begun, bodied, choose, described_after, done, done_byte, eq_false, false, fields_length, fixed, holds_notice, lead_of, length, length-replicate, nat_tests, part_add, passed, refl, replicate-append-replicate, response, response_start, rest_of_token, slice_index, start_of_row, test_le, test_lt, true, with_described, with_return, with_row, with_token, zeros, ℕ, ◌++◌, ◌<◌, ◌∙◌, ◌∷◌, ◌≡◌, ◌≤◌}
-use Rattle.tds_export.proofs.{SomeBytes.AreBytes-append, ResponseMeaning.response_is_spelt, Cuts.spelt_both, Cuts.spelt_one}
-use Rattle.tds_export.proofs.CompletionBytes.{AreBytes-completion, IsOpenReturn, IsOpenRow, OpenReached}
-use Rattle.tds_export.proofs.CompletedRows.{AreValid, RowReached, marked_valid, next_reached, row_ends, row_keeps}
-use Rattle.tds_export.proofs.CompletedDescriptions.{DescribedReached, IsOpenDescription, described_ends, described_keeps}
-use Rattle.tds_export.proofs.CompletedReturns.{ReturnReached, return_ends, return_keeps}
-use Rattle.tds_export.proofs.TokenLaws.{bare, bare_body, bare_fixed, is_bare, is_final-snoc}
-use Rattle.tds_export.proofs.ResponseLaws.{body_free, body_is_read, described_after-append, description_in_response, length_free, return_in_response, row_in_response, some_fields}
+-- What completes a response is read as its rest, and is bytes.
+use Rattle.tds_export.proofs.{Words.{ADone, APassed, AreBytes, Between, Bool, CanBeCompleted, CellPart, Column, Describing, DescriptionPart, Done, Fields, InReturn, InReturnCell, InRow, IsNext, Kind, Lead, List, Metadata, None, Open, Option, Part, PassedOver, ReturnHead, ReturnInfo, ReturnName, ReturnNameCount, ReturnOrdinal, ReturnPart, Returned, Row, RowPart, Some, Spelt, Spelt-none, Token, TokenBody, TokenLength, WholeReturn, WholeRow, Windows1252, [], after_first, after_tokens, arith, begun, bodied, cell_start, choose, common_steps, completion, described_after, done, done_byte, eq_false, false, fields_length, fixed, holds_notice, int_column, int_columns, is_notice, length, length-replicate, nat_tests, part_add, passed, refl, response, response_start, rest_of_cell, rest_of_cells, rest_of_return, rest_of_return_head, rest_of_token, rest_of_value, start_of_row, suc, test_le, test_lt, true, with_described, with_return, with_row, with_token, zero, zero_chunks, zeros, ℕ, ⊤, ◌++◌, ◌<◌, ◌∙◌, ◌∷◌, ◌≡◌, ◌≤◌}, SomeBytes.{AreBytes-append, AreBytes-replicate, bytes_induct}, CompletedDescriptions.{DescribedReached, IsOpenDescription, described_ends, described_keeps}, CompletedReturns.{ReturnReached, return_ends, return_keeps}, CompletedCells.{RowReached, AreValid, marked_valid, next_reached, row_ends, row_keeps}, LeastTypes.least_type, ResponseMeaning.response_is_spelt, Cuts.{spelt_both, spelt_one}, TokenLaws.{bare, bare_body, bare_fixed, is_bare, is_final-snoc}, ResponseLaws.{body_free, body_is_read, described_after-append, length_free, some_fields, description_agrees, row_agrees, return_agrees, part_at}, ReturnLaws.spelt_inside}
+
+-- a row, and a return value, that isn't whole
+abbrev pub IsOpenRow : RowPart → Type 0
+IsOpenRow (WholeRow cells) = ⊥
+IsOpenRow part = ⊤
+
+abbrev pub IsOpenReturn : ReturnPart → Type 0
+IsOpenReturn (WholeReturn r) = ⊥
+IsOpenReturn part = ⊤
+
+-- what is known of the token that bytes led into
+abbrev pub OpenReached : ℕ → Open → Type 0
+OpenReached room (Describing d) = IsOpenDescription d × DescribedReached room d
+OpenReached room (InRow part) = IsOpenRow part × RowReached part
+OpenReached room (InReturn part) = IsOpenReturn part × ReturnReached part
+OpenReached room (TokenBody b n) = (0 < n) × (is_notice b ≡ true → 14 ≤ n)
+OpenReached room at = ⊤
+
+AreBytes-zeros : (n : ℕ) → AreBytes (zeros n)
+AreBytes-zeros n = AreBytes-replicate n 0 (omega arith)
+
+AreBytes-int : AreBytes int_column
+AreBytes-int = AreBytes-append (zeros 6) (0x38 ∷ 0 ∷ []) (AreBytes-zeros 6) (omega arith, (omega arith, tt))
+
+AreBytes-ints : (n : ℕ) → AreBytes (int_columns n)
+AreBytes-ints zero = tt
+AreBytes-ints (suc n) = AreBytes-append int_column _ AreBytes-int (AreBytes-ints n)
+
+AreBytes-zero_chunks : (n : ℕ) → AreBytes (zero_chunks n)
+AreBytes-zero_chunks zero = tt
+AreBytes-zero_chunks (suc n) = (omega arith, AreBytes-append (zeros 4) _ (AreBytes-zeros 4) (AreBytes-zero_chunks n))
+
+AreBytes-cell : (p : CellPart) → AreBytes (rest_of_cell p)
+AreBytes-cell p = grind (arith, AreBytes-append, AreBytes-zero_chunks, AreBytes-zeros)
+
+AreBytes-cells : (ks : List (Column × Bool)) → AreBytes (rest_of_cells ks)
+AreBytes-cells [] = tt
+AreBytes-cells ((k, true) ∷ ks) = AreBytes-cells ks
+AreBytes-cells ((k, false) ∷ ks) = AreBytes-append _ _ (AreBytes-cell (cell_start k.kind _)) (AreBytes-cells ks)
+
+AreBytes-head : AreBytes rest_of_return_head
+AreBytes-head = AreBytes-append (zeros 7) (0x24 ∷ 16 ∷ 0 ∷ []) (AreBytes-zeros 7) (omega arith, (omega arith, (omega arith, tt)))
+
+AreBytes-value : (o : Option Kind) → AreBytes (rest_of_value o)
+AreBytes-value o = grind (arith, AreBytes-cell)
+
+AreBytes-return : (p : ReturnPart) → ReturnReached p → AreBytes (rest_of_return p)
+AreBytes-return ReturnOrdinal h = AreBytes-append (zeros 3) rest_of_return_head (AreBytes-zeros 3) AreBytes-head
+AreBytes-return ReturnNameCount h = AreBytes-append (zeros 1) rest_of_return_head (AreBytes-zeros 1) AreBytes-head
+AreBytes-return (ReturnName n) h = AreBytes-append _ _ (AreBytes-zeros n) AreBytes-head
+AreBytes-return (ReturnHead name) h = AreBytes-head
+AreBytes-return (ReturnInfo name byte) (n, known, some) = AreBytes-append _ _ (least_type _ n known).bytes (AreBytes-value _)
+AreBytes-return (InReturnCell name kind part) h = AreBytes-cell part
+AreBytes-return (WholeReturn r) h = tt
+
+AreBytes-token : (room : ℕ) (at : Open) → OpenReached room at → AreBytes (rest_of_token at)
+AreBytes-token room at h = grind (arith, least_type, AreBytes-int, AreBytes-ints, AreBytes-return, AreBytes-append, AreBytes-cell, AreBytes-cells, AreBytes-zeros)
+
+-- What completes a part that bytes led to are bytes.
+AreBytes-completion : (room : ℕ) (p : Part) → OpenReached room p.at → AreBytes (completion p)
+AreBytes-completion room p h = AreBytes-append _ _ (AreBytes-token _ _ h) (omega arith, AreBytes-zeros 12)
 
 -- the columns that are described are some, of valid kinds
 abbrev CurrentReached : Option (List Column) → Type 0
-CurrentReached None = Unit {0}
+CurrentReached None = ⊤
 CurrentReached (Some columns) = (0 < length columns) × AreValid columns
 
 -- what is known of a part of a response that bytes led to
@@ -19,12 +73,12 @@ PartReached room p = CurrentReached (described_after None p.tokens) × OpenReach
 
 -- a notice of zero bytes holds its inner lengths
 zeros_hold : (n : ℕ) → 14 ≤ n → holds_notice (zeros n) ≡ true
-zeros_hold n h = grind (arith, common_steps, zeros, replicate-append-replicate, test_le, test_lt)
+zeros_hold n h = grind (arith, common_steps, zeros, test_le, test_lt)
 
 module _ (room : ℕ) where
   -- a token that describes nothing
   token_reached : (tokens : List Token) (t : Token) → ((c : Option (List Column)) → described_after c (t ∷ []) ≡ c) → CurrentReached (described_after None tokens) → PartReached room (with_token tokens t)
-  token_reached tokens t same h = (rw (described_after-append None tokens (t ∷ []) ∙ same (described_after None tokens)) h, tt)
+  token_reached tokens t same h = (rw (described_after-append None tokens (t ∷ []) ∙ same _) h, tt)
 
   bare_reached : (tokens : List Token) (t : Token) → is_bare t ≡ true → CurrentReached (described_after None tokens) → PartReached room (with_token tokens t)
   bare_reached tokens t is h = token_reached tokens t (bare t is).columns h
@@ -45,30 +99,30 @@ module _ (room : ℕ) where
   lead_reached tokens begun h = grind (arith, marked_valid, next_reached, row_starts)
 
   -- Each element keeps what is known.
-  open_keeps : (tokens : List Token) (at : Open) (e : List ℕ) → AreBytes e → CurrentReached (described_after None tokens) → OpenReached room at → IsNext (response Windows1252 room) (record { tokens = tokens; at = at }) e → PartReached room (part_add Windows1252 tokens at e)
-  open_keeps tokens Between e are h o n = lead_reached tokens (lead_of (slice_index e 0)) h
-  open_keeps tokens (Describing d) e are h (begun, r) n = described_reached _ _ h (described_keeps _ d e are r (record { some = n.some; whole = n.whole; free = n.free }))
-  open_keeps tokens (InRow part) e are h (begun, r) n = row_reached _ _ h (row_keeps _ e are r (record { some = n.some; whole = n.whole; free = n.free }))
-  open_keeps tokens (InReturn part) e are h (begun, r) n = return_reached _ _ h (return_keeps _ e are r (record { some = n.some; whole = n.whole; free = n.free }))
+  open_keeps : (tokens : List Token) (at : Open) (e : List ℕ) → AreBytes e → CurrentReached (described_after None tokens) → OpenReached room at → IsNext (response Windows1252 room) (part_at tokens at) e → PartReached room (part_add Windows1252 tokens at e)
+  open_keeps tokens Between e are h o n = lead_reached tokens _ h
+  open_keeps tokens (Describing d) e are h (begun, r) n = described_reached _ _ h (described_keeps _ d e are r (grind arith))
+  open_keeps tokens (InRow part) e are h (begun, r) n = row_reached _ _ h (row_keeps _ e are r (grind arith))
+  open_keeps tokens (InReturn part) e are h (begun, r) n = return_reached _ _ h (return_keeps _ e are r (grind arith))
   open_keeps tokens (TokenLength b) e are h o n = grind (arith, bare_body, bare_reached, choose, eq_false, nat_tests)
   open_keeps tokens (TokenBody b m) e are h o n = bare_reached tokens _ (bare_body b e) h
   open_keeps tokens (Fields f) e are h o n = bare_reached tokens _ (bare_fixed f e) h
 
   part_reached : (bytes : List ℕ) (p : Part) → AreBytes bytes → Spelt (response Windows1252 room) response_start bytes p → PartReached room p
   part_reached bytes p are h =
-      Spelt-induct _ (λ q b. AreBytes b → PartReached room q) (λ q b e k n all. let r = k (AreBytes-front b e all) in open_keeps _ _ e (AreBytes-back b e all) r.0 r.1 n) _ (λ t. (tt, tt)) _ p h are
+      bytes_induct _ (λ q b. PartReached room q) (λ q b e r are n. open_keeps _ _ e are r.0 r.1 n) _ (tt, tt) _ p are h
 
   -- the rest of a token, up to its end
   abbrev Ends : List Token → Open → List ℕ → Type 0
-  Ends tokens at rest = (ts : List Token) × Spelt (response Windows1252 room) (record { tokens = tokens; at = at }) rest (record { tokens = ts; at = Between })
+  Ends tokens at rest = (ts : List Token) × Spelt (response Windows1252 room) (part_at tokens at) rest (after_tokens ts)
 
-  described_opens : (tokens : List Token) (d : DescriptionPart) → IsOpenDescription d → with_described tokens d ≡ record { tokens = tokens; at = Describing d }
+  described_opens : (tokens : List Token) (d : DescriptionPart) → IsOpenDescription d → with_described tokens d ≡ part_at tokens (Describing d)
   described_opens tokens d h = grind arith
 
-  row_opens : (tokens : List Token) (part : RowPart) → IsOpenRow part → with_row tokens part ≡ record { tokens = tokens; at = InRow part }
+  row_opens : (tokens : List Token) (part : RowPart) → IsOpenRow part → with_row tokens part ≡ part_at tokens (InRow part)
   row_opens tokens part h = grind arith
 
-  return_opens : (tokens : List Token) (part : ReturnPart) → IsOpenReturn part → with_return tokens part ≡ record { tokens = tokens; at = InReturn part }
+  return_opens : (tokens : List Token) (part : ReturnPart) → IsOpenReturn part → with_return tokens part ≡ part_at tokens (InReturn part)
   return_opens tokens part h = grind arith
 
   -- The rest of the token that is read ends it.
@@ -76,13 +130,13 @@ module _ (room : ℕ) where
   token_ends ten tokens Between o = (tokens, Spelt-none _ _)
   token_ends ten tokens (Describing d) (begun, r) =
       let all = described_ends _ ten d begun r in
-      (tokens ++ Metadata all.0 all.1 ∷ [], rw (← described_opens tokens d begun) (Inside-Spelt _ _ _ (description_in_response Windows1252 _ _) d _ _ all.2))
+      (tokens ++ Metadata all.0 all.1 ∷ [], rw (← described_opens tokens d begun) (spelt_inside (description_agrees Windows1252 _ _) all.2))
   token_ends ten tokens (InRow part) (begun, r) =
       let all = row_ends _ r in
-      (tokens ++ Row all.0 ∷ [], rw (← row_opens tokens part begun) (Inside-Spelt _ _ _ (row_in_response Windows1252 _ _) _ _ _ all.1))
+      (tokens ++ Row all.0 ∷ [], rw (← row_opens tokens part begun) (spelt_inside (row_agrees Windows1252 _ _) all.1))
   token_ends ten tokens (InReturn part) (begun, r) =
       let all = return_ends _ r in
-      (tokens ++ Returned all.0 ∷ [], rw (← return_opens tokens part begun) (Inside-Spelt _ _ _ (return_in_response Windows1252 _ _) _ _ _ all.1))
+      (tokens ++ Returned all.0 ∷ [], rw (← return_opens tokens part begun) (spelt_inside (return_agrees Windows1252 _ _) all.1))
   token_ends ten tokens (TokenLength (APassed passed)) o = (tokens ++ PassedOver passed [] ∷ [], body_is_read Windows1252 _ _ _ (zeros 2) _ refl refl refl refl)
   token_ends ten tokens (TokenLength b) o =
       let free = length_free room 14 tokens b (14 ∷ 0 ∷ []) (λ e. omega arith) refl in
@@ -92,11 +146,11 @@ module _ (room : ℕ) where
       (tokens ++ bodied b (zeros n) ∷ [], spelt_one (omega arith) l (body_free b (zeros n) (λ e. zeros_hold n (long e))) refl)
   token_ends ten tokens (Fields f) o =
       let l = length-replicate (fields_length f) 0 in
-      (tokens ++ fixed f (zeros (fields_length f)) ∷ [], spelt_one (rw l (some_fields f)) l refl refl)
+      (tokens ++ fixed f _ ∷ [], spelt_one (rw l (some_fields f)) l refl refl)
 
-  done_ends : (tokens : List Token) → Spelt (response Windows1252 room) (record { tokens = tokens; at = Between }) done (with_token tokens (Done false))
+  done_ends : (tokens : List Token) → Spelt (response Windows1252 room) (after_tokens tokens) done (with_token tokens (Done false))
   done_ends tokens =
-      let byte : Spelt (response Windows1252 room) (record { tokens = tokens; at = Between }) (done_byte ∷ []) (record { tokens = tokens; at = Fields ADone }) = spelt_one (omega arith) refl refl refl in
+      let byte : Spelt (response Windows1252 room) (after_tokens tokens) (done_byte ∷ []) (part_at tokens (Fields ADone)) = spelt_one (omega arith) refl refl refl in
       spelt_both byte (spelt_one (omega arith) refl refl refl)
 
 -- Whatever has been read can be completed.

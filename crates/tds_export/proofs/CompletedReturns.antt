@@ -1,14 +1,12 @@
 -- What completes a return value is read as its rest.
-use Rattle.tds_export.proofs.Words.{AreBytes, BadTypeInfo, CellPart, Guid, InReturnCell, Inside-Spelt, IsNext, Kind, List, None, Null, Option, ReturnHead, ReturnInfo, ReturnName, ReturnNameCount, ReturnOrdinal, ReturnPart, ReturnValue, ScalarLength, Some, Spelt, Spelt-none, WholeReturn, [], ap, arith, bare_type, begun, choose, eq_false, eq_true, if◌then◌else◌, is_some, is_some_value, is_valid, least_info, length-replicate, more, named_kind, refl, rest_length, rest_of_cell, rest_of_return, rest_of_return_head, rest_of_value, return_add, return_column, return_value, true, valid_of, with_return_kind, with_value, zeros, ℕ, ◌++◌, ◌<◌, ◌∷◌, ◌≡◌}
-use Rattle.tds_export.proofs.CompletedCells.{CellReached, cell_ends, cell_keeps, start_reached}
-use Rattle.tds_export.proofs.{CompletedRows.IsOpenCell, ReturnLaws.accepted, ReturnLaws.some_kind, ReturnLaws.value_in_return, LeastTypes.least_type, Cuts.spelt_both, Cuts.spelt_one}
+use Rattle.tds_export.proofs.{Words.{AreBytes, BadTypeInfo, CellPart, Guid, InReturnCell, IsNext, Kind, List, None, Null, Option, ReturnHead, ReturnInfo, ReturnName, ReturnNameCount, ReturnOrdinal, ReturnPart, ReturnValue, ScalarLength, Some, Spelt, Spelt-none, WholeReturn, [], ap, arith, bare_type, begun, choose, eq_false, eq_true, if◌then◌else◌, is_some, is_some_value, is_valid, least_info, length-replicate, more, named_kind, refl, rest_length, rest_of_cell, rest_of_return, rest_of_return_head, rest_of_value, return_add, return_column, return_value, true, valid_of, with_return_kind, with_value, zeros, ℕ, ◌++◌, ◌<◌, ◌∷◌, ◌≡◌, ⊤}, CompletedCells.{CellReached, cell_ends, cell_keeps, start_reached, IsOpenCell}, ReturnLaws.{accepted, some_kind, spelt_inside, value_agrees}, LeastTypes.least_type, Cuts.{spelt_both, spelt_one}}
 
 -- what is known of a part of a return value that bytes led to
 abbrev pub ReturnReached : ReturnPart → Type 0
 ReturnReached (ReturnName n) = 0 < n
 ReturnReached (ReturnInfo name byte) = (n : ℕ) × (rest_length byte ≡ Some n) × (0 < n)
 ReturnReached (InReturnCell name kind part) = IsOpenCell part × CellReached part
-ReturnReached part = Unit {0}
+ReturnReached part = ⊤
 
 value_reached : (name : List ℕ) (kind : Kind) (part : CellPart) → CellReached part → ReturnReached (with_value name kind part)
 value_reached name kind part h = grind arith
@@ -35,7 +33,7 @@ then_ends one (r, more) = (r, spelt_both one more)
 value_ends : (name : List ℕ) (kind : Kind) (part : CellPart) → CellReached part → Ends (with_value name kind part) (rest_of_cell part)
 value_ends name kind part h =
     let x = cell_ends _ _ h in
-    (record { name = name; kind = kind; value = x.0 }, Inside-Spelt _ _ _ (value_in_return _ _) _ _ _ x.1)
+    (record { name = name; kind = kind; value = x.0 }, spelt_inside (value_agrees _ _) x.1)
 
 kind_ends : (name : List ℕ) (kind : Kind) (o : Option Kind) → o ≡ Some kind → is_valid kind ≡ true → Ends (with_return_kind name o) (rest_of_value o)
 kind_ends name kind o is v = rw is (value_ends _ _ _ (start_reached _ v))

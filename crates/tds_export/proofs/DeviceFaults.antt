@@ -1,6 +1,32 @@
 -- Where an export stops with the fault of a device, the device's count of failures rose.
-use Rattle.tds_export.proofs.Words.{Charset, Coming, Ends, Fault, Given, Held, IsOfWire, IsOver, List, MessageEnded, Option, Part, ReadFailed, Report, Reports, Rose, RunStops, Seen, Stop, Stopped, StopsExport, StopsReading, Takes, WriteFailed, [], ap, arith, before, begun, begun_at, fresh_at, front_packet, grammar_of, inl, inr, length, message, message_of_wire, one_more, read, response, response_start, rose, subst, sym, true, whole_message, ℕ, ◌++◌, ◌<◌, ◌∙◌, ◌∷◌, ◌≡◌, ◌⊎◌, limits_of}
-use Rattle.tds_export.proofs.PayloadFaults.{IsOfPayload, element_fault, end_fault}
+use Rattle.tds_export.proofs.Words.{Bool, Charset, Coming, Ends, Fault, Given, Held, IsOfWire, IsOver, List, MessageEnded, None, Open, Option, Part, ReadFailed, Report, Reports, Rose, RunStops, Seen, Some, Stop, Stopped, StopsExport, StopsReading, Takes, Token, WriteFailed, [], ap, arith, before, begun, begun_at, fresh_at, front_packet, grammar_of, if◌then◌else◌, inl, inr, length, limits_of, message, message_of_wire, one_more, part_end, part_fault, read, response, response_start, rose, subst, sym, true, whole_message, ℕ, ⊤, ◌++◌, ◌<◌, ◌∙◌, ◌∷◌, ◌≡◌, ◌⊎◌, FailsToRead, FailsToWrite}
+
+-- a fault that elements may have, or the end of a message
+abbrev pub IsOfPayload : Fault → Type 0
+IsOfPayload ReadFailed = ⊥
+IsOfPayload WriteFailed = ⊥
+IsOfPayload fault = ⊤
+
+-- no fault, or one of these
+abbrev AtMostOfPayload : Option Fault → Type 0
+AtMostOfPayload None = ⊤
+AtMostOfPayload (Some fault) = IsOfPayload fault
+
+if_payload : (b : Bool) (x y : Option Fault) → AtMostOfPayload x → AtMostOfPayload y → AtMostOfPayload (if b then x else y)
+if_payload b x y p q = grind arith
+
+part_payload : (room : ℕ) (tokens : List Token) (at : Open) (e : List ℕ) → AtMostOfPayload (part_fault room tokens at e)
+part_payload room tokens at e = grind (arith, if_payload)
+
+end_payload : (tokens : List Token) (at : Open) → AtMostOfPayload (part_end tokens at)
+end_payload tokens at = grind (arith, if_payload)
+
+module _ (charset : Charset) (room : ℕ) where
+  element_fault : (p : Part) (e : List ℕ) (fault : Fault) → (response charset room).fault p e ≡ Some fault → IsOfPayload fault
+  element_fault p e fault h = rw h at (part_payload room p.tokens p.at e)
+
+  end_fault : (p : Part) (fault : Fault) → (response charset room).end_fault p ≡ Some fault → IsOfPayload fault
+  end_fault p fault h = rw h at (end_payload p.tokens p.at)
 
 -- ---- a payload that has just begun
 
@@ -25,20 +51,22 @@ reading_fault charset room size limit failures left b place at stop x = elim x.c
     | inl z ↦ rw (ap (λ (s : Stop). s.fault) z.1.2) (of_none IsOfPayload (λ h. h) (λ h. h) _ _ _ (end_fault charset room at z.1.0 z.1.1))
     | inr z ↦ rw (ap (λ (s : Stop). s.fault) z.1) (elim (ends_of_wire _ _ _ _ b _ _ y.ends) [
       | inl w ↦ of_none IsOfWire (λ h. h) (λ h. h) _ _ _ w
-      | inr w ↦ (λ e. (let no = sym w.0 ∙ e in cc), λ e. w.1)
+      | inr w ↦ (λ e. (cc), λ e. w.1)
     ])
   ]
 ]
 
 -- ---- an export
 
+-- a device is blamed only where its count rose
+abbrev Blamed : Given → Stopped → Type 0
+Blamed given stopped = (stopped.fault ≡ ReadFailed → FailsToRead given) × (stopped.fault ≡ WriteFailed → FailsToWrite given)
+
 -- a failed write rose the count, and is no failed read
-by_write : (given : Given) (stopped : Stopped) (stop : Stop) (middle after : Held) → stopped.fault ≡ stop.fault → stop.fault ≡ WriteFailed → middle.failures ≡ given.before.writer.failures → after.failures ≡ one_more middle.failures → after.failures ≡ given.after.writer.failures
-    → (stopped.fault ≡ ReadFailed → Rose given.before.reader.failures given.after.reader.failures) × (stopped.fault ≡ WriteFailed → Rose given.before.writer.failures given.after.writer.failures)
+by_write : (given : Given) (stopped : Stopped) (stop : Stop) (middle after : Held) → stopped.fault ≡ stop.fault → stop.fault ≡ WriteFailed → middle.failures ≡ given.before.writer.failures → after.failures ≡ one_more middle.failures → after.failures ≡ given.after.writer.failures → Blamed given stopped
 by_write given stopped stop middle after is named start failed end = grind (arith, rose)
 
--- a device is blamed only where its count rose
-pub blamed : (given : Given) (stopped : Stopped) → StopsExport given stopped → (stopped.fault ≡ ReadFailed → Rose given.before.reader.failures given.after.reader.failures) × (stopped.fault ≡ WriteFailed → Rose given.before.writer.failures given.after.writer.failures)
+pub blamed : (given : Given) (stopped : Stopped) → StopsExport given stopped → Blamed given stopped
 blamed given stopped x = go x.stops
   where
     is : stopped.fault ≡ x.stop.fault
@@ -47,8 +75,7 @@ blamed given stopped x = go x.stops
     ends : (failed : x.failed ≡ true) → x.middle.failures ≡ given.after.writer.failures
     ends failed = cc (x.same failed)
 
-    go : RunStops (grammar_of given) response_start (begun_at given) x.seen 0 (fresh_at given) x.middle given.after.areas.description x.failed x.stop
-        → (stopped.fault ≡ ReadFailed → Rose given.before.reader.failures given.after.reader.failures) × (stopped.fault ≡ WriteFailed → Rose given.before.writer.failures given.after.writer.failures)
+    go : RunStops (grammar_of given) response_start (begun_at given) x.seen 0 (fresh_at given) x.middle given.after.areas.description x.failed x.stop → Blamed given stopped
     go (inl (inl y)) =
         let r = reading_fault _ _ _ _ _ _ _ 0 _ _ y.0.stops in
         (λ e. subst (Rose given.before.reader.failures) (cc (r.1 (sym is ∙ e))) (rose _), λ e. absurd (r.0 (cc)))
@@ -74,7 +101,7 @@ some_read size limit failures left q bytes n t o = go t.0 t.1.1
     go [] f = absurd (no_message _ _ _ (cc (o.2 [])) (f []))
     go (x ∷ read) f = omega arith
 
-pub no_failure : (given : Given) (report : Report) → Reports given report → (Rose given.before.reader.failures given.after.reader.failures → ⊥) × (Rose given.before.writer.failures given.after.writer.failures → ⊥)
+pub no_failure : (given : Given) (report : Report) → Reports given report → (FailsToRead given → ⊥) × (FailsToWrite given → ⊥)
 no_failure given report x =
     let t = x.completes.whole.takes in
     let moved = some_read (limits_of given).packet_size (limits_of given).max_wire given.before.reader.failures given.before.reader.bytes x.seen x.completes.whole.bytes _ t x.completes.whole.over in

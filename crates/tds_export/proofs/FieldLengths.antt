@@ -1,9 +1,7 @@
 -- How long the text of so many bytes is at most.
-use Rattle.tds_export.proofs.Words.{AreBytes, Conversion, Err, FitsWidths, HexDigits, Kind, List, None, Ok, Option, Result, ScalarValue, Some, ValueFault, [], and_parts, arith, begun_by_test, cast_signed, checked, choose, conversion_rest, conversion_text, datetime_of, doubled, doubled-append, doubled_byte, doubled_length, drop, emit, encode_utf8_all, fit_by_test, integer_of, is_begun, is_decimal_length, is_fit, is_length_allowed, joins_by_name, length, length-append, length-encode_with, length-map, length-take, length-text_of, little_number, long_field, money_of, nat_le, nat_tests, open_field, quote, read_of, take, text_of, true, unsigned_abs, utf16_chars, value_of, w16, w32, w64, ℕ, ◌*◌, ◌++◌, ◌+◌, ◌-◌, ◌<◌, ◌==◌, ◌^◌, ◌∷◌, ◌≡◌, ◌≤◌}
-use Rattle.tds_export.proofs.SomeBytes.{AreBytes-drop, byte_below, little_below, one_of_four}
+use Rattle.tds_export.proofs.{Words.{AreBytes, Conversion, Err, FitsWidths, HexDigits, Kind, List, None, Ok, Option, Result, ScalarValue, Some, ValueFault, [], and_parts, arith, begun_by_test, cast_signed, checked, choose, conversion_rest, conversion_text, datetime_of, doubled, doubled-append, doubled_byte, doubled_length, drop, emit, encode_utf8_all, fit_by_test, integer_of, is_begun, is_decimal_length, is_fit, is_length_allowed, joins_by_name, length, length-append, length-encode_with, length-map, length-take, length-text_of, little_number, long_field, money_of, nat_tests, open_field, quote, read_of, take, text_of, true, unsigned_abs, utf16_chars, value_of, w16, w32, w64, ℕ, ◌*◌, ◌++◌, ◌+◌, ◌-◌, ◌<◌, ◌==◌, ◌^◌, ◌∷◌, ◌≡◌, ◌≤◌, ⊤}, SomeBytes.{AreBytes-drop, byte_below, little_below, one_of_four}}
 use Rattle.tds_csv.specs.Utf16 as utf16
 use Rattle.tds_values.specs.declared.kind.Kind.TheVariants as kinds
-use Rattle.tds_values.specs.declared.scalar.ScalarValue.TheVariants as values
 
 -- ---- the text of data
 
@@ -90,7 +88,7 @@ integer_fits n xs h = grind (arith, byte_below, choose, signed_fits)
 
 -- an amount of money fits
 money_fits : (n : ℕ) (xs : List ℕ) → unsigned_abs (money_of n xs) < 2 ^ 64
-money_fits n xs = choose (λ z. unsigned_abs z < 2 ^ 64) (n == 4) (cast_signed w32 (little_number 4 xs)) (cast_signed w64 (little_number 4 xs * 2 ^ 32 + little_number 4 (drop 4 xs))) (λ q. (signed_fits (little_number 4 xs)).1) (λ q. (signed_fits (little_number 4 xs * 2 ^ 32 + little_number 4 (drop 4 xs))).2)
+money_fits n xs = choose (λ z. unsigned_abs z < 2 ^ 64) (n == 4) _ _ (λ q. (signed_fits (little_number 4 xs)).1) (λ q. (signed_fits (little_number 4 xs * 2 ^ 32 + little_number 4 (drop 4 xs))).2)
 
 -- a magnitude fits
 magnitude_fits : (n : ℕ) (xs : List ℕ) → AreBytes xs → is_decimal_length n ≡ true → little_number (n - 1) xs < 2 ^ 128
@@ -98,12 +96,12 @@ magnitude_fits n xs h k = grind (arith, little_below, one_of_four)
 
 -- the numbers of a value, if there is one, fit
 abbrev AllFit : Option ScalarValue → Type 0
-AllFit None = Unit {0}
+AllFit None = ⊤
 AllFit (Some v) = FitsWidths v
 
 -- a date and time has no wide number
 datetime_fits : (n : ℕ) (e : List ℕ) → FitsWidths (datetime_of n e)
-datetime_fits n e = choose FitsWidths (n == 4) (values.SmallDateTime (little_number 2 e) (little_number 2 (drop 2 e))) (values.DateTime (cast_signed w32 (little_number 4 e)) (little_number 4 (drop 4 e))) (λ z. tt) (λ z. tt)
+datetime_fits n e = choose FitsWidths (n == 4) _ _ (λ z. tt) (λ z. tt)
 
 -- the bytes of a kind spell numbers that fit
 values_fit : (kind : Kind) (e : List ℕ) → AreBytes e → is_length_allowed kind (length e) ≡ true → AllFit (value_of kind e)
@@ -118,13 +116,13 @@ values_fit (kinds.MoneyN n) e h k = money_fits n e
 values_fit kinds.DateTime4 e h k = datetime_fits 4 e
 values_fit kinds.DateTime8 e h k = datetime_fits 8 e
 values_fit (kinds.DateTimeN n) e h k = datetime_fits n e
-values_fit (kinds.Decimal n precision scale) e h k = magnitude_fits _ _ (AreBytes-drop 1 e h) (and_parts (is_decimal_length (length e)) (nat_le (length e) n) k).0
+values_fit (kinds.Decimal n precision scale) e h k = magnitude_fits _ _ (AreBytes-drop 1 e h) (and_parts _ _ k).0
 values_fit kind e h k = tt
 
 -- the text of a value that is read
 abbrev pub ReadShort : Result ScalarValue ValueFault → Type 0
 ReadShort (Ok v) = length (text_of v) ≤ 41
-ReadShort (Err f) = Unit {0}
+ReadShort (Err f) = ⊤
 
 -- a value in its range has a short text
 checked_short : (o : Option ScalarValue) → AllFit o → ReadShort (checked o)
@@ -132,4 +130,4 @@ checked_short o h = grind (arith, choose, length-text_of)
 
 -- so has each value that is read
 pub read_short : (kind : Kind) (e : List ℕ) → AreBytes e → ReadShort (read_of kind e)
-read_short kind e h = choose ReadShort (is_length_allowed kind (length e)) (checked (value_of kind e)) _ (λ z. checked_short (value_of kind e) (values_fit kind e h z)) (λ z. tt)
+read_short kind e h = choose ReadShort _ _ _ (λ z. checked_short (value_of kind e) (values_fit kind e h z)) (λ z. tt)

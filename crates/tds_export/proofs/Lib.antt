@@ -5,14 +5,10 @@ pub mod ResponseLaws
 pub mod ResponseMeaning
 pub mod ReturnLaws
 pub mod Vectors
-pub mod HeaderTexts
 pub mod TokenLaws
 pub mod Cuts
-pub mod StepReads
 pub mod TokenSteps
 pub mod TokenBytes
-pub mod NoticeReading
-pub mod Notices
 pub mod NoticeSteps
 pub mod ReturnSteps
 pub mod Bodies
@@ -23,7 +19,6 @@ pub mod FieldLengths
 pub mod TextBound
 pub mod PacketOutcomes
 pub mod Endings
-pub mod PayloadFaults
 pub mod ToldAnswers
 pub mod AcceptedSucceeds
 pub mod Peaks
@@ -32,8 +27,6 @@ pub mod DeviceFaults
 mod SomeBytes
 mod LeastTypes
 mod CompletedCells
-mod CompletedRows
 mod CompletedDescriptions
 mod CompletedReturns
-mod CompletionBytes
 mod CompletedResponses

@@ -1,5 +1,34 @@
 -- The names of columns, put one after another.
-use Rattle.tds_export.proofs.Words.{Bool, Column, Err, IsErrAnd, IsWriting, List, Ok, Option, PutsPiece, PutsPiece-none, PutsPiece-passed, PutsPiece-trans, Result, Sink, Stop, [], ap, append_assoc, codes, false, joined, joined_more, map, map-append, more, name_field, not, refl, sym, text_if, true, ℕ, ◌++◌, ◌∙◌, ◌∷◌, ◌≡◌}
+use Rattle.{tds_export.proofs.Words.{Bool, Breaks, Breaks-after, Breaks-longer, Column, Completes, EndsBy, Err, Held, IsErrAnd, IsStopIn, IsStopped, IsWriting, JoinFault, List, Ok, Option, Pushes, Puts, Puts-trans, PutsPiece, PutsPiece-none, PutsPiece-passed, PutsPiece-trans, Result, Sink, Stop, TakesPiece, [], ap, append_assoc, arith, before, codes, emit, false, joined, joined_more, joins_utf16, map, map-append, more, name_field, not, refl, sym, text_if, true, ℕ, ⊤, ◌++◌, ◌∙◌, ◌∷◌, ◌≡◌}, tds_csv.specs.declared.joiners.JoinFault.TheVariants.Stopped}
+use Rattle.tds_csv.specs.Utf16 as utf16
+
+-- what a push of any units may answer
+pub push_stopped : (fault : JoinFault) (old new : List ℕ) (before after : Held) (failed : Bool) (units : List ℕ) → Pushes {U = ⊤} (λ _. ⊤) utf16.rest utf16.text old new before after failed units (Err fault) → IsStopped fault
+push_stopped fault old new before after failed units h = grind arith
+
+pub push_breaks : (fault : JoinFault) (stop : Stop) (old new : List ℕ) (before after : Held) (failed : Bool) (units : List ℕ) → old ≡ [] → failed ≡ false → utf16.IsFit units
+    → Pushes {U = ⊤} (λ _. ⊤) utf16.rest utf16.text old new before after failed units (Err fault) → IsStopIn fault stop → Breaks before after (utf16.text units) stop
+push_breaks (Stopped s) stop old new before after failed units none going fit h is = rw (joins_utf16.ends units fit, is) (Breaks-longer _ _ _ _ s (rw none at (h going)))
+push_breaks fault stop old new before after failed units none going fit h is = absurd is
+
+module _ {old kept : List ℕ} {before middle : Held} {units : List ℕ} (none : old ≡ []) (fit : utf16.IsFit units) (t : TakesPiece (λ _. ⊤) utf16.rest utf16.text old kept before middle units) where
+  rest_fit : utf16.IsFit kept
+  rest_fit = rw (ap (λ l. utf16.rest (l ++ units)) (sym none) ∙ sym t.withheld) at (joins_utf16.fit_rest units fit)
+
+  -- what an end after whole units may answer
+  pub end_stopped : (fault : JoinFault) (new : List ℕ) (after : Held) (failed : Bool) → EndsBy {U = ⊤} 2 utf16.IsFit utf16.text kept new middle after failed (Err fault) → IsStopped fault
+  end_stopped (Stopped stop) new after failed h = tt
+  end_stopped fault new after failed h = h.0.part rest_fit
+
+  emitted : Puts before middle (emit utf16.rest utf16.text units) × (kept ≡ utf16.rest units)
+  emitted = (rw none at t.put, cc)
+
+  pub end_breaks : (fault : JoinFault) (stop : Stop) (new : List ℕ) (after : Held) (failed : Bool) → failed ≡ false → EndsBy {U = ⊤} 2 utf16.IsFit utf16.text kept new middle after failed (Err fault) → IsStopIn fault stop → Breaks before after (utf16.text units) stop
+  end_breaks (Stopped s) stop new after failed going h is = rw (joins_utf16.ends units fit, is) (Breaks-after _ _ _ _ _ s emitted.0 (rw emitted.1 at (h going).1))
+  end_breaks fault stop new after failed going h is = absurd is
+
+  pub end_puts : {new : List ℕ} {after : Held} → Completes utf16.IsFit utf16.text kept new middle after → Puts before after (utf16.text units)
+  end_puts h = rw (joins_utf16.ends units fit) (Puts-trans _ _ _ _ _ emitted.0 (rw emitted.1 at h.put))
 
 -- one piece was put, and another after it
 pub then_puts : {W U V : Type 0} {contents : W → Option (List ℕ)} {a b c : Sink W} {u : U} {p q : List ℕ} {r : Result V Stop} → PutsPiece contents a b p (Ok u) → PutsPiece contents b c q r → PutsPiece contents a c (p ++ q) r
@@ -45,20 +74,20 @@ module _ {W : Type 0} {contents : W → Option (List ℕ)} {columns left rest : 
   begins : (more : List ℕ) × ((joined (map name_field x.done) ++ (mark ++ name_field c)) ++ more ≡ joined (map name_field columns))
   begins =
       let fields = map name_field x.done in
-      let all = ap (map name_field) (sym x.split ∙ ap (λ l. x.done ++ l) is) ∙ map-append name_field x.done (c ∷ rest) ∙ sym (append_assoc fields (name_field c ∷ []) (map name_field rest)) in
+      let all = ap (map name_field) (sym x.split ∙ ap (λ l. x.done ++ l) is) ∙ map-append name_field x.done (c ∷ rest) ∙ sym (append_assoc fields (name_field c ∷ []) _) in
       let grows = joined_more (fields ++ name_field c ∷ []) (map name_field rest) in
       (grows.0, cc (joined-snoc fields (name_field c), grows.1, all))
 
   -- the writer failed at the comma
   pub comma_breaks : {d : Sink W} {stop : Stop} (r : Result (Unit {0}) Stop) → PutsPiece {U = Unit {0}} contents b d (text_if (not first) (codes ",")) (Err stop) → IsErrAnd r (λ s. s ≡ stop) → PutsPiece contents a d (joined (map name_field columns)) r
-  comma_breaks r broke is_passed = rw (← begins.1, ← regroup (joined (map name_field x.done)) mark (name_field c) begins.0) (passed_piece _ is_passed (then_puts x.puts (rw x.first_is at broke)))
+  comma_breaks r broke is_passed = rw (← begins.1, ← regroup _ mark (name_field c) begins.0) (passed_piece _ is_passed (then_puts x.puts (rw x.first_is at broke)))
 
   module _ {d e : Sink W} (comma : PutsPiece contents b d (text_if (not first) (codes ",")) (Ok (tt {0}))) where
     -- one more name was put
     pub names_more : PutsPiece contents d e (name_field c) (Ok (tt {0})) → NamesPut contents columns rest false a e
     names_more name =
         let more = map-append name_field x.done (c ∷ []) in
-        let all = ap joined more ∙ joined-snoc (map name_field x.done) (name_field c) in
+        let all = ap joined more ∙ joined-snoc _ (name_field c) in
         record {
           done = x.done ++ c ∷ [];
           split = cc (append_assoc x.done (c ∷ []) rest);

@@ -1,5 +1,5 @@
 -- How an export ended, by the packets of its input.
-use Rattle.tds_export.proofs.Words.{AreBytes, Describing, EndsInLast, EndsMessage, Fault, InLast, IsHolding, IsKept, IsRefused, List, Open, Packet, Part, RefusesNext, Rose, Run, Seen, Some, Space, Spelt, Stop, StopsAfterPackets, StopsInPayload, StopsOnWire, Token, [], ap, append_assoc, arith, begun, description_of, drop, drop-append_seam, grammar, in_last, inl, inr, length, length-append, longest_cut, longest_refused, more, payload_of, refl, response_start, rose, subst, sym, take, take-append_seam, takes_begins, text, text_so_far, wire_of, ℕ, ◌++◌, ◌<◌, ◌∙◌, ◌≡◌, limits, CutsNext, ends_front, Stops, wire_goes_on, Payload, StopsReading, text_put, ◌+◌}
+use Rattle.tds_export.proofs.Words.{AreBytes, Describing, EndsInLast, EndsMessage, Fault, InLast, IsHolding, IsKept, IsRefused, List, Open, Packet, Part, RefusesNext, Run, Seen, Some, Space, Spelt, Stop, StopsAfterPackets, StopsInPayload, StopsOnWire, Token, [], ap, append_assoc, arith, begun, description_of, drop, drop-append_seam, grammar, in_last, inl, inr, length, length-append, longest_cut, longest_refused, more, refl, response_start, subst, sym, take, take-append_seam, takes_begins, text, text_so_far, wire_of, ℕ, ◌++◌, ◌<◌, ◌∙◌, ◌≡◌, limits, CutsNext, ends_front, Stops, wire_goes_on, Payload, StopsReading, text_put, ◌+◌, Keeps}
 
 -- what the area holds at a part is kept, whatever follows
 pub kept_at : (area : Space) (tokens : List Token) (at : Open) (rest : List ℕ) → area.bytes ≡ description_of tokens at → IsKept area.bytes tokens at rest
@@ -32,19 +32,19 @@ rest_of bytes part payload e = cc (drop-append_seam bytes part)
 
 module _ (run : Run) {q : Seen} {part : Part} {bytes : List ℕ} (side : ReaderSide run q) (spelt : Spelt (grammar run) response_start bytes part) (holds : IsHolding run.given.after.areas.description part) (text : text_put run ≡ text_so_far part) where
   -- what the area holds is kept
-  kept : (payload : List ℕ) → IsKept run.given.after.areas.description.bytes part.tokens part.at (drop (length bytes) payload)
-  kept payload = kept_at run.given.after.areas.description part.tokens part.at (drop (length bytes) payload) holds.bytes
+  kept : (packets : List Packet) → Keeps run packets (length bytes) part
+  kept packets = kept_at run.given.after.areas.description part.tokens part.at _ holds.bytes
 
   -- an element was refused
-  pub refused_in_payload : {fault : Fault} → RefusesNext (grammar run) (start run) q bytes part fault → StopsInPayload run fault (length bytes)
+  refused_in_payload : {fault : Fault} → RefusesNext (grammar run) (start run) q bytes part fault → StopsInPayload run fault (length bytes)
   refused_in_payload {fault = fault} x =
       let g = grammar run in
       let e = x.element in
       let more = x.ahead ++ (q.future []).bytes in
-      let b = takes_begins _ _ _ _ _ q _ (length (bytes ++ e)) side.bytes side.left x.takes x.between in
+      let b = takes_begins _ _ _ _ _ q _ _ side.bytes side.left x.takes x.between in
       let s = split_payload _ e _ _ (b.payload_is ∙ append_assoc (bytes ++ e) x.ahead (q.future []).bytes) in
       let l = in_last _ _ _ _ _ _ q _ _ side.left x.takes b (omega (arith, length-append ((bytes ++ e) ++ x.ahead) (q.future []).bytes, length-append (bytes ++ e) x.ahead, length-append bytes e)) in
-      let refused : IsRefused g part (e ++ more) fault = record { some = omega arith; whole = omega (arith, length-append e more); first = cc (take-append_seam e more) } in
+      let refused : IsRefused g part (e ++ more) fault = grind (arith, length-append, take-append_seam) in
       record {
         packets = b.packets;
         part = part;
@@ -52,12 +52,12 @@ module _ (run : Run) {q : Seen} {part : Part} {bytes : List ℕ} (side : ReaderS
         leads = rw s.0 (longest_refused g _ _ _ _ _ spelt refused);
         first = inl (rw s.1 refused, ends_in_last _ _ _ _ e x.whole l);
         written = text;
-        kept = kept (payload_of b.packets);
+        kept = kept b.packets;
       }
 
   module _ (cut : List ℕ) (short : length cut < (grammar run).size part) where
     -- the message ended
-    pub ended_in_payload : {own : Stop} {fault : Fault} → EndsMessage (limits run).packet_size (limits run).max_wire run.input run.left (bytes ++ cut) run.given.before.reader.failures q.failures own → (grammar run).end_fault part ≡ Some fault → StopsInPayload run fault (length bytes)
+    ended_in_payload : {own : Stop} {fault : Fault} → EndsMessage (limits run).packet_size (limits run).max_wire run.input run.left (bytes ++ cut) run.given.before.reader.failures q.failures own → (grammar run).end_fault part ≡ Some fault → StopsInPayload run fault (length bytes)
     ended_in_payload m end = record {
       packets = m.packets;
       part = part;
@@ -65,13 +65,13 @@ module _ (run : Run) {q : Seen} {part : Part} {bytes : List ℕ} (side : ReaderS
       leads = rw m.payload_is (longest_cut (grammar run) _ _ _ _ spelt short);
       first = inr (m.each, (omega arith, rw (rest_of _ _ _ m.payload_is) short), end);
       written = text;
-      kept = kept (payload_of m.packets);
+      kept = kept m.packets;
     }
 
     -- the payload stopped on the wire
-    pub stopped_on_wire : {stop : Stop} → (x : StopsAfterPackets (limits run).packet_size (limits run).max_wire run.input run.left (bytes ++ cut) run.given.before.reader.failures q.failures stop) → StopsOnWire run stop.fault (length (wire_of x.packets))
+    stopped_on_wire : {stop : Stop} → (x : StopsAfterPackets (limits run).packet_size (limits run).max_wire run.input run.left (bytes ++ cut) run.given.before.reader.failures q.failures stop) → StopsOnWire run stop.fault (length (wire_of x.packets))
     stopped_on_wire x =
-        let rest = rest_of bytes cut (payload_of x.packets) x.payload_is in
+        let rest = rest_of bytes cut _ x.payload_is in
         record {
           packets = x.packets;
           rest = x.more;
@@ -82,13 +82,13 @@ module _ (run : Run) {q : Seen} {part : Part} {bytes : List ℕ} (side : ReaderS
           within = x.within;
           taken_is = refl;
           first = elim x.cause [
-            | inl c ↦ inl (c.0, record { read = c.2.read; split = c.2.split; cut = c.2.cut; failed = subst (Rose run.given.before.reader.failures) (sym c.1 ∙ side.failures) (rose run.given.before.reader.failures) })
+            | inl c ↦ inl (c.0, record { read = c.2.read; split = c.2.split; cut = c.2.cut; failed = grind arith })
             | inr c ↦ inr c.0
           ];
           leads = rw x.payload_is (longest_cut (grammar run) response_start bytes cut part spelt short);
           none_refused = λ f r. (let w = r.whole in omega (arith, ap length rest));
           written = text;
-          kept = kept (payload_of x.packets);
+          kept = kept x.packets;
         }
 
   -- the payload stopped before the next element was whole
@@ -100,7 +100,7 @@ module _ (run : Run) {q : Seen} {part : Part} {bytes : List ℕ} (side : ReaderS
     ]
     | inr x ↦ elim c.stop_is [
       | inl e ↦ absurd (elim x.cause [
-        | inl y ↦ (let differ = sym y.0 ∙ e.0 in cc)
+        | inl y ↦ (cc)
         | inr y ↦ wire_goes_on _ _ _ _ _ y.0 e.0
       ])
       | inr e ↦ rw e.1 (subst (Stops run c.own.fault) (sym x.place) (stopped_on_wire c.part c.cut x))

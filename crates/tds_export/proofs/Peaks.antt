@@ -1,17 +1,16 @@
 -- How much of a description was held in an export: no more than the span of one at the front of the input.
-use Rattle.tds_export.proofs.Words.{AreBefore, AreBytes, AreMessage, Bounded, Charset, Fault, Grammar, Held, IsBetween, Limits, List, Longest, Packet, Part, ReadsWhole, Run, Seen, Some, Space, Spelt, Spelt-append, Spelt-induct, Spelt-one, Stop, StopsInWriting, StopsReading, Takes, Told, WirePart, [], after_tokens, ap, append-nil, append_assoc, arith, before_are_read, between, ends_front, feed-Spelt, feed_all, feed_all-append, flat_map-append, grammar, inl, inr, length, length-append, message_is_read, more, no_wire, over_front, payload_of, read_front, response, response_start, some_longest, span_so_far, sym, take, take-append-add, take-append_seam, takes_begins, told, wire, wire_of, ℕ, ◌++◌, ◌+◌, ◌-◌, ◌∙◌, ◌≡◌, ◌≤◌, ◌⊎◌, limits}
-use Rattle.tds_export.proofs.{AcceptedSucceeds.BeginsWith, AcceptedSucceeds.begins_added, ReadingGrows.span_along, PacketOutcomes.start}
+use Rattle.tds_export.proofs.{Words.{AreBefore, AreBytes, AreMessage, Bounded, Fault, Grammar, Held, IsBetween, List, Longest, Packet, Part, ReadsWhole, Run, Seen, Some, Space, Spelt, Spelt-append, Spelt-induct, Spelt-one, Stop, StopsInWriting, StopsReading, Takes, Told, WirePart, [], after_tokens, ap, append-nil, append_assoc, arith, before_are_read, between, ends_front, feed-Spelt, feed_all, feed_all-append, flat_map-append, grammar, inl, inr, length, length-append, message_is_read, more, no_wire, over_front, payload_of, read_front, response_start, some_longest, span_so_far, sym, take, take-append-add, take-append_seam, takes_begins, told, wire, wire_of, ℕ, ◌++◌, ◌+◌, ◌-◌, ◌∙◌, ◌≡◌, ◌≤◌, ◌⊎◌, limits}, AcceptedSucceeds.{BeginsWith, begins_added}, ReadingGrows.span_along, PacketOutcomes.start}
 
 -- a part of a response was read from whole packets at the front of an input
-pub record Reached (charset : Charset) (limits : Limits) (input : List ℕ) (at : Part) : Type 0 where
+pub record Reached (run : Run) (at : Part) : Type 0 where
   pub packets : List Packet
   pub rest : List ℕ
-  pub begin : wire_of packets ++ rest ≡ input
-  pub each : AreMessage limits.packet_size packets ⊎ AreBefore limits.packet_size packets
-  pub within : length (wire_of packets) ≤ limits.max_wire
+  pub begin : wire_of packets ++ rest ≡ run.input
+  pub each : AreMessage (limits run).packet_size packets ⊎ AreBefore (limits run).packet_size packets
+  pub within : length (wire_of packets) ≤ (limits run).max_wire
   pub bytes : List ℕ
   pub more : List ℕ
-  pub spelt : Spelt (response charset limits.column_room) response_start bytes at
+  pub spelt : Spelt (grammar run) response_start bytes at
   pub payload_is : payload_of packets ≡ bytes ++ more
 
 -- what follows whole elements leads from where they lead
@@ -39,7 +38,7 @@ front_begins : (size limit : ℕ) (input rest : List ℕ) (packets : List Packet
 front_begins size limit input rest packets w taken begin (inl each) within l = begins_of _ _ _ _ _ _ w _ begin (message_is_read _ _ _ _ each within) ([], append-nil packets) l
 front_begins size limit input rest packets w taken begin (inr each) within l = begins_of _ _ _ _ _ _ w _ begin (before_are_read _ _ _ _ each within) ([], append-nil packets) l
 
-pub bounded : (run : Run) (at : Part) → AreBytes run.input → Reached run.given.charset (limits run) run.input at → run.given.after.areas.description.peak ≤ span_so_far at → Bounded run
+pub bounded : (run : Run) (at : Part) → AreBytes run.input → Reached run at → run.given.after.areas.description.peak ≤ span_so_far at → Bounded run
 bounded run at are r peak =
     let size = (limits run).packet_size in
     let limit = (limits run).max_wire in
@@ -53,27 +52,27 @@ bounded run at are r peak =
     let least = span_along run.given.charset (limits run).column_room at longest.1 f.0 f.1 in
     record { packets = front; place = longest.0; part = longest.1; front = read_front size limit run.input l.0 l.1 are l.2; leads = longest.2; description = omega arith }
 
-taken : (run : Run) (q : Seen) (at : Part) (bytes later : List ℕ) (n : ℕ) → AreBytes run.input → q.left ≡ Some run.left → Takes (start run) q (bytes ++ later) n → IsBetween q → Spelt (grammar run) response_start bytes at → Reached run.given.charset (limits run) run.input at
-taken run q at bytes later n are left t between spelt =
-    let b = takes_begins _ _ _ _ _ q _ n are left t between in
-    record { packets = b.packets; rest = run.left; begin = b.begin; each = b.each; within = b.within; bytes = bytes; more = later ++ (q.future []).bytes; spelt = spelt; payload_is = cc (append_assoc bytes later (q.future []).bytes) }
+module _ (run : Run) (q : Seen) (are : AreBytes run.input) (left : q.left ≡ Some run.left) where
+  taken : {at : Part} {bytes : List ℕ} (later : List ℕ) (n : ℕ) → Takes (start run) q (bytes ++ later) n → IsBetween q → Spelt (grammar run) response_start bytes at → Reached run at
+  taken {bytes = bytes} later n t between spelt =
+      let b = takes_begins _ _ _ _ _ q _ n are left t between in
+      record { packets = b.packets; rest = run.left; begin = b.begin; each = b.each; within = b.within; bytes = bytes; more = later ++ (q.future []).bytes; spelt = spelt; payload_is = cc (append_assoc bytes later (q.future []).bytes) }
 
-pub reached_stopped : (run : Run) (q : Seen) (at : Part) (stop : Stop) → AreBytes run.input → q.left ≡ Some run.left → StopsReading (grammar run) response_start (start run) q 0 at stop → Reached run.given.charset (limits run) run.input at
-reached_stopped run q at stop are left s = elim s.cause [
-  | inl r ↦ taken run q at s.bytes (r.0.element ++ r.0.ahead) (length (s.bytes ++ r.0.element)) are left (rw (append_assoc s.bytes r.0.element r.0.ahead) at r.0.takes) r.0.between s.spelt
-  | inr c ↦ elim (ends_front _ _ _ _ _ q _ _ are left c.ends) [
-    | inl m ↦ record { packets = m.packets; rest = run.left; begin = m.begin; each = inl m.each; within = m.within; bytes = s.bytes; more = c.part; spelt = s.spelt; payload_is = m.payload_is }
-    | inr x ↦ record { packets = x.packets; rest = x.more; begin = x.begin; each = inr x.each; within = x.within; bytes = s.bytes; more = c.part; spelt = s.spelt; payload_is = x.payload_is }
+  pub reached_stopped : {at : Part} {stop : Stop} → StopsReading (grammar run) response_start (start run) q 0 at stop → Reached run at
+  reached_stopped s = elim s.cause [
+    | inl r ↦ taken _ _ (rw (append_assoc s.bytes r.0.element r.0.ahead) at r.0.takes) r.0.between s.spelt
+    | inr c ↦ elim (ends_front _ _ _ _ _ q _ _ are left c.ends) [
+      | inl m ↦ record { packets = m.packets; rest = run.left; begin = m.begin; each = inl m.each; within = m.within; bytes = s.bytes; more = c.part; spelt = s.spelt; payload_is = m.payload_is }
+      | inr x ↦ record { packets = x.packets; rest = x.more; begin = x.begin; each = inr x.each; within = x.within; bytes = s.bytes; more = c.part; spelt = s.spelt; payload_is = x.payload_is }
+    ]
   ]
-]
 
-pub reached_broken : (run : Run) (q : Seen) (old new : Held) (area : Space) (stop : Stop) (x : StopsInWriting (grammar run) response_start (start run) q old new area stop) → AreBytes run.input → q.left ≡ Some run.left → Reached run.given.charset (limits run) run.input ((grammar run).add x.at x.breaks.element)
-reached_broken run q old new area stop x are left =
-    let b = x.breaks in
-    let to = (grammar run).add x.at b.element in
-    taken run q to (b.bytes ++ b.element) b.ahead (length (b.bytes ++ b.element)) are left b.takes b.between (Spelt-append _ _ _ _ _ _ b.spelt (Spelt-one _ _ _ b.next))
+  pub reached_broken : {old new : Held} {area : Space} {stop : Stop} (x : StopsInWriting (grammar run) response_start (start run) q old new area stop) → Reached run ((grammar run).add x.at x.breaks.element)
+  reached_broken x =
+      let b = x.breaks in
+      taken b.ahead (length (b.bytes ++ b.element)) b.takes b.between (Spelt-append _ _ _ _ _ _ b.spelt (Spelt-one _ _ _ b.next))
 
-pub reached_whole : (run : Run) (q : Seen) (old new : Held) (area : Space) (x : ReadsWhole (grammar run) response_start (start run) q old new area) → AreBytes run.input → q.left ≡ Some run.left → Reached run.given.charset (limits run) run.input (after_tokens x.tokens)
-reached_whole run q old new area x are left =
-    let m = over_front _ _ _ _ _ q _ _ are left x.takes x.over in
-    record { packets = m.packets; rest = run.left; begin = m.begin; each = inl m.each; within = m.within; bytes = x.bytes; more = []; spelt = x.spelt; payload_is = cc (append-nil x.bytes) }
+  pub reached_whole : {old new : Held} {area : Space} (x : ReadsWhole (grammar run) response_start (start run) q old new area) → Reached run (after_tokens x.tokens)
+  reached_whole x =
+      let m = over_front _ _ _ _ _ q _ _ are left x.takes x.over in
+      record { packets = m.packets; rest = run.left; begin = m.begin; each = inl m.each; within = m.within; bytes = x.bytes; more = []; spelt = x.spelt; payload_is = cc (append-nil x.bytes) }

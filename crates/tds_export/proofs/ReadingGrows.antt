@@ -1,16 +1,11 @@
 -- What is read grows by each element: the text so far, and the greatest span.
-use Rattle.tds_export.proofs.Words.{BeforeCount, Between, Charset, Column, Describing, DescriptionPart, Fields, Grows, InReturn, InRow, IsNext, Lead, List, Metadata, NoDescription, NoMetadata, None, Open, Option, Part, ReturnPart, Returned, RowPart, Some, Spelt, Spelt-induct, Token, TokenBody, TokenLength, WholeDescription, WholeReturn, [], add_described, after_first, append-nil, arith, bare_type, begun, bodied, choose, described_after, description, eq_true, false, fixed, greatest_span, grows_all, grows_same, grows_trans, grows_under, is_some_value, known_type, lead_of, length-append, little, max, nbc_row_start, open_span, open_text, part_add, response, return_add, row, row_add, row_grows, row_so_far, row_start, slice_index, span, span_so_far, start_of_row, text, text_after, text_so_far, with_described, with_return, with_row, with_token, ℕ, ◌++◌, ◌==◌, ◌∷◌, ◌≡◌, ◌≤◌}
-use Rattle.tds_export.proofs.{TokenLaws.begun_after, TokenLaws.greatest_span-append, TokenLaws.text_after-snoc, ReturnLaws.some_kind}
-
--- a part by its tokens and where it is read
-abbrev pub part_at : List Token → Open → Part
-part_at tokens at = record { tokens = tokens; at = at }
+use Rattle.tds_export.proofs.{Words.{BeforeCount, Between, Charset, Column, Describing, DescriptionPart, Fields, Grows, InReturn, InRow, IsNext, Lead, List, NoDescription, NoMetadata, None, Open, Option, Part, ReturnPart, Returned, RowPart, Some, Spelt, Spelt-induct, Token, TokenBody, TokenLength, WholeDescription, WholeReturn, [], add_described, after_first, append-nil, arith, bare_type, begun, bodied, choose, described_after, description, eq_true, false, fixed, greatest_span, grows_all, grows_same, grows_trans, grows_under, is_some_value, known_type, length-append, little, max, nbc_row_start, open_span, open_text, part_add, response, return_add, row, row_grows, row_so_far, row_start, span, span_so_far, start_of_row, text, text_after, text_so_far, with_described, with_return, with_row, with_token, ℕ, ◌++◌, ◌==◌, ◌∷◌, ◌≡◌, ◌≤◌, ⊤}, TokenLaws.{begun_after, greatest_span-append, text_after-snoc}, ReturnLaws.some_kind, ResponseLaws.part_at}
 
 -- what a token byte other than that of a row begins
 abbrev pub IsFresh : Open → Type 0
 IsFresh (Describing d) = d ≡ BeforeCount
 IsFresh (InRow part) = ⊥
-IsFresh at = Unit {0}
+IsFresh at = ⊤
 
 -- the cases of what a byte begins
 pub lead_cases : (charset : Charset) (P : Part → Type 0) (tokens : List Token) (begun : Option Lead) → ((at : Open) → IsFresh at → P (part_at tokens at)) → P (start_of_row tokens (row_start charset) (described_after None tokens)) → P (start_of_row tokens nbc_row_start (described_after None tokens)) → P (after_first charset tokens begun)
@@ -39,12 +34,12 @@ with_row_grows tokens part = grind (arith, append-nil, grows_same, text_after-sn
 -- a row that begins
 start_grows : (tokens : List Token) (start : List Column → RowPart) (current : Option (List Column)) → Grows (text tokens ++ []) (text_so_far (start_of_row tokens start current))
 start_grows tokens start None = grows_same _
-start_grows tokens start (Some columns) = grows_trans _ _ _ (grows_under (text tokens) [] (row_so_far (start columns)) (grows_all _)) (with_row_grows tokens (start columns))
+start_grows tokens start (Some columns) = grows_trans _ _ _ (grows_under (text tokens) [] _ (grows_all _)) (with_row_grows tokens (start columns))
 
 -- a description in its response
 with_described_grows : (tokens : List Token) (d : DescriptionPart) → Grows (text tokens ++ []) (text_so_far (with_described tokens d))
 with_described_grows tokens NoDescription = token_grows tokens NoMetadata
-with_described_grows tokens (WholeDescription bytes columns) = token_grows tokens (Metadata bytes columns)
+with_described_grows tokens (WholeDescription bytes columns) = token_grows tokens _
 with_described_grows tokens d = grows_same _
 
 -- a return value in its response
@@ -62,14 +57,14 @@ module _ (room : ℕ) where
 module _ (charset : Charset) (room : ℕ) where
   -- each element adds to the text, by where it is read
   part_grows : (tokens : List Token) (at : Open) (e : List ℕ) → IsNext (response charset room) (part_at tokens at) e → Grows (text tokens ++ open_text at) (text_so_far (part_add charset tokens at e))
-  part_grows tokens Between e n = lead_cases charset (λ p. Grows (text tokens ++ []) (text_so_far p)) tokens (lead_of (slice_index e 0)) (same_grows tokens) (start_grows tokens (row_start charset) (described_after None tokens)) (start_grows tokens nbc_row_start (described_after None tokens))
+  part_grows tokens Between e n = lead_cases charset (λ p. Grows (text tokens ++ []) (text_so_far p)) tokens _ (same_grows tokens) (start_grows tokens (row_start charset) _) (start_grows tokens nbc_row_start _)
   part_grows tokens (Describing d) e n = with_described_grows tokens (add_described d e)
   part_grows tokens (InRow part) e n =
       grows_trans _ _ _
-      (grows_under (text tokens) (row_so_far part) _ (row_grows charset part e (record { some = n.some; whole = n.whole; free = n.free })))
-      (with_row_grows tokens (row_add charset part e))
+      (grows_under (text tokens) (row_so_far part) _ (row_grows charset part e (grind arith)))
+      (with_row_grows tokens _)
   part_grows tokens (InReturn part) e n = with_return_grows tokens (return_add part e)
-  part_grows tokens (TokenLength b) e n = choose (λ p. Grows (text tokens ++ []) (text_so_far p)) (little e == 0) (with_token tokens (bodied b [])) (part_at tokens (TokenBody b (little e))) (λ z. token_grows tokens (bodied b [])) (λ z. grows_same (text tokens ++ []))
+  part_grows tokens (TokenLength b) e n = choose (λ p. Grows (text tokens ++ []) (text_so_far p)) (little e == 0) _ _ (λ z. token_grows tokens (bodied b [])) (λ z. grows_same (text tokens ++ []))
   part_grows tokens (TokenBody b m) e n = token_grows tokens (bodied b e)
   part_grows tokens (Fields f) e n = token_grows tokens (fixed f e)
 
@@ -80,7 +75,7 @@ module _ (charset : Charset) (room : ℕ) where
   -- all elements between two states add to the text
   pub text_along : (p q : Part) (bytes : List ℕ) → Spelt (response charset room) p bytes q → (more : List ℕ) × (text_so_far p ++ more ≡ text_so_far q)
   text_along p q bytes s =
-      let adds = λ (r : Part) (b e : List ℕ) (h : Grows (text_so_far p) (text_so_far r)) (n : IsNext (response charset room) r e).
+      let adds = λ (r : Part) (b e : List ℕ) (h : Grows (text_so_far p) (text_so_far r)) (n : IsNext _ r e).
       grows_trans _ _ _ h (part_grows _ _ e n) in
       Spelt-induct _ (λ r b. Grows (text_so_far p) (text_so_far r)) adds p (grows_same _) _ q s
 

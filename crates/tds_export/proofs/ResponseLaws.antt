@@ -1,6 +1,5 @@
 -- What a response's spelling is read as.
-use Rattle.tds_export.proofs.Words.{ADone, ADoneInProc, AMetadata, APassed, AReturn, ARow, AStatus, Accepted, AnError, AnInfo, AnNbcRow, BadNotice, Between, Bodied, Bool, Cell, Charset, Column, DescriptionPart, Done, DoneInProc, Error, Fault, Fixed, Info, Inside, Inside-Spelt, IsFirst, IsRefused, Lead, List, Longest, Metadata, NoMetadata, None, Notice, Open, Option, Packet, Part, PassedOver, Response, ReturnPart, ReturnStatus, Returned, Row, RowPart, Some, SpellsBody, SpellsMore, SpellsNotice, SpellsRowToken, SpellsToken, SpellsTokens, Spelt, Spelt-append, Spelt-none, Spelt-step, StartsToken, Token, TokenBody, TokenLength, WithBody, WithFields, [], after_lead, ap, append-nil, append_assoc, arith, before, bodied, choose_false, described_after, description, description_is_read, drop, false, fields_length, fixed, holds_notice, if◌then◌else◌, inl, inr, is_notice, is_row_lead, lead, lead_of, length, little, more, nat_tests, nbc_row_is_read, ne_eqb, not, one_message, one_state, part_fault, passed, refl, refused_for_good, response, response_start, return_value, row, row_byte_fault, row_is_read, sym, take, take-add, true, with_described, with_return, with_row, with_token, ℕ, ◌%◌, ◌&&◌, ◌++◌, ◌+◌, ◌/◌, ◌<◌, ◌∙◌, ◌∷◌, ◌≡◌, ◌≤◌}
-use Rattle.tds_export.proofs.{ReturnLaws.Agrees, ReturnLaws.inside, ReturnLaws.return_is_read, NoticeLaws.notice_is_read, Cuts.spelt_both, Cuts.spelt_one}
+use Rattle.tds_export.proofs.{Words.{ADone, ADoneInProc, AMetadata, APassed, AReturn, ARow, AStatus, Accepted, AnError, AnInfo, AnNbcRow, BadNotice, Bodied, Bool, Cell, Charset, Column, DescriptionPart, Done, DoneInProc, Error, Fault, Fixed, Info, IsFirst, IsRefused, Lead, List, Longest, Metadata, NoMetadata, None, Notice, Open, Option, Packet, Part, PassedOver, Response, ReturnPart, ReturnStatus, Returned, Row, RowPart, Some, SpellsBody, SpellsMore, SpellsNotice, SpellsRowToken, SpellsToken, SpellsTokens, Spelt, Spelt-append, Spelt-none, Spelt-step, StartsToken, Token, TokenBody, TokenLength, WithBody, WithFields, [], after_lead, ap, append-nil, append_assoc, arith, before, bodied, choose_false, described_after, description, description_is_read, drop, false, fields_length, fixed, holds_notice, if◌then◌else◌, inl, inr, is_notice, is_row_lead, lead, lead_of, length, little, more, nat_tests, nbc_row_is_read, ne_eqb, not, one_message, one_state, part_fault, passed, refl, refused_for_good, response, response_start, return_value, row, row_byte_fault, row_is_read, sym, take, take-add, true, with_described, with_return, with_row, with_token, ℕ, ◌%◌, ◌&&◌, ◌++◌, ◌+◌, ◌/◌, ◌<◌, ◌∙◌, ◌∷◌, ◌≡◌, ◌≤◌, after_tokens, ⊤}, ReturnLaws.{Agrees, return_is_read, spelt_inside}, NoticeLaws.notice_is_read, Cuts.{spelt_both, spelt_one}}
 
 pub described_after-append : (before : Option (List Column)) (a b : List Token) → described_after before (a ++ b) ≡ described_after (described_after before a) b
 described_after-append before [] b = refl
@@ -10,7 +9,7 @@ described_after-append before (t ∷ a) b = described_after-append before a b
 
 -- what is described has columns
 abbrev HasColumns : Option (List Column) → Type 0
-HasColumns None = Unit {0}
+HasColumns None = ⊤
 HasColumns (Some columns) = 0 < length columns
 
 -- there are fields
@@ -33,73 +32,65 @@ no_row current = grind arith
 pub length_free : (room n : ℕ) (tokens : List Token) (which : Bodied) (element : List ℕ) → (is_notice which ≡ true → 14 ≤ n) → little element ≡ n → part_fault room tokens (TokenLength which) element ≡ None
 length_free room n tokens which element long number = grind (arith, nat_tests)
 
+-- a body has no fault
+abbrev pub IsFree : Bodied → List ℕ → Type 0
+IsFree which body = (if is_notice which && not (holds_notice body) then Some BadNotice else None) ≡ None
+
 -- nor of its body, where that holds its inner lengths
-pub body_free : (which : Bodied) (body : List ℕ) → (is_notice which ≡ true → holds_notice body ≡ true) → (if is_notice which && not (holds_notice body) then Some BadNotice else None) ≡ None
+pub body_free : (which : Bodied) (body : List ℕ) → (is_notice which ≡ true → holds_notice body ≡ true) → IsFree which body
 body_free which body holds = grind arith
+
+-- a part by its tokens and where it is read
+abbrev pub part_at : List Token → Open → Part
+part_at tokens at = record { tokens = tokens; at = at }
 
 module _ (charset : Charset) (room : ℕ) where
   -- a description is read in its response as by itself
   pub description_agrees : (tokens : List Token) (d : DescriptionPart) → 0 < (description room).size d → Agrees (description room) (response charset room) (with_described tokens) d
   description_agrees tokens d h = grind arith
 
-  pub description_in_response : (tokens : List Token) → Inside (description room) (response charset room) (with_described tokens)
-  description_in_response tokens = inside _ _ _ (description_agrees _)
-
   -- so is a row
   pub row_agrees : (tokens : List Token) (p : RowPart) → 0 < (row charset).size p → Agrees (row charset) (response charset room) (with_row tokens) p
   row_agrees tokens p h = grind arith
-
-  pub row_in_response : (tokens : List Token) → Inside (row charset) (response charset room) (with_row tokens)
-  row_in_response tokens = inside _ _ _ (row_agrees _)
 
   -- and a return value
   pub return_agrees : (tokens : List Token) (p : ReturnPart) → 0 < return_value.size p → Agrees return_value (response charset room) (with_return tokens) p
   return_agrees tokens p h = grind arith
 
-  pub return_in_response : (tokens : List Token) → Inside return_value (response charset room) (with_return tokens)
-  return_in_response tokens = inside _ _ _ (return_agrees _)
-
   -- bytes are read as a part of a response after another
   abbrev Leads : Part → List ℕ → Part → Type 0
   Leads = Spelt (response charset room)
 
-  abbrev between_tokens : List Token → Part
-  between_tokens tokens = record { tokens = tokens; at = Between }
-
-  abbrev at_part : List Token → Open → Part
-  at_part tokens at = record { tokens = tokens; at = at }
-
   -- the first byte of a token, and what follows it
-  lead_then : (tokens : List Token) (lead : Lead) (rest bytes : List ℕ) (to : Part) → StartsToken lead rest bytes → row_byte_fault (is_row_lead lead) (described_after None tokens) ≡ None → Leads (after_lead charset tokens lead) rest to → Leads (between_tokens tokens) bytes to
+  lead_then : (tokens : List Token) (lead : Lead) (rest bytes : List ℕ) (to : Part) → StartsToken lead rest bytes → row_byte_fault (is_row_lead lead) (described_after None tokens) ≡ None → Leads (after_lead charset tokens lead) rest to → Leads (after_tokens tokens) bytes to
   lead_then tokens lead rest bytes to (first, is, begins) free h =
       let begun = first_leads _ _ begins in
-      let one : Leads (between_tokens tokens) (first ∷ []) (after_lead charset tokens lead) = spelt_one (omega arith) refl (cc) (cc) in
+      let one : Leads (after_tokens tokens) (first ∷ []) (after_lead charset tokens lead) = spelt_one (omega arith) refl (cc) (cc) in
       rw is (spelt_both one h)
 
   -- so are a Length and the body after it
-  pub body_is_read : (tokens : List Token) (b : Bodied) (element body : List ℕ) → length element ≡ 2 → little element ≡ length body → part_fault room tokens (TokenLength b) element ≡ None → ((if is_notice b && not (holds_notice body) then Some BadNotice else None) ≡ None)
-      → Leads (at_part tokens (TokenLength b)) (element ++ body) (with_token tokens (bodied b body))
+  pub body_is_read : (tokens : List Token) (b : Bodied) (element body : List ℕ) → length element ≡ 2 → little element ≡ length body → part_fault room tokens (TokenLength b) element ≡ None → IsFree b body → Leads (part_at tokens (TokenLength b)) (element ++ body) (with_token tokens (bodied b body))
   body_is_read tokens b element [] two is f g = grind (arith, Spelt-step, append-nil)
   body_is_read tokens b element (x ∷ xs) two is f g =
       let n = length (x ∷ xs) in
-      let to : (response charset room).add (at_part tokens (TokenLength b)) element ≡ at_part tokens (TokenBody b n) = rw is (choose_false _ _ _ (ne_eqb n 0 (λ q. omega arith))) in
+      let to : (response charset room).add (part_at tokens (TokenLength b)) element ≡ part_at tokens (TokenBody b n) = rw is (choose_false _ _ _ (ne_eqb n 0 (λ q. omega arith))) in
       spelt_both (spelt_one (omega arith) two f to) (spelt_one (omega arith) refl g refl)
 
   -- the same by what spells a body
-  spelt_body : (tokens : List Token) (b : Bodied) (body bytes : List ℕ) → (is_notice b ≡ true → 14 ≤ length body) → (is_notice b ≡ true → holds_notice body ≡ true) → SpellsBody body bytes → Leads (at_part tokens (TokenLength b)) bytes (with_token tokens (bodied b body))
+  spelt_body : (tokens : List Token) (b : Bodied) (body bytes : List ℕ) → (is_notice b ≡ true → 14 ≤ length body) → (is_notice b ≡ true → holds_notice body ≡ true) → SpellsBody body bytes → Leads (part_at tokens (TokenLength b)) bytes (with_token tokens (bodied b body))
   spelt_body tokens b body bytes long holds h =
       let n = length body in
       let two : little (n % 256 ∷ n / 256 ∷ []) ≡ n = omega arith in
       rw h.0 (body_is_read _ b (n % 256 ∷ n / 256 ∷ []) _ refl two (length_free room n tokens b (n % 256 ∷ n / 256 ∷ []) long two) (body_free b body holds))
 
   -- so is a notice
-  notice_token_is_read : (tokens : List Token) (b : Bodied) (n : Notice) (t : Token) (body rest bytes : List ℕ) → StartsToken (WithBody b) rest bytes → SpellsBody body rest → SpellsNotice n body → bodied b body ≡ t → Leads (between_tokens tokens) bytes (with_token tokens t)
+  notice_token_is_read : (tokens : List Token) (b : Bodied) (n : Notice) (t : Token) (body rest bytes : List ℕ) → StartsToken (WithBody b) rest bytes → SpellsBody body rest → SpellsNotice n body → bodied b body ≡ t → Leads (after_tokens tokens) bytes (with_token tokens t)
   notice_token_is_read tokens b n t body rest bytes begins s h is =
       let r = notice_is_read n _ h in
       lead_then _ (WithBody b) _ _ _ begins (no_row (described_after None tokens)) (rw (← is) (spelt_body _ b _ _ (λ e. r.0) (λ e. r.1) s))
 
   -- a token with fields of a fixed length
-  fixed_is_read : (tokens : List Token) (f : Fixed) (t : Token) (fields bytes : List ℕ) → StartsToken (WithFields f) fields bytes → length fields ≡ fields_length f → fixed f fields ≡ t → Leads (between_tokens tokens) bytes (with_token tokens t)
+  fixed_is_read : (tokens : List Token) (f : Fixed) (t : Token) (fields bytes : List ℕ) → StartsToken (WithFields f) fields bytes → length fields ≡ fields_length f → fixed f fields ≡ t → Leads (after_tokens tokens) bytes (with_token tokens t)
   fixed_is_read tokens f t fields bytes begins long is =
       lead_then _ (WithFields f) _ _ _ begins (no_row (described_after None tokens)) (Spelt-step _ _ _ _ (rw long (some_fields f)) long refl (cc))
 
@@ -107,20 +98,20 @@ module _ (charset : Charset) (room : ℕ) where
   pub fixed_spelt : (current : Option (List Column)) (f : Fixed) (fields bytes : List ℕ) → StartsToken (WithFields f) fields bytes → length fields ≡ fields_length f → SpellsToken charset room current (fixed f fields) bytes
   fixed_spelt current f fields bytes begins long = grind (arith, nat_tests)
 
-  row_token_is_read : (tokens : List Token) (current : Option (List Column)) (cells : List Cell) (bytes : List ℕ) → described_after None tokens ≡ current → HasColumns current → SpellsRowToken charset current cells bytes → Leads (between_tokens tokens) bytes (with_token tokens (Row cells))
+  row_token_is_read : (tokens : List Token) (current : Option (List Column)) (cells : List Cell) (bytes : List ℕ) → described_after None tokens ≡ current → HasColumns current → SpellsRowToken charset current cells bytes → Leads (after_tokens tokens) bytes (with_token tokens (Row cells))
   row_token_is_read tokens None cells bytes is some h = absurd h
   row_token_is_read tokens (Some columns) cells bytes is some (rest, inl h) =
-      let read = Inside-Spelt _ _ (with_row tokens) (row_in_response _) _ _ _ (row_is_read _ _ _ _ h.1) in
+      let read = spelt_inside (row_agrees tokens) (row_is_read _ _ _ _ h.1) in
       lead_then tokens ARow rest bytes (with_token tokens (Row cells)) h.0 (cc) (rw is read)
   row_token_is_read tokens (Some columns) cells bytes is some (rest, inr h) =
-      let read = Inside-Spelt _ _ (with_row tokens) (row_in_response _) _ _ _ (nbc_row_is_read _ _ _ _ (omega arith) h.1) in
+      let read = spelt_inside (row_agrees tokens) (nbc_row_is_read _ _ _ _ (omega arith) h.1) in
       lead_then tokens AnNbcRow rest bytes (with_token tokens (Row cells)) h.0 (cc) (rw is read)
 
   -- what spells a token is read as it
-  token_is_read : (tokens : List Token) (t : Token) (bytes : List ℕ) → HasColumns (described_after None tokens) → SpellsToken charset room (described_after None tokens) t bytes → Leads (between_tokens tokens) bytes (with_token tokens t)
+  token_is_read : (tokens : List Token) (t : Token) (bytes : List ℕ) → HasColumns (described_after None tokens) → SpellsToken charset room (described_after None tokens) t bytes → Leads (after_tokens tokens) bytes (with_token tokens t)
   token_is_read tokens (Metadata encoded columns) bytes some h =
       lead_then _ AMetadata _ _ _ h.0 (no_row (described_after None tokens))
-      (Inside-Spelt _ _ _ (description_in_response _) _ _ _ (description_is_read _ _ _ h.1))
+      (spelt_inside (description_agrees _) (description_is_read _ _ _ h.1))
   token_is_read tokens NoMetadata bytes some h =
       lead_then _ AMetadata _ _ _ h (no_row (described_after None tokens))
       (Spelt-step _ _ _ _ (omega arith) refl refl refl)
@@ -130,7 +121,7 @@ module _ (charset : Charset) (room : ℕ) where
   token_is_read tokens (Info n) bytes some (rest, body, begins, s, h) = notice_token_is_read _ AnInfo n _ _ _ _ begins s h (ap Info (notice_is_read n _ h).2)
   token_is_read tokens (Returned r) bytes some (rest, begins, h) =
       lead_then _ AReturn _ _ _ begins (no_row (described_after None tokens))
-      (Inside-Spelt _ _ _ (return_in_response _) _ _ _ (return_is_read r _ h))
+      (spelt_inside (return_agrees _) (return_is_read r _ h))
   token_is_read tokens (Done m) bytes some h = fixed_is_read _ ADone _ _ _ h.1 h.2 (ap Done (more_is m _ h.3))
   token_is_read tokens (DoneInProc m) bytes some h = fixed_is_read _ ADoneInProc _ _ _ h.1 h.2 (ap DoneInProc (more_is m _ h.3))
   token_is_read tokens (ReturnStatus n) bytes some h = fixed_is_read _ AStatus _ _ _ h.1 h.2 (cc)
@@ -138,16 +129,16 @@ module _ (charset : Charset) (room : ℕ) where
   next_HasColumns : (current : Option (List Column)) (t : Token) (bytes : List ℕ) → HasColumns current → SpellsToken charset room current t bytes → HasColumns (described_after current (t ∷ []))
   next_HasColumns current t bytes some h = grind arith
 
-  tokens_are_read : (before : List Token) (current : Option (List Column)) (ts : List Token) (bytes : List ℕ) → described_after None before ≡ current → HasColumns current → SpellsTokens charset room current ts bytes → Leads (between_tokens before) bytes (between_tokens (before ++ ts))
+  tokens_are_read : (before : List Token) (current : Option (List Column)) (ts : List Token) (bytes : List ℕ) → described_after None before ≡ current → HasColumns current → SpellsTokens charset room current ts bytes → Leads (after_tokens before) bytes (after_tokens (before ++ ts))
   tokens_are_read before current [] bytes is some h = grind (arith, Spelt-none, append-nil)
   tokens_are_read before current (t ∷ ts) bytes is some h =
-      let one : Leads (between_tokens before) h.0 (with_token before t) = token_is_read _ t _ (rw is some) (rw is h.3) in
+      let one : Leads (after_tokens before) h.0 (with_token before t) = token_is_read _ t _ (rw is some) (rw is h.3) in
       let now : described_after None (before ++ t ∷ []) ≡ described_after current (t ∷ []) = cc (described_after-append None before (t ∷ [])) in
-      let rest : Leads (with_token before t) h.1 (between_tokens ((before ++ t ∷ []) ++ ts)) = tokens_are_read (before ++ t ∷ []) (described_after current (t ∷ [])) ts h.1 now (next_HasColumns _ t _ some h.3) h.4 in
-      grind (arith, between_tokens, token_is_read, HasColumns, described_after-append, next_HasColumns, Spelt-append, append_assoc)
+      let rest = tokens_are_read (before ++ t ∷ []) (described_after current (t ∷ [])) ts h.1 now (next_HasColumns _ t _ some h.3) h.4 in
+      grind (arith, token_is_read, HasColumns, next_HasColumns, Spelt-append, append_assoc)
 
   -- What spells a response is read as its tokens, all of it.
-  pub response_is_read : (tokens : List Token) (payload : List ℕ) → Response charset room tokens payload → Leads response_start payload (between_tokens tokens)
+  pub response_is_read : (tokens : List Token) (payload : List ℕ) → Response charset room tokens payload → Leads response_start payload (after_tokens tokens)
   response_is_read tokens payload h = tokens_are_read _ _ _ _ refl tt h.spelt
 
   -- No payload spells the tokens of two responses.
@@ -157,8 +148,8 @@ module _ (charset : Charset) (room : ℕ) where
       ap (λ p. p.tokens) e
 
   -- No response begins with an element that is refused.
-  pub refused_response : (payload : List ℕ) (place : ℕ) (part : Part) (f : Fault) (more' : List ℕ) (tokens : List Token) → Longest (response charset room) response_start payload place part → IsRefused (response charset room) part (drop place payload) f → Response charset room tokens (take (place + (response charset room).size part) payload ++ more') → ⊥
-  refused_response payload place part f more' tokens l r h =
+  pub refused_response : (payload more' : List ℕ) (place : ℕ) (part : Part) (f : Fault) (tokens : List Token) → Longest (response charset room) response_start payload place part → IsRefused (response charset room) part (drop place payload) f → Response charset room tokens (take (place + (response charset room).size part) payload ++ more') → ⊥
+  refused_response payload more' place part f tokens l r h =
       let e = take-add place ((response charset room).size part) payload in
       refused_for_good _ _ _ _ _ f _ _ l.spelt r
       (rw e at (response_is_read _ _ h))

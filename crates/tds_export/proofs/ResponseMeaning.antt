@@ -1,6 +1,5 @@
 -- What the bytes that lead to a part of a response spell.
-use Rattle.tds_export.proofs.Words.{AMetadata, APassed, AReturn, ARow, AnNbcRow, AreBytes, AreBytes-back, AreBytes-front, BadNotice, Between, Bodied, Bool, Cell, Charset, Column, DescribedMeans, Describing, DescriptionPart, Fields, InReturn, InRow, IsFirst, IsNext, Lead, List, NoDescription, None, Open, Option, Part, Response, ReturnPart, RowMeans, RowPart, Some, SpellsBody, SpellsNotice, SpellsRowToken, SpellsToken, SpellsTokens, Spelt, Spelt-induct, Token, TokenBody, TokenLength, WholeDescription, WholeReturn, WholeRow, WithBody, WithFields, [], add-one, after_first, after_lead, ap, append-nil, append_assoc, arith, bodied, choose, described_after, described_step, drop, drop-cons, drop-drop, eq_true, false, fixed, holds_notice, if◌then◌else◌, inl, inr, is_final, is_notice, is_row_lead, lead, lead_fault, lead_of, length, length-drop, length-take-le, line_at, little, message, nat_lt, not, notice_of, one_byte, part_add, passed, procedure_at, refl, response, response_start, row_byte_fault, row_start, row_start_means, row_step, server_at, slice_index, start_of_row, sym, take, take-append-drop, true, two_bytes, with_described, with_return, with_row, with_token, ℕ, ◌%◌, ◌&&◌, ◌*◌, ◌++◌, ◌+◌, ◌/◌, ◌<◌, ◌∙◌, ◌∷◌, ◌≡◌, ◌≤◌}
-use Rattle.tds_export.proofs.{ReturnLaws.ReturnMeans, ReturnLaws.return_step, ResponseLaws.described_after-append, ResponseLaws.fixed_spelt, NoticeReading.parts_within}
+use Rattle.tds_export.proofs.{Words.{AMetadata, APassed, AReturn, ARow, AnNbcRow, AreBytes, BadNotice, Between, Bodied, Bool, Cell, Charset, Column, DescribedMeans, Describing, DescriptionPart, Fields, InReturn, InRow, IsFirst, IsNext, Lead, List, NoDescription, None, Open, Option, Part, Response, ReturnPart, RowMeans, RowPart, Some, SpellsBody, SpellsNotice, SpellsRowToken, SpellsToken, SpellsTokens, Spelt, Token, TokenBody, TokenLength, WholeDescription, WholeReturn, WholeRow, WithBody, WithFields, [], add-one, after_first, after_lead, ap, append-nil, append_assoc, arith, bodied, choose, described_after, described_step, drop, drop-cons, drop-drop, eq_true, false, fixed, holds_notice, if◌then◌else◌, inl, inr, is_final, is_notice, is_row_lead, lead, lead_fault, lead_of, length, length-drop, length-take-le, line_at, little, message, nat_lt, not, notice_of, one_byte, part_add, passed, procedure_at, refl, response, response_start, row_byte_fault, row_start, row_start_means, row_step, server_at, slice_index, start_of_row, sym, take, take-append-drop, true, two_bytes, with_described, with_return, with_row, with_token, ℕ, ◌%◌, ◌&&◌, ◌*◌, ◌++◌, ◌+◌, ◌/◌, ◌<◌, ◌∙◌, ◌∷◌, ◌≡◌, ◌≤◌, after_tokens}, ReturnLaws.{ReturnMeans, return_step}, ResponseLaws.{described_after-append, fixed_spelt, part_at, IsFree}, NoticeLaws.parts_within, SomeBytes.bytes_induct}
 
 -- so many of the bytes after the first n, and those after them
 piece : (body : List ℕ) (n k m : ℕ) {r : List ℕ} → n + k ≡ m → drop m body ≡ r → drop n body ≡ take k (drop n body) ++ r
@@ -44,7 +43,7 @@ notice_spelt body h =
       procedure = take (2 * p) (drop (pa + 1) body);
       last = take 4 (drop la body);
       ignored = drop (la + 4) body;
-      spelt = regroup (take 4 body) (slice_index body 4) (slice_index body 5) (take 2 (drop 6 body)) (take (2 * u) (drop 8 body)) s (take (2 * s) (drop (sa + 1) body)) p (take (2 * p) (drop (pa + 1) body)) (take 4 (drop la body)) (drop (la + 4) body) body all s_is p_is;
+      spelt = regroup (take 4 body) (slice_index body 4) (slice_index body 5) _ _ s _ p _ _ (drop (la + 4) body) body all s_is p_is;
       number = (length-take-le 4 body (omega arith), refl);
       message = (long body 6 2 (omega arith), long body 8 (2 * u) (omega arith));
       servers = omega arith;
@@ -52,7 +51,7 @@ notice_spelt body h =
       line = (long body la 4 t.2, refl);
     }
 
-empty_body : (k : Bodied) → ((if is_notice k && nat_lt 0 14 then Some BadNotice else None) ≡ None) → ((if is_notice k && not (holds_notice []) then Some BadNotice else None) ≡ None)
+empty_body : (k : Bodied) → ((if is_notice k && nat_lt 0 14 then Some BadNotice else None) ≡ None) → IsFree k []
 empty_body k h = grind arith
 
 -- what a byte begins has it as its first byte
@@ -129,25 +128,25 @@ module _ (charset : Charset) (room : ℕ) where
   byte_step tokens b x None is h free = cc
   byte_step tokens b x (Some lead) is h free = lead_step _ b x _ is (leads_first x _ is) h free
 
-  body_means : (tokens : List Token) (k : Bodied) (body b : List ℕ) → (h : AfterLead tokens (WithBody k) (SpellsBody body) b) → ((if is_notice k && not (holds_notice body) then Some BadNotice else None) ≡ None) → PartMeans (with_token tokens (bodied k body)) b
+  body_means : (tokens : List Token) (k : Bodied) (body b : List ℕ) → (h : AfterLead tokens (WithBody k) (SpellsBody body) b) → IsFree k body → PartMeans (with_token tokens (bodied k body)) b
   body_means tokens k body b h f = token_means _ _ h (spelt k h.begins f)
     where
-      spelt : (k : Bodied) → IsFirst (WithBody k) h.first → ((if is_notice k && not (holds_notice body) then Some BadNotice else None) ≡ None) → SpellsToken charset room (described_after None tokens) (bodied k body) (h.first ∷ h.rest)
+      spelt : (k : Bodied) → IsFirst (WithBody k) h.first → IsFree k body → SpellsToken charset room (described_after None tokens) (bodied k body) (h.first ∷ h.rest)
       spelt (APassed passed) begins f = (h.rest, (h.first, refl, begins), h.follows)
       spelt b begins f = (h.rest, body, (h.first, refl, begins), h.follows, notice_spelt _ (held _ f))
 
   -- each element keeps the meaning
-  part_step : (tokens : List Token) (at : Open) (b e : List ℕ) → AreBytes e → OpenMeans tokens at b → IsNext (response charset room) (record { tokens = tokens; at = at }) e → PartMeans (part_add charset tokens at e) (b ++ e)
+  part_step : (tokens : List Token) (at : Open) (b e : List ℕ) → AreBytes e → OpenMeans tokens at b → IsNext (response charset room) (part_at tokens at) e → PartMeans (part_add charset tokens at e) (b ++ e)
   part_step tokens Between b e bytes h n = grind (arith, byte_step, one_byte)
   part_step tokens (Describing d) b e bytes h n =
       with_described_means _ _ _
-      (further e h (described_step _ d _ e bytes h.follows (record { some = n.some; whole = n.whole; free = n.free })))
+      (further e h (described_step _ d _ e bytes h.follows (grind arith)))
   part_step tokens (InRow part) b e bytes (columns, nbc, is, h) n =
       with_row_means _ _ _ _ _ is
-      (further e h (row_step _ _ _ _ _ e bytes h.follows (record { some = n.some; whole = n.whole; free = n.free })))
+      (further e h (row_step _ _ _ _ _ e bytes h.follows (grind arith)))
   part_step tokens (InReturn part) b e bytes h n =
       with_return_means _ _ _
-      (further e h (return_step _ _ e bytes h.follows (record { some = n.some; whole = n.whole; free = n.free })))
+      (further e h (return_step _ _ e bytes h.follows (grind arith)))
   part_step tokens (TokenLength k) b e bytes h n =
       let t = two_bytes e n.whole bytes in
       let read = ap (λ v. v ++ e) h.follows ∙ t.0 in
@@ -155,18 +154,15 @@ module _ (charset : Charset) (room : ℕ) where
       (λ z. body_means tokens k [] (b ++ e) (further e h (read ∙ ap (λ v. v % 256 ∷ v / 256 ∷ []) (eq_true _ 0 z), omega arith)) (empty_body k (rw (eq_true _ 0 z) at n.free)))
       (λ z. further e h (read, t.1))
   part_step tokens (TokenBody k m) b e bytes h n =
-      body_means _ k e _ (further e h (cc, (let w = h.follows.1 in omega arith))) n.free
+      body_means _ k e _ (further e h (cc, (omega arith))) n.free
   part_step tokens (Fields f) b e bytes h n =
       let to : AfterLead tokens (WithFields f) (λ rest. rest ≡ e) (b ++ e) = further e h (cc) in
       token_means tokens (fixed f e) to (fixed_spelt _ _ _ f e _ (to.first, cc, to.begins) n.whole)
 
   -- What is read as a part of a response is spelt so.
-  part_keeps : (p : Part) (b e : List ℕ) → (AreBytes b → PartMeans p b) → IsNext (response charset room) p e → AreBytes (b ++ e) → PartMeans (part_add charset p.tokens p.at e) (b ++ e)
-  part_keeps p b e h n bytes = part_step _ _ b e (AreBytes-back b e bytes) (h (AreBytes-front b e bytes)) n
-
   part_is_spelt : (bytes : List ℕ) (p : Part) → AreBytes bytes → Spelt (response charset room) response_start bytes p → PartMeans p bytes
-  part_is_spelt bytes p are h = Spelt-induct _ (λ q b. AreBytes b → PartMeans q b) (λ q b e k n. part_keeps q b e k n) _ (λ t. refl) _ p h are
+  part_is_spelt bytes p are h = bytes_induct _ PartMeans (λ q b e k are n. part_step _ _ b e are k n) _ refl _ p are h
 
   -- What is read between tokens, after a final one, is a response.
-  pub response_is_spelt : (payload : List ℕ) (tokens : List Token) → AreBytes payload → is_final tokens ≡ true → Spelt (response charset room) response_start payload (record { tokens = tokens; at = Between }) → Response charset room tokens payload
+  pub response_is_spelt : (payload : List ℕ) (tokens : List Token) → AreBytes payload → is_final tokens ≡ true → Spelt (response charset room) response_start payload (after_tokens tokens) → Response charset room tokens payload
   response_is_spelt payload tokens are final h = record { spelt = part_is_spelt _ _ are h; final = final }

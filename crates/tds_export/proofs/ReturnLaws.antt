@@ -1,22 +1,33 @@
 -- What a return value's spelling is read as, and what the bytes that lead to a part of it spell.
-use Rattle.tds_export.proofs.Words.{AreBytes, BadTypeInfo, CellMeans, CellPart, Fault, Grammar, InReturnCell, Inside, Inside-Spelt, IsNext, IsTypeInfo, Kind, List, None, Option, ReturnHead, ReturnInfo, ReturnName, ReturnNameCount, ReturnOrdinal, ReturnPart, ReturnValue, Some, SpellsReturnName, SpellsReturnValue, Spelt, Spelt-none, Spelt-step, WholeCell, WholeReturn, [], ap, append-nil, append_assoc, arith, bare_type, byte_and_rest, cell, cell_is_read, cell_start, cell_step, choose, choose_false, choose_true, eq_true, get_or-append_seam, if◌then◌else◌, is_some, is_some_value, kind_of, length, length-append, nat_tests, ne_eqb, one_byte, refl, rest_length, return_add, return_charset, return_column, return_value, shape, shape-HasBytes, split_last, start_means, sym, true, type_fault, with_return_kind, with_return_type, with_return_units, with_value, ℕ, ◌*◌, ◌++◌, ◌<◌, ◌∙◌, ◌∷◌, ◌≡◌}
-use Rattle.tds_export.proofs.Cuts.{spelt_both, spelt_one}
+use Rattle.tds_export.proofs.{Words.{AreBytes, BadTypeInfo, CellMeans, CellPart, Fault, Grammar, InReturnCell, Inside, Inside-Spelt, IsNext, IsTypeInfo, Kind, List, None, Option, ReturnHead, ReturnInfo, ReturnName, ReturnNameCount, ReturnOrdinal, ReturnPart, ReturnValue, Some, SpellsReturnName, SpellsReturnValue, Spelt, Spelt-none, Spelt-step, WholeReturn, [], ap, append-nil, append_assoc, arith, bare_type, byte_and_rest, cell, cell_is_read, cell_step, choose, choose_false, choose_true, eq_true, get_or-append_seam, if◌then◌else◌, is_some, is_some_value, kind_of, length, length-append, nat_tests, ne_eqb, one_byte, refl, rest_length, return_add, return_charset, return_column, return_value, shape, shape-HasBytes, split_last, start_means, sym, true, type_fault, with_return_kind, with_return_type, with_return_units, with_value, ℕ, ◌*◌, ◌++◌, ◌<◌, ◌∙◌, ◌∷◌, ◌≡◌, Reads, StopsReading, Seen, Stop, reads_inside, stops_inside, stops_size}, Cuts.{spelt_both, spelt_one}}
 
 -- a state of a small grammar stands in a big one: the next element is the same there, and so is the fault of an end
-abbrev pub Agrees : {S T : Type 0} → Grammar S Fault → Grammar T Fault → (S → T) → S → Type 0
-Agrees small big lift s =
-    (big.size (lift s) ≡ small.size s) × ((e : List ℕ) → big.fault (lift s) e ≡ small.fault s e) × ((e : List ℕ) → big.add (lift s) e ≡ lift (small.add s e)) × (big.end_fault (lift s) ≡ small.end_fault s)
+pub record Agrees {S T : Type 0} (small : Grammar S Fault) (big : Grammar T Fault) (lift : S → T) (s : S) : Type 0 where
+  pub size : big.size (lift s) ≡ small.size s
+  pub fault : (e : List ℕ) → big.fault (lift s) e ≡ small.fault s e
+  pub add : (e : List ℕ) → big.add (lift s) e ≡ lift (small.add s e)
+  pub end : big.end_fault (lift s) ≡ small.end_fault s
 
 -- a grammar whose open states stand so is inside the big one
-pub inside : {S T : Type 0} (small : Grammar S Fault) (big : Grammar T Fault) (lift : S → T) → ((s : S) → 0 < small.size s → Agrees small big lift s) → Inside small big lift
-inside small big lift all = record { size = λ s h. (all s h).0; fault = λ s e h. (all s h).1 e; add = λ s e h. (all s h).2 e }
+module _ {S T : Type 0} {small : Grammar S Fault} {big : Grammar T Fault} {lift : S → T} (all : (s : S) → 0 < small.size s → Agrees small big lift s) where
+  pub inside : Inside small big lift
+  inside = record { size = λ s h. (all s h).size; fault = λ s e h. (all s h).fault e; add = λ s e h. (all s h).add e }
+
+  module _ {s t : S} where
+    -- what it reads is read by the big one
+    pub spelt_inside : {bytes : List ℕ} → Spelt small s bytes t → Spelt big (lift s) bytes (lift t)
+    spelt_inside x = Inside-Spelt _ _ _ inside _ _ _ x
+
+    abbrev pub read_inside : {a b : Seen} → Reads small s a b t → Reads big (lift s) a b (lift t)
+    read_inside {a = a} {b = b} x = reads_inside _ _ lift inside _ a b _ x
+
+    -- and so is what stops it
+    pub stop_inside : {a b : Seen} {place : ℕ} {stop : Stop} → StopsReading small s a b place t stop → StopsReading big (lift s) a b place (lift t) stop
+    stop_inside {a = a} {b = b} x = stops_inside _ _ lift inside _ a b _ _ _ (all _ (stops_size _ _ a b _ _ _ x)).end x
 
 -- a value is read in its token as by itself
 pub value_agrees : (name : List ℕ) (kind : Kind) (p : CellPart) → 0 < (cell return_column).size p → Agrees (cell return_column) return_value (with_value name kind) p
 value_agrees name kind p h = grind arith
-
-pub value_in_return : (name : List ℕ) (kind : Kind) → Inside (cell return_column) return_value (with_value name kind)
-value_in_return name kind = inside _ _ _ (value_agrees _ _)
 
 pub return_name_is_read : (units : ℕ) (name : List ℕ) → length name ≡ 2 * units → Spelt return_value (with_return_units units) name (ReturnHead name)
 return_name_is_read units [] l = grind (arith, Spelt-none, choose_true, nat_tests)
@@ -41,7 +52,7 @@ return_is_read r bytes h =
     let info = byte_and_rest r.kind h.info h.type in
     let type = spelt_both (head_is_read r.name h.ignored info.byte (length info.rest) h.seven info.whole) (info_is_read r.name info.byte info.rest r.kind info.whole info.allowed) in
     let same = append_assoc h.ignored (info.byte ∷ []) info.rest ∙ ap (λ v. h.ignored ++ v) (sym info.spelt) in
-    let value = Inside-Spelt (cell return_column) return_value (with_value r.name r.kind) (value_in_return r.name r.kind) (cell_start r.kind (shape return_charset r.kind)) h.value (WholeCell r.value) (cell_is_read return_column r.kind (shape return_charset r.kind) r.value h.value (shape-HasBytes return_charset r.kind) h.cell) in
+    let value = spelt_inside (value_agrees r.name r.kind) (cell_is_read return_column r.kind _ r.value h.value (shape-HasBytes return_charset r.kind) h.cell) in
     rw h.spelt (spelt_both (front_is_read r.name h.front h.named) (spelt_both (rw same at type) value))
 
 -- the bytes up to the value's, and what is read of it
@@ -103,7 +114,7 @@ return_step (InReturnCell name kind part) b e bytes h n =
       ignored = h.ignored;
       info = h.info;
       value = h.value ++ e;
-      spelt = cc (append_assoc h.front ((h.ignored ++ h.info) ++ h.value) e, append_assoc (h.ignored ++ h.info) h.value e);
+      spelt = cc (append_assoc h.front ((h.ignored ++ h.info) ++ h.value) e, append_assoc _ h.value e);
       named = h.named;
       seven = h.seven;
       type = h.type;

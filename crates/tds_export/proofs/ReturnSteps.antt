@@ -1,13 +1,10 @@
 -- RETURNVALUE as it is read, and in its response.
-use Rattle.tds_export.proofs.Words.{Bool, Charset, Ends, Err, Held, IfOk, IsHolding, IsNoted, Kind, KnownType, List, MatchResult, NoType, None, Ok, Option, PassesCell, Progress, Reads, ReadsReturn, ReadsTokens, ReadsType, ReadsValue, Result, ReturnHead, ReturnInfo, ReturnName, ReturnNameCount, ReturnOrdinal, ReturnPart, Seen, Space, StepStops, Stop, StopsPassing, StopsReturn, StopsType, Takes, Token, TypeHead, TypePart, TypeRest, [], after_tokens, arith, before_value, began_at, cell_start, choose_false, if◌then◌else◌, in_return, kind_of, length, length-append, ne_eqb, reads_both, reads_inside, reads_one, refl, response, rest_length, rest_length_of, return_add, return_charset, return_fault, return_size, return_value, returned_type, shape, slice_index, stops_after, stops_inside, stops_size, subst, sym, text_so_far, unwrap_or, with_known, with_return, with_return_kind, with_return_units, with_value, ℕ, ◌*◌, ◌++◌, ◌+◌, ◌-◌, ◌<◌, ◌==◌, ◌∷◌, ◌≡◌}
-use Rattle.tds_export.proofs.ReturnLaws.{Agrees, info_is_read, inside, return_name_is_read, value_agrees, value_in_return}
-use Rattle.tds_export.proofs.TokenSteps.{Begun, bare_reads, quietly, stops_quietly}
-use Rattle.tds_export.proofs.{Cuts.part_cut, ResponseLaws.return_agrees, ResponseLaws.return_in_response, TokenLaws.tracks_returned}
+use Rattle.tds_export.proofs.{Words.{Bool, Charset, Ends, Err, IfOk, IsHolding, Kind, KnownType, List, MatchResult, NoType, None, Ok, Option, PassesCell, Progress, Reads, ReadsReturn, ReadsType, ReadsValue, Result, ReturnHead, ReturnInfo, ReturnName, ReturnNameCount, ReturnOrdinal, ReturnPart, Seen, Space, Stop, StopsPassing, StopsReturn, StopsType, Takes, Token, TypeHead, TypePart, TypeRest, [], after_tokens, arith, before_value, began_at, cell_start, choose_false, if◌then◌else◌, in_return, kind_of, length, length-append, ne_eqb, reads_both, reads_one, refl, rest_length_of, return_add, return_charset, return_fault, return_size, return_value, returned_type, shape, slice_index, stops_after, stops_size, subst, sym, text_so_far, with_known, with_return, with_return_kind, with_return_units, with_value, ℕ, ◌*◌, ◌+◌, ◌-◌, ◌<◌, ◌∷◌, ◌≡◌, View}, ReturnLaws.{Agrees, info_is_read, return_name_is_read, value_agrees, read_inside, stop_inside}, TokenSteps.{Begun, bare_reads, quietly, stops_quietly, ReadsQuiet, StopsQuiet}, Cuts.part_cut, ResponseLaws.return_agrees, TokenLaws.tracks_returned}
 
 module _ {s t : ReturnPart} {a b c : Seen} {place middle : ℕ} (x : ReadsReturn s t a b place middle) where
   -- what stops a call stops one that began before it
   pub return_stops_after : {stop : Stop} → StopsReturn t b c middle stop → StopsReturn s a c place stop
-  return_stops_after {stop = stop} y = record { at = y.at; stops = stops_after return_value s t a b c place y.at stop x.reads (rw x.place_is at y.stops) }
+  return_stops_after {stop = stop} y = grind (arith, stops_after)
 
   -- and so it is where nothing stops
   pub return_reads_after : {u : ReturnPart} {place' : ℕ} → ReadsReturn t u b c middle place' → ReadsReturn s u a c place place'
@@ -56,9 +53,7 @@ byte_read name byte z = grind (arith, known_kind)
 
 -- a type is read in its return value as by itself
 type_agrees : (name : List ℕ) (p : TypePart) → 0 < returned_type.size p → Agrees returned_type return_value (after_name name) p
-type_agrees name TypeHead h = (refl, λ e. refl, λ e. byte_read name (slice_index e 7) (unwrap_or (rest_length (slice_index e 7)) 0 == 0), refl)
-type_agrees name (TypeRest byte) h = (refl, λ e. refl, λ e. known_kind name (kind_of (byte ∷ e)), refl)
-type_agrees name p h = absurd (omega arith)
+type_agrees name p h = grind (arith, byte_read, known_kind)
 
 -- whatever the answer is
 pub type_taken : (r : Result Kind Stop) (name head : List ℕ) (a b c : Seen) (place middle place' : ℕ) → length head ≡ 8 → Takes a b head 8 → middle ≡ place + 8 → IfOk r (λ kind. ReadsType (slice_index head 7) b c middle place' kind)
@@ -70,8 +65,7 @@ type_taken (Ok kind) name head a b c place middle place' eight takes at x y =
     (record { reads = record { bytes = x.rest; spelt = info_is_read _ _ _ _ known x.info; takes = x.takes }; place_is = x.place_is })
 type_taken (Err stop) name head a b c place middle place' eight takes at x y =
     let z = subst (λ n. StopsType a c n stop) (omega arith) y in
-    let end = type_agrees name _ (stops_size _ _ a c _ _ _ z.stops) in
-    record { at = after_name name z.at; stops = stops_inside _ _ (after_name name) (inside _ _ _ (type_agrees _)) _ a c _ _ _ end.3 z.stops }
+    record { at = after_name name z.at; stops = stop_inside (type_agrees name) z.stops }
 
 -- ---- the value
 
@@ -80,11 +74,9 @@ pub value_passed : {U : Type 0} (r : Result U Stop) (name : List ℕ) (kind : Ki
     → MatchResult r (λ _. PassesCell (cell_start kind (shape return_charset kind)) b c middle place') (λ stop. StopsPassing (cell_start kind (shape return_charset kind)) b c middle stop)
     → MatchResult r (λ _. ReadsValue a c place place') (λ stop. StopsReturn ReturnOrdinal a c place stop)
 value_passed (Ok u) name kind {b = b} c place' x y =
-    let inner = reads_inside _ _ (with_value name kind) (value_in_return _ _) _ b c _ y.steps.reads in
-    record { value = record { name = name; kind = kind; value = y.value }; steps = return_reads_after x (record { reads = inner; place_is = y.steps.place_is }) }
+    record { value = record { name = name; kind = kind; value = y.value }; steps = return_reads_after x (record { reads = read_inside (value_agrees name kind) y.steps.reads; place_is = y.steps.place_is }) }
 value_passed (Err stop) name kind {b = b} c {middle = middle} place' x y =
-    let end = value_agrees name kind _ (stops_size _ _ b c _ _ _ y.stops) in
-    return_stops_after x (record { at = with_value name kind y.at; stops = stops_inside _ _ (with_value name kind) (value_in_return _ _) _ b c _ _ _ end.3 y.stops })
+    return_stops_after x (record { at = with_value name kind y.at; stops = stop_inside (value_agrees name kind) y.stops })
 
 -- ---- in its response
 
@@ -92,17 +84,16 @@ value_passed (Err stop) name kind {b = b} c {middle = middle} place' x y =
 open_return : (area : Space) (tokens : List Token) (p : ReturnPart) → 0 < return_size p → IsHolding area (after_tokens tokens) → (text_so_far (in_return tokens) ≡ text_so_far (with_return tokens p)) × IsHolding area (with_return tokens p)
 open_return area tokens p some holds = grind arith
 
-module _ (charset : Charset) (room : ℕ) {place : ℕ} {tokens : List Token} {s : Progress} {area notice : Space} {sink : Held} {failed : Bool} {a b : Seen} (begun : Begun tokens s area notice sink failed) where
+module _ (charset : Charset) {tokens : List Token} {s : Progress} {u : View} {b : Seen} (begun : Begun tokens s u) where
   -- a return value stopped the call
-  pub return_stops : {stop : Stop} → StopsReturn ReturnOrdinal a b place stop → StepStops (response charset room) (in_return tokens) a b place sink sink area failed stop
-  return_stops {stop = stop} x =
-      let some = stops_size _ _ a b _ _ _ x.stops in
-      let there = open_return _ _ x.at some begun.holds in
+  pub return_stops : {stop : Stop} → StopsReturn ReturnOrdinal u.seen b u.place stop → StopsQuiet charset (in_return tokens) u b stop
+  return_stops x =
+      let there = open_return _ _ x.at (stops_size _ _ u.seen b _ _ _ x.stops) begun.holds in
       stops_quietly there.0 there.1 begun.delivered begun.going
-      (stops_inside return_value (response charset room) (with_return tokens) (return_in_response _ _ _) ReturnOrdinal a b place x.at stop (return_agrees charset room tokens _ some).3 x.stops)
+      (stop_inside (return_agrees charset u.area.room tokens) x.stops)
 
   -- a return value was read
-  pub return_reads : {place' : ℕ} → ReadsValue a b place place' → (x : ReadsTokens (response charset room) (in_return tokens) tokens a b place place' sink sink (record s { report = record s.report { return_values = s.report.return_values + 1 } }) area) × IsNoted notice (tokens ++ x.more)
+  pub return_reads : {place : ℕ} → ReadsValue u.seen b u.place place → ReadsQuiet charset (in_return tokens) tokens u b place (record s { report = record s.report { return_values = s.report.return_values + 1 } })
   return_reads x =
-      let r = reads_inside _ _ (with_return tokens) (return_in_response _ _ _) _ a b _ x.steps.reads in
-      quietly begun refl (bare_reads begun _ r x.steps.place_is refl refl (tracks_returned s _ x.value begun.tracks))
+      let r = read_inside (return_agrees charset u.area.room tokens) x.steps.reads in
+      quietly begun refl (bare_reads begun _ r x.steps.place_is refl refl (tracks_returned begun.tracks x.value))

@@ -1,20 +1,9 @@
 -- Rows of one token after one another, in their response.
-use Rattle.tds_export.proofs.Words.{Bool, Cell, Charset, Column, Fault, Grammar, Held, IsDescribed, IsHolding, IsNext, IsNoted, Leads, List, None, Option, Part, Progress, PutsText, ReadsRows, ReadsTokens, RefusedToken, Row, RowPart, RowToken, RowsPart, RowsStop, Seen, Some, Space, Spelt, StepStops, Stop, Streams, Token, Tracks, TracksBefore, WholeRow, [], after_tokens, ap, append-nil, append_assoc, arith, before, columns_of, counted, described_after, encoded_after, if◌then◌else◌, length, length-append, lines, map, map-append, next_inside, next_some, refl, response, row, row_so_far, rows, rows_so_far, rows_start, subst, sym, text, text_so_far, token_byte, token_start, true, with_row, ℕ, ◌++◌, ◌+◌, ◌==◌, ◌∙◌, ◌∷◌, ◌≡◌}
-use Rattle.tds_export.proofs.TokenSteps.{Begun, holds-snoc, quietly, row_stops, row_text, stops_further}
-use Rattle.tds_export.proofs.{ResponseLaws.described_after-append, ResponseLaws.row_in_response, TokenLaws.text_after-snoc, TokenLaws.tracks_row}
+use Rattle.tds_export.proofs.{Words.{Bool, Cell, Charset, Column, Held, IsDescribed, IsHolding, IsNext, List, None, Option, Part, Progress, ReadsRows, RefusedToken, Row, RowPart, RowToken, RowsPart, RowsStop, Seen, Some, Space, Spelt, Stop, Streams, Token, Tracks, TracksBefore, WholeRow, [], after_tokens, ap, append-nil, append_assoc, arith, before, columns_of, counted, described_after, encoded_after, if◌then◌else◌, length, length-append, lines, map, map-append, next_inside, next_some, refl, response, row, row_so_far, rows, rows_so_far, rows_start, subst, sym, text, text_so_far, token_byte, token_start, true, with_row, ℕ, ◌++◌, ◌+◌, ◌==◌, ◌∙◌, ◌∷◌, ◌≡◌, View, ReadsNext, StopsIn, Spelt-induct, Spelt-one, Spelt-none}, TokenSteps.{Begun, holds-snoc, quietly, row_stops, row_text, stops_further}, ResponseLaws.{described_after-append, row_agrees}, TokenLaws.{text_after-snoc, tracks_row, with_rows}, ReturnLaws.inside, Cuts.spelt_both}
 
 -- a byte that is no other token's
 is_token_byte : (byte x : ℕ) → (if x == byte then None else Some (RefusedToken x)) ≡ None → x ≡ byte
 is_token_byte byte x h = search (arith, h)
-
--- what one grammar reads, another reads there, where each element does
-module _ {S T : Type 0} (small : Grammar S Fault) (big : Grammar T Fault) (lift : S → T) (is : (s : S) (e : List ℕ) → IsNext small s e → IsNext big (lift s) e × (big.add (lift s) e ≡ lift (small.add s e))) where
-  lifted_leads : (s : S) (es : List (List ℕ)) (t : S) → Leads small s es t → Leads big (lift s) es (lift t)
-  lifted_leads s [] t h = cc
-  lifted_leads s (e ∷ es) t h = let x = is s e h.0 in (x.0, rw x.1 (lifted_leads (small.add s e) es t h.1))
-
-  lifted_spelt : (s : S) (bytes : List ℕ) (t : S) → Spelt small s bytes t → Spelt big (lift s) bytes (lift t)
-  lifted_spelt s bytes t h = record { elements = h.elements; joined = h.joined; leads = lifted_leads s _ t h.leads }
 
 -- rows describe no columns
 rows_describe : (before : Option (List Column)) (rs : List (List Cell)) → described_after before (map Row rs) ≡ before
@@ -32,22 +21,25 @@ module _ (which : RowToken) (charset : Charset) (room : ℕ) (all : List Column)
   in_rows p = with_row (tokens ++ map Row p.before) p.at
 
   in_rows_text : (p : RowsPart) → text_so_far (in_rows p) ≡ text tokens ++ rows_so_far p
-  in_rows_text p = cc (row_text (tokens ++ map Row p.before) p.at, rows_text tokens p.before, append_assoc (text tokens) (lines p.before) (row_so_far p.at))
+  in_rows_text p = cc (row_text _ p.at, rows_text tokens p.before, append_assoc (text tokens) (lines p.before) (row_so_far p.at))
 
   module _ (known : described_after None tokens ≡ Some all) where
-    token_next : (before : List (List Cell)) (cells : List Cell) → IsNext (response charset room) (in_rows (record { before = before; at = WholeRow cells })) (token_byte which ∷ []) × ((response charset room).add (in_rows (record { before = before; at = WholeRow cells })) (token_byte which ∷ []) ≡ in_rows (record { before = before ++ cells ∷ []; at = token_start which charset all }))
+    -- an element leads from one of these to another
+    abbrev Steps : RowsPart → List ℕ → RowsPart → Type 0
+    Steps p e q = IsNext (response charset room) (in_rows p) e × ((response charset room).add (in_rows p) e ≡ in_rows q)
+
+    token_next : (before : List (List Cell)) (cells : List Cell) → Steps (record { before = before; at = WholeRow cells }) (token_byte which ∷ []) (record { before = before ++ cells ∷ []; at = token_start which charset all })
     token_next before cells = grind (arith, append_assoc, described_after-append, map-append, rows_describe)
 
     row_next : (ts : List Token) (at : RowPart) (e : List ℕ) → IsNext (row charset) at e → IsNext (response charset room) (with_row ts at) e × ((response charset room).add (with_row ts at) e ≡ with_row ts ((row charset).add at e))
-    row_next ts at e n = grind (arith, next_inside, next_some, row_in_response)
+    row_next ts at e n = grind (arith, next_inside, next_some, inside, row_agrees)
 
-    element_next : (before : List (List Cell)) (p : RowPart) (e : List ℕ) → IsNext (rows which charset all) (record { before = before; at = p }) e
-        → IsNext (response charset room) (in_rows (record { before = before; at = p })) e × ((response charset room).add (in_rows (record { before = before; at = p })) e ≡ in_rows ((rows which charset all).add (record { before = before; at = p }) e))
+    element_next : (before : List (List Cell)) (p : RowPart) (e : List ℕ) → IsNext (rows which charset all) (record { before = before; at = p }) e → Steps (record { before = before; at = p }) e ((rows which charset all).add (record { before = before; at = p }) e)
     element_next before (WholeRow cells) [] n = absurd (let s = n.some in omega arith)
     element_next before (WholeRow cells) (x ∷ []) n =
         rw (is_token_byte _ x n.free) (token_next _ _)
     element_next before (WholeRow cells) (x ∷ y ∷ r) n = absurd (let w = n.whole in omega arith)
-    element_next before p e n = row_next _ p e (record { some = n.some; whole = n.whole; free = n.free })
+    element_next before p e n = row_next _ p e (grind arith)
 
     -- what is read of rows from their start on and put, is read of the response and put
     abbrev rows_stream : {t : RowsPart} {a b : Seen} {h j : Held} → Streams (rows which charset all) rows_so_far (rows_start which charset all) a b h j t → Streams (response charset room) text_so_far (with_row tokens (token_start which charset all)) a b h j (in_rows t)
@@ -55,23 +47,23 @@ module _ (which : RowToken) (charset : Charset) (room : ℕ) (all : List Column)
         let s = rows_start which charset all in
         let begins = ap (λ ts. with_row ts (token_start which charset all)) (append-nil tokens) in
         let same = ap (λ l. l ++ x.puts.0) (ap text_so_far (sym begins) ∙ in_rows_text s) ∙ append_assoc (text tokens) (rows_so_far s) x.puts.0 ∙ ap (λ l. text tokens ++ l) x.puts.1 ∙ sym (in_rows_text t) in
-        let spelt = lifted_spelt _ _ _ (λ p e n. element_next p.before p.at e n) s _ t x.spelt in
+        let spelt = Spelt-induct _ (λ p b. Spelt (response charset room) (in_rows s) b (in_rows p)) (λ p b e k n. (let y = element_next p.before p.at e n in spelt_both k (rw y.1 at (Spelt-one _ _ e y.0)))) s (Spelt-none _ _) _ t x.spelt in
         record { bytes = x.bytes; spelt = rw begins at spelt; takes = x.takes; puts = (x.puts.0, same, x.puts.2) }
 
 -- so many rows more are counted
-tracks_rows : (s : Progress) (tokens : List Token) (r : List Cell) (rs : List (List Cell)) → TracksBefore s tokens → Tracks (record s { report = record s.report { rows = s.report.rows + length (r ∷ rs) } }) (tokens ++ map Row (r ∷ rs))
-tracks_rows s tokens r [] k = tracks_row s _ r k
+tracks_rows : (s : Progress) (tokens : List Token) (r : List Cell) (rs : List (List Cell)) → TracksBefore s tokens → Tracks (with_rows s (length (r ∷ rs))) (tokens ++ map Row (r ∷ rs))
+tracks_rows s tokens r [] k = tracks_row k r
 tracks_rows s tokens r (q ∷ qs) k =
-    let first = tracks_row s _ r k in
+    let first = tracks_row k r in
     let n : (s.report.rows + 1) + length (q ∷ qs) ≡ s.report.rows + length (r ∷ q ∷ qs) = omega arith in
-    rw (append_assoc tokens (Row r ∷ []) (map Row (q ∷ qs))) at (subst (λ (n : ℕ). Tracks (record s { report = record s.report { rows = n } }) ((tokens ++ Row r ∷ []) ++ map Row (q ∷ qs))) n (tracks_rows (record s { report = record s.report { rows = s.report.rows + 1 } }) (tokens ++ Row r ∷ []) q qs (record { report = first.report; described = first.described; final = k.final })))
+    rw (append_assoc tokens (Row r ∷ []) (map Row (q ∷ qs))) at (subst (λ (n : ℕ). Tracks (record s { report = record s.report { rows = n } }) ((tokens ++ Row r ∷ []) ++ map Row (q ∷ qs))) n (tracks_rows (with_rows s 1) (tokens ++ Row r ∷ []) q qs (grind arith)))
 
 -- the same, the last row named
-tracks_all : (s : Progress) (tokens : List Token) (earlier : List (List Cell)) (last : List Cell) (count : ℕ) → count ≡ length earlier + 1 → TracksBefore s tokens → Tracks (record s { report = record s.report { rows = s.report.rows + count } }) (tokens ++ map Row (earlier ++ last ∷ []))
+tracks_all : (s : Progress) (tokens : List Token) (earlier : List (List Cell)) (last : List Cell) (count : ℕ) → count ≡ length earlier + 1 → TracksBefore s tokens → Tracks (with_rows s count) (tokens ++ map Row (earlier ++ last ∷ []))
 tracks_all s tokens earlier last count counted k =
     rw (length-append earlier (last ∷ []) ∙ sym counted) at (go earlier)
   where
-    go : (earlier : List (List Cell)) → Tracks (record s { report = record s.report { rows = s.report.rows + length (earlier ++ last ∷ []) } }) (tokens ++ map Row (earlier ++ last ∷ []))
+    go : (earlier : List (List Cell)) → Tracks (with_rows s (length (earlier ++ last ∷ []))) (tokens ++ map Row (earlier ++ last ∷ []))
     go [] = tracks_rows s _ _ [] k
     go (r ∷ rs) = tracks_rows s _ r _ k
 
@@ -82,31 +74,34 @@ rows_hold area tokens (r ∷ rs) h = rw (append_assoc tokens (Row r ∷ []) (map
 
 -- ---- what the call that reads them gives
 
--- the columns that the area describes are the current ones
-pub columns_known : (tokens : List Token) (described : Bool) (bytes : List ℕ) → described ≡ true → bytes ≡ encoded_after [] tokens → IsDescribed described (encoded_after [] tokens) (described_after None tokens) → described_after None tokens ≡ Some (columns_of bytes)
-columns_known tokens described bytes d is k = subst (λ b. IsDescribed b (encoded_after [] tokens) (described_after None tokens)) d k ∙ ap (λ l. Some (columns_of l)) (sym is)
+-- whether these tokens describe columns
+abbrev pub Describe : List Token → Bool → Type 0
+Describe tokens described = IsDescribed described (encoded_after [] tokens) (described_after None tokens)
 
-module _ (which : RowToken) (charset : Charset) (room : ℕ) {place : ℕ} {columns : List Column} {area notice : Space} {before after : Held} {tokens : List Token} {a b : Seen} {s : Progress} {failed : Bool}
-    (described : s.described ≡ true) (shown : columns ≡ columns_of area.bytes) (begun : Begun tokens s area notice before failed) where
+-- the columns that the area describes are the current ones
+pub columns_known : (tokens : List Token) (described : Bool) (bytes : List ℕ) → described ≡ true → bytes ≡ encoded_after [] tokens → Describe tokens described → described_after None tokens ≡ Some (columns_of bytes)
+columns_known tokens described bytes d is k = subst (Describe tokens) d k ∙ ap (λ l. Some (columns_of l)) (sym is)
+
+module _ (which : RowToken) (charset : Charset) {columns : List Column} {after : Held} {tokens : List Token} {u : View} {b : Seen} {s : Progress} (described : s.described ≡ true) (shown : columns ≡ columns_of u.area.bytes) (begun : Begun tokens s u) where
   -- rows were read, and their lines put
-  pub rows_read : {place' count : ℕ} → ReadsRows which charset columns count a b place place' before after
-      → (x : ReadsTokens (response charset room) (with_row tokens (token_start which charset (columns_of area.bytes))) tokens a b place place' before after (record s { report = record s.report { rows = s.report.rows + count } }) area) × IsNoted notice (tokens ++ x.more)
-  rows_read {place' = place'} {count = count} y =
+  pub rows_read : {place count : ℕ} → ReadsRows which charset columns count u.seen b u.place place u.held after
+      → ReadsNext charset (with_row tokens (token_start which charset (columns_of u.area.bytes))) tokens u (record u { seen = b; place = place; held = after }) (with_rows s count)
+  rows_read y =
       let x = rw shown at y in
       let known = columns_known tokens _ _ described begun.holds.bytes begun.tracks.described in
       let there = rows_stream _ _ _ _ _ known x.streams in
       let end = ap after_tokens (append_assoc tokens (map Row x.earlier) (Row x.last ∷ []) ∙ ap (λ l. tokens ++ l) (sym (map-append Row x.earlier (x.last ∷ [])))) in
       quietly begun refl (record {
         more = map Row (x.earlier ++ x.last ∷ []);
-        streams = record { bytes = x.streams.bytes; spelt = rw (← end) there.spelt; takes = x.streams.takes; puts = subst (λ (v : Part). PutsText text_so_far (with_row tokens (token_start which charset (columns_of area.bytes))) v before after) end there.puts };
+        streams = record { bytes = x.streams.bytes; spelt = rw (← end) there.spelt; takes = x.streams.takes; puts = grind arith };
         place_is = x.place_is;
         tracks = tracks_all s _ x.earlier x.last _ x.counted begun.tracks;
         holds = rows_hold _ _ (x.earlier ++ x.last ∷ []) begun.holds;
       })
 
   -- their reading stopped
-  pub rows_stop : {failed' : Bool} {stop : Stop} → RowsStop which charset columns a b place before after failed' stop → StepStops (response charset room) (with_row tokens (token_start which charset (columns_of area.bytes))) a b place before after area failed' stop
-  rows_stop {failed' = failed'} {stop = stop} y =
+  pub rows_stop : {failed : Bool} {stop : Stop} → RowsStop which charset columns u.seen b u.place u.held after failed stop → StopsIn charset (with_row tokens (token_start which charset (columns_of u.area.bytes))) u (record u { seen = b; held = after; failed = failed }) stop
+  rows_stop y =
       let x = rw shown at y in
       let known = columns_known tokens _ _ described begun.holds.bytes begun.tracks.described in
-      stops_further (rows_stream _ _ _ _ _ known x.streams) refl (row_stops charset room (tokens ++ map Row x.earlier) (rows_hold area tokens x.earlier begun.holds) x.stops)
+      stops_further (rows_stream _ _ _ _ _ known x.streams) {middle = u.place + length x.streams.bytes} refl (row_stops charset u.area.room _ (rows_hold u.area tokens x.earlier begun.holds) x.stops)

@@ -1,8 +1,5 @@
 -- The text so far is no longer than 64 bytes for each byte read.
-use Rattle.tds_export.proofs.Words.{AreBytes, AreBytes-back, AreBytes-front, Bool, Cell, CellPart, Charset, ChunkData, ChunkLength, Column, Describing, DescriptionPart, InCell, InColumn, InRow, IsNext, List, None, Null, Open, Option, Part, Result, ReturnPart, RowPart, ScalarBytes, ScalarLength, ScalarValue, ShortData, ShortLength, Some, Spelt, Spelt-induct, Token, Total, Utf16Text, ValueFault, WholeCell, WholeDescription, [], add_described, and_parts, ap, append-nil, arith, cell, cell_add, choose, codes, description, end_fit, false, field, field_so_far, fit_begins, header_line, joined, last_fit, length, length-append, line, line_end, little, long_field, map, map-append, marked, next_cell, open_field, open_text, part_add, refl, response, response_start, row_so_far, row_start, slice_index, start_quiet, suc, text, text_so_far, true, unless_none, value_part, with_return, with_row, ℕ, ◌*◌, ◌++◌, ◌+◌, ◌==◌, ◌∷◌, ◌≡◌, ◌≤◌}
-use Rattle.tds_export.proofs.ReadingGrows.{IsFresh, lead_cases, part_at}
-use Rattle.tds_export.proofs.FieldLengths.{ReadShort, long_length, long_more, open_length, open_more, read_short}
-use Rattle.tds_export.proofs.TokenLaws.{bare, bare_body, bare_fixed, begun_after, text_after-snoc}
+use Rattle.tds_export.proofs.{Words.{AreBytes, Bool, Cell, CellPart, Charset, ChunkData, ChunkLength, Column, Describing, DescriptionPart, InCell, InColumn, InRow, IsNext, List, None, Null, Open, Option, Part, Result, ReturnPart, RowPart, ScalarBytes, ScalarLength, ScalarValue, ShortData, ShortLength, Some, Spelt, Token, Total, Utf16Text, ValueFault, WholeCell, WholeDescription, [], add_described, and_parts, ap, append-nil, arith, cell, cell_add, choose, codes, description, end_fit, false, field, field_so_far, fit_begins, header_line, joined, last_fit, length, length-append, line, line_end, little, map, map-append, marked, next_cell, open_field, open_text, part_add, refl, response, response_start, row_so_far, row_start, start_quiet, suc, text, text_so_far, true, unless_none, value_part, with_return, with_row, ℕ, ◌*◌, ◌++◌, ◌+◌, ◌∷◌, ◌≡◌, ◌≤◌, ⊤, name_field, slice_index, ◌==◌}, ReadingGrows.{IsFresh, lead_cases}, FieldLengths.{ReadShort, long_length, long_more, open_length, open_more, read_short}, TokenLaws.{bare, bare_body, bare_fixed, begun_after, text_after-snoc}, ResponseLaws.part_at, SomeBytes.bytes_induct}
 
 -- ---- fields
 
@@ -32,7 +29,7 @@ one_more_cell cells c = rw (map-append field cells (c ∷ [])) (one_more_length 
 
 -- the field that is read has at most 48 bytes more
 abbrev FieldMore : Option (List ℕ) → Option (List ℕ) → Type 0
-FieldMore None None = Unit {0}
+FieldMore None None = ⊤
 FieldMore None (Some b) = length b ≤ 48
 FieldMore (Some a) None = ⊥
 FieldMore (Some a) (Some b) = length b ≤ length a + 48
@@ -47,7 +44,7 @@ module _ (column : ℕ) where
   -- each element of a cell adds no more
   cell_more : (p : CellPart) (e : List ℕ) → AreBytes e → IsNext (cell column) p e → FieldMore (field_so_far p) (field_so_far (cell_add p e))
   cell_more (ScalarBytes k i) e bytes n = value_more _ (read_short k e bytes)
-  cell_more (ScalarLength k) e bytes n = choose (λ p. FieldMore None (field_so_far p)) (slice_index e 0 == 0) (WholeCell Null) (ScalarBytes k (slice_index e 0)) (λ z. omega arith) (λ z. tt)
+  cell_more (ScalarLength k) e bytes n = choose (λ p. FieldMore None (field_so_far p)) (slice_index e 0 == 0) (WholeCell Null) _ (λ z. omega arith) (λ z. tt)
   cell_more (ShortLength c) e bytes n = grind (arith, choose, long_length, open_length)
   cell_more (Total c) e bytes n = grind (arith, choose, open_length)
   cell_more (WholeCell x) e bytes n = omega arith
@@ -82,7 +79,7 @@ one_null c b ks n h = grind arith
 -- no more of them than columns
 null_most : (columns : List Column) (nulls : ℕ → Bool) (k : ℕ) → how_many_null (marked columns nulls k) ≤ length columns
 null_most [] nulls k = omega arith
-null_most (c ∷ columns) nulls k = one_null c (nulls k) (marked columns nulls (k + 1)) _ (null_most columns nulls (k + 1))
+null_most (c ∷ columns) nulls k = one_null c (nulls k) _ _ (null_most columns nulls (k + 1))
 
 -- none without a bitmap
 none_null : (columns : List Column) (k : ℕ) → how_many_null (marked columns (λ i. false) k) ≡ 0
@@ -107,9 +104,9 @@ described_pending d = 0
 -- one more column in the header
 header_more : (columns : List Column) (c : Column) → length (header_line (columns ++ c ∷ [])) ≤ length (header_line columns) + 3 + 4 * length c.name
 header_more columns c =
-    let fs = map (λ k. long_field Utf16Text k.name) columns in
-    let f = long_field Utf16Text c.name in
-    let e = map-append (λ k. long_field Utf16Text k.name) columns (c ∷ []) in
+    let fs = map name_field columns in
+    let f = name_field c in
+    let e = map-append name_field columns (c ∷ []) in
     omega (arith, one_more_length fs f, long_length Utf16Text c.name, ap (λ v. length (line v)) e, length-append (joined (fs ++ f ∷ [])) line_end, length-append (joined fs) line_end)
 
 module _ (room : ℕ) where
@@ -154,13 +151,9 @@ module _ (charset : Charset) (room : ℕ) where
   grown_more : (p : Part) (e : List ℕ) → AreBytes e → IsNext (response charset room) p e → grown ((response charset room).add p e) ≤ grown p + 64 * length e
   grown_more p e bytes n = omega (arith, part_grown p.tokens p.at e bytes n, length-append (text p.tokens) (open_text p.at))
 
-  -- each element keeps the bound
-  bound_step : (n : ℕ) (p : Part) (b e : List ℕ) → (AreBytes b → grown p ≤ n + 64 * length b) → IsNext (response charset room) p e → AreBytes (b ++ e) → grown ((response charset room).add p e) ≤ n + 64 * length (b ++ e)
-  bound_step m p b e h n bytes = omega (arith, grown_more p e (AreBytes-back b e bytes) n, h (AreBytes-front b e bytes), length-append b e)
-
   -- so do all elements between two states
   grown_along : (p q : Part) (bytes : List ℕ) → AreBytes bytes → Spelt (response charset room) p bytes q → grown q ≤ grown p + 64 * length bytes
-  grown_along p q bytes are h = Spelt-induct _ (λ r b. AreBytes b → grown r ≤ grown p + 64 * length b) (λ r b e k n. bound_step (grown p) r b e k n) p (λ t. omega arith) _ q h are
+  grown_along p q bytes are h = bytes_induct _ (λ r b. grown r ≤ grown p + 64 * length b) (λ r b e k are n. omega (arith, grown_more r e are n, length-append b e)) p (omega arith) _ q are h
 
   -- the text so far is at most 64 times as long as all that is read
   pub bounded_along : (q : Part) (bytes : List ℕ) → AreBytes bytes → Spelt (response charset room) response_start bytes q → length (text_so_far q) ≤ 64 * length bytes

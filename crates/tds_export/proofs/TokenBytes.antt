@@ -1,7 +1,5 @@
 -- Tokens by their first bytes.
-use Rattle.tds_export.proofs.Words.{Bool, Charset, Ends, Fault, Held, IsBetween, IsDescribed, IsDescription, IsHolding, IsNext, IsOfKind, IsRefusedByte, IsUnder, Lead, List, MessageEnded, None, Part, Payload, Progress, ReadsTokens, Seen, Some, Space, StepStops, Stop, StopsReading, Streams, Takes, Token, TokenKind, [], after_tokens, ap, arith, begun, between, columns_of, cut_at_once, described_after, description_shows, encoded_after, false, in_kind, in_lead, inl, inr, lead_fault, lead_of, length, length-append, reads_one, refl, refused_at_once, response, row_byte_fault, sym, text_so_far, true, ℕ, ◌+◌, ◌-◌, ◌<◌, ◌^◌, ◌∙◌, ◌∷◌, ◌≡◌, ◌≤◌}
-use Rattle.tds_export.proofs.{RowRuns.columns_known, ResponseLaws.no_row}
-use Rattle.tds_export.proofs.TokenSteps.{same_text, start_text, stops_further, stops_quietly, streams_both}
+use Rattle.tds_export.proofs.{Words.{Bool, Charset, Ends, Fault, Held, IsBetween, IsDescription, IsHolding, IsNext, IsOfKind, IsRefusedByte, IsUnder, Lead, List, MessageEnded, Part, Payload, Progress, ReadsTokens, Seen, Some, Space, StepStops, Stop, StopsReading, Streams, Takes, Token, TokenKind, [], after_tokens, ap, arith, begun, between, columns_of, cut_at_once, description_shows, encoded_after, false, in_kind, in_lead, inl, inr, lead_fault, lead_of, length, length-append, reads_one, refl, refused_at_once, response, row_byte_fault, sym, text_so_far, true, ℕ, ◌+◌, ◌-◌, ◌<◌, ◌^◌, ◌∙◌, ◌∷◌, ◌≡◌, ◌≤◌}, RowRuns.{columns_known, Describe}, ResponseLaws.no_row, TokenSteps.{same_text, start_text, stops_further, stops_quietly, streams_both}}
 
 -- a token byte that is accepted
 pub record BeginsToken (charset : Charset) (room : ℕ) (tokens : List Token) (byte : ℕ) (to : Part) : Type 0 where
@@ -10,15 +8,13 @@ pub record BeginsToken (charset : Charset) (room : ℕ) (tokens : List Token) (b
   pub text_is : text_so_far (after_tokens tokens) ≡ text_so_far to
 
 -- a description has columns
-pub some_columns : (bytes : List ℕ) → IsDescription bytes → 0 < length (columns_of bytes)
+some_columns : (bytes : List ℕ) → IsDescription bytes → 0 < length (columns_of bytes)
 some_columns bytes d = rw (description_shows _ _ _ d.2).0 d.2.some
 
-begins_lead : (charset : Charset) (room : ℕ) (tokens : List Token) (byte : ℕ) (described : Bool) (bytes : List ℕ) (begun : Lead) → lead_of byte ≡ Some begun → IsUnder described begun → bytes ≡ encoded_after [] tokens → (described ≡ true → IsDescription bytes)
-    → IsDescribed described (encoded_after [] tokens) (described_after None tokens) → BeginsToken charset room tokens byte (in_lead charset (columns_of bytes) begun tokens)
+begins_lead : (charset : Charset) (room : ℕ) (tokens : List Token) (byte : ℕ) (described : Bool) (bytes : List ℕ) (begun : Lead) → lead_of byte ≡ Some begun → IsUnder described begun → bytes ≡ encoded_after [] tokens → (described ≡ true → IsDescription bytes) → Describe tokens described → BeginsToken charset room tokens byte (in_lead charset (columns_of bytes) begun tokens)
 begins_lead charset room tokens byte described bytes begun e under is d k = grind (arith, columns_known, no_row, some_columns, start_text)
 
-pub begins_kind : (charset : Charset) (room : ℕ) (tokens : List Token) (byte : ℕ) (described : Bool) (bytes : List ℕ) (kind : TokenKind) → IsOfKind described byte kind → bytes ≡ encoded_after [] tokens → (described ≡ true → IsDescription bytes)
-    → IsDescribed described (encoded_after [] tokens) (described_after None tokens) → BeginsToken charset room tokens byte (in_kind charset (columns_of bytes) kind tokens)
+pub begins_kind : (charset : Charset) (room : ℕ) (tokens : List Token) (byte : ℕ) (described : Bool) (bytes : List ℕ) (kind : TokenKind) → IsOfKind described byte kind → bytes ≡ encoded_after [] tokens → (described ≡ true → IsDescription bytes) → Describe tokens described → BeginsToken charset room tokens byte (in_kind charset (columns_of bytes) kind tokens)
 begins_kind charset room tokens byte described bytes kind h is d k = begins_lead _ _ _ _ _ _ _ h.0 h.1 is d k
 
 -- the first byte of a token is read, and nothing put for it
@@ -47,10 +43,10 @@ module _ {charset : Charset} {room byte : ℕ} {tokens : List Token} {to : Part}
 
 -- ---- between tokens
 
-refused : (charset : Charset) (room : ℕ) (tokens : List Token) (a b : Seen) (place byte : ℕ) (described : Bool) (fault : Fault) → IsDescribed described (encoded_after [] tokens) (described_after None tokens) → IsRefusedByte described byte fault → Takes a b (byte ∷ []) 1 → IsBetween b
+refused : (charset : Charset) (room : ℕ) (tokens : List Token) (a b : Seen) (place byte : ℕ) (described : Bool) (fault : Fault) → Describe tokens described → IsRefusedByte described byte fault → Takes a b (byte ∷ []) 1 → IsBetween b
     → StopsReading (response charset room) (after_tokens tokens) a b place (after_tokens tokens) (record { fault = fault; place = Payload place })
 refused charset room tokens a b place byte described fault k (inl x) t between =
-    let first = ap (lead_fault (described_after None tokens) byte) x.1 ∙ ap Some (sym x.0) in
+    let first = ap (lead_fault _ byte) x.1 ∙ ap Some (sym x.0) in
     refused_at_once (response charset room) (after_tokens tokens) a b place (byte ∷ []) fault (omega arith) refl first t between
 refused charset room tokens a b place byte described fault k (inr x) t between =
     let none = rw x.1 at k in
@@ -62,7 +58,7 @@ refused charset room tokens a b place byte described fault k (inr x) t between =
 
 module _ (charset : Charset) (room : ℕ) {place : ℕ} {tokens : List Token} {a b : Seen} {h : Held} {area : Space} {failed : Bool} (d : h.delivered ≤ 2 ^ 64 - 1) (going : failed ≡ false) (holds : IsHolding area (after_tokens tokens)) where
   -- a byte begins no token
-  pub stops_at_byte : {byte : ℕ} {described : Bool} {fault : Fault} → IsDescribed described (encoded_after [] tokens) (described_after None tokens) → IsRefusedByte described byte fault → Takes a b (byte ∷ []) 1 → IsBetween b
+  pub stops_at_byte : {byte : ℕ} {described : Bool} {fault : Fault} → Describe tokens described → IsRefusedByte described byte fault → Takes a b (byte ∷ []) 1 → IsBetween b
       → StepStops (response charset room) (after_tokens tokens) a b place h h area failed (record { fault = fault; place = Payload place })
   stops_at_byte {byte = byte} {described = described} {fault = fault} k why t between = stops_quietly refl holds d going (refused _ _ _ a b _ _ _ _ k why t between)
 

@@ -1,6 +1,5 @@
 -- What one more token adds to a response.
-use Rattle.tds_export.proofs.Words.{APassed, Bodied, Bool, Cell, Column, Done, DoneInProc, Error, Fixed, Info, List, Metadata, NoMetadata, None, Notice, Option, PassedOver, Progress, ReturnValue, Returned, Row, ServerError, Some, Token, Tracks, TracksBefore, [], add_none, append_assoc, arith, before, begun, between, bodied, columns_of, described_after, encoded_after, false, field, first_error, fixed, greatest_span, header_line, how_many, is_error, is_final, is_notice, is_set, line, map, max, more, nat_lt, option_map, passed, refl, return_status_after, server_error, sym, test_lt, text_after, true, ℕ, ◌++◌, ◌+◌, ◌<◌, ◌∙◌, ◌∷◌, ◌≡◌}
-use Rattle.tds_export.proofs.ResponseLaws.{described_after-append}
+use Rattle.tds_export.proofs.{Words.{APassed, Bodied, Bool, Cell, Column, Done, DoneInProc, Error, Fixed, Info, List, Metadata, NoMetadata, None, Notice, Option, PassedOver, Progress, ReturnValue, Returned, Row, ServerError, Some, Token, Tracks, TracksBefore, [], add_none, append_assoc, arith, before, begun, bodied, columns_of, described_after, encoded_after, false, first_error, fixed, greatest_span, how_many, is_error, is_final, is_notice, is_set, max, more, nat_lt, option_map, passed, refl, return_status_after, server_error, sym, test_lt, text_after, true, ℕ, ◌++◌, ◌+◌, ◌<◌, ◌∙◌, ◌∷◌, ◌≡◌, Reflects}, ResponseLaws.described_after-append}
 
 -- whether a set has begun after these tokens
 abbrev pub begun_after : Bool → List Token → Bool
@@ -10,8 +9,8 @@ begun_after begun (t ∷ ts) = begun_after begun ts
 
 pub text_after-snoc : (begun : Bool) (ts : List Token) (t : Token) → text_after begun (ts ++ t ∷ []) ≡ text_after begun ts ++ text_after (begun_after begun ts) (t ∷ [])
 text_after-snoc begun [] t = refl
-text_after-snoc begun (Metadata bytes columns ∷ ts) t = cc (text_after-snoc true ts t, append_assoc (between begun ++ header_line columns) (text_after true ts) (text_after (begun_after true ts) (t ∷ [])))
-text_after-snoc begun (Row cells ∷ ts) t = cc (text_after-snoc begun ts t, append_assoc (line (map field cells)) (text_after begun ts) (text_after (begun_after begun ts) (t ∷ [])))
+text_after-snoc begun (Metadata bytes columns ∷ ts) t = cc (text_after-snoc true ts t, append_assoc _ (text_after true ts) (text_after _ (t ∷ [])))
+text_after-snoc begun (Row cells ∷ ts) t = cc (text_after-snoc begun ts t, append_assoc _ _ (text_after _ (t ∷ [])))
 text_after-snoc begun (u ∷ ts) t = text_after-snoc begun ts t
 
 begun_true : (ts : List Token) → begun_after true ts ≡ true
@@ -114,33 +113,39 @@ is_quiet t = false
 pub tracks_begun : (s : Progress) (ts : List Token) → Tracks s ts → TracksBefore (record s { is_final = false }) ts
 tracks_begun s ts k = record { report = k.report; described = k.described; final = refl }
 
-pub tracks_quiet : (s : Progress) (ts : List Token) (t : Token) (final : Bool) → is_quiet t ≡ true → final ≡ is_final (t ∷ []) → TracksBefore s ts → Tracks (record s { is_final = final }) (ts ++ t ∷ [])
-tracks_quiet s ts t final is e k = grind (arith, described_after-append, encoded_after-append, is_final-snoc, same_first, status_after-append, uncounted)
+-- with so many rows more
+abbrev pub with_rows : Progress → ℕ → Progress
+with_rows s n = record s { report = record s.report { rows = s.report.rows + n } }
 
-pub tracks_body : (s : Progress) (ts : List Token) (which : Bodied) (body : List ℕ) → is_notice which ≡ false → TracksBefore s ts → Tracks s (ts ++ bodied which body ∷ [])
-tracks_body s ts (APassed passed) body h k = tracks_quiet s _ _ _ refl k.final k
-tracks_body s ts which body h k = cc
+-- what more tokens change
+pub ruleset tracked = (described_after-append, encoded_after-append, how_many-snoc, is_final-snoc, same_first, status_after-append, uncounted)
 
-pub tracks_none : (s : Progress) (ts : List Token) → TracksBefore s ts → Tracks (record s { described = false }) (ts ++ NoMetadata ∷ [])
-tracks_none s ts k = grind (arith, described_after-append, is_final-snoc, same_first, status_after-append, uncounted)
+module _ {s : Progress} {ts : List Token} (k : Reflects s ts false) where
+  pub tracks_quiet : (t : Token) (final : Bool) → is_quiet t ≡ true → final ≡ is_final (t ∷ []) → Tracks (record s { is_final = final }) (ts ++ t ∷ [])
+  tracks_quiet t final is e = grind (arith, tracked)
 
-pub tracks_metadata : (s : Progress) (ts : List Token) (bytes : List ℕ) (columns : List Column) → columns_of bytes ≡ columns → TracksBefore s ts
-    → Tracks (record s { report = record s.report { sets = s.report.sets + 1 }; described = true }) (ts ++ Metadata bytes columns ∷ [])
-tracks_metadata s ts bytes columns shown k = grind (arith, described_after-append, encoded_after-append, how_many-snoc, is_final-snoc, same_first, status_after-append, uncounted)
+  pub tracks_body : (which : Bodied) (body : List ℕ) → is_notice which ≡ false → Tracks s (ts ++ bodied which body ∷ [])
+  tracks_body (APassed passed) body h = tracks_quiet _ _ refl k.final
+  tracks_body which body h = cc
 
-pub tracks_row : (s : Progress) (ts : List Token) (cells : List Cell) → TracksBefore s ts → Tracks (record s { report = record s.report { rows = s.report.rows + 1 } }) (ts ++ Row cells ∷ [])
-tracks_row s ts cells k = grind (arith, how_many-snoc, is_final-snoc, same_first, status_after-append, described_after-append, encoded_after-append, uncounted)
+  pub tracks_none : Tracks (record s { described = false }) (ts ++ NoMetadata ∷ [])
+  tracks_none = grind (arith, tracked)
 
--- ---- ERROR and INFO
+  pub tracks_metadata : (bytes : List ℕ) (columns : List Column) → columns_of bytes ≡ columns → Tracks (record s { report = record s.report { sets = s.report.sets + 1 }; described = true }) (ts ++ Metadata bytes columns ∷ [])
+  tracks_metadata bytes columns shown = grind (arith, tracked)
 
-pub tracks_error : (s : Progress) (ts : List Token) (n : Notice) (first : Option ServerError) → first ≡ option_map server_error (first_error (ts ++ Error n ∷ [])) → TracksBefore s ts
-    → Tracks (record s { report = record s.report { errors = s.report.errors + 1; first_error = first } }) (ts ++ Error n ∷ [])
-tracks_error s ts n first e k = grind (arith, described_after-append, encoded_after-append, how_many-snoc, status_after-append, uncounted, is_final-snoc)
+  pub tracks_row : (cells : List Cell) → Tracks (with_rows s 1) (ts ++ Row cells ∷ [])
+  tracks_row cells = grind (arith, tracked)
 
-pub tracks_info : (s : Progress) (ts : List Token) (n : Notice) → TracksBefore s ts → Tracks (record s { report = record s.report { infos = s.report.infos + 1 } }) (ts ++ Info n ∷ [])
-tracks_info s ts n k = grind (arith, described_after-append, encoded_after-append, how_many-snoc, is_final-snoc, same_first, status_after-append, uncounted)
+  -- ---- ERROR and INFO
 
--- ---- RETURNVALUE
+  pub tracks_error : (n : Notice) (first : Option ServerError) → first ≡ option_map server_error (first_error (ts ++ Error n ∷ [])) → Tracks (record s { report = record s.report { errors = s.report.errors + 1; first_error = first } }) (ts ++ Error n ∷ [])
+  tracks_error n first e = grind (arith, tracked)
 
-pub tracks_returned : (s : Progress) (ts : List Token) (v : ReturnValue) → TracksBefore s ts → Tracks (record s { report = record s.report { return_values = s.report.return_values + 1 } }) (ts ++ Returned v ∷ [])
-tracks_returned s ts v k = grind (arith, described_after-append, encoded_after-append, how_many-snoc, is_final-snoc, same_first, status_after-append, uncounted)
+  pub tracks_info : (n : Notice) → Tracks (record s { report = record s.report { infos = s.report.infos + 1 } }) (ts ++ Info n ∷ [])
+  tracks_info n = grind (arith, tracked)
+
+  -- ---- RETURNVALUE
+
+  pub tracks_returned : (v : ReturnValue) → Tracks (record s { report = record s.report { return_values = s.report.return_values + 1 } }) (ts ++ Returned v ∷ [])
+  tracks_returned v = grind (arith, tracked)

@@ -1,15 +1,21 @@
 -- The tokens, as they are read and their text is put.
-use Rattle.tds_export.proofs.Words.{BeforeCount, Bool, Breaks, Charset, Column, Describes, DescriptionPart, Fault, Fixed, Grammar, Held, IsBetween, IsHolding, IsNext, IsNoted, List, Metadata, NoDescription, NoMetadata, Open, Part, Progress, Puts, Puts-none, PutsText, Reads, ReadsTokens, Report, RowPart, RowStops, Seen, Space, Spelt, Spelt-append, Spelt-none, StepStops, Stop, StopsDescribing, StopsInWriting, StopsReading, Streams, Takes, Token, Tracks, TracksBefore, WholeDescription, WholeRow, [], after_tokens, ap, append-nil, arith, between, breaks_after, breaks_inside, columns_of, described_size, description, description_bytes, description_of, encoded_after, false, fields_length, fixed, greatest_span, header_line, in_done, in_done_in_proc, in_fields, in_metadata, in_row, inl, inr, last_inside, length, max, nat_lt, nat_tests, next_some, one_state, open_span, puts_both, puts_inside, reads_inside, reads_one, refl, response, row, row_so_far, slice_index, span, start_quiet, stops_after, stops_inside, stops_size, subst, sym, takes_both, text, text_so_far, true, with_described, with_row, with_token, ℕ, ◌%◌, ◌++◌, ◌+◌, ◌-◌, ◌<◌, ◌==◌, ◌^◌, ◌∙◌, ◌∷◌, ◌≡◌, ◌≤◌}
-use Rattle.tds_export.proofs.TokenLaws.{bare, bare_fixed, begun_after, begun_where_sets, encoded_after-append, greatest_span-append, is_bare, same_first, text_after-snoc, tracks_metadata, tracks_none, tracks_quiet}
-use Rattle.tds_export.proofs.ResponseLaws.{description_agrees, description_in_response, row_agrees, row_in_response, some_fields}
+use Rattle.tds_export.proofs.{Words.{BeforeCount, Bool, Breaks, Charset, Column, Describes, DescriptionPart, Exporter, Fault, Fixed, Grammar, Held, IsBetween, IsHolding, IsNext, IsNoted, IsRunning, LeavesRun, List, MatchResult, Metadata, NoDescription, NoMetadata, Open, Option, Part, Progress, Puts, Puts-none, PutsText, Reads, ReadsNext, ReadsTokens, Report, Result, RowPart, RowStops, Seen, Space, Spelt, Spelt-append, Spelt-none, StepRead, StepStops, Stop, StopsDescribing, StopsIn, StopsInWriting, StopsReading, Streams, Takes, Token, Tracks, TracksBefore, View, WholeDescription, WholeRow, [], after_tokens, ap, append-nil, arith, between, breaks_after, breaks_inside, columns_of, described_size, description, description_bytes, description_of, encoded_after, false, fields_length, fixed, greatest_span, header_line, in_done, in_done_in_proc, in_fields, in_metadata, in_row, inl, inr, last_inside, length, max, nat_lt, nat_tests, next_some, one_state, open_span, puts_both, puts_inside, reads_one, refl, response, row, row_so_far, slice_index, span, start_quiet, stops_after, stops_size, subst, sym, takes_both, text, text_so_far, true, view_of, with_described, with_row, with_token, ℕ, ◌%◌, ◌++◌, ◌+◌, ◌-◌, ◌<◌, ◌==◌, ◌^◌, ◌∙◌, ◌∷◌, ◌≡◌, ◌≤◌}, TokenLaws.{bare, bare_fixed, begun_after, begun_where_sets, encoded_after-append, greatest_span-append, is_bare, same_first, text_after-snoc, tracks_metadata, tracks_none, tracks_quiet}, ResponseLaws.{description_agrees, row_agrees, some_fields, part_at}, ReturnLaws.{inside, read_inside, stop_inside}}
 
 -- A token has begun: what the tokens before it left is known, and the sink goes on.
-pub record Begun (tokens : List Token) (progress : Progress) (area notice : Space) (sink : Held) (failed : Bool) : Type 0 where
+pub record Begun (tokens : List Token) (progress : Progress) (u : View) : Type 0 where
   pub tracks : TracksBefore progress tokens
-  pub holds : IsHolding area (after_tokens tokens)
-  pub noted : IsNoted notice tokens
-  pub delivered : sink.delivered ≤ 2 ^ 64 - 1
-  pub going : failed ≡ false
+  pub holds : IsHolding u.area (after_tokens tokens)
+  pub noted : IsNoted u.notice tokens
+  pub delivered : u.held.delivered ≤ 2 ^ 64 - 1
+  pub going : u.failed ≡ false
+
+-- a token was read and no text put
+abbrev pub ReadsQuiet : Charset → Part → List Token → View → Seen → ℕ → Progress → Type 0
+ReadsQuiet charset from tokens u b place progress = ReadsNext charset from tokens u (record u { seen = b; place = place }) progress
+
+-- or that stopped
+abbrev pub StopsQuiet : Charset → Part → View → Seen → Stop → Type 0
+StopsQuiet charset from u b stop = StopsIn charset from u (record u { seen = b }) stop
 
 -- nothing more is put for the same text
 pub same_text : (p q : Part) (h : Held) → text_so_far p ≡ text_so_far q → h.delivered ≤ 2 ^ 64 - 1 → PutsText text_so_far p q h h
@@ -41,47 +47,44 @@ stops_quietly {s = s} {at = at} {h = h} same holds d going stops = inl (record {
 pub holds-snoc : (area : Space) (tokens : List Token) (t : Token) → encoded_after (encoded_after [] tokens) (t ∷ []) ≡ encoded_after [] tokens → IsHolding area (after_tokens tokens) → IsHolding area (after_tokens (tokens ++ t ∷ []))
 holds-snoc area tokens t e h = grind (arith, encoded_after-append, greatest_span-append)
 
-module _ {tokens : List Token} {s : Progress} {area notice : Space} {sink : Held} {failed : Bool} (begun : Begun tokens s area notice sink failed) where
+module _ {tokens : List Token} {s : Progress} {u : View} (begun : Begun tokens s u) where
   -- the first element after the token byte stopped the call
-  pub stops_first : {g : Grammar Part Fault} {at : Open} {a b : Seen} {place : ℕ} {stop : Stop} → description_of tokens at ≡ encoded_after [] tokens → open_span at ≡ 0 → StopsReading g (record { tokens = tokens; at = at }) a b place (record { tokens = tokens; at = at }) stop
-      → StepStops g (record { tokens = tokens; at = at }) a b place sink sink area failed stop
+  pub stops_first : {g : Grammar Part Fault} {at : Open} {a b : Seen} {place : ℕ} {stop : Stop} → description_of tokens at ≡ encoded_after [] tokens → open_span at ≡ 0 → StopsReading g (part_at tokens at) a b place (part_at tokens at) stop
+      → StepStops g (part_at tokens at) a b place u.held u.held u.area u.failed stop
   stops_first same none stops = stops_quietly refl (record { bytes = cc; peak = rw none begun.holds.peak }) begun.delivered begun.going stops
 
   -- what was read added no error, and the notice is the same
-  pub quietly : {g : Grammar Part Fault} {from : Part} {a b : Seen} {place place' : ℕ} {h k : Held} {t : Progress} {area' : Space} → t.report.errors ≡ s.report.errors → ReadsTokens g from tokens a b place place' h k t area' → (x : ReadsTokens g from tokens a b place place' h k t area') × IsNoted notice (tokens ++ x.more)
+  pub quietly : {g : Grammar Part Fault} {from : Part} {a b : Seen} {place place' : ℕ} {h k : Held} {t : Progress} {area' : Space} → t.report.errors ≡ s.report.errors → ReadsTokens g from tokens a b place place' h k t area' → (x : ReadsTokens g from tokens a b place place' h k t area') × IsNoted u.notice (tokens ++ x.more)
   quietly same x = (x, cc (same_first tokens x.more (sym (ap (λ (r : Report). r.errors) x.tracks.report) ∙ same ∙ ap (λ (r : Report). r.errors) begun.tracks.report)))
 
   -- a token that has no text and describes nothing was read
   abbrev pub bare_reads : {g : Grammar Part Fault} {from : Part} {progress : Progress} {a b : Seen} {place place' : ℕ} (t : Token) (r : Reads g from a b (with_token tokens t)) → place' ≡ place + length r.bytes → text_so_far from ≡ text tokens ++ [] → is_bare t ≡ true → Tracks progress (tokens ++ t ∷ [])
-      → ReadsTokens g from tokens a b place place' sink sink progress area
+      → ReadsTokens g from tokens a b place place' u.held u.held progress u.area
   bare_reads {from = from} t r at none is tracks =
       let so = bare t is in
       let same = text_after-snoc false tokens t ∙ ap (λ l. text tokens ++ l) (so.text (begun_after false tokens)) ∙ append-nil (text tokens) in
       record {
         more = t ∷ [];
-        streams = record { bytes = r.bytes; spelt = r.spelt; takes = r.takes; puts = same_text from (with_token tokens t) sink (none ∙ ap (λ l. l ++ []) (sym same)) begun.delivered };
+        streams = record { bytes = r.bytes; spelt = r.spelt; takes = r.takes; puts = same_text from (with_token tokens t) u.held (none ∙ ap (λ l. l ++ []) (sym same)) begun.delivered };
         place_is = at;
         tracks = tracks;
         holds = holds-snoc _ _ t (so.encoded (encoded_after [] tokens)) begun.holds;
       }
 
-module _ (charset : Charset) (room : ℕ) {tokens : List Token} {s : Progress} {area notice : Space} {sink : Held} {failed : Bool} (begun : Begun tokens s area notice sink failed) where
+module _ (charset : Charset) {tokens : List Token} {s : Progress} {u : View} (begun : Begun tokens s u) (b : Seen) {place : ℕ} where
   -- a token with fields of a fixed length was read
-  pub fixed_reads : {progress : Progress} {a b : Seen} {place place' : ℕ} (which : Fixed) (fields : List ℕ) → place' ≡ place + fields_length which → length fields ≡ fields_length which → Takes a b fields (fields_length which) → Tracks progress (tokens ++ fixed which fields ∷ []) → progress.report.errors ≡ s.report.errors
-      → (x : ReadsTokens (response charset room) (in_fields which tokens) tokens a b place place' sink sink progress area) × IsNoted notice (tokens ++ x.more)
-  fixed_reads {a = a} {b = b} which fields at len takes tracks same =
-      let next : IsNext (response charset room) (in_fields which tokens) fields = record { some = rw len (some_fields _); whole = len; free = refl } in
-      quietly begun same (bare_reads begun (fixed which fields) (reads_one _ _ a b _ _ next (rw len takes) refl) (rw len at) refl (bare_fixed _ _) tracks)
+  pub fixed_reads : {progress : Progress} (which : Fixed) (fields : List ℕ) → place ≡ u.place + fields_length which → length fields ≡ fields_length which → Takes u.seen b fields (fields_length which) → Tracks progress (tokens ++ fixed which fields ∷ []) → progress.report.errors ≡ s.report.errors → ReadsQuiet charset (in_fields which tokens) tokens u b place progress
+  fixed_reads which fields at len takes tracks same =
+      let next : IsNext (response charset u.area.room) (in_fields which tokens) fields = record { some = rw len (some_fields _); whole = len; free = refl } in
+      quietly begun same (bare_reads begun (fixed which fields) (reads_one _ _ u.seen b _ _ next (rw len takes) refl) (rw len at) refl (bare_fixed _ _) tracks)
 
   -- a DONE or DONEPROC was read
-  pub done_reads : {a b : Seen} {place place' : ℕ} (fields : List ℕ) → place' ≡ place + length fields → length fields ≡ 12 → Takes a b fields (length fields)
-      → (x : ReadsTokens (response charset room) (in_done tokens) tokens a b place place' sink sink (record s { is_final = slice_index fields 0 % 2 == 0 }) area) × IsNoted notice (tokens ++ x.more)
-  done_reads fields at len takes = fixed_reads _ _ (rw len at at) len (rw len at takes) (tracks_quiet s _ _ _ refl (grind (arith, nat_tests)) begun.tracks) refl
+  pub done_reads : (fields : List ℕ) → place ≡ u.place + length fields → length fields ≡ 12 → Takes u.seen b fields (length fields) → ReadsQuiet charset (in_done tokens) tokens u b place (record s { is_final = slice_index fields 0 % 2 == 0 })
+  done_reads fields at len takes = fixed_reads _ _ (rw len at at) len (rw len at takes) (tracks_quiet begun.tracks _ _ refl (grind (arith, nat_tests))) refl
 
   -- a DONEINPROC was read
-  pub done_in_proc_reads : {a b : Seen} {place place' : ℕ} (fields : List ℕ) → place' ≡ place + 12 → length fields ≡ 12 → Takes a b fields 12
-      → (x : ReadsTokens (response charset room) (in_done_in_proc tokens) tokens a b place place' sink sink s area) × IsNoted notice (tokens ++ x.more)
-  done_in_proc_reads fields at len takes = fixed_reads _ _ at len takes (tracks_quiet s _ _ _ refl begun.tracks.final begun.tracks) refl
+  pub done_in_proc_reads : (fields : List ℕ) → place ≡ u.place + 12 → length fields ≡ 12 → Takes u.seen b fields 12 → ReadsQuiet charset (in_done_in_proc tokens) tokens u b place s
+  done_in_proc_reads fields at len takes = fixed_reads _ _ at len takes (tracks_quiet begun.tracks _ _ refl begun.tracks.final) refl
 
 -- ---- ROW
 
@@ -99,7 +102,7 @@ abbrev row_front : (tokens : List Token) (part : RowPart) → text tokens ++ row
 row_front tokens part = simp row_text
 
 -- and while a row is read
-pub row_holds : (area : Space) (tokens : List Token) (part : RowPart) → IsHolding area (after_tokens tokens) → IsHolding area (with_row tokens part)
+row_holds : (area : Space) (tokens : List Token) (part : RowPart) → IsHolding area (after_tokens tokens) → IsHolding area (with_row tokens part)
 row_holds area tokens (WholeRow cells) h = holds-snoc _ _ _ refl h
 row_holds area tokens part h = record { bytes = h.bytes; peak = h.peak }
 
@@ -107,13 +110,13 @@ module _ (charset : Charset) (room : ℕ) {place : ℕ} {start : RowPart} {area 
   -- a row stopped the call
   pub row_stops : IsHolding area (after_tokens tokens) → RowStops charset start a b place before after failed stop → StepStops (response charset room) (with_row tokens start) a b place before after area failed stop
   row_stops holds x =
-      let inside = row_in_response charset room tokens in
+      let agrees = row_agrees charset room tokens in
       elim x.cause [
         | inl y ↦ inl (
           record {
             at = with_row tokens x.at;
-            stops = stops_inside (row charset) (response charset room) (with_row tokens) inside start a b place x.at stop (row_agrees charset room tokens x.at (stops_size (row charset) start a b place x.at stop y.0)).3 y.0;
-            puts = puts_inside (row charset) (response charset room) (with_row tokens) inside row_so_far text_so_far (text tokens) (row_front tokens) start x.at before after y.1;
+            stops = stop_inside agrees y.0;
+            puts = puts_inside (row charset) _ (with_row tokens) (inside agrees) row_so_far text_so_far (text tokens) (row_front tokens) start x.at before after y.1;
             holds = row_holds area tokens x.at holds;
           },
           y.2,
@@ -121,8 +124,8 @@ module _ (charset : Charset) (room : ℕ) {place : ℕ} {start : RowPart} {area 
         | inr y ↦ inr (
           record {
             at = with_row tokens x.at;
-            breaks = breaks_inside (row charset) (response charset room) (with_row tokens) inside row_so_far text_so_far (text tokens) (row_front tokens) start a b before after x.at stop y.0;
-            holds = rw (inside.add x.at y.0.element (next_some (row charset) x.at y.0.element y.0.next)) (row_holds area tokens ((row charset).add x.at y.0.element) holds);
+            breaks = breaks_inside (row charset) _ (with_row tokens) (inside agrees) row_so_far text_so_far (text tokens) (row_front tokens) start a b before after x.at stop y.0;
+            holds = rw ((inside agrees).add x.at y.0.element (next_some (row charset) x.at y.0.element y.0.next)) (row_holds area tokens _ holds);
           },
           y.1,
         )
@@ -147,47 +150,47 @@ some_bytes : (room : ℕ) (area bytes : List ℕ) (columns : List Column) → Sp
 some_bytes room area [] columns h = absurd (let same = one_state _ _ _ _ _ h (Spelt-none _ _) in cc)
 some_bytes room area (x ∷ bytes) columns h = omega arith
 
-module _ (charset : Charset) {room place : ℕ} {tokens : List Token} {s : Progress} {old_area area notice : Space} {sink : Held} {failed : Bool} {a b : Seen} (begun : Begun tokens s old_area notice sink failed) where
+module _ (charset : Charset) {tokens : List Token} {s : Progress} {u : View} {area : Space} {b : Seen} (begun : Begun tokens s u) where
   -- a Count of no metadata was read
-  pub none_reads : {place' : ℕ} → Describes room BeforeCount a b place place' old_area.peak area NoDescription → (x : ReadsTokens (response charset room) (in_metadata tokens) tokens a b place place' sink sink (record s { described = false }) area) × IsNoted notice (tokens ++ x.more)
+  pub none_reads : {place : ℕ} → Describes u.area.room BeforeCount u.seen b u.place place u.area.peak area NoDescription → ReadsNext charset (in_metadata tokens) tokens u (record u { seen = b; place = place; area = area }) (record s { described = false })
   none_reads x =
-      let r = reads_inside _ _ (with_described tokens) (description_in_response _ _ _) _ a b _ x.reads in
+      let r = read_inside (description_agrees charset _ tokens) x.reads in
       quietly begun refl (record {
         more = NoMetadata ∷ [];
         streams = record { bytes = r.bytes; spelt = r.spelt; takes = r.takes; puts = same_text (in_metadata tokens) (with_token tokens NoMetadata) _ (simp (text_after-snoc, append-nil)) begun.delivered };
         place_is = x.place_is;
-        tracks = tracks_none s _ begun.tracks;
-        holds = record { bytes = cc (encoded_after-append [] tokens (NoMetadata ∷ [])); peak = omega (arith, greatest_span-append tokens (NoMetadata ∷ [])) };
+        tracks = tracks_none begun.tracks;
+        holds = grind (arith, encoded_after-append, greatest_span-append);
       })
 
   -- the description is cut or refused
-  pub metadata_stops : {stop : Stop} → StopsDescribing room BeforeCount a b place old_area.peak area stop → StepStops (response charset room) (in_metadata tokens) a b place sink sink area failed stop
-  metadata_stops {stop = stop} x =
-      let some = stops_size _ _ a b _ _ _ x.stops in
+  pub metadata_stops : {stop : Stop} → StopsDescribing u.area.room BeforeCount u.seen b u.place u.area.peak area stop → StopsIn charset (in_metadata tokens) u (record u { seen = b; area = area }) stop
+  metadata_stops x =
+      let some = stops_size _ _ u.seen b _ _ _ x.stops in
       stops_quietly (simp open_text_none) (open_holds _ _ _ _ some x.kept x.bound begun.holds.peak) begun.delivered begun.going
-      (stops_inside (description room) (response charset room) (with_described tokens) (description_in_response _ _ _) BeforeCount a b place x.at stop (description_agrees charset room tokens _ some).3 x.stops)
+      (stop_inside (description_agrees charset u.area.room tokens) x.stops)
 
-  module _ {columns : List Column} {place' : ℕ} {after : Held} (shown : columns_of area.bytes ≡ columns) (x : Describes room BeforeCount a b place place' old_area.peak area (WholeDescription area.bytes columns)) where
+  module _ {columns : List Column} {place : ℕ} {after : Held} (shown : columns_of area.bytes ≡ columns) (x : Describes u.area.room BeforeCount u.seen b u.place place u.area.peak area (WholeDescription area.bytes columns)) where
     -- the description was read, and its header put
-    pub metadata_reads : Puts sink after (between (nat_lt 0 s.report.sets) ++ header_line (columns_of area.bytes))
-        → (x : ReadsTokens (response charset room) (in_metadata tokens) tokens a b place place' sink after (record s { report = record s.report { sets = s.report.sets + 1 }; described = true }) area) × IsNoted notice (tokens ++ x.more)
+    pub metadata_reads : Puts u.held after (between (nat_lt 0 s.report.sets) ++ header_line (columns_of area.bytes))
+        → ReadsNext charset (in_metadata tokens) tokens u (record u { seen = b; place = place; held = after; area = area }) (record s { report = record s.report { sets = s.report.sets + 1 }; described = true })
     metadata_reads puts =
-        let r = reads_inside _ _ (with_described tokens) (description_in_response _ _ _) _ a b _ x.reads in
-        let header = between (nat_lt 0 s.report.sets) ++ header_line columns in
+        let r = read_inside (description_agrees charset _ tokens) x.reads in
+        let header = between _ ++ header_line columns in
         let put = rw shown at puts in
         quietly begun refl (record {
           more = Metadata area.bytes columns ∷ [];
           streams = record { bytes = r.bytes; spelt = r.spelt; takes = r.takes; puts = (header, header_text s _ _ _ begun.tracks, put) };
           place_is = x.place_is;
-          tracks = tracks_metadata s _ _ _ shown begun.tracks;
+          tracks = tracks_metadata begun.tracks _ _ shown;
           holds = metadata_holds _ _ _ _ x.bound begun.holds;
         })
 
     -- the description was read, and the writer failed at its header
-    pub metadata_breaks : {stop : Stop} → length sink.waiting < 4096 → IsBetween b → Breaks sink after (between (nat_lt 0 s.report.sets) ++ header_line (columns_of area.bytes)) stop → StopsInWriting (response charset room) (in_metadata tokens) a b sink after area stop
-    metadata_breaks {stop = stop} few between_b breaks =
-        let header = between (nat_lt 0 s.report.sets) ++ header_line columns in
-        let l = last_inside _ _ _ (description_in_response _ _ _) _ _ _ x.reads.spelt (some_bytes _ _ _ _ x.reads.spelt) in
+    pub metadata_breaks : {stop : Stop} → length u.held.waiting < 4096 → IsBetween b → Breaks u.held after (between (nat_lt 0 s.report.sets) ++ header_line (columns_of area.bytes)) stop → StopsInWriting (response charset u.area.room) (in_metadata tokens) u.seen b u.held after area stop
+    metadata_breaks few between_b breaks =
+        let header = between _ ++ header_line columns in
+        let l = last_inside _ _ _ (inside (description_agrees charset u.area.room tokens)) _ _ _ x.reads.spelt (some_bytes _ _ _ _ x.reads.spelt) in
         let open_text = open_text_none tokens l.at l.size in
         record {
           at = with_described tokens l.at;
@@ -197,14 +200,26 @@ module _ (charset : Charset) {room place : ℕ} {tokens : List Token} {s : Progr
             ahead = [];
             spelt = l.spelt;
             next = l.next;
-            takes = rw (append-nil (l.front ++ l.element)) (subst (λ v. Takes a b v (length v)) (sym l.joined) x.reads.takes);
+            takes = rw (append-nil _) (subst (λ v. Takes u.seen b v (length v)) (sym l.joined) x.reads.takes);
             between = between_b;
-            middle = sink;
+            middle = u.held;
             few = few;
-            puts = same_text (in_metadata tokens) (with_described tokens l.at) sink (sym open_text) begun.delivered;
+            puts = same_text (in_metadata tokens) (with_described tokens l.at) u.held (sym open_text) begun.delivered;
             more = header;
             text_is = ap (λ t. t ++ header) open_text ∙ header_text s _ _ _ begun.tracks ∙ ap text_so_far (sym l.to_is);
             breaks = rw shown at breaks;
           };
           holds = rw l.to_is (metadata_holds _ _ _ _ x.bound begun.holds);
         }
+
+-- A token has begun where the run goes on.
+pub begun_in : {R W : Type 0} (remaining : R → Option (List ℕ)) (contents : W → Option (List ℕ)) {old : Exporter R W} {tokens : List Token} → IsRunning old → TracksBefore old.progress tokens → IsHolding old.description.now (after_tokens tokens) → IsNoted old.notice.now tokens
+    → Begun tokens old.progress (view_of remaining contents old)
+begun_in remaining contents running tracks holds noted = record { tracks = tracks; holds = holds; noted = noted; delivered = running.sink.ready.2; going = running.sink.writing }
+
+-- The token was read, or that stopped, whatever the tokens before it are.
+pub step_read : {R W U : Type 0} {remaining : R → Option (List ℕ)} {contents : W → Option (List ℕ)} {from : List Token → Part} {old new : Exporter R W} {result : Result U Stop} → IsRunning old → LeavesRun old new result
+    → ((tokens : List Token) → Begun tokens old.progress (view_of remaining contents old)
+    → MatchResult result (λ _. ReadsNext old.charset (from tokens) tokens (view_of remaining contents old) (view_of remaining contents new) new.progress) (λ stop. StopsIn old.charset (from tokens) (view_of remaining contents old) (view_of remaining contents new) stop))
+    → StepRead remaining contents from old new result
+step_read {remaining = remaining} {contents = contents} running leaves reads = record { leaves = leaves; reads = grind arith }

@@ -1,7 +1,5 @@
 -- What an export answers, where its reader and writer tell their bytes.
-use Rattle.tds_export.proofs.Words.{Accepted, Adds, Adds-trans, AfterStop, Appends, AreBytes, AreBytes-back, AreBytes-front, Bool, Bounded, BreaksStreaming, Charset, Comes, CompletesResponse, Consumes, Err, FailsToWrite, Fault, Given, Grammar, Held, IsHolding, IsKept, IsReader, IsWriter, List, Longest, Ok, Option, Packet, Packets, Part, Place, Puts, ReadsPart, ReadsWhole, Report, Reported, Reports, Rose, Run, RunStops, Seen, Some, Space, Spelt, Spelt-one, Stop, Stopped, Stops, StopsAtEnd, StopsExport, StopsInReading, StopsInText, StopsInWriting, Tells, Text, Tidied, Token, WriteFailed, [], after_tokens, ap, append-nil, append_assoc, arith, begun_at, counted, drop, error_text, false, flat_map-append, fresh_at, grammar, grammar_of, in_last, inl, inr, length, length-append, length-take-le, limits, longest_cut, more, no_further, over_front, packet_bytes, payload_of, read, refl, response, response_start, rose, run_of, some_longest, stopped_with, subst, sym, take, take-append-add, take-append-drop, take-append-le, take-append_seam, takes_begins, text, text_put, text_so_far, true, waiting, wire_of, ℕ, ◌%◌, ◌*◌, ◌++◌, ◌+◌, ◌-◌, ◌/◌, ◌<◌, ◌∙◌, ◌∷◌, ◌≡◌, ◌≤◌}
-use Rattle.tds_export.proofs.{SomeBytes.AreBytes-append, Peaks.bounded, Peaks.further, Peaks.reached_broken, Peaks.reached_stopped, Peaks.reached_whole, Peaks.rest_leads, TextBound.bounded_along, DeviceFaults.no_failure, AcceptedSucceeds.outcome_succeeds, ResponseMeaning.response_is_spelt, Cuts.spelt_both, ReadingGrows.text_along}
-use Rattle.tds_export.proofs.PacketOutcomes.{ReaderSide, kept_at, reading_stops, start}
+use Rattle.tds_export.proofs.{Words.{Adds, Adds-trans, AfterStop, Appends, AreBytes, AreBytes-back, AreBytes-front, Bool, Bounded, BreaksStreaming, Charset, Comes, CompletesResponse, Consumes, Err, FailsToWrite, Fault, Given, Grammar, Held, IsHolding, IsReader, IsWriter, List, Longest, Ok, Option, Packet, Packets, Part, Place, Puts, ReadsPart, ReadsWhole, Report, Reported, Reports, Rose, Run, RunStops, Seen, Some, Space, Spelt, Spelt-one, Stop, Stopped, Stops, StopsAtEnd, StopsExport, StopsInReading, StopsInText, StopsInWriting, Tells, Text, Tidied, Token, WriteFailed, [], after_tokens, ap, append-nil, append_assoc, arith, begun_at, counted, drop, error_text, false, flat_map-append, fresh_at, grammar, grammar_of, in_last, inl, inr, length, length-append, length-take-le, limits, longest_cut, more, no_further, over_front, packet_bytes, payload_of, read, refl, response, response_start, rose, run_of, some_longest, stopped_with, subst, sym, take, take-append-add, take-append-drop, take-append-le, take-append_seam, takes_begins, text, text_put, text_so_far, true, waiting, wire_of, ℕ, ◌%◌, ◌*◌, ◌++◌, ◌+◌, ◌-◌, ◌/◌, ◌<◌, ◌∙◌, ◌∷◌, ◌≡◌, ◌≤◌, IsAccepted, Keeps}, SomeBytes.AreBytes-append, Peaks.{bounded, further, reached_broken, reached_stopped, reached_whole, rest_leads}, TextBound.bounded_along, DeviceFaults.no_failure, AcceptedSucceeds.outcome_succeeds, ResponseMeaning.response_is_spelt, Cuts.spelt_both, ReadingGrows.text_along, PacketOutcomes.{ReaderSide, kept_at, reading_stops, start}}
 use native.Mathlib.Decide.{dec_le}
 
 -- ---- the text
@@ -40,12 +38,12 @@ fits_at run packets rest place part n are begin within spelt few =
     let most = bounded_along _ _ _ _ front spelt in
     omega (arith, payload_short packets, ap length (take-append-drop place payload), length-append (take place payload) (drop place payload))
 
-fits : (run : Run) (fault : Fault) (place : Place) → AreBytes run.input → Stops run fault place → length (run.gained ++ run.given.after.areas.output.bytes) ≤ 64 * (limits run).max_wire
+fits : (run : Run) (fault : Fault) (place : Place) → AreBytes run.input → Stops run fault place → length (text_put run) ≤ 64 * (limits run).max_wire
 fits run fault place are x = grind (arith, fits_at, length-append)
 
 -- the count of the bytes delivered is exact
-exact : (run : Run) (delivered : ℕ) → delivered ≡ counted 0 (length run.gained) → length (run.gained ++ run.given.after.areas.output.bytes) ≤ 64 * (limits run).max_wire → delivered ≡ length run.gained
-exact run delivered e few = let most = (limits run).max_wire_in_range in omega (arith, length-append run.gained run.given.after.areas.output.bytes)
+exact : (run : Run) (delivered : ℕ) → delivered ≡ counted 0 (length run.gained) → length (text_put run) ≤ 64 * (limits run).max_wire → delivered ≡ length run.gained
+exact run delivered e few = omega (arith, length-append run.gained (waiting run))
 
 -- ---- a run that stopped in writing
 
@@ -121,10 +119,10 @@ broken run q k at stop side writer x holds gained all =
 record WholeMessage (run : Run) (tokens : List Token) : Type 0 where
   packets : List Packet
   stands : Packets run packets
-  accepted : Accepted run.given.charset (limits run).packet_size (limits run).column_room (limits run).max_wire tokens packets run.input
+  accepted : IsAccepted run tokens packets
   leads : ReadsPart run packets (length (payload_of packets)) (after_tokens tokens)
   spelt : Spelt (grammar run) response_start (payload_of packets) (after_tokens tokens)
-  kept : IsKept run.given.after.areas.description.bytes tokens (after_tokens tokens).at (drop (length (payload_of packets)) (payload_of packets))
+  kept : Keeps run packets (length (payload_of packets)) (after_tokens tokens)
 
 whole_message_of : (run : Run) {q : Seen} {old new : Held} → ReaderSide run q → (x : ReadsWhole (grammar run) response_start (start run) q old new run.given.after.areas.description) → WholeMessage run x.tokens
 whole_message_of run {q = q} side x =
@@ -155,16 +153,20 @@ reader_side : (given : Given) (input left gained : List ℕ) (q : Seen) → AreB
 reader_side given input left gained q are ql reader = record { bytes = are; left = ql; failures = reader.failures }
 
 -- all of the text was put, where the whole response was read
-whole_puts : (g : Grammar Part Fault) (a q : Seen) (h k : Held) (area : Space) → (x : ReadsWhole g response_start a q h k area) → Puts h k (text x.tokens)
-whole_puts g a q h k area x = rw (x.puts.1 ∙ text_after_tokens x.tokens) at x.puts.2
+whole_puts : {g : Grammar Part Fault} {a q : Seen} {h k : Held} {area : Space} → (x : ReadsWhole g response_start a q h k area) → Puts h k (text x.tokens)
+whole_puts x = rw (x.puts.1 ∙ text_after_tokens x.tokens) at x.puts.2
 
 -- what is told of a stop, with the sink left in this state
 abbrev StopTold : Given → (input left : List ℕ) → Stop → Held → Type 0
 StopTold given input left stop l = (gained : List ℕ) × Appends given.before.writer.bytes given.after.writer.bytes gained × AfterStop (run_of given input left gained) (stopped_with stop l)
 
 module _ (given : Given) (input left : List ℕ) (q : Seen) (stop : Stop) (are : AreBytes input) (ql : q.left ≡ Some left) (reader : IsReader given q) (none : given.after.areas.notice.bytes ≡ []) where
+  -- the payload before anything was read of it
+  abbrev began : Seen
+  began = start (run_of given input left [])
+
   -- the payload stopped
-  stop_reading : (middle l : Held) → IsWriter given l → StopsInReading (grammar_of given) response_start (start (run_of given input left [])) q 0 (fresh_at given) middle given.after.areas.description stop → Tidied middle l → StopTold given input left stop l
+  stop_reading : (middle l : Held) → IsWriter given l → StopsInReading (grammar_of given) response_start began q 0 (fresh_at given) middle given.after.areas.description stop → Tidied middle l → StopTold given input left stop l
   stop_reading middle l writer y t =
       let p = rw y.puts.1 at y.puts.2 in
       let d = sends _ _ l _ _ _ writer p t.1 in
@@ -194,37 +196,37 @@ module _ (given : Given) (input left : List ℕ) (q : Seen) (stop : Stop) (are :
       grind (arith, exact, fits)
 
   -- the writer broke
-  stop_writing : (k : Held) → IsWriter given k → StopsInWriting (grammar_of given) response_start (start (run_of given input left [])) q (fresh_at given) k given.after.areas.description stop → StopTold given input left stop k
+  stop_writing : (k : Held) → IsWriter given k → StopsInWriting (grammar_of given) response_start began q (fresh_at given) k given.after.areas.description stop → StopTold given input left stop k
   stop_writing k writer y =
       let x = y.breaks in
       let d = sends _ _ k _ _ _ writer (rw x.puts.1 at x.puts.2) x.breaks.3 in
       in_text k _ writer d.has d.delivered (broken _ q k _ _ (reader_side _ _ _ _ q are ql reader) writer x y.holds refl d.all) x.breaks.8
 
   -- the last delivery failed
-  stop_at_end : (k : Held) → IsWriter given k → StopsAtEnd (grammar_of given) response_start (start (run_of given input left [])) q (fresh_at given) k given.after.areas.description stop → StopTold given input left stop k
+  stop_at_end : (k : Held) → IsWriter given k → StopsAtEnd (grammar_of given) response_start began q (fresh_at given) k given.after.areas.description stop → StopTold given input left stop k
   stop_at_end k writer y =
-      let p = whole_puts (grammar_of given) (start (run_of given input left [])) q (fresh_at given) y.middle given.after.areas.description y.whole in
-      let d = sends _ _ k (text y.whole.tokens) [] _ writer p y.fails.1 in
+      let p = whole_puts y.whole in
+      let d = sends _ _ k _ [] _ writer p y.fails.1 in
       let run = run_of given input left d.gained in
       let whole = whole_message_of run (reader_side given input left d.gained q are ql reader) y.whole in
       let rises = subst (Rose given.before.writer.failures) (cc) (rose _) in
       in_text k _ writer d.has d.delivered (failed_at_end _ y.whole.tokens whole (simp (d.all, append-nil)) rises) y.fails.2
 
   -- each of these
-  stopped_of : (k l : Held) (failed : Bool) → IsWriter given l → RunStops (grammar_of given) response_start (start (run_of given input left [])) q 0 (fresh_at given) k given.after.areas.description failed stop → (failed ≡ false → Tidied k l) → (failed ≡ true → l ≡ k) → StopTold given input left stop l
+  stopped_of : (k l : Held) (failed : Bool) → IsWriter given l → RunStops (grammar_of given) response_start began q 0 (fresh_at given) k given.after.areas.description failed stop → (failed ≡ false → Tidied k l) → (failed ≡ true → l ≡ k) → StopTold given input left stop l
   stopped_of k l failed writer (inl (inl y)) tidy same = stop_reading k l writer y.0 (tidy y.1)
   stopped_of k l failed writer (inl (inr y)) tidy same = rw (same y.1) (stop_writing k (subst (IsWriter given) (same y.1) writer) y.0)
   stopped_of k l failed writer (inr y) tidy same = rw (same y.1) (stop_at_end k (subst (IsWriter given) (same y.1) writer) y.0)
 
   -- the bound on its descriptions
-  stop_bounded : (gained : List ℕ) (k : Held) (failed : Bool) → RunStops (grammar_of given) response_start (start (run_of given input left [])) q 0 (fresh_at given) k given.after.areas.description failed stop → Bounded (run_of given input left gained)
-  stop_bounded gained k failed (inl (inl y)) = let run = run_of given input left gained in bounded _ _ are (reached_stopped run q _ _ are ql y.0.stops) y.0.holds.peak
+  stop_bounded : (gained : List ℕ) (k : Held) (failed : Bool) → RunStops (grammar_of given) response_start began q 0 (fresh_at given) k given.after.areas.description failed stop → Bounded (run_of given input left gained)
+  stop_bounded gained k failed (inl (inl y)) = let run = run_of given input left gained in bounded _ _ are (reached_stopped run q are ql y.0.stops) y.0.holds.peak
   stop_bounded gained k failed (inl (inr y)) =
       let run = run_of given input left gained in
-      bounded _ _ are (reached_broken run q (fresh_at given) k given.after.areas.description stop y.0 are ql) y.0.holds.peak
+      bounded _ _ are (reached_broken run q are ql y.0) y.0.holds.peak
   stop_bounded gained k failed (inr y) =
       let run = run_of given input left gained in
-      bounded _ _ are (reached_whole run q (fresh_at given) y.0.middle given.after.areas.description y.0.whole are ql) y.0.whole.holds.peak
+      bounded _ _ are (reached_whole run q are ql y.0.whole) y.0.whole.holds.peak
 
 -- what a run that stopped read
 stops_read : (g : Grammar Part Fault) (a q : Seen) (h k : Held) (area : Space) (failed : Bool) (stop : Stop) → RunStops g response_start a q 0 h k area failed stop → (read : List ℕ) × Consumes a.left q.left read
@@ -249,7 +251,7 @@ report_tells given report x = λ input are e.
     let y = z.0 in
     let tokens = y.whole.tokens in
     let left = known_left input y.whole.takes.0 x.seen.left y.whole.takes.1.0 in
-    let p = whole_puts (grammar_of given) (start (run_of given input [] [])) x.seen (fresh_at given) y.middle area y.whole in
+    let p = whole_puts y.whole in
     let d = sends given y.middle x.held (text tokens) [] y.finishes.0 x.writer p y.finishes.1 in
     let run = run_of given input left.0 d.gained in
     let whole = whole_message_of run (reader_side given input left.0 d.gained x.seen are left.1 x.reader) y.whole in
@@ -257,7 +259,7 @@ report_tells given report x = λ input are e.
     let same = d.all ∙ append-nil (text tokens) in
     let gained = sym (append-nil run.gained) ∙ ap (λ w. run.gained ++ w) (sym empty) ∙ same in
     let few = fits_at run whole.packets left.0 (length (payload_of whole.packets)) (after_tokens tokens) (length (text_put run)) are whole.stands.begin whole.stands.within
-    (rw (take_payload (payload_of whole.packets)) whole.spelt) (omega (arith, ap length same, ap length (text_after_tokens tokens))) in
+    (rw (take_payload _) whole.spelt) (omega (arith, ap length same, ap length (text_after_tokens tokens))) in
     let written = exact run x.held.delivered d.delivered few ∙ ap length gained in
     let outcome : Reported run report = record {
       tokens = tokens;
@@ -271,5 +273,5 @@ report_tells given report x = λ input are e.
       kept = whole.kept;
       no_failure = no_failure given report x;
     } in
-    let most = bounded run (after_tokens tokens) are (reached_whole run x.seen (fresh_at given) y.middle area y.whole are left.1) y.whole.holds.peak in
+    let most = bounded run (after_tokens tokens) are (reached_whole run x.seen are left.1 y.whole) y.whole.holds.peak in
     (left.0, d.gained, cc, d.has, record { outcome = outcome; bounded = most }, outcome_succeeds run (Ok report) outcome)

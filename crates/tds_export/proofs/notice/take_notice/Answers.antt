@@ -1,5 +1,4 @@
-use Rattle.tds_export.proofs.Words.{arith, false, holds_notice, passed, refl, rules, true, ◌∙◌, ◌≡◌}
-use Rattle.tds_export.proofs.Notices.{body_cut, body_refused, body_taken, length_cut, length_refused}
+use Rattle.tds_export.proofs.{Words.{arith, false, holds_notice, passed, refl, rules, true, ◌∙◌, ◌≡◌}, Bodies.{body_cut, body_refused, body_taken, length_cut, length_refused}}
 use Rattle.tds_export.proofs.notice.take_notice.Goals as goal
 
 pub returns-in_err-fill-clause-gives : goal.returns-in_err-fill-clause-gives

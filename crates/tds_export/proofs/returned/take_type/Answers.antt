@@ -1,5 +1,4 @@
-use Rattle.tds_export.proofs.Words.{ReturnHead, Takes, ap, cut_into, length, passed, refl, seen, subst, sym, ◌∙◌, ◌≡◌}
-use Rattle.tds_export.proofs.ReturnSteps.{type_taken}
+use Rattle.tds_export.proofs.{Words.{ReturnHead, Takes, ap, cut_into, length, passed, refl, seen, subst, sym, ◌∙◌, ◌≡◌}, ReturnSteps.type_taken}
 use Rattle.tds_export.proofs.returned.take_type.Goals as goal
 
 pub returns-in_err-take_into-clause-gives : goal.returns-in_err-take_into-clause-gives

@@ -1,6 +1,4 @@
-use Rattle.tds_export.proofs.Words.{Given, Reports, Space, StopsExport, ap, arith, held, moment, refl, rules, seen, ◌≡◌}
-use Rattle.tds_export.proofs.{DeviceFaults.blamed, DeviceFaults.no_failure, Endings.exports, Endings.rooms, Endings.stops_export, ToldAnswers.report_tells, ToldAnswers.stop_tells}
-use Rattle.tds_export.proofs.run.export.Given.{Over}
+use Rattle.tds_export.proofs.{Words.{Given, Reports, Space, StopsExport, ap, arith, held, moment, refl, rules, seen, ◌≡◌}, DeviceFaults.{blamed, no_failure}, Endings.{exports, rooms, stops_export}, ToldAnswers.{report_tells, stop_tells}, run.export.Given.Over}
 use Rattle.tds_export.proofs.run.export.Goals as goal
 
 -- ---- the answer is a report

@@ -1,5 +1,4 @@
-use Rattle.tds_export.proofs.Words.{line_end}
-use Rattle.tds_export.proofs.NameTexts.{passed_piece, then_puts}
+use Rattle.tds_export.proofs.{Words.line_end, NameTexts.{passed_piece, then_puts}}
 use Rattle.tds_export.proofs.set.put_header.Goals as goal
 
 pub returns-in_err-put_between : goal.returns-in_err-put_between

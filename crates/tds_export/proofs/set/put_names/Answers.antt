@@ -1,5 +1,4 @@
-use Rattle.tds_export.proofs.Words.{ap, columns_left, ◌∙◌}
-use Rattle.tds_export.proofs.NameTexts.{comma_breaks, name_breaks, names_more, names_none}
+use Rattle.tds_export.proofs.{Words.{ap, columns_left, ◌∙◌}, NameTexts.{comma_breaks, name_breaks, names_more, names_none}}
 use Rattle.tds_export.proofs.set.put_names.Goals as goal
 
 pub names-init : goal.names-init

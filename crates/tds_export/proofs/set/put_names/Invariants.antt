@@ -1,5 +1,4 @@
-use Rattle.tds_export.proofs.Words.{columns_left, columns_of}
-use Rattle.tds_export.proofs.NameTexts.{NamesPut}
+use Rattle.tds_export.proofs.{Words.{columns_left, columns_of}, NameTexts.NamesPut}
 use Rattle.tds_export.proofs.set.put_names.Given as goal
 
 abbrev pub invariant-names : goal.invariant-names

@@ -1,5 +1,4 @@
-use Rattle.tds_export.proofs.Words.{length, passed, refl, rules, ◌≡◌}
-use Rattle.tds_export.proofs.{TokenSteps.done_reads, TokenSteps.stops_first, Cuts.fill_cut, StepReads.step_read}
+use Rattle.tds_export.proofs.{Words.{length, passed, refl, rules, ◌≡◌}, TokenSteps.{done_reads, stops_first, step_read}, Cuts.fill_cut}
 use Rattle.tds_export.proofs.exporter.Exporter.done.Goals as goal
 
 pub returns-in_err-fill : goal.returns-in_err-fill
@@ -8,4 +7,4 @@ returns-in_err-fill g c = step_read c.requires.running (search rules) (λ tokens
     passed _ _ _ _ c.from_residual.ensures.1 (stops_first begun refl refl (fill_cut refl refl twelve (c.in_err-fill.ensures.part c.requires.running.payload.going))))
 
 pub returns : goal.returns
-returns g c = step_read c.requires.running (search rules) (λ tokens begun. done_reads _ _ begun c.fill.new.to c.in_ok-fill.ensures.place (search rules) c.in_ok-fill.ensures.all)
+returns g c = step_read c.requires.running (search rules) (λ tokens begun. done_reads _ begun _ c.fill.new.to c.in_ok-fill.ensures.place (search rules) c.in_ok-fill.ensures.all)

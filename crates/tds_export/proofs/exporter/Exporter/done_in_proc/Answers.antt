@@ -1,5 +1,4 @@
-use Rattle.tds_export.proofs.Words.{passed, refl, rules}
-use Rattle.tds_export.proofs.{TokenSteps.done_in_proc_reads, TokenSteps.stops_first, Cuts.part_cut, StepReads.step_read}
+use Rattle.tds_export.proofs.{Words.{passed, refl, rules}, TokenSteps.{done_in_proc_reads, stops_first, step_read}, Cuts.part_cut}
 use Rattle.tds_export.proofs.exporter.Exporter.done_in_proc.Goals as goal
 
 pub returns-in_err-pass : goal.returns-in_err-pass
@@ -10,4 +9,4 @@ returns-in_err-pass g c = step_read c.requires.running (search rules) (λ tokens
 pub returns : goal.returns
 returns g c = step_read c.requires.running (search rules) (λ tokens begun.
     let all = c.in_ok-pass.ensures.all in
-    done_in_proc_reads _ _ begun all.bytes c.in_ok-pass.ensures.place all.counted all.takes)
+    done_in_proc_reads _ begun _ all.bytes c.in_ok-pass.ensures.place all.counted all.takes)

@@ -1,5 +1,4 @@
-use Rattle.tds_export.proofs.Words.{ap, arith, false, held, inl, inr, passed, refl, rules, true, ◌∙◌, ◌≡◌}
-use Rattle.tds_export.proofs.RunSteps.{completes, runs_none, runs_on, runs_same, stops_at_end, stops_end, stops_on}
+use Rattle.tds_export.proofs.{Words.{ap, arith, false, held, inl, inr, passed, refl, rules, true, ◌∙◌, ◌≡◌}, RunSteps.{completes, runs_none, runs_on, runs_same, stops_at_end, stops_end, stops_on}}
 use Rattle.tds_export.proofs.exporter.Exporter.run.Goals as goal
 
 pub tokens-init : goal.tokens-init
@@ -13,7 +12,7 @@ tokens-init g c = record {
   notice = refl;
   small = refl;
   forward = omega arith;
-  runs = λ tracks empty noted. (runs_none _ _ c.requires.sink.ready.2 tracks empty, noted);
+  runs = λ tracks empty noted. runs_none c.requires.sink.ready.2 tracks empty noted;
 }
 
 pub tokens-preserved : goal.tokens-preserved
@@ -29,42 +28,40 @@ tokens-preserved g c = record {
   forward = omega (arith, c.tokens.invariant.forward, c.in_ok-token.ensures.leaves.forward);
   runs = λ tracks empty noted.
       let x = c.tokens.invariant.runs tracks empty noted in
-      let y = rw c.if-branch.true at (c.in_ok-token.ensures.gives x.0.tokens x.0.tracks x.0.holds x.1) in
-      runs_on c.tokens.invariant.same.6 c.tokens.invariant.room x.0 c.token.new.self.notice.now y;
+      runs_on x c.tokens.invariant.same.6 c.tokens.invariant.room (rw c.if-branch.true at (c.in_ok-token.ensures.gives x.tokens x.tracks x.holds x.noted));
 }
 
 pub returns-in_err-token-clause-gives : goal.returns-in_err-token-clause-gives
 returns-in_err-token-clause-gives g c = λ tracks empty noted.
     let x = c.tokens.invariant.runs tracks empty noted in
-    let y = c.in_err-token.ensures.gives x.0.tokens x.0.tracks x.0.holds x.1 in
-    passed _ _ _ _ c.from_residual.ensures.1 (inl (stops_on c.tokens.invariant.same.6 c.tokens.invariant.room x.0 y))
+    passed _ _ _ _ c.from_residual.ensures.1 (inl (stops_on x c.tokens.invariant.same.6 c.tokens.invariant.room (c.in_err-token.ensures.gives x.tokens x.tracks x.holds x.noted)))
 
 pub returns-then-not-self-clause-gives : goal.returns-then-not-self-clause-gives
 returns-then-not-self-clause-gives g c = λ tracks empty noted.
     let first = c.tokens.invariant.runs tracks empty noted in
-    let y = rw c.if-branch.false at (c.in_ok-token.ensures.gives first.0.tokens first.0.tracks first.0.holds first.1) in
-    let x = runs_same y.place (ap (held g.W.Write.contents) y.sink) y.progress y.area y.notice first in
+    let y = rw c.if-branch.false at (c.in_ok-token.ensures.gives first.tokens first.tracks first.holds first.noted) in
+    let x = runs_same first y.place (ap (held g.W.Write.contents) y.sink) y.progress y.area y.notice in
     let open_end : c.token.new.self.progress.is_final ≡ false = search rules in
     let sink = c.in_ok-token.ensures.leaves.running.sink in
-    rw (c.in_payload.ensures, c.place-place.ensures) (inl (stops_end _ _ x.0 y.takes y.over sink.writing sink.ready.2 open_end))
+    rw (c.in_payload.ensures, c.place-place.ensures) (inl (stops_end x y.takes y.over sink.writing sink.ready.2 open_end))
 
 pub returns-in_err-finish-clause-gives : goal.returns-in_err-finish-clause-gives
 returns-in_err-finish-clause-gives g c = λ tracks empty noted.
     let first = c.tokens.invariant.runs tracks empty noted in
-    let y = rw c.if-branch.false at (c.in_ok-token.ensures.gives first.0.tokens first.0.tracks first.0.holds first.1) in
-    let x = runs_same y.place (ap (held g.W.Write.contents) y.sink) y.progress y.area y.notice first in
+    let y = rw c.if-branch.false at (c.in_ok-token.ensures.gives first.tokens first.tracks first.holds first.noted) in
+    let x = runs_same first y.place (ap (held g.W.Write.contents) y.sink) y.progress y.area y.notice in
     let final : c.token.new.self.progress.is_final ≡ true = search rules in
-    let fails = stops_at_end _ _ x.0 y.takes y.over final (c.in_err-finish.ensures.gives c.in_ok-token.ensures.leaves.running.sink.writing) in
+    let fails = stops_at_end x y.takes y.over final (c.in_err-finish.ensures.gives c.in_ok-token.ensures.leaves.running.sink.writing) in
     passed _ _ _ _ c.from_residual-in_err-finish.ensures.1 (inr (fails, c.in_err-finish.ensures.failed))
 
 pub returns-clause-gives : goal.returns-clause-gives
 returns-clause-gives g c = λ tracks empty noted.
     let first = c.tokens.invariant.runs tracks empty noted in
-    let y = rw c.if-branch.false at (c.in_ok-token.ensures.gives first.0.tokens first.0.tracks first.0.holds first.1) in
-    let x = runs_same y.place (ap (held g.W.Write.contents) y.sink) y.progress y.area y.notice first in
+    let y = rw c.if-branch.false at (c.in_ok-token.ensures.gives first.tokens first.tracks first.holds first.noted) in
+    let x = runs_same first y.place (ap (held g.W.Write.contents) y.sink) y.progress y.area y.notice in
     let final : c.token.new.self.progress.is_final ≡ true = search rules in
     let is = ap (λ n. record c.token.new.self.progress.report { written = n }) c.delivered.ensures in
-    (completes _ _ x.0 y.takes y.over final c.in_ok-finish.ensures.gives is, x.1)
+    (completes x y.takes y.over final c.in_ok-finish.ensures.gives is, x.noted)
 
 pub returns-clause-leaves : goal.returns-clause-leaves
 returns-clause-leaves g c =

@@ -1,5 +1,4 @@
-use Rattle.tds_export.proofs.Words.{IsNoted, IsOnSame, IsOnSameRun, IsOnSameSink, IsRunning, Tracks, [], empty, held, response, seen, ◌-◌, ◌≡◌, ◌≤◌}
-use Rattle.tds_export.proofs.RunSteps.{Runs}
+use Rattle.tds_export.proofs.{Words.{IsNoted, IsOnSame, IsOnSameRun, IsOnSameSink, IsRunning, Tracks, [], empty, ◌-◌, ◌≡◌, ◌≤◌, view_of}, RunSteps.Runs}
 use Rattle.tds_export.proofs.exporter.Exporter.run.Given as goal
 
 abbrev pub invariant-tokens : goal.invariant-tokens
@@ -14,8 +13,7 @@ invariant-tokens g l = record {
   small : l.self.small.now.room ≡ l.initial.self.small.now.room;
   forward : l.initial.self.payload.now.place ≤ l.self.payload.now.place;
   runs : Tracks l.initial.self.progress [] → l.initial.self.description.now ≡ empty l.initial.self.description.now.room → IsNoted l.initial.self.notice.now [] →
-      (x : Runs (response l.initial.self.charset l.initial.self.description.now.room) (seen g.R.Read.remaining l.initial.self.payload.now) (seen g.R.Read.remaining l.self.payload.now) l.initial.self.payload.now.place l.self.payload.now.place
-      (held g.W.Write.contents l.initial.self.sink.now) (held g.W.Write.contents l.self.sink.now) l.self.progress l.self.description.now) × IsNoted l.self.notice.now x.tokens;
+      Runs l.initial.self.charset (view_of g.R.Read.remaining g.W.Write.contents l.initial.self) (view_of g.R.Read.remaining g.W.Write.contents l.self) l.self.progress;
 }
 
 abbrev pub decreases-tokens : goal.decreases-tokens
