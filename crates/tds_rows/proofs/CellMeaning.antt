@@ -1,5 +1,5 @@
 -- What the bytes that lead to a part of a cell spell.
-use Rattle.tds_rows.proofs.Words.{common_steps, ◌≡◌, ℕ, ◌+◌, ◌/◌, ◌%◌, ◌^◌, ◌<◌, Bool, true, List, [], ◌∷◌, ◌++◌, length, replicate, refl, sym, ◌∙◌, ap, append_assoc, append-nil, arith, length-append, Result, Ok, Option, Some, None, ◌==◌, ◌&&◌, ◌||◌, nat_lt, is_ok, slice_index, if◌then◌else◌, concat, concat-append, Kind, Short, Chunked, ScalarValue, ValueFault, little, is_length_allowed, read_of, Conversion, is_fit, is_begun, no_data_is_fit, AreBytes, Spelt, IsNext, Spelt-induct, AreBytes-front, AreBytes-back, Fault, PlpLength, Cell, Null, ScalarCell, Shape, FixedShape, CountedShape, LongShape, SpellsChunk, SpellsChunks, SpellsCell, CellPart, ScalarBytes, ScalarLength, ShortLength, ShortData, Total, ChunkLength, ChunkData, WholeCell, cell_start, cell_add, cell, unless, within_total, end_of_chunks, chunk_fault, value_part, known_total, null_total, choose, eq_true, eq_false, one_byte, two_bytes}
+use Rattle.tds_rows.proofs.Words.{common_steps, ◌≡◌, ℕ, ◌+◌, ◌/◌, ◌%◌, ◌^◌, ◌<◌, Bool, true, List, [], ◌∷◌, ◌++◌, length, replicate, refl, sym, ◌∙◌, ap, append_assoc, append-nil, arith, length-append, Result, Ok, Option, Some, None, ◌==◌, ◌&&◌, ◌||◌, nat_lt, is_ok, if◌then◌else◌, concat, concat-append, Kind, Short, Chunked, ScalarValue, ValueFault, little, is_length_allowed, read_of, Conversion, is_fit, is_begun, no_data_is_fit, AreBytes, Spelt, IsNext, Spelt-induct, AreBytes-front, AreBytes-back, Fault, PlpLength, Cell, ScalarCell, Shape, FixedShape, CountedShape, LongShape, SpellsChunk, SpellsChunks, SpellsCell, CellPart, ScalarBytes, ScalarLength, ShortLength, ShortData, Total, ChunkLength, ChunkData, WholeCell, cell_start, cell_add, cell, unless, within_total, end_of_chunks, chunk_fault, value_part, known_total, null_total, choose, eq_true, eq_false, one_byte, two_bytes}
 
 -- a test that gave no fault passed
 pub unless_none : (b : Bool) (f : Fault) → unless b f ≡ None → b ≡ true
@@ -108,9 +108,6 @@ module _ (column : ℕ) (kind : Kind) where
         },
       )) (λ z. let some = eq_false left 0 z in
       (refl, record { before = m.before; whole = m.whole; chunks = m.chunks; header = m.header; part = m.part ++ x ∷ []; spelt = spelt; four = m.four; counted = omega arith; all = all }))
-
-  length_means : (e : List ℕ) → length e ≡ 1 → ((slice_index e 0 == 0) || is_length_allowed kind (slice_index e 0)) ≡ true → CellMeans kind CountedShape (if slice_index e 0 == 0 then WholeCell Null else ScalarBytes kind (slice_index e 0)) e
-  length_means e one free = grind (arith, choose, eq_false, eq_true, one_byte)
 
   short_length_means : (c : Conversion) (e : List ℕ) → length e ≡ 2 → AreBytes e → CellMeans kind (LongShape c Short) (cell_add (ShortLength c) e) e
   short_length_means c e two bytes = grind (arith, no_data_is_fit, two_bytes)

@@ -1,6 +1,5 @@
 -- Rows one after another: what was read of them, and what is read after that.
-use Rattle.tds_rows.proofs.Words.{common_steps, ◌≡◌, ℕ, ◌+◌, ◌-◌, ◌^◌, ◌<◌, ◌≤◌, Bool, false, List, [], ◌∷◌, ◌++◌, length, drop, refl, sym, arith, append_assoc, append-nil, length-append, Option, Stop, Seen, Takes, Inside, Column, Held, Puts-none, Charset, Rows, RowsRun, Ahead, Cell, StaysInRow, PlainRow, RowPart, RowToken, WholeRow, next_cell, row, row_so_far, token_byte, token_start, ReadsRow, ReadsRows, RowStops, RowsStop, RowsPart, RowsPut, RunsRows, Writes, lines, rows, rows_so_far, rows_start, IsAhead, Knows}
-use Rattle.tds_rows.proofs.{NullSteps.cell_path, NullSteps.marked_stops, NullTexts.coming, NullTexts.ends, NullTexts.nulls_ahead, Paths.At, Paths.Path, Paths.here, Paths.path_both, Paths.path_map, Paths.path_none, Paths.path_of, Paths.streams_of, Paths.writes_inside, RowSteps.PutsAt, RowSteps.StopsAt, RunSteps.lines-append, RunSteps.row_among, RunSteps.row_token}
+use Rattle.tds_rows.proofs.{Words.{common_steps, ◌≡◌, ℕ, ◌+◌, ◌-◌, ◌^◌, ◌<◌, ◌≤◌, Bool, false, List, [], ◌∷◌, ◌++◌, length, drop, refl, sym, arith, append_assoc, append-nil, length-append, Option, Stop, Seen, Takes, Inside, Column, Held, Puts-none, Charset, Rows, RowsRun, Ahead, Cell, StaysInRow, PlainRow, RowPart, RowToken, WholeRow, next_cell, row, row_so_far, token_byte, token_start, ReadsRow, ReadsRows, RowStops, RowsStop, RowsPart, RowsPut, RunsRows, Writes, lines, rows, rows_so_far, rows_start, IsAhead, Knows}, NullSteps.{cell_path, marked_stops}, RowSteps.{coming, ends, nulls_ahead, PutsAt, StopsAt}, Paths.{At, Path, here, path_both, path_map, path_none, path_of, streams_of, writes_inside}, RunSteps.{lines-append, row_among, row_token}}
 
 -- Rows of a token were read and their lines put: so many whole ones, and this part of the next.
 pub record RowsAt (token : RowToken) (charset : Charset) (all : List Column) (p q : At) (count : ℕ) (part : RowPart) : Type 0 where
@@ -79,7 +78,7 @@ module _ {charset : Charset} {all : List Column} {p q : At} {column count : ℕ}
 
     -- a cell that stopped
     pub rowing_stop : {d : Seen} {j : Held} {failed : Bool} {stop : Stop} → Rowing charset all ((c, false) ∷ ks) p q column count → StopsAt charset c.kind column (ends ks) q d j failed stop → RowsStop PlainRow charset all p.seen d p.place p.held j failed stop
-    rowing_stop x y = rows_stop x.rows (marked_stops charset x.cells ks c _ _ _ _ _ _ _ (rw (sym x.counted) at y))
+    rowing_stop x y = rows_stop x.rows (marked_stops charset x.cells ks c (rw (sym x.counted) at y))
 
 -- The reading of ROWs stands at this place of the last one.
 abbrev pub RowsHere : {R W : Type 0} → (R → Option (List ℕ)) → (W → Option (List ℕ)) → List Column → At → Rows R W → Ahead → ℕ → Type 0
@@ -87,9 +86,9 @@ RowsHere remaining contents columns p rows at count =
     IsAhead rows.table.now columns at × Rowing rows.table.now.charset columns (coming (drop at.column columns) at.column) p (here remaining contents rows) at.column count
 
 -- after a run
-pub rows_ran : {R W : Type 0} (remaining : R → Option (List ℕ)) (contents : W → Option (List ℕ)) (columns : List Column) (p : At) (old new : Rows R W) (from : Ahead) (count : ℕ) (run : RowsRun) → StaysInRow old new → Knows old.table.now columns
+pub rows_ran : {R W : Type 0} {columns : List Column} {p : At} {old new : Rows R W} {from : Ahead} {count : ℕ} (remaining : R → Option (List ℕ)) (contents : W → Option (List ℕ)) (run : RowsRun) → StaysInRow old new → Knows old.table.now columns
     → RowsPut remaining contents old.table.now from old.payload.now new.payload.now old.sink.now new.sink.now run → RowsHere remaining contents columns p old from count → RowsHere remaining contents columns p new run.ahead (count + run.rows)
-rows_ran remaining contents columns p old new from count run kept knows put x =
+rows_ran {columns = columns} {old = old} remaining contents run kept knows put x =
     let ran = put columns knows x.0 in
     let there = rowing_run x.1 (λ cells is. ran.1 old.table.now.charset cells refl is) in
     rw kept.same.3 (ran.0, there)

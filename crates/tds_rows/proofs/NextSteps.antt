@@ -1,6 +1,106 @@
--- The next cell of a row, NULL or not, as it is put after a run.
-use Rattle.tds_rows.proofs.Words.{common_steps, arith, ◌≡◌, ◌+◌, ℕ, Bool, true, false, List, ◌∷◌, drop, refl, sym, Err, Ok, Result, Option, ◌==◌, Kind, Stop, seen, between_of, Column, held, Rows, Ahead, is_last_column, MarkedPut, CellRead, IsInRow, KindRead, LeavesRows, NextRead, StaysInRow, RowStops, RowPart, marked, IsAhead, IsNextKind, Knows, TakesColumn}
-use Rattle.tds_rows.proofs.{MarkedSteps.run_nears, NullSteps.NearsCells, NullSteps.all_put, NullSteps.cell_nears, NullSteps.cell_stops, NullSteps.null_breaks, NullSteps.null_nears, NullTexts.ends, NullTexts.ends_marked, Paths.At, Paths.here, TableSteps.last_one}
+-- The next cells of a row, NULL or not: those of a run, and the one after it.
+use Rattle.tds_rows.proofs.{Words.{common_steps, arith, ◌≡◌, ◌+◌, ℕ, Bool, true, false, List, ◌∷◌, drop, refl, sym, Err, Ok, Result, Option, ◌==◌, Kind, Stop, seen, between_of, Column, held, Rows, Ahead, is_last_column, MarkedPut, CellRead, IsInRow, KindRead, LeavesRows, NextRead, StaysInRow, RowStops, RowPart, marked, IsAhead, IsNextKind, Knows, TakesColumn, ◌∙◌, zero, suc, ◌-◌, ◌^◌, ◌≤◌, ◌<◌, [], ◌++◌, length, ap, subst, append_assoc, append-nil, add-zero, length-append, Consumes-nil, Coming, before, IsBetween, Seen, Takes, Takes-more, Stays-none, takes_both, Held, Puts, nears_put, Puts_split, Charset, Table, PutsMarked, WritesColumn, WritesMarked, WritesNext, next_cell, row, row_so_far}, NullSteps.{NearsCells, all_put, cell_nears, cell_stops, null_breaks, null_nears}, RowSteps.{ends, ends_marked, nulls_ahead}, Paths.{At, here}, TableSteps.{last_one, next_column}, RunSteps.whole_puts}
+
+-- text that doesn't fill the block waits
+pub all_waits : (h j : Held) (text : List ℕ) → Puts h j text → length h.waiting + length text < 4096 → length j.waiting ≡ length h.waiting + length text
+all_waits h j text puts few = omega (arith, ap length puts.2.1, length-append h.waiting text, length-append puts.0 j.waiting)
+
+-- ---- what was read and put at once could have been so one after the other
+
+-- Bytes were handed out without a packet, and text was put that waits.
+pub record Passes (p q : At) (bytes text : List ℕ) : Type 0 where
+  pub takes : Takes p.seen q.seen bytes 0
+  pub between : IsBetween q.seen
+  pub puts : Puts p.held q.held text
+  pub few : length q.held.waiting < 4096
+  pub delivered : p.held.delivered ≤ 2 ^ 64 - 1
+  pub place_is : q.place ≡ p.place + length bytes
+
+-- in two parts
+passes_apart : (p q : At) (a b m n : List ℕ) → Passes p q (a ++ b) (m ++ n) → (t : At) × Passes p t a m × Passes t q b n
+passes_apart p q a b m n x =
+    let seen : Seen = record { left = q.seen.left; future = λ zs. before b _; wire = q.seen.wire; failures = q.seen.failures } in
+    let f : Coming → List ℕ → Coming = λ c l. record { bytes = l; stop = c.stop; rest = c.rest } in
+    let h = Puts_split p.held q.held m n x.few x.puts in
+    let first : Takes p.seen seen a 0 = (x.takes.0, (x.takes.1.0, λ zs. x.takes.1.1 zs ∙ ap (f (q.seen.future zs)) (append_assoc a b (q.seen.future zs).bytes)), x.takes.2, x.takes.3, x.takes.4) in
+    let then : Takes seen q.seen b 0 = ([], (Consumes-nil _, λ zs. refl), sym (add-zero _), (λ j lt. absurd (omega arith)), Stays-none _) in (
+      record { seen = seen; place = p.place + length a; held = h.0 },
+      record { takes = first; between = x.between; puts = h.2; few = h.1; delivered = x.delivered; place_is = refl },
+      record { takes = then; between = x.between; puts = h.3; few = x.few; delivered = h.4; place_is = omega (arith, length-append a b) },
+    )
+
+module _ {charset : Charset} {start : RowPart} {left : List (Column × Bool)} {p q : At} {column : ℕ} where
+  -- nothing more was read
+  nears_onward : {r : At} {text : List ℕ} → Passes q r [] text → NearsCells charset start left p q column → NearsCells charset start left p (record r { held = q.held }) column
+  nears_onward {r = r} y x =
+      let n = x.nears in
+      let read = n.bytes ++ n.element in
+      let takes = rw (append-nil read) at (takes_both p.seen q.seen r.seen read [] n.takes y.takes) in
+      record { cells = x.cells; counted = x.counted; nears = record { bytes = n.bytes; element = n.element; at = n.at; spelt = n.spelt; next = n.next; to_is = n.to_is; takes = takes; between = y.between; middle = n.middle; few = n.few; puts = n.puts; part = n.part; text_is = n.text_is; half = n.half }; place_is = omega (arith, x.place_is, y.place_is) }
+
+  -- nothing more was put
+  nears_same : {j : Held} → Puts q.held j [] → NearsCells charset start left p q column → NearsCells charset start left p (record q { held = j }) column
+  nears_same puts x =
+      let n = nears_put (row charset) row_so_far start p.seen q.seen p.held q.held _ (next_cell charset x.cells left) [] (nulls_ahead column left) x.nears puts in
+      record { cells = x.cells; counted = x.counted; nears = n; place_is = x.place_is }
+
+-- ---- a row, run after run
+
+module _ (charset : Charset) (start : RowPart) (columns : List Column) (nulls : ℕ → Bool) (p : At) where
+  -- The cells before a column were read and their text put, but for that of the NULLs by their bit from this column on.
+  abbrev Near : ℕ → At → Type 0
+  Near at q = NearsCells charset start (marked (drop at columns) nulls at) p q at
+
+  -- one column more
+  column_nears : (at : ℕ) (q r : At) (bytes text : List ℕ) → WritesColumn charset columns nulls at bytes text → Passes q r bytes text → Near at q → Near (at + 1) r
+  column_nears at q r bytes text w y x =
+      rw (next_column columns at w.column w.left w.next).1.1 (go _ w.writes (rw w.next at x))
+    where
+      go : (null : Bool) → WritesNext charset null w.column.kind at (is_last_column w.left) bytes text → NearsCells charset start ((w.column, null) ∷ marked w.left nulls (at + 1)) p q at → NearsCells charset start (marked w.left nulls (at + 1)) p r (at + 1)
+      go true v z =
+          let y' = rw (v.0, v.1, ends_marked w.left nulls (at + 1)) at y in
+          null_nears (nears_onward y' z) y'.puts
+      go false v z =
+          let put = whole_puts charset _ at (is_last_column w.left) q r bytes text v (Takes-more q.seen r.seen bytes 0 _ (omega arith) y.takes) y.place_is y.puts in
+          cell_nears y.between y.few (all_put refl y.delivered z) (rw (ends_marked w.left nulls (at + 1)) at put)
+
+  -- so many columns more
+  marked_nears : (from n : ℕ) (q r : At) (bytes text : List ℕ) → WritesMarked charset columns nulls from n bytes text → Passes q r bytes text → Near from q → Near (from + n) r
+  marked_nears from zero q r bytes text w y x = let y' = rw (w.0, w.1) at y in
+      rw (add-zero from) (nears_same y'.puts (nears_onward y' x))
+  marked_nears from (suc n) q r bytes text w y x =
+      let t = passes_apart q r w.0 w.1 w.2 w.3 (rw (w.4, w.5) at y) in
+      let z : Near ((from + n) + 1) r = column_nears (from + n) t.0 r w.1 w.3 w.7 t.2 (marked_nears from n q t.0 w.0 w.2 w.6 t.1 x) in
+      subst (λ (k : ℕ). Near k r) (omega arith) z
+
+-- as many columns more as a run took
+pub run_nears : {table : Table} {columns : List Column} {nulls : ℕ → Bool} {from to : Ahead} {start : RowPart} {p q r : At} → PutsMarked table columns nulls from to q.seen r.seen q.place r.place q.held r.held → IsBetween r.seen → length r.held.waiting < 4096 → q.held.delivered ≤ 2 ^ 64 - 1
+    → NearsCells table.charset start (marked (drop from.column columns) nulls from.column) p q from.column → NearsCells table.charset start (marked (drop to.column columns) nulls to.column) p r to.column
+run_nears x between few delivered near = grind (arith, common_steps, marked_nears)
+
+-- ---- a reading of rows, from call to call
+
+-- before the first step
+pub stays : {R W : Type 0} {a : Rows R W} → IsInRow a → StaysInRow a a
+stays x = grind arith
+
+-- after a run
+pub stays_on : {R W : Type 0} {a b c : Rows R W} → StaysInRow a b → StaysInRow b c → StaysInRow a c
+stays_on x y = grind arith
+
+-- after a cell
+pub stays_after : {R W U : Type 0} {a b : Rows R W} {u : U} → IsInRow a → LeavesRows a b (Ok u) → StaysInRow a b
+stays_after x y = grind arith
+
+-- where a call after some steps leaves it
+pub leaves_after : {R W U : Type 0} {a b c : Rows R W} {result : Result U Stop} → StaysInRow a b → LeavesRows b c result → LeavesRows a c result
+leaves_after x y = grind arith
+
+-- what is said of a payload and a sink is said of those that they are
+pub said_of : {A B : Type 0} (P : A → B → Type 0) (a a' : A) (b b' : B) → a ≡ a' → b ≡ b' → P a b → P a' b'
+said_of P a a' b b' first second x = grind (arith, common_steps)
+
+-- ---- the next cell
 
 module _ {R W : Type 0} (remaining : R → Option (List ℕ)) (contents : W → Option (List ℕ)) (columns : List Column) (nulls : ℕ → Bool) (start : RowPart) (p : At) where
   -- The cells before a place were read and their text put, but for that of the NULLs by their bit from there on.
@@ -8,13 +108,13 @@ module _ {R W : Type 0} (remaining : R → Option (List ℕ)) (contents : W → 
   NearsHere rows at = IsAhead rows.table.now columns at × NearsCells rows.table.now.charset start (marked (drop at.column columns) nulls at.column) p (here remaining contents rows) at.column
 
   -- the cells of a run are read, and after them the table is the same
-  pub run_near : (old new : Rows R W) (from to : Ahead) → IsInRow old → StaysInRow old new → Knows old.table.now columns → MarkedPut remaining contents old.table.now nulls from old.payload.now new.payload.now old.sink.now new.sink.now to → NearsHere old from → NearsHere new to
-  run_near old new from to x kept knows f near =
+  pub run_near : {old new : Rows R W} {from to : Ahead} → IsInRow old → StaysInRow old new → Knows old.table.now columns → MarkedPut remaining contents old.table.now nulls from old.payload.now new.payload.now old.sink.now new.sink.now to → NearsHere old from → NearsHere new to
+  run_near {new = new} x kept knows f near =
       let put = f columns knows near.0 in
       let sink = kept.in_row.sink in
       rw kept.same.3 (put.runs.ahead, run_nears put (between_of remaining new.payload.now kept.in_row.payload.going) (sink.ready.1 sink.writing) x.sink.ready.2 near.1)
 
-module _ {R W : Type 0} (remaining : R → Option (List ℕ)) (contents : W → Option (List ℕ)) (old new : Rows R W) (columns : List Column) (nulls : ℕ → Bool) (at after : Ahead) (kind : Kind) (knows : Knows old.table.now columns)
+module _ {R W : Type 0} (remaining : R → Option (List ℕ)) (contents : W → Option (List ℕ)) (old new : Rows R W) {columns : List Column} (nulls : ℕ → Bool) {at after : Ahead} {kind : Kind} (knows : Knows old.table.now columns)
     (taken : TakesColumn old.table.now columns at after kind) where
   abbrev left : List (Column × Bool)
   left = marked (drop after.column columns) nulls (at.column + 1)
@@ -29,22 +129,20 @@ module _ {R W : Type 0} (remaining : R → Option (List ℕ)) (contents : W → 
       rw (taken.kind, ends_marked _ nulls (at.column + 1)) at (x _ next)
 
   module _ (start : RowPart) (p : At) (in_row : IsInRow old) (before : NearsHere remaining contents columns nulls start p old at) where
-    abbrev Left : Bool → Type 0
-    Left null = NearsCells old.table.now.charset start ((taken.column, null) ∷ left) p (here remaining contents old) at.column
+    left_here : (null : Bool) → nulls at.column ≡ null → NearsCells old.table.now.charset start ((taken.column, null) ∷ left) p (here remaining contents old) at.column
+    left_here null is = rw is at (rw taken.next at before.1)
+
+    there : {U : Type 0} {u : U} → LeavesRows old new (Ok u) → NearsCells old.table.now.charset start left p (here remaining contents new) (at.column + 1) → NearsHere remaining contents columns nulls start p new after
+    there leaves x = rw leaves.same.3 (taken.ahead, rw (sym taken.further) at x)
 
     -- it was put
     pub next_nears : {U : Type 0} (u : U) (null : Bool) → nulls at.column ≡ null → LeavesRows old new (Ok u) → NextRead remaining contents at kind null old new (Ok u) → NearsHere remaining contents columns nulls start p new after
-    next_nears u null is leaves y = rw leaves.same.3 (taken.ahead, rw (sym taken.further) at (go null (rw is at (rw taken.next at before.1)) y))
-      where
-        go : (null : Bool) → Left null → NextRead remaining contents at kind null old new (Ok u) → NearsCells old.table.now.charset start left p (here remaining contents new) (at.column + 1)
-        go true x y = rw y.0 (null_nears x (rw last_is at y.1.gives))
-        go false x y = cell_nears (between_of remaining new.payload.now leaves.payload.going) (leaves.sink.ready.1 leaves.sink.writing) (all_put refl in_row.sink.ready.2 x) (cell_read (Ok u) before.0 y)
+    next_nears u true is leaves y = there leaves (rw y.0 (null_nears (left_here true is) (rw last_is at y.1.gives)))
+    next_nears u false is leaves y =
+        there leaves (cell_nears (between_of remaining new.payload.now leaves.payload.going) (leaves.sink.ready.1 leaves.sink.writing) (all_put refl in_row.sink.ready.2 (left_here false is)) (cell_read (Ok u) before.0 y))
 
     -- it stopped
     pub next_stops : (U : Type 0) (stop : Stop) (null : Bool) → nulls at.column ≡ null → NextRead {U = U} remaining contents at kind null old new (Err stop)
         → RowStops old.table.now.charset start p.seen (seen remaining new.payload.now) p.place p.held (held contents new.sink.now) new.sink.now.failed stop
-    next_stops U stop null is y = go null (rw is at (rw taken.next at before.1)) y
-      where
-        go : (null : Bool) → Left null → NextRead {U = U} remaining contents at kind null old new (Err stop) → RowStops old.table.now.charset start p.seen (seen remaining new.payload.now) p.place p.held (held contents new.sink.now) new.sink.now.failed stop
-        go true x y = rw (y.0, y.1.failed) (null_breaks x (rw last_is at (y.1.gives in_row.sink.writing)))
-        go false x y = cell_stops (all_put refl in_row.sink.ready.2 x) (cell_read {U = U} (Err stop) before.0 y)
+    next_stops U stop true is y = rw (y.0, y.1.failed) (null_breaks (left_here true is) (rw last_is at (y.1.gives in_row.sink.writing)))
+    next_stops U stop false is y = cell_stops (all_put refl in_row.sink.ready.2 (left_here false is)) (cell_read {U = U} (Err stop) before.0 y)

@@ -1,6 +1,5 @@
 -- Rows with NULLs by their bit, column after column, as they are read and their text is put.
-use Rattle.tds_rows.proofs.Words.{append-nil, common_steps, ◌≡◌, ◌∙◌, inl, inr, ℕ, ◌+◌, ◌-◌, ◌^◌, ◌<◌, ◌≤◌, Bool, true, false, List, [], ◌∷◌, ◌++◌, length, refl, sym, ap, arith, length-append, map, Some, Fault, MessageEnded, Stop, Grammar, IsNext, Ends, IsBetween, Seen, Takes, began_at, Inside-Spelt, next_inside, next_some, stops_inside, began_is_cut, cut_at_once, Column, in_line, joined, null_field, Breaks, Held, Puts, BreaksStreaming, StopsStreaming, Nears, added_between, last_read, nears_after, nears_breaks, nears_done, nears_from, nears_inside, nears_put, tail_after, Breaks-longer, Puts-none, Charset, Cell, CellPart, Null, WholeCell, cell, cell_add, cell_size, cell_start, field, shape, cell_so_far, Bitmap, InCell, RowPart, bit, bitmap_length, marked, nbc_row_start, next_cell, row, row_so_far, row_start, with_cell, stops_size, ReadsRow, RowStops, Writes}
-use Rattle.tds_rows.proofs.{NullTexts.begun_text, NullTexts.coming, NullTexts.ends, NullTexts.line_grows, NullTexts.nulls_ahead, NullTexts.nulls_text, NullTexts.part_text, NullTexts.rest_of, RowLaws.begins_open, RowLaws.cell_in_row, Paths.At, Paths.Path, Paths.path_both, Paths.path_map, Paths.path_none, Paths.path_of, Paths.path_stops, Paths.streams_of, Paths.writes_inside, RowSteps.PutsAt, RowSteps.StopsAt, RowSteps.cell_some, RowSteps.same_end, CellWords.StopsCell}
+use Rattle.tds_rows.proofs.{Words.{append-nil, common_steps, ◌≡◌, ◌∙◌, inl, inr, ℕ, ◌+◌, ◌-◌, ◌^◌, ◌<◌, ◌≤◌, Bool, true, false, List, [], ◌∷◌, ◌++◌, length, refl, sym, ap, arith, length-append, map, Fault, Stop, Grammar, IsNext, Ends, IsBetween, Seen, Takes, began_at, Inside-Spelt, next_inside, next_some, stops_inside, began_is_cut, cut_at_once, Column, in_line, joined, null_field, Breaks, Held, Puts, BreaksStreaming, StopsStreaming, Nears, added_between, last_read, nears_after, nears_breaks, nears_done, nears_from, nears_inside, nears_put, tail_after, Breaks-longer, Puts-none, Charset, Cell, CellPart, Null, WholeCell, cell, cell_add, cell_size, cell_start, field, shape, cell_so_far, Bitmap, InCell, RowPart, bit, bitmap_length, marked, nbc_row_start, next_cell, row, row_so_far, row_start, with_cell, stops_size, ReadsRow, RowStops, Writes}, RowSteps.{begun_text, coming, ends, line_grows, nulls_ahead, nulls_text, part_text, rest_of, PutsAt, StopsAt, cell_some, same_end, StopsCell}, RowLaws.{begins_open, cell_in_row}, Paths.{At, Path, path_both, path_map, path_none, path_of, path_stops, streams_of, writes_inside}}
 
 -- ---- a cell in its row, with the NULLs after it
 
@@ -21,8 +20,8 @@ module _ (charset : Charset) (cells : List Cell) (ks : List (Column × Bool)) wh
   front = joined (map field cells)
 
   -- a write of the cell's text failed, and so one of the row's
-  breaks_there : (from at : CellPart) (b d : Seen) (i j : Held) (stop : Stop) → 0 < cell_size from → BreaksStreaming small text from b d i j at stop → BreaksStreaming big row_so_far (up from) b d i j (up at) stop
-  breaks_there from at b d i j stop some x =
+  breaks_there : {from at : CellPart} {b d : Seen} {i j : Held} {stop : Stop} → 0 < cell_size from → BreaksStreaming small text from b d i j at stop → BreaksStreaming big row_so_far (up from) b d i j (up at) stop
+  breaks_there {from = from} {at = at} {j = j} {stop = stop} some x =
       let is = cell_in_row charset cells ks in
       let begun = begun_text charset cells ks in
       let grows = line_grows _ (ends ks) in
@@ -46,8 +45,8 @@ module _ (charset : Charset) (cells : List Cell) (ks : List (Column × Bool)) wh
       }
 
   -- the cell stopped, and so the row
-  stops_there : (from : CellPart) (b d : Seen) (place : ℕ) (i j : Held) (failed : Bool) (stop : Stop) → 0 < cell_size from → StopsStreaming small text from b d place i j failed stop → StopsStreaming big row_so_far (up from) b d place i j failed stop
-  stops_there from b d place i j failed stop some x =
+  stops_there : {from : CellPart} {b d : Seen} {place : ℕ} {i j : Held} {failed : Bool} {stop : Stop} → 0 < cell_size from → StopsStreaming small text from b d place i j failed stop → StopsStreaming big row_so_far (up from) b d place i j failed stop
+  stops_there {from = from} {b = b} {d = d} {place = place} {stop = stop} some x =
       let is = cell_in_row charset cells ks in
       record {
         at = up x.at;
@@ -57,12 +56,12 @@ module _ (charset : Charset) (cells : List Cell) (ks : List (Column × Bool)) wh
             (y.1.0, added_between small big up is text row_so_far front (begun_text charset cells ks) (line_grows (length cells) (ends ks)) from x.at y.1.0 some (stops_size small from b d place x.at stop y.0) y.1.1, y.1.2),
             y.2,
           )
-          | inr y ↦ inr (breaks_there from x.at b d i j stop some y.0, y.1)
+          | inr y ↦ inr (breaks_there some y.0, y.1)
         ];
       }
 
-  pub marked_stops : (c : Column) (b d : Seen) (place : ℕ) (i j : Held) (failed : Bool) (stop : Stop) → StopsCell charset c.kind (length cells) (ends ks) b d place i j failed stop → RowStops charset (InCell cells (cell_start c.kind (shape charset c.kind)) ks) b d place i j failed stop
-  marked_stops c b d place i j failed stop x = rw (← begins_open charset cells ks c.kind _) (stops_there _ b d place i j failed stop (grind arith) x)
+  pub marked_stops : {b d : Seen} {place : ℕ} {i j : Held} {failed : Bool} {stop : Stop} (c : Column) → StopsCell charset c.kind (length cells) (ends ks) b d place i j failed stop → RowStops charset (InCell cells (cell_start c.kind (shape charset c.kind)) ks) b d place i j failed stop
+  marked_stops c x = rw (← begins_open charset cells ks c.kind _) (stops_there (grind arith) x)
 
   -- a cell in its row, with no NULL by its bit after it
   pub row_cell : (c : Column) → nulls_ahead (length cells + 1) ks ≡ [] → {bytes made : List ℕ} {v : Cell} → Writes (cell (length cells)) (cell_so_far (length cells) (ends ks)) (cell_start c.kind (shape charset c.kind)) bytes made (WholeCell v)
@@ -102,12 +101,9 @@ bitmap_nears {p = p} columns bitmap some whole takes between few d at =
     }
 
 -- the payload stopped in the bitmap
-pub bitmap_cut : (charset : Charset) (columns : List Column) (a b : Seen) (place : ℕ) (h : Held) (part : List ℕ) (own stop : Stop) → length part < bitmap_length (length columns) → Ends a b part own → stop ≡ began_at place own → h.delivered ≤ 2 ^ 64 - 1
+pub bitmap_cut : {columns : List Column} {a b : Seen} {place : ℕ} {h : Held} {stop : Stop} (charset : Charset) (part : List ℕ) (own : Stop) → length part < bitmap_length (length columns) → Ends a b part own → stop ≡ began_at place own → h.delivered ≤ 2 ^ 64 - 1
     → RowStops charset (nbc_row_start columns) a b place h h false stop
-bitmap_cut charset columns a b place h part own stop fewer ended is d = record {
-  at = Bitmap columns;
-  cause = inl (cut_at_once (row charset) (Bitmap columns) a b place part own stop fewer ended (began_is_cut place (Some MessageEnded) own stop refl is), ([], refl, Puts-none h d), refl);
-}
+bitmap_cut charset part own fewer ended is d = record { at = Bitmap _; cause = inl (cut_at_once _ (Bitmap _) _ _ _ part own _ fewer ended (began_is_cut _ _ own _ refl is), ([], refl, Puts-none _ d), refl) }
 
 -- a cell was read and its text put, in its row, and no NULL by its bit is after it
 pub cell_path : {ks : List (Column × Bool)} {column : ℕ} {p q : At} (charset : Charset) (c : Column) (cells : List Cell) → length cells ≡ column → nulls_ahead (column + 1) ks ≡ [] → PutsAt charset c.kind column (ends ks) p q
@@ -143,7 +139,7 @@ module _ {charset : Charset} {start : RowPart} {c : Column} {ks : List (Column �
 
   -- it stopped the row
   pub cell_stops : {d : Seen} {j : Held} {failed : Bool} {stop : Stop} → Reads charset start ((c, false) ∷ ks) p q column → StopsAt charset c.kind column (ends ks) q d j failed stop → RowStops charset start p.seen d p.place p.held j failed stop
-  cell_stops x y = path_stops x.path (marked_stops charset x.cells ks c _ _ _ _ _ _ _ (rw (sym x.counted) at y))
+  cell_stops x y = path_stops x.path (marked_stops charset x.cells ks c (rw (sym x.counted) at y))
 
   -- a cell was read and its text put, and NULLs may be after it
   pub cell_nears : {r : At} → IsBetween r.seen → length r.held.waiting < 4096 → Reads charset start ((c, false) ∷ ks) p q column → PutsAt charset c.kind column (ends ks) q r → NearsCells charset start ks p r (column + 1)

@@ -1,6 +1,5 @@
 -- The value of a RETURNVALUE, as it is passed over.
-use Rattle.tds_rows.proofs.Words.{◌≡◌, ◌∙◌, ◌⊎◌, inl, inr, ℕ, zero, ◌+◌, ◌-◌, ◌%◌, ◌<◌, ◌≤◌, Bool, true, List, [], ◌++◌, length, refl, sym, ap, subst, arith, append-nil, length-append, Option, is_ok, Kind, Binary, Narrow, Wide, Reach, is_scalar, read_of, Stop, Spelt, Seen, Takes, IsBetween, began_at, Spelt-append, Spelt-one, Ends-after, Takes-none, Takes-trans, add_none, began_is_cut, reads_both, reads_none, stops_after, BeginsData, Conversion, Charset, Cell, CellPart, ChunkLength, DataCell, LongShape, ShortLength, WholeCell, cell_start, return_charset, shape, GathersCell, StallsCell, scalar_size, value_bytes, value_length, value_start, WritesCell, return_column, AnyData, CutsPassing, IsGoodValue, PassesCell, PassesData, StepsOver, StopsPassing, return_cell, begun_by_test, take_all}
-use Rattle.tds_rows.proofs.{BufferedCells.null_cell, BufferedCells.value_cell, LongSteps.HoldsContent, LongSteps.chunk_holds, LongSteps.content_spelt, LongSteps.short_holds, CellMeaning.is_ok_value, CellWords.chunk_left, CellWords.short_left}
+use Rattle.tds_rows.proofs.{Words.{◌≢◌, Some, None, eq_true, ReadsNumber, chunk_length_fault, short_fault, short_length, reads_one, ◌≡◌, ◌∙◌, ◌⊎◌, inl, inr, ℕ, zero, ◌+◌, ◌-◌, ◌%◌, ◌<◌, ◌≤◌, Bool, true, List, [], ◌++◌, length, refl, sym, ap, subst, arith, append-nil, length-append, Option, is_ok, Kind, Binary, Narrow, Wide, Reach, is_scalar, read_of, Stop, Spelt, Seen, Takes, IsBetween, began_at, Ends-after, Takes-none, Takes-trans, add_none, began_is_cut, reads_both, reads_none, stops_after, BeginsData, Conversion, Charset, Cell, CellPart, ChunkLength, DataCell, LongShape, ShortLength, WholeCell, cell_start, return_charset, shape, GathersCell, StallsCell, scalar_size, value_bytes, value_length, value_start, WritesCell, return_column, AnyData, CutsPassing, IsGoodValue, PassesCell, PassesData, StepsOver, StopsPassing, return_cell, begun_by_test, take_all}, BufferedCells.{null_cell, value_cell}, RunSteps.whole_of, LongSteps.{HoldsContent, chunk_holds, content_spelt, short_holds}, CellMeaning.is_ok_value, Numbers.{Next, chunk_end, chunk_start, chunk_left, short_left}}
 
 -- ---- elements
 
@@ -54,11 +53,8 @@ pub scalar_stops : (charset : Charset) (kind : Kind) (a b : Seen) (place : ℕ) 
 scalar_stops charset kind a b place stop x = record { at = x.at; stops = x.stops }
 
 -- what is written of a cell is its spelling
-written_spelt : (from : CellPart) (last : Bool) (bytes text : List ℕ) → WritesCell from return_column last bytes text → (value : Cell) × Spelt return_cell from bytes (WholeCell value)
-written_spelt from last bytes text x = (
-  x.value,
-  rw x.joined at (Spelt-append _ from x.front x.at _ _ x.spelt (rw x.whole at (Spelt-one _ x.at _ x.next))),
-)
+written_spelt : {from : CellPart} {last : Bool} {bytes text : List ℕ} → WritesCell from return_column last bytes text → (value : Cell) × Spelt return_cell from bytes (WholeCell value)
+written_spelt x = let whole = whole_of x in (whole.value, whole.spelt)
 
 -- the bytes of a scalar cell whose value isn't refused are a whole cell
 pub scalar_whole : (charset : Charset) (kind : Kind) (bytes : List ℕ) → is_scalar kind ≡ true → length bytes ≡ scalar_size kind bytes → (0 < value_length kind bytes → is_ok (read_of kind (value_bytes kind bytes)) ≡ true)
@@ -68,21 +64,21 @@ scalar_whole charset kind bytes scalar whole good = go _ refl
     go : (n : ℕ) → value_length kind bytes ≡ n → (value : Cell) × Spelt return_cell (cell_start kind (shape charset kind)) bytes (WholeCell value)
     go zero e =
         let x = null_cell charset kind _ true bytes _ scalar _ refl e (omega arith) refl in
-        rw (take_all (value_start kind + 0) bytes (omega arith)) at (written_spelt _ _ _ _ x)
+        rw (take_all (value_start kind + 0) bytes (omega arith)) at (written_spelt x)
     go _ e =
         let v = is_ok_value _ (good (omega arith)) in
         let x = value_cell charset kind _ true bytes _ scalar _ _ refl refl (λ z. omega arith) (omega arith) (v.0, v.1, refl) in
-        rw (take_all (value_start kind + value_length kind bytes) bytes (omega arith)) at (written_spelt _ _ _ _ x)
+        rw (take_all (value_start kind + value_length kind bytes) bytes (omega arith)) at (written_spelt x)
 
 -- ---- pieces
 
 -- nothing was passed over
-pub passes_none : (n : ℕ) (a : Seen) (place : ℕ) → n ≡ 0 → IsBetween a → PassesData n a a place place
-passes_none n a place none between = record { bytes = []; counted = sym none; takes = Takes-none a n; between = between; place_is = omega (arith, none) }
+pub passes_none : {n : ℕ} {a : Seen} {place : ℕ} → n ≡ 0 → IsBetween a → PassesData n a a place place
+passes_none {n = n} {a = a} none between = record { bytes = []; counted = sym none; takes = Takes-none a n; between = between; place_is = omega (arith, none) }
 
 -- a piece more was
-pub passes_more : (m n k : ℕ) (a b d : Seen) (place middle place' : ℕ) → k ≡ m + n → PassesData m a b place middle → PassesData n b d middle place' → PassesData k a d place place'
-passes_more m n k a b d place middle place' sum x y = record {
+pub passes_more : {m n k : ℕ} {a b d : Seen} {place middle place' : ℕ} → k ≡ m + n → PassesData m a b place middle → PassesData n b d middle place' → PassesData k a d place place'
+passes_more {m = m} {n = n} {a = a} {b = b} {d = d} sum x y = record {
   bytes = x.bytes ++ y.bytes;
   counted = omega (arith, length-append x.bytes y.bytes);
   takes = subst (λ j. Takes a d (x.bytes ++ y.bytes) j) (omega arith) (Takes-trans a b d x.bytes y.bytes m n (omega arith) x.takes y.takes);
@@ -91,8 +87,8 @@ passes_more m n k a b d place middle place' sum x y = record {
 }
 
 -- the payload stopped after what was passed over
-pub cuts_more : (m n k : ℕ) (a b d : Seen) (place middle : ℕ) (stop : Stop) → m + n ≤ k → PassesData m a b place middle → CutsPassing n b d middle stop → CutsPassing k a d place stop
-cuts_more m n k a b d place middle stop sum x y = record {
+pub cuts_more : {m n k : ℕ} {a b d : Seen} {place middle : ℕ} {stop : Stop} → m + n ≤ k → PassesData m a b place middle → CutsPassing n b d middle stop → CutsPassing k a d place stop
+cuts_more {m = m} {a = a} {b = b} {d = d} sum x y = record {
   bytes = x.bytes ++ y.bytes;
   own = y.own;
   fewer = omega (arith, length-append x.bytes y.bytes);
@@ -149,6 +145,28 @@ module _ {c : Conversion} {total : Option ℕ} {sum : ℕ} {a b d : Seen} {place
     -- the data of a chunk is cut
     pub chunks_cut : {stop : Stop} → CutsPassing n d e there stop → StopsPassing (ChunkLength c total []) a e place stop
     chunks_cut z = stops_after_steps (steps_both x.steps y) (data_stops (chunk_holds return_column c total) (any_begins any) x.content z)
+
+-- ---- lengths and totals
+
+-- an element was read that leads on
+pub steps_of : {s t : CellPart} {a b : Seen} {place place' : ℕ} → Next return_column s a b place place' t → StepsOver s t a b place place'
+steps_of x = record { reads = reads_one return_cell _ _ _ x.element _ x.next x.takes x.to; between = x.between; place_is = x.place_is }
+
+module _ {c : Conversion} {size : ℕ} (any : AnyData c size) where
+  -- a short value has whole units
+  pub short_even : {a b : Seen} {place place' k : ℕ} {answer : Option ℕ} → ((n : ℕ) × ReadsNumber 2 a b place place' n × (short_fault return_column size n ≡ None) × (answer ≡ short_length n)) → answer ≡ Some k → k % size ≡ 0
+  short_even x is = grind arith
+
+  module _ {total : Option ℕ} {content : List ℕ} {sum n k place place' : ℕ} {a b : Seen} (counted : length content ≡ sum) (x : ReadsNumber 4 a b place place' n) (free : chunk_length_fault return_column size total sum n ≡ None) (is : k ≡ n) where
+    -- the terminator was read
+    pub end_steps : k ≡ 0 → StepsOver (ChunkLength c total content) (WholeCell (DataCell c content)) a b place place'
+    end_steps ends =
+        let none = sym is ∙ ends in
+        steps_of (chunk_end c (sym any.unit_is) counted x free none (any.fit content (ap (λ m. m % size) counted ∙ (eq_true _ 0 (grind arith)))))
+
+    -- the length of a chunk was read
+    pub chunk_steps : k ≢ 0 → StepsOver (ChunkLength c total content) (chunk_left c total k content) a b place place'
+    chunk_steps some = rw (sym is) at (steps_of (chunk_start c (sym any.unit_is) counted x free (λ e. some (is ∙ e))))
 
 -- ---- the data of a RETURNVALUE may be any bytes
 

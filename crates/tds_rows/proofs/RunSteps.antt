@@ -1,16 +1,11 @@
 -- The cells of a run, as they are written one after another.
-use Rattle.tds_rows.proofs.Words.{common_steps, false, zero, suc, add-zero, ◌≡◌, ◌∙◌, ℕ, ◌+◌, ◌-◌, ◌≤◌, ◌<◌, Bool, List, [], ◌∷◌, ◌++◌, length, take, drop, get_or, refl, sym, ap, subst, arith, append_assoc, append-nil, length-append, Result, Ok, Err, MatchResult, true, length-take, length-take-le, take-append-le, take_all, take_more, take-append-add, take-add, Stop, map, Option, Spelt, Seen, Takes, joined, line, Sink, Breaks, Held, IsWriting, Puts, PutsPiece, held, Inside, Spelt-append, Spelt-one, Column, all_after, Charset, Cell, CellPart, Shape, WholeCell, cell, cell_start, field, shape, NbcRow, PlainRow, RowPart, RowToken, WholeRow, next_cell, row, row_so_far, token_byte, token_start, with_field, IsLeft, IsScalarLeft, IsValueText, WritesKind, cell_so_far, is_last_column, scalar_size, whole_size, WritesCell, WritesWhole, is_scalar, Writes, WritesRows, after_cells, lines, rows, rows_so_far, Kind, IntN, WritesColumn, WritesMarked, HasInt4, int4_kind}
-use Rattle.tds_rows.proofs.{CellSteps.fixed_some, NullSteps.row_cell, NullTexts.coming, NullTexts.ends_marked, NullTexts.none_ahead, Paths.At, Paths.writes_both, Paths.writes_inside, Paths.writes_none, RowSteps.quiet_text, RowSteps.start_quiet, TableSteps.next_column, CellWords.PutsCell, CellWords.StopsCell, BufferedCells.int4_cell}
+use Rattle.tds_rows.proofs.{Words.{common_steps, false, zero, suc, add-zero, ◌≡◌, ◌∙◌, ℕ, ◌+◌, ◌-◌, ◌≤◌, ◌<◌, Bool, List, [], ◌∷◌, ◌++◌, length, take, drop, get_or, refl, sym, ap, subst, arith, append_assoc, append-nil, length-append, Result, Ok, Err, MatchResult, true, length-take, length-take-le, take-append-le, take_all, take_more, take-append-add, take-add, Stop, map, Option, Seen, Takes, joined, line, Sink, Breaks, Held, IsWriting, Puts, PutsPiece, held, Inside, Spelt-append, Spelt-one, Column, all_after, Charset, Cell, CellPart, Shape, WholeCell, cell, cell_start, field, shape, NbcRow, PlainRow, RowPart, RowToken, WholeRow, next_cell, row, row_so_far, token_byte, token_start, with_field, IsLeft, IsScalarLeft, IsValueText, WritesKind, cell_so_far, is_last_column, scalar_size, whole_size, WritesCell, WritesWhole, is_scalar, Writes, WritesRows, after_cells, lines, rows, rows_so_far, Kind, IntN, WritesColumn, WritesMarked, HasInt4, int4_kind}, CellSteps.fixed_some, NullSteps.row_cell, RowSteps.{coming, ends_marked, none_ahead, quiet_text, start_quiet, PutsCell, StopsCell}, Paths.{At, writes_both, writes_inside, writes_none}, TableSteps.next_column, BufferedCells.int4_cell}
 
 -- ---- cells of a row
 
 -- a cell whose text comes with its last element
-pub whole_of : (from : CellPart) (column : ℕ) (last : Bool) (bytes made : List ℕ) → WritesCell from column last bytes made → WritesWhole from column last bytes made
-whole_of from column last bytes made x = record {
-  value = x.value;
-  spelt = subst (λ l. Spelt (cell column) from l (WholeCell x.value)) x.joined (Spelt-append (cell column) from x.front x.at x.element (WholeCell x.value) x.spelt (subst (λ v. Spelt (cell column) x.at x.element v) x.whole (Spelt-one (cell column) x.at x.element x.next)));
-  text_is = x.text_is;
-}
+pub whole_of : {from : CellPart} {column : ℕ} {last : Bool} {bytes made : List ℕ} → WritesCell from column last bytes made → WritesWhole from column last bytes made
+whole_of {from = from} x = record { value = x.value; spelt = rw x.joined at (Spelt-append _ from x.front x.at _ _ x.spelt (rw x.whole at (Spelt-one _ x.at _ x.next))); text_is = x.text_is }
 
 -- a scalar cell, in any set
 pub writes_scalar : (set : Charset) (kind : Kind) (column : ℕ) (last : Bool) (bytes made : List ℕ) → ((any : Charset) → WritesCell (cell_start kind (shape any kind)) column last bytes made) → WritesKind set kind column last bytes made
@@ -57,14 +52,6 @@ fills_no_block h j piece stop few (sent, blocks, n, adds, most, least, less, who
 
 -- ---- over the ends of rows
 
-pub row_among_rows : (token : RowToken) (charset : Charset) (all : List Column) (before : List (List Cell)) → Inside (row charset) (rows token charset all) (λ p. record { before = before; at = p })
-row_among_rows token charset all before = grind arith
-
--- what is written of a row is written of the rows
-pub row_among : {p q : RowPart} {bytes made : List ℕ} (token : RowToken) (charset : Charset) (all : List Column) (before : List (List Cell)) → Writes (row charset) row_so_far p bytes made q
-    → Writes (rows token charset all) rows_so_far (record { before = before; at = p }) bytes made (record { before = before; at = q })
-row_among token charset all before x = writes_inside {text = row_so_far} {whole = rows_so_far} (lines before) (row_among_rows token charset all before) (λ p. refl) x
-
 pub lines-append : (rs qs : List (List Cell)) → lines (rs ++ qs) ≡ lines rs ++ lines qs
 lines-append [] qs = refl
 lines-append (r ∷ rs) qs = ap (λ l. line (map field r) ++ l) (lines-append rs qs) ∙ sym (append_assoc (line (map field r)) (lines rs) (lines qs))
@@ -75,10 +62,17 @@ start_text PlainRow charset [] some = absurd (omega (arith, some))
 start_text PlainRow charset (c ∷ cs) some = ap (λ o. joined (with_field [] o)) (start_quiet c.kind (shape charset c.kind))
 start_text NbcRow charset columns some = refl
 
--- the token byte of the next row
-pub row_token : (token : RowToken) (charset : Charset) (all : List Column) (before : List (List Cell)) (cells : List Cell) → 0 < length all
-    → Writes (rows token charset all) rows_so_far (record { before = before; at = WholeRow cells }) (token_byte token ∷ []) [] (record { before = before ++ cells ∷ []; at = token_start token charset all })
-row_token token charset all before cells some = grind (arith, common_steps, Spelt-one, append-nil, lines-append, start_text)
+module _ (token : RowToken) (charset : Charset) (all : List Column) (before : List (List Cell)) where
+  pub row_among_rows : Inside (row charset) (rows token charset all) (λ p. record { before = before; at = p })
+  row_among_rows = grind arith
+
+  -- what is written of a row is written of the rows
+  pub row_among : {p q : RowPart} {bytes made : List ℕ} → Writes (row charset) row_so_far p bytes made q → Writes (rows token charset all) rows_so_far (record { before = before; at = p }) bytes made (record { before = before; at = q })
+  row_among x = writes_inside {text = row_so_far} {whole = rows_so_far} (lines before) row_among_rows (λ p. refl) x
+
+  -- the token byte of the next row
+  pub row_token : (cells : List Cell) → 0 < length all → Writes (rows token charset all) rows_so_far (record { before = before; at = WholeRow cells }) (token_byte token ∷ []) [] (record { before = before ++ cells ∷ []; at = token_start token charset all })
+  row_token cells some = grind (arith, common_steps, Spelt-one, append-nil, lines-append, start_text)
 
 -- ---- cells of the last row
 

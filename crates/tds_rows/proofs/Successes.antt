@@ -1,7 +1,5 @@
 -- A call that reads what comes whole stops only where a device fails.
-use Rattle.tds_rows.proofs.Words.{◌≡◌, ◌∙◌, inl, inr, ℕ, ◌+◌, ◌<◌, Bool, List, [], ◌∷◌, ◌++◌, length, take, refl, sym, ap, subst, arith, append_assoc, append-nil, length-append, Result, Ok, Err, Option, Some, None, if◌then◌else◌, take-append_seam, nat_tests, Consumes, Rose, one_more, Fault, RefusedToken, Stop, before, Grammar, IsRefused, Longest, Spelt, CutsNext, RefusesNext, StopsReading, Ends, Seen, Inside-Spelt, Spelt-append, longest_at, longest_cut, longest_refused, no_further, one_longest, stops_inside, stops_after, Column, Sink, Conversion, Held, StopsStreaming, stops_size, Kind, Reach, Short, Chunked, Charset, Cell, CellPart, LongShape, SpellsCell, WholeCell, cell, cell_start, long_start, return_charset, shape, FieldPut, CellPassed, RowPut, RowsRead, RowsStop, RowPart, RowToken, SpellsRowAs, WholeRow, row, row_so_far, token_byte, token_start, RowsPart, rows, BeginNoRow, Brings, ReadsOn, SpellsRows, SucceedsOn, length-take-le}
-use Rattle.tds_packet.specs.declared.payload.Payload.{Payload}
-use Rattle.tds_rows.proofs.{CellLaws.cell_is_read, RowLaws.nbc_row_is_read, RowLaws.row_is_read, RowLaws.shape-HasBytes, RunSteps.row_among_rows, RunSteps.row_token}
+use Rattle.{tds_rows.proofs.{Words.{◌≡◌, ◌∙◌, inl, inr, ℕ, ◌+◌, ◌<◌, Bool, List, [], ◌∷◌, ◌++◌, length, take, refl, sym, ap, subst, arith, append_assoc, append-nil, length-append, Result, Ok, Err, MatchResult, seen, held, Option, Some, None, if◌then◌else◌, take-append_seam, nat_tests, Consumes, Rose, one_more, Fault, RefusedToken, Stop, before, Grammar, IsRefused, Longest, Spelt, CutsNext, RefusesNext, StopsReading, Ends, Seen, Inside-Spelt, Spelt-append, longest_at, longest_cut, longest_refused, no_further, one_longest, stops_inside, stops_after, Column, Sink, Conversion, Held, StopsStreaming, stops_size, Kind, Reach, Short, Chunked, Charset, Cell, LongShape, SpellsCell, WholeCell, cell, cell_start, long_start, return_charset, shape, CellPassed, RowsRead, RowsStop, RowPart, RowToken, SpellsRowAs, WholeRow, row, token_byte, token_start, RowsPart, rows, BeginNoRow, Brings, ReadsOn, SpellsRows, SucceedsOn, length-take-le}, CellLaws.cell_is_read, RowLaws.{nbc_row_is_read, row_is_read, shape-HasBytes}, RunSteps.{row_among_rows, row_token}}, tds_packet.specs.declared.payload.Payload.Payload}
 
 -- a call that fails raises the count
 pub rose : (f : ℕ) → Rose f (one_more f)
@@ -69,15 +67,11 @@ none_stops g text from to front more brings spelt none reads writes x = elim x.c
 
 -- ---- the calls
 
-pub row_succeeds : {R W U : Type 0} {start : RowPart} {cells : List Cell} {bytes : List ℕ} (remaining : R → Option (List ℕ)) (contents : W → Option (List ℕ)) (charset : Charset) (old new : Payload R) (before after : Sink W) (result : Result U Stop) (more : List ℕ)
-    → RowPut remaining contents charset start old new before after result → Spelt (row charset) start bytes (WholeRow cells) → SucceedsOn remaining old new before after result (bytes ++ more)
-row_succeeds remaining contents charset old new before after (Ok x) more put spelt = λ brings reads writes. refl
-row_succeeds remaining contents charset old new before after (Err stop) more put spelt = λ brings reads writes. absurd (none_stops (row charset) row_so_far _ (WholeRow _) _ more brings spelt refl reads writes put)
-
-pub field_succeeds : {R W U : Type 0} {column : ℕ} {from : CellPart} {value : Cell} {bytes : List ℕ} (remaining : R → Option (List ℕ)) (contents : W → Option (List ℕ)) (last : Bool) (old new : Payload R) (before after : Sink W) (result : Result U Stop) (more : List ℕ)
-    → FieldPut remaining contents from column last old new before after result → Spelt (cell column) from bytes (WholeCell value) → SucceedsOn remaining old new before after result (bytes ++ more)
-field_succeeds remaining contents last old new before after (Ok x) more put spelt = λ brings reads writes. refl
-field_succeeds remaining contents last old new before after (Err stop) more put spelt = λ brings reads writes. absurd (none_stops _ _ _ _ _ more brings spelt refl reads writes put)
+-- one that reads to such a state and puts the text succeeds
+pub streaming_succeeds : {S R W U : Type 0} {from to : S} {bytes : List ℕ} (g : Grammar S Fault) (text : S → List ℕ) (remaining : R → Option (List ℕ)) (contents : W → Option (List ℕ)) (old new : Payload R) (sink sink' : Sink W) (result : Result U Stop) (more : List ℕ) (P : U → Type 0)
+    → MatchResult result P (λ stop. StopsStreaming g text from (seen remaining old) (seen remaining new) old.place (held contents sink) (held contents sink') sink'.failed stop) → Spelt g from bytes to → g.size to ≡ 0 → SucceedsOn remaining old new sink sink' result (bytes ++ more)
+streaming_succeeds g text remaining contents old new sink sink' (Ok x) more P put spelt none = λ brings reads writes. refl
+streaming_succeeds g text remaining contents old new sink sink' (Err stop) more P put spelt none = λ brings reads writes. absurd (none_stops _ _ _ _ _ more brings spelt none reads writes put)
 
 pub value_passes : {R U : Type 0} (remaining : R → Option (List ℕ)) (kind : Kind) (old new : Payload R) (result : Result U Stop) (value : Cell) (bytes more : List ℕ)
     → CellPassed remaining (cell_start kind (shape return_charset kind)) old new result → SpellsCell kind (shape return_charset kind) value bytes → ReadsOn remaining old new result (bytes ++ more)

@@ -1,5 +1,4 @@
-use Rattle.tds_rows.proofs.Words.{◌∙◌, sym, subst, rules, CellPart, CellGathered}
-use Rattle.tds_rows.proofs.CellSteps.{scalar_start}
+use Rattle.tds_rows.proofs.{Words.{◌∙◌, sym, subst, rules, CellPart, CellGathered}, CellSteps.scalar_start}
 use Rattle.tds_rows.proofs.gather.gather_scalar.Goals as goal
 
 pub returns-in-None-clause-gives : goal.returns-in-None-clause-gives

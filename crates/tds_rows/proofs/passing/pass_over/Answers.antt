@@ -1,5 +1,4 @@
-use Rattle.tds_rows.proofs.Words.{CellPassed}
-use Rattle.tds_rows.proofs.{PassedCells.single_start, PassedCells.wide_start, Successes.value_passes}
+use Rattle.tds_rows.proofs.{Words.CellPassed, PassedCells.{single_start, wide_start}, Successes.value_passes}
 use Rattle.tds_rows.proofs.passing.pass_over.Goals as goal
 
 pub returns-in-Binary-clause-gives : goal.returns-in-Binary-clause-gives

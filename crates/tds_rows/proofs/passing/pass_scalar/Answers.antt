@@ -1,5 +1,4 @@
-use Rattle.tds_rows.proofs.Words.{sym, rules, return_charset}
-use Rattle.tds_rows.proofs.PassedCells.{scalar_passes, scalar_stops}
+use Rattle.tds_rows.proofs.{Words.{sym, rules, return_charset}, PassedCells.{scalar_passes, scalar_stops}}
 use Rattle.tds_rows.proofs.passing.pass_scalar.Goals as goal
 
 pub is_refused-requires-clause-whole : goal.is_refused-requires-clause-whole
