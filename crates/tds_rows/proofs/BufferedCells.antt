@@ -5,14 +5,14 @@ use Rattle.tds_rows.proofs.{Words.{common_steps, ◌≡◌, ◌≢◌, ◌∙◌
 read_allowed : (kind : Kind) (bytes : List ℕ) (value : ScalarValue) → read_of kind bytes ≡ Ok value → is_length_allowed kind (length bytes) ≡ true
 read_allowed kind bytes value h = grind arith
 
-pub fixed_written : (column : ℕ) (kind : Kind) (n : ℕ) (last : Bool) (bytes text : List ℕ) → 0 < n → n ≤ length bytes → IsValueText kind column last (take n bytes) text → WritesCell (ScalarBytes kind n) column last (take n bytes) text
+fixed_written : (column : ℕ) (kind : Kind) (n : ℕ) (last : Bool) (bytes text : List ℕ) → 0 < n → n ≤ length bytes → IsValueText kind column last (take n bytes) text → WritesCell (ScalarBytes kind n) column last (take n bytes) text
 fixed_written column kind n last bytes text some within x = record {
   value = ScalarCell x.0;
   front = [];
   at = ScalarBytes kind n;
   element = take n bytes;
   joined = refl;
-  spelt = Spelt-none (cell column) (ScalarBytes kind n);
+  spelt = Spelt-none _ _;
   next = grind (arith, common_steps);
   whole = ap value_part x.1;
   quiet = refl;
@@ -22,21 +22,21 @@ fixed_written column kind n last bytes text some within x = record {
 first_of : (bytes : List ℕ) (n : ℕ) → 1 ≤ length bytes → slice_index bytes 0 ≡ n → take 1 bytes ≡ n ∷ []
 first_of bytes n h is = grind arith
 
-pub null_written : (column : ℕ) (kind : Kind) (last : Bool) (bytes text : List ℕ) → 1 ≤ length bytes → slice_index bytes 0 ≡ 0 → text ≡ in_line column last null_field → WritesCell (ScalarLength kind) column last (take 1 bytes) text
-null_written column kind last bytes text within is text_is = rw (first_of bytes 0 within is) (record {
+null_written : (column : ℕ) (kind : Kind) (last : Bool) (bytes text : List ℕ) → 1 ≤ length bytes → slice_index bytes 0 ≡ 0 → text ≡ in_line column last null_field → WritesCell (ScalarLength kind) column last (take 1 bytes) text
+null_written column kind last bytes text within is text_is = rw (first_of _ 0 within is) (record {
   value = Null;
   front = [];
   at = ScalarLength kind;
   element = 0 ∷ [];
   joined = refl;
-  spelt = Spelt-none (cell column) (ScalarLength kind);
+  spelt = Spelt-none _ _;
   next = record { some = omega arith; whole = refl; free = refl };
   whole = refl;
   quiet = refl;
   text_is = text_is;
 })
 
-pub counted_written : (column : ℕ) (kind : Kind) (n : ℕ) (last : Bool) (bytes text : List ℕ) → slice_index bytes 0 ≡ n → n ≢ 0 → 1 + n ≤ length bytes → IsValueText kind column last (take n (drop 1 bytes)) text
+counted_written : (column : ℕ) (kind : Kind) (n : ℕ) (last : Bool) (bytes text : List ℕ) → slice_index bytes 0 ≡ n → n ≢ 0 → 1 + n ≤ length bytes → IsValueText kind column last (take n (drop 1 bytes)) text
     → WritesCell (ScalarLength kind) column last (take (1 + n) bytes) text
 counted_written column kind n last bytes text is some within x =
     let whole = length-take-le n (drop 1 bytes) (grind (arith, length-drop)) in
@@ -100,7 +100,7 @@ module _ (h j : Held) (room written : List ℕ) (n : ℕ) (whole : length writte
   lent = overwritten (length h.waiting) written (h.waiting ++ room)
 
   before : take n lent ≡ h.waiting
-  before = ap (λ k. take k lent) at ∙ spare_before h.waiting room written whole
+  before = ap (λ k. take k lent) at ∙ spare_before _ _ _ whole
 
   after : drop n lent ≡ written
   after = ap (λ k. drop k lent) at ∙ spare_written h.waiting room written whole

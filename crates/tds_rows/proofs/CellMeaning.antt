@@ -80,7 +80,7 @@ module _ (column : ℕ) (kind : Kind) where
       let zero' = eq_true _ 0 z in
       let end = sym (ap (λ t. (if t then end_of_chunks column c total d else unless (within_total total (length d + little e)) (PlpLength column))) z) ∙ free in
       let e0 : e ≡ 0 ∷ 0 ∷ 0 ∷ 0 ∷ [] = grind (arith, common_steps) in
-      (refl, unless_none _ _ (guard_none _ _ _ (guard_none _ _ _ end).1).1, record { total = m.first; rest = m.rest ++ e; chunks = m.chunks; spelt = ap (λ v. v ++ e) m.spelt ∙ append_assoc m.first m.rest e; eight = m.eight; known = grind arith; each = rw e0 (end_chunks m.chunks m.rest m.begun); all = m.all }))
+      (refl, unless_none _ _ (guard_none _ _ _ (guard_none _ _ _ end).1).1, record { total = m.first; rest = m.rest ++ e; chunks = m.chunks; spelt = ap (λ v. v ++ e) m.spelt ∙ append_assoc m.first m.rest e; eight = m.eight; known = grind arith; each = rw e0 (end_chunks _ _ m.begun); all = m.all }))
       (λ z.
       let some = eq_false _ 0 z in
       (refl, record { before = d; whole = b; chunks = m; header = e; part = []; spelt = ap (λ v. b ++ v) (sym (append-nil e)); four = four; counted = omega arith; all = sym (append-nil d) }))
@@ -124,4 +124,4 @@ start_means kind sh = grind arith
 
 -- What is read as a cell spells it.
 pub cell_is_spelt : (column : ℕ) (kind : Kind) (sh : Shape) (x : Cell) (bytes : List ℕ) → AreBytes bytes → Spelt (cell column) (cell_start kind sh) bytes (WholeCell x) → SpellsCell kind sh x bytes
-cell_is_spelt column kind sh x bytes are h = Spelt-induct _ (λ p b. AreBytes b → CellMeans kind sh p b) (λ p b e m n all. cell_step column kind sh p b e (AreBytes-back b e all) (m (AreBytes-front b e all)) n) _ (λ _. start_means kind sh) bytes _ h are
+cell_is_spelt column kind sh x bytes are h = Spelt-induct _ (λ p b. AreBytes b → CellMeans kind sh p b) (λ p b e m n all. cell_step _ _ _ p b e (AreBytes-back b e all) (m (AreBytes-front b e all)) n) _ (λ _. start_means _ _) bytes _ h are

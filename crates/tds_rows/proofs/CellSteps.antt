@@ -1,5 +1,5 @@
 -- The cells of scalar kinds, as they are read.
-use Rattle.tds_rows.proofs.Words.{common_steps, ◌≡◌, ◌≢◌, ◌∙◌, ℕ, ◌+◌, ◌<◌, true, false, List, [], ◌∷◌, ◌++◌, length, take, drop, refl, sym, ap, subst, arith, Result, Ok, Err, MatchResult, Option, Some, None, ◌||◌, is_ok, slice_index, if◌then◌else◌, ne_eqb, take_all, Kind, fixed_length, is_length_allowed, is_scalar, read_of, Space, appended, BadValue, BadValueLength, MessageEnded, Stop, Seen, Takes, Ends, IsBetween, began_at, choose_false, began_is_cut, cut_at_once, reads_one, refused_at_once, stops_after, takes_both, EndsInto, TakesInto, Charset, CellPart, ScalarBytes, ScalarLength, cell, cell_end, cell_size, cell_start, field_so_far, shape, shape_of_length, unless, GathersCell, IsScalarLeft, StallsCell, length_after, start_after, value_bytes, value_start, Payload}
+use Rattle.tds_rows.proofs.Words.{common_steps, ◌≡◌, ◌≢◌, ◌∙◌, ℕ, ◌+◌, ◌<◌, true, false, List, [], ◌∷◌, ◌++◌, length, take, drop, refl, sym, ap, subst, arith, Result, Ok, Err, MatchResult, Option, Some, None, ◌||◌, is_ok, slice_index, if◌then◌else◌, ne_eqb, take_all, Kind, fixed_length, is_length_allowed, is_scalar, read_of, Space, appended, BadValue, BadValueLength, MessageEnded, Stop, Seen, Takes, Ends, IsBetween, began_at, choose_false, began_is_cut, cut_at_once, reads_one, refused_at_once, stops_after, takes_both, EndsInto, TakesInto, Charset, CellPart, ScalarBytes, ScalarLength, cell_end, cell_size, cell_start, field_so_far, shape, shape_of_length, unless, GathersCell, IsScalarLeft, StallsCell, length_after, start_after, value_bytes, value_start, Payload}
 
 pub scalar_shape : (charset : Charset) (kind : Kind) → is_scalar kind ≡ true → shape charset kind ≡ shape_of_length (fixed_length kind)
 scalar_shape charset kind h = grind (arith, common_steps)
@@ -12,7 +12,7 @@ fixed_some kind n h = grind (arith, common_steps)
 pub cell_cut : {column n place : ℕ} {s : CellPart} {a b : Seen} {stop : Stop} (part : List ℕ) (own : Stop) → field_so_far s ≡ None → cell_size s ≡ n → cell_end s ≡ Some MessageEnded → length part < n → Ends a b part own → stop ≡ began_at place own → StallsCell s column a b place stop
 cell_cut {s = s} part own quiet size end fewer ends is = record {
   at = s;
-  stops = cut_at_once (cell _) s _ _ _ part own _ (omega (arith, fewer, size)) ends (began_is_cut _ (cell_end s) own _ end is);
+  stops = cut_at_once _ s _ _ _ _ _ _ (omega (arith, fewer, size)) ends (began_is_cut _ _ _ _ end is);
   quiet = quiet;
 }
 
@@ -82,8 +82,8 @@ stands_alone before after element none is = grind (arith, common_steps)
 pub fixed_taken : {U : Type 0} {stopped : Option Stop} {n place' : ℕ} (result : Result U Stop) (column : ℕ) (kind : Kind) (a b : Seen) (place : ℕ) (before after : Space) → fixed_length kind ≡ Some n → before.bytes ≡ [] → stopped ≡ None → place' ≡ (if is_ok result then place + n else place)
     → MatchResult result (λ _. TakesInto a b before after n) (λ stop. stopped ≡ None → EndsInto a b before after place n stop)
     → MatchResult result (λ _. GathersCell kind (ScalarBytes kind n) column a b place place' after.bytes) (λ stop. StallsCell (ScalarBytes kind n) column a b place stop)
-fixed_taken (Ok u) column kind a b place before after is none going at x = rw (stands_alone before after _ none x.stands) (fixed_gathers _ is x.whole x.takes x.between at)
-fixed_taken (Err stop) column kind a b place before after is none going at x = let e = x going in cell_cut e.part e.own refl refl refl e.fewer e.ends e.stop_is
+fixed_taken (Ok u) column kind a b place before after is none going at x = rw (stands_alone _ _ _ none x.stands) (fixed_gathers _ is x.whole x.takes x.between at)
+fixed_taken (Err stop) column kind a b place before after is none going at x = let e = x going in cell_cut _ _ refl refl refl e.fewer e.ends e.stop_is
 
 -- the length that an empty area got
 pub length_taken : {a b : Seen} {before after : Space} {n : ℕ} → before.bytes ≡ [] → slice_index after.bytes 0 ≡ n → TakesInto a b before after 1 → (after.bytes ≡ n ∷ []) × (Takes a b (n ∷ []) 1)

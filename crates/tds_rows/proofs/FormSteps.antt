@@ -1,5 +1,5 @@
 -- Runs over cells by their forms, a cell after those that were written.
-use Rattle.tds_rows.proofs.{Words.{common_steps, ◌≡◌, ◌≢◌, ◌∙◌, ℕ, zero, suc, ◌+◌, ◌-◌, ◌<◌, ◌≤◌, Bool, true, false, List, [], ◌∷◌, ◌++◌, length, take, drop, get_or, refl, sym, ap, subst, arith, append-nil, append_assoc, length-append, ◌==◌, ◌&&◌, map, slice_set, drop_more, length-map, length-take-le, take-append-le, take_all, take_more_set, get_or_default, length-drop, length-take, take-take, drop-drop, Kind, eq_false, eq_true, Column, all_after, after_comma, end_after, in_line, Charset, Form, IsLeft, WritesField, WritesKind, is_last_column, whole_size, AreNext, FieldsWritten, FirstUsed, FirstWritten, WritesForms, WritesColumn, WritesMarked, nat_tests}, LineTexts.{after_some_column, after_append}, RunSteps.{made_more, used_more}, TableSteps.{known_kind, last_one}}
+use Rattle.tds_rows.proofs.{Words.{common_steps, ◌≡◌, ◌≢◌, ◌∙◌, ℕ, zero, suc, ◌+◌, ◌-◌, ◌<◌, ◌≤◌, Bool, false, List, [], ◌∷◌, ◌++◌, length, take, drop, get_or, refl, sym, ap, arith, append-nil, append_assoc, length-append, ◌==◌, ◌&&◌, map, slice_set, drop_more, length-map, length-take-le, take-append-le, take_all, take_more_set, get_or_default, length-drop, length-take, take-take, drop-drop, Kind, eq_false, eq_true, Column, all_after, after_comma, end_after, in_line, Charset, Form, IsLeft, WritesField, WritesKind, is_last_column, whole_size, AreNext, FieldsWritten, FirstUsed, FirstWritten, WritesForms, WritesColumn, WritesMarked, nat_tests, true}, LineTexts.{after_some_column, after_append}, RunSteps.{made_more, used_more}, TableSteps.{known_kind, last_one}}
 
 not_last : (rest : List Column) → 0 < length rest → false ≡ is_last_column rest
 not_last rest some = grind arith
@@ -93,8 +93,9 @@ module _ (charset : Charset) (forms : List Form) (column : ℕ) (bytes : List �
       let is' : take (made + m + 1) (slice_set all (made + m) 44) ≡ (fields ++ after_comma (column + k) field) ++ after_comma (column + (k + 1)) [] =
       take_more_set all (made + m) 44 here ∙ ap (λ l. l ++ 44 ∷ []) (made_more made m to text rest within (omega (arith, some)) ∙ ap (λ l. l ++ field) is ∙ append_assoc fields (after_comma (column + k) []) field ∙ ap (λ l. fields ++ l) (sym (after_append (column + k) [] field)))
       ∙ ap (λ l. (fields ++ after_comma (column + k) field) ++ l) (after_some_column (column + (k + 1)) [] (λ e. omega (arith, e))) in
-      let written : WritesForms charset forms column (suc k) (take (used + u) bytes) (fields ++ after_comma (column + k) field) = (take used bytes, read, fields, field, used_more used u bytes, refl, x, λ form. subst (λ (f : Form). WritesField charset f.kind read field) (get_or_default forms k d form there) wrote) in
-      rw further (fields ++ after_comma (column + k) field, subst (λ (n : ℕ). WritesForms charset forms column n (take (used + u) bytes) (fields ++ after_comma (column + k) field)) (let n : suc k ≡ k + 1 = omega arith in n) written, is')
+      let written : WritesForms charset forms column (suc k) (take (used + u) bytes) (fields ++ after_comma (column + k) field) = (take used bytes, read, fields, field, used_more used u bytes, refl, x, λ form. rw (get_or_default forms k d form there) at wrote) in
+      let next : suc k ≡ k + 1 = omega arith in
+      rw further (fields ++ after_comma (column + k) field, rw (← next) written, is')
 
   -- what is left of the bytes, after some more of them
   pub left_after : (rest : List ℕ) (u : ℕ) → length rest ≤ length bytes → rest ≡ drop (length bytes - length rest) bytes → u ≤ length rest

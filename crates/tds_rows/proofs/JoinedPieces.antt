@@ -25,7 +25,7 @@ module _ {fit begins : List ℕ → Type 0} {rest text : List ℕ → List ℕ} 
         }
 
     -- a byte of it is bad
-    pub piece_bad : {new : List ℕ} {k : ℕ} {h i : Held} {column most : ℕ} {a b : Seen} {place : ℕ} (piece : List ℕ) → length piece ≤ most → Takes a b piece 1 → IsBetween b → TakesUpTo begins rest text old new h i piece k
+    piece_bad : {new : List ℕ} {k : ℕ} {h i : Held} {column most : ℕ} {a b : Seen} {place : ℕ} (piece : List ℕ) → length piece ≤ most → Takes a b piece 1 → IsBetween b → TakesUpTo begins rest text old new h i piece k
         → RefusesData c content column most a b place h i (record { fault = BadText column; place = Payload (place + k) })
     piece_bad {k = k} {h = h} {column = column} {a = a} {b = b} {place = place} piece short takes between x =
         let within = x.within in
@@ -49,7 +49,7 @@ module _ {fit begins : List ℕ → Type 0} {rest text : List ℕ → List ℕ} 
         }
 
     -- a write of its text failed
-    pub piece_breaks : {most : ℕ} {a b : Seen} {h i : Held} {stop : Stop} (piece : List ℕ) → length piece ≤ most → Takes a b piece 1 → IsBetween b → begins old → Breaks h i (emit rest text (old ++ piece)) stop → BreaksData c content most a b h i stop
+    piece_breaks : {most : ℕ} {a b : Seen} {h i : Held} {stop : Stop} (piece : List ℕ) → length piece ≤ most → Takes a b piece 1 → IsBetween b → begins old → Breaks h i (emit rest text (old ++ piece)) stop → BreaksData c content most a b h i stop
     piece_breaks {h = h} {i = i} {stop = stop} piece short takes between begins_old breaks =
         let f = begun_front c old piece ((suits.begins_is old).0 begins_old) in
         let good = take f.taken piece in
@@ -81,7 +81,7 @@ module _ {fit begins : List ℕ → Type 0} {rest text : List ℕ → List ℕ} 
     end_whole x = grind (arith, common_steps, fit_whole)
 
     -- it isn't
-    pub end_part : {new : List ℕ} {h i : Held} → LeavesPart fit old new h i → IsFit c content → ⊥
+    end_part : {new : List ℕ} {h i : Held} → LeavesPart fit old new h i → IsFit c content → ⊥
     end_part x whole = x.part ((suits.fit_is old).1 (subst (IsFit c) (sym is) ((joins_by_name c).fit_rest content whole)))
 
     -- the fault of an end
@@ -114,11 +114,11 @@ module _ (c : Conversion) (content : List ℕ) (begun : BeginsData c content) wh
   -- nothing was read
   fills_none : {p : At} → IsBetween p.seen → length p.held.waiting < 4096 → p.held.delivered ≤ 2 ^ 64 - 1 → FillsData c content p.seen p.seen p.place p.place p.held p.held []
   fills_none {p = p} between few delivered = record {
-    takes = Takes-none p.seen 0;
+    takes = Takes-none _ 0;
     between = between;
     place_is = omega arith;
     begun = rw (sym (append-nil content)) at begun;
-    puts = rw added_none (Puts-none p.held delivered);
+    puts = rw added_none (Puts-none _ delivered);
     few = few;
     delivered = delivered;
   }

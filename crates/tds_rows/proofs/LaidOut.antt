@@ -21,7 +21,7 @@ module _ (charset : Charset) (kind : Kind) where
   value_there l bytes start n laid h = grind (arith, common_steps)
 
   -- a kind whose values have contents is a long one
-  pub is_long_kind : (c : Conversion) (r : Reach) → shape charset kind ≡ LongShape c r → is_scalar kind ≡ false
+  is_long_kind : (c : Conversion) (r : Reach) → shape charset kind ≡ LongShape c r → is_scalar kind ≡ false
   is_long_kind c r is = grind (arith, common_steps)
 
   -- ---- a cell that is left, and a short value

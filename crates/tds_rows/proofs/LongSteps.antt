@@ -49,7 +49,7 @@ module _ {column : ℕ} {c : Conversion} {state : ℕ → List ℕ → CellPart}
   text_more d more begun = grind (arith, common_steps, after_append, column, open_grows)
 
   -- what some content adds to the text, where more follows
-  pub text_grown : (d more : List ℕ) (r r' : ℕ) → BeginsData c (d ++ more) → cell_so_far column last (state (suc r) d) ++ added_text c d more ≡ cell_so_far column last (state (suc r') (d ++ more))
+  text_grown : (d more : List ℕ) (r r' : ℕ) → BeginsData c (d ++ more) → cell_so_far column last (state (suc r) d) ++ added_text c d more ≡ cell_so_far column last (state (suc r') (d ++ more))
   text_grown d more r r' begun = grind (arith, common_steps, text_at, text_more)
 
   -- and where none does
@@ -112,14 +112,14 @@ module _ {column : ℕ} {c : Conversion} {state : ℕ → List ℕ → CellPart}
     piece_cut : CutsData a b place h i stop → Stopped false
     piece_cut x =
         let at = state _ d in
-        let stops = cut_at_once _ at a b place [] x.own stop (omega arith) x.ends (began_is_cut place _ x.own stop (holds.end r d) x.stop_is) in
+        let stops = cut_at_once _ _ a b _ _ _ _ (omega arith) x.ends (began_is_cut _ _ _ _ (holds.end r d) x.stop_is) in
         rw x.same (record { at = at; cause = inl (stops, ([], append-nil _, Puts-none h delivered), refl) })
 
     piece_refused : RefusesData c d column (suc r) a b place h i stop → Stopped false
     piece_refused x =
         let within : length x.good < suc r = x.within in
-        let no = no_text_false c ((d ++ x.good) ++ x.bad ∷ []) (is_begun c ((d ++ x.good) ++ x.bad ∷ [])) refl x.no_text in
-        rw x.stop_is (byte_refused d x.good x.ahead x.bad (r - length x.good) place (omega (arith, within)) x.begun (holds.bad (r - length x.good) (d ++ x.good) x.bad no) x.takes x.between x.puts)
+        let no = no_text_false c _ _ refl x.no_text in
+        rw x.stop_is (byte_refused d _ _ _ _ _ (omega (arith, within)) x.begun (holds.bad (r - length x.good) (d ++ x.good) x.bad no) x.takes x.between x.puts)
 
     -- a write of the text of a piece failed, whose bytes lead to a state
     broken : (good ahead added : List ℕ) (to : CellPart) → Spelt (cell column) (state (suc r) d) good to → Takes a b (good ++ ahead) 1 → IsBetween b → cell_so_far column last (state (suc r) d) ++ added ≡ cell_so_far column last to → Breaks h i added stop → Stopped true
@@ -135,7 +135,7 @@ module _ {column : ℕ} {c : Conversion} {state : ℕ → List ℕ → CellPart}
           | inl whole ↦
               (let fine = subst Good (sym same) whole in
               let w = holds.whole last _ fine in
-              broken good ahead _ _ (content_spelt d good _ 0 (omega arith) begun (λ _ _. fine)) takes between (text_closed d good w.0 r begun w.1) (Breaks-longer h i _ w.0 stop breaks))
+              broken _ _ _ _ (content_spelt d _ _ 0 (omega arith) begun (λ _ _. fine)) takes between (text_closed d _ _ r begun w.1) (Breaks-longer h i _ _ _ breaks))
           | inr none ↦
               (let front = (joins_by_name c).front _ _ (subst (BeginsData c) same begun) in
               broken p _ _ _ (front_spelt d p 0 (omega (arith, length-append p (x ∷ []))) front) (rw append_assoc at takes) between (text_grown d p r 0 front) (rw (adds_none d p x begun none) at breaks))
@@ -153,7 +153,7 @@ module _ {column : ℕ} {c : Conversion} {state : ℕ → List ℕ → CellPart}
         ]
 
     -- the next piece stopped
-    pub piece_stops : (failed : Bool) → StopsData c d column (suc r) a b place h i failed stop → Stopped failed
+    piece_stops : (failed : Bool) → StopsData c d column (suc r) a b place h i failed stop → Stopped failed
     piece_stops failed (inl x) = rw x.1 (piece_cut x.0)
     piece_stops failed (inr (inl x)) = rw x.1 (piece_refused x.0)
     piece_stops failed (inr (inr x)) = rw x.1 (piece_broken x.0)

@@ -9,7 +9,7 @@ rest_none c = grind (arith, drop-nil)
 emit_none : (c : Conversion) → emit (conversion_rest c) (conversion_text c) [] ≡ []
 emit_none c = grind (arith, common_steps, take-nil, hex-nil, text_nil)
 
-pub open_none : (c : Conversion) → opening (is_quoted c) ≡ open_field c []
+open_none : (c : Conversion) → opening (is_quoted c) ≡ open_field c []
 open_none HexDigits = sym (append-nil binary_mark) ∙ ap (λ l. binary_mark ++ l) (sym (emit_none HexDigits))
 open_none Utf16Text = ap (λ l. quote ∷ l) (sym (emit_none Utf16Text))
 open_none Windows1252Text = ap (λ l. quote ∷ l) (sym (emit_none Windows1252Text))
@@ -35,7 +35,7 @@ reading_stops {s = s} last delivered going x = record { at = s; cause = inl (x, 
 module _ {column place' : ℕ} {s t : CellPart} {p : At} {b : Seen} (last : Bool) (x : Next column s p.seen b p.place place' t) where
   -- an element was read, and its text put
   pub next_path : {i : Held} (added : List ℕ) → cell_so_far column last s ++ added ≡ cell_so_far column last t → Puts p.held i added → Path (cell column) (cell_so_far column last) s p (record { seen = b; place = place'; held = i }) t
-  next_path added text_is puts = record { bytes = x.element; made = added; writes = record { spelt = rw x.to at (Spelt-one (cell column) s x.element x.next); text_is = text_is }; takes = x.takes; puts = puts; place_is = x.place_is }
+  next_path added text_is puts = record { bytes = x.element; made = added; writes = record { spelt = rw x.to at (Spelt-one _ s _ x.next); text_is = text_is }; takes = x.takes; puts = puts; place_is = x.place_is }
 
   -- a write of it failed
   pub next_breaks : {j : Held} {failed : Bool} {stop : Stop} (part rest : List ℕ) → length p.held.waiting < 4096 → p.held.delivered ≤ 2 ^ 64 - 1 → failed ≡ true → cell_so_far column last s ++ (part ++ rest) ≡ cell_so_far column last t → Breaks p.held j part stop → StopsField s column last p.seen b p.place p.held j failed stop
@@ -52,10 +52,10 @@ module _ {column place' : ℕ} {s t : CellPart} {p : At} {b : Seen} (last : Bool
         between = x.between;
         middle = p.held;
         few = few;
-        puts = ([], append-nil _, Puts-none p.held delivered);
+        puts = ([], append-nil _, Puts-none _ delivered);
         more = part ++ rest;
         text_is = text_is ∙ ap (cell_so_far column last) (sym x.to);
-        breaks = Breaks-longer p.held _ part rest _ breaks;
+        breaks = Breaks-longer _ _ _ _ _ breaks;
       },
       broken,
     );

@@ -12,7 +12,7 @@ rows_first d = record { before = []; counted = refl; path = path_none d }
 
 module _ {token : RowToken} {charset : Charset} {all : List Column} {p q : At} {count : ℕ} where
   -- more of the next one
-  pub rows_on : {part more : RowPart} {r : At} → RowsAt token charset all p q count part → Path (row charset) row_so_far part q r more → RowsAt token charset all p r count more
+  rows_on : {part more : RowPart} {r : At} → RowsAt token charset all p q count part → Path (row charset) row_so_far part q r more → RowsAt token charset all p r count more
   rows_on x y = record { before = x.before; counted = x.counted; path = path_both x.path (path_map (λ a m. row_among token charset all x.before) y) }
 
   -- it stopped
@@ -61,7 +61,7 @@ pub record Rowing (charset : Charset) (all : List Column) (left : List (Column �
 
 module _ {charset : Charset} {all : List Column} {p q : At} {column count : ℕ} where
   -- a run
-  pub rowing_run : {left left' : List Column} {column' count' : ℕ} {r : At} → Rowing charset all (coming left column) p q column count → ((cells : List Cell) → length cells ≡ column → RunsRows charset all cells left left' column' count' q.seen r.seen q.place r.place q.held r.held)
+  rowing_run : {left left' : List Column} {column' count' : ℕ} {r : At} → Rowing charset all (coming left column) p q column count → ((cells : List Cell) → length cells ≡ column → RunsRows charset all cells left left' column' count' q.seen r.seen q.place r.place q.held r.held)
       → Rowing charset all (coming left' column') p r column' (count + count')
   rowing_run x f =
       let y = f x.cells x.counted in

@@ -74,7 +74,7 @@ module _ (charset : Charset) (start : RowPart) (columns : List Column) (nulls : 
       subst (λ (k : ℕ). Near k r) (omega arith) z
 
 -- as many columns more as a run took
-pub run_nears : {table : Table} {columns : List Column} {nulls : ℕ → Bool} {from to : Ahead} {start : RowPart} {p q r : At} → PutsMarked table columns nulls from to q.seen r.seen q.place r.place q.held r.held → IsBetween r.seen → length r.held.waiting < 4096 → q.held.delivered ≤ 2 ^ 64 - 1
+run_nears : {table : Table} {columns : List Column} {nulls : ℕ → Bool} {from to : Ahead} {start : RowPart} {p q r : At} → PutsMarked table columns nulls from to q.seen r.seen q.place r.place q.held r.held → IsBetween r.seen → length r.held.waiting < 4096 → q.held.delivered ≤ 2 ^ 64 - 1
     → NearsCells table.charset start (marked (drop from.column columns) nulls from.column) p q from.column → NearsCells table.charset start (marked (drop to.column columns) nulls to.column) p r to.column
 run_nears x between few delivered near = grind (arith, common_steps, marked_nears)
 
@@ -97,7 +97,7 @@ pub leaves_after : {R W U : Type 0} {a b c : Rows R W} {result : Result U Stop} 
 leaves_after x y = grind arith
 
 -- what is said of a payload and a sink is said of those that they are
-pub said_of : {A B : Type 0} (P : A → B → Type 0) (a a' : A) (b b' : B) → a ≡ a' → b ≡ b' → P a b → P a' b'
+said_of : {A B : Type 0} (P : A → B → Type 0) (a a' : A) (b b' : B) → a ≡ a' → b ≡ b' → P a b → P a' b'
 said_of P a a' b b' first second x = grind (arith, common_steps)
 
 -- ---- the next cell

@@ -28,8 +28,8 @@ number_stops : {column size place : ℕ} {s : CellPart} {fault : ℕ → Option 
 number_stops {column = column} {place = place} {s = s} {a = a} {b = b} {stop = stop} some is end first (inl x) =
     let r = x.reads in
     subst (λ t. StopsReading (cell column) s a b place s t) (ap (λ q. record { fault = stop.fault; place = q }) (sym x.stands))
-    (refused_at_once _ s a b place _ _ (omega arith) (r.whole ∙ sym is) (first _ x.n _ r.number x.first) r.takes r.between)
-number_stops some is end first (inr x) = cut_at_once _ _ _ _ _ x.part x.own _ (let few = x.fewer in omega arith) x.ends (began_is_cut _ _ x.own _ end x.stop_is)
+    (refused_at_once _ s a b _ _ _ (omega arith) (r.whole ∙ sym is) (first _ x.n _ r.number x.first) r.takes r.between)
+number_stops some is end first (inr x) = cut_at_once _ _ _ _ _ _ _ _ (let few = x.fewer in omega arith) x.ends (began_is_cut _ _ _ _ end x.stop_is)
 
 total_same : (column : ℕ) (c : Conversion) (size n : ℕ) (e : List ℕ) → size ≡ unit c → little e ≡ n → cell_fault column (Total c) e ≡ total_fault column size n
 total_same column c size n e unit_is is = grind (arith, common_steps, column)

@@ -1,5 +1,5 @@
 -- The value of a RETURNVALUE, as it is passed over.
-use Rattle.tds_rows.proofs.{Words.{◌≢◌, Some, None, eq_true, ReadsNumber, chunk_length_fault, short_fault, short_length, reads_one, ◌≡◌, ◌∙◌, ◌⊎◌, inl, inr, ℕ, zero, ◌+◌, ◌-◌, ◌%◌, ◌<◌, ◌≤◌, Bool, true, List, [], ◌++◌, length, refl, sym, ap, subst, arith, append-nil, length-append, Option, is_ok, Kind, Binary, Narrow, Wide, Reach, is_scalar, read_of, Stop, Spelt, Seen, Takes, IsBetween, began_at, Ends-after, Takes-none, Takes-trans, add_none, began_is_cut, reads_both, reads_none, stops_after, BeginsData, Conversion, Charset, Cell, CellPart, ChunkLength, DataCell, LongShape, ShortLength, WholeCell, cell_start, return_charset, shape, GathersCell, StallsCell, scalar_size, value_bytes, value_length, value_start, WritesCell, return_column, AnyData, CutsPassing, IsGoodValue, PassesCell, PassesData, StepsOver, StopsPassing, return_cell, begun_by_test, take_all}, BufferedCells.{null_cell, value_cell}, RunSteps.whole_of, LongSteps.{HoldsContent, chunk_holds, content_spelt, short_holds}, CellMeaning.is_ok_value, Numbers.{Next, chunk_end, chunk_start, chunk_left, short_left}}
+use Rattle.tds_rows.proofs.{Words.{HexDigits, Utf16Text, Windows1252Text, ◌≢◌, Some, None, eq_true, ReadsNumber, chunk_length_fault, short_fault, short_length, reads_one, ◌≡◌, ◌∙◌, inr, ℕ, ◌+◌, ◌-◌, ◌%◌, ◌<◌, ◌≤◌, Bool, true, List, [], ◌++◌, length, refl, sym, ap, subst, arith, append-nil, length-append, Option, is_ok, Kind, is_scalar, read_of, Stop, Spelt, Seen, Takes, IsBetween, began_at, Ends-after, Takes-none, Takes-trans, add_none, began_is_cut, reads_both, reads_none, stops_after, BeginsData, Conversion, Charset, Cell, CellPart, ChunkLength, DataCell, ShortLength, WholeCell, cell_start, shape, GathersCell, StallsCell, scalar_size, value_bytes, value_length, value_start, WritesCell, return_column, AnyData, CutsPassing, IsGoodValue, PassesCell, PassesData, StepsOver, StopsPassing, return_cell, begun_by_test, take_all, zero}, BufferedCells.{null_cell, value_cell}, RunSteps.whole_of, LongSteps.{HoldsContent, content_spelt, chunk_holds, short_holds}, CellMeaning.is_ok_value, Numbers.{Next, chunk_end, chunk_start, chunk_left, short_left}}
 
 -- ---- elements
 
@@ -49,8 +49,8 @@ module _ {c : Conversion} {state : ℕ → List ℕ → CellPart} {Good : List �
 -- ---- scalars
 
 -- a scalar's cell stops as any
-pub scalar_stops : (charset : Charset) (kind : Kind) (a b : Seen) (place : ℕ) (stop : Stop) → StallsCell (cell_start kind (shape charset kind)) return_column a b place stop → StopsPassing (cell_start kind (shape charset kind)) a b place stop
-scalar_stops charset kind a b place stop x = record { at = x.at; stops = x.stops }
+pub scalar_stops : {from : CellPart} {a b : Seen} {place : ℕ} {stop : Stop} → StallsCell from return_column a b place stop → StopsPassing from a b place stop
+scalar_stops x = record { at = x.at; stops = x.stops }
 
 -- what is written of a cell is its spelling
 written_spelt : {from : CellPart} {last : Bool} {bytes text : List ℕ} → WritesCell from return_column last bytes text → (value : Cell) × Spelt return_cell from bytes (WholeCell value)
@@ -97,9 +97,9 @@ cuts_more {m = m} {a = a} {b = b} {d = d} sum x y = record {
 }
 
 -- a scalar cell whose value isn't refused was read
-pub scalar_passes : (charset : Charset) (kind : Kind) (a b : Seen) (place place' : ℕ) (bytes : List ℕ) → is_scalar kind ≡ true → GathersCell kind (cell_start kind (shape charset kind)) return_column a b place place' bytes → IsGoodValue kind bytes
+pub scalar_passes : {kind : Kind} {a b : Seen} {place place' : ℕ} {bytes : List ℕ} (charset : Charset) → is_scalar kind ≡ true → GathersCell kind (cell_start kind (shape charset kind)) return_column a b place place' bytes → IsGoodValue kind bytes
     → PassesCell (cell_start kind (shape charset kind)) a b place place'
-scalar_passes charset kind a b place place' bytes scalar x good =
+scalar_passes {kind = kind} {bytes = bytes} charset scalar x good =
     let v = scalar_whole charset kind bytes scalar x.whole good in
     record { value = v.0; steps = record { reads = record { bytes = bytes; spelt = v.1; takes = x.takes }; between = x.between; place_is = x.place_is } }
 
@@ -170,11 +170,11 @@ module _ {c : Conversion} {size : ℕ} (any : AnyData c size) where
 
 -- ---- the data of a RETURNVALUE may be any bytes
 
--- the beginning of a long value of single bytes
-pub single_start : (kind : Kind) (reach : Reach) (P : CellPart → Type 0) → (kind ≡ Binary reach) ⊎ (kind ≡ Narrow reach) → ((k : Kind) (c : Conversion) → AnyData c 1 → P (cell_start k (LongShape c reach))) → P (cell_start kind (shape return_charset kind))
-single_start kind reach P (inl is) x = rw is (x (Binary reach) _ (grind arith))
-single_start kind reach P (inr is) x = rw is (x (Narrow reach) _ (grind arith))
+pub any_hex : AnyData HexDigits 1
+any_hex = grind arith
 
--- the beginning of one of units of two
-pub wide_start : (kind : Kind) (reach : Reach) (P : CellPart → Type 0) → kind ≡ Wide reach → ((k : Kind) (c : Conversion) → AnyData c 2 → P (cell_start k (LongShape c reach))) → P (cell_start kind (shape return_charset kind))
-wide_start kind reach P is x = rw is (x (Wide reach) _ (grind arith))
+pub any_narrow : AnyData Windows1252Text 1
+any_narrow = grind arith
+
+pub any_wide : AnyData Utf16Text 2
+any_wide = grind arith

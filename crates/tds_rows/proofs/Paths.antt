@@ -36,7 +36,7 @@ module _ {S : Type 0} {g : Grammar S Fault} {text : S → List ℕ} where
   path_of x at = record { bytes = x.bytes; made = x.puts.0; writes = record { spelt = x.spelt; text_is = x.puts.1 }; takes = x.takes; puts = x.puts.2; place_is = at }
 
   abbrev pub path_none : {s : S} {p : At} → p.held.delivered ≤ 2 ^ 64 - 1 → Path g text s p p s
-  path_none {p = p} d = record { bytes = []; made = []; writes = writes_none; takes = Takes-none p.seen 0; puts = Puts-none p.held d; place_is = omega arith }
+  path_none {p = p} d = record { bytes = []; made = []; writes = writes_none; takes = Takes-none _ 0; puts = Puts-none _ d; place_is = omega arith }
 
   pub path_both : {s t u : S} {p q r : At} → Path g text s p q t → Path g text t q r u → Path g text s p r u
   path_both {p = p} {q = q} {r = r} x y = record {
@@ -44,7 +44,7 @@ module _ {S : Type 0} {g : Grammar S Fault} {text : S → List ℕ} where
     made = x.made ++ y.made;
     writes = writes_both x.writes y.writes;
     takes = takes_both p.seen q.seen r.seen x.bytes y.bytes x.takes y.takes;
-    puts = Puts-trans p.held q.held r.held x.made y.made x.puts y.puts;
+    puts = Puts-trans _ _ _ _ _ x.puts y.puts;
     place_is = omega (arith, length-append x.bytes y.bytes);
   }
 

@@ -50,9 +50,9 @@ module _ (kind : Kind) (s : Shape) (column : ℕ) (last : Bool) where
       → Streams (cell column) (cell_so_far column last) (cell_start kind s) a b h i (WholeCell r.value)
   at_once_streams {text = text} r x = record {
     bytes = r.front ++ r.element;
-    spelt = Spelt-append _ _ r.front r.at _ _ r.spelt (rw (← r.whole) (Spelt-one _ r.at _ r.next));
+    spelt = Spelt-append _ _ _ _ _ _ r.spelt (rw (← r.whole) (Spelt-one _ _ _ r.next));
     takes = r.takes;
-    puts = (text, ap (λ l. l ++ text) (quiet_text column last _ (start_quiet kind s)) ∙ r.text_is, x);
+    puts = (text, ap (λ l. l ++ text) (quiet_text _ _ _ (start_quiet _ s)) ∙ r.text_is, x);
   }
 
   -- it was read, and a write of its text failed
@@ -68,9 +68,9 @@ module _ (kind : Kind) (s : Shape) (column : ℕ) (last : Bool) where
     between = r.between;
     middle = h;
     few = few;
-    puts = none_put r.at h r.quiet d;
+    puts = none_put _ h r.quiet d;
     more = text;
-    text_is = ap (λ l. l ++ text) (quiet_text column last r.at r.quiet) ∙ r.text_is ∙ ap (cell_so_far column last) (sym r.whole);
+    text_is = ap (λ l. l ++ text) (quiet_text _ _ _ r.quiet) ∙ r.text_is ∙ ap (cell_so_far column last) (sym r.whole);
     breaks = x;
   }
 
@@ -81,7 +81,7 @@ module _ (kind : Kind) (s : Shape) (column : ℕ) (last : Bool) where
 -- ---- a cell in its row
 
 pub fields_more : (cells : List Cell) (v : List ℕ) → joined (map field cells) ++ after_comma (length cells) v ≡ joined (map field cells ++ v ∷ [])
-fields_more cells v = ap (λ n. joined (map field cells) ++ after_comma n v) (sym (length-map cells field)) ∙ joined_snoc (map field cells) v
+fields_more cells v = ap (λ n. joined (map field cells) ++ after_comma n v) (sym (length-map cells field)) ∙ joined_snoc _ v
 
 pub cell_more : (cells : List Cell) (v : Cell) → joined (map field cells) ++ after_comma (length cells) (field v) ≡ joined (map field (cells ++ v ∷ []))
 cell_more cells v = grind (arith, common_steps, fields_more, map-append)
@@ -149,7 +149,7 @@ nulls_text charset cells ((k, false) ∷ ks) = grind (arith, append-nil)
 
 module _ (column : ℕ) (last : Bool) where
   opened_grows : (a b : Option (List ℕ)) → OptionGrows a b → Grows (opened column a) (opened column b)
-  opened_grows None b h = grows_all (opened column b)
+  opened_grows None b h = grows_all _
   opened_grows (Some a) None h = absurd h
   opened_grows (Some a) (Some b) h = grind (arith, common_steps, grows_under)
 
@@ -166,7 +166,7 @@ module _ (column : ℕ) (last : Bool) where
 
   -- each element of a cell adds to its text in its line
   pub line_grows : (p : CellPart) (e : List ℕ) → IsNext (cell column) p e → Grows (cell_so_far column last p) (cell_so_far column last (cell_add p e))
-  line_grows p e n = rw (opened_text p (next_some _ p e n)) at (grows_trans (opened column _) (opened column _) (cell_so_far column last _) (opened_grows _ _ (cell_grows column p e n)) (opened_to _))
+  line_grows p e n = rw (opened_text p (next_some _ p e n)) at (grows_trans _ _ _ (opened_grows _ _ (cell_grows _ p e n)) (opened_to _))
 
 -- ---- a cell in its row, with the NULLs after it
 

@@ -45,7 +45,7 @@ whole_some kind bytes = grind (arith, common_steps, fixed_some)
 -- ---- a run between a payload and a sink
 
 -- what doesn't fill a block isn't delivered, so no write of it fails
-pub fills_no_block : (h j : Held) (piece : List ℕ) (stop : Stop) → length h.waiting + length piece < 4096 → Breaks h j piece stop → ⊥
+fills_no_block : (h j : Held) (piece : List ℕ) (stop : Stop) → length h.waiting + length piece < 4096 → Breaks h j piece stop → ⊥
 fills_no_block h j piece stop few (sent, blocks, n, adds, most, least, less, whole, is, risen) =
     let both : length h.waiting + length (take n piece) ≡ length sent + length j.waiting = sym (length-append h.waiting (take n piece)) ∙ ap length adds.1 ∙ length-append sent j.waiting in
     omega (arith, both, few, whole, most, length-take n piece)
@@ -77,7 +77,7 @@ module _ (token : RowToken) (charset : Charset) (all : List Column) (before : Li
 -- ---- cells of the last row
 
 -- a cell that lies whole, by itself
-pub cell_writes : {column : ℕ} {last : Bool} {bytes made : List ℕ} (kind : Kind) (sh : Shape) → (x : WritesWhole (cell_start kind sh) column last bytes made) → Writes (cell column) (cell_so_far column last) (cell_start kind sh) bytes made (WholeCell x.value)
+cell_writes : {column : ℕ} {last : Bool} {bytes made : List ℕ} (kind : Kind) (sh : Shape) → (x : WritesWhole (cell_start kind sh) column last bytes made) → Writes (cell column) (cell_so_far column last) (cell_start kind sh) bytes made (WholeCell x.value)
 cell_writes {column = column} {last = last} {made = made} kind sh x = grind (arith, common_steps, made, quiet_text, start_quiet)
 
 -- a cell after these, in its row

@@ -7,7 +7,7 @@ none_null k = false
 
 module _ (charset : Charset) (columns : List Column) where
   -- so many columns, and then so many more
-  pub marked_both : (nulls : ℕ → Bool) (from n m : ℕ) (a b p q : List ℕ) → WritesMarked charset columns nulls from n a p → WritesMarked charset columns nulls (from + n) m b q → WritesMarked charset columns nulls from (n + m) (a ++ b) (p ++ q)
+  marked_both : (nulls : ℕ → Bool) (from n m : ℕ) (a b p q : List ℕ) → WritesMarked charset columns nulls from n a p → WritesMarked charset columns nulls (from + n) m b q → WritesMarked charset columns nulls from (n + m) (a ++ b) (p ++ q)
   marked_both nulls from n zero a b p q x y = grind (arith, append-nil)
   marked_both nulls from n (suc m) a b p q x y =
       let at : (from + n) + m ≡ from + (n + m) = omega arith in

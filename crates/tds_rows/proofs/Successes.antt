@@ -1,5 +1,5 @@
 -- A call that reads what comes whole stops only where a device fails.
-use Rattle.{tds_rows.proofs.{Words.{◌≡◌, ◌∙◌, inl, inr, ℕ, ◌+◌, ◌<◌, Bool, List, [], ◌∷◌, ◌++◌, length, take, refl, sym, ap, subst, arith, append_assoc, append-nil, length-append, Result, Ok, Err, MatchResult, seen, held, Option, Some, None, if◌then◌else◌, take-append_seam, nat_tests, Consumes, Rose, one_more, Fault, RefusedToken, Stop, before, Grammar, IsRefused, Longest, Spelt, CutsNext, RefusesNext, StopsReading, Ends, Seen, Inside-Spelt, Spelt-append, longest_at, longest_cut, longest_refused, no_further, one_longest, stops_inside, stops_after, Column, Sink, Conversion, Held, StopsStreaming, stops_size, Kind, Reach, Short, Chunked, Charset, Cell, LongShape, SpellsCell, WholeCell, cell, cell_start, long_start, return_charset, shape, CellPassed, RowsRead, RowsStop, RowPart, RowToken, SpellsRowAs, WholeRow, row, token_byte, token_start, RowsPart, rows, BeginNoRow, Brings, ReadsOn, SpellsRows, SucceedsOn, length-take-le}, CellLaws.cell_is_read, RowLaws.{nbc_row_is_read, row_is_read, shape-HasBytes}, RunSteps.{row_among_rows, row_token}}, tds_packet.specs.declared.payload.Payload.Payload}
+use Rattle.{tds_rows.proofs.{Words.{◌≡◌, ◌∙◌, inl, inr, ℕ, ◌+◌, ◌<◌, Bool, List, [], ◌∷◌, ◌++◌, length, take, refl, sym, ap, subst, arith, append_assoc, append-nil, length-append, Result, Ok, Err, MatchResult, seen, held, Option, Some, None, if◌then◌else◌, take-append_seam, nat_tests, Consumes, Rose, one_more, Fault, RefusedToken, Stop, before, Grammar, IsRefused, Longest, Spelt, CutsNext, RefusesNext, StopsReading, Ends, Seen, Inside-Spelt, Spelt-append, longest_at, longest_cut, longest_refused, no_further, one_longest, stops_inside, stops_after, Column, Sink, Conversion, Held, StopsStreaming, stops_size, Kind, Reach, Short, Chunked, Charset, Cell, LongShape, SpellsCell, WholeCell, cell, cell_start, long_start, return_charset, shape, CellPassed, RowsRead, RowsStop, RowPart, RowToken, SpellsRowAs, WholeRow, row, token_byte, token_start, RowsPart, rows, BeginNoRow, Brings, ReadsOn, SpellsRows, SucceedsOn, length-take-le}, CellLaws.cell_is_read, RowLaws.{nbc_row_is_read, row_is_read, shape-HasBytes}, RunSteps.{row_token, row_among_rows}}, tds_packet.specs.declared.payload.Payload.Payload}
 
 -- a call that fails raises the count
 pub rose : (f : ℕ) → Rose f (one_more f)
@@ -29,20 +29,20 @@ module _ {S : Type 0} (g : Grammar S Fault) (from to : S) (a b : Seen) (front mo
         whole = omega (arith, length-append e (x.ahead ++ c.0));
         first = ap (λ k. g.fault at (take k rest)) (sym whole) ∙ ap (g.fault at) (take-append_seam e _) ∙ x.first;
       } in
-      (one_longest g from (front ++ more) _ _ at to (subst (λ v. Longest g from v (length bytes) at) (sym all) (longest_refused g from bytes rest at fault spelt refused)) last).1
+      (one_longest g from (front ++ more) _ _ at to (rw (← all) at (longest_refused g from bytes rest at fault spelt refused)) last).1
 
   cut_there : (at : S) (bytes : List ℕ) (place : ℕ) (stop : Stop) → Spelt g from bytes at → CutsNext g a b bytes place at stop → at ≡ to
-  cut_there at bytes place stop spelt x = (one_longest g from (front ++ more) _ _ at to (subst (λ v. Longest g from v (length bytes) at) (sym (ends x.ends)) (longest_cut g from bytes x.part at spelt x.cut)) last).1
+  cut_there at bytes place stop spelt x = (one_longest g from (front ++ more) _ _ at to (rw (← ends x.ends) at (longest_cut g from bytes x.part at spelt x.cut)) last).1
     where
       ends : Ends a b (bytes ++ x.part) x.own → front ++ more ≡ bytes ++ x.part
       ends y = grind (arith, append-nil)
 
   -- a reading that stops does so at the end of what comes
-  pub stopped_there : (place : ℕ) (at : S) (stop : Stop) → StopsReading g from a b place at stop → at ≡ to
+  stopped_there : (place : ℕ) (at : S) (stop : Stop) → StopsReading g from a b place at stop → at ≡ to
   stopped_there place at stop x = elim x.cause [ inl y ↦ refused_there at x.bytes stop.fault x.spelt y.0 | inr y ↦ cut_there at x.bytes place stop x.spelt y ]
 
 -- a state at which nothing follows is the end of what comes
-pub longest_end : {S : Type 0} (g : Grammar S Fault) (from to : S) (front more : List ℕ) → Spelt g from front to → g.size to ≡ 0 → Longest g from (front ++ more) (length front) to
+longest_end : {S : Type 0} (g : Grammar S Fault) (from to : S) (front more : List ℕ) → Spelt g from front to → g.size to ≡ 0 → Longest g from (front ++ more) (length front) to
 longest_end g from to front more spelt none = longest_at g from front more to spelt (λ d other some within k.
     let e = no_further g from front to _ other spelt (λ i a b. omega arith) k in
     omega (arith, ap length e, length-take-le d more within))
@@ -100,7 +100,7 @@ module _ (token : RowToken) (charset : Charset) (columns : List Column) (some_co
   row_of_rows before cells bytes h = Inside-Spelt _ all_rows _ (row_among_rows token charset columns before) _ bytes _ (grind (arith, nbc_row_is_read, row_is_read))
 
   -- rows that are spelt are read as rows
-  pub rows_are_read : (before : List (List Cell)) (first : List Cell) (later : List (List Cell)) (bytes : List ℕ) → SpellsRows token charset columns first later bytes
+  rows_are_read : (before : List (List Cell)) (first : List Cell) (later : List (List Cell)) (bytes : List ℕ) → SpellsRows token charset columns first later bytes
       → (earlier : List (List Cell)) × (last : List Cell) × Spelt all_rows (begun_after before) bytes (among earlier (WholeRow last))
   rows_are_read before first [] bytes h = (before, first, row_of_rows before first bytes h)
   rows_are_read before first (next ∷ later) bytes h =
@@ -109,10 +109,10 @@ module _ (token : RowToken) (charset : Charset) (columns : List Column) (some_co
       let there = begun_after (before ++ first ∷ []) in
       let t = rows_are_read (before ++ first ∷ []) next later h.1 h.4 in
       let one = Spelt-append all_rows from h.0 (among before _) (byte ∷ []) there (row_of_rows before first h.0 h.3) (row_token token charset columns before first some_columns).spelt in
-      (t.0, t.1, subst (λ v. Spelt all_rows from v (among t.0 (WholeRow t.1))) (append_assoc h.0 (byte ∷ []) h.1 ∙ sym h.2) (Spelt-append all_rows from _ there h.1 _ one t.2))
+      (t.0, t.1, rw (append_assoc, ← h.2) at (Spelt-append all_rows from _ there h.1 _ one t.2))
 
   -- where no row follows, the last one is the end
-  pub longest_rows : (from : RowsPart) (earlier : List (List Cell)) (last : List Cell) (front more : List ℕ) → Spelt all_rows from front (among earlier (WholeRow last)) → BeginNoRow token more
+  longest_rows : (from : RowsPart) (earlier : List (List Cell)) (last : List Cell) (front more : List ℕ) → Spelt all_rows from front (among earlier (WholeRow last)) → BeginNoRow token more
       → Longest all_rows from (front ++ more) (length front) (among earlier (WholeRow last))
   longest_rows from earlier last front [] spelt none = longest_cut all_rows from front [] _ spelt (omega arith)
   longest_rows from earlier last front (byte ∷ more) spelt none = longest_refused all_rows from front (byte ∷ more) _ _ spelt

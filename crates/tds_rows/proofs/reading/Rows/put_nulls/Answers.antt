@@ -1,4 +1,4 @@
-use Rattle.tds_rows.proofs.{Words.{◌≡◌, ◌∙◌, ap, sym, drop, ◌-◌, ◌+◌, ◌≤◌, ℕ, List, length, take, subst, arith, rules, length-take, drop-drop, buffered, held, RunsMarked, bit}, BufferedCells.kept_text, NextSteps.all_waits}
+use Rattle.tds_rows.proofs.{Words.{◌≡◌, ◌∙◌, ap, sym, drop, ◌-◌, ◌+◌, ◌≤◌, length, take, arith, rules, length-take, drop-drop, buffered, held}, BufferedCells.kept_text, NextSteps.all_waits}
 use Rattle.tds_rows.proofs.reading.Rows.put_nulls.Goals as goal
 
 pub returns-clause-ends : goal.returns-clause-ends
@@ -26,7 +26,7 @@ returns-clause-gives g c = λ columns knows ahead.
     record {
       bytes = take run.used (buffered c.args.self.now.payload.now);
       text = take run.made written;
-      runs = subst (λ (l : List ℕ). RunsMarked c.args.self.now.table.now columns (bit c.args.bitmap.now) c.args.from run.ahead (take run.used l) (take run.made written)) c.buffered.ensures (c.run_nulls-run.ensures.gives columns knows ahead);
+      runs = rw c.buffered.ensures at (c.run_nulls-run.ensures.gives columns knows ahead);
       takes = c.consume.ensures.gives;
       puts = kept_text _ _ _ _ _ c.run_nulls-run.auto.to c.waiting-waiting.ensures _ c.commit.ensures.gives;
       place_is = omega (arith, lies, ap (λ p. p.place) c.consume.ensures.rest, length-take run.used (buffered c.args.self.now.payload.now));
