@@ -103,7 +103,7 @@ module _ (h j : Held) (room written : List ℕ) (n : ℕ) (whole : length writte
   before = ap (λ k. take k lent) at ∙ spare_before _ _ _ whole
 
   after : drop n lent ≡ written
-  after = ap (λ k. drop k lent) at ∙ spare_written h.waiting room written whole
+  after = ap (λ k. drop k lent) at ∙ spare_written h.waiting _ _ whole
 
   abbrev lent_held : Held
   lent_held = record h { waiting = take n lent }

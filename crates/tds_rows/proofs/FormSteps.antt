@@ -27,7 +27,7 @@ module _ (forms : List Form) (ends : Bool) (columns : List Column) (next : AreNe
     step = drop_more columns k (record { kind = d.kind; name = [] }) (omega (arith, few, within))
 
     kind_is : (get_or forms k d).kind ≡ next_column.kind
-    kind_is = known_kind forms columns (length forms) k d (record { kind = d.kind; name = [] }) (ap (map (λ f. f.kind)) (take_all (length forms) forms (omega arith)) ∙ next.kinds_are) within (omega arith) (omega (arith, few, within))
+    kind_is = known_kind _ _ _ k d _ (ap (map (λ f. f.kind)) (take_all (length forms) forms (omega arith)) ∙ next.kinds_are) within (omega arith) (omega (arith, few, within))
 
     -- the cell after this many
     next_cell : (charset : Charset) (all : List Column) (column : ℕ) (bytes text : List ℕ) → columns ≡ drop column all → WritesKind charset (get_or forms k d).kind (column + k) (ends && (k + 1 == length forms)) bytes text → WritesColumn charset all (λ k. false) (column + k) bytes text
@@ -35,7 +35,7 @@ module _ (forms : List Form) (ends : Bool) (columns : List Column) (next : AreNe
       column = next_column;
       left = drop (k + 1) columns;
       next = ap (λ (n : ℕ). drop n all) (omega arith) ∙ sym (drop-drop k column all) ∙ ap (drop k) (sym is) ∙ step;
-      writes = rw (kind_is, last_of k next_column (drop (k + 1) columns) within step) at x.whole;
+      writes = rw (kind_is, last_of k _ _ within step) at x.whole;
     }
 
 -- some forms have a first
@@ -53,7 +53,7 @@ module _ (charset : Charset) (forms : List Form) (column : ℕ) (ends : Bool) (c
       → WritesMarked charset columns (λ k. false) column (suc n) bytes (text ++ end_after (closes m))
   one_more d n bytes text is few x w =
       let last = closes (n + 1) in
-      rw is (x.0, x.1, x.2, in_line (column + n) last x.3, x.4, ap (λ l. l ++ end_after last) x.5 ∙ append_assoc x.2 _ _, w, next_cell forms ends (drop column columns) next n d (omega arith) charset columns column x.1 _ refl (x.7 d (column + n) last))
+      rw is (x.0, x.1, x.2, in_line (column + n) last x.3, x.4, ap (λ l. l ++ end_after last) x.5 ∙ append_assoc x.2 _ _, w, next_cell _ _ _ next n d (omega arith) _ _ _ _ _ refl (x.7 d (column + n) last))
 
   not_closed : (n : ℕ) → n < length forms → closes n ≡ false
   not_closed n few = grind (arith, nat_tests)
@@ -61,7 +61,7 @@ module _ (charset : Charset) (forms : List Form) (column : ℕ) (ends : Bool) (c
   -- the fields of cells before the last are their text
   earlier : (d : Form) (n : ℕ) (bytes text : List ℕ) → n < length forms → WritesForms charset forms column n bytes text → WritesMarked charset columns (λ k. false) column n bytes text
   earlier d zero bytes text few x = x
-  earlier d (suc n) bytes text few x = rw (not_closed (suc n) few, append-nil) at (one_more {m = suc n} d n bytes text (omega arith) (omega arith) x (earlier d n x.0 x.2 (omega arith) x.6))
+  earlier d (suc n) bytes text few x = rw (not_closed _ few, append-nil) at (one_more {m = suc n} d n _ _ (omega arith) (omega arith) x (earlier d n _ _ (omega arith) x.6))
 
   -- the fields of some cells are the text of a run over them
   pub run_marked : (cells : ℕ) (bytes fields : List ℕ) → 0 < cells → cells ≤ length forms → WritesForms charset forms column cells bytes fields → WritesMarked charset columns (λ k. false) column cells bytes (fields ++ end_after (closes cells))

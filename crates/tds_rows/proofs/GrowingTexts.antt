@@ -42,8 +42,8 @@ OptionGrows (Some a) (Some b) = Grows a b
 
 -- more of the field that is read
 with_field_grows : (cells : List Cell) (a b : Option (List ℕ)) → OptionGrows a b → Grows (joined (with_field cells a)) (joined (with_field cells b))
-with_field_grows cells None None h = grows_same (joined (map field cells))
-with_field_grows cells None (Some b) h = joined_more (map field cells) (b ∷ [])
+with_field_grows cells None None h = grows_same _
+with_field_grows cells None (Some b) h = joined_more (map field cells) _
 with_field_grows cells (Some a) None h = absurd h
 with_field_grows cells (Some a) (Some b) h = joined_last (map field cells) a b h
 

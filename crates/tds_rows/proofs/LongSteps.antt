@@ -124,7 +124,7 @@ module _ {column : ℕ} {c : Conversion} {state : ℕ → List ℕ → CellPart}
     -- a write of the text of a piece failed, whose bytes lead to a state
     broken : (good ahead added : List ℕ) (to : CellPart) → Spelt (cell column) (state (suc r) d) good to → Takes a b (good ++ ahead) 1 → IsBetween b → cell_so_far column last (state (suc r) d) ++ added ≡ cell_so_far column last to → Breaks h i added stop → Stopped true
     broken good ahead added to spelt takes between text_is breaks =
-        let x = breaks_somewhere _ _ (line_grows column last) _ a b h i stop between to good ahead added spelt takes few delivered text_is breaks in
+        let x = breaks_somewhere _ _ (line_grows column last) _ a b h i _ between to _ _ _ spelt takes few delivered text_is breaks in
         record { at = x.0; cause = inr (x.1, refl) }
 
     piece_broken_at : (ahead p : List ℕ) (x : ℕ) → length (p ++ x ∷ []) ≡ suc r → Takes a b ((p ++ x ∷ []) ++ ahead) 1 → IsBetween b → BeginsData c (d ++ (p ++ x ∷ [])) → Breaks h i (added_text c d (p ++ x ∷ [])) stop → Stopped true
@@ -202,7 +202,7 @@ module _ {column : ℕ} {c : Conversion} {state : ℕ → List ℕ → CellPart}
         → StopsField (state m d) column last p.seen q.seen p.place p.held j true stop
     ends_break tail good whole breaks =
         let taken = rw (sym (append-nil x.takes.piece)) at x.takes.takes in
-        path_stops front_path (broken _ _ _ q.seen x.there _ _ _ x.fills.few x.fills.delivered _ [] _ _ (last_spelt good) taken x.takes.between (text_closed _ _ tail _ x.takes.begun whole) (Breaks-after _ q.held _ _ _ _ x.takes.puts breaks))
+        path_stops front_path (broken _ _ _ _ _ _ _ _ x.fills.few x.fills.delivered _ [] _ _ (last_spelt good) taken x.takes.between (text_closed _ _ _ _ x.takes.begun whole) (Breaks-after _ _ _ _ _ _ x.takes.puts breaks))
 
     -- where the content isn't whole, its last byte is refused
     pub ends_refused : ((e : List ℕ) (y : ℕ) → is_fit c (e ++ y ∷ []) ≡ false → cell_fault column (state 1 e) (y ∷ []) ≡ Some (BadText column)) → is_fit c all_content ≡ false

@@ -144,7 +144,7 @@ module _ {column : ℕ} {last : Bool} {c : Conversion} {total : Option ℕ} {kep
   pub chunk_path : n ≢ 0 → q.held.delivered ≤ 2 ^ 64 - 1 → Path (cell column) (cell_so_far column last) (ChunkLength c total []) p (record { seen = d; place = there; held = q.held }) (chunk_left c total n x.content)
   chunk_path some delivered =
       let text : cell_so_far column last (ChunkLength c total _) ++ [] ≡ cell_so_far column last _ = grind (arith, append-nil) in
-      path_both x.path (next_path last (chunk_start c unit_is x.counted y free some) [] text (Puts-none q.held delivered))
+      path_both x.path (next_path _ (chunk_start c unit_is x.counted y free some) _ text (Puts-none _ delivered))
 
   -- one chunk more was read
   pub streamed_more : {kept' : List ℕ} {r : At} → n ≢ 0 → q.held.delivered ≤ 2 ^ 64 - 1 → r.held.delivered ≤ 2 ^ 64 - 1 → EndsData c x.content kept' d r.seen there r.place q.held r.held n → Streamed column last c total kept' (sum + n) p r

@@ -13,7 +13,7 @@ rows_first d = record { before = []; counted = refl; path = path_none d }
 module _ {token : RowToken} {charset : Charset} {all : List Column} {p q : At} {count : ℕ} where
   -- more of the next one
   rows_on : {part more : RowPart} {r : At} → RowsAt token charset all p q count part → Path (row charset) row_so_far part q r more → RowsAt token charset all p r count more
-  rows_on x y = record { before = x.before; counted = x.counted; path = path_both x.path (path_map (λ a m. row_among token charset all x.before) y) }
+  rows_on x y = record { before = x.before; counted = x.counted; path = path_both x.path (path_map (λ a m. row_among _ _ _ _) y) }
 
   -- it stopped
   pub rows_stop : {part : RowPart} {d : Seen} {j : Held} {failed : Bool} {stop : Stop} → RowsAt token charset all p q count part → RowStops charset part q.seen d q.place q.held j failed stop → RowsStop token charset all p.seen d p.place p.held j failed stop
@@ -73,12 +73,12 @@ module _ {charset : Charset} {all : List Column} {p q : At} {column count : ℕ}
     -- a cell
     pub rowing_cell : {r : At} → nulls_ahead (column + 1) ks ≡ [] → Rowing charset all ((c, false) ∷ ks) p q column count → PutsAt charset c.kind column (ends ks) q r → Rowing charset all ks p r (column + 1) count
     rowing_cell none x y =
-        let one = cell_path charset c x.cells x.counted none y in
+        let one = cell_path _ c _ x.counted none y in
         record { cells = x.cells ++ one.0 ∷ []; counted = omega (arith, length-append x.cells (one.0 ∷ [])); rows = rows_on x.rows one.1 }
 
     -- a cell that stopped
     pub rowing_stop : {d : Seen} {j : Held} {failed : Bool} {stop : Stop} → Rowing charset all ((c, false) ∷ ks) p q column count → StopsAt charset c.kind column (ends ks) q d j failed stop → RowsStop PlainRow charset all p.seen d p.place p.held j failed stop
-    rowing_stop x y = rows_stop x.rows (marked_stops charset x.cells ks c (rw (sym x.counted) at y))
+    rowing_stop x y = rows_stop x.rows (marked_stops _ _ _ c (rw (sym x.counted) at y))
 
 -- The reading of ROWs stands at this place of the last one.
 abbrev pub RowsHere : {R W : Type 0} → (R → Option (List ℕ)) → (W → Option (List ℕ)) → List Column → At → Rows R W → Ahead → ℕ → Type 0

@@ -1,5 +1,5 @@
 -- The next cells of a row, NULL or not: those of a run, and the one after it.
-use Rattle.tds_rows.proofs.{Words.{common_steps, arith, ◌≡◌, ◌+◌, ℕ, Bool, true, false, List, ◌∷◌, drop, refl, sym, Err, Ok, Result, Option, ◌==◌, Kind, Stop, seen, between_of, Column, held, Rows, Ahead, is_last_column, MarkedPut, CellRead, IsInRow, KindRead, LeavesRows, NextRead, StaysInRow, RowStops, RowPart, marked, IsAhead, IsNextKind, Knows, TakesColumn, ◌∙◌, zero, suc, ◌-◌, ◌^◌, ◌≤◌, ◌<◌, [], ◌++◌, length, ap, subst, append_assoc, append-nil, add-zero, length-append, Consumes-nil, Coming, before, IsBetween, Seen, Takes, Takes-more, Stays-none, takes_both, Held, Puts, nears_put, Puts_split, Charset, Table, PutsMarked, WritesColumn, WritesMarked, WritesNext, next_cell, row, row_so_far}, NullSteps.{NearsCells, all_put, cell_nears, cell_stops, null_breaks, null_nears}, RowSteps.{ends, ends_marked, nulls_ahead}, Paths.{At, here}, TableSteps.{last_one, next_column}, RunSteps.whole_puts}
+use Rattle.tds_rows.proofs.{Words.{common_steps, arith, ◌≡◌, ◌+◌, ℕ, Bool, true, false, List, ◌∷◌, drop, refl, sym, Err, Ok, Result, Option, ◌==◌, Kind, Stop, seen, between_of, Column, held, Rows, Ahead, is_last_column, MarkedPut, CellRead, IsInRow, KindRead, LeavesRows, NextRead, StaysInRow, RowStops, RowPart, marked, IsAhead, IsNextKind, Knows, TakesColumn, ◌∙◌, zero, suc, ◌-◌, ◌^◌, ◌≤◌, ◌<◌, [], ◌++◌, length, ap, subst, append_assoc, append-nil, add-zero, length-append, Consumes-nil, Coming, before, IsBetween, Seen, Takes, Takes-more, Stays-none, takes_both, Held, Puts, nears_put, Puts_split, Charset, Table, PutsMarked, WritesColumn, WritesMarked, WritesNext}, NullSteps.{NearsCells, all_put, cell_nears, cell_stops, null_breaks, null_nears}, RowSteps.{ends, ends_marked}, Paths.{At, here}, TableSteps.{last_one, next_column}, RunSteps.whole_puts}
 
 -- text that doesn't fill the block waits
 pub all_waits : (h j : Held) (text : List ℕ) → Puts h j text → length h.waiting + length text < 4096 → length j.waiting ≡ length h.waiting + length text
@@ -21,7 +21,7 @@ passes_apart : (p q : At) (a b m n : List ℕ) → Passes p q (a ++ b) (m ++ n) 
 passes_apart p q a b m n x =
     let seen : Seen = record { left = q.seen.left; future = λ zs. before b _; wire = q.seen.wire; failures = q.seen.failures } in
     let f : Coming → List ℕ → Coming = λ c l. record { bytes = l; stop = c.stop; rest = c.rest } in
-    let h = Puts_split p.held q.held m n x.few x.puts in
+    let h = Puts_split _ _ m n x.few x.puts in
     let first : Takes p.seen seen a 0 = (x.takes.0, (x.takes.1.0, λ zs. x.takes.1.1 zs ∙ ap (f (q.seen.future zs)) (append_assoc a b (q.seen.future zs).bytes)), x.takes.2, x.takes.3, x.takes.4) in
     let then : Takes seen q.seen b 0 = ([], (Consumes-nil _, λ zs. refl), sym (add-zero _), (λ j lt. absurd (omega arith)), Stays-none _) in (
       record { seen = seen; place = p.place + length a; held = h.0 },
@@ -41,7 +41,7 @@ module _ {charset : Charset} {start : RowPart} {left : List (Column × Bool)} {p
   -- nothing more was put
   nears_same : {j : Held} → Puts q.held j [] → NearsCells charset start left p q column → NearsCells charset start left p (record q { held = j }) column
   nears_same puts x =
-      let n = nears_put (row charset) row_so_far start p.seen q.seen p.held q.held _ (next_cell charset x.cells left) [] (nulls_ahead column left) x.nears puts in
+      let n = nears_put _ _ _ _ _ _ _ _ _ _ _ x.nears puts in
       record { cells = x.cells; counted = x.counted; nears = n; place_is = x.place_is }
 
 -- ---- a row, run after run
@@ -69,8 +69,8 @@ module _ (charset : Charset) (start : RowPart) (columns : List Column) (nulls : 
   marked_nears from zero q r bytes text w y x = let y' = rw (w.0, w.1) at y in
       rw (add-zero from) (nears_same y'.puts (nears_onward y' x))
   marked_nears from (suc n) q r bytes text w y x =
-      let t = passes_apart q r w.0 w.1 w.2 w.3 (rw (w.4, w.5) at y) in
-      let z : Near ((from + n) + 1) r = column_nears (from + n) t.0 r w.1 w.3 w.7 t.2 (marked_nears from n q t.0 w.0 w.2 w.6 t.1 x) in
+      let t = passes_apart q r _ _ _ _ (rw (w.4, w.5) at y) in
+      let z : Near ((from + n) + 1) r = column_nears _ _ r _ _ w.7 t.2 (marked_nears _ n q _ _ _ w.6 t.1 x) in
       subst (λ (k : ℕ). Near k r) (omega arith) z
 
 -- as many columns more as a run took
@@ -144,5 +144,5 @@ module _ {R W : Type 0} (remaining : R → Option (List ℕ)) (contents : W → 
     -- it stopped
     pub next_stops : (U : Type 0) (stop : Stop) (null : Bool) → nulls at.column ≡ null → NextRead {U = U} remaining contents at kind null old new (Err stop)
         → RowStops old.table.now.charset start p.seen (seen remaining new.payload.now) p.place p.held (held contents new.sink.now) new.sink.now.failed stop
-    next_stops U stop true is y = rw (y.0, y.1.failed) (null_breaks (left_here true is) (rw last_is at (y.1.gives in_row.sink.writing)))
-    next_stops U stop false is y = cell_stops (all_put refl in_row.sink.ready.2 (left_here false is)) (cell_read {U = U} (Err stop) before.0 y)
+    next_stops U stop true is y = rw (y.0, y.1.failed) (null_breaks (left_here _ is) (rw last_is at (y.1.gives in_row.sink.writing)))
+    next_stops U stop false is y = cell_stops (all_put refl in_row.sink.ready.2 (left_here _ is)) (cell_read {U = U} (Err stop) before.0 y)

@@ -96,21 +96,21 @@ bitmap_nears {p = p} columns bitmap some whole takes between few d at =
     record {
       cells = [];
       counted = refl;
-      nears = nears_from _ _ _ _ p.seen p.seen _ p.held p.held bitmap _ (streams_of (path_none {p = p} d)) next takes between few d (all_ahead _ columns _ some);
+      nears = nears_from _ _ _ _ _ _ _ _ _ _ _ (streams_of (path_none {p = p} d)) next takes between few d (all_ahead _ _ _ some);
       place_is = at;
     }
 
 -- the payload stopped in the bitmap
 pub bitmap_cut : {columns : List Column} {a b : Seen} {place : ℕ} {h : Held} {stop : Stop} (charset : Charset) (part : List ℕ) (own : Stop) → length part < bitmap_length (length columns) → Ends a b part own → stop ≡ began_at place own → h.delivered ≤ 2 ^ 64 - 1
     → RowStops charset (nbc_row_start columns) a b place h h false stop
-bitmap_cut charset part own fewer ended is d = record { at = Bitmap _; cause = inl (cut_at_once _ (Bitmap _) _ _ _ part own _ fewer ended (began_is_cut _ _ own _ refl is), ([], refl, Puts-none _ d), refl) }
+bitmap_cut charset part own fewer ended is d = record { at = Bitmap _; cause = inl (cut_at_once _ _ _ _ _ _ _ _ fewer ended (began_is_cut _ _ _ _ refl is), ([], refl, Puts-none _ d), refl) }
 
 -- a cell was read and its text put, in its row, and no NULL by its bit is after it
 pub cell_path : {ks : List (Column × Bool)} {column : ℕ} {p q : At} (charset : Charset) (c : Column) (cells : List Cell) → length cells ≡ column → nulls_ahead (column + 1) ks ≡ [] → PutsAt charset c.kind column (ends ks) p q
     → (v : Cell) × Path (row charset) row_so_far (next_cell charset cells ((c, false) ∷ ks)) p q (next_cell charset (cells ++ v ∷ []) ks)
 cell_path charset c cells counted none y =
     let z = rw (sym counted) at y in
-    (z.value, path_map (λ a m. row_cell charset cells _ c (rw counted none)) (path_of z.streams z.place_is))
+    (z.value, path_map (λ a m. row_cell _ _ _ c (rw counted none)) (path_of z.streams z.place_is))
 
 further : (a b e l : List ℕ) (m n k : ℕ) → b ++ e ≡ l → n ≡ m + length a → k ≡ n + length l → k ≡ m + length ((a ++ b) ++ e)
 further a b e l m n k joined first second = grind (arith, common_steps, length-append)
@@ -121,25 +121,25 @@ module _ {charset : Charset} {start : RowPart} {c : Column} {ks : List (Column �
   null_nears x puts = record {
     cells = x.cells ++ Null ∷ [];
     counted = omega (arith, length-append x.cells (Null ∷ []));
-    nears = nears_put _ _ start p.seen q.seen p.held q.held _ (next_cell charset _ ks) _ _ x.nears puts;
+    nears = nears_put _ _ _ _ _ _ _ _ _ _ _ x.nears puts;
     place_is = x.place_is;
   }
 
   -- a write of it failed
   pub null_breaks : {j : Held} {stop : Stop} → NearsCells charset start ((c, true) ∷ ks) p q column → Breaks q.held j (in_line column (ends ks) null_field) stop → RowStops charset start p.seen q.seen p.place p.held j true stop
   null_breaks x breaks =
-      let broken = nears_breaks _ _ _ p.seen q.seen p.held q.held _ _ _ _ _ _ x.nears refl breaks in
+      let broken = nears_breaks _ _ _ _ _ _ _ _ _ _ _ _ _ x.nears refl breaks in
       record { at = broken.0; cause = inr (broken.1, refl) }
 
   -- a cell was read and its text put, and no NULL by its bit is after it
   pub cell_reads : {r : At} → nulls_ahead (column + 1) ks ≡ [] → Reads charset start ((c, false) ∷ ks) p q column → PutsAt charset c.kind column (ends ks) q r → Reads charset start ks p r (column + 1)
   cell_reads none x y =
-      let one = cell_path charset c x.cells x.counted none y in
+      let one = cell_path _ c _ x.counted none y in
       record { cells = x.cells ++ one.0 ∷ []; counted = omega (arith, length-append x.cells (one.0 ∷ [])); path = path_both x.path one.1 }
 
   -- it stopped the row
   pub cell_stops : {d : Seen} {j : Held} {failed : Bool} {stop : Stop} → Reads charset start ((c, false) ∷ ks) p q column → StopsAt charset c.kind column (ends ks) q d j failed stop → RowStops charset start p.seen d p.place p.held j failed stop
-  cell_stops x y = path_stops x.path (marked_stops charset x.cells ks c (rw (sym x.counted) at y))
+  cell_stops x y = path_stops x.path (marked_stops _ _ _ c (rw (sym x.counted) at y))
 
   -- a cell was read and its text put, and NULLs may be after it
   pub cell_nears : {r : At} → IsBetween r.seen → length r.held.waiting < 4096 → Reads charset start ((c, false) ∷ ks) p q column → PutsAt charset c.kind column (ends ks) q r → NearsCells charset start ks p r (column + 1)

@@ -5,13 +5,13 @@ use Rattle.tds_rows.proofs.{Words.{HexDigits, Utf16Text, Windows1252Text, ◌≢
 
 -- no element was read
 step_none : {s : CellPart} {a : Seen} {place : ℕ} → IsBetween a → StepsOver s s a a place place
-step_none between = record { reads = reads_none return_cell _ _; between = between; place_is = sym (add_none _) }
+step_none between = record { reads = reads_none _ _ _; between = between; place_is = sym (add_none _) }
 
 steps_both : {s t u : CellPart} {a b d : Seen} {place middle place' : ℕ} → StepsOver s t a b place middle → StepsOver t u b d middle place' → StepsOver s u a d place place'
 steps_both x y = record { reads = reads_both _ _ _ _ _ _ _ x.reads y.reads; between = y.between; place_is = omega (arith, length-append x.reads.bytes y.reads.bytes) }
 
 pub stops_after_steps : {s t : CellPart} {a b d : Seen} {place middle : ℕ} {stop : Stop} → StepsOver s t a b place middle → StopsPassing t b d middle stop → StopsPassing s a d place stop
-stops_after_steps x y = record { at = y.at; stops = stops_after return_cell _ _ _ _ _ _ y.at _ x.reads (rw x.place_is at y.stops) }
+stops_after_steps x y = record { at = y.at; stops = stops_after _ _ _ _ _ _ _ _ _ x.reads (rw x.place_is at y.stops) }
 
 -- ---- data, byte by byte
 
@@ -81,7 +81,7 @@ pub passes_more : {m n k : ℕ} {a b d : Seen} {place middle place' : ℕ} → k
 passes_more {m = m} {n = n} {a = a} {b = b} {d = d} sum x y = record {
   bytes = x.bytes ++ y.bytes;
   counted = omega (arith, length-append x.bytes y.bytes);
-  takes = subst (λ j. Takes a d (x.bytes ++ y.bytes) j) (omega arith) (Takes-trans a b d x.bytes y.bytes m n (omega arith) x.takes y.takes);
+  takes = subst (λ j. Takes a d (x.bytes ++ y.bytes) j) (omega arith) (Takes-trans a b d _ _ m n (omega arith) x.takes y.takes);
   between = y.between;
   place_is = omega arith;
 }
@@ -92,7 +92,7 @@ cuts_more {m = m} {a = a} {b = b} {d = d} sum x y = record {
   bytes = x.bytes ++ y.bytes;
   own = y.own;
   fewer = omega (arith, length-append x.bytes y.bytes);
-  ends = Ends-after a b d x.bytes y.bytes m y.own x.takes y.ends;
+  ends = Ends-after a b d _ _ m _ x.takes y.ends;
   stop_is = y.stop_is ∙ ap (λ j. began_at j y.own) (omega (arith, length-append x.bytes y.bytes));
 }
 
@@ -100,7 +100,7 @@ cuts_more {m = m} {a = a} {b = b} {d = d} sum x y = record {
 pub scalar_passes : {kind : Kind} {a b : Seen} {place place' : ℕ} {bytes : List ℕ} (charset : Charset) → is_scalar kind ≡ true → GathersCell kind (cell_start kind (shape charset kind)) return_column a b place place' bytes → IsGoodValue kind bytes
     → PassesCell (cell_start kind (shape charset kind)) a b place place'
 scalar_passes {kind = kind} {bytes = bytes} charset scalar x good =
-    let v = scalar_whole charset kind bytes scalar x.whole good in
+    let v = scalar_whole _ _ _ scalar x.whole good in
     record { value = v.0; steps = record { reads = record { bytes = bytes; spelt = v.1; takes = x.takes }; between = x.between; place_is = x.place_is } }
 
 -- ---- short values
@@ -150,7 +150,7 @@ module _ {c : Conversion} {total : Option ℕ} {sum : ℕ} {a b d : Seen} {place
 
 -- an element was read that leads on
 pub steps_of : {s t : CellPart} {a b : Seen} {place place' : ℕ} → Next return_column s a b place place' t → StepsOver s t a b place place'
-steps_of x = record { reads = reads_one return_cell _ _ _ x.element _ x.next x.takes x.to; between = x.between; place_is = x.place_is }
+steps_of x = record { reads = reads_one _ _ _ _ _ _ x.next x.takes x.to; between = x.between; place_is = x.place_is }
 
 module _ {c : Conversion} {size : ℕ} (any : AnyData c size) where
   -- a short value has whole units

@@ -30,7 +30,7 @@ module _ (charset : Charset) (columns : List Column) where
       let last = x.7 in
       let writes = subst (λ e. WritesNext charset e last.column.kind (from + n) (is_last_column last.left) x.1 x.3) (sym (clear (from + n) (omega arith) (omega arith))) last.writes in
       let one : WritesColumn charset columns nulls (from + n) x.1 x.3 = record { column = last.column; left = last.left; next = last.next; writes = writes } in
-      (x.0, x.1, x.2, x.3, x.4, x.5, marked_clear nulls from n x.0 x.2 (λ k least most. clear k least (omega arith)) x.6, one)
+      (x.0, x.1, x.2, x.3, x.4, x.5, marked_clear _ _ n _ _ (λ k least most. clear k least (omega arith)) x.6, one)
 
 module _ {table : Table} {columns : List Column} {nulls : ℕ → Bool} {at : Ahead} where
   -- one cell

@@ -21,7 +21,7 @@ module _ {S : Type 0} (g : Grammar S Fault) (from to : S) (a b : Seen) (front mo
       let e = x.element in
       let some = x.some in
       let whole = x.whole in
-      let c = came _ ((bytes ++ e) ++ x.ahead) x.takes.1.0 (λ zs. ap (λ c. c.bytes) (x.takes.1.1 zs)) in
+      let c = came _ _ x.takes.1.0 (λ zs. ap (λ c. c.bytes) (x.takes.1.1 zs)) in
       let rest = e ++ (x.ahead ++ c.0) in
       let all = c.1 ∙ append_assoc (bytes ++ e) x.ahead c.0 ∙ append_assoc bytes e _ in
       let refused : IsRefused g at rest fault = record {
@@ -29,22 +29,22 @@ module _ {S : Type 0} (g : Grammar S Fault) (from to : S) (a b : Seen) (front mo
         whole = omega (arith, length-append e (x.ahead ++ c.0));
         first = ap (λ k. g.fault at (take k rest)) (sym whole) ∙ ap (g.fault at) (take-append_seam e _) ∙ x.first;
       } in
-      (one_longest g from (front ++ more) _ _ at to (rw (← all) at (longest_refused g from bytes rest at fault spelt refused)) last).1
+      (one_longest g _ _ _ _ _ _ (rw (← all) at (longest_refused g _ _ _ _ _ spelt refused)) last).1
 
   cut_there : (at : S) (bytes : List ℕ) (place : ℕ) (stop : Stop) → Spelt g from bytes at → CutsNext g a b bytes place at stop → at ≡ to
-  cut_there at bytes place stop spelt x = (one_longest g from (front ++ more) _ _ at to (rw (← ends x.ends) at (longest_cut g from bytes x.part at spelt x.cut)) last).1
+  cut_there at bytes place stop spelt x = (one_longest g _ _ _ _ _ _ (rw (← ends x.ends) at (longest_cut g _ _ _ _ spelt x.cut)) last).1
     where
       ends : Ends a b (bytes ++ x.part) x.own → front ++ more ≡ bytes ++ x.part
       ends y = grind (arith, append-nil)
 
   -- a reading that stops does so at the end of what comes
   stopped_there : (place : ℕ) (at : S) (stop : Stop) → StopsReading g from a b place at stop → at ≡ to
-  stopped_there place at stop x = elim x.cause [ inl y ↦ refused_there at x.bytes stop.fault x.spelt y.0 | inr y ↦ cut_there at x.bytes place stop x.spelt y ]
+  stopped_there place at stop x = elim x.cause [ inl y ↦ refused_there _ _ _ x.spelt y.0 | inr y ↦ cut_there _ _ _ _ x.spelt y ]
 
 -- a state at which nothing follows is the end of what comes
 longest_end : {S : Type 0} (g : Grammar S Fault) (from to : S) (front more : List ℕ) → Spelt g from front to → g.size to ≡ 0 → Longest g from (front ++ more) (length front) to
-longest_end g from to front more spelt none = longest_at g from front more to spelt (λ d other some within k.
-    let e = no_further g from front to _ other spelt (λ i a b. omega arith) k in
+longest_end g from to front more spelt none = longest_at g _ _ _ _ spelt (λ d other some within k.
+    let e = no_further g _ _ _ _ _ spelt (λ i a b. omega arith) k in
     omega (arith, ap length e, length-take-le d more within))
 
 -- a call that reads whole elements to a state at which nothing follows doesn't stop in reading
@@ -59,7 +59,7 @@ none_stops_reading {stop = stop} g from to front more brings spelt none reads x 
 pub none_stops : {S : Type 0} {a b : Seen} {place : ℕ} {h i : Held} {failed : Bool} {stop : Stop} (g : Grammar S Fault) (text : S → List ℕ) (from to : S) (front more : List ℕ) → Brings a (front ++ more) → Spelt g from front to → g.size to ≡ 0
     → (Rose a.failures b.failures → ⊥) → (Rose h.failures i.failures → ⊥) → StopsStreaming g text from a b place h i failed stop → ⊥
 none_stops g text from to front more brings spelt none reads writes x = elim x.cause [
-  | inl y ↦ none_stops_reading g from to front more brings spelt none reads y.0
+  | inl y ↦ none_stops_reading g _ _ _ _ brings spelt none reads y.0
   | inr y ↦
       (let z = y.0 in
       writes (subst (Rose _) (sym (z.breaks.9 ∙ ap one_more z.puts.2.4)) (rose _)))
@@ -77,8 +77,8 @@ pub value_passes : {R U : Type 0} (remaining : R → Option (List ℕ)) (kind : 
     → CellPassed remaining (cell_start kind (shape return_charset kind)) old new result → SpellsCell kind (shape return_charset kind) value bytes → ReadsOn remaining old new result (bytes ++ more)
 value_passes remaining kind old new (Ok x) value bytes more passed spelt = λ brings reads. refl
 value_passes remaining kind old new (Err stop) value bytes more passed spelt = λ brings reads.
-    let read = cell_is_read _ kind _ value bytes (shape-HasBytes return_charset kind) spelt in
-    absurd (none_stops_reading _ _ _ bytes more brings read refl reads passed.stops)
+    let read = cell_is_read _ _ _ _ _ (shape-HasBytes return_charset _) spelt in
+    absurd (none_stops_reading _ _ _ _ _ brings read refl reads passed.stops)
 
 pub long_is_read : (column : ℕ) (kind : Kind) (c : Conversion) (reach : Reach) (value : Cell) (bytes : List ℕ) → SpellsCell kind (LongShape c reach) value bytes → Spelt (cell column) (long_start c reach) bytes (WholeCell value)
 long_is_read column kind c Short value bytes h = cell_is_read column kind (LongShape c Short) value bytes tt h
@@ -114,8 +114,8 @@ module _ (token : RowToken) (charset : Charset) (columns : List Column) (some_co
   -- where no row follows, the last one is the end
   longest_rows : (from : RowsPart) (earlier : List (List Cell)) (last : List Cell) (front more : List ℕ) → Spelt all_rows from front (among earlier (WholeRow last)) → BeginNoRow token more
       → Longest all_rows from (front ++ more) (length front) (among earlier (WholeRow last))
-  longest_rows from earlier last front [] spelt none = longest_cut all_rows from front [] _ spelt (omega arith)
-  longest_rows from earlier last front (byte ∷ more) spelt none = longest_refused all_rows from front (byte ∷ more) _ _ spelt
+  longest_rows from earlier last front [] spelt none = longest_cut _ _ _ _ _ spelt (omega arith)
+  longest_rows from earlier last front (byte ∷ more) spelt none = longest_refused _ _ _ _ _ _ spelt
       (record { some = omega arith; whole = omega arith; first = ap (λ b. if b then None else Some (RefusedToken byte)) none })
 
   rows_stop_not : {a b : Seen} {place : ℕ} {h i : Held} {failed : Bool} {stop : Stop} (first : List Cell) (later : List (List Cell)) (front more : List ℕ) → Brings a (front ++ more) → SpellsRows token charset columns first later front → BeginNoRow token more

@@ -43,6 +43,6 @@ module _ (table : Table) (from : Ahead) (end : ℕ) (forms : List Form) (within 
   pub first_left : (bytes : List ℕ) (room : ℕ) → FirstLeft table.charset forms bytes room → (columns : List Column) (column : Column) (left : List Column) → Knows table columns → IsAhead table columns from → drop from.column columns ≡ column ∷ left
       → (room < CELL_ROOM) ⊎ ((false ≡ false) × IsLeft table.charset column.kind bytes room)
   first_left bytes room x columns column left knows is step =
-      let first = some_first forms ahead.some in
-      let n = first_next first.0 first.1 first.2 columns knows is in
+      let first = some_first _ ahead.some in
+      let n = first_next _ _ first.2 columns knows is in
       elim (x first.0 first.1 first.2) [ inl few ↦ inl few | inr y ↦ inr (refl, rw (n.kind ∙ ap (λ r. (get_or r 0 column).kind) (sym n.next ∙ step)) at y) ]
