@@ -21,7 +21,7 @@ module _ (charset : Charset) (cells : List Cell) (ks : List (Column × Bool)) wh
 
   -- a write of the cell's text failed, and so one of the row's
   breaks_there : {from at : CellPart} {b d : Seen} {i j : Held} {stop : Stop} → 0 < cell_size from → BreaksStreaming small text from b d i j at stop → BreaksStreaming big row_so_far (up from) b d i j (up at) stop
-  breaks_there {from = from} {at = at} {j = j} {stop = stop} some x =
+  breaks_there {at = at} {j = j} {stop = stop} some x =
       let is = cell_in_row charset cells ks in
       let begun = begun_text charset cells ks in
       let grows = line_grows _ (ends ks) in
@@ -32,28 +32,28 @@ module _ (charset : Charset) (cells : List Cell) (ks : List (Column × Bool)) wh
         bytes = x.bytes;
         element = x.element;
         ahead = x.ahead;
-        spelt = Inside-Spelt small big up is from x.bytes at x.spelt;
-        next = next_inside small big up is at x.element size x.next;
+        spelt = Inside-Spelt _ _ up is _ _ _ x.spelt;
+        next = next_inside _ _ up is _ _ size x.next;
         takes = x.takes;
         between = x.between;
         middle = x.middle;
         few = x.few;
-        puts = (x.puts.0, added_between small big up is text row_so_far front begun grows from at x.puts.0 some size x.puts.1, x.puts.2);
+        puts = (x.puts.0, added_between _ _ up is text row_so_far front begun grows _ _ _ some size x.puts.1, x.puts.2);
         more = x.more ++ rest;
-        text_is = tail_after small big up is text row_so_far front begun grows at to x.more rest size x.text_is (part_text charset cells ks to) ∙ ap row_so_far (sym (is.add at x.element size));
+        text_is = tail_after _ _ up is text row_so_far front begun grows at to _ rest size x.text_is (part_text charset cells ks to) ∙ ap row_so_far (sym (is.add at x.element size));
         breaks = Breaks-longer x.middle j x.more rest stop x.breaks;
       }
 
   -- the cell stopped, and so the row
   stops_there : {from : CellPart} {b d : Seen} {place : ℕ} {i j : Held} {failed : Bool} {stop : Stop} → 0 < cell_size from → StopsStreaming small text from b d place i j failed stop → StopsStreaming big row_so_far (up from) b d place i j failed stop
-  stops_there {from = from} {b = b} {d = d} {place = place} {stop = stop} some x =
+  stops_there some x =
       let is = cell_in_row charset cells ks in
       record {
         at = up x.at;
         cause = elim x.cause [
           | inl y ↦ inl (
-            stops_inside small big up is from b d place x.at stop ((same_end charset cells ks) x.at (stops_size small from b d place x.at stop y.0)) y.0,
-            (y.1.0, added_between small big up is text row_so_far front (begun_text charset cells ks) (line_grows (length cells) (ends ks)) from x.at y.1.0 some (stops_size small from b d place x.at stop y.0) y.1.1, y.1.2),
+            stops_inside _ _ up is _ _ _ _ _ _ (same_end charset cells ks x.at (stops_size _ _ _ _ _ _ _ y.0)) y.0,
+            (y.1.0, added_between _ _ up is text row_so_far front (begun_text charset cells ks) (line_grows _ (ends ks)) _ _ _ some (stops_size _ _ _ _ _ _ _ y.0) y.1.1, y.1.2),
             y.2,
           )
           | inr y ↦ inr (breaks_there some y.0, y.1)

@@ -1,4 +1,4 @@
-use Rattle.tds_rows.proofs.{Words.{NbcRow, ◌∙◌, refl, sym, ap, arith, rules, passed}, NextRows.{rows_first, rows_row, rows_stop, rows_token}, NextSteps.{stays, stays_after, stays_on}}
+use Rattle.tds_rows.proofs.{Words.{NbcRow, ◌∙◌, refl, sym, ap, arith, rules, passed}, NextSteps.{rows_first, rows_row, rows_stop, rows_token, stays, stays_after, stays_on}}
 use Rattle.tds_rows.proofs.reading.Rows.nbc_rows.Goals as goal
 
 pub loop-ended-init : goal.loop-ended-init

@@ -1,4 +1,4 @@
-use Rattle.tds_rows.proofs.{Words.{◌∙◌, ◌+◌, ◌<◌, [], Err, List, Ok, drop, false, refl, sym, ap, arith, passed, Column, PlainRow, Knows}, reading.Rows.rows.Given.Over, NextRows.{RowsHere, rowing_cell, rowing_stop, rows_first, rows_ran, rows_token, rows_whole}, NextSteps.{cell_read, stays, stays_after, stays_on}, RowSteps.{none_ahead, cell_some}, Paths.here}
+use Rattle.tds_rows.proofs.{Words.{◌∙◌, ◌+◌, ◌<◌, [], Err, List, Ok, drop, false, refl, sym, ap, arith, passed, Column, PlainRow, Knows}, reading.Rows.rows.Given.Over, NextSteps.{RowsHere, rowing_cell, rowing_stop, rows_first, rows_ran, rows_token, rows_whole, cell_read, stays, stays_after, stays_on}, RowSteps.{none_ahead, cell_some}, Paths.here}
 use Rattle.tds_rows.proofs.reading.Rows.rows.Goals as goal
 
 pub loop-form-init : goal.loop-form-init
