@@ -3,6 +3,10 @@ use Rattle.tds_rows.proofs.{Words.{StopsField, common_steps, ◌≡◌, ◌∙�
 
 -- ---- content, byte by byte
 
+-- the text of what of some content isn't withheld
+abbrev pub emitted : Conversion → List ℕ → List ℕ
+emitted c = emit (conversion_rest c) (conversion_text c)
+
 -- The states of the bytes of some content, by how many follow and what was read: each next byte is an element, and free of faults where text begins so, and where the content is good at its end.
 pub record HoldsContent (column : ℕ) (c : Conversion) (state : ℕ → List ℕ → CellPart) (Good : List ℕ → Type 0) : Type 0 where
   pub size : (r : ℕ) (d : List ℕ) → cell_size (state (suc r) d) ≡ 1
@@ -11,7 +15,7 @@ pub record HoldsContent (column : ℕ) (c : Conversion) (state : ℕ → List �
   pub add : (r : ℕ) (d : List ℕ) (x : ℕ) → cell_add (state (suc r) d) (x ∷ []) ≡ state r (d ++ x ∷ [])
   pub free : (r : ℕ) (d : List ℕ) (x : ℕ) → is_begun c (d ++ x ∷ []) ≡ true → (r ≡ 0 → Good (d ++ x ∷ [])) → cell_fault column (state (suc r) d) (x ∷ []) ≡ None
   pub bad : (r : ℕ) (d : List ℕ) (x : ℕ) → is_begun c (d ++ x ∷ []) ≡ false → cell_fault column (state (suc r) d) (x ∷ []) ≡ Some (BadText column)
-  pub ends : (d : List ℕ) (x : ℕ) → Good (d ++ x ∷ []) ⊎ (emit (conversion_rest c) (conversion_text c) (d ++ x ∷ []) ≡ emit (conversion_rest c) (conversion_text c) d)
+  pub ends : (d : List ℕ) (x : ℕ) → Good (d ++ x ∷ []) ⊎ (emitted c (d ++ x ∷ []) ≡ emitted c d)
   pub whole : (last : Bool) (d : List ℕ) → Good d → (more : List ℕ) × (after_comma column (open_field c d) ++ more ≡ cell_so_far column last (state 0 d))
 
 -- a list that isn't empty has a last number
@@ -70,11 +74,11 @@ module _ {column : ℕ} {c : Conversion} {state : ℕ → List ℕ → CellPart}
       }
 
   -- what the last byte adds to the text, where it isn't good there
-  adds_none : (d p : List ℕ) (x : ℕ) → BeginsData c (d ++ (p ++ x ∷ [])) → emit (conversion_rest c) (conversion_text c) ((d ++ p) ++ x ∷ []) ≡ emit (conversion_rest c) (conversion_text c) (d ++ p) → added_text c d (p ++ x ∷ []) ≡ added_text c d p
+  adds_none : (d p : List ℕ) (x : ℕ) → BeginsData c (d ++ (p ++ x ∷ [])) → emitted c ((d ++ p) ++ x ∷ []) ≡ emitted c (d ++ p) → added_text c d (p ++ x ∷ []) ≡ added_text c d p
   adds_none d p x begun same =
       let laws = joins_by_name c in
       let regroup = sym (append_assoc d p _) in
-      append_cancel_left _ _ _ (sym (laws.emits d _ begun) ∙ ap (emit (conversion_rest c) (conversion_text c)) regroup ∙ same ∙ laws.emits d p (laws.front _ _ (subst (BeginsData c) regroup begun)))
+      append_cancel_left _ _ _ (sym (laws.emits d _ begun) ∙ ap (emitted c) regroup ∙ same ∙ laws.emits d p (laws.front _ _ (subst (BeginsData c) regroup begun)))
 
   -- the byte after some that are good is refused
   byte_refused : {a b : Seen} {h i : Held} {m : ℕ} (d good ahead : List ℕ) (y r place : ℕ) → m ≡ length good + suc r → BeginsData c (d ++ good) → cell_fault column (state (suc r) (d ++ good)) (y ∷ []) ≡ Some (BadText column) → Takes a b (good ++ y ∷ ahead) 1 → IsBetween b → Puts h i (added_text c d good)
@@ -226,7 +230,7 @@ short_next : (c : Conversion) (r : ℕ) (d : List ℕ) → short_left c (suc r) 
 short_next c r d = grind (arith, common_steps, choose_false, ne_eqb)
 
 module _ (column : ℕ) (c : Conversion) where
-  fit_or_none : (d : List ℕ) (x : ℕ) (b : Bool) → is_fit c (d ++ x ∷ []) ≡ b → (is_fit c (d ++ x ∷ []) ≡ true) ⊎ (emit (conversion_rest c) (conversion_text c) (d ++ x ∷ []) ≡ emit (conversion_rest c) (conversion_text c) d)
+  fit_or_none : (d : List ℕ) (x : ℕ) (b : Bool) → is_fit c (d ++ x ∷ []) ≡ b → (is_fit c (d ++ x ∷ []) ≡ true) ⊎ (emitted c (d ++ x ∷ []) ≡ emitted c d)
   fit_or_none d x b is = grind (arith, unfit_adds_none)
 
   -- the end of a value that is whole

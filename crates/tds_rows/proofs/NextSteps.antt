@@ -155,35 +155,36 @@ pub record RowsAt (token : RowToken) (charset : Charset) (all : List Column) (p 
   pub counted : length before ≡ count
   pub path : Path (rows token charset all) rows_so_far (rows_start token charset all) p q (record { before = before; at = part })
 
-pub rows_first : {token : RowToken} {charset : Charset} {all : List Column} {p : At} → p.held.delivered ≤ 2 ^ 64 - 1 → RowsAt token charset all p p 0 (token_start token charset all)
-rows_first d = record { before = []; counted = refl; path = path_none d }
+module _ {token : RowToken} {charset : Charset} {all : List Column} where
+  pub rows_first : {p : At} → p.held.delivered ≤ 2 ^ 64 - 1 → RowsAt token charset all p p 0 (token_start token charset all)
+  rows_first d = record { before = []; counted = refl; path = path_none d }
 
-module _ {token : RowToken} {charset : Charset} {all : List Column} {p q : At} {count : ℕ} where
-  -- more of the next one
-  rows_on : {part more : RowPart} {r : At} → RowsAt token charset all p q count part → Path (row charset) row_so_far part q r more → RowsAt token charset all p r count more
-  rows_on x y = record { before = x.before; counted = x.counted; path = path_both x.path (path_map (λ a m. row_among _ _ _ _) y) }
+  module _ {p q : At} {count : ℕ} where
+    -- more of the next one
+    rows_on : {part more : RowPart} {r : At} → RowsAt token charset all p q count part → Path (row charset) row_so_far part q r more → RowsAt token charset all p r count more
+    rows_on x y = record { before = x.before; counted = x.counted; path = path_both x.path (path_map (λ a m. row_among _ _ _ _) y) }
 
-  -- it stopped
-  pub rows_stop : {part : RowPart} {d : Seen} {j : Held} {failed : Bool} {stop : Stop} → RowsAt token charset all p q count part → RowStops charset part q.seen d q.place q.held j failed stop → RowsStop token charset all p.seen d p.place p.held j failed stop
-  rows_stop {part = part} x y = record { earlier = x.before; part = part; middle = q.seen; between = q.held; streams = streams_of x.path; stops = rw x.path.place_is at y }
+    -- it stopped
+    pub rows_stop : {part : RowPart} {d : Seen} {j : Held} {failed : Bool} {stop : Stop} → RowsAt token charset all p q count part → RowStops charset part q.seen d q.place q.held j failed stop → RowsStop token charset all p.seen d p.place p.held j failed stop
+    rows_stop {part = part} x y = record { earlier = x.before; part = part; middle = q.seen; between = q.held; streams = streams_of x.path; stops = rw x.path.place_is at y }
 
-  -- all of it
-  pub rows_whole : {cells : List Cell} → RowsAt token charset all p q count (WholeRow cells) → ReadsRows token charset all (count + 1) p.seen q.seen p.place q.place p.held q.held
-  rows_whole {cells = cells} x = record { earlier = x.before; last = cells; counted = omega (arith, x.counted); streams = streams_of x.path; place_is = x.path.place_is }
+    -- all of it
+    pub rows_whole : {cells : List Cell} → RowsAt token charset all p q count (WholeRow cells) → ReadsRows token charset all (count + 1) p.seen q.seen p.place q.place p.held q.held
+    rows_whole {cells = cells} x = record { earlier = x.before; last = cells; counted = omega (arith, x.counted); streams = streams_of x.path; place_is = x.path.place_is }
 
--- a whole row that was read by itself
-pub rows_row : {token : RowToken} {charset : Charset} {all : List Column} {p : At} {count : ℕ} {part : RowPart} {b d : Seen} {middle place' : ℕ} {i j : Held} → RowsAt token charset all p (record { seen = b; place = middle; held = i }) count part → ReadsRow charset part b d middle place' i j
-    → ReadsRows token charset all (count + 1) p.seen d p.place place' p.held j
-rows_row x y = rows_whole (rows_on x (path_of y.streams y.place_is))
+  -- a whole row that was read by itself
+  pub rows_row : {p : At} {count : ℕ} {part : RowPart} {b d : Seen} {middle place' : ℕ} {i j : Held} → RowsAt token charset all p (record { seen = b; place = middle; held = i }) count part → ReadsRow charset part b d middle place' i j
+      → ReadsRows token charset all (count + 1) p.seen d p.place place' p.held j
+  rows_row x y = rows_whole (rows_on x (path_of y.streams y.place_is))
 
--- the token byte of the next row was read
-pub rows_token : {token : RowToken} {charset : Charset} {all : List Column} {a b d : Seen} {place middle count : ℕ} {h i : Held} → 0 < length all → i.delivered ≤ 2 ^ 64 - 1 → ReadsRows token charset all count a b place middle h i → Takes b d (token_byte token ∷ []) 1
-    → RowsAt token charset all (record { seen = a; place = place; held = h }) (record { seen = d; place = middle + 1; held = i }) count (token_start token charset all)
-rows_token some delivered x takes = record {
-  before = x.earlier ++ x.last ∷ [];
-  counted = omega (arith, length-append x.earlier (x.last ∷ []));
-  path = path_both (path_of x.streams x.place_is) (record { bytes = token_byte _ ∷ []; made = []; writes = row_token _ _ _ _ x.last some; takes = takes; puts = Puts-none _ delivered; place_is = refl });
-}
+  -- the token byte of the next row was read
+  pub rows_token : {a b d : Seen} {place middle count : ℕ} {h i : Held} → 0 < length all → i.delivered ≤ 2 ^ 64 - 1 → ReadsRows token charset all count a b place middle h i → Takes b d (token_byte token ∷ []) 1
+      → RowsAt token charset all (record { seen = a; place = place; held = h }) (record { seen = d; place = middle + 1; held = i }) count (token_start token charset all)
+  rows_token some delivered x takes = record {
+    before = x.earlier ++ x.last ∷ [];
+    counted = omega (arith, length-append x.earlier (x.last ∷ []));
+    path = path_both (path_of x.streams x.place_is) (record { bytes = token_byte _ ∷ []; made = []; writes = row_token _ _ _ _ x.last some; takes = takes; puts = Puts-none _ delivered; place_is = refl });
+  }
 
 -- ---- ROWs, run after run and cell after cell
 
