@@ -124,4 +124,4 @@ start_means kind sh = grind arith
 
 -- What is read as a cell spells it.
 pub cell_is_spelt : {x : Cell} {bytes : List ℕ} (column : ℕ) (kind : Kind) (sh : Shape) → AreBytes bytes → Spelt (cell column) (cell_start kind sh) bytes (WholeCell x) → SpellsCell kind sh x bytes
-cell_is_spelt {bytes = bytes} column kind sh are h = Spelt-induct _ (λ p b. AreBytes b → CellMeans kind sh p b) (λ p b e m n all. cell_step _ _ _ p b e (AreBytes-back b e all) (m (AreBytes-front b e all)) n) _ (λ _. start_means _ _) bytes _ h are
+cell_is_spelt column kind sh are h = Spelt-induct _ (λ p b. AreBytes b → CellMeans kind sh p b) (λ p b e m n all. cell_step _ _ _ p b e (AreBytes-back b e all) (m (AreBytes-front b e all)) n) _ (λ _. start_means _ _) _ _ h are
