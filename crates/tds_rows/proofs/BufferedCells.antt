@@ -1,19 +1,18 @@
 -- Cells whose bytes lie together, and the room that a sink lends for their text.
-use Rattle.tds_rows.proofs.Words.{common_steps, ◌≡◌, ◌≢◌, ◌∙◌, ℕ, ◌+◌, ◌-◌, ◌<◌, ◌≤◌, Bool, true, false, List, [], ◌++◌, length, take, drop, Result, Ok, Err, MatchResult, inr, refl, sym, ap, arith, ◌∷◌, length-take-le, length-drop, None, Some, Option, ◌||◌, is_ok, slice_index, ne_eqb, Kind, IntN, ScalarValue, fixed_length, is_length_allowed, is_scalar, read_of, BadValueLength, Stop, Seen, Takes, IsBetween, choose_false, Spelt-none, Spelt-one, null_field, in_line, overwritten, Sink, Breaks, Held, IsWriting, Puts, PutsPiece, held, spare_before, spare_written, Charset, CellPart, Null, ScalarBytes, ScalarCell, ScalarLength, cell, cell_start, shape, unless, value_part, IsScalarLeft, IsValueText, length_after, start_after, value_length, value_start, WritesCell, take-add, HasInt4, int4_kind}
-use Rattle.tds_rows.proofs.{CellSteps.fixed_some, CellSteps.scalar_shape, RowSteps.ReadsCell, RowSteps.at_once_breaks, RowSteps.at_once_streams, CellWords.PutsCell, CellWords.StopsCell}
+use Rattle.tds_rows.proofs.{Words.{common_steps, ◌≡◌, ◌≢◌, ◌∙◌, ℕ, ◌+◌, ◌-◌, ◌<◌, ◌≤◌, Bool, true, false, List, [], ◌++◌, length, take, drop, Result, Ok, Err, MatchResult, inr, refl, sym, ap, arith, ◌∷◌, length-take-le, length-drop, None, Some, Option, ◌||◌, is_ok, slice_index, ne_eqb, Kind, IntN, ScalarValue, fixed_length, is_length_allowed, is_scalar, read_of, BadValueLength, Stop, Seen, Takes, IsBetween, choose_false, Spelt-none, Spelt-one, null_field, in_line, overwritten, Sink, Held, IsWriting, Puts, PutsPiece, held, spare_before, spare_written, Charset, CellPart, Null, ScalarBytes, ScalarCell, ScalarLength, cell, cell_start, shape, unless, value_part, IsScalarLeft, IsValueText, length_after, start_after, value_length, value_start, WritesCell, take-add, HasInt4, int4_kind}, CellSteps.{fixed_some, scalar_shape}, RowSteps.{ReadsCell, at_once_breaks, at_once_streams, PutsCell, StopsCell}}
 
 -- a value that is read has a length that is allowed
 read_allowed : (kind : Kind) (bytes : List ℕ) (value : ScalarValue) → read_of kind bytes ≡ Ok value → is_length_allowed kind (length bytes) ≡ true
 read_allowed kind bytes value h = grind arith
 
-pub fixed_written : (column : ℕ) (kind : Kind) (n : ℕ) (last : Bool) (bytes text : List ℕ) → 0 < n → n ≤ length bytes → IsValueText kind column last (take n bytes) text → WritesCell (ScalarBytes kind n) column last (take n bytes) text
+fixed_written : (column : ℕ) (kind : Kind) (n : ℕ) (last : Bool) (bytes text : List ℕ) → 0 < n → n ≤ length bytes → IsValueText kind column last (take n bytes) text → WritesCell (ScalarBytes kind n) column last (take n bytes) text
 fixed_written column kind n last bytes text some within x = record {
   value = ScalarCell x.0;
   front = [];
   at = ScalarBytes kind n;
   element = take n bytes;
   joined = refl;
-  spelt = Spelt-none (cell column) (ScalarBytes kind n);
+  spelt = Spelt-none _ _;
   next = grind (arith, common_steps);
   whole = ap value_part x.1;
   quiet = refl;
@@ -23,21 +22,21 @@ fixed_written column kind n last bytes text some within x = record {
 first_of : (bytes : List ℕ) (n : ℕ) → 1 ≤ length bytes → slice_index bytes 0 ≡ n → take 1 bytes ≡ n ∷ []
 first_of bytes n h is = grind arith
 
-pub null_written : (column : ℕ) (kind : Kind) (last : Bool) (bytes text : List ℕ) → 1 ≤ length bytes → slice_index bytes 0 ≡ 0 → text ≡ in_line column last null_field → WritesCell (ScalarLength kind) column last (take 1 bytes) text
-null_written column kind last bytes text within is text_is = rw (first_of bytes 0 within is) (record {
+null_written : (column : ℕ) (kind : Kind) (last : Bool) (bytes text : List ℕ) → 1 ≤ length bytes → slice_index bytes 0 ≡ 0 → text ≡ in_line column last null_field → WritesCell (ScalarLength kind) column last (take 1 bytes) text
+null_written column kind last bytes text within is text_is = rw (first_of _ 0 within is) (record {
   value = Null;
   front = [];
   at = ScalarLength kind;
   element = 0 ∷ [];
   joined = refl;
-  spelt = Spelt-none (cell column) (ScalarLength kind);
+  spelt = Spelt-none _ _;
   next = record { some = omega arith; whole = refl; free = refl };
   whole = refl;
   quiet = refl;
   text_is = text_is;
 })
 
-pub counted_written : (column : ℕ) (kind : Kind) (n : ℕ) (last : Bool) (bytes text : List ℕ) → slice_index bytes 0 ≡ n → n ≢ 0 → 1 + n ≤ length bytes → IsValueText kind column last (take n (drop 1 bytes)) text
+counted_written : (column : ℕ) (kind : Kind) (n : ℕ) (last : Bool) (bytes text : List ℕ) → slice_index bytes 0 ≡ n → n ≢ 0 → 1 + n ≤ length bytes → IsValueText kind column last (take n (drop 1 bytes)) text
     → WritesCell (ScalarLength kind) column last (take (1 + n) bytes) text
 counted_written column kind n last bytes text is some within x =
     let whole = length-take-le n (drop 1 bytes) (grind (arith, length-drop)) in
@@ -101,10 +100,10 @@ module _ (h j : Held) (room written : List ℕ) (n : ℕ) (whole : length writte
   lent = overwritten (length h.waiting) written (h.waiting ++ room)
 
   before : take n lent ≡ h.waiting
-  before = ap (λ k. take k lent) at ∙ spare_before h.waiting room written whole
+  before = ap (λ k. take k lent) at ∙ spare_before _ _ _ whole
 
   after : drop n lent ≡ written
-  after = ap (λ k. drop k lent) at ∙ spare_written h.waiting room written whole
+  after = ap (λ k. drop k lent) at ∙ spare_written h.waiting _ _ whole
 
   abbrev lent_held : Held
   lent_held = record h { waiting = take n lent }
@@ -113,14 +112,14 @@ module _ (h j : Held) (room written : List ℕ) (n : ℕ) (whole : length writte
   same = ap (λ (w : List ℕ). record h { waiting = w }) before
 
   -- the text of a cell that was written there was put
-  pub kept_text : {U : Type 0} (r : Result U Stop) (made : ℕ) → MatchResult r (λ _. Puts lent_held j (take made (drop n lent))) (λ stop. Breaks lent_held j (take made (drop n lent)) stop) → MatchResult r (λ _. Puts h j (take made written)) (λ stop. Breaks h j (take made written) stop)
-  kept_text r made x = grind (arith, after, same)
+  pub kept_text : (made : ℕ) → Puts lent_held j (take made (drop n lent)) → Puts h j (take made written)
+  kept_text made x = grind (arith, after, same)
 
 -- a cell whose text comes at once was read, and the text put by one call of the sink, or a write of it failed
 pub put_cell : {W U : Type 0} {column place place' : ℕ} {last : Bool} {a b : Seen} {text : List ℕ} (r : Result U Stop) (charset : Charset) (kind : Kind) (contents : W → Option (List ℕ)) (old new : Sink W) → IsWriting old
     → ReadsCell (cell_start kind (shape charset kind)) column last a b place place' text → PutsPiece contents old new text r
     → MatchResult r (λ _. PutsCell charset kind column last a b place place' (held contents old) (held contents new)) (λ stop. StopsCell charset kind column last a b place (held contents old) (held contents new) new.failed stop)
-put_cell (Ok u) charset kind contents old new going y x = record { value = y.value; streams = at_once_streams kind _ _ _ _ _ _ _ _ _ _ y x.gives; place_is = y.place_is }
+put_cell (Ok u) charset kind contents old new going y x = record { value = y.value; streams = at_once_streams kind _ _ _ y x.gives; place_is = y.place_is }
 put_cell (Err stop) charset kind contents old new going y x =
-    let breaks = at_once_breaks kind _ _ _ _ _ _ _ _ _ _ stop going.ready.2 (going.ready.1 going.writing) y (x.gives going.writing) in
+    let breaks = at_once_breaks kind _ _ _ going.ready.2 (going.ready.1 going.writing) y (x.gives going.writing) in
     record { at = y.at; cause = inr (breaks, x.failed) }

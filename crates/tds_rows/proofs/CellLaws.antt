@@ -1,5 +1,5 @@
 -- What a cell's spelling is read as.
-use Rattle.tds_rows.proofs.Words.{common_steps, ◌≡◌, ◌⊎◌, ℕ, suc, ◌+◌, ◌-◌, ◌/◌, ◌%◌, ◌<◌, ◌≤◌, Bool, true, List, [], ◌∷◌, ◌++◌, length, refl, sym, ◌∙◌, ap, subst, inl, inr, append_assoc, append-nil, arith, rules, length-append, Ok, Option, Some, None, ◌==◌, ◌||◌, nat_le, is_ok, if◌then◌else◌, concat, nat_tests, ne_eqb, and_from, or_left, or_right, Kind, Short, Chunked, ScalarValue, little, is_length_allowed, read_of, Conversion, unit, is_fit, fit_units, fit_begins, Spelt, Fault, BadValue, PlpLength, Spelt-step, Spelt-append, Cell, Null, ScalarCell, DataCell, Shape, FixedShape, CountedShape, LongShape, SpellsChunk, SpellsChunks, SpellsChunked, SpellsShort, SpellsCell, ScalarBytes, ScalarLength, ShortLength, ShortData, Total, ChunkLength, ChunkData, WholeCell, cell_start, cell, unless, within_total, is_total, end_of_chunks, value_part, known_total, unknown_total, null_total, choose_false, choose_true, test_lt, little-two}
+use Rattle.tds_rows.proofs.Words.{common_steps, ◌≡◌, ◌⊎◌, ℕ, suc, ◌+◌, ◌-◌, ◌/◌, ◌%◌, ◌<◌, ◌≤◌, Bool, true, List, [], ◌∷◌, ◌++◌, length, refl, sym, ◌∙◌, ap, subst, inl, inr, append_assoc, append-nil, arith, rules, length-append, Ok, Option, Some, None, ◌==◌, ◌||◌, nat_le, is_ok, if◌then◌else◌, concat, nat_tests, ne_eqb, and_from, or_left, or_right, Kind, Short, Chunked, ScalarValue, little, is_length_allowed, read_of, Conversion, unit, is_fit, fit_units, fit_begins, Spelt, Fault, BadValue, Spelt-step, Spelt-append, Cell, Null, ScalarCell, DataCell, Shape, FixedShape, CountedShape, LongShape, SpellsChunk, SpellsChunks, SpellsChunked, SpellsShort, SpellsCell, ScalarBytes, ScalarLength, ShortLength, ShortData, Total, ChunkLength, ChunkData, WholeCell, cell_start, cell, unless, within_total, is_total, value_part, known_total, unknown_total, null_total, choose_false, choose_true, test_lt, little-two}
 
 -- a fixed shape has bytes
 abbrev pub HasBytes : Shape → Type 0
@@ -24,8 +24,8 @@ module _ (column : ℕ) where
 
   counted_cell : (kind : Kind) (v : ScalarValue) (value : List ℕ) → 0 < length value → is_length_allowed kind (length value) ≡ true → read_of kind value ≡ Ok v → Spelt (cell column) (ScalarLength kind) (length value ∷ value) (WholeCell (ScalarCell v))
   counted_cell kind v value some allowed h =
-      let head : Spelt (cell column) (ScalarLength kind) (length value ∷ []) (ScalarBytes kind (length value)) = Spelt-step (cell column) (ScalarLength kind) (length value ∷ []) (ScalarBytes kind (length value)) (omega arith) refl (unless_true _ _ (or_right _ _ allowed)) (choose_false (length value == 0) (WholeCell Null) (ScalarBytes kind (length value)) (ne_eqb (length value) 0 (λ e. omega arith))) in
-      Spelt-append (cell column) (ScalarLength kind) (length value ∷ []) (ScalarBytes kind (length value)) value (WholeCell (ScalarCell v)) head (fixed_cell kind (length value) v value some refl h)
+      let head : Spelt (cell column) (ScalarLength kind) (length value ∷ []) (ScalarBytes kind (length value)) = Spelt-step _ _ _ _ (omega arith) refl (unless_true _ _ (or_right _ _ allowed)) (choose_false _ _ _ (ne_eqb (length value) 0 (λ e. omega arith))) in
+      Spelt-append _ _ _ _ _ _ head (fixed_cell _ _ v _ some refl h)
 
   -- the data of a short value, byte by byte
   short_data : (c : Conversion) (d : List ℕ) (x : ℕ) (xs : List ℕ) → is_fit c (d ++ x ∷ xs) ≡ true → Spelt (cell column) (ShortData c (length xs) d) (x ∷ xs) (WholeCell (DataCell c (d ++ x ∷ xs)))
@@ -36,7 +36,7 @@ module _ (column : ℕ) where
       let one = Spelt-step _ _ _ _ (omega arith) refl
       (unless_true _ _ (and_from _ _ (fit_begins c _ _ k) left)) (search rules) in
       Spelt-append _ _ _ _ _ _ one
-      (subst (λ v. Spelt (cell column) (ShortData c (length ys) (d ++ x ∷ [])) (y ∷ ys) (WholeCell (DataCell c v))) (append_assoc d _ _) (short_data c (d ++ x ∷ []) y ys k))
+      (rw append_assoc at (short_data c (d ++ x ∷ []) y ys k))
 
   short_length : (c : Conversion) (n : ℕ) → n < 65535 → n % unit c ≡ 0 → Spelt (cell column) (ShortLength c) (n % 256 ∷ n / 256 ∷ []) (if n == 0 then WholeCell (DataCell c []) else ShortData c (n - 1) [])
   short_length c n less even =
@@ -58,15 +58,15 @@ module _ (column : ℕ) where
       let k = ap (λ v. is_fit c (v ++ more)) (append_assoc d _ _) ∙ h in
       let begun = fit_begins c _ _ (ap (is_fit c) (sym (append_assoc (d ++ x ∷ []) _ more)) ∙ k) in
       Spelt-append _ _ _ _ _ _ (Spelt-step _ _ _ _ (omega arith) refl (unless_true _ _ begun) (search rules))
-      (subst (λ v. Spelt (cell column) (ChunkData c total (length ys) (d ++ x ∷ [])) (y ∷ ys) (ChunkLength c total v)) (append_assoc d _ _) (chunk_data c _ _ y ys _ k))
+      (rw append_assoc at (chunk_data c total (d ++ x ∷ []) y ys more k))
 
   -- one chunk
   chunk_cell : (c : Conversion) (total : Option ℕ) (d content bytes more : List ℕ) → is_fit c ((d ++ content) ++ more) ≡ true → within_total total (length d + length content) ≡ true → SpellsChunk content bytes → Spelt (cell column) (ChunkLength c total d) bytes (ChunkLength c total (d ++ content))
   chunk_cell c total d [] bytes more f w s = absurd (let p : 0 < length {A = ℕ} [] = s.some in omega arith)
   chunk_cell c total d (x ∷ xs) bytes more f w s =
       let n : little s.header ≡ suc (length xs) = s.counted in
-      let head : Spelt (cell column) (ChunkLength c total d) s.header (ChunkData c total (length xs) d) = Spelt-step (cell column) (ChunkLength c total d) s.header (ChunkData c total (length xs) d) (let four : length s.header ≡ 4 = s.four in omega arith) s.four (rw n (choose_false (suc (length xs) == 0) (end_of_chunks column c total d) (unless (within_total total (length d + suc (length xs))) (PlpLength column)) (ne_eqb _ 0 (λ q. omega arith)) ∙ unless_true _ (PlpLength column) w)) (rw n (search rules)) in
-      rw (sym s.spelt) at (Spelt-append (cell column) (ChunkLength c total d) s.header (ChunkData c total (length xs) d) (x ∷ xs) (ChunkLength c total (d ++ x ∷ xs)) head (chunk_data c total d x xs more f))
+      let head : Spelt (cell column) (ChunkLength c total d) s.header (ChunkData c total (length xs) d) = Spelt-step _ _ _ _ (let four : length s.header ≡ 4 = s.four in omega arith) s.four (rw n (choose_false _ _ _ (ne_eqb (suc (length xs)) 0 (λ q. omega arith)) ∙ unless_true _ _ w)) (rw n (search rules)) in
+      rw (sym s.spelt) at (Spelt-append _ _ _ _ _ _ head (chunk_data c _ d x _ _ f))
 
   -- the chunks and the terminator
   chunks_cell : (c : Conversion) (total : Option ℕ) (d : List ℕ) (ds : List (List ℕ)) (bytes : List ℕ) → ((n : ℕ) → n ≤ length (d ++ concat ds) → within_total total n ≡ true) → is_total total (length (d ++ concat ds)) ≡ true → is_fit c (d ++ concat ds) ≡ true → SpellsChunks ds bytes → Spelt (cell column) (ChunkLength c total d) bytes (WholeCell (DataCell c (d ++ concat ds)))
@@ -85,8 +85,8 @@ module _ (column : ℕ) where
 
   -- the total
   total_cell : (c : Conversion) (total : List ℕ) → length total ≡ 8 → little total < null_total → (nat_le unknown_total (little total) || (little total % unit c == 0)) ≡ true → Spelt (cell column) (Total c) total (ChunkLength c (known_total (little total)) [])
-  total_cell c total eight less even = Spelt-step (cell column) _ _ _ (omega arith) eight
-      (unless_true _ _ even) (choose_false _ (WholeCell Null) (ChunkLength c (known_total (little total)) []) (ne_eqb (little total) null_total (λ e. omega arith)))
+  total_cell c total eight less even = Spelt-step _ _ _ _ (omega arith) eight
+      (unless_true _ _ even) (choose_false _ _ _ (ne_eqb (little total) null_total (λ e. omega arith)))
 
   chunked_cell : (c : Conversion) (d bytes : List ℕ) → is_fit c d ≡ true → SpellsChunked d bytes → Spelt (cell column) (Total c) bytes (WholeCell (DataCell c d))
   chunked_cell c d bytes f s = rw s.spelt (go s.known)
@@ -104,11 +104,11 @@ module _ (column : ℕ) where
 
   -- What spells a cell is read as that cell.
   pub cell_is_read : (kind : Kind) (sh : Shape) (x : Cell) (bytes : List ℕ) → HasBytes sh → SpellsCell kind sh x bytes → Spelt (cell column) (cell_start kind sh) bytes (WholeCell x)
-  cell_is_read kind (FixedShape n) (ScalarCell v) bytes some h = fixed_cell kind n v bytes some h.0 h.1
+  cell_is_read kind (FixedShape n) (ScalarCell v) bytes some h = fixed_cell _ n v _ some h.0 h.1
   cell_is_read kind CountedShape Null bytes some h = rw h (Spelt-step _ _ _ _ (omega arith) refl refl refl)
-  cell_is_read kind CountedShape (ScalarCell v) bytes some h = rw h.1 (counted_cell kind v h.0 h.2 h.3 h.4)
+  cell_is_read kind CountedShape (ScalarCell v) bytes some h = rw h.1 (counted_cell _ v _ h.2 h.3 h.4)
   cell_is_read kind (LongShape c Short) Null bytes some h = rw h (Spelt-step _ _ _ _ (omega arith) refl refl refl)
-  cell_is_read kind (LongShape c Short) (DataCell c' d) bytes some h = rw h.0 (short_cell c d bytes h.1 h.2)
+  cell_is_read kind (LongShape c Short) (DataCell c' d) bytes some h = rw h.0 (short_cell c d _ h.1 h.2)
   cell_is_read kind (LongShape c Chunked) Null bytes some h = rw h (Spelt-step _ _ _ _ (omega arith) refl refl refl)
-  cell_is_read kind (LongShape c Chunked) (DataCell c' d) bytes some h = rw h.0 (chunked_cell c d bytes h.1 h.2)
+  cell_is_read kind (LongShape c Chunked) (DataCell c' d) bytes some h = rw h.0 (chunked_cell c d _ h.1 h.2)
   cell_is_read kind sh x bytes some h = absurd h

@@ -1,5 +1,5 @@
 -- What the bytes that lead to a part of a cell spell.
-use Rattle.tds_rows.proofs.Words.{common_steps, ◌≡◌, ℕ, ◌+◌, ◌/◌, ◌%◌, ◌^◌, ◌<◌, Bool, true, List, [], ◌∷◌, ◌++◌, length, replicate, refl, sym, ◌∙◌, ap, append_assoc, append-nil, arith, length-append, Result, Ok, Option, Some, None, ◌==◌, ◌&&◌, ◌||◌, nat_lt, is_ok, slice_index, if◌then◌else◌, concat, concat-append, Kind, Short, Chunked, ScalarValue, ValueFault, little, is_length_allowed, read_of, Conversion, is_fit, is_begun, no_data_is_fit, AreBytes, Spelt, IsNext, Spelt-induct, AreBytes-front, AreBytes-back, Fault, PlpLength, Cell, Null, ScalarCell, Shape, FixedShape, CountedShape, LongShape, SpellsChunk, SpellsChunks, SpellsCell, CellPart, ScalarBytes, ScalarLength, ShortLength, ShortData, Total, ChunkLength, ChunkData, WholeCell, cell_start, cell_add, cell, unless, within_total, end_of_chunks, chunk_fault, value_part, known_total, null_total, choose, eq_true, eq_false, one_byte, two_bytes}
+use Rattle.tds_rows.proofs.Words.{common_steps, ◌≡◌, ℕ, ◌+◌, ◌/◌, ◌%◌, ◌^◌, ◌<◌, Bool, true, List, [], ◌∷◌, ◌++◌, length, replicate, refl, sym, ◌∙◌, ap, append_assoc, append-nil, arith, length-append, Result, Ok, Option, Some, None, ◌==◌, ◌&&◌, ◌||◌, nat_lt, is_ok, if◌then◌else◌, concat, concat-append, Kind, Short, Chunked, ScalarValue, ValueFault, little, is_length_allowed, read_of, Conversion, is_fit, is_begun, no_data_is_fit, AreBytes, Spelt, IsNext, Spelt-induct, AreBytes-front, AreBytes-back, Fault, PlpLength, Cell, ScalarCell, Shape, FixedShape, CountedShape, LongShape, SpellsChunk, SpellsChunks, SpellsCell, CellPart, ScalarBytes, ScalarLength, ShortLength, ShortData, Total, ChunkLength, ChunkData, WholeCell, cell_start, cell_add, cell, unless, within_total, end_of_chunks, chunk_fault, value_part, known_total, null_total, choose, eq_true, eq_false, one_byte, two_bytes}
 
 -- a test that gave no fault passed
 pub unless_none : (b : Bool) (f : Fault) → unless b f ≡ None → b ≡ true
@@ -80,7 +80,7 @@ module _ (column : ℕ) (kind : Kind) where
       let zero' = eq_true _ 0 z in
       let end = sym (ap (λ t. (if t then end_of_chunks column c total d else unless (within_total total (length d + little e)) (PlpLength column))) z) ∙ free in
       let e0 : e ≡ 0 ∷ 0 ∷ 0 ∷ 0 ∷ [] = grind (arith, common_steps) in
-      (refl, unless_none _ _ (guard_none _ _ _ (guard_none _ _ _ end).1).1, record { total = m.first; rest = m.rest ++ e; chunks = m.chunks; spelt = ap (λ v. v ++ e) m.spelt ∙ append_assoc m.first m.rest e; eight = m.eight; known = grind arith; each = rw e0 (end_chunks m.chunks m.rest m.begun); all = m.all }))
+      (refl, unless_none _ _ (guard_none _ _ _ (guard_none _ _ _ end).1).1, record { total = m.first; rest = m.rest ++ e; chunks = m.chunks; spelt = ap (λ v. v ++ e) m.spelt ∙ append_assoc m.first m.rest e; eight = m.eight; known = grind arith; each = rw e0 (end_chunks _ _ m.begun); all = m.all }))
       (λ z.
       let some = eq_false _ 0 z in
       (refl, record { before = d; whole = b; chunks = m; header = e; part = []; spelt = ap (λ v. b ++ v) (sym (append-nil e)); four = four; counted = omega arith; all = sym (append-nil d) }))
@@ -109,9 +109,6 @@ module _ (column : ℕ) (kind : Kind) where
       )) (λ z. let some = eq_false left 0 z in
       (refl, record { before = m.before; whole = m.whole; chunks = m.chunks; header = m.header; part = m.part ++ x ∷ []; spelt = spelt; four = m.four; counted = omega arith; all = all }))
 
-  length_means : (e : List ℕ) → length e ≡ 1 → ((slice_index e 0 == 0) || is_length_allowed kind (slice_index e 0)) ≡ true → CellMeans kind CountedShape (if slice_index e 0 == 0 then WholeCell Null else ScalarBytes kind (slice_index e 0)) e
-  length_means e one free = grind (arith, choose, eq_false, eq_true, one_byte)
-
   short_length_means : (c : Conversion) (e : List ℕ) → length e ≡ 2 → AreBytes e → CellMeans kind (LongShape c Short) (cell_add (ShortLength c) e) e
   short_length_means c e two bytes = grind (arith, no_data_is_fit, two_bytes)
 
@@ -126,5 +123,5 @@ pub start_means : (kind : Kind) (sh : Shape) → CellMeans kind sh (cell_start k
 start_means kind sh = grind arith
 
 -- What is read as a cell spells it.
-pub cell_is_spelt : (column : ℕ) (kind : Kind) (sh : Shape) (x : Cell) (bytes : List ℕ) → AreBytes bytes → Spelt (cell column) (cell_start kind sh) bytes (WholeCell x) → SpellsCell kind sh x bytes
-cell_is_spelt column kind sh x bytes are h = Spelt-induct _ (λ p b. AreBytes b → CellMeans kind sh p b) (λ p b e m n all. cell_step column kind sh p b e (AreBytes-back b e all) (m (AreBytes-front b e all)) n) _ (λ _. start_means kind sh) bytes _ h are
+pub cell_is_spelt : {x : Cell} {bytes : List ℕ} (column : ℕ) (kind : Kind) (sh : Shape) → AreBytes bytes → Spelt (cell column) (cell_start kind sh) bytes (WholeCell x) → SpellsCell kind sh x bytes
+cell_is_spelt column kind sh are h = Spelt-induct _ (λ p b. AreBytes b → CellMeans kind sh p b) (λ p b e m n all. cell_step _ _ _ p b e (AreBytes-back b e all) (m (AreBytes-front b e all)) n) _ (λ _. start_means _ _) _ _ h are

@@ -1,5 +1,5 @@
 -- The cells of scalar kinds, as they are read.
-use Rattle.tds_rows.proofs.Words.{common_steps, ◌≡◌, ◌≢◌, ◌∙◌, ℕ, ◌+◌, ◌<◌, true, false, List, [], ◌∷◌, ◌++◌, length, take, drop, refl, sym, ap, subst, arith, Result, Ok, Err, MatchResult, Option, Some, None, ◌||◌, is_ok, slice_index, if◌then◌else◌, ne_eqb, take_all, Kind, fixed_length, is_length_allowed, is_scalar, read_of, Space, appended, BadValue, BadValueLength, MessageEnded, Stop, Seen, Takes, Ends, IsBetween, began_at, choose_false, began_is_cut, cut_at_once, reads_one, refused_at_once, stops_after, takes_both, EndsInto, TakesInto, Charset, CellPart, ScalarBytes, ScalarLength, cell, cell_end, cell_size, cell_start, field_so_far, shape, shape_of_length, unless, GathersCell, IsScalarLeft, StallsCell, length_after, start_after, value_bytes, value_start, Payload}
+use Rattle.tds_rows.proofs.Words.{common_steps, ◌≡◌, ◌≢◌, ◌∙◌, ℕ, ◌+◌, ◌<◌, true, false, List, [], ◌∷◌, ◌++◌, length, take, drop, refl, sym, ap, subst, arith, Result, Ok, Err, MatchResult, Option, Some, None, ◌||◌, is_ok, slice_index, if◌then◌else◌, ne_eqb, take_all, Kind, fixed_length, is_length_allowed, is_scalar, read_of, Space, appended, BadValue, BadValueLength, MessageEnded, Stop, Seen, Takes, Ends, IsBetween, began_at, choose_false, began_is_cut, cut_at_once, reads_one, refused_at_once, stops_after, takes_both, EndsInto, TakesInto, Charset, CellPart, ScalarBytes, ScalarLength, cell_end, cell_size, cell_start, field_so_far, shape, shape_of_length, unless, GathersCell, IsScalarLeft, StallsCell, length_after, start_after, value_bytes, value_start, Payload}
 
 pub scalar_shape : (charset : Charset) (kind : Kind) → is_scalar kind ≡ true → shape charset kind ≡ shape_of_length (fixed_length kind)
 scalar_shape charset kind h = grind (arith, common_steps)
@@ -12,7 +12,7 @@ fixed_some kind n h = grind (arith, common_steps)
 pub cell_cut : {column n place : ℕ} {s : CellPart} {a b : Seen} {stop : Stop} (part : List ℕ) (own : Stop) → field_so_far s ≡ None → cell_size s ≡ n → cell_end s ≡ Some MessageEnded → length part < n → Ends a b part own → stop ≡ began_at place own → StallsCell s column a b place stop
 cell_cut {s = s} part own quiet size end fewer ends is = record {
   at = s;
-  stops = cut_at_once (cell _) s _ _ _ part own _ (omega (arith, fewer, size)) ends (began_is_cut _ (cell_end s) own _ end is);
+  stops = cut_at_once _ s _ _ _ _ _ _ (omega (arith, fewer, size)) ends (began_is_cut _ _ _ _ end is);
   quiet = quiet;
 }
 
@@ -56,10 +56,6 @@ module _ {column n place : ℕ} {kind : Kind} {a b : Seen} where
       let p = reads_one _ _ a b (n ∷ []) _ (record { some = omega arith; whole = refl; free = ap (λ v. unless v (BadValueLength column)) (ap (λ v. v || is_length_allowed kind n) (ne_eqb n 0 some) ∙ good) }) takes (choose_false _ _ _ (ne_eqb n 0 some)) in
       record { at = x.at; stops = stops_after _ _ _ a b _ place x.at _ p (rw at at x.stops); quiet = x.quiet }
 
--- NULL was read
-pub null_gathers : {column place place' : ℕ} {kind : Kind} {a b : Seen} {bytes : List ℕ} → fixed_length kind ≡ None → length bytes ≡ 1 → slice_index bytes 0 ≡ 0 → Takes a b bytes (length bytes) → IsBetween b → place' ≡ place + length bytes → GathersCell kind (ScalarLength kind) column a b place place' bytes
-null_gathers is len zero takes between at = grind arith
-
 -- a length and the value after it were read
 counted_gathers : {column n place middle place' : ℕ} {kind : Kind} {a d : Seen} (b : Seen) (value : List ℕ) → fixed_length kind ≡ None → n ≢ 0 → is_length_allowed kind n ≡ true → Takes a b (n ∷ []) 1 → middle ≡ place + 1
     → length value ≡ n → Takes b d value n → IsBetween d → place' ≡ middle + n → GathersCell kind (ScalarLength kind) column a d place place' (n ∷ value)
@@ -83,24 +79,24 @@ stands_alone : (before after : Space) (element : List ℕ) → before.bytes ≡ 
 stands_alone before after element none is = grind (arith, common_steps)
 
 -- a cell that has no length before its value was read into an empty area, or it is cut
-pub fixed_taken : {U : Type 0} → (result : Result U Stop) (stopped : Option Stop) (column : ℕ) (kind : Kind) (n : ℕ) (a b : Seen) (place place' : ℕ) (before after : Space) → fixed_length kind ≡ Some n → before.bytes ≡ [] → stopped ≡ None → place' ≡ (if is_ok result then place + n else place)
+pub fixed_taken : {U : Type 0} {stopped : Option Stop} {n place' : ℕ} (result : Result U Stop) (column : ℕ) (kind : Kind) (a b : Seen) (place : ℕ) (before after : Space) → fixed_length kind ≡ Some n → before.bytes ≡ [] → stopped ≡ None → place' ≡ (if is_ok result then place + n else place)
     → MatchResult result (λ _. TakesInto a b before after n) (λ stop. stopped ≡ None → EndsInto a b before after place n stop)
     → MatchResult result (λ _. GathersCell kind (ScalarBytes kind n) column a b place place' after.bytes) (λ stop. StallsCell (ScalarBytes kind n) column a b place stop)
-fixed_taken (Ok u) stopped column kind n a b place place' before after is none going at x = rw (stands_alone before after _ none x.stands) (fixed_gathers _ is x.whole x.takes x.between at)
-fixed_taken (Err stop) stopped column kind n a b place place' before after is none going at x = let e = x going in cell_cut e.part e.own refl refl refl e.fewer e.ends e.stop_is
+fixed_taken (Ok u) column kind a b place before after is none going at x = rw (stands_alone _ _ _ none x.stands) (fixed_gathers _ is x.whole x.takes x.between at)
+fixed_taken (Err stop) column kind a b place before after is none going at x = let e = x going in cell_cut _ _ refl refl refl e.fewer e.ends e.stop_is
 
 -- the length that an empty area got
 pub length_taken : {a b : Seen} {before after : Space} {n : ℕ} → before.bytes ≡ [] → slice_index after.bytes 0 ≡ n → TakesInto a b before after 1 → (after.bytes ≡ n ∷ []) × (Takes a b (n ∷ []) 1)
 length_taken none is x = grind (arith, common_steps, stands_alone)
 
 -- the value after a length that is allowed was read into the area that has the length, or it is cut
-pub counted_taken : {U : Type 0} → (result : Result U Stop) (stopped : Option Stop) (column : ℕ) (kind : Kind) (n : ℕ) (a b d : Seen) (place middle place' : ℕ) (before after : Space) → fixed_length kind ≡ None → before.bytes ≡ n ∷ [] → n ≢ 0 → is_length_allowed kind n ≡ true
+pub counted_taken : {U : Type 0} {stopped : Option Stop} {n middle place' : ℕ} (result : Result U Stop) (column : ℕ) (kind : Kind) (a b d : Seen) (place : ℕ) (before after : Space) → fixed_length kind ≡ None → before.bytes ≡ n ∷ [] → n ≢ 0 → is_length_allowed kind n ≡ true
     → Takes a b (n ∷ []) 1 → middle ≡ place + 1 → stopped ≡ None → place' ≡ (if is_ok result then middle + n else middle)
     → MatchResult result (λ _. TakesInto b d before after n) (λ stop. stopped ≡ None → EndsInto b d before after middle n stop)
     → MatchResult result (λ _. GathersCell kind (ScalarLength kind) column a d place place' after.bytes) (λ stop. StallsCell (ScalarLength kind) column a d place stop)
-counted_taken (Ok u) stopped column kind n a b d place middle place' before after is first some good takes at going there x =
+counted_taken (Ok u) column kind a b d place before after is first some good takes at going there x =
     rw (ap (λ s. s.bytes) x.stands ∙ ap (λ l. l ++ x.element) first) (counted_gathers b _ is some good takes at x.whole x.takes x.between there)
-counted_taken (Err stop) stopped column kind n a b d place middle place' before after is first some good takes at going there x =
+counted_taken (Err stop) column kind a b d place before after is first some good takes at going there x =
     let e = x going in
     length_then some good takes at (cell_cut e.part e.own refl refl refl e.fewer e.ends e.stop_is)
 
@@ -109,6 +105,6 @@ pub scalar_start : (charset : Charset) (kind : Kind) (o : Option ℕ) → is_sca
 scalar_start charset kind o scalar is = grind (arith, common_steps, scalar_shape)
 
 -- a cell whose bytes were gathered, and that is left, stops at its value
-pub left_stalls : (kind : Kind) (from : CellPart) (column : ℕ) (a b : Seen) (place place' : ℕ) (bytes : List ℕ) → (x : GathersCell kind from column a b place place' bytes) → IsScalarLeft kind bytes
+pub left_stalls : {kind : Kind} {from : CellPart} {column : ℕ} {a b : Seen} {place place' : ℕ} {bytes : List ℕ} (x : GathersCell kind from column a b place place' bytes) → IsScalarLeft kind bytes
     → StallsCell from column a b place (record { fault = BadValue column; place = Payload (place + value_start kind) })
-left_stalls kind from column a b place place' bytes x h9 = grind arith
+left_stalls x h9 = grind arith

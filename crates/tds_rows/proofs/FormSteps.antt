@@ -1,6 +1,5 @@
 -- Runs over cells by their forms, a cell after those that were written.
-use Rattle.tds_rows.proofs.Words.{common_steps, ◌≡◌, ◌≢◌, ◌∙◌, ℕ, zero, suc, ◌+◌, ◌-◌, ◌<◌, ◌≤◌, Bool, true, false, List, [], ◌∷◌, ◌++◌, length, take, drop, get_or, refl, sym, ap, subst, arith, append-nil, append_assoc, length-append, ◌==◌, ◌&&◌, map, slice_set, drop_more, length-map, length-take-le, take-append-le, take_all, take_more_set, get_or_default, length-drop, length-take, take-take, drop-drop, Kind, eq_false, eq_true, Column, all_after, after_comma, end_after, in_line, Charset, Form, IsLeft, WritesField, WritesKind, is_last_column, whole_size, AreNext, FieldsWritten, FirstUsed, FirstWritten, WritesForms, WritesColumn, WritesMarked, nat_tests}
-use Rattle.tds_rows.proofs.{LineTexts.after_some_column, LineTexts.after_append, RunSteps.made_more, RunSteps.used_more, TableSteps.known_kind, TableSteps.last_one}
+use Rattle.tds_rows.proofs.{Words.{common_steps, ◌≡◌, ◌≢◌, ◌∙◌, ℕ, zero, suc, ◌+◌, ◌-◌, ◌<◌, ◌≤◌, Bool, false, List, [], ◌∷◌, ◌++◌, length, take, drop, get_or, refl, sym, ap, arith, append-nil, append_assoc, length-append, ◌==◌, ◌&&◌, map, slice_set, drop_more, length-map, length-take-le, take-append-le, take_all, take_more_set, get_or_default, length-drop, length-take, take-take, drop-drop, Kind, eq_false, eq_true, Column, all_after, after_comma, end_after, in_line, Charset, Form, IsLeft, WritesField, WritesKind, is_last_column, whole_size, AreNext, FieldsWritten, FirstUsed, FirstWritten, WritesForms, WritesColumn, WritesMarked, nat_tests, true}, LineTexts.{after_some_column, after_append}, RunSteps.{made_more, used_more}, TableSteps.{known_kind, last_one}}
 
 not_last : (rest : List Column) → 0 < length rest → false ≡ is_last_column rest
 not_last rest some = grind arith
@@ -28,7 +27,7 @@ module _ (forms : List Form) (ends : Bool) (columns : List Column) (next : AreNe
     step = drop_more columns k (record { kind = d.kind; name = [] }) (omega (arith, few, within))
 
     kind_is : (get_or forms k d).kind ≡ next_column.kind
-    kind_is = known_kind forms columns (length forms) k d (record { kind = d.kind; name = [] }) (ap (map (λ f. f.kind)) (take_all (length forms) forms (omega arith)) ∙ next.kinds_are) within (omega arith) (omega (arith, few, within))
+    kind_is = known_kind _ _ _ k d _ (ap (map (λ f. f.kind)) (take_all (length forms) forms (omega arith)) ∙ next.kinds_are) within (omega arith) (omega (arith, few, within))
 
     -- the cell after this many
     next_cell : (charset : Charset) (all : List Column) (column : ℕ) (bytes text : List ℕ) → columns ≡ drop column all → WritesKind charset (get_or forms k d).kind (column + k) (ends && (k + 1 == length forms)) bytes text → WritesColumn charset all (λ k. false) (column + k) bytes text
@@ -36,7 +35,7 @@ module _ (forms : List Form) (ends : Bool) (columns : List Column) (next : AreNe
       column = next_column;
       left = drop (k + 1) columns;
       next = ap (λ (n : ℕ). drop n all) (omega arith) ∙ sym (drop-drop k column all) ∙ ap (drop k) (sym is) ∙ step;
-      writes = rw (kind_is, last_of k next_column (drop (k + 1) columns) within step) at x.whole;
+      writes = rw (kind_is, last_of k _ _ within step) at x.whole;
     }
 
 -- some forms have a first
@@ -44,41 +43,32 @@ pub some_first : (forms : List Form) → 0 < length forms → (form : Form) × (
 some_first [] some = absurd (omega (arith, some))
 some_first (f ∷ fs) some = (f, fs, refl)
 
-module _ (charset : Charset) (forms : List Form) (column : ℕ) (ends : Bool) (columns : List Column) (next : AreNext forms ends (drop column columns)) (d : Form) where
+module _ (charset : Charset) (forms : List Form) (column : ℕ) (ends : Bool) (columns : List Column) (next : AreNext forms ends (drop column columns)) where
   -- whether so many cells end their row
   abbrev closes : ℕ → Bool
   closes n = ends && (n == length forms)
 
-  one_more : (n : ℕ) (bytes text front rest before field : List ℕ) → n + 1 ≤ length forms → bytes ≡ front ++ rest → text ≡ before ++ after_comma (column + n) field → WritesMarked charset columns (λ k. false) column n front before
-      → ((form : Form) → WritesField charset (get_or forms n form).kind rest field) → WritesMarked charset columns (λ k. false) column (suc n) bytes (text ++ end_after (closes (n + 1)))
-  one_more n bytes text front rest before field few b t w x = (
-    front,
-    rest,
-    before,
-    in_line (column + n) (closes (n + 1)) field,
-    b,
-    ap (λ l. l ++ end_after (closes (n + 1))) t ∙ append_assoc before (after_comma (column + n) field) (end_after (closes (n + 1))),
-    w,
-    next_cell forms ends (drop column columns) next n d (omega (arith, few)) charset columns column rest (in_line (column + n) (closes (n + 1)) field) refl (x d (column + n) (closes (n + 1))),
-  )
+  -- a cell after those that were written
+  one_more : {m : ℕ} (d : Form) (n : ℕ) (bytes text : List ℕ) → m ≡ n + 1 → m ≤ length forms → (x : WritesForms charset forms column (suc n) bytes text) → WritesMarked charset columns (λ k. false) column n x.0 x.2
+      → WritesMarked charset columns (λ k. false) column (suc n) bytes (text ++ end_after (closes m))
+  one_more d n bytes text is few x w =
+      let last = closes (n + 1) in
+      rw is (x.0, x.1, x.2, in_line (column + n) last x.3, x.4, ap (λ l. l ++ end_after last) x.5 ∙ append_assoc x.2 _ _, w, next_cell _ _ _ next n d (omega arith) _ _ _ _ _ refl (x.7 d (column + n) last))
 
   not_closed : (n : ℕ) → n < length forms → closes n ≡ false
   not_closed n few = grind (arith, nat_tests)
 
-  -- the fields of some cells are their text, with the end of their row
-  pub fields_marked : (n : ℕ) (bytes text : List ℕ) → suc n ≤ length forms → WritesForms charset forms column (suc n) bytes text → WritesMarked charset columns (λ k. false) column (suc n) bytes (text ++ end_after (closes (suc n)))
-  fields_marked zero bytes text few (front, rest, before, field, b, t, x, y) = one_more zero bytes text front rest before field few b t x y
-  fields_marked (suc n) bytes text few (front, rest, before, field, b, t, x, y) =
-      let inner = fields_marked n front before (omega (arith, few)) x in
-      let unclosed : before ++ end_after (closes (suc n)) ≡ before = ap (λ v. before ++ end_after v) (not_closed (suc n) (omega (arith, few))) ∙ append-nil before in
-      subst (λ (m : ℕ). WritesMarked charset columns (λ k. false) column (suc (suc n)) bytes (text ++ end_after (closes m))) (let m : suc n + 1 ≡ suc (suc n) = omega arith in m)
-      (one_more (suc n) bytes text front rest before field (omega (arith, few)) b t (subst (λ l. WritesMarked charset columns (λ k. false) column (suc n) front l) unclosed inner) y)
+  -- the fields of cells before the last are their text
+  earlier : (d : Form) (n : ℕ) (bytes text : List ℕ) → n < length forms → WritesForms charset forms column n bytes text → WritesMarked charset columns (λ k. false) column n bytes text
+  earlier d zero bytes text few x = x
+  earlier d (suc n) bytes text few x = rw (not_closed _ few, append-nil) at (one_more {m = suc n} d n _ _ (omega arith) (omega arith) x (earlier d n _ _ (omega arith) x.6))
 
--- the fields of some cells are the text of a run over them
-pub run_marked : (charset : Charset) (forms : List Form) (column : ℕ) (ends : Bool) (columns : List Column) → AreNext forms ends (drop column columns) → (cells : ℕ) (bytes fields : List ℕ) → 0 < cells → cells ≤ length forms
-    → WritesForms charset forms column cells bytes fields → WritesMarked charset columns (λ k. false) column cells bytes (fields ++ end_after (ends && (cells == length forms)))
-run_marked charset forms column ends columns next zero bytes fields some few x = absurd (omega (arith, some))
-run_marked charset forms column ends columns next (suc n) bytes fields some few x = fields_marked charset forms column ends columns next (some_first forms (omega (arith, few))).0 n bytes fields few x
+  -- the fields of some cells are the text of a run over them
+  pub run_marked : (cells : ℕ) (bytes fields : List ℕ) → 0 < cells → cells ≤ length forms → WritesForms charset forms column cells bytes fields → WritesMarked charset columns (λ k. false) column cells bytes (fields ++ end_after (closes cells))
+  run_marked zero bytes fields some few x = absurd (omega (arith, some))
+  run_marked (suc n) bytes fields some few x =
+      let d = (some_first forms (omega (arith, few))).0 in
+      one_more d n bytes fields (omega arith) few x (earlier d n x.0 x.2 (omega arith) x.6)
 
 -- what stands before the comma of the next cell
 pub before_comma : (made column : ℕ) (to fields : List ℕ) → 0 < column → made ≤ length to → take made to ≡ fields ++ after_comma column [] → take (made - 1) to ≡ fields
@@ -103,8 +93,9 @@ module _ (charset : Charset) (forms : List Form) (column : ℕ) (bytes : List �
       let is' : take (made + m + 1) (slice_set all (made + m) 44) ≡ (fields ++ after_comma (column + k) field) ++ after_comma (column + (k + 1)) [] =
       take_more_set all (made + m) 44 here ∙ ap (λ l. l ++ 44 ∷ []) (made_more made m to text rest within (omega (arith, some)) ∙ ap (λ l. l ++ field) is ∙ append_assoc fields (after_comma (column + k) []) field ∙ ap (λ l. fields ++ l) (sym (after_append (column + k) [] field)))
       ∙ ap (λ l. (fields ++ after_comma (column + k) field) ++ l) (after_some_column (column + (k + 1)) [] (λ e. omega (arith, e))) in
-      let written : WritesForms charset forms column (suc k) (take (used + u) bytes) (fields ++ after_comma (column + k) field) = (take used bytes, read, fields, field, used_more used u bytes, refl, x, λ form. subst (λ (f : Form). WritesField charset f.kind read field) (get_or_default forms k d form there) wrote) in
-      rw further (fields ++ after_comma (column + k) field, subst (λ (n : ℕ). WritesForms charset forms column n (take (used + u) bytes) (fields ++ after_comma (column + k) field)) (let n : suc k ≡ k + 1 = omega arith in n) written, is')
+      let written : WritesForms charset forms column (suc k) (take (used + u) bytes) (fields ++ after_comma (column + k) field) = (take used bytes, read, fields, field, used_more used u bytes, refl, x, λ form. rw (get_or_default forms k d form there) at wrote) in
+      let next : suc k ≡ k + 1 = omega arith in
+      rw further (fields ++ after_comma (column + k) field, rw (← next) written, is')
 
   -- what is left of the bytes, after some more of them
   pub left_after : (rest : List ℕ) (u : ℕ) → length rest ≤ length bytes → rest ≡ drop (length bytes - length rest) bytes → u ≤ length rest

@@ -1,6 +1,5 @@
 -- What a text that grows is, and what the cells and rows that are read add to it.
-use Rattle.tds_rows.proofs.Words.{common_steps, ◌≡◌, ℕ, Bool, true, false, List, [], ◌∷◌, ◌++◌, refl, sym, ◌∙◌, ap, subst, append_assoc, append-nil, arith, Option, Some, None, ◌==◌, ◌||◌, nat_lt, map, codes, map-append, joined, null_field, Conversion, closing, conversion_rest, conversion_text, is_fit, is_begun, is_quoted, long_field, open_field, open_closes, open_grows, begun_by_test, IsNext, or_cases, choose, eq_true, lt_true, Column, Charset, Cell, Null, field, shape, CellPart, ShortData, ChunkLength, ChunkData, WholeCell, cell_start, cell_add, cell, field_so_far, chunk_fault, RowPart, Bitmap, InCell, WholeRow, next_cell, with_cell, row_add, row, with_field, row_so_far}
-use Rattle.tds_rows.proofs.CellMeaning.{guard_none, unless_none}
+use Rattle.tds_rows.proofs.{Words.{common_steps, ◌≡◌, ℕ, Bool, true, false, List, [], ◌∷◌, ◌++◌, refl, sym, ◌∙◌, ap, append_assoc, append-nil, arith, Option, Some, None, ◌==◌, ◌||◌, nat_lt, map, codes, map-append, joined, null_field, Conversion, closing, conversion_rest, conversion_text, is_fit, is_begun, is_quoted, long_field, open_field, open_closes, open_grows, begun_by_test, IsNext, or_cases, choose, eq_true, lt_true, Column, Charset, Cell, Null, field, shape, CellPart, ShortData, ChunkLength, ChunkData, WholeCell, cell_start, cell_add, cell, field_so_far, chunk_fault, RowPart, Bitmap, InCell, WholeRow, next_cell, with_cell, row_add, row, with_field, row_so_far}, CellMeaning.{guard_none, unless_none}}
 
 -- the second text begins with the first
 abbrev pub Grows : List ℕ → List ℕ → Type 0
@@ -43,8 +42,8 @@ OptionGrows (Some a) (Some b) = Grows a b
 
 -- more of the field that is read
 with_field_grows : (cells : List Cell) (a b : Option (List ℕ)) → OptionGrows a b → Grows (joined (with_field cells a)) (joined (with_field cells b))
-with_field_grows cells None None h = grows_same (joined (map field cells))
-with_field_grows cells None (Some b) h = joined_more (map field cells) (b ∷ [])
+with_field_grows cells None None h = grows_same _
+with_field_grows cells None (Some b) h = joined_more (map field cells) _
 with_field_grows cells (Some a) None h = absurd h
 with_field_grows cells (Some a) (Some b) h = joined_last (map field cells) a b h
 
@@ -71,11 +70,7 @@ end_fit column c total content n h z = grind (arith, guard_none, unless_none)
 module _ (column : ℕ) where
   -- each element of a cell adds to its text
   pub cell_grows : (p : CellPart) (e : List ℕ) → IsNext (cell column) p e → OptionGrows (field_so_far p) (field_so_far (cell_add p e))
-  cell_grows (WholeCell x) e n = grows_same _
-  cell_grows (ShortData c left content) e n = grind (arith, common_steps, unless_none, open_more, choose, grows_trans, long_grows, last_fit)
-  cell_grows (ChunkLength c total content) e n = grind (arith, grows_same, long_grows)
-  cell_grows (ChunkData c total left content) e n = grind (arith, open_more)
-  cell_grows p e n = tt
+  cell_grows p e n = grind (arith, common_steps, grows_same, unless_none, open_more, choose, grows_trans, long_grows, last_fit)
 
 -- ---- a row
 
@@ -88,7 +83,7 @@ module _ (charset : Charset) where
 
   -- a cell in its row
   with_cell_grows : (cells : List Cell) (ks : List (Column × Bool)) (p : CellPart) → Grows (joined (with_field cells (field_so_far p))) (row_so_far (with_cell charset cells ks p))
-  with_cell_grows cells ks (WholeCell c) = subst (λ v. Grows (joined v) (row_so_far (next_cell charset (cells ++ c ∷ []) ks))) (map-append field cells _) (next_grows (cells ++ c ∷ []) ks)
+  with_cell_grows cells ks (WholeCell c) = rw map-append at (next_grows (cells ++ c ∷ []) ks)
   with_cell_grows cells ks (ShortData c left content) = grows_same (joined (map field cells ++ open_field c content ∷ []))
   with_cell_grows cells ks (ChunkLength c total content) = grows_same (joined (map field cells ++ open_field c content ∷ []))
   with_cell_grows cells ks (ChunkData c total left content) = grows_same (joined (map field cells ++ open_field c content ∷ []))

@@ -1,7 +1,6 @@
 -- What joiners do with the pieces of some content, in the words of their conversion.
-use Rattle.tds_rows.proofs.Words.{common_steps, ◌≡◌, ◌∙◌, ℕ, ◌+◌, ◌-◌, ◌^◌, ◌<◌, ◌≤◌, Bool, false, List, [], ◌∷◌, ◌++◌, length, take, drop, inl, inr, refl, sym, ap, subst, arith, append_assoc, append-nil, length-append, Result, Ok, Err, get_or, Option, append_cancel_left, length-take-le, take-append-drop, drop_more, take_more, BadText, Stop, Seen, Takes, IsBetween, Takes-more, Takes-none, takes_both, BeginsData, Conversion, IsFit, Suits, closing, conversion_rest, conversion_text, emit, JoinFault, Odd, Stopped, Completes, EndsBy, LeavesPart, Pushes, TakesPiece, TakesUpTo, is_stopped, end_after, Sink, Breaks, Held, Puts, PutsPiece, held, begun_front, joins_by_name, Breaks-after, Breaks-longer, Puts-none, Puts-trans, BreaksData, EndPut, EndsData, FillsData, RefusesData, StopsData, StopsEnding, StopsFilling, TakesData, added_text, good_of, join_stop, Payload}
+use Rattle.tds_rows.proofs.{Words.{common_steps, ◌≡◌, ◌∙◌, ℕ, ◌+◌, ◌-◌, ◌^◌, ◌<◌, ◌≤◌, Bool, false, List, [], ◌∷◌, ◌++◌, length, take, drop, inl, inr, refl, sym, ap, subst, arith, append_assoc, append-nil, length-append, Result, Ok, Err, get_or, Option, append_cancel_left, length-take-le, take-append-drop, drop_more, take_more, BadText, Stop, Seen, Takes, IsBetween, Takes-more, Takes-none, takes_both, BeginsData, Conversion, IsFit, Suits, closing, conversion_rest, conversion_text, emit, JoinFault, Odd, Stopped, Completes, EndsBy, LeavesPart, Pushes, TakesPiece, TakesUpTo, is_stopped, end_after, Sink, Breaks, Held, Puts, PutsPiece, held, begun_front, joins_by_name, Breaks-after, Breaks-longer, Puts-none, Puts-trans, BreaksData, EndPut, FillsData, RefusesData, StopsData, StopsEnding, StopsFilling, TakesData, added_text, join_stop, Payload}, Paths.At}
 use Rattle.tds_csv.specs.declared.joiners.JoinFault.TheVariants as join_faults
-use Rattle.tds_rows.proofs.Paths.{At}
 
 module _ {fit begins : List ℕ → Type 0} {rest text : List ℕ → List ℕ} {size : ℕ} {quoted : Bool} {c : Conversion} (suits : Suits fit begins rest text size quoted c) where
   module _ (content : List ℕ) {old : List ℕ} (is : old ≡ conversion_rest c content) (begun : BeginsData c content) where
@@ -26,9 +25,9 @@ module _ {fit begins : List ℕ → Type 0} {rest text : List ℕ → List ℕ} 
         }
 
     -- a byte of it is bad
-    pub piece_bad : {new : List ℕ} {k : ℕ} {h i : Held} (piece : List ℕ) (column most : ℕ) (a b : Seen) (place : ℕ) → length piece ≤ most → Takes a b piece 1 → IsBetween b → TakesUpTo begins rest text old new h i piece k
+    piece_bad : {new : List ℕ} {k : ℕ} {h i : Held} {column most : ℕ} {a b : Seen} {place : ℕ} (piece : List ℕ) → length piece ≤ most → Takes a b piece 1 → IsBetween b → TakesUpTo begins rest text old new h i piece k
         → RefusesData c content column most a b place h i (record { fault = BadText column; place = Payload (place + k) })
-    piece_bad {k = k} {h = h} piece column most a b place short takes between x =
+    piece_bad {k = k} {h = h} {column = column} {a = a} {b = b} {place = place} piece short takes between x =
         let within = x.within in
         let len = length-take-le k piece (omega arith) in
         let good = take _ piece in
@@ -50,8 +49,8 @@ module _ {fit begins : List ℕ → Type 0} {rest text : List ℕ → List ℕ} 
         }
 
     -- a write of its text failed
-    pub piece_breaks : (piece : List ℕ) (most : ℕ) (a b : Seen) (h i : Held) (stop : Stop) → length piece ≤ most → Takes a b piece 1 → IsBetween b → begins old → Breaks h i (emit rest text (old ++ piece)) stop → BreaksData c content most a b h i stop
-    piece_breaks piece most a b h i stop short takes between begins_old breaks =
+    piece_breaks : {most : ℕ} {a b : Seen} {h i : Held} {stop : Stop} (piece : List ℕ) → length piece ≤ most → Takes a b piece 1 → IsBetween b → begins old → Breaks h i (emit rest text (old ++ piece)) stop → BreaksData c content most a b h i stop
+    piece_breaks {h = h} {i = i} {stop = stop} piece short takes between begins_old breaks =
         let f = begun_front c old piece ((suits.begins_is old).0 begins_old) in
         let good = take f.taken piece in
         let within = f.within in
@@ -66,11 +65,11 @@ module _ {fit begins : List ℕ → Type 0} {rest text : List ℕ → List ℕ} 
         }
 
     -- the fault of a push
-    pub push_stops : (new piece : List ℕ) (column most : ℕ) (a b : Seen) (place : ℕ) (h i : Held) (before after : Bool) (fault : JoinFault) → length piece ≤ most → Takes a b piece 1 → IsBetween b → begins old → before ≡ false → after ≡ is_stopped {U = Unit {0}} (Err fault)
+    pub push_stops : {column most : ℕ} {a b : Seen} {place : ℕ} {h i : Held} {before after : Bool} (new piece : List ℕ) (fault : JoinFault) → length piece ≤ most → Takes a b piece 1 → IsBetween b → begins old → before ≡ false → after ≡ is_stopped {U = Unit {0}} (Err fault)
         → Pushes {U = Unit {0}} begins rest text old new h i before piece (Err fault) → StopsData c content column most a b place h i after (join_stop column place fault)
-    push_stops new piece column most a b place h i before after (Stopped stop) short takes between begins_old going failed x = inr (inr (piece_breaks piece most a b h i stop short takes between begins_old (x going), failed))
-    push_stops new piece column most a b place h i before after Odd short takes between begins_old going failed x = absurd x
-    push_stops new piece column most a b place h i before after (join_faults.BadText k) short takes between begins_old going failed x = inr (inl (piece_bad piece column most a b place short takes between x, failed))
+    push_stops new piece (Stopped stop) short takes between begins_old going failed x = inr (inr (piece_breaks piece short takes between begins_old (x going), failed))
+    push_stops new piece Odd short takes between begins_old going failed x = absurd x
+    push_stops new piece (join_faults.BadText k) short takes between begins_old going failed x = inr (inl (piece_bad piece short takes between x, failed))
 
     -- ---- the end
 
@@ -78,25 +77,21 @@ module _ {fit begins : List ℕ → Type 0} {rest text : List ℕ → List ℕ} 
     fit_whole h = (joins_by_name c).fit_whole content begun (subst (IsFit c) is ((suits.fit_is old).0 h))
 
     -- the content is whole
-    pub end_whole : (new : List ℕ) (h i : Held) → Completes fit text old new h i → IsFit c content × Puts h i (conversion_text c (conversion_rest c content))
-    end_whole new h i x = grind (arith, common_steps, fit_whole)
+    pub end_whole : {new : List ℕ} {h i : Held} → Completes fit text old new h i → IsFit c content × Puts h i (conversion_text c (conversion_rest c content))
+    end_whole x = grind (arith, common_steps, fit_whole)
 
     -- it isn't
-    pub end_part : (new : List ℕ) (h i : Held) → LeavesPart fit old new h i → IsFit c content → ⊥
-    end_part new h i x whole = x.part ((suits.fit_is old).1 (subst (IsFit c) (sym is) ((joins_by_name c).fit_rest content whole)))
+    end_part : {new : List ℕ} {h i : Held} → LeavesPart fit old new h i → IsFit c content → ⊥
+    end_part x whole = x.part ((suits.fit_is old).1 (subst (IsFit c) (sym is) ((joins_by_name c).fit_rest content whole)))
 
     -- the fault of an end
-    pub end_stops : (new : List ℕ) (column place unit' : ℕ) (last : Bool) (h i : Held) (before after : Bool) (fault : JoinFault) → before ≡ false → after ≡ is_stopped {U = Unit {0}} (Err fault) → EndsBy {U = Unit {0}} unit' fit text old new h i before (Err fault)
+    pub end_stops : {column place : ℕ} {h i : Held} {before after : Bool} (new : List ℕ) (unit' : ℕ) (last : Bool) (fault : JoinFault) → before ≡ false → after ≡ is_stopped {U = Unit {0}} (Err fault) → EndsBy {U = Unit {0}} unit' fit text old new h i before (Err fault)
         → StopsEnding c quoted last content column place h i after (join_stop column place fault)
-    end_stops new column place unit' last h i before after (Stopped stop) going failed x =
+    end_stops {h = h} {i = i} new unit' last (Stopped stop) going failed x =
         let breaks = subst (λ l. Breaks h i l stop) (suits.text_is old ∙ ap (conversion_text c) is) (x going).1 in
         inl (fit_whole (x going).0, Breaks-longer h i _ _ stop breaks, failed)
-    end_stops new column place unit' last h i before after Odd going failed x = inr (end_part new h i x.0, x.0.put, ap (λ n. record { fault = BadText column; place = Payload n }) (omega arith), failed)
-    end_stops new column place unit' last h i before after (join_faults.BadText k) going failed x = inr (end_part new h i x.0, x.0.put, ap (λ n. record { fault = BadText column; place = Payload n }) (omega arith), failed)
-
--- no push says that more bytes are good than the piece has
-pub good_within : (begins : List ℕ → Type 0) (rest text : List ℕ → List ℕ) (old new : List ℕ) (h i : Held) (failed : Bool) (piece : List ℕ) (fault : JoinFault) → Pushes {U = Unit {0}} begins rest text old new h i failed piece (Err fault) → good_of fault ≤ length piece
-good_within begins rest text old new h i failed piece fault x = grind arith
+    end_stops {column = column} {place = place} new unit' last Odd going failed x = inr (end_part x.0, x.0.put, ap (λ n. record { fault = BadText column; place = Payload n }) (omega arith), failed)
+    end_stops {column = column} {place = place} new unit' last (join_faults.BadText k) going failed x = inr (end_part x.0, x.0.put, ap (λ n. record { fault = BadText column; place = Payload n }) (omega arith), failed)
 
 -- ---- piece after piece
 
@@ -119,11 +114,11 @@ module _ (c : Conversion) (content : List ℕ) (begun : BeginsData c content) wh
   -- nothing was read
   fills_none : {p : At} → IsBetween p.seen → length p.held.waiting < 4096 → p.held.delivered ≤ 2 ^ 64 - 1 → FillsData c content p.seen p.seen p.place p.place p.held p.held []
   fills_none {p = p} between few delivered = record {
-    takes = Takes-none p.seen 0;
+    takes = Takes-none _ 0;
     between = between;
     place_is = omega arith;
     begun = rw (sym (append-nil content)) at begun;
-    puts = rw added_none (Puts-none p.held delivered);
+    puts = rw added_none (Puts-none _ delivered);
     few = few;
     delivered = delivered;
   }
@@ -160,9 +155,6 @@ module _ {c : Conversion} {content kept : List ℕ} {p q : At} {n left : ℕ} (b
     counted = omega (arith, length-append x.more y.piece);
     kept_is = y.kept_is ∙ ap (conversion_rest c) (append_assoc content x.more y.piece);
   }
-
-  pub filled_ends : {kept' : List ℕ} {r : At} (k : ℕ) → left ≡ k → TakesData c (content ++ x.more) kept' q.seen r.seen q.place r.place q.held r.held k → EndsData c content kept' p.seen r.seen p.place r.place p.held r.held n
-  filled_ends k all y = grind arith
 
   pub filled_stops : {column : ℕ} {d : Seen} {j : Held} {failed : Bool} {stop : Stop} → 0 < left → StopsData c (content ++ x.more) column left q.seen d q.place q.held j failed stop → StopsFilling c content column n p.seen d p.place p.held j failed stop
   filled_stops {column = column} {d = d} {j = j} {failed = failed} {stop = stop} some y =

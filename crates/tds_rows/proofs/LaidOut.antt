@@ -1,7 +1,5 @@
 -- Cells by how their values are laid out.
-use Rattle.tds_rows.proofs.Words.{common_steps, ◌≡◌, ℕ, ◌<◌, Bool, true, false, List, length, replicate, get_or, refl, arith, ◌==◌, slice_set, get_or-set_at, get_or-replicate, get_or-set_other, length-replicate, length-set, Kind, Reach, is_scalar, eq_false, eq_true, Content, Conversion, Charset, Form, Layout, LongShape, shape, value_length, value_start, whole_size, AreLaidOut, HasValueAt, IsLaidOut, short_size}
-use Rattle.tds_rows.specs.declared.form.Layout.TheVariants.{Long}
-use Rattle.tds_rows.proofs.CellSteps.{}
+use Rattle.tds_rows.{proofs.Words.{common_steps, ◌≡◌, ℕ, ◌<◌, Bool, true, false, List, length, replicate, get_or, refl, arith, ◌==◌, slice_set, get_or-set_at, get_or-replicate, get_or-set_other, length-replicate, length-set, Kind, Reach, is_scalar, eq_false, eq_true, Content, Conversion, Charset, Form, Layout, LongShape, shape, value_length, value_start, whole_size, AreLaidOut, HasValueAt, IsLaidOut, short_size}, specs.declared.form.Layout.TheVariants.Long}
 
 -- the same form many times
 pub laid_all : (charset : Charset) (n : ℕ) (f : Form) → IsLaidOut charset f.kind f.layout → AreLaidOut charset (replicate n f)
@@ -23,7 +21,7 @@ module _ (charset : Charset) (kind : Kind) where
   value_there l bytes start n laid h = grind (arith, common_steps)
 
   -- a kind whose values have contents is a long one
-  pub is_long_kind : (c : Conversion) (r : Reach) → shape charset kind ≡ LongShape c r → is_scalar kind ≡ false
+  is_long_kind : (c : Conversion) (r : Reach) → shape charset kind ≡ LongShape c r → is_scalar kind ≡ false
   is_long_kind c r is = grind (arith, common_steps)
 
   -- ---- a cell that is left, and a short value

@@ -1,8 +1,11 @@
 -- Long values, in the grammar of a cell: the text of its parts, and the pieces of its content.
-use Rattle.tds_rows.proofs.Words.{common_steps, ◌≡◌, ◌∙◌, ◌⊎◌, inl, inr, ℕ, suc, ◌+◌, ◌-◌, ◌^◌, ◌<◌, ◌≤◌, Bool, true, false, List, [], ◌∷◌, ◌++◌, length, refl, sym, ap, subst, arith, append_assoc, append-nil, length-append, Option, Some, None, ◌&&◌, ◌||◌, nat_lt, and_from, cases_lt, ne_eqb, or_left, or_right, append_cancel_left, BadText, MessageEnded, Stop, Spelt, Seen, Takes, IsBetween, choose_false, test_lt, Spelt-append, Spelt-step, Takes-more, began_is_cut, cut_at_once, BeginsData, Conversion, conversion_rest, conversion_text, is_begun, is_fit, is_quoted, closing, long_field, open_field, emit, after_comma, end_after, in_line, Breaks, Held, Puts, StopsStreaming, open_grows, open_closes, unfit_adds_none, begun_by_test, joins_by_name, breaks_somewhere, Breaks-after, Breaks-longer, Puts-none, Puts-trans, CellPart, ShortData, cell, cell_add, cell_end, cell_fault, cell_size, field_so_far, unless, cell_so_far, BreaksData, CutsData, EndsData, FillsData, RefusesData, StopsData, StopsFilling, added_text, ending, nil_of_length, Payload}
-use Rattle.tds_rows.proofs.{Paths.At, Paths.Path, Paths.path_both, Paths.path_stops, NullTexts.line_grows, NullTexts.opened_text, LineTexts.after_append, CellLaws.unless_true, CellWords.chunk_left, CellWords.short_left}
+use Rattle.tds_rows.proofs.{Words.{StopsField, common_steps, ◌≡◌, ◌∙◌, ◌⊎◌, inl, inr, ℕ, suc, ◌+◌, ◌-◌, ◌^◌, ◌<◌, ◌≤◌, Bool, true, false, List, [], ◌∷◌, ◌++◌, length, refl, sym, ap, subst, arith, append_assoc, append-nil, length-append, Option, Some, None, ◌&&◌, ◌||◌, nat_lt, and_from, cases_lt, ne_eqb, or_left, or_right, append_cancel_left, BadText, MessageEnded, Stop, Spelt, Seen, Takes, IsBetween, choose_false, test_lt, Spelt-append, Spelt-step, Takes-more, began_is_cut, cut_at_once, BeginsData, Conversion, conversion_rest, conversion_text, is_begun, is_fit, is_quoted, closing, long_field, open_field, emit, after_comma, end_after, in_line, Breaks, Held, Puts, open_grows, open_closes, unfit_adds_none, begun_by_test, joins_by_name, breaks_somewhere, Breaks-after, Breaks-longer, Puts-none, Puts-trans, CellPart, ShortData, cell, cell_add, cell_end, cell_fault, cell_size, field_so_far, unless, cell_so_far, BreaksData, CutsData, EndsData, FillsData, RefusesData, StopsData, StopsFilling, added_text, ending, nil_of_length, Payload}, Paths.{At, Path, path_both, path_stops}, RowSteps.{line_grows, opened_text}, LineTexts.after_append, CellLaws.unless_true, Numbers.{chunk_left, short_left}}
 
 -- ---- content, byte by byte
+
+-- the text of what of some content isn't withheld
+abbrev pub emitted : Conversion → List ℕ → List ℕ
+emitted c = emit (conversion_rest c) (conversion_text c)
 
 -- The states of the bytes of some content, by how many follow and what was read: each next byte is an element, and free of faults where text begins so, and where the content is good at its end.
 pub record HoldsContent (column : ℕ) (c : Conversion) (state : ℕ → List ℕ → CellPart) (Good : List ℕ → Type 0) : Type 0 where
@@ -12,7 +15,7 @@ pub record HoldsContent (column : ℕ) (c : Conversion) (state : ℕ → List �
   pub add : (r : ℕ) (d : List ℕ) (x : ℕ) → cell_add (state (suc r) d) (x ∷ []) ≡ state r (d ++ x ∷ [])
   pub free : (r : ℕ) (d : List ℕ) (x : ℕ) → is_begun c (d ++ x ∷ []) ≡ true → (r ≡ 0 → Good (d ++ x ∷ [])) → cell_fault column (state (suc r) d) (x ∷ []) ≡ None
   pub bad : (r : ℕ) (d : List ℕ) (x : ℕ) → is_begun c (d ++ x ∷ []) ≡ false → cell_fault column (state (suc r) d) (x ∷ []) ≡ Some (BadText column)
-  pub ends : (d : List ℕ) (x : ℕ) → Good (d ++ x ∷ []) ⊎ (emit (conversion_rest c) (conversion_text c) (d ++ x ∷ []) ≡ emit (conversion_rest c) (conversion_text c) d)
+  pub ends : (d : List ℕ) (x : ℕ) → Good (d ++ x ∷ []) ⊎ (emitted c (d ++ x ∷ []) ≡ emitted c d)
   pub whole : (last : Bool) (d : List ℕ) → Good d → (more : List ℕ) × (after_comma column (open_field c d) ++ more ≡ cell_so_far column last (state 0 d))
 
 -- a list that isn't empty has a last number
@@ -50,7 +53,7 @@ module _ {column : ℕ} {c : Conversion} {state : ℕ → List ℕ → CellPart}
   text_more d more begun = grind (arith, common_steps, after_append, column, open_grows)
 
   -- what some content adds to the text, where more follows
-  pub text_grown : (d more : List ℕ) (r r' : ℕ) → BeginsData c (d ++ more) → cell_so_far column last (state (suc r) d) ++ added_text c d more ≡ cell_so_far column last (state (suc r') (d ++ more))
+  text_grown : (d more : List ℕ) (r r' : ℕ) → BeginsData c (d ++ more) → cell_so_far column last (state (suc r) d) ++ added_text c d more ≡ cell_so_far column last (state (suc r') (d ++ more))
   text_grown d more r r' begun = grind (arith, common_steps, text_at, text_more)
 
   -- and where none does
@@ -71,15 +74,15 @@ module _ {column : ℕ} {c : Conversion} {state : ℕ → List ℕ → CellPart}
       }
 
   -- what the last byte adds to the text, where it isn't good there
-  adds_none : (d p : List ℕ) (x : ℕ) → BeginsData c (d ++ (p ++ x ∷ [])) → emit (conversion_rest c) (conversion_text c) ((d ++ p) ++ x ∷ []) ≡ emit (conversion_rest c) (conversion_text c) (d ++ p) → added_text c d (p ++ x ∷ []) ≡ added_text c d p
+  adds_none : (d p : List ℕ) (x : ℕ) → BeginsData c (d ++ (p ++ x ∷ [])) → emitted c ((d ++ p) ++ x ∷ []) ≡ emitted c (d ++ p) → added_text c d (p ++ x ∷ []) ≡ added_text c d p
   adds_none d p x begun same =
       let laws = joins_by_name c in
       let regroup = sym (append_assoc d p _) in
-      append_cancel_left _ _ _ (sym (laws.emits d _ begun) ∙ ap (emit (conversion_rest c) (conversion_text c)) regroup ∙ same ∙ laws.emits d p (laws.front _ _ (subst (BeginsData c) regroup begun)))
+      append_cancel_left _ _ _ (sym (laws.emits d _ begun) ∙ ap (emitted c) regroup ∙ same ∙ laws.emits d p (laws.front _ _ (subst (BeginsData c) regroup begun)))
 
   -- the byte after some that are good is refused
   byte_refused : {a b : Seen} {h i : Held} {m : ℕ} (d good ahead : List ℕ) (y r place : ℕ) → m ≡ length good + suc r → BeginsData c (d ++ good) → cell_fault column (state (suc r) (d ++ good)) (y ∷ []) ≡ Some (BadText column) → Takes a b (good ++ y ∷ ahead) 1 → IsBetween b → Puts h i (added_text c d good)
-      → StopsStreaming (cell column) (cell_so_far column last) (state m d) a b place h i false (record { fault = BadText column; place = Payload (place + length good) })
+      → StopsField (state m d) column last a b place h i false (record { fault = BadText column; place = Payload (place + length good) })
   byte_refused {a = a} {m = m} d good ahead y r place is begun bad takes between puts =
       let next : suc (length good + r) ≡ m = omega arith in
       record {
@@ -106,62 +109,65 @@ module _ {column : ℕ} {c : Conversion} {state : ℕ → List ℕ → CellPart}
         );
       }
 
-  module _ (d : List ℕ) (r : ℕ) (a b : Seen) (place : ℕ) (h i : Held) (few : length h.waiting < 4096) (delivered : h.delivered ≤ 2 ^ 64 - 1) where
-    piece_cut : (stop : Stop) → CutsData a b place h i stop → StopsStreaming (cell column) (cell_so_far column last) (state (suc r) d) a b place h i false stop
-    piece_cut stop x =
+  module _ (d : List ℕ) (r : ℕ) (a b : Seen) (place : ℕ) (h i : Held) (stop : Stop) (few : length h.waiting < 4096) (delivered : h.delivered ≤ 2 ^ 64 - 1) where
+    abbrev Stopped : Bool → Type 0
+    Stopped failed = StopsField (state (suc r) d) column last a b place h i failed stop
+
+    piece_cut : CutsData a b place h i stop → Stopped false
+    piece_cut x =
         let at = state _ d in
-        let stops = cut_at_once _ at a b place [] x.own stop (omega arith) x.ends (began_is_cut place _ x.own stop (holds.end r d) x.stop_is) in
+        let stops = cut_at_once _ _ a b _ _ _ _ (omega arith) x.ends (began_is_cut _ _ _ _ (holds.end r d) x.stop_is) in
         rw x.same (record { at = at; cause = inl (stops, ([], append-nil _, Puts-none h delivered), refl) })
 
-    piece_refused : (stop : Stop) → RefusesData c d column (suc r) a b place h i stop → StopsStreaming (cell column) (cell_so_far column last) (state (suc r) d) a b place h i false stop
-    piece_refused stop x =
+    piece_refused : RefusesData c d column (suc r) a b place h i stop → Stopped false
+    piece_refused x =
         let within : length x.good < suc r = x.within in
-        let no = no_text_false c ((d ++ x.good) ++ x.bad ∷ []) (is_begun c ((d ++ x.good) ++ x.bad ∷ [])) refl x.no_text in
-        rw x.stop_is (byte_refused d x.good x.ahead x.bad (r - length x.good) place (omega (arith, within)) x.begun (holds.bad (r - length x.good) (d ++ x.good) x.bad no) x.takes x.between x.puts)
+        let no = no_text_false c _ _ refl x.no_text in
+        rw x.stop_is (byte_refused d _ _ _ _ _ (omega (arith, within)) x.begun (holds.bad (r - length x.good) (d ++ x.good) x.bad no) x.takes x.between x.puts)
 
     -- a write of the text of a piece failed, whose bytes lead to a state
-    broken : (good ahead added : List ℕ) (to : CellPart) (stop : Stop) → Spelt (cell column) (state (suc r) d) good to → Takes a b (good ++ ahead) 1 → IsBetween b → cell_so_far column last (state (suc r) d) ++ added ≡ cell_so_far column last to → Breaks h i added stop
-        → StopsStreaming (cell column) (cell_so_far column last) (state (suc r) d) a b place h i true stop
-    broken good ahead added to stop spelt takes between text_is breaks =
-        let x = breaks_somewhere _ _ (line_grows column last) _ a b h i stop between to good ahead added spelt takes few delivered text_is breaks in
+    broken : (good ahead added : List ℕ) (to : CellPart) → Spelt (cell column) (state (suc r) d) good to → Takes a b (good ++ ahead) 1 → IsBetween b → cell_so_far column last (state (suc r) d) ++ added ≡ cell_so_far column last to → Breaks h i added stop → Stopped true
+    broken good ahead added to spelt takes between text_is breaks =
+        let x = breaks_somewhere _ _ (line_grows column last) _ a b h i _ between to _ _ _ spelt takes few delivered text_is breaks in
         record { at = x.0; cause = inr (x.1, refl) }
 
-    piece_broken_at : (stop : Stop) (ahead p : List ℕ) (x : ℕ) → length (p ++ x ∷ []) ≡ suc r → Takes a b ((p ++ x ∷ []) ++ ahead) 1 → IsBetween b → BeginsData c (d ++ (p ++ x ∷ [])) → Breaks h i (added_text c d (p ++ x ∷ [])) stop
-        → StopsStreaming (cell column) (cell_so_far column last) (state (suc r) d) a b place h i true stop
-    piece_broken_at stop ahead p x all takes between begun breaks =
+    piece_broken_at : (ahead p : List ℕ) (x : ℕ) → length (p ++ x ∷ []) ≡ suc r → Takes a b ((p ++ x ∷ []) ++ ahead) 1 → IsBetween b → BeginsData c (d ++ (p ++ x ∷ [])) → Breaks h i (added_text c d (p ++ x ∷ [])) stop → Stopped true
+    piece_broken_at ahead p x all takes between begun breaks =
         let good = p ++ x ∷ [] in
         let same = sym (append_assoc d p _) in
         elim (holds.ends _ x) [
           | inl whole ↦
               (let fine = subst Good (sym same) whole in
               let w = holds.whole last _ fine in
-              broken good ahead _ _ stop (content_spelt d good _ 0 (omega arith) begun (λ _ _. fine)) takes between (text_closed d good w.0 r begun w.1) (Breaks-longer h i _ w.0 stop breaks))
+              broken _ _ _ _ (content_spelt d _ _ 0 (omega arith) begun (λ _ _. fine)) takes between (text_closed d _ _ r begun w.1) (Breaks-longer h i _ _ _ breaks))
           | inr none ↦
               (let front = (joins_by_name c).front _ _ (subst (BeginsData c) same begun) in
-              broken p _ _ _ stop (front_spelt d p 0 (omega (arith, length-append p (x ∷ []))) front) (rw append_assoc at takes) between (text_grown d p r 0 front) (rw (adds_none d p x begun none) at breaks))
+              broken p _ _ _ (front_spelt d p 0 (omega (arith, length-append p (x ∷ []))) front) (rw append_assoc at takes) between (text_grown d p r 0 front) (rw (adds_none d p x begun none) at breaks))
         ]
 
-    piece_broken : (stop : Stop) → BreaksData c d (suc r) a b h i stop → StopsStreaming (cell column) (cell_so_far column last) (state (suc r) d) a b place h i true stop
-    piece_broken stop x =
+    piece_broken : BreaksData c d (suc r) a b h i stop → Stopped true
+    piece_broken x =
         elim (cases_lt (length x.good) (suc r)) [
-          | inl less ↦ broken x.good x.ahead _ _ stop (front_spelt d x.good (r - length x.good) (omega arith) x.begun) x.takes x.between (text_grown d x.good r (r - length x.good) x.begun) x.breaks
+          | inl less ↦ broken x.good x.ahead _ _ (front_spelt d x.good (r - length x.good) (omega arith) x.begun) x.takes x.between (text_grown d x.good r (r - length x.good) x.begun) x.breaks
           | inr more ↦
               (let within = x.within in
               let all : length x.good ≡ suc r = omega arith in
               let s = snoc_of x.good (omega arith) in
-              piece_broken_at stop x.ahead s.0 s.1 (rw s.2 at all) (rw s.2 at x.takes) x.between (rw s.2 at x.begun) (rw s.2 at x.breaks))
+              piece_broken_at x.ahead s.0 s.1 (rw s.2 at all) (rw s.2 at x.takes) x.between (rw s.2 at x.begun) (rw s.2 at x.breaks))
         ]
 
     -- the next piece stopped
-    pub piece_stops : (failed : Bool) (stop : Stop) → StopsData c d column (suc r) a b place h i failed stop → StopsStreaming (cell column) (cell_so_far column last) (state (suc r) d) a b place h i failed stop
-    piece_stops failed stop x = grind (arith, piece_broken, piece_cut, piece_refused)
+    piece_stops : (failed : Bool) → StopsData c d column (suc r) a b place h i failed stop → Stopped failed
+    piece_stops failed (inl x) = rw x.1 (piece_cut x.0)
+    piece_stops failed (inr (inl x)) = rw x.1 (piece_refused x.0)
+    piece_stops failed (inr (inr x)) = rw x.1 (piece_broken x.0)
 
   -- the content stopped in one of its pieces
-  pub filling_stops : {d : List ℕ} {m : ℕ} {p : At} {b : Seen} {i : Held} {failed : Bool} {stop : Stop} → StopsFilling c d column m p.seen b p.place p.held i failed stop → StopsStreaming (cell column) (cell_so_far column last) (state m d) p.seen b p.place p.held i failed stop
+  pub filling_stops : {d : List ℕ} {m : ℕ} {p : At} {b : Seen} {i : Held} {failed : Bool} {stop : Stop} → StopsFilling c d column m p.seen b p.place p.held i failed stop → StopsField (state m d) column last p.seen b p.place p.held i failed stop
   filling_stops {m = m} x =
       let r = m - length x.front - 1 in
       let left : m - length x.front ≡ suc r = omega arith in
-      path_stops (fills_path m r (omega arith) x.fills) (piece_stops _ _ _ _ x.there _ _ x.fills.few x.fills.delivered _ _ (rw left at x.stops))
+      path_stops (fills_path m r (omega arith) x.fills) (piece_stops _ _ _ _ x.there _ _ _ x.fills.few x.fills.delivered _ (rw left at x.stops))
 
   -- ---- the last piece
 
@@ -197,14 +203,14 @@ module _ {column : ℕ} {c : Conversion} {state : ℕ → List ℕ → CellPart}
 
     -- a write of what ends it failed
     pub ends_break : {j : Held} {stop : Stop} (tail : List ℕ) → Good all_content → after_comma column (open_field c all_content) ++ tail ≡ cell_so_far column last (state 0 all_content) → Breaks q.held j tail stop
-        → StopsStreaming (cell column) (cell_so_far column last) (state m d) p.seen q.seen p.place p.held j true stop
+        → StopsField (state m d) column last p.seen q.seen p.place p.held j true stop
     ends_break tail good whole breaks =
         let taken = rw (sym (append-nil x.takes.piece)) at x.takes.takes in
-        path_stops front_path (broken _ _ _ q.seen x.there _ _ x.fills.few x.fills.delivered _ [] _ _ _ (last_spelt good) taken x.takes.between (text_closed _ _ tail _ x.takes.begun whole) (Breaks-after _ q.held _ _ _ _ x.takes.puts breaks))
+        path_stops front_path (broken _ _ _ _ _ _ _ _ x.fills.few x.fills.delivered _ [] _ _ (last_spelt good) taken x.takes.between (text_closed _ _ _ _ x.takes.begun whole) (Breaks-after _ _ _ _ _ _ x.takes.puts breaks))
 
     -- where the content isn't whole, its last byte is refused
     pub ends_refused : ((e : List ℕ) (y : ℕ) → is_fit c (e ++ y ∷ []) ≡ false → cell_fault column (state 1 e) (y ∷ []) ≡ Some (BadText column)) → is_fit c all_content ≡ false
-        → StopsStreaming (cell column) (cell_so_far column last) (state m d) p.seen q.seen p.place p.held q.held false (record { fault = BadText column; place = Payload (q.place - 1) })
+        → StopsField (state m d) column last p.seen q.seen p.place p.held q.held false (record { fault = BadText column; place = Payload (q.place - 1) })
     ends_refused bad unfit =
         let s = snoc_of _ (omega arith) in
         let e = d ++ x.front in
@@ -224,13 +230,7 @@ short_next : (c : Conversion) (r : ℕ) (d : List ℕ) → short_left c (suc r) 
 short_next c r d = grind (arith, common_steps, choose_false, ne_eqb)
 
 module _ (column : ℕ) (c : Conversion) where
-  short_free : (r : ℕ) (d : List ℕ) (x : ℕ) → is_begun c (d ++ x ∷ []) ≡ true → (r ≡ 0 → is_fit c (d ++ x ∷ []) ≡ true) → (is_begun c (d ++ x ∷ []) && (nat_lt 0 r || is_fit c (d ++ x ∷ []))) ≡ true
-  short_free r d x begun fit = grind (arith, and_from, or_left, or_right, test_lt)
-
-  begun_or : (b : Bool) → b ≡ false → unless b (BadText column) ≡ Some (BadText column)
-  begun_or b h = rw h
-
-  fit_or_none : (d : List ℕ) (x : ℕ) (b : Bool) → is_fit c (d ++ x ∷ []) ≡ b → (is_fit c (d ++ x ∷ []) ≡ true) ⊎ (emit (conversion_rest c) (conversion_text c) (d ++ x ∷ []) ≡ emit (conversion_rest c) (conversion_text c) d)
+  fit_or_none : (d : List ℕ) (x : ℕ) (b : Bool) → is_fit c (d ++ x ∷ []) ≡ b → (is_fit c (d ++ x ∷ []) ≡ true) ⊎ (emitted c (d ++ x ∷ []) ≡ emitted c d)
   fit_or_none d x b is = grind (arith, unfit_adds_none)
 
   -- the end of a value that is whole
@@ -247,8 +247,8 @@ module _ (column : ℕ) (c : Conversion) where
     end = λ r d. ap cell_end (short_next c r d);
     text = λ r d. ap field_so_far (short_next c r d);
     add = λ r d x. ap (λ s. cell_add s (x ∷ [])) (short_next c r d);
-    free = λ r d x begun fit. ap (λ s. cell_fault column s (x ∷ [])) (short_next c r d) ∙ unless_true _ _ (short_free r d x begun fit);
-    bad = λ r d x no. ap (λ s. cell_fault column s (x ∷ [])) (short_next c r d) ∙ begun_or _ (ap (λ v. v && (nat_lt 0 r || is_fit c (d ++ x ∷ []))) no);
+    free = λ r d x begun fit. ap (λ s. cell_fault column s (x ∷ [])) (short_next c r d) ∙ unless_true _ _ (grind (arith, and_from, or_left, or_right, test_lt));
+    bad = λ r d x no. ap (λ s. cell_fault column s (x ∷ [])) (short_next c r d) ∙ ap (λ b. unless (b && (nat_lt 0 r || is_fit c (d ++ x ∷ []))) (BadText column)) no;
     ends = λ d x. fit_or_none d x _ refl;
     whole = λ last d fit. (ending c _ last d, ending_text last d fit);
   }

@@ -1,6 +1,5 @@
 -- Long values, element after element: their lengths, the content between, and the end.
-use Rattle.tds_rows.proofs.Words.{common_steps, ◌≡◌, ◌∙◌, inl, inr, ℕ, zero, suc, ◌-◌, ◌^◌, ◌<◌, ◌≤◌, Bool, true, false, List, [], ◌∷◌, ◌++◌, length, sym, ap, arith, append-nil, Result, Ok, Err, MatchResult, Option, drop-nil, take-nil, Stop, StopsReading, Seen, Spelt-one, Spelt-none, BeginsData, Conversion, HexDigits, IsFit, Utf16Text, Utf8Text, Windows1252Text, conversion_rest, conversion_text, is_quoted, open_field, emit, after_comma, binary_mark, in_line, null_field, quote, Sink, Breaks, Held, IsWriting, Puts, PutsPiece, held, begun_by_test, fit_begins, fit_by_test, no_data_is_fit, hex-nil, Breaks-after, Puts-none, Puts-trans, Breaks-longer, text_nil, Cell, CellPart, Null, ShortLength, WholeCell, cell, PutsField, StopsField, cell_so_far, EndsData, StopsEnding, ending, opening}
-use Rattle.tds_rows.proofs.{LongSteps.ending_text, LongSteps.ends_break, LongSteps.ends_path, LongSteps.ends_refused, LongSteps.short_holds, LongSteps.short_refused, LongSteps.text_at, Numbers.Next, Paths.At, Paths.Path, Paths.path_both, Paths.path_of, Paths.streams_of, CellWords.short_left}
+use Rattle.tds_rows.proofs.{Words.{common_steps, ◌≡◌, ◌∙◌, inl, inr, ℕ, zero, suc, ◌-◌, ◌^◌, ◌<◌, ◌≤◌, Bool, true, false, List, [], ◌∷◌, ◌++◌, length, sym, ap, arith, append-nil, Result, Ok, Err, MatchResult, Option, drop-nil, take-nil, Stop, StopsReading, Seen, Spelt-one, Spelt-none, BeginsData, Conversion, HexDigits, IsFit, Utf16Text, Utf8Text, Windows1252Text, conversion_rest, conversion_text, is_quoted, open_field, emit, after_comma, binary_mark, in_line, null_field, quote, Sink, Breaks, Held, IsWriting, Puts, PutsPiece, held, begun_by_test, fit_begins, fit_by_test, no_data_is_fit, hex-nil, Breaks-after, Puts-none, Puts-trans, Breaks-longer, text_nil, Cell, CellPart, Null, ShortLength, WholeCell, cell, PutsField, StopsField, cell_so_far, EndsData, StopsEnding, ending, opening, ◌≢◌, ◌+◌, refl, length-append, None, unit, ChunkLength, ReadsNumber, chunk_length_fault}, LongSteps.{ending_text, ends_break, ends_path, ends_refused, short_holds, short_refused, text_at, chunk_holds}, Numbers.{Next, short_left, chunk_end, chunk_start, chunk_unfit, chunk_left}, Paths.{At, Path, path_both, path_of, streams_of, path_none, path_stops}}
 
 -- ---- no content
 
@@ -10,7 +9,7 @@ rest_none c = grind (arith, drop-nil)
 emit_none : (c : Conversion) → emit (conversion_rest c) (conversion_text c) [] ≡ []
 emit_none c = grind (arith, common_steps, take-nil, hex-nil, text_nil)
 
-pub open_none : (c : Conversion) → opening (is_quoted c) ≡ open_field c []
+open_none : (c : Conversion) → opening (is_quoted c) ≡ open_field c []
 open_none HexDigits = sym (append-nil binary_mark) ∙ ap (λ l. binary_mark ++ l) (sym (emit_none HexDigits))
 open_none Utf16Text = ap (λ l. quote ∷ l) (sym (emit_none Utf16Text))
 open_none Windows1252Text = ap (λ l. quote ∷ l) (sym (emit_none Windows1252Text))
@@ -36,7 +35,7 @@ reading_stops {s = s} last delivered going x = record { at = s; cause = inl (x, 
 module _ {column place' : ℕ} {s t : CellPart} {p : At} {b : Seen} (last : Bool) (x : Next column s p.seen b p.place place' t) where
   -- an element was read, and its text put
   pub next_path : {i : Held} (added : List ℕ) → cell_so_far column last s ++ added ≡ cell_so_far column last t → Puts p.held i added → Path (cell column) (cell_so_far column last) s p (record { seen = b; place = place'; held = i }) t
-  next_path added text_is puts = record { bytes = x.element; made = added; writes = record { spelt = rw x.to at (Spelt-one (cell column) s x.element x.next); text_is = text_is }; takes = x.takes; puts = puts; place_is = x.place_is }
+  next_path added text_is puts = record { bytes = x.element; made = added; writes = record { spelt = rw x.to at (Spelt-one _ s _ x.next); text_is = text_is }; takes = x.takes; puts = puts; place_is = x.place_is }
 
   -- a write of it failed
   pub next_breaks : {j : Held} {failed : Bool} {stop : Stop} (part rest : List ℕ) → length p.held.waiting < 4096 → p.held.delivered ≤ 2 ^ 64 - 1 → failed ≡ true → cell_so_far column last s ++ (part ++ rest) ≡ cell_so_far column last t → Breaks p.held j part stop → StopsField s column last p.seen b p.place p.held j failed stop
@@ -53,10 +52,10 @@ module _ {column place' : ℕ} {s t : CellPart} {p : At} {b : Seen} (last : Bool
         between = x.between;
         middle = p.held;
         few = few;
-        puts = ([], append-nil _, Puts-none p.held delivered);
+        puts = ([], append-nil _, Puts-none _ delivered);
         more = part ++ rest;
         text_is = text_is ∙ ap (cell_so_far column last) (sym x.to);
-        breaks = Breaks-longer p.held _ part rest _ breaks;
+        breaks = Breaks-longer _ _ _ _ _ breaks;
       },
       broken,
     );
@@ -106,3 +105,54 @@ module _ (column : ℕ) (last : Bool) (c : Conversion) where
     pub short_end_stops : {k : Held} {failed : Bool} {stop : Stop} → StopsEnding c (is_quoted c) last all column (q.place - 1) q.held k failed stop → StopsField (short_left c n []) column last p.seen q.seen p.place p.held k failed stop
     short_end_stops (inl z) = let good = (fit_by_test c all).1 z.0 in rw z.2 (ends_break last (short_holds column c) x _ good (ending_text column c last all good) z.1)
     short_end_stops (inr z) = rw (z.3, z.2, z.1) (ends_refused last (short_holds column c) x (short_refused column c) (grind (arith, fit_by_test)))
+
+-- ---- values in chunks
+
+-- the text that comes with the total
+pub total_text : (column : ℕ) (last : Bool) (c : Conversion) (t : Option ℕ) → after_comma column (opening (is_quoted c)) ≡ cell_so_far column last (ChunkLength c t [])
+total_text column last c t = ap (after_comma column) (open_none c)
+
+-- Chunks were read and their text put; so many bytes of content stand before the next length.
+pub record Streamed (column : ℕ) (last : Bool) (c : Conversion) (total : Option ℕ) (kept : List ℕ) (sum : ℕ) (p q : At) : Type 0 where
+  pub content : List ℕ
+  pub counted : length content ≡ sum
+  pub begun : BeginsData c content
+  pub kept_is : kept ≡ conversion_rest c content
+  pub path : Path (cell column) (cell_so_far column last) (ChunkLength c total []) p q (ChunkLength c total content)
+
+pub streamed_none : {column : ℕ} {last : Bool} {c : Conversion} {total : Option ℕ} {kept : List ℕ} {p : At} → kept ≡ conversion_rest c [] → p.held.delivered ≤ 2 ^ 64 - 1 → Streamed column last c total kept 0 p p
+streamed_none is delivered = record { content = []; counted = refl; begun = none_begins _; kept_is = is; path = path_none delivered }
+
+module _ {column : ℕ} {last : Bool} {c : Conversion} {total : Option ℕ} {kept : List ℕ} {sum : ℕ} {p q : At} (size : ℕ) (unit_is : size ≡ unit c) (x : Streamed column last c total kept sum p q) {d : Seen} {there n : ℕ} (y : ReadsNumber 4 q.seen d q.place there n)
+    (free : chunk_length_fault column size total sum n ≡ None) where
+  -- the terminator was read, and the end put
+  pub chunks_whole : {j : Held} → n ≡ 0 → IsFit c x.content → Puts q.held j (ending c (is_quoted c) last x.content) → PutsField (ChunkLength c total []) column last p.seen d p.place there p.held j
+  chunks_whole none fit puts =
+      let good = (fit_by_test c x.content).1 fit in
+      field_of (path_both x.path (next_path last (chunk_end c unit_is x.counted y free none good) _ (ending_text column c last x.content good) puts))
+
+  -- the end stopped
+  pub chunks_end_stops : {j : Held} {failed : Bool} {stop : Stop} → length q.held.waiting < 4096 → q.held.delivered ≤ 2 ^ 64 - 1 → n ≡ 0 → StopsEnding c (is_quoted c) last x.content column q.place q.held j failed stop → StopsField (ChunkLength c total []) column last p.seen d p.place p.held j failed stop
+  chunks_end_stops few delivered none (inl z) =
+      let good = (fit_by_test c _).1 z.0 in
+      let tail = ending c _ last _ in
+      path_stops x.path (next_breaks last (chunk_end c unit_is x.counted y free none good) tail [] few delivered z.2 (ap (λ l. cell_so_far column last (ChunkLength c total x.content) ++ l) (append-nil tail) ∙ ending_text column c last _ good) z.1)
+  chunks_end_stops few delivered none (inr z) =
+      path_stops x.path (rw (z.1, z.2) (reading_stops last delivered z.3 (chunk_unfit c unit_is x.counted y free none (grind (arith, fit_by_test)))))
+
+  -- the length of a chunk was read
+  pub chunk_path : n ≢ 0 → q.held.delivered ≤ 2 ^ 64 - 1 → Path (cell column) (cell_so_far column last) (ChunkLength c total []) p (record { seen = d; place = there; held = q.held }) (chunk_left c total n x.content)
+  chunk_path some delivered =
+      let text : cell_so_far column last (ChunkLength c total _) ++ [] ≡ cell_so_far column last _ = grind (arith, append-nil) in
+      path_both x.path (next_path _ (chunk_start c unit_is x.counted y free some) _ text (Puts-none _ delivered))
+
+  -- one chunk more was read
+  pub streamed_more : {kept' : List ℕ} {r : At} → n ≢ 0 → q.held.delivered ≤ 2 ^ 64 - 1 → r.held.delivered ≤ 2 ^ 64 - 1 → EndsData c x.content kept' d r.seen there r.place q.held r.held n → Streamed column last c total kept' (sum + n) p r
+  streamed_more {r = r} some delivered most z =
+      record {
+        content = (x.content ++ z.front) ++ z.takes.piece;
+        counted = omega (arith, length-append (x.content ++ z.front) z.takes.piece, length-append x.content z.front);
+        begun = z.takes.begun;
+        kept_is = z.takes.kept_is;
+        path = path_both (chunk_path some delivered) (ends_path last (chunk_holds column c total) z [] tt (append-nil _) (Puts-none r.held most));
+      }

@@ -1,6 +1,106 @@
--- The next cell of a row, NULL or not, as it is put after a run.
-use Rattle.tds_rows.proofs.Words.{common_steps, arith, ◌≡◌, ◌+◌, ℕ, Bool, true, false, List, ◌∷◌, drop, refl, sym, Err, Ok, Result, Option, ◌==◌, Kind, Stop, seen, between_of, Column, held, Rows, Ahead, is_last_column, MarkedPut, CellRead, IsInRow, KindRead, LeavesRows, NextRead, StaysInRow, RowStops, RowPart, marked, IsAhead, IsNextKind, Knows, TakesColumn}
-use Rattle.tds_rows.proofs.{MarkedSteps.run_nears, NullSteps.NearsCells, NullSteps.all_put, NullSteps.cell_nears, NullSteps.cell_stops, NullSteps.null_breaks, NullSteps.null_nears, NullTexts.ends, NullTexts.ends_marked, Paths.At, Paths.here, TableSteps.last_one}
+-- The next cells of a row, those of a run or one, NULL or not, and rows one after another.
+use Rattle.tds_rows.proofs.{Words.{common_steps, arith, ◌≡◌, ◌+◌, ℕ, Bool, true, false, List, ◌∷◌, drop, refl, sym, Err, Ok, Result, Option, ◌==◌, Kind, Stop, seen, between_of, Column, held, Rows, Ahead, is_last_column, MarkedPut, CellRead, IsInRow, KindRead, LeavesRows, NextRead, StaysInRow, RowStops, RowPart, marked, IsAhead, IsNextKind, Knows, TakesColumn, ◌∙◌, zero, suc, ◌-◌, ◌^◌, ◌≤◌, ◌<◌, [], ◌++◌, length, ap, subst, append_assoc, append-nil, add-zero, length-append, Consumes-nil, Coming, before, IsBetween, Seen, Takes, Takes-more, Stays-none, takes_both, Held, Puts, nears_put, Puts_split, Charset, Table, PutsMarked, WritesColumn, WritesMarked, WritesNext, Inside, Puts-none, RowsRun, Cell, PlainRow, RowToken, WholeRow, next_cell, row, row_so_far, token_byte, token_start, ReadsRow, ReadsRows, RowsStop, RowsPart, RowsPut, RunsRows, Writes, lines, rows, rows_so_far, rows_start}, NullSteps.{NearsCells, all_put, cell_nears, cell_stops, null_breaks, null_nears, cell_path, marked_stops}, RowSteps.{ends, ends_marked, coming, nulls_ahead, PutsAt, StopsAt}, Paths.{At, here, Path, path_both, path_map, path_none, path_of, streams_of, writes_inside}, TableSteps.{last_one, next_column}, RunSteps.{whole_puts, lines-append, row_among, row_token}}
+
+-- text that doesn't fill the block waits
+pub all_waits : (h j : Held) (text : List ℕ) → Puts h j text → length h.waiting + length text < 4096 → length j.waiting ≡ length h.waiting + length text
+all_waits h j text puts few = omega (arith, ap length puts.2.1, length-append h.waiting text, length-append puts.0 j.waiting)
+
+-- ---- what was read and put at once could have been so one after the other
+
+-- Bytes were handed out without a packet, and text was put that waits.
+pub record Passes (p q : At) (bytes text : List ℕ) : Type 0 where
+  pub takes : Takes p.seen q.seen bytes 0
+  pub between : IsBetween q.seen
+  pub puts : Puts p.held q.held text
+  pub few : length q.held.waiting < 4096
+  pub delivered : p.held.delivered ≤ 2 ^ 64 - 1
+  pub place_is : q.place ≡ p.place + length bytes
+
+-- in two parts
+passes_apart : (p q : At) (a b m n : List ℕ) → Passes p q (a ++ b) (m ++ n) → (t : At) × Passes p t a m × Passes t q b n
+passes_apart p q a b m n x =
+    let seen : Seen = record { left = q.seen.left; future = λ zs. before b _; wire = q.seen.wire; failures = q.seen.failures } in
+    let f : Coming → List ℕ → Coming = λ c l. record { bytes = l; stop = c.stop; rest = c.rest } in
+    let h = Puts_split _ _ m n x.few x.puts in
+    let first : Takes p.seen seen a 0 = (x.takes.0, (x.takes.1.0, λ zs. x.takes.1.1 zs ∙ ap (f (q.seen.future zs)) (append_assoc a b (q.seen.future zs).bytes)), x.takes.2, x.takes.3, x.takes.4) in
+    let then : Takes seen q.seen b 0 = ([], (Consumes-nil _, λ zs. refl), sym (add-zero _), (λ j lt. absurd (omega arith)), Stays-none _) in (
+      record { seen = seen; place = p.place + length a; held = h.0 },
+      record { takes = first; between = x.between; puts = h.2; few = h.1; delivered = x.delivered; place_is = refl },
+      record { takes = then; between = x.between; puts = h.3; few = x.few; delivered = h.4; place_is = omega (arith, length-append a b) },
+    )
+
+module _ {charset : Charset} {start : RowPart} {left : List (Column × Bool)} {p q : At} {column : ℕ} where
+  -- nothing more was read
+  nears_onward : {r : At} {text : List ℕ} → Passes q r [] text → NearsCells charset start left p q column → NearsCells charset start left p (record r { held = q.held }) column
+  nears_onward {r = r} y x =
+      let n = x.nears in
+      let read = n.bytes ++ n.element in
+      let takes = rw (append-nil read) at (takes_both p.seen q.seen r.seen read [] n.takes y.takes) in
+      record { cells = x.cells; counted = x.counted; nears = record { bytes = n.bytes; element = n.element; at = n.at; spelt = n.spelt; next = n.next; to_is = n.to_is; takes = takes; between = y.between; middle = n.middle; few = n.few; puts = n.puts; part = n.part; text_is = n.text_is; half = n.half }; place_is = omega (arith, x.place_is, y.place_is) }
+
+  -- nothing more was put
+  nears_same : {j : Held} → Puts q.held j [] → NearsCells charset start left p q column → NearsCells charset start left p (record q { held = j }) column
+  nears_same puts x =
+      let n = nears_put _ _ _ _ _ _ _ _ _ _ _ x.nears puts in
+      record { cells = x.cells; counted = x.counted; nears = n; place_is = x.place_is }
+
+-- ---- a row, run after run
+
+module _ (charset : Charset) (start : RowPart) (columns : List Column) (nulls : ℕ → Bool) (p : At) where
+  -- The cells before a column were read and their text put, but for that of the NULLs by their bit from this column on.
+  abbrev Near : ℕ → At → Type 0
+  Near at q = NearsCells charset start (marked (drop at columns) nulls at) p q at
+
+  -- one column more
+  column_nears : (at : ℕ) (q r : At) (bytes text : List ℕ) → WritesColumn charset columns nulls at bytes text → Passes q r bytes text → Near at q → Near (at + 1) r
+  column_nears at q r bytes text w y x =
+      rw (next_column columns at w.column w.left w.next).1.1 (go _ w.writes (rw w.next at x))
+    where
+      go : (null : Bool) → WritesNext charset null w.column.kind at (is_last_column w.left) bytes text → NearsCells charset start ((w.column, null) ∷ marked w.left nulls (at + 1)) p q at → NearsCells charset start (marked w.left nulls (at + 1)) p r (at + 1)
+      go true v z =
+          let y' = rw (v.0, v.1, ends_marked w.left nulls (at + 1)) at y in
+          null_nears (nears_onward y' z) y'.puts
+      go false v z =
+          let put = whole_puts charset _ at (is_last_column w.left) q r bytes text v (Takes-more q.seen r.seen bytes 0 _ (omega arith) y.takes) y.place_is y.puts in
+          cell_nears y.between y.few (all_put refl y.delivered z) (rw (ends_marked w.left nulls (at + 1)) at put)
+
+  -- so many columns more
+  marked_nears : (from n : ℕ) (q r : At) (bytes text : List ℕ) → WritesMarked charset columns nulls from n bytes text → Passes q r bytes text → Near from q → Near (from + n) r
+  marked_nears from zero q r bytes text w y x = let y' = rw (w.0, w.1) at y in
+      rw (add-zero from) (nears_same y'.puts (nears_onward y' x))
+  marked_nears from (suc n) q r bytes text w y x =
+      let t = passes_apart q r _ _ _ _ (rw (w.4, w.5) at y) in
+      let z : Near ((from + n) + 1) r = column_nears _ _ r _ _ w.7 t.2 (marked_nears _ n q _ _ _ w.6 t.1 x) in
+      subst (λ (k : ℕ). Near k r) (omega arith) z
+
+-- as many columns more as a run took
+run_nears : {table : Table} {columns : List Column} {nulls : ℕ → Bool} {from to : Ahead} {start : RowPart} {p q r : At} → PutsMarked table columns nulls from to q.seen r.seen q.place r.place q.held r.held → IsBetween r.seen → length r.held.waiting < 4096 → q.held.delivered ≤ 2 ^ 64 - 1
+    → NearsCells table.charset start (marked (drop from.column columns) nulls from.column) p q from.column → NearsCells table.charset start (marked (drop to.column columns) nulls to.column) p r to.column
+run_nears x between few delivered near = grind (arith, common_steps, marked_nears)
+
+-- ---- a reading of rows, from call to call
+
+-- before the first step
+pub stays : {R W : Type 0} {a : Rows R W} → IsInRow a → StaysInRow a a
+stays x = grind arith
+
+-- after a run
+pub stays_on : {R W : Type 0} {a b c : Rows R W} → StaysInRow a b → StaysInRow b c → StaysInRow a c
+stays_on x y = grind arith
+
+-- after a cell
+pub stays_after : {R W U : Type 0} {a b : Rows R W} {u : U} → IsInRow a → LeavesRows a b (Ok u) → StaysInRow a b
+stays_after x y = grind arith
+
+-- where a call after some steps leaves it
+pub leaves_after : {R W U : Type 0} {a b c : Rows R W} {result : Result U Stop} → StaysInRow a b → LeavesRows b c result → LeavesRows a c result
+leaves_after x y = grind arith
+
+-- what is said of a payload and a sink is said of those that they are
+said_of : {A B : Type 0} (P : A → B → Type 0) (a a' : A) (b b' : B) → a ≡ a' → b ≡ b' → P a b → P a' b'
+said_of P a a' b b' first second x = grind (arith, common_steps)
+
+-- ---- the next cell
 
 module _ {R W : Type 0} (remaining : R → Option (List ℕ)) (contents : W → Option (List ℕ)) (columns : List Column) (nulls : ℕ → Bool) (start : RowPart) (p : At) where
   -- The cells before a place were read and their text put, but for that of the NULLs by their bit from there on.
@@ -8,13 +108,13 @@ module _ {R W : Type 0} (remaining : R → Option (List ℕ)) (contents : W → 
   NearsHere rows at = IsAhead rows.table.now columns at × NearsCells rows.table.now.charset start (marked (drop at.column columns) nulls at.column) p (here remaining contents rows) at.column
 
   -- the cells of a run are read, and after them the table is the same
-  pub run_near : (old new : Rows R W) (from to : Ahead) → IsInRow old → StaysInRow old new → Knows old.table.now columns → MarkedPut remaining contents old.table.now nulls from old.payload.now new.payload.now old.sink.now new.sink.now to → NearsHere old from → NearsHere new to
-  run_near old new from to x kept knows f near =
+  pub run_near : {old new : Rows R W} {from to : Ahead} → IsInRow old → StaysInRow old new → Knows old.table.now columns → MarkedPut remaining contents old.table.now nulls from old.payload.now new.payload.now old.sink.now new.sink.now to → NearsHere old from → NearsHere new to
+  run_near {new = new} x kept knows f near =
       let put = f columns knows near.0 in
       let sink = kept.in_row.sink in
       rw kept.same.3 (put.runs.ahead, run_nears put (between_of remaining new.payload.now kept.in_row.payload.going) (sink.ready.1 sink.writing) x.sink.ready.2 near.1)
 
-module _ {R W : Type 0} (remaining : R → Option (List ℕ)) (contents : W → Option (List ℕ)) (old new : Rows R W) (columns : List Column) (nulls : ℕ → Bool) (at after : Ahead) (kind : Kind) (knows : Knows old.table.now columns)
+module _ {R W : Type 0} (remaining : R → Option (List ℕ)) (contents : W → Option (List ℕ)) (old new : Rows R W) {columns : List Column} (nulls : ℕ → Bool) {at after : Ahead} {kind : Kind} (knows : Knows old.table.now columns)
     (taken : TakesColumn old.table.now columns at after kind) where
   abbrev left : List (Column × Bool)
   left = marked (drop after.column columns) nulls (at.column + 1)
@@ -29,22 +129,115 @@ module _ {R W : Type 0} (remaining : R → Option (List ℕ)) (contents : W → 
       rw (taken.kind, ends_marked _ nulls (at.column + 1)) at (x _ next)
 
   module _ (start : RowPart) (p : At) (in_row : IsInRow old) (before : NearsHere remaining contents columns nulls start p old at) where
-    abbrev Left : Bool → Type 0
-    Left null = NearsCells old.table.now.charset start ((taken.column, null) ∷ left) p (here remaining contents old) at.column
+    left_here : (null : Bool) → nulls at.column ≡ null → NearsCells old.table.now.charset start ((taken.column, null) ∷ left) p (here remaining contents old) at.column
+    left_here null is = rw is at (rw taken.next at before.1)
+
+    there : {U : Type 0} {u : U} → LeavesRows old new (Ok u) → NearsCells old.table.now.charset start left p (here remaining contents new) (at.column + 1) → NearsHere remaining contents columns nulls start p new after
+    there leaves x = rw leaves.same.3 (taken.ahead, rw (sym taken.further) at x)
 
     -- it was put
     pub next_nears : {U : Type 0} (u : U) (null : Bool) → nulls at.column ≡ null → LeavesRows old new (Ok u) → NextRead remaining contents at kind null old new (Ok u) → NearsHere remaining contents columns nulls start p new after
-    next_nears u null is leaves y = rw leaves.same.3 (taken.ahead, rw (sym taken.further) at (go null (rw is at (rw taken.next at before.1)) y))
-      where
-        go : (null : Bool) → Left null → NextRead remaining contents at kind null old new (Ok u) → NearsCells old.table.now.charset start left p (here remaining contents new) (at.column + 1)
-        go true x y = rw y.0 (null_nears x (rw last_is at y.1.gives))
-        go false x y = cell_nears (between_of remaining new.payload.now leaves.payload.going) (leaves.sink.ready.1 leaves.sink.writing) (all_put refl in_row.sink.ready.2 x) (cell_read (Ok u) before.0 y)
+    next_nears u true is leaves y = there leaves (rw y.0 (null_nears (left_here true is) (rw last_is at y.1.gives)))
+    next_nears u false is leaves y =
+        there leaves (cell_nears (between_of remaining new.payload.now leaves.payload.going) (leaves.sink.ready.1 leaves.sink.writing) (all_put refl in_row.sink.ready.2 (left_here false is)) (cell_read (Ok u) before.0 y))
 
     -- it stopped
     pub next_stops : (U : Type 0) (stop : Stop) (null : Bool) → nulls at.column ≡ null → NextRead {U = U} remaining contents at kind null old new (Err stop)
         → RowStops old.table.now.charset start p.seen (seen remaining new.payload.now) p.place p.held (held contents new.sink.now) new.sink.now.failed stop
-    next_stops U stop null is y = go null (rw is at (rw taken.next at before.1)) y
-      where
-        go : (null : Bool) → Left null → NextRead {U = U} remaining contents at kind null old new (Err stop) → RowStops old.table.now.charset start p.seen (seen remaining new.payload.now) p.place p.held (held contents new.sink.now) new.sink.now.failed stop
-        go true x y = rw (y.0, y.1.failed) (null_breaks x (rw last_is at (y.1.gives in_row.sink.writing)))
-        go false x y = cell_stops (all_put refl in_row.sink.ready.2 x) (cell_read {U = U} (Err stop) before.0 y)
+    next_stops U stop true is y = rw (y.0, y.1.failed) (null_breaks (left_here _ is) (rw last_is at (y.1.gives in_row.sink.writing)))
+    next_stops U stop false is y = cell_stops (all_put refl in_row.sink.ready.2 (left_here _ is)) (cell_read {U = U} (Err stop) before.0 y)
+
+-- ---- rows, one after another
+
+-- Rows of a token were read and their lines put: so many whole ones, and this part of the next.
+pub record RowsAt (token : RowToken) (charset : Charset) (all : List Column) (p q : At) (count : ℕ) (part : RowPart) : Type 0 where
+  pub before : List (List Cell)
+  pub counted : length before ≡ count
+  pub path : Path (rows token charset all) rows_so_far (rows_start token charset all) p q (record { before = before; at = part })
+
+module _ {token : RowToken} {charset : Charset} {all : List Column} where
+  pub rows_first : {p : At} → p.held.delivered ≤ 2 ^ 64 - 1 → RowsAt token charset all p p 0 (token_start token charset all)
+  rows_first d = record { before = []; counted = refl; path = path_none d }
+
+  module _ {p q : At} {count : ℕ} where
+    -- more of the next one
+    rows_on : {part more : RowPart} {r : At} → RowsAt token charset all p q count part → Path (row charset) row_so_far part q r more → RowsAt token charset all p r count more
+    rows_on x y = record { before = x.before; counted = x.counted; path = path_both x.path (path_map (λ a m. row_among _ _ _ _) y) }
+
+    -- it stopped
+    pub rows_stop : {part : RowPart} {d : Seen} {j : Held} {failed : Bool} {stop : Stop} → RowsAt token charset all p q count part → RowStops charset part q.seen d q.place q.held j failed stop → RowsStop token charset all p.seen d p.place p.held j failed stop
+    rows_stop {part = part} x y = record { earlier = x.before; part = part; middle = q.seen; between = q.held; streams = streams_of x.path; stops = rw x.path.place_is at y }
+
+    -- all of it
+    pub rows_whole : {cells : List Cell} → RowsAt token charset all p q count (WholeRow cells) → ReadsRows token charset all (count + 1) p.seen q.seen p.place q.place p.held q.held
+    rows_whole {cells = cells} x = record { earlier = x.before; last = cells; counted = omega (arith, x.counted); streams = streams_of x.path; place_is = x.path.place_is }
+
+  -- a whole row that was read by itself
+  pub rows_row : {p : At} {count : ℕ} {part : RowPart} {b d : Seen} {middle place' : ℕ} {i j : Held} → RowsAt token charset all p (record { seen = b; place = middle; held = i }) count part → ReadsRow charset part b d middle place' i j
+      → ReadsRows token charset all (count + 1) p.seen d p.place place' p.held j
+  rows_row x y = rows_whole (rows_on x (path_of y.streams y.place_is))
+
+  -- the token byte of the next row was read
+  pub rows_token : {a b d : Seen} {place middle count : ℕ} {h i : Held} → 0 < length all → i.delivered ≤ 2 ^ 64 - 1 → ReadsRows token charset all count a b place middle h i → Takes b d (token_byte token ∷ []) 1
+      → RowsAt token charset all (record { seen = a; place = place; held = h }) (record { seen = d; place = middle + 1; held = i }) count (token_start token charset all)
+  rows_token some delivered x takes = record {
+    before = x.earlier ++ x.last ∷ [];
+    counted = omega (arith, length-append x.earlier (x.last ∷ []));
+    path = path_both (path_of x.streams x.place_is) (record { bytes = token_byte _ ∷ []; made = []; writes = row_token _ _ _ _ x.last some; takes = takes; puts = Puts-none _ delivered; place_is = refl });
+  }
+
+-- ---- ROWs, run after run and cell after cell
+
+module _ (charset : Charset) (all : List Column) (before : List (List Cell)) where
+  -- rows after these
+  abbrev after_rows : RowsPart → RowsPart
+  after_rows p = record { before = before ++ p.before; at = p.at }
+
+  rows_among_rows : Inside (rows PlainRow charset all) (rows PlainRow charset all) after_rows
+  rows_among_rows = grind (arith, append_assoc)
+
+  rows_after_text : (p : RowsPart) → lines before ++ rows_so_far p ≡ rows_so_far (after_rows p)
+  rows_after_text p = grind (arith, common_steps, append_assoc, before, lines-append)
+
+  rows_after : {p q : RowsPart} {bytes made : List ℕ} → Writes (rows PlainRow charset all) rows_so_far p bytes made q → Writes (rows PlainRow charset all) rows_so_far (after_rows p) bytes made (after_rows q)
+  rows_after x = writes_inside _ rows_among_rows rows_after_text x
+
+-- ROWs were read and their lines put, so many whole ones and the first cells of the next, whose other columns are left.
+pub record Rowing (charset : Charset) (all : List Column) (left : List (Column × Bool)) (p q : At) (column count : ℕ) : Type 0 where
+  pub cells : List Cell
+  pub counted : length cells ≡ column
+  pub rows : RowsAt PlainRow charset all p q count (next_cell charset cells left)
+
+module _ {charset : Charset} {all : List Column} {p q : At} {column count : ℕ} where
+  -- a run
+  rowing_run : {left left' : List Column} {column' count' : ℕ} {r : At} → Rowing charset all (coming left column) p q column count → ((cells : List Cell) → length cells ≡ column → RunsRows charset all cells left left' column' count' q.seen r.seen q.place r.place q.held r.held)
+      → Rowing charset all (coming left' column') p r column' (count + count')
+  rowing_run x f =
+      let y = f x.cells x.counted in
+      let run = path_map (λ a m. rows_after charset all x.rows.before) (path_of y.streams y.place_is) in
+      let there = rw (append-nil, x.counted, y.counted) at run in
+      record { cells = y.more; counted = y.counted; rows = record { before = x.rows.before ++ y.before; counted = omega (arith, length-append x.rows.before y.before); path = path_both x.rows.path there } }
+
+  module _ {c : Column} {ks : List (Column × Bool)} where
+    -- a cell
+    pub rowing_cell : {r : At} → nulls_ahead (column + 1) ks ≡ [] → Rowing charset all ((c, false) ∷ ks) p q column count → PutsAt charset c.kind column (ends ks) q r → Rowing charset all ks p r (column + 1) count
+    rowing_cell none x y =
+        let one = cell_path _ c _ x.counted none y in
+        record { cells = x.cells ++ one.0 ∷ []; counted = omega (arith, length-append x.cells (one.0 ∷ [])); rows = rows_on x.rows one.1 }
+
+    -- a cell that stopped
+    pub rowing_stop : {d : Seen} {j : Held} {failed : Bool} {stop : Stop} → Rowing charset all ((c, false) ∷ ks) p q column count → StopsAt charset c.kind column (ends ks) q d j failed stop → RowsStop PlainRow charset all p.seen d p.place p.held j failed stop
+    rowing_stop x y = rows_stop x.rows (marked_stops _ _ _ c (rw (sym x.counted) at y))
+
+-- The reading of ROWs stands at this place of the last one.
+abbrev pub RowsHere : {R W : Type 0} → (R → Option (List ℕ)) → (W → Option (List ℕ)) → List Column → At → Rows R W → Ahead → ℕ → Type 0
+RowsHere remaining contents columns p rows at count =
+    IsAhead rows.table.now columns at × Rowing rows.table.now.charset columns (coming (drop at.column columns) at.column) p (here remaining contents rows) at.column count
+
+-- after a run
+pub rows_ran : {R W : Type 0} {columns : List Column} {p : At} {old new : Rows R W} {from : Ahead} {count : ℕ} (remaining : R → Option (List ℕ)) (contents : W → Option (List ℕ)) (run : RowsRun) → StaysInRow old new → Knows old.table.now columns
+    → RowsPut remaining contents old.table.now from old.payload.now new.payload.now old.sink.now new.sink.now run → RowsHere remaining contents columns p old from count → RowsHere remaining contents columns p new run.ahead (count + run.rows)
+rows_ran {columns = columns} {old = old} remaining contents run kept knows put x =
+    let ran = put columns knows x.0 in
+    let there = rowing_run x.1 (λ cells is. ran.1 old.table.now.charset cells refl is) in
+    rw kept.same.3 (ran.0, there)

@@ -1,6 +1,5 @@
 -- Rows with NULLs by their bit, column after column, as they are read and their text is put.
-use Rattle.tds_rows.proofs.Words.{append-nil, common_steps, ◌≡◌, ◌∙◌, inl, inr, ℕ, ◌+◌, ◌-◌, ◌^◌, ◌<◌, ◌≤◌, Bool, true, false, List, [], ◌∷◌, ◌++◌, length, refl, sym, ap, arith, length-append, map, Some, Fault, MessageEnded, Stop, Grammar, IsNext, Ends, IsBetween, Seen, Takes, began_at, Inside-Spelt, next_inside, next_some, stops_inside, began_is_cut, cut_at_once, Column, in_line, joined, null_field, Breaks, Held, Puts, BreaksStreaming, StopsStreaming, Nears, added_between, last_read, nears_after, nears_breaks, nears_done, nears_from, nears_inside, nears_put, tail_after, Breaks-longer, Puts-none, Charset, Cell, CellPart, Null, WholeCell, cell, cell_add, cell_size, cell_start, field, shape, cell_so_far, Bitmap, InCell, RowPart, bit, bitmap_length, marked, nbc_row_start, next_cell, row, row_so_far, row_start, with_cell, stops_size, ReadsRow, RowStops, Writes}
-use Rattle.tds_rows.proofs.{NullTexts.begun_text, NullTexts.coming, NullTexts.ends, NullTexts.line_grows, NullTexts.nulls_ahead, NullTexts.nulls_text, NullTexts.part_text, NullTexts.rest_of, RowLaws.begins_open, RowLaws.cell_in_row, Paths.At, Paths.Path, Paths.path_both, Paths.path_map, Paths.path_none, Paths.path_of, Paths.path_stops, Paths.streams_of, Paths.writes_inside, RowSteps.PutsAt, RowSteps.StopsAt, RowSteps.cell_some, RowSteps.same_end, CellWords.StopsCell}
+use Rattle.tds_rows.proofs.{Words.{append-nil, common_steps, ◌≡◌, ◌∙◌, inl, inr, ℕ, ◌+◌, ◌-◌, ◌^◌, ◌<◌, ◌≤◌, Bool, true, false, List, [], ◌∷◌, ◌++◌, length, refl, sym, ap, arith, length-append, map, Fault, Stop, Grammar, IsNext, Ends, IsBetween, Seen, Takes, began_at, Inside-Spelt, next_inside, next_some, stops_inside, began_is_cut, cut_at_once, Column, in_line, joined, null_field, Breaks, Held, Puts, BreaksStreaming, StopsStreaming, Nears, added_between, last_read, nears_after, nears_breaks, nears_from, nears_inside, nears_put, tail_after, Breaks-longer, Puts-none, Charset, Cell, CellPart, Null, WholeCell, cell, cell_add, cell_size, cell_start, field, shape, cell_so_far, Bitmap, InCell, RowPart, bit, bitmap_length, marked, nbc_row_start, next_cell, row, row_so_far, row_start, with_cell, stops_size, ReadsRow, RowStops, Writes, nears_done}, RowSteps.{begun_text, coming, ends, line_grows, nulls_ahead, nulls_text, part_text, rest_of, PutsAt, StopsAt, cell_some, same_end, StopsCell}, RowLaws.{begins_open, cell_in_row}, Paths.{At, Path, path_both, path_map, path_none, path_of, path_stops, streams_of, writes_inside}}
 
 -- ---- a cell in its row, with the NULLs after it
 
@@ -21,8 +20,8 @@ module _ (charset : Charset) (cells : List Cell) (ks : List (Column × Bool)) wh
   front = joined (map field cells)
 
   -- a write of the cell's text failed, and so one of the row's
-  breaks_there : (from at : CellPart) (b d : Seen) (i j : Held) (stop : Stop) → 0 < cell_size from → BreaksStreaming small text from b d i j at stop → BreaksStreaming big row_so_far (up from) b d i j (up at) stop
-  breaks_there from at b d i j stop some x =
+  breaks_there : {from at : CellPart} {b d : Seen} {i j : Held} {stop : Stop} → 0 < cell_size from → BreaksStreaming small text from b d i j at stop → BreaksStreaming big row_so_far (up from) b d i j (up at) stop
+  breaks_there {at = at} {j = j} {stop = stop} some x =
       let is = cell_in_row charset cells ks in
       let begun = begun_text charset cells ks in
       let grows = line_grows _ (ends ks) in
@@ -33,36 +32,36 @@ module _ (charset : Charset) (cells : List Cell) (ks : List (Column × Bool)) wh
         bytes = x.bytes;
         element = x.element;
         ahead = x.ahead;
-        spelt = Inside-Spelt small big up is from x.bytes at x.spelt;
-        next = next_inside small big up is at x.element size x.next;
+        spelt = Inside-Spelt _ _ up is _ _ _ x.spelt;
+        next = next_inside _ _ up is _ _ size x.next;
         takes = x.takes;
         between = x.between;
         middle = x.middle;
         few = x.few;
-        puts = (x.puts.0, added_between small big up is text row_so_far front begun grows from at x.puts.0 some size x.puts.1, x.puts.2);
+        puts = (x.puts.0, added_between _ _ up is text row_so_far front begun grows _ _ _ some size x.puts.1, x.puts.2);
         more = x.more ++ rest;
-        text_is = tail_after small big up is text row_so_far front begun grows at to x.more rest size x.text_is (part_text charset cells ks to) ∙ ap row_so_far (sym (is.add at x.element size));
+        text_is = tail_after _ _ up is text row_so_far front begun grows at to _ rest size x.text_is (part_text charset cells ks to) ∙ ap row_so_far (sym (is.add at x.element size));
         breaks = Breaks-longer x.middle j x.more rest stop x.breaks;
       }
 
   -- the cell stopped, and so the row
-  stops_there : (from : CellPart) (b d : Seen) (place : ℕ) (i j : Held) (failed : Bool) (stop : Stop) → 0 < cell_size from → StopsStreaming small text from b d place i j failed stop → StopsStreaming big row_so_far (up from) b d place i j failed stop
-  stops_there from b d place i j failed stop some x =
+  stops_there : {from : CellPart} {b d : Seen} {place : ℕ} {i j : Held} {failed : Bool} {stop : Stop} → 0 < cell_size from → StopsStreaming small text from b d place i j failed stop → StopsStreaming big row_so_far (up from) b d place i j failed stop
+  stops_there some x =
       let is = cell_in_row charset cells ks in
       record {
         at = up x.at;
         cause = elim x.cause [
           | inl y ↦ inl (
-            stops_inside small big up is from b d place x.at stop ((same_end charset cells ks) x.at (stops_size small from b d place x.at stop y.0)) y.0,
-            (y.1.0, added_between small big up is text row_so_far front (begun_text charset cells ks) (line_grows (length cells) (ends ks)) from x.at y.1.0 some (stops_size small from b d place x.at stop y.0) y.1.1, y.1.2),
+            stops_inside _ _ up is _ _ _ _ _ _ (same_end charset cells ks x.at (stops_size _ _ _ _ _ _ _ y.0)) y.0,
+            (y.1.0, added_between _ _ up is text row_so_far front (begun_text charset cells ks) (line_grows _ (ends ks)) _ _ _ some (stops_size _ _ _ _ _ _ _ y.0) y.1.1, y.1.2),
             y.2,
           )
-          | inr y ↦ inr (breaks_there from x.at b d i j stop some y.0, y.1)
+          | inr y ↦ inr (breaks_there some y.0, y.1)
         ];
       }
 
-  pub marked_stops : (c : Column) (b d : Seen) (place : ℕ) (i j : Held) (failed : Bool) (stop : Stop) → StopsCell charset c.kind (length cells) (ends ks) b d place i j failed stop → RowStops charset (InCell cells (cell_start c.kind (shape charset c.kind)) ks) b d place i j failed stop
-  marked_stops c b d place i j failed stop x = rw (← begins_open charset cells ks c.kind _) (stops_there _ b d place i j failed stop (grind arith) x)
+  pub marked_stops : {b d : Seen} {place : ℕ} {i j : Held} {failed : Bool} {stop : Stop} (c : Column) → StopsCell charset c.kind (length cells) (ends ks) b d place i j failed stop → RowStops charset (InCell cells (cell_start c.kind (shape charset c.kind)) ks) b d place i j failed stop
+  marked_stops c x = rw (← begins_open charset cells ks c.kind _) (stops_there (grind arith) x)
 
   -- a cell in its row, with no NULL by its bit after it
   pub row_cell : (c : Column) → nulls_ahead (length cells + 1) ks ≡ [] → {bytes made : List ℕ} {v : Cell} → Writes (cell (length cells)) (cell_so_far (length cells) (ends ks)) (cell_start c.kind (shape charset c.kind)) bytes made (WholeCell v)
@@ -97,24 +96,21 @@ bitmap_nears {p = p} columns bitmap some whole takes between few d at =
     record {
       cells = [];
       counted = refl;
-      nears = nears_from _ _ _ _ p.seen p.seen _ p.held p.held bitmap _ (streams_of (path_none {p = p} d)) next takes between few d (all_ahead _ columns _ some);
+      nears = nears_from _ _ _ _ _ _ _ _ _ _ _ (streams_of (path_none {p = p} d)) next takes between few d (all_ahead _ _ _ some);
       place_is = at;
     }
 
 -- the payload stopped in the bitmap
-pub bitmap_cut : (charset : Charset) (columns : List Column) (a b : Seen) (place : ℕ) (h : Held) (part : List ℕ) (own stop : Stop) → length part < bitmap_length (length columns) → Ends a b part own → stop ≡ began_at place own → h.delivered ≤ 2 ^ 64 - 1
+pub bitmap_cut : {columns : List Column} {a b : Seen} {place : ℕ} {h : Held} {stop : Stop} (charset : Charset) (part : List ℕ) (own : Stop) → length part < bitmap_length (length columns) → Ends a b part own → stop ≡ began_at place own → h.delivered ≤ 2 ^ 64 - 1
     → RowStops charset (nbc_row_start columns) a b place h h false stop
-bitmap_cut charset columns a b place h part own stop fewer ended is d = record {
-  at = Bitmap columns;
-  cause = inl (cut_at_once (row charset) (Bitmap columns) a b place part own stop fewer ended (began_is_cut place (Some MessageEnded) own stop refl is), ([], refl, Puts-none h d), refl);
-}
+bitmap_cut charset part own fewer ended is d = record { at = Bitmap _; cause = inl (cut_at_once _ _ _ _ _ _ _ _ fewer ended (began_is_cut _ _ _ _ refl is), ([], refl, Puts-none _ d), refl) }
 
 -- a cell was read and its text put, in its row, and no NULL by its bit is after it
 pub cell_path : {ks : List (Column × Bool)} {column : ℕ} {p q : At} (charset : Charset) (c : Column) (cells : List Cell) → length cells ≡ column → nulls_ahead (column + 1) ks ≡ [] → PutsAt charset c.kind column (ends ks) p q
     → (v : Cell) × Path (row charset) row_so_far (next_cell charset cells ((c, false) ∷ ks)) p q (next_cell charset (cells ++ v ∷ []) ks)
 cell_path charset c cells counted none y =
     let z = rw (sym counted) at y in
-    (z.value, path_map (λ a m. row_cell charset cells _ c (rw counted none)) (path_of z.streams z.place_is))
+    (z.value, path_map (λ a m. row_cell _ _ _ c (rw counted none)) (path_of z.streams z.place_is))
 
 further : (a b e l : List ℕ) (m n k : ℕ) → b ++ e ≡ l → n ≡ m + length a → k ≡ n + length l → k ≡ m + length ((a ++ b) ++ e)
 further a b e l m n k joined first second = grind (arith, common_steps, length-append)
@@ -125,25 +121,25 @@ module _ {charset : Charset} {start : RowPart} {c : Column} {ks : List (Column �
   null_nears x puts = record {
     cells = x.cells ++ Null ∷ [];
     counted = omega (arith, length-append x.cells (Null ∷ []));
-    nears = nears_put _ _ start p.seen q.seen p.held q.held _ (next_cell charset _ ks) _ _ x.nears puts;
+    nears = nears_put _ _ _ _ _ _ _ _ _ _ _ x.nears puts;
     place_is = x.place_is;
   }
 
   -- a write of it failed
   pub null_breaks : {j : Held} {stop : Stop} → NearsCells charset start ((c, true) ∷ ks) p q column → Breaks q.held j (in_line column (ends ks) null_field) stop → RowStops charset start p.seen q.seen p.place p.held j true stop
   null_breaks x breaks =
-      let broken = nears_breaks _ _ _ p.seen q.seen p.held q.held _ _ _ _ _ _ x.nears refl breaks in
+      let broken = nears_breaks _ _ _ _ _ _ _ _ _ _ _ _ _ x.nears refl breaks in
       record { at = broken.0; cause = inr (broken.1, refl) }
 
   -- a cell was read and its text put, and no NULL by its bit is after it
   pub cell_reads : {r : At} → nulls_ahead (column + 1) ks ≡ [] → Reads charset start ((c, false) ∷ ks) p q column → PutsAt charset c.kind column (ends ks) q r → Reads charset start ks p r (column + 1)
   cell_reads none x y =
-      let one = cell_path charset c x.cells x.counted none y in
+      let one = cell_path _ c _ x.counted none y in
       record { cells = x.cells ++ one.0 ∷ []; counted = omega (arith, length-append x.cells (one.0 ∷ [])); path = path_both x.path one.1 }
 
   -- it stopped the row
   pub cell_stops : {d : Seen} {j : Held} {failed : Bool} {stop : Stop} → Reads charset start ((c, false) ∷ ks) p q column → StopsAt charset c.kind column (ends ks) q d j failed stop → RowStops charset start p.seen d p.place p.held j failed stop
-  cell_stops x y = path_stops x.path (marked_stops charset x.cells ks c _ _ _ _ _ _ _ (rw (sym x.counted) at y))
+  cell_stops x y = path_stops x.path (marked_stops _ _ _ c (rw (sym x.counted) at y))
 
   -- a cell was read and its text put, and NULLs may be after it
   pub cell_nears : {r : At} → IsBetween r.seen → length r.held.waiting < 4096 → Reads charset start ((c, false) ∷ ks) p q column → PutsAt charset c.kind column (ends ks) q r → NearsCells charset start ks p r (column + 1)

@@ -1,6 +1,13 @@
 -- The numbers of a long value, its length or total and those of its chunks, as elements of its cell: how each is judged, and where it leads.
-use Rattle.tds_rows.proofs.Words.{common_steps, ◌≡◌, ◌≢◌, ◌∙◌, ◌⊎◌, inl, inr, ℕ, ◌+◌, ◌<◌, true, false, List, [], length, refl, sym, ap, subst, arith, Option, Some, None, ◌==◌, ne_eqb, little, Fault, BadText, MessageEnded, Stop, IsNext, StopsReading, IsBetween, Seen, Takes, choose_false, choose_true, began_is_cut, cut_at_once, refused_at_once, Conversion, is_fit, unit, CellPart, ChunkLength, DataCell, Null, ShortLength, Total, WholeCell, cell, cell_add, cell_end, cell_fault, cell_size, null_total, unless, CutsNumber, ReadsNumber, RefusesNumber, chunk_length_fault, short_fault, short_length, total_fault, total_of, Payload}
-use Rattle.tds_rows.proofs.{CellLaws.unless_true, CellWords.chunk_left, CellWords.short_left}
+use Rattle.{tds_rows.proofs.{Words.{null_total, common_steps, ◌-◌, if◌then◌else◌, ChunkData, ShortData, ◌≡◌, ◌≢◌, ◌∙◌, ◌⊎◌, inl, inr, ℕ, ◌+◌, ◌<◌, true, false, List, [], length, refl, sym, ap, subst, arith, Option, Some, None, ◌==◌, ne_eqb, little, Fault, BadText, MessageEnded, Stop, IsNext, StopsReading, IsBetween, Seen, Takes, choose_false, choose_true, began_is_cut, cut_at_once, refused_at_once, Conversion, is_fit, unit, CellPart, ChunkLength, DataCell, Null, ShortLength, Total, WholeCell, cell, cell_add, cell_end, cell_fault, cell_size, unless, CutsNumber, ReadsNumber, RefusesNumber, chunk_length_fault, short_fault, short_length, total_fault, total_of, Payload, ⊤, one_more, ReadFailed, WriteFailed, seen, ends_blame, Failures, StopBlames}, CellLaws.unless_true}, tds_packet.specs.declared.payload.Payload.Payload as Input}
+
+-- within a short value: this many bytes follow its data so far
+abbrev pub short_left : Conversion → ℕ → List ℕ → CellPart
+short_left c left content = if left == 0 then WholeCell (DataCell c content) else ShortData c (left - 1) content
+
+-- within a chunk: this many bytes follow the data so far
+abbrev pub chunk_left : Conversion → Option ℕ → ℕ → List ℕ → CellPart
+chunk_left c total left content = if left == 0 then ChunkLength c total content else ChunkData c total (left - 1) content
 
 -- An element of a cell was read, which leads from one state to another.
 pub record Next (column : ℕ) (s : CellPart) (a b : Seen) (place place' : ℕ) (t : CellPart) : Type 0 where
@@ -21,17 +28,17 @@ number_stops : {column size place : ℕ} {s : CellPart} {fault : ℕ → Option 
 number_stops {column = column} {place = place} {s = s} {a = a} {b = b} {stop = stop} some is end first (inl x) =
     let r = x.reads in
     subst (λ t. StopsReading (cell column) s a b place s t) (ap (λ q. record { fault = stop.fault; place = q }) (sym x.stands))
-    (refused_at_once _ s a b place _ _ (omega arith) (r.whole ∙ sym is) (first _ x.n _ r.number x.first) r.takes r.between)
-number_stops some is end first (inr x) = cut_at_once _ _ _ _ _ x.part x.own _ (let few = x.fewer in omega arith) x.ends (began_is_cut _ _ x.own _ end x.stop_is)
+    (refused_at_once _ s a b _ _ _ (omega arith) (r.whole ∙ sym is) (first _ x.n _ r.number x.first) r.takes r.between)
+number_stops some is end first (inr x) = cut_at_once _ _ _ _ _ _ _ _ (let few = x.fewer in omega arith) x.ends (began_is_cut _ _ _ _ end x.stop_is)
+
+total_same : (column : ℕ) (c : Conversion) (size n : ℕ) (e : List ℕ) → size ≡ unit c → little e ≡ n → cell_fault column (Total c) e ≡ total_fault column size n
+total_same column c size n e unit_is is = grind (arith, common_steps, column)
 
 -- ---- the length of a short value
 
-module _ (column : ℕ) (c : Conversion) (size : ℕ) (unit_is : size ≡ unit c) where
-  short_same : (e : List ℕ) (n : ℕ) → little e ≡ n → cell_fault column (ShortLength c) e ≡ short_fault column size n
-  short_same e n is = grind (arith, common_steps, column)
-
+module _ {column : ℕ} (c : Conversion) {size : ℕ} (unit_is : size ≡ unit c) where
   pub short_stops : {a b : Seen} {place : ℕ} {stop : Stop} → RefusesNumber 2 (short_fault column size) a b place stop ⊎ CutsNumber 2 a b place stop → StopsReading (cell column) (ShortLength c) a b place (ShortLength c) stop
-  short_stops x = number_stops (omega arith) refl refl (λ e n f is first. short_same e n is ∙ first) x
+  short_stops x = number_stops (omega arith) refl refl (λ e n f is first. grind (arith, common_steps, column)) x
 
   -- as a call read it
   module _ {a b : Seen} {place place' : ℕ} {answer : Option ℕ} (x : (n : ℕ) × ReadsNumber 2 a b place place' n × (short_fault column size n ≡ None) × (answer ≡ short_length n)) where
@@ -41,29 +48,24 @@ module _ (column : ℕ) (c : Conversion) (size : ℕ) (unit_is : size ≡ unit c
     pub short_start : {k : ℕ} → answer ≡ Some k → Next column (ShortLength c) a b place place' (short_left c k [])
     short_start is = grind arith
 
--- ---- the total
-
-module _ (column : ℕ) (c : Conversion) (size : ℕ) (unit_is : size ≡ unit c) where
-  total_same : (e : List ℕ) (n : ℕ) → little e ≡ n → cell_fault column (Total c) e ≡ total_fault column size n
-  total_same e n is = grind (arith, common_steps, column)
+  -- ---- the total
 
   pub total_stops : {a b : Seen} {place : ℕ} {stop : Stop} → RefusesNumber 8 (total_fault column size) a b place stop ⊎ CutsNumber 8 a b place stop → StopsReading (cell column) (Total c) a b place (Total c) stop
-  total_stops x = number_stops (omega arith) refl refl (λ e n f is first. total_same e n is ∙ first) x
+  total_stops x = number_stops (omega arith) refl refl (λ e n f is first. grind (arith, common_steps, column)) x
 
   module _ {a b : Seen} {place place' : ℕ} {answer : Option (Option ℕ)} (x : (n : ℕ) × ReadsNumber 8 a b place place' n × (total_fault column size n ≡ None) × (answer ≡ total_of n)) where
     pub total_none : answer ≡ None → Next column (Total c) a b place place' (WholeCell Null)
     total_none is =
         let null : x.0 ≡ null_total = grind arith in
-        next_by (omega arith) refl x.1 (total_same _ x.0 x.1.number ∙ x.2) (choose_true _ _ _ (ap (λ m. m == null_total) (x.1.number ∙ null)))
+        next_by (omega arith) refl x.1 (total_same column c _ _ _ unit_is x.1.number ∙ x.2) (choose_true _ _ _ (ap (λ m. m == null_total) (x.1.number ∙ null)))
 
     pub total_start : {t : Option ℕ} → answer ≡ Some t → Next column (Total c) a b place place' (ChunkLength c t [])
-    total_start {t} is =
-        next_by (omega arith) refl x.1 (total_same _ x.0 x.1.number ∙ x.2) (let number = x.1.number in grind arith)
+    total_start is = next_by (omega arith) refl x.1 (total_same column c _ _ _ unit_is x.1.number ∙ x.2) (let number = x.1.number in grind arith)
 
 -- ---- the length of a chunk
 
-module _ (column : ℕ) (c : Conversion) (size : ℕ) (unit_is : size ≡ unit c) (total : Option ℕ) where
-  module _ (content : List ℕ) (sum : ℕ) (counted : length content ≡ sum) {a b : Seen} {place : ℕ} where
+module _ {column : ℕ} (c : Conversion) {size : ℕ} (unit_is : size ≡ unit c) {total : Option ℕ} where
+  module _ {content : List ℕ} {sum : ℕ} (counted : length content ≡ sum) {a b : Seen} {place : ℕ} where
     pub chunk_stops : {stop : Stop} → RefusesNumber 4 (λ n. chunk_length_fault column size total sum n) a b place stop ⊎ CutsNumber 4 a b place stop → StopsReading (cell column) (ChunkLength c total content) a b place (ChunkLength c total content) stop
     chunk_stops x = number_stops (omega arith) refl refl (λ e n f is first. grind (arith, common_steps)) x
 
@@ -79,3 +81,43 @@ module _ (column : ℕ) (c : Conversion) (size : ℕ) (unit_is : size ≡ unit c
       -- the length of a chunk was read
       pub chunk_start : n ≢ 0 → Next column (ChunkLength c total content) a b place place' (chunk_left c total n content)
       chunk_start some = grind (arith, common_steps, next_by, ne_eqb, choose_false)
+
+-- ---- where a call stops with the fault of a device, that device failed in it
+
+pub same_failures : {a b c d : ℕ} → a ≡ c → b ≡ d → ◌≡◌ {A = Failures} (record { reads = a; writes = b }) (record { reads = c; writes = d })
+same_failures e f = λ i. record { reads = e i; writes = f i }
+
+pub stops_after : (a b c : Failures) (stop : Stop) → b ≡ a → StopBlames b c stop → StopBlames a c stop
+stops_after a b c stop e h = rw (← e) h
+
+-- ---- the reader
+
+-- what a stop of the payload says of its reader
+abbrev pub ReadBlames : ℕ → ℕ → Stop → Type 0
+ReadBlames old new stop = (stop.fault ≡ WriteFailed → ⊥) × (stop.fault ≡ ReadFailed → new ≡ one_more old)
+
+pub read_stops : (old new : Failures) (stop : Stop) → ReadBlames old.reads new.reads stop → StopBlames old new stop
+read_stops old new stop h = (h.1, λ e. absurd (h.0 e))
+
+-- a fault that names no device
+abbrev NoDevice : Option Fault → Type 0
+NoDevice None = ⊤
+NoDevice (Some fault) = (fault ≡ WriteFailed → ⊥) × (fault ≡ ReadFailed → ⊥)
+
+pub short_blames : (column size n : ℕ) → NoDevice (short_fault column size n)
+short_blames column size n = grind arith
+
+pub total_blames : (column size n : ℕ) → NoDevice (total_fault column size n)
+total_blames column size n = grind arith
+
+pub chunk_blames : (column size : ℕ) (total : Option ℕ) (sum n : ℕ) → NoDevice (chunk_length_fault column size total sum n)
+chunk_blames column size total sum n = grind (arith, common_steps)
+
+-- a length that was refused or cut
+pub length_blames : {R : Type 0} {size : ℕ} {b : Seen} {stop : Stop} (remaining : R → Option (List ℕ)) (fault : ℕ → Option Fault) (old : Input R) → old.stopped ≡ None → ((n : ℕ) → NoDevice (fault n))
+    → RefusesNumber size fault (seen remaining old) b old.place stop ⊎ CutsNumber size (seen remaining old) b old.place stop → ReadBlames old.from.now.failures b.failures stop
+length_blames remaining fault old going none (inl x) = grind arith
+length_blames {b = b} remaining fault old going none (inr x) =
+    let h = ends_blame remaining old b x.part x.own going x.ends in
+    let is = ap (λ s. s.fault) x.stop_is in
+    (λ e. h.0 (sym is ∙ e), λ e. h.1 (sym is ∙ e))

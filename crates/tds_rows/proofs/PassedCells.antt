@@ -1,18 +1,17 @@
 -- The value of a RETURNVALUE, as it is passed over.
-use Rattle.tds_rows.proofs.Words.{◌≡◌, ◌∙◌, ◌⊎◌, inl, inr, ℕ, zero, ◌+◌, ◌-◌, ◌%◌, ◌<◌, ◌≤◌, Bool, true, List, [], ◌++◌, length, refl, sym, ap, subst, arith, append-nil, length-append, Option, is_ok, Kind, Binary, Narrow, Wide, Reach, is_scalar, read_of, Stop, Spelt, Seen, Takes, IsBetween, began_at, Spelt-append, Spelt-one, Ends-after, Takes-none, Takes-trans, add_none, began_is_cut, reads_both, reads_none, stops_after, BeginsData, Conversion, Charset, Cell, CellPart, ChunkLength, DataCell, LongShape, ShortLength, WholeCell, cell_start, return_charset, shape, GathersCell, StallsCell, scalar_size, value_bytes, value_length, value_start, WritesCell, return_column, AnyData, CutsPassing, IsGoodValue, PassesCell, PassesData, StepsOver, StopsPassing, return_cell, begun_by_test, take_all}
-use Rattle.tds_rows.proofs.{BufferedCells.null_cell, BufferedCells.value_cell, LongSteps.HoldsContent, LongSteps.chunk_holds, LongSteps.content_spelt, LongSteps.short_holds, CellMeaning.is_ok_value, CellWords.chunk_left, CellWords.short_left}
+use Rattle.tds_rows.proofs.{Words.{HexDigits, Utf16Text, Windows1252Text, ◌≢◌, Some, None, eq_true, ReadsNumber, chunk_length_fault, short_fault, short_length, reads_one, ◌≡◌, ◌∙◌, inr, ℕ, ◌+◌, ◌-◌, ◌%◌, ◌<◌, ◌≤◌, Bool, true, List, [], ◌++◌, length, refl, sym, ap, subst, arith, append-nil, length-append, Option, is_ok, Kind, is_scalar, read_of, Stop, Spelt, Seen, Takes, IsBetween, began_at, Ends-after, Takes-none, Takes-trans, add_none, began_is_cut, reads_both, reads_none, stops_after, BeginsData, Conversion, Charset, Cell, CellPart, ChunkLength, DataCell, ShortLength, WholeCell, cell_start, shape, GathersCell, StallsCell, scalar_size, value_bytes, value_length, value_start, WritesCell, return_column, AnyData, CutsPassing, IsGoodValue, PassesCell, PassesData, StepsOver, StopsPassing, return_cell, begun_by_test, take_all, zero}, BufferedCells.{null_cell, value_cell}, RunSteps.whole_of, LongSteps.{HoldsContent, content_spelt, chunk_holds, short_holds}, CellMeaning.is_ok_value, Numbers.{Next, chunk_end, chunk_start, chunk_left, short_left}}
 
 -- ---- elements
 
 -- no element was read
 step_none : {s : CellPart} {a : Seen} {place : ℕ} → IsBetween a → StepsOver s s a a place place
-step_none between = record { reads = reads_none return_cell _ _; between = between; place_is = sym (add_none _) }
+step_none between = record { reads = reads_none _ _ _; between = between; place_is = sym (add_none _) }
 
 steps_both : {s t u : CellPart} {a b d : Seen} {place middle place' : ℕ} → StepsOver s t a b place middle → StepsOver t u b d middle place' → StepsOver s u a d place place'
 steps_both x y = record { reads = reads_both _ _ _ _ _ _ _ x.reads y.reads; between = y.between; place_is = omega (arith, length-append x.reads.bytes y.reads.bytes) }
 
 pub stops_after_steps : {s t : CellPart} {a b d : Seen} {place middle : ℕ} {stop : Stop} → StepsOver s t a b place middle → StopsPassing t b d middle stop → StopsPassing s a d place stop
-stops_after_steps x y = record { at = y.at; stops = stops_after return_cell _ _ _ _ _ _ y.at _ x.reads (rw x.place_is at y.stops) }
+stops_after_steps x y = record { at = y.at; stops = stops_after _ _ _ _ _ _ _ _ _ x.reads (rw x.place_is at y.stops) }
 
 -- ---- data, byte by byte
 
@@ -50,15 +49,12 @@ module _ {c : Conversion} {state : ℕ → List ℕ → CellPart} {Good : List �
 -- ---- scalars
 
 -- a scalar's cell stops as any
-pub scalar_stops : (charset : Charset) (kind : Kind) (a b : Seen) (place : ℕ) (stop : Stop) → StallsCell (cell_start kind (shape charset kind)) return_column a b place stop → StopsPassing (cell_start kind (shape charset kind)) a b place stop
-scalar_stops charset kind a b place stop x = record { at = x.at; stops = x.stops }
+pub scalar_stops : {from : CellPart} {a b : Seen} {place : ℕ} {stop : Stop} → StallsCell from return_column a b place stop → StopsPassing from a b place stop
+scalar_stops x = record { at = x.at; stops = x.stops }
 
 -- what is written of a cell is its spelling
-written_spelt : (from : CellPart) (last : Bool) (bytes text : List ℕ) → WritesCell from return_column last bytes text → (value : Cell) × Spelt return_cell from bytes (WholeCell value)
-written_spelt from last bytes text x = (
-  x.value,
-  rw x.joined at (Spelt-append _ from x.front x.at _ _ x.spelt (rw x.whole at (Spelt-one _ x.at _ x.next))),
-)
+written_spelt : {from : CellPart} {last : Bool} {bytes text : List ℕ} → WritesCell from return_column last bytes text → (value : Cell) × Spelt return_cell from bytes (WholeCell value)
+written_spelt x = let whole = whole_of x in (whole.value, whole.spelt)
 
 -- the bytes of a scalar cell whose value isn't refused are a whole cell
 pub scalar_whole : (charset : Charset) (kind : Kind) (bytes : List ℕ) → is_scalar kind ≡ true → length bytes ≡ scalar_size kind bytes → (0 < value_length kind bytes → is_ok (read_of kind (value_bytes kind bytes)) ≡ true)
@@ -68,43 +64,43 @@ scalar_whole charset kind bytes scalar whole good = go _ refl
     go : (n : ℕ) → value_length kind bytes ≡ n → (value : Cell) × Spelt return_cell (cell_start kind (shape charset kind)) bytes (WholeCell value)
     go zero e =
         let x = null_cell charset kind _ true bytes _ scalar _ refl e (omega arith) refl in
-        rw (take_all (value_start kind + 0) bytes (omega arith)) at (written_spelt _ _ _ _ x)
+        rw (take_all (value_start kind + 0) bytes (omega arith)) at (written_spelt x)
     go _ e =
         let v = is_ok_value _ (good (omega arith)) in
         let x = value_cell charset kind _ true bytes _ scalar _ _ refl refl (λ z. omega arith) (omega arith) (v.0, v.1, refl) in
-        rw (take_all (value_start kind + value_length kind bytes) bytes (omega arith)) at (written_spelt _ _ _ _ x)
+        rw (take_all (value_start kind + value_length kind bytes) bytes (omega arith)) at (written_spelt x)
 
 -- ---- pieces
 
 -- nothing was passed over
-pub passes_none : (n : ℕ) (a : Seen) (place : ℕ) → n ≡ 0 → IsBetween a → PassesData n a a place place
-passes_none n a place none between = record { bytes = []; counted = sym none; takes = Takes-none a n; between = between; place_is = omega (arith, none) }
+pub passes_none : {n : ℕ} {a : Seen} {place : ℕ} → n ≡ 0 → IsBetween a → PassesData n a a place place
+passes_none {n = n} {a = a} none between = record { bytes = []; counted = sym none; takes = Takes-none a n; between = between; place_is = omega (arith, none) }
 
 -- a piece more was
-pub passes_more : (m n k : ℕ) (a b d : Seen) (place middle place' : ℕ) → k ≡ m + n → PassesData m a b place middle → PassesData n b d middle place' → PassesData k a d place place'
-passes_more m n k a b d place middle place' sum x y = record {
+pub passes_more : {m n k : ℕ} {a b d : Seen} {place middle place' : ℕ} → k ≡ m + n → PassesData m a b place middle → PassesData n b d middle place' → PassesData k a d place place'
+passes_more {m = m} {n = n} {a = a} {b = b} {d = d} sum x y = record {
   bytes = x.bytes ++ y.bytes;
   counted = omega (arith, length-append x.bytes y.bytes);
-  takes = subst (λ j. Takes a d (x.bytes ++ y.bytes) j) (omega arith) (Takes-trans a b d x.bytes y.bytes m n (omega arith) x.takes y.takes);
+  takes = subst (λ j. Takes a d (x.bytes ++ y.bytes) j) (omega arith) (Takes-trans a b d _ _ m n (omega arith) x.takes y.takes);
   between = y.between;
   place_is = omega arith;
 }
 
 -- the payload stopped after what was passed over
-pub cuts_more : (m n k : ℕ) (a b d : Seen) (place middle : ℕ) (stop : Stop) → m + n ≤ k → PassesData m a b place middle → CutsPassing n b d middle stop → CutsPassing k a d place stop
-cuts_more m n k a b d place middle stop sum x y = record {
+pub cuts_more : {m n k : ℕ} {a b d : Seen} {place middle : ℕ} {stop : Stop} → m + n ≤ k → PassesData m a b place middle → CutsPassing n b d middle stop → CutsPassing k a d place stop
+cuts_more {m = m} {a = a} {b = b} {d = d} sum x y = record {
   bytes = x.bytes ++ y.bytes;
   own = y.own;
   fewer = omega (arith, length-append x.bytes y.bytes);
-  ends = Ends-after a b d x.bytes y.bytes m y.own x.takes y.ends;
+  ends = Ends-after a b d _ _ m _ x.takes y.ends;
   stop_is = y.stop_is ∙ ap (λ j. began_at j y.own) (omega (arith, length-append x.bytes y.bytes));
 }
 
 -- a scalar cell whose value isn't refused was read
-pub scalar_passes : (charset : Charset) (kind : Kind) (a b : Seen) (place place' : ℕ) (bytes : List ℕ) → is_scalar kind ≡ true → GathersCell kind (cell_start kind (shape charset kind)) return_column a b place place' bytes → IsGoodValue kind bytes
+pub scalar_passes : {kind : Kind} {a b : Seen} {place place' : ℕ} {bytes : List ℕ} (charset : Charset) → is_scalar kind ≡ true → GathersCell kind (cell_start kind (shape charset kind)) return_column a b place place' bytes → IsGoodValue kind bytes
     → PassesCell (cell_start kind (shape charset kind)) a b place place'
-scalar_passes charset kind a b place place' bytes scalar x good =
-    let v = scalar_whole charset kind bytes scalar x.whole good in
+scalar_passes {kind = kind} {bytes = bytes} charset scalar x good =
+    let v = scalar_whole _ _ _ scalar x.whole good in
     record { value = v.0; steps = record { reads = record { bytes = bytes; spelt = v.1; takes = x.takes }; between = x.between; place_is = x.place_is } }
 
 -- ---- short values
@@ -150,13 +146,35 @@ module _ {c : Conversion} {total : Option ℕ} {sum : ℕ} {a b d : Seen} {place
     pub chunks_cut : {stop : Stop} → CutsPassing n d e there stop → StopsPassing (ChunkLength c total []) a e place stop
     chunks_cut z = stops_after_steps (steps_both x.steps y) (data_stops (chunk_holds return_column c total) (any_begins any) x.content z)
 
+-- ---- lengths and totals
+
+-- an element was read that leads on
+pub steps_of : {s t : CellPart} {a b : Seen} {place place' : ℕ} → Next return_column s a b place place' t → StepsOver s t a b place place'
+steps_of x = record { reads = reads_one _ _ _ _ _ _ x.next x.takes x.to; between = x.between; place_is = x.place_is }
+
+module _ {c : Conversion} {size : ℕ} (any : AnyData c size) where
+  -- a short value has whole units
+  pub short_even : {a b : Seen} {place place' k : ℕ} {answer : Option ℕ} → ((n : ℕ) × ReadsNumber 2 a b place place' n × (short_fault return_column size n ≡ None) × (answer ≡ short_length n)) → answer ≡ Some k → k % size ≡ 0
+  short_even x is = grind arith
+
+  module _ {total : Option ℕ} {content : List ℕ} {sum n k place place' : ℕ} {a b : Seen} (counted : length content ≡ sum) (x : ReadsNumber 4 a b place place' n) (free : chunk_length_fault return_column size total sum n ≡ None) (is : k ≡ n) where
+    -- the terminator was read
+    pub end_steps : k ≡ 0 → StepsOver (ChunkLength c total content) (WholeCell (DataCell c content)) a b place place'
+    end_steps ends =
+        let none = sym is ∙ ends in
+        steps_of (chunk_end c (sym any.unit_is) counted x free none (any.fit content (ap (λ m. m % size) counted ∙ (eq_true _ 0 (grind arith)))))
+
+    -- the length of a chunk was read
+    pub chunk_steps : k ≢ 0 → StepsOver (ChunkLength c total content) (chunk_left c total k content) a b place place'
+    chunk_steps some = rw (sym is) at (steps_of (chunk_start c (sym any.unit_is) counted x free (λ e. some (is ∙ e))))
+
 -- ---- the data of a RETURNVALUE may be any bytes
 
--- the beginning of a long value of single bytes
-pub single_start : (kind : Kind) (reach : Reach) (P : CellPart → Type 0) → (kind ≡ Binary reach) ⊎ (kind ≡ Narrow reach) → ((k : Kind) (c : Conversion) → AnyData c 1 → P (cell_start k (LongShape c reach))) → P (cell_start kind (shape return_charset kind))
-single_start kind reach P (inl is) x = rw is (x (Binary reach) _ (grind arith))
-single_start kind reach P (inr is) x = rw is (x (Narrow reach) _ (grind arith))
+pub any_hex : AnyData HexDigits 1
+any_hex = grind arith
 
--- the beginning of one of units of two
-pub wide_start : (kind : Kind) (reach : Reach) (P : CellPart → Type 0) → kind ≡ Wide reach → ((k : Kind) (c : Conversion) → AnyData c 2 → P (cell_start k (LongShape c reach))) → P (cell_start kind (shape return_charset kind))
-wide_start kind reach P is x = rw is (x (Wide reach) _ (grind arith))
+pub any_narrow : AnyData Windows1252Text 1
+any_narrow = grind arith
+
+pub any_wide : AnyData Utf16Text 2
+any_wide = grind arith

@@ -1,6 +1,5 @@
 -- The cells of a row, as they are read one after another and their text is put.
-use Rattle.tds_rows.proofs.Words.{common_steps, ◌≡◌, ◌∙◌, ℕ, ◌+◌, ◌^◌, ◌-◌, ◌<◌, ◌≤◌, Bool, false, List, [], ◌∷◌, ◌++◌, length, sym, ap, arith, append-nil, length-append, None, map, length-map, map-append, Kind, Stop, IsNext, Leads, Spelt, concat, IsBetween, Seen, Takes, Spelt-append, Spelt-one, Column, joined, after_comma, in_line, Breaks, Held, Puts, BreaksStreaming, PutsText, StopsStreaming, Streams, Puts-none, Charset, Cell, CellPart, Shape, WholeCell, cell, cell_add, cell_end, cell_size, cell_start, field, field_so_far, row, with_cell, StallsCell, cell_so_far}
-use Rattle.tds_rows.proofs.{Paths.At, LineTexts.joined_snoc, CellWords.PutsCell, CellWords.StopsCell}
+use Rattle.tds_rows.proofs.{Words.{common_steps, PutsField, StopsField, shape, ◌≡◌, ◌∙◌, ℕ, ◌+◌, ◌^◌, ◌-◌, ◌<◌, ◌≤◌, Bool, false, List, [], ◌∷◌, ◌++◌, length, sym, ap, arith, append-nil, length-append, None, map, length-map, map-append, Kind, Stop, IsNext, Leads, Spelt, concat, IsBetween, Seen, Takes, Spelt-append, Spelt-one, Column, joined, after_comma, in_line, Breaks, Held, Puts, BreaksStreaming, PutsText, Streams, Puts-none, Charset, Cell, CellPart, Shape, WholeCell, cell, cell_add, cell_end, cell_size, cell_start, field, field_so_far, row, with_cell, StallsCell, cell_so_far, true, refl, append_assoc, Option, Some, next_some, end_after, null_field, ChunkData, ChunkLength, Null, ShortData, is_last_column, opened, RowPart, marked, next_cell, row_so_far}, Paths.At, LineTexts.joined_snoc, GrowingTexts.{Grows, OptionGrows, cell_grows, grows_all, grows_same, grows_trans, grows_under}}
 
 -- A cell was read, of those whose text comes with the last element alone, and this is its text in its line.
 pub record ReadsCell (from : CellPart) (column : ℕ) (last : Bool) (old new : Seen) (place place' : ℕ) (text : List ℕ) : Type 0 where
@@ -16,6 +15,14 @@ pub record ReadsCell (from : CellPart) (column : ℕ) (last : Bool) (old new : S
   pub between : IsBetween new
   pub place_is : place' ≡ place + length (front ++ element)
   pub text_is : text ≡ in_line column last (field value)
+
+-- A cell of a kind was read, and its text put.
+abbrev pub PutsCell : Charset → Kind → ℕ → Bool → Seen → Seen → ℕ → ℕ → Held → Held → Type 0
+PutsCell charset kind = PutsField (cell_start kind (shape charset kind))
+
+-- A cell of a kind stopped so.
+abbrev pub StopsCell : Charset → Kind → ℕ → Bool → Seen → Seen → ℕ → Held → Held → Bool → Stop → Type 0
+StopsCell charset kind = StopsField (cell_start kind (shape charset kind))
 
 -- A cell of a kind was read and its text put, from one place to another; or it stopped so.
 abbrev pub PutsAt : Charset → Kind → ℕ → Bool → At → At → Type 0
@@ -39,19 +46,19 @@ module _ (kind : Kind) (s : Shape) (column : ℕ) (last : Bool) where
   none_put at h quiet d = grind (arith, Puts-none)
 
   -- it was read, and its text put
-  abbrev pub at_once_streams : (a b : Seen) (place place' : ℕ) (h i : Held) (text : List ℕ) → (r : ReadsCell (cell_start kind s) column last a b place place' text) → Puts h i text
+  abbrev pub at_once_streams : {a b : Seen} {place place' : ℕ} {h i : Held} {text : List ℕ} (r : ReadsCell (cell_start kind s) column last a b place place' text) → Puts h i text
       → Streams (cell column) (cell_so_far column last) (cell_start kind s) a b h i (WholeCell r.value)
-  at_once_streams a b place place' h i text r x = record {
+  at_once_streams {text = text} r x = record {
     bytes = r.front ++ r.element;
-    spelt = Spelt-append _ _ r.front r.at _ _ r.spelt (rw (← r.whole) (Spelt-one _ r.at _ r.next));
+    spelt = Spelt-append _ _ _ _ _ _ r.spelt (rw (← r.whole) (Spelt-one _ _ _ r.next));
     takes = r.takes;
-    puts = (text, ap (λ l. l ++ text) (quiet_text column last _ (start_quiet kind s)) ∙ r.text_is, x);
+    puts = (text, ap (λ l. l ++ text) (quiet_text _ _ _ (start_quiet _ s)) ∙ r.text_is, x);
   }
 
   -- it was read, and a write of its text failed
-  pub at_once_breaks : (a b : Seen) (place place' : ℕ) (h i : Held) (text : List ℕ) (stop : Stop) → h.delivered ≤ 2 ^ 64 - 1 → length h.waiting < 4096 → (r : ReadsCell (cell_start kind s) column last a b place place' text) → Breaks h i text stop
+  pub at_once_breaks : {a b : Seen} {place place' : ℕ} {h i : Held} {text : List ℕ} {stop : Stop} → h.delivered ≤ 2 ^ 64 - 1 → length h.waiting < 4096 → (r : ReadsCell (cell_start kind s) column last a b place place' text) → Breaks h i text stop
       → BreaksStreaming (cell column) (cell_so_far column last) (cell_start kind s) a b h i r.at stop
-  at_once_breaks a b place place' h i text stop d few r x = record {
+  at_once_breaks {h = h} {text = text} d few r x = record {
     bytes = r.front;
     element = r.element;
     ahead = [];
@@ -61,20 +68,20 @@ module _ (kind : Kind) (s : Shape) (column : ℕ) (last : Bool) where
     between = r.between;
     middle = h;
     few = few;
-    puts = none_put r.at h r.quiet d;
+    puts = none_put _ h r.quiet d;
     more = text;
-    text_is = ap (λ l. l ++ text) (quiet_text column last r.at r.quiet) ∙ r.text_is ∙ ap (cell_so_far column last) (sym r.whole);
+    text_is = ap (λ l. l ++ text) (quiet_text _ _ _ r.quiet) ∙ r.text_is ∙ ap (cell_so_far column last) (sym r.whole);
     breaks = x;
   }
 
   -- it stopped before it had any text
-  pub at_once_stalls : (a b : Seen) (place : ℕ) (h : Held) (stop : Stop) → h.delivered ≤ 2 ^ 64 - 1 → StallsCell (cell_start kind s) column a b place stop → StopsStreaming (cell column) (cell_so_far column last) (cell_start kind s) a b place h h false stop
-  at_once_stalls a b place h stop d x = grind (arith, common_steps, none_put)
+  pub at_once_stalls : {a b : Seen} {place : ℕ} {h : Held} {stop : Stop} → h.delivered ≤ 2 ^ 64 - 1 → StallsCell (cell_start kind s) column a b place stop → StopsField (cell_start kind s) column last a b place h h false stop
+  at_once_stalls d x = grind (arith, common_steps, none_put)
 
 -- ---- a cell in its row
 
 pub fields_more : (cells : List Cell) (v : List ℕ) → joined (map field cells) ++ after_comma (length cells) v ≡ joined (map field cells ++ v ∷ [])
-fields_more cells v = ap (λ n. joined (map field cells) ++ after_comma n v) (sym (length-map cells field)) ∙ joined_snoc (map field cells) v
+fields_more cells v = ap (λ n. joined (map field cells) ++ after_comma n v) (sym (length-map cells field)) ∙ joined_snoc _ v
 
 pub cell_more : (cells : List Cell) (v : Cell) → joined (map field cells) ++ after_comma (length cells) (field v) ≡ joined (map field (cells ++ v ∷ []))
 cell_more cells v = grind (arith, common_steps, fields_more, map-append)
@@ -95,3 +102,88 @@ cell_some charset kind y =
     let spelt = y.streams.spelt in
     let some = some_bytes _ _ y.value _ (grind arith) spelt.leads in
     omega (arith, ap length spelt.joined)
+
+-- ---- columns that are NULL by their bit: their text stands after that of the element that is read before them
+
+-- whether no column follows
+abbrev pub ends : List (Column × Bool) → Bool
+ends [] = true
+ends (k ∷ ks) = false
+
+-- so it is where no column is left
+pub ends_marked : (columns : List Column) (nulls : ℕ → Bool) (n : ℕ) → is_last_column columns ≡ ends (marked columns nulls n)
+ends_marked columns nulls n = grind arith
+
+-- no column is NULL by its bit
+abbrev pub coming : List Column → ℕ → List (Column × Bool)
+coming left n = marked left (λ k. false) n
+
+-- the text in its line of the first columns, as far as they are NULL by their bit; this many columns lie before them
+abbrev pub nulls_ahead : ℕ → List (Column × Bool) → List ℕ
+nulls_ahead n [] = []
+nulls_ahead n ((k, true) ∷ ks) = in_line n (ends ks) null_field ++ nulls_ahead (n + 1) ks
+nulls_ahead n ((k, false) ∷ ks) = []
+
+pub none_ahead : (left : List Column) (n : ℕ) → nulls_ahead n (coming left n) ≡ []
+none_ahead [] n = refl
+none_ahead (c ∷ cs) n = refl
+
+-- one more whole cell, and what is known of the text after it
+one_more : (cells : List Cell) (v : Cell) (ks : List (Column × Bool)) (text : List ℕ) → (joined (map field (cells ++ v ∷ [])) ++ end_after (ends ks)) ++ nulls_ahead (length (cells ++ v ∷ [])) ks ≡ text
+    → (joined (map field cells) ++ in_line (length cells) (ends ks) (field v)) ++ nulls_ahead (length cells + 1) ks ≡ text
+one_more cells v ks text is =
+    let begun =
+    sym (append_assoc (joined (map field cells)) _ _) ∙ ap (λ l. l ++ end_after (ends ks)) (cell_more cells v) in
+    ap (λ l. l ++ nulls_ahead (length cells + 1) ks) begun ∙ ap (λ n. (joined (map field (cells ++ v ∷ [])) ++ end_after (ends ks)) ++ nulls_ahead n ks) (sym (length-append cells _)) ∙ is
+
+-- a row's text so far is that of its whole cells, the end of the line where no column follows, and that of the NULLs to come
+pub nulls_text : (charset : Charset) (cells : List Cell) (ks : List (Column × Bool)) → (joined (map field cells) ++ end_after (ends ks)) ++ nulls_ahead (length cells) ks ≡ row_so_far (next_cell charset cells ks)
+nulls_text charset cells [] = append-nil _
+nulls_text charset cells ((k, true) ∷ ks) =
+    let tail = nulls_ahead _ ks in
+    ap (λ l. l ++ (in_line (length cells) (ends ks) null_field ++ tail)) (append-nil (joined (map field cells))) ∙ sym (append_assoc (joined (map field cells)) _ tail)
+    ∙ one_more cells Null ks _ (nulls_text charset (cells ++ Null ∷ []) ks)
+nulls_text charset cells ((k, false) ∷ ks) = grind (arith, append-nil)
+
+-- ---- a cell's text in its line
+
+module _ (column : ℕ) (last : Bool) where
+  opened_grows : (a b : Option (List ℕ)) → OptionGrows a b → Grows (opened column a) (opened column b)
+  opened_grows None b h = grows_all _
+  opened_grows (Some a) None h = absurd h
+  opened_grows (Some a) (Some b) h = grind (arith, common_steps, grows_under)
+
+  -- while it is open, the text so far of a cell is that of its field
+  pub opened_text : (p : CellPart) → 0 < cell_size p → opened column (field_so_far p) ≡ cell_so_far column last p
+  opened_text p h = grind arith
+
+  opened_to : (p : CellPart) → Grows (opened column (field_so_far p)) (cell_so_far column last p)
+  opened_to (ShortData c n d) = grows_same _
+  opened_to (ChunkLength c t d) = grows_same _
+  opened_to (ChunkData c t n d) = grows_same _
+  opened_to (WholeCell v) = grind arith
+  opened_to p = grows_all []
+
+  -- each element of a cell adds to its text in its line
+  pub line_grows : (p : CellPart) (e : List ℕ) → IsNext (cell column) p e → Grows (cell_so_far column last p) (cell_so_far column last (cell_add p e))
+  line_grows p e n = rw (opened_text p (next_some _ p e n)) at (grows_trans _ _ _ (opened_grows _ _ (cell_grows _ p e n)) (opened_to _))
+
+-- ---- a cell in its row, with the NULLs after it
+
+module _ (charset : Charset) (cells : List Cell) (ks : List (Column × Bool)) where
+  -- a cell's states in its row
+  abbrev up : CellPart → RowPart
+  up = with_cell charset cells ks
+
+  -- the text of the NULLs after it, once it is whole
+  abbrev pub rest_of : CellPart → List ℕ
+  rest_of (WholeCell v) = nulls_ahead (length cells + 1) ks
+  rest_of part = []
+
+  -- the text so far of the row is that of the whole cells, that of the next one, and that of the NULLs after it
+  pub part_text : (at : CellPart) → (joined (map field cells) ++ cell_so_far (length cells) (ends ks) at) ++ rest_of at ≡ row_so_far (up at)
+  part_text at = grind (arith, common_steps, append-nil, nulls_text, one_more, fields_more)
+
+  -- there are none after it while it is open
+  pub begun_text : (at : CellPart) → 0 < cell_size at → joined (map field cells) ++ cell_so_far (length cells) (ends ks) at ≡ row_so_far (up at)
+  begun_text at some = grind (arith, append-nil, (part_text at))

@@ -1,16 +1,11 @@
 -- The cells of a run, as they are written one after another.
-use Rattle.tds_rows.proofs.Words.{common_steps, false, zero, suc, add-zero, ◌≡◌, ◌∙◌, ℕ, ◌+◌, ◌-◌, ◌≤◌, ◌<◌, Bool, List, [], ◌∷◌, ◌++◌, length, take, drop, get_or, refl, sym, ap, subst, arith, append_assoc, append-nil, length-append, Result, Ok, Err, MatchResult, true, length-take, length-take-le, take-append-le, take_all, take_more, take-append-add, take-add, Stop, map, Option, Spelt, Seen, Takes, joined, line, Sink, Breaks, Held, IsWriting, Puts, PutsPiece, held, Inside, Spelt-append, Spelt-one, Column, all_after, Charset, Cell, CellPart, Shape, WholeCell, cell, cell_start, field, shape, NbcRow, PlainRow, RowPart, RowToken, WholeRow, next_cell, row, row_so_far, token_byte, token_start, with_field, IsLeft, IsScalarLeft, IsValueText, WritesKind, cell_so_far, is_last_column, scalar_size, whole_size, WritesCell, WritesWhole, is_scalar, Writes, WritesRows, after_cells, lines, rows, rows_so_far, Kind, IntN, WritesColumn, WritesMarked, HasInt4, int4_kind}
-use Rattle.tds_rows.proofs.{CellSteps.fixed_some, NullSteps.row_cell, NullTexts.coming, NullTexts.ends_marked, NullTexts.none_ahead, Paths.At, Paths.writes_both, Paths.writes_inside, Paths.writes_none, RowSteps.quiet_text, RowSteps.start_quiet, TableSteps.next_column, CellWords.PutsCell, CellWords.StopsCell, BufferedCells.int4_cell}
+use Rattle.tds_rows.proofs.{Words.{common_steps, false, zero, suc, add-zero, ◌≡◌, ◌∙◌, ℕ, ◌+◌, ◌-◌, ◌≤◌, ◌<◌, Bool, List, [], ◌∷◌, ◌++◌, length, take, drop, get_or, refl, sym, ap, subst, arith, append_assoc, append-nil, length-append, Result, Ok, Err, MatchResult, true, length-take, length-take-le, take-append-le, take_all, take_more, take-append-add, take-add, Stop, map, Option, Seen, Takes, joined, line, Sink, Breaks, Held, IsWriting, Puts, PutsPiece, held, Inside, Spelt-append, Spelt-one, Column, all_after, Charset, Cell, CellPart, Shape, WholeCell, cell, cell_start, field, shape, NbcRow, PlainRow, RowPart, RowToken, WholeRow, next_cell, row, row_so_far, token_byte, token_start, with_field, IsLeft, IsScalarLeft, IsValueText, WritesKind, cell_so_far, is_last_column, scalar_size, whole_size, WritesCell, WritesWhole, is_scalar, Writes, WritesRows, after_cells, lines, rows, rows_so_far, Kind, IntN, WritesColumn, WritesMarked, HasInt4}, CellSteps.fixed_some, NullSteps.row_cell, RowSteps.{coming, ends_marked, none_ahead, quiet_text, start_quiet, PutsCell, StopsCell}, Paths.{At, writes_both, writes_inside, writes_none}, TableSteps.next_column, BufferedCells.int4_cell}
 
 -- ---- cells of a row
 
 -- a cell whose text comes with its last element
-pub whole_of : (from : CellPart) (column : ℕ) (last : Bool) (bytes made : List ℕ) → WritesCell from column last bytes made → WritesWhole from column last bytes made
-whole_of from column last bytes made x = record {
-  value = x.value;
-  spelt = subst (λ l. Spelt (cell column) from l (WholeCell x.value)) x.joined (Spelt-append (cell column) from x.front x.at x.element (WholeCell x.value) x.spelt (subst (λ v. Spelt (cell column) x.at x.element v) x.whole (Spelt-one (cell column) x.at x.element x.next)));
-  text_is = x.text_is;
-}
+pub whole_of : {from : CellPart} {column : ℕ} {last : Bool} {bytes made : List ℕ} → WritesCell from column last bytes made → WritesWhole from column last bytes made
+whole_of {from = from} x = record { value = x.value; spelt = rw x.joined at (Spelt-append _ _ _ _ _ _ x.spelt (rw x.whole at (Spelt-one _ _ _ x.next))); text_is = x.text_is }
 
 -- a scalar cell, in any set
 pub writes_scalar : (set : Charset) (kind : Kind) (column : ℕ) (last : Bool) (bytes made : List ℕ) → ((any : Charset) → WritesCell (cell_start kind (shape any kind)) column last bytes made) → WritesKind set kind column last bytes made
@@ -19,7 +14,7 @@ writes_scalar set kind column last bytes made x = grind (arith, common_steps, wh
 -- a whole number of four bytes
 pub writes_int4 : {kind : Kind} {start n column : ℕ} {last : Bool} {bytes made : List ℕ} (set : Charset) → n ≡ 4 → HasInt4 kind start bytes → IsValueText (IntN 4) column last (take n (drop start bytes)) made → WritesKind set kind column last (take (start + 4) bytes) made
 writes_int4 {start = start} {column = column} {last = last} {bytes = bytes} {made = made} set is h x =
-    rw h.kind_is (writes_scalar set (int4_kind start) column last (take (start + 4) bytes) made (λ any. int4_cell any start column last bytes made (rw h.kind_is at h) (rw is at x)))
+    rw h.kind_is (writes_scalar _ _ _ _ _ _ (λ any. int4_cell _ _ _ _ _ _ (rw h.kind_is at h) (rw is at x)))
 
 -- what is made after what was made
 pub made_more : (made m : ℕ) (to new rest : List ℕ) → made ≤ length to → m ≤ length new → take (made + m) (take made to ++ (new ++ rest)) ≡ take made to ++ take m new
@@ -50,20 +45,12 @@ whole_some kind bytes = grind (arith, common_steps, fixed_some)
 -- ---- a run between a payload and a sink
 
 -- what doesn't fill a block isn't delivered, so no write of it fails
-pub fills_no_block : (h j : Held) (piece : List ℕ) (stop : Stop) → length h.waiting + length piece < 4096 → Breaks h j piece stop → ⊥
+fills_no_block : (h j : Held) (piece : List ℕ) (stop : Stop) → length h.waiting + length piece < 4096 → Breaks h j piece stop → ⊥
 fills_no_block h j piece stop few (sent, blocks, n, adds, most, least, less, whole, is, risen) =
     let both : length h.waiting + length (take n piece) ≡ length sent + length j.waiting = sym (length-append h.waiting (take n piece)) ∙ ap length adds.1 ∙ length-append sent j.waiting in
     omega (arith, both, few, whole, most, length-take n piece)
 
 -- ---- over the ends of rows
-
-pub row_among_rows : (token : RowToken) (charset : Charset) (all : List Column) (before : List (List Cell)) → Inside (row charset) (rows token charset all) (λ p. record { before = before; at = p })
-row_among_rows token charset all before = grind arith
-
--- what is written of a row is written of the rows
-pub row_among : {p q : RowPart} {bytes made : List ℕ} (token : RowToken) (charset : Charset) (all : List Column) (before : List (List Cell)) → Writes (row charset) row_so_far p bytes made q
-    → Writes (rows token charset all) rows_so_far (record { before = before; at = p }) bytes made (record { before = before; at = q })
-row_among token charset all before x = writes_inside {text = row_so_far} {whole = rows_so_far} (lines before) (row_among_rows token charset all before) (λ p. refl) x
 
 pub lines-append : (rs qs : List (List Cell)) → lines (rs ++ qs) ≡ lines rs ++ lines qs
 lines-append [] qs = refl
@@ -72,18 +59,25 @@ lines-append (r ∷ rs) qs = ap (λ l. line (map field r) ++ l) (lines-append rs
 -- some columns are to come, so no line ends there
 start_text : (token : RowToken) (charset : Charset) (columns : List Column) → 0 < length columns → row_so_far (token_start token charset columns) ≡ []
 start_text PlainRow charset [] some = absurd (omega (arith, some))
-start_text PlainRow charset (c ∷ cs) some = ap (λ o. joined (with_field [] o)) (start_quiet c.kind (shape charset c.kind))
+start_text PlainRow charset (c ∷ cs) some = ap (λ o. joined (with_field [] o)) (start_quiet _ _)
 start_text NbcRow charset columns some = refl
 
--- the token byte of the next row
-pub row_token : (token : RowToken) (charset : Charset) (all : List Column) (before : List (List Cell)) (cells : List Cell) → 0 < length all
-    → Writes (rows token charset all) rows_so_far (record { before = before; at = WholeRow cells }) (token_byte token ∷ []) [] (record { before = before ++ cells ∷ []; at = token_start token charset all })
-row_token token charset all before cells some = grind (arith, common_steps, Spelt-one, append-nil, lines-append, start_text)
+module _ (token : RowToken) (charset : Charset) (all : List Column) (before : List (List Cell)) where
+  pub row_among_rows : Inside (row charset) (rows token charset all) (λ p. record { before = before; at = p })
+  row_among_rows = grind arith
+
+  -- what is written of a row is written of the rows
+  pub row_among : {p q : RowPart} {bytes made : List ℕ} → Writes (row charset) row_so_far p bytes made q → Writes (rows token charset all) rows_so_far (record { before = before; at = p }) bytes made (record { before = before; at = q })
+  row_among x = writes_inside {text = row_so_far} {whole = rows_so_far} _ row_among_rows (λ p. refl) x
+
+  -- the token byte of the next row
+  pub row_token : (cells : List Cell) → 0 < length all → Writes (rows token charset all) rows_so_far (record { before = before; at = WholeRow cells }) (token_byte token ∷ []) [] (record { before = before ++ cells ∷ []; at = token_start token charset all })
+  row_token cells some = grind (arith, common_steps, Spelt-one, append-nil, lines-append, start_text)
 
 -- ---- cells of the last row
 
 -- a cell that lies whole, by itself
-pub cell_writes : {column : ℕ} {last : Bool} {bytes made : List ℕ} (kind : Kind) (sh : Shape) → (x : WritesWhole (cell_start kind sh) column last bytes made) → Writes (cell column) (cell_so_far column last) (cell_start kind sh) bytes made (WholeCell x.value)
+cell_writes : {column : ℕ} {last : Bool} {bytes made : List ℕ} (kind : Kind) (sh : Shape) → (x : WritesWhole (cell_start kind sh) column last bytes made) → Writes (cell column) (cell_so_far column last) (cell_start kind sh) bytes made (WholeCell x.value)
 cell_writes {column = column} {last = last} {made = made} kind sh x = grind (arith, common_steps, made, quiet_text, start_quiet)
 
 -- a cell after these, in its row
@@ -92,7 +86,7 @@ after_more : {bytes made : List ℕ} {v : Cell} (charset : Charset) (cells : Lis
 after_more {bytes = bytes} {made = made} {v = v} charset cells c left x =
     let n = length cells + 1 in
     subst (λ (k : ℕ). Writes (row charset) row_so_far (after_cells charset cells (c ∷ left)) bytes made (next_cell charset (cells ++ v ∷ []) (coming left k))) (sym (length-append cells (v ∷ [])))
-    (row_cell charset cells (coming left n) c (none_ahead left n) (rw (ends_marked left (λ k. false) n) at x))
+    (row_cell _ _ _ c (none_ahead _ n) (rw (ends_marked _ (λ k. false) n) at x))
 
 pub rows_none : {charset : Charset} {all : List Column} {cells : List Cell} {columns : List Column} {column : ℕ} → length cells ≡ column → WritesRows charset all cells columns columns column 0 [] []
 rows_none {cells = cells} h = record { before = []; more = cells; rows_counted = refl; counted = h; writes = writes_none }
@@ -116,7 +110,7 @@ module _ {charset : Charset} {all : List Column} {cells : List Cell} {columns : 
   pub marked_writes : {a p : List ℕ} (at n : ℕ) (b q : List ℕ) → WritesRows charset all cells columns (drop at all) at count a p → WritesMarked charset all (λ k. false) at n b q → WritesRows charset all cells columns (drop (at + n) all) (at + n) count (a ++ b) (p ++ q)
   marked_writes {a = a} {p = p} at zero b q x w = rw (w.0, w.1, append-nil a, append-nil p, add-zero at) x
   marked_writes {a = a} {p = p} at (suc n) b q x w =
-      let y = column_writes (at + n) (marked_writes at n w.0 w.2 x w.6) w.7 in
+      let y = column_writes _ (marked_writes _ n _ _ x w.6) w.7 in
       let further : (at + n) + 1 ≡ at + suc n = omega arith in
       rw (w.4, w.5, sym (append_assoc a w.0 w.1), sym (append_assoc p w.2 w.3)) (rw further at y)
 
@@ -140,7 +134,7 @@ module _ {charset : Charset} {all : List Column} {cells : List Cell} {columns : 
 pub whole_puts : (charset : Charset) (kind : Kind) (column : ℕ) (last : Bool) (p q : At) (bytes text : List ℕ) → WritesWhole (cell_start kind (shape charset kind)) column last bytes text
     → Takes p.seen q.seen bytes (length bytes) → q.place ≡ p.place + length bytes → Puts p.held q.held text → PutsCell charset kind column last p.seen q.seen p.place q.place p.held q.held
 whole_puts charset kind column last p q bytes text x takes at puts =
-    let writes = cell_writes kind (shape charset kind) x in
+    let writes = cell_writes _ _ x in
     record { value = x.value; streams = record { bytes = bytes; spelt = writes.spelt; takes = takes; puts = (text, writes.text_is, puts) }; place_is = at }
 
 -- a put of it can't stop
@@ -148,6 +142,6 @@ pub put_whole : {W U : Type 0} {column place' : ℕ} {last : Bool} {bytes text :
     → WritesWhole (cell_start kind (shape charset kind)) column last bytes text → Takes a b bytes (length bytes) → place' ≡ place + length bytes → length old.output.now.bytes + length text < 4096 → PutsPiece contents old new text r
     → MatchResult r (λ _. PutsCell charset kind column last a b place place' (held contents old) (held contents new)) (λ stop. StopsCell charset kind column last a b place (held contents old) (held contents new) new.failed stop)
 put_whole {column = column} {place' = place'} {last = last} {bytes = bytes} {text = text} (Ok u) charset kind a b place contents old new going x takes at few puts =
-    whole_puts charset kind column last (record { seen = a; place = place; held = held contents old }) (record { seen = b; place = place'; held = held contents new }) bytes text x takes at puts.gives
+    whole_puts _ _ _ _ _ _ _ _ x takes at puts.gives
 put_whole {text = text} (Err stop) charset kind a b place contents old new going x takes at few puts =
-    absurd (fills_no_block (held contents old) (held contents new) text stop few (puts.gives going.writing))
+    absurd (fills_no_block _ _ _ _ few (puts.gives going.writing))

@@ -1,6 +1,5 @@
 -- Runs over the cells of a row: before the first, one alone, one run after another, and one over columns that aren't NULL by their bit.
-use Rattle.tds_rows.proofs.Words.{inl, inr, ◌≡◌, ◌∙◌, ℕ, zero, suc, ◌+◌, ◌-◌, ◌≤◌, ◌<◌, Bool, false, List, [], ◌++◌, length, take, drop, refl, sym, ap, subst, arith, append_assoc, append-nil, add-zero, Column, Charset, Ahead, Table, is_last_column, EndsLeft, RunsMarked, WritesColumn, WritesMarked, WritesNext, RunEnds, TakesColumn, Kind}
-use Rattle.tds_rows.proofs.RunSteps.{made_more, used_more}
+use Rattle.tds_rows.proofs.{Words.{inl, inr, ◌≡◌, ◌∙◌, ℕ, zero, suc, ◌+◌, ◌-◌, ◌≤◌, ◌<◌, Bool, false, List, [], ◌++◌, length, take, drop, refl, sym, ap, subst, arith, append_assoc, append-nil, add-zero, Column, Charset, Ahead, Table, is_last_column, EndsLeft, RunsMarked, WritesColumn, WritesMarked, WritesNext, RunEnds, TakesColumn, Kind}, RunSteps.{made_more, used_more}}
 
 -- no column is NULL by its bit
 abbrev pub none_null : ℕ → Bool
@@ -8,7 +7,7 @@ none_null k = false
 
 module _ (charset : Charset) (columns : List Column) where
   -- so many columns, and then so many more
-  pub marked_both : (nulls : ℕ → Bool) (from n m : ℕ) (a b p q : List ℕ) → WritesMarked charset columns nulls from n a p → WritesMarked charset columns nulls (from + n) m b q → WritesMarked charset columns nulls from (n + m) (a ++ b) (p ++ q)
+  marked_both : (nulls : ℕ → Bool) (from n m : ℕ) (a b p q : List ℕ) → WritesMarked charset columns nulls from n a p → WritesMarked charset columns nulls (from + n) m b q → WritesMarked charset columns nulls from (n + m) (a ++ b) (p ++ q)
   marked_both nulls from n zero a b p q x y = grind (arith, append-nil)
   marked_both nulls from n (suc m) a b p q x y =
       let at : (from + n) + m ≡ from + (n + m) = omega arith in
@@ -31,7 +30,7 @@ module _ (charset : Charset) (columns : List Column) where
       let last = x.7 in
       let writes = subst (λ e. WritesNext charset e last.column.kind (from + n) (is_last_column last.left) x.1 x.3) (sym (clear (from + n) (omega arith) (omega arith))) last.writes in
       let one : WritesColumn charset columns nulls (from + n) x.1 x.3 = record { column = last.column; left = last.left; next = last.next; writes = writes } in
-      (x.0, x.1, x.2, x.3, x.4, x.5, marked_clear nulls from n x.0 x.2 (λ k least most. clear k least (omega arith)) x.6, one)
+      (x.0, x.1, x.2, x.3, x.4, x.5, marked_clear _ _ n _ _ (λ k least most. clear k least (omega arith)) x.6, one)
 
 module _ {table : Table} {columns : List Column} {nulls : ℕ → Bool} {at : Ahead} where
   -- one cell

@@ -1,7 +1,5 @@
 -- A call that reads what comes whole stops only where a device fails.
-use Rattle.tds_rows.proofs.Words.{◌≡◌, ◌∙◌, inl, inr, ℕ, ◌+◌, ◌<◌, Bool, List, [], ◌∷◌, ◌++◌, length, take, refl, sym, ap, subst, arith, append_assoc, append-nil, length-append, Result, Ok, Err, Option, Some, None, if◌then◌else◌, take-append_seam, nat_tests, Consumes, Rose, one_more, Fault, RefusedToken, Stop, before, Grammar, IsRefused, Longest, Spelt, CutsNext, RefusesNext, StopsReading, Ends, Seen, Inside-Spelt, Spelt-append, longest_at, longest_cut, longest_refused, no_further, one_longest, stops_inside, stops_after, Column, Sink, Conversion, Held, StopsStreaming, stops_size, Kind, Reach, Short, Chunked, Charset, Cell, CellPart, LongShape, SpellsCell, WholeCell, cell, cell_start, long_start, return_charset, shape, FieldPut, CellPassed, RowPut, RowsRead, RowsStop, RowPart, RowToken, SpellsRowAs, WholeRow, row, row_so_far, token_byte, token_start, RowsPart, rows, BeginNoRow, Brings, ReadsOn, SpellsRows, SucceedsOn, length-take-le}
-use Rattle.tds_packet.specs.declared.payload.Payload.{Payload}
-use Rattle.tds_rows.proofs.{CellLaws.cell_is_read, RowLaws.nbc_row_is_read, RowLaws.row_is_read, RowLaws.shape-HasBytes, RunSteps.row_among_rows, RunSteps.row_token}
+use Rattle.{tds_rows.proofs.{Words.{◌≡◌, ◌∙◌, inl, inr, ℕ, ◌+◌, ◌<◌, Bool, List, [], ◌∷◌, ◌++◌, length, take, refl, sym, ap, subst, arith, append_assoc, append-nil, length-append, Result, Ok, Err, MatchResult, seen, held, Option, Some, None, if◌then◌else◌, take-append_seam, nat_tests, Consumes, Rose, one_more, Fault, RefusedToken, Stop, before, Grammar, IsRefused, Longest, Spelt, CutsNext, RefusesNext, StopsReading, Ends, Seen, Inside-Spelt, Spelt-append, longest_at, longest_cut, longest_refused, no_further, one_longest, stops_inside, stops_after, Column, Sink, Conversion, Held, StopsStreaming, stops_size, Kind, Reach, Short, Chunked, Charset, Cell, LongShape, SpellsCell, WholeCell, cell, cell_start, long_start, return_charset, shape, CellPassed, RowsRead, RowsStop, RowPart, RowToken, SpellsRowAs, WholeRow, row, token_byte, token_start, RowsPart, rows, BeginNoRow, Brings, ReadsOn, SpellsRows, SucceedsOn, length-take-le}, CellLaws.cell_is_read, RowLaws.{nbc_row_is_read, row_is_read, shape-HasBytes}, RunSteps.{row_token, row_among_rows}}, tds_packet.specs.declared.payload.Payload.Payload}
 
 -- a call that fails raises the count
 pub rose : (f : ℕ) → Rose f (one_more f)
@@ -23,7 +21,7 @@ module _ {S : Type 0} (g : Grammar S Fault) (from to : S) (a b : Seen) (front mo
       let e = x.element in
       let some = x.some in
       let whole = x.whole in
-      let c = came _ ((bytes ++ e) ++ x.ahead) x.takes.1.0 (λ zs. ap (λ c. c.bytes) (x.takes.1.1 zs)) in
+      let c = came _ _ x.takes.1.0 (λ zs. ap (λ c. c.bytes) (x.takes.1.1 zs)) in
       let rest = e ++ (x.ahead ++ c.0) in
       let all = c.1 ∙ append_assoc (bytes ++ e) x.ahead c.0 ∙ append_assoc bytes e _ in
       let refused : IsRefused g at rest fault = record {
@@ -31,22 +29,22 @@ module _ {S : Type 0} (g : Grammar S Fault) (from to : S) (a b : Seen) (front mo
         whole = omega (arith, length-append e (x.ahead ++ c.0));
         first = ap (λ k. g.fault at (take k rest)) (sym whole) ∙ ap (g.fault at) (take-append_seam e _) ∙ x.first;
       } in
-      (one_longest g from (front ++ more) _ _ at to (subst (λ v. Longest g from v (length bytes) at) (sym all) (longest_refused g from bytes rest at fault spelt refused)) last).1
+      (one_longest g _ _ _ _ _ _ (rw (← all) at (longest_refused g _ _ _ _ _ spelt refused)) last).1
 
   cut_there : (at : S) (bytes : List ℕ) (place : ℕ) (stop : Stop) → Spelt g from bytes at → CutsNext g a b bytes place at stop → at ≡ to
-  cut_there at bytes place stop spelt x = (one_longest g from (front ++ more) _ _ at to (subst (λ v. Longest g from v (length bytes) at) (sym (ends x.ends)) (longest_cut g from bytes x.part at spelt x.cut)) last).1
+  cut_there at bytes place stop spelt x = (one_longest g _ _ _ _ _ _ (rw (← ends x.ends) at (longest_cut g _ _ _ _ spelt x.cut)) last).1
     where
       ends : Ends a b (bytes ++ x.part) x.own → front ++ more ≡ bytes ++ x.part
       ends y = grind (arith, append-nil)
 
   -- a reading that stops does so at the end of what comes
-  pub stopped_there : (place : ℕ) (at : S) (stop : Stop) → StopsReading g from a b place at stop → at ≡ to
-  stopped_there place at stop x = elim x.cause [ inl y ↦ refused_there at x.bytes stop.fault x.spelt y.0 | inr y ↦ cut_there at x.bytes place stop x.spelt y ]
+  stopped_there : (place : ℕ) (at : S) (stop : Stop) → StopsReading g from a b place at stop → at ≡ to
+  stopped_there place at stop x = elim x.cause [ inl y ↦ refused_there _ _ _ x.spelt y.0 | inr y ↦ cut_there _ _ _ _ x.spelt y ]
 
 -- a state at which nothing follows is the end of what comes
-pub longest_end : {S : Type 0} (g : Grammar S Fault) (from to : S) (front more : List ℕ) → Spelt g from front to → g.size to ≡ 0 → Longest g from (front ++ more) (length front) to
-longest_end g from to front more spelt none = longest_at g from front more to spelt (λ d other some within k.
-    let e = no_further g from front to _ other spelt (λ i a b. omega arith) k in
+longest_end : {S : Type 0} (g : Grammar S Fault) (from to : S) (front more : List ℕ) → Spelt g from front to → g.size to ≡ 0 → Longest g from (front ++ more) (length front) to
+longest_end g from to front more spelt none = longest_at g _ _ _ _ spelt (λ d other some within k.
+    let e = no_further g _ _ _ _ _ spelt (λ i a b. omega arith) k in
     omega (arith, ap length e, length-take-le d more within))
 
 -- a call that reads whole elements to a state at which nothing follows doesn't stop in reading
@@ -61,7 +59,7 @@ none_stops_reading {stop = stop} g from to front more brings spelt none reads x 
 pub none_stops : {S : Type 0} {a b : Seen} {place : ℕ} {h i : Held} {failed : Bool} {stop : Stop} (g : Grammar S Fault) (text : S → List ℕ) (from to : S) (front more : List ℕ) → Brings a (front ++ more) → Spelt g from front to → g.size to ≡ 0
     → (Rose a.failures b.failures → ⊥) → (Rose h.failures i.failures → ⊥) → StopsStreaming g text from a b place h i failed stop → ⊥
 none_stops g text from to front more brings spelt none reads writes x = elim x.cause [
-  | inl y ↦ none_stops_reading g from to front more brings spelt none reads y.0
+  | inl y ↦ none_stops_reading g _ _ _ _ brings spelt none reads y.0
   | inr y ↦
       (let z = y.0 in
       writes (subst (Rose _) (sym (z.breaks.9 ∙ ap one_more z.puts.2.4)) (rose _)))
@@ -69,22 +67,18 @@ none_stops g text from to front more brings spelt none reads writes x = elim x.c
 
 -- ---- the calls
 
-pub row_succeeds : {R W U : Type 0} {start : RowPart} {cells : List Cell} {bytes : List ℕ} (remaining : R → Option (List ℕ)) (contents : W → Option (List ℕ)) (charset : Charset) (old new : Payload R) (before after : Sink W) (result : Result U Stop) (more : List ℕ)
-    → RowPut remaining contents charset start old new before after result → Spelt (row charset) start bytes (WholeRow cells) → SucceedsOn remaining old new before after result (bytes ++ more)
-row_succeeds remaining contents charset old new before after (Ok x) more put spelt = λ brings reads writes. refl
-row_succeeds remaining contents charset old new before after (Err stop) more put spelt = λ brings reads writes. absurd (none_stops (row charset) row_so_far _ (WholeRow _) _ more brings spelt refl reads writes put)
-
-pub field_succeeds : {R W U : Type 0} {column : ℕ} {from : CellPart} {value : Cell} {bytes : List ℕ} (remaining : R → Option (List ℕ)) (contents : W → Option (List ℕ)) (last : Bool) (old new : Payload R) (before after : Sink W) (result : Result U Stop) (more : List ℕ)
-    → FieldPut remaining contents from column last old new before after result → Spelt (cell column) from bytes (WholeCell value) → SucceedsOn remaining old new before after result (bytes ++ more)
-field_succeeds remaining contents last old new before after (Ok x) more put spelt = λ brings reads writes. refl
-field_succeeds remaining contents last old new before after (Err stop) more put spelt = λ brings reads writes. absurd (none_stops _ _ _ _ _ more brings spelt refl reads writes put)
+-- one that reads to such a state and puts the text succeeds
+pub streaming_succeeds : {S R W U : Type 0} {from to : S} {bytes : List ℕ} (g : Grammar S Fault) (text : S → List ℕ) (remaining : R → Option (List ℕ)) (contents : W → Option (List ℕ)) (old new : Payload R) (sink sink' : Sink W) (result : Result U Stop) (more : List ℕ) (P : U → Type 0)
+    → MatchResult result P (λ stop. StopsStreaming g text from (seen remaining old) (seen remaining new) old.place (held contents sink) (held contents sink') sink'.failed stop) → Spelt g from bytes to → g.size to ≡ 0 → SucceedsOn remaining old new sink sink' result (bytes ++ more)
+streaming_succeeds g text remaining contents old new sink sink' (Ok x) more P put spelt none = λ brings reads writes. refl
+streaming_succeeds g text remaining contents old new sink sink' (Err stop) more P put spelt none = λ brings reads writes. absurd (none_stops _ _ _ _ _ more brings spelt none reads writes put)
 
 pub value_passes : {R U : Type 0} (remaining : R → Option (List ℕ)) (kind : Kind) (old new : Payload R) (result : Result U Stop) (value : Cell) (bytes more : List ℕ)
     → CellPassed remaining (cell_start kind (shape return_charset kind)) old new result → SpellsCell kind (shape return_charset kind) value bytes → ReadsOn remaining old new result (bytes ++ more)
 value_passes remaining kind old new (Ok x) value bytes more passed spelt = λ brings reads. refl
 value_passes remaining kind old new (Err stop) value bytes more passed spelt = λ brings reads.
-    let read = cell_is_read _ kind _ value bytes (shape-HasBytes return_charset kind) spelt in
-    absurd (none_stops_reading _ _ _ bytes more brings read refl reads passed.stops)
+    let read = cell_is_read _ _ _ _ _ (shape-HasBytes return_charset _) spelt in
+    absurd (none_stops_reading _ _ _ _ _ brings read refl reads passed.stops)
 
 pub long_is_read : (column : ℕ) (kind : Kind) (c : Conversion) (reach : Reach) (value : Cell) (bytes : List ℕ) → SpellsCell kind (LongShape c reach) value bytes → Spelt (cell column) (long_start c reach) bytes (WholeCell value)
 long_is_read column kind c Short value bytes h = cell_is_read column kind (LongShape c Short) value bytes tt h
@@ -106,7 +100,7 @@ module _ (token : RowToken) (charset : Charset) (columns : List Column) (some_co
   row_of_rows before cells bytes h = Inside-Spelt _ all_rows _ (row_among_rows token charset columns before) _ bytes _ (grind (arith, nbc_row_is_read, row_is_read))
 
   -- rows that are spelt are read as rows
-  pub rows_are_read : (before : List (List Cell)) (first : List Cell) (later : List (List Cell)) (bytes : List ℕ) → SpellsRows token charset columns first later bytes
+  rows_are_read : (before : List (List Cell)) (first : List Cell) (later : List (List Cell)) (bytes : List ℕ) → SpellsRows token charset columns first later bytes
       → (earlier : List (List Cell)) × (last : List Cell) × Spelt all_rows (begun_after before) bytes (among earlier (WholeRow last))
   rows_are_read before first [] bytes h = (before, first, row_of_rows before first bytes h)
   rows_are_read before first (next ∷ later) bytes h =
@@ -115,13 +109,13 @@ module _ (token : RowToken) (charset : Charset) (columns : List Column) (some_co
       let there = begun_after (before ++ first ∷ []) in
       let t = rows_are_read (before ++ first ∷ []) next later h.1 h.4 in
       let one = Spelt-append all_rows from h.0 (among before _) (byte ∷ []) there (row_of_rows before first h.0 h.3) (row_token token charset columns before first some_columns).spelt in
-      (t.0, t.1, subst (λ v. Spelt all_rows from v (among t.0 (WholeRow t.1))) (append_assoc h.0 (byte ∷ []) h.1 ∙ sym h.2) (Spelt-append all_rows from _ there h.1 _ one t.2))
+      (t.0, t.1, rw (append_assoc, ← h.2) at (Spelt-append all_rows from _ there h.1 _ one t.2))
 
   -- where no row follows, the last one is the end
-  pub longest_rows : (from : RowsPart) (earlier : List (List Cell)) (last : List Cell) (front more : List ℕ) → Spelt all_rows from front (among earlier (WholeRow last)) → BeginNoRow token more
+  longest_rows : (from : RowsPart) (earlier : List (List Cell)) (last : List Cell) (front more : List ℕ) → Spelt all_rows from front (among earlier (WholeRow last)) → BeginNoRow token more
       → Longest all_rows from (front ++ more) (length front) (among earlier (WholeRow last))
-  longest_rows from earlier last front [] spelt none = longest_cut all_rows from front [] _ spelt (omega arith)
-  longest_rows from earlier last front (byte ∷ more) spelt none = longest_refused all_rows from front (byte ∷ more) _ _ spelt
+  longest_rows from earlier last front [] spelt none = longest_cut _ _ _ _ _ spelt (omega arith)
+  longest_rows from earlier last front (byte ∷ more) spelt none = longest_refused _ _ _ _ _ _ spelt
       (record { some = omega arith; whole = omega arith; first = ap (λ b. if b then None else Some (RefusedToken byte)) none })
 
   rows_stop_not : {a b : Seen} {place : ℕ} {h i : Held} {failed : Bool} {stop : Stop} (first : List Cell) (later : List (List Cell)) (front more : List ℕ) → Brings a (front ++ more) → SpellsRows token charset columns first later front → BeginNoRow token more

@@ -1,6 +1,5 @@
 -- The forms of the next columns of a row, as a table gives them.
-use Rattle.tds_rows.proofs.Words.{common_steps, ◌≡◌, ◌∙◌, inl, inr, ℕ, ◌+◌, ◌<◌, ◌≤◌, Bool, false, List, ◌∷◌, length, take, drop, get_or, refl, sym, ap, arith, ◌⊎◌, ◌==◌, map, drop-map, drop-take, drop_more, length-take-le, take-map, length-drop, take-take, Column, Form, CELL_ROOM, FormsRun, Ahead, Table, IsLeft, FirstLeft, FormsWritten, AreLaidOut, RunsMarked, AreAhead, IsAhead, Knows, NextColumn, kinds, nat_tests}
-use Rattle.tds_rows.proofs.FormSteps.{some_first}
+use Rattle.tds_rows.proofs.{Words.{common_steps, ◌≡◌, ◌∙◌, inl, inr, ℕ, ◌+◌, ◌<◌, ◌≤◌, Bool, false, List, ◌∷◌, length, take, drop, get_or, refl, sym, ap, arith, ◌⊎◌, ◌==◌, map, drop-map, drop-take, drop_more, length-take-le, take-map, length-drop, take-take, Column, Form, CELL_ROOM, FormsRun, Ahead, Table, IsLeft, FirstLeft, FormsWritten, AreLaidOut, RunsMarked, AreAhead, IsAhead, Knows, NextColumn, kinds, nat_tests}, FormSteps.some_first}
 
 -- those that a table knows, from a place in a row on
 pub known_ahead : (table : Table) (at : Ahead) (end : ℕ) (n : ℕ) → AreLaidOut table.charset table.forms → table.known ≤ length table.forms → 0 < n → at.column + n ≤ end → at.column + n ≤ table.known → table.known ≤ table.count → AreAhead table at end (take n (drop at.column table.forms))
@@ -44,6 +43,6 @@ module _ (table : Table) (from : Ahead) (end : ℕ) (forms : List Form) (within 
   pub first_left : (bytes : List ℕ) (room : ℕ) → FirstLeft table.charset forms bytes room → (columns : List Column) (column : Column) (left : List Column) → Knows table columns → IsAhead table columns from → drop from.column columns ≡ column ∷ left
       → (room < CELL_ROOM) ⊎ ((false ≡ false) × IsLeft table.charset column.kind bytes room)
   first_left bytes room x columns column left knows is step =
-      let first = some_first forms ahead.some in
-      let n = first_next first.0 first.1 first.2 columns knows is in
+      let first = some_first _ ahead.some in
+      let n = first_next _ _ first.2 columns knows is in
       elim (x first.0 first.1 first.2) [ inl few ↦ inl few | inr y ↦ inr (refl, rw (n.kind ∙ ap (λ r. (get_or r 0 column).kind) (sym n.next ∙ step)) at y) ]

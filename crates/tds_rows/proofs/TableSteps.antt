@@ -1,5 +1,5 @@
 -- A table of columns, column by column.
-use Rattle.tds_rows.proofs.Words.{◌≡◌, ◌⊎◌, ◌∙◌, ℕ, true, false, ◌+◌, ◌≤◌, ◌<◌, List, [], ◌∷◌, ◌++◌, length, take, drop, get_or, refl, sym, ap, arith, map, slice_set, ◌==◌, Option, is_last_column, eq-eqb, ne_eqb, drop_all, drop_more, get_or-map, get_or-take, map-append, take_more, take_more_set, length-drop, length-take, drop-drop, Kind, Int4, Column, YieldsFirstBy, eq_false, eq_true, Walk, column_value, columns_left, Ahead, Form, Table, IsAhead, Knows, NextColumn, TakesColumn, kinds}
+use Rattle.tds_rows.proofs.Words.{common_steps, ◌≡◌, ◌⊎◌, ◌∙◌, ℕ, true, false, ◌+◌, ◌≤◌, ◌<◌, List, [], ◌∷◌, length, take, drop, get_or, refl, sym, ap, arith, map, slice_set, ◌==◌, Option, is_last_column, eq-eqb, ne_eqb, drop_all, drop_more, get_or-map, get_or-take, map-append, take_more, take_more_set, length-drop, length-take, drop-drop, Kind, Int4, Column, YieldsFirstBy, eq_false, eq_true, Walk, column_value, columns_left, Ahead, Form, Table, IsAhead, Knows, NextColumn, TakesColumn, kinds}
 use Rattle.tds_columns.specs.declared.walk.Column as walks
 
 -- what is ahead begins with the next column
@@ -12,10 +12,7 @@ next_column columns k c rest h =
 -- one column more is known
 pub first_more : (forms : List Form) (columns : List Column) (k : ℕ) (f : Form) (c : Column) (rest : List Column) → k < length forms → map (λ f. f.kind) (take k forms) ≡ kinds (take k columns) → drop k columns ≡ c ∷ rest → f.kind ≡ c.kind
     → map (λ f. f.kind) (take (k + 1) (slice_set forms k f)) ≡ kinds (take (k + 1) columns)
-first_more forms columns k f c rest within first h is =
-    let next = next_column columns k c rest h in
-    ap (map (λ f. f.kind)) (take_more_set forms k f within) ∙ map-append (λ f. f.kind) (take k forms) (f ∷ []) ∙ (λ i. first i ++ is i ∷ []) ∙ sym (map-append (λ c. c.kind) (take k columns) (c ∷ []))
-    ∙ ap kinds (ap (λ (c : Column). take k columns ++ c ∷ []) (sym next.1.0) ∙ sym (take_more columns k c next.0))
+first_more forms columns k f c rest within first h is = grind (arith, common_steps, next_column, take_more_set, map-append, take_more)
 
 -- the kind of a column that is known
 pub known_kind : (forms : List Form) (columns : List Column) (n k : ℕ) (f : Form) (c : Column) → map (λ f. f.kind) (take n forms) ≡ kinds (take n columns) → k < n → n ≤ length forms → k < length columns → (get_or forms k f).kind ≡ (get_or columns k c).kind
@@ -34,7 +31,7 @@ module _ (table : Table) (columns : List Column) (at : Ahead) (kind : Kind) (kno
         column = get_or columns at.column c;
         rest = drop (at.column + 1) columns;
         next = drop_more columns at.column c within;
-        kind = is_kind ∙ known_kind table.forms columns table.known at.column d c knows.first known fits within;
+        kind = is_kind ∙ known_kind _ _ _ _ d c knows.first known fits within;
       }
 
 module _ {table : Table} {columns : List Column} {old new : Ahead} (knows : Knows table columns) (is : IsAhead table columns old) where

@@ -1,5 +1,4 @@
-use Rattle.tds_rows.proofs.Words.{◌∙◌, get_or, refl, sym, ap, passed}
-use Rattle.tds_rows.proofs.CellSteps.{cell_cut, counted_taken, length_refused, length_taken}
+use Rattle.tds_rows.proofs.{Words.{◌∙◌, get_or, refl, sym, ap, passed}, CellSteps.{cell_cut, counted_taken, length_refused, length_taken}}
 use Rattle.tds_rows.proofs.gather.gather_counted.Goals as goal
 
 pub returns-in_err-take_into-clause-gives : goal.returns-in_err-take_into-clause-gives
@@ -16,5 +15,5 @@ returns-then-not-length_allowed-clause-gives g c =
 pub returns-clause-gives : goal.returns-clause-gives
 returns-clause-gives g c =
     let taken = length_taken c.requires.gathering.empty (ap (λ l. get_or l 0 0) (sym c.bytes.ensures.value)) c.in_ok-take_into.ensures.gives in
-    counted_taken c.take_into-2.result _ _ _ _ _ _ _ _ _ _ _ _
+    counted_taken c.take_into-2.result _ _ _ _ _ _ _ _
     c.requires.counted taken.0 c.if-n-eq0.false (sym c.length_allowed.ensures ∙ c.if-not-length_allowed.false) taken.1 c.in_ok-take_into.ensures.place c.in_ok-take_into.ensures.payload.going c.take_into-2.ensures.place c.take_into-2.ensures.gives

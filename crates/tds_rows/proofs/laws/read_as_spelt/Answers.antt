@@ -1,13 +1,13 @@
-use Rattle.tds_rows.proofs.{CellLaws.cell_is_read, CellMeaning.cell_is_spelt, RowLaws.shape-HasBytes, RowLaws.row_is_read, RowLaws.nbc_row_is_read, RowLaws.some_bitmap, RowMeaning.row_is_spelt, RowMeaning.nbc_row_is_spelt}
+use Rattle.tds_rows.proofs.{CellLaws.cell_is_read, CellMeaning.cell_is_spelt, RowLaws.{shape-HasBytes, row_is_read, nbc_row_is_read, some_bitmap}, RowMeaning.{row_is_spelt, nbc_row_is_spelt}}
 use Rattle.tds_rows.proofs.laws.read_as_spelt.Goals as goal
 
 pub returns-clause-cell : goal.returns-clause-cell
 returns-clause-cell c = λ charset kind column value bytes are.
-    (λ h. cell_is_read _ _ _ _ _ (shape-HasBytes _ _) h, λ k. cell_is_spelt _ _ _ _ _ are k)
+    (λ h. cell_is_read _ _ _ _ _ (shape-HasBytes _ _) h, λ k. cell_is_spelt _ _ _ are k)
 
 pub returns-clause-row : goal.returns-clause-row
-returns-clause-row c = λ charset columns cells bytes are. (λ h. row_is_read _ _ _ _ h, λ k. row_is_spelt _ _ _ _ are k)
+returns-clause-row c = λ charset columns cells bytes are. (λ h. row_is_read _ _ _ _ h, λ k. row_is_spelt _ _ are k)
 
 pub returns-clause-nbc_row : goal.returns-clause-nbc_row
 returns-clause-nbc_row c = λ charset columns cells bytes some are.
-    (λ h. nbc_row_is_read _ _ _ _ (some_bitmap _ some) h, λ k. nbc_row_is_spelt _ _ _ _ are k)
+    (λ h. nbc_row_is_read _ _ _ _ (some_bitmap _ some) h, λ k. nbc_row_is_spelt _ _ are k)

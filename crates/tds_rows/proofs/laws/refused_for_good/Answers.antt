@@ -1,5 +1,4 @@
-use Rattle.tds_rows.proofs.Words.{refused_for_good, cell, row}
-use Rattle.tds_rows.proofs.{CellLaws.cell_is_read, RowLaws.shape-HasBytes, RowLaws.row_is_read, RowLaws.refused_nbc_row}
+use Rattle.tds_rows.proofs.{Words.{refused_for_good, cell, row}, CellLaws.cell_is_read, RowLaws.{shape-HasBytes, row_is_read, refused_nbc_row}}
 use Rattle.tds_rows.proofs.laws.refused_for_good.Goals as goal
 
 pub returns-clause-cell : goal.returns-clause-cell

@@ -1,5 +1,4 @@
-use Rattle.tds_rows.proofs.Words.{◌≡◌, ◌∙◌, arith, refl, rules, sym, MatchResult-weaker, passed, chunk_length_fault}
-use Rattle.tds_rows.proofs.{LongChunks.chunk_path, LongChunks.chunks_end_stops, LongChunks.chunks_whole, LongChunks.streamed_more, LongChunks.streamed_none, LongSteps.chunk_holds, LongSteps.filling_stops, Numbers.chunk_stops, Paths.path_stops, LongValues.reading_stops, LongValues.rest_none, Blames.chunk_none, Blames.length_blames, Blames.read_stops, Blames.same_failures, Blames.stops_after}
+use Rattle.tds_rows.proofs.{Words.{◌≡◌, ◌∙◌, arith, refl, rules, sym, MatchResult-weaker, passed, chunk_length_fault}, LongValues.{chunk_path, chunks_end_stops, chunks_whole, streamed_more, streamed_none, reading_stops, rest_none}, LongSteps.{chunk_holds, filling_stops}, Numbers.{chunk_stops, chunk_blames, length_blames, read_stops, same_failures, stops_after}, Paths.path_stops}
 use Rattle.tds_rows.proofs.long.stream_chunks.Goals as goal
 
 pub loop-n-init : goal.loop-n-init
@@ -20,7 +19,7 @@ returns-in_err-n-clause-gives g c = λ conversion suits.
     let l = c.loop-n in
     let x = l.invariant.streamed conversion suits in
     let y = rw c.UNIT.ensures at c.in_err-n.ensures.gives in
-    let stops = reading_stops c.args.last l.invariant.writing.ready.2 l.invariant.writing.writing (chunk_stops _ _ _ suits.unit_is _ _ _ x.counted y) in
+    let stops = reading_stops c.args.last l.invariant.writing.ready.2 l.invariant.writing.writing (chunk_stops _ suits.unit_is x.counted y) in
     passed _ _ _ _ c.from_residual.ensures.1 (path_stops x.path stops)
 
 pub returns-then-n-eq0-clause-gives : goal.returns-then-n-eq0-clause-gives
@@ -49,12 +48,12 @@ loop-n-preserved g c =
     let l = c.loop-n in
     let done = c.in_ok-push_data.ensures in
     record {
-      going = record { sound = done.leaves.payload.sound; going = done.leaves.payload.going };
-      writing = record { ready = done.leaves.sink.ready; writing = done.leaves.sink.writing };
+      going = search rules;
+      writing = search rules;
       same = search rules;
       same_sink = search rules;
       begun = done.leaves.begun;
-      calm = done.blames ∙ same_failures _ _ _ _ c.in_ok-n.ensures.gives.1.takes.4.0 refl ∙ l.invariant.calm;
+      calm = done.blames ∙ same_failures c.in_ok-n.ensures.gives.1.takes.4.0 refl ∙ l.invariant.calm;
       few = omega (arith, l.invariant.few, done.place, (c.in_ok-n.ensures.gives).1.place_is);
       streamed = λ conversion suits.
           let x = l.invariant.streamed conversion suits in
@@ -69,4 +68,4 @@ returns-in_err-n-clause-blames g c =
     let l = c.loop-n in
     let stop = c.in_err-n.field-0.0 in
     passed _ _ _ _ c.from_residual.ensures.1 (stops_after _ _ _ stop l.invariant.calm (read_stops _ _ stop
-    (length_blames g.R.Read.remaining _ (λ n. chunk_length_fault c.args.column c.UNIT.result c.args.total l.sum n) l.payload _ _ l.invariant.going.going (chunk_none c.args.column c.UNIT.result c.args.total l.sum) c.in_err-n.ensures.gives)))
+    (length_blames g.R.Read.remaining (λ n. chunk_length_fault c.args.column c.UNIT.result c.args.total l.sum n) l.payload l.invariant.going.going (chunk_blames c.args.column c.UNIT.result c.args.total l.sum) c.in_err-n.ensures.gives)))

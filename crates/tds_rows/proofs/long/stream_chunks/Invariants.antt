@@ -1,5 +1,4 @@
-use Rattle.tds_rows.proofs.Words.{◌≡◌, ◌-◌, ◌≤◌, Conversion, Suits, IsOnSameSink, IsWriting, IsGoing, IsOnSame, failures_of}
-use Rattle.tds_rows.proofs.{LongChunks.Streamed, Paths.at_of}
+use Rattle.tds_rows.proofs.{Words.{◌≡◌, ◌-◌, ◌≤◌, Conversion, Suits, IsOnSameSink, IsWriting, IsGoing, IsOnSame, failures_of}, LongValues.Streamed, Paths.at_of}
 use Rattle.tds_rows.proofs.long.stream_chunks.Given as goal
 
 abbrev pub invariant-loop-n : goal.invariant-loop-n

@@ -1,5 +1,4 @@
-use Rattle.tds_rows.proofs.Words.{rules, columns_of}
-use Rattle.tds_rows.proofs.Successes.{rows_succeed}
+use Rattle.tds_rows.proofs.{Words.{rules, columns_of}, Successes.rows_succeed}
 use Rattle.tds_rows.proofs.nbc.read_nbc_rows.Goals as goal
 
 pub returns-clause-gives : goal.returns-clause-gives

@@ -1,14 +1,12 @@
-use Rattle.tds_rows.proofs.Words.{CellPassed}
-use Rattle.tds_rows.proofs.{PassedCells.single_start, PassedCells.wide_start, Successes.value_passes}
+use Rattle.tds_rows.proofs.{Words.{inl, inr, Binary, Narrow, Wide}, PassedCells.{any_hex, any_narrow, any_wide}, Successes.value_passes}
 use Rattle.tds_rows.proofs.passing.pass_over.Goals as goal
 
 pub returns-in-Binary-clause-gives : goal.returns-in-Binary-clause-gives
 returns-in-Binary-clause-gives g c = λ _.
-    single_start _ _ (λ s. CellPassed g.R.Read.remaining s c.args.payload.now c.pass_long-in-Binary.new.payload c.pass_long-in-Binary.result) c.in-Binary.is c.pass_long-in-Binary.ensures.gives
+    elim c.in-Binary.is [ inl is ↦ rw is (c.pass_long-in-Binary.ensures.gives (Binary c.in-Binary.reach) _ any_hex) | inr is ↦ rw is (c.pass_long-in-Binary.ensures.gives (Narrow c.in-Binary.reach) _ any_narrow) ]
 
 pub returns-in-Wide-clause-gives : goal.returns-in-Wide-clause-gives
-returns-in-Wide-clause-gives g c = λ _.
-    wide_start _ _ (λ s. CellPassed g.R.Read.remaining s c.args.payload.now c.pass_long.new.payload c.pass_long.result) c.in-Wide.is c.pass_long.ensures.gives
+returns-in-Wide-clause-gives g c = λ _. rw c.in-Wide.is (c.pass_long.ensures.gives (Wide c.in-Wide.reach) _ any_wide)
 
 pub returns-in-Binary-clause-succeeds : goal.returns-in-Binary-clause-succeeds
 returns-in-Binary-clause-succeeds g c = λ going value bytes more spelt.

@@ -1,5 +1,4 @@
-use Rattle.tds_rows.proofs.Words.{◌∙◌, arith, refl, rules, passed, between_of}
-use Rattle.tds_rows.proofs.{JoinedPieces.filled_more, JoinedPieces.filled_none, JoinedPieces.filled_stops}
+use Rattle.tds_rows.proofs.{Words.{◌∙◌, arith, refl, rules, passed, between_of}, JoinedPieces.{filled_more, filled_none, filled_stops}}
 use Rattle.tds_rows.proofs.long.data.push_data.Goals as goal
 
 pub loop-left-init : goal.loop-left-init
@@ -28,8 +27,8 @@ loop-left-preserved g c =
     let l = c.loop-left in
     let done = c.in_ok-left.ensures in
     record {
-      going = record { sound = done.leaves.payload.sound; going = done.leaves.payload.going };
-      writing = record { ready = done.leaves.sink.ready; writing = done.leaves.sink.writing };
+      going = search rules;
+      writing = search rules;
       same = search rules;
       same_sink = search rules;
       begun = done.leaves.begun;

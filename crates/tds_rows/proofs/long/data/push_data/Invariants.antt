@@ -1,5 +1,4 @@
-use Rattle.tds_rows.proofs.Words.{◌≡◌, ◌<◌, ◌+◌, List, ℕ, BeginsData, Conversion, Suits, conversion_rest, IsOnSameSink, IsWriting, IsGoing, IsOnSame, failures_of}
-use Rattle.tds_rows.proofs.{JoinedPieces.Filled, Paths.at_of}
+use Rattle.tds_rows.proofs.{Words.{◌≡◌, ◌<◌, ◌+◌, List, ℕ, BeginsData, Conversion, Suits, conversion_rest, IsOnSameSink, IsWriting, IsGoing, IsOnSame, failures_of}, JoinedPieces.Filled, Paths.at_of}
 use Rattle.tds_rows.proofs.long.data.push_data.Given as goal
 
 abbrev pub invariant-loop-left : goal.invariant-loop-left

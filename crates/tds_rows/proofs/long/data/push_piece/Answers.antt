@@ -1,5 +1,4 @@
-use Rattle.tds_rows.proofs.Words.{inl, refl, arith, seen, passed, at_err, at_ok, stops_here, ends_blame}
-use Rattle.tds_rows.proofs.{JoinedPieces.piece_taken, JoinedPieces.push_stops, Blames.read_stops}
+use Rattle.tds_rows.proofs.{Words.{inl, refl, arith, seen, passed, at_err, at_ok, stops_here, ends_blame}, JoinedPieces.{piece_taken, push_stops}, Numbers.read_stops}
 use Rattle.tds_rows.proofs.long.data.push_piece.Goals as goal
 
 pub returns-in_err-piece-clause-gives : goal.returns-in_err-piece-clause-gives
@@ -16,7 +15,7 @@ returns-in-Ok-clause-gives g c = λ conversion content suits is begun.
 pub returns-in-Err-clause-gives : goal.returns-in-Err-clause-gives
 returns-in-Err-clause-gives g c = λ conversion content suits is begun.
     let k = at_ok _ _ _ _ c.in_ok-piece.was c.piece.follows.holds-at-none.2 in
-    rw (c.join_stop.ensures, c.place-place.ensures) (push_stops suits _ is begun _ _ _ _ _ _ _ _ _ _ _ c.in-Err.fault
+    rw (c.join_stop.ensures, c.place-place.ensures) (push_stops suits _ is begun _ _ c.in-Err.fault
     (omega (arith, c.in_ok-piece.ensures.len.1, c.min.ensures)) k.0 k.1 c.requires.joining.begun c.requires.joining.sink.writing c.in-Err.ensures.failed c.in-Err.ensures.gives)
 
 pub returns-in_err-piece-clause-blames : goal.returns-in_err-piece-clause-blames

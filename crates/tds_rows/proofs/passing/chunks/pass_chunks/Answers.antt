@@ -1,5 +1,4 @@
-use Rattle.tds_rows.proofs.Words.{arith, rules, sym, passed, between_of}
-use Rattle.tds_rows.proofs.{PassedCells.chunks_cut, PassedCells.chunks_end, PassedCells.chunks_more, PassedCells.chunks_none, PassedCells.stops_after_steps, PassedLengths.chunk_steps, PassedLengths.end_steps, Numbers.chunk_stops}
+use Rattle.tds_rows.proofs.{Words.{arith, rules, sym, passed, between_of}, PassedCells.{chunks_cut, chunks_end, chunks_more, chunks_none, stops_after_steps, chunk_steps, end_steps}, Numbers.chunk_stops}
 use Rattle.tds_rows.proofs.passing.chunks.pass_chunks.Goals as goal
 
 pub loop-n-init : goal.loop-n-init
@@ -13,7 +12,7 @@ loop-n-init g c = record {
 pub returns-in_err-n-clause-gives : goal.returns-in_err-n-clause-gives
 returns-in_err-n-clause-gives g c = λ conversion any.
     let x = c.loop-n.invariant.walks conversion any in
-    passed _ _ _ _ c.from_residual.ensures.1 (stops_after_steps x.steps (record { at = _; stops = chunk_stops _ _ _ (sym any.unit_is) _ _ _ x.counted c.in_err-n.ensures.gives }))
+    passed _ _ _ _ c.from_residual.ensures.1 (stops_after_steps x.steps (record { at = _; stops = chunk_stops _ (sym any.unit_is) x.counted c.in_err-n.ensures.gives }))
 
 pub returns-then-n-eq0-clause-gives : goal.returns-then-n-eq0-clause-gives
 returns-then-n-eq0-clause-gives g c = λ conversion any.
@@ -34,7 +33,7 @@ loop-n-preserved g c =
     let done = c.in_ok-pass_data.ensures in
     let r = c.in_ok-n.ensures.gives in
     record {
-      going = record { sound = done.payload.sound; going = done.payload.going };
+      going = search rules;
       same = search rules;
       few = omega (arith, l.invariant.few, r.1.place_is, done.gives.place_is);
       walks = λ conversion any.

@@ -1,5 +1,4 @@
-use Rattle.tds_rows.proofs.Words.{◌-◌, ◌≤◌, Conversion, IsGoing, IsOnSame, seen, AnyData}
-use Rattle.tds_rows.proofs.PassedCells.{WalksChunks}
+use Rattle.tds_rows.proofs.{Words.{◌-◌, ◌≤◌, Conversion, IsGoing, IsOnSame, seen, AnyData}, PassedCells.WalksChunks}
 use Rattle.tds_rows.proofs.passing.chunks.pass_chunks.Given as goal
 
 abbrev pub invariant-loop-n : goal.invariant-loop-n

@@ -1,5 +1,4 @@
-use Rattle.tds_rows.proofs.Words.{arith, rules, passed, between_of}
-use Rattle.tds_rows.proofs.PassedCells.{cuts_more, passes_more, passes_none}
+use Rattle.tds_rows.proofs.{Words.{arith, rules, passed, between_of}, PassedCells.{cuts_more, passes_more, passes_none}}
 use Rattle.tds_rows.proofs.passing.data.pass_data.Goals as goal
 
 pub loop-left-init : goal.loop-left-init
@@ -7,21 +6,21 @@ loop-left-init g c = record {
   going = c.requires.going;
   same = search rules;
   most = omega arith;
-  passes = passes_none _ _ _ (omega arith) (between_of g.R.Read.remaining c.args.payload.now c.requires.going.going);
+  passes = passes_none (omega arith) (between_of g.R.Read.remaining c.args.payload.now c.requires.going.going);
 }
 
 pub returns-in_err-left-clause-gives : goal.returns-in_err-left-clause-gives
 returns-in_err-left-clause-gives g c =
     let l = c.loop-left in
-    passed _ _ _ _ c.from_residual.ensures.1 (cuts_more _ _ _ _ _ _ _ _ _ (omega (arith, l.invariant.most, c.loop-left-test.true)) l.invariant.passes c.in_err-left.ensures.gives)
+    passed _ _ _ _ c.from_residual.ensures.1 (cuts_more (omega (arith, l.invariant.most, c.loop-left-test.true)) l.invariant.passes c.in_err-left.ensures.gives)
 
 pub loop-left-preserved : goal.loop-left-preserved
 loop-left-preserved g c =
     let l = c.loop-left in
     let done = c.in_ok-left.ensures in
     record {
-      going = record { sound = done.payload.sound; going = done.payload.going };
+      going = search rules;
       same = search rules;
       most = omega (arith, l.invariant.most);
-      passes = passes_more _ _ _ _ _ _ _ _ _ (omega (arith, l.invariant.most, done.some)) l.invariant.passes done.gives;
+      passes = passes_more (omega (arith, l.invariant.most, done.some)) l.invariant.passes done.gives;
     }

@@ -1,5 +1,4 @@
-use Rattle.tds_rows.proofs.Words.{◌*◌, ◌≤◌, ◌-◌, List, length, Column, StaysInRow, bit, nbc_row_start, Knows, KnowsSome}
-use Rattle.tds_rows.proofs.{NextSteps.NearsHere, Paths.here}
+use Rattle.tds_rows.proofs.{Words.{◌*◌, ◌≤◌, ◌-◌, List, length, Column, StaysInRow, bit, nbc_row_start, Knows, KnowsSome}, NextSteps.NearsHere, Paths.here}
 use Rattle.tds_rows.proofs.reading.Rows.nbc_row.Given as goal
 
 abbrev pub invariant-loop-form : goal.invariant-loop-form

@@ -1,9 +1,8 @@
-use Rattle.tds_rows.proofs.Words.{NbcRow, ◌∙◌, refl, sym, ap, arith, rules, passed}
-use Rattle.tds_rows.proofs.{NextRows.rows_first, NextRows.rows_row, NextRows.rows_stop, NextRows.rows_token, RowReading.stays, RowReading.stays_after, RowReading.stays_on}
+use Rattle.tds_rows.proofs.{Words.{NbcRow, ◌∙◌, refl, sym, ap, arith, rules, passed}, NextSteps.{rows_first, rows_row, rows_stop, rows_token, stays, stays_after, stays_on}}
 use Rattle.tds_rows.proofs.reading.Rows.nbc_rows.Goals as goal
 
 pub loop-ended-init : goal.loop-ended-init
-loop-ended-init g c = record { stays = stays _ c.requires.in_row; knows = c.requires.knows; room = refl; few = omega arith; reads = λ columns knows. rows_first c.requires.in_row.sink.ready.2 }
+loop-ended-init g c = record { stays = stays c.requires.in_row; knows = c.requires.knows; room = refl; few = omega arith; reads = λ columns knows. rows_first c.requires.in_row.sink.ready.2 }
 
 pub returns-in_err-nbc_row-clause-gives : goal.returns-in_err-nbc_row-clause-gives
 returns-in_err-nbc_row-clause-gives g c = λ columns known.
@@ -38,7 +37,7 @@ loop-ended-preserved g c =
     let taken = c.if-not-take_token.ensures.gives NbcRow refl in
     let known = l.invariant.knows in
     record {
-      stays = stays_on _ _ _ (stays_on _ _ _ l.invariant.stays (stays_after _ _ _ l.invariant.stays.in_row done.leaves)) kept;
+      stays = stays_on (stays_on l.invariant.stays (stays_after l.invariant.stays.in_row done.leaves)) kept;
       knows = rw (sym same) at known;
       room = search (arith, rules);
       few = omega (arith, l.invariant.few, (done.gives known.0 known.1).place_is, taken.1);

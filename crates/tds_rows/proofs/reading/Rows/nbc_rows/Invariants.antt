@@ -1,5 +1,4 @@
-use Rattle.tds_rows.proofs.Words.{◌≡◌, ◌+◌, ◌-◌, ◌≤◌, List, Column, StaysInRow, NbcRow, nbc_row_start, Knows, KnowsSome}
-use Rattle.tds_rows.proofs.{NextRows.RowsAt, Paths.here}
+use Rattle.tds_rows.proofs.{Words.{◌≡◌, ◌+◌, ◌-◌, ◌≤◌, List, Column, StaysInRow, NbcRow, nbc_row_start, Knows, KnowsSome}, NextSteps.RowsAt, Paths.here}
 use Rattle.tds_rows.proofs.reading.Rows.nbc_rows.Given as goal
 
 abbrev pub invariant-loop-ended : goal.invariant-loop-ended

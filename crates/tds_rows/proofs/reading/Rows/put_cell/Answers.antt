@@ -1,5 +1,4 @@
-use Rattle.tds_rows.proofs.Words.{◌≡◌, ◌∙◌, ◌+◌, ◌<◌, ◌≤◌, ap, length, sym, take, arith, rules, length-take, buffered, seen, Takes-more, long_start, cell_start, shape, shape_of_layout, conversion_of}
-use Rattle.tds_rows.proofs.{RunSteps.put_whole, TableSteps.last_one}
+use Rattle.tds_rows.proofs.{Words.{◌≡◌, ◌∙◌, ◌+◌, ◌<◌, ◌≤◌, ap, length, sym, take, arith, rules, length-take, buffered, seen, Takes-more, long_start, cell_start, shape, shape_of_layout, conversion_of}, RunSteps.put_whole, TableSteps.last_one}
 use Rattle.tds_rows.proofs.reading.Rows.put_cell.Goals as goal
 
 pub returns-clause-gives : goal.returns-clause-gives

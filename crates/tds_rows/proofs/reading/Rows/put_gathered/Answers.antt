@@ -1,18 +1,16 @@
-use Rattle.tds_rows.proofs.Words.{◌≡◌, ◌∙◌, take, sym, arith, take_all, passed}
-use Rattle.tds_rows.proofs.BufferedCells.{cell_reads, put_cell as cell_put}
-use Rattle.tds_rows.proofs.{CellSteps.left_stalls, RowSteps.at_once_stalls, RunSteps.scalar_left, RunSteps.scalar_whole, TableSteps.last_one}
+use Rattle.tds_rows.proofs.{Words.{◌≡◌, ◌∙◌, take, sym, arith, take_all, passed}, BufferedCells.{cell_reads, put_cell as cell_put}, CellSteps.left_stalls, RowSteps.at_once_stalls, RunSteps.{scalar_left, scalar_whole}, TableSteps.last_one}
 use Rattle.tds_rows.proofs.reading.Rows.put_gathered.Goals as goal
 
 pub returns-in_err-gather_scalar-clause-gives : goal.returns-in_err-gather_scalar-clause-gives
 returns-in_err-gather_scalar-clause-gives g c = λ last next.
-    rw c.requires.in_row.sink.writing (passed _ _ _ _ c.from_residual.ensures.1 (at_once_stalls _ _ _ _ _ _ _
+    rw c.requires.in_row.sink.writing (passed _ _ _ _ c.from_residual.ensures.1 (at_once_stalls _ _
     _ _ c.requires.in_row.sink.ready.2 (c.in_err-gather_scalar.ensures.gives _)))
 
 pub returns-in_default-clause-gives : goal.returns-in_default-clause-gives
 returns-in_default-clause-gives g c = λ last next.
     let x = rw (sym c.bytes-bytes.ensures.value) at (c.in_ok-gather_scalar.ensures.gives c.args.self.now.table.now.charset) in
-    let stops = left_stalls _ _ _ _ _ _ _ _ x (scalar_left _ _ _ _ c.requires.scalar c.in_default.ensures.gives) in
-    rw (c.requires.in_row.sink.writing, c.in_payload.ensures, c.place-place.ensures, c.length_size.ensures.value) (at_once_stalls _ _ _ _ _ _ _ _ _ c.requires.in_row.sink.ready.2 stops)
+    let stops = left_stalls x (scalar_left _ _ _ _ c.requires.scalar c.in_default.ensures.gives) in
+    rw (c.requires.in_row.sink.writing, c.in_payload.ensures, c.place-place.ensures, c.length_size.ensures.value) (at_once_stalls _ _ _ _ c.requires.in_row.sink.ready.2 stops)
 
 pub returns-clause-gives : goal.returns-clause-gives
 returns-clause-gives g c = λ last next.

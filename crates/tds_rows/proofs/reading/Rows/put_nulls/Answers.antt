@@ -1,5 +1,4 @@
-use Rattle.tds_rows.proofs.Words.{◌≡◌, ◌∙◌, ap, sym, drop, ◌-◌, ◌+◌, ◌≤◌, ℕ, List, Ok, length, take, subst, arith, rules, length-take, drop-drop, buffered, held, RunsMarked, bit}
-use Rattle.tds_rows.proofs.{BufferedCells.kept_text, MarkedSteps.all_waits}
+use Rattle.tds_rows.proofs.{Words.{◌≡◌, ◌∙◌, ap, sym, drop, ◌-◌, ◌+◌, ◌≤◌, length, take, arith, rules, length-take, drop-drop, buffered, held}, BufferedCells.kept_text, NextSteps.all_waits}
 use Rattle.tds_rows.proofs.reading.Rows.put_nulls.Goals as goal
 
 pub returns-clause-ends : goal.returns-clause-ends
@@ -11,7 +10,7 @@ returns-clause-ends g c =
     let written = c.run_nulls-run.new.to in
     let lent = c.spare.result.now in
     let whole : length written ≡ length lent = c.run_nulls-run.auto.to in
-    let puts = kept_text h j lent written c.waiting-waiting.result whole c.waiting-waiting.ensures {U = Unit {0}} (Ok tt) run.made c.commit.ensures.gives in
+    let puts = kept_text h j lent written c.waiting-waiting.result whole c.waiting-waiting.ensures run.made c.commit.ensures.gives in
     let block : length lent + length h.waiting ≡ 4095 = omega (arith, c.spare.ensures.value, c.room-room.ensures, c.requires.in_row.sink.ready.1 c.requires.in_row.sink.writing) in
     let text : length (take run.made written) ≡ run.made = omega (arith, whole, c.run_nulls-run.ensures.made, length-take run.made written) in
     let waits = all_waits h j (take run.made written) puts (omega (arith, block, text, c.run_nulls-run.ensures.made)) in
@@ -27,8 +26,8 @@ returns-clause-gives g c = λ columns knows ahead.
     record {
       bytes = take run.used (buffered c.args.self.now.payload.now);
       text = take run.made written;
-      runs = subst (λ (l : List ℕ). RunsMarked c.args.self.now.table.now columns (bit c.args.bitmap.now) c.args.from run.ahead (take run.used l) (take run.made written)) c.buffered.ensures (c.run_nulls-run.ensures.gives columns knows ahead);
+      runs = rw c.buffered.ensures at (c.run_nulls-run.ensures.gives columns knows ahead);
       takes = c.consume.ensures.gives;
-      puts = kept_text _ _ _ _ _ c.run_nulls-run.auto.to c.waiting-waiting.ensures {U = Unit {0}} (Ok tt) _ c.commit.ensures.gives;
+      puts = kept_text _ _ _ _ _ c.run_nulls-run.auto.to c.waiting-waiting.ensures _ c.commit.ensures.gives;
       place_is = omega (arith, lies, ap (λ p. p.place) c.consume.ensures.rest, length-take run.used (buffered c.args.self.now.payload.now));
     }

@@ -1,5 +1,4 @@
-use Rattle.tds_rows.proofs.Words.{[], refl, ◌≡◌, ap, ◌+◌, ◌≤◌, Ok, length, take, arith, rules, length-take, buffered, seen, Takes-more}
-use Rattle.tds_rows.proofs.{BufferedCells.kept_text, Paths.here, Paths.path_none, Paths.streams_of}
+use Rattle.tds_rows.proofs.{Words.{[], refl, ◌≡◌, ap, ◌+◌, ◌≤◌, length, take, arith, rules, length-take, buffered, seen, Takes-more}, BufferedCells.kept_text, Paths.{here, path_none, streams_of}}
 use Rattle.tds_rows.proofs.reading.Rows.put_run.Goals as goal
 
 pub returns-then-room-lt-CELL_ROOM-clause-gives : goal.returns-then-room-lt-CELL_ROOM-clause-gives
@@ -28,7 +27,7 @@ returns-clause-gives g c = λ columns knows ahead.
       ran.0,
       λ charset cells set is.
           let x = rw c.buffered.ensures at (ran.1 charset cells set is) in
-          let puts = kept_text _ _ _ _ _ c.run_rows-run.auto.to c.waiting-waiting.ensures {U = Unit {0}} (Ok tt) _ c.commit.ensures.gives in
+          let puts = kept_text _ _ _ _ _ c.run_rows-run.auto.to c.waiting-waiting.ensures _ c.commit.ensures.gives in
           record {
             before = x.before;
             more = x.more;

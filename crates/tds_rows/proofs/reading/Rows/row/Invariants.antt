@@ -1,5 +1,4 @@
-use Rattle.tds_rows.proofs.Words.{◌-◌, List, drop, Column, row_start, StaysInRow, IsAhead, Knows}
-use Rattle.tds_rows.proofs.{NullSteps.Reads, NullTexts.coming, Paths.here}
+use Rattle.tds_rows.proofs.{Words.{◌-◌, List, drop, Column, row_start, StaysInRow, IsAhead, Knows}, NullSteps.Reads, RowSteps.coming, Paths.here}
 use Rattle.tds_rows.proofs.reading.Rows.row.Given as goal
 
 abbrev pub invariant-loop-form : goal.invariant-loop-form

@@ -1,12 +1,10 @@
-use Rattle.tds_rows.proofs.Words.{◌∙◌, ◌+◌, ◌<◌, [], Err, List, Ok, drop, false, refl, sym, ap, arith, passed, Column, PlainRow, Knows}
-use Rattle.tds_rows.proofs.reading.Rows.rows.Given.{Over}
-use Rattle.tds_rows.proofs.{NextRows.RowsHere, NextRows.rowing_cell, NextRows.rowing_stop, NextRows.rows_first, NextRows.rows_ran, NextRows.rows_token, NextRows.rows_whole, NextSteps.cell_read, NullTexts.none_ahead, Paths.here, RowReading.stays, RowReading.stays_after, RowReading.stays_on, RowSteps.cell_some}
+use Rattle.tds_rows.proofs.{Words.{◌∙◌, ◌+◌, ◌<◌, [], Err, List, Ok, drop, false, refl, sym, ap, arith, passed, Column, PlainRow, Knows}, reading.Rows.rows.Given.Over, NextSteps.{RowsHere, rowing_cell, rowing_stop, rows_first, rows_ran, rows_token, rows_whole, cell_read, stays, stays_after, stays_on}, RowSteps.{none_ahead, cell_some}, Paths.here}
 use Rattle.tds_rows.proofs.reading.Rows.rows.Goals as goal
 
 pub loop-form-init : goal.loop-form-init
 loop-form-init g c =
     record {
-      stays = stays _ c.requires.in_row;
+      stays = stays c.requires.in_row;
       knows = c.requires.knows;
       few = omega arith;
       reads = λ columns knows. (c.start-ahead.ensures.ahead columns knows, rw c.start-ahead.ensures.first (record { cells = []; counted = refl; rows = rows_first c.requires.in_row.sink.ready.2 }));
@@ -17,7 +15,7 @@ returns-then-not-take_token-clause-gives g c = λ columns known.
     let l = c.loop-form in
     let kept = c.put_run-run.ensures.stays in
     let knows = rw (sym l.invariant.stays.same.3) at known in
-    let x = rows_ran g.R.Read.remaining g.W.Write.contents columns _ l.self c.put_run-run.new.self _ _ c.put_run-run.result kept knows c.put_run-run.ensures.gives (l.invariant.reads columns knows) in
+    let x = rows_ran g.R.Read.remaining g.W.Write.contents c.put_run-run.result kept knows c.put_run-run.ensures.gives (l.invariant.reads columns knows) in
     let none = c.in_default.ensures.gives columns (rw (sym kept.same.3) at knows) x.0 in
     let there = rw (kept.same.3 ∙ l.invariant.stays.same.3) at (rows_whole (rw none at x.1).rows) in
     rw (sym (c.if-not-take_token.ensures.gives PlainRow refl).0, sym c.take_token.ensures.sink) at there
@@ -34,9 +32,9 @@ returns-in_err-put_cell-clause-gives g c = λ columns known.
     let kept = c.put_run-run.ensures.stays in
     let knows = rw (sym l.invariant.stays.same.3) at known in
     let there = rw (sym kept.same.3) at knows in
-    let x = rows_ran g.R.Read.remaining g.W.Write.contents columns _ l.self c.put_run-run.new.self _ _ c.put_run-run.result kept knows c.put_run-run.ensures.gives (l.invariant.reads columns knows) in
+    let x = rows_ran g.R.Read.remaining g.W.Write.contents c.put_run-run.result kept knows c.put_run-run.ensures.gives (l.invariant.reads columns knows) in
     let taken = c.in-Some.ensures.gives columns there x.0 in
-    let y = cell_read g.R.Read.remaining g.W.Write.contents c.put_run-run.new.self c.put_cell.new.self columns (λ k. false) _ _ _ there taken {U = Unit {0}} (Err _) x.0 c.in_err-put_cell.ensures.gives in
+    let y = cell_read g.R.Read.remaining g.W.Write.contents c.put_run-run.new.self c.put_cell.new.self (λ k. false) there taken {U = Unit {0}} (Err _) x.0 c.in_err-put_cell.ensures.gives in
     passed _ _ _ _ c.from_residual.ensures.1 (rw (kept.same.3 ∙ l.invariant.stays.same.3) at (rowing_stop (rw taken.next at x.1) y))
 
 -- where a run and then a cell were read
@@ -47,9 +45,9 @@ step g c columns knows =
     let kept = c.put_run-run.ensures.stays in
     let done = c.in_ok-put_cell.ensures in
     let there = rw (sym kept.same.3) at knows in
-    let x = rows_ran g.R.Read.remaining g.W.Write.contents columns _ l.self c.put_run-run.new.self _ _ c.put_run-run.result kept knows c.put_run-run.ensures.gives (l.invariant.reads columns knows) in
+    let x = rows_ran g.R.Read.remaining g.W.Write.contents c.put_run-run.result kept knows c.put_run-run.ensures.gives (l.invariant.reads columns knows) in
     let taken = c.in-Some.ensures.gives columns there x.0 in
-    let y = cell_read g.R.Read.remaining g.W.Write.contents c.put_run-run.new.self c.put_cell.new.self columns (λ k. false) _ _ _ there taken {U = Unit {0}} (Ok tt) x.0 done.gives in
+    let y = cell_read g.R.Read.remaining g.W.Write.contents c.put_run-run.new.self c.put_cell.new.self (λ k. false) there taken {U = Unit {0}} (Ok tt) x.0 done.gives in
     (cell_some _ _ y, rw done.leaves.same.3 (taken.ahead, rw (sym taken.further) at (rowing_cell (none_ahead (drop c.in-Some.after.column columns) _) (rw taken.next at x.1) y)))
 
 pub loop-form-preserved : goal.loop-form-preserved
@@ -60,7 +58,7 @@ loop-form-preserved g c =
     let same = done.leaves.same.3 ∙ kept.same.3 in
     let known = l.invariant.knows in
     record {
-      stays = stays_on _ _ _ (stays_on _ _ _ l.invariant.stays kept) (stays_after _ _ _ kept.in_row done.leaves);
+      stays = stays_on (stays_on l.invariant.stays kept) (stays_after kept.in_row done.leaves);
       knows = rw (sym same) at known;
       few = omega (arith, l.invariant.few, c.put_run-run.ensures.few, (step g c known.0 known.1).0);
       reads = λ columns knows. (step g c columns (rw same at knows)).1;
@@ -75,11 +73,11 @@ loop-form-preserved-in_default g c =
     let start = c.start-ahead-in_default.ensures in
     let same = took.stays.same.3 ∙ kept.same.3 in
     record {
-      stays = stays_on _ _ _ (stays_on _ _ _ l.invariant.stays kept) took.stays;
+      stays = stays_on (stays_on l.invariant.stays kept) took.stays;
       knows = rw (sym same) at l.invariant.knows;
       few = omega (arith, l.invariant.few, c.put_run-run.ensures.few, taken.1);
       reads = rw same (λ columns knows.
-          let x = rows_ran g.R.Read.remaining g.W.Write.contents columns _ l.self c.put_run-run.new.self _ _ c.put_run-run.result kept knows c.put_run-run.ensures.gives (l.invariant.reads columns knows) in
+          let x = rows_ran g.R.Read.remaining g.W.Write.contents c.put_run-run.result kept knows c.put_run-run.ensures.gives (l.invariant.reads columns knows) in
           let none = c.in_default.ensures.gives columns (rw (sym kept.same.3) at knows) x.0 in
           let whole = rw kept.same.3 at (rows_whole (rw none at x.1).rows) in
           let begun = rows_token (omega (arith, l.invariant.knows.2, knows.counted)) kept.in_row.sink.ready.2 whole taken.0 in

@@ -1,5 +1,4 @@
-use Rattle.tds_rows.proofs.Words.{◌+◌, ◌-◌, ◌≤◌, List, Column, StaysInRow, Knows, KnowsSome}
-use Rattle.tds_rows.proofs.{NextRows.RowsHere, Paths.here}
+use Rattle.tds_rows.proofs.{Words.{◌+◌, ◌-◌, ◌≤◌, List, Column, StaysInRow, Knows, KnowsSome}, NextSteps.RowsHere, Paths.here}
 use Rattle.tds_rows.proofs.reading.Rows.rows.Given as goal
 
 abbrev pub invariant-loop-form : goal.invariant-loop-form

@@ -1,5 +1,4 @@
-use Rattle.tds_rows.proofs.Words.{refl, arith, rules}
-use Rattle.tds_rows.proofs.TableSteps.{next_known}
+use Rattle.tds_rows.proofs.{Words.{refl, arith, rules}, TableSteps.next_known}
 use Rattle.tds_rows.proofs.table.Table.form.Goals as goal
 
 pub returns-then-at-self : goal.returns-then-at-self

@@ -1,5 +1,4 @@
-use Rattle.tds_rows.proofs.Words.{arith, rules}
-use Rattle.tds_rows.proofs.TableForms.{known_ahead}
+use Rattle.tds_rows.proofs.{Words.{arith, rules}, TableForms.known_ahead}
 use Rattle.tds_rows.proofs.table.Table.forms.Goals as goal
 
 pub returns : goal.returns

@@ -1,5 +1,4 @@
-use Rattle.tds_rows.proofs.Words.{inr, refl, arith, rules}
-use Rattle.tds_rows.proofs.TableSteps.{after_known, next_known, takes}
+use Rattle.tds_rows.proofs.{Words.{inr, refl, arith, rules}, TableSteps.{after_known, next_known, takes}}
 use Rattle.tds_rows.proofs.table.Table.known_kind.Goals as goal
 
 pub returns-clause-gives : goal.returns-clause-gives

@@ -1,5 +1,4 @@
-use Rattle.tds_rows.proofs.Words.{◌∙◌, sym, arith, rules, column_value, columns_left, columns_of}
-use Rattle.tds_rows.proofs.{LaidOut.laid_all, LaidOut.laid_set, TableSteps.first_more, TableSteps.next_column}
+use Rattle.tds_rows.proofs.{Words.{◌∙◌, sym, arith, rules, column_value, columns_left, columns_of}, LaidOut.{laid_all, laid_set}, TableSteps.{first_more, next_column}}
 use Rattle.tds_rows.proofs.table.Table.of.Goals as goal
 
 pub loop-known-init : goal.loop-known-init
