@@ -1,5 +1,5 @@
 -- The fixed text of some bytes, put a part after the other.
-use Rattle.tds_csv.proofs.{Words.{◌≡◌, ◌+◌, ◌-◌, ◌≤◌, ℕ, List, [], ◌++◌, length, take, drop, Option, Result, Ok, Err, refl, sym, subst, arith, append_assoc, take-append-drop, drop-append-add, drop-drop, drop-append-le, Stop, JoinsPieces, Leads, emit, Sink, PutsPiece}, Puttings.{PutsPiece-longer, PutsPiece-trans}}
+use Rattle.tds_csv.proofs.{Words.{common_steps, ◌≡◌, ◌+◌, ◌-◌, ◌≤◌, ℕ, List, [], ◌++◌, length, take, drop, Option, Result, Ok, Err, refl, sym, subst, arith, append_assoc, take-append-drop, drop-append-add, drop-drop, drop-append-le, Stop, JoinsPieces, Leads, emit, Sink, PutsPiece}, Puttings.{PutsPiece-longer, PutsPiece-trans}}
 
 module _ {rest text : List ℕ → List ℕ} where
   pub Leads-none : {xs : List ℕ} → Leads rest text xs xs []
@@ -24,11 +24,11 @@ emit_held rest text xs empty e = grind arith
 module _ {rest text : List ℕ → List ℕ} {fit begins : List ℕ → Type 0} (laws : JoinsPieces fit begins rest text) where
   -- a first chunk, and what follows it
   pub Leads-chunk : (xs more : List ℕ) → begins (xs ++ more) → Leads rest text (xs ++ more) (rest xs ++ more) (emit rest text xs)
-  Leads-chunk xs more h = record { emits = laws.emits xs more h; keeps = laws.keeps xs more h }
+  Leads-chunk xs more h = grind (arith, common_steps)
 
   -- the rest of the first chunk begins after so many bytes
   Leads-from : (xs chunk more : List ℕ) (used : ℕ) → xs ≡ chunk ++ more → begins xs → used ≤ length chunk → drop used chunk ≡ rest chunk → Leads rest text xs (drop used xs) (emit rest text chunk)
-  Leads-from xs chunk more used is h le e = rw (is, drop-append-le used chunk more le, e) (Leads-chunk chunk more (subst begins is h))
+  Leads-from xs chunk more used is h le e = grind (arith, common_steps, drop-append-le, Leads-chunk)
 
   -- the first chunk of some bytes
   pub Leads-front : (xs : List ℕ) (n : ℕ) → begins xs → Leads rest text xs (rest (take n xs) ++ drop n xs) (emit rest text (take n xs))

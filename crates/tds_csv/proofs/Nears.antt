@@ -1,5 +1,5 @@
 -- Calls that put the text of an element part after part.
-use Rattle.{tds_csv.proofs.{Words.{◌≡◌, ◌∙◌, ℕ, ◌-◌, ◌^◌, ◌<◌, ◌≤◌, List, [], ◌∷◌, ◌++◌, length, refl, sym, ap, arith, append_assoc, append-nil, concat, append_cancel_left, Fault, Stop, Grammar, IsNext, Spelt, Seen, Takes, IsBetween, Inside, Inside-Spelt, Spelt-append, Spelt-one, LastInside, last_inside, next_inside, next_some, takes_both, Held, Puts, Breaks, BreaksStreaming, PutsText, Streams}, Sinks.{Breaks-after, Breaks-longer, Puts-none, Puts-trans}, Streams.puts_both, Splits.Puts_split}, tds_packet.specs.Elements.Leads}
+use Rattle.{tds_csv.proofs.{Words.{common_steps, ◌≡◌, ◌∙◌, ℕ, ◌-◌, ◌^◌, ◌<◌, ◌≤◌, List, [], ◌∷◌, ◌++◌, length, refl, sym, ap, arith, append_assoc, append-nil, concat, append_cancel_left, Fault, Stop, Grammar, IsNext, Spelt, Seen, Takes, IsBetween, Inside, Inside-Spelt, Spelt-append, Spelt-one, LastInside, last_inside, next_inside, next_some, takes_both, Held, Puts, Breaks, BreaksStreaming, PutsText, Streams}, Sinks.{Breaks-after, Breaks-longer, Puts-none, Puts-trans}, Streams.puts_both, Splits.Puts_split}, tds_packet.specs.Elements.Leads}
 
 -- Whole elements were read, which lead from one state to another. The text of all but the last was put, and that of the last but for its tail.
 pub record Nears {S : Type 0} (g : Grammar S Fault) (text : S → List ℕ) (from : S) (old new : Seen) (before after : Held) (to : S) (tail : List ℕ) : Type 0 where
@@ -127,7 +127,7 @@ module _ {S : Type 0} (g : Grammar S Fault) where
 
   -- a grammar is inside itself
   pub inside_itself : Inside g g (λ s. s)
-  inside_itself = record { size = λ s some. refl; fault = λ s e some. refl; add = λ s e some. refl }
+  inside_itself = grind (arith, common_steps)
 
   -- the last element of what was read
   pub last_read : (s : S) (bytes : List ℕ) (t : S) → Spelt g s bytes t → 0 < length bytes → LastInside g g (λ u. u) inside_itself s bytes t
@@ -137,7 +137,7 @@ module _ {S : Type 0} (g : Grammar S Fault) where
 module _ {S T : Type 0} (small : Grammar S Fault) (big : Grammar T Fault) (lift : S → T) (is : Inside small big lift) (text : S → List ℕ) (whole : T → List ℕ) (front : List ℕ) (text_is : (s : S) → 0 < small.size s → front ++ text s ≡ whole (lift s)) (grows : Grows small text) where
   -- what is added to the small text between two states with a next element is added to the big one
   pub added_between : (s t : S) (more : List ℕ) → 0 < small.size s → 0 < small.size t → text s ++ more ≡ text t → whole (lift s) ++ more ≡ whole (lift t)
-  added_between s t more some more_to_come e = ap (λ l. l ++ more) (sym (text_is s some)) ∙ append_assoc front (text s) more ∙ ap (λ l. front ++ l) e ∙ text_is t more_to_come
+  added_between s t more some more_to_come e = grind (arith, common_steps, append_assoc, front)
 
   -- after the small text the big one has a tail
   pub tail_after : (s t : S) (more tail : List ℕ) → 0 < small.size s → text s ++ more ≡ text t → (front ++ text t) ++ tail ≡ whole (lift t) → whole (lift s) ++ (more ++ tail) ≡ whole (lift t)

@@ -1,5 +1,5 @@
 -- Data whose bytes each stand alone, put a run after the other.
-use Rattle.tds_csv.proofs.{Words.{◌≡◌, ◌∙◌, ◌+◌, ◌≤◌, ℕ, zero, suc, ◌-◌, Bool, true, false, cond, List, [], ◌∷◌, ◌++◌, take, drop, Option, Result, Ok, Err, refl, sym, ap, subst, arith, prefix_len, IsErrAnd, take-append-drop, take-take, take-add, chunk, Stop, Sink, PutsPiece}, Puttings.{PutsPiece-passed, PutsPiece-trans}}
+use Rattle.tds_csv.proofs.{Words.{common_steps, ◌≡◌, ◌∙◌, ◌+◌, ◌≤◌, ℕ, zero, suc, ◌-◌, Bool, true, false, cond, List, [], ◌∷◌, ◌++◌, take, drop, Option, Result, Ok, Err, refl, sym, ap, subst, arith, prefix_len, IsErrAnd, take-append-drop, take-take, take-add, chunk, Stop, Sink, PutsPiece}, Puttings.{PutsPiece-passed, PutsPiece-trans}}
 
 module _ (text : List ℕ → List ℕ) (appends : (x y : List ℕ) → text (x ++ y) ≡ text x ++ text y) where
   runs : (t e : ℕ) (xs : List ℕ) → t ≤ e → text (take t xs) ++ text (take (e - t) (drop t xs)) ≡ text (take e xs)
@@ -34,4 +34,4 @@ module _ (text : List ℕ → List ℕ) (appends : (x y : List ℕ) → text (x 
 
     -- those that were found among the next 16
     pub lanes_itself : (bytes : List ℕ) (at n : ℕ) → n ≤ 16 → n ≡ prefix_len q (chunk at 16 bytes) → take n (chunk at 16 bytes) ≡ text (take n (drop at bytes))
-    lanes_itself bytes at n few e = sym (some_itself n (chunk at 16 bytes) (omega arith)) ∙ ap text (take-take n 16 (drop at bytes) few)
+    lanes_itself bytes at n few e = grind (arith, common_steps, some_itself, take-take)

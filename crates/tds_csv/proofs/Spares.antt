@@ -7,11 +7,11 @@ spare_bytes bytes lent written e = grind (arith, length-append, overwritten_all,
 
 -- what waited before
 pub spare_before : (bytes lent written : List ℕ) → length written ≡ length lent → take (length bytes) (overwritten (length bytes) written (bytes ++ lent)) ≡ bytes
-spare_before bytes lent written e = ap (take (length bytes)) (spare_bytes bytes lent written e) ∙ take-append_seam bytes written
+spare_before bytes lent written e = grind (arith, common_steps, spare_bytes, take-append_seam)
 
 -- what was written
 pub spare_written : (bytes lent written : List ℕ) → length written ≡ length lent → drop (length bytes) (overwritten (length bytes) written (bytes ++ lent)) ≡ written
-spare_written bytes lent written e = ap (drop (length bytes)) (spare_bytes bytes lent written e) ∙ drop-append_seam bytes written
+spare_written bytes lent written e = grind (arith, common_steps, spare_bytes, drop-append_seam)
 
 -- the bytes that wait, and what was written after them
 spared : (bytes room written : List ℕ) (waiting : ℕ) → length written ≡ length room → waiting ≡ length bytes → (take waiting (overwritten (length bytes) written (bytes ++ room)) ≡ bytes) × (drop waiting (overwritten (length bytes) written (bytes ++ room)) ≡ written)

@@ -1,5 +1,5 @@
 -- Calls that read by a grammar and put the text of what they read: one after another, and inside a greater grammar.
-use Rattle.tds_csv.proofs.{Words.{◌≡◌, ◌∙◌, inl, inr, ℕ, ◌+◌, ◌<◌, Bool, List, ◌++◌, length, sym, ap, arith, append_assoc, Fault, Stop, Grammar, Seen, Inside, Inside-Spelt, Spelt-append, StopsReading, next_inside, next_some, stops_after, takes_ahead, Held, BreaksStreaming, PutsText, StopsStreaming, Streams}, Sinks.Puts-trans}
+use Rattle.tds_csv.proofs.{Words.{common_steps, ◌≡◌, ◌∙◌, inl, inr, ℕ, ◌+◌, ◌<◌, Bool, List, ◌++◌, length, sym, ap, arith, append_assoc, Fault, Stop, Grammar, Seen, Inside, Inside-Spelt, Spelt-append, StopsReading, next_inside, next_some, stops_after, takes_ahead, Held, BreaksStreaming, PutsText, StopsStreaming, Streams}, Sinks.Puts-trans}
 
 -- a state where a reading stops has a next element
 pub stops_size : {S : Type 0} (g : Grammar S Fault) (from : S) (a b : Seen) (place : ℕ) (at : S) (stop : Stop) → StopsReading g from a b place at stop → 0 < g.size at
@@ -43,7 +43,7 @@ module _ {S : Type 0} (g : Grammar S Fault) (text : S → List ℕ) where
 module _ {S T : Type 0} (small : Grammar S Fault) (big : Grammar T Fault) (lift : S → T) (is : Inside small big lift) (text : S → List ℕ) (whole : T → List ℕ) (front : List ℕ) (text_is : (s : S) → front ++ text s ≡ whole (lift s)) where
   -- what is added to the small text is added to the big one
   pub added_inside : (s t : S) (more : List ℕ) → text s ++ more ≡ text t → whole (lift s) ++ more ≡ whole (lift t)
-  added_inside s t more e = ap (λ l. l ++ more) (sym (text_is s)) ∙ append_assoc front (text s) more ∙ ap (λ l. front ++ l) e ∙ text_is t
+  added_inside s t more e = grind (arith, common_steps, append_assoc, front)
 
   -- the text between two states of the small grammar is that between those of the big one
   pub puts_inside : (s t : S) (a b : Held) → PutsText text s t a b → PutsText whole (lift s) (lift t) a b

@@ -1,5 +1,5 @@
 -- Withheld bytes of text in UTF-16, with the first ones of a piece.
-use Rattle.tds_csv.{proofs.{Words.{◌≡◌, ◌-◌, ◌<◌, ◌≤◌, ℕ, Option, Ok, List, [], ◌∷◌, ◌++◌, length, take, drop, arith, length-append, length-drop, length-take-le, take_all, ap, Leads, emit, Sink, IsWriting, PutsPiece}, Utf16Laws.joins_utf16, Leading.{Leads-none, Leads-seam, Leads-seam-front}, Puttings.PutsPiece-none, Utf16Steps.text_nil}, specs.{Utf16.{rest, text}, Utf16Next.{LeavesRest, seam}}}
+use Rattle.tds_csv.{proofs.{Words.{common_steps, ◌≡◌, ◌-◌, ◌<◌, ◌≤◌, ℕ, Option, Ok, List, [], ◌∷◌, ◌++◌, length, take, drop, arith, length-append, length-drop, length-take-le, take_all, ap, Leads, emit, Sink, IsWriting, PutsPiece}, Utf16Laws.joins_utf16, Leading.{Leads-none, Leads-seam, Leads-seam-front}, Puttings.PutsPiece-none, Utf16Steps.text_nil}, specs.{Utf16.{rest, text}, Utf16Next.{LeavesRest, seam}}}
 
 -- where the text goes on after that of the seam
 abbrev pub after : List ℕ → List ℕ → List ℕ
@@ -29,4 +29,4 @@ some_leads {kept = kept} piece bytes used same some long is left =
 
 -- what stands after the bytes that were used is withheld
 pub kept_after : {whole bytes last cleared new : List ℕ} (used : ℕ) → bytes ≡ whole → last ≡ bytes → cleared ≡ [] → new ≡ cleared ++ take (length last - used) (drop used last) → drop used bytes ≡ rest bytes → new ≡ rest whole
-kept_after {last = last} used is same none all left = rw (all, none, take_all (length last - used) (drop used last) (omega (arith, length-drop used last)), same, left, is)
+kept_after {last = last} used is same none all left = grind (arith, common_steps)

@@ -1,5 +1,5 @@
 -- One character after the other of text in UTF-16.
-use Rattle.{tds_csv.{proofs.{Words.{◌⊎◌, inl, ◌≡◌, ◌&&◌, ◌||◌, or-false, ◌+◌, ◌*◌, ◌<◌, ◌≤◌, ◌%◌, ℕ, true, false, List, [], ◌∷◌, ◌++◌, length, map, drop, get_or, refl, ap, arith, encode_utf8_all, unwrap_or, drop_more, and_right, nat_tests, encode_utf8, utf16_lossy_chars, is_high_surrogate, is_low_surrogate, surrogate_pair_char, lone_unit_char, emit, doubled, length-drop, nil_from_length}, Utf16Laws.{starts_low, chars-apart, front, front_step, rest_step, emit-front, short}, JoiningLemmas.doubled-append}, specs.{Utf16.{units, is_high, characters, rest, text}, Utf16Next.IsNext}}, std.specs.Char.Utf16.utf16_chars}
+use Rattle.{tds_csv.{proofs.{Words.{common_steps, ◌⊎◌, inl, ◌≡◌, ◌&&◌, ◌||◌, or-false, ◌+◌, ◌*◌, ◌<◌, ◌≤◌, ◌%◌, ℕ, true, false, List, [], ◌∷◌, ◌++◌, length, map, drop, get_or, refl, ap, arith, encode_utf8_all, unwrap_or, drop_more, and_right, nat_tests, encode_utf8, utf16_lossy_chars, is_high_surrogate, is_low_surrogate, surrogate_pair_char, lone_unit_char, emit, doubled, length-drop, nil_from_length}, Utf16Laws.{starts_low, chars-apart, front, front_step, rest_step, emit-front, short}, JoiningLemmas.doubled-append}, specs.{Utf16.{units, is_high, characters, rest, text}, Utf16Next.IsNext}}, std.specs.Char.Utf16.utf16_chars}
 
 pub text_nil : text [] ≡ []
 unfolding utf16_chars
@@ -93,7 +93,7 @@ drop_four xs i h = grind (arith, drop_two)
 -- ---- the steps from a place on, by the units that stand there
 
 pub held_at : (xs : List ℕ) (i : ℕ) {u : ℕ} → i + 1 < length xs → length xs < i + 4 → u ≡ get_or xs i 0 + 256 * get_or xs (i + 1) 0 → is_high_surrogate u ≡ true → rest (drop i xs) ≡ drop i xs
-held_at xs i within few is h = rw drop_two (held_high (get_or xs i 0) (get_or xs (i + 1) 0) (drop (i + 2) xs) (omega (arith, length-drop (i + 2) xs)) (rw is at h))
+held_at xs i within few is h = grind (arith, common_steps, drop_two, held_high)
 
 pub one_at : (xs : List ℕ) (i : ℕ) {u code : ℕ} → i + 1 < length xs → u ≡ get_or xs i 0 + 256 * get_or xs (i + 1) 0 → is_high_surrogate u ≡ false → unwrap_or (lone_unit_char u) 0xFFFD ≡ code → IsNext (drop i xs) code 2
 one_at xs i within is h e = rw drop_two (next_one _ _ _ _ (rw is at h) (rw is at e))

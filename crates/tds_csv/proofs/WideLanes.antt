@@ -1,5 +1,5 @@
 -- Units that are looked at eight at a time, lane by lane.
-use Rattle.{tds_csv.{proofs.{Words.{take, get_or, ◌++◌, ◌≡◌, ◌∙◌, ◌+◌, ◌*◌, ◌/◌, ◌%◌, ◌^◌, ◌<◌, ℕ, Bool, not, cond, zero, suc, List, [], ◌∷◌, map, length, refl, ap, ap₂, arith, Fits, w8, w16, Each1, map-map, mask_l, top, first_set, prefix_len, sel_l}, Masks.{run_before, same_prefix}}, specs.{Utf16.units, Wide.triples}}, std.specs.Simd.Lanes.number_l}
+use Rattle.{tds_csv.{proofs.{Words.{common_steps, take, get_or, ◌++◌, ◌≡◌, ◌∙◌, ◌+◌, ◌*◌, ◌/◌, ◌%◌, ◌^◌, ◌<◌, ℕ, Bool, not, cond, zero, suc, List, [], ◌∷◌, map, length, refl, ap, ap₂, arith, Fits, w8, w16, Each1, map-map, mask_l, top, first_set, prefix_len, sel_l}, Masks.{run_before, same_prefix}}, specs.{Utf16.units, Wide.triples}}, std.specs.Simd.Lanes.number_l}
 use lib.Lanes.{digits_l}
 
 -- two functions that are the same on units
@@ -14,7 +14,7 @@ chosen_maps m f g (u ∷ us) = ap (λ xs. cond (m u) (f u) (g u) ∷ xs) (chosen
 
 -- and by the tops of others
 pub chosen : (l f g : ℕ → ℕ) (us : List ℕ) {ls xs ys : List ℕ} → ls ≡ map l us → xs ≡ map f us → ys ≡ map g us → sel_l (map (top 15) ls) xs ys ≡ map (λ u. cond (top 15 (l u)) (f u) (g u)) us
-chosen l f g us ls xs ys = rw (ls, xs, ys, map-map (top 15) l us) (chosen_maps (λ u. top 15 (l u)) f g us)
+chosen l f g us ls xs ys = grind (arith, common_steps, map-map, chosen_maps)
 
 -- so many units come before the first whose lane stops
 pub units_before : (q : ℕ → Bool) (f : ℕ → ℕ) (us : List ℕ) {z : List ℕ} → length us ≡ 8 → Each1 (Fits w16) us → z ≡ map f us → ((u : ℕ) → u < 65536 → not (top 15 (f u)) ≡ q u) → first_set (mask_l (map (top 15) z) % 2 ^ 64) 8 ≡ prefix_len q us

@@ -113,7 +113,7 @@ module _ (q : ℕ → Bool) (single : (u : ℕ) → q u ≡ true → IsSingle u)
 
 -- all the bytes are a source of their own
 pub lies_itself : (bytes : List ℕ) → LiesIn bytes bytes
-lies_itself bytes = record { within = le_refl (length bytes); front = take_all (length bytes) bytes (le_refl (length bytes)) }
+lies_itself bytes = grind (arith, common_steps)
 
 -- and so many characters of ASCII
 pub plain_more : {bytes source old new : List ℕ} {at made : ℕ} (n : ℕ) → LiesIn bytes source → at + 16 ≤ length source → n ≤ prefix_len is_plain (units (chunk at 16 source)) → n ≤ 8 → at + 2 * n ≤ length bytes → 3 * length bytes + 32 ≤ 2 * length old
