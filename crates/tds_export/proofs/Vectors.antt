@@ -38,7 +38,7 @@ whole_responses : HaveAnswers Windows1252 1048576 (
 unfolding digits date_of utf16_chars encode_utf8 utf8_valid_len utf8_error_len is_utf8 chars encode_with rest_length named_kind refused_kind
 whole_responses = refl
 
--- tokens and descriptions that are refused
+-- tokens, descriptions and values that are refused, or cut
 stopped_responses : HaveAnswers Windows1252 1048576 (
     -- a kind refused by name
     (hex "81 02 00 00 00 00 00 00 00 38 01 61 00 00 00 00 00 00 00 3E 01 62 00", (13, [], Some (RefusedColumn 1 Flt8))) ∷
@@ -60,12 +60,6 @@ stopped_responses : HaveAnswers Windows1252 1048576 (
     (hex "81 01 00 00 00 00 00 00 00 1F", (3, [], Some (UnknownType 0 0x1F))) ∷
     -- a floating-point type byte
     (hex "81 01 00 00 00 00 00 00 00 6D", (3, [], Some (RefusedColumn 0 FltN))) ∷
-    [])
-unfolding digits date_of utf16_chars encode_utf8 utf8_valid_len utf8_error_len is_utf8 chars encode_with rest_length named_kind refused_kind
-stopped_responses = refl
-
--- values that are refused, or cut
-stopped_values : HaveAnswers Windows1252 1048576 (
     -- a date after the last one
     (hex "81 01 00 00 00 00 00 00 00 28 01 64 00 D1 03 DB B9 37", (15, codes "\"d\"\r\n", Some (BadValue 0))) ∷
     -- a date of four bytes
@@ -84,7 +78,7 @@ stopped_values : HaveAnswers Windows1252 1048576 (
     (hex "81 01 00 00 00 00 00 00 00 A5 FF FF 01 62 00 D1 FD FF FF FF FF FF FF FF 00 00 00 00", (24, codes "\"b\"\r\n0x", Some (PlpLength 0))) ∷
     [])
 unfolding digits date_of utf16_chars encode_utf8 utf8_valid_len utf8_error_len is_utf8 chars encode_with rest_length named_kind refused_kind
-stopped_values = refl
+stopped_responses = refl
 
 -- descriptions, with the room and the answer
 abbrev described_in : List (ℕ × List ℕ × Answer)
@@ -129,7 +123,7 @@ first_bytes = refl
 
 -- ---- values
 
--- values in rows
+-- values in rows and return values
 values : HaveAnswers Windows1252 1048576 (
     -- a decimal
     (hex "81 01 00 00 00 00 00 00 00 6A 05 05 02 01 64 00 D1 05 01 39 30 00 00 FD 00 00 00 00 00 00 00 00 00 00 00 00", (36, codes "\"d\"\r\n123.45\r\n", None)) ∷
@@ -153,6 +147,21 @@ values : HaveAnswers Windows1252 1048576 (
     (hex "81 09 00 00 00 00 00 00 00 26 04 00 00 00 00 00 00 00 26 04 00 00 00 00 00 00 00 26 04 00 00 00 00 00 00 00 26 04 00 00 00 00 00 00 00 26 04 00 00 00 00 00 00 00 26 04 00 00 00 00 00 00 00 26 04 00 00 00 00 00 00 00 26 04 00 00 00 00 00 00 00 26 04 00 D2 FF 01 FD 00 00 00 00 00 00 00 00 00 00 00 00", (100, codes "\"\",\"\",\"\",\"\",\"\",\"\",\"\",\"\",\"\"\r\nNULL,NULL,NULL,NULL,NULL,NULL,NULL,NULL,NULL\r\n", None)) ∷
     -- nine columns, NULL by their bits
     (hex "81 09 00 00 00 00 00 00 00 26 04 00 00 00 00 00 00 00 26 04 00 00 00 00 00 00 00 26 04 00 00 00 00 00 00 00 26 04 00 00 00 00 00 00 00 26 04 00 00 00 00 00 00 00 26 04 00 00 00 00 00 00 00 26 04 00 00 00 00 00 00 00 26 04 00 00 00 00 00 00 00 26 04 00 D2 FF FF FD 00 00 00 00 00 00 00 00 00 00 00 00", (100, codes "\"\",\"\",\"\",\"\",\"\",\"\",\"\",\"\",\"\"\r\nNULL,NULL,NULL,NULL,NULL,NULL,NULL,NULL,NULL\r\n", None)) ∷
+    -- ---- return values, which have no text
+    -- a return value: no text
+    (hex "AC 01 00 02 40 00 70 00 01 00 00 00 00 00 00 26 04 04 07 00 00 00 FD 00 00 00 00 00 00 00 00 00 00 00 00", (35, [], None)) ∷
+    -- a floating-point type
+    (hex "AC 01 00 02 40 00 70 00 01 00 00 00 00 00 00 3E 04 04 07 00 00 00", (8, [], Some (RefusedColumn 65535 Flt8))) ∷
+    -- an unknown type
+    (hex "AC 01 00 02 40 00 70 00 01 00 00 00 00 00 00 1F 04 04 07 00 00 00", (8, [], Some (UnknownType 65535 31))) ∷
+    -- a described length of three
+    (hex "AC 01 00 02 40 00 70 00 01 00 00 00 00 00 00 26 03 04 07 00 00 00", (16, [], Some (BadTypeInfo 65535))) ∷
+    -- a value of two bytes
+    (hex "AC 01 00 02 40 00 70 00 01 00 00 00 00 00 00 26 04 02 07 00 00 00", (17, [], Some (BadValueLength 65535))) ∷
+    -- the message ends in the value
+    (hex "AC 01 00 02 40 00 70 00 01 00 00 00 00 00 00 26 04 04 07 00", (18, [], Some MessageEnded)) ∷
+    -- a fixed type and no name
+    (hex "AC 00 00 00 00 00 00 00 00 00 00 38 2A 00 00 00 FD 00 00 00 00 00 00 00 00 00 00 00 00", (29, [], None)) ∷
     [])
 unfolding digits date_of utf16_chars encode_utf8 utf8_valid_len utf8_error_len is_utf8 chars encode_with rest_length named_kind refused_kind uuid_on_literals
 values = refl
@@ -178,26 +187,6 @@ utf8 : HaveAnswers Utf8 1048576 (
     [])
 unfolding digits date_of utf16_chars encode_utf8 utf8_valid_len utf8_error_len is_utf8 chars encode_with rest_length named_kind refused_kind uuid_on_literals
 utf8 = refl
-
--- return values, which have no text
-returned : HaveAnswers Windows1252 1048576 (
-    -- a return value: no text
-    (hex "AC 01 00 02 40 00 70 00 01 00 00 00 00 00 00 26 04 04 07 00 00 00 FD 00 00 00 00 00 00 00 00 00 00 00 00", (35, [], None)) ∷
-    -- a floating-point type
-    (hex "AC 01 00 02 40 00 70 00 01 00 00 00 00 00 00 3E 04 04 07 00 00 00", (8, [], Some (RefusedColumn 65535 Flt8))) ∷
-    -- an unknown type
-    (hex "AC 01 00 02 40 00 70 00 01 00 00 00 00 00 00 1F 04 04 07 00 00 00", (8, [], Some (UnknownType 65535 31))) ∷
-    -- a described length of three
-    (hex "AC 01 00 02 40 00 70 00 01 00 00 00 00 00 00 26 03 04 07 00 00 00", (16, [], Some (BadTypeInfo 65535))) ∷
-    -- a value of two bytes
-    (hex "AC 01 00 02 40 00 70 00 01 00 00 00 00 00 00 26 04 02 07 00 00 00", (17, [], Some (BadValueLength 65535))) ∷
-    -- the message ends in the value
-    (hex "AC 01 00 02 40 00 70 00 01 00 00 00 00 00 00 26 04 04 07 00", (18, [], Some MessageEnded)) ∷
-    -- a fixed type and no name
-    (hex "AC 00 00 00 00 00 00 00 00 00 00 38 2A 00 00 00 FD 00 00 00 00 00 00 00 00 00 00 00 00", (29, [], None)) ∷
-    [])
-unfolding digits date_of utf16_chars encode_utf8 utf8_valid_len utf8_error_len is_utf8 chars encode_with rest_length named_kind refused_kind uuid_on_literals
-returned = refl
 
 -- a return value is counted
 returned_once : how_many is_return ((state_of (read (response Windows1252 1048576) response_start (hex "AC 01 00 02 40 00 70 00 01 00 00 00 00 00 00 26 04 04 07 00 00 00 FD 00 00 00 00 00 00 00 00 00 00 00 00"))).tokens) ≡ 1

@@ -1,6 +1,5 @@
 -- Runs of cells over the columns that a table knows: more cells after those that were written.
-use Rattle.tds_rows.proofs.Words.{arith, true, false, ◌≡◌, ℕ, ◌+◌, ◌-◌, ◌<◌, ◌≤◌, List, ◌++◌, length, length-append, length-drop, length-take, length-take-le, take, drop, get_or, sym, ◌==◌, Column, Charset, Ahead, CellRun, CellsWritten, RowsRun, Table, Cell, WritesRows, IsAhead, Knows, RunsMarked}
-use Rattle.tds_rows.proofs.{TableSteps.at_end, RunSteps.made_more, RunSteps.marked_writes, RunSteps.rows_none, RunSteps.rows_onward, RunSteps.used_more}
+use Rattle.tds_rows.proofs.{Words.{arith, true, false, ◌≡◌, ℕ, ◌+◌, ◌-◌, ◌<◌, ◌≤◌, List, ◌++◌, length, length-append, length-drop, length-take, length-take-le, take, drop, get_or, sym, ◌==◌, Column, Charset, Ahead, CellRun, CellsWritten, RowsRun, Table, Cell, WritesRows, IsAhead, Knows, RunsMarked}, TableSteps.at_end, RunSteps.{made_more, marked_writes, rows_none, rows_onward, used_more}}
 
 -- Between two places of rows, over the ends of so many, these bytes are their cells, and this is their text.
 abbrev pub RowsBetween : Table → List Column → Ahead → Ahead → ℕ → List ℕ → List ℕ → Type 0

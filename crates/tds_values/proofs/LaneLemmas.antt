@@ -47,12 +47,16 @@ guid_digits v long fits = ap encode_lower (pick_l_left 0 v v 16 (3 ∷ 2 ∷ 1 �
 pub taken_put : (i n : ℕ) (xs ys : List ℕ) → n ≤ length ys → i + length ys ≤ length xs → take (i + n) (put_chunk i xs ys) ≡ take i xs ++ take n ys
 taken_put i n xs ys within room = grind (arith, length-take-le, put_chunk_is, take-append-add, take-append-le)
 
+-- lanes at places, where a place from 16 on is a hyphen's
+abbrev hyphened : List ℕ → List ℕ → List ℕ
+hyphened lanes places = map (λ k. get_or (lanes ++ replicate 16 45) k 0) places
+
 -- digits of the first half of a GUID between hyphens, and those of the second after one
 abbrev pub middle_of : List ℕ → List ℕ
-middle_of first = map (λ k. get_or (first ++ replicate 16 45) k 0) (16 ∷ 8 ∷ 9 ∷ 10 ∷ 11 ∷ 16 ∷ 12 ∷ 13 ∷ 14 ∷ 15 ∷ 16 ∷ 0 ∷ 0 ∷ 0 ∷ 0 ∷ 0 ∷ [])
+middle_of first = hyphened first (16 ∷ 8 ∷ 9 ∷ 10 ∷ 11 ∷ 16 ∷ 12 ∷ 13 ∷ 14 ∷ 15 ∷ 16 ∷ 0 ∷ 0 ∷ 0 ∷ 0 ∷ 0 ∷ [])
 
 abbrev pub last_of : List ℕ → List ℕ
-last_of second = map (λ k. get_or (second ++ replicate 16 45) k 0) (16 ∷ 4 ∷ 5 ∷ 6 ∷ 7 ∷ 8 ∷ 9 ∷ 10 ∷ 11 ∷ 12 ∷ 13 ∷ 14 ∷ 15 ∷ 0 ∷ 0 ∷ 0 ∷ [])
+last_of second = hyphened second (16 ∷ 4 ∷ 5 ∷ 6 ∷ 7 ∷ 8 ∷ 9 ∷ 10 ∷ 11 ∷ 12 ∷ 13 ∷ 14 ∷ 15 ∷ 0 ∷ 0 ∷ 0 ∷ [])
 
 abbrev with_hyphens : List ℕ → List ℕ
 with_hyphens digits = take 8 digits ++ 45 ∷ take 4 (drop 8 digits) ++ 45 ∷ take 4 (drop 12 digits) ++ 45 ∷ take 4 (drop 16 digits) ++ 45 ∷ drop 20 digits

@@ -1,4 +1,4 @@
-use Rattle.{std.proofs.{Common.{codes}, lemmas.Result.IfOk-weaker}, clap.specs.Words.{App, new_app, with_rule}, tds_arguments.{specs.CommandLine.{file_rule, max_wire_rule, new_packet_size_rule}, proofs.Commands.{argument_then, required, with_argument}}}
+use Rattle.{std.proofs.{Common.codes, lemmas.Result.IfOk-weaker}, clap.specs.Words.{App, new_app, with_rule}, tds_arguments.{specs.CommandLine.{file_rule, max_wire_rule, new_packet_size_rule}, proofs.Commands.{argument_then, required, with_argument}}}
 
 pub returns : Rattle.tds_arguments.proofs.options.recut.Goals.returns
 returns c =

@@ -1,4 +1,4 @@
-use Rattle.tds_columns.proofs.{Words.{◌≡◌, ◌∙◌, ◌∷◌, refl, sym, Some, None, kind_of, passed}, ElementSteps.{element_at}, GatherSteps.{description_cut, description_read, description_refused}}
+use Rattle.tds_columns.proofs.{Words.{◌≡◌, ◌∙◌, ◌∷◌, refl, sym, Some, None, kind_of, passed}, ElementSteps.element_at, GatherSteps.{description_cut, description_read, description_refused}}
 use Rattle.tds_columns.proofs.metadata.read_info.Goals as goal
 
 pub returns-in_err-take_into-clause-gives : goal.returns-in_err-take_into-clause-gives

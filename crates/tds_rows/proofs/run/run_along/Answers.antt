@@ -1,5 +1,4 @@
-use Rattle.tds_rows.proofs.Words.{arith, rules}
-use Rattle.tds_rows.proofs.TableForms.{first_left, forms_between, none_written, some_written}
+use Rattle.tds_rows.proofs.{Words.{arith, rules}, TableForms.{first_left, forms_between, none_written, some_written}}
 use Rattle.tds_rows.proofs.run.run_along.Goals as goal
 
 pub returns-clause-ends : goal.returns-clause-ends

@@ -1,6 +1,4 @@
-use Rattle.tds_rows.proofs.Words.{[], ◌∷◌, rules, arith, sym, ap, ◌≡◌, ◌∙◌, ◌-◌, inl, inr, length, take, drop, length-take, length-drop, all_after}
-use Rattle.tds_rows.proofs.run.run_known.Goals.{then-is_end+then-used-bytes, else-is_end+in_default, else-is_end+in-Some+then-run-eq0}
-use Rattle.tds_rows.proofs.{TableForms.first_left, TableForms.forms_between, TableRuns.row_begun, TableRuns.rows_begin, TableRuns.rows_more, TableSteps.at_end, TableSteps.not_end}
+use Rattle.tds_rows.proofs.{Words.{[], ◌∷◌, rules, arith, sym, ap, ◌≡◌, ◌∙◌, ◌-◌, inl, inr, length, take, drop, length-take, length-drop, all_after}, run.run_known.Goals.{then-is_end+then-used-bytes, else-is_end+in_default, else-is_end+in-Some+then-run-eq0}, TableForms.{first_left, forms_between}, TableRuns.{row_begun, rows_begin, rows_more}, TableSteps.{at_end, not_end}}
 use Rattle.tds_rows.proofs.run.run_known.Goals as goal
 
 pub loop-used-init : goal.loop-used-init

@@ -1,5 +1,4 @@
-use Rattle.tds_rows.proofs.Words.{◌-◌, length}
-use Rattle.tds_rows.proofs.TableRuns.{RowsSoFar}
+use Rattle.tds_rows.proofs.{Words.{◌-◌, length}, TableRuns.RowsSoFar}
 use Rattle.tds_rows.proofs.run.run_known.Given as goal
 
 abbrev pub invariant-loop-used : goal.invariant-loop-used

@@ -1,5 +1,4 @@
-use Rattle.tds_rows.proofs.Words.{arith, rules, sym, ◌∙◌, ◌≤◌, length}
-use Rattle.tds_rows.proofs.{RunSteps.writes_int4, Stretches.runs_column, TableRuns.more_in_rows, TableRuns.row_begun, TableRuns.rows_begin, TableSteps.last_one}
+use Rattle.tds_rows.proofs.{Words.{arith, rules, sym, ◌∙◌, ◌≤◌, length}, RunSteps.writes_int4, Stretches.runs_column, TableRuns.{more_in_rows, row_begun, rows_begin}, TableSteps.last_one}
 use Rattle.tds_rows.proofs.run.run_numbers.Goals as goal
 
 pub loop-made-init : goal.loop-made-init

@@ -1,6 +1,4 @@
-use Rattle.tds_rows.proofs.Words.{[], ◌∷◌, rules, arith, sym, ap, subst, ◌≡◌, ◌∙◌, ◌-◌, length, take, drop, length-take, length-drop, all_after, WritesRows}
-use Rattle.tds_rows.proofs.run.run_rows.Goals.{then-table, else-table, then-is_end+then-used-bytes, else-is_end+then-cells-eq0}
-use Rattle.tds_rows.proofs.{RunSteps.made_same, TableRuns.row_begun, TableRuns.rows_begin, TableRuns.rows_more, TableSteps.at_end, TableSteps.not_end}
+use Rattle.tds_rows.proofs.{Words.{[], ◌∷◌, rules, arith, sym, ap, subst, ◌≡◌, ◌∙◌, ◌-◌, length, take, drop, length-take, length-drop, all_after, WritesRows}, run.run_rows.Goals.{then-table, else-table, then-is_end+then-used-bytes, else-is_end+then-cells-eq0}, RunSteps.made_same, TableRuns.{row_begun, rows_begin, rows_more}, TableSteps.{at_end, not_end}}
 use Rattle.tds_rows.proofs.run.run_rows.Goals as goal
 
 pub loop-ahead-init : goal.loop-ahead-init

@@ -1,5 +1,4 @@
-use Rattle.tds_rows.proofs.Words.{arith, refl, inl, inr, []}
-use Rattle.std.proofs.Math.Bool.{and-true}
+use Rattle.{tds_rows.proofs.Words.{arith, refl, inl, inr, []}, std.proofs.Math.Bool.and-true}
 use Rattle.tds_rows.proofs.run.write_alone.Goals as goal
 
 pub returns-then-run-eq0-clause-gives : goal.returns-then-run-eq0-clause-gives

@@ -1,4 +1,4 @@
-use Rattle.{std.{proofs.Common.{◌≡◌, true, false, codes, rules}, specs.{Str.bytes_eq}}, clap.{proofs.WalkLemmas.first_value-rows}}
+use Rattle.{std.{proofs.Common.{◌≡◌, true, false, codes, rules}, specs.Str.bytes_eq}, clap.proofs.WalkLemmas.first_value-rows}
 use Rattle.tds_arguments.proofs.parsing.Given.charset.Goals as goal
 
 pub returns-in-Some : goal.returns-in-Some

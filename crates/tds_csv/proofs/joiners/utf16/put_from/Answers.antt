@@ -1,5 +1,4 @@
-use Rattle.tds_csv.proofs.Words.{◌-◌, ◌≤◌, [], Ok, length, take, drop, arith, length-drop, length-take, take_all}
-use Rattle.tds_csv.proofs.{Utf16Laws.joins_utf16, Puttings.PutsPiece-error, Puttings.PutsPiece-none, Puttings.PutsPiece-ok, Puttings.PutsPiece-trans, Leading.Leads-front, Leading.Leads-next, Leading.Leads-none, Leading.Leads-trans, Leading.puts_part, Leading.puts_whole}
+use Rattle.tds_csv.proofs.{Words.{◌-◌, ◌≤◌, [], Ok, length, take, drop, arith, length-drop, length-take, take_all}, Utf16Laws.joins_utf16, Puttings.{PutsPiece-error, PutsPiece-none, PutsPiece-ok, PutsPiece-trans}, Leading.{Leads-front, Leads-next, Leads-none, Leads-trans, puts_part, puts_whole}}
 use Rattle.tds_csv.proofs.joiners.utf16.put_from.Goals as goal
 
 pub loop-at-init : goal.loop-at-init

@@ -1,5 +1,4 @@
-use Rattle.tds_rows.proofs.Words.{inl, ◌≡◌, ◌∙◌, ◌+◌, ◌-◌, ℕ, take, drop, sym, ap, subst, arith, rules, is_ok, in_line, cell_start, shape, IsValueText, WritesCell}
-use Rattle.tds_rows.proofs.{BufferedCells.null_cell, BufferedCells.refused_left, BufferedCells.value_cell, LaidOut.value_there, RunSteps.writes_scalar}
+use Rattle.tds_rows.proofs.{Words.{inl, ◌≡◌, ◌∙◌, ◌+◌, ◌-◌, ℕ, take, drop, sym, ap, subst, arith, rules, is_ok, in_line, cell_start, shape, IsValueText, WritesCell}, BufferedCells.{null_cell, refused_left, value_cell}, LaidOut.value_there, RunSteps.writes_scalar}
 use Rattle.tds_rows.proofs.run.buffered.write_cell.Goals as goal
 
 pub returns-then-n-eq0-clause-gives : goal.returns-then-n-eq0-clause-gives

@@ -1,5 +1,4 @@
-use Rattle.tds_rows.proofs.Words.{◌≤◌, Ok, length, arith, rules, answered, text_of}
-use Rattle.tds_rows.proofs.LineTexts.{value_text}
+use Rattle.tds_rows.proofs.{Words.{◌≤◌, Ok, length, arith, rules, answered, text_of}, LineTexts.value_text}
 use Rattle.tds_rows.proofs.run.fields.write_int4_field.Goals as goal
 
 pub returns-clause-gives : goal.returns-clause-gives

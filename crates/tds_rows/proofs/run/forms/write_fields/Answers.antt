@@ -1,6 +1,4 @@
-use Rattle.tds_rows.proofs.Words.{inr, ◌≡◌, ◌∙◌, ◌+◌, ◌-◌, ◌<◌, ◌≤◌, ℕ, List, length, take, drop, get_or, refl, sym, subst, ap, arith, rules, length-take, length-drop, all_after, Form, FirstUsed}
-use Rattle.tds_rows.proofs.{FormSteps.fields_more, FormSteps.fields_none, FormSteps.first_used, FormSteps.left_after, FormSteps.left_less, RunSteps.made_same, RunSteps.whole_some}
-use Rattle.tds_rows.proofs.run.forms.write_fields.Goals.{else-loop-cells-test, then-loop-cells-test+else-made-most, then-loop-cells-test+then-made-most+in_default}
+use Rattle.tds_rows.proofs.{Words.{inr, ◌≡◌, ◌∙◌, ◌+◌, ◌-◌, ◌<◌, ◌≤◌, ℕ, List, length, take, drop, get_or, refl, sym, subst, ap, arith, rules, length-take, length-drop, all_after, Form, FirstUsed}, FormSteps.{fields_more, fields_none, first_used, left_after, left_less}, RunSteps.{made_same, whole_some}, run.forms.write_fields.Goals.{else-loop-cells-test, then-loop-cells-test+else-made-most, then-loop-cells-test+then-made-most+in_default}}
 use Rattle.tds_rows.proofs.run.forms.write_fields.Goals as goal
 
 pub loop-cells-init : goal.loop-cells-init

@@ -1,6 +1,4 @@
-use Rattle.tds_rows.proofs.Words.{add-zero, inl, ℕ, ◌≡◌, ◌∙◌, ◌-◌, ◌<◌, ◌≤◌, Bool, [], ◌∷◌, refl, sym, ap, length, take, drop, subst, arith, rules, true, length-take, length-drop, all_after, in_line, null_field, is_last_column, bit}
-use Rattle.tds_rows.proofs.run.nulls.run_nulls.Goals.{else-loop-to-test, then-loop-to-test+else-ahead-count, then-loop-to-test+then-ahead-count+else-end-ahead+then-cells-eq0}
-use Rattle.tds_rows.proofs.{Stretches.ends_clear, Stretches.runs_clear, Stretches.runs_column, Stretches.runs_more, TableSteps.last_one, TableSteps.next_any, TableSteps.none_next, TableSteps.takes}
+use Rattle.tds_rows.proofs.{Words.{add-zero, inl, ℕ, ◌≡◌, ◌∙◌, ◌-◌, ◌<◌, ◌≤◌, Bool, [], ◌∷◌, refl, sym, ap, length, take, drop, subst, arith, rules, true, length-take, length-drop, all_after, in_line, null_field, is_last_column, bit}, run.nulls.run_nulls.Goals.{else-loop-to-test, then-loop-to-test+else-ahead-count, then-loop-to-test+then-ahead-count+else-end-ahead+then-cells-eq0}, Stretches.{ends_clear, runs_clear, runs_column, runs_more}, TableSteps.{last_one, next_any, none_next, takes}}
 use Rattle.tds_rows.proofs.run.nulls.run_nulls.Goals as goal
 
 -- a column that is NULL by its bit

@@ -1,5 +1,4 @@
-use Rattle.tds_rows.proofs.Words.{◌≡◌, ◌∙◌, ◌-◌, length, take, drop, sym, ap, arith, rules, true, take_rest, Wide, Short, is_fit, long_field, conversion_of, in_line, stated_length}
-use Rattle.tds_rows.proofs.ShortCells.{short_null, short_value}
+use Rattle.tds_rows.proofs.{Words.{◌≡◌, ◌∙◌, ◌-◌, length, take, drop, sym, ap, arith, rules, true, take_rest, Wide, Short, is_fit, long_field, conversion_of, in_line, stated_length}, ShortCells.{short_null, short_value}}
 use Rattle.tds_rows.proofs.run.short.write_short.Goals as goal
 
 pub returns-then-n-clause-gives : goal.returns-then-n-clause-gives

@@ -1,5 +1,4 @@
-use Rattle.tds_csv.proofs.Words.{common_steps, refl, arith, length-drop, take_all}
-use Rattle.tds_csv.proofs.{Leading.puts_part, Leading.puts_whole, Pushings.pushes_stopped, Pushings.pushes_taken, Utf16Seam.Leads-after}
+use Rattle.tds_csv.proofs.{Words.{common_steps, refl, arith, length-drop, take_all}, Leading.{puts_part, puts_whole}, Pushings.{pushes_stopped, pushes_taken}, Utf16Seam.Leads-after}
 use Rattle.tds_csv.proofs.joiners.utf16.Utf16Joiner.push_long.Goals as goal
 
 pub returns-in_err-from : goal.returns-in_err-from

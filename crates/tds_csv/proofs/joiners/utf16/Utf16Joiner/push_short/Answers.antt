@@ -1,5 +1,4 @@
-use Rattle.tds_csv.proofs.{Words.{◌≡◌, ◌∙◌, ◌++◌, sym, ap, arith, common_steps, emit}, Pushings.pushes_stopped, Pushings.pushes_taken, Utf16Seam.kept_after}
-use Rattle.tds_csv.specs.Utf16.{rest, text}
+use Rattle.tds_csv.{proofs.{Words.{◌≡◌, ◌∙◌, ◌++◌, sym, ap, arith, common_steps, emit}, Pushings.{pushes_stopped, pushes_taken}, Utf16Seam.kept_after}, specs.Utf16.{rest, text}}
 use Rattle.tds_csv.proofs.joiners.utf16.Utf16Joiner.push_short.Goals as goal
 
 pub returns-in_err-used : goal.returns-in_err-used

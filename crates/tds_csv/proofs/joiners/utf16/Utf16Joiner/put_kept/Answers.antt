@@ -1,5 +1,4 @@
-use Rattle.tds_csv.proofs.Words.{◌≡◌, ◌∙◌, ◌++◌, [], take, sym, arith, rules, common_steps}
-use Rattle.tds_csv.proofs.{Utf16Seam.none_put, Utf16Seam.none_leads, Utf16Seam.some_leads, Utf16Steps.nil_of_length}
+use Rattle.tds_csv.proofs.{Words.{◌≡◌, ◌∙◌, ◌++◌, [], take, sym, arith, rules, common_steps}, Utf16Seam.{none_put, none_leads, some_leads}, Utf16Steps.nil_of_length}
 use Rattle.tds_csv.proofs.joiners.utf16.Utf16Joiner.put_kept.Goals as goal
 
 pub returns-then-is_empty-clause-puts : goal.returns-then-is_empty-clause-puts
