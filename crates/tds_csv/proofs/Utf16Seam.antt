@@ -1,5 +1,5 @@
 -- Withheld bytes of text in UTF-16, with the first ones of a piece.
-use Rattle.tds_csv.{proofs.{Words.{common_steps, ◌≡◌, ◌-◌, ◌<◌, ◌≤◌, ℕ, Option, Ok, List, [], ◌∷◌, ◌++◌, length, take, drop, arith, length-append, length-drop, length-take-le, take_all, ap, Leads, emit, Sink, IsWriting, PutsPiece}, Utf16Laws.joins_utf16, Leading.{Leads-none, Leads-seam, Leads-seam-front}, Puttings.PutsPiece-none, Utf16Steps.text_nil}, specs.{Utf16.{rest, text}, Utf16Next.{LeavesRest, seam}}}
+use Rattle.tds_csv.{proofs.{Words.{common_steps, ◌≡◌, ◌-◌, ◌<◌, ◌≤◌, ℕ, Option, Ok, List, [], ◌∷◌, ◌++◌, length, take, drop, arith, length-append, length-take-le, ap, Leads, emit, Sink, IsWriting, PutsPiece}, Utf16Laws.joins_utf16, Leading.{Leads-none, Leads-seam, Leads-seam-front}, Puttings.PutsPiece-none, Utf16Steps.text_nil}, specs.{Utf16.{rest, text}, Utf16Next.{LeavesRest, seam}}}
 
 -- where the text goes on after that of the seam
 abbrev pub after : List ℕ → List ℕ → List ℕ

@@ -1,5 +1,5 @@
 -- The text of units that are characters of at most three bytes.
-use Rattle.tds_csv.{proofs.{Words.{common_steps, le_refl, take_all, ◌-◌, take-add, take-take, is_plain, evens, length-chunk, refl, LiesIn, chunk, drop-drop, Bool, Each1, Fits, Leads, List, [], ap, append-nil, append_assoc, arith, cond, doubled, drop, encode_utf8, encode_utf8_all, encodes-append, false, get_or, get_or-map, is_high_surrogate, is_low_surrogate, length, map, nat_tests, prefix_len, prefix_len-le-length, suc, sym, take, take-append-drop, take_more, true, w16, zero, ℕ, ◌%◌, ◌*◌, ◌++◌, ◌+◌, ◌/◌, ◌<◌, ◌∙◌, ◌∷◌, ◌≡◌, ◌≤◌}, Encoding.front_written, Singles.some_itself, Masks.alike, Characters.{of_one, of_two, of_three, doubled_character}, Leading.{Leads-none, Leads-trans}, Utf16Steps.{next_one, lone_other}}, specs.{Utf16.{units, rest, text}, Utf16Next.Converts, Wide.{is_short, is_long, pair, size, triples}}}
+use Rattle.tds_csv.{proofs.{Words.{common_steps, ◌-◌, take-add, take-take, is_plain, evens, length-chunk, refl, LiesIn, chunk, drop-drop, Bool, Each1, Fits, Leads, List, [], ap, append-nil, append_assoc, arith, cond, doubled, drop, encode_utf8, encode_utf8_all, encodes-append, false, get_or, get_or-map, is_high_surrogate, is_low_surrogate, length, map, nat_tests, prefix_len, prefix_len-le-length, suc, sym, take, take-append-drop, take_more, true, w16, zero, ℕ, ◌%◌, ◌*◌, ◌++◌, ◌+◌, ◌/◌, ◌<◌, ◌∙◌, ◌∷◌, ◌≡◌, ◌≤◌}, Encoding.front_written, Singles.some_itself, Masks.alike, Characters.{of_one, of_two, of_three, doubled_character}, Leading.{Leads-none, Leads-trans}, Utf16Steps.{next_one, lone_other}}, specs.{Utf16.{units, rest, text}, Utf16Next.Converts, Wide.{is_short, is_long, pair, size, triples}}}
 
 -- a character of its own that isn't a quote
 pub record IsSingle (u : ℕ) : Type 0 where
