@@ -20,10 +20,20 @@ abbrev pub beginnings : List ℕ → List (List ℕ)
 beginnings [] = [] ∷ []
 beginnings (x ∷ xs) = [] ∷ map (λ front. x ∷ front) (beginnings xs)
 
+-- an int column and a row
+abbrev one_column : List ℕ
+one_column = hex "81 01 00 00 00 00 00 00 00 38 01 61 00 D1 2A 00 00 00 FD 10 00 C1 00 01 00 00 00 00 00 00 00"
+
+-- two int columns, and nine without names
+abbrev two_columns : List ℕ
+two_columns = hex "81 02 00 00 00 00 00 00 00 38 01 61 00 00 00 00 00 00 00 38 01 62 00 FD 00 00 00 00 00 00 00 00 00 00 00 00"
+
+abbrev nine_columns : List ℕ
+nine_columns = hex "81 09 00 00 00 00 00 00 00 38 00 00 00 00 00 00 00 38 00 00 00 00 00 00 00 38 00 00 00 00 00 00 00 38 00 00 00 00 00 00 00 38 00 00 00 00 00 00 00 38 00 00 00 00 00 00 00 38 00 00 00 00 00 00 00 38 00 00 00 00 00 00 00 38 00 FD 00 00 00 00 00 00 00 00 00 00 00 00"
+
 -- responses
 whole_responses : HaveAnswers Windows1252 1048576 (
-    -- one int column and one row
-    (hex "81 01 00 00 00 00 00 00 00 38 01 61 00 D1 2A 00 00 00 FD 10 00 C1 00 01 00 00 00 00 00 00 00", (31, codes "\"a\"\r\n42\r\n", None)) ∷
+    (one_column, (31, codes "\"a\"\r\n42\r\n", None)) ∷
     -- a DONE alone
     (hex "FD 00 00 00 00 00 00 00 00 00 00 00 00", (13, [], None)) ∷
     -- a character in three chunks
@@ -86,19 +96,19 @@ described_in =
     -- too many columns for the room
     (1024, hex "81 FE FF", (1, [], Some DescriptionTooLong)) ∷
     -- room for the description
-    (12, hex "81 01 00 00 00 00 00 00 00 38 01 61 00 D1 2A 00 00 00 FD 10 00 C1 00 01 00 00 00 00 00 00 00", (31, codes "\"a\"\r\n42\r\n", None)) ∷
+    (12, one_column, (31, codes "\"a\"\r\n42\r\n", None)) ∷
     -- room for all but one byte
-    (11, hex "81 01 00 00 00 00 00 00 00 38 01 61 00 D1 2A 00 00 00 FD 10 00 C1 00 01 00 00 00 00 00 00 00", (10, [], Some DescriptionTooLong)) ∷
+    (11, one_column, (10, [], Some DescriptionTooLong)) ∷
     -- room for two columns
-    (22, hex "81 02 00 00 00 00 00 00 00 38 01 61 00 00 00 00 00 00 00 38 01 62 00 FD 00 00 00 00 00 00 00 00 00 00 00 00", (36, codes "\"a\",\"b\"\r\n", None)) ∷
+    (22, two_columns, (36, codes "\"a\",\"b\"\r\n", None)) ∷
     -- one byte less
-    (21, hex "81 02 00 00 00 00 00 00 00 38 01 61 00 00 00 00 00 00 00 38 01 62 00 FD 00 00 00 00 00 00 00 00 00 00 00 00", (20, [], Some DescriptionTooLong)) ∷
+    (21, two_columns, (20, [], Some DescriptionTooLong)) ∷
     -- less than eight bytes a column
-    (17, hex "81 02 00 00 00 00 00 00 00 38 01 61 00 00 00 00 00 00 00 38 01 62 00 FD 00 00 00 00 00 00 00 00 00 00 00 00", (1, [], Some DescriptionTooLong)) ∷
+    (17, two_columns, (1, [], Some DescriptionTooLong)) ∷
     -- room for nine columns without names
-    (74, hex "81 09 00 00 00 00 00 00 00 38 00 00 00 00 00 00 00 38 00 00 00 00 00 00 00 38 00 00 00 00 00 00 00 38 00 00 00 00 00 00 00 38 00 00 00 00 00 00 00 38 00 00 00 00 00 00 00 38 00 00 00 00 00 00 00 38 00 00 00 00 00 00 00 38 00 FD 00 00 00 00 00 00 00 00 00 00 00 00", (88, codes "\"\",\"\",\"\",\"\",\"\",\"\",\"\",\"\",\"\"\r\n", None)) ∷
+    (74, nine_columns, (88, codes "\"\",\"\",\"\",\"\",\"\",\"\",\"\",\"\",\"\"\r\n", None)) ∷
     -- one byte less
-    (73, hex "81 09 00 00 00 00 00 00 00 38 00 00 00 00 00 00 00 38 00 00 00 00 00 00 00 38 00 00 00 00 00 00 00 38 00 00 00 00 00 00 00 38 00 00 00 00 00 00 00 38 00 00 00 00 00 00 00 38 00 00 00 00 00 00 00 38 00 00 00 00 00 00 00 38 00 FD 00 00 00 00 00 00 00 00 00 00 00 00", (1, [], Some DescriptionTooLong)) ∷
+    (73, nine_columns, (1, [], Some DescriptionTooLong)) ∷
     []
 
 -- descriptions in rooms of these sizes
@@ -107,7 +117,7 @@ unfolding digits date_of utf16_chars encode_utf8 utf8_valid_len utf8_error_len i
 in_rooms = refl
 
 -- each beginning of the first response, with equal answers together
-first_bytes : map (answer Windows1252 1048576) (beginnings (hex "81 01 00 00 00 00 00 00 00 38 01 61 00 D1 2A 00 00 00 FD 10 00 C1 00 01 00 00 00 00 00 00 00")) ≡
+first_bytes : map (answer Windows1252 1048576) (beginnings one_column) ≡
     replicate 1 (0, [], Some EndWithoutDone) ++
     replicate 2 (1, [], Some MessageEnded) ++
     replicate 7 (3, [], Some MessageEnded) ++
