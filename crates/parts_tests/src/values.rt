@@ -1,7 +1,10 @@
 // Values of each kind with the texts that they have.
-use crate::checks::expect_at;
+use crate::checks::{expect, expect_at};
 use std::process::Abort;
-use tds_values::{Kind, Reach, TEXT_ROOM, ValueFault, read_scalar, scalar_text, write_scalar};
+use std::simd::prelude::*;
+use tds_values::{
+    Kind, Reach, TEXT_ROOM, ValueFault, hex_lanes, read_scalar, scalar_text, write_scalar,
+};
 
 mod dates;
 mod decimals;
@@ -95,6 +98,21 @@ fn numbers_have_their_texts(rt: HostRuntime) {
     check_all(&rt, &numbers::GUIDS);
     check_decimals(&rt, &decimals::LENGTHS);
     check_decimals(&rt, &decimals::SCALES);
+}
+
+#[test]
+fn sixteen_bytes_have_their_digits(rt: HostRuntime) {
+    let (first, second) = hex_lanes(u8x16::from_array(*b"0123456789abcdef"));
+    expect(
+        &rt,
+        "of the first eight",
+        first.to_array() == *b"3031323334353637",
+    );
+    expect(
+        &rt,
+        "of the others",
+        second.to_array() == *b"3839616263646566",
+    );
 }
 
 #[test]
