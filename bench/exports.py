@@ -23,6 +23,7 @@ from packing import in_packets
 PACKET_SIZE = 4096
 CHUNK = 8000
 RUNS = 5
+ROUNDS = 4
 DONE = b"\xFD" + bytes(12)
 
 
@@ -200,9 +201,10 @@ class Response:
 
     def file(self, folder: str, count: int) -> str:
         """A file with this number of rows or chunks of it, in packets of the usual size."""
-        path = os.path.join(folder, "response.tds")
-        with open(path, "wb") as file:
-            file.write(in_packets(self.made(count), PACKET_SIZE))
+        path = os.path.join(folder, f"{self.name}, {count}.tds")
+        if not os.path.exists(path):
+            with open(path, "wb") as file:
+                file.write(in_packets(self.made(count), PACKET_SIZE))
         return path
 
 
@@ -221,13 +223,11 @@ RESPONSES = [
 ]
 
 
-def least_seconds(commands: dict[str, list[str]], path: str) -> dict[str, float]:
-    """The least time of each program, run in turn."""
-    best = dict.fromkeys(commands, float("inf"))
+def least_seconds(best: dict[str, float], commands: dict[str, list[str]], path: str) -> None:
+    """The least time of each program so far, run in turn."""
     for _ in range(RUNS):
         for who, command in commands.items():
-            best[who] = min(best[who], seconds_of(command, path))
-    return best
+            best[who] = min(best.get(who, float("inf")), seconds_of(command, path))
 
 
 def instructions_a_unit(command: list[str], folder: str, response: Response) -> float:
@@ -246,18 +246,19 @@ def figures_of(response: Response, seconds: float, costs: dict[str, float], best
     return [f"{seconds:.3f}", f"{each:.{2 if byte else 1}f}", *shown, *ratios]
 
 
-def measure(folder: str, commands: dict[str, list[str]], floor: str | None, response: Response, counts: bool) -> None:
-    """One line of the table."""
-    path = response.file(folder, response.count)
-    texts = {text_of(command, path) for command in commands.values()}
+def timed(folder: str, commands: dict[str, list[str]], floor: str | None, response: Response) -> dict[str, list[str]]:
+    """The programs whose time is taken, after a look at their texts."""
+    texts = {text_of(command, response.file(folder, response.count)) for command in commands.values()}
     if len(texts) > 1:
         sys.exit(f"{response.name}: the texts differ")
-    timed = commands | ({"floor": [floor, str(texts.pop()[1])]} if floor else {})
-    best = least_seconds(timed, path)
-    size = os.path.getsize(path) / 1e6
+    return commands | ({"floor": [floor, str(texts.pop()[1])]} if floor else {})
+
+
+def line_of(folder: str, commands: dict[str, list[str]], response: Response, best: dict[str, float], counts: bool) -> str:
+    """One line of the table."""
+    size = os.path.getsize(response.file(folder, response.count)) / 1e6
     costs = {who: instructions_a_unit(command, folder, response) for who, command in commands.items()} if counts else {}
-    figures = figures_of(response, best["gavyreto"], costs, best)
-    print(f"| {response.name} | {size:.1f} | {' | '.join(figures)} |", flush=True)
+    return f"| {response.name} | {size:.1f} | {' | '.join(figures_of(response, best['gavyreto'], costs, best))} |"
 
 
 def run(program: str, native: str | None, floor: str | None) -> None:
@@ -267,9 +268,14 @@ def run(program: str, native: str | None, floor: str | None) -> None:
         commands["native"] = [native]
     counts = shutil.which("valgrind") is not None
     with tempfile.TemporaryDirectory() as folder:
+        programs = [timed(folder, commands, floor, response) for response in RESPONSES]
+        best: list[dict[str, float]] = [{} for _ in RESPONSES]
+        for _ in range(ROUNDS):
+            for i, response in enumerate(RESPONSES):
+                least_seconds(best[i], programs[i], response.file(folder, response.count))
         print("| response | MB | seconds | nanoseconds | instructions | the native reader's | seconds to its | to the floor's |")
         print("|---|---:|---:|---:|---:|---:|---:|---:|")
-        for response in RESPONSES:
-            measure(folder, commands, floor, response, counts)
+        for i, response in enumerate(RESPONSES):
+            print(line_of(folder, commands, response, best[i], counts), flush=True)
     if not counts:
         print("instructions: valgrind isn't there")
