@@ -1,5 +1,6 @@
 -- What was put into a sink, call after call.
-use Rattle.tds_csv.proofs.Words.{◌≡◌, ◌∙◌, Bool, false, ℕ, ◌+◌, ◌-◌, ◌^◌, ◌<◌, ◌≤◌, List, [], ◌++◌, length, Result, OnErr, MatchResult, refl, arith, append-nil, append_assoc, length-append, le_refl, take_all, take-append-add, take-append-le, Appends-nil, Appends-trans, counted, Stop, Held, Adds, Puts, Breaks, Sends, FinishFails, ap, one_more, take}
+use Rattle.tds_packet.proofs.Joins.{Stays-Rises, Stays-none, Stays-trans}
+use Rattle.tds_csv.proofs.Words.{◌≡◌, Bool, false, ℕ, ◌+◌, ◌-◌, ◌^◌, ◌<◌, ◌≤◌, List, [], ◌++◌, length, Result, OnErr, MatchResult, refl, arith, append-nil, append_assoc, length-append, le_refl, take_all, take-append-add, take-append-le, Appends-nil, Appends-trans, counted, Stop, Held, Adds, Puts, Breaks, Sends, FinishFails, take}
 
 pub counted-none : (n : ℕ) → n ≤ 2 ^ 64 - 1 → n ≡ counted n 0
 counted-none n h = omega arith
@@ -11,16 +12,16 @@ pub Adds-trans : (a b c : Held) (d f p q : List ℕ) → Adds a b d p → Adds b
 Adds-trans a b c d f p q x y = grind (arith, append_assoc, counted-twice, length-append, Appends-trans)
 
 pub Puts-none : (a : Held) → a.delivered ≤ 2 ^ 64 - 1 → Puts a a []
-Puts-none a h = ([], 0, (Appends-nil a.had, append-nil a.waiting, counted-none a.delivered h), refl, refl)
+Puts-none a h = ([], 0, (Appends-nil a.had, append-nil a.waiting, counted-none a.delivered h), refl, Stays-none a.failures)
 
 pub Puts-trans : (a b c : Held) (p q : List ℕ) → Puts a b p → Puts b c q → Puts a c (p ++ q)
-Puts-trans a b c p q x y = (x.0 ++ y.0, x.1 + y.1, Adds-trans a b c _ _ _ _ x.2 y.2, omega (arith, length-append x.0 y.0), y.4 ∙ x.4)
+Puts-trans a b c p q x y = (x.0 ++ y.0, x.1 + y.1, Adds-trans a b c _ _ _ _ x.2 y.2, omega (arith, length-append x.0 y.0), Stays-trans _ _ _ x.0 y.0 x.4 y.4)
 
 pub Breaks-after : (a b c : Held) (p q : List ℕ) (e : Stop) → Puts a b p → Breaks b c q e → Breaks a c (p ++ q) e
 Breaks-after a b c p q e x y =
     let len = length-append x.0 y.0 in
     let adds = rw (← take-append-add p q y.2) at (Adds-trans a b c _ _ p (take y.2 q) x.2 y.3) in
-    (x.0 ++ y.0, x.1 + y.1, length p + y.2, adds, omega (arith, length-append p q), omega arith, omega arith, omega arith, y.8, y.9 ∙ ap one_more x.4)
+    (x.0 ++ y.0, x.1 + y.1, length p + y.2, adds, omega (arith, length-append p q), omega arith, omega arith, omega arith, y.8, Stays-Rises x.0 y.0 x.4 y.9)
 
 pub Breaks-longer : (a b : Held) (p more : List ℕ) (e : Stop) → Breaks a b p e → Breaks a b (p ++ more) e
 Breaks-longer a b p more e x = grind (arith, take-append-le, length-append)

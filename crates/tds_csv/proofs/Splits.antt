@@ -6,9 +6,10 @@ total_of : (a b : Held) (p r sent : List ℕ) → Adds a b sent (p ++ r) → len
 total_of a b p r sent adds = sym (length-append (a.waiting ++ p) r) ∙ ap length (append_assoc a.waiting p r ∙ adds.1) ∙ length-append sent b.waiting
 
 -- the whole blocks of what waits and comes first are delivered before the rest is put
-split_at : (a b : Held) (p r sent : List ℕ) (n : ℕ) → Adds a b sent (p ++ r) → 4096 * n ≤ length sent → 4096 * n ≤ length (a.waiting ++ p) → length (a.waiting ++ p) < 4096 * (n + 1)
+split_at : (a b : Held) (p r sent : List ℕ) (n : ℕ) → Adds a b sent (p ++ r) → 4096 * n ≤ length sent → 4096 * n ≤ length (a.waiting ++ p) → length (a.waiting ++ p) < 4096 * (n + 1) → (0 < length sent → a.failures < 2 ^ 64 - 1)
     → (m : Held) × (length m.waiting < 4096) × Puts a m p × Adds m b (drop (4096 * n) sent) r × (m.failures ≡ a.failures) × (m.delivered ≤ 2 ^ 64 - 1)
-split_at a b p r sent n adds enough below above =
+    × (0 < length (drop (4096 * n) sent) → m.failures < 2 ^ 64 - 1)
+split_at a b p r sent n adds enough below above asked =
     let k = 4096 * n in
     let all = a.waiting ++ p in
     let first = take k all in
@@ -19,7 +20,7 @@ split_at a b p r sent n adds enough below above =
     let sizes : length sent ≡ length first + length (drop k sent) = omega (arith, length-drop k sent) in (
       record { had = append_known a.had first; waiting = drop k all; delivered = counted a.delivered (length first); failures = a.failures },
       omega (arith, length-drop k all),
-      (first, n, (grind arith, sym (take-append-drop k all), refl), size, refl),
+      (first, n, (grind arith, sym (take-append-drop k all), refl), size, (refl, λ some. asked (omega (arith, sizes, some)))),
       (
         (let all_sent : Appends a.had b.had (first ++ drop k sent) = subst (Appends a.had b.had) parts adds.0 in grind (arith, append_assoc)),
         sym (drop-append-le k all r below) ∙ ap (drop k) joined ∙ drop-append-le k sent b.waiting enough,
@@ -27,6 +28,7 @@ split_at a b p r sent n adds enough below above =
       ),
       refl,
       omega arith,
+      λ some. asked (omega (arith, sizes, some)),
     )
 
 -- a piece that was put in one call could have been put in two
@@ -34,8 +36,8 @@ pub Puts_split : (a b : Held) (p q : List ℕ) → length b.waiting < 4096 → P
 Puts_split a b p q few x =
     let n = length (a.waiting ++ p) / 4096 in
     let total = total_of a b p q x.0 x.2 in
-    let s = split_at a b p q x.0 n x.2 (omega arith) (omega arith) (omega arith) in
-    (s.0, s.1, s.2, (drop (4096 * n) x.0, x.1 - n, s.3, omega (arith, length-drop (4096 * n) x.0), x.4 ∙ sym s.4), s.5)
+    let s = split_at a b p q x.0 n x.2 (omega arith) (omega arith) (omega arith) x.4.1 in
+    (s.0, s.1, s.2, (drop (4096 * n) x.0, x.1 - n, s.3, omega (arith, length-drop (4096 * n) x.0), (x.4.0 ∙ sym s.4, s.6)), s.5)
 
 -- a write that failed in a piece would have failed in its first part or in its second
 pub Breaks_split : (a b : Held) (p q : List ℕ) (stop : Stop) → Breaks a b (p ++ q) stop → Breaks a b p stop ⊎ ((m : Held) × (length m.waiting < 4096) × Puts a m p × Breaks m b q stop × (m.delivered ≤ 2 ^ 64 - 1))
@@ -49,7 +51,7 @@ Breaks_split a b p q stop x = elim (dec_le x.2 (length p)) [
       let adds = subst (Adds a b x.0) (ap (λ k. take k (p ++ q)) (sym at) ∙ take-append-add p q i) x.3 in
       let total = total_of a b p (take i q) x.0 adds in
       let size = length-take-le i q fits in
-      let s = split_at a b p (take i q) x.0 n adds (omega arith) (omega arith) (omega arith) in
+      let s = split_at a b p (take i q) x.0 n adds (omega arith) (omega arith) (omega arith) x.9.1 in
       let left = length-drop (4096 * n) x.0 in
-      inr (s.0, s.1, s.2, (drop (4096 * n) x.0, x.1 - n, i, s.3, fits, omega arith, omega arith, omega arith, x.8, x.9 ∙ ap one_more (sym s.4)), s.5)
+      inr (s.0, s.1, s.2, (drop (4096 * n) x.0, x.1 - n, i, s.3, fits, omega arith, omega arith, omega arith, x.8, (x.9.0 ∙ ap one_more (sym s.4), s.6)), s.5)
 ]

@@ -1,10 +1,11 @@
 -- A sink as contracts see it, and what calls do to it.
 use Rattle.std.specs.Prelude.{◌≡◌, ℕ, ◌+◌, ◌-◌, ◌*◌, ◌^◌, ◌<◌, ◌≤◌, true, false, if◌then◌else◌, List, [], ◌++◌, length, take, Option, Result, Err, is_ok, MatchResult, OnOk, OnErr}
 use Rattle.std.specs.Io.KnownBytes.{Appends}
-use Rattle.tds_meter.specs.Counts.{counted, one_more}
+use Rattle.tds_meter.specs.Counts.{counted}
 use Rattle.tds_packet.specs.declared.fault.Fault.TheVariants.{WriteFailed}
 use Rattle.tds_packet.specs.declared.fault.Place.TheVariants.{Text}
 use Rattle.tds_packet.specs.declared.fault.Stop.{Stop}
+use Rattle.tds_packet.specs.Filling.{Rises, Stays}
 use Rattle.tds_csv.specs.declared.sink.Sink.{Sink}
 
 -- what the writer has, if that is known; what waits; how many bytes were delivered; and the writer's count of failures
@@ -32,16 +33,16 @@ stop_of h = record { fault = WriteFailed; place = Text h.delivered }
 
 -- The piece was added, and blocks of 4,096 bytes delivered.
 abbrev pub Puts : Held → Held → List ℕ → Type 0
-Puts old new piece = (sent : List ℕ) × (blocks : ℕ) × Adds old new sent piece × (length sent ≡ 4096 * blocks) × (new.failures ≡ old.failures)
+Puts old new piece = (sent : List ℕ) × (blocks : ℕ) × Adds old new sent piece × (length sent ≡ 4096 * blocks) × Stays old.failures new.failures sent
 
 -- A write failed in the block after this number of them, and what the writer didn't take of it waits: a beginning of the piece was added.
 abbrev pub Breaks : Held → Held → List ℕ → Stop → Type 0
 Breaks old new piece stop = (sent : List ℕ) × (blocks : ℕ) × (n : ℕ) × Adds old new sent (take n piece) × (n ≤ length piece) × (4096 * blocks ≤ length sent) × (length sent < 4096 * (blocks + 1))
-    × (length sent + length new.waiting ≡ 4096 * (blocks + 1)) × (stop ≡ stop_of new) × (new.failures ≡ one_more old.failures)
+    × (length sent + length new.waiting ≡ 4096 * (blocks + 1)) × (stop ≡ stop_of new) × Rises old.failures new.failures sent
 
 -- All was delivered.
 abbrev pub Sends : Held → Held → Type 0
-Sends old new = (sent : List ℕ) × Adds old new sent [] × (new.waiting ≡ []) × (new.failures ≡ old.failures)
+Sends old new = (sent : List ℕ) × Adds old new sent [] × (new.waiting ≡ []) × Stays old.failures new.failures sent
 
 -- All was delivered, and the writer was flushed.
 abbrev pub Finishes : Held → Held → Type 0
@@ -49,7 +50,7 @@ Finishes old new = (sent : List ℕ) × Adds old new sent [] × (new.waiting ≡
 
 -- A write or the flush failed.
 abbrev pub FinishFails : Held → Held → Stop → Type 0
-FinishFails old new stop = (sent : List ℕ) × Adds old new sent [] × (stop ≡ stop_of new) × (new.failures ≡ one_more old.failures)
+FinishFails old new stop = (sent : List ℕ) × Adds old new sent [] × (stop ≡ stop_of new) × Rises old.failures new.failures sent
 
 -- It has room for a block, and less than one waits unless it has stopped.
 abbrev pub IsReady : {W : Type 0} → Sink W → Type 0

@@ -81,10 +81,10 @@ blamed given stopped x = go x.stops
         (λ e. subst (Rose given.before.reader.failures) (cc (r.1 (sym is ∙ e))) (rose _), λ e. absurd (r.0 (cc)))
     go (inl (inr y)) =
         let b = y.0.breaks.breaks in
-        by_write given stopped x.stop y.0.breaks.middle x.middle is (cc) y.0.breaks.puts.2.4 b.9 (ends y.1)
+        by_write given stopped x.stop y.0.breaks.middle x.middle is (cc) y.0.breaks.puts.2.4.0 b.9.0 (ends y.1)
     go (inr y) =
         let f = y.0.fails in
-        by_write given stopped x.stop y.0.middle x.middle is (cc) y.0.whole.puts.2.4 f.3 (ends y.1)
+        by_write given stopped x.stop y.0.middle x.middle is (cc) y.0.whole.puts.2.4.0 f.3.0 (ends y.1)
 
 -- ---- no device failed
 

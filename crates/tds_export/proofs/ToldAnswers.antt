@@ -182,7 +182,7 @@ module _ (given : Given) (input left : List ℕ) (q : Seen) (stop : Stop) (are :
           no_notice = none;
           none_waits = λ calm. elim t.2 [
             | inl x ↦ sym writer.waiting ∙ x.0
-            | inr x ↦ absurd (calm (rw writer.failures at (subst (λ n. Rose n l.failures) p.4 x)))
+            | inr x ↦ absurd (calm (rw writer.failures at (subst (λ n. Rose n l.failures) p.4.0 x)))
           ];
         },
       )

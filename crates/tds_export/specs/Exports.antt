@@ -1,5 +1,5 @@
 -- How an export ended, with a reader and a writer that may not tell their bytes.
-use Rattle.std.specs.Prelude.{◌≡◌, ◌⊎◌, Bool, true, false, List, ℕ, [], length, Some, Result, IfErr, MatchResult}
+use Rattle.std.specs.Prelude.{◌≡◌, ◌⊎◌, ◌-◌, ◌^◌, ◌<◌, Bool, true, false, List, ℕ, [], length, Some, Result, IfErr, MatchResult}
 use Rattle.std.specs.Io.KnownBytes.{Appends}
 use Rattle.tds_meter.specs.Counts.{Rose}
 use Rattle.tds_packet.specs.declared.fault.Fault.TheVariants.{ReadFailed, WriteFailed}
@@ -36,10 +36,11 @@ pub record IsWriter (given : Given) (held : Held) : Type 0 where
   pub waiting : held.waiting ≡ given.after.areas.output.bytes
   pub failures : held.failures ≡ given.after.writer.failures
 
--- What waited was delivered and the writer flushed, or one of the two failed.
+-- What waited was delivered and the writer flushed, or one of the two failed. A writer whose count was the greatest took nothing.
 abbrev pub Tidied : Held → Held → Type 0
 Tidied old new = (sent : List ℕ) × Adds old new sent []
     × (((new.waiting ≡ []) × (new.failures ≡ old.failures)) ⊎ Rose old.failures new.failures)
+    × (0 < length sent → old.failures < 2 ^ 64 - 1)
 
 -- The response was read whole, its text delivered, and its report returned. The notice area has the text of its first error.
 pub record Reports (given : Given) (report : Report) : Type 0 where

@@ -1,5 +1,5 @@
 -- The parts of a packet's read, joined.
-use Rattle.tds_packet.proofs.{Words.{common_steps, ◌≡◌, ◌∙◌, ℕ, ◌+◌, ◌-◌, ◌^◌, ◌<◌, List, [], ◌++◌, length, take, drop, Option, Ok, Err, Bool, false, refl, arith, length-append, length-take, append_assoc, drop-append_seam, take-append_seam, take-append-add, nat_tests, nat_lt, if◌then◌else◌, Consumes, Consumes-trans, dec_le, Device, Stays, Fault, InputEnded, ReadFailed, Header, header_fault, WholePacket, NoPacket, front_packet, packet_after_header, Faulted, ReadsPacket, header_of}, Choices.{choose_true, test_lt}}
+use Rattle.tds_packet.proofs.{Words.{common_steps, ◌≡◌, ◌∙◌, ℕ, ◌+◌, ◌-◌, ◌^◌, ◌<◌, List, [], ◌++◌, length, take, drop, Option, Ok, Err, Bool, false, refl, ap, arith, length-append, length-take, append_assoc, drop-append_seam, take-append_seam, take-append-add, nat_tests, nat_lt, if◌then◌else◌, Consumes, Consumes-trans, dec_le, Device, one_more, Rises, Stays, Fault, InputEnded, ReadFailed, Header, header_fault, WholePacket, NoPacket, front_packet, packet_after_header, Faulted, ReadsPacket, header_of}, Choices.{choose_true, test_lt}}
 
 pub Stays-none : (f : ℕ) → Stays f f []
 Stays-none f = (refl, λ lt. absurd (omega (arith, lt)))
@@ -10,6 +10,10 @@ Stays-trans f g h r s p q = grind (arith, common_steps, length-append)
 -- bytes moved before a call that failed, and in it
 pub Rises-after : (f g : ℕ) (r s : List ℕ) → Stays f g r → (0 < length s → g < 2 ^ 64 - 1) → 0 < length (r ++ s) → f < 2 ^ 64 - 1
 Rises-after f g r s p q some = grind (arith, length-append r s, p.0, p.1, q)
+
+-- bytes that a device took before a call that failed, and in it
+pub Stays-Rises : {f g h : ℕ} (r s : List ℕ) → Stays f g r → Rises g h s → Rises f h (r ++ s)
+Stays-Rises r s p q = (q.0 ∙ ap one_more p.0, Rises-after _ _ r s p q.1)
 
 -- an input of fewer than eight bytes
 short_input : (size limit wire : ℕ) (xs : List ℕ) → length xs < 8 → front_packet size limit wire xs ≡ NoPacket InputEnded []

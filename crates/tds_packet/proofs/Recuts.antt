@@ -1,5 +1,5 @@
 -- A payload on its way into packets of one size.
-use Rattle.tds_packet.proofs.{Words.{common_steps, PayloadOf, ◌≡◌, ◌∙◌, inl, inr, ℕ, zero, suc, ◌+◌, ◌-◌, ◌*◌, ◌<◌, ◌≤◌, Bool, true, false, List, [], ◌∷◌, ◌++◌, length, drop, Option, None, refl, ap, arith, append-nil, length-append, length-drop, take_all, le_refl, add-one, div-mul-add, flat_map-append, Appends-nil, Appends-trans, Appends-kept, drop-append_seam, suc-mul, Result, Ok, Err, IsTrue, ◌^◌, Keeps, take-append-le, drop-append-le, one_more, Counted, Recut, RecutStop, MessageEnded, Stop, Written, coming_of, Packet, packet_bytes, wire_of, buffered, seen, Cuts, Flushes, Gains, StopsInput, StopsOutput, WritesPacket, Gathers, cut_packet, first_packets, before_last, packets_before, Ends, IsBetween, IsNotOver, IsOver, Seen, Takes}, PayloadLaws.ends_there, Futures.{Ends-after, Takes-more, Takes-none, Takes-trans}}
+use Rattle.tds_packet.proofs.{Words.{common_steps, PayloadOf, ◌≡◌, ◌∙◌, inl, inr, ℕ, zero, suc, ◌+◌, ◌-◌, ◌*◌, ◌<◌, ◌≤◌, Bool, true, false, List, [], ◌∷◌, ◌++◌, length, drop, Option, None, refl, ap, arith, append-nil, length-append, length-drop, take_all, le_refl, div-mul-add, flat_map-append, Appends-nil, Appends-trans, Appends-kept, drop-append_seam, suc-mul, Result, Ok, Err, IsTrue, ◌^◌, Keeps, take-append-le, drop-append-le, one_more, Counted, Recut, RecutStop, MessageEnded, Stays, Stop, Written, coming_of, Packet, packet_bytes, wire_of, buffered, seen, Cuts, Flushes, Gains, StopsInput, StopsOutput, WritesPacket, Gathers, cut_packet, first_packets, before_last, packets_before, Ends, IsBetween, IsNotOver, IsOver, Seen, Takes}, Joins.{Stays-Rises, Stays-none, Stays-trans}, PayloadLaws.ends_there, Futures.{Ends-after, Takes-more, Takes-none, Takes-trans}}
 
 -- what was gathered, and bytes after it
 pub joined : (a b c : Seen) (hs bs : List ℕ) (n : ℕ) → n ≤ length bs + 1 → Takes a b hs (length hs + 1) → Takes b c bs n → Takes a c (hs ++ bs) (length (hs ++ bs) + 1)
@@ -87,14 +87,14 @@ pub record Cutting {R W : Type 0} (remaining : R → Option (List ℕ)) (content
   pub placed : s.place ≡ length payload
   pub wrote : Gains contents old new (wire_of (first_packets m done.packets payload))
   pub bytes_are : done.bytes ≡ length (wire_of (first_packets m done.packets payload))
-  pub stays : new.failures ≡ old.failures
+  pub stays : Stays old.failures new.failures (wire_of (first_packets m done.packets payload))
   pub more : 0 < done.packets → 0 < length (buffered s)
 
 -- nothing was cut
 pub cut_none : {R W : Type 0} (remaining : R → Option (List ℕ)) (contents : W → Option (List ℕ)) (m : ℕ) (s : PayloadOf R) (to : Counted W) → s.place ≡ 0 → Cutting remaining contents m (seen remaining s) s to to (record { packets = 0; bytes = 0 })
 unfolding first_packets
 cut_none remaining contents m s to e =
-    record { payload = []; takes = Takes-none (seen remaining s) 1; whole = omega arith; placed = e; wrote = Appends-nil (contents to.device); bytes_are = refl; stays = refl; more = λ some. absurd (omega (arith, some)) }
+    record { payload = []; takes = Takes-none (seen remaining s) 1; whole = omega arith; placed = e; wrote = Appends-nil (contents to.device); bytes_are = refl; stays = Stays-none to.failures; more = λ some. absurd (omega (arith, some)) }
 
 module _ {R W : Type 0} {remaining : R → Option (List ℕ)} {contents : W → Option (List ℕ)} {a : Seen} {s t : PayloadOf R} {room : ℕ} {packet : List ℕ} {old mid : Counted W} {done : Written}
     (x : Cutting remaining contents (room - 8) a s old mid done) (going : s.stopped ≡ None) (large : 8 < room) where
@@ -117,6 +117,7 @@ module _ {R W : Type 0} {remaining : R → Option (List ℕ)} {contents : W → 
       let takes = next_takes made in
       let whole = next_full made test in
       let wrote = Appends-trans (contents old.device) (contents mid.device) (contents new.device) _ _ x.wrote writes.0 in
+      let stays = Stays-trans old.failures mid.failures new.failures _ (packet_bytes (cut_packet done.packets false (drop 8 packet))) x.stays writes.2 in
       grind (arith, length-append)
 
   -- a packet, or the flush after the last one, failed
@@ -136,7 +137,7 @@ module _ {R W : Type 0} {remaining : R → Option (List ℕ)} {contents : W → 
         split = rw (p.0, p.2) writes.2;
         wrote = rw p.1 (Appends-trans (contents old.device) (contents mid.device) (contents new.device) _ writes.0 x.wrote writes.3);
         stop_is = rw (p.1, length-append, ← x.bytes_are) writes.4;
-        failures = rw (← x.stays) writes.5;
+        failures = rw p.1 (Stays-Rises _ writes.0 x.stays writes.5);
       }
 
   -- all was written, and the writer flushed
@@ -151,7 +152,7 @@ module _ {R W : Type 0} {remaining : R → Option (List ℕ)} {contents : W → 
   cut_finished new sent all total (Err stop) test made et writes flushes =
       let bytes = packet_bytes (cut_packet done.packets true (drop 8 packet)) in
       let wrote = Appends-kept (contents mid.device) (contents sent.device) (contents new.device) bytes writes.0 flushes.0 in
-      inr (cut_broken _ _ test made (bytes, [], append-nil bytes, wrote, rw writes.1 at flushes.1.0, rw (← writes.2) flushes.1.1))
+      inr (cut_broken _ _ test made (bytes, [], append-nil bytes, wrote, rw writes.1 at flushes.1.0, (flushes.1.1 ∙ ap one_more writes.2.0, writes.2.1)))
 
   -- the input stopped, and the writer was flushed
   pub cut_stopped : {new : Counted W} {stop : Stop} (flushed : Bool) → Gathers remaining s t room packet (Err stop) → Keeps (contents mid.device) (contents new.device)

@@ -5,7 +5,7 @@ pub use Rattle.std.proofs.KnownBytes.{Consumes-trans, Appends-trans, Appends-kep
 pub use Rattle.std.specs.{Io.KnownBytes.Consumes, Io.KnownBytes.Appends, Io.KnownBytes.Keeps, List.concat, Result.IsErrAnd}
 pub use Rattle.std.specs.Prelude.{Option, Some, ◌==◌, if◌then◌else◌, nat_lt, slice_index, IsTrue, is_some, nat_le, ⊤}
 pub use Rattle.tds_meter.{specs.Counts.one_more}
-pub use Rattle.tds_packet.specs.{Devices.device, Devices.Device, Filling.Stays, Reading.Reads, Reading.StopsReading, Reading.IsCutStop, Reading.RefusesNext, Reads.ReadsPacket, Reads.Faulted, Reads.header_of, declared.answer.Recut.Recut, declared.answer.RecutStop.RecutStop, declared.counted.Counted.Counted, declared.fault.Fault.Fault, declared.fault.Place.TheVariants.Payload, declared.fault.Place.TheVariants.Wire, declared.fault.Stop.Stop, declared.packet.Header.Header, declared.payload.Payload.Payload as PayloadOf, declared.recutting.Written.Written}
+pub use Rattle.tds_packet.specs.{Devices.device, Devices.Device, Filling.Rises, Filling.Stays, Reading.Reads, Reading.StopsReading, Reading.IsCutStop, Reading.RefusesNext, Reads.ReadsPacket, Reads.Faulted, Reads.header_of, declared.answer.Recut.Recut, declared.answer.RecutStop.RecutStop, declared.counted.Counted.Counted, declared.fault.Fault.Fault, declared.fault.Place.TheVariants.Payload, declared.fault.Place.TheVariants.Wire, declared.fault.Stop.Stop, declared.packet.Header.Header, declared.payload.Payload.Payload as PayloadOf, declared.recutting.Written.Written}
 pub use Rattle.tds_packet.specs.Coming.{Coming, WholePacket, before, NoPacket, after_packet, FrontPacket, whole_message, IsFrontMessage, packet_after_header, stopped_at}
 pub use Rattle.tds_packet.specs.Elements.{Spelt, AreBytes, Grammar, IsNext, Longest, IsRefused, Leads}
 pub use Rattle.tds_packet.specs.Packets.{wire_add, packet_bytes, Packet, wire_of, AreBefore, AreMessage, IsPacket, WirePart, header_fault, header_length, is_last, no_wire, wire, AfterLast, BeforeBody, BeforeHeader, WireFault, WirePlace, packet_length, packet_of, payload_of, Front, IsNextPacket, Message, wire_end, wire_size, with_packet}

@@ -10,6 +10,7 @@ use Rattle.tds_packet.specs.declared.payload.Payload.{Payload}
 use Rattle.tds_packet.specs.declared.answer.Recut.{Recut}
 use Rattle.tds_packet.specs.declared.answer.RecutStop.{RecutStop}
 use Rattle.tds_packet.specs.declared.recutting.Written.{Written}
+use Rattle.tds_packet.specs.Filling.{Rises, Stays}
 use Rattle.tds_packet.specs.Packets.{Packet, packet_bytes, wire_of}
 use Rattle.tds_packet.specs.Payloads.{buffered, seen}
 use Rattle.tds_packet.specs.Seen.{Ends, IsBetween, IsNotOver, IsOver, Seen, Takes, begun}
@@ -65,7 +66,7 @@ pub record StopsInput {W : Type 0} (contents : W → Option (List ℕ)) (m : ℕ
   pub wrote : Gains contents old new (wire_of (packets_before m payload))
   pub written : stop.written ≡ length (wire_of (packets_before m payload))
   pub unwritten : stop.unwritten ≡ 0
-  pub flushed : (new.failures ≡ old.failures) ⊎ (new.failures ≡ one_more old.failures)
+  pub flushed : let sent = wire_of (packets_before m payload) in Stays old.failures new.failures sent ⊎ Rises old.failures new.failures sent
 
 -- A write or the flush failed after a part of a packet, which is the message's last, or full with more bytes to come. The packets before it were written.
 pub record StopsOutput {W : Type 0} (contents : W → Option (List ℕ)) (m : ℕ) (a b : Seen) (old new : Counted W) (stop : RecutStop) : Type 0 where
@@ -80,7 +81,7 @@ pub record StopsOutput {W : Type 0} (contents : W → Option (List ℕ)) (m : �
   pub split : part ++ rest ≡ packet_bytes (last_packet m last payload)
   pub wrote : Gains contents old new (wire_of (packets_before m payload) ++ part)
   pub stop_is : stop ≡ write_stop (length (wire_of (packets_before m payload) ++ part)) (length rest)
-  pub failures : new.failures ≡ one_more old.failures
+  pub failures : Rises old.failures new.failures (wire_of (packets_before m payload) ++ part)
 
 -- A payload was written in packets with bodies of m bytes, or the input or the writer stopped that.
 abbrev pub Cuts : {W : Type 0} → (W → Option (List ℕ)) → ℕ → Seen → Seen → Counted W → Counted W → Result Recut RecutStop → Type 0
@@ -110,9 +111,9 @@ pub record Gathers {R : Type 0} (remaining : R → Option (List ℕ)) (old new :
 -- A packet's bytes were written after others, or a part of them.
 abbrev pub WritesPacket : {W : Type 0} → (W → Option (List ℕ)) → Counted W → Counted W → Written → List ℕ → Result Written RecutStop → Type 0
 WritesPacket contents old new done bytes result = MatchResult result
-    (λ more. Gains contents old new bytes × (more ≡ record { packets = done.packets + 1; bytes = done.bytes + length bytes }) × (new.failures ≡ old.failures))
+    (λ more. Gains contents old new bytes × (more ≡ record { packets = done.packets + 1; bytes = done.bytes + length bytes }) × Stays old.failures new.failures bytes)
     (λ stop. (part : List ℕ) × (rest : List ℕ) × (part ++ rest ≡ bytes) × Gains contents old new part
-    × (stop ≡ write_stop (done.bytes + length part) (length rest)) × (new.failures ≡ one_more old.failures))
+    × (stop ≡ write_stop (done.bytes + length part) (length rest)) × Rises old.failures new.failures part)
 
 -- The writer was flushed after all packets, or that failed.
 abbrev pub Flushes : {W : Type 0} → (W → Option (List ℕ)) → Counted W → Counted W → Written → ℕ → Result Recut RecutStop → Type 0

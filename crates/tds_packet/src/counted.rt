@@ -3,7 +3,7 @@ ghost use Rattle.std.specs.Io.KnownBytes.{Appends, Consumes, IsAtEnd, Keeps};
 ghost use Rattle.std.specs.Prelude.{◌≡◌, ◌-◌, ◌^◌, ◌<◌, ◌≤◌, length, take, IfErr, IfOk, IsTrue, OnErr, OnOk, false};
 ghost use Rattle.tds_meter.specs.Counts.{one_more};
 ghost use Rattle.tds_packet.specs.Devices.{device};
-ghost use Rattle.tds_packet.specs.Filling.{CountsCall, FillsSlice, Stays};
+ghost use Rattle.tds_packet.specs.Filling.{CountsCall, FillsSlice, Rises, Stays};
 
 use std::io::{Read, Write};
 
@@ -137,7 +137,7 @@ impl<W: Write> Counted<W> {
         ensures stays { OnOk result (Stays self.old.failures self.new.failures bytes.now) }
         ensures err { IfErr result (λ k. Appends (W.contents self.old.device) (W.contents self.new.device) (take k bytes.now)) }
         ensures part { IfErr result (λ k. k < length bytes.now) }
-        ensures counted { OnErr result (self.new.failures ≡ one_more self.old.failures) }
+        ensures counted { IfErr result (λ k. Rises self.old.failures self.new.failures (take k bytes.now)) }
     {
         let mut taken = 0;
         while taken < bytes.len() {

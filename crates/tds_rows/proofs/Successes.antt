@@ -62,7 +62,7 @@ none_stops g text from to front more brings spelt none reads writes x = elim x.c
   | inl y ↦ none_stops_reading g _ _ _ _ brings spelt none reads y.0
   | inr y ↦
       (let z = y.0 in
-      writes (subst (Rose _) (sym (z.breaks.9 ∙ ap one_more z.puts.2.4)) (rose _)))
+      writes (subst (Rose _) (sym (z.breaks.9.0 ∙ ap one_more z.puts.2.4.0)) (rose _)))
 ]
 
 -- ---- the calls
@@ -131,7 +131,7 @@ module _ (token : RowToken) (charset : Charset) (columns : List Column) (some_co
         omega (arith, ap (row charset).size (ap (λ p. p.at) same)))
     | inr y ↦
         (let z = y.0 in
-        writes (subst (Rose _) (sym (z.breaks.9 ∙ ap one_more (z.puts.2.4 ∙ x.streams.puts.2.4))) (rose _)))
+        writes (subst (Rose _) (sym (z.breaks.9.0 ∙ ap one_more (z.puts.2.4.0 ∙ x.streams.puts.2.4.0))) (rose _)))
   ]
 
   pub rows_succeed : {R W : Type 0} (remaining : R → Option (List ℕ)) (contents : W → Option (List ℕ)) (old new : Payload R) (before after : Sink W) (result : Result ℕ Stop) (first : List Cell) (later : List (List Cell)) (bytes more : List ℕ)
