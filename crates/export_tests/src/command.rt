@@ -16,7 +16,7 @@ use tds_export::Charset;
 use tds_meter::Limits;
 use tds_packet::Counted;
 use tds_replay::{Job, Usage, parse, perform, say_usage};
-use test_devices::{Failing, ScriptedReader, ScriptedWriter};
+use tds_packet::rig::{Failing, ScriptedReader, ScriptedWriter};
 
 // A line of arguments.
 fn arguments_of(alloc: Global, line: &[&str]) -> Result<Vec<String>, AllocError> {

@@ -9,7 +9,7 @@ use std::test::Fail;
 use tds_export::*;
 use tds_meter::{Areas, Limits};
 use tds_packet::{Counted, Fault, Place, RefusedKind};
-use test_devices::{Failing, RepeatingReader, ScriptedReader, ScriptedWriter};
+use tds_packet::rig::{Failing, RepeatingReader, ScriptedReader, ScriptedWriter};
 
 mod every_cut;
 mod long_values;

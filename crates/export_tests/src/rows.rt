@@ -14,7 +14,7 @@ use tds_csv::Sink;
 use tds_meter::{Area, SMALL_ROOM};
 use tds_packet::{Counted, Fault, Payload, Place, Stop};
 use tds_rows::*;
-use test_devices::{Failing, ScriptedReader, ScriptedWriter};
+use tds_packet::rig::{Failing, ScriptedReader, ScriptedWriter};
 
 mod nulls;
 mod passed;

@@ -12,7 +12,7 @@ use tds_columns::{Columns, Described, gather, read_type_info, take_into};
 use tds_meter::Area;
 use tds_packet::{Counted, Fault, Payload, Place, Stop};
 use tds_values::{Kind, Reach};
-use test_devices::{RepeatingReader, ScriptedReader};
+use tds_packet::rig::{RepeatingReader, ScriptedReader};
 
 // A room that most descriptions fit.
 const ROOM: usize = 1024;

@@ -9,7 +9,7 @@ use std::test::Fail;
 use tds_csv::*;
 use tds_meter::Area;
 use tds_packet::{Counted, Fault, Place, Stop};
-use test_devices::{Failing, ScriptedWriter};
+use tds_packet::rig::{Failing, ScriptedWriter};
 
 fn make_writer(failing: Failing) -> Counted<ScriptedWriter> {
     Counted::new(ScriptedWriter::new(4096, failing))

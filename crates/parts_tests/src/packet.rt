@@ -7,7 +7,7 @@ use std::io::Read;
 use std::test::Fail;
 use tds_meter::Area;
 use tds_packet::*;
-use test_devices::{Failing, RepeatingReader, ScriptedReader, ScriptedWriter};
+use tds_packet::rig::{Failing, RepeatingReader, ScriptedReader, ScriptedWriter};
 
 mod recuts;
 

@@ -21,7 +21,7 @@
 //!
 //! `fault.rt` has the 21 faults and the places where they are found, `counted.rt` the devices, `packet.rt` a packet
 //! from its header to its last byte, `payload.rt` what is made of packets. What packets are, and what comes of a reader
-//! that ends or fails, is in `specs/Packets` and `specs/Coming`.
+//! that ends or fails, is in `specs/Packets` and `specs/Coming`. `rig.rt` has devices for tests.
 #![tactic(auto, using(crate::proofs::Passing::passed))]
 
 mod answer;
@@ -31,6 +31,7 @@ pub mod laws;
 mod packet;
 mod payload;
 mod recutting;
+pub mod rig;
 
 pub use answer::{Recut, RecutStop};
 pub use counted::Counted;

@@ -5,7 +5,7 @@ use std::test::Fail;
 use tds_export::Charset;
 use tds_packet::Counted;
 use tds_replay::Job;
-use test_devices::{Failing, ScriptedReader};
+use tds_packet::rig::{Failing, ScriptedReader};
 
 // What a command line is held to: one that came out otherwise is named.
 fn expect_line(rt: &impl Abort, line: &[&str], holds: bool) {

@@ -5,7 +5,7 @@ use std::test::Fail;
 use tds_export::{Report, ServerError, Stopped};
 use tds_packet::{Fault, Place, RefusedKind};
 use tds_replay::say_answer;
-use test_devices::Failing;
+use tds_packet::rig::Failing;
 
 // A stop, and its line.
 struct StopCase {

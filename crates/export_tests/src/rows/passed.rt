@@ -7,7 +7,7 @@ use tds_meter::{Area, SMALL_ROOM};
 use tds_packet::{Counted, Fault, Payload, Place, Stop};
 use tds_rows::pass_over;
 use tds_values::{Kind, Reach};
-use test_devices::ScriptedReader;
+use tds_packet::rig::ScriptedReader;
 
 // A value of a kind, the place after it, or the stop, and the most bytes that the small area had.
 struct Value {

@@ -11,7 +11,7 @@ use tds_meter::Area;
 use tds_packet::{Counted, Fault, Payload, Place, Stop};
 use tds_rows::stream_value;
 use tds_values::Reach;
-use test_devices::ScriptedReader;
+use tds_packet::rig::ScriptedReader;
 
 // Reads a value of a column in packets of `size` bytes of it, with a new joiner.
 fn stream<J: Joiner + Drop>(
