@@ -1,5 +1,5 @@
 -- Cells by how their values are laid out.
-use Rattle.tds_rows.{proofs.Words.{common_steps, ◌≡◌, ℕ, ◌<◌, Bool, true, false, List, length, replicate, get_or, refl, arith, ◌==◌, slice_set, get_or-set_at, get_or-replicate, get_or-set_other, length-replicate, length-set, Kind, Reach, is_scalar, eq_false, eq_true, Content, Conversion, Charset, Form, Layout, LongShape, shape, value_length, value_start, whole_size, AreLaidOut, HasValueAt, IsLaidOut, short_size}, specs.declared.form.Layout.TheVariants.Long}
+use Rattle.tds_rows.{proofs.Words.{common_steps, slice_index, ◌≡◌, ℕ, ◌<◌, Bool, true, false, List, length, replicate, get_or, refl, arith, ◌==◌, slice_set, get_or-set_at, get_or-replicate, get_or-set_other, length-replicate, length-set, Kind, Reach, is_scalar, eq_false, eq_true, Content, Conversion, Charset, Form, Layout, LongShape, shape, value_length, value_start, whole_size, AreLaidOut, HasValueAt, IsLaidOut, short_size}, specs.declared.cell.layout.Layout.TheVariants.{Counted, Fixed, Short as ShortLayout}}
 
 -- the same form many times
 pub laid_all : (charset : Charset) (n : ℕ) (f : Form) → IsLaidOut charset f.kind f.layout → AreLaidOut charset (replicate n f)
@@ -15,6 +15,14 @@ laid_set charset forms k f all within is j d here = go _ refl
 
 -- ---- a value that is there
 
+-- at once
+pub fixed_there : {l : Layout} (bytes : List ℕ) {start : ℕ × ℕ} {n : ℕ} → l ≡ Fixed n → start ≡ (0, n) → HasValueAt l bytes start.0 start.1
+fixed_there bytes is there = grind arith
+
+-- after a length of one byte
+pub counted_there : {l : Layout} (bytes : List ℕ) {start : ℕ × ℕ} → l ≡ Counted → start ≡ (1, slice_index bytes 0) → HasValueAt l bytes start.0 start.1
+counted_there bytes is there = grind arith
+
 module _ (charset : Charset) (kind : Kind) where
   -- it is that of a scalar kind
   pub value_there : (l : Layout) (bytes : List ℕ) (start n : ℕ) → IsLaidOut charset kind l → HasValueAt l bytes start n → (is_scalar kind ≡ true) × ((start ≡ value_start kind) × (n ≡ value_length kind bytes))
@@ -27,5 +35,5 @@ module _ (charset : Charset) (kind : Kind) where
   -- ---- a cell that is left, and a short value
 
   -- how many bytes its cell has
-  pub short_whole : (content : Content) (reach : Reach) (bytes : List ℕ) → IsLaidOut charset kind (Long content reach) → short_size bytes ≡ whole_size kind bytes
-  short_whole content reach bytes laid = grind (arith, is_long_kind)
+  pub short_whole : (content : Content) (bytes : List ℕ) → IsLaidOut charset kind (ShortLayout content) → short_size bytes ≡ whole_size kind bytes
+  short_whole content bytes laid = grind (arith, is_long_kind)

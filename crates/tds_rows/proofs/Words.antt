@@ -1,2 +1,127 @@
 -- The words that the proofs of this crate share.
-pub use Rattle.{std.{proofs.{KnownBytes.Consumes-nil, Math.Seq.{drop-nil, take-add, take-append-add, take-append_seam, take-nil}, lemmas.{Bool.{Decides.nat_tests, and_from, cases_lt, eq-eqb, ne_eqb, or_cases, or_left, or_right}, Grind.{common_steps, get_or-set_at}, List.{Folds.concat-append, append_cancel_left, drop-drop, drop-map, drop-take, drop_all, drop_more, get_or-map, get_or-replicate, get_or-set_other, get_or-take, get_or_default, length-drop, length-map, length-replicate, length-set, length-take, length-take-le, map-append, take-append-drop, take-append-le, take-map, take-take, take_all, take_more, take_more_set, take_rest}, Result.MatchResult-weaker}, Common.{Bool, Err, List, MatchResult, Ok, Result, [], add-zero, ap, append-nil, append_assoc, arith, drop, false, get_or, inl, inr, length, length-append, refl, replicate, rules, subst, suc, sym, take, true, zero, ℕ, ◌%◌, ◌*◌, ◌++◌, ◌+◌, ◌-◌, ◌/◌, ◌<◌, ◌^◌, ◌∙◌, ◌∷◌, ◌≡◌, ◌≢◌, ◌≤◌, ◌⊎◌}}, specs.{Io.KnownBytes.Consumes, Iterator.YieldsFirstBy, List.concat, Prelude.{None, Option, Some, codes, if◌then◌else◌, is_ok, map, nat_le, nat_lt, slice_index, slice_set, ⊤, ◌&&◌, ◌==◌, ◌||◌}}}, tds_columns.{proofs.{ByteLemmas.{little-two, one_byte, two_bytes}, ViewLaws.all_after}, specs.{Description.Column, Elements.{EndsInto, TakesInto}, ReturnedType.return_column, View.columns_of, Walking.{column_value, columns_left}, declared.walk.Walk.Walk}}, tds_csv.{proofs.{Begun.{begun_front, open_closes, open_grows, unfit_adds_none}, Pieces.breaks_somewhere, Puttings.PutsPiece-trans, SingleLaws.hex-nil, Sinks.{Breaks-after, Breaks-longer, Puts-none, Puts-trans}, Spares.{spare_before, spare_written}, Splits.Puts_split, Streams.{added_inside, stops_size, streaming_after}, Utf16Steps.{nil_of_length, text_nil}, ConversionLaws.{begun_by_test, fit_begins, fit_by_test, fit_units, joins_by_name, no_data_is_fit}, Nears.{Nears, added_between, last_read, nears_after, nears_breaks, nears_from, nears_inside, nears_put, tail_after, nears_done}}, specs.{Fields.conversion_of, Joining.emit, Streaming.{BreaksStreaming, PutsText, StopsStreaming, Streams}, declared.{fields.Content.Content, joiners.JoinFault.{JoinFault, TheVariants.{Odd, Stopped}}, sink.Sink.Sink}, Conversion.{BeginsData, Conversion, HexDigits, IsFit, Suits, Utf16Text, Utf8Text, Windows1252Text, closing, conversion_rest, conversion_text, is_begun, is_fit, is_quoted, long_field, open_field, unit}, Pushing.{Completes, EndsBy, LeavesPart, Pushes, TakesPiece, TakesUpTo, is_stopped}, Quoting.{after_comma, binary_mark, end_after, in_line, joined, line, null_field, quote}, Sinks.{Breaks, Held, IsOnSameSink, IsWriting, Puts, PutsPiece, held}}}, tds_meter.specs.{Counts.{Rose, one_more}, Lent.overwritten, Space.{Space, appended}}, tds_packet.{proofs.{Futures.{Ends-after, Takes-more, Takes-none, Takes-trans}, Joins.Stays-none, Lifts.{next_inside, next_some, stops_inside}, Passing.{passed, passed_on}, PayloadLaws.{at_err, at_ok, between_of}, Places.stops_here, WireFaults.ends_blame, Choices.{choose, choose_false, choose_true, eq_false, eq_true, lt_true, test_lt}, ElementLaws.{AreBytes-back, AreBytes-front, Inside, Inside-Spelt, Spelt-append, Spelt-induct, Spelt-none, Spelt-one, Spelt-step, longest_at, longest_cut, longest_refused, no_further, one_longest, one_state, refused_for_good}, Steps.{add_none, began_is_cut, cut_at_once, reads_both, reads_none, reads_one, refused_at_once, stops_after, takes_both}}, specs.{Coming.{Coming, before}, Payloads.{IsGoing, IsOnSame, buffered, seen}, Reading.{CutsNext, RefusesNext, StopsReading}, Seen.{Ends, IsBetween, Seen, Takes, began_at}, declared.fault.{Fault.{Fault, TheVariants.{BadText, BadValue, BadValueLength, MessageEnded, PlpLength, ReadFailed, RefusedToken, WriteFailed}}, Place.TheVariants.Payload, Stop.Stop}, Elements.{AreBytes, Grammar, IsNext, IsRefused, Leads, Longest, Spelt}}}, tds_rows.specs.{Blames.{Failures, StopBlames, failures_of}, Forms.AreLaidOut, Layouts.{HasValueAt, IsLaidOut, shape_of_layout}, ShortCells.{short_size, stated_length}, Successes.{BeginNoRow, Brings, ReadsOn, SpellsRows, SucceedsOn}, WholeCells.{WritesCell, WritesWhole}, declared.{form.{Form.Form, Layout.Layout}, reading.Rows.Rows, run.{CellRun.CellRun, RowsRun.RowsRun, fields.TheConstants.CELL_ROOM, forms.FormsRun.FormsRun}, table.{Ahead.Ahead, Table.Table}}, CellSteps.{GathersCell, IsLeft, IsScalarLeft, IsValueText, PutsField, StallsCell, StopsField, WritesField, WritesKind, cell_so_far, is_last_column, length_after, opened, scalar_size, start_after, value_bytes, value_length, value_start, whole_size, HasInt4, int4_kind}, Cells.{Cell, CellPart, ChunkData, ChunkLength, CountedShape, DataCell, FixedShape, LongShape, Null, ScalarBytes, ScalarCell, ScalarLength, Shape, ShortData, ShortLength, SpellsCell, SpellsChunk, SpellsChunked, SpellsChunks, SpellsShort, Total, WholeCell, cell, cell_add, cell_end, cell_fault, cell_size, cell_start, chunk_fault, end_of_chunks, field, field_so_far, is_total, known_total, long_start, null_total, return_charset, shape, shape_of_length, unknown_total, unless, value_part, within_total}, FormRuns.{AreNext, FieldsWritten, FirstLeft, FirstUsed, FirstWritten, FormsWritten, WritesForms}, LongCells.{BreaksData, CutsData, CutsNumber, EndPut, EndsData, FillsData, ReadsNumber, RefusesData, RefusesNumber, StopsData, StopsEnding, StopsFilling, TakesData, added_text, chunk_length_fault, ending, join_stop, opening, short_fault, short_length, total_fault, total_of}, MarkedRuns.{AreClear, EndsLeft, MarkedPut, PutsMarked, RunsMarked, WritesColumn, WritesMarked, WritesNext}, PassedCells.{AnyData, CellPassed, CutsPassing, IsGoodValue, PassesCell, PassesData, StepsOver, StopsPassing, return_cell}, RowReading.{CellRead, IsInRow, KindRead, LeavesRows, NextRead, StaysInRow}, RowSteps.{ReadsRow, ReadsRows, RowStops, RowsRead, RowsStop}, Rows.{Bitmap, InCell, NbcRow, PlainRow, RowPart, RowToken, SpellsMarked, SpellsNbcRow, SpellsRow, SpellsRowAs, WholeRow, bit, bitmap_length, marked, nbc_row_start, next_cell, row, row_add, row_size, row_so_far, row_start, token_byte, token_start, with_cell, with_field}, Runs.{CellsWritten, RowsPart, RowsPut, RunEnds, RunsRows, Writes, WritesRows, after_cells, lines, rows, rows_so_far, rows_start}, Tables.{AreAhead, IsAhead, IsNextKind, Knows, KnowsSome, NextColumn, TakesColumn, kinds}}, tds_values.{specs.{declared.{charset.Charset.Charset, kind.{Kind.{Kind, TheVariants.{Binary, Int4, IntN, Narrow, Wide}}, Reach.{Reach, TheVariants.{Chunked, Short}}}, scalar.{ScalarValue.ScalarValue, ValueFault.ValueFault}}, Kind.{fixed_length, is_length_allowed, is_scalar}, Numbers.little, Scalar.read_of, ScalarText.text_of}, proofs.WrittenLemmas.answered}}
+pub use Rattle.std.proofs.Common.{refl, ◌+◌, subst, take, ◌⊎◌, replicate, arith, suc, zero, length, Result, length-append, inr, Bool, ◌++◌, false}
+pub use Rattle.std.proofs.Common.{MatchResult, ap, add-zero, ◌∙◌, Ok, ◌≡◌, append_assoc, drop, ℕ, ◌≤◌, [], sym, ◌∷◌, ◌%◌, ◌/◌, ◌-◌, inl, Err}
+pub use Rattle.std.proofs.Common.{append-nil, ◌*◌, ◌≢◌, get_or, ◌^◌, List, ◌<◌, true, rules}
+pub use Rattle.std.proofs.KnownBytes.{Consumes-nil}
+pub use Rattle.std.proofs.Math.Seq.{drop-nil, take-append-add, take-nil, take-add, take-append_seam}
+pub use Rattle.std.proofs.lemmas.Bool.{ne_eqb, cases_lt, eq-eqb, and_from, or_left, or_cases, or_right}
+pub use Rattle.std.proofs.lemmas.Bool.Decides.{nat_tests}
+pub use Rattle.std.proofs.lemmas.Grind.{get_or-set_at, common_steps}
+pub use Rattle.std.proofs.lemmas.List.{take_more, get_or-map, length-drop, take-map, length-take, take_more_set, drop_more, take_rest, drop-map}
+pub use Rattle.std.proofs.lemmas.List.{get_or-replicate, drop-take, get_or-take, get_or-set_other, length-map, length-take-le, length-replicate}
+pub use Rattle.std.proofs.lemmas.List.{get_or_default, map-append, drop-drop, take_all, take-append-drop, append_cancel_left, take-take, length-set}
+pub use Rattle.std.proofs.lemmas.List.{take-append-le, drop_all}
+pub use Rattle.std.proofs.lemmas.List.Folds.{concat-append}
+pub use Rattle.std.proofs.lemmas.Result.{MatchResult-weaker}
+pub use Rattle.std.specs.Io.KnownBytes.{Consumes}
+pub use Rattle.std.specs.Iterator.{YieldsFirstBy}
+pub use Rattle.std.specs.List.{concat}
+pub use Rattle.std.specs.Prelude.{◌==◌, if◌then◌else◌, slice_set, ◌||◌, is_ok, ◌&&◌, None, ⊤, slice_index, Option, nat_le, map, codes, Some, nat_lt}
+pub use Rattle.tds_columns.proofs.ByteLemmas.{one_byte, little-two, two_bytes}
+pub use Rattle.tds_columns.proofs.ViewLaws.{all_after}
+pub use Rattle.tds_columns.specs.Description.{Column}
+pub use Rattle.tds_columns.specs.Elements.{TakesInto, EndsInto}
+pub use Rattle.tds_columns.specs.ReturnedType.{return_column}
+pub use Rattle.tds_columns.specs.View.{columns_of}
+pub use Rattle.tds_columns.specs.Walking.{columns_left, column_value}
+pub use Rattle.tds_columns.specs.declared.walk.Walk.{Walk}
+pub use Rattle.tds_csv.proofs.Begun.{begun_front, open_closes, unfit_adds_none, open_grows}
+pub use Rattle.tds_csv.proofs.ConversionLaws.{no_data_is_fit, fit_begins, fit_units, joins_by_name, begun_by_test, fit_by_test}
+pub use Rattle.tds_csv.proofs.Nears.{nears_done, Nears, nears_breaks, last_read, nears_after, nears_from, added_between, nears_inside, tail_after}
+pub use Rattle.tds_csv.proofs.Nears.{nears_put}
+pub use Rattle.tds_csv.proofs.Pieces.{breaks_somewhere}
+pub use Rattle.tds_csv.proofs.Puttings.{PutsPiece-trans}
+pub use Rattle.tds_csv.proofs.SingleLaws.{hex-nil}
+pub use Rattle.tds_csv.proofs.Sinks.{Puts-trans, Breaks-after, Breaks-longer, Puts-none}
+pub use Rattle.tds_csv.proofs.Spares.{spare_before, spare_written}
+pub use Rattle.tds_csv.proofs.Splits.{Puts_split}
+pub use Rattle.tds_csv.proofs.Streams.{stops_size, added_inside, streaming_after}
+pub use Rattle.tds_csv.proofs.Utf16Steps.{nil_of_length, text_nil}
+pub use Rattle.tds_csv.specs.Conversion.{is_begun, IsFit, is_quoted, Conversion, BeginsData, Utf16Text, Suits, is_fit, long_field, unit}
+pub use Rattle.tds_csv.specs.Conversion.{conversion_rest, closing, HexDigits, Windows1252Text, open_field, Utf8Text, conversion_text}
+pub use Rattle.tds_csv.specs.Fields.{conversion_of}
+pub use Rattle.tds_csv.specs.Joining.{emit}
+pub use Rattle.tds_csv.specs.Pushing.{TakesUpTo, Completes, EndsBy, Pushes, is_stopped, LeavesPart, TakesPiece}
+pub use Rattle.tds_csv.specs.Quoting.{null_field, joined, after_comma, quote, in_line, binary_mark, line, end_after}
+pub use Rattle.tds_csv.specs.Sinks.{IsWriting, held, PutsPiece, Breaks, IsOnSameSink, Puts, Held}
+pub use Rattle.tds_csv.specs.Streaming.{StopsStreaming, Streams, PutsText, BreaksStreaming}
+pub use Rattle.tds_csv.specs.declared.fields.Content.{Content}
+pub use Rattle.tds_csv.specs.declared.joiners.JoinFault.{JoinFault}
+pub use Rattle.tds_csv.specs.declared.joiners.JoinFault.TheVariants.{Stopped, Odd}
+pub use Rattle.tds_csv.specs.declared.sink.Sink.{Sink}
+pub use Rattle.tds_meter.specs.Counts.{Rose, one_more}
+pub use Rattle.tds_meter.specs.Lent.{overwritten}
+pub use Rattle.tds_meter.specs.Space.{appended, Space}
+pub use Rattle.tds_packet.proofs.Choices.{test_lt, choose_false, lt_true, choose_true, eq_false, eq_true, choose}
+pub use Rattle.tds_packet.proofs.ElementLaws.{Spelt-none, Spelt-induct, AreBytes-back, one_state, no_further, longest_at, Spelt-step, Inside}
+pub use Rattle.tds_packet.proofs.ElementLaws.{one_longest, refused_for_good, AreBytes-front, Spelt-append, longest_cut, longest_refused, Spelt-one}
+pub use Rattle.tds_packet.proofs.ElementLaws.{Inside-Spelt}
+pub use Rattle.tds_packet.proofs.Futures.{Ends-after, Takes-more, Takes-none, Takes-trans}
+pub use Rattle.tds_packet.proofs.Joins.{Stays-none}
+pub use Rattle.tds_packet.proofs.Lifts.{next_inside, stops_inside, next_some}
+pub use Rattle.tds_packet.proofs.Passing.{passed_on, passed}
+pub use Rattle.tds_packet.proofs.PayloadLaws.{at_ok, at_err, between_of}
+pub use Rattle.tds_packet.proofs.Places.{stops_here}
+pub use Rattle.tds_packet.proofs.Steps.{takes_both, cut_at_once, reads_one, began_is_cut, stops_after, reads_both, add_none, refused_at_once}
+pub use Rattle.tds_packet.proofs.Steps.{reads_none}
+pub use Rattle.tds_packet.proofs.WireFaults.{ends_blame}
+pub use Rattle.tds_packet.specs.Coming.{before, Coming}
+pub use Rattle.tds_packet.specs.Elements.{IsRefused, AreBytes, Grammar, Spelt, IsNext, Leads, Longest}
+pub use Rattle.tds_packet.specs.Payloads.{seen, buffered, IsOnSame, IsGoing}
+pub use Rattle.tds_packet.specs.Reading.{StopsReading, CutsNext, RefusesNext}
+pub use Rattle.tds_packet.specs.Seen.{Takes, began_at, IsBetween, Ends, Seen}
+pub use Rattle.tds_packet.specs.declared.fault.Fault.{Fault}
+pub use Rattle.tds_packet.specs.declared.fault.Fault.TheVariants.{BadValue, ReadFailed, BadValueLength, MessageEnded, WriteFailed, BadText}
+pub use Rattle.tds_packet.specs.declared.fault.Fault.TheVariants.{RefusedToken, PlpLength}
+pub use Rattle.tds_packet.specs.declared.fault.Place.TheVariants.{Payload}
+pub use Rattle.tds_packet.specs.declared.fault.Stop.{Stop}
+pub use Rattle.tds_rows.specs.Blames.{failures_of, StopBlames, Failures}
+pub use Rattle.tds_rows.specs.CellSteps.{int4_kind, IsValueText, StallsCell, IsScalarLeft, scalar_size, cell_so_far, opened, StopsField, IsLeft}
+pub use Rattle.tds_rows.specs.CellSteps.{start_after, WritesKind, length_after, value_length, is_last_column, HasInt4, PutsField, value_bytes}
+pub use Rattle.tds_rows.specs.CellSteps.{GathersCell, WritesField, whole_size, value_start}
+pub use Rattle.tds_rows.specs.Cells.{chunk_fault, ShortData, within_total, ScalarLength, ScalarCell, WholeCell, CountedShape, cell, ChunkLength}
+pub use Rattle.tds_rows.specs.Cells.{value_part, end_of_chunks, ShortLength, cell_start, null_total, cell_add, Null, unknown_total, SpellsChunked}
+pub use Rattle.tds_rows.specs.Cells.{cell_size, unless, shape, ScalarBytes, Total, field, SpellsShort, Shape, known_total, cell_end, FixedShape}
+pub use Rattle.tds_rows.specs.Cells.{field_so_far, ChunkData, CellPart, SpellsChunk, return_charset, SpellsChunks, LongShape, shape_of_length}
+pub use Rattle.tds_rows.specs.Cells.{cell_fault, Cell, is_total, SpellsCell, long_start, DataCell}
+pub use Rattle.tds_rows.specs.FormRuns.{FormsWritten, FirstLeft, FieldsWritten, AreNext, WritesForms, FirstUsed, FirstWritten}
+pub use Rattle.tds_rows.specs.Forms.{AreLaidOut}
+pub use Rattle.tds_rows.specs.Layouts.{HasValueAt, shape_of_layout, IsLaidOut}
+pub use Rattle.tds_rows.specs.LongCells.{RefusesNumber, EndsData, added_text, StopsFilling, StopsEnding, total_of, chunk_length_fault, EndPut}
+pub use Rattle.tds_rows.specs.LongCells.{RefusesData, StopsData, ReadsNumber, short_length, CutsNumber, total_fault, ending, BreaksData, short_fault}
+pub use Rattle.tds_rows.specs.LongCells.{join_stop, opening, FillsData, CutsData, TakesData}
+pub use Rattle.tds_rows.specs.MarkedRuns.{WritesColumn, EndsLeft, MarkedPut, AreClear, PutsMarked, WritesMarked, RunsMarked, WritesNext}
+pub use Rattle.tds_rows.specs.PassedCells.{CellPassed, StepsOver, StopsPassing, IsGoodValue, CutsPassing, return_cell, PassesData, PassesCell}
+pub use Rattle.tds_rows.specs.PassedCells.{AnyData}
+pub use Rattle.tds_rows.specs.RowReading.{CellRead, KindRead, LeavesRows, IsInRow, StaysInRow, NextRead}
+pub use Rattle.tds_rows.specs.RowSteps.{ReadsRow, ReadsRows, RowsRead, RowStops, RowsStop}
+pub use Rattle.tds_rows.specs.Rows.{marked, WholeRow, bitmap_length, row_add, SpellsMarked, bit, RowToken, Bitmap, PlainRow, with_cell, RowPart}
+pub use Rattle.tds_rows.specs.Rows.{SpellsNbcRow, SpellsRow, row, SpellsRowAs, NbcRow, row_so_far, with_field, row_size, InCell, token_byte}
+pub use Rattle.tds_rows.specs.Rows.{row_start, token_start, next_cell, nbc_row_start}
+pub use Rattle.tds_rows.specs.Runs.{rows_so_far, lines, rows, RunsRows, Writes, rows_start, RowsPut, CellsWritten, after_cells, RunEnds, RowsPart}
+pub use Rattle.tds_rows.specs.Runs.{WritesRows}
+pub use Rattle.tds_rows.specs.ShortCells.{stated_length, short_size}
+pub use Rattle.tds_rows.specs.Successes.{SpellsRows, ReadsOn, SucceedsOn, BeginNoRow, Brings}
+pub use Rattle.tds_rows.specs.Tables.{IsNextKind, TakesColumn, IsAhead, AreAhead, KnowsSome, kinds, Knows, NextColumn}
+pub use Rattle.tds_rows.specs.WholeCells.{WritesCell, WritesWhole}
+pub use Rattle.tds_rows.specs.declared.cell.layout.Form.{Form}
+pub use Rattle.tds_rows.specs.declared.cell.layout.Layout.{Layout}
+pub use Rattle.tds_rows.specs.declared.cell.whole.TheConstants.{CELL_ROOM}
+pub use Rattle.tds_rows.specs.declared.rows.Rows.{Rows}
+pub use Rattle.tds_rows.specs.declared.run.CellRun.{CellRun}
+pub use Rattle.tds_rows.specs.declared.run.RowsRun.{RowsRun}
+pub use Rattle.tds_rows.specs.declared.run.forms.FormsRun.{FormsRun}
+pub use Rattle.tds_rows.specs.declared.table.Ahead.{Ahead}
+pub use Rattle.tds_rows.specs.declared.table.Table.{Table}
+pub use Rattle.tds_values.proofs.WrittenLemmas.{answered}
+pub use Rattle.tds_values.specs.Kind.{is_length_allowed, fixed_length, is_scalar}
+pub use Rattle.tds_values.specs.Numbers.{little}
+pub use Rattle.tds_values.specs.Scalar.{read_of}
+pub use Rattle.tds_values.specs.ScalarText.{text_of}
+pub use Rattle.tds_values.specs.declared.charset.Charset.{Charset}
+pub use Rattle.tds_values.specs.declared.kind.Kind.{Kind}
+pub use Rattle.tds_values.specs.declared.kind.Kind.TheVariants.{Int4, Narrow, Binary, IntN, Wide}
+pub use Rattle.tds_values.specs.declared.kind.Reach.{Reach}
+pub use Rattle.tds_values.specs.declared.kind.Reach.TheVariants.{Short, Chunked}
+pub use Rattle.tds_values.specs.declared.scalar.ScalarValue.{ScalarValue}
+pub use Rattle.tds_values.specs.declared.scalar.ValueFault.{ValueFault}

@@ -20,7 +20,7 @@ use Rattle.tds_csv.specs.declared.sink.Sink.{Sink}
 use Rattle.tds_csv.specs.Sinks.{Held, held}
 use Rattle.tds_csv.specs.Streaming.{StopsStreaming, Streams}
 use Rattle.tds_values.specs.declared.charset.Charset.{Charset}
-use Rattle.tds_rows.specs.declared.run.fields.Written.{Written}
+use Rattle.tds_rows.specs.declared.cell.whole.Written.{Written}
 use Rattle.tds_rows.specs.ShortCells.{IsShortLeft, short_conversion, short_size}
 use Rattle.tds_rows.specs.WholeCells.{WritesCell, WritesWhole}
 use Rattle.tds_rows.specs.Cells.{Cell, CellPart, WholeCell, cell, cell_start, field, field_so_far, shape}

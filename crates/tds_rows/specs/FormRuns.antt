@@ -3,8 +3,8 @@ use Rattle.std.specs.Prelude.{◌≡◌, ◌==◌, ◌⊎◌, ◌+◌, ◌<◌, 
 use Rattle.tds_columns.specs.Description.{Column}
 use Rattle.tds_csv.specs.Quoting.{after_comma}
 use Rattle.tds_values.specs.declared.charset.Charset.{Charset}
-use Rattle.tds_rows.specs.declared.form.Form.{Form}
-use Rattle.tds_rows.specs.declared.run.fields.TheConstants.{CELL_ROOM}
+use Rattle.tds_rows.specs.declared.cell.layout.Form.{Form}
+use Rattle.tds_rows.specs.declared.cell.whole.TheConstants.{CELL_ROOM}
 use Rattle.tds_rows.specs.declared.run.forms.FormsRun.{FormsRun}
 use Rattle.tds_rows.specs.CellSteps.{IsLeft, WritesField, whole_size}
 use Rattle.tds_rows.specs.MarkedRuns.{WritesMarked}

@@ -1,7 +1,7 @@
 -- The forms that a table knows.
 use Rattle.std.specs.Prelude.{◌<◌, ℕ, List, length, get_or}
 use Rattle.tds_values.specs.declared.charset.Charset.{Charset}
-use Rattle.tds_rows.specs.declared.form.Form.{Form}
+use Rattle.tds_rows.specs.declared.cell.layout.Form.{Form}
 use Rattle.tds_rows.specs.Layouts.{IsLaidOut}
 
 -- how many columns a table knows by itself

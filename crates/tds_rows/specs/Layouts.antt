@@ -1,17 +1,19 @@
 -- How the values of a kind are laid out in their cells.
-use Rattle.std.specs.Prelude.{◌≡◌, ℕ, ⊤, List, [], slice_index}
+use Rattle.std.specs.Prelude.{◌≡◌, ℕ, List, slice_index}
 use Rattle.tds_values.specs.declared.kind.Kind.{Kind}
 use Rattle.tds_csv.specs.Fields.{conversion_of}
 use Rattle.tds_values.specs.declared.charset.Charset.{Charset}
-use Rattle.tds_rows.specs.declared.form.Layout.{Layout}
-use Rattle.tds_rows.specs.declared.form.Layout.TheVariants.{Fixed, Counted, Long}
+use Rattle.tds_rows.specs.declared.cell.layout.Layout.{Layout}
+use Rattle.tds_rows.specs.declared.cell.layout.Layout.TheVariants.{Fixed, Counted, Short, Chunked}
+use Rattle.tds_values.specs.declared.kind.Reach.TheVariants as reaches
 use Rattle.tds_rows.specs.Cells.{Shape, FixedShape, CountedShape, LongShape, shape}
 
 -- the shape of values that are laid out so
 abbrev pub shape_of_layout : Layout → Shape
 shape_of_layout (Fixed n) = FixedShape n
 shape_of_layout Counted = CountedShape
-shape_of_layout (Long content reach) = LongShape (conversion_of content) reach
+shape_of_layout (Short content) = LongShape (conversion_of content) reaches.Short
+shape_of_layout (Chunked content) = LongShape (conversion_of content) reaches.Chunked
 
 -- The values of this kind are laid out so, if single-byte text is in this set.
 abbrev pub IsLaidOut : Charset → Kind → Layout → Type 0
@@ -22,9 +24,3 @@ abbrev pub HasValueAt : Layout → List ℕ → ℕ → ℕ → Type 0
 HasValueAt (Fixed k) bytes start n = (start ≡ 0) × (n ≡ k)
 HasValueAt Counted bytes start n = (start ≡ 1) × (n ≡ slice_index bytes 0)
 HasValueAt layout bytes start n = ⊥
-
--- It isn't there: no length is, or it is a long value.
-abbrev pub HasNoValue : Layout → List ℕ → Type 0
-HasNoValue (Fixed k) bytes = ⊥
-HasNoValue Counted bytes = bytes ≡ []
-HasNoValue layout bytes = ⊤

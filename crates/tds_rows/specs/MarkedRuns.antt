@@ -10,7 +10,7 @@ use Rattle.tds_csv.specs.declared.sink.Sink.{Sink}
 use Rattle.tds_csv.specs.Sinks.{Held, Puts, held}
 use Rattle.tds_values.specs.declared.charset.Charset.{Charset}
 use Rattle.tds_rows.specs.declared.run.CellRun.{CellRun}
-use Rattle.tds_rows.specs.declared.run.fields.TheConstants.{CELL_ROOM}
+use Rattle.tds_rows.specs.declared.cell.whole.TheConstants.{CELL_ROOM}
 use Rattle.tds_rows.specs.declared.table.Ahead.{Ahead}
 use Rattle.tds_rows.specs.declared.table.Table.{Table}
 use Rattle.tds_rows.specs.Cells.{cell_start, shape}

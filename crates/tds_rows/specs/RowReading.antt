@@ -7,7 +7,7 @@ use Rattle.tds_packet.specs.Payloads.{IsGoing, IsOnSame, LeavesPayload, buffered
 use Rattle.tds_packet.specs.Seen.{Takes}
 use Rattle.tds_csv.specs.Quoting.{in_line, null_field}
 use Rattle.tds_csv.specs.Sinks.{IsOnSameSink, IsWriting, LeavesSink, PutsPiece}
-use Rattle.tds_rows.specs.declared.reading.Rows.{Rows}
+use Rattle.tds_rows.specs.declared.rows.Rows.{Rows}
 use Rattle.tds_rows.specs.declared.table.Ahead.{Ahead}
 use Rattle.tds_rows.specs.Cells.{CellPart}
 use Rattle.tds_meter.specs.Space.{Space}

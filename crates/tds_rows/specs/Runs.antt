@@ -13,7 +13,7 @@ use Rattle.tds_csv.specs.declared.sink.Sink.{Sink}
 use Rattle.tds_csv.specs.Sinks.{Held, held}
 use Rattle.tds_csv.specs.Streaming.{Streams}
 use Rattle.tds_values.specs.declared.charset.Charset.{Charset}
-use Rattle.tds_rows.specs.declared.run.fields.Written.{Written}
+use Rattle.tds_rows.specs.declared.cell.whole.Written.{Written}
 use Rattle.tds_rows.specs.declared.run.CellRun.{CellRun}
 use Rattle.tds_rows.specs.declared.run.RowsRun.{RowsRun}
 use Rattle.tds_rows.specs.declared.table.Ahead.{Ahead}

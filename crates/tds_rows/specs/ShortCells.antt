@@ -4,7 +4,7 @@ use Rattle.tds_values.specs.declared.kind.Reach.TheVariants.{Short}
 use Rattle.tds_csv.specs.Conversion.{Conversion, is_fit}
 use Rattle.tds_csv.specs.Fields.{field_room}
 use Rattle.tds_csv.specs.Quoting.{in_line}
-use Rattle.tds_rows.specs.declared.run.fields.Written.{Written}
+use Rattle.tds_rows.specs.declared.cell.whole.Written.{Written}
 use Rattle.tds_rows.specs.Cells.{LongShape, Shape, ShortLength}
 use Rattle.tds_rows.specs.WholeCells.{WritesWhole}
 

@@ -6,7 +6,7 @@ use Rattle.tds_columns.specs.Walking.{columns_left}
 use Rattle.tds_rows.specs.CellSteps.{is_last_column}
 use Rattle.tds_rows.specs.Forms.{AreLaidOut}
 use Rattle.tds_rows.specs.declared.table.Ahead.{Ahead}
-use Rattle.tds_rows.specs.declared.form.Form.{Form}
+use Rattle.tds_rows.specs.declared.cell.layout.Form.{Form}
 use Rattle.tds_rows.specs.declared.table.Table.{Table}
 
 -- the kinds of columns

@@ -1,31 +1,94 @@
 // A row with a bitmap of the columns that are NULL, and such rows after one another (MS-TDS, NBCROW).
-ghost use Rattle.std.specs.Prelude.{◌≡◌, ℕ, ◌+◌, ◌*◌, ◌<◌, ◌≤◌, ◌++◌, List, None, false, length, IfOk};
+ghost use Rattle.std.specs.Prelude.{◌≡◌, ◌-◌, ◌*◌, ◌<◌, ◌≤◌, drop, length, ℕ, ◌+◌, ◌++◌, List, None, false, IfOk};
+ghost use Rattle.tds_rows.specs.MarkedRuns.{AreClear, EndsClear, EndsLeft, MarkedWritten, MarkedPut, room_left};
+ghost use Rattle.tds_rows.specs.Rows.{bit, NbcRow, SpellsNbcRow, bitmap_length, longest_bitmap, nbc_row_start};
 ghost use Rattle.tds_columns.specs.Description.{Column};
 ghost use Rattle.tds_columns.specs.View.{columns_of};
 ghost use Rattle.tds_csv.specs.Sinks.{IsReady, IsWriting, LeavesSink};
 ghost use Rattle.tds_packet.specs.Payloads.{IsGoing, IsSound, LeavesPayload, buffered};
 ghost use Rattle.tds_packet.specs.Reads.{KeepsRoom};
-ghost use Rattle.tds_rows.specs.MarkedRuns.{EndsLeft, MarkedPut, room_left};
 ghost use Rattle.tds_rows.specs.RowReading.{AwaitsBitmap, IsInRow, LeavesRows, NextRead, RowRead, StaysInRow};
 ghost use Rattle.tds_rows.specs.RowSteps.{RowPut, RowsRead, StopsAgain};
 ghost use Rattle.tds_rows.specs.Cells.{Cell};
 ghost use Rattle.tds_rows.specs.CellSteps.{LeavesSmall, longest_cell};
 ghost use Rattle.tds_rows.specs.Layouts.{IsLaidOut};
-ghost use Rattle.tds_rows.specs.Rows.{NbcRow, SpellsNbcRow, bit, bitmap_length, longest_bitmap, nbc_row_start};
 ghost use Rattle.tds_rows.specs.Successes.{BeginNoRow, SpellsRows, SucceedsOn};
 ghost use Rattle.tds_rows.specs.Tables.{Knows, KnowsSome};
 
-use crate::form::Form;
-use crate::reading::Rows;
-use crate::run::fields::put_null;
-use crate::run::nulls::{is_null, run_nulls};
+use crate::cell::layout::Form;
+use crate::cell::whole::{CELL_ROOM, put_null};
+use crate::rows::Rows;
+use crate::run::{CellRun, run_cells};
 use crate::table::{Ahead, Table};
 use std::io::{Read, Write};
 use tds_columns::{Columns, take_into};
-use tds_csv::Sink;
+use tds_csv::{Sink, write_null};
 use tds_meter::Area;
 use tds_packet::{Payload, Stop};
 use tds_values::Charset;
+
+// Whether the bit of a column is set. The lowest bit of the first byte is the bit of column 0.
+pub(crate) fn is_null(bitmap: &[u8], column: u16) -> bool
+    requires { column < 8 * length bitmap.now }
+    ensures { result ≡ bit bitmap.now column }
+{
+    (bitmap[column as usize / 8] >> (column % 8) as u32) & 1 == 1
+}
+
+// The end of the columns from `from` on whose bits are clear. Those before `known` are known to be clear.
+#[inline(always)]
+fn clear_end(bitmap: &[u8], from: u16, known: u16, count: u16) -> u16
+    requires bitmap { count ≤ 8 * length bitmap.now }
+    requires within { from ≤ count }
+    requires most { known ≤ count }
+    requires clear { AreClear (bit bitmap.now) from known }
+    ensures { EndsClear (bit bitmap.now) from count result }
+{
+    let mut at = from.max(known);
+    while at < count && !is_null(bitmap, at) {
+        at += 1;
+    }
+    at
+}
+
+// Writes cell after cell of an NBCROW, as far as they are NULL by their bit or whole in these bytes, aren't in
+// chunks, and have room. NULLs are written here.
+#[inline(never)]
+pub(crate) fn run_nulls<'a>(
+    table: &Table<'a>,
+    from: Ahead<'a>,
+    bitmap: &[u8],
+    bytes: &[u8],
+    to: &mut [u8],
+) -> CellRun<'a>
+    requires bitmap { table.now.count ≤ 8 * length bitmap.now }
+    ensures used { result.used ≤ length bytes.now }
+    ensures made { result.made ≤ length to.old }
+    ensures ends { EndsLeft table.now (bit bitmap.now) result.ahead (drop result.used bytes.now)
+        (length to.old - result.made) }
+    ensures gives { MarkedWritten table.now (bit bitmap.now) from.entry bytes.now to.new result }
+{
+    let mut used = 0;
+    let mut made = 0;
+    let mut ahead = from;
+    let mut end = 0;
+    while to.len() - made >= CELL_ROOM && ahead.column < table.count() {
+        end = clear_end(bitmap, ahead.column, end, table.count());
+        if end == ahead.column {
+            made += write_null(end, table.is_last(ahead), &mut to[made..]);
+            table.step(&mut ahead, 1);
+            continue;
+        }
+        let cells = run_cells(table, ahead, end, &bytes[used..], &mut to[made..]);
+        if cells.used == 0 {
+            break;
+        }
+        used += cells.used;
+        made += cells.made;
+        ahead = cells.ahead;
+    }
+    CellRun { used, made, ahead }
+}
 
 /// The token byte of an NBCROW (MS-TDS, NBCROW).
 pub const NBCROW: u8 = 0xD2;

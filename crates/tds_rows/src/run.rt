@@ -1,22 +1,17 @@
 // A run of cells: as many as are whole in the packet and have room, over the ends of rows.
 ghost use Rattle.std.specs.Prelude.{◌≡◌, ◌+◌, ◌-◌, ◌<◌, ◌≤◌, Bool, drop, length, IfSome};
-ghost use Rattle.tds_rows.specs.declared.run.fields.TheConstants.{CELL_ROOM};
+ghost use Rattle.tds_rows.specs.declared.cell.whole.TheConstants.{CELL_ROOM};
 ghost use Rattle.tds_rows.specs.Layouts.{IsLaidOut};
 ghost use Rattle.tds_rows.specs.Runs.{AloneWritten, CellsWritten, RowsWritten, RunEnds, StaysWithin};
 ghost use Rattle.tds_rows.specs.Tables.{AreAhead, KnowsAll};
 
-use crate::form::Form;
-use crate::run::buffered::{INT4_SIZE, int4_at};
-use crate::run::fields::{CELL_ROOM, INT4_ROOM, Written, write_int4_field};
+use crate::cell::layout::Form;
+use crate::cell::whole::{CELL_ROOM, INT4_ROOM, INT4_SIZE, Written, int4_at, write_int4_field};
 use crate::run::forms::run_forms;
 use crate::table::{Ahead, Table};
 use tds_values::Charset;
 
-pub(crate) mod buffered;
-pub(crate) mod fields;
 pub(crate) mod forms;
-pub(crate) mod nulls;
-pub(crate) mod short;
 
 /// The token byte of a ROW (MS-TDS, ROW).
 pub const ROW: u8 = 0xD1;

@@ -3,7 +3,7 @@ ghost use Rattle.std.specs.Prelude.{◌≡◌, ◌==◌, ◌⊎◌, ◌+◌, ◌
 ghost use Rattle.tds_rows.specs.Forms.{AreLaidOut, table_length};
 ghost use Rattle.tds_rows.specs.Layouts.{IsLaidOut};
 
-use crate::form::Form;
+use crate::cell::layout::Form;
 use tds_columns::{Columns, Walk};
 use tds_values::{Charset, Kind};
 

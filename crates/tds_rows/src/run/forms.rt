@@ -3,9 +3,8 @@ ghost use Rattle.std.specs.Prelude.{◌≡◌, ◌==◌, ◌&&◌, ◌<◌, ◌�
 ghost use Rattle.tds_rows.specs.FormRuns.{FieldsWritten, FirstLeft, FirstUsed, FirstWritten, FormsWritten, IsWithin};
 ghost use Rattle.tds_rows.specs.Forms.{AreLaidOut};
 
-use crate::form::Form;
-use crate::run::buffered::write_cell;
-use crate::run::fields::{CELL_ROOM, VALUE_ROOM};
+use crate::cell::layout::Form;
+use crate::cell::whole::{CELL_ROOM, VALUE_ROOM, write_cell};
 use tds_csv::{COMMA, write_comma, write_line_end};
 use tds_values::Charset;
 

@@ -1,0 +1,26 @@
+use Rattle.tds_rows.proofs.{Words.{arith, rules, passed, between_of}, PassedCells.{cuts_more, passes_more, passes_none}}
+use Rattle.tds_rows.proofs.cell.passed.pass_data.Goals as goal
+
+pub loop-left-init : goal.loop-left-init
+loop-left-init g c = record {
+  going = c.requires.going;
+  same = search rules;
+  most = omega arith;
+  passes = passes_none (omega arith) (between_of g.R.Read.remaining c.args.payload.now c.requires.going.going);
+}
+
+pub returns-in_err-left-clause-gives : goal.returns-in_err-left-clause-gives
+returns-in_err-left-clause-gives g c =
+    let l = c.loop-left in
+    passed _ _ _ _ c.from_residual.ensures.1 (cuts_more (omega (arith, l.invariant.most, c.loop-left-test.true)) l.invariant.passes c.in_err-left.ensures.gives)
+
+pub loop-left-preserved : goal.loop-left-preserved
+loop-left-preserved g c =
+    let l = c.loop-left in
+    let done = c.in_ok-left.ensures in
+    record {
+      going = search rules;
+      same = search rules;
+      most = omega (arith, l.invariant.most);
+      passes = passes_more (omega (arith, l.invariant.most, done.some)) l.invariant.passes done.gives;
+    }

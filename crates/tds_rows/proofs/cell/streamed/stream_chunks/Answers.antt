@@ -1,0 +1,71 @@
+use Rattle.tds_rows.proofs.{Words.{◌≡◌, ◌∙◌, arith, refl, rules, sym, MatchResult-weaker, passed, chunk_length_fault}, LongValues.{chunk_path, chunks_end_stops, chunks_whole, streamed_more, streamed_none, reading_stops, rest_none}, LongSteps.{chunk_holds, filling_stops}, Numbers.{chunk_stops, chunk_blames, length_blames, read_stops, same_failures, stops_after}, Paths.path_stops}
+use Rattle.tds_rows.proofs.cell.streamed.stream_chunks.Goals as goal
+
+pub loop-n-init : goal.loop-n-init
+loop-n-init g c = record {
+  going = c.requires.joining.payload;
+  writing = c.requires.joining.sink;
+  same = search rules;
+  same_sink = search rules;
+  begun = c.requires.joining.begun;
+  few = omega arith;
+  calm = refl;
+  streamed = λ conversion suits.
+      streamed_none (c.requires.withheld ∙ sym (rest_none _)) c.requires.joining.sink.ready.2;
+}
+
+pub returns-in_err-n-clause-gives : goal.returns-in_err-n-clause-gives
+returns-in_err-n-clause-gives g c = λ conversion suits.
+    let l = c.loop-n in
+    let x = l.invariant.streamed conversion suits in
+    let y = rw c.UNIT.ensures at c.in_err-n.ensures.gives in
+    let stops = reading_stops c.args.last l.invariant.writing.ready.2 l.invariant.writing.writing (chunk_stops _ suits.unit_is x.counted y) in
+    passed _ _ _ _ c.from_residual.ensures.1 (path_stops x.path stops)
+
+pub returns-then-n-eq0-clause-gives : goal.returns-then-n-eq0-clause-gives
+returns-then-n-eq0-clause-gives g c = λ conversion suits.
+    let l = c.loop-n in
+    let x = l.invariant.streamed conversion suits in
+    let r = c.in_ok-n.ensures.gives in
+    let none : r.0 ≡ 0 = sym r.3 ∙ c.if-n-eq0.true in
+    let free = rw c.UNIT.ensures at r.2 in
+    let ended = rw c.place-place.ensures at (rw suits.quoted_is at (c.put_end.ensures.gives conversion x.content suits x.kept_is x.begun)) in
+    MatchResult-weaker c.put_end.result ended (λ _ y. chunks_whole _ suits.unit_is x r.1 free none y.0 y.1)
+    (λ stop y. chunks_end_stops _ suits.unit_is x r.1 free (l.invariant.writing.ready.1 l.invariant.writing.writing) l.invariant.writing.ready.2 none y)
+
+pub returns-in_err-push_data-clause-gives : goal.returns-in_err-push_data-clause-gives
+returns-in_err-push_data-clause-gives g c = λ conversion suits.
+    let l = c.loop-n in
+    let x = l.invariant.streamed conversion suits in
+    let r = c.in_ok-n.ensures.gives in
+    let reads = rw (sym r.3) at r.1 in
+    let free = rw (sym r.3) at (rw c.UNIT.ensures at r.2) in
+    let read = chunk_path _ suits.unit_is x reads free c.if-n-eq0.false l.invariant.writing.ready.2 in
+    passed _ _ _ _ c.from_residual-in_err-push_data.ensures.1 (path_stops read (filling_stops _ (chunk_holds _ conversion _) (c.in_err-push_data.ensures.gives conversion x.content suits x.kept_is x.begun)))
+
+pub loop-n-preserved : goal.loop-n-preserved
+loop-n-preserved g c =
+    let l = c.loop-n in
+    let done = c.in_ok-push_data.ensures in
+    record {
+      going = search rules;
+      writing = search rules;
+      same = search rules;
+      same_sink = search rules;
+      begun = done.leaves.begun;
+      calm = done.blames ∙ same_failures c.in_ok-n.ensures.gives.1.takes.4.0 refl ∙ l.invariant.calm;
+      few = omega (arith, l.invariant.few, done.place, (c.in_ok-n.ensures.gives).1.place_is);
+      streamed = λ conversion suits.
+          let x = l.invariant.streamed conversion suits in
+          let r = c.in_ok-n.ensures.gives in
+          let reads = rw (sym r.3) at r.1 in
+          let free = rw (sym r.3) at (rw c.UNIT.ensures at r.2) in
+          streamed_more _ suits.unit_is x reads free c.if-n-eq0.false l.invariant.writing.ready.2 done.leaves.sink.ready.2 (done.gives conversion x.content suits x.kept_is x.begun);
+    }
+
+pub returns-in_err-n-clause-blames : goal.returns-in_err-n-clause-blames
+returns-in_err-n-clause-blames g c =
+    let l = c.loop-n in
+    let stop = c.in_err-n.field-0.0 in
+    passed _ _ _ _ c.from_residual.ensures.1 (stops_after _ _ _ stop l.invariant.calm (read_stops _ _ stop
+    (length_blames g.R.Read.remaining (λ n. chunk_length_fault c.args.column c.UNIT.result c.args.total l.sum n) l.payload l.invariant.going.going (chunk_blames c.args.column c.UNIT.result c.args.total l.sum) c.in_err-n.ensures.gives)))

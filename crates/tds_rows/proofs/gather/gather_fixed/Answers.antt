@@ -1,6 +1,0 @@
-use Rattle.tds_rows.proofs.CellSteps.{fixed_taken}
-use Rattle.tds_rows.proofs.gather.gather_fixed.Goals as goal
-
-pub returns-clause-gives : goal.returns-clause-gives
-returns-clause-gives g c =
-    fixed_taken c.take_into.result _ _ _ _ _ _ _ c.requires.fixed c.requires.gathering.empty c.requires.gathering.payload.going c.take_into.ensures.place c.take_into.ensures.gives

@@ -1,0 +1,14 @@
+use Rattle.tds_rows.proofs.Words.{◌-◌, ◌≤◌, List, length, take, Column, AreClear, RunsMarked, bit, IsAhead, Knows}
+use Rattle.tds_rows.proofs.nbc.run_nulls.Given as goal
+
+abbrev pub invariant-loop-to : goal.invariant-loop-to
+invariant-loop-to l = record {
+  used : l.used ≤ length l.fn.bytes;
+  made : l.made ≤ length l.to;
+  most : l.end ≤ l.fn.table.count;
+  clear : AreClear (bit l.fn.bitmap) l.ahead.column l.end;
+  writes : (columns : List Column) → Knows l.fn.table columns → IsAhead l.fn.table columns l.fn.from → RunsMarked l.fn.table columns (bit l.fn.bitmap) l.fn.from l.ahead (take l.used l.fn.bytes) (take l.made l.to);
+}
+
+abbrev pub decreases-loop-to : goal.decreases-loop-to
+decreases-loop-to l = l.fn.table.count - l.ahead.column

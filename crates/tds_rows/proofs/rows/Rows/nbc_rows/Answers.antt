@@ -1,0 +1,57 @@
+use Rattle.tds_rows.proofs.{Words.{NbcRow, ◌∙◌, refl, sym, ap, arith, rules, passed}, NextSteps.{rows_first, rows_row, rows_stop, rows_token, stays, stays_after, stays_on}}
+use Rattle.tds_rows.proofs.rows.Rows.nbc_rows.Goals as goal
+
+pub loop-ended-init : goal.loop-ended-init
+loop-ended-init g c = record { stays = stays c.requires.in_row; knows = c.requires.knows; room = refl; few = omega arith; reads = λ columns knows. rows_first c.requires.in_row.sink.ready.2 }
+
+pub returns-in_err-nbc_row-clause-gives : goal.returns-in_err-nbc_row-clause-gives
+returns-in_err-nbc_row-clause-gives g c = λ columns known.
+    let l = c.loop-ended in
+    let knows = rw (sym l.invariant.stays.same.3) at known in
+    let stops = rows_stop (l.invariant.reads columns knows) (c.in_err-nbc_row.ensures.gives columns knows) in
+    passed _ _ _ _ c.from_residual.ensures.1 (rw l.invariant.stays.same.3 at stops)
+
+pub returns-then-not-take_token-clause-gives : goal.returns-then-not-take_token-clause-gives
+returns-then-not-take_token-clause-gives g c = λ columns known.
+    let l = c.loop-ended in
+    let knows = rw (sym l.invariant.stays.same.3) at known in
+    let read = rows_row (l.invariant.reads columns knows) (c.in_ok-nbc_row.ensures.gives columns knows) in
+    let there = rw l.invariant.stays.same.3 at read in
+    rw (sym (c.if-not-take_token.ensures.gives NbcRow refl).0, sym c.take_token.ensures.sink) at there
+
+pub returns-then-not-take_token-clause-few : goal.returns-then-not-take_token-clause-few
+returns-then-not-take_token-clause-few g c =
+    let l = c.loop-ended in
+    let known = l.invariant.knows in
+    omega (arith, l.invariant.few, (c.in_ok-nbc_row.ensures.gives known.0 known.1).place_is, ap (λ p. p.place) (c.if-not-take_token.ensures.gives NbcRow refl).0)
+
+pub returns-then-not-take_token-clause-all : goal.returns-then-not-take_token-clause-all
+returns-then-not-take_token-clause-all g c = (c.if-not-take_token.ensures.gives NbcRow refl).1
+
+pub loop-ended-preserved : goal.loop-ended-preserved
+loop-ended-preserved g c =
+    let l = c.loop-ended in
+    let done = c.in_ok-nbc_row.ensures in
+    let kept = c.take_token.ensures.stays in
+    let same = kept.same.3 ∙ done.leaves.same.3 in
+    let taken = c.if-not-take_token.ensures.gives NbcRow refl in
+    let known = l.invariant.knows in
+    record {
+      stays = stays_on (stays_on l.invariant.stays (stays_after l.invariant.stays.in_row done.leaves)) kept;
+      knows = rw (sym same) at known;
+      room = search (arith, rules);
+      few = omega (arith, l.invariant.few, (done.gives known.0 known.1).place_is, taken.1);
+      reads = rw same (λ columns knows.
+          let read = rows_row (l.invariant.reads columns knows) (done.gives columns knows) in
+          let begun = rows_token (omega (arith, l.invariant.knows.2, knows.counted)) done.leaves.sink.ready.2 read taken.0 in
+          rw (sym taken.1, sym c.take_token.ensures.sink) at begun);
+    }
+
+pub loop-ended-smaller : goal.loop-ended-smaller
+loop-ended-smaller g c =
+    let l = c.loop-ended in
+    let done = c.in_ok-nbc_row.ensures in
+    let kept = c.take_token.ensures.stays in
+    let taken = c.if-not-take_token.ensures.gives NbcRow refl in
+    let known = l.invariant.knows in
+    omega (arith, (done.gives known.0 known.1).place_is, taken.1, kept.in_row.payload.sound.place, kept.in_row.payload.sound.wire, kept.payload.3, done.leaves.payload.same.3)

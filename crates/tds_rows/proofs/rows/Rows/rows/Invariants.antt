@@ -1,0 +1,13 @@
+use Rattle.tds_rows.proofs.{Words.{◌+◌, ◌-◌, ◌≤◌, List, Column, StaysInRow, Knows, KnowsSome}, NextSteps.RowsHere, Paths.here}
+use Rattle.tds_rows.proofs.rows.Rows.rows.Given as goal
+
+abbrev pub invariant-loop-form : goal.invariant-loop-form
+invariant-loop-form g l = record {
+  stays : StaysInRow l.initial.self l.self;
+  knows : KnowsSome l.self.table.now;
+  few : l.initial.self.payload.now.place + l.ended ≤ l.self.payload.now.place;
+  reads : (columns : List Column) → Knows l.self.table.now columns → RowsHere g.R.Read.remaining g.W.Write.contents columns (here g.R.Read.remaining g.W.Write.contents l.initial.self) l.self l.ahead l.ended;
+}
+
+abbrev pub decreases-loop-form : goal.decreases-loop-form
+decreases-loop-form g l = l.self.payload.now.max_wire - l.self.payload.now.place

@@ -1,5 +1,0 @@
-use Rattle.tds_rows.proofs.Words.{common_steps, arith}
-use Rattle.tds_rows.proofs.run.nulls.is_null.Goals as goal
-
-pub returns : goal.returns
-returns c = grind (arith, common_steps)

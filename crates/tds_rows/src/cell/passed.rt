@@ -1,0 +1,181 @@
+// The value of a RETURNVALUE, which is passed over (MS-TDS, RETURNVALUE).
+ghost use Rattle.std.specs.Prelude.{◌<◌, ◌≤◌, IfOk, [], ◌≡◌, ◌++◌, ℕ, List, true, false, length, None, Err, IfSome, IsTrue};
+ghost use Rattle.tds_packet.specs.Payloads.{IsGoing, LeavesPayload, IsSound};
+ghost use Rattle.tds_rows.specs.PassedCells.{DataPassed, PiecePassed, AnyData, CellPassed, IsGoodValue, IsRefusedValue};
+ghost use Rattle.tds_csv.specs.Conversion.{Conversion};
+ghost use Rattle.tds_rows.specs.Cells.{ChunkLength, Total, Cell, LongShape, ShortLength, SpellsCell, cell_start, return_charset, shape};
+ghost use Rattle.tds_rows.specs.CellSteps.{IsScalarKind, LeavesGathering, LeavesSmall, longest_cell, scalar_size};
+ghost use Rattle.tds_rows.specs.Successes.{ReadsOn};
+ghost use Rattle.tds_values.specs.declared.kind.Kind.{Kind};
+ghost use Rattle.tds_values.specs.Kind as kinds;
+
+use crate::cell::gathered::{gather_scalar, length_size};
+use crate::cell::lengths::{read_chunk_length, read_short_length, read_total};
+use std::io::Read;
+use tds_meter::Area;
+use tds_packet::{Fault, Payload, Stop};
+use tds_values::{Kind, Reach, read_scalar};
+
+/// The column of the stops in the value of a RETURNVALUE.
+pub(crate) const RETURN_COLUMN: u16 = 65535;
+
+// Passes over the next bytes that are in the packet, at most `most`, or over the first byte of another packet.
+// Returns how many they are.
+fn pass_piece<R: Read>(payload: &mut Payload<R>, most: u64) -> Result<u64, Stop>
+    requires going { IsGoing payload.old }
+    requires some { 0 < most }
+    ensures payload { LeavesPayload payload.old payload.new result }
+    ensures some { IfOk result (λ n. (0 < n) × (n ≤ most)) }
+    ensures gives { PiecePassed R.remaining payload.old payload.new result }
+{
+    let held = payload.buffered().len() as u64;
+    if held == 0 {
+        payload.pass(1)?;
+        return Ok(1);
+    }
+    let n = held.min(most);
+    payload.consume(n as usize);
+    Ok(n)
+}
+
+// Passes over `n` bytes, and stops at the first that is missing.
+pub(crate) fn pass_data<R: Read>(payload: &mut Payload<R>, n: u64) -> Result<(), Stop>
+    requires going { IsGoing payload.old }
+    ensures payload { LeavesPayload payload.old payload.new result }
+    ensures gives { DataPassed R.remaining n payload.old payload.new result }
+{
+    let mut left = n;
+    while left > 0 {
+        left -= pass_piece(payload, left)?;
+    }
+    Ok(())
+}
+
+// Passes over the chunks and the terminator.
+fn pass_chunks<R: Read>(payload: &mut Payload<R>, unit: u64, total: Option<u64>) -> Result<(), Stop>
+    requires going { IsGoing payload.old }
+    requires unit { 0 < unit }
+    ensures payload { LeavesPayload payload.old payload.new result }
+    ensures gives { (c : Conversion) → AnyData c unit →
+        CellPassed R.remaining (ChunkLength c total []) payload.old payload.new result }
+{
+    let mut sum = 0u64;
+    loop {
+        let n = read_chunk_length(payload, RETURN_COLUMN, unit, total, sum)?;
+        if n == 0 {
+            return Ok(());
+        }
+        pass_data(payload, n)?;
+        sum += n;
+    }
+}
+
+// Passes over a value in chunks, whose data has units of `unit` bytes.
+pub(crate) fn pass_chunked<R: Read>(payload: &mut Payload<R>, unit: u64) -> Result<(), Stop>
+    requires going { IsGoing payload.old }
+    requires unit { 0 < unit }
+    ensures payload { LeavesPayload payload.old payload.new result }
+    ensures gives { (c : Conversion) → AnyData c unit →
+        CellPassed R.remaining (Total c) payload.old payload.new result }
+{
+    let Some(total) = read_total(payload, RETURN_COLUMN, unit)? else {
+        return Ok(());
+    };
+    pass_chunks(payload, unit, total)
+}
+
+// Whether the value of a scalar cell is out of range; NULL isn't.
+fn is_refused(kind: &Kind, cell: &[u8]) -> bool
+    requires scalar { IsScalarKind kind.now }
+    requires whole { length cell.now ≡ scalar_size kind.now cell.now }
+    ensures refused { result ≡ true → IsRefusedValue kind.now cell.now }
+    ensures good { result ≡ false → IsGoodValue kind.now cell.now }
+{
+    let start = length_size(kind);
+    start < cell.len() && read_scalar(kind, &cell[start..]).is_err()
+}
+
+// Passes over a value of a scalar kind, which is judged in the small area.
+fn pass_scalar<R: Read>(payload: &mut Payload<R>, kind: &Kind, small: &mut Area) -> Result<(), Stop>
+    requires going { IsGoing payload.old }
+    requires scalar { IsScalarKind kind.now }
+    requires room { longest_cell ≤ small.old.room }
+    ensures leaves { LeavesGathering payload.old payload.new small.old small.new result }
+    ensures gives { CellPassed R.remaining (cell_start kind.now (shape return_charset kind.now))
+        payload.old payload.new result }
+{
+    let place = payload.place();
+    gather_scalar(payload, kind, RETURN_COLUMN, small)?;
+    if is_refused(kind, small.bytes()) {
+        let fault = Fault::BadValue {
+            column: RETURN_COLUMN,
+        };
+        return Err(Stop::in_payload(fault, place + length_size(kind) as u64));
+    }
+    Ok(())
+}
+
+// Passes over a short value, whose data has units of `unit` bytes.
+fn pass_short<R: Read>(payload: &mut Payload<R>, unit: u64) -> Result<(), Stop>
+    requires going { IsGoing payload.old }
+    requires unit { 0 < unit }
+    ensures payload { LeavesPayload payload.old payload.new result }
+    ensures gives { (c : Conversion) → AnyData c unit →
+        CellPassed R.remaining (ShortLength c) payload.old payload.new result }
+{
+    let Some(n) = read_short_length(payload, RETURN_COLUMN, unit)? else {
+        return Ok(());
+    };
+    pass_data(payload, n)
+}
+
+// Passes over a long value, whose data has units of `unit` bytes.
+fn pass_long<R: Read>(payload: &mut Payload<R>, reach: Reach, unit: u64) -> Result<(), Stop>
+    requires going { IsGoing payload.old }
+    requires unit { 0 < unit }
+    ensures payload { LeavesPayload payload.old payload.new result }
+    ensures gives { (kind : Kind) (c : Conversion) → AnyData c unit →
+        CellPassed R.remaining (cell_start kind (LongShape c reach)) payload.old payload.new result }
+{
+    match reach {
+        Reach::Short => pass_short(payload, unit),
+        Reach::Chunked => pass_chunked(payload, unit),
+    }
+}
+
+/// Passes over the value of a RETURNVALUE, which may be of any kind: reads it from its first byte on, and
+/// keeps and puts nothing of it. It stops as a cell of column 65,535 does, but its text may be any
+/// bytes. [`Fault::BadValueLength`] and [`Fault::BadValue`] are as in a row, [`Fault::OddText`] is at the
+/// length, the total or the terminator of an odd Wide value, and [`Fault::PlpLength`] at the length of the
+/// chunk that passes the total or at the terminator before it. Any other stop is the payload's own: if the
+/// message ends, it is at the first byte of the element that isn't whole. Each byte of long data is an
+/// element. After a stop of the payload the same stop is returned, and nothing changes.
+///
+/// A scalar value is judged in the small area, which is emptied first and has room for 18 bytes at least.
+pub fn pass_over<R: Read>(
+    payload: &mut Payload<R>,
+    kind: &Kind,
+    small: &mut Area,
+) -> Result<(), Stop>
+    requires sound { IsSound payload.old }
+    requires valid { IsTrue (kinds.is_valid kind.now) }
+    requires room { longest_cell ≤ small.old.room }
+    ensures payload { LeavesPayload payload.old payload.new result }
+    ensures small { LeavesSmall small.old small.new }
+    ensures gives { payload.old.stopped ≡ None →
+        CellPassed R.remaining (cell_start kind.now (shape return_charset kind.now))
+        payload.old payload.new result }
+    ensures succeeds { payload.old.stopped ≡ None → (value : Cell) (bytes more : List ℕ) →
+        SpellsCell kind.now (shape return_charset kind.now) value bytes →
+        ReadsOn R.remaining payload.old payload.new result (bytes ++ more) }
+    ensures again { IfSome payload.old.stopped (λ stop. (result ≡ Err stop) × (payload.new ≡ payload.old)) }
+{
+    if let Some(stop) = payload.stopped() {
+        return Err(stop);
+    }
+    match *kind {
+        Kind::Binary(reach) | Kind::Narrow(reach) => pass_long(payload, reach, 1),
+        Kind::Wide(reach) => pass_long(payload, reach, 2),
+        _ => pass_scalar(payload, kind, small),
+    }
+}

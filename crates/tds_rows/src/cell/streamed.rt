@@ -1,0 +1,300 @@
+// A long value that passes through in pieces, by a joiner (MS-TDS, Data Stream Types).
+ghost use Rattle.std.specs.Prelude.{◌≡◌, ◌<◌, ◌+◌, ◌^◌, ◌++◌, ℕ, List, IfOk, [], false, IfErr, None};
+ghost use Rattle.tds_csv.specs.Conversion.{BeginsData, Conversion, Suits, closing, conversion_rest};
+ghost use Rattle.tds_csv.specs.Quoting.{after_comma, end_after};
+ghost use Rattle.tds_csv.specs.Sinks.{IsWriting, LeavesSink, PutsPiece, IsReady};
+ghost use Rattle.tds_rows.specs.Blames.{Blames, failures_of, failures_with};
+ghost use Rattle.tds_rows.specs.LongCells.{DataTaken, EndPut, PieceTaken, good_of, join_stop, opening};
+ghost use Rattle.tds_rows.specs.LongReading.{IsJoining, LeavesJoining, IsFurther, LeavesBoth};
+ghost use Rattle.tds_packet.specs.Payloads.{IsSound, LeavesPayload};
+ghost use Rattle.tds_meter.specs.Counts.{one_more};
+ghost use Rattle.tds_rows.specs.Cells.{Cell, ChunkLength, LongShape, ShortLength, SpellsCell, Total, long_start};
+ghost use Rattle.tds_rows.specs.CellSteps.{FieldPut};
+ghost use Rattle.tds_rows.specs.RowSteps.{StopsAgain};
+ghost use Rattle.tds_rows.specs.Successes.{SucceedsOn};
+ghost use Rattle.tds_values.specs.declared.kind.Kind.{Kind};
+
+use crate::cell::lengths::{read_chunk_length, read_short_length, read_total};
+use crate::cell::whole::put_null;
+use std::io::{Read, Write};
+use tds_csv::{JoinFault, Joiner, Sink, write_comma, write_line_end};
+use tds_packet::{Fault, Payload, Stop};
+use tds_values::Reach;
+
+// The most bytes that a piece is asked for.
+const LONGEST_PIECE: u64 = 65_536;
+
+// The stop of a joiner whose piece or end comes after `place` bytes of the payload: the sink's own, or one at
+// the bad byte.
+fn join_stop(fault: JoinFault, column: u16, place: u64) -> Stop
+    requires { place + good_of fault < 2 ^ 64 }
+    ensures { result ≡ join_stop column place fault }
+{
+    let good = match fault {
+        JoinFault::Stopped(stop) => return stop,
+        JoinFault::BadText(good) => good as u64,
+        JoinFault::Odd => 0,
+    };
+    Stop::in_payload(Fault::BadText { column }, place + good)
+}
+
+/// Puts the comma before a long value, and what comes before its text.
+pub(crate) fn put_opening<W: Write>(
+    column: u16,
+    quoted: bool,
+    sink: &mut Sink<W>,
+) -> Result<(), Stop>
+    requires { IsWriting sink.old }
+    ensures { PutsPiece W.contents sink.old sink.new (after_comma column (opening quoted)) result }
+{
+    let mut comma = [0u8; 1];
+    let made = write_comma(column, &mut comma);
+    sink.put(&comma[..made])?;
+    if quoted {
+        return sink.open_quoted();
+    }
+    sink.open_binary()
+}
+
+/// Puts what comes after the text of a long value, and the end of the line if it is the last.
+pub(crate) fn put_closing<W: Write>(
+    quoted: bool,
+    last: bool,
+    sink: &mut Sink<W>,
+) -> Result<(), Stop>
+    requires { IsWriting sink.old }
+    ensures { PutsPiece W.contents sink.old sink.new (closing quoted ++ end_after last) result }
+{
+    let mut end = [0u8; 2];
+    let made = write_line_end(last, 0, &mut end);
+    if !quoted {
+        return sink.put(&end[..made]);
+    }
+    sink.close_quoted()?;
+    sink.put(&end[..made])
+}
+
+// Hands the next piece of the data, at most `most` bytes, to the joiner in place, and returns its length.
+fn push_piece<J: Joiner, R: Read, W: Write>(
+    payload: &mut Payload<R>,
+    most: u64,
+    column: u16,
+    joiner: &mut J,
+    sink: &mut Sink<W>,
+) -> Result<u64, Stop>
+    requires joining { IsJoining J.begins (J.withheld joiner.old) payload.old sink.old }
+    requires some { 0 < most }
+    ensures leaves { LeavesJoining J.begins (J.withheld joiner.new)
+        payload.old payload.new sink.old sink.new result }
+    ensures further { IfOk result (λ n. IsFurther most payload.old payload.new n) }
+    ensures blames { Blames (failures_of payload.old sink.old) (failures_of payload.new sink.new) result }
+    ensures gives { (c : Conversion) (content : List ℕ) → Suits J.fit J.begins J.rest J.text J.UNIT J.QUOTED c →
+        J.withheld joiner.old ≡ conversion_rest c content → BeginsData c content →
+        PieceTaken R.remaining W.contents c content (J.withheld joiner.new) column most
+        payload.old payload.new sink.old sink.new result }
+{
+    let place = payload.place();
+    let piece = payload.piece(most.min(LONGEST_PIECE) as usize)?;
+    match joiner.push(piece, sink) {
+        Ok(()) => Ok(piece.len() as u64),
+        Err(fault) => Err(join_stop(fault, column, place)),
+    }
+}
+
+/// Hands `n` bytes of data to the joiner, piece by piece.
+pub(crate) fn push_data<J: Joiner, R: Read, W: Write>(
+    payload: &mut Payload<R>,
+    n: u64,
+    column: u16,
+    joiner: &mut J,
+    sink: &mut Sink<W>,
+) -> Result<(), Stop>
+    requires joining { IsJoining J.begins (J.withheld joiner.old) payload.old sink.old }
+    requires some { 0 < n }
+    ensures leaves { LeavesJoining J.begins (J.withheld joiner.new)
+        payload.old payload.new sink.old sink.new result }
+    ensures place { IfOk result (λ _. payload.new.place ≡ payload.old.place + n) }
+    ensures blames { Blames (failures_of payload.old sink.old) (failures_of payload.new sink.new) result }
+    ensures gives { (c : Conversion) (content : List ℕ) → Suits J.fit J.begins J.rest J.text J.UNIT J.QUOTED c →
+        J.withheld joiner.old ≡ conversion_rest c content → BeginsData c content →
+        DataTaken R.remaining W.contents c content (J.withheld joiner.new) column n
+        payload.old payload.new sink.old sink.new result }
+{
+    let mut left = n;
+    loop {
+        left -= push_piece(payload, left, column, joiner, sink)?;
+        if left == 0 {
+            return Ok(());
+        }
+    }
+}
+
+/// Puts the end of a value whose data was handed to the joiner. Stops at `place` if the data isn't whole text.
+pub(crate) fn put_end<J: Joiner, W: Write>(
+    joiner: &mut J,
+    column: u16,
+    last: bool,
+    place: u64,
+    sink: &mut Sink<W>,
+) -> Result<(), Stop>
+    requires { IsWriting sink.old }
+    ensures sink { LeavesSink sink.old sink.new result }
+    ensures blames { (reads : ℕ) → Blames (failures_with reads sink.old) (failures_with reads sink.new) result }
+    ensures gives { (c : Conversion) (content : List ℕ) → Suits J.fit J.begins J.rest J.text J.UNIT J.QUOTED c →
+        J.withheld joiner.old ≡ conversion_rest c content → BeginsData c content →
+        EndPut W.contents c J.QUOTED last content column place sink.old sink.new result }
+{
+    match joiner.end(sink) {
+        Ok(()) => put_closing(J::QUOTED, last, sink),
+        Err(fault) => Err(join_stop(fault, column, place)),
+    }
+}
+
+// Reads a short value from its length on, and puts its field, and the end of the line if it is the last.
+fn stream_short<J: Joiner, R: Read, W: Write>(
+    payload: &mut Payload<R>,
+    column: u16,
+    last: bool,
+    joiner: &mut J,
+    sink: &mut Sink<W>,
+) -> Result<(), Stop>
+    requires joining { IsJoining J.begins (J.withheld joiner.old) payload.old sink.old }
+    requires unit { 0 < J.UNIT }
+    requires withheld { J.withheld joiner.old ≡ [] }
+    ensures leaves { LeavesBoth payload.old payload.new sink.old sink.new result }
+    ensures blames { Blames (failures_of payload.old sink.old) (failures_of payload.new sink.new) result }
+    ensures gives { (c : Conversion) → Suits J.fit J.begins J.rest J.text J.UNIT J.QUOTED c →
+        FieldPut R.remaining W.contents (ShortLength c) column last payload.old payload.new sink.old sink.new result }
+{
+    let Some(n) = read_short_length(payload, column, J::UNIT)? else {
+        return put_null(column, last, sink);
+    };
+    put_opening(column, J::QUOTED, sink)?;
+    if n == 0 {
+        return put_end(joiner, column, last, payload.place(), sink);
+    }
+    push_data(payload, n, column, joiner, sink)?;
+    put_end(joiner, column, last, payload.place() - 1, sink)
+}
+
+// Reads the chunks and the terminator after a total, and puts the text of the data and its end.
+fn stream_chunks<J: Joiner, R: Read, W: Write>(
+    payload: &mut Payload<R>,
+    total: Option<u64>,
+    column: u16,
+    last: bool,
+    joiner: &mut J,
+    sink: &mut Sink<W>,
+) -> Result<(), Stop>
+    requires joining { IsJoining J.begins (J.withheld joiner.old) payload.old sink.old }
+    requires unit { 0 < J.UNIT }
+    requires withheld { J.withheld joiner.old ≡ [] }
+    ensures leaves { LeavesBoth payload.old payload.new sink.old sink.new result }
+    ensures blames { Blames (failures_of payload.old sink.old) (failures_of payload.new sink.new) result }
+    ensures gives { (c : Conversion) → Suits J.fit J.begins J.rest J.text J.UNIT J.QUOTED c →
+        FieldPut R.remaining W.contents (ChunkLength c total []) column last payload.old payload.new sink.old sink.new result }
+{
+    let mut sum = 0u64;
+    loop {
+        let place = payload.place();
+        let n = read_chunk_length(payload, column, J::UNIT, total, sum)?;
+        if n == 0 {
+            return put_end(joiner, column, last, place, sink);
+        }
+        push_data(payload, n, column, joiner, sink)?;
+        sum += n;
+    }
+}
+
+// Reads a value in chunks from its total on, and puts its field, and the end of the line if it is the last.
+fn stream_chunked<J: Joiner, R: Read, W: Write>(
+    payload: &mut Payload<R>,
+    column: u16,
+    last: bool,
+    joiner: &mut J,
+    sink: &mut Sink<W>,
+) -> Result<(), Stop>
+    requires joining { IsJoining J.begins (J.withheld joiner.old) payload.old sink.old }
+    requires unit { 0 < J.UNIT }
+    requires withheld { J.withheld joiner.old ≡ [] }
+    ensures leaves { LeavesBoth payload.old payload.new sink.old sink.new result }
+    ensures blames { Blames (failures_of payload.old sink.old) (failures_of payload.new sink.new) result }
+    ensures gives { (c : Conversion) → Suits J.fit J.begins J.rest J.text J.UNIT J.QUOTED c →
+        FieldPut R.remaining W.contents (Total c) column last payload.old payload.new sink.old sink.new result }
+{
+    let Some(total) = read_total(payload, column, J::UNIT)? else {
+        return put_null(column, last, sink);
+    };
+    put_opening(column, J::QUOTED, sink)?;
+    stream_chunks(payload, total, column, last, joiner, sink)
+}
+
+/// Reads a long value from its length or total on, and puts its field, and the end of the line if it is the last.
+pub(crate) fn stream_long<J: Joiner, R: Read, W: Write>(
+    payload: &mut Payload<R>,
+    reach: Reach,
+    column: u16,
+    last: bool,
+    joiner: &mut J,
+    sink: &mut Sink<W>,
+) -> Result<(), Stop>
+    requires joining { IsJoining J.begins (J.withheld joiner.old) payload.old sink.old }
+    requires unit { 0 < J.UNIT }
+    requires withheld { J.withheld joiner.old ≡ [] }
+    ensures leaves { LeavesBoth payload.old payload.new sink.old sink.new result }
+    ensures blames { Blames (failures_of payload.old sink.old) (failures_of payload.new sink.new) result }
+    ensures gives { (c : Conversion) → Suits J.fit J.begins J.rest J.text J.UNIT J.QUOTED c →
+        FieldPut R.remaining W.contents (long_start c reach) column last payload.old payload.new sink.old sink.new result }
+{
+    match reach {
+        Reach::Short => stream_short(payload, column, last, joiner, sink),
+        Reach::Chunked => stream_chunked(payload, column, last, joiner, sink),
+    }
+}
+
+/// Reads a long value from its length or total on, and puts its field, after a comma unless the column
+/// is 0. The joiner withholds nothing, and gets the data in pieces of the packet: nothing is copied
+/// into an area (MS-TDS, Data Stream Types).
+///
+/// [`Fault::OddText`] is at the length, the total or the terminator of data that isn't in whole units of
+/// the joiner. [`Fault::PlpLength`] is at the length of the chunk that passes the total, or at the terminator
+/// before it is reached. [`Fault::BadText`] is at the byte that begins no text. If the text isn't whole at the
+/// end, it is at the last byte of a short value, or at the terminator. Any other stop is the payload's or the
+/// sink's own. At a stop the text of the value so far is put: nothing before its length or total is accepted,
+/// then the comma, the quote or `0x`, and the text of the whole characters. After a stop of the payload or the
+/// sink the same stop is returned, and nothing changes.
+pub fn stream_value<J: Joiner + Drop, R: Read, W: Write>(
+    payload: &mut Payload<R>,
+    reach: Reach,
+    column: u16,
+    mut joiner: J,
+    sink: &mut Sink<W>,
+) -> Result<(), Stop>
+    requires sound { IsSound payload.old }
+    requires ready { IsReady sink.old }
+    requires withheld { J.withheld joiner ≡ [] }
+    ensures payload { LeavesPayload payload.old payload.new result }
+    ensures sink { LeavesSink sink.old sink.new result }
+    ensures gives { payload.old.stopped ≡ None → sink.old.failed ≡ false → (c : Conversion) →
+        Suits J.fit J.begins J.rest J.text J.UNIT J.QUOTED c →
+        FieldPut R.remaining W.contents (long_start c reach) column false
+        payload.old payload.new sink.old sink.new result }
+    ensures failed_reads { payload.old.stopped ≡ None → sink.old.failed ≡ false → IfErr result (λ stop.
+        stop.fault ≡ Fault.ReadFailed → payload.new.from.now.failures ≡ one_more payload.old.from.now.failures) }
+    ensures failed_writes { payload.old.stopped ≡ None → sink.old.failed ≡ false → IfErr result (λ stop.
+        stop.fault ≡ Fault.WriteFailed → sink.new.to.now.failures ≡ one_more sink.old.to.now.failures) }
+    ensures succeeds { payload.old.stopped ≡ None → sink.old.failed ≡ false → (c : Conversion) →
+        Suits J.fit J.begins J.rest J.text J.UNIT J.QUOTED c → (kind : Kind) (value : Cell) (bytes more : List ℕ) →
+        SpellsCell kind (LongShape c reach) value bytes →
+        SucceedsOn R.remaining payload.old payload.new sink.old sink.new result (bytes ++ more) }
+    ensures again { StopsAgain W.contents payload.old payload.new sink.old sink.new result }
+{
+    if let Some(stop) = payload.stopped() {
+        return Err(stop);
+    }
+    if let Some(stop) = sink.failure() {
+        return Err(stop);
+    }
+    J::laws();
+    stream_long(payload, reach, column, false, &mut joiner, sink)
+}
