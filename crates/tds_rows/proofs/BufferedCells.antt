@@ -1,5 +1,5 @@
 -- Cells whose bytes lie together, and the room that a sink lends for their text.
-use Rattle.tds_rows.proofs.{Words.{common_steps, ◌≡◌, ◌≢◌, ◌∙◌, ℕ, ◌+◌, ◌-◌, ◌<◌, ◌≤◌, Bool, true, false, List, [], ◌++◌, length, take, drop, Result, Ok, Err, MatchResult, inr, refl, sym, ap, arith, ◌∷◌, length-take-le, length-drop, None, Some, Option, ◌||◌, is_ok, slice_index, ne_eqb, Kind, IntN, ScalarValue, fixed_length, is_length_allowed, is_scalar, read_of, BadValueLength, Stop, Seen, Takes, IsBetween, choose_false, Spelt-none, Spelt-one, null_field, in_line, overwritten, Sink, Held, IsWriting, Puts, PutsPiece, held, spare_before, spare_written, Charset, CellPart, Null, ScalarBytes, ScalarCell, ScalarLength, cell, cell_start, shape, unless, value_part, IsScalarLeft, IsValueText, length_after, start_after, value_length, value_start, WritesCell, take-add, HasInt4, int4_kind}, CellSteps.{fixed_some, scalar_shape}, RowSteps.{ReadsCell, at_once_breaks, at_once_streams, PutsCell, StopsCell}}
+use Rattle.tds_rows.proofs.{Words.{common_steps, ◌≡◌, ◌≢◌, ◌∙◌, ℕ, ◌+◌, ◌-◌, ◌<◌, ◌≤◌, Bool, true, false, List, [], ◌++◌, length, take, drop, Result, Ok, Err, MatchResult, inr, refl, sym, ap, arith, ◌∷◌, length-take-le, length-drop, None, Some, Option, ◌||◌, is_ok, slice_index, ne_eqb, Kind, IntN, ScalarValue, fixed_length, is_length_allowed, is_scalar, read_of, BadValueLength, Stop, Seen, Takes, IsBetween, choose_false, Spelt-none, Spelt-one, null_field, in_line, overwritten, Sink, Held, IsWriting, Puts, PutsPiece, held, spare_before, spare_written, Charset, CellPart, Null, ScalarBytes, ScalarCell, ScalarLength, cell, cell_start, shape, unless, value_part, IsScalarLeft, IsValueText, length_after, start_after, value_length, value_start, WritesCell, take-add, IsInt4}, CellSteps.{fixed_some, scalar_shape}, RowSteps.{ReadsCell, at_once_breaks, at_once_streams, PutsCell, StopsCell}}
 
 -- a value that is read has a length that is allowed
 read_allowed : (kind : Kind) (bytes : List ℕ) (value : ScalarValue) → read_of kind bytes ≡ Ok value → is_length_allowed kind (length bytes) ≡ true
@@ -76,10 +76,13 @@ module _ (charset : Charset) (kind : Kind) (column : ℕ) (last : Bool) (bytes t
           let one = at ∙ ap start_after e in
           rw (scalar_shape, e, one) (counted_written column kind n last bytes text (sym (ap (λ o. length_after o bytes) e) ∙ sym many) some (omega arith) (rw one at is))
 
--- a whole number of four bytes there
-pub int4_cell : (charset : Charset) (start column : ℕ) (last : Bool) (bytes text : List ℕ) → HasInt4 (int4_kind start) start bytes → IsValueText (IntN 4) column last (take 4 (drop start bytes)) text
-    → WritesCell (cell_start (int4_kind start) (shape charset (int4_kind start))) column last (take (start + 4) bytes) text
-int4_cell charset start column last bytes text h x = grind (arith, value_cell, h.most, h.whole, h.length_is)
+-- a whole number of four bytes is read alike in each of its kinds
+pub int4_reads : (kind : Kind) (bytes : List ℕ) → IsInt4 kind → length bytes ≡ 4 → (is_scalar kind ≡ true) × (read_of kind bytes ≡ read_of (IntN 4) bytes)
+int4_reads kind bytes number four = grind (arith, common_steps)
+
+-- one that may be NULL comes after its length
+pub int4_start : {kind : Kind} {n : ℕ} → IsInt4 kind → kind ≡ IntN n → (bytes : List ℕ) → (is_scalar kind ≡ true) × ((1 ≡ value_start kind) × (value_length kind bytes ≡ slice_index bytes 0))
+int4_start number is bytes = grind (arith, common_steps)
 
 -- a cell whose value is refused is left
 pub refused_left : (kind : Kind) (bytes : List ℕ) (start n : ℕ) → start ≡ value_start kind → n ≡ value_length kind bytes → n ≢ 0 → is_ok (read_of kind (take ((start + n) - start) (drop start bytes))) ≡ false → IsScalarLeft kind bytes

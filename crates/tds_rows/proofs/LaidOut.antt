@@ -1,17 +1,27 @@
 -- Cells by how their values are laid out.
-use Rattle.tds_rows.{proofs.Words.{common_steps, slice_index, ◌≡◌, ℕ, ◌<◌, Bool, true, false, List, length, replicate, get_or, refl, arith, ◌==◌, slice_set, get_or-set_at, get_or-replicate, get_or-set_other, length-replicate, length-set, Kind, Reach, is_scalar, eq_false, eq_true, Content, Conversion, Charset, Form, Layout, LongShape, shape, value_length, value_start, whole_size, AreLaidOut, HasValueAt, IsLaidOut, short_size}, specs.declared.cell.layout.Layout.TheVariants.{Counted, Fixed, Short as ShortLayout}}
+use Rattle.tds_rows.{proofs.Words.{common_steps, false≢true, slice_index, ◌≤◌, ◌&&◌, sym, take, drop, length-drop, length-take-le, is_int4, AreInt4, IsInt4, ◌≡◌, ℕ, ◌<◌, Bool, true, false, List, length, replicate, get_or, refl, arith, ◌==◌, slice_set, get_or-set_at, get_or-replicate, get_or-set_other, length-replicate, length-set, Kind, Reach, is_scalar, eq_false, eq_true, Content, Conversion, Charset, Form, Layout, LongShape, shape, value_length, value_start, whole_size, Each, HasValueAt, IsLaidOut, short_size}, specs.declared.cell.layout.Layout.TheVariants.{Counted, Fixed, Short as ShortLayout}}
 
 -- the same form many times
-pub laid_all : (charset : Charset) (n : ℕ) (f : Form) → IsLaidOut charset f.kind f.layout → AreLaidOut charset (replicate n f)
-laid_all charset n f is k d here = grind (arith, common_steps, get_or-replicate, length-replicate)
+pub each_all : (P : Form → Type 0) (n : ℕ) (f : Form) → P f → Each P (replicate n f)
+each_all P n f is k d here = rw (get_or-replicate n k f d (omega (arith, length-replicate n f, here))) is
 
 -- one more form of many
-pub laid_set : (charset : Charset) (forms : List Form) (k : ℕ) (f : Form) → AreLaidOut charset forms → k < length forms → IsLaidOut charset f.kind f.layout → AreLaidOut charset (slice_set forms k f)
-laid_set charset forms k f all within is j d here = go _ refl
+pub each_set : (P : Form → Type 0) (forms : List Form) (k : ℕ) (f : Form) → Each P forms → k < length forms → P f → Each P (slice_set forms k f)
+each_set P forms k f all within is j d here = go _ refl
   where
-    go : (b : Bool) → (j == k) ≡ b → IsLaidOut charset (get_or (slice_set forms k f) j d).kind (get_or (slice_set forms k f) j d).layout
+    go : (b : Bool) → (j == k) ≡ b → P (get_or (slice_set forms k f) j d)
     go true e = rw (get_or-set_at forms k j f d (eq_true j k e) within) is
-    go false e = rw (get_or-set_other forms k j f d (eq_false j k e)) (all j d (omega (arith, length-set forms k f)))
+    go false e = rw (get_or-set_other forms k j f d (eq_false j k e)) (all j d (omega (arith, length-set forms k f, here)))
+
+-- one more whole number of four bytes, or a form of another kind
+pub int4_set : (forms : List Form) (k : ℕ) (f : Form) (all one : Bool) → (all ≡ true → AreInt4 forms) → k < length forms → one ≡ is_int4 f.kind → (all && one) ≡ true → AreInt4 (slice_set forms k f)
+int4_set forms k f true true before within is both = each_set (λ f. IsInt4 f.kind) forms k f (before refl) within (sym is)
+int4_set forms k f true false before within is both = absurd (false≢true both)
+int4_set forms k f false one before within is both = absurd (false≢true both)
+
+-- a part of whole numbers of four bytes
+pub int4_part : (forms : List Form) (k n : ℕ) → AreInt4 forms → n ≤ length (drop k forms) → AreInt4 (take n (drop k forms))
+int4_part forms k n all fits j d here = grind (arith, common_steps, length-drop, length-take-le)
 
 -- ---- a value that is there
 

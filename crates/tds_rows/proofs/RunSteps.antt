@@ -1,5 +1,5 @@
 -- The cells of a run, as they are written one after another.
-use Rattle.tds_rows.proofs.{Words.{common_steps, false, zero, suc, add-zero, ◌≡◌, ◌∙◌, ℕ, ◌+◌, ◌-◌, ◌≤◌, ◌<◌, Bool, List, [], ◌∷◌, ◌++◌, length, take, drop, get_or, refl, sym, ap, subst, arith, append_assoc, append-nil, length-append, Result, Ok, Err, MatchResult, true, length-take, length-take-le, take-append-le, take_all, take_more, take-append-add, take-add, Stop, map, Option, Seen, Takes, joined, line, Sink, Breaks, Held, IsWriting, Puts, PutsPiece, held, Inside, Spelt-append, Spelt-one, Column, all_after, Charset, Cell, CellPart, Shape, WholeCell, cell, cell_start, field, shape, NbcRow, PlainRow, RowPart, RowToken, WholeRow, next_cell, row, row_so_far, token_byte, token_start, with_field, IsLeft, IsScalarLeft, IsValueText, WritesKind, cell_so_far, is_last_column, scalar_size, whole_size, WritesCell, WritesWhole, is_scalar, Writes, WritesRows, after_cells, lines, rows, rows_so_far, Kind, IntN, WritesColumn, WritesMarked, HasInt4}, CellSteps.fixed_some, NullSteps.row_cell, RowSteps.{coming, ends_marked, none_ahead, quiet_text, start_quiet, PutsCell, StopsCell}, Paths.{At, writes_both, writes_inside, writes_none}, TableSteps.next_column, BufferedCells.int4_cell}
+use Rattle.tds_rows.proofs.{Words.{common_steps, false, zero, suc, add-zero, ◌≡◌, ◌∙◌, ℕ, ◌+◌, ◌-◌, ◌≤◌, ◌<◌, Bool, List, [], ◌∷◌, ◌++◌, length, take, drop, get_or, refl, sym, ap, subst, arith, append_assoc, append-nil, length-append, Result, Ok, Err, MatchResult, true, length-take, length-take-le, take-append-le, take_all, take_more, take-append-add, take-add, Stop, map, Option, Seen, Takes, joined, line, Sink, Breaks, Held, IsWriting, Puts, PutsPiece, held, Inside, Spelt-append, Spelt-one, Column, all_after, Charset, Cell, CellPart, Shape, WholeCell, cell, cell_start, field, shape, NbcRow, PlainRow, RowPart, RowToken, WholeRow, next_cell, row, row_so_far, token_byte, token_start, with_field, IsLeft, IsScalarLeft, WritesKind, cell_so_far, is_last_column, scalar_size, whole_size, WritesCell, WritesWhole, is_scalar, Writes, WritesRows, after_cells, lines, rows, rows_so_far, Kind, WritesColumn, WritesMarked}, CellSteps.fixed_some, NullSteps.row_cell, RowSteps.{coming, ends_marked, none_ahead, quiet_text, start_quiet, PutsCell, StopsCell}, Paths.{At, writes_both, writes_inside, writes_none}, TableSteps.next_column}
 
 -- ---- cells of a row
 
@@ -10,11 +10,6 @@ whole_of {from = from} x = record { value = x.value; spelt = rw x.joined at (Spe
 -- a scalar cell, in any set
 pub writes_scalar : (set : Charset) (kind : Kind) (column : ℕ) (last : Bool) (bytes made : List ℕ) → ((any : Charset) → WritesCell (cell_start kind (shape any kind)) column last bytes made) → WritesKind set kind column last bytes made
 writes_scalar set kind column last bytes made x = grind (arith, common_steps, whole_of)
-
--- a whole number of four bytes
-pub writes_int4 : {kind : Kind} {start n column : ℕ} {last : Bool} {bytes made : List ℕ} (set : Charset) → n ≡ 4 → HasInt4 kind start bytes → IsValueText (IntN 4) column last (take n (drop start bytes)) made → WritesKind set kind column last (take (start + 4) bytes) made
-writes_int4 {start = start} {column = column} {last = last} {bytes = bytes} {made = made} set is h x =
-    rw h.kind_is (writes_scalar _ _ _ _ _ _ (λ any. int4_cell _ _ _ _ _ _ (rw h.kind_is at h) (rw is at x)))
 
 -- what is made after what was made
 pub made_more : (made m : ℕ) (to new rest : List ℕ) → made ≤ length to → m ≤ length new → take (made + m) (take made to ++ (new ++ rest)) ≡ take made to ++ take m new

@@ -1,5 +1,5 @@
 -- Runs of cells over the columns that a table knows: more cells after those that were written.
-use Rattle.tds_rows.proofs.{Words.{arith, true, false, ◌≡◌, ℕ, ◌+◌, ◌-◌, ◌<◌, ◌≤◌, List, ◌++◌, length, length-append, length-drop, length-take, length-take-le, take, drop, get_or, sym, ◌==◌, Column, Charset, Ahead, CellRun, CellsWritten, RowsRun, Table, Cell, WritesRows, IsAhead, Knows, RunsMarked}, TableSteps.at_end, RunSteps.{made_more, marked_writes, rows_none, rows_onward, used_more}}
+use Rattle.tds_rows.proofs.{Words.{arith, true, false, [], ◌∷◌, ◌≡◌, ◌∙◌, ap, all_after, drop_more, refl, BeginsRow, ℕ, ◌+◌, ◌-◌, ◌<◌, ◌≤◌, List, ◌++◌, length, length-append, length-drop, length-take, length-take-le, take, drop, get_or, sym, ◌==◌, Column, Charset, Ahead, CellRun, CellsWritten, RowsRun, Table, Cell, WritesRows, IsAhead, Knows, RunsMarked}, TableSteps.at_end, RunSteps.{made_more, marked_writes, rows_none, rows_onward, used_more}}
 
 -- Between two places of rows, over the ends of so many, these bytes are their cells, and this is their text.
 abbrev pub RowsBetween : Table → List Column → Ahead → Ahead → ℕ → List ℕ → List ℕ → Type 0
@@ -16,18 +16,30 @@ pub record RowsSoFar (table : Table) (from : Ahead) (bytes to : List ℕ) (run :
 pub rows_begin : {table : Table} {from : Ahead} {bytes to : List ℕ} → RowsSoFar table from bytes to (record { used = 0; made = 0; rows = 0; ahead = from })
 rows_begin = record { used = omega arith; made = omega arith; few = omega arith; writes = λ columns knows ahead. (ahead, λ charset cells set is. rows_none is) }
 
+-- the token byte of a ROW is next
+begins_at : (used : ℕ) (bytes : List ℕ) → BeginsRow (take (length bytes - used) (drop used bytes)) → (used < length bytes) × (get_or bytes used 0 ≡ 0xD1)
+begins_at used bytes begins = go _ refl
+  where
+    go : (rest : List ℕ) → drop used bytes ≡ rest → (used < length bytes) × (get_or bytes used 0 ≡ 0xD1)
+    go [] e = absurd (rw (all_after bytes used, e) at begins)
+    go (byte ∷ rest) e =
+        let within : used < length bytes = omega (arith, length-drop used bytes, ap length e) in
+        (within, ap (λ l. get_or l 0 0) (sym (drop_more bytes used 0 within) ∙ e) ∙ (rw (all_after bytes used, e) at begins))
+
 -- one row more, after its token byte
-pub row_begun : {table : Table} {from start : Ahead} {bytes to : List ℕ} {run : RowsRun} → 0 < table.count → true ≡ (run.ahead.column == table.count) → run.used < length bytes → get_or bytes run.used 0 ≡ 0xD1 → start.column ≡ 0
+pub row_begun : {table : Table} {from start : Ahead} {bytes to : List ℕ} {run : RowsRun} → 0 < table.count → true ≡ (run.ahead.column == table.count) → BeginsRow (take (length bytes - run.used) (drop run.used bytes)) × (start.column ≡ 0)
     → ((columns : List Column) → Knows table columns → IsAhead table columns run.ahead → IsAhead table columns start) → RowsSoFar table from bytes to run → RowsSoFar table from bytes to (record { used = run.used + 1; made = run.made; rows = run.rows + 1; ahead = start })
-row_begun {bytes = bytes} {run = run} some at within byte first ahead x = record {
-  used = omega (arith, within);
-  made = x.made;
-  few = omega (arith, x.few);
-  writes = λ columns knows is.
-      let y = x.writes columns knows is in
-      let none = at_end columns run.ahead.column _ knows.counted (sym at) in
-      (ahead columns knows y.0, λ charset cells set counted. rw first (rows_onward run.used bytes (omega (arith, some, knows.counted)) none within byte (y.1 charset cells set counted)));
-}
+row_begun {bytes = bytes} {run = run} some at (begins, first) ahead x =
+    let (within, byte) = begins_at run.used bytes begins in
+    record {
+      used = omega (arith, within);
+      made = x.made;
+      few = omega (arith, x.few);
+      writes = λ columns knows is.
+          let y = x.writes columns knows is in
+          let none = at_end columns run.ahead.column _ knows.counted (sym at) in
+          (ahead columns knows y.0, λ charset cells set counted. rw first (rows_onward run.used bytes (omega (arith, some, knows.counted)) none within byte (y.1 charset cells set counted)));
+    }
 
 -- more cells of the last row, in the bytes that are left and after what was made
 pub more_in_rows : {table : Table} {columns : List Column} {old new : Ahead} {count : ℕ} (from : Ahead) (used u made m : ℕ) (bytes to text rest : List ℕ) → made ≤ length to → m ≤ length text → RowsBetween table columns from old count (take used bytes) (take made to)

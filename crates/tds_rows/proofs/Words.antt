@@ -4,7 +4,7 @@ pub use Rattle.std.proofs.Common.{MatchResult, ap, add-zero, ◌∙◌, Ok, ◌�
 pub use Rattle.std.proofs.Common.{append-nil, ◌*◌, ◌≢◌, get_or, ◌^◌, List, ◌<◌, true, rules}
 pub use Rattle.std.proofs.KnownBytes.{Consumes-nil}
 pub use Rattle.std.proofs.Math.Seq.{drop-nil, take-append-add, take-nil, take-add, take-append_seam}
-pub use Rattle.std.proofs.lemmas.Bool.{ne_eqb, cases_lt, eq-eqb, and_from, or_left, or_cases, or_right}
+pub use Rattle.std.proofs.lemmas.Bool.{false≢true, ne_eqb, cases_lt, eq-eqb, and_from, or_left, or_cases, or_right}
 pub use Rattle.std.proofs.lemmas.Bool.Decides.{nat_tests}
 pub use Rattle.std.proofs.lemmas.Grind.{get_or-set_at, common_steps}
 pub use Rattle.std.proofs.lemmas.List.{take_more, get_or-map, length-drop, take-map, length-take, take_more_set, drop_more, take_rest, drop-map}
@@ -76,8 +76,8 @@ pub use Rattle.tds_packet.specs.declared.fault.Fault.TheVariants.{RefusedToken, 
 pub use Rattle.tds_packet.specs.declared.fault.Place.TheVariants.{Payload}
 pub use Rattle.tds_packet.specs.declared.fault.Stop.{Stop}
 pub use Rattle.tds_rows.specs.Blames.{failures_of, StopBlames, Failures}
-pub use Rattle.tds_rows.specs.CellSteps.{int4_kind, IsValueText, StallsCell, IsScalarLeft, scalar_size, cell_so_far, opened, StopsField, IsLeft}
-pub use Rattle.tds_rows.specs.CellSteps.{start_after, WritesKind, length_after, value_length, is_last_column, HasInt4, PutsField, value_bytes}
+pub use Rattle.tds_rows.specs.CellSteps.{IsValueText, StallsCell, IsScalarLeft, scalar_size, cell_so_far, opened, StopsField, IsLeft}
+pub use Rattle.tds_rows.specs.CellSteps.{start_after, WritesKind, length_after, value_length, is_last_column, IsInt4, is_int4, PutsField, value_bytes}
 pub use Rattle.tds_rows.specs.CellSteps.{GathersCell, WritesField, whole_size, value_start}
 pub use Rattle.tds_rows.specs.Cells.{chunk_fault, ShortData, within_total, ScalarLength, ScalarCell, WholeCell, CountedShape, cell, ChunkLength}
 pub use Rattle.tds_rows.specs.Cells.{value_part, end_of_chunks, ShortLength, cell_start, null_total, cell_add, Null, unknown_total, SpellsChunked}
@@ -85,7 +85,7 @@ pub use Rattle.tds_rows.specs.Cells.{cell_size, unless, shape, ScalarBytes, Tota
 pub use Rattle.tds_rows.specs.Cells.{field_so_far, ChunkData, CellPart, SpellsChunk, return_charset, SpellsChunks, LongShape, shape_of_length}
 pub use Rattle.tds_rows.specs.Cells.{cell_fault, Cell, is_total, SpellsCell, long_start, DataCell}
 pub use Rattle.tds_rows.specs.FormRuns.{FormsWritten, FirstLeft, FieldsWritten, AreNext, WritesForms, FirstUsed, FirstWritten}
-pub use Rattle.tds_rows.specs.Forms.{AreLaidOut}
+pub use Rattle.tds_rows.specs.Forms.{AreInt4, AreLaidOut, Each}
 pub use Rattle.tds_rows.specs.Layouts.{HasValueAt, shape_of_layout, IsLaidOut}
 pub use Rattle.tds_rows.specs.LongCells.{RefusesNumber, EndsData, added_text, StopsFilling, StopsEnding, total_of, chunk_length_fault, EndPut}
 pub use Rattle.tds_rows.specs.LongCells.{RefusesData, StopsData, ReadsNumber, short_length, CutsNumber, total_fault, ending, BreaksData, short_fault}
@@ -102,7 +102,7 @@ pub use Rattle.tds_rows.specs.Runs.{rows_so_far, lines, rows, RunsRows, Writes, 
 pub use Rattle.tds_rows.specs.Runs.{WritesRows}
 pub use Rattle.tds_rows.specs.ShortCells.{stated_length, short_size}
 pub use Rattle.tds_rows.specs.Successes.{SpellsRows, ReadsOn, SucceedsOn, BeginNoRow, Brings}
-pub use Rattle.tds_rows.specs.Tables.{IsNextKind, TakesColumn, IsAhead, AreAhead, KnowsSome, kinds, Knows, NextColumn}
+pub use Rattle.tds_rows.specs.Tables.{BeginsRow, IsNextKind, TakesColumn, IsAhead, AreAhead, KnowsSome, kinds, Knows, NextColumn}
 pub use Rattle.tds_rows.specs.WholeCells.{WritesCell, WritesWhole}
 pub use Rattle.tds_rows.specs.declared.cell.layout.Form.{Form}
 pub use Rattle.tds_rows.specs.declared.cell.layout.Layout.{Layout}

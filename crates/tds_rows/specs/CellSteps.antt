@@ -1,5 +1,5 @@
 -- What reading a cell and putting it into its line does.
-use Rattle.std.specs.Prelude.{◌≡◌, ◌⊎◌, ◌+◌, ◌<◌, ◌≤◌, ℕ, zero, suc, Bool, true, false, List, [], ◌∷◌, length, max, take, drop, slice_index, is_ok, Option, Some, None, Result, Ok, IsTrue, MatchOption, MatchResult, if◌then◌else◌}
+use Rattle.std.specs.Prelude.{◌≡◌, ◌==◌, ◌⊎◌, ◌+◌, ◌<◌, ◌≤◌, ℕ, Bool, true, false, List, [], ◌∷◌, length, max, take, drop, slice_index, is_ok, Option, Some, None, Result, Ok, IsTrue, MatchOption, MatchResult, if◌then◌else◌}
 use Rattle.tds_meter.specs.Space.{Space}
 use Rattle.tds_values.specs.declared.kind.Kind.{Kind}
 use Rattle.tds_values.specs.declared.kind.Kind.TheVariants.{Int4, IntN}
@@ -75,17 +75,15 @@ scalar_size kind bytes = value_start kind + value_length kind bytes
 abbrev pub value_bytes : Kind → List ℕ → List ℕ
 value_bytes kind bytes = take (value_length kind bytes) (drop (value_start kind) bytes)
 
--- the kind of whole numbers of four bytes that are so far after the front of their cells: at once, or after a length
-abbrev pub int4_kind : ℕ → Kind
-int4_kind zero = Int4
-int4_kind (suc n) = IntN 4
+-- whether the values of a kind are whole numbers of four bytes
+abbrev pub is_int4 : Kind → Bool
+is_int4 Int4 = true
+is_int4 (IntN n) = n == 4
+is_int4 kind = false
 
--- A whole number of four bytes, which is its kind's, is so far after the front of these bytes: at once, or after its length.
-pub record HasInt4 (kind : Kind) (start : ℕ) (bytes : List ℕ) : Type 0 where
-  pub kind_is : kind ≡ int4_kind start
-  pub most : start ≤ 1
-  pub whole : start + 4 ≤ length bytes
-  pub length_is : 0 < start → slice_index bytes 0 ≡ 4
+-- The values of this kind are whole numbers of four bytes.
+abbrev pub IsInt4 : Kind → Type 0
+IsInt4 kind = is_int4 kind ≡ true
 
 -- how many bytes the cell at the front of these bytes has; of one in chunks nothing is said
 abbrev pub whole_size : Kind → List ℕ → ℕ

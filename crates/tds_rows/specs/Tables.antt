@@ -33,9 +33,10 @@ pub record IsAhead (table : Table) (columns : List Column) (at : Ahead) : Type 0
   pub within : at.column ≤ table.known → columns_left at.walk ≡ drop table.known columns
   pub beyond : table.known ≤ at.column → columns_left at.walk ≡ drop at.column columns
 
--- one column further, with the same walk
-abbrev pub one_on : Ahead → Ahead
-one_on at = record at { column = at.column + 1 }
+-- The bytes begin with the token byte of a ROW.
+abbrev pub BeginsRow : List ℕ → Type 0
+BeginsRow [] = ⊥
+BeginsRow (byte ∷ bytes) = byte ≡ 0xD1
 
 -- The next column is ahead, and this is its kind.
 pub record NextColumn (columns : List Column) (at : Ahead) (next_kind : Kind) : Type 0 where

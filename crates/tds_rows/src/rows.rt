@@ -21,8 +21,8 @@ use crate::cell::gathered::{gather_scalar, length_size};
 use crate::cell::layout::{Form, Layout};
 use crate::cell::streamed::stream_long;
 use crate::cell::whole::{CELL_ROOM, Written};
-use crate::run::{ROW, RowsRun, run_rows, write_alone};
-use crate::table::{Ahead, Table};
+use crate::run::{RowsRun, run_rows, write_alone};
+use crate::table::{Ahead, ROW, Table};
 use std::io::{Read, Write};
 use tds_columns::Columns;
 use tds_csv::{
@@ -204,12 +204,7 @@ impl<'r, 't, 'p, 's, 'c, R: Read, W: Write> Rows<'r, 't, 'p, 's, 'c, R, W> {
         let waiting = self.sink.waiting() as usize;
         let room = self.sink.room() - 1;
         if room < CELL_ROOM {
-            return RowsRun {
-                used: 0,
-                made: 0,
-                rows: 0,
-                ahead: from,
-            };
+            return RowsRun::none(from);
         }
         let run = run_rows(
             self.table,

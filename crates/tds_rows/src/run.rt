@@ -1,20 +1,17 @@
 // A run of cells: as many as are whole in the packet and have room, over the ends of rows.
-ghost use Rattle.std.specs.Prelude.{◌≡◌, ◌+◌, ◌-◌, ◌<◌, ◌≤◌, Bool, drop, length, IfSome};
+ghost use Rattle.std.specs.Prelude.{true, ◌≡◌, ◌+◌, ◌-◌, ◌<◌, ◌≤◌, Bool, drop, length, IfSome};
 ghost use Rattle.tds_rows.specs.declared.cell.whole.TheConstants.{CELL_ROOM};
 ghost use Rattle.tds_rows.specs.Layouts.{IsLaidOut};
 ghost use Rattle.tds_rows.specs.Runs.{AloneWritten, CellsWritten, RowsWritten, RunEnds, StaysWithin};
 ghost use Rattle.tds_rows.specs.Tables.{AreAhead, KnowsAll};
 
 use crate::cell::layout::Form;
-use crate::cell::whole::{CELL_ROOM, INT4_ROOM, INT4_SIZE, Written, int4_at, write_int4_field};
-use crate::run::forms::run_forms;
+use crate::cell::whole::{CELL_ROOM, Written};
+use crate::run::forms::{run_forms, run_next};
 use crate::table::{Ahead, Table};
 use tds_values::Charset;
 
 pub(crate) mod forms;
-
-/// The token byte of a ROW (MS-TDS, ROW).
-pub const ROW: u8 = 0xD1;
 
 /// How many bytes a run within a row used, how many it made, and where it ended.
 #[derive(Clone, Copy)]
@@ -31,6 +28,33 @@ pub(crate) struct RowsRun<'a> {
     pub(crate) made: usize,
     pub(crate) rows: usize,
     pub(crate) ahead: Ahead<'a>,
+}
+
+impl<'a> CellRun<'a> {
+    // A run that took nothing.
+    fn none(at: Ahead<'a>) -> CellRun<'a>
+        ensures { result ≡ record { used = 0; made = 0; ahead = at.entry } }
+    {
+        CellRun {
+            used: 0,
+            made: 0,
+            ahead: at,
+        }
+    }
+}
+
+impl<'a> RowsRun<'a> {
+    /// A run that took nothing.
+    pub(crate) fn none(at: Ahead<'a>) -> RowsRun<'a>
+        ensures { result ≡ record { used = 0; made = 0; rows = 0; ahead = at.entry } }
+    {
+        RowsRun {
+            used: 0,
+            made: 0,
+            rows: 0,
+            ahead: at,
+        }
+    }
 }
 
 // Writes cell after cell of a row by the forms of the next ones, as far as they are whole in these bytes, aren't in
@@ -78,11 +102,7 @@ fn run_unknown<'a>(
     ensures gives { CellsWritten table.now from.entry bytes.now to.new result }
 {
     let Some(form) = table.form(from) else {
-        return CellRun {
-            used: 0,
-            made: 0,
-            ahead: from,
-        };
+        return CellRun::none(from);
     };
     let one = [form];
     run_along(table, from, end, &one, bytes, to)
@@ -105,11 +125,7 @@ pub(crate) fn run_cells<'a>(
     ensures gives { CellsWritten table.now from.entry bytes.now to.new result }
 {
     if from.column >= end {
-        return CellRun {
-            used: 0,
-            made: 0,
-            ahead: from,
-        };
+        return CellRun::none(from);
     }
     match (&*table).forms(from, end) {
         Some(forms) => run_along(table, from, end, forms, bytes, to),
@@ -145,44 +161,59 @@ pub(crate) fn write_alone(
     })
 }
 
-// Writes cell after cell of rows that have only whole numbers of four bytes, as far as they are whole in these bytes,
-// aren't NULL and have room, over the ends of rows. Any other cell ends it.
-#[inline(never)]
-fn run_numbers<'a>(table: &Table<'a>, from: Ahead<'a>, bytes: &[u8], to: &mut [u8]) -> RowsRun<'a>
-    requires some { 0 < table.now.count }
-    requires room { INT4_ROOM ≤ length to.old }
+// Writes cell after cell of rows whose columns the table all knows, as far as they are whole in these bytes, aren't in
+// chunks and have room, over the ends of rows. `numbers` says that all their values are whole numbers of four bytes.
+#[inline(always)]
+fn run_along_rows<'a>(
+    numbers: bool,
+    table: &Table<'a>,
+    from: Ahead<'a>,
+    bytes: &[u8],
+    to: &mut [u8],
+) -> RowsRun<'a>
+    requires known { KnowsAll table.now }
+    requires numbers { numbers ≡ true → table.now.only_numbers ≡ true }
     ensures used { result.used ≤ length bytes.now }
     ensures made { result.made ≤ length to.old }
     ensures few { result.rows ≤ result.used }
-    ensures gives { RowsWritten table.now from.entry bytes.now to.new result }
+    ensures ends { RunEnds table.now result.ahead (drop result.used bytes.now) (length to.old - result.made) }
+    ensures rows { RowsWritten table.now from.entry bytes.now to.new result }
 {
     let mut used = 0;
     let mut made = 0;
     let mut rows = 0;
     let mut ahead = from;
-    let most = to.len() - INT4_ROOM;
-    while made <= most {
+    loop {
         if table.is_end(ahead) {
-            if used == bytes.len() || bytes[used] != ROW {
+            let Some(first) = table.end_row(&bytes[used..]) else {
                 break;
-            }
+            };
             used += 1;
             rows += 1;
-            ahead = table.start();
+            ahead = first;
             continue;
         }
-        let rest = &bytes[used..];
-        let Some(kind) = table.known_kind(ahead) else {
+        let end = table.count();
+        let Some(forms) = (&*table).forms(ahead, end) else {
             break;
         };
-        let Some(start) = int4_at(&kind, rest) else {
+        let ends = table.ends_after(ahead, forms);
+        let (rest, room) = (&bytes[used..], &mut to[made..]);
+        let run = run_next(
+            numbers,
+            forms,
+            table.charset,
+            ahead.column,
+            ends,
+            rest,
+            room,
+        );
+        if run.cells == 0 {
             break;
-        };
-        let last = table.is_last(ahead);
-        let value = &rest[start..start + INT4_SIZE];
-        made += write_int4_field(ahead.column, last, value, &mut to[made..]);
-        used += start + INT4_SIZE;
-        ahead.column += 1;
+        }
+        used += run.used;
+        made += run.made;
+        table.pass(&mut ahead, run.cells);
     }
     RowsRun {
         used,
@@ -192,8 +223,21 @@ fn run_numbers<'a>(table: &Table<'a>, from: Ahead<'a>, bytes: &[u8], to: &mut [u
     }
 }
 
-// Writes cell after cell of rows whose columns the table all knows, as far as they are whole in these bytes, aren't in
-// chunks and have room, over the ends of rows.
+// Writes rows as `run_along_rows` does, whose values are all whole numbers of four bytes.
+#[inline(never)]
+fn run_numbers<'a>(table: &Table<'a>, from: Ahead<'a>, bytes: &[u8], to: &mut [u8]) -> RowsRun<'a>
+    requires known { KnowsAll table.now }
+    requires numbers { table.now.only_numbers ≡ true }
+    ensures used { result.used ≤ length bytes.now }
+    ensures made { result.made ≤ length to.old }
+    ensures few { result.rows ≤ result.used }
+    ensures ends { RunEnds table.now result.ahead (drop result.used bytes.now) (length to.old - result.made) }
+    ensures rows { RowsWritten table.now from.entry bytes.now to.new result }
+{
+    run_along_rows(true, table, from, bytes, to)
+}
+
+// Writes rows as `run_along_rows` does, whose values are of any kind.
 #[inline(never)]
 fn run_known<'a>(table: &Table<'a>, from: Ahead<'a>, bytes: &[u8], to: &mut [u8]) -> RowsRun<'a>
     requires { KnowsAll table.now }
@@ -201,7 +245,25 @@ fn run_known<'a>(table: &Table<'a>, from: Ahead<'a>, bytes: &[u8], to: &mut [u8]
     ensures made { result.made ≤ length to.old }
     ensures few { result.rows ≤ result.used }
     ensures ends { RunEnds table.now result.ahead (drop result.used bytes.now) (length to.old - result.made) }
-    ensures gives { RowsWritten table.now from.entry bytes.now to.new result }
+    ensures rows { RowsWritten table.now from.entry bytes.now to.new result }
+{
+    run_along_rows(false, table, from, bytes, to)
+}
+
+// Writes rows as `run_rows` does, whose columns the table doesn't all know.
+#[inline(never)]
+fn run_partly_known<'a>(
+    table: &Table<'a>,
+    from: Ahead<'a>,
+    bytes: &[u8],
+    to: &mut [u8],
+) -> RowsRun<'a>
+    requires some { 0 < table.now.count }
+    ensures used { result.used ≤ length bytes.now }
+    ensures made { result.made ≤ length to.old }
+    ensures few { result.rows ≤ result.used }
+    ensures ends { RunEnds table.now result.ahead (drop result.used bytes.now) (length to.old - result.made) }
+    ensures rows { RowsWritten table.now from.entry bytes.now to.new result }
 {
     let mut used = 0;
     let mut made = 0;
@@ -209,27 +271,21 @@ fn run_known<'a>(table: &Table<'a>, from: Ahead<'a>, bytes: &[u8], to: &mut [u8]
     let mut ahead = from;
     loop {
         if table.is_end(ahead) {
-            if used == bytes.len() || bytes[used] != ROW {
+            let Some(first) = table.end_row(&bytes[used..]) else {
                 break;
-            }
+            };
             used += 1;
             rows += 1;
-            table.rewind(&mut ahead);
+            ahead = first;
             continue;
         }
-        let end = table.count();
-        let Some(forms) = (&*table).forms(ahead, end) else {
-            break;
-        };
-        let ends = table.ends_after(ahead, forms);
-        let (rest, room) = (&bytes[used..], &mut to[made..]);
-        let run = run_forms(forms, table.charset, ahead.column, ends, rest, room);
-        if run.cells == 0 {
+        let cells = run_cells(table, ahead, table.count(), &bytes[used..], &mut to[made..]);
+        if cells.used == 0 {
             break;
         }
-        used += run.used;
-        made += run.made;
-        table.pass(&mut ahead, run.cells);
+        used += cells.used;
+        made += cells.made;
+        ahead = cells.ahead;
     }
     RowsRun {
         used,
@@ -256,46 +312,11 @@ pub(crate) fn run_rows<'a>(
     ensures ends { RunEnds table.now result.ahead (drop result.used bytes.now) (length to.old - result.made) }
     ensures gives { RowsWritten table.now from.entry bytes.now to.new result }
 {
-    let none = RowsRun {
-        used: 0,
-        made: 0,
-        rows: 0,
-        ahead: from,
-    };
-    if table.knows_all() && !table.only_numbers {
-        return run_known(table, from, bytes, to);
+    if !table.knows_all() {
+        return run_partly_known(table, from, bytes, to);
     }
-    let numbers = if table.only_numbers {
-        run_numbers(table, from, bytes, to)
-    } else {
-        none
-    };
-    let mut used = numbers.used;
-    let mut made = numbers.made;
-    let mut rows = numbers.rows;
-    let mut ahead = numbers.ahead;
-    loop {
-        if table.is_end(ahead) {
-            if used == bytes.len() || bytes[used] != ROW {
-                break;
-            }
-            used += 1;
-            rows += 1;
-            ahead = table.start();
-            continue;
-        }
-        let cells = run_cells(table, ahead, table.count(), &bytes[used..], &mut to[made..]);
-        if cells.used == 0 {
-            break;
-        }
-        used += cells.used;
-        made += cells.made;
-        ahead = cells.ahead;
+    if table.only_numbers {
+        return run_numbers(table, from, bytes, to);
     }
-    RowsRun {
-        used,
-        made,
-        rows,
-        ahead,
-    }
+    run_known(table, from, bytes, to)
 }

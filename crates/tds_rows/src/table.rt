@@ -1,17 +1,23 @@
 // What the cells of a description's columns need of them, known once for all its rows.
-ghost use Rattle.std.specs.Prelude.{◌≡◌, ◌==◌, ◌⊎◌, ◌+◌, ◌<◌, ◌≤◌, get_or, length, IfSome, List, MatchOption};
-ghost use Rattle.tds_rows.specs.Forms.{AreLaidOut, table_length};
+ghost use Rattle.std.specs.Prelude.{◌≡◌, ◌==◌, ◌⊎◌, ◌+◌, ◌<◌, ◌≤◌, get_or, length, true, IfSome, List, MatchOption};
+ghost use Rattle.tds_rows.specs.CellSteps.{is_int4};
+ghost use Rattle.tds_rows.specs.Forms.{AreInt4, AreLaidOut, table_length};
 ghost use Rattle.tds_rows.specs.Layouts.{IsLaidOut};
 
 use crate::cell::layout::Form;
 use tds_columns::{Columns, Walk};
 use tds_values::{Charset, Kind};
 
+/// The token byte of a ROW (MS-TDS, ROW).
+pub const ROW: u8 = 0xD1;
+
 /// How many columns a table knows by itself. It takes 7 bytes for each, in a local variable.
 const TABLE_LENGTH: usize = 64;
 
 // Whether the values of a kind are whole numbers of four bytes.
-fn is_int4(kind: &Kind) -> bool {
+fn is_int4(kind: &Kind) -> bool
+    ensures { result ≡ is_int4 kind.now }
+{
     matches!(*kind, Kind::Int4 | Kind::IntN(4))
 }
 
@@ -30,6 +36,7 @@ pub(crate) struct Table<'a> {
     ghost few: { known ≤ count },
     ghost fits: { count ≤ 65535 },
     ghost laid: { AreLaidOut charset forms },
+    ghost numbers: { only_numbers ≡ true → AreInt4 forms },
 }
 
 /// A place between the cells of a row: how many columns come before it, and the walk over those ahead that
@@ -43,7 +50,7 @@ pub(crate) struct Ahead<'a> {
 impl<'a> Table<'a> {
     ghost use Rattle.tds_columns.specs.Description as spec;
     ghost use Rattle.tds_columns.specs.View.{columns_of};
-    ghost use Rattle.tds_rows.specs.Tables.{AreAhead, IsAhead, Knows, NextForm, TakesColumn, TakesForm, one_on};
+    ghost use Rattle.tds_rows.specs.Tables.{AreAhead, BeginsRow, IsAhead, Knows, NextForm, TakesForm};
 
     /// The table of a description's columns, whose single-byte text is in this set.
     pub(crate) fn of(columns: Columns<'a>, charset: Charset) -> Table<'a>
@@ -77,19 +84,6 @@ impl<'a> Table<'a> {
         ensures { result ≡ self.now.count }
     {
         self.count
-    }
-
-    /// The kind of the next cell, if the table knows it. The place after that cell has the same walk.
-    #[inline(always)]
-    pub(crate) fn known_kind(&self, at: Ahead<'a>) -> Option<Kind>
-        ensures some { IfSome result (λ _. at.entry.column < self.now.count) }
-        ensures gives { (columns : List spec.Column) → Knows self.now columns → IsAhead self.now columns at.entry →
-            IfSome result (λ kind. TakesColumn self.now columns at.entry (one_on at.entry) kind) }
-    {
-        if (at.column as usize) >= self.known {
-            return None;
-        }
-        Some(self.forms[at.column as usize].kind)
     }
 
     /// The place before the first cell of a row.
@@ -132,8 +126,9 @@ impl<'a> Table<'a> {
     #[inline(always)]
     pub(crate) fn forms(&self, at: Ahead<'a>, end: u16) -> Option<&[Form]>
         requires { end ≤ self.now.count }
-        ensures { MatchOption result ((self.now.known ≤ at.entry.column) ⊎ (end ≤ at.entry.column))
+        ensures ahead { MatchOption result ((self.now.known ≤ at.entry.column) ⊎ (end ≤ at.entry.column))
             (λ forms. AreAhead self.now at.entry end forms.now) }
+        ensures numbers { self.now.only_numbers ≡ true → IfSome result (λ forms. AreInt4 forms.now) }
     {
         let from = at.column as usize;
         let until = self.known.min(end as usize);
@@ -194,15 +189,16 @@ impl<'a> Table<'a> {
         at.column += cells as u16;
     }
 
-    /// Steps back to the place before the first cell of a row, all of whose columns the table knows.
+    /// The place before the first cell of the next row, if the token byte of a ROW comes next.
     #[inline(always)]
-    pub(crate) fn rewind(&self, at: &mut Ahead<'a>)
-        requires all { self.now.known ≡ self.now.count }
-        ensures first { at.new.column ≡ 0 }
-        ensures gives { (columns : List spec.Column) → Knows self.now columns → IsAhead self.now columns at.old →
-            IsAhead self.now columns at.new }
+    pub(crate) fn end_row(&self, rest: &[u8]) -> Option<Ahead<'a>>
+        ensures next { MatchOption result (BeginsRow rest.now → ⊥) (λ first. BeginsRow rest.now × (first.column ≡ 0)) }
+        ensures ahead { (columns : List spec.Column) → Knows self.now columns → IfSome result (λ first. IsAhead self.now columns first) }
     {
-        at.column = 0;
+        if rest.is_empty() || rest[0] != ROW {
+            return None;
+        }
+        Some(self.start())
     }
 
     /// What the next cell needs, and the place after it. `None` at the row's end.

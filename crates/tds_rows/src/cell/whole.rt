@@ -2,8 +2,8 @@
 ghost use Rattle.std.specs.Prelude.{◌≡◌, ◌≤◌, length, take, ◌+◌, IfSome};
 ghost use Rattle.tds_csv.specs.Quoting.{in_line, null_field};
 ghost use Rattle.tds_csv.specs.Sinks.{IsReady, PutsPiece};
-ghost use Rattle.tds_rows.specs.CellSteps.{IsValueText, CellWritten, HasInt4, whole_size};
-ghost use Rattle.tds_values.specs.declared.kind.Kind.TheVariants.{IntN};
+ghost use Rattle.tds_rows.specs.CellSteps.{CellWritten, IsInt4, value_length, value_start, whole_size};
+ghost use Rattle.tds_values.specs.declared.charset.Charset.{Charset};
 ghost use Rattle.tds_rows.specs.ShortCells.{ShortWritten, short_size};
 ghost use Rattle.tds_csv.specs.Fields.{conversion_of};
 ghost use Rattle.tds_rows.specs.Layouts.{IsLaidOut};
@@ -12,9 +12,7 @@ use crate::cell::layout::{Form, Layout};
 use crate::cell::lengths::NULL_LENGTH;
 use byteorder::{ByteOrder, LittleEndian};
 use std::io::Write;
-use tds_csv::{
-    Content, NULL_ROOM, Sink, field_room, write_comma, write_field, write_line_end, write_null,
-};
+use tds_csv::{Content, NULL_ROOM, Sink, field_room, write_field, write_null};
 use tds_packet::Stop;
 use tds_values::{Charset, Kind, write_int4, write_scalar};
 
@@ -31,22 +29,6 @@ pub(crate) const CELL_ROOM: usize = 66;
 /// How many bytes the text of a scalar may want, with the end of its line, and a few to spare.
 pub(crate) const VALUE_ROOM: usize = 65;
 
-/// How many bytes the text of a whole number of four bytes in its line may want, and a few to spare.
-pub(crate) const INT4_ROOM: usize = 28;
-
-// Writes the text of a whole number of four bytes in its line, and returns how many bytes it has.
-#[inline(always)]
-pub(crate) fn write_int4_field(column: u16, last: bool, bytes: &[u8], to: &mut [u8]) -> usize
-    requires whole { length bytes.now ≡ 4 }
-    requires room { INT4_ROOM ≤ length to.old }
-    ensures most { result ≤ INT4_ROOM }
-    ensures gives { IsValueText (IntN 4) column last bytes.now (take result to.new) }
-{
-    let start = write_comma(column, to);
-    let made = write_int4(bytes, &mut to[start..]);
-    write_line_end(last, start + made, to)
-}
-
 /// Puts NULL in its line.
 pub(crate) fn put_null<W: Write>(column: u16, last: bool, sink: &mut Sink<W>) -> Result<(), Stop>
     requires { IsReady sink.old }
@@ -57,10 +39,10 @@ pub(crate) fn put_null<W: Write>(column: u16, last: bool, sink: &mut Sink<W>) ->
     sink.put(&text[..made])
 }
 
-/// Writes the field of a short value of this content, whose cell is at the front of these bytes. `None` if it isn't
-/// whole, or is no text, or if there isn't the room that its text may need. Two bytes of room are left after it.
+// Writes the field of a short value of this content, whose cell is at the front of these bytes. `None` if it isn't
+// whole, or is no text, or if there isn't the room that its text may need. Two bytes of room are left after it.
 #[inline(always)]
-pub(crate) fn write_short(content: Content, bytes: &[u8], to: &mut [u8]) -> Option<Written>
+fn write_short(content: Content, bytes: &[u8], to: &mut [u8]) -> Option<Written>
     requires room { VALUE_ROOM ≤ length to.old }
     ensures used { IfSome result (λ written. written.used ≤ length bytes.now) }
     ensures most { IfSome result (λ written. written.made + 2 ≤ length to.old) }
@@ -85,28 +67,8 @@ pub(crate) fn write_short(content: Content, bytes: &[u8], to: &mut [u8]) -> Opti
     Some(Written { used, made })
 }
 
-/// How many bytes a whole number of four bytes has.
-pub(crate) const INT4_SIZE: usize = 4;
-
-/// How far after the front of its cell a whole number of four bytes is: at once, or after its length. `None` if the
-/// kind is another, or the number isn't whole in these bytes.
-#[inline(always)]
-pub(crate) fn int4_at(kind: &Kind, bytes: &[u8]) -> Option<usize>
-    ensures { IfSome result (λ start. HasInt4 kind.now start bytes.now) }
-{
-    let start = match *kind {
-        Kind::IntN(4) => 1,
-        Kind::Int4 => 0,
-        _ => return None,
-    };
-    if bytes.len() < start + INT4_SIZE || (start == 1 && bytes[0] != 4) {
-        return None;
-    }
-    Some(start)
-}
-
-// Writes the field of the cell at the front of these bytes. `None` if it isn't whole, is refused or in chunks, or
-// if there isn't the room that the text of a short value may need. Two bytes of room are left after it.
+/// Writes the field of the cell at the front of these bytes. `None` if it isn't whole, is refused or in chunks, or
+//// if there isn't the room that the text of a short value may need. Two bytes of room are left after it.
 #[inline(always)]
 pub(crate) fn write_cell(
     form: &Form,
@@ -143,5 +105,56 @@ pub(crate) fn write_cell(
     match write_scalar(&form.kind, &bytes[start..used], to) {
         Ok(made) => Some(Written { used, made }),
         Err(_) => None,
+    }
+}
+
+/// How many bytes a whole number of four bytes has.
+const INT4_SIZE: usize = 4;
+
+// Writes the field of a cell whose value is a whole number of four bytes, so far after its front. `None` if it isn't
+// whole in these bytes.
+#[inline(always)]
+fn write_int4_at(kind: &Kind, start: usize, bytes: &[u8], to: &mut [u8]) -> Option<Written>
+    requires number { IsInt4 kind.now }
+    requires start { start ≡ value_start kind.now }
+    requires four { value_length kind.now bytes.now ≡ 4 }
+    requires room { VALUE_ROOM ≤ length to.old }
+    ensures used { IfSome result (λ written. written.used ≤ length bytes.now) }
+    ensures most { IfSome result (λ written. written.made + 2 ≤ length to.old) }
+    ensures whole { IfSome result (λ written. written.used ≡ whole_size kind.now bytes.now) }
+    ensures field { (charset : Charset) → CellWritten charset kind.now bytes.now (length to.old + 1) to.new result }
+{
+    let used = start + INT4_SIZE;
+    if bytes.len() < used {
+        return None;
+    }
+    let made = write_int4(&bytes[start..used], to);
+    Some(Written { used, made })
+}
+
+/// Writes the field of the cell at the front of these bytes, as [`write_cell`] does, of a kind whose values are whole
+/// numbers of four bytes.
+#[inline(always)]
+pub(crate) fn write_int4_cell(form: &Form, bytes: &[u8], to: &mut [u8]) -> Option<Written>
+    requires number { IsInt4 form.now.kind }
+    requires room { VALUE_ROOM ≤ length to.old }
+    ensures used { IfSome result (λ written. written.used ≤ length bytes.now) }
+    ensures most { IfSome result (λ written. written.made + 2 ≤ length to.old) }
+    ensures whole { IfSome result (λ written. written.used ≡ whole_size form.now.kind bytes.now) }
+    ensures field { (charset : Charset) → CellWritten charset form.now.kind bytes.now (length to.old + 1) to.new result }
+{
+    let Kind::IntN(_) = form.kind else {
+        return write_int4_at(&form.kind, 0, bytes, to);
+    };
+    if bytes.is_empty() {
+        return None;
+    }
+    match bytes[0] {
+        4 => write_int4_at(&form.kind, 1, bytes, to),
+        0 => {
+            let made = write_null(0, false, to);
+            Some(Written { used: 1, made })
+        }
+        _ => None,
     }
 }

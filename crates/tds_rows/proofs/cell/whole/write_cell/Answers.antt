@@ -6,7 +6,7 @@ returns-then-n-eq0-clause-gives c = λ column last.
     let kind = c.args.form.now.kind in
     let text = in_line column last (take c.write_null-made.result c.write_null-made.new.to) in
     let there : HasValueAt c.args.form.now.layout c.args.bytes.now c.match-form.start.0 c.match-form.start.1 =
-        elim c.match-form.branch [ in-Fixed w ↦ fixed_there _ w.in-Fixed.is w.start-is | in-Counted+else-is_empty w ↦ counted_there _ w.in-Counted.is w.start-is ] in
+    elim c.match-form.branch [ in-Fixed w ↦ fixed_there _ w.in-Fixed.is w.start-is | in-Counted+else-is_empty w ↦ counted_there _ w.in-Counted.is w.start-is ] in
     let at = value_there _ _ _ _ _ _ c.requires.laid there in
     writes_scalar _ _ _ _ _ _ (λ charset.
     subst (λ (n : ℕ). WritesCell (cell_start kind (shape charset kind)) column last (take (c.match-form.start.0 + n) c.args.bytes.now) text) (sym c.if-n-eq0.true)
@@ -16,7 +16,7 @@ pub returns-in-Ok-clause-gives : goal.returns-in-Ok-clause-gives
 returns-in-Ok-clause-gives c = λ column last.
     let kind = c.args.form.now.kind in
     let there : HasValueAt c.args.form.now.layout c.args.bytes.now c.match-form.start.0 c.match-form.start.1 =
-        elim c.match-form.branch [ in-Fixed w ↦ fixed_there _ w.in-Fixed.is w.start-is | in-Counted+else-is_empty w ↦ counted_there _ w.in-Counted.is w.start-is ] in
+    elim c.match-form.branch [ in-Fixed w ↦ fixed_there _ w.in-Fixed.is w.start-is | in-Counted+else-is_empty w ↦ counted_there _ w.in-Counted.is w.start-is ] in
     let at = value_there _ _ _ _ _ _ c.requires.laid there in
     let start = c.match-form.start.0 in
     let text = in_line column last (take c.in-Ok.made c.write_scalar.new.to) in
@@ -29,6 +29,6 @@ returns-in-Ok-clause-gives c = λ column last.
 pub returns-in-Err-clause-gives : goal.returns-in-Err-clause-gives
 returns-in-Err-clause-gives c =
     let there : HasValueAt c.args.form.now.layout c.args.bytes.now c.match-form.start.0 c.match-form.start.1 =
-        elim c.match-form.branch [ in-Fixed w ↦ fixed_there _ w.in-Fixed.is w.start-is | in-Counted+else-is_empty w ↦ counted_there _ w.in-Counted.is w.start-is ] in
+    elim c.match-form.branch [ in-Fixed w ↦ fixed_there _ w.in-Fixed.is w.start-is | in-Counted+else-is_empty w ↦ counted_there _ w.in-Counted.is w.start-is ] in
     let at = value_there _ _ _ _ _ _ c.requires.laid there in
     inl (at.0, refused_left _ _ _ _ at.1.0 at.1.1 c.if-n-eq0.false (ap is_ok c.in-Err.ensures.refused))

@@ -2,7 +2,7 @@ use Rattle.tds_rows.proofs.{Words.{[], refl, ◌≡◌, ap, ◌+◌, ◌≤◌, 
 use Rattle.tds_rows.proofs.rows.Rows.put_run.Goals as goal
 
 pub returns-then-room-lt-CELL_ROOM-clause-gives : goal.returns-then-room-lt-CELL_ROOM-clause-gives
-returns-then-room-lt-CELL_ROOM-clause-gives g c = λ columns knows ahead. (
+returns-then-room-lt-CELL_ROOM-clause-gives g c = λ columns knows ahead. rw c.none.ensures (
   ahead,
   λ charset cells set is.
       record {

@@ -20,7 +20,7 @@ pub loop-cells-preserved : goal.loop-cells-preserved
 loop-cells-preserved c =
     let l = c.loop-cells in
     let written = c.in-Some.written in
-    let text = c.write_cell.new.to in
+    let text = c.write_next.new.to in
     let forms = c.args.forms.now in
     let form = c.index-forms-cells.result in
     let bytes = c.args.bytes.now in
@@ -31,7 +31,7 @@ loop-cells-preserved c =
     let left = left_after c.args.charset forms c.args.column bytes rest written.used l.invariant.within l.invariant.rest within in
     let now = all_after bytes (length bytes - length rest) ∙ sym l.invariant.rest in
     let whole = rw form_is at (rw (sym now) at c.in-Some.ensures.whole) in
-    let wrote = rw form_is at (rw (sym now) at c.in-Some.ensures.gives) in
+    let wrote = rw form_is at (rw (sym now) at c.in-Some.ensures.field) in
     record {
       cells = omega (arith, c.loop-cells-test.true);
       within = omega (arith, left.0);
@@ -60,7 +60,7 @@ returns-clause-ends c = λ none form others are.
           let form_is : d ≡ form = there ∙ ap (λ (n : ℕ). get_or forms n d) none ∙ ap (λ (f : List Form). get_or f 0 d) are in
           let at : length bytes - length l.rest.now ≡ 0 = omega (arith, begun.0) in
           let bytes_are : l.rest.now ≡ bytes = l.invariant.rest ∙ ap (λ (n : ℕ). drop n bytes) at in
-          inr (left_less _ _ _ _ _ room (rw bytes_are at (rw form_is at w.in_default.ensures.gives))))
+          inr (left_less _ _ _ _ _ room (rw bytes_are at (rw form_is at w.in_default.ensures.field))))
     ]
 
 pub returns-clause-gives : goal.returns-clause-gives

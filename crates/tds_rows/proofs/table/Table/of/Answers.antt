@@ -1,4 +1,4 @@
-use Rattle.tds_rows.proofs.{Words.{◌∙◌, sym, arith, rules, column_value, columns_left, columns_of}, LaidOut.{laid_all, laid_set}, TableSteps.{first_more, next_column}}
+use Rattle.tds_rows.proofs.{Words.{◌∙◌, ap, sym, arith, rules, is_int4, IsInt4, IsLaidOut, column_value, columns_left, columns_of}, LaidOut.{each_all, each_set, int4_set}, TableSteps.{first_more, next_column}}
 use Rattle.tds_rows.proofs.table.Table.of.Goals as goal
 
 pub loop-known-init : goal.loop-known-init
@@ -7,7 +7,8 @@ loop-known-init c = record {
   few = search (arith, rules);
   whole = search (arith, rules);
   first = search (arith, rules);
-  laid = laid_all _ 64 c.of-forms.result c.of-forms.ensures.laid;
+  laid = each_all (λ f. IsLaidOut c.args.charset f.kind f.layout) 64 c.of-forms.result c.of-forms.ensures.laid;
+  numbers = λ _. each_all (λ f. IsInt4 f.kind) 64 c.of-forms.result (ap is_int4 c.of-forms.ensures.kind);
   rest = search (arith, rules);
 }
 
@@ -22,6 +23,7 @@ loop-known-preserved c =
       few = omega (arith, next.0);
       whole = search (arith, rules);
       first = first_more c.loop-known.forms columns c.loop-known.known c.of.result (column_value c.in-Some.column) (columns_left c.next.new.self) (omega (arith, inv.whole, c.loop-known-test.true)) inv.first step c.of.ensures.kind;
-      laid = laid_set c.args.charset c.loop-known.forms c.loop-known.known c.of.result inv.laid (omega (arith, inv.whole, c.loop-known-test.true)) c.of.ensures.laid;
+      laid = each_set (λ f. IsLaidOut c.args.charset f.kind f.layout) c.loop-known.forms c.loop-known.known c.of.result inv.laid (omega (arith, inv.whole, c.loop-known-test.true)) c.of.ensures.laid;
+      numbers = int4_set c.loop-known.forms c.loop-known.known c.of.result c.loop-known.only_numbers c.is_int4.result inv.numbers (omega (arith, inv.whole, c.loop-known-test.true)) (c.is_int4.ensures ∙ ap is_int4 (sym c.of.ensures.kind));
       rest = sym next.1.1;
     }

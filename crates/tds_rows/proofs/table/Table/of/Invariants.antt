@@ -1,4 +1,4 @@
-use Rattle.tds_rows.proofs.Words.{◌≡◌, ◌-◌, ◌≤◌, length, take, drop, map, columns_of, columns_left, AreLaidOut, kinds}
+use Rattle.tds_rows.proofs.Words.{◌≡◌, ◌-◌, ◌≤◌, length, take, drop, map, columns_of, columns_left, AreInt4, AreLaidOut, kinds, true}
 use Rattle.tds_rows.proofs.table.Table.of.Given as goal
 
 abbrev pub invariant-loop-known : goal.invariant-loop-known
@@ -8,6 +8,7 @@ invariant-loop-known l = record {
   whole : length l.forms ≡ 64;
   first : map (λ f. f.kind) (take l.known l.forms) ≡ kinds (take l.known (columns_of l.fn.columns.bytes.now));
   laid : AreLaidOut l.fn.charset l.forms;
+  numbers : l.only_numbers ≡ true → AreInt4 l.forms;
   rest : columns_left l.rest ≡ drop l.known (columns_of l.fn.columns.bytes.now);
 }
 

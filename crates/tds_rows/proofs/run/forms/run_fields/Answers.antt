@@ -1,5 +1,5 @@
 use Rattle.tds_rows.proofs.{Words.{ℕ, ◌≡◌, ◌∙◌, ◌-◌, ◌<◌, ◌++◌, length, take, sym, ap, subst, arith, rules, ◌==◌, ◌&&◌, end_after, WritesForms}, FormSteps.{before_comma, first_alone, run_marked}}
-use Rattle.tds_rows.proofs.run.forms.run_forms.Goals as goal
+use Rattle.tds_rows.proofs.run.forms.run_fields.Goals as goal
 
 pub returns-then-run-eq0-clause-ends : goal.returns-then-run-eq0-clause-ends
 returns-then-run-eq0-clause-ends c = λ _. c.write_fields-run.ensures.ends c.if-run-eq0.true
