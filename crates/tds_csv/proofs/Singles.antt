@@ -32,6 +32,6 @@ module _ (text : List ℕ → List ℕ) (appends : (x y : List ℕ) → text (x 
     some_itself (suc k) [] h = absurd (omega arith)
     some_itself (suc k) (b ∷ xs) h = some_more (q b) b k (prefix_len q xs) xs (itself b) h (some_itself k xs)
 
-    -- those that were found among the next 16
-    pub lanes_itself : (bytes : List ℕ) (at n : ℕ) → n ≤ 16 → n ≡ prefix_len q (chunk at 16 bytes) → take n (chunk at 16 bytes) ≡ text (take n (drop at bytes))
-    lanes_itself bytes at n few e = grind (arith, common_steps, some_itself, take-take)
+    -- those that were found among the next `w`
+    pub lanes_itself : (w : ℕ) (bytes : List ℕ) (at n : ℕ) → n ≤ w → n ≡ prefix_len q (chunk at w bytes) → take n (chunk at w bytes) ≡ text (take n (drop at bytes))
+    lanes_itself w bytes at n few e = grind (arith, common_steps, some_itself, take-take)

@@ -3,8 +3,9 @@ ghost use Rattle.std.specs.Prelude.{◌≡◌, ◌+◌, ◌*◌, ◌<◌, ◌≤
 ghost use Rattle.tds_csv.specs.Plain.{LiesIn};
 ghost use Rattle.tds_csv.specs.Windows1252 as windows_1252;
 
-use crate::convert::encode::{put_byte, put_bytes, put_doubled};
-use crate::convert::lanes::{BY_HAND, LANES, plain_run};
+use crate::convert::encode::{put_byte, put_bytes, put_doubled, put_wide_bytes};
+use crate::convert::lanes::{BY_HAND, LANES, WIDE, plain_run, wide_plain_run};
+use crate::convert::utf16::Converted;
 use std::simd::prelude::*;
 
 // The characters of the bytes 80 to FF in UTF-8, the first byte the lowest, with their number in the highest.
@@ -86,6 +87,20 @@ fn take_plain(bytes: &[u8], source: &[u8], at: usize, to: &mut [u8], made: usize
     n
 }
 
+// Writes the next bytes that are their own text, at most 32, to a place, and returns how many.
+#[inline(always)]
+fn take_wide(bytes: &[u8], at: usize, to: &mut [u8], made: usize) -> usize
+    requires wide { at + WIDE ≤ length bytes.now }
+    requires room { made + WIDE ≤ length to.old }
+    ensures most { result ≤ WIDE }
+    ensures taken { let run = take result (drop at bytes.now) in
+        take (made + result) to.new ≡ take made to.old ++ windows_1252.text run }
+{
+    let n = wide_plain_run(bytes, at);
+    put_wide_bytes(to, made, u8x32::from_slice(&bytes[at..]), n);
+    n
+}
+
 // Where the bytes end that are taken one by one, after `taken` bytes that were taken together.
 #[inline(always)]
 fn end_by_hand(bytes: &[u8], at: usize, taken: usize) -> usize
@@ -119,6 +134,29 @@ fn convert_by_hand(bytes: &[u8], from: usize, end: usize, to: &mut [u8], start: 
     made
 }
 
+// Writes the text of the bytes, as long as 32 of them are left.
+#[inline(always)]
+fn convert_wide(bytes: &[u8], to: &mut [u8]) -> Converted
+    requires { 3 * length bytes.now + LANES ≤ length to.old }
+    ensures within { result.used ≤ length bytes.now }
+    ensures text { windows_1252.Converts bytes.now to.new result.used result.made }
+{
+    let mut at = 0;
+    let mut made = 0;
+    while bytes.len() - at >= WIDE {
+        let n = take_wide(bytes, at, to, made);
+        at += n;
+        made += n;
+        if n == WIDE {
+            continue;
+        }
+        let end = end_by_hand(bytes, at, n);
+        made = convert_by_hand(bytes, at, end, to, made);
+        at = end;
+    }
+    Converted { used: at, made }
+}
+
 // Writes the text of bytes, and returns its length. What follows them in the source may be looked at.
 pub(crate) fn convert(bytes: &[u8], source: &[u8], to: &mut [u8]) -> usize
     requires source { LiesIn bytes.now source.now }
@@ -126,17 +164,18 @@ pub(crate) fn convert(bytes: &[u8], source: &[u8], to: &mut [u8]) -> usize
     ensures short { result ≤ 3 * length bytes.now }
     ensures text { take result to.new ≡ windows_1252.text bytes.now }
 {
-    let mut at = 0;
-    let mut made = 0;
+    let done = convert_wide(bytes, to);
+    let mut at = done.used;
+    let mut made = done.made;
     while at < bytes.len() {
         let n = take_plain(bytes, source, at, to, made);
-        if n == LANES {
-            at += n;
-            made += n;
+        at += n;
+        made += n;
+        if n == LANES || at == bytes.len() {
             continue;
         }
-        let end = end_by_hand(bytes, at + n, n);
-        made = convert_by_hand(bytes, at + n, end, to, made + n);
+        let end = end_by_hand(bytes, at, n);
+        made = convert_by_hand(bytes, at, end, to, made);
         at = end;
     }
     made
