@@ -1,7 +1,8 @@
 // Text whose quotes are doubled on the way from one slice to another.
-ghost use Rattle.std.specs.Prelude.{◌≡◌, ◌+◌, ◌*◌, ◌≤◌, ◌++◌, length, take, drop};
+ghost use Rattle.std.specs.Prelude.{◌≡◌, ◌+◌, ◌<◌, ◌*◌, ◌≤◌, ◌++◌, length, take, drop};
 ghost use Rattle.tds_csv.specs.Quoting.{doubled};
 
+use crate::convert::PART;
 use crate::convert::encode::{put_bytes, put_doubled, put_wide_bytes};
 use crate::convert::lanes::{LANES, WIDE, unquoted_run, wide_unquoted_run};
 use crate::convert::utf16::Converted;
@@ -41,17 +42,18 @@ fn take_wide(bytes: &[u8], at: usize, to: &mut [u8], made: usize) -> usize
     n
 }
 
-// Writes the bytes with their quotes doubled, as long as 32 of them are left.
+// Writes the bytes with their quotes doubled, as long as 32 of them are left and there is room for more.
 #[inline(always)]
-fn convert_wide(bytes: &[u8], to: &mut [u8]) -> Converted
-    requires { 2 * length bytes.now + LANES ≤ length to.old }
+pub(crate) fn convert_wide(bytes: &[u8], to: &mut [u8]) -> Converted
     ensures within { result.used ≤ length bytes.now }
+    ensures fits { result.made ≤ length to.new }
+    ensures some { WIDE ≤ length bytes.now → PART ≤ length to.old → 0 < result.used }
     ensures short { result.made ≤ 2 * result.used }
     ensures text { take result.made to.new ≡ doubled (take result.used bytes.now) }
 {
     let mut at = 0;
     let mut made = 0;
-    while bytes.len() - at >= WIDE {
+    while bytes.len() - at >= WIDE && to.len() - made >= PART {
         let n = take_wide(bytes, at, to, made);
         at += n;
         made += n;

@@ -3,6 +3,7 @@ ghost use Rattle.std.specs.Prelude.{◌≡◌, ◌+◌, ◌*◌, ◌<◌, ◌≤
 ghost use Rattle.tds_csv.specs.Plain.{LiesIn};
 ghost use Rattle.tds_csv.specs.Windows1252 as windows_1252;
 
+use crate::convert::PART;
 use crate::convert::encode::{put_byte, put_bytes, put_doubled, put_wide_bytes};
 use crate::convert::lanes::{BY_HAND, LANES, WIDE, plain_run, wide_plain_run};
 use crate::convert::utf16::Converted;
@@ -107,6 +108,7 @@ fn end_by_hand(bytes: &[u8], at: usize, taken: usize) -> usize
     requires { at ≤ length bytes.now }
     ensures from { at ≤ result }
     ensures within { result ≤ length bytes.now }
+    ensures few { result ≤ at + BY_HAND }
     ensures more { at < length bytes.now → at < result }
 {
     if taken == 0 {
@@ -121,9 +123,10 @@ fn end_by_hand(bytes: &[u8], at: usize, taken: usize) -> usize
 fn convert_by_hand(bytes: &[u8], from: usize, end: usize, to: &mut [u8], start: usize) -> usize
     requires from { from ≤ end }
     requires end { end ≤ length bytes.now }
-    requires long { 3 * length bytes.now + LANES ≤ length to.old }
+    requires room { start + 3 * (end - from) ≤ length to.old }
     requires before { windows_1252.Converts bytes.now to.old from start }
-    ensures { windows_1252.Converts bytes.now to.new end result }
+    ensures most { result ≤ start + 3 * (end - from) }
+    ensures text { windows_1252.Converts bytes.now to.new end result }
 {
     let mut at = from;
     let mut made = start;
@@ -134,16 +137,17 @@ fn convert_by_hand(bytes: &[u8], from: usize, end: usize, to: &mut [u8], start: 
     made
 }
 
-// Writes the text of the bytes, as long as 32 of them are left.
+// Writes the text of the bytes, as long as 32 of them are left and there is room for any text of 32 and 32 more.
 #[inline(always)]
-fn convert_wide(bytes: &[u8], to: &mut [u8]) -> Converted
-    requires { 3 * length bytes.now + LANES ≤ length to.old }
+pub(crate) fn convert_wide(bytes: &[u8], to: &mut [u8]) -> Converted
     ensures within { result.used ≤ length bytes.now }
+    ensures fits { result.made ≤ length to.new }
+    ensures some { WIDE ≤ length bytes.now → PART ≤ length to.old → 0 < result.used }
     ensures text { windows_1252.Converts bytes.now to.new result.used result.made }
 {
     let mut at = 0;
     let mut made = 0;
-    while bytes.len() - at >= WIDE {
+    while bytes.len() - at >= WIDE && to.len() - made >= PART {
         let n = take_wide(bytes, at, to, made);
         at += n;
         made += n;

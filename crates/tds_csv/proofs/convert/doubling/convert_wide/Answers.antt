@@ -8,4 +8,4 @@ loop-at-preserved c =
 
 pub loop-at-preserved-then-n-eq-WIDE : goal.loop-at-preserved-then-n-eq-WIDE
 loop-at-preserved-then-n-eq-WIDE c =
-    record { within = omega arith; long = search rules; room = omega arith; text = text_taken doubled doubled-append c.args.bytes.now c.loop-at.at c.take_wide-n.result c.take_wide-n.ensures.taken c.loop-at.invariant.text }
+    record { within = omega arith; fits = search rules; room = omega arith; text = text_taken doubled doubled-append c.args.bytes.now c.loop-at.at c.take_wide-n.result c.take_wide-n.ensures.taken c.loop-at.invariant.text }
