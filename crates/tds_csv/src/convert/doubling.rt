@@ -4,7 +4,7 @@ ghost use Rattle.tds_csv.specs.Quoting.{doubled};
 
 use crate::convert::PART;
 use crate::convert::encode::{put_bytes, put_doubled, put_wide_bytes};
-use crate::convert::lanes::{LANES, WIDE, unquoted_run, wide_unquoted_run};
+use crate::convert::lanes::{LANES, WIDE, first_set, unquoted_run, wide_quotes};
 use crate::convert::utf16::Converted;
 use std::simd::prelude::*;
 
@@ -37,8 +37,14 @@ fn take_wide(bytes: &[u8], at: usize, to: &mut [u8], made: usize) -> usize
     ensures taken { let run = take result (drop at bytes.now) in
         take (made + result) to.new ≡ take made to.old ++ doubled run }
 {
-    let n = wide_unquoted_run(bytes, at);
-    put_wide_bytes(to, made, u8x32::from_slice(&bytes[at..]), n);
+    let stops = wide_quotes(bytes, at);
+    let lanes = u8x32::from_slice(&bytes[at..]);
+    if stops == 0 {
+        put_wide_bytes(to, made, lanes, WIDE);
+        return WIDE;
+    }
+    let n = first_set(stops, WIDE);
+    put_wide_bytes(to, made, lanes, n);
     n
 }
 

@@ -48,23 +48,23 @@ pub(crate) fn plain_run(bytes: &[u8], at: usize) -> usize
     first_set(stops.to_bitmask(), LANES)
 }
 
-// How many of the next 32 bytes come before the first quote among them.
+// Which of the next 32 bytes are quotes, the first by the lowest bit.
 #[inline(always)]
-pub(crate) fn wide_unquoted_run(bytes: &[u8], at: usize) -> usize
+pub(crate) fn wide_quotes(bytes: &[u8], at: usize) -> u64
     requires { at + WIDE ≤ length bytes.now }
-    ensures { result ≡ prefix_len is_unquoted (chunk at WIDE bytes.now) }
+    ensures { first_set result WIDE ≡ prefix_len is_unquoted (chunk at WIDE bytes.now) }
 {
     let quotes = u8x32::from_slice(&bytes[at..]).simd_eq(u8x32::splat(0x22));
-    first_set(quotes.to_bitmask(), WIDE)
+    quotes.to_bitmask()
 }
 
-// How many of the next 32 bytes come before the first among them that is a quote or isn't of ASCII.
+// Which of the next 32 bytes are quotes or aren't of ASCII, the first by the lowest bit.
 #[inline(always)]
-pub(crate) fn wide_plain_run(bytes: &[u8], at: usize) -> usize
+pub(crate) fn wide_stops(bytes: &[u8], at: usize) -> u64
     requires { at + WIDE ≤ length bytes.now }
-    ensures { result ≡ prefix_len is_plain (chunk at WIDE bytes.now) }
+    ensures { first_set result WIDE ≡ prefix_len is_plain (chunk at WIDE bytes.now) }
 {
     let lanes = u8x32::from_slice(&bytes[at..]);
     let stops = lanes.simd_eq(u8x32::splat(0x22)) | lanes.simd_ge(u8x32::splat(0x80));
-    first_set(stops.to_bitmask(), WIDE)
+    stops.to_bitmask()
 }

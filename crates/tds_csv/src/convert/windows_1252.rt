@@ -5,7 +5,7 @@ ghost use Rattle.tds_csv.specs.Windows1252 as windows_1252;
 
 use crate::convert::PART;
 use crate::convert::encode::{put_byte, put_bytes, put_doubled, put_wide_bytes};
-use crate::convert::lanes::{BY_HAND, LANES, WIDE, plain_run, wide_plain_run};
+use crate::convert::lanes::{BY_HAND, LANES, WIDE, first_set, plain_run, wide_stops};
 use crate::convert::utf16::Converted;
 use std::simd::prelude::*;
 
@@ -97,8 +97,14 @@ fn take_wide(bytes: &[u8], at: usize, to: &mut [u8], made: usize) -> usize
     ensures taken { let run = take result (drop at bytes.now) in
         take (made + result) to.new ≡ take made to.old ++ windows_1252.text run }
 {
-    let n = wide_plain_run(bytes, at);
-    put_wide_bytes(to, made, u8x32::from_slice(&bytes[at..]), n);
+    let stops = wide_stops(bytes, at);
+    let lanes = u8x32::from_slice(&bytes[at..]);
+    if stops == 0 {
+        put_wide_bytes(to, made, lanes, WIDE);
+        return WIDE;
+    }
+    let n = first_set(stops, WIDE);
+    put_wide_bytes(to, made, lanes, n);
     n
 }
 
