@@ -25,6 +25,7 @@ pub mod Pushings
 pub mod Utf16Seam
 pub mod Utf8Laws
 pub mod Utf16Laws
+pub mod Utf16Ends
 pub mod SingleLaws
 pub mod JoiningLemmas
 pub mod WideLanes

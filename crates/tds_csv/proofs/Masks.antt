@@ -14,11 +14,11 @@ run_before bit n f v long few lanes =
     rw (lanes, map-map (top bit) f v, mask) (first_set_mask_l stops v n long few)
 
 -- a lane stops just where q fails
-pub run_in : (q : ℕ → Bool) (d : List ℕ) (i : ℕ) (z : List ℕ) → i + 16 ≤ length d → ((k : ℕ) → Fits w8 (get_or d k 0)) → (f : ℕ → ℕ) → z ≡ map f (chunk i 16 d)
-    → agree_below (λ x. not (top 7 (f x))) q 256 ≡ true → first_set (mask_l (map (top 7) z) % 2 ^ 64) 16 ≡ prefix_len q (chunk i 16 d)
-run_in q d i z room fits f lanes all =
-    run_before 7 16 f (chunk i 16 d) (length-chunk i 16 d room) (omega arith) lanes
-    ∙ same_prefix (Fits w8) (λ x small. agree_below_at (λ x. not (top 7 (f x))) q 256 x all small.fits) (chunk i 16 d) (chunk-fits w8 i 16 d fits)
+pub run_in : (n : ℕ) (q : ℕ → Bool) (d : List ℕ) (i : ℕ) (z : List ℕ) → n ≤ 64 → i + n ≤ length d → ((k : ℕ) → Fits w8 (get_or d k 0)) → (f : ℕ → ℕ) → z ≡ map f (chunk i n d)
+    → agree_below (λ x. not (top 7 (f x))) q 256 ≡ true → first_set (mask_l (map (top 7) z) % 2 ^ 64) n ≡ prefix_len q (chunk i n d)
+run_in n q d i z few room fits f lanes all =
+    run_before 7 n f (chunk i n d) (length-chunk i n d room) few lanes
+    ∙ same_prefix (Fits w8) (λ x small. agree_below_at (λ x. not (top 7 (f x))) q 256 x all small.fits) (chunk i n d) (chunk-fits w8 i n d fits)
 
 pub run_most : (q : ℕ → Bool) (d : List ℕ) (i n : ℕ) → i + n ≤ length d → prefix_len q (chunk i n d) ≤ n
 run_most q d i n room = omega (arith, prefix_len-le-length q (chunk i n d), length-chunk i n d room)

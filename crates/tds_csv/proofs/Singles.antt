@@ -1,5 +1,5 @@
 -- Data whose bytes each stand alone, put a run after the other.
-use Rattle.tds_csv.proofs.{Words.{common_steps, ◌≡◌, ◌∙◌, ◌+◌, ◌≤◌, ℕ, zero, suc, ◌-◌, Bool, true, false, cond, List, [], ◌∷◌, ◌++◌, take, drop, Option, Result, Ok, Err, refl, sym, ap, subst, arith, prefix_len, IsErrAnd, take-append-drop, take-take, take-add, chunk, Stop, Sink, PutsPiece}, Puttings.{PutsPiece-passed, PutsPiece-trans}}
+use Rattle.tds_csv.proofs.{Words.{common_steps, append-nil, ◌≡◌, ◌∙◌, ◌+◌, ◌≤◌, ℕ, zero, suc, ◌-◌, Bool, true, false, cond, List, [], ◌∷◌, ◌++◌, take, drop, Option, Result, Ok, Err, refl, sym, ap, subst, arith, prefix_len, IsErrAnd, take-append-drop, take-take, take-add, chunk, Stop, Sink, PutsPiece}, Puttings.{PutsPiece-longer, PutsPiece-ok, PutsPiece-passed, PutsPiece-trans}}
 
 module _ (text : List ℕ → List ℕ) (appends : (x y : List ℕ) → text (x ++ y) ≡ text x ++ text y) where
   runs : (t e : ℕ) (xs : List ℕ) → t ≤ e → text (take t xs) ++ text (take (e - t) (drop t xs)) ≡ text (take e xs)
@@ -15,6 +15,17 @@ module _ (text : List ℕ → List ℕ) (appends : (x y : List ℕ) → text (x 
     puts_break {stop = stop} {r = r} q passed =
         let all : (text (take t xs) ++ text (take (e - t) (drop t xs))) ++ text (drop e xs) ≡ text xs = ap (λ l. l ++ text (drop e xs)) (runs t e xs h) ∙ sym (appends (take e xs) (drop e xs)) ∙ ap text (take-append-drop e xs) in
         subst (λ l. PutsPiece contents a d l r) all (PutsPiece-passed contents a d _ (text (drop e xs)) stop r passed (PutsPiece-trans contents a b d u _ _ (Err stop) p q))
+
+  -- so many of the others were put
+  pub puts_some : {W U V T : Type 0} {contents : W → Option (List ℕ)} {a b d : Sink W} {u : U} {v : V} {w : T} (t e n : ℕ) (xs : List ℕ) → n ≤ e - t → PutsPiece contents a b (text (take t xs)) (Ok u) → PutsPiece contents b d (text (take n (take (e - t) (drop t xs)))) (Ok v)
+      → PutsPiece contents a d (text (take (t + n) xs)) (Ok w)
+  puts_some {contents = contents} {a = a} {b = b} {d = d} {u = u} {v = v} {w = w} t e n xs few p q =
+      let all = ap (λ l. text (take t xs) ++ text l) (take-take n (e - t) (drop t xs) few) ∙ sym (appends (take t xs) (take n (drop t xs))) ∙ ap text (sym (take-add t n xs)) in
+      PutsPiece-ok contents a d _ v w (subst (λ l. PutsPiece contents a d l (Ok v)) all (PutsPiece-trans contents a b d u _ _ (Ok v) p q))
+
+  -- some of them are all of it, as far as a write failed
+  pub puts_less : {W U V : Type 0} {contents : W → Option (List ℕ)} {a d : Sink W} {stop : Stop} (n : ℕ) (xs : List ℕ) → PutsPiece {U = U} contents a d (text (take n xs)) (Err stop) → PutsPiece {U = V} contents a d (text xs) (Err stop)
+  puts_less {V = V} {contents = contents} {a = a} {d = d} {stop = stop} n xs p = subst (λ l. PutsPiece {U = V} contents a d l (Err stop)) (sym (appends (take n xs) (drop n xs)) ∙ ap text (take-append-drop n xs)) (PutsPiece-longer contents a d _ (text (drop n xs)) stop p)
 
   -- which were added to it
   pub text_taken : {run after : List ℕ} (bytes : List ℕ) (at n : ℕ) → after ≡ run ++ text (take n (drop at bytes)) → run ≡ text (take at bytes) → after ≡ text (take (at + n) bytes)
@@ -32,6 +43,6 @@ module _ (text : List ℕ → List ℕ) (appends : (x y : List ℕ) → text (x 
     some_itself (suc k) [] h = absurd (omega arith)
     some_itself (suc k) (b ∷ xs) h = some_more (q b) b k (prefix_len q xs) xs (itself b) h (some_itself k xs)
 
-    -- those that were found among the next 16
-    pub lanes_itself : (bytes : List ℕ) (at n : ℕ) → n ≤ 16 → n ≡ prefix_len q (chunk at 16 bytes) → take n (chunk at 16 bytes) ≡ text (take n (drop at bytes))
-    lanes_itself bytes at n few e = grind (arith, common_steps, some_itself, take-take)
+    -- those that were found among the next `w`
+    pub lanes_itself : (w : ℕ) (bytes : List ℕ) (at n : ℕ) → n ≤ w → n ≡ prefix_len q (chunk at w bytes) → take n (chunk at w bytes) ≡ text (take n (drop at bytes))
+    lanes_itself w bytes at n few e = grind (arith, common_steps, some_itself, take-take)

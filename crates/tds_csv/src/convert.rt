@@ -12,10 +12,13 @@ pub(crate) mod utf16;
 pub(crate) mod utf8;
 pub(crate) mod windows_1252;
 
-use lanes::LANES;
+use lanes::{LANES, WIDE};
 
 /// How many bytes are converted at a time if the sink has little room.
-pub(crate) const CHUNK: usize = 32;
+pub(crate) const CHUNK: usize = 128;
+
+/// How many bytes of room 32 bytes and 32 others may want whose text is longer.
+pub(crate) const PART: usize = 4 * WIDE;
 
 /// Returns how many units, each of which has at most three bytes of text, are converted at a time with
 /// `room` bytes of room: those whose text surely fits, or at least `least`.

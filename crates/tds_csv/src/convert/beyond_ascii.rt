@@ -7,7 +7,7 @@ ghost use Rattle.tds_csv.specs.Wide.{is_long, is_short, pair, size, triples};
 use crate::convert::encode::put_bytes;
 use crate::convert::lanes::LANES;
 use crate::convert::lanes_utf16::{UNITS, long_units, units_at, units_below};
-use crate::convert::utf16::Converted;
+use crate::convert::utf16::{Converted, convert_one};
 use std::simd::prelude::*;
 
 // The bytes of short characters, each in two bytes.
@@ -95,8 +95,8 @@ fn put_long(to: &mut [u8], at: usize, units: u16x8, n: usize)
     put_bytes(to, at + 12, high, 3 * (n - 4));
 }
 
-// Goes on with the text by eight units, up to the first that is no short character. What comes after the
-// bytes in the source may be looked at.
+// Goes on with the text by eight units, up to two that are no short characters: one is taken by itself. What
+// comes after the bytes in the source may be looked at.
 #[inline(never)]
 pub(crate) fn convert_short(
     bytes: &[u8],
@@ -114,18 +114,24 @@ pub(crate) fn convert_short(
     while source.len() - at >= LANES {
         let units = units_at(source, at);
         let n = units_below(units, 0x800).min((bytes.len() - at) / 2);
-        if n < UNITS {
-            made = put_short(to, made, units, n);
-            at += 2 * n;
+        if n == UNITS {
+            made = put_short(to, made, units, UNITS);
+            at += 2 * UNITS;
+            continue;
+        }
+        made = put_short(to, made, units, n);
+        at += 2 * n;
+        if n == 0 {
             break;
         }
-        made = put_short(to, made, units, UNITS);
-        at += 2 * UNITS;
+        let one = convert_one(bytes, at, to, made);
+        at = one.used;
+        made = one.made;
     }
     Converted { used: at, made }
 }
 
-// Goes on with the text by eight units, up to the first that is no long character.
+// Goes on with the text by eight units, up to two that are no long characters: one is taken by itself.
 #[inline(never)]
 pub(crate) fn convert_long(
     bytes: &[u8],
@@ -143,15 +149,21 @@ pub(crate) fn convert_long(
     while source.len() - at >= LANES {
         let units = units_at(source, at);
         let n = long_units(units).min((bytes.len() - at) / 2);
-        if n < UNITS {
-            put_long(to, made, units, n);
-            made += 3 * n;
-            at += 2 * n;
+        if n == UNITS {
+            put_long(to, made, units, UNITS);
+            made += 3 * UNITS;
+            at += 2 * UNITS;
+            continue;
+        }
+        put_long(to, made, units, n);
+        made += 3 * n;
+        at += 2 * n;
+        if n == 0 {
             break;
         }
-        put_long(to, made, units, UNITS);
-        made += 3 * UNITS;
-        at += 2 * UNITS;
+        let one = convert_one(bytes, at, to, made);
+        at = one.used;
+        made = one.made;
     }
     Converted { used: at, made }
 }

@@ -1,9 +1,11 @@
 // Text whose quotes are doubled on the way from one slice to another.
-ghost use Rattle.std.specs.Prelude.{◌≡◌, ◌+◌, ◌*◌, ◌≤◌, ◌++◌, length, take, drop};
+ghost use Rattle.std.specs.Prelude.{◌≡◌, ◌+◌, ◌<◌, ◌*◌, ◌≤◌, ◌++◌, length, take, drop};
 ghost use Rattle.tds_csv.specs.Quoting.{doubled};
 
-use crate::convert::encode::{put_bytes, put_doubled};
-use crate::convert::lanes::{LANES, unquoted_run};
+use crate::convert::PART;
+use crate::convert::encode::{put_bytes, put_doubled, put_wide_bytes};
+use crate::convert::lanes::{LANES, WIDE, first_set, unquoted_run, wide_quotes};
+use crate::convert::utf16::Converted;
 use std::simd::prelude::*;
 
 // Writes the next bytes up to a quote, at most 16, to a place, and returns how many. Writes none if fewer than
@@ -26,27 +28,68 @@ fn take_unquoted(bytes: &[u8], at: usize, to: &mut [u8], made: usize) -> usize
     n
 }
 
+// Writes the next bytes up to a quote, at most 32, to a place, and returns how many.
+#[inline(always)]
+fn take_wide(bytes: &[u8], at: usize, to: &mut [u8], made: usize) -> usize
+    requires wide { at + WIDE ≤ length bytes.now }
+    requires room { made + WIDE ≤ length to.old }
+    ensures most { result ≤ WIDE }
+    ensures taken { let run = take result (drop at bytes.now) in
+        take (made + result) to.new ≡ take made to.old ++ doubled run }
+{
+    let stops = wide_quotes(bytes, at);
+    let lanes = u8x32::from_slice(&bytes[at..]);
+    if stops == 0 {
+        put_wide_bytes(to, made, lanes, WIDE);
+        return WIDE;
+    }
+    let n = first_set(stops, WIDE);
+    put_wide_bytes(to, made, lanes, n);
+    n
+}
+
+// Writes the bytes with their quotes doubled, as long as 32 of them are left and there is room for more.
+#[inline(always)]
+pub(crate) fn convert_wide(bytes: &[u8], to: &mut [u8]) -> Converted
+    ensures within { result.used ≤ length bytes.now }
+    ensures fits { result.made ≤ length to.new }
+    ensures some { WIDE ≤ length bytes.now → PART ≤ length to.old → 0 < result.used }
+    ensures short { result.made ≤ 2 * result.used }
+    ensures text { take result.made to.new ≡ doubled (take result.used bytes.now) }
+{
+    let mut at = 0;
+    let mut made = 0;
+    while bytes.len() - at >= WIDE && to.len() - made >= PART {
+        let n = take_wide(bytes, at, to, made);
+        at += n;
+        made += n;
+        if n == WIDE {
+            continue;
+        }
+        made = put_doubled(to, made, bytes[at]);
+        at += 1;
+    }
+    Converted { used: at, made }
+}
+
 // Writes bytes with their quotes doubled, and returns how many they are then.
 pub(crate) fn convert(bytes: &[u8], to: &mut [u8]) -> usize
     requires { 2 * length bytes.now + LANES ≤ length to.old }
     ensures short { result ≤ 2 * length bytes.now }
     ensures text { take result to.new ≡ doubled bytes.now }
 {
-    let mut at = 0;
-    let mut made = 0;
+    let done = convert_wide(bytes, to);
+    let mut at = done.used;
+    let mut made = done.made;
     while at < bytes.len() {
         let n = take_unquoted(bytes, at, to, made);
-        if n == LANES {
-            at += n;
-            made += n;
-            continue;
-        }
         at += n;
         made += n;
-        if at < bytes.len() {
-            made = put_doubled(to, made, bytes[at]);
-            at += 1;
+        if n == LANES || at == bytes.len() {
+            continue;
         }
+        made = put_doubled(to, made, bytes[at]);
+        at += 1;
     }
     made
 }

@@ -4,7 +4,7 @@ ghost use Rattle.std.specs.Prelude.{◌≡◌, ◌+◌, ◌<◌, ◌≤◌, [], 
 ghost use Rattle.std.specs.Char.{encode_utf8};
 ghost use Rattle.tds_csv.specs.Quoting.{doubled};
 
-use crate::convert::lanes::LANES;
+use crate::convert::lanes::{LANES, WIDE};
 use crate::convert::lanes_utf16::UNITS;
 use std::simd::prelude::*;
 
@@ -145,6 +145,18 @@ pub(crate) fn put_bytes(to: &mut [u8], at: usize, lanes: u8x16, n: usize)
     requires lanes { length lanes ≡ LANES }
     requires within { n ≤ LANES }
     requires room { at + LANES ≤ length to.old }
+    ensures { take (at + n) to.new ≡ take at to.old ++ take n lanes }
+{
+    lanes.copy_to_slice(&mut to[at..]);
+}
+
+// Writes the first `n` of thirty-two bytes.
+#[inline(always)]
+#[tactic(auto, using(tds_values::proofs::LaneLemmas::taken_put))]
+pub(crate) fn put_wide_bytes(to: &mut [u8], at: usize, lanes: u8x32, n: usize)
+    requires lanes { length lanes ≡ WIDE }
+    requires within { n ≤ WIDE }
+    requires room { at + WIDE ≤ length to.old }
     ensures { take (at + n) to.new ≡ take at to.old ++ take n lanes }
 {
     lanes.copy_to_slice(&mut to[at..]);

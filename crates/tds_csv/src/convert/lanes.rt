@@ -1,4 +1,4 @@
-// Runs of bytes, found 16 at a time.
+// Runs of bytes, found 16 or 32 at a time.
 ghost use Rattle.std.specs.Prelude.{◌≡◌, ◌+◌, ◌≤◌, length, drop};
 ghost use Rattle.std.specs.List.{prefix_len};
 ghost use Rattle.std.specs.Simd.Lanes.{chunk};
@@ -8,6 +8,9 @@ use std::simd::prelude::*;
 
 /// How many bytes are looked at together.
 pub(crate) const LANES: usize = 16;
+
+/// How many bytes of long data are looked at together.
+pub(crate) const WIDE: usize = 32;
 
 /// How many characters are taken one by one if the next one needs care, since then others mostly do too.
 pub(crate) const BY_HAND: usize = 32;
@@ -43,4 +46,25 @@ pub(crate) fn plain_run(bytes: &[u8], at: usize) -> usize
     let lanes = u8x16::from_slice(&bytes[at..]);
     let stops = lanes.simd_eq(u8x16::splat(0x22)) | lanes.simd_ge(u8x16::splat(0x80));
     first_set(stops.to_bitmask(), LANES)
+}
+
+// Which of the next 32 bytes are quotes, the first by the lowest bit.
+#[inline(always)]
+pub(crate) fn wide_quotes(bytes: &[u8], at: usize) -> u64
+    requires { at + WIDE ≤ length bytes.now }
+    ensures { first_set result WIDE ≡ prefix_len is_unquoted (chunk at WIDE bytes.now) }
+{
+    let quotes = u8x32::from_slice(&bytes[at..]).simd_eq(u8x32::splat(0x22));
+    quotes.to_bitmask()
+}
+
+// Which of the next 32 bytes are quotes or aren't of ASCII, the first by the lowest bit.
+#[inline(always)]
+pub(crate) fn wide_stops(bytes: &[u8], at: usize) -> u64
+    requires { at + WIDE ≤ length bytes.now }
+    ensures { first_set result WIDE ≡ prefix_len is_plain (chunk at WIDE bytes.now) }
+{
+    let lanes = u8x32::from_slice(&bytes[at..]);
+    let stops = lanes.simd_eq(u8x32::splat(0x22)) | lanes.simd_ge(u8x32::splat(0x80));
+    stops.to_bitmask()
 }

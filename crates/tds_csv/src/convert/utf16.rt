@@ -108,8 +108,30 @@ pub(crate) struct Converted {
     pub(crate) made: usize,
 }
 
-// Goes on with the text by eight units, up to the first that is a quote or isn't of ASCII. What comes after the
-// bytes in the source may be looked at.
+// Goes on with the text by one character, if that doesn't depend on what follows.
+#[inline(always)]
+pub(crate) fn convert_one(bytes: &[u8], from: usize, to: &mut [u8], start: usize) -> Converted
+    requires long { 3 * length bytes.now + 2 * LANES ≤ 2 * length to.old }
+    requires before { Converts bytes.now to.old from start }
+    ensures more { from ≤ result.used }
+    ensures held { result.used ≡ from → utf16.rest (drop from bytes.now) ≡ drop from bytes.now }
+    ensures after { Converts bytes.now to.new result.used result.made }
+{
+    let Some(next) = next_character(bytes, from) else {
+        return Converted {
+            used: from,
+            made: start,
+        };
+    };
+    let made = put_quoted(to, start, next.code);
+    Converted {
+        used: from + next.len,
+        made,
+    }
+}
+
+// Goes on with the text by eight units, up to the first eight of which the first is a quote or isn't of ASCII; such
+// a character among others is taken by itself. What comes after the bytes in the source may be looked at.
 #[inline(always)]
 fn convert_plain(bytes: &[u8], source: &[u8], from: usize, to: &mut [u8], start: usize) -> Converted
     requires { ConvertsIn bytes.now source.now to.old from start }
@@ -120,14 +142,20 @@ fn convert_plain(bytes: &[u8], source: &[u8], from: usize, to: &mut [u8], start:
     let mut made = start;
     while bytes.len() - at >= LANES {
         let n = put_plain(bytes, at, to, made);
-        if n < UNITS {
+        if n == UNITS {
+            at += 2 * UNITS;
+            made += UNITS;
+            continue;
+        }
+        if n == 0 {
             return Converted {
                 used: at + 2 * n,
                 made: made + n,
             };
         }
-        at += 2 * UNITS;
-        made += UNITS;
+        let one = convert_one(bytes, at + 2 * n, to, made + n);
+        at = one.used;
+        made = one.made;
     }
     if source.len() - at < LANES {
         return Converted { used: at, made };
@@ -146,28 +174,6 @@ fn is_run(bytes: &[u8], at: usize) -> bool
     ensures { IsTrue result → at + 4 ≤ length bytes.now }
 {
     bytes.len() - at >= 4 && unit(bytes, at) >= 0x80 && unit(bytes, at + 2) >= 0x80
-}
-
-// Goes on with the text by one character, if that doesn't depend on what follows.
-#[inline(always)]
-fn convert_one(bytes: &[u8], from: usize, to: &mut [u8], start: usize) -> Converted
-    requires long { 3 * length bytes.now + 2 * LANES ≤ 2 * length to.old }
-    requires before { Converts bytes.now to.old from start }
-    ensures more { from ≤ result.used }
-    ensures held { result.used ≡ from → utf16.rest (drop from bytes.now) ≡ drop from bytes.now }
-    ensures after { Converts bytes.now to.new result.used result.made }
-{
-    let Some(next) = next_character(bytes, from) else {
-        return Converted {
-            used: from,
-            made: start,
-        };
-    };
-    let made = put_quoted(to, start, next.code);
-    Converted {
-        used: from + next.len,
-        made,
-    }
 }
 
 // Goes on with the text, by eight units if the next two are beyond ASCII.
@@ -192,7 +198,29 @@ fn convert_next(bytes: &[u8], source: &[u8], from: usize, to: &mut [u8], start: 
     convert_one(bytes, from, to, done.made)
 }
 
+// Goes on with the text of the characters that are fixed, after a run of ASCII.
+#[inline(never)]
+fn convert_from(bytes: &[u8], source: &[u8], after: Converted, to: &mut [u8]) -> Converted
+    requires { ConvertsIn bytes.now source.now to.old after.used after.made }
+    ensures text { take result.made to.new ≡ emit utf16.rest utf16.text bytes.now }
+    ensures used { LeavesRest bytes.now 0 result.used }
+    ensures short { 2 * result.made ≤ 3 * result.used }
+{
+    let mut plain = after;
+    loop {
+        let done = convert_next(bytes, source, plain.used, to, plain.made);
+        if done.used == plain.used {
+            return done;
+        }
+        plain = convert_plain(bytes, source, done.used, to, done.made);
+        if plain.used == bytes.len() {
+            return plain;
+        }
+    }
+}
+
 // Writes the text of the characters that are fixed. What follows the bytes in the source may be looked at.
+#[inline(always)]
 pub(crate) fn convert(bytes: &[u8], source: &[u8], to: &mut [u8]) -> Converted
     requires source { LiesIn bytes.now source.now }
     requires long { 3 * length bytes.now + 2 * LANES ≤ 2 * length to.old }
@@ -200,17 +228,15 @@ pub(crate) fn convert(bytes: &[u8], source: &[u8], to: &mut [u8]) -> Converted
     ensures text { take result.made to.new ≡ emit utf16.rest utf16.text bytes.now }
     ensures used { LeavesRest bytes.now 0 result.used }
 {
-    let mut done = Converted { used: 0, made: 0 };
-    loop {
-        let plain = convert_plain(bytes, source, done.used, to, done.made);
-        done = convert_next(bytes, source, plain.used, to, plain.made);
-        if done.used == plain.used {
-            return done;
-        }
+    let plain = convert_plain(bytes, source, 0, to, 0);
+    if plain.used == bytes.len() {
+        return plain;
     }
+    convert_from(bytes, source, plain, to)
 }
 
 // Writes the text of whole data, and returns its length. A high surrogate at the end has no partner.
+#[inline(always)]
 pub(crate) fn convert_whole(bytes: &[u8], source: &[u8], to: &mut [u8]) -> usize
     requires source { LiesIn bytes.now source.now }
     requires whole { length bytes.now % 2 ≡ 0 }

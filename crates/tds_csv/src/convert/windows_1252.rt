@@ -3,8 +3,10 @@ ghost use Rattle.std.specs.Prelude.{◌≡◌, ◌+◌, ◌*◌, ◌<◌, ◌≤
 ghost use Rattle.tds_csv.specs.Plain.{LiesIn};
 ghost use Rattle.tds_csv.specs.Windows1252 as windows_1252;
 
-use crate::convert::encode::{put_byte, put_bytes, put_doubled};
-use crate::convert::lanes::{BY_HAND, LANES, plain_run};
+use crate::convert::PART;
+use crate::convert::encode::{put_byte, put_bytes, put_doubled, put_wide_bytes};
+use crate::convert::lanes::{BY_HAND, LANES, WIDE, first_set, plain_run, wide_stops};
+use crate::convert::utf16::Converted;
 use std::simd::prelude::*;
 
 // The characters of the bytes 80 to FF in UTF-8, the first byte the lowest, with their number in the highest.
@@ -86,12 +88,33 @@ fn take_plain(bytes: &[u8], source: &[u8], at: usize, to: &mut [u8], made: usize
     n
 }
 
+// Writes the next bytes that are their own text, at most 32, to a place, and returns how many.
+#[inline(always)]
+fn take_wide(bytes: &[u8], at: usize, to: &mut [u8], made: usize) -> usize
+    requires wide { at + WIDE ≤ length bytes.now }
+    requires room { made + WIDE ≤ length to.old }
+    ensures most { result ≤ WIDE }
+    ensures taken { let run = take result (drop at bytes.now) in
+        take (made + result) to.new ≡ take made to.old ++ windows_1252.text run }
+{
+    let stops = wide_stops(bytes, at);
+    let lanes = u8x32::from_slice(&bytes[at..]);
+    if stops == 0 {
+        put_wide_bytes(to, made, lanes, WIDE);
+        return WIDE;
+    }
+    let n = first_set(stops, WIDE);
+    put_wide_bytes(to, made, lanes, n);
+    n
+}
+
 // Where the bytes end that are taken one by one, after `taken` bytes that were taken together.
 #[inline(always)]
 fn end_by_hand(bytes: &[u8], at: usize, taken: usize) -> usize
     requires { at ≤ length bytes.now }
     ensures from { at ≤ result }
     ensures within { result ≤ length bytes.now }
+    ensures few { result ≤ at + BY_HAND }
     ensures more { at < length bytes.now → at < result }
 {
     if taken == 0 {
@@ -106,9 +129,10 @@ fn end_by_hand(bytes: &[u8], at: usize, taken: usize) -> usize
 fn convert_by_hand(bytes: &[u8], from: usize, end: usize, to: &mut [u8], start: usize) -> usize
     requires from { from ≤ end }
     requires end { end ≤ length bytes.now }
-    requires long { 3 * length bytes.now + LANES ≤ length to.old }
+    requires room { start + 3 * (end - from) ≤ length to.old }
     requires before { windows_1252.Converts bytes.now to.old from start }
-    ensures { windows_1252.Converts bytes.now to.new end result }
+    ensures most { result ≤ start + 3 * (end - from) }
+    ensures text { windows_1252.Converts bytes.now to.new end result }
 {
     let mut at = from;
     let mut made = start;
@@ -119,6 +143,30 @@ fn convert_by_hand(bytes: &[u8], from: usize, end: usize, to: &mut [u8], start: 
     made
 }
 
+// Writes the text of the bytes, as long as 32 of them are left and there is room for any text of 32 and 32 more.
+#[inline(always)]
+pub(crate) fn convert_wide(bytes: &[u8], to: &mut [u8]) -> Converted
+    ensures within { result.used ≤ length bytes.now }
+    ensures fits { result.made ≤ length to.new }
+    ensures some { WIDE ≤ length bytes.now → PART ≤ length to.old → 0 < result.used }
+    ensures text { windows_1252.Converts bytes.now to.new result.used result.made }
+{
+    let mut at = 0;
+    let mut made = 0;
+    while bytes.len() - at >= WIDE && to.len() - made >= PART {
+        let n = take_wide(bytes, at, to, made);
+        at += n;
+        made += n;
+        if n == WIDE {
+            continue;
+        }
+        let end = end_by_hand(bytes, at, n);
+        made = convert_by_hand(bytes, at, end, to, made);
+        at = end;
+    }
+    Converted { used: at, made }
+}
+
 // Writes the text of bytes, and returns its length. What follows them in the source may be looked at.
 pub(crate) fn convert(bytes: &[u8], source: &[u8], to: &mut [u8]) -> usize
     requires source { LiesIn bytes.now source.now }
@@ -126,17 +174,18 @@ pub(crate) fn convert(bytes: &[u8], source: &[u8], to: &mut [u8]) -> usize
     ensures short { result ≤ 3 * length bytes.now }
     ensures text { take result to.new ≡ windows_1252.text bytes.now }
 {
-    let mut at = 0;
-    let mut made = 0;
+    let done = convert_wide(bytes, to);
+    let mut at = done.used;
+    let mut made = done.made;
     while at < bytes.len() {
         let n = take_plain(bytes, source, at, to, made);
-        if n == LANES {
-            at += n;
-            made += n;
+        at += n;
+        made += n;
+        if n == LANES || at == bytes.len() {
             continue;
         }
-        let end = end_by_hand(bytes, at + n, n);
-        made = convert_by_hand(bytes, at + n, end, to, made + n);
+        let end = end_by_hand(bytes, at, n);
+        made = convert_by_hand(bytes, at, end, to, made);
         at = end;
     }
     made

@@ -2,7 +2,9 @@
 ghost use Rattle.std.specs.Prelude.{[], false};
 ghost use Rattle.tds_csv.specs.Binary as binary;
 
+use crate::convert::lanes::LANES;
 use crate::convert::lanes_hex::encode;
+use crate::convert::utf16::Converted;
 use crate::joiners::parts::{Bytewise, put_text};
 use crate::joiners::{JoinFault, Joiner};
 use crate::sink::Sink;
@@ -19,6 +21,13 @@ impl Bytewise for HexJoiner {
         let made = 2 * bytes.len();
         encode(bytes, &mut to[..made]);
         made
+    }
+
+    fn convert_part(bytes: &[u8], to: &mut [u8]) -> Converted {
+        let used = bytes.len().min(to.len() / 2) / LANES * LANES;
+        let made = 2 * used;
+        encode(&bytes[..used], &mut to[..made]);
+        Converted { used, made }
     }
 
     fn laws() {}

@@ -2,7 +2,8 @@
 ghost use Rattle.std.specs.Prelude.{[], true};
 ghost use Rattle.tds_csv.specs.Windows1252 as windows_1252;
 
-use crate::convert::windows_1252::convert;
+use crate::convert::utf16::Converted;
+use crate::convert::windows_1252::{convert, convert_wide};
 use crate::joiners::parts::{Bytewise, put_text};
 use crate::joiners::{JoinFault, Joiner};
 use crate::sink::Sink;
@@ -17,6 +18,10 @@ impl Bytewise for Cp1252Joiner {
 
     fn convert(bytes: &[u8], source: &[u8], to: &mut [u8]) -> usize {
         convert(bytes, source, to)
+    }
+
+    fn convert_part(bytes: &[u8], to: &mut [u8]) -> Converted {
+        convert_wide(bytes, to)
     }
 
     fn laws() {}

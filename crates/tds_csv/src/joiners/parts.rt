@@ -1,10 +1,11 @@
 // Conversions in which each byte has a text of its own, put part by part.
-ghost use Rattle.std.specs.Prelude.{◌≡◌, ◌+◌, ◌-◌, ◌*◌, ◌<◌, ◌≤◌, ◌++◌, [], ℕ, List, length, take};
+ghost use Rattle.std.specs.Prelude.{IfOk, MatchResult, ◌≡◌, ◌+◌, ◌-◌, ◌*◌, ◌<◌, ◌≤◌, ◌++◌, [], ℕ, List, length, take};
 ghost use Rattle.tds_csv.specs.Plain.{LiesIn};
 ghost use Rattle.tds_csv.specs.Sinks.{IsWriting, PutsPiece};
 
-use crate::convert::lanes::LANES;
-use crate::convert::{CHUNK, units_within};
+use crate::convert::lanes::{LANES, WIDE};
+use crate::convert::utf16::Converted;
+use crate::convert::{CHUNK, PART};
 use crate::sink::Sink;
 use std::io::Write;
 use tds_packet::Stop;
@@ -24,13 +25,22 @@ pub(crate) trait Bytewise {
         ensures short { result ≤ 3 * length bytes.now }
         ensures text { take result to.new ≡ text bytes.now };
 
+    /// Writes the text of the first bytes, as far as there is room, and says how many those are.
+    fn convert_part(bytes: &[u8], to: &mut [u8]) -> Converted
+        requires wide { WIDE ≤ length bytes.now }
+        requires room { PART ≤ length to.old }
+        ensures within { result.used ≤ length bytes.now }
+        ensures some { 0 < result.used }
+        ensures fits { result.made ≤ length to.new }
+        ensures text { take result.made to.new ≡ text (take result.used bytes.now) };
+
     /// Does nothing: its clauses are the laws of the text.
     fn laws()
         ensures appends { (a b : List ℕ) → text (a ++ b) ≡ text a ++ text b }
         ensures empty { text [] ≡ [] };
 }
 
-// Puts the text of a chunk, or of as many bytes as the sink has room for.
+// Puts the text of a chunk.
 fn put_chunk<C: Bytewise, W: Write>(
     bytes: &[u8],
     source: &[u8],
@@ -38,8 +48,7 @@ fn put_chunk<C: Bytewise, W: Write>(
 ) -> Result<(), Stop>
     requires writing { IsWriting sink.old }
     requires source { LiesIn bytes.now source.now }
-    requires short { CHUNK < length bytes.now →
-        3 * length bytes.now + LANES ≤ 4096 - length sink.old.output.now.bytes }
+    requires short { length bytes.now ≤ CHUNK }
     ensures { PutsPiece W.contents sink.old sink.new (C.text bytes.now) result }
 {
     let most = 3 * bytes.len() + LANES;
@@ -53,6 +62,27 @@ fn put_chunk<C: Bytewise, W: Write>(
     sink.put(&to[..made])
 }
 
+// Puts the text of the first of 32 bytes or more, as far as the sink has room, and returns of how many.
+fn put_part<C: Bytewise, W: Write>(bytes: &[u8], sink: &mut Sink<'_, W>) -> Result<usize, Stop>
+    requires writing { IsWriting sink.old }
+    requires wide { WIDE ≤ length bytes.now }
+    requires room { PART ≤ 4096 - length sink.old.output.now.bytes }
+    ensures within { IfOk result (λ used. used ≤ length bytes.now) }
+    ensures some { IfOk result (λ used. 0 < used) }
+    ensures puts { MatchResult result
+        (λ used. PutsPiece W.contents sink.old sink.new (C.text (take used bytes.now)) result)
+        (λ stop. PutsPiece W.contents sink.old sink.new (C.text bytes.now) result) }
+{
+    C::laws();
+    let room = sink.room();
+    let waiting = sink.waiting() as usize;
+    let done = C::convert_part(bytes, sink.spare(room));
+    match sink.keep(waiting, done.made) {
+        Ok(()) => Ok(done.used),
+        Err(stop) => Err(stop),
+    }
+}
+
 // Puts the text of bytes.
 pub(crate) fn put_text<C: Bytewise, W: Write>(
     bytes: &[u8],
@@ -64,8 +94,12 @@ pub(crate) fn put_text<C: Bytewise, W: Write>(
     C::laws();
     let mut taken = 0;
     while taken < bytes.len() {
-        let vectors = units_within(sink.room(), CHUNK) / LANES;
-        let end = bytes.len().min(taken + vectors * LANES);
+        if bytes.len() - taken >= WIDE && sink.room() >= PART {
+            let used = put_part::<C, W>(&bytes[taken..], sink)?;
+            taken += used;
+            continue;
+        }
+        let end = bytes.len().min(taken + CHUNK);
         put_chunk::<C, W>(&bytes[taken..end], &bytes[taken..], sink)?;
         taken = end;
     }

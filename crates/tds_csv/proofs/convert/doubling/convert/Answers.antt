@@ -1,15 +1,11 @@
 use Rattle.tds_csv.proofs.{Words.{take_more, common_steps, arith, rules, doubled}, JoiningLemmas.doubled-append, Singles.text_taken}
 use Rattle.tds_csv.proofs.convert.doubling.convert.Goals as goal
 
-pub loop-at-preserved-then-at-bytes : goal.loop-at-preserved-then-at-bytes
-loop-at-preserved-then-at-bytes c =
+pub loop-at-preserved : goal.loop-at-preserved
+loop-at-preserved c =
     let so_far = text_taken doubled doubled-append c.args.bytes.now c.loop-at.at c.take_unquoted-n.result c.take_unquoted-n.ensures.taken c.loop-at.invariant.text in
     grind (arith, common_steps, doubled-append, take_more)
 
-pub loop-at-preserved : goal.loop-at-preserved
-loop-at-preserved c =
-    record { within = c.take_unquoted-n.ensures.within; long = search rules; room = omega arith; text = text_taken doubled doubled-append c.args.bytes.now c.loop-at.at c.take_unquoted-n.result c.take_unquoted-n.ensures.taken c.loop-at.invariant.text }
-
 pub loop-at-preserved-then-n-eq-LANES : goal.loop-at-preserved-then-n-eq-LANES
 loop-at-preserved-then-n-eq-LANES c =
-    record { within = c.take_unquoted-n.ensures.within; long = search rules; room = omega arith; text = text_taken doubled doubled-append c.args.bytes.now c.loop-at.at c.take_unquoted-n.result c.take_unquoted-n.ensures.taken c.loop-at.invariant.text }
+    record { within = omega arith; long = search rules; room = omega arith; text = text_taken doubled doubled-append c.args.bytes.now c.loop-at.at c.take_unquoted-n.result c.take_unquoted-n.ensures.taken c.loop-at.invariant.text }

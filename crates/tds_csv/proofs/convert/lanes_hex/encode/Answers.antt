@@ -1,11 +1,10 @@
-use Rattle.tds_csv.proofs.{Words.{common_steps, ◌≡◌, ◌*◌, ◌-◌, ◌≤◌, ℕ, List, length, take, drop, arith, append_assoc, length-drop, take-append-drop, length-put_chunk, take_more_put_chunk, append-nil, take_all, put_mid, post_of, put_chunk, chunk, take-add, encode_lower, lower_digits, refl}, Utf16Steps.nil_of_length, SingleLaws.{hex-append, hex-nil}}
+use Rattle.tds_csv.proofs.{Words.{rules, ◌+◌, ◌≡◌, ◌*◌, ◌-◌, ◌≤◌, ℕ, List, length, take, drop, arith, append_assoc, length-drop, take-append-drop, length-put_chunk, take_more_put_chunk, append-nil, take_all, put_mid, post_of, put_chunk, chunk, take-add, encode_lower, lower_digits, refl}, Utf16Steps.nil_of_length, SingleLaws.hex-append, Singles.text_taken}
 use Rattle.tds_csv.proofs.convert.lanes_hex.encode.Goals as goal
 
-pub loop-at-init : goal.loop-at-init
-loop-at-init c = grind (arith, common_steps, hex-nil)
-
 pub loop-at-preserved : goal.loop-at-preserved
-loop-at-preserved c = grind (arith, common_steps, length-put_chunk, put_chunk, take_more_put_chunk, append_assoc, hex-append, chunk, take-add)
+loop-at-preserved c =
+    let end : 2 * c.loop-at.at + 32 ≡ 2 * (c.loop-at.at + 16) = omega arith in
+    record { within = omega arith; room = search rules; digits = rw end at (text_taken encode_lower (hex-append lower_digits) c.args.bytes.now c.loop-at.at 16 c.put_digits.ensures c.loop-at.invariant.digits) }
 
 -- the digits of the other bytes were written after them
 ended : (bytes to new : List ℕ) (at : ℕ) → at ≤ length bytes → length to ≡ 2 * length bytes → take (2 * at) to ≡ encode_lower (take at bytes) → new ≡ encode_lower (take (length bytes - at) (drop at bytes)) → put_mid (2 * at) (length to - 2 * at) to new ≡ encode_lower bytes
