@@ -1,4 +1,4 @@
-"""The tables of docs/CHANGING.md: each file that names a token or kind that is there already is in the table for a new one.
+"""The tables of docs/CONTRIBUTING.md: each file that names a token or kind that is there already is in the table for a new one.
 
 Files in a table are below crates/tds_export if they begin with src/, specs/ or proofs/."""
 from __future__ import annotations
@@ -9,7 +9,7 @@ from collections.abc import Iterator
 
 import repository as repo
 
-PAGE = "docs/CHANGING.md"
+PAGE = "docs/CONTRIBUTING.md"
 
 # A section of the page, and the names by which sources name a token or kind.
 NAMES = {

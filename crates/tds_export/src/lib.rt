@@ -44,7 +44,7 @@
 //! # Changing it
 //!
 //! `run.rt` has the call, `exporter.rt` the course of a run with a method for each kind of token,
-//! `tokens.rt` what a token's first byte means, `set.rt` descriptions and rows, `notice.rt` and
+//! `tokens.rt` what a token's first byte means, `set.rt` the header line of a set, `notice.rt` and
 //! `returned.rt` the bodies that are judged here, `progress.rt` and `report.rt` what is counted.
 //!
 //! - The definitions come first. `specs/TokenGrammar` says how each token is read, element by element, and the

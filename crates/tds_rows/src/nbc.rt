@@ -66,7 +66,7 @@ pub(crate) fn run_nulls<'a>(
     ensures made { result.made ≤ length to.old }
     ensures ends { EndsLeft table.now (bit bitmap.now) result.ahead (drop result.used bytes.now)
         (length to.old - result.made) }
-    ensures gives { MarkedWritten table.now (bit bitmap.now) from.entry bytes.now to.new result }
+    ensures cells { MarkedWritten table.now (bit bitmap.now) from.entry bytes.now to.new result }
 {
     let mut used = 0;
     let mut made = 0;
@@ -114,7 +114,7 @@ impl<'r, 't, 'p, 's, 'c, R: Read, W: Write> Rows<'r, 't, 'p, 's, 'c, R, W> {
         ensures stays { StaysInRow self.old self.new }
         ensures ends { EndsLeft self.old.table.now (bit bitmap.now) result (buffered self.new.payload.now)
             (room_left self.new.sink.now) }
-        ensures gives { MarkedPut R.remaining W.contents self.old.table.now (bit bitmap.now) from.entry
+        ensures cells { MarkedPut R.remaining W.contents self.old.table.now (bit bitmap.now) from.entry
             self.old.payload.now self.new.payload.now self.old.sink.now self.new.sink.now result }
     {
         let waiting = self.sink.waiting() as usize;
@@ -137,7 +137,7 @@ impl<'r, 't, 'p, 's, 'c, R: Read, W: Write> Rows<'r, 't, 'p, 's, 'c, R, W> {
         requires within { at.column < self.old.table.now.count }
         requires laid { IsLaidOut self.old.table.now.charset form.now.kind form.now.layout }
         ensures leaves { LeavesRows self.old self.new result }
-        ensures gives { NextRead R.remaining W.contents at.entry form.now.kind null self.old self.new result }
+        ensures cell { NextRead R.remaining W.contents at.entry form.now.kind null self.old self.new result }
     {
         if null {
             return put_null(at.column, self.table.is_last(at), self.sink);
@@ -152,7 +152,7 @@ impl<'r, 't, 'p, 's, 'c, R: Read, W: Write> Rows<'r, 't, 'p, 's, 'c, R, W> {
         requires awaits { AwaitsBitmap bitmap.old }
         ensures leaves { LeavesRows self.old self.new result }
         ensures bitmap { KeepsRoom bitmap.old bitmap.new }
-        ensures gives { (columns : List Column) → Knows self.old.table.now columns →
+        ensures row { (columns : List Column) → Knows self.old.table.now columns →
             RowRead R.remaining W.contents (nbc_row_start columns) self.old self.new result }
     {
         take_into(self.payload, bitmap, bitmap_size(self.table.count()))?;
@@ -178,7 +178,7 @@ impl<'r, 't, 'p, 's, 'c, R: Read, W: Write> Rows<'r, 't, 'p, 's, 'c, R, W> {
         ensures bitmap { KeepsRoom bitmap.old bitmap.new }
         ensures few { IfOk result (λ count. self.old.payload.now.place + count ≤ self.new.payload.now.place + 1) }
         ensures all { IfOk result (λ _. BeginNoRow NbcRow (buffered self.new.payload.now)) }
-        ensures gives { (columns : List Column) → Knows self.old.table.now columns →
+        ensures rows { (columns : List Column) → Knows self.old.table.now columns →
             RowsRead R.remaining W.contents NbcRow self.old.table.now.charset columns
             self.old.payload.now self.new.payload.now self.old.sink.now self.new.sink.now result }
     {
@@ -220,7 +220,7 @@ pub fn nbc_row<R: Read, W: Write>(
     ensures sink { LeavesSink sink.old sink.new result }
     ensures bitmap { KeepsRoom bitmap.old bitmap.new }
     ensures small { LeavesSmall small.old small.new }
-    ensures gives { payload.old.stopped ≡ None → sink.old.failed ≡ false →
+    ensures row { payload.old.stopped ≡ None → sink.old.failed ≡ false →
         RowPut R.remaining W.contents charset (nbc_row_start (columns_of columns.entry.bytes.now))
         payload.old payload.new sink.old sink.new result }
     ensures succeeds { payload.old.stopped ≡ None → sink.old.failed ≡ false → (cells : List Cell) (bytes more : List ℕ) →
@@ -268,7 +268,7 @@ pub fn read_nbc_rows<R: Read, W: Write>(
     ensures small { LeavesSmall small.old small.new }
     ensures few { IfOk result (λ count. payload.old.place + count ≤ payload.new.place + 1) }
     ensures all { IfOk result (λ _. BeginNoRow NbcRow (buffered payload.new)) }
-    ensures gives { RowsRead R.remaining W.contents NbcRow charset (columns_of columns.entry.bytes.now)
+    ensures rows { RowsRead R.remaining W.contents NbcRow charset (columns_of columns.entry.bytes.now)
         payload.old payload.new sink.old sink.new result }
     ensures succeeds { (first : List Cell) (later : List (List Cell)) (bytes more : List ℕ) →
         SpellsRows NbcRow charset (columns_of columns.entry.bytes.now) first later bytes → BeginNoRow NbcRow more →

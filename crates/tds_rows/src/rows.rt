@@ -50,7 +50,7 @@ impl<'r, 't, 'p, 's, 'c, R: Read, W: Write> Rows<'r, 't, 'p, 's, 'c, R, W> {
         requires { IsInRow self.old }
         ensures stays { StaysInRow self.old self.new }
         ensures sink { self.new.sink.now ≡ self.old.sink.now }
-        ensures gives { (token : RowToken) → token_byte token ≡ byte →
+        ensures token { (token : RowToken) → token_byte token ≡ byte →
             TokenTaken R.remaining token self.old.payload.now self.new.payload.now result }
     {
         let bytes = self.payload.buffered();
@@ -69,7 +69,7 @@ impl<'r, 't, 'p, 's, 'c, R: Read, W: Write> Rows<'r, 't, 'p, 's, 'c, R, W> {
         requires scalar { IsTrue (kinds.is_scalar form.now.kind) }
         requires laid { IsLaidOut self.old.table.now.charset form.now.kind form.now.layout }
         ensures leaves { LeavesRows self.old self.new result }
-        ensures gives { CellRead R.remaining W.contents at.entry form.now.kind self.old self.new result }
+        ensures cell { CellRead R.remaining W.contents at.entry form.now.kind self.old self.new result }
     {
         let place = self.payload.place();
         gather_scalar(self.payload, &form.kind, at.column, self.small)?;
@@ -93,7 +93,7 @@ impl<'r, 't, 'p, 's, 'c, R: Read, W: Write> Rows<'r, 't, 'p, 's, 'c, R, W> {
     ) -> Result<(), Stop>
         requires { IsInRow self.old }
         ensures leaves { LeavesRows self.old self.new result }
-        ensures gives { ContentRead R.remaining W.contents (long_start (conversion_of content) reach) column last
+        ensures field { ContentRead R.remaining W.contents (long_start (conversion_of content) reach) column last
             self.old self.new result }
     {
         joiners_suit();
@@ -143,7 +143,7 @@ impl<'r, 't, 'p, 's, 'c, R: Read, W: Write> Rows<'r, 't, 'p, 's, 'c, R, W> {
         requires scalar { IsTrue (kinds.is_scalar form.now.kind) }
         requires laid { IsLaidOut self.old.table.now.charset form.now.kind form.now.layout }
         ensures leaves { LeavesRows self.old self.new result }
-        ensures gives { CellRead R.remaining W.contents at.entry form.now.kind self.old self.new result }
+        ensures cell { CellRead R.remaining W.contents at.entry form.now.kind self.old self.new result }
     {
         let mut text = [0u8; CELL_ROOM];
         if let Some(cell) = self.write_whole(at, form, &mut text) {
@@ -155,13 +155,13 @@ impl<'r, 't, 'p, 's, 'c, R: Read, W: Write> Rows<'r, 't, 'p, 's, 'c, R, W> {
 
     // Reads the next cell, a short value of this content, and puts its field: at once, if it is whole in the packet and
     // its text doesn't fill the block.
-    fn put_short(&mut self, at: Ahead<'c>, form: &Form, content: Content) -> Result<(), Stop>
+    fn put_short_value(&mut self, at: Ahead<'c>, form: &Form, content: Content) -> Result<(), Stop>
         requires in_row { IsInRow self.old }
         requires within { at.column < self.old.table.now.count }
         requires short { form.now.layout ≡ layouts.Short content }
         requires laid { IsLaidOut self.old.table.now.charset form.now.kind form.now.layout }
         ensures leaves { LeavesRows self.old self.new result }
-        ensures gives { CellRead R.remaining W.contents at.entry form.now.kind self.old self.new result }
+        ensures cell { CellRead R.remaining W.contents at.entry form.now.kind self.old self.new result }
     {
         let mut text = [0u8; SHORT_TEXT];
         if let Some(cell) = self.write_whole(at, form, &mut text) {
@@ -178,11 +178,11 @@ impl<'r, 't, 'p, 's, 'c, R: Read, W: Write> Rows<'r, 't, 'p, 's, 'c, R, W> {
         requires within { at.column < self.old.table.now.count }
         requires laid { IsLaidOut self.old.table.now.charset form.now.kind form.now.layout }
         ensures leaves { LeavesRows self.old self.new result }
-        ensures gives { CellRead R.remaining W.contents at.entry form.now.kind self.old self.new result }
+        ensures cell { CellRead R.remaining W.contents at.entry form.now.kind self.old self.new result }
     {
         match form.layout {
             Layout::Fixed(_) | Layout::Counted => self.put_scalar(at, form),
-            Layout::Short(content) => self.put_short(at, form, content),
+            Layout::Short(content) => self.put_short_value(at, form, content),
             Layout::Chunked(content) => {
                 self.put_joined(content, Reach::Chunked, at.column, self.table.is_last(at))
             }
@@ -198,7 +198,7 @@ impl<'r, 't, 'p, 's, 'c, R: Read, W: Write> Rows<'r, 't, 'p, 's, 'c, R, W> {
         requires some { 0 < self.old.table.now.count }
         ensures stays { StaysInRow self.old self.new }
         ensures few { self.old.payload.now.place + result.rows ≤ self.new.payload.now.place }
-        ensures gives { RowsPut R.remaining W.contents self.old.table.now from.entry
+        ensures rows { RowsPut R.remaining W.contents self.old.table.now from.entry
             self.old.payload.now self.new.payload.now self.old.sink.now self.new.sink.now result }
     {
         let waiting = self.sink.waiting() as usize;
@@ -221,7 +221,7 @@ impl<'r, 't, 'p, 's, 'c, R: Read, W: Write> Rows<'r, 't, 'p, 's, 'c, R, W> {
     fn row(&mut self) -> Result<(), Stop>
         requires { IsInRow self.old }
         ensures leaves { LeavesRows self.old self.new result }
-        ensures gives { (columns : List Column) → Knows self.old.table.now columns →
+        ensures row { (columns : List Column) → Knows self.old.table.now columns →
             RowRead R.remaining W.contents (row_start self.old.table.now.charset columns) self.old self.new result }
     {
         let mut at = self.table.start();
@@ -239,7 +239,7 @@ impl<'r, 't, 'p, 's, 'c, R: Read, W: Write> Rows<'r, 't, 'p, 's, 'c, R, W> {
         ensures leaves { LeavesRows self.old self.new result }
         ensures few { IfOk result (λ count. self.old.payload.now.place + count ≤ self.new.payload.now.place + 1) }
         ensures all { IfOk result (λ _. BeginNoRow PlainRow (buffered self.new.payload.now)) }
-        ensures gives { (columns : List Column) → Knows self.old.table.now columns →
+        ensures rows { (columns : List Column) → Knows self.old.table.now columns →
             RowsRead R.remaining W.contents PlainRow self.old.table.now.charset columns
             self.old.payload.now self.new.payload.now self.old.sink.now self.new.sink.now result }
     {
@@ -284,7 +284,7 @@ pub fn row<R: Read, W: Write>(
     ensures payload { LeavesPayload payload.old payload.new result }
     ensures sink { LeavesSink sink.old sink.new result }
     ensures small { LeavesSmall small.old small.new }
-    ensures gives { payload.old.stopped ≡ None → sink.old.failed ≡ false →
+    ensures row { payload.old.stopped ≡ None → sink.old.failed ≡ false →
         RowPut R.remaining W.contents charset (row_start charset (columns_of columns.entry.bytes.now))
         payload.old payload.new sink.old sink.new result }
     ensures succeeds { payload.old.stopped ≡ None → sink.old.failed ≡ false → (cells : List Cell) (bytes more : List ℕ) →
@@ -327,7 +327,7 @@ pub fn read_rows<R: Read, W: Write>(
     ensures small { LeavesSmall small.old small.new }
     ensures few { IfOk result (λ count. payload.old.place + count ≤ payload.new.place + 1) }
     ensures all { IfOk result (λ _. BeginNoRow PlainRow (buffered payload.new)) }
-    ensures gives { RowsRead R.remaining W.contents PlainRow charset (columns_of columns.entry.bytes.now)
+    ensures rows { RowsRead R.remaining W.contents PlainRow charset (columns_of columns.entry.bytes.now)
         payload.old payload.new sink.old sink.new result }
     ensures succeeds { (first : List Cell) (later : List (List Cell)) (bytes more : List ℕ) →
         SpellsRows PlainRow charset (columns_of columns.entry.bytes.now) first later bytes → BeginNoRow PlainRow more →

@@ -72,7 +72,7 @@ fn run_along<'a>(
     requires ahead { AreAhead table.now from end forms.now }
     ensures within { StaysWithin from.entry end (length bytes.now) (length to.old) result }
     ensures ends { result.used ≡ 0 → RunEnds table.now from.entry bytes.now (length to.old) }
-    ensures gives { CellsWritten table.now from.entry bytes.now to.new result }
+    ensures cells { CellsWritten table.now from.entry bytes.now to.new result }
 {
     let ends = table.ends_after(from, forms);
     let run = run_forms(forms, table.charset, from.column, ends, bytes, to);
@@ -99,7 +99,7 @@ fn run_unknown<'a>(
     requires some { from.column < end }
     ensures within { StaysWithin from.entry end (length bytes.now) (length to.old) result }
     ensures ends { result.used ≡ 0 → RunEnds table.now from.entry bytes.now (length to.old) }
-    ensures gives { CellsWritten table.now from.entry bytes.now to.new result }
+    ensures cells { CellsWritten table.now from.entry bytes.now to.new result }
 {
     let Some(form) = table.form(from) else {
         return CellRun::none(from);
@@ -122,7 +122,7 @@ pub(crate) fn run_cells<'a>(
     ensures within { StaysWithin from.entry end (length bytes.now) (length to.old) result }
     ensures ends { result.used ≡ 0 → from.entry.column < end →
         RunEnds table.now from.entry bytes.now (length to.old) }
-    ensures gives { CellsWritten table.now from.entry bytes.now to.new result }
+    ensures cells { CellsWritten table.now from.entry bytes.now to.new result }
 {
     if from.column >= end {
         return CellRun::none(from);
@@ -148,7 +148,7 @@ pub(crate) fn write_alone(
     requires room { CELL_ROOM ≤ length to.old }
     ensures used { IfSome result (λ written. written.used ≤ length bytes.now) }
     ensures most { IfSome result (λ written. written.made ≤ length to.old) }
-    ensures gives { AloneWritten charset form.now.kind column last bytes.now (length to.old) to.new result }
+    ensures cell { AloneWritten charset form.now.kind column last bytes.now (length to.old) to.new result }
 {
     let one = [*form];
     let run = run_forms(&one, charset, column, last, bytes, to);
@@ -310,7 +310,7 @@ pub(crate) fn run_rows<'a>(
     ensures made { result.made ≤ length to.old }
     ensures few { result.rows ≤ result.used }
     ensures ends { RunEnds table.now result.ahead (drop result.used bytes.now) (length to.old - result.made) }
-    ensures gives { RowsWritten table.now from.entry bytes.now to.new result }
+    ensures rows { RowsWritten table.now from.entry bytes.now to.new result }
 {
     if !table.knows_all() {
         return run_partly_known(table, from, bytes, to);

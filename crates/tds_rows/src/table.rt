@@ -102,7 +102,7 @@ impl<'a> Table<'a> {
     #[inline(always)]
     pub(crate) fn form(&self, at: Ahead<'a>) -> Option<Form>
         ensures laid { IfSome result (λ form. IsLaidOut self.now.charset form.kind form.layout) }
-        ensures gives { (columns : List spec.Column) → Knows self.now columns → IsAhead self.now columns at.entry →
+        ensures next { (columns : List spec.Column) → Knows self.now columns → IsAhead self.now columns at.entry →
             NextForm columns at.entry result }
     {
         if (at.column as usize) < self.known {
@@ -169,7 +169,7 @@ impl<'a> Table<'a> {
         requires within { at.old.column + cells ≤ self.now.count }
         requires known { (at.old.column + cells ≤ self.now.known) ⊎ (cells ≤ 1) }
         ensures further { at.new.column ≡ at.old.column + cells }
-        ensures gives { (columns : List spec.Column) → Knows self.now columns → IsAhead self.now columns at.old →
+        ensures ahead { (columns : List spec.Column) → Knows self.now columns → IsAhead self.now columns at.old →
             IsAhead self.now columns at.new }
     {
         if cells > 0 && (at.column as usize) >= self.known {
@@ -183,7 +183,7 @@ impl<'a> Table<'a> {
     pub(crate) fn pass(&self, at: &mut Ahead<'a>, cells: usize)
         requires known { at.old.column + cells ≤ self.now.known }
         ensures further { at.new.column ≡ at.old.column + cells }
-        ensures gives { (columns : List spec.Column) → Knows self.now columns → IsAhead self.now columns at.old →
+        ensures ahead { (columns : List spec.Column) → Knows self.now columns → IsAhead self.now columns at.old →
             IsAhead self.now columns at.new }
     {
         at.column += cells as u16;
@@ -207,7 +207,7 @@ impl<'a> Table<'a> {
         ensures further { IfSome result (λ taken. at.entry.column < taken.1.column) }
         ensures within { IfSome result (λ taken. taken.1.column ≤ self.now.count) }
         ensures laid { IfSome result (λ taken. IsLaidOut self.now.charset taken.0.kind taken.0.layout) }
-        ensures gives { (columns : List spec.Column) → Knows self.now columns → IsAhead self.now columns at.entry →
+        ensures taken { (columns : List spec.Column) → Knows self.now columns → IsAhead self.now columns at.entry →
             TakesForm self.now columns at.entry result }
     {
         if at.column >= self.count {

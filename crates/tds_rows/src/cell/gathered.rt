@@ -44,7 +44,7 @@ fn gather_fixed<R: Read>(
     requires fixed { kinds.fixed_length kind.now ≡ Some n }
     requires longest { n ≤ LONGEST_VALUE }
     ensures leaves { LeavesGathering payload.old payload.new small.old small.new result }
-    ensures gives { CellGathered R.remaining kind.now (ScalarBytes kind.now n) column
+    ensures cell { CellGathered R.remaining kind.now (ScalarBytes kind.now n) column
         payload.old payload.new small.new.bytes result }
 {
     take_into(payload, small, n as usize)
@@ -61,7 +61,7 @@ fn gather_counted<R: Read>(
     requires scalar { IsScalarKind kind.now }
     requires counted { kinds.fixed_length kind.now ≡ None }
     ensures leaves { LeavesGathering payload.old payload.new small.old small.new result }
-    ensures gives { CellGathered R.remaining kind.now (ScalarLength kind.now) column
+    ensures cell { CellGathered R.remaining kind.now (ScalarLength kind.now) column
         payload.old payload.new small.new.bytes result }
 {
     let place = payload.place();
@@ -87,7 +87,7 @@ pub(crate) fn gather_scalar<R: Read>(
     requires scalar { IsScalarKind kind.now }
     requires room { longest_cell ≤ small.old.room }
     ensures leaves { LeavesGathering payload.old payload.new small.old small.new result }
-    ensures gives { (charset : sets.Charset) →
+    ensures cell { (charset : sets.Charset) →
         CellGathered R.remaining kind.now (cell_start kind.now (shape charset kind.now)) column
         payload.old payload.new small.new.bytes result }
 {

@@ -22,7 +22,7 @@ fn read_number<R: Read>(payload: &mut Payload<R>, size: usize) -> Result<u64, St
     requires some { 0 < size }
     requires most { size ≤ 8 }
     ensures payload { LeavesPayload payload.old payload.new result }
-    ensures gives { NumberRead R.remaining size payload.old payload.new result }
+    ensures number { NumberRead R.remaining size payload.old payload.new result }
 {
     let mut bytes = [0u8; 8];
     payload.fill(&mut bytes[..size])?;
@@ -38,7 +38,7 @@ pub(crate) fn read_short_length<R: Read>(
     requires going { IsGoing payload.old }
     requires unit { 0 < unit }
     ensures payload { LeavesPayload payload.old payload.new result }
-    ensures gives { LengthRead R.remaining 2 (short_fault column unit) short_length payload.old payload.new result }
+    ensures length { LengthRead R.remaining 2 (short_fault column unit) short_length payload.old payload.new result }
 {
     let place = payload.place();
     let n = read_number(payload, 2)?;
@@ -61,7 +61,7 @@ pub(crate) fn read_total<R: Read>(
     requires going { IsGoing payload.old }
     requires unit { 0 < unit }
     ensures payload { LeavesPayload payload.old payload.new result }
-    ensures gives { LengthRead R.remaining 8 (total_fault column unit) total_of payload.old payload.new result }
+    ensures length { LengthRead R.remaining 8 (total_fault column unit) total_of payload.old payload.new result }
 {
     let place = payload.place();
     let n = read_number(payload, 8)?;
@@ -114,7 +114,7 @@ pub(crate) fn read_chunk_length<R: Read>(
     requires going { IsGoing payload.old }
     requires unit { 0 < unit }
     ensures payload { LeavesPayload payload.old payload.new result }
-    ensures gives { LengthRead R.remaining 4 (λ n. chunk_length_fault column unit total sum n) (λ n. n)
+    ensures length { LengthRead R.remaining 4 (λ n. chunk_length_fault column unit total sum n) (λ n. n)
         payload.old payload.new result }
 {
     let place = payload.place();

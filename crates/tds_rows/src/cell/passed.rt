@@ -26,7 +26,7 @@ fn pass_piece<R: Read>(payload: &mut Payload<R>, most: u64) -> Result<u64, Stop>
     requires some { 0 < most }
     ensures payload { LeavesPayload payload.old payload.new result }
     ensures some { IfOk result (λ n. (0 < n) × (n ≤ most)) }
-    ensures gives { PiecePassed R.remaining payload.old payload.new result }
+    ensures piece { PiecePassed R.remaining payload.old payload.new result }
 {
     let held = payload.buffered().len() as u64;
     if held == 0 {
@@ -42,7 +42,7 @@ fn pass_piece<R: Read>(payload: &mut Payload<R>, most: u64) -> Result<u64, Stop>
 pub(crate) fn pass_data<R: Read>(payload: &mut Payload<R>, n: u64) -> Result<(), Stop>
     requires going { IsGoing payload.old }
     ensures payload { LeavesPayload payload.old payload.new result }
-    ensures gives { DataPassed R.remaining n payload.old payload.new result }
+    ensures data { DataPassed R.remaining n payload.old payload.new result }
 {
     let mut left = n;
     while left > 0 {
@@ -56,7 +56,7 @@ fn pass_chunks<R: Read>(payload: &mut Payload<R>, unit: u64, total: Option<u64>)
     requires going { IsGoing payload.old }
     requires unit { 0 < unit }
     ensures payload { LeavesPayload payload.old payload.new result }
-    ensures gives { (c : Conversion) → AnyData c unit →
+    ensures cell { (c : Conversion) → AnyData c unit →
         CellPassed R.remaining (ChunkLength c total []) payload.old payload.new result }
 {
     let mut sum = 0u64;
@@ -75,7 +75,7 @@ pub(crate) fn pass_chunked<R: Read>(payload: &mut Payload<R>, unit: u64) -> Resu
     requires going { IsGoing payload.old }
     requires unit { 0 < unit }
     ensures payload { LeavesPayload payload.old payload.new result }
-    ensures gives { (c : Conversion) → AnyData c unit →
+    ensures cell { (c : Conversion) → AnyData c unit →
         CellPassed R.remaining (Total c) payload.old payload.new result }
 {
     let Some(total) = read_total(payload, RETURN_COLUMN, unit)? else {
@@ -101,7 +101,7 @@ fn pass_scalar<R: Read>(payload: &mut Payload<R>, kind: &Kind, small: &mut Area)
     requires scalar { IsScalarKind kind.now }
     requires room { longest_cell ≤ small.old.room }
     ensures leaves { LeavesGathering payload.old payload.new small.old small.new result }
-    ensures gives { CellPassed R.remaining (cell_start kind.now (shape return_charset kind.now))
+    ensures cell { CellPassed R.remaining (cell_start kind.now (shape return_charset kind.now))
         payload.old payload.new result }
 {
     let place = payload.place();
@@ -120,7 +120,7 @@ fn pass_short<R: Read>(payload: &mut Payload<R>, unit: u64) -> Result<(), Stop>
     requires going { IsGoing payload.old }
     requires unit { 0 < unit }
     ensures payload { LeavesPayload payload.old payload.new result }
-    ensures gives { (c : Conversion) → AnyData c unit →
+    ensures cell { (c : Conversion) → AnyData c unit →
         CellPassed R.remaining (ShortLength c) payload.old payload.new result }
 {
     let Some(n) = read_short_length(payload, RETURN_COLUMN, unit)? else {
@@ -134,7 +134,7 @@ fn pass_long<R: Read>(payload: &mut Payload<R>, reach: Reach, unit: u64) -> Resu
     requires going { IsGoing payload.old }
     requires unit { 0 < unit }
     ensures payload { LeavesPayload payload.old payload.new result }
-    ensures gives { (kind : Kind) (c : Conversion) → AnyData c unit →
+    ensures cell { (kind : Kind) (c : Conversion) → AnyData c unit →
         CellPassed R.remaining (cell_start kind (LongShape c reach)) payload.old payload.new result }
 {
     match reach {
@@ -162,7 +162,7 @@ pub fn pass_over<R: Read>(
     requires room { longest_cell ≤ small.old.room }
     ensures payload { LeavesPayload payload.old payload.new result }
     ensures small { LeavesSmall small.old small.new }
-    ensures gives { payload.old.stopped ≡ None →
+    ensures cell { payload.old.stopped ≡ None →
         CellPassed R.remaining (cell_start kind.now (shape return_charset kind.now))
         payload.old payload.new result }
     ensures succeeds { payload.old.stopped ≡ None → (value : Cell) (bytes more : List ℕ) →

@@ -88,7 +88,7 @@ fn push_piece<J: Joiner, R: Read, W: Write>(
         payload.old payload.new sink.old sink.new result }
     ensures further { IfOk result (λ n. IsFurther most payload.old payload.new n) }
     ensures blames { Blames (failures_of payload.old sink.old) (failures_of payload.new sink.new) result }
-    ensures gives { (c : Conversion) (content : List ℕ) → Suits J.fit J.begins J.rest J.text J.UNIT J.QUOTED c →
+    ensures piece { (c : Conversion) (content : List ℕ) → Suits J.fit J.begins J.rest J.text J.UNIT J.QUOTED c →
         J.withheld joiner.old ≡ conversion_rest c content → BeginsData c content →
         PieceTaken R.remaining W.contents c content (J.withheld joiner.new) column most
         payload.old payload.new sink.old sink.new result }
@@ -115,7 +115,7 @@ pub(crate) fn push_data<J: Joiner, R: Read, W: Write>(
         payload.old payload.new sink.old sink.new result }
     ensures place { IfOk result (λ _. payload.new.place ≡ payload.old.place + n) }
     ensures blames { Blames (failures_of payload.old sink.old) (failures_of payload.new sink.new) result }
-    ensures gives { (c : Conversion) (content : List ℕ) → Suits J.fit J.begins J.rest J.text J.UNIT J.QUOTED c →
+    ensures data { (c : Conversion) (content : List ℕ) → Suits J.fit J.begins J.rest J.text J.UNIT J.QUOTED c →
         J.withheld joiner.old ≡ conversion_rest c content → BeginsData c content →
         DataTaken R.remaining W.contents c content (J.withheld joiner.new) column n
         payload.old payload.new sink.old sink.new result }
@@ -140,7 +140,7 @@ pub(crate) fn put_end<J: Joiner, W: Write>(
     requires { IsWriting sink.old }
     ensures sink { LeavesSink sink.old sink.new result }
     ensures blames { (reads : ℕ) → Blames (failures_with reads sink.old) (failures_with reads sink.new) result }
-    ensures gives { (c : Conversion) (content : List ℕ) → Suits J.fit J.begins J.rest J.text J.UNIT J.QUOTED c →
+    ensures end { (c : Conversion) (content : List ℕ) → Suits J.fit J.begins J.rest J.text J.UNIT J.QUOTED c →
         J.withheld joiner.old ≡ conversion_rest c content → BeginsData c content →
         EndPut W.contents c J.QUOTED last content column place sink.old sink.new result }
 {
@@ -163,7 +163,7 @@ fn stream_short<J: Joiner, R: Read, W: Write>(
     requires withheld { J.withheld joiner.old ≡ [] }
     ensures leaves { LeavesBoth payload.old payload.new sink.old sink.new result }
     ensures blames { Blames (failures_of payload.old sink.old) (failures_of payload.new sink.new) result }
-    ensures gives { (c : Conversion) → Suits J.fit J.begins J.rest J.text J.UNIT J.QUOTED c →
+    ensures field { (c : Conversion) → Suits J.fit J.begins J.rest J.text J.UNIT J.QUOTED c →
         FieldPut R.remaining W.contents (ShortLength c) column last payload.old payload.new sink.old sink.new result }
 {
     let Some(n) = read_short_length(payload, column, J::UNIT)? else {
@@ -191,7 +191,7 @@ fn stream_chunks<J: Joiner, R: Read, W: Write>(
     requires withheld { J.withheld joiner.old ≡ [] }
     ensures leaves { LeavesBoth payload.old payload.new sink.old sink.new result }
     ensures blames { Blames (failures_of payload.old sink.old) (failures_of payload.new sink.new) result }
-    ensures gives { (c : Conversion) → Suits J.fit J.begins J.rest J.text J.UNIT J.QUOTED c →
+    ensures field { (c : Conversion) → Suits J.fit J.begins J.rest J.text J.UNIT J.QUOTED c →
         FieldPut R.remaining W.contents (ChunkLength c total []) column last payload.old payload.new sink.old sink.new result }
 {
     let mut sum = 0u64;
@@ -219,7 +219,7 @@ fn stream_chunked<J: Joiner, R: Read, W: Write>(
     requires withheld { J.withheld joiner.old ≡ [] }
     ensures leaves { LeavesBoth payload.old payload.new sink.old sink.new result }
     ensures blames { Blames (failures_of payload.old sink.old) (failures_of payload.new sink.new) result }
-    ensures gives { (c : Conversion) → Suits J.fit J.begins J.rest J.text J.UNIT J.QUOTED c →
+    ensures field { (c : Conversion) → Suits J.fit J.begins J.rest J.text J.UNIT J.QUOTED c →
         FieldPut R.remaining W.contents (Total c) column last payload.old payload.new sink.old sink.new result }
 {
     let Some(total) = read_total(payload, column, J::UNIT)? else {
@@ -243,7 +243,7 @@ pub(crate) fn stream_long<J: Joiner, R: Read, W: Write>(
     requires withheld { J.withheld joiner.old ≡ [] }
     ensures leaves { LeavesBoth payload.old payload.new sink.old sink.new result }
     ensures blames { Blames (failures_of payload.old sink.old) (failures_of payload.new sink.new) result }
-    ensures gives { (c : Conversion) → Suits J.fit J.begins J.rest J.text J.UNIT J.QUOTED c →
+    ensures field { (c : Conversion) → Suits J.fit J.begins J.rest J.text J.UNIT J.QUOTED c →
         FieldPut R.remaining W.contents (long_start c reach) column last payload.old payload.new sink.old sink.new result }
 {
     match reach {
@@ -275,7 +275,7 @@ pub fn stream_value<J: Joiner + Drop, R: Read, W: Write>(
     requires withheld { J.withheld joiner ≡ [] }
     ensures payload { LeavesPayload payload.old payload.new result }
     ensures sink { LeavesSink sink.old sink.new result }
-    ensures gives { payload.old.stopped ≡ None → sink.old.failed ≡ false → (c : Conversion) →
+    ensures field { payload.old.stopped ≡ None → sink.old.failed ≡ false → (c : Conversion) →
         Suits J.fit J.begins J.rest J.text J.UNIT J.QUOTED c →
         FieldPut R.remaining W.contents (long_start c reach) column false
         payload.old payload.new sink.old sink.new result }

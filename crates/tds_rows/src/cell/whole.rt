@@ -47,7 +47,7 @@ fn write_short(content: Content, bytes: &[u8], to: &mut [u8]) -> Option<Written>
     ensures used { IfSome result (λ written. written.used ≤ length bytes.now) }
     ensures most { IfSome result (λ written. written.made + 2 ≤ length to.old) }
     ensures whole { IfSome result (λ written. written.used ≡ short_size bytes.now) }
-    ensures gives { ShortWritten (conversion_of content) bytes.now (length to.old + 1) to.new result }
+    ensures field { ShortWritten (conversion_of content) bytes.now (length to.old + 1) to.new result }
 {
     if bytes.len() < 2 {
         return None;
@@ -81,7 +81,7 @@ pub(crate) fn write_cell(
     ensures used { IfSome result (λ written. written.used ≤ length bytes.now) }
     ensures most { IfSome result (λ written. written.made + 2 ≤ length to.old) }
     ensures whole { IfSome result (λ written. written.used ≡ whole_size form.now.kind bytes.now) }
-    ensures gives { CellWritten charset form.now.kind bytes.now (length to.old + 1) to.new result }
+    ensures field { CellWritten charset form.now.kind bytes.now (length to.old + 1) to.new result }
 {
     let (start, n) = match form.layout {
         Layout::Fixed(n) => (0, n as usize),

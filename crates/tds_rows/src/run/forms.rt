@@ -68,7 +68,7 @@ fn write_fields(
     ensures room { 0 < result.cells → (0 < result.made) × (result.made < length to.old) }
     ensures ends { result.cells ≡ 0 → FirstLeft charset forms.now bytes.now (length to.old) }
     ensures one { result.cells ≡ 1 → FirstUsed forms.now bytes.now result.used }
-    ensures gives { FieldsWritten charset forms.now column bytes.now to.new result }
+    ensures fields { FieldsWritten charset forms.now column bytes.now to.new result }
 {
     let mut cells = 0;
     let mut rest = bytes;
@@ -109,7 +109,7 @@ fn run_fields(
     ensures within { IsWithin result (length forms.now) (length bytes.now) (length to.old) }
     ensures ends { result.cells ≡ 0 → FirstLeft charset forms.now bytes.now (length to.old) }
     ensures one { result.cells ≡ 1 → FirstWritten charset forms.now column ends bytes.now to.new result }
-    ensures gives { FormsWritten charset forms.now column ends bytes.now to.new result }
+    ensures cells { FormsWritten charset forms.now column ends bytes.now to.new result }
 {
     let none = FormsRun {
         cells: 0,
@@ -144,7 +144,7 @@ pub(crate) fn run_forms(
     ensures within { IsWithin result (length forms.now) (length bytes.now) (length to.old) }
     ensures ends { result.cells ≡ 0 → FirstLeft charset forms.now bytes.now (length to.old) }
     ensures one { result.cells ≡ 1 → FirstWritten charset forms.now column ends bytes.now to.new result }
-    ensures gives { FormsWritten charset forms.now column ends bytes.now to.new result }
+    ensures cells { FormsWritten charset forms.now column ends bytes.now to.new result }
 {
     run_fields(false, forms, charset, column, ends, bytes, to)
 }
@@ -165,7 +165,7 @@ pub(crate) fn run_next(
     ensures within { IsWithin result (length forms.now) (length bytes.now) (length to.old) }
     ensures ends { result.cells ≡ 0 → FirstLeft charset forms.now bytes.now (length to.old) }
     ensures one { result.cells ≡ 1 → FirstWritten charset forms.now column ends bytes.now to.new result }
-    ensures gives { FormsWritten charset forms.now column ends bytes.now to.new result }
+    ensures cells { FormsWritten charset forms.now column ends bytes.now to.new result }
 {
     if numbers {
         return run_fields(true, forms, charset, column, ends, bytes, to);

@@ -1,11 +1,11 @@
 use Rattle.tds_rows.proofs.{Words.{rules, columns_of}, Successes.rows_succeed}
 use Rattle.tds_rows.proofs.nbc.read_nbc_rows.Goals as goal
 
-pub returns-clause-gives : goal.returns-clause-gives
-returns-clause-gives g c =
-    let x = rw c.of-table.ensures.charset at (c.nbc_rows.ensures.gives (columns_of c.args.columns.bytes.now) c.of-table.ensures.knows) in
+pub returns-clause-rows : goal.returns-clause-rows
+returns-clause-rows g c =
+    let x = rw c.of-table.ensures.charset at (c.nbc_rows.ensures.rows (columns_of c.args.columns.bytes.now) c.of-table.ensures.knows) in
     search (rules, x)
 
 pub returns-clause-succeeds : goal.returns-clause-succeeds
 returns-clause-succeeds g c = λ first later bytes more spelt none.
-    rows_succeed _ _ _ c.args.columns.some g.R.Read.remaining g.W.Write.contents c.args.payload.now c.payload-1.given.0 c.args.sink.now c.sink-1.given.0 _ _ _ _ _ (returns-clause-gives g c) spelt none
+    rows_succeed _ _ _ c.args.columns.some g.R.Read.remaining g.W.Write.contents c.args.payload.now c.payload-1.given.0 c.args.sink.now c.sink-1.given.0 _ _ _ _ _ (returns-clause-rows g c) spelt none

@@ -21,7 +21,7 @@ loop-to-preserved-then-end-ahead c =
           let ran = l.invariant.writes columns knows ahead in
           let some : l.ahead.column < c.args.table.now.count = omega (arith, c.count.ensures, c.if-ahead-count.true) in
           let one = next_any _ _ _ knows.counted some in
-          let taken = takes _ _ _ _ _ one.1 c.step.ensures.further (c.step.ensures.gives columns knows ran.ahead) in
+          let taken = takes _ _ _ _ _ one.1 c.step.ensures.further (c.step.ensures.ahead columns knows ran.ahead) in
           let left = drop c.step.new.at.column columns in
           let last = c.is_last.ensures ∙ last_one _ _ _ _ _ knows.counted taken.next in
           let line : take made text ≡ in_line l.ahead.column (is_last_column left) null_field = c.write_null-made.ensures.text ∙ ap (λ (k : ℕ). in_line k c.is_last.result null_field) at ∙ ap (λ (e : Bool). in_line l.ahead.column e null_field) last in
@@ -45,7 +45,7 @@ loop-to-preserved c =
       clear = λ k least most. end.ensures.clear k (omega (arith, further, least)) most;
       writes = λ columns knows ahead.
           let x = l.invariant.writes columns knows ahead in
-          let y = runs_clear (λ k least most. end.ensures.clear k least (omega (arith, most, within))) (ran.ensures.gives columns knows x.ahead) in
+          let y = runs_clear (λ k least most. end.ensures.clear k least (omega (arith, most, within))) (ran.ensures.cells columns knows x.ahead) in
           runs_more _ _ _ _ _ _ _ _ _ l.invariant.made some x y;
     }
 

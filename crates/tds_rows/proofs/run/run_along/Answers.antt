@@ -6,10 +6,10 @@ returns-clause-ends c = λ none columns column left knows is step.
     let run = c.run_forms-run in
     first_left _ _ _ _ c.requires.within c.requires.ahead _ _ (run.ensures.ends (none_written _ _ run.ensures.within.some none)) _ _ _ knows is step
 
-pub returns-clause-gives : goal.returns-clause-gives
-returns-clause-gives c = λ columns knows is.
+pub returns-clause-cells : goal.returns-clause-cells
+returns-clause-cells c = λ columns knows is.
     let run = c.run_forms-run in
-    forms_between _ _ _ _ c.requires.within c.requires.ahead _ (search (arith, rules)) _ knows is _ _ _ run.result c.step.ensures.further (c.step.ensures.gives columns knows is) run.ensures.gives
+    forms_between _ _ _ _ c.requires.within c.requires.ahead _ (search (arith, rules)) _ knows is _ _ _ run.result c.step.ensures.further (c.step.ensures.ahead columns knows is) run.ensures.cells
 
 pub returns-clause-within : goal.returns-clause-within
 returns-clause-within c =

@@ -12,7 +12,7 @@ loop-ahead-preserved c =
     let run = c.run_next-run in
     let some = run.ensures.within.some (omega (arith, c.if-run-eq0.false)) in
     rows_more _ _ some (search (arith, rules)) (search (arith, rules))
-    (λ columns knows is. forms_between _ _ _ _ (omega (arith, c.count-end.ensures)) c.in-Some-forms.ensures.ahead _ (search (arith, rules)) _ knows is _ _ _ run.result c.pass.ensures.further (c.pass.ensures.gives columns knows is) run.ensures.gives) c.loop-ahead.invariant
+    (λ columns knows is. forms_between _ _ _ _ (omega (arith, c.count-end.ensures)) c.in-Some-forms.ensures.ahead _ (search (arith, rules)) _ knows is _ _ _ run.result c.pass.ensures.further (c.pass.ensures.ahead columns knows is) run.ensures.cells) c.loop-ahead.invariant
 
 pub returns-clause-ends : goal.returns-clause-ends
 returns-clause-ends c = λ columns column left knows ahead step.

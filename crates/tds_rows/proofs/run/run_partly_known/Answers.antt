@@ -8,7 +8,7 @@ pub loop-ahead-preserved-then-is_end : goal.loop-ahead-preserved-then-is_end
 loop-ahead-preserved-then-is_end c = row_begun c.requires.some (sym c.if-is_end.true ∙ c.is_end.ensures) c.in-Some.ensures.next (λ columns knows is. c.in-Some.ensures.ahead columns knows) c.loop-ahead.invariant
 
 pub loop-ahead-preserved : goal.loop-ahead-preserved
-loop-ahead-preserved c = rows_more _ _ (omega (arith, c.if-cells-eq0.false)) (search (arith, rules)) (search (arith, rules)) c.run_cells-cells.ensures.gives c.loop-ahead.invariant
+loop-ahead-preserved c = rows_more _ _ (omega (arith, c.if-cells-eq0.false)) (search (arith, rules)) (search (arith, rules)) c.run_cells-cells.ensures.cells c.loop-ahead.invariant
 
 pub returns-clause-ends : goal.returns-clause-ends
 returns-clause-ends c = λ columns column left knows ahead step.

@@ -1,10 +1,10 @@
 use Rattle.{tds_rows.proofs.Words.{arith, refl, inl, inr, []}, std.proofs.Math.Bool.and-true}
 use Rattle.tds_rows.proofs.run.write_alone.Goals as goal
 
-pub returns-then-run-eq0-clause-gives : goal.returns-then-run-eq0-clause-gives
-returns-then-run-eq0-clause-gives c = elim (c.run_forms-run.ensures.ends c.if-run-eq0.true c.args.form.now [] refl) [ inl few ↦ absurd (omega (arith, few, c.requires.room)) | inr left ↦ left ]
+pub returns-then-run-eq0-clause-cell : goal.returns-then-run-eq0-clause-cell
+returns-then-run-eq0-clause-cell c = elim (c.run_forms-run.ensures.ends c.if-run-eq0.true c.args.form.now [] refl) [ inl few ↦ absurd (omega (arith, few, c.requires.room)) | inr left ↦ left ]
 
-pub returns-clause-gives : goal.returns-clause-gives
-returns-clause-gives c =
+pub returns-clause-cell : goal.returns-clause-cell
+returns-clause-cell c =
     let run = c.run_forms-run in
     rw (and-true c.args.last) at (run.ensures.one (omega (arith, c.if-run-eq0.false, run.ensures.within.cells)) c.args.form.now [] refl)

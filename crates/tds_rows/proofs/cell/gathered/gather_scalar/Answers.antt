@@ -1,6 +1,6 @@
 use Rattle.tds_rows.proofs.{Words.{◌∙◌, sym, rules}, CellSteps.scalar_start}
 use Rattle.tds_rows.proofs.cell.gathered.gather_scalar.Goals as goal
 
-pub returns-in-None-clause-gives : goal.returns-in-None-clause-gives
-returns-in-None-clause-gives g c = λ charset.
-    rw (sym (scalar_start charset c.args.kind.now _ (search rules) (sym c.fixed_length.ensures ∙ c.in-None.is))) c.gather_counted.ensures.gives
+pub returns-in-None-clause-cell : goal.returns-in-None-clause-cell
+returns-in-None-clause-cell g c = λ charset.
+    rw (sym (scalar_start charset c.args.kind.now _ (search rules) (sym c.fixed_length.ensures ∙ c.in-None.is))) c.gather_counted.ensures.cell

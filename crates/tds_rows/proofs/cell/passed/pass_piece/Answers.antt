@@ -1,8 +1,8 @@
 use Rattle.tds_rows.proofs.Words.{take, arith, rules, buffered, seen, Takes-more, length-take-le}
 use Rattle.tds_rows.proofs.cell.passed.pass_piece.Goals as goal
 
-pub returns-clause-gives : goal.returns-clause-gives
-returns-clause-gives g c =
+pub returns-clause-piece : goal.returns-clause-piece
+returns-clause-piece g c =
     let n = c.min-n.result in
     let bytes = take n (buffered c.args.payload.now) in
     record {

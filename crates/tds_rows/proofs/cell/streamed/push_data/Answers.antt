@@ -15,11 +15,11 @@ loop-left-init g c = record {
       filled_none begun is (between_of g.R.Read.remaining c.args.payload.now c.requires.joining.payload.going) (c.requires.joining.sink.ready.1 c.requires.joining.sink.writing) c.requires.joining.sink.ready.2;
 }
 
-pub returns-in_err-left-clause-gives : goal.returns-in_err-left-clause-gives
-returns-in_err-left-clause-gives g c = λ conversion content suits is begun.
+pub returns-in_err-left-clause-data : goal.returns-in_err-left-clause-data
+returns-in_err-left-clause-data g c = λ conversion content suits is begun.
     let l = c.loop-left in
     let p = l.invariant.filled conversion content suits is begun in
-    let x = c.in_err-left.ensures.gives conversion _ suits p.kept_is p.fills.begun in
+    let x = c.in_err-left.ensures.piece conversion _ suits p.kept_is p.fills.begun in
     passed _ _ _ _ c.from_residual.ensures.1 (filled_stops begun p l.invariant.some x)
 
 pub loop-left-preserved : goal.loop-left-preserved

@@ -14,34 +14,34 @@ loop-n-init g c = record {
       streamed_none (c.requires.withheld ∙ sym (rest_none _)) c.requires.joining.sink.ready.2;
 }
 
-pub returns-in_err-n-clause-gives : goal.returns-in_err-n-clause-gives
-returns-in_err-n-clause-gives g c = λ conversion suits.
+pub returns-in_err-n-clause-field : goal.returns-in_err-n-clause-field
+returns-in_err-n-clause-field g c = λ conversion suits.
     let l = c.loop-n in
     let x = l.invariant.streamed conversion suits in
-    let y = rw c.UNIT.ensures at c.in_err-n.ensures.gives in
+    let y = rw c.UNIT.ensures at c.in_err-n.ensures.length in
     let stops = reading_stops c.args.last l.invariant.writing.ready.2 l.invariant.writing.writing (chunk_stops _ suits.unit_is x.counted y) in
     passed _ _ _ _ c.from_residual.ensures.1 (path_stops x.path stops)
 
-pub returns-then-n-eq0-clause-gives : goal.returns-then-n-eq0-clause-gives
-returns-then-n-eq0-clause-gives g c = λ conversion suits.
+pub returns-then-n-eq0-clause-field : goal.returns-then-n-eq0-clause-field
+returns-then-n-eq0-clause-field g c = λ conversion suits.
     let l = c.loop-n in
     let x = l.invariant.streamed conversion suits in
-    let r = c.in_ok-n.ensures.gives in
+    let r = c.in_ok-n.ensures.length in
     let none : r.0 ≡ 0 = sym r.3 ∙ c.if-n-eq0.true in
     let free = rw c.UNIT.ensures at r.2 in
-    let ended = rw c.place-place.ensures at (rw suits.quoted_is at (c.put_end.ensures.gives conversion x.content suits x.kept_is x.begun)) in
+    let ended = rw c.place-place.ensures at (rw suits.quoted_is at (c.put_end.ensures.end conversion x.content suits x.kept_is x.begun)) in
     MatchResult-weaker c.put_end.result ended (λ _ y. chunks_whole _ suits.unit_is x r.1 free none y.0 y.1)
     (λ stop y. chunks_end_stops _ suits.unit_is x r.1 free (l.invariant.writing.ready.1 l.invariant.writing.writing) l.invariant.writing.ready.2 none y)
 
-pub returns-in_err-push_data-clause-gives : goal.returns-in_err-push_data-clause-gives
-returns-in_err-push_data-clause-gives g c = λ conversion suits.
+pub returns-in_err-push_data-clause-field : goal.returns-in_err-push_data-clause-field
+returns-in_err-push_data-clause-field g c = λ conversion suits.
     let l = c.loop-n in
     let x = l.invariant.streamed conversion suits in
-    let r = c.in_ok-n.ensures.gives in
+    let r = c.in_ok-n.ensures.length in
     let reads = rw (sym r.3) at r.1 in
     let free = rw (sym r.3) at (rw c.UNIT.ensures at r.2) in
     let read = chunk_path _ suits.unit_is x reads free c.if-n-eq0.false l.invariant.writing.ready.2 in
-    passed _ _ _ _ c.from_residual-in_err-push_data.ensures.1 (path_stops read (filling_stops _ (chunk_holds _ conversion _) (c.in_err-push_data.ensures.gives conversion x.content suits x.kept_is x.begun)))
+    passed _ _ _ _ c.from_residual-in_err-push_data.ensures.1 (path_stops read (filling_stops _ (chunk_holds _ conversion _) (c.in_err-push_data.ensures.data conversion x.content suits x.kept_is x.begun)))
 
 pub loop-n-preserved : goal.loop-n-preserved
 loop-n-preserved g c =
@@ -53,11 +53,11 @@ loop-n-preserved g c =
       same = search rules;
       same_sink = search rules;
       begun = done.leaves.begun;
-      calm = done.blames ∙ same_failures c.in_ok-n.ensures.gives.1.takes.4.0 refl ∙ l.invariant.calm;
-      few = omega (arith, l.invariant.few, done.place, (c.in_ok-n.ensures.gives).1.place_is);
+      calm = done.blames ∙ same_failures c.in_ok-n.ensures.length.1.takes.4.0 refl ∙ l.invariant.calm;
+      few = omega (arith, l.invariant.few, done.place, (c.in_ok-n.ensures.length).1.place_is);
       streamed = λ conversion suits.
           let x = l.invariant.streamed conversion suits in
-          let r = c.in_ok-n.ensures.gives in
+          let r = c.in_ok-n.ensures.length in
           let reads = rw (sym r.3) at r.1 in
           let free = rw (sym r.3) at (rw c.UNIT.ensures at r.2) in
           streamed_more _ suits.unit_is x reads free c.if-n-eq0.false l.invariant.writing.ready.2 done.leaves.sink.ready.2 (done.gives conversion x.content suits x.kept_is x.begun);
@@ -68,4 +68,4 @@ returns-in_err-n-clause-blames g c =
     let l = c.loop-n in
     let stop = c.in_err-n.field-0.0 in
     passed _ _ _ _ c.from_residual.ensures.1 (stops_after _ _ _ stop l.invariant.calm (read_stops _ _ stop
-    (length_blames g.R.Read.remaining (λ n. chunk_length_fault c.args.column c.UNIT.result c.args.total l.sum n) l.payload l.invariant.going.going (chunk_blames c.args.column c.UNIT.result c.args.total l.sum) c.in_err-n.ensures.gives)))
+    (length_blames g.R.Read.remaining (λ n. chunk_length_fault c.args.column c.UNIT.result c.args.total l.sum n) l.payload l.invariant.going.going (chunk_blames c.args.column c.UNIT.result c.args.total l.sum) c.in_err-n.ensures.length)))

@@ -1,8 +1,8 @@
 use Rattle.tds_rows.proofs.{Words.{inl, ◌≡◌, ◌∙◌, ◌+◌, ◌-◌, ℕ, take, drop, sym, ap, subst, arith, rules, is_ok, in_line, cell_start, shape, HasValueAt, IsValueText, WritesCell}, BufferedCells.{null_cell, refused_left, value_cell}, LaidOut.{counted_there, fixed_there, value_there}, RunSteps.writes_scalar, cell.whole.write_cell.Goals.{in-Fixed, in-Counted+else-is_empty}}
 use Rattle.tds_rows.proofs.cell.whole.write_cell.Goals as goal
 
-pub returns-then-n-eq0-clause-gives : goal.returns-then-n-eq0-clause-gives
-returns-then-n-eq0-clause-gives c = λ column last.
+pub returns-then-n-eq0-clause-field : goal.returns-then-n-eq0-clause-field
+returns-then-n-eq0-clause-field c = λ column last.
     let kind = c.args.form.now.kind in
     let text = in_line column last (take c.write_null-made.result c.write_null-made.new.to) in
     let there : HasValueAt c.args.form.now.layout c.args.bytes.now c.match-form.start.0 c.match-form.start.1 =
@@ -12,8 +12,8 @@ returns-then-n-eq0-clause-gives c = λ column last.
     subst (λ (n : ℕ). WritesCell (cell_start kind (shape charset kind)) column last (take (c.match-form.start.0 + n) c.args.bytes.now) text) (sym c.if-n-eq0.true)
     (null_cell _ _ _ _ _ _ at.0 _ at.1.0 (sym at.1.1 ∙ c.if-n-eq0.true) (search (arith, rules)) (ap (in_line column last) c.write_null-made.ensures.text)))
 
-pub returns-in-Ok-clause-gives : goal.returns-in-Ok-clause-gives
-returns-in-Ok-clause-gives c = λ column last.
+pub returns-in-Ok-clause-field : goal.returns-in-Ok-clause-field
+returns-in-Ok-clause-field c = λ column last.
     let kind = c.args.form.now.kind in
     let there : HasValueAt c.args.form.now.layout c.args.bytes.now c.match-form.start.0 c.match-form.start.1 =
     elim c.match-form.branch [ in-Fixed w ↦ fixed_there _ w.in-Fixed.is w.start-is | in-Counted+else-is_empty w ↦ counted_there _ w.in-Counted.is w.start-is ] in
@@ -26,8 +26,8 @@ returns-in-Ok-clause-gives c = λ column last.
     writes_scalar _ _ _ _ _ _ (λ charset.
     value_cell _ _ _ _ _ _ at.0 _ _ at.1.0 at.1.1 c.if-n-eq0.false (search (arith, rules)) (rw after at is))
 
-pub returns-in-Err-clause-gives : goal.returns-in-Err-clause-gives
-returns-in-Err-clause-gives c =
+pub returns-in-Err-clause-field : goal.returns-in-Err-clause-field
+returns-in-Err-clause-field c =
     let there : HasValueAt c.args.form.now.layout c.args.bytes.now c.match-form.start.0 c.match-form.start.1 =
     elim c.match-form.branch [ in-Fixed w ↦ fixed_there _ w.in-Fixed.is w.start-is | in-Counted+else-is_empty w ↦ counted_there _ w.in-Counted.is w.start-is ] in
     let at = value_there _ _ _ _ _ _ c.requires.laid there in

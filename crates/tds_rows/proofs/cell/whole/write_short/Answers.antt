@@ -1,14 +1,14 @@
 use Rattle.tds_rows.proofs.{Words.{◌≡◌, ◌∙◌, ◌-◌, length, take, drop, sym, ap, arith, rules, true, take_rest, Wide, Short, is_fit, long_field, conversion_of, in_line, stated_length}, ShortCells.{short_null, short_value}}
 use Rattle.tds_rows.proofs.cell.whole.write_short.Goals as goal
 
-pub returns-then-n-clause-gives : goal.returns-then-n-clause-gives
-returns-then-n-clause-gives c = λ column last.
+pub returns-then-n-clause-field : goal.returns-then-n-clause-field
+returns-then-n-clause-field c = λ column last.
     let counted : c.read_u16-n.result ≡ stated_length c.args.bytes.now = omega (arith, c.read_u16-n.ensures) in
     short_null _ (Wide Short) _ _ _ _ (omega (arith, c.if-bytes-lt2.false)) (c.type_inv.bytes 0).fits (c.type_inv.bytes 1).fits
     (sym counted ∙ c.if-n.true) (ap (in_line column last) c.write_null-made.ensures.text)
 
-pub returns-clause-gives : goal.returns-clause-gives
-returns-clause-gives c = λ column last.
+pub returns-clause-field : goal.returns-clause-field
+returns-clause-field c = λ column last.
     let bytes = c.args.bytes.now in
     let conversion = conversion_of c.args.content in
     let n = c.read_u16-n.result in

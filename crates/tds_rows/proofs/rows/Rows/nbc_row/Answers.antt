@@ -1,8 +1,8 @@
 use Rattle.tds_rows.proofs.{Words.{ℕ, ◌<◌, List, length, refl, sym, arith, rules, ◌∙◌, ◌≡◌, ap, ◌++◌, passed, passed_on, Space, LeavesRows, bitmap_length}, NextSteps.{next_nears, next_stops, run_near, leaves_after, stays_after, stays_on}, NullSteps.{all_put, bitmap_cut, bitmap_nears, row_ends}}
 use Rattle.tds_rows.proofs.rows.Rows.nbc_row.Goals as goal
 
-pub returns-in_err-take_into-clause-gives : goal.returns-in_err-take_into-clause-gives
-returns-in_err-take_into-clause-gives g c = λ columns known.
+pub returns-in_err-take_into-clause-row : goal.returns-in_err-take_into-clause-row
+returns-in_err-take_into-clause-row g c = λ columns known.
     let sink = c.requires.in_row.sink in
     let x = c.in_err-take_into.ensures.gives c.requires.in_row.payload.going in
     passed _ _ _ _ c.from_residual.ensures.1 (rw sink.writing (bitmap_cut _ x.part x.own (omega (arith, x.fewer, c.bitmap_size.ensures.value, c.count.ensures, known.counted)) x.ends x.stop_is sink.ready.2))
@@ -31,17 +31,17 @@ loop-form-init g c =
           (c.start-ahead.ensures.ahead columns knows, rw (c.start-ahead.ensures.first, bytes) near);
     }
 
-pub returns-in_err-put_next-clause-gives : goal.returns-in_err-put_next-clause-gives
-returns-in_err-put_next-clause-gives g c = λ columns known.
+pub returns-in_err-put_next-clause-row : goal.returns-in_err-put_next-clause-row
+returns-in_err-put_next-clause-row g c = λ columns known.
     let l = c.loop-form in
     let run = c.put_nulls-at in
     let kept = run.ensures.stays in
     let knows = rw (sym l.invariant.stays.same.3) at known in
     let there = rw (sym kept.same.3) at knows in
-    let near = run_near g.R.Read.remaining g.W.Write.contents columns _ _ _ l.invariant.stays.in_row kept knows (rw c.bytes.ensures.value at run.ensures.gives) (l.invariant.reads columns knows) in
-    let taken = c.in-Some.ensures.gives columns there near.0 in
+    let near = run_near g.R.Read.remaining g.W.Write.contents columns _ _ _ l.invariant.stays.in_row kept knows (rw c.bytes.ensures.value at run.ensures.cells) (l.invariant.reads columns knows) in
+    let taken = c.in-Some.ensures.taken columns there near.0 in
     let is = rw c.bytes-in-loop-form.ensures.value at (sym c.is_null-null.ensures) in
-    let stops = next_stops g.R.Read.remaining g.W.Write.contents run.new.self c.put_next.new.self _ there taken _ _ kept.in_row near _ _ _ is c.in_err-put_next.ensures.gives in
+    let stops = next_stops g.R.Read.remaining g.W.Write.contents run.new.self c.put_next.new.self _ there taken _ _ kept.in_row near _ _ _ is c.in_err-put_next.ensures.cell in
     passed _ _ _ _ c.from_residual-in_err-put_next.ensures.1 (rw (kept.same.3 ∙ l.invariant.stays.same.3) at stops)
 
 pub returns-in_err-put_next-clause-leaves : goal.returns-in_err-put_next-clause-leaves
@@ -62,18 +62,18 @@ loop-form-preserved g c =
       reads = λ columns known.
           let there = rw done.leaves.same.3 at known in
           let knows = rw kept.same.3 at there in
-          let near = run_near g.R.Read.remaining g.W.Write.contents columns _ _ _ l.invariant.stays.in_row kept knows (rw c.bytes.ensures.value at run.ensures.gives) (l.invariant.reads columns knows) in
-          let taken = c.in-Some.ensures.gives columns there near.0 in
+          let near = run_near g.R.Read.remaining g.W.Write.contents columns _ _ _ l.invariant.stays.in_row kept knows (rw c.bytes.ensures.value at run.ensures.cells) (l.invariant.reads columns knows) in
+          let taken = c.in-Some.ensures.taken columns there near.0 in
           let is = rw c.bytes-in-loop-form.ensures.value at (sym c.is_null-null.ensures) in
           next_nears g.R.Read.remaining g.W.Write.contents run.new.self c.put_next.new.self _ there taken _ _ kept.in_row near _ _ is done.leaves done.gives;
     }
 
-pub returns-in_default-clause-gives : goal.returns-in_default-clause-gives
-returns-in_default-clause-gives g c = λ columns known.
+pub returns-in_default-clause-row : goal.returns-in_default-clause-row
+returns-in_default-clause-row g c = λ columns known.
     let l = c.loop-form in
     let run = c.put_nulls-at in
     let kept = run.ensures.stays in
     let knows = rw (sym l.invariant.stays.same.3) at known in
-    let near = run_near g.R.Read.remaining g.W.Write.contents columns _ _ _ l.invariant.stays.in_row kept knows (rw c.bytes.ensures.value at run.ensures.gives) (l.invariant.reads columns knows) in
-    let none = c.in_default.ensures.gives columns (rw (sym kept.same.3) at knows) near.0 in
+    let near = run_near g.R.Read.remaining g.W.Write.contents columns _ _ _ l.invariant.stays.in_row kept knows (rw c.bytes.ensures.value at run.ensures.cells) (l.invariant.reads columns knows) in
+    let none = c.in_default.ensures.taken columns (rw (sym kept.same.3) at knows) near.0 in
     rw (kept.same.3 ∙ l.invariant.stays.same.3) at (row_ends (all_put refl kept.in_row.sink.ready.2 (rw none at near.1)))

@@ -4,29 +4,29 @@ use Rattle.tds_rows.proofs.rows.Rows.nbc_rows.Goals as goal
 pub loop-ended-init : goal.loop-ended-init
 loop-ended-init g c = record { stays = stays c.requires.in_row; knows = c.requires.knows; room = refl; few = omega arith; reads = λ columns knows. rows_first c.requires.in_row.sink.ready.2 }
 
-pub returns-in_err-nbc_row-clause-gives : goal.returns-in_err-nbc_row-clause-gives
-returns-in_err-nbc_row-clause-gives g c = λ columns known.
+pub returns-in_err-nbc_row-clause-rows : goal.returns-in_err-nbc_row-clause-rows
+returns-in_err-nbc_row-clause-rows g c = λ columns known.
     let l = c.loop-ended in
     let knows = rw (sym l.invariant.stays.same.3) at known in
-    let stops = rows_stop (l.invariant.reads columns knows) (c.in_err-nbc_row.ensures.gives columns knows) in
+    let stops = rows_stop (l.invariant.reads columns knows) (c.in_err-nbc_row.ensures.row columns knows) in
     passed _ _ _ _ c.from_residual.ensures.1 (rw l.invariant.stays.same.3 at stops)
 
-pub returns-then-not-take_token-clause-gives : goal.returns-then-not-take_token-clause-gives
-returns-then-not-take_token-clause-gives g c = λ columns known.
+pub returns-then-not-take_token-clause-rows : goal.returns-then-not-take_token-clause-rows
+returns-then-not-take_token-clause-rows g c = λ columns known.
     let l = c.loop-ended in
     let knows = rw (sym l.invariant.stays.same.3) at known in
-    let read = rows_row (l.invariant.reads columns knows) (c.in_ok-nbc_row.ensures.gives columns knows) in
+    let read = rows_row (l.invariant.reads columns knows) (c.in_ok-nbc_row.ensures.row columns knows) in
     let there = rw l.invariant.stays.same.3 at read in
-    rw (sym (c.if-not-take_token.ensures.gives NbcRow refl).0, sym c.take_token.ensures.sink) at there
+    rw (sym (c.if-not-take_token.ensures.token NbcRow refl).0, sym c.take_token.ensures.sink) at there
 
 pub returns-then-not-take_token-clause-few : goal.returns-then-not-take_token-clause-few
 returns-then-not-take_token-clause-few g c =
     let l = c.loop-ended in
     let known = l.invariant.knows in
-    omega (arith, l.invariant.few, (c.in_ok-nbc_row.ensures.gives known.0 known.1).place_is, ap (λ p. p.place) (c.if-not-take_token.ensures.gives NbcRow refl).0)
+    omega (arith, l.invariant.few, (c.in_ok-nbc_row.ensures.row known.0 known.1).place_is, ap (λ p. p.place) (c.if-not-take_token.ensures.token NbcRow refl).0)
 
 pub returns-then-not-take_token-clause-all : goal.returns-then-not-take_token-clause-all
-returns-then-not-take_token-clause-all g c = (c.if-not-take_token.ensures.gives NbcRow refl).1
+returns-then-not-take_token-clause-all g c = (c.if-not-take_token.ensures.token NbcRow refl).1
 
 pub loop-ended-preserved : goal.loop-ended-preserved
 loop-ended-preserved g c =
@@ -34,7 +34,7 @@ loop-ended-preserved g c =
     let done = c.in_ok-nbc_row.ensures in
     let kept = c.take_token.ensures.stays in
     let same = kept.same.3 ∙ done.leaves.same.3 in
-    let taken = c.if-not-take_token.ensures.gives NbcRow refl in
+    let taken = c.if-not-take_token.ensures.token NbcRow refl in
     let known = l.invariant.knows in
     record {
       stays = stays_on (stays_on l.invariant.stays (stays_after l.invariant.stays.in_row done.leaves)) kept;
@@ -52,6 +52,6 @@ loop-ended-smaller g c =
     let l = c.loop-ended in
     let done = c.in_ok-nbc_row.ensures in
     let kept = c.take_token.ensures.stays in
-    let taken = c.if-not-take_token.ensures.gives NbcRow refl in
+    let taken = c.if-not-take_token.ensures.token NbcRow refl in
     let known = l.invariant.knows in
     omega (arith, (done.gives known.0 known.1).place_is, taken.1, kept.in_row.payload.sound.place, kept.in_row.payload.sound.wire, kept.payload.3, done.leaves.payload.same.3)

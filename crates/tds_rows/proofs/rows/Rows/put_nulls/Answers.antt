@@ -18,15 +18,15 @@ returns-clause-ends g c =
     let rest : drop run.used (buffered old) ≡ buffered c.consume.new.self = drop-drop run.used old.at old.packet.now.bytes ∙ ap buffered (sym c.consume.ensures.rest) in
     rw room at (rw rest at (rw c.buffered.ensures at c.run_nulls-run.ensures.ends))
 
-pub returns-clause-gives : goal.returns-clause-gives
-returns-clause-gives g c = λ columns knows ahead.
+pub returns-clause-cells : goal.returns-clause-cells
+returns-clause-cells g c = λ columns knows ahead.
     let run = c.run_nulls-run.result in
     let written = c.run_nulls-run.new.to in
     let lies : run.used ≤ length (buffered c.args.self.now.payload.now) = search (arith, rules) in
     record {
       bytes = take run.used (buffered c.args.self.now.payload.now);
       text = take run.made written;
-      runs = rw c.buffered.ensures at (c.run_nulls-run.ensures.gives columns knows ahead);
+      runs = rw c.buffered.ensures at (c.run_nulls-run.ensures.cells columns knows ahead);
       takes = c.consume.ensures.gives;
       puts = kept_text _ _ _ _ _ c.run_nulls-run.auto.to c.waiting-waiting.ensures _ c.commit.ensures.gives;
       place_is = omega (arith, lies, ap (λ p. p.place) c.consume.ensures.rest, length-take run.used (buffered c.args.self.now.payload.now));

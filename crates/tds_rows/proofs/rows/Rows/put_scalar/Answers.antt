@@ -1,8 +1,8 @@
 use Rattle.tds_rows.proofs.{Words.{◌≡◌, ◌∙◌, ◌+◌, ◌<◌, ◌≤◌, ap, length, sym, take, arith, rules, length-take, buffered, seen, Takes-more}, RunSteps.put_whole, TableSteps.last_one}
 use Rattle.tds_rows.proofs.rows.Rows.put_scalar.Goals as goal
 
-pub returns-in-Some-clause-gives : goal.returns-in-Some-clause-gives
-returns-in-Some-clause-gives g c = λ last next.
+pub returns-in-Some-clause-cell : goal.returns-in-Some-clause-cell
+returns-in-Some-clause-cell g c = λ last next.
     let old = c.args.self.now in
     let n = c.in-Some.cell.used in
     let bytes = take n (buffered old.payload.now) in

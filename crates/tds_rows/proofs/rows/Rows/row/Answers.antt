@@ -4,13 +4,13 @@ use Rattle.tds_rows.proofs.rows.Rows.row.Goals as goal
 pub loop-form-init : goal.loop-form-init
 loop-form-init g c = record { stays = stays c.requires; reads = λ columns knows. (c.start-at.ensures.ahead columns knows, rw c.start-at.ensures.first (row_begins columns c.requires.sink.ready.2)) }
 
-pub returns-in_err-put_cell-clause-gives : goal.returns-in_err-put_cell-clause-gives
-returns-in_err-put_cell-clause-gives g c = λ columns known.
+pub returns-in_err-put_cell-clause-row : goal.returns-in_err-put_cell-clause-row
+returns-in_err-put_cell-clause-row g c = λ columns known.
     let l = c.loop-form in
     let knows = rw (sym l.invariant.stays.same.3) at known in
     let reads = l.invariant.reads columns knows in
-    let taken = c.in-Some.ensures.gives columns knows reads.0 in
-    let y = cell_read g.R.Read.remaining g.W.Write.contents l.self c.put_cell.new.self (λ k. false) knows taken {U = Unit {0}} (Err _) reads.0 c.in_err-put_cell.ensures.gives in
+    let taken = c.in-Some.ensures.taken columns knows reads.0 in
+    let y = cell_read g.R.Read.remaining g.W.Write.contents l.self c.put_cell.new.self (λ k. false) knows taken {U = Unit {0}} (Err _) reads.0 c.in_err-put_cell.ensures.cell in
     passed _ _ _ _ c.from_residual.ensures.1 (rw l.invariant.stays.same.3 at (cell_stops (rw taken.next at reads.1) y))
 
 pub loop-form-preserved : goal.loop-form-preserved
@@ -21,15 +21,15 @@ loop-form-preserved g c =
       stays = stays_on l.invariant.stays (stays_after l.invariant.stays.in_row done.leaves);
       reads = rw done.leaves.same.3 (λ columns knows.
           let reads = l.invariant.reads columns knows in
-          let taken = c.in-Some.ensures.gives columns knows reads.0 in
+          let taken = c.in-Some.ensures.taken columns knows reads.0 in
           let y = cell_read g.R.Read.remaining g.W.Write.contents l.self c.put_cell.new.self (λ k. false) knows taken {U = Unit {0}} (Ok tt) reads.0 done.gives in
           (taken.ahead, rw (sym taken.further) at (cell_reads (none_ahead (drop c.in-Some.after.column columns) _) (rw taken.next at reads.1) y)));
     }
 
-pub returns-clause-gives : goal.returns-clause-gives
-returns-clause-gives g c = λ columns known.
+pub returns-clause-row : goal.returns-clause-row
+returns-clause-row g c = λ columns known.
     let l = c.loop-form in
     let knows = rw (sym l.invariant.stays.same.3) at known in
     let reads = l.invariant.reads columns knows in
-    let none = c.in_default.ensures.gives columns knows reads.0 in
+    let none = c.in_default.ensures.taken columns knows reads.0 in
     rw l.invariant.stays.same.3 at (row_ends (rw none at reads.1))

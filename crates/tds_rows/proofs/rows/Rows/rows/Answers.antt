@@ -10,31 +10,31 @@ loop-form-init g c =
       reads = λ columns knows. (c.start-ahead.ensures.ahead columns knows, rw c.start-ahead.ensures.first (record { cells = []; counted = refl; rows = rows_first c.requires.in_row.sink.ready.2 }));
     }
 
-pub returns-then-not-take_token-clause-gives : goal.returns-then-not-take_token-clause-gives
-returns-then-not-take_token-clause-gives g c = λ columns known.
+pub returns-then-not-take_token-clause-rows : goal.returns-then-not-take_token-clause-rows
+returns-then-not-take_token-clause-rows g c = λ columns known.
     let l = c.loop-form in
     let kept = c.put_run-run.ensures.stays in
     let knows = rw (sym l.invariant.stays.same.3) at known in
-    let x = rows_ran g.R.Read.remaining g.W.Write.contents c.put_run-run.result kept knows c.put_run-run.ensures.gives (l.invariant.reads columns knows) in
-    let none = c.in_default.ensures.gives columns (rw (sym kept.same.3) at knows) x.0 in
+    let x = rows_ran g.R.Read.remaining g.W.Write.contents c.put_run-run.result kept knows c.put_run-run.ensures.rows (l.invariant.reads columns knows) in
+    let none = c.in_default.ensures.taken columns (rw (sym kept.same.3) at knows) x.0 in
     let there = rw (kept.same.3 ∙ l.invariant.stays.same.3) at (rows_whole (rw none at x.1).rows) in
-    rw (sym (c.if-not-take_token.ensures.gives PlainRow refl).0, sym c.take_token.ensures.sink) at there
+    rw (sym (c.if-not-take_token.ensures.token PlainRow refl).0, sym c.take_token.ensures.sink) at there
 
 pub returns-then-not-take_token-clause-few : goal.returns-then-not-take_token-clause-few
-returns-then-not-take_token-clause-few g c = omega (arith, c.loop-form.invariant.few, c.put_run-run.ensures.few, ap (λ p. p.place) (c.if-not-take_token.ensures.gives PlainRow refl).0)
+returns-then-not-take_token-clause-few g c = omega (arith, c.loop-form.invariant.few, c.put_run-run.ensures.few, ap (λ p. p.place) (c.if-not-take_token.ensures.token PlainRow refl).0)
 
 pub returns-then-not-take_token-clause-all : goal.returns-then-not-take_token-clause-all
-returns-then-not-take_token-clause-all g c = (c.if-not-take_token.ensures.gives PlainRow refl).1
+returns-then-not-take_token-clause-all g c = (c.if-not-take_token.ensures.token PlainRow refl).1
 
-pub returns-in_err-put_cell-clause-gives : goal.returns-in_err-put_cell-clause-gives
-returns-in_err-put_cell-clause-gives g c = λ columns known.
+pub returns-in_err-put_cell-clause-rows : goal.returns-in_err-put_cell-clause-rows
+returns-in_err-put_cell-clause-rows g c = λ columns known.
     let l = c.loop-form in
     let kept = c.put_run-run.ensures.stays in
     let knows = rw (sym l.invariant.stays.same.3) at known in
     let there = rw (sym kept.same.3) at knows in
-    let x = rows_ran g.R.Read.remaining g.W.Write.contents c.put_run-run.result kept knows c.put_run-run.ensures.gives (l.invariant.reads columns knows) in
-    let taken = c.in-Some.ensures.gives columns there x.0 in
-    let y = cell_read g.R.Read.remaining g.W.Write.contents c.put_run-run.new.self c.put_cell.new.self (λ k. false) there taken {U = Unit {0}} (Err _) x.0 c.in_err-put_cell.ensures.gives in
+    let x = rows_ran g.R.Read.remaining g.W.Write.contents c.put_run-run.result kept knows c.put_run-run.ensures.rows (l.invariant.reads columns knows) in
+    let taken = c.in-Some.ensures.taken columns there x.0 in
+    let y = cell_read g.R.Read.remaining g.W.Write.contents c.put_run-run.new.self c.put_cell.new.self (λ k. false) there taken {U = Unit {0}} (Err _) x.0 c.in_err-put_cell.ensures.cell in
     passed _ _ _ _ c.from_residual.ensures.1 (rw (kept.same.3 ∙ l.invariant.stays.same.3) at (rowing_stop (rw taken.next at x.1) y))
 
 -- where a run and then a cell were read
@@ -45,8 +45,8 @@ step g c columns knows =
     let kept = c.put_run-run.ensures.stays in
     let done = c.in_ok-put_cell.ensures in
     let there = rw (sym kept.same.3) at knows in
-    let x = rows_ran g.R.Read.remaining g.W.Write.contents c.put_run-run.result kept knows c.put_run-run.ensures.gives (l.invariant.reads columns knows) in
-    let taken = c.in-Some.ensures.gives columns there x.0 in
+    let x = rows_ran g.R.Read.remaining g.W.Write.contents c.put_run-run.result kept knows c.put_run-run.ensures.rows (l.invariant.reads columns knows) in
+    let taken = c.in-Some.ensures.taken columns there x.0 in
     let y = cell_read g.R.Read.remaining g.W.Write.contents c.put_run-run.new.self c.put_cell.new.self (λ k. false) there taken {U = Unit {0}} (Ok tt) x.0 done.gives in
     (cell_some _ _ y, rw done.leaves.same.3 (taken.ahead, rw (sym taken.further) at (rowing_cell (none_ahead (drop c.in-Some.after.column columns) _) (rw taken.next at x.1) y)))
 
@@ -69,7 +69,7 @@ loop-form-preserved-in_default g c =
     let l = c.loop-form in
     let kept = c.put_run-run.ensures.stays in
     let took = c.take_token.ensures in
-    let taken = c.if-not-take_token.ensures.gives PlainRow refl in
+    let taken = c.if-not-take_token.ensures.token PlainRow refl in
     let start = c.start-ahead-in_default.ensures in
     let same = took.stays.same.3 ∙ kept.same.3 in
     record {
@@ -77,8 +77,8 @@ loop-form-preserved-in_default g c =
       knows = rw (sym same) at l.invariant.knows;
       few = omega (arith, l.invariant.few, c.put_run-run.ensures.few, taken.1);
       reads = rw same (λ columns knows.
-          let x = rows_ran g.R.Read.remaining g.W.Write.contents c.put_run-run.result kept knows c.put_run-run.ensures.gives (l.invariant.reads columns knows) in
-          let none = c.in_default.ensures.gives columns (rw (sym kept.same.3) at knows) x.0 in
+          let x = rows_ran g.R.Read.remaining g.W.Write.contents c.put_run-run.result kept knows c.put_run-run.ensures.rows (l.invariant.reads columns knows) in
+          let none = c.in_default.ensures.taken columns (rw (sym kept.same.3) at knows) x.0 in
           let whole = rw kept.same.3 at (rows_whole (rw none at x.1).rows) in
           let begun = rows_token (omega (arith, l.invariant.knows.2, knows.counted)) kept.in_row.sink.ready.2 whole taken.0 in
           let next = rw (sym taken.1, sym took.sink) at begun in
@@ -90,7 +90,7 @@ pub loop-form-smaller-in_default : goal.loop-form-smaller-in_default
 loop-form-smaller-in_default g c =
     let kept = c.put_run-run.ensures.stays in
     let took = c.take_token.ensures.stays in
-    let taken = c.if-not-take_token.ensures.gives PlainRow refl in
+    let taken = c.if-not-take_token.ensures.token PlainRow refl in
     omega (arith, taken.1, c.put_run-run.ensures.few, took.in_row.payload.sound.place, took.in_row.payload.sound.wire, took.payload.3, kept.payload.3)
 
 pub loop-form-smaller : goal.loop-form-smaller

@@ -63,8 +63,8 @@ returns-clause-ends c = λ none form others are.
           inr (left_less _ _ _ _ _ room (rw bytes_are at (rw form_is at w.in_default.ensures.field))))
     ]
 
-pub returns-clause-gives : goal.returns-clause-gives
-returns-clause-gives c =
+pub returns-clause-fields : goal.returns-clause-fields
+returns-clause-fields c =
     let l = c.loop-cells in
     let x = l.invariant.writes in
     let same : take l.made c.loop-cells-test.to ≡ take l.made l.to = elim c.loop-cells-test.branch [

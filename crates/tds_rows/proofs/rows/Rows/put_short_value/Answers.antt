@@ -1,8 +1,8 @@
 use Rattle.tds_rows.proofs.{Words.{◌≡◌, ◌∙◌, ◌+◌, ◌<◌, ◌≤◌, ap, length, sym, take, arith, rules, length-take, buffered, seen, Takes-more, long_start, cell_start, shape, shape_of_layout, conversion_of, Short}, RunSteps.put_whole, TableSteps.last_one}
-use Rattle.tds_rows.proofs.rows.Rows.put_short.Goals as goal
+use Rattle.tds_rows.proofs.rows.Rows.put_short_value.Goals as goal
 
-pub returns-in-Some-clause-gives : goal.returns-in-Some-clause-gives
-returns-in-Some-clause-gives g c = λ last next.
+pub returns-in-Some-clause-cell : goal.returns-in-Some-clause-cell
+returns-in-Some-clause-cell g c = λ last next.
     let old = c.args.self.now in
     let n = c.in-Some.cell.used in
     let bytes = take n (buffered old.payload.now) in
@@ -16,9 +16,9 @@ returns-in-Some-clause-gives g c = λ last next.
     put_whole c.put.result _ _ _ _ _ g.W.Write.contents old.sink.now c.put.new.self c.requires.in_row.sink alone.writes.whole takes at few c.put.ensures
 
 -- a short value is that of its kind
-pub returns-clause-gives : goal.returns-clause-gives
-returns-clause-gives g c = λ last next.
+pub returns-clause-cell : goal.returns-clause-cell
+returns-clause-cell g c = λ last next.
     let kind = c.args.form.now.kind in
     let end = c.is_last.ensures ∙ last_one _ _ _ _ _ next.knows.counted next.next ∙ sym next.last in
     let start : long_start (conversion_of c.args.content) Short ≡ cell_start kind (shape c.args.self.now.table.now.charset kind) = sym (ap (cell_start kind) (c.requires.laid ∙ ap shape_of_layout c.requires.short)) in
-    rw start at (rw end at c.put_joined.ensures.gives)
+    rw start at (rw end at c.put_joined.ensures.field)

@@ -1,0 +1,11 @@
+# Completion of tds_replay's commands, options and files, for fish.
+complete -c tds_replay -n __fish_use_subcommand -f -a export -d 'Write the rows as CSV'
+complete -c tds_replay -n __fish_use_subcommand -f -a check -d 'Read the response and write only the report'
+complete -c tds_replay -n __fish_use_subcommand -f -a recut -d 'Write the message in packets of another size'
+complete -c tds_replay -n __fish_use_subcommand -f -a help -d 'Print help'
+complete -c tds_replay -n __fish_use_subcommand -s V -l version -d 'Print the version'
+complete -c tds_replay -s h -l help -d 'Print help'
+complete -c tds_replay -n '__fish_seen_subcommand_from export check recut' -x -l packet-size -a '512 4096 8000 32767' -d 'Greatest packet, or the new size'
+complete -c tds_replay -n '__fish_seen_subcommand_from export check recut' -x -l max-wire -d 'Greatest number of bytes read'
+complete -c tds_replay -n '__fish_seen_subcommand_from export check' -x -l column-room -d 'Room for the description of columns'
+complete -c tds_replay -n '__fish_seen_subcommand_from export check' -x -l charset -a 'windows-1252 utf-8' -d 'Set of single-byte text'
