@@ -14,7 +14,7 @@ use crate::progress::Progress;
 use crate::report::Report;
 use crate::returned::pass_return;
 use crate::set::put_header;
-use crate::tokens::{TokenKind, judge, next_byte};
+use crate::tokens::{TokenKind, judge_token, next_byte};
 use byteorder::{ByteOrder, LittleEndian};
 use std::io::{Read, Write};
 use tds_columns::{Columns, Described, gather};
@@ -210,7 +210,7 @@ impl<'a, 'p, 's, R: Read, W: Write> Exporter<'a, 'p, 's, R, W> {
             return Ok(false);
         };
         let place = self.payload.place() - 1;
-        match judge(byte, self.progress.described) {
+        match judge_token(byte, self.progress.described) {
             Ok(kind) => {
                 self.progress.is_final = false;
                 self.body(kind)?;

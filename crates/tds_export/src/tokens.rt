@@ -27,7 +27,7 @@ pub(crate) enum TokenKind {
 }
 
 /// The kind of a token by its first byte and whether columns are described, or why it is none.
-pub(crate) fn judge(byte: u8, described: bool) -> Result<TokenKind, Fault>
+pub(crate) fn judge_token(byte: u8, described: bool) -> Result<TokenKind, Fault>
     ensures { MatchResult result (IsOfKind described byte) (IsRefusedByte described byte) }
 {
     match byte {

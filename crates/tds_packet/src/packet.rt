@@ -20,7 +20,7 @@ pub(crate) struct Header {
 }
 
 // Judges a header after `wire` bytes of the wire: its Type, its Length, the limit of the wire.
-fn judge(header: &[u8], room: usize, max_wire: u64, wire: u64) -> Result<Header, Fault>
+fn judge_header(header: &[u8], room: usize, max_wire: u64, wire: u64) -> Result<Header, Fault>
     requires whole { length header.now ≡ 8 }
     requires within { wire ≤ 2 ^ 56 }
     ensures value { result ≡ header_of room max_wire wire header.now }
@@ -87,7 +87,7 @@ pub(crate) fn read_packet<R: Read>(
     let mut header = [0u8; 8];
     fill(from, &mut header)?;
     let room = packet.room();
-    let head = judge(&header, room, max_wire, wire)?;
+    let head = judge_header(&header, room, max_wire, wire)?;
     read_body(from, packet, usize::from(head.length) - 8)?;
     Ok(head)
 }

@@ -51,11 +51,11 @@ pub fn recut<R: Read, W: Write>(
     ensures rooms { (input.new.room ≡ input.old.room) × (output.new.room ≡ output.old.room) }
 {
     let mut payload = Payload::new(from, input, max_wire);
-    cut(&mut payload, to, output)
+    write_packets(&mut payload, to, output)
 }
 
 // Writes all of a payload in packets.
-fn cut<R: Read, W: Write>(
+fn write_packets<R: Read, W: Write>(
     payload: &mut Payload<'_, R>,
     to: &mut Counted<W>,
     output: &mut Area,
@@ -73,7 +73,7 @@ fn cut<R: Read, W: Write>(
         bytes: 0,
     };
     loop {
-        match gather(payload, output) {
+        match gather_packet(payload, output) {
             Ok(false) => done = write_packet(to, output, done, false)?,
             Ok(true) => {
                 let all = write_packet(to, output, done, true)?;
@@ -92,7 +92,7 @@ fn cut<R: Read, W: Write>(
 }
 
 // Gathers a packet's body after room for its header, and says whether no byte follows it.
-fn gather<R: Read>(payload: &mut Payload<'_, R>, output: &mut Area) -> Result<bool, Stop>
+fn gather_packet<R: Read>(payload: &mut Payload<'_, R>, output: &mut Area) -> Result<bool, Stop>
     requires going { IsGoing payload.old }
     requires room { HEADER < output.old.room }
     ensures payload { LeavesPayload payload.old payload.new result }
@@ -130,7 +130,7 @@ fn write_packet<W: Write>(
     ensures writes { let packet = cut_packet done.packets last (drop HEADER output.old.bytes) in
         WritesPacket W.contents to.old to.new done (packet_bytes packet) result }
 {
-    put_header(output, done.packets, last);
+    put_packet_header(output, done.packets, last);
     let length = output.len() as u64;
     match to.deliver(output.bytes()) {
         Ok(()) => Ok(Written {
@@ -145,7 +145,7 @@ fn write_packet<W: Write>(
 }
 
 // Writes the header of the packet after `number` others over the first bytes.
-fn put_header(output: &mut Area, number: u64, last: bool)
+fn put_packet_header(output: &mut Area, number: u64, last: bool)
     requires header { HEADER ≤ length output.old.bytes }
     requires fits { length output.old.bytes ≤ 32767 }
     requires number { number ≤ 2 ^ 56 }

@@ -22,5 +22,5 @@ loop-left-preserved g c =
       going = search rules;
       same = search rules;
       most = omega (arith, l.invariant.most);
-      passes = passes_more (omega (arith, l.invariant.most, done.some)) l.invariant.passes done.gives;
+      passes = passes_more (omega (arith, l.invariant.most, done.some)) l.invariant.passes done.piece;
     }

@@ -60,7 +60,7 @@ loop-n-preserved g c =
           let r = c.in_ok-n.ensures.length in
           let reads = rw (sym r.3) at r.1 in
           let free = rw (sym r.3) at (rw c.UNIT.ensures at r.2) in
-          streamed_more _ suits.unit_is x reads free c.if-n-eq0.false l.invariant.writing.ready.2 done.leaves.sink.ready.2 (done.gives conversion x.content suits x.kept_is x.begun);
+          streamed_more _ suits.unit_is x reads free c.if-n-eq0.false l.invariant.writing.ready.2 done.leaves.sink.ready.2 (done.data conversion x.content suits x.kept_is x.begun);
     }
 
 pub returns-in_err-n-clause-blames : goal.returns-in_err-n-clause-blames

@@ -65,7 +65,7 @@ loop-form-preserved g c =
           let near = run_near g.R.Read.remaining g.W.Write.contents columns _ _ _ l.invariant.stays.in_row kept knows (rw c.bytes.ensures.value at run.ensures.cells) (l.invariant.reads columns knows) in
           let taken = c.in-Some.ensures.taken columns there near.0 in
           let is = rw c.bytes-in-loop-form.ensures.value at (sym c.is_null-null.ensures) in
-          next_nears g.R.Read.remaining g.W.Write.contents run.new.self c.put_next.new.self _ there taken _ _ kept.in_row near _ _ is done.leaves done.gives;
+          next_nears g.R.Read.remaining g.W.Write.contents run.new.self c.put_next.new.self _ there taken _ _ kept.in_row near _ _ is done.leaves done.cell;
     }
 
 pub returns-in_default-clause-row : goal.returns-in_default-clause-row

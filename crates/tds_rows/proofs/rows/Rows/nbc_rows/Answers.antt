@@ -40,9 +40,9 @@ loop-ended-preserved g c =
       stays = stays_on (stays_on l.invariant.stays (stays_after l.invariant.stays.in_row done.leaves)) kept;
       knows = rw (sym same) at known;
       room = search (arith, rules);
-      few = omega (arith, l.invariant.few, (done.gives known.0 known.1).place_is, taken.1);
+      few = omega (arith, l.invariant.few, (done.row known.0 known.1).place_is, taken.1);
       reads = rw same (λ columns knows.
-          let read = rows_row (l.invariant.reads columns knows) (done.gives columns knows) in
+          let read = rows_row (l.invariant.reads columns knows) (done.row columns knows) in
           let begun = rows_token (omega (arith, l.invariant.knows.2, knows.counted)) done.leaves.sink.ready.2 read taken.0 in
           rw (sym taken.1, sym c.take_token.ensures.sink) at begun);
     }
@@ -54,4 +54,4 @@ loop-ended-smaller g c =
     let kept = c.take_token.ensures.stays in
     let taken = c.if-not-take_token.ensures.token NbcRow refl in
     let known = l.invariant.knows in
-    omega (arith, (done.gives known.0 known.1).place_is, taken.1, kept.in_row.payload.sound.place, kept.in_row.payload.sound.wire, kept.payload.3, done.leaves.payload.same.3)
+    omega (arith, (done.row known.0 known.1).place_is, taken.1, kept.in_row.payload.sound.place, kept.in_row.payload.sound.wire, kept.payload.3, done.leaves.payload.same.3)

@@ -22,7 +22,7 @@ loop-form-preserved g c =
       reads = rw done.leaves.same.3 (λ columns knows.
           let reads = l.invariant.reads columns knows in
           let taken = c.in-Some.ensures.taken columns knows reads.0 in
-          let y = cell_read g.R.Read.remaining g.W.Write.contents l.self c.put_cell.new.self (λ k. false) knows taken {U = Unit {0}} (Ok tt) reads.0 done.gives in
+          let y = cell_read g.R.Read.remaining g.W.Write.contents l.self c.put_cell.new.self (λ k. false) knows taken {U = Unit {0}} (Ok tt) reads.0 done.cell in
           (taken.ahead, rw (sym taken.further) at (cell_reads (none_ahead (drop c.in-Some.after.column columns) _) (rw taken.next at reads.1) y)));
     }
 

@@ -47,7 +47,7 @@ step g c columns knows =
     let there = rw (sym kept.same.3) at knows in
     let x = rows_ran g.R.Read.remaining g.W.Write.contents c.put_run-run.result kept knows c.put_run-run.ensures.rows (l.invariant.reads columns knows) in
     let taken = c.in-Some.ensures.taken columns there x.0 in
-    let y = cell_read g.R.Read.remaining g.W.Write.contents c.put_run-run.new.self c.put_cell.new.self (λ k. false) there taken {U = Unit {0}} (Ok tt) x.0 done.gives in
+    let y = cell_read g.R.Read.remaining g.W.Write.contents c.put_run-run.new.self c.put_cell.new.self (λ k. false) there taken {U = Unit {0}} (Ok tt) x.0 done.cell in
     (cell_some _ _ y, rw done.leaves.same.3 (taken.ahead, rw (sym taken.further) at (rowing_cell (none_ahead (drop c.in-Some.after.column columns) _) (rw taken.next at x.1) y)))
 
 pub loop-form-preserved : goal.loop-form-preserved

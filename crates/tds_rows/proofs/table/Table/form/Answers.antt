@@ -4,6 +4,6 @@ use Rattle.tds_rows.proofs.table.Table.form.Goals as goal
 pub returns-then-at-self : goal.returns-then-at-self
 returns-then-at-self c = record {
   laid = c.args.self.now.laid c.args.at.column c.index-self-at.result (search (arith, rules));
-  gives = λ columns knows ahead.
+  next = λ columns knows ahead.
       next_known _ _ _ _ knows ahead _ (search (arith, rules)) c.if-at-self.true (search (arith, rules)) refl;
 }

@@ -1,5 +1,5 @@
 use Rattle.tds_packet.proofs.{Words.{◌≡◌, ◌∙◌, ◌+◌, ◌-◌, ◌++◌, false, true, length, take, min, rules, arith, length-take-le, common_steps, buffered, Gathers}, Passing.passed_on, Recuts.{gathered_err, gathered_more, gathered_ok}}
-use Rattle.tds_packet.proofs.recutting.gather.Goals as goal
+use Rattle.tds_packet.proofs.recutting.gather_packet.Goals as goal
 
 pub returns-in_err-at_end-clause-body : goal.returns-in_err-at_end-clause-body
 returns-in_err-at_end-clause-body g c =

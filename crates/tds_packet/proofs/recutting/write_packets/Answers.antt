@@ -1,5 +1,5 @@
 use Rattle.tds_packet.proofs.{Words.{cut_packet, ◌+◌, packet_bytes, common_steps, ◌≡◌, ◌∙◌, inr, inl, ◌-◌, true, false, drop, length, sym, ap, rules, arith, length-drop, seen, Cuts}, Passing.passed_on, Recuts.{cut_broken, cut_finished, cut_more, cut_none, cut_stopped}}
-use Rattle.tds_packet.proofs.recutting.cut.Goals as goal
+use Rattle.tds_packet.proofs.recutting.write_packets.Goals as goal
 
 pub loop-to-init : goal.loop-to-init
 loop-to-init g c = grind (arith, common_steps, cut_none)
@@ -13,13 +13,13 @@ returns-in-Ok-true-clause-cuts g c =
 pub returns-in_err-all-in-Ok-true-clause-cuts : goal.returns-in_err-all-in-Ok-true-clause-cuts
 returns-in_err-all-in-Ok-true-clause-cuts g c =
     let inv = c.loop-to.invariant in
-    rw (sym inv.room) (passed_on _ _ (Cuts g.W.Write.contents (c.loop-to.output.room - 8) (seen g.R.Read.remaining c.args.payload.now) (seen g.R.Read.remaining c.gather.new.payload) c.args.to.now c.write_packet.new.to) c.from_residual.ensures.1
+    rw (sym inv.room) (passed_on _ _ (Cuts g.W.Write.contents (c.loop-to.output.room - 8) (seen g.R.Read.remaining c.args.payload.now) (seen g.R.Read.remaining c.gather_packet.new.payload) c.args.to.now c.write_packet.new.to) c.from_residual.ensures.1
     (inr (cut_broken inv.cutting inv.going.going (omega (arith, inv.room, c.requires.room)) true _ c.in-Ok-true.field-0-test c.in-Ok-true.ensures.body c.in_err-all-in-Ok-true.ensures.writes)))
 
 pub returns-in_err-done-in-Ok-false-clause-cuts : goal.returns-in_err-done-in-Ok-false-clause-cuts
 returns-in_err-done-in-Ok-false-clause-cuts g c =
     let inv = c.loop-to.invariant in
-    rw (sym inv.room) (passed_on _ _ (Cuts g.W.Write.contents (c.loop-to.output.room - 8) (seen g.R.Read.remaining c.args.payload.now) (seen g.R.Read.remaining c.gather.new.payload) c.args.to.now c.write_packet-in-Ok-false.new.to) c.from_residual-in_err-done-in-Ok-false.ensures.1
+    rw (sym inv.room) (passed_on _ _ (Cuts g.W.Write.contents (c.loop-to.output.room - 8) (seen g.R.Read.remaining c.args.payload.now) (seen g.R.Read.remaining c.gather_packet.new.payload) c.args.to.now c.write_packet-in-Ok-false.new.to) c.from_residual-in_err-done-in-Ok-false.ensures.1
     (inr (cut_broken inv.cutting inv.going.going (omega (arith, inv.room, c.requires.room)) false _ c.in-Ok-false.field-0-test c.in-Ok-false.ensures.body c.in_err-done-in-Ok-false.ensures.writes)))
 
 pub returns-in-Err-clause-cuts : goal.returns-in-Err-clause-cuts
@@ -31,8 +31,8 @@ pub loop-to-preserved : goal.loop-to-preserved
 loop-to-preserved g c =
     let inv = c.loop-to.invariant in
     let made = c.in-Ok-false.ensures.body in
-    let body = drop 8 c.gather.new.output.bytes in
-    let len : length body ≡ c.loop-to.output.room - 8 = omega (arith, length-drop 8 c.gather.new.output.bytes, (made.full c.in-Ok-false.field-0-test).0) in
+    let body = drop 8 c.gather_packet.new.output.bytes in
+    let len : length body ≡ c.loop-to.output.room - 8 = omega (arith, length-drop 8 c.gather_packet.new.output.bytes, (made.full c.in-Ok-false.field-0-test).0) in
     let writes = c.in_ok-done-in-Ok-false.ensures.writes in
     let size : length (packet_bytes (cut_packet c.loop-to.done.packets false body)) ≡ 8 + length body = omega arith in
     let same : c.write_packet-in-Ok-false.new.output.room ≡ c.loop-to.output.room = search rules in
