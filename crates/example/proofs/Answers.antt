@@ -17,7 +17,8 @@ known_has old (Some has) had gained e a = ap Some (subst (λ o. Appends o (Some 
 
 -- Where reader and writer tell their bytes, a report says that all of the response was exported.
 pub report_exports : (before after : Moment) (bytes had : List ℕ) (report : Report) → Tells (given_of Windows1252 before after) (Ok report) →
-    AreBytes bytes → before.reader.bytes ≡ Some bytes → before.writer.bytes ≡ Some had → Exported before.areas.limits bytes had after.writer.bytes report
+    AreBytes bytes → before.reader.bytes ≡ Some bytes → before.writer.bytes ≡ Some had
+    → Exported before.areas.limits bytes had after.writer.bytes report
 unfolding Tells
 report_exports before after bytes had report tells are e1 e2 =
     let told = tells bytes are e1 in
@@ -31,7 +32,9 @@ report_exports before after bytes had report tells are e1 e2 =
     }
 
 -- The same of each answer.
-pub answer_exports : (before after : Moment) (bytes had : List ℕ) (result : Result Report Stopped) → Tells (given_of Windows1252 before after) result →
-    AreBytes bytes → before.reader.bytes ≡ Some bytes → before.writer.bytes ≡ Some had → IfOk result (Exported before.areas.limits bytes had after.writer.bytes)
+pub answer_exports : (before after : Moment) (bytes had : List ℕ) (result : Result Report Stopped)
+    → Tells (given_of Windows1252 before after) result →
+    AreBytes bytes → before.reader.bytes ≡ Some bytes → before.writer.bytes ≡ Some had
+    → IfOk result (Exported before.areas.limits bytes had after.writer.bytes)
 answer_exports before after bytes had (Ok report) tells are e1 e2 = report_exports before after bytes had report tells are e1 e2
 answer_exports before after bytes had (Err stopped) tells are e1 e2 = tt

@@ -1,5 +1,20 @@
 -- What the parser found, and the answer to it.
-use Rattle.{std.{proofs.Common.{◌≡◌, ◌∙◌, ◌||◌, Bool, List, [], ◌∷◌, true, false, not, true≢false, Result, Ok, Err, IfOk, IfErr, IsErrAnd, inl, inr, refl, sym, ap, codes}, specs.{List.list_any, Prelude.◌⊎◌}}, clap.{specs.{Words.{App, FailsBy, IsAmong, Text, HasMatchesOf, fault_of, is_simple_and_free, kind_of, subcommand_rows_of}, declared.{error.{Error.Error, kind.ErrorKind.ErrorKind}, parser.matches.ArgMatches.ArgMatches}}, proofs.{OnLiterals.clap_on_literals, WalkLemmas.both}}, tds_arguments.specs.{CommandLine.{Answers, IsProgram, Kept, MakesJob, program_app}, Jobs.IsInRange, declared.{job.Job.Job, usage.Usage.{Usage, TheVariants.{Help, OutOfMemory, Refused}}}, Usages.{IsRefusal, IsUsageAt, IsUsageOf, asks_for_help}}}
+use Rattle.std.proofs.Common.{◌≡◌, ◌∙◌, ◌||◌, Bool, List, [], ◌∷◌, true, false, not, true≢false, Result, Ok, Err, IfOk, IfErr, IsErrAnd, inl, inr}
+use Rattle.std.proofs.Common.{refl, sym, ap, codes}
+use Rattle.std.specs.List.{list_any}
+use Rattle.std.specs.Prelude.{◌⊎◌}
+use Rattle.clap.specs.Words.{App, FailsBy, IsAmong, Text, HasMatchesOf, fault_of, is_simple_and_free, kind_of, subcommand_rows_of}
+use Rattle.clap.specs.declared.error.Error.{Error}
+use Rattle.clap.specs.declared.error.kind.ErrorKind.{ErrorKind}
+use Rattle.clap.specs.declared.parser.matches.ArgMatches.{ArgMatches}
+use Rattle.clap.proofs.OnLiterals.{clap_on_literals}
+use Rattle.clap.proofs.WalkLemmas.{both}
+use Rattle.tds_arguments.specs.CommandLine.{Answers, IsProgram, Kept, MakesJob, program_app}
+use Rattle.tds_arguments.specs.Jobs.{IsInRange}
+use Rattle.tds_arguments.specs.declared.job.Job.{Job}
+use Rattle.tds_arguments.specs.declared.usage.Usage.{Usage}
+use Rattle.tds_arguments.specs.declared.usage.Usage.TheVariants.{Help, OutOfMemory, Refused}
+use Rattle.tds_arguments.specs.Usages.{IsRefusal, IsUsageAt, IsUsageOf, asks_for_help}
 use Rattle.clap.specs.declared.error.kind.ErrorKind.TheVariants as kind
 
 -- the command line is one of which the parser's matches and faults are known
@@ -12,7 +27,11 @@ is_known app p = rw p.4 (simple p.0 p.1)
 
 -- without memory for the command line there is no job
 abbrev pub some_names : Kept
-some_names = record { ref_ptr = (0, 0); now = record { ref_ptr = (0, 0); now = codes "windows-1252" } ∷ record { ref_ptr = (0, 0); now = codes "utf-8" } ∷ [] }
+some_names = record {
+  ref_ptr = (0, 0);
+  now = record { ref_ptr = (0, 0); now = codes "windows-1252" } ∷ record
+      { ref_ptr = (0, 0); now = codes "utf-8" } ∷ [];
+}
 
 pub without_memory : (arguments : List Text) (answer : Result Job Usage) → IsErrAnd answer (λ usage. usage ≡ OutOfMemory) → Answers arguments answer
 without_memory arguments (Ok job) none = absurd none
@@ -44,7 +63,8 @@ no_memory k (Help text) is of = absurd (true≢false (sym of ∙ ap asks_for_hel
 no_memory k (Refused text) is of = absurd (of.1 is)
 
 module _ (app : App) (arguments : List Text) (program : IsProgram app) where
-  pub refused : (error : Error) (usage : Usage) → FailsBy {T = ArgMatches} (fault_of app arguments) (Err error) → IsUsageOf (kind_of error) usage → Answers arguments (Err usage)
+  pub refused : (error : Error) (usage : Usage) → FailsBy {T = ArgMatches} (fault_of app arguments) (Err error) → IsUsageOf (kind_of error) usage
+      → Answers arguments (Err usage)
   refused error usage (inl memory) of =
       let is = no_memory (kind_of error) usage memory of in
       record { app = app; is_program = program; gives = (inl is, rw is tt) }
@@ -60,13 +80,16 @@ module _ (app : App) (arguments : List Text) (program : IsProgram app) where
   fitting (Help text) fits is = absurd is
   fitting (Refused text) fits is = inl fits
 
-  pub found : (matches : ArgMatches) (answer : Result Job Usage) → FailsBy {T = ArgMatches} (fault_of app arguments) (Ok matches) → HasMatchesOf app arguments matches
+  pub found : (matches : ArgMatches) (answer : Result Job Usage) → FailsBy {T = ArgMatches} (fault_of app arguments) (Ok matches)
+      → HasMatchesOf app arguments matches
       → IfOk answer IsInRange → IfOk answer (MakesJob (subcommand_rows_of matches)) → IfErr answer IsRefusal
-      → IfErr answer (λ usage. (usage ≡ OutOfMemory) ⊎ ((job : Job) → IsInRange job → MakesJob (subcommand_rows_of matches) job → ⊥)) → Answers arguments answer
+      → IfErr answer (λ usage. (usage ≡ OutOfMemory) ⊎ ((job : Job) → IsInRange job → MakesJob (subcommand_rows_of matches) job → ⊥))
+      → Answers arguments answer
   found matches (Ok job) fits has range makes refusal err =
       let same = (has (both _ _ (is_known app program)).0).1 in
       record { app = app; is_program = program; gives = record { fits = fits; makes = rw same at makes; in_range = range } }
-  found matches (Err usage) fits has range makes refusal (inl memory) = record { app = app; is_program = program; gives = (inl memory, fitting usage fits refusal) }
+  found matches (Err usage) fits has range makes refusal (inl memory) =
+      record { app = app; is_program = program; gives = (inl memory, fitting usage fits refusal) }
   found matches (Err usage) fits has range makes refusal (inr none) =
       let same = (has (both _ _ (is_known app program)).0).1 in
       record { app = app; is_program = program; gives = (inr (λ job m. none job m.in_range (rw same m.makes)), fitting usage fits refusal) }

@@ -1,7 +1,8 @@
 -- The command line as its parser reads it: the commands, their options, and which arguments mean a job.
 use Rattle.std.specs.Prelude.{◌≡◌, ◌∷◌, ◌⊎◌, List, [], Option, Some, None, Result, Ok, MatchResult, codes, map, pos, true, false}
 use Rattle.std.specs.Borrow.{Bor}
-use Rattle.clap.specs.Words.{AddsArg, AddsSubcommand, App, Row, Rule, Text, app_of, fault_of, new_app, new_rule, rule_of, subcommand_of, with_rule, with_subcommand}
+use Rattle.clap.specs.Words.{AddsArg, AddsSubcommand, App, Row, Rule, Text, app_of, fault_of, new_app, new_rule, rule_of, subcommand_of, with_rule}
+use Rattle.clap.specs.Words.{with_subcommand}
 use Rattle.clap.specs.Simple.{new_shape}
 use Rattle.clap.specs.declared.builder.arg.Arg.{Arg}
 use Rattle.clap.specs.declared.builder.command.Command.{Command}
@@ -78,11 +79,15 @@ recut_app = with_rule (with_rule (with_rule (new_app (codes "recut")) new_packet
 
 -- the program without its commands
 abbrev pub bare_app : App
-bare_app = record { top = record (new_shape (codes "tds_replay")) { no_binary_name = true; has_version = true; subcommand_required = true }; subs = [] }
+bare_app = record {
+  top = record (new_shape (codes "tds_replay")) { no_binary_name = true; has_version = true; subcommand_required = true };
+  subs = [];
+}
 
 -- the program with the commands that read a response, by the names of character sets of each
 abbrev pub two_app : Kept → Kept → App
-two_app of_export of_check = with_subcommand (with_subcommand bare_app (reading_app (codes "export") of_export).top) (reading_app (codes "check") of_check).top
+two_app of_export of_check = with_subcommand (with_subcommand bare_app (reading_app (codes "export") of_export).top)
+    (reading_app (codes "check") of_check).top
 
 -- the program with its three commands
 abbrev pub program_app : Kept → Kept → App
@@ -106,7 +111,8 @@ IsReading name command = (names : Kept) × NamesCharsets names × IsCommand (rea
 
 -- The program has the two commands that read a response.
 abbrev pub HasReading : Command → Type 0
-HasReading command = (of_export : Kept) × (of_check : Kept) × NamesCharsets of_export × NamesCharsets of_check × IsCommand (two_app of_export of_check) command
+HasReading command = (of_export : Kept) × (of_check : Kept) × NamesCharsets of_export × NamesCharsets of_check
+    × IsCommand (two_app of_export of_check) command
 
 -- The parser reads the program's command line so.
 abbrev pub IsProgram : App → Type 0

@@ -71,7 +71,8 @@ HasLimits values packet_size column_room max_wire = HasPacketSize values packet_
 
 -- The options have no limits in their ranges.
 abbrev pub IsUnlimited : List Row → Type 0
-IsUnlimited values = (packet_size column_room max_wire : ℕ) → HasLimits values packet_size column_room max_wire → IsPacketSize packet_size → IsColumnRoom column_room → IsMaxWire max_wire → ⊥
+IsUnlimited values = (packet_size column_room max_wire : ℕ) → HasLimits values packet_size column_room max_wire → IsPacketSize packet_size
+    → IsColumnRoom column_room → IsMaxWire max_wire → ⊥
 
 -- the character set of this name: UTF-8 of `utf-8`, and Windows-1252 of any other
 abbrev pub charset_named : Option (List ℕ) → Charset
@@ -87,9 +88,12 @@ HasFile values file = option_map string_bytes file ≡ first_of (codes "FILE") v
 
 -- The job is that of the command of this name with these values.
 abbrev pub IsJobOf : List ℕ → List Row → Job → Type 0
-IsJobOf command values (Export limits charset file) = (command ≡ codes "export") × HasLimits values limits.packet_size limits.column_room limits.max_wire × (charset ≡ charset_of values) × HasFile values file
-IsJobOf command values (Check limits charset file) = (command ≡ codes "check") × HasLimits values limits.packet_size limits.column_room limits.max_wire × (charset ≡ charset_of values) × HasFile values file
-IsJobOf command values (Recut packet_size max_wire file) = (command ≡ codes "recut") × HasPacketSize values packet_size × HasMaxWire values max_wire × HasFile values file
+IsJobOf command values (Export limits charset file) = (command ≡ codes "export")
+    × HasLimits values limits.packet_size limits.column_room limits.max_wire × (charset ≡ charset_of values) × HasFile values file
+IsJobOf command values (Check limits charset file) = (command ≡ codes "check")
+    × HasLimits values limits.packet_size limits.column_room limits.max_wire × (charset ≡ charset_of values) × HasFile values file
+IsJobOf command values (Recut packet_size max_wire file) = (command ≡ codes "recut") × HasPacketSize values packet_size × HasMaxWire values max_wire
+    × HasFile values file
 
 -- No job in its ranges is that of the command with these values.
 abbrev pub IsNoJob : List ℕ → List Row → Type 0

@@ -1,5 +1,10 @@
 -- What a description's spelling is read as.
-use Rattle.tds_columns.proofs.Words.{too_long, add-zero, if◌then◌else◌, ◌≡◌, ℕ, ◌+◌, ◌-◌, ◌*◌, ◌/◌, ◌%◌, ◌<◌, ◌≤◌, List, [], ◌∷◌, ◌++◌, length, refl, ap, append_assoc, append-nil, arith, length-append, Some, None, ◌==◌, nat_tests, ne_eqb, get_or-append_seam, Kind, little, IsTypeInfo, rest_length, kind_of, rest_length_of, Spelt, Spelt-step, Spelt-append, Spelt-none, Column, SpellsColumn, SpellsColumns, SpellsDescription, ColumnHead, NameCount, DescriptionPart, BeforeCount, InColumn, WholeDescription, with_column, with_count, with_type, with_units, count_fault, description, choose_false, choose_true}
+use Rattle.tds_columns.proofs.Words.{too_long, add-zero, if◌then◌else◌, ◌≡◌, ℕ, ◌+◌, ◌-◌, ◌*◌, ◌/◌, ◌%◌, ◌<◌, ◌≤◌, List, [], ◌∷◌, ◌++◌, length, refl}
+use Rattle.tds_columns.proofs.Words.{ap, append_assoc, append-nil, arith, length-append, Some, None, ◌==◌, nat_tests, ne_eqb, get_or-append_seam}
+use Rattle.tds_columns.proofs.Words.{Kind, little, IsTypeInfo, rest_length, kind_of, rest_length_of, Spelt, Spelt-step, Spelt-append, Spelt-none}
+use Rattle.tds_columns.proofs.Words.{Column, SpellsColumn, SpellsColumns, SpellsDescription, ColumnHead, NameCount, DescriptionPart, BeforeCount}
+use Rattle.tds_columns.proofs.Words.{InColumn, WholeDescription, with_column, with_count, with_type, with_units, count_fault, description}
+use Rattle.tds_columns.proofs.Words.{choose_false, choose_true}
 
 pub fits_in : (room so_far least : ℕ) → so_far + least ≤ room → too_long room so_far least ≡ None
 fits_in room so_far least h = grind (arith, nat_tests)
@@ -28,32 +33,43 @@ abbrev pub after_columns : List ℕ → ℕ → List Column → DescriptionPart
 after_columns bytes count columns = if length columns == count then WholeDescription bytes columns else InColumn bytes count columns ColumnHead
 
 -- a further column comes
-pub at_column : (bytes : List ℕ) (count : ℕ) (columns : List Column) → length columns < count → after_columns bytes count columns ≡ InColumn bytes count columns ColumnHead
+pub at_column : (bytes : List ℕ) (count : ℕ) (columns : List Column) → length columns < count
+    → after_columns bytes count columns ≡ InColumn bytes count columns ColumnHead
 at_column bytes count columns more = choose_false _ _ _ (ne_eqb (length columns) count (λ e. omega (arith, e, more)))
 
 -- a Count of columns that fit
-count_free : (room n : ℕ) (bytes : List ℕ) → 0 < n → n < 65535 → 2 + 8 * n ≤ room → (count_fault room n ≡ None) × (with_count bytes n ≡ after_columns bytes n [])
+count_free : (room n : ℕ) (bytes : List ℕ) → 0 < n → n < 65535 → 2 + 8 * n ≤ room → (count_fault room n ≡ None)
+    × (with_count bytes n ≡ after_columns bytes n [])
 count_free room n bytes some most fits = grind (arith, ne_eqb, nat_tests, at_column)
 
 module _ (room : ℕ) where
   module _ (b : List ℕ) (count : ℕ) (cols : List Column) where
     -- up to the name's count
-    head_is_read : (ignored : List ℕ) (byte n : ℕ) → length ignored ≡ 6 → rest_length byte ≡ Some n → ((length b + 7) + ((n + 1) + 8 * (count - (length cols + 1)))) ≤ room → Spelt (description room) (InColumn b count cols ColumnHead) (ignored ++ byte ∷ []) (with_type (b ++ (ignored ++ byte ∷ [])) count cols byte n)
+    head_is_read : (ignored : List ℕ) (byte n : ℕ) → length ignored ≡ 6 → rest_length byte ≡ Some n
+        → ((length b + 7) + ((n + 1) + 8 * (count - (length cols + 1)))) ≤ room
+        → Spelt (description room) (InColumn b count cols ColumnHead) (ignored ++ byte ∷ [])
+        (with_type (b ++ (ignored ++ byte ∷ [])) count cols byte n)
     head_is_read ignored byte n six rest fits = grind (arith, Spelt-step, nat_tests, get_or-append_seam, length-append)
 
-    info_is_read : (byte : ℕ) (rest : List ℕ) (kind : Kind) → rest_length byte ≡ Some (length rest) → kind_of (byte ∷ rest) ≡ Some kind → Spelt (description room) (with_type b count cols byte (length rest)) rest (InColumn (b ++ rest) count cols (NameCount kind))
+    info_is_read : (byte : ℕ) (rest : List ℕ) (kind : Kind) → rest_length byte ≡ Some (length rest) → kind_of (byte ∷ rest) ≡ Some kind
+        → Spelt (description room) (with_type b count cols byte (length rest)) rest (InColumn (b ++ rest) count cols (NameCount kind))
     info_is_read byte [] kind n k = grind (arith, Spelt-none, append-nil)
     info_is_read byte (x ∷ xs) kind n k = grind (arith, Spelt-step, choose_false, ne_eqb)
 
-    units_are_read : (kind : Kind) (units : ℕ) → (length b + 1) + (2 * units + 8 * (count - (length cols + 1))) ≤ room → Spelt (description room) (InColumn b count cols (NameCount kind)) (units ∷ []) (with_units (b ++ units ∷ []) count cols kind units)
+    units_are_read : (kind : Kind) (units : ℕ) → (length b + 1) + (2 * units + 8 * (count - (length cols + 1))) ≤ room
+        → Spelt (description room) (InColumn b count cols (NameCount kind)) (units ∷ []) (with_units (b ++ units ∷ []) count cols kind units)
     units_are_read kind units fits = grind (arith, Spelt-step, nat_tests)
 
-    name_is_read : (kind : Kind) (units : ℕ) (name : List ℕ) → length name ≡ 2 * units → Spelt (description room) (with_units b count cols kind units) name (with_column (b ++ name) count cols (record { kind = kind; name = name }))
+    name_is_read : (kind : Kind) (units : ℕ) (name : List ℕ) → length name ≡ 2 * units
+        → Spelt (description room) (with_units b count cols kind units) name
+        (with_column (b ++ name) count cols (record { kind = kind; name = name }))
     name_is_read kind units [] l = grind (arith, Spelt-none, append-nil, choose_true, nat_tests)
     name_is_read kind units (x ∷ xs) l = grind (arith, Spelt-step, choose_false, ne_eqb)
 
   -- what spells a column is read as it
-  column_is_read : (b : List ℕ) (count : ℕ) (cols : List Column) (c : Column) (bytes : List ℕ) → (length b + length bytes) + 8 * (count - (length cols + 1)) ≤ room → SpellsColumn c bytes → Spelt (description room) (InColumn b count cols ColumnHead) bytes (with_column (b ++ bytes) count cols c)
+  column_is_read : (b : List ℕ) (count : ℕ) (cols : List Column) (c : Column) (bytes : List ℕ)
+      → (length b + length bytes) + 8 * (count - (length cols + 1)) ≤ room → SpellsColumn c bytes
+      → Spelt (description room) (InColumn b count cols ColumnHead) bytes (with_column (b ++ bytes) count cols c)
   column_is_read b count cols c bytes fits h =
       let type = byte_and_rest c.kind h.info h.kind in
       let head = h.ignored ++ type.byte ∷ [] in
@@ -64,22 +80,29 @@ module _ (room : ℕ) where
       let two = info_is_read (b ++ head) count cols type.byte type.rest c.kind type.whole type.allowed in
       let three = units_are_read ((b ++ head) ++ type.rest) count cols c.kind h.units (omega (arith, l, li, l2, h.counted, fits)) in
       let four = name_is_read (((b ++ head) ++ type.rest) ++ h.units ∷ []) count cols c.kind h.units c.name h.counted in
-      let all = simp append_assoc at (Spelt-append (description room) _ _ _ _ _ one (Spelt-append (description room) _ _ _ _ _ two (Spelt-append (description room) _ _ _ _ _ three four))) in
+      let all = simp append_assoc at (Spelt-append (description room) _ _ _ _ _ one
+      (Spelt-append (description room) _ _ _ _ _ two (Spelt-append (description room) _ _ _ _ _ three four))) in
       rw (h.spelt, type.spelt) (simp append_assoc all)
 
-  all_are_read : (b : List ℕ) (count : ℕ) (cols cs : List Column) (bytes : List ℕ) → count ≡ length cols + length cs → length b + length bytes ≤ room → SpellsColumns cs bytes → Spelt (description room) (after_columns b count cols) bytes (WholeDescription (b ++ bytes) (cols ++ cs))
+  all_are_read : (b : List ℕ) (count : ℕ) (cols cs : List Column) (bytes : List ℕ) → count ≡ length cols + length cs → length b + length bytes ≤ room
+      → SpellsColumns cs bytes → Spelt (description room) (after_columns b count cols) bytes (WholeDescription (b ++ bytes) (cols ++ cs))
   all_are_read b count cols [] bytes n fits h = rw (h, append-nil, append-nil, n, add-zero) (grind (arith, Spelt-none, choose_true, nat_tests))
   all_are_read b count cols (c ∷ cs) bytes n fits h =
       let la : length bytes ≡ length h.0 + length h.1 = rw (h.2, length-append) in
       let one = column_is_read b count cols c h.0 (omega (arith, la, least-SpellsColumns cs h.1 h.4, n, fits)) h.3 in
-      let more = rw length-append at (all_are_read (b ++ h.0) count (cols ++ c ∷ []) cs h.1 (simp length-append (omega (arith, n))) (simp length-append (omega (arith, la, fits))) h.4) in
+      let more = rw length-append at (all_are_read (b ++ h.0) count (cols ++ c ∷ []) cs h.1 (simp length-append (omega (arith, n)))
+      (simp length-append (omega (arith, la, fits))) h.4) in
       rw (at_column b count cols (omega (arith, n)), h.2) (simp append_assoc at (Spelt-append (description room) _ _ _ _ _ one more))
 
-  pub columns_are_read : (b : List ℕ) (count : ℕ) (cols : List Column) (c : Column) (cs : List Column) (bytes : List ℕ) → count ≡ length cols + (1 + length cs) → length b + length bytes ≤ room → SpellsColumns (c ∷ cs) bytes → Spelt (description room) (InColumn b count cols ColumnHead) bytes (WholeDescription (b ++ bytes) (cols ++ c ∷ cs))
-  columns_are_read b count cols c cs bytes n fits h = rw (at_column b count cols (omega (arith, n))) at (all_are_read b count cols (c ∷ cs) bytes (omega (arith, n)) fits h)
+  pub columns_are_read : (b : List ℕ) (count : ℕ) (cols : List Column) (c : Column) (cs : List Column) (bytes : List ℕ)
+      → count ≡ length cols + (1 + length cs) → length b + length bytes ≤ room → SpellsColumns (c ∷ cs) bytes
+      → Spelt (description room) (InColumn b count cols ColumnHead) bytes (WholeDescription (b ++ bytes) (cols ++ c ∷ cs))
+  columns_are_read b count cols c cs bytes n fits h =
+      rw (at_column b count cols (omega (arith, n))) at (all_are_read b count cols (c ∷ cs) bytes (omega (arith, n)) fits h)
 
   -- What spells a description is read as it.
-  pub description_is_read : (cs : List Column) (bytes : List ℕ) → SpellsDescription room cs bytes → Spelt (description room) BeforeCount bytes (WholeDescription bytes cs)
+  pub description_is_read : (cs : List Column) (bytes : List ℕ) → SpellsDescription room cs bytes
+      → Spelt (description room) BeforeCount bytes (WholeDescription bytes cs)
   description_is_read cs bytes h =
       let n = length cs in
       let count = n % 256 ∷ n / 256 ∷ [] in
@@ -87,4 +110,5 @@ module _ (room : ℕ) where
       let la : length bytes ≡ 2 + length h.rest = rw h.spelt (omega arith) in
       let free = count_free room n count h.some h.most (omega (arith, la, h.within, least-SpellsColumns cs h.rest h.each)) in
       let one = Spelt-step (description room) BeforeCount count (after_columns count n []) (omega arith) refl (rw two free.0) (rw two free.1) in
-      rw h.spelt (Spelt-append (description room) _ _ _ _ _ one (all_are_read count n [] cs h.rest (omega arith) (omega (arith, la, h.within)) h.each))
+      rw h.spelt (Spelt-append (description room) _ _ _ _ _ one
+      (all_are_read count n [] cs h.rest (omega arith) (omega (arith, la, h.within)) h.each))

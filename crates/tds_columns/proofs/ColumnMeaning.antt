@@ -1,5 +1,12 @@
 -- What the bytes that lead to a part of a description spell.
-use Rattle.tds_columns.proofs.{Words.{◌==◌, too_long, Option, Fault, first_of_two, is_some, BadTypeInfo, true, if◌then◌else◌, ◌≡◌, ◌≢◌, ℕ, ◌+◌, ◌*◌, ◌/◌, ◌%◌, ◌<◌, ◌≤◌, List, [], ◌∷◌, ◌++◌, length, refl, sym, ◌∙◌, ap, append_assoc, append-nil, arith, length-append, length-take-le, Some, None, slice_index, nat_tests, ne_eqb, Kind, IsTypeInfo, rest_length, bare_type, AreBytes, IsNext, Column, SpellsColumn, SpellsColumns, SpellsDescription, ColumnPlace, ColumnHead, ColumnInfo, NameCount, NameUnits, DescriptionPart, BeforeCount, NoDescription, InColumn, WholeDescription, with_column, with_units, add_described, type_fault, count_fault, description, choose, choose_false, eq_true, eq_false, is_some_value}, ByteLemmas.{last_of, two_bytes}}
+use Rattle.tds_columns.proofs.Words.{◌==◌, too_long, Option, Fault, first_of_two, is_some, BadTypeInfo, true, if◌then◌else◌, ◌≡◌, ◌≢◌, ℕ, ◌+◌, ◌*◌}
+use Rattle.tds_columns.proofs.Words.{◌/◌, ◌%◌, ◌<◌, ◌≤◌, List, [], ◌∷◌, ◌++◌, length, refl, sym, ◌∙◌, ap, append_assoc, append-nil, arith}
+use Rattle.tds_columns.proofs.Words.{length-append, length-take-le, Some, None, slice_index, nat_tests, ne_eqb, Kind, IsTypeInfo, rest_length}
+use Rattle.tds_columns.proofs.Words.{bare_type, AreBytes, IsNext, Column, SpellsColumn, SpellsColumns, SpellsDescription, ColumnPlace, ColumnHead}
+use Rattle.tds_columns.proofs.Words.{ColumnInfo, NameCount, NameUnits, DescriptionPart, BeforeCount, NoDescription, InColumn, WholeDescription}
+use Rattle.tds_columns.proofs.Words.{with_column, with_units, add_described, type_fault, count_fault, description, choose, choose_false, eq_true}
+use Rattle.tds_columns.proofs.Words.{eq_false, is_some_value}
+use Rattle.tds_columns.proofs.ByteLemmas.{last_of, two_bytes}
 
 pub not_long : (room so_far least : ℕ) → too_long room so_far least ≡ None → so_far + least ≤ room
 not_long room so_far least h = grind (arith, nat_tests)
@@ -23,9 +30,12 @@ some_kind index o q = grind arith
 -- the part of a column that is read, at the end of these bytes in this room
 abbrev pub ColumnMeans : ℕ → List ℕ → ColumnPlace → List ℕ → Type 0
 ColumnMeans room b ColumnHead part = part ≡ []
-ColumnMeans room b (ColumnInfo byte) part = (ignored : List ℕ) × (part ≡ ignored ++ byte ∷ []) × (length ignored ≡ 6) × (n : ℕ) × (rest_length byte ≡ Some n)
-ColumnMeans room b (NameCount kind) part = (ignored : List ℕ) × (info : List ℕ) × (part ≡ ignored ++ info) × (length ignored ≡ 6) × IsTypeInfo kind info
-ColumnMeans room b (NameUnits kind n) part = (ignored : List ℕ) × (info : List ℕ) × (units : ℕ) × (part ≡ (ignored ++ info) ++ units ∷ []) × (length ignored ≡ 6) × IsTypeInfo kind info × (n ≡ 2 * units) × (units < 256) × (length b + n ≤ room)
+ColumnMeans room b (ColumnInfo byte) part = (ignored : List ℕ) × (part ≡ ignored ++ byte ∷ []) × (length ignored ≡ 6) × (n : ℕ)
+    × (rest_length byte ≡ Some n)
+ColumnMeans room b (NameCount kind) part = (ignored : List ℕ) × (info : List ℕ) × (part ≡ ignored ++ info) × (length ignored ≡ 6)
+    × IsTypeInfo kind info
+ColumnMeans room b (NameUnits kind n) part = (ignored : List ℕ) × (info : List ℕ) × (units : ℕ) × (part ≡ (ignored ++ info) ++ units ∷ [])
+    × (length ignored ≡ 6) × IsTypeInfo kind info × (n ≡ 2 * units) × (units < 256) × (length b + n ≤ room)
 
 pub record WithinMeans (room : ℕ) (bytes : List ℕ) (count : ℕ) (cols : List Column) (place : ColumnPlace) (b : List ℕ) : Type 0 where
   pub same : bytes ≡ b
@@ -44,7 +54,8 @@ DescribedMeans room NoDescription b = b ≡ 255 ∷ 255 ∷ []
 DescribedMeans room (InColumn bytes count cols place) b = WithinMeans room bytes count cols place b
 DescribedMeans room (WholeDescription bytes cols) b = (bytes ≡ b) × SpellsDescription room cols b
 
-one_more_column : (cols : List Column) (b : List ℕ) (c : Column) (e : List ℕ) → SpellsColumns cols b → SpellsColumn c e → SpellsColumns (cols ++ c ∷ []) (b ++ e)
+one_more_column : (cols : List Column) (b : List ℕ) (c : Column) (e : List ℕ) → SpellsColumns cols b → SpellsColumn c e
+    → SpellsColumns (cols ++ c ∷ []) (b ++ e)
 one_more_column [] b c e h s = (e, [], ap (λ v. v ++ e) h ∙ sym (append-nil e), s, refl)
 one_more_column (d ∷ cols) b c e h s = (h.0, h.1 ++ e, ap (λ v. v ++ e) h.2 ∙ append_assoc h.0 h.1 e, h.3, one_more_column cols h.1 c e h.4 s)
 
@@ -53,16 +64,20 @@ longer : (b e one front part : List ℕ) → b ≡ one ++ (front ++ part) → b 
 longer b e one front part h = rw h (simp append_assoc)
 
 module _ (room : ℕ) where
-  module _ {have : List ℕ} {count : ℕ} {cols : List Column} {place : ColumnPlace} {b : List ℕ} (h : WithinMeans room have count cols place b) (e : List ℕ) where
+  module _ {have : List ℕ} {count : ℕ} {cols : List Column} {place : ColumnPlace} {b : List ℕ} (h : WithinMeans room have count cols place b)
+      (e : List ℕ) where
     -- a whole column
-    with_means : (c : Column) → SpellsColumn c (h.part ++ e) → length (b ++ e) ≤ room → DescribedMeans room (with_column (have ++ e) count cols c) (b ++ e)
+    with_means : (c : Column) → SpellsColumn c (h.part ++ e) → length (b ++ e) ≤ room
+        → DescribedMeans room (with_column (have ++ e) count cols c) (b ++ e)
     with_means c col fits =
         let spelt = longer b e (count % 256 ∷ count / 256 ∷ []) h.front h.part h.spelt in
         let la = length-append cols (c ∷ []) in
         let each = one_more_column cols h.front c (h.part ++ e) h.whole col in
         grind (arith, choose, eq_true, eq_false, append-nil)
 
-  units_step : (have : List ℕ) (count : ℕ) (cols : List Column) (kind : Kind) (b e : List ℕ) → AreBytes e → (h : WithinMeans room have count cols (NameCount kind) b) → IsNext (description room) (InColumn have count cols (NameCount kind)) e → DescribedMeans room (with_units (have ++ e) count cols kind (slice_index e 0)) (b ++ e)
+  units_step : (have : List ℕ) (count : ℕ) (cols : List Column) (kind : Kind) (b e : List ℕ) → AreBytes e
+      → (h : WithinMeans room have count cols (NameCount kind) b) → IsNext (description room) (InColumn have count cols (NameCount kind)) e
+      → DescribedMeans room (with_units (have ++ e) count cols kind (slice_index e 0)) (b ++ e)
   units_step have count cols kind b e bytes h n =
       let one = last_of 0 e n.whole in
       let spelt = longer b e (count % 256 ∷ count / 256 ∷ []) h.front h.part h.spelt in
@@ -71,7 +86,8 @@ module _ (room : ℕ) where
       (λ z. grind (arith, length-append, nat_tests))
 
   -- each element keeps the meaning
-  pub described_step : (d : DescriptionPart) (b e : List ℕ) → AreBytes e → DescribedMeans room d b → IsNext (description room) d e → DescribedMeans room (add_described d e) (b ++ e)
+  pub described_step : (d : DescriptionPart) (b e : List ℕ) → AreBytes e → DescribedMeans room d b → IsNext (description room) d e
+      → DescribedMeans room (add_described d e) (b ++ e)
   described_step BeforeCount b e bytes h n =
       let t = two_bytes e n.whole bytes in
       rw h (grind (arith, choose, eq_false, eq_true, not_zero))

@@ -1,5 +1,6 @@
 -- Descriptions of columns (MS-TDS, COLMETADATA).
-use Rattle.std.specs.Prelude.{◌≡◌, ◌==◌, ◌+◌, ◌*◌, ◌-◌, ◌%◌, ◌/◌, ◌<◌, ◌≤◌, ℕ, List, [], ◌∷◌, ◌++◌, length, Option, Some, None, if◌then◌else◌, nat_lt, slice_index, unwrap_or, is_some}
+use Rattle.std.specs.Prelude.{◌≡◌, ◌==◌, ◌+◌, ◌*◌, ◌-◌, ◌%◌, ◌/◌, ◌<◌, ◌≤◌, ℕ, List, [], ◌∷◌, ◌++◌, length, Option, Some, None, if◌then◌else◌, nat_lt}
+use Rattle.std.specs.Prelude.{slice_index, unwrap_or, is_some}
 use Rattle.tds_values.specs.declared.kind.Kind.{Kind}
 use Rattle.tds_values.specs.Numbers.{little}
 use Rattle.tds_values.specs.TypeInfo.{IsTypeInfo, rest_length, kind_of}
@@ -94,11 +95,13 @@ with_type bytes count columns byte rest =
 -- its name has this number of units
 abbrev pub with_units : List ℕ → ℕ → List Column → Kind → ℕ → DescriptionPart
 with_units bytes count columns kind units =
-    if units == 0 then with_column bytes count columns (record { kind = kind; name = [] }) else InColumn bytes count columns (NameUnits kind (2 * units))
+    if units == 0 then with_column bytes count columns (record { kind = kind; name = [] }) else InColumn bytes count columns
+    (NameUnits kind (2 * units))
 
 -- the state after an element of a column
 abbrev pub with_element : List ℕ → ℕ → List Column → ColumnPlace → List ℕ → DescriptionPart
-with_element bytes count columns ColumnHead element = with_type (bytes ++ element) count columns (slice_index element 6) (unwrap_or (rest_length (slice_index element 6)) 0)
+with_element bytes count columns ColumnHead element =
+    with_type (bytes ++ element) count columns (slice_index element 6) (unwrap_or (rest_length (slice_index element 6)) 0)
 with_element bytes count columns (ColumnInfo byte) element = with_kind (bytes ++ element) count columns (kind_of (byte ∷ element))
 with_element bytes count columns (NameCount kind) element = with_units (bytes ++ element) count columns kind (slice_index element 0)
 with_element bytes count columns (NameUnits kind n) element = with_column (bytes ++ element) count columns (record { kind = kind; name = element })
@@ -122,7 +125,8 @@ described_size BeforeCount = 2
 described_size (InColumn bytes count columns place) = place_size place
 described_size d = 0
 
--- A description is too long if its bytes so far and those that must follow at least pass the room: these of this column, and 8 of each that is not begun.
+-- A description is too long if its bytes so far and those that must follow at least pass the room: these of this column, and 8 of each that is not
+-- begun.
 abbrev pub too_long : ℕ → ℕ → ℕ → Option Fault
 too_long room so_far least = if nat_lt room (so_far + least) then Some DescriptionTooLong else None
 
@@ -141,16 +145,20 @@ abbrev pub first_of_two : {A : Type 0} → Option A → Option A → Option A
 first_of_two (Some x) y = Some x
 first_of_two None y = y
 
--- the first fault of a column's head, which ends this number of bytes after the description's beginning, with this type byte; this number of columns follows
+-- the first fault of a column's head, which ends this number of bytes after the description's beginning, with this type byte; this number of columns
+-- follows
 abbrev pub head_fault : (room so_far byte index left : ℕ) → Option Fault
 head_fault room so_far byte index left =
     first_of_two (type_fault index byte (rest_length byte)) (too_long room so_far ((unwrap_or (rest_length byte) 0 + 1) + 8 * left))
 
 -- the first fault of an element of a column
 abbrev pub column_fault : ℕ → List ℕ → ℕ → List Column → ColumnPlace → List ℕ → Option Fault
-column_fault room bytes count columns ColumnHead element = head_fault room (length bytes + 7) (slice_index element 6) (length columns) (count - (length columns + 1))
-column_fault room bytes count columns (ColumnInfo byte) element = if is_some (kind_of (byte ∷ element)) then None else Some (BadTypeInfo (length columns))
-column_fault room bytes count columns (NameCount kind) element = too_long room (length bytes + 1) (2 * slice_index element 0 + 8 * (count - (length columns + 1)))
+column_fault room bytes count columns ColumnHead element =
+    head_fault room (length bytes + 7) (slice_index element 6) (length columns) (count - (length columns + 1))
+column_fault room bytes count columns (ColumnInfo byte) element =
+    if is_some (kind_of (byte ∷ element)) then None else Some (BadTypeInfo (length columns))
+column_fault room bytes count columns (NameCount kind) element =
+    too_long room (length bytes + 1) (2 * slice_index element 0 + 8 * (count - (length columns + 1)))
 column_fault room bytes count columns (NameUnits kind n) element = None
 
 -- the first fault of a Count

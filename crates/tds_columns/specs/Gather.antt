@@ -10,7 +10,8 @@ use Rattle.tds_packet.specs.Seen.{Seen, Takes}
 use Rattle.tds_packet.specs.Reading.{Reads, StopsReading}
 use Rattle.tds_columns.specs.declared.metadata.Described.{Described}
 use Rattle.tds_columns.specs.declared.metadata.Described.TheVariants.{Columns, NoMetadata}
-use Rattle.tds_columns.specs.Description.{Column, ColumnHead, ColumnInfo, NameCount, DescriptionPart, BeforeCount, InColumn, NoDescription, WholeDescription, SpellsDescription, description, description_bytes, span, with_column}
+use Rattle.tds_columns.specs.Description.{Column, ColumnHead, ColumnInfo, NameCount, DescriptionPart, BeforeCount, InColumn, NoDescription}
+use Rattle.tds_columns.specs.Description.{WholeDescription, SpellsDescription, description, description_bytes, span, with_column}
 
 -- Elements of a description were read, which lead from one state to another, and the area has its bytes.
 pub record Describes (room : ℕ) (from : DescriptionPart) (old new : Seen) (place place' peak : ℕ) (area : Space) (to : DescriptionPart) : Type 0 where
@@ -95,7 +96,8 @@ module _ {R : Type 0} (remaining : R → Option (List ℕ)) (old new : Payload R
   abbrev pub CountRead : Type 0
   CountRead = let a = seen remaining old in let b = seen remaining new in MatchResult result
       (DescribesCount before.room a b old.place new.place before.peak after)
-      (λ stop. (after.bytes ≡ []) × (after.peak ≤ max before.peak 2) × (old.stopped ≡ None → StopsDescribing before.room BeforeCount a b old.place before.peak after stop))
+      (λ stop. (after.bytes ≡ []) × (after.peak ≤ max before.peak 2)
+      × (old.stopped ≡ None → StopsDescribing before.room BeforeCount a b old.place before.peak after stop))
 
   -- A description was read into the area, or the reading stopped in it.
   abbrev pub DescriptionRead : Type 0

@@ -11,7 +11,8 @@ OneDescription = (room : ℕ) (a b : List Column) (bytes : List ℕ) → SpellsD
 -- No description begins with an element that is refused.
 abbrev pub RefusedDescription : Type 0
 RefusedDescription = (room : ℕ) (front rest more : List ℕ) (at : DescriptionPart) (fault : Fault) (columns : List Column) →
-    Spelt (description room) BeforeCount front at → IsRefused (description room) at rest fault → SpellsDescription room columns ((front ++ take ((description room).size at) rest) ++ more) → ⊥
+    Spelt (description room) BeforeCount front at → IsRefused (description room) at rest fault
+    → SpellsDescription room columns ((front ++ take ((description room).size at) rest) ++ more) → ⊥
 
 -- Bytes describe the columns exactly if all of them are read as their description.
 abbrev pub DescriptionAsSpelt : Type 0

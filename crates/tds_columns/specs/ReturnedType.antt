@@ -1,5 +1,6 @@
 -- The type of the value that a procedure returns (MS-TDS, RETURNVALUE): eight bytes that end with the type byte, and what follows it.
-use Rattle.std.specs.Prelude.{◌≡◌, ◌==◌, ℕ, ◌+◌, ◌≤◌, List, [], ◌∷◌, length, max, Option, Some, None, Result, OnErr, if◌then◌else◌, slice_index, unwrap_or, is_some}
+use Rattle.std.specs.Prelude.{◌≡◌, ◌==◌, ℕ, ◌+◌, ◌≤◌, List, [], ◌∷◌, length, max, Option, Some, None, Result, OnErr, if◌then◌else◌, slice_index}
+use Rattle.std.specs.Prelude.{unwrap_or, is_some}
 use Rattle.tds_values.specs.declared.kind.Kind.{Kind}
 use Rattle.tds_values.specs.TypeInfo.{IsTypeInfo, rest_length, kind_of}
 use Rattle.tds_meter.specs.Space.{Space}

@@ -19,7 +19,11 @@ column_size bytes = (8 + rest_size bytes) + name_size bytes
 
 -- the column at the front
 abbrev pub column_at : List ℕ → Column
-column_at bytes = record { kind = unwrap_or (kind_of (take (1 + rest_size bytes) (drop 6 bytes))) Int4; name = take (name_size bytes) (drop (8 + rest_size bytes) bytes) }
+column_at bytes = record {
+  kind = unwrap_or (kind_of (take (1 + rest_size bytes) (drop 6 bytes))) Int4;
+  name = take (name_size bytes)
+      (drop (8 + rest_size bytes) bytes);
+}
 
 -- this number of columns, one after the other
 abbrev pub columns_in : ℕ → List ℕ → List Column

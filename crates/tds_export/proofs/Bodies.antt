@@ -1,5 +1,13 @@
 -- Tokens with a Length and a body, as they are read.
-use Rattle.tds_export.proofs.{Words.{BadNotice, Bodied, Charset, Ends, EndsInto, IsBetween, List, Part, Payload, Progress, Reads, ReadsNotice, Seen, Some, Space, Stop, StopsInNotice, StopsReading, Takes, TakesInto, Token, TokenBody, TokenLength, View, arith, began_at, between, bodied, choose_false, cut_into, false, holds_notice, in_length, inl, inr, is_notice, length, length-append, little, little_number, ne_eqb, part_fault, reads_one, refl, refused_at_once, refused_into, response, stops_after, sym, take, takes_both, test_lt, true, with_token, ℕ, ◌++◌, ◌+◌, ◌<◌, ◌∙◌, ◌≡◌, ◌≤◌}, Cuts.{fill_cut, part_cut}, TokenSteps.{Begun, bare_reads, quietly, stops_quietly, ReadsQuiet, StopsQuiet}, TokenLaws.{bare_body, tracks_body}, ResponseLaws.{body_free, body_is_read, length_free}}
+use Rattle.tds_export.proofs.Words.{BadNotice, Bodied, Charset, Ends, EndsInto, IsBetween, List, Part, Payload, Progress, Reads, ReadsNotice, Seen}
+use Rattle.tds_export.proofs.Words.{Some, Space, Stop, StopsInNotice, StopsReading, Takes, TakesInto, Token, TokenBody, TokenLength, View, arith}
+use Rattle.tds_export.proofs.Words.{began_at, between, bodied, choose_false, cut_into, false, holds_notice, in_length, inl, inr, is_notice, length}
+use Rattle.tds_export.proofs.Words.{length-append, little, little_number, ne_eqb, part_fault, reads_one, refl, refused_at_once, refused_into}
+use Rattle.tds_export.proofs.Words.{response, stops_after, sym, take, takes_both, test_lt, true, with_token, ℕ, ◌++◌, ◌+◌, ◌<◌, ◌∙◌, ◌≡◌, ◌≤◌}
+use Rattle.tds_export.proofs.Cuts.{fill_cut, part_cut}
+use Rattle.tds_export.proofs.TokenSteps.{Begun, bare_reads, quietly, stops_quietly, ReadsQuiet, StopsQuiet}
+use Rattle.tds_export.proofs.TokenLaws.{bare_body, tracks_body}
+use Rattle.tds_export.proofs.ResponseLaws.{body_free, body_is_read, length_free}
 
 -- before the body of a token
 abbrev pub in_body : Bodied → List Token → ℕ → Part
@@ -16,16 +24,22 @@ pub record LengthRead (element : List ℕ) (n : ℕ) (a b : Seen) (place middle 
 pub number_is : {element : List ℕ} {n place middle : ℕ} {a b : Seen} → LengthRead element n a b place middle → little element ≡ n
 number_is {element = element} l = rw l.is (cc)
 
-module _ (charset : Charset) (room : ℕ) {n place middle : ℕ} {tokens : List Token} {which : Bodied} {element : List ℕ} {a b c : Seen} (l : LengthRead element n a b place middle) (long : is_notice which ≡ true → 14 ≤ n) where
+module _ (charset : Charset) (room : ℕ) {n place middle : ℕ} {tokens : List Token} {which : Bodied} {element : List ℕ} {a b c : Seen}
+    (l : LengthRead element n a b place middle) (long : is_notice which ≡ true → 14 ≤ n) where
   -- what stops the reading of the body
-  after_length : {stop : Stop} → 0 < n → StopsReading (response charset room) (in_body which tokens n) b c middle (in_body which tokens n) stop → StopsReading (response charset room) (in_length which tokens) a c place (in_body which tokens n) stop
+  after_length : {stop : Stop} → 0 < n → StopsReading (response charset room) (in_body which tokens n) b c middle (in_body which tokens n) stop
+      → StopsReading (response charset room) (in_length which tokens) a c place (in_body which tokens n) stop
   after_length {stop = stop} some stops =
-      let to : (response charset room).add (in_length which tokens) element ≡ in_body which tokens n = rw (number_is l) (choose_false _ _ _ (ne_eqb n 0 (λ z. omega arith))) in
-      let one = reads_one _ _ a b element _ (record { some = omega arith; whole = l.two; free = length_free room n tokens _ _ long (number_is l) }) l.takes to in
-      stops_after (response charset room) (in_length which tokens) (in_body which tokens n) a b c place (in_body which tokens n) stop one (rw l.at at stops)
+      let to : (response charset room).add (in_length which tokens) element ≡ in_body which tokens n =
+      rw (number_is l) (choose_false _ _ _ (ne_eqb n 0 (λ z. omega arith))) in
+      let one = reads_one _ _ a b element _ (record { some = omega arith; whole = l.two; free = length_free room n tokens _ _ long (number_is l) })
+      l.takes to in
+      stops_after (response charset room) (in_length which tokens) (in_body which tokens n) a b c place (in_body which tokens n) stop one
+      (rw l.at at stops)
 
   -- the body was read
-  abbrev pub body_reads : (body : List ℕ) → length body ≡ n → Takes b c body n → (is_notice which ≡ true → holds_notice body ≡ true) → Reads (response charset room) (in_length which tokens) a c (with_token tokens (bodied which body))
+  abbrev pub body_reads : (body : List ℕ) → length body ≡ n → Takes b c body n → (is_notice which ≡ true → holds_notice body ≡ true)
+      → Reads (response charset room) (in_length which tokens) a c (with_token tokens (bodied which body))
   body_reads body len takes holds = record {
     bytes = element ++ body;
     spelt = body_is_read _ _ _ _ _ _ l.two (number_is l ∙ sym len) (length_free room n tokens _ _ long (number_is l)) (body_free _ body holds);
@@ -36,27 +50,34 @@ module _ (charset : Charset) (room : ℕ) {n place middle : ℕ} {tokens : List 
 no_notice : {P : Type 0} (which : Bodied) → is_notice which ≡ false → is_notice which ≡ true → P
 no_notice which quiet loud = absurd (cc)
 
-module _ (charset : Charset) {n middle : ℕ} {tokens : List Token} {which : Bodied} {element : List ℕ} {s : Progress} {u : View} {b c : Seen} (begun : Begun tokens s u) (quiet : is_notice which ≡ false) (l : LengthRead element n u.seen b u.place middle) where
+module _ (charset : Charset) {n middle : ℕ} {tokens : List Token} {which : Bodied} {element : List ℕ} {s : Progress} {u : View} {b c : Seen}
+    (begun : Begun tokens s u) (quiet : is_notice which ≡ false) (l : LengthRead element n u.seen b u.place middle) where
   -- a body of which nothing is kept was read
-  pub quiet_reads : {place : ℕ} (body : List ℕ) → length body ≡ n → Takes b c body n → place ≡ middle + n → ReadsQuiet charset (in_length which tokens) tokens u c place s
+  pub quiet_reads : {place : ℕ} (body : List ℕ) → length body ≡ n → Takes b c body n → place ≡ middle + n
+      → ReadsQuiet charset (in_length which tokens) tokens u c place s
   quiet_reads body len takes at =
       let r = body_reads _ _ l (no_notice _ quiet) _ len takes (no_notice _ quiet) in
-      quietly begun refl (bare_reads begun (bodied which body) r (omega (arith, length-append element body)) refl (bare_body _ _) (tracks_body begun.tracks _ _ quiet))
+      quietly begun refl (bare_reads begun (bodied which body) r (omega (arith, length-append element body)) refl (bare_body _ _)
+      (tracks_body begun.tracks _ _ quiet))
 
   -- it was cut
-  pub quiet_stops : {own stop : Stop} (part : List ℕ) → length part < n → Ends b c part own → stop ≡ began_at middle own → StopsQuiet charset (in_length which tokens) u c stop
+  pub quiet_stops : {own stop : Stop} (part : List ℕ) → length part < n → Ends b c part own → stop ≡ began_at middle own
+      → StopsQuiet charset (in_length which tokens) u c stop
   quiet_stops part fewer ends is =
       stops_quietly refl (record { bytes = begun.holds.bytes; peak = begun.holds.peak }) begun.delivered begun.going
       (after_length _ _ l (no_notice _ quiet) (omega arith) (part_cut _ refl refl fewer ends is))
 
 module _ (charset : Charset) (room : ℕ) {tokens : List Token} {which : Bodied} (notice : is_notice which ≡ true) where
   -- the Length is cut
-  pub length_cut : {to : List ℕ} {a b : Seen} {place : ℕ} {stop : Stop} → length to ≡ 2 → ((k : ℕ) × (own : Stop) × (k < length to) × Ends a b (take k to) own × (stop ≡ began_at place own)) → StopsInNotice charset room tokens which a b place stop
+  pub length_cut : {to : List ℕ} {a b : Seen} {place : ℕ} {stop : Stop} → length to ≡ 2
+      → ((k : ℕ) × (own : Stop) × (k < length to) × Ends a b (take k to) own × (stop ≡ began_at place own))
+      → StopsInNotice charset room tokens which a b place stop
   length_cut two part = record { at = in_length which tokens; stops = fill_cut refl refl two part; in_body = inl refl }
 
   module _ {element : List ℕ} {n place middle : ℕ} {a b : Seen} (l : LengthRead element n a b place middle) where
     -- the Length is too short
-    pub length_refused : n < 14 → IsBetween b → StopsInNotice charset room tokens which a b place (record { fault = BadNotice; place = Payload place })
+    pub length_refused : n < 14 → IsBetween b
+        → StopsInNotice charset room tokens which a b place (record { fault = BadNotice; place = Payload place })
     length_refused short between =
         let first : part_fault room tokens (TokenLength which) element ≡ Some BadNotice = rw (notice, number_is l, test_lt n 14 short) refl in
         record { at = in_length which tokens; stops = refused_at_once _ _ a b _ _ _ (omega arith) l.two first l.takes between; in_body = inl refl }
@@ -64,15 +85,31 @@ module _ (charset : Charset) (room : ℕ) {tokens : List Token} {which : Bodied}
     module _ {c : Seen} {before after : Space} (long : 14 ≤ n) where
       -- the body is cut
       pub body_cut : {stop : Stop} → EndsInto b c before after middle n stop → StopsInNotice charset room tokens which a c place stop
-      body_cut cut = record { at = in_body which tokens n; stops = after_length _ _ l (λ e. long) (omega arith) (cut_into cut refl refl); in_body = inr (n, refl) }
+      body_cut cut = record {
+        at = in_body which tokens n;
+        stops = after_length _ _ l (λ e. long) (omega arith) (cut_into cut refl refl);
+        in_body = inr (n, refl);
+      }
 
       module _ (t : TakesInto b c before after n) where
         -- the inner lengths pass the body
-        pub body_refused : holds_notice t.element ≡ false → StopsInNotice charset room tokens which a c place (record { fault = BadNotice; place = Payload middle })
+        pub body_refused : holds_notice t.element ≡ false
+            → StopsInNotice charset room tokens which a c place (record { fault = BadNotice; place = Payload middle })
         body_refused passes =
             let first : part_fault room tokens (TokenBody which n) t.element ≡ Some BadNotice = rw (notice, passes) refl in
-            record { at = in_body which tokens n; stops = after_length _ _ l (λ e. long) (omega arith) (refused_into t (omega arith) refl first); in_body = inr (n, refl) }
+            record {
+              at = in_body which tokens n;
+              stops = after_length _ _ l (λ e. long) (omega arith) (refused_into t (omega arith) refl first);
+              in_body = inr (n, refl);
+            }
 
         -- the body was read
-        pub body_taken : {place' : ℕ} → place' ≡ middle + n → holds_notice t.element ≡ true → ReadsNotice charset room tokens which a c place place' t.element
-        body_taken at holds = record { reads = body_reads _ _ l (λ e. long) _ t.whole t.takes (λ e. holds); place_is = omega (arith, length-append element t.element) }
+        pub body_taken : {place' : ℕ} → place' ≡ middle + n → holds_notice t.element ≡ true
+            → ReadsNotice charset room tokens which a c place place' t.element
+        body_taken at holds = record {
+          reads = body_reads _ _ l (λ e. long) _ t.whole t.takes (λ e. holds);
+          place_is = omega (
+            arith,
+            length-append element t.element,
+          );
+        }

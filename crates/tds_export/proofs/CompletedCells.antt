@@ -1,5 +1,18 @@
 -- What completes a cell and a row is read as their rest.
-use Rattle.tds_export.proofs.{Words.{AreBytes, Binary, BitN, Bitmap, Bool, Cell, CellPart, ChunkData, ChunkLength, Column, Conversion, DataCell, Date, DateTime2, DateTimeN, DateTimeOffset, Decimal, Guid, InCell, Inside-Spelt, IntN, IsNext, Kind, List, MoneyN, Narrow, None, Null, Ok, Option, Result, RowPart, ScalarBytes, ScalarCell, ScalarLength, ScalarValue, Shape, ShortData, ShortLength, Some, Spelt, Spelt-none, Time, Total, Utf8Text, ValueFault, WholeCell, WholeRow, Wide, Windows1252, [], add-one, all_clear, and_parts, ap, append_assoc, arith, before, begins_open, begun, bit, bitmap_length, cell, cell_add, cell_in_row, cell_start, checked, choose, choose_false, div-eq_of_lt, eq-eqb, eq_false, eq_true, false, fixed_some, is_begun, is_decimal_length, is_fit, is_length_allowed, is_scalar, is_total, is_valid, le_true, length, length-append, length-replicate, marked, nat_le, nat_tests, next_cell, one-le-pow, or_cases, read_of, refl, rest_of_cell, rest_of_cells, rest_of_chunks, rest_of_row, row, row_add, shape, slice_index, subst, suc, sym, terminator, test_le, test_lt, time_length, true, unit, unless_none, value_of, value_part, with_cell, within_total, zero, zero_chunks, zeros, ℕ, ⊤, ◌%◌, ◌&&◌, ◌++◌, ◌+◌, ◌<◌, ◌∙◌, ◌∷◌, ◌≡◌, ◌≤◌}, Cuts.{spelt_both, spelt_one}, SomeBytes.{exactly, little_below, one_of_four, one_of_two}}
+use Rattle.tds_export.proofs.Words.{AreBytes, Binary, BitN, Bitmap, Bool, Cell, CellPart, ChunkData, ChunkLength, Column, Conversion, DataCell, Date}
+use Rattle.tds_export.proofs.Words.{DateTime2, DateTimeN, DateTimeOffset, Decimal, Guid, InCell, Inside-Spelt, IntN, IsNext, Kind, List, MoneyN}
+use Rattle.tds_export.proofs.Words.{Narrow, None, Null, Ok, Option, Result, RowPart, ScalarBytes, ScalarCell, ScalarLength, ScalarValue, Shape}
+use Rattle.tds_export.proofs.Words.{ShortData, ShortLength, Some, Spelt, Spelt-none, Time, Total, Utf8Text, ValueFault, WholeCell, WholeRow, Wide}
+use Rattle.tds_export.proofs.Words.{Windows1252, [], add-one, all_clear, and_parts, ap, append_assoc, arith, before, begins_open, begun, bit}
+use Rattle.tds_export.proofs.Words.{bitmap_length, cell, cell_add, cell_in_row, cell_start, checked, choose, choose_false, div-eq_of_lt, eq-eqb}
+use Rattle.tds_export.proofs.Words.{eq_false, eq_true, false, fixed_some, is_begun, is_decimal_length, is_fit, is_length_allowed, is_scalar, is_total}
+use Rattle.tds_export.proofs.Words.{is_valid, le_true, length, length-append, length-replicate, marked, nat_le, nat_tests, next_cell, one-le-pow}
+use Rattle.tds_export.proofs.Words.{or_cases, read_of, refl, rest_of_cell, rest_of_cells, rest_of_chunks, rest_of_row, row, row_add, shape}
+use Rattle.tds_export.proofs.Words.{slice_index, subst, suc, sym, terminator, test_le, test_lt, time_length, true, unit, unless_none, value_of}
+use Rattle.tds_export.proofs.Words.{value_part, with_cell, within_total, zero, zero_chunks, zeros, ℕ, ⊤, ◌%◌, ◌&&◌, ◌++◌, ◌+◌, ◌<◌, ◌∙◌, ◌∷◌, ◌≡◌}
+use Rattle.tds_export.proofs.Words.{◌≤◌}
+use Rattle.tds_export.proofs.Cuts.{spelt_both, spelt_one}
+use Rattle.tds_export.proofs.SomeBytes.{exactly, little_below, one_of_four, one_of_two}
 
 -- the conversions that Windows-1252 names: none judges data before its end
 abbrev pub is_plain : Conversion → Bool
@@ -50,19 +63,32 @@ zero_decimal d p s n valid allowed =
     (λ f. cc)
 
 zeros_are_a_value : (kind : Kind) (n : ℕ) → is_valid kind ≡ true → is_scalar kind ≡ true → is_length_allowed kind n ≡ true → ZerosAre kind n
-zeros_are_a_value (IntN d) n v s h = exactly (ZerosAre (IntN d)) n d h (one_of_four (λ d. ZerosAre (IntN d) d) 1 2 4 8 d v (_, refl) (_, refl) (_, refl) (_, refl))
+zeros_are_a_value (IntN d) n v s h = exactly (ZerosAre (IntN d)) n d h (one_of_four (λ d. ZerosAre (IntN d) d) 1 2 4 8 d v (_, refl) (_, refl) (
+  _,
+  refl,
+) (_, refl))
 zeros_are_a_value BitN n v s h = exactly (ZerosAre BitN) n 1 h (_, refl)
 zeros_are_a_value (MoneyN d) n v s h = exactly (ZerosAre (MoneyN d)) n d h (one_of_two (λ d. ZerosAre (MoneyN d) d) 4 8 d v (_, refl) (_, refl))
-zeros_are_a_value (DateTimeN d) n v s h = exactly (ZerosAre (DateTimeN d)) n d h (one_of_two (λ d. ZerosAre (DateTimeN d) d) 4 8 d v (_, refl) (_, refl))
+zeros_are_a_value (DateTimeN d) n v s h =
+    exactly (ZerosAre (DateTimeN d)) n d h (one_of_two (λ d. ZerosAre (DateTimeN d) d) 4 8 d v (_, refl) (_, refl))
 zeros_are_a_value Guid n v s h = exactly (ZerosAre Guid) n 16 h (_, refl)
 zeros_are_a_value (Decimal d p sc) n v s h = zero_decimal d p _ n v h
 zeros_are_a_value Date n v s h = exactly (ZerosAre Date) n 3 h (_, refl)
 zeros_are_a_value (Time sc) n v s h =
-    exactly (ZerosAre (Time sc)) n _ h (below_eight (λ sc. ZerosAre (Time sc) (time_length sc)) (_, refl) (_, refl) (_, refl) (_, refl) (_, refl) (_, refl) (_, refl) (_, refl) _ (le_true _ 7 v))
+    exactly (ZerosAre (Time sc)) n _ h (below_eight (λ sc. ZerosAre (Time sc) (time_length sc)) (_, refl) (_, refl) (_, refl) (_, refl) (_, refl) (
+      _,
+      refl,
+    ) (_, refl) (_, refl) _ (le_true _ 7 v))
 zeros_are_a_value (DateTime2 sc) n v s h =
-    exactly (ZerosAre (DateTime2 sc)) n _ h (below_eight (λ sc. ZerosAre (DateTime2 sc) (time_length sc + 3)) (_, refl) (_, refl) (_, refl) (_, refl) (_, refl) (_, refl) (_, refl) (_, refl) _ (le_true _ 7 v))
+    exactly (ZerosAre (DateTime2 sc)) n _ h (below_eight (λ sc. ZerosAre (DateTime2 sc) (time_length sc + 3)) (_, refl) (_, refl) (_, refl) (
+      _,
+      refl,
+    ) (_, refl) (_, refl) (_, refl) (_, refl) _ (le_true _ 7 v))
 zeros_are_a_value (DateTimeOffset sc) n v s h =
-    exactly (ZerosAre (DateTimeOffset sc)) n _ h (below_eight (λ sc. ZerosAre (DateTimeOffset sc) (time_length sc + 5)) (_, refl) (_, refl) (_, refl) (_, refl) (_, refl) (_, refl) (_, refl) (_, refl) _ (le_true _ 7 v))
+    exactly (ZerosAre (DateTimeOffset sc)) n _ h (below_eight (λ sc. ZerosAre (DateTimeOffset sc) (time_length sc + 5)) (_, refl) (_, refl) (
+      _,
+      refl,
+    ) (_, refl) (_, refl) (_, refl) (_, refl) (_, refl) _ (le_true _ 7 v))
 zeros_are_a_value (Binary r) n v s h = cc
 zeros_are_a_value (Narrow r) n v s h = cc
 zeros_are_a_value (Wide r) n v s h = cc
@@ -81,7 +107,8 @@ made_even c n = grind arith
 
 module _ (column : ℕ) where
   -- the rest of a short value
-  short_ends : (c : Conversion) (left : ℕ) (content : List ℕ) → CellReached (ShortData c left content) → (x : Cell) × Spelt (cell column) (ShortData c left content) (zeros (left + 1)) (WholeCell x)
+  short_ends : (c : Conversion) (left : ℕ) (content : List ℕ) → CellReached (ShortData c left content) → (x : Cell)
+      × Spelt (cell column) (ShortData c left content) (zeros (left + 1)) (WholeCell x)
   short_ends c zero content (plain, even) =
       let fit = plain_fit c _ plain (ap (λ v. v % unit c) (length-append content (0 ∷ [])) ∙ even) in
       (DataCell c (content ++ 0 ∷ []), spelt_one (omega arith) refl (rw (plain_begun c (content ++ 0 ∷ []) plain, fit) refl) refl)
@@ -93,7 +120,8 @@ module _ (column : ℕ) where
       (more.0, rw (← zeros_next left) (spelt_both one more.1))
 
   -- the rest of a chunk
-  chunk_ends : (c : Conversion) (total : Option ℕ) (left : ℕ) (content : List ℕ) → is_plain c ≡ true → Spelt (cell column) (ChunkData c total left content) (zeros (left + 1)) (ChunkLength c total (content ++ zeros (left + 1)))
+  chunk_ends : (c : Conversion) (total : Option ℕ) (left : ℕ) (content : List ℕ) → is_plain c ≡ true
+      → Spelt (cell column) (ChunkData c total left content) (zeros (left + 1)) (ChunkLength c total (content ++ zeros (left + 1)))
   chunk_ends c total zero content plain = spelt_one (omega arith) refl (rw (plain_begun c (content ++ 0 ∷ []) plain) refl) refl
   chunk_ends c total (suc left) content plain =
       let to : cell_add (ChunkData c total (suc left) content) (0 ∷ []) ≡ ChunkData c total left (content ++ 0 ∷ []) = grind (arith, nat_tests) in
@@ -101,7 +129,8 @@ module _ (column : ℕ) where
       rw (← zeros_next left, ← append_assoc content (0 ∷ []) (zeros (left + 1))) (spelt_both one (chunk_ends c total left (content ++ 0 ∷ []) plain))
 
   -- so many chunks of one zero byte, and the terminator
-  chunks_end : (c : Conversion) (total : Option ℕ) (n : ℕ) (content : List ℕ) → is_plain c ≡ true → is_total total (length content + n) ≡ true → (length content + n) % unit c ≡ 0 → (x : Cell) × Spelt (cell column) (ChunkLength c total content) (zero_chunks n ++ terminator) (WholeCell x)
+  chunks_end : (c : Conversion) (total : Option ℕ) (n : ℕ) (content : List ℕ) → is_plain c ≡ true → is_total total (length content + n) ≡ true
+      → (length content + n) % unit c ≡ 0 → (x : Cell) × Spelt (cell column) (ChunkLength c total content) (zero_chunks n ++ terminator) (WholeCell x)
   chunks_end c total zero content plain all even =
       let same : length content + 0 ≡ length content = omega arith in
       let sum = ap (λ v. v % unit c) (sym same) ∙ even in
@@ -109,12 +138,14 @@ module _ (column : ℕ) where
   chunks_end c total (suc n) content plain all even =
       let same : length content + suc n ≡ length (content ++ 0 ∷ []) + n = omega (arith, length-append content (0 ∷ [])) in
       let fits = within total _ (length content + 1) all (omega arith) in
-      let one : Spelt (cell column) (ChunkLength c total content) (1 ∷ 0 ∷ 0 ∷ 0 ∷ []) (ChunkData c total 0 content) = spelt_one (omega arith) refl (rw fits refl) refl in
+      let one : Spelt (cell column) (ChunkLength c total content) (1 ∷ 0 ∷ 0 ∷ 0 ∷ []) (ChunkData c total 0 content) =
+      spelt_one (omega arith) refl (rw fits refl) refl in
       let more = chunks_end c total n (content ++ 0 ∷ []) plain (rw same at all) (rw same at even) in
       (more.0, spelt_both (spelt_both one (chunk_ends c _ 0 _ plain)) more.1)
 
   -- the rest of the chunks
-  length_ends : (c : Conversion) (total : Option ℕ) (content : List ℕ) → is_plain c ≡ true → HoldsTotal c total (length content) → (x : Cell) × Spelt (cell column) (ChunkLength c total content) (rest_of_chunks c total (length content)) (WholeCell x)
+  length_ends : (c : Conversion) (total : Option ℕ) (content : List ℕ) → is_plain c ≡ true → HoldsTotal c total (length content) → (x : Cell)
+      × Spelt (cell column) (ChunkLength c total content) (rest_of_chunks c total (length content)) (WholeCell x)
   length_ends c None content plain h = chunks_end c _ _ _ plain refl (made_even c _)
   length_ends c (Some t) content plain (le, even) = grind (arith, chunks_end, eq-eqb)
 
@@ -191,19 +222,24 @@ pub row_keeps : (p : RowPart) (e : List ℕ) → AreBytes e → RowReached p →
 row_keeps p e are h3 n = grind (arith, cell_keeps, marked_valid, next_reached)
 
 -- the cell that is read, and those to come
-part_ends : (before : List Cell) (part : CellPart) (ks : List (Column × Bool)) → CellReached part → ((b : List Cell) → (cells : List Cell) × Spelt (row Windows1252) (next_cell Windows1252 b ks) (rest_of_cells ks) (WholeRow cells)) → (cells : List Cell) × Spelt (row Windows1252) (with_cell Windows1252 before ks part) (rest_of_cell part ++ rest_of_cells ks) (WholeRow cells)
+part_ends : (before : List Cell) (part : CellPart) (ks : List (Column × Bool)) → CellReached part
+    → ((b : List Cell) → (cells : List Cell) × Spelt (row Windows1252) (next_cell Windows1252 b ks) (rest_of_cells ks) (WholeRow cells))
+    → (cells : List Cell) × Spelt (row Windows1252) (with_cell Windows1252 before ks part) (rest_of_cell part ++ rest_of_cells ks) (WholeRow cells)
 part_ends before part ks h next =
     let one = cell_ends _ _ h in
     let more = next (before ++ one.0 ∷ []) in
     (more.0, spelt_both (Inside-Spelt _ _ _ (cell_in_row Windows1252 _ _) _ _ _ one.1) more.1)
 
 -- the cells to come
-cells_end : (before : List Cell) (ks : List (Column × Bool)) → AreMarkedValid ks → (cells : List Cell) × Spelt (row Windows1252) (next_cell Windows1252 before ks) (rest_of_cells ks) (WholeRow cells)
+cells_end : (before : List Cell) (ks : List (Column × Bool)) → AreMarkedValid ks → (cells : List Cell)
+    × Spelt (row Windows1252) (next_cell Windows1252 before ks) (rest_of_cells ks) (WholeRow cells)
 cells_end before [] h = (before, Spelt-none _ _)
 cells_end before ((k, true) ∷ ks) (v, h) = cells_end (before ++ Null ∷ []) ks h
-cells_end before ((k, false) ∷ ks) (v, h) = rw (← begins_open Windows1252 before ks k.kind _) (part_ends before _ ks (start_reached k.kind v) (λ b. cells_end b ks h))
+cells_end before ((k, false) ∷ ks) (v, h) =
+    rw (← begins_open Windows1252 before ks k.kind _) (part_ends before _ ks (start_reached k.kind v) (λ b. cells_end b ks h))
 
-stays_open : (cells : List Cell) (ks : List (Column × Bool)) (part : CellPart) → IsOpenCell part → with_cell Windows1252 cells ks part ≡ InCell cells part ks
+stays_open : (cells : List Cell) (ks : List (Column × Bool)) (part : CellPart) → IsOpenCell part
+    → with_cell Windows1252 cells ks part ≡ InCell cells part ks
 stays_open cells ks part h = grind arith
 
 zero_at : (n i : ℕ) → slice_index (zeros n) i ≡ 0
@@ -224,7 +260,8 @@ pub row_ends : (p : RowPart) → RowReached p → (cells : List Cell) × Spelt (
 row_ends (Bitmap columns) (some, h) =
     let n = bitmap_length (length columns) in
     let l = length-replicate n 0 in
-    let one : Spelt (row Windows1252) (Bitmap columns) (zeros n) (next_cell Windows1252 [] (marked columns (bit (zeros n)) 0)) = spelt_one (omega (arith, l)) l refl refl in
+    let one : Spelt (row Windows1252) (Bitmap columns) (zeros n) (next_cell Windows1252 [] (marked columns (bit (zeros n)) 0)) =
+    spelt_one (omega (arith, l)) l refl refl in
     let clear = marked_clear _ _ 0 (clear_at n) in
     let more = cells_end _ _ (subst AreMarkedValid clear (marked_valid _ _ 0 h)) in
     (more.0, spelt_both (rw clear at one) more.1)

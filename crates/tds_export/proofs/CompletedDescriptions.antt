@@ -1,5 +1,16 @@
 -- What completes a description is read as its rest.
-use Rattle.tds_export.proofs.{Words.{AreBytes, BadTypeInfo, BeforeCount, Column, ColumnHead, ColumnInfo, ColumnPlace, DescriptionPart, InColumn, Int4, IsNext, Kind, List, NameCount, NameUnits, NoDescription, None, Some, SpellsColumn, SpellsColumns, Spelt, Spelt-none, WholeDescription, [], add_described, ap, append_assoc, arith, bare_type, choose, choose_false, choose_true, columns_are_read, description, eq_false, eq_true, fits_in, if◌then◌else◌, int_column, int_columns, is_some, is_some_value, is_valid, known_type, least_info, length, length-append, length-replicate, more, named_kind, nat_tests, ne_eqb, not_long, not_zero, refl, replicate, rest_length, rest_of_description, room_for, suc, true, valid_of, with_column, with_kind, zero, zeros, ℕ, ◌*◌, ◌++◌, ◌+◌, ◌-◌, ◌<◌, ◌==◌, ◌∙◌, ◌∷◌, ◌≡◌, ◌≤◌, ⊤}, CompletedCells.AreValid, LeastTypes.least_type, ReturnLaws.some_kind, Cuts.{spelt_both, spelt_one}}
+use Rattle.tds_export.proofs.Words.{AreBytes, BadTypeInfo, BeforeCount, Column, ColumnHead, ColumnInfo, ColumnPlace, DescriptionPart, InColumn, Int4}
+use Rattle.tds_export.proofs.Words.{IsNext, Kind, List, NameCount, NameUnits, NoDescription, None, Some, SpellsColumn, SpellsColumns, Spelt}
+use Rattle.tds_export.proofs.Words.{Spelt-none, WholeDescription, [], add_described, ap, append_assoc, arith, bare_type, choose, choose_false}
+use Rattle.tds_export.proofs.Words.{choose_true, columns_are_read, description, eq_false, eq_true, fits_in, if◌then◌else◌, int_column, int_columns}
+use Rattle.tds_export.proofs.Words.{is_some, is_some_value, is_valid, known_type, least_info, length, length-append, length-replicate, more}
+use Rattle.tds_export.proofs.Words.{named_kind, nat_tests, ne_eqb, not_long, not_zero, refl, replicate, rest_length, rest_of_description, room_for}
+use Rattle.tds_export.proofs.Words.{suc, true, valid_of, with_column, with_kind, zero, zeros, ℕ, ◌*◌, ◌++◌, ◌+◌, ◌-◌, ◌<◌, ◌==◌, ◌∙◌, ◌∷◌, ◌≡◌, ◌≤◌}
+use Rattle.tds_export.proofs.Words.{⊤}
+use Rattle.tds_export.proofs.CompletedCells.{AreValid}
+use Rattle.tds_export.proofs.LeastTypes.{least_type}
+use Rattle.tds_export.proofs.ReturnLaws.{some_kind}
+use Rattle.tds_export.proofs.Cuts.{spelt_both, spelt_one}
 
 -- what is known of the place in a column after these bytes, with so many columns to follow: the room is enough for what must still come
 abbrev pub PlaceReached : ℕ → List ℕ → ℕ → ColumnPlace → Type 0
@@ -12,7 +23,8 @@ PlaceReached room bytes left (NameUnits kind n) = (is_valid kind ≡ true) × (0
 abbrev pub DescribedReached : ℕ → DescriptionPart → Type 0
 DescribedReached room BeforeCount = ⊤
 DescribedReached room NoDescription = ⊤
-DescribedReached room (InColumn bytes count cols place) = (length cols < count) × AreValid cols × PlaceReached room bytes (count - (length cols + 1)) place
+DescribedReached room (InColumn bytes count cols place) = (length cols < count) × AreValid cols
+    × PlaceReached room bytes (count - (length cols + 1)) place
 DescribedReached room (WholeDescription bytes cols) = (0 < length cols) × AreValid cols
 
 -- a part of a description that isn't all of it
@@ -26,12 +38,29 @@ AreValid-append [] c h v = (v, tt)
 AreValid-append (d ∷ cs) c h v = (h.0, AreValid-append cs c h.1 v)
 
 module _ (room : ℕ) where
-  column_reached : (bytes : List ℕ) (count : ℕ) (cols : List Column) (c : Column) → length cols < count → AreValid cols → is_valid c.kind ≡ true → length bytes + 8 * (count - (length cols + 1)) ≤ room → DescribedReached room (with_column bytes count cols c)
+  column_reached : (bytes : List ℕ) (count : ℕ) (cols : List Column) (c : Column) → length cols < count → AreValid cols → is_valid c.kind ≡ true
+      → length bytes + 8 * (count - (length cols + 1)) ≤ room → DescribedReached room (with_column bytes count cols c)
   column_reached bytes count cols c fewer valid v fits = grind (arith, AreValid-append, choose, eq_false, length-append)
 
   -- Each element keeps what is known.
-  pub described_keeps : (d : DescriptionPart) (e : List ℕ) → AreBytes e → DescribedReached room d → IsNext (description room) d e → DescribedReached room (add_described d e)
-  described_keeps d e are h n = grind (arith, choose, column_reached, eq_false, known_type, bare_type, eq_true, is_some_value, some_kind, valid_of, length-append, not_zero, room_for, not_long)
+  pub described_keeps : (d : DescriptionPart) (e : List ℕ) → AreBytes e → DescribedReached room d → IsNext (description room) d e
+      → DescribedReached room (add_described d e)
+  described_keeps d e are h n = grind (
+    arith,
+    choose,
+    column_reached,
+    eq_false,
+    known_type,
+    bare_type,
+    eq_true,
+    is_some_value,
+    some_kind,
+    valid_of,
+    length-append,
+    not_zero,
+    room_for,
+    not_long,
+  )
 
 -- the column that int_column describes
 abbrev int : Column
@@ -55,30 +84,40 @@ Ends room d rest = (bytes : List ℕ) × (cols : List Column) × Spelt (descript
 
 module _ (room : ℕ) where
   -- the columns that aren't begun
-  ints_end : (bytes : List ℕ) (count : ℕ) (cols : List Column) (n : ℕ) → count ≡ length cols + (1 + n) → length bytes + (8 + 8 * n) ≤ room → Ends room (InColumn bytes count cols ColumnHead) (int_column ++ int_columns n)
+  ints_end : (bytes : List ℕ) (count : ℕ) (cols : List Column) (n : ℕ) → count ≡ length cols + (1 + n) → length bytes + (8 + 8 * n) ≤ room
+      → Ends room (InColumn bytes count cols ColumnHead) (int_column ++ int_columns n)
   ints_end bytes count cols n e fits =
       let l : length (int_columns (suc n)) ≡ 8 * suc n = length-int_columns _ in
-      let m = length-replicate n int in
-      (bytes ++ int_columns (suc n), cols ++ int ∷ replicate n int, columns_are_read _ _ _ _ _ _ _ (omega (arith, m)) (omega arith) (ints_are_spelt (suc n)))
+      let m = length-replicate n int in (
+        bytes ++ int_columns (suc n),
+        cols ++ int ∷ replicate n int,
+        columns_are_read _ _ _ _ _ _ _ (omega (arith, m)) (omega arith) (ints_are_spelt (suc n)),
+      )
 
   -- after a column
-  column_ends : (bytes : List ℕ) (count : ℕ) (cols : List Column) (c : Column) (n : ℕ) → count ≡ length cols + (1 + n) → length bytes + 8 * n ≤ room → Ends room (with_column bytes count cols c) (int_columns n)
+  column_ends : (bytes : List ℕ) (count : ℕ) (cols : List Column) (c : Column) (n : ℕ) → count ≡ length cols + (1 + n) → length bytes + 8 * n ≤ room
+      → Ends room (with_column bytes count cols c) (int_columns n)
   column_ends bytes count cols c zero e fits =
-      let to = choose_true (length cols + 1 == count) (WholeDescription bytes (cols ++ c ∷ [])) (InColumn bytes count (cols ++ c ∷ []) ColumnHead) (grind (arith, nat_tests)) in
+      let to = choose_true (length cols + 1 == count) (WholeDescription bytes (cols ++ c ∷ [])) (InColumn bytes count (cols ++ c ∷ []) ColumnHead)
+      (grind (arith, nat_tests)) in
       (bytes, cols ++ c ∷ [], rw to (Spelt-none _ _))
   column_ends bytes count cols c (suc n) e fits =
-      let to : with_column bytes count cols c ≡ InColumn bytes count (cols ++ c ∷ []) ColumnHead = choose_false _ _ _ (ne_eqb (length cols + 1) count (λ q. omega arith)) in
+      let to : with_column bytes count cols c ≡ InColumn bytes count (cols ++ c ∷ []) ColumnHead =
+      choose_false _ _ _ (ne_eqb (length cols + 1) count (λ q. omega arith)) in
       rw to (ints_end _ _ _ n (omega (arith, length-append cols (c ∷ []))) (omega arith))
 
   -- an element, and what follows it
   then_ends : {d to : DescriptionPart} {e rest : List ℕ} → Spelt (description room) d e to → Ends room to rest → Ends room d (e ++ rest)
   then_ends one (bytes, cols, more) = (bytes, cols, spelt_both one more)
 
-  count_ends : (bytes : List ℕ) (count : ℕ) (cols : List Column) (kind : Kind) (n : ℕ) → n ≡ count - (length cols + 1) → length cols < count → length bytes + (1 + 8 * n) ≤ room → Ends room (InColumn bytes count cols (NameCount kind)) (0 ∷ int_columns n)
+  count_ends : (bytes : List ℕ) (count : ℕ) (cols : List Column) (kind : Kind) (n : ℕ) → n ≡ count - (length cols + 1) → length cols < count
+      → length bytes + (1 + 8 * n) ≤ room → Ends room (InColumn bytes count cols (NameCount kind)) (0 ∷ int_columns n)
   count_ends bytes count cols kind n is fewer fits =
-      then_ends {e = 0 ∷ []} (spelt_one (omega arith) refl (fits_in _ _ _ (omega arith)) refl) (column_ends _ _ _ _ n (omega arith) (omega (arith, length-append bytes (0 ∷ []))))
+      then_ends {e = 0 ∷ []} (spelt_one (omega arith) refl (fits_in _ _ _ (omega arith)) refl)
+      (column_ends _ _ _ _ n (omega arith) (omega (arith, length-append bytes (0 ∷ []))))
 
-  info_ends : (bytes : List ℕ) (count : ℕ) (cols : List Column) (byte : ℕ) (n : ℕ) → n ≡ count - (length cols + 1) → length cols < count → PlaceReached room bytes n (ColumnInfo byte) → Ends room (InColumn bytes count cols (ColumnInfo byte)) (least_info byte ++ (0 ∷ int_columns n))
+  info_ends : (bytes : List ℕ) (count : ℕ) (cols : List Column) (byte : ℕ) (n : ℕ) → n ≡ count - (length cols + 1) → length cols < count
+      → PlaceReached room bytes n (ColumnInfo byte) → Ends room (InColumn bytes count cols (ColumnInfo byte)) (least_info byte ++ (0 ∷ int_columns n))
   info_ends bytes count cols byte n is fewer (m, known, some, fits) =
       let least = least_type _ m known in
       let free = ap (λ o. (if is_some o then None else Some (BadTypeInfo (length cols)))) least.described in
@@ -89,7 +128,8 @@ module _ (room : ℕ) where
   -- A part of a description that isn't all of it, followed by what completes it, is a whole one.
   pub described_ends : 10 ≤ room → (d : DescriptionPart) → IsOpenDescription d → DescribedReached room d → Ends room d (rest_of_description d)
   described_ends ten BeforeCount o h =
-      let one : Spelt (description room) BeforeCount (1 ∷ 0 ∷ []) (InColumn (1 ∷ 0 ∷ []) 1 [] ColumnHead) = spelt_one (omega arith) refl (fits_in _ 2 8 (omega arith)) refl in
+      let one : Spelt (description room) BeforeCount (1 ∷ 0 ∷ []) (InColumn (1 ∷ 0 ∷ []) 1 [] ColumnHead) =
+      spelt_one (omega arith) refl (fits_in _ 2 8 (omega arith)) refl in
       then_ends one (ints_end _ 1 _ 0 refl (omega arith))
   described_ends ten (InColumn bytes count cols ColumnHead) o (fewer, valid, fits) = ints_end _ _ _ _ (omega arith) fits
   described_ends ten (InColumn bytes count cols (ColumnInfo byte)) o (fewer, valid, fits) = rw append_assoc (info_ends _ _ _ _ _ refl fewer fits)

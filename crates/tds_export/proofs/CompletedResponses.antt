@@ -1,5 +1,24 @@
 -- What completes a response is read as its rest, and is bytes.
-use Rattle.tds_export.proofs.{Words.{ADone, APassed, AreBytes, Between, Bool, CanBeCompleted, CellPart, Column, Describing, DescriptionPart, Done, Fields, InReturn, InReturnCell, InRow, IsNext, Kind, Lead, List, Metadata, None, Open, Option, Part, PassedOver, ReturnHead, ReturnInfo, ReturnName, ReturnNameCount, ReturnOrdinal, ReturnPart, Returned, Row, RowPart, Some, Spelt, Spelt-none, Token, TokenBody, TokenLength, WholeReturn, WholeRow, Windows1252, [], after_first, after_tokens, arith, begun, bodied, cell_start, choose, common_steps, completion, described_after, done, done_byte, eq_false, false, fields_length, fixed, holds_notice, int_column, int_columns, is_notice, length, length-replicate, nat_tests, part_add, passed, refl, response, response_start, rest_of_cell, rest_of_cells, rest_of_return, rest_of_return_head, rest_of_token, rest_of_value, start_of_row, suc, test_le, test_lt, true, with_described, with_return, with_row, with_token, zero, zero_chunks, zeros, ℕ, ⊤, ◌++◌, ◌<◌, ◌∙◌, ◌∷◌, ◌≡◌, ◌≤◌}, SomeBytes.{AreBytes-append, AreBytes-replicate, bytes_induct}, CompletedDescriptions.{DescribedReached, IsOpenDescription, described_ends, described_keeps}, CompletedReturns.{ReturnReached, return_ends, return_keeps}, CompletedCells.{RowReached, AreValid, marked_valid, next_reached, row_ends, row_keeps}, LeastTypes.least_type, ResponseMeaning.response_is_spelt, Cuts.{spelt_both, spelt_one}, TokenLaws.{bare, bare_body, bare_fixed, is_bare, is_final-snoc}, ResponseLaws.{body_free, body_is_read, described_after-append, length_free, some_fields, description_agrees, row_agrees, return_agrees, part_at}, ReturnLaws.spelt_inside}
+use Rattle.tds_export.proofs.Words.{ADone, APassed, AreBytes, Between, Bool, CanBeCompleted, CellPart, Column, Describing, DescriptionPart, Done}
+use Rattle.tds_export.proofs.Words.{Fields, InReturn, InReturnCell, InRow, IsNext, Kind, Lead, List, Metadata, None, Open, Option, Part, PassedOver}
+use Rattle.tds_export.proofs.Words.{ReturnHead, ReturnInfo, ReturnName, ReturnNameCount, ReturnOrdinal, ReturnPart, Returned, Row, RowPart, Some}
+use Rattle.tds_export.proofs.Words.{Spelt, Spelt-none, Token, TokenBody, TokenLength, WholeReturn, WholeRow, Windows1252, [], after_first}
+use Rattle.tds_export.proofs.Words.{after_tokens, arith, begun, bodied, cell_start, choose, common_steps, completion, described_after, done}
+use Rattle.tds_export.proofs.Words.{done_byte, eq_false, false, fields_length, fixed, holds_notice, int_column, int_columns, is_notice, length}
+use Rattle.tds_export.proofs.Words.{length-replicate, nat_tests, part_add, passed, refl, response, response_start, rest_of_cell, rest_of_cells}
+use Rattle.tds_export.proofs.Words.{rest_of_return, rest_of_return_head, rest_of_token, rest_of_value, start_of_row, suc, test_le, test_lt, true}
+use Rattle.tds_export.proofs.Words.{with_described, with_return, with_row, with_token, zero, zero_chunks, zeros, ℕ, ⊤, ◌++◌, ◌<◌, ◌∙◌, ◌∷◌, ◌≡◌, ◌≤◌}
+use Rattle.tds_export.proofs.SomeBytes.{AreBytes-append, AreBytes-replicate, bytes_induct}
+use Rattle.tds_export.proofs.CompletedDescriptions.{DescribedReached, IsOpenDescription, described_ends, described_keeps}
+use Rattle.tds_export.proofs.CompletedReturns.{ReturnReached, return_ends, return_keeps}
+use Rattle.tds_export.proofs.CompletedCells.{RowReached, AreValid, marked_valid, next_reached, row_ends, row_keeps}
+use Rattle.tds_export.proofs.LeastTypes.{least_type}
+use Rattle.tds_export.proofs.ResponseMeaning.{response_is_spelt}
+use Rattle.tds_export.proofs.Cuts.{spelt_both, spelt_one}
+use Rattle.tds_export.proofs.TokenLaws.{bare, bare_body, bare_fixed, is_bare, is_final-snoc}
+use Rattle.tds_export.proofs.ResponseLaws.{body_free, body_is_read, described_after-append, length_free, some_fields, description_agrees, row_agrees}
+use Rattle.tds_export.proofs.ResponseLaws.{return_agrees, part_at}
+use Rattle.tds_export.proofs.ReturnLaws.{spelt_inside}
 
 -- a row, and a return value, that isn't whole
 abbrev pub IsOpenRow : RowPart → Type 0
@@ -56,7 +75,17 @@ AreBytes-return (InReturnCell name kind part) h = AreBytes-cell part
 AreBytes-return (WholeReturn r) h = tt
 
 AreBytes-token : (room : ℕ) (at : Open) → OpenReached room at → AreBytes (rest_of_token at)
-AreBytes-token room at h = grind (arith, least_type, AreBytes-int, AreBytes-ints, AreBytes-return, AreBytes-append, AreBytes-cell, AreBytes-cells, AreBytes-zeros)
+AreBytes-token room at h = grind (
+  arith,
+  least_type,
+  AreBytes-int,
+  AreBytes-ints,
+  AreBytes-return,
+  AreBytes-append,
+  AreBytes-cell,
+  AreBytes-cells,
+  AreBytes-zeros,
+)
 
 -- What completes a part that bytes led to are bytes.
 AreBytes-completion : (room : ℕ) (p : Part) → OpenReached room p.at → AreBytes (completion p)
@@ -77,29 +106,38 @@ zeros_hold n h = grind (arith, common_steps, zeros, test_le, test_lt)
 
 module _ (room : ℕ) where
   -- a token that describes nothing
-  token_reached : (tokens : List Token) (t : Token) → ((c : Option (List Column)) → described_after c (t ∷ []) ≡ c) → CurrentReached (described_after None tokens) → PartReached room (with_token tokens t)
+  token_reached : (tokens : List Token) (t : Token) → ((c : Option (List Column)) → described_after c (t ∷ []) ≡ c)
+      → CurrentReached (described_after None tokens) → PartReached room (with_token tokens t)
   token_reached tokens t same h = (rw (described_after-append None tokens (t ∷ []) ∙ same _) h, tt)
 
-  bare_reached : (tokens : List Token) (t : Token) → is_bare t ≡ true → CurrentReached (described_after None tokens) → PartReached room (with_token tokens t)
+  bare_reached : (tokens : List Token) (t : Token) → is_bare t ≡ true → CurrentReached (described_after None tokens)
+      → PartReached room (with_token tokens t)
   bare_reached tokens t is h = token_reached tokens t (bare t is).columns h
 
-  described_reached : (tokens : List Token) (d : DescriptionPart) → CurrentReached (described_after None tokens) → DescribedReached room d → PartReached room (with_described tokens d)
+  described_reached : (tokens : List Token) (d : DescriptionPart) → CurrentReached (described_after None tokens) → DescribedReached room d
+      → PartReached room (with_described tokens d)
   described_reached tokens d h r = grind (arith, described_after-append)
 
-  row_reached : (tokens : List Token) (part : RowPart) → CurrentReached (described_after None tokens) → RowReached part → PartReached room (with_row tokens part)
+  row_reached : (tokens : List Token) (part : RowPart) → CurrentReached (described_after None tokens) → RowReached part
+      → PartReached room (with_row tokens part)
   row_reached tokens part h r = grind (arith, token_reached)
 
-  return_reached : (tokens : List Token) (part : ReturnPart) → CurrentReached (described_after None tokens) → ReturnReached part → PartReached room (with_return tokens part)
+  return_reached : (tokens : List Token) (part : ReturnPart) → CurrentReached (described_after None tokens) → ReturnReached part
+      → PartReached room (with_return tokens part)
   return_reached tokens part h r = grind (arith, bare_reached)
 
-  row_starts : (tokens : List Token) (start : List Column → RowPart) → ((columns : List Column) → (0 < length columns) × AreValid columns → RowReached (start columns)) → (current : Option (List Column)) → described_after None tokens ≡ current → CurrentReached current → PartReached room (start_of_row tokens start current)
+  row_starts : (tokens : List Token) (start : List Column → RowPart)
+      → ((columns : List Column) → (0 < length columns) × AreValid columns → RowReached (start columns)) → (current : Option (List Column))
+      → described_after None tokens ≡ current → CurrentReached current → PartReached room (start_of_row tokens start current)
   row_starts tokens start begins current is h = grind (arith, row_reached)
 
-  lead_reached : (tokens : List Token) (begun : Option Lead) → CurrentReached (described_after None tokens) → PartReached room (after_first Windows1252 tokens begun)
+  lead_reached : (tokens : List Token) (begun : Option Lead) → CurrentReached (described_after None tokens)
+      → PartReached room (after_first Windows1252 tokens begun)
   lead_reached tokens begun h = grind (arith, marked_valid, next_reached, row_starts)
 
   -- Each element keeps what is known.
-  open_keeps : (tokens : List Token) (at : Open) (e : List ℕ) → AreBytes e → CurrentReached (described_after None tokens) → OpenReached room at → IsNext (response Windows1252 room) (part_at tokens at) e → PartReached room (part_add Windows1252 tokens at e)
+  open_keeps : (tokens : List Token) (at : Open) (e : List ℕ) → AreBytes e → CurrentReached (described_after None tokens) → OpenReached room at
+      → IsNext (response Windows1252 room) (part_at tokens at) e → PartReached room (part_add Windows1252 tokens at e)
   open_keeps tokens Between e are h o n = lead_reached tokens _ h
   open_keeps tokens (Describing d) e are h (begun, r) n = described_reached _ _ h (described_keeps _ d e are r (grind arith))
   open_keeps tokens (InRow part) e are h (begun, r) n = row_reached _ _ h (row_keeps _ e are r (grind arith))
@@ -137,10 +175,14 @@ module _ (room : ℕ) where
   token_ends ten tokens (InReturn part) (begun, r) =
       let all = return_ends _ r in
       (tokens ++ Returned all.0 ∷ [], rw (← return_opens tokens part begun) (spelt_inside (return_agrees Windows1252 _ _) all.1))
-  token_ends ten tokens (TokenLength (APassed passed)) o = (tokens ++ PassedOver passed [] ∷ [], body_is_read Windows1252 _ _ _ (zeros 2) _ refl refl refl refl)
+  token_ends ten tokens (TokenLength (APassed passed)) o =
+      (tokens ++ PassedOver passed [] ∷ [], body_is_read Windows1252 _ _ _ (zeros 2) _ refl refl refl refl)
   token_ends ten tokens (TokenLength b) o =
-      let free = length_free room 14 tokens b (14 ∷ 0 ∷ []) (λ e. omega arith) refl in
-      (tokens ++ bodied b (zeros 14) ∷ [], body_is_read Windows1252 room tokens b (14 ∷ 0 ∷ []) (zeros 14) refl refl free (body_free b (zeros 14) (λ e. zeros_hold 14 (omega arith))))
+      let free = length_free room 14 tokens b (14 ∷ 0 ∷ []) (λ e. omega arith) refl in (
+        tokens ++ bodied b (zeros 14) ∷ [],
+        body_is_read Windows1252 room tokens b (14 ∷ 0 ∷ []) (zeros 14) refl refl free
+            (body_free b (zeros 14) (λ e. zeros_hold 14 (omega arith))),
+      )
   token_ends ten tokens (TokenBody b n) (some, long) =
       let l : length (zeros n) ≡ n = length-replicate n 0 in
       (tokens ++ bodied b (zeros n) ∷ [], spelt_one (omega arith) l (body_free b (zeros n) (λ e. zeros_hold n (long e))) refl)
@@ -150,7 +192,8 @@ module _ (room : ℕ) where
 
   done_ends : (tokens : List Token) → Spelt (response Windows1252 room) (after_tokens tokens) done (with_token tokens (Done false))
   done_ends tokens =
-      let byte : Spelt (response Windows1252 room) (after_tokens tokens) (done_byte ∷ []) (part_at tokens (Fields ADone)) = spelt_one (omega arith) refl refl refl in
+      let byte : Spelt (response Windows1252 room) (after_tokens tokens) (done_byte ∷ []) (part_at tokens (Fields ADone)) =
+      spelt_one (omega arith) refl refl refl in
       spelt_both byte (spelt_one (omega arith) refl refl refl)
 
 -- Whatever has been read can be completed.
@@ -158,5 +201,8 @@ pub can_be_completed : CanBeCompleted
 can_be_completed room part bytes ten are h =
     let r = part_reached _ _ _ are h in
     let end = token_ends _ ten _ _ r.1 in
-    let all = spelt_both h (spelt_both end.1 (done_ends _ _)) in
-    (end.0 ++ Done false ∷ [], response_is_spelt _ _ _ _ (AreBytes-append _ _ are (AreBytes-completion _ part r.1)) (is_final-snoc end.0 (Done false)) all)
+    let all = spelt_both h (spelt_both end.1 (done_ends _ _)) in (
+      end.0 ++ Done false ∷ [],
+      response_is_spelt _ _ _ _ (AreBytes-append _ _ are (AreBytes-completion _ part r.1)) (is_final-snoc end.0 (Done false))
+          all,
+    )

@@ -1,5 +1,14 @@
 -- What completes a return value is read as its rest.
-use Rattle.tds_export.proofs.{Words.{AreBytes, BadTypeInfo, CellPart, Guid, InReturnCell, IsNext, Kind, List, None, Null, Option, ReturnHead, ReturnInfo, ReturnName, ReturnNameCount, ReturnOrdinal, ReturnPart, ReturnValue, ScalarLength, Some, Spelt, Spelt-none, WholeReturn, [], ap, arith, bare_type, begun, choose, eq_false, eq_true, if◌then◌else◌, is_some, is_some_value, is_valid, least_info, length-replicate, more, named_kind, refl, rest_length, rest_of_cell, rest_of_return, rest_of_return_head, rest_of_value, return_add, return_column, return_value, true, valid_of, with_return_kind, with_value, zeros, ℕ, ◌++◌, ◌<◌, ◌∷◌, ◌≡◌, ⊤}, CompletedCells.{CellReached, cell_ends, cell_keeps, start_reached, IsOpenCell}, ReturnLaws.{accepted, some_kind, spelt_inside, value_agrees}, LeastTypes.least_type, Cuts.{spelt_both, spelt_one}}
+use Rattle.tds_export.proofs.Words.{AreBytes, BadTypeInfo, CellPart, Guid, InReturnCell, IsNext, Kind, List, None, Null, Option, ReturnHead}
+use Rattle.tds_export.proofs.Words.{ReturnInfo, ReturnName, ReturnNameCount, ReturnOrdinal, ReturnPart, ReturnValue, ScalarLength, Some, Spelt}
+use Rattle.tds_export.proofs.Words.{Spelt-none, WholeReturn, [], ap, arith, bare_type, begun, choose, eq_false, eq_true, if◌then◌else◌, is_some}
+use Rattle.tds_export.proofs.Words.{is_some_value, is_valid, least_info, length-replicate, more, named_kind, refl, rest_length, rest_of_cell}
+use Rattle.tds_export.proofs.Words.{rest_of_return, rest_of_return_head, rest_of_value, return_add, return_column, return_value, true, valid_of}
+use Rattle.tds_export.proofs.Words.{with_return_kind, with_value, zeros, ℕ, ◌++◌, ◌<◌, ◌∷◌, ◌≡◌, ⊤}
+use Rattle.tds_export.proofs.CompletedCells.{CellReached, cell_ends, cell_keeps, start_reached, IsOpenCell}
+use Rattle.tds_export.proofs.ReturnLaws.{accepted, some_kind, spelt_inside, value_agrees}
+use Rattle.tds_export.proofs.LeastTypes.{least_type}
+use Rattle.tds_export.proofs.Cuts.{spelt_both, spelt_one}
 
 -- what is known of a part of a return value that bytes led to
 abbrev pub ReturnReached : ReturnPart → Type 0
@@ -19,7 +28,8 @@ pub return_keeps : (p : ReturnPart) (e : List ℕ) → AreBytes e → ReturnReac
 return_keeps ReturnNameCount e are h n = grind (arith, choose, eq_false)
 return_keeps (ReturnHead name) e are h n = grind (arith, accepted, bare_type, choose, eq_false, eq_true, kind_reached, valid_of)
 return_keeps (ReturnInfo name byte) e are h n = let k = is_some_value _ (some_kind _ n.free) in kind_reached _ _ _ k.1 (valid_of _ (byte ∷ e) k.1)
-return_keeps (InReturnCell name kind part) e are (begun, h) n = value_reached _ _ _ (cell_keeps _ _ e are h (record { some = n.some; whole = n.whole; free = n.free }))
+return_keeps (InReturnCell name kind part) e are (begun, h) n =
+    value_reached _ _ _ (cell_keeps _ _ e are h (record { some = n.some; whole = n.whole; free = n.free }))
 return_keeps p e are h n = tt
 
 -- the rest of a return value, up to its end
@@ -45,16 +55,19 @@ head_ends : (name : List ℕ) → Ends (ReturnHead name) rest_of_return_head
 unfolding rest_length named_kind
 head_ends name =
     let type : Spelt return_value (ReturnHead name) (zeros 7 ++ 0x24 ∷ []) (ReturnInfo name 0x24) = spelt_one (omega arith) refl refl refl in
-    let info : Spelt return_value (ReturnInfo name 0x24) (16 ∷ []) (InReturnCell name Guid (ScalarLength Guid)) = spelt_one (omega arith) refl refl refl in
+    let info : Spelt return_value (ReturnInfo name 0x24) (16 ∷ []) (InReturnCell name Guid (ScalarLength Guid)) =
+    spelt_one (omega arith) refl refl refl in
     let null : ReturnValue = record { name = name; kind = Guid; value = Null } in
     (null, spelt_both type (spelt_both info (spelt_one (omega arith) refl refl refl)))
 
 count_ends : Ends ReturnNameCount (0 ∷ rest_of_return_head)
-count_ends = let one : Spelt return_value ReturnNameCount (0 ∷ []) (ReturnHead []) = spelt_one (omega arith) refl refl refl in then_ends one (head_ends _)
+count_ends = let one : Spelt return_value ReturnNameCount (0 ∷ []) (ReturnHead []) = spelt_one (omega arith) refl refl refl in
+    then_ends one (head_ends _)
 
 -- A part of a return value followed by what completes it is a whole one.
 pub return_ends : (p : ReturnPart) → ReturnReached p → (r : ReturnValue) × Spelt return_value p (rest_of_return p) (WholeReturn r)
-return_ends ReturnOrdinal h = let one : Spelt return_value ReturnOrdinal (zeros 2) ReturnNameCount = spelt_one (omega arith) refl refl refl in then_ends one count_ends
+return_ends ReturnOrdinal h = let one : Spelt return_value ReturnOrdinal (zeros 2) ReturnNameCount = spelt_one (omega arith) refl refl refl in
+    then_ends one count_ends
 return_ends ReturnNameCount h = count_ends
 return_ends (ReturnName n) h =
     let l = length-replicate n 0 in
@@ -64,6 +77,7 @@ return_ends (ReturnHead name) h = head_ends _
 return_ends (ReturnInfo name byte) (n, known, some) =
     let least = least_type _ n known in
     let free = ap (λ o. (if is_some o then None else Some (BadTypeInfo return_column))) least.described in
-    then_ends {e = least_info byte} (spelt_one (omega arith) (cc) free refl) (kind_ends _ _ _ least.described (valid_of _ (byte ∷ least_info byte) least.described))
+    then_ends {e = least_info byte} (spelt_one (omega arith) (cc) free refl)
+    (kind_ends _ _ _ least.described (valid_of _ (byte ∷ least_info byte) least.described))
 return_ends (InReturnCell name kind part) (begun, h) = rw (← stays_open name kind part begun) (value_ends _ _ _ h)
 return_ends (WholeReturn r) h = (r, Spelt-none _ _)

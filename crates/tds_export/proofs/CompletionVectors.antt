@@ -1,15 +1,22 @@
 -- Payloads that stop, completed: each beginning of each is accepted.
-use Rattle.{tds_export.proofs.{Words.{Fault, List, None, Option, Part, Windows1252, [], chars, completion, date_of, digits, encode_utf8, encode_with, fault_of, is_utf8, length, map, named_kind, read, refl, refused_kind, response, response_start, rest_length, rest_of, state_of, take, utf16_chars, utf8_error_len, utf8_valid_len, ℕ, ◌++◌, ◌-◌, ◌∷◌, ◌≡◌}, Vectors.beginnings}, tds_packet.proofs.Feeding.Progress, tds_values.proofs.HexTexts.hex}
+use Rattle.tds_export.proofs.Words.{Fault, List, None, Option, Part, Windows1252, [], chars, completion, date_of, digits, encode_utf8, encode_with}
+use Rattle.tds_export.proofs.Words.{fault_of, is_utf8, length, map, named_kind, read, refl, refused_kind, response, response_start, rest_length}
+use Rattle.tds_export.proofs.Words.{rest_of, state_of, take, utf16_chars, utf8_error_len, utf8_valid_len, ℕ, ◌++◌, ◌-◌, ◌∷◌, ◌≡◌}
+use Rattle.tds_export.proofs.Vectors.{beginnings}
+use Rattle.tds_packet.proofs.Feeding.{Progress}
+use Rattle.tds_values.proofs.HexTexts.{hex}
 
 abbrev complete : ℕ → List ℕ → Progress Part Fault → Option Fault
-complete room payload p = fault_of (response Windows1252 room) (read (response Windows1252 room) response_start (take (length payload - length (rest_of p)) payload ++ completion (state_of p)))
+complete room payload p = fault_of (response Windows1252 room)
+    (read (response Windows1252 room) response_start (take (length payload - length (rest_of p)) payload ++ completion (state_of p)))
 
 abbrev completed : ℕ → List ℕ → Option Fault
 completed room payload = complete room payload (read (response Windows1252 room) response_start payload)
 
 -- Each beginning of each payload is accepted once it is completed.
 abbrev AreCompleted : List (List ℕ) → Type 0
-AreCompleted payloads = map (λ payload. map (completed 1048576) (beginnings payload)) payloads ≡ map (λ payload. map (λ front. None) (beginnings payload)) payloads
+AreCompleted payloads = map (λ payload. map (completed 1048576) (beginnings payload)) payloads ≡ map
+    (λ payload. map (λ front. None) (beginnings payload)) payloads
 
 -- payloads that stop
 all_completed : AreCompleted (

@@ -1,5 +1,9 @@
 -- Where an export stops with the fault of a device, the device's count of failures rose.
-use Rattle.tds_export.proofs.Words.{Bool, Charset, Coming, Ends, Fault, Given, Held, IsOfWire, IsOver, List, MessageEnded, None, Open, Option, Part, ReadFailed, Report, Reports, Rose, RunStops, Seen, Some, Stop, Stopped, StopsExport, StopsReading, Takes, Token, WriteFailed, [], ap, arith, before, begun, begun_at, fresh_at, front_packet, grammar_of, if◌then◌else◌, inl, inr, length, limits_of, message, message_of_wire, one_more, part_end, part_fault, read, response, response_start, rose, subst, sym, true, whole_message, ℕ, ⊤, ◌++◌, ◌<◌, ◌∙◌, ◌∷◌, ◌≡◌, ◌⊎◌, FailsToRead, FailsToWrite}
+use Rattle.tds_export.proofs.Words.{Bool, Charset, Coming, Ends, Fault, Given, Held, IsOfWire, IsOver, List, MessageEnded, None, Open, Option, Part}
+use Rattle.tds_export.proofs.Words.{ReadFailed, Report, Reports, Rose, RunStops, Seen, Some, Stop, Stopped, StopsExport, StopsReading, Takes, Token}
+use Rattle.tds_export.proofs.Words.{WriteFailed, [], ap, arith, before, begun, begun_at, fresh_at, front_packet, grammar_of, if◌then◌else◌, inl, inr}
+use Rattle.tds_export.proofs.Words.{length, limits_of, message, message_of_wire, one_more, part_end, part_fault, read, response, response_start, rose}
+use Rattle.tds_export.proofs.Words.{subst, sym, true, whole_message, ℕ, ⊤, ◌++◌, ◌<◌, ◌∙◌, ◌∷◌, ◌≡◌, ◌⊎◌, FailsToRead, FailsToWrite}
 
 -- a fault that elements may have, or the end of a message
 abbrev pub IsOfPayload : Fault → Type 0
@@ -30,7 +34,8 @@ module _ (charset : Charset) (room : ℕ) where
 
 -- ---- a payload that has just begun
 
-ends_of_wire : (size limit failures : ℕ) (left : Option (List ℕ)) (b : Seen) (bytes : List ℕ) (own : Stop) → Ends (begun size limit left failures) b bytes own → IsOfWire own.fault ⊎ ((own.fault ≡ ReadFailed) × (b.failures ≡ one_more failures))
+ends_of_wire : (size limit failures : ℕ) (left : Option (List ℕ)) (b : Seen) (bytes : List ℕ) (own : Stop)
+    → Ends (begun size limit left failures) b bytes own → IsOfWire own.fault ⊎ ((own.fault ≡ ReadFailed) × (b.failures ≡ one_more failures))
 ends_of_wire size limit failures left b bytes own (inl x) =
     inl (rw (← ap (λ (c : Coming). c.stop.fault) (x.2 [])) (message_of_wire _ _ _ 0 0 _))
 ends_of_wire size limit failures left b bytes own (inr (inl x)) = inl (rw (← ap (λ (c : Coming). c.stop.fault) x.3) (message_of_wire _ _ _ 0 0 _))
@@ -41,10 +46,13 @@ abbrev ReadingFault : ℕ → ℕ → Fault → Type 0
 ReadingFault before after fault = ((fault ≡ WriteFailed) → ⊥) × ((fault ≡ ReadFailed) → after ≡ one_more before)
 
 -- a fault of which no device's is one
-of_none : (P : Fault → Type 0) → (P WriteFailed → ⊥) → (P ReadFailed → ⊥) → (before after : ℕ) (fault : Fault) → P fault → ReadingFault before after fault
+of_none : (P : Fault → Type 0) → (P WriteFailed → ⊥) → (P ReadFailed → ⊥) → (before after : ℕ) (fault : Fault) → P fault
+    → ReadingFault before after fault
 of_none P write read before after fault h = (λ e. write (rw e at h), λ e. absurd (read (rw e at h)))
 
-reading_fault : (charset : Charset) (room size limit failures : ℕ) (left : Option (List ℕ)) (b : Seen) (place : ℕ) (at : Part) (stop : Stop) → StopsReading (response charset room) response_start (begun size limit left failures) b place at stop → ReadingFault failures b.failures stop.fault
+reading_fault : (charset : Charset) (room size limit failures : ℕ) (left : Option (List ℕ)) (b : Seen) (place : ℕ) (at : Part) (stop : Stop)
+    → StopsReading (response charset room) response_start (begun size limit left failures) b place at stop
+    → ReadingFault failures b.failures stop.fault
 reading_fault charset room size limit failures left b place at stop x = elim x.cause [
   | inl y ↦ of_none IsOfPayload (λ h. h) (λ h. h) _ _ _ (element_fault charset _ at y.0.element stop.fault y.0.first)
   | inr y ↦ elim y.stop_is [
@@ -63,7 +71,9 @@ abbrev Blamed : Given → Stopped → Type 0
 Blamed given stopped = (stopped.fault ≡ ReadFailed → FailsToRead given) × (stopped.fault ≡ WriteFailed → FailsToWrite given)
 
 -- a failed write rose the count, and is no failed read
-by_write : (given : Given) (stopped : Stopped) (stop : Stop) (middle after : Held) → stopped.fault ≡ stop.fault → stop.fault ≡ WriteFailed → middle.failures ≡ given.before.writer.failures → after.failures ≡ one_more middle.failures → after.failures ≡ given.after.writer.failures → Blamed given stopped
+by_write : (given : Given) (stopped : Stopped) (stop : Stop) (middle after : Held) → stopped.fault ≡ stop.fault → stop.fault ≡ WriteFailed
+    → middle.failures ≡ given.before.writer.failures → after.failures ≡ one_more middle.failures → after.failures ≡ given.after.writer.failures
+    → Blamed given stopped
 by_write given stopped stop middle after is named start failed end = grind (arith, rose)
 
 pub blamed : (given : Given) (stopped : Stopped) → StopsExport given stopped → Blamed given stopped
@@ -75,7 +85,8 @@ blamed given stopped x = go x.stops
     ends : (failed : x.failed ≡ true) → x.middle.failures ≡ given.after.writer.failures
     ends failed = cc (x.same failed)
 
-    go : RunStops (grammar_of given) response_start (begun_at given) x.seen 0 (fresh_at given) x.middle given.after.areas.description x.failed x.stop → Blamed given stopped
+    go : RunStops (grammar_of given) response_start (begun_at given) x.seen 0 (fresh_at given) x.middle given.after.areas.description x.failed x.stop
+        → Blamed given stopped
     go (inl (inl y)) =
         let r = reading_fault _ _ _ _ _ _ _ 0 _ _ y.0.stops in
         (λ e. subst (Rose given.before.reader.failures) (cc (r.1 (sym is ∙ e))) (rose _), λ e. absurd (r.0 (cc)))
@@ -94,7 +105,8 @@ unfolding message front_packet
 no_message size limit c is e = let no = ap (λ (d : Coming). d.stop.fault) e ∙ is in cc
 
 -- to read a whole message takes a byte
-some_read : (size limit failures : ℕ) (left : Option (List ℕ)) (q : Seen) (bytes : List ℕ) (n : ℕ) (t : Takes (begun size limit left failures) q bytes n) → IsOver q → 0 < length t.0
+some_read : (size limit failures : ℕ) (left : Option (List ℕ)) (q : Seen) (bytes : List ℕ) (n : ℕ)
+    (t : Takes (begun size limit left failures) q bytes n) → IsOver q → 0 < length t.0
 some_read size limit failures left q bytes n t o = go t.0 t.1.1
   where
     go : (read : List ℕ) → ((zs : List ℕ) → whole_message size limit (read ++ zs) ≡ before bytes (q.future zs)) → 0 < length read
@@ -104,5 +116,6 @@ some_read size limit failures left q bytes n t o = go t.0 t.1.1
 pub no_failure : (given : Given) (report : Report) → Reports given report → (FailsToRead given → ⊥) × (FailsToWrite given → ⊥)
 no_failure given report x =
     let t = x.completes.whole.takes in
-    let moved = some_read (limits_of given).packet_size (limits_of given).max_wire given.before.reader.failures given.before.reader.bytes x.seen x.completes.whole.bytes _ t x.completes.whole.over in
+    let moved = some_read (limits_of given).packet_size (limits_of given).max_wire given.before.reader.failures given.before.reader.bytes x.seen
+    x.completes.whole.bytes _ t x.completes.whole.over in
     grind (arith, some_read)

@@ -1,5 +1,12 @@
 -- How long the text of so many bytes is at most.
-use Rattle.tds_export.proofs.{Words.{AreBytes, Conversion, Err, FitsWidths, HexDigits, Kind, List, None, Ok, Option, Result, ScalarValue, Some, ValueFault, [], and_parts, arith, begun_by_test, cast_signed, checked, choose, conversion_rest, conversion_text, datetime_of, doubled, doubled-append, doubled_byte, doubled_length, drop, emit, encode_utf8_all, fit_by_test, integer_of, is_begun, is_decimal_length, is_fit, is_length_allowed, joins_by_name, length, length-append, length-encode_with, length-map, length-take, length-text_of, little_number, long_field, money_of, nat_tests, open_field, quote, read_of, take, text_of, true, unsigned_abs, utf16_chars, value_of, w16, w32, w64, ℕ, ◌*◌, ◌++◌, ◌+◌, ◌-◌, ◌<◌, ◌==◌, ◌^◌, ◌∷◌, ◌≡◌, ◌≤◌, ⊤}, SomeBytes.{AreBytes-drop, byte_below, little_below, one_of_four}}
+use Rattle.tds_export.proofs.Words.{AreBytes, Conversion, Err, FitsWidths, HexDigits, Kind, List, None, Ok, Option, Result, ScalarValue, Some}
+use Rattle.tds_export.proofs.Words.{ValueFault, [], and_parts, arith, begun_by_test, cast_signed, checked, choose, conversion_rest, conversion_text}
+use Rattle.tds_export.proofs.Words.{datetime_of, doubled, doubled-append, doubled_byte, doubled_length, drop, emit, encode_utf8_all, fit_by_test}
+use Rattle.tds_export.proofs.Words.{integer_of, is_begun, is_decimal_length, is_fit, is_length_allowed, joins_by_name, length, length-append}
+use Rattle.tds_export.proofs.Words.{length-encode_with, length-map, length-take, length-text_of, little_number, long_field, money_of, nat_tests}
+use Rattle.tds_export.proofs.Words.{open_field, quote, read_of, take, text_of, true, unsigned_abs, utf16_chars, value_of, w16, w32, w64, ℕ, ◌*◌, ◌++◌}
+use Rattle.tds_export.proofs.Words.{◌+◌, ◌-◌, ◌<◌, ◌==◌, ◌^◌, ◌∷◌, ◌≡◌, ◌≤◌, ⊤}
+use Rattle.tds_export.proofs.SomeBytes.{AreBytes-drop, byte_below, little_below, one_of_four}
 use Rattle.tds_csv.specs.Utf16 as utf16
 use Rattle.tds_values.specs.declared.kind.Kind.TheVariants as kinds
 
@@ -38,7 +45,8 @@ conversion_length c bytes = grind (arith, characters_length, chars_length, doubl
 
 -- nor is the fixed text longer
 emit_length : (c : Conversion) (bytes : List ℕ) → length (emit (conversion_rest c) (conversion_text c) bytes) ≤ 4 * length bytes
-emit_length c bytes = let n = length bytes - length (conversion_rest c bytes) in omega (arith, conversion_length c (take n bytes), length-take n bytes)
+emit_length c bytes = let n = length bytes - length (conversion_rest c bytes) in
+    omega (arith, conversion_length c (take n bytes), length-take n bytes)
 
 -- a field that begins
 pub open_length : (c : Conversion) → length (open_field c []) ≤ 2
@@ -51,7 +59,8 @@ long_length HexDigits bytes = omega (arith, conversion_length HexDigits bytes)
 long_length c bytes = omega (arith, conversion_length c bytes, length-append (conversion_text c bytes) (quote ∷ []))
 
 -- what a piece adds
-emit_more : (c : Conversion) (a b : List ℕ) → is_begun c (a ++ b) ≡ true → length (emit (conversion_rest c) (conversion_text c) (a ++ b)) ≤ length (emit (conversion_rest c) (conversion_text c) a) + 4 * (3 + length b)
+emit_more : (c : Conversion) (a b : List ℕ) → is_begun c (a ++ b) ≡ true
+    → length (emit (conversion_rest c) (conversion_text c) (a ++ b)) ≤ length (emit (conversion_rest c) (conversion_text c) a) + 4 * (3 + length b)
 emit_more c a b h =
     let j = joins_by_name c in
     let begins = (begun_by_test c _).0 h in
@@ -60,14 +69,16 @@ emit_more c a b h =
     grind (arith, joins_by_name, begun_by_test, length-append, emit_length)
 
 -- what the end adds
-text_more : (c : Conversion) (a : List ℕ) → is_fit c a ≡ true → is_begun c a ≡ true → length (conversion_text c a) ≤ length (emit (conversion_rest c) (conversion_text c) a) + 12
+text_more : (c : Conversion) (a : List ℕ) → is_fit c a ≡ true → is_begun c a ≡ true
+    → length (conversion_text c a) ≤ length (emit (conversion_rest c) (conversion_text c) a) + 12
 text_more c a h b =
     let j = joins_by_name c in
     let short = j.short a ((begun_by_test c a).0 b) in
     grind (arith, joins_by_name, fit_by_test, begun_by_test, length-append, conversion_length)
 
 -- a piece adds four bytes for each byte, and for each of three that were withheld
-pub open_more : (c : Conversion) (a b : List ℕ) → is_begun c (a ++ b) ≡ true → length (open_field c (a ++ b)) ≤ length (open_field c a) + 4 * (3 + length b)
+pub open_more : (c : Conversion) (a b : List ℕ) → is_begun c (a ++ b) ≡ true
+    → length (open_field c (a ++ b)) ≤ length (open_field c a) + 4 * (3 + length b)
 open_more HexDigits a b h = omega (arith, emit_more HexDigits a b h)
 open_more c a b h = omega (arith, emit_more c a b h)
 
@@ -79,7 +90,8 @@ long_more c a h b = omega (arith, text_more c a h b, length-append (conversion_t
 -- ---- the text of a scalar
 
 -- signed numbers of 16, 32 and 64 bits
-signed_fits : (n : ℕ) → (unsigned_abs (cast_signed w16 n) < 2 ^ 64) × (unsigned_abs (cast_signed w32 n) < 2 ^ 64) × (unsigned_abs (cast_signed w64 n) < 2 ^ 64)
+signed_fits : (n : ℕ) → (unsigned_abs (cast_signed w16 n) < 2 ^ 64) × (unsigned_abs (cast_signed w32 n) < 2 ^ 64)
+    × (unsigned_abs (cast_signed w64 n) < 2 ^ 64)
 signed_fits n = (grind (arith, nat_tests), grind (arith, nat_tests), grind (arith, nat_tests))
 
 -- an integer fits
@@ -88,7 +100,8 @@ integer_fits n xs h = grind (arith, byte_below, choose, signed_fits)
 
 -- an amount of money fits
 money_fits : (n : ℕ) (xs : List ℕ) → unsigned_abs (money_of n xs) < 2 ^ 64
-money_fits n xs = choose (λ z. unsigned_abs z < 2 ^ 64) (n == 4) _ _ (λ q. (signed_fits (little_number 4 xs)).1) (λ q. (signed_fits (little_number 4 xs * 2 ^ 32 + little_number 4 (drop 4 xs))).2)
+money_fits n xs = choose (λ z. unsigned_abs z < 2 ^ 64) (n == 4) _ _ (λ q. (signed_fits (little_number 4 xs)).1)
+    (λ q. (signed_fits (little_number 4 xs * 2 ^ 32 + little_number 4 (drop 4 xs))).2)
 
 -- a magnitude fits
 magnitude_fits : (n : ℕ) (xs : List ℕ) → AreBytes xs → is_decimal_length n ≡ true → little_number (n - 1) xs < 2 ^ 128

@@ -1,5 +1,7 @@
 -- The least TYPE_INFO of each type byte.
-use Rattle.tds_export.proofs.Words.{AreBytes, Bool, Kind, List, None, Option, Some, [], and_parts, arith, eq_false, eq_true, false, kind_of, least_info, length, lt_true, named_kind, nat_lt, nat_tests, refl, rest_length, suc, true, zero, ℕ, ◌&&◌, ◌<◌, ◌==◌, ◌∷◌, ◌≡◌}
+use Rattle.tds_export.proofs.Words.{AreBytes, Bool, Kind, List, None, Option, Some, [], and_parts, arith, eq_false, eq_true, false, kind_of}
+use Rattle.tds_export.proofs.Words.{least_info, length, lt_true, named_kind, nat_lt, nat_tests, refl, rest_length, suc, true, zero, ℕ, ◌&&◌, ◌<◌}
+use Rattle.tds_export.proofs.Words.{◌==◌, ◌∷◌, ◌≡◌}
 
 -- after this type byte the least rest is of so many bytes, and describes a kind
 pub record IsLeast (byte n : ℕ) : Type 0 where
@@ -52,7 +54,8 @@ beyond : (byte n : ℕ) → rest_length byte ≡ Some n → byte < 256
 unfolding rest_length
 beyond byte n h = grind (arith, nat_tests)
 
-found : (byte n : ℕ) (r : Option ℕ) (k : Option Kind) → holds r (least_info byte) k ≡ true → r ≡ Some n → kind_of (byte ∷ least_info byte) ≡ k → IsLeast byte n
+found : (byte n : ℕ) (r : Option ℕ) (k : Option Kind) → holds r (least_info byte) k ≡ true → r ≡ Some n → kind_of (byte ∷ least_info byte) ≡ k
+    → IsLeast byte n
 found byte n r k h e d = grind (arith, and_parts, bytes_true, eq_true)
 
 -- After each type byte that is accepted its least rest describes a kind.

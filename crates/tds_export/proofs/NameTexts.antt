@@ -1,41 +1,57 @@
 -- The names of columns, put one after another.
-use Rattle.{tds_export.proofs.Words.{Bool, Breaks, Breaks-after, Breaks-longer, Column, Completes, EndsBy, Err, Held, IsErrAnd, IsStopIn, IsStopped, IsWriting, JoinFault, List, Ok, Option, Pushes, Puts, Puts-trans, PutsPiece, PutsPiece-none, PutsPiece-passed, PutsPiece-trans, Result, Sink, Stop, TakesPiece, [], ap, append_assoc, arith, before, codes, emit, false, joined, joined_more, joins_utf16, map, map-append, more, name_field, not, refl, sym, text_if, true, ℕ, ⊤, ◌++◌, ◌∙◌, ◌∷◌, ◌≡◌}, tds_csv.specs.declared.joiners.JoinFault.TheVariants.Stopped}
+use Rattle.tds_export.proofs.Words.{Bool, Breaks, Breaks-after, Breaks-longer, Column, Completes, EndsBy, Err, Held, IsErrAnd, IsStopIn, IsStopped}
+use Rattle.tds_export.proofs.Words.{IsWriting, JoinFault, List, Ok, Option, Pushes, Puts, Puts-trans, PutsPiece, PutsPiece-none, PutsPiece-passed}
+use Rattle.tds_export.proofs.Words.{PutsPiece-trans, Result, Sink, Stop, TakesPiece, [], ap, append_assoc, arith, before, codes, emit, false, joined}
+use Rattle.tds_export.proofs.Words.{joined_more, joins_utf16, map, map-append, more, name_field, not, refl, sym, text_if, true, ℕ, ⊤, ◌++◌, ◌∙◌, ◌∷◌}
+use Rattle.tds_export.proofs.Words.{◌≡◌}
+use Rattle.tds_csv.specs.declared.joiners.JoinFault.TheVariants.{Stopped}
 use Rattle.tds_csv.specs.Utf16 as utf16
 
 -- what a push of any units may answer
-pub push_stopped : (fault : JoinFault) (old new : List ℕ) (before after : Held) (failed : Bool) (units : List ℕ) → Pushes {U = ⊤} (λ _. ⊤) utf16.rest utf16.text old new before after failed units (Err fault) → IsStopped fault
+pub push_stopped : (fault : JoinFault) (old new : List ℕ) (before after : Held) (failed : Bool) (units : List ℕ)
+    → Pushes {U = ⊤} (λ _. ⊤) utf16.rest utf16.text old new before after failed units (Err fault) → IsStopped fault
 push_stopped fault old new before after failed units h = grind arith
 
-pub push_breaks : (fault : JoinFault) (stop : Stop) (old new : List ℕ) (before after : Held) (failed : Bool) (units : List ℕ) → old ≡ [] → failed ≡ false → utf16.IsFit units
-    → Pushes {U = ⊤} (λ _. ⊤) utf16.rest utf16.text old new before after failed units (Err fault) → IsStopIn fault stop → Breaks before after (utf16.text units) stop
-push_breaks (Stopped s) stop old new before after failed units none going fit h is = rw (joins_utf16.ends units fit, is) (Breaks-longer _ _ _ _ s (rw none at (h going)))
+pub push_breaks : (fault : JoinFault) (stop : Stop) (old new : List ℕ) (before after : Held) (failed : Bool) (units : List ℕ) → old ≡ []
+    → failed ≡ false → utf16.IsFit units
+    → Pushes {U = ⊤} (λ _. ⊤) utf16.rest utf16.text old new before after failed units (Err fault) → IsStopIn fault stop
+    → Breaks before after (utf16.text units) stop
+push_breaks (Stopped s) stop old new before after failed units none going fit h is =
+    rw (joins_utf16.ends units fit, is) (Breaks-longer _ _ _ _ s (rw none at (h going)))
 push_breaks fault stop old new before after failed units none going fit h is = absurd is
 
-module _ {old kept : List ℕ} {before middle : Held} {units : List ℕ} (none : old ≡ []) (fit : utf16.IsFit units) (t : TakesPiece (λ _. ⊤) utf16.rest utf16.text old kept before middle units) where
+module _ {old kept : List ℕ} {before middle : Held} {units : List ℕ} (none : old ≡ []) (fit : utf16.IsFit units)
+    (t : TakesPiece (λ _. ⊤) utf16.rest utf16.text old kept before middle units) where
   rest_fit : utf16.IsFit kept
   rest_fit = rw (ap (λ l. utf16.rest (l ++ units)) (sym none) ∙ sym t.withheld) at (joins_utf16.fit_rest units fit)
 
   -- what an end after whole units may answer
-  pub end_stopped : (fault : JoinFault) (new : List ℕ) (after : Held) (failed : Bool) → EndsBy {U = ⊤} 2 utf16.IsFit utf16.text kept new middle after failed (Err fault) → IsStopped fault
+  pub end_stopped : (fault : JoinFault) (new : List ℕ) (after : Held) (failed : Bool)
+      → EndsBy {U = ⊤} 2 utf16.IsFit utf16.text kept new middle after failed (Err fault) → IsStopped fault
   end_stopped (Stopped stop) new after failed h = tt
   end_stopped fault new after failed h = h.0.part rest_fit
 
   emitted : Puts before middle (emit utf16.rest utf16.text units) × (kept ≡ utf16.rest units)
   emitted = (rw none at t.put, cc)
 
-  pub end_breaks : (fault : JoinFault) (stop : Stop) (new : List ℕ) (after : Held) (failed : Bool) → failed ≡ false → EndsBy {U = ⊤} 2 utf16.IsFit utf16.text kept new middle after failed (Err fault) → IsStopIn fault stop → Breaks before after (utf16.text units) stop
-  end_breaks (Stopped s) stop new after failed going h is = rw (joins_utf16.ends units fit, is) (Breaks-after _ _ _ _ _ s emitted.0 (rw emitted.1 at (h going).1))
+  pub end_breaks : (fault : JoinFault) (stop : Stop) (new : List ℕ) (after : Held) (failed : Bool) → failed ≡ false
+      → EndsBy {U = ⊤} 2 utf16.IsFit utf16.text kept new middle after failed (Err fault) → IsStopIn fault stop
+      → Breaks before after (utf16.text units) stop
+  end_breaks (Stopped s) stop new after failed going h is =
+      rw (joins_utf16.ends units fit, is) (Breaks-after _ _ _ _ _ s emitted.0 (rw emitted.1 at (h going).1))
   end_breaks fault stop new after failed going h is = absurd is
 
   pub end_puts : {new : List ℕ} {after : Held} → Completes utf16.IsFit utf16.text kept new middle after → Puts before after (utf16.text units)
   end_puts h = rw (joins_utf16.ends units fit) (Puts-trans _ _ _ _ _ emitted.0 (rw emitted.1 at h.put))
 
 -- one piece was put, and another after it
-pub then_puts : {W U V : Type 0} {contents : W → Option (List ℕ)} {a b c : Sink W} {u : U} {p q : List ℕ} {r : Result V Stop} → PutsPiece contents a b p (Ok u) → PutsPiece contents b c q r → PutsPiece contents a c (p ++ q) r
+pub then_puts : {W U V : Type 0} {contents : W → Option (List ℕ)} {a b c : Sink W} {u : U} {p q : List ℕ} {r : Result V Stop}
+    → PutsPiece contents a b p (Ok u) → PutsPiece contents b c q r → PutsPiece contents a c (p ++ q) r
 then_puts x y = PutsPiece-trans _ _ _ _ _ _ _ _ x y
 
 -- where `?` passes on that the writer failed, more would have been put
-pub passed_piece : {W U V : Type 0} {contents : W → Option (List ℕ)} {a b : Sink W} {p : List ℕ} {e : Stop} {r : Result V Stop} (more : List ℕ) → IsErrAnd r (λ stop. stop ≡ e) → PutsPiece {U = U} contents a b p (Err e) → PutsPiece contents a b (p ++ more) r
+pub passed_piece : {W U V : Type 0} {contents : W → Option (List ℕ)} {a b : Sink W} {p : List ℕ} {e : Stop} {r : Result V Stop} (more : List ℕ)
+    → IsErrAnd r (λ stop. stop ≡ e) → PutsPiece {U = U} contents a b p (Err e) → PutsPiece contents a b (p ++ more) r
 passed_piece more is x = PutsPiece-passed _ _ _ _ _ _ _ is x
 
 abbrev is_none : List (List ℕ) → Bool
@@ -55,7 +71,8 @@ pub record NamesPut {W : Type 0} (contents : W → Option (List ℕ)) (columns l
   pub first_is : first ≡ is_none (map name_field done)
   pub puts : PutsPiece contents before after (joined (map name_field done)) (Ok (tt {0}))
 
-pub names_none : {W : Type 0} {contents : W → Option (List ℕ)} {columns left : List Column} {sink : Sink W} → left ≡ columns → IsWriting sink → NamesPut contents columns left true sink sink
+pub names_none : {W : Type 0} {contents : W → Option (List ℕ)} {columns left : List Column} {sink : Sink W} → left ≡ columns → IsWriting sink
+    → NamesPut contents columns left true sink sink
 names_none {contents = contents} {sink = sink} e going = record { done = []; split = e; first_is = refl; puts = PutsPiece-none _ _ _ going }
 
 some_fields : (xs : List (List ℕ)) (f : List ℕ) → is_none (xs ++ f ∷ []) ≡ false
@@ -65,7 +82,8 @@ some_fields (x ∷ xs) f = refl
 regroup : (a b c d : List ℕ) → (a ++ b) ++ (c ++ d) ≡ (a ++ (b ++ c)) ++ d
 regroup a b c d = simp append_assoc
 
-module _ {W : Type 0} {contents : W → Option (List ℕ)} {columns left rest : List Column} {c : Column} {first : Bool} {a b : Sink W} (is : left ≡ c ∷ rest) (x : NamesPut contents columns left first a b) where
+module _ {W : Type 0} {contents : W → Option (List ℕ)} {columns left rest : List Column} {c : Column} {first : Bool} {a b : Sink W}
+    (is : left ≡ c ∷ rest) (x : NamesPut contents columns left first a b) where
   -- the comma before this name, if there are others before it
   abbrev mark : List ℕ
   mark = text_if (not (is_none (map name_field x.done))) (codes ",")
@@ -74,13 +92,17 @@ module _ {W : Type 0} {contents : W → Option (List ℕ)} {columns left rest : 
   begins : (more : List ℕ) × ((joined (map name_field x.done) ++ (mark ++ name_field c)) ++ more ≡ joined (map name_field columns))
   begins =
       let fields = map name_field x.done in
-      let all = ap (map name_field) (sym x.split ∙ ap (λ l. x.done ++ l) is) ∙ map-append name_field x.done (c ∷ rest) ∙ sym (append_assoc fields (name_field c ∷ []) _) in
+      let all = ap (map name_field) (sym x.split ∙ ap (λ l. x.done ++ l) is) ∙ map-append name_field x.done (c ∷ rest)
+      ∙ sym (append_assoc fields (name_field c ∷ []) _) in
       let grows = joined_more (fields ++ name_field c ∷ []) (map name_field rest) in
       (grows.0, cc (joined-snoc fields (name_field c), grows.1, all))
 
   -- the writer failed at the comma
-  pub comma_breaks : {d : Sink W} {stop : Stop} (r : Result (Unit {0}) Stop) → PutsPiece {U = Unit {0}} contents b d (text_if (not first) (codes ",")) (Err stop) → IsErrAnd r (λ s. s ≡ stop) → PutsPiece contents a d (joined (map name_field columns)) r
-  comma_breaks r broke is_passed = rw (← begins.1, ← regroup _ mark (name_field c) begins.0) (passed_piece _ is_passed (then_puts x.puts (rw x.first_is at broke)))
+  pub comma_breaks : {d : Sink W} {stop : Stop} (r : Result (Unit {0}) Stop)
+      → PutsPiece {U = Unit {0}} contents b d (text_if (not first) (codes ",")) (Err stop) → IsErrAnd r (λ s. s ≡ stop)
+      → PutsPiece contents a d (joined (map name_field columns)) r
+  comma_breaks r broke is_passed = rw (← begins.1, ← regroup _ mark (name_field c) begins.0)
+      (passed_piece _ is_passed (then_puts x.puts (rw x.first_is at broke)))
 
   module _ {d e : Sink W} (comma : PutsPiece contents b d (text_if (not first) (codes ",")) (Ok (tt {0}))) where
     -- one more name was put
@@ -96,5 +118,6 @@ module _ {W : Type 0} {contents : W → Option (List ℕ)} {columns left rest : 
         }
 
     -- the writer failed at the name
-    pub name_breaks : {stop : Stop} (r : Result (Unit {0}) Stop) → PutsPiece {U = Unit {0}} contents d e (name_field c) (Err stop) → IsErrAnd r (λ s. s ≡ stop) → PutsPiece contents a e (joined (map name_field columns)) r
+    pub name_breaks : {stop : Stop} (r : Result (Unit {0}) Stop) → PutsPiece {U = Unit {0}} contents d e (name_field c) (Err stop)
+        → IsErrAnd r (λ s. s ≡ stop) → PutsPiece contents a e (joined (map name_field columns)) r
     name_breaks r broke is_passed = rw (← begins.1) (passed_piece _ is_passed (then_puts x.puts (then_puts (rw x.first_is at comma) broke)))

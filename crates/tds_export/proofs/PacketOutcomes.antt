@@ -1,8 +1,14 @@
 -- How an export ended, by the packets of its input.
-use Rattle.tds_export.proofs.Words.{AreBytes, Describing, EndsInLast, EndsMessage, Fault, InLast, IsHolding, IsKept, IsRefused, List, Open, Packet, Part, RefusesNext, Run, Seen, Some, Space, Spelt, Stop, StopsAfterPackets, StopsInPayload, StopsOnWire, Token, [], ap, append_assoc, arith, begun, description_of, drop, drop-append_seam, grammar, in_last, inl, inr, length, length-append, longest_cut, longest_refused, more, refl, response_start, subst, sym, take, take-append_seam, takes_begins, text, text_so_far, wire_of, ℕ, ◌++◌, ◌<◌, ◌∙◌, ◌≡◌, limits, CutsNext, ends_front, Stops, wire_goes_on, Payload, StopsReading, text_put, ◌+◌, Keeps}
+use Rattle.tds_export.proofs.Words.{AreBytes, Describing, EndsInLast, EndsMessage, Fault, InLast, IsHolding, IsKept, IsRefused, List, Open, Packet}
+use Rattle.tds_export.proofs.Words.{Part, RefusesNext, Run, Seen, Some, Space, Spelt, Stop, StopsAfterPackets, StopsInPayload, StopsOnWire, Token, []}
+use Rattle.tds_export.proofs.Words.{ap, append_assoc, arith, begun, description_of, drop, drop-append_seam, grammar, in_last, inl, inr, length}
+use Rattle.tds_export.proofs.Words.{length-append, longest_cut, longest_refused, more, refl, response_start, subst, sym, take, take-append_seam}
+use Rattle.tds_export.proofs.Words.{takes_begins, text, text_so_far, wire_of, ℕ, ◌++◌, ◌<◌, ◌∙◌, ◌≡◌, limits, CutsNext, ends_front, Stops}
+use Rattle.tds_export.proofs.Words.{wire_goes_on, Payload, StopsReading, text_put, ◌+◌, Keeps}
 
 -- what the area holds at a part is kept, whatever follows
-pub kept_at : (area : Space) (tokens : List Token) (at : Open) (rest : List ℕ) → area.bytes ≡ description_of tokens at → IsKept area.bytes tokens at rest
+pub kept_at : (area : Space) (tokens : List Token) (at : Open) (rest : List ℕ) → area.bytes ≡ description_of tokens at
+    → IsKept area.bytes tokens at rest
 kept_at area tokens (Describing d) rest e = (rest, cc)
 kept_at area tokens at rest e = e
 
@@ -19,18 +25,21 @@ zero : (n : ℕ) → 0 + n ≡ n
 zero n = omega arith
 
 -- an element's end lies in the last of the packets that were needed for it
-ends_in_last : (run : Run) (part : Part) (packets : List Packet) (bytes element : List ℕ) → length element ≡ (grammar run).size part → InLast (limits run).packet_size packets (length (bytes ++ element)) → EndsInLast run packets (length bytes) part
+ends_in_last : (run : Run) (part : Part) (packets : List Packet) (bytes element : List ℕ) → length element ≡ (grammar run).size part
+    → InLast (limits run).packet_size packets (length (bytes ++ element)) → EndsInLast run packets (length bytes) part
 ends_in_last run part packets bytes element whole l = grind (arith, length-append)
 
 -- a payload that begins with whole elements and one more
-split_payload : (bytes element more payload : List ℕ) → payload ≡ (bytes ++ element) ++ more → (payload ≡ bytes ++ (element ++ more)) × (drop (length bytes) payload ≡ element ++ more) × (take (length bytes) payload ≡ bytes)
+split_payload : (bytes element more payload : List ℕ) → payload ≡ (bytes ++ element) ++ more → (payload ≡ bytes ++ (element ++ more))
+    × (drop (length bytes) payload ≡ element ++ more) × (take (length bytes) payload ≡ bytes)
 split_payload bytes element more payload e = grind (arith, append_assoc, drop-append_seam, take-append_seam)
 
 -- the bytes after a state, where they hold no whole element
 rest_of : (bytes part payload : List ℕ) → payload ≡ bytes ++ part → drop (length bytes) payload ≡ part
 rest_of bytes part payload e = cc (drop-append_seam bytes part)
 
-module _ (run : Run) {q : Seen} {part : Part} {bytes : List ℕ} (side : ReaderSide run q) (spelt : Spelt (grammar run) response_start bytes part) (holds : IsHolding run.given.after.areas.description part) (text : text_put run ≡ text_so_far part) where
+module _ (run : Run) {q : Seen} {part : Part} {bytes : List ℕ} (side : ReaderSide run q) (spelt : Spelt (grammar run) response_start bytes part)
+    (holds : IsHolding run.given.after.areas.description part) (text : text_put run ≡ text_so_far part) where
   -- what the area holds is kept
   kept : (packets : List Packet) → Keeps run packets (length bytes) part
   kept packets = kept_at run.given.after.areas.description part.tokens part.at _ holds.bytes
@@ -43,7 +52,12 @@ module _ (run : Run) {q : Seen} {part : Part} {bytes : List ℕ} (side : ReaderS
       let more = x.ahead ++ (q.future []).bytes in
       let b = takes_begins _ _ _ _ _ q _ _ side.bytes side.left x.takes x.between in
       let s = split_payload _ e _ _ (b.payload_is ∙ append_assoc (bytes ++ e) x.ahead (q.future []).bytes) in
-      let l = in_last _ _ _ _ _ _ q _ _ side.left x.takes b (omega (arith, length-append ((bytes ++ e) ++ x.ahead) (q.future []).bytes, length-append (bytes ++ e) x.ahead, length-append bytes e)) in
+      let l = in_last _ _ _ _ _ _ q _ _ side.left x.takes b (omega (
+        arith,
+        length-append ((bytes ++ e) ++ x.ahead) (q.future []).bytes,
+        length-append (bytes ++ e) x.ahead,
+        length-append bytes e,
+      )) in
       let refused : IsRefused g part (e ++ more) fault = grind (arith, length-append, take-append_seam) in
       record {
         packets = b.packets;
@@ -57,7 +71,9 @@ module _ (run : Run) {q : Seen} {part : Part} {bytes : List ℕ} (side : ReaderS
 
   module _ (cut : List ℕ) (short : length cut < (grammar run).size part) where
     -- the message ended
-    ended_in_payload : {own : Stop} {fault : Fault} → EndsMessage (limits run).packet_size (limits run).max_wire run.input run.left (bytes ++ cut) run.given.before.reader.failures q.failures own → (grammar run).end_fault part ≡ Some fault → StopsInPayload run fault (length bytes)
+    ended_in_payload : {own : Stop} {fault : Fault}
+        → EndsMessage (limits run).packet_size (limits run).max_wire run.input run.left (bytes ++ cut) run.given.before.reader.failures q.failures own
+        → (grammar run).end_fault part ≡ Some fault → StopsInPayload run fault (length bytes)
     ended_in_payload m end = record {
       packets = m.packets;
       part = part;
@@ -69,7 +85,8 @@ module _ (run : Run) {q : Seen} {part : Part} {bytes : List ℕ} (side : ReaderS
     }
 
     -- the payload stopped on the wire
-    stopped_on_wire : {stop : Stop} → (x : StopsAfterPackets (limits run).packet_size (limits run).max_wire run.input run.left (bytes ++ cut) run.given.before.reader.failures q.failures stop) → StopsOnWire run stop.fault (length (wire_of x.packets))
+    stopped_on_wire : {stop : Stop} → (x : StopsAfterPackets (limits run).packet_size (limits run).max_wire run.input run.left (bytes ++ cut)
+        run.given.before.reader.failures q.failures stop) → StopsOnWire run stop.fault (length (wire_of x.packets))
     stopped_on_wire x =
         let rest = rest_of bytes cut _ x.payload_is in
         record {
@@ -108,7 +125,9 @@ module _ (run : Run) {q : Seen} {part : Part} {bytes : List ℕ} (side : ReaderS
   ]
 
 -- how a run that read stops
-pub reading_stops : (run : Run) {q : Seen} {at : Part} {stop : Stop} → ReaderSide run q → StopsReading (grammar run) response_start (start run) q 0 at stop → IsHolding run.given.after.areas.description at → text_put run ≡ text_so_far at → Stops run stop.fault stop.place
+pub reading_stops : (run : Run) {q : Seen} {at : Part} {stop : Stop} → ReaderSide run q
+    → StopsReading (grammar run) response_start (start run) q 0 at stop → IsHolding run.given.after.areas.description at
+    → text_put run ≡ text_so_far at → Stops run stop.fault stop.place
 reading_stops run side s holds text = elim s.cause [
   | inl r ↦ rw (r.1 ∙ ap Payload (zero _)) (refused_in_payload run side s.spelt holds text r.0)
   | inr c ↦ cut_stops run side s.spelt holds text c

@@ -1,5 +1,15 @@
 -- What is read grows by each element: the text so far, and the greatest span.
-use Rattle.tds_export.proofs.{Words.{BeforeCount, Between, Charset, Column, Describing, DescriptionPart, Fields, Grows, InReturn, InRow, IsNext, Lead, List, NoDescription, NoMetadata, None, Open, Option, Part, ReturnPart, Returned, RowPart, Some, Spelt, Spelt-induct, Token, TokenBody, TokenLength, WholeDescription, WholeReturn, [], add_described, after_first, append-nil, arith, bare_type, begun, bodied, choose, described_after, description, eq_true, false, fixed, greatest_span, grows_all, grows_same, grows_trans, grows_under, is_some_value, known_type, length-append, little, max, nbc_row_start, open_span, open_text, part_add, response, return_add, row, row_grows, row_so_far, row_start, span, span_so_far, start_of_row, text, text_after, text_so_far, with_described, with_return, with_row, with_token, ℕ, ◌++◌, ◌==◌, ◌∷◌, ◌≡◌, ◌≤◌, ⊤}, TokenLaws.{begun_after, greatest_span-append, text_after-snoc}, ReturnLaws.some_kind, ResponseLaws.part_at}
+use Rattle.tds_export.proofs.Words.{BeforeCount, Between, Charset, Column, Describing, DescriptionPart, Fields, Grows, InReturn, InRow, IsNext, Lead}
+use Rattle.tds_export.proofs.Words.{List, NoDescription, NoMetadata, None, Open, Option, Part, ReturnPart, Returned, RowPart, Some, Spelt}
+use Rattle.tds_export.proofs.Words.{Spelt-induct, Token, TokenBody, TokenLength, WholeDescription, WholeReturn, [], add_described, after_first}
+use Rattle.tds_export.proofs.Words.{append-nil, arith, bare_type, begun, bodied, choose, described_after, description, eq_true, false, fixed}
+use Rattle.tds_export.proofs.Words.{greatest_span, grows_all, grows_same, grows_trans, grows_under, is_some_value, known_type, length-append, little}
+use Rattle.tds_export.proofs.Words.{max, nbc_row_start, open_span, open_text, part_add, response, return_add, row, row_grows, row_so_far, row_start}
+use Rattle.tds_export.proofs.Words.{span, span_so_far, start_of_row, text, text_after, text_so_far, with_described, with_return, with_row, with_token}
+use Rattle.tds_export.proofs.Words.{ℕ, ◌++◌, ◌==◌, ◌∷◌, ◌≡◌, ◌≤◌, ⊤}
+use Rattle.tds_export.proofs.TokenLaws.{begun_after, greatest_span-append, text_after-snoc}
+use Rattle.tds_export.proofs.ReturnLaws.{some_kind}
+use Rattle.tds_export.proofs.ResponseLaws.{part_at}
 
 -- what a token byte other than that of a row begins
 abbrev pub IsFresh : Open → Type 0
@@ -8,7 +18,9 @@ IsFresh (InRow part) = ⊥
 IsFresh at = ⊤
 
 -- the cases of what a byte begins
-pub lead_cases : (charset : Charset) (P : Part → Type 0) (tokens : List Token) (begun : Option Lead) → ((at : Open) → IsFresh at → P (part_at tokens at)) → P (start_of_row tokens (row_start charset) (described_after None tokens)) → P (start_of_row tokens nbc_row_start (described_after None tokens)) → P (after_first charset tokens begun)
+pub lead_cases : (charset : Charset) (P : Part → Type 0) (tokens : List Token) (begun : Option Lead)
+    → ((at : Open) → IsFresh at → P (part_at tokens at)) → P (start_of_row tokens (row_start charset) (described_after None tokens))
+    → P (start_of_row tokens nbc_row_start (described_after None tokens)) → P (after_first charset tokens begun)
 lead_cases charset P tokens begun same row nbc = grind arith
 
 -- ---- the text
@@ -32,7 +44,8 @@ with_row_grows : (tokens : List Token) (part : RowPart) → Grows (text tokens +
 with_row_grows tokens part = grind (arith, append-nil, grows_same, text_after-snoc)
 
 -- a row that begins
-start_grows : (tokens : List Token) (start : List Column → RowPart) (current : Option (List Column)) → Grows (text tokens ++ []) (text_so_far (start_of_row tokens start current))
+start_grows : (tokens : List Token) (start : List Column → RowPart) (current : Option (List Column))
+    → Grows (text tokens ++ []) (text_so_far (start_of_row tokens start current))
 start_grows tokens start None = grows_same _
 start_grows tokens start (Some columns) = grows_trans _ _ _ (grows_under (text tokens) [] _ (grows_all _)) (with_row_grows tokens (start columns))
 
@@ -56,20 +69,24 @@ module _ (room : ℕ) where
 
 module _ (charset : Charset) (room : ℕ) where
   -- each element adds to the text, by where it is read
-  part_grows : (tokens : List Token) (at : Open) (e : List ℕ) → IsNext (response charset room) (part_at tokens at) e → Grows (text tokens ++ open_text at) (text_so_far (part_add charset tokens at e))
-  part_grows tokens Between e n = lead_cases charset (λ p. Grows (text tokens ++ []) (text_so_far p)) tokens _ (same_grows tokens) (start_grows tokens (row_start charset) _) (start_grows tokens nbc_row_start _)
+  part_grows : (tokens : List Token) (at : Open) (e : List ℕ) → IsNext (response charset room) (part_at tokens at) e
+      → Grows (text tokens ++ open_text at) (text_so_far (part_add charset tokens at e))
+  part_grows tokens Between e n = lead_cases charset (λ p. Grows (text tokens ++ []) (text_so_far p)) tokens _ (same_grows tokens)
+      (start_grows tokens (row_start charset) _) (start_grows tokens nbc_row_start _)
   part_grows tokens (Describing d) e n = with_described_grows tokens (add_described d e)
   part_grows tokens (InRow part) e n =
       grows_trans _ _ _
       (grows_under (text tokens) (row_so_far part) _ (row_grows charset part e (grind arith)))
       (with_row_grows tokens _)
   part_grows tokens (InReturn part) e n = with_return_grows tokens (return_add part e)
-  part_grows tokens (TokenLength b) e n = choose (λ p. Grows (text tokens ++ []) (text_so_far p)) (little e == 0) _ _ (λ z. token_grows tokens (bodied b [])) (λ z. grows_same (text tokens ++ []))
+  part_grows tokens (TokenLength b) e n = choose (λ p. Grows (text tokens ++ []) (text_so_far p)) (little e == 0) _ _
+      (λ z. token_grows tokens (bodied b [])) (λ z. grows_same (text tokens ++ []))
   part_grows tokens (TokenBody b m) e n = token_grows tokens (bodied b e)
   part_grows tokens (Fields f) e n = token_grows tokens (fixed f e)
 
   -- each element adds to the span, by where it is read
-  part_span : (tokens : List Token) (at : Open) (e : List ℕ) → IsNext (response charset room) (part_at tokens at) e → max (greatest_span tokens) (open_span at) ≤ span_so_far (part_add charset tokens at e)
+  part_span : (tokens : List Token) (at : Open) (e : List ℕ) → IsNext (response charset room) (part_at tokens at) e
+      → max (greatest_span tokens) (open_span at) ≤ span_so_far (part_add charset tokens at e)
   part_span tokens at e n = grind (arith, choose, description_span, lead_cases, greatest_span-append)
 
   -- all elements between two states add to the text
@@ -81,4 +98,5 @@ module _ (charset : Charset) (room : ℕ) where
 
   -- and to the span
   pub span_along : (p q : Part) (bytes : List ℕ) → Spelt (response charset room) p bytes q → span_so_far p ≤ span_so_far q
-  span_along p q bytes s = Spelt-induct _ (λ r b. span_so_far p ≤ span_so_far r) (λ r b e h n. omega (arith, part_span r.tokens r.at e n)) p (omega arith) _ q s
+  span_along p q bytes s = Spelt-induct _ (λ r b. span_so_far p ≤ span_so_far r) (λ r b e h n. omega (arith, part_span r.tokens r.at e n)) p
+      (omega arith) _ q s

@@ -1,5 +1,17 @@
 -- RETURNVALUE as it is read, and in its response.
-use Rattle.tds_export.proofs.{Words.{Bool, Charset, Ends, Err, IfOk, IsHolding, Kind, KnownType, List, MatchResult, NoType, None, Ok, Option, PassesCell, Progress, Reads, ReadsReturn, ReadsType, ReadsValue, Result, ReturnHead, ReturnInfo, ReturnName, ReturnNameCount, ReturnOrdinal, ReturnPart, Seen, Space, Stop, StopsPassing, StopsReturn, StopsType, Takes, Token, TypeHead, TypePart, TypeRest, [], after_tokens, arith, before_value, began_at, cell_start, choose_false, if◌then◌else◌, in_return, kind_of, length, length-append, ne_eqb, reads_both, reads_one, refl, rest_length_of, return_add, return_charset, return_fault, return_size, return_value, returned_type, shape, slice_index, stops_after, stops_size, subst, sym, text_so_far, with_known, with_return, with_return_kind, with_return_units, with_value, ℕ, ◌*◌, ◌+◌, ◌-◌, ◌<◌, ◌∷◌, ◌≡◌, View}, ReturnLaws.{Agrees, info_is_read, return_name_is_read, value_agrees, read_inside, stop_inside}, TokenSteps.{Begun, bare_reads, quietly, stops_quietly, ReadsQuiet, StopsQuiet}, Cuts.part_cut, ResponseLaws.return_agrees, TokenLaws.tracks_returned}
+use Rattle.tds_export.proofs.Words.{Bool, Charset, Ends, Err, IfOk, IsHolding, Kind, KnownType, List, MatchResult, NoType, None, Ok, Option}
+use Rattle.tds_export.proofs.Words.{PassesCell, Progress, Reads, ReadsReturn, ReadsType, ReadsValue, Result, ReturnHead, ReturnInfo, ReturnName}
+use Rattle.tds_export.proofs.Words.{ReturnNameCount, ReturnOrdinal, ReturnPart, Seen, Space, Stop, StopsPassing, StopsReturn, StopsType, Takes, Token}
+use Rattle.tds_export.proofs.Words.{TypeHead, TypePart, TypeRest, [], after_tokens, arith, before_value, began_at, cell_start, choose_false}
+use Rattle.tds_export.proofs.Words.{if◌then◌else◌, in_return, kind_of, length, length-append, ne_eqb, reads_both, reads_one, refl, rest_length_of}
+use Rattle.tds_export.proofs.Words.{return_add, return_charset, return_fault, return_size, return_value, returned_type, shape, slice_index}
+use Rattle.tds_export.proofs.Words.{stops_after, stops_size, subst, sym, text_so_far, with_known, with_return, with_return_kind, with_return_units}
+use Rattle.tds_export.proofs.Words.{with_value, ℕ, ◌*◌, ◌+◌, ◌-◌, ◌<◌, ◌∷◌, ◌≡◌, View}
+use Rattle.tds_export.proofs.ReturnLaws.{Agrees, info_is_read, return_name_is_read, value_agrees, read_inside, stop_inside}
+use Rattle.tds_export.proofs.TokenSteps.{Begun, bare_reads, quietly, stops_quietly, ReadsQuiet, StopsQuiet}
+use Rattle.tds_export.proofs.Cuts.{part_cut}
+use Rattle.tds_export.proofs.ResponseLaws.{return_agrees}
+use Rattle.tds_export.proofs.TokenLaws.{tracks_returned}
 
 module _ {s t : ReturnPart} {a b c : Seen} {place middle : ℕ} (x : ReadsReturn s t a b place middle) where
   -- what stops a call stops one that began before it
@@ -8,32 +20,47 @@ module _ {s t : ReturnPart} {a b c : Seen} {place middle : ℕ} (x : ReadsReturn
 
   -- and so it is where nothing stops
   pub return_reads_after : {u : ReturnPart} {place' : ℕ} → ReadsReturn t u b c middle place' → ReadsReturn s u a c place place'
-  return_reads_after {u = u} y = record { reads = reads_both _ s t u a b c x.reads y.reads; place_is = omega (arith, length-append x.reads.bytes y.reads.bytes) }
+  return_reads_after {u = u} y = record {
+    reads = reads_both _ s t u a b c x.reads y.reads;
+    place_is = omega (
+      arith,
+      length-append x.reads.bytes y.reads.bytes,
+    );
+  }
 
 -- the next element was read
-return_read : {s t : ReturnPart} {a b : Seen} {place place' n : ℕ} (element : List ℕ) → 0 < n → return_size s ≡ n → return_fault s element ≡ None → return_add s element ≡ t → length element ≡ n → Takes a b element n → place' ≡ place + n → ReadsReturn s t a b place place'
-return_read {s = s} {t = t} {a = a} {b = b} element some size free to whole takes at = record { reads = reads_one _ s a b _ t (record { some = rw whole some; whole = cc; free = free }) (rw whole takes) to; place_is = rw whole at }
+return_read : {s t : ReturnPart} {a b : Seen} {place place' n : ℕ} (element : List ℕ) → 0 < n → return_size s ≡ n → return_fault s element ≡ None
+    → return_add s element ≡ t → length element ≡ n → Takes a b element n → place' ≡ place + n → ReadsReturn s t a b place place'
+return_read {s = s} {t = t} {a = a} {b = b} element some size free to whole takes at =
+    record { reads = reads_one _ s a b _ t (record { some = rw whole some; whole = cc; free = free }) (rw whole takes) to; place_is = rw whole at }
 
 -- ---- the name
 
-module _ {a : Seen} (b : Seen) {place one : ℕ} (ordinal : List ℕ) (counted : length ordinal ≡ 2) (first : Takes a b ordinal 2) (at : one ≡ place + 2) where
-  -- the ordinal was read
-  pub ordinal_read : ReadsReturn ReturnOrdinal ReturnNameCount a b place one
-  ordinal_read = return_read _ (omega arith) refl refl refl counted first at
+module _ {a : Seen} (b : Seen) {place one : ℕ} (ordinal : List ℕ) (counted : length ordinal ≡ 2) (first : Takes a b ordinal 2) (at : one ≡ place + 2)
+  where
+    -- the ordinal was read
+    pub ordinal_read : ReadsReturn ReturnOrdinal ReturnNameCount a b place one
+    ordinal_read = return_read _ (omega arith) refl refl refl counted first at
 
-  -- the ordinal and the count of the name's units were read
-  pub front_read : {c : Seen} {two : ℕ} (element : List ℕ) → length element ≡ 1 → Takes b c element (length element) → two ≡ one + length element → ReadsReturn ReturnOrdinal (with_return_units (slice_index element 0)) a c place two
-  front_read element single second at' = return_reads_after ordinal_read (return_read element (omega arith) (sym single) refl refl refl second at')
+    -- the ordinal and the count of the name's units were read
+    pub front_read : {c : Seen} {two : ℕ} (element : List ℕ) → length element ≡ 1 → Takes b c element (length element) → two ≡ one + length element
+        → ReadsReturn ReturnOrdinal (with_return_units (slice_index element 0)) a c place two
+    front_read element single second at' = return_reads_after ordinal_read (return_read element (omega arith) (sym single) refl refl refl second at')
 
 -- the name is cut
-pub name_cut : (units : ℕ) {n place : ℕ} {a b : Seen} {own stop : Stop} (part : List ℕ) → n ≡ 2 * units → length part < n → Ends a b part own → stop ≡ began_at place own → StopsReturn (with_return_units units) a b place stop
+pub name_cut : (units : ℕ) {n place : ℕ} {a b : Seen} {own stop : Stop} (part : List ℕ) → n ≡ 2 * units → length part < n → Ends a b part own
+    → stop ≡ began_at place own → StopsReturn (with_return_units units) a b place stop
 name_cut units {n = n} part is fewer ends stop_is =
     let some : with_return_units units ≡ ReturnName n = rw is (choose_false _ _ _ (ne_eqb units 0 (λ q. omega arith))) in
     rw some (record { at = ReturnName n; stops = part_cut _ refl refl fewer ends stop_is })
 
 -- the name was read
-pub name_read : (units : ℕ) {n place place' : ℕ} {a b : Seen} (name : List ℕ) → n ≡ 2 * units → length name ≡ n → Takes a b name n → place' ≡ place + n → ReadsReturn (with_return_units units) (ReturnHead name) a b place place'
-name_read units name is len takes at = record { reads = record { bytes = name; spelt = return_name_is_read _ _ (cc); takes = rw len takes }; place_is = rw len at }
+pub name_read : (units : ℕ) {n place place' : ℕ} {a b : Seen} (name : List ℕ) → n ≡ 2 * units → length name ≡ n → Takes a b name n
+    → place' ≡ place + n → ReadsReturn (with_return_units units) (ReturnHead name) a b place place'
+name_read units name is len takes at = record {
+  reads = record { bytes = name; spelt = return_name_is_read _ _ (cc); takes = rw len takes };
+  place_is = rw len at;
+}
 
 -- ---- the type
 
@@ -48,7 +75,9 @@ after_name name NoType = ReturnOrdinal
 known_kind : (name : List ℕ) (o : Option Kind) → with_return_kind name o ≡ after_name name (with_known o)
 known_kind name o = grind arith
 
-byte_read : (name : List ℕ) (byte : ℕ) (z : Bool) → (if z then with_return_kind name (kind_of (byte ∷ [])) else ReturnInfo name byte) ≡ after_name name (if z then with_known (kind_of (byte ∷ [])) else TypeRest byte)
+byte_read : (name : List ℕ) (byte : ℕ) (z : Bool)
+    → (if z then with_return_kind name (kind_of (byte ∷ [])) else ReturnInfo name byte) ≡ after_name name
+    (if z then with_known (kind_of (byte ∷ [])) else TypeRest byte)
 byte_read name byte z = grind (arith, known_kind)
 
 -- a type is read in its return value as by itself
@@ -56,9 +85,11 @@ type_agrees : (name : List ℕ) (p : TypePart) → 0 < returned_type.size p → 
 type_agrees name p h = grind (arith, byte_read, known_kind)
 
 -- whatever the answer is
-pub type_taken : (r : Result Kind Stop) (name head : List ℕ) (a b c : Seen) (place middle place' : ℕ) → length head ≡ 8 → Takes a b head 8 → middle ≡ place + 8 → IfOk r (λ kind. ReadsType (slice_index head 7) b c middle place' kind)
+pub type_taken : (r : Result Kind Stop) (name head : List ℕ) (a b c : Seen) (place middle place' : ℕ) → length head ≡ 8 → Takes a b head 8
+    → middle ≡ place + 8 → IfOk r (λ kind. ReadsType (slice_index head 7) b c middle place' kind)
     → MatchResult r (λ kind. Reads returned_type TypeHead a c (KnownType kind)) (λ stop. StopsType a c (middle - 8) stop)
-    → MatchResult r (λ kind. ReadsReturn (ReturnHead name) (before_value name kind) a c place place') (λ stop. StopsReturn (ReturnHead name) a c place stop)
+    → MatchResult r (λ kind. ReadsReturn (ReturnHead name) (before_value name kind) a c place place')
+    (λ stop. StopsReturn (ReturnHead name) a c place stop)
 type_taken (Ok kind) name head a b c place middle place' eight takes at x y =
     let known = rest_length_of _ _ _ x.info in
     return_reads_after (return_read _ (omega arith) refl (rw known refl) (rw known refl) eight takes at)
@@ -70,18 +101,25 @@ type_taken (Err stop) name head a b c place middle place' eight takes at x y =
 -- ---- the value
 
 -- the value was passed over, or that stopped
-pub value_passed : {U : Type 0} (r : Result U Stop) (name : List ℕ) (kind : Kind) {a b : Seen} (c : Seen) {place middle : ℕ} (place' : ℕ) → ReadsReturn ReturnOrdinal (before_value name kind) a b place middle
-    → MatchResult r (λ _. PassesCell (cell_start kind (shape return_charset kind)) b c middle place') (λ stop. StopsPassing (cell_start kind (shape return_charset kind)) b c middle stop)
+pub value_passed : {U : Type 0} (r : Result U Stop) (name : List ℕ) (kind : Kind) {a b : Seen} (c : Seen) {place middle : ℕ} (place' : ℕ)
+    → ReadsReturn ReturnOrdinal (before_value name kind) a b place middle
+    → MatchResult r (λ _. PassesCell (cell_start kind (shape return_charset kind)) b c middle place')
+    (λ stop. StopsPassing (cell_start kind (shape return_charset kind)) b c middle stop)
     → MatchResult r (λ _. ReadsValue a c place place') (λ stop. StopsReturn ReturnOrdinal a c place stop)
 value_passed (Ok u) name kind {b = b} c place' x y =
-    record { value = record { name = name; kind = kind; value = y.value }; steps = return_reads_after x (record { reads = read_inside (value_agrees name kind) y.steps.reads; place_is = y.steps.place_is }) }
+    record {
+      value = record { name = name; kind = kind; value = y.value };
+      steps = return_reads_after x
+          (record { reads = read_inside (value_agrees name kind) y.steps.reads; place_is = y.steps.place_is });
+    }
 value_passed (Err stop) name kind {b = b} c {middle = middle} place' x y =
     return_stops_after x (record { at = with_value name kind y.at; stops = stop_inside (value_agrees name kind) y.stops })
 
 -- ---- in its response
 
 -- a part of it has no text, and the area holds what it held
-open_return : (area : Space) (tokens : List Token) (p : ReturnPart) → 0 < return_size p → IsHolding area (after_tokens tokens) → (text_so_far (in_return tokens) ≡ text_so_far (with_return tokens p)) × IsHolding area (with_return tokens p)
+open_return : (area : Space) (tokens : List Token) (p : ReturnPart) → 0 < return_size p → IsHolding area (after_tokens tokens)
+    → (text_so_far (in_return tokens) ≡ text_so_far (with_return tokens p)) × IsHolding area (with_return tokens p)
 open_return area tokens p some holds = grind arith
 
 module _ (charset : Charset) {tokens : List Token} {s : Progress} {u : View} {b : Seen} (begun : Begun tokens s u) where
@@ -93,7 +131,8 @@ module _ (charset : Charset) {tokens : List Token} {s : Progress} {u : View} {b 
       (stop_inside (return_agrees charset u.area.room tokens) x.stops)
 
   -- a return value was read
-  pub return_reads : {place : ℕ} → ReadsValue u.seen b u.place place → ReadsQuiet charset (in_return tokens) tokens u b place (record s { report = record s.report { return_values = s.report.return_values + 1 } })
+  pub return_reads : {place : ℕ} → ReadsValue u.seen b u.place place
+      → ReadsQuiet charset (in_return tokens) tokens u b place (record s { report = record s.report { return_values = s.report.return_values + 1 } })
   return_reads x =
       let r = read_inside (return_agrees charset u.area.room tokens) x.steps.reads in
       quietly begun refl (bare_reads begun _ r x.steps.place_is refl refl (tracks_returned begun.tracks x.value))

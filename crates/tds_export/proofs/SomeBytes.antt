@@ -1,5 +1,7 @@
 -- Lists of bytes.
-use Rattle.tds_export.proofs.Words.{AreBytes, List, [], arith, drop, eq_true, inl, inr, little_from, or_cases, pow-suc, replicate, slice_index, suc, true, zero, ℕ, ◌++◌, ◌<◌, ◌==◌, ◌^◌, ◌||◌, ◌∷◌, ◌≡◌, Fault, Grammar, IsNext, Spelt, Spelt-induct, AreBytes-front, AreBytes-back}
+use Rattle.tds_export.proofs.Words.{AreBytes, List, [], arith, drop, eq_true, inl, inr, little_from, or_cases, pow-suc, replicate, slice_index, suc}
+use Rattle.tds_export.proofs.Words.{true, zero, ℕ, ◌++◌, ◌<◌, ◌==◌, ◌^◌, ◌||◌, ◌∷◌, ◌≡◌, Fault, Grammar, IsNext, Spelt, Spelt-induct, AreBytes-front}
+use Rattle.tds_export.proofs.Words.{AreBytes-back}
 
 -- each of some bytes is below 256
 pub byte_below : (xs : List ℕ) (i : ℕ) → AreBytes xs → slice_index xs i < 256
@@ -38,5 +40,9 @@ pub one_of_four : (P : ℕ → Type 0) (a b c d n : ℕ) → (n == a || n == b |
 one_of_four P a b c d n h pa pb pc pd = grind (arith, exactly, one_of_two, or_cases)
 
 -- what each element of bytes keeps holds at their end
-pub bytes_induct : {S : Type 0} (g : Grammar S Fault) (P : S → List ℕ → Type 0) → ((s : S) (b e : List ℕ) → P s b → AreBytes e → IsNext g s e → P (g.add s e) (b ++ e)) → (s : S) → P s [] → (bytes : List ℕ) (t : S) → AreBytes bytes → Spelt g s bytes t → P t bytes
-bytes_induct g P step s begins bytes t are h = Spelt-induct g (λ q b. AreBytes b → P q b) (λ q b e k n all. step q b e (k (AreBytes-front b e all)) (AreBytes-back b e all) n) s (λ all. begins) bytes t h are
+pub bytes_induct : {S : Type 0} (g : Grammar S Fault) (P : S → List ℕ → Type 0)
+    → ((s : S) (b e : List ℕ) → P s b → AreBytes e → IsNext g s e → P (g.add s e) (b ++ e)) → (s : S) → P s [] → (bytes : List ℕ) (t : S)
+    → AreBytes bytes → Spelt g s bytes t → P t bytes
+bytes_induct g P step s begins bytes t are h =
+    Spelt-induct g (λ q b. AreBytes b → P q b) (λ q b e k n all. step q b e (k (AreBytes-front b e all)) (AreBytes-back b e all) n) s (λ all. begins)
+    bytes t h are

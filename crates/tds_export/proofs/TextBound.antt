@@ -1,5 +1,17 @@
 -- The text so far is no longer than 64 bytes for each byte read.
-use Rattle.tds_export.proofs.{Words.{AreBytes, Bool, Cell, CellPart, Charset, ChunkData, ChunkLength, Column, Describing, DescriptionPart, InCell, InColumn, InRow, IsNext, List, None, Null, Open, Option, Part, Result, ReturnPart, RowPart, ScalarBytes, ScalarLength, ScalarValue, ShortData, ShortLength, Some, Spelt, Token, Total, Utf16Text, ValueFault, WholeCell, WholeDescription, [], add_described, and_parts, ap, append-nil, arith, cell, cell_add, choose, codes, description, end_fit, false, field, field_so_far, fit_begins, header_line, joined, last_fit, length, length-append, line, line_end, little, map, map-append, marked, next_cell, open_field, open_text, part_add, refl, response, response_start, row_so_far, row_start, start_quiet, suc, text, text_so_far, true, unless_none, value_part, with_return, with_row, ℕ, ◌*◌, ◌++◌, ◌+◌, ◌∷◌, ◌≡◌, ◌≤◌, ⊤, name_field, slice_index, ◌==◌}, ReadingGrows.{IsFresh, lead_cases}, FieldLengths.{ReadShort, long_length, long_more, open_length, open_more, read_short}, TokenLaws.{bare, bare_body, bare_fixed, begun_after, text_after-snoc}, ResponseLaws.part_at, SomeBytes.bytes_induct}
+use Rattle.tds_export.proofs.Words.{AreBytes, Bool, Cell, CellPart, Charset, ChunkData, ChunkLength, Column, Describing, DescriptionPart, InCell}
+use Rattle.tds_export.proofs.Words.{InColumn, InRow, IsNext, List, None, Null, Open, Option, Part, Result, ReturnPart, RowPart, ScalarBytes}
+use Rattle.tds_export.proofs.Words.{ScalarLength, ScalarValue, ShortData, ShortLength, Some, Spelt, Token, Total, Utf16Text, ValueFault, WholeCell}
+use Rattle.tds_export.proofs.Words.{WholeDescription, [], add_described, and_parts, ap, append-nil, arith, cell, cell_add, choose, codes, description}
+use Rattle.tds_export.proofs.Words.{end_fit, false, field, field_so_far, fit_begins, header_line, joined, last_fit, length, length-append, line}
+use Rattle.tds_export.proofs.Words.{line_end, little, map, map-append, marked, next_cell, open_field, open_text, part_add, refl, response}
+use Rattle.tds_export.proofs.Words.{response_start, row_so_far, row_start, start_quiet, suc, text, text_so_far, true, unless_none, value_part}
+use Rattle.tds_export.proofs.Words.{with_return, with_row, ℕ, ◌*◌, ◌++◌, ◌+◌, ◌∷◌, ◌≡◌, ◌≤◌, ⊤, name_field, slice_index, ◌==◌}
+use Rattle.tds_export.proofs.ReadingGrows.{IsFresh, lead_cases}
+use Rattle.tds_export.proofs.FieldLengths.{ReadShort, long_length, long_more, open_length, open_more, read_short}
+use Rattle.tds_export.proofs.TokenLaws.{bare, bare_body, bare_fixed, begun_after, text_after-snoc}
+use Rattle.tds_export.proofs.ResponseLaws.{part_at}
+use Rattle.tds_export.proofs.SomeBytes.{bytes_induct}
 
 -- ---- fields
 
@@ -11,20 +23,31 @@ before_last fs = length (joined (fs ++ [] ∷ []))
 last_length : (fs : List (List ℕ)) (f : List ℕ) → length (joined (fs ++ f ∷ [])) ≡ before_last fs + length f
 last_length [] f = omega arith
 last_length (x ∷ []) f = omega (arith, length-append (x ++ codes ",") f, length-append (x ++ codes ",") [])
-last_length (x ∷ y ∷ fs) f = omega (arith, length-append (x ++ codes ",") (joined (y ∷ (fs ++ f ∷ []))), length-append (x ++ codes ",") (joined (y ∷ (fs ++ [] ∷ []))), last_length (y ∷ fs) f)
+last_length (x ∷ y ∷ fs) f = omega (
+  arith,
+  length-append (x ++ codes ",") (joined (y ∷ (fs ++ f ∷ []))),
+  length-append (x ++ codes ",") (joined (y ∷ (fs ++ [] ∷ []))),
+  last_length (y ∷ fs) f,
+)
 
 -- a comma at most
 before_last_most : (fs : List (List ℕ)) → before_last fs ≤ length (joined fs) + 1
 before_last_most [] = omega arith
 before_last_most (x ∷ []) = omega (arith, length-append (x ++ codes ",") [], length-append x (codes ","))
-before_last_most (x ∷ y ∷ fs) = omega (arith, length-append (x ++ codes ",") (joined (y ∷ fs)), length-append (x ++ codes ",") (joined (y ∷ (fs ++ [] ∷ []))), before_last_most (y ∷ fs))
+before_last_most (x ∷ y ∷ fs) = omega (
+  arith,
+  length-append (x ++ codes ",") (joined (y ∷ fs)),
+  length-append (x ++ codes ",") (joined (y ∷ (fs ++ [] ∷ []))),
+  before_last_most (y ∷ fs),
+)
 
 -- one more field
 one_more_length : (fs : List (List ℕ)) (f : List ℕ) → length (joined (fs ++ f ∷ [])) ≤ length (joined fs) + 1 + length f
 one_more_length fs f = omega (arith, last_length fs f, before_last_most fs)
 
 -- one more cell
-one_more_cell : (cells : List Cell) (c : Cell) → length (joined (map field (cells ++ c ∷ []))) ≤ length (joined (map field cells)) + 1 + length (field c)
+one_more_cell : (cells : List Cell) (c : Cell)
+    → length (joined (map field (cells ++ c ∷ []))) ≤ length (joined (map field cells)) + 1 + length (field c)
 one_more_cell cells c = rw (map-append field cells (c ∷ [])) (one_more_length (map field cells) (field c))
 
 -- the field that is read has at most 48 bytes more
@@ -44,14 +67,16 @@ module _ (column : ℕ) where
   -- each element of a cell adds no more
   cell_more : (p : CellPart) (e : List ℕ) → AreBytes e → IsNext (cell column) p e → FieldMore (field_so_far p) (field_so_far (cell_add p e))
   cell_more (ScalarBytes k i) e bytes n = value_more _ (read_short k e bytes)
-  cell_more (ScalarLength k) e bytes n = choose (λ p. FieldMore None (field_so_far p)) (slice_index e 0 == 0) (WholeCell Null) _ (λ z. omega arith) (λ z. tt)
+  cell_more (ScalarLength k) e bytes n = choose (λ p. FieldMore None (field_so_far p)) (slice_index e 0 == 0) (WholeCell Null) _ (λ z. omega arith)
+      (λ z. tt)
   cell_more (ShortLength c) e bytes n = grind (arith, choose, long_length, open_length)
   cell_more (Total c) e bytes n = grind (arith, choose, open_length)
   cell_more (WholeCell x) e bytes n = omega arith
   cell_more (ShortData c left content) e bytes n = grind (arith, and_parts, choose, last_fit, long_more, open_more, unless_none)
   cell_more (ChunkLength c total content) e bytes n =
       choose (λ p. FieldMore (Some (open_field c content)) (field_so_far p)) _ _ _
-      (λ z. let fit = end_fit column c total content (little e) n.free z in let end = long_more c content fit (fit_begins c content [] (rw (append-nil content) fit)) in omega arith)
+      (λ z. let fit = end_fit column c total content (little e) n.free z in let end = long_more c content fit
+      (fit_begins c content [] (rw (append-nil content) fit)) in omega arith)
       (λ z. omega arith)
   cell_more (ChunkData c total left content) e bytes n = grind (arith, choose, open_more, unless_none)
 
@@ -88,7 +113,8 @@ none_null (c ∷ columns) k = none_null columns (k + 1)
 
 module _ (charset : Charset) where
   -- the cells to come begin
-  next_length : (cells : List Cell) (ks : List (Column × Bool)) → row_length (next_cell charset cells ks) ≤ length (joined (map field cells)) + 5 * how_many_null ks + 2
+  next_length : (cells : List Cell) (ks : List (Column × Bool))
+      → row_length (next_cell charset cells ks) ≤ length (joined (map field cells)) + 5 * how_many_null ks + 2
   next_length cells [] = omega (arith, length-append (joined (map field cells)) line_end)
   next_length cells ((k, true) ∷ ks) = omega (arith, next_length (cells ++ Null ∷ []) ks, one_more_cell cells Null)
   next_length cells ((k, false) ∷ ks) = rw (start_quiet _ _) (omega arith)
@@ -107,11 +133,19 @@ header_more columns c =
     let fs = map name_field columns in
     let f = name_field c in
     let e = map-append name_field columns (c ∷ []) in
-    omega (arith, one_more_length fs f, long_length Utf16Text c.name, ap (λ v. length (line v)) e, length-append (joined (fs ++ f ∷ [])) line_end, length-append (joined fs) line_end)
+    omega (
+      arith,
+      one_more_length fs f,
+      long_length Utf16Text c.name,
+      ap (λ v. length (line v)) e,
+      length-append (joined (fs ++ f ∷ [])) line_end,
+      length-append (joined fs) line_end,
+    )
 
 module _ (room : ℕ) where
   -- each element of a description pays for what it adds
-  described_more : (d : DescriptionPart) (e : List ℕ) → IsNext (description room) d e → described_pending (add_described d e) ≤ described_pending d + 64 * length e
+  described_more : (d : DescriptionPart) (e : List ℕ) → IsNext (description room) d e
+      → described_pending (add_described d e) ≤ described_pending d + 64 * length e
   described_more d e n = grind (arith, choose, header_more)
 
 -- ---- a response
@@ -144,17 +178,47 @@ module _ (charset : Charset) (room : ℕ) where
   fresh_grown tokens n at h = grind (arith, length-append, part_at)
 
   -- each element of bytes pays for what it adds
-  part_grown : (tokens : List Token) (at : Open) (e : List ℕ) → AreBytes e → IsNext (response charset room) (part_at tokens at) e → grown (part_add charset tokens at e) ≤ length (text tokens) + length (open_text at) + pending at + 64 * length e
-  part_grown tokens at e bytes n = grind (arith, bare_body, bare_fixed, bare, choose, described_more, fresh_grown, lead_cases, length-append, part_at, cell_more, next_length, null_most, map-append, last_length, one_more_length, row_starts, begun_after, append-nil, text_after-snoc, with_return_grown, with_row_grown)
+  part_grown : (tokens : List Token) (at : Open) (e : List ℕ) → AreBytes e → IsNext (response charset room) (part_at tokens at) e
+      → grown (part_add charset tokens at e) ≤ length (text tokens) + length (open_text at) + pending at + 64 * length e
+  part_grown tokens at e bytes n = grind (
+    arith,
+    bare_body,
+    bare_fixed,
+    bare,
+    choose,
+    described_more,
+    fresh_grown,
+    lead_cases,
+    length-append,
+    part_at,
+    cell_more,
+    next_length,
+    null_most,
+    map-append,
+    last_length,
+    one_more_length,
+    row_starts,
+    begun_after,
+    append-nil,
+    text_after-snoc,
+    with_return_grown,
+    with_row_grown,
+  )
 
   -- each element pays for what it adds
-  grown_more : (p : Part) (e : List ℕ) → AreBytes e → IsNext (response charset room) p e → grown ((response charset room).add p e) ≤ grown p + 64 * length e
+  grown_more : (p : Part) (e : List ℕ) → AreBytes e → IsNext (response charset room) p e
+      → grown ((response charset room).add p e) ≤ grown p + 64 * length e
   grown_more p e bytes n = omega (arith, part_grown p.tokens p.at e bytes n, length-append (text p.tokens) (open_text p.at))
 
   -- so do all elements between two states
   grown_along : (p q : Part) (bytes : List ℕ) → AreBytes bytes → Spelt (response charset room) p bytes q → grown q ≤ grown p + 64 * length bytes
-  grown_along p q bytes are h = bytes_induct _ (λ r b. grown r ≤ grown p + 64 * length b) (λ r b e k are n. omega (arith, grown_more r e are n, length-append b e)) p (omega arith) _ q are h
+  grown_along p q bytes are h = bytes_induct _ (λ r b. grown r ≤ grown p + 64 * length b) (λ r b e k are n. omega (
+    arith,
+    grown_more r e are n,
+    length-append b e,
+  )) p (omega arith) _ q are h
 
   -- the text so far is at most 64 times as long as all that is read
-  pub bounded_along : (q : Part) (bytes : List ℕ) → AreBytes bytes → Spelt (response charset room) response_start bytes q → length (text_so_far q) ≤ 64 * length bytes
+  pub bounded_along : (q : Part) (bytes : List ℕ) → AreBytes bytes → Spelt (response charset room) response_start bytes q
+      → length (text_so_far q) ≤ 64 * length bytes
   bounded_along q bytes are h = omega (arith, grown_along response_start q bytes are h)

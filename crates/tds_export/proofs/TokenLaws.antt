@@ -1,5 +1,11 @@
 -- What one more token adds to a response.
-use Rattle.tds_export.proofs.{Words.{APassed, Bodied, Bool, Cell, Column, Done, DoneInProc, Error, Fixed, Info, List, Metadata, NoMetadata, None, Notice, Option, PassedOver, Progress, ReturnValue, Returned, Row, ServerError, Some, Token, Tracks, TracksBefore, [], add_none, append_assoc, arith, before, begun, bodied, columns_of, described_after, encoded_after, false, first_error, fixed, greatest_span, how_many, is_error, is_final, is_notice, is_set, max, more, nat_lt, option_map, passed, refl, return_status_after, server_error, sym, test_lt, text_after, true, ℕ, ◌++◌, ◌+◌, ◌<◌, ◌∙◌, ◌∷◌, ◌≡◌, Reflects}, ResponseLaws.described_after-append}
+use Rattle.tds_export.proofs.Words.{APassed, Bodied, Bool, Cell, Column, Done, DoneInProc, Error, Fixed, Info, List, Metadata, NoMetadata, None}
+use Rattle.tds_export.proofs.Words.{Notice, Option, PassedOver, Progress, ReturnValue, Returned, Row, ServerError, Some, Token, Tracks, TracksBefore}
+use Rattle.tds_export.proofs.Words.{[], add_none, append_assoc, arith, before, begun, bodied, columns_of, described_after, encoded_after, false}
+use Rattle.tds_export.proofs.Words.{first_error, fixed, greatest_span, how_many, is_error, is_final, is_notice, is_set, max, more, nat_lt, option_map}
+use Rattle.tds_export.proofs.Words.{passed, refl, return_status_after, server_error, sym, test_lt, text_after, true, ℕ, ◌++◌, ◌+◌, ◌<◌, ◌∙◌, ◌∷◌, ◌≡◌}
+use Rattle.tds_export.proofs.Words.{Reflects}
+use Rattle.tds_export.proofs.ResponseLaws.{described_after-append}
 
 -- whether a set has begun after these tokens
 abbrev pub begun_after : Bool → List Token → Bool
@@ -7,7 +13,8 @@ begun_after begun [] = begun
 begun_after begun (Metadata bytes columns ∷ ts) = begun_after true ts
 begun_after begun (t ∷ ts) = begun_after begun ts
 
-pub text_after-snoc : (begun : Bool) (ts : List Token) (t : Token) → text_after begun (ts ++ t ∷ []) ≡ text_after begun ts ++ text_after (begun_after begun ts) (t ∷ [])
+pub text_after-snoc : (begun : Bool) (ts : List Token) (t : Token)
+    → text_after begun (ts ++ t ∷ []) ≡ text_after begun ts ++ text_after (begun_after begun ts) (t ∷ [])
 text_after-snoc begun [] t = refl
 text_after-snoc begun (Metadata bytes columns ∷ ts) t = cc (text_after-snoc true ts t, append_assoc _ (text_after true ts) (text_after _ (t ∷ [])))
 text_after-snoc begun (Row cells ∷ ts) t = cc (text_after-snoc begun ts t, append_assoc _ _ (text_after _ (t ∷ [])))
@@ -56,7 +63,8 @@ same_first (Error n ∷ ts) us h = refl
 same_first (u ∷ ts) us h = same_first ts us h
 
 -- the last status of a procedure after more tokens
-pub status_after-append : (before : Option ℕ) (a b : List Token) → return_status_after before (a ++ b) ≡ return_status_after (return_status_after before a) b
+pub status_after-append : (before : Option ℕ) (a b : List Token)
+    → return_status_after before (a ++ b) ≡ return_status_after (return_status_after before a) b
 status_after-append before [] b = refl
 status_after-append before (NoMetadata ∷ a) b = status_after-append before a b
 status_after-append before (t ∷ a) b = status_after-append (return_status_after before (t ∷ [])) a b
@@ -121,7 +129,8 @@ with_rows s n = record s { report = record s.report { rows = s.report.rows + n }
 pub ruleset tracked = (described_after-append, encoded_after-append, how_many-snoc, is_final-snoc, same_first, status_after-append, uncounted)
 
 module _ {s : Progress} {ts : List Token} (k : Reflects s ts false) where
-  pub tracks_quiet : (t : Token) (final : Bool) → is_quiet t ≡ true → final ≡ is_final (t ∷ []) → Tracks (record s { is_final = final }) (ts ++ t ∷ [])
+  pub tracks_quiet : (t : Token) (final : Bool) → is_quiet t ≡ true → final ≡ is_final (t ∷ [])
+      → Tracks (record s { is_final = final }) (ts ++ t ∷ [])
   tracks_quiet t final is e = grind (arith, tracked)
 
   pub tracks_body : (which : Bodied) (body : List ℕ) → is_notice which ≡ false → Tracks s (ts ++ bodied which body ∷ [])
@@ -131,7 +140,8 @@ module _ {s : Progress} {ts : List Token} (k : Reflects s ts false) where
   pub tracks_none : Tracks (record s { described = false }) (ts ++ NoMetadata ∷ [])
   tracks_none = grind (arith, tracked)
 
-  pub tracks_metadata : (bytes : List ℕ) (columns : List Column) → columns_of bytes ≡ columns → Tracks (record s { report = record s.report { sets = s.report.sets + 1 }; described = true }) (ts ++ Metadata bytes columns ∷ [])
+  pub tracks_metadata : (bytes : List ℕ) (columns : List Column) → columns_of bytes ≡ columns
+      → Tracks (record s { report = record s.report { sets = s.report.sets + 1 }; described = true }) (ts ++ Metadata bytes columns ∷ [])
   tracks_metadata bytes columns shown = grind (arith, tracked)
 
   pub tracks_row : (cells : List Cell) → Tracks (with_rows s 1) (ts ++ Row cells ∷ [])
@@ -139,7 +149,8 @@ module _ {s : Progress} {ts : List Token} (k : Reflects s ts false) where
 
   -- ---- ERROR and INFO
 
-  pub tracks_error : (n : Notice) (first : Option ServerError) → first ≡ option_map server_error (first_error (ts ++ Error n ∷ [])) → Tracks (record s { report = record s.report { errors = s.report.errors + 1; first_error = first } }) (ts ++ Error n ∷ [])
+  pub tracks_error : (n : Notice) (first : Option ServerError) → first ≡ option_map server_error (first_error (ts ++ Error n ∷ []))
+      → Tracks (record s { report = record s.report { errors = s.report.errors + 1; first_error = first } }) (ts ++ Error n ∷ [])
   tracks_error n first e = grind (arith, tracked)
 
   pub tracks_info : (n : Notice) → Tracks (record s { report = record s.report { infos = s.report.infos + 1 } }) (ts ++ Info n ∷ [])
@@ -147,5 +158,6 @@ module _ {s : Progress} {ts : List Token} (k : Reflects s ts false) where
 
   -- ---- RETURNVALUE
 
-  pub tracks_returned : (v : ReturnValue) → Tracks (record s { report = record s.report { return_values = s.report.return_values + 1 } }) (ts ++ Returned v ∷ [])
+  pub tracks_returned : (v : ReturnValue) → Tracks (record s { report = record s.report { return_values = s.report.return_values + 1 } })
+      (ts ++ Returned v ∷ [])
   tracks_returned v = grind (arith, tracked)

@@ -1,5 +1,24 @@
 -- What an export answers, where its reader and writer tell their bytes.
-use Rattle.tds_export.proofs.{Words.{Adds, Adds-trans, AfterStop, Appends, AreBytes, AreBytes-back, AreBytes-front, Bool, Bounded, BreaksStreaming, Charset, Comes, CompletesResponse, Consumes, Err, FailsToWrite, Fault, Given, Grammar, Held, IsHolding, IsReader, IsWriter, List, Longest, Ok, Option, Packet, Packets, Part, Place, Puts, ReadsPart, ReadsWhole, Report, Reported, Reports, Rose, Run, RunStops, Seen, Some, Space, Spelt, Spelt-one, Stop, Stopped, Stops, StopsAtEnd, StopsExport, StopsInReading, StopsInText, StopsInWriting, Tells, Text, Tidied, Token, WriteFailed, [], after_tokens, ap, append-nil, append_assoc, arith, begun_at, counted, drop, error_text, false, flat_map-append, fresh_at, grammar, grammar_of, in_last, inl, inr, length, length-append, length-take-le, limits, longest_cut, more, no_further, over_front, packet_bytes, payload_of, read, refl, response, response_start, rose, run_of, some_longest, stopped_with, subst, sym, take, take-append-add, take-append-drop, take-append-le, take-append_seam, takes_begins, text, text_put, text_so_far, true, waiting, wire_of, ℕ, ◌%◌, ◌*◌, ◌++◌, ◌+◌, ◌-◌, ◌/◌, ◌<◌, ◌∙◌, ◌∷◌, ◌≡◌, ◌≤◌, IsAccepted, Keeps}, SomeBytes.AreBytes-append, Peaks.{bounded, further, reached_broken, reached_stopped, reached_whole, rest_leads}, TextBound.bounded_along, DeviceFaults.no_failure, AcceptedSucceeds.outcome_succeeds, ResponseMeaning.response_is_spelt, Cuts.spelt_both, ReadingGrows.text_along, PacketOutcomes.{ReaderSide, kept_at, reading_stops, start}}
+use Rattle.tds_export.proofs.Words.{Adds, Adds-trans, AfterStop, Appends, AreBytes, AreBytes-back, AreBytes-front, Bool, Bounded, BreaksStreaming}
+use Rattle.tds_export.proofs.Words.{Charset, Comes, CompletesResponse, Consumes, Err, FailsToWrite, Fault, Given, Grammar, Held, IsHolding, IsReader}
+use Rattle.tds_export.proofs.Words.{IsWriter, List, Longest, Ok, Option, Packet, Packets, Part, Place, Puts, ReadsPart, ReadsWhole, Report, Reported}
+use Rattle.tds_export.proofs.Words.{Reports, Rose, Run, RunStops, Seen, Some, Space, Spelt, Spelt-one, Stop, Stopped, Stops, StopsAtEnd, StopsExport}
+use Rattle.tds_export.proofs.Words.{StopsInReading, StopsInText, StopsInWriting, Tells, Text, Tidied, Token, WriteFailed, [], after_tokens, ap}
+use Rattle.tds_export.proofs.Words.{append-nil, append_assoc, arith, begun_at, counted, drop, error_text, false, flat_map-append, fresh_at, grammar}
+use Rattle.tds_export.proofs.Words.{grammar_of, in_last, inl, inr, length, length-append, length-take-le, limits, longest_cut, more, no_further}
+use Rattle.tds_export.proofs.Words.{over_front, packet_bytes, payload_of, read, refl, response, response_start, rose, run_of, some_longest}
+use Rattle.tds_export.proofs.Words.{stopped_with, subst, sym, take, take-append-add, take-append-drop, take-append-le, take-append_seam, takes_begins}
+use Rattle.tds_export.proofs.Words.{text, text_put, text_so_far, true, waiting, wire_of, ℕ, ◌%◌, ◌*◌, ◌++◌, ◌+◌, ◌-◌, ◌/◌, ◌<◌, ◌∙◌, ◌∷◌, ◌≡◌, ◌≤◌}
+use Rattle.tds_export.proofs.Words.{IsAccepted, Keeps}
+use Rattle.tds_export.proofs.SomeBytes.{AreBytes-append}
+use Rattle.tds_export.proofs.Peaks.{bounded, further, reached_broken, reached_stopped, reached_whole, rest_leads}
+use Rattle.tds_export.proofs.TextBound.{bounded_along}
+use Rattle.tds_export.proofs.DeviceFaults.{no_failure}
+use Rattle.tds_export.proofs.AcceptedSucceeds.{outcome_succeeds}
+use Rattle.tds_export.proofs.ResponseMeaning.{response_is_spelt}
+use Rattle.tds_export.proofs.Cuts.{spelt_both}
+use Rattle.tds_export.proofs.ReadingGrows.{text_along}
+use Rattle.tds_export.proofs.PacketOutcomes.{ReaderSide, kept_at, reading_stops, start}
 use native.Mathlib.Decide.{dec_le}
 
 -- ---- the text
@@ -14,22 +33,37 @@ record Delivers (given : Given) (l : Held) (text : List ℕ) : Type 0 where
   all : gained ++ given.after.areas.output.bytes ≡ text
   delivered : l.delivered ≡ counted 0 (length gained)
 
-abbrev sends : (given : Given) (middle l : Held) (put piece sent : List ℕ) → IsWriter given l → Puts (fresh_at given) middle put → Adds middle l sent piece → Delivers given l (put ++ piece)
+abbrev sends : (given : Given) (middle l : Held) (put piece sent : List ℕ) → IsWriter given l → Puts (fresh_at given) middle put
+    → Adds middle l sent piece → Delivers given l (put ++ piece)
 sends given middle l put piece sent writer p a =
     let adds = Adds-trans (fresh_at given) middle l p.0 sent put piece p.2 a in
-    record { gained = p.0 ++ sent; has = rw writer.has at adds.0; all = ap (λ w. (p.0 ++ sent) ++ w) (sym writer.waiting) ∙ sym adds.1; delivered = adds.2 }
+    record {
+      gained = p.0 ++ sent;
+      has = rw writer.has at adds.0;
+      all = ap (λ w. (p.0 ++ sent) ++ w) (sym writer.waiting)
+          ∙ sym adds.1;
+      delivered = adds.2;
+    }
 
 -- the payload of packets is shorter than their wire, and of bytes where that is
 payload_short : (packets : List Packet) → length (payload_of packets) ≤ length (wire_of packets)
 payload_short [] = omega arith
-payload_short (p ∷ packets) = omega (arith, payload_short packets, length-append p.body (payload_of packets), length-append (packet_bytes p) (wire_of packets), length-append p.id p.body)
+payload_short (p ∷ packets) = omega (
+  arith,
+  payload_short packets,
+  length-append p.body (payload_of packets),
+  length-append (packet_bytes p) (wire_of packets),
+  length-append p.id p.body,
+)
 
 payload_bytes : (packets : List Packet) → AreBytes (wire_of packets) → AreBytes (payload_of packets)
 payload_bytes [] h = tt
-payload_bytes (p ∷ packets) h = AreBytes-append _ _ (AreBytes-back (4 ∷ p.status ∷ (8 + length p.body) / 256 ∷ (8 + length p.body) % 256 ∷ p.id) _ (AreBytes-front (packet_bytes p) (wire_of packets) h)) (payload_bytes packets (AreBytes-back (packet_bytes p) _ h))
+payload_bytes (p ∷ packets) h = AreBytes-append _ _ (AreBytes-back (4 ∷ p.status ∷ (8 + length p.body) / 256 ∷ (8 + length p.body) % 256 ∷ p.id) _
+    (AreBytes-front (packet_bytes p) (wire_of packets) h)) (payload_bytes packets (AreBytes-back (packet_bytes p) _ h))
 
 -- the text so far is within 64 times the limit of the wire
-fits_at : (run : Run) (packets : List Packet) (rest : List ℕ) (place : ℕ) (part : Part) (n : ℕ) → AreBytes run.input → wire_of packets ++ rest ≡ run.input → length (wire_of packets) ≤ (limits run).max_wire
+fits_at : (run : Run) (packets : List Packet) (rest : List ℕ) (place : ℕ) (part : Part) (n : ℕ) → AreBytes run.input
+    → wire_of packets ++ rest ≡ run.input → length (wire_of packets) ≤ (limits run).max_wire
     → Spelt (grammar run) response_start (take place (payload_of packets)) part → n ≤ length (text_so_far part) → n ≤ 64 * (limits run).max_wire
 fits_at run packets rest place part n are begin within spelt few =
     let payload = payload_of packets in
@@ -42,17 +76,20 @@ fits : (run : Run) (fault : Fault) (place : Place) → AreBytes run.input → St
 fits run fault place are x = grind (arith, fits_at, length-append)
 
 -- the count of the bytes delivered is exact
-exact : (run : Run) (delivered : ℕ) → delivered ≡ counted 0 (length run.gained) → length (text_put run) ≤ 64 * (limits run).max_wire → delivered ≡ length run.gained
+exact : (run : Run) (delivered : ℕ) → delivered ≡ counted 0 (length run.gained) → length (text_put run) ≤ 64 * (limits run).max_wire
+    → delivered ≡ length run.gained
 exact run delivered e few = omega (arith, length-append run.gained (waiting run))
 
 -- ---- a run that stopped in writing
 
 -- the longest part of a payload that begins with these bytes has their text, and more of it
-longest_text : (charset : Charset) (room : ℕ) (bytes more : List ℕ) (p q : Part) (place : ℕ) → Spelt (response charset room) response_start bytes p → Longest (response charset room) response_start (bytes ++ more) place q → (rest : List ℕ) × (text_so_far p ++ rest ≡ text_so_far q)
+longest_text : (charset : Charset) (room : ℕ) (bytes more : List ℕ) (p q : Part) (place : ℕ) → Spelt (response charset room) response_start bytes p
+    → Longest (response charset room) response_start (bytes ++ more) place q → (rest : List ℕ) × (text_so_far p ++ rest ≡ text_so_far q)
 longest_text charset room bytes more p q place h l = let f = further _ _ p q _ _ _ h l in text_along _ _ p q _ f.1
 
 -- a part that fewer bytes lead to has no more text than that before the last element
-earlier_text : (charset : Charset) (room : ℕ) (bytes element : List ℕ) (p q : Part) (place : ℕ) → Spelt (response charset room) response_start bytes p → length element ≡ (response charset room).size p → place < length (bytes ++ element)
+earlier_text : (charset : Charset) (room : ℕ) (bytes element : List ℕ) (p q : Part) (place : ℕ) → Spelt (response charset room) response_start bytes p
+    → length element ≡ (response charset room).size p → place < length (bytes ++ element)
     → Spelt (response charset room) response_start (take place (bytes ++ element)) q → length (text_so_far q) ≤ length (text_so_far p)
 earlier_text charset room bytes element p q place h whole less k = elim (dec_le place (length bytes)) [
   | yes below ↦
@@ -69,8 +106,11 @@ earlier_text charset room bytes element p q place h whole less k = elim (dec_le 
 ]
 
 -- the writer broke: the last packet read was needed to fill the block
-broken : (run : Run) (q : Seen) (k : Held) (at : Part) (stop : Stop) → ReaderSide run q → IsWriter run.given k → (x : BreaksStreaming (grammar run) text_so_far response_start (start run) q (fresh_at run.given) k at stop)
-    → IsHolding run.given.after.areas.description ((grammar run).add at x.element) → run.gained ≡ (subst (Puts (fresh_at run.given) x.middle) x.puts.1 x.puts.2).0 ++ x.breaks.0 → text_put run ≡ text_so_far at ++ take x.breaks.2 x.more → StopsInText run WriteFailed (length run.gained)
+broken : (run : Run) (q : Seen) (k : Held) (at : Part) (stop : Stop) → ReaderSide run q → IsWriter run.given k
+    → (x : BreaksStreaming (grammar run) text_so_far response_start (start run) q (fresh_at run.given) k at stop)
+    → IsHolding run.given.after.areas.description ((grammar run).add at x.element)
+    → run.gained ≡ (subst (Puts (fresh_at run.given) x.middle) x.puts.1 x.puts.2).0 ++ x.breaks.0
+    → text_put run ≡ text_so_far at ++ take x.breaks.2 x.more → StopsInText run WriteFailed (length run.gained)
 broken run q k at stop side writer x holds gained all =
     let g = grammar run in
     let f = run.given.before.reader.failures in
@@ -86,18 +126,32 @@ broken run q k at stop side writer x holds gained all =
     let longest = some_longest g _ _ in
     let beyond = longest_text _ _ _ _ _ _ _ spelt (subst (λ v. Longest g response_start v longest.0 longest.1) payload_is longest.2) in
     let some : 0 < length be = omega (arith, length-append x.bytes x.element) in
-    let last = in_last _ _ f _ _ _ q _ _ side.left x.takes b (omega (arith, length-append (be ++ x.ahead) (q.future []).bytes, length-append be x.ahead)) in
+    let last = in_last _ _ f _ _ _ q _ _ side.left x.takes b (omega (
+      arith,
+      length-append (be ++ x.ahead) (q.future []).bytes,
+      length-append be x.ahead,
+    )) in
     let early = some_longest g response_start (payload_of last.before) in
     let joined = ap payload_of (sym last.split) ∙ flat_map-append _ last.before (last.last ∷ []) in
     let fewer : early.0 < length be = omega arith in
-    let front = sym (take-append-le early.0 (payload_of last.before) (payload_of (last.last ∷ [])) early.2.within) ∙ ap (take early.0) (sym joined ∙ payload_is) ∙ take-append-le early.0 be more (omega arith) in
-    let short = earlier_text _ _ _ _ at early.1 early.0 x.spelt x.next.whole fewer (subst (λ v. Spelt g response_start v early.1) front early.2.spelt) in
-    let total : length (text_put run) ≡ 4096 * (p.1 + y.1 + 1) = omega (arith, ap length gained, ap length writer.waiting, length-append run.gained (waiting run), length-append p.0 y.0) in
+    let front = sym (take-append-le early.0 (payload_of last.before) (payload_of (last.last ∷ [])) early.2.within)
+    ∙ ap (take early.0) (sym joined ∙ payload_is) ∙ take-append-le early.0 be more (omega arith) in
+    let short = earlier_text _ _ _ _ at early.1 early.0 x.spelt x.next.whole fewer (subst (λ v. Spelt g response_start v early.1) front early.2.spelt)
+    in
+    let total : length (text_put run) ≡ 4096 * (p.1 + y.1 + 1) =
+    omega (arith, ap length gained, ap length writer.waiting, length-append run.gained (waiting run), length-append p.0 y.0) in
     let chunks : length (text_put run) ≡ 4096 * (length run.gained / 4096 + 1) = omega (arith, ap length gained, length-append p.0 y.0) in
     let passes : length (text_so_far at) < length (text_put run) = omega (arith, ap length p.2.1, length-append p.0 x.middle.waiting) in
     let text_more : (text_put run) ++ (drop y.2 x.more ++ beyond.0) ≡ text_so_far longest.1 =
-    sym (append_assoc (text_put run) (drop y.2 x.more) beyond.0) ∙ ap (λ v. (v ++ drop y.2 x.more) ++ beyond.0) all ∙ ap (λ v. v ++ beyond.0) (append_assoc (text_so_far at) (take y.2 x.more) (drop y.2 x.more) ∙ ap (λ v. text_so_far at ++ v) (take-append-drop y.2 x.more) ∙ x.text_is) ∙ beyond.1 in
-    let comes : Comes run b.packets (length be) to = record { within = omega (arith, ap length payload_is, length-append be more); spelt = rw (ap (take (length be)) payload_is ∙ take-append_seam be more) spelt } in
+    sym (append_assoc (text_put run) (drop y.2 x.more) beyond.0) ∙ ap (λ v. (v ++ drop y.2 x.more) ++ beyond.0) all
+    ∙ ap (λ v. v ++ beyond.0) (append_assoc (text_so_far at) (take y.2 x.more) (drop y.2 x.more)
+    ∙ ap (λ v. text_so_far at ++ v) (take-append-drop y.2 x.more) ∙ x.text_is) ∙ beyond.1 in
+    let comes : Comes run b.packets (length be) to =
+    record {
+      within = omega (arith, ap length payload_is, length-append be more);
+      spelt = rw (ap (take (length be)) payload_is
+          ∙ take-append_seam be more) spelt;
+    } in
     record {
       packets = b.packets;
       place = longest.0;
@@ -124,11 +178,13 @@ record WholeMessage (run : Run) (tokens : List Token) : Type 0 where
   spelt : Spelt (grammar run) response_start (payload_of packets) (after_tokens tokens)
   kept : Keeps run packets (length (payload_of packets)) (after_tokens tokens)
 
-whole_message_of : (run : Run) {q : Seen} {old new : Held} → ReaderSide run q → (x : ReadsWhole (grammar run) response_start (start run) q old new run.given.after.areas.description) → WholeMessage run x.tokens
+whole_message_of : (run : Run) {q : Seen} {old new : Held} → ReaderSide run q
+    → (x : ReadsWhole (grammar run) response_start (start run) q old new run.given.after.areas.description) → WholeMessage run x.tokens
 whole_message_of run {q = q} side x =
     let size = (limits run).packet_size in
     let limit = (limits run).max_wire in
-    let m = over_front size limit run.given.before.reader.failures run.input run.left q x.bytes (length x.bytes + 1) side.bytes side.left x.takes x.over in
+    let m = over_front size limit run.given.before.reader.failures run.input run.left q x.bytes (length x.bytes + 1) side.bytes side.left x.takes
+    x.over in
     grind (arith, over_front, payload_bytes, AreBytes-front, response_is_spelt, append-nil, longest_cut, kept_at)
 
 text_after_tokens : (tokens : List Token) → text_so_far (after_tokens tokens) ≡ text tokens
@@ -139,7 +195,8 @@ take_payload : (l : List ℕ) → take (length l) l ≡ l
 take_payload l = cc (append-nil l, take-append_seam l [])
 
 -- the last delivery failed
-failed_at_end : (run : Run) (tokens : List Token) → WholeMessage run tokens → text_put run ≡ text tokens → FailsToWrite run.given → StopsInText run WriteFailed (length run.gained)
+failed_at_end : (run : Run) (tokens : List Token) → WholeMessage run tokens → text_put run ≡ text tokens → FailsToWrite run.given
+    → StopsInText run WriteFailed (length run.gained)
 failed_at_end run tokens w same fails = grind (arith, append-nil, take_payload, text_after_tokens)
 
 -- ---- what an export answers
@@ -149,24 +206,30 @@ begins_run : (given : Given) (input : List ℕ) → given.before.reader.bytes �
 begins_run given input e = cc
 
 -- where its reader stands
-reader_side : (given : Given) (input left gained : List ℕ) (q : Seen) → AreBytes input → q.left ≡ Some left → IsReader given q → ReaderSide (run_of given input left gained) q
+reader_side : (given : Given) (input left gained : List ℕ) (q : Seen) → AreBytes input → q.left ≡ Some left → IsReader given q
+    → ReaderSide (run_of given input left gained) q
 reader_side given input left gained q are ql reader = record { bytes = are; left = ql; failures = reader.failures }
 
 -- all of the text was put, where the whole response was read
-whole_puts : {g : Grammar Part Fault} {a q : Seen} {h k : Held} {area : Space} → (x : ReadsWhole g response_start a q h k area) → Puts h k (text x.tokens)
+whole_puts : {g : Grammar Part Fault} {a q : Seen} {h k : Held} {area : Space} → (x : ReadsWhole g response_start a q h k area)
+    → Puts h k (text x.tokens)
 whole_puts x = rw (x.puts.1 ∙ text_after_tokens x.tokens) at x.puts.2
 
 -- what is told of a stop, with the sink left in this state
 abbrev StopTold : Given → (input left : List ℕ) → Stop → Held → Type 0
-StopTold given input left stop l = (gained : List ℕ) × Appends given.before.writer.bytes given.after.writer.bytes gained × AfterStop (run_of given input left gained) (stopped_with stop l)
+StopTold given input left stop l = (gained : List ℕ) × Appends given.before.writer.bytes given.after.writer.bytes gained
+    × AfterStop (run_of given input left gained) (stopped_with stop l)
 
-module _ (given : Given) (input left : List ℕ) (q : Seen) (stop : Stop) (are : AreBytes input) (ql : q.left ≡ Some left) (reader : IsReader given q) (none : given.after.areas.notice.bytes ≡ []) where
+module _ (given : Given) (input left : List ℕ) (q : Seen) (stop : Stop) (are : AreBytes input) (ql : q.left ≡ Some left) (reader : IsReader given q)
+    (none : given.after.areas.notice.bytes ≡ []) where
   -- the payload before anything was read of it
   abbrev began : Seen
   began = start (run_of given input left [])
 
   -- the payload stopped
-  stop_reading : (middle l : Held) → IsWriter given l → StopsInReading (grammar_of given) response_start began q 0 (fresh_at given) middle given.after.areas.description stop → Tidied middle l → StopTold given input left stop l
+  stop_reading : (middle l : Held) → IsWriter given l
+      → StopsInReading (grammar_of given) response_start began q 0 (fresh_at given) middle given.after.areas.description stop → Tidied middle l
+      → StopTold given input left stop l
   stop_reading middle l writer y t =
       let p = rw y.puts.1 at y.puts.2 in
       let d = sends _ _ l _ _ _ writer p t.1 in
@@ -188,22 +251,27 @@ module _ (given : Given) (input left : List ℕ) (q : Seen) (stop : Stop) (are :
       )
 
   -- the writer failed
-  in_text : (k : Held) (gained : List ℕ) → IsWriter given k → Appends given.before.writer.bytes given.after.writer.bytes gained → k.delivered ≡ counted 0 (length gained)
-      → StopsInText (run_of given input left gained) WriteFailed (length gained) → stop ≡ record { fault = WriteFailed; place = Text k.delivered } → StopTold given input left stop k
+  in_text : (k : Held) (gained : List ℕ) → IsWriter given k → Appends given.before.writer.bytes given.after.writer.bytes gained
+      → k.delivered ≡ counted 0 (length gained)
+      → StopsInText (run_of given input left gained) WriteFailed (length gained) → stop ≡ record { fault = WriteFailed; place = Text k.delivered }
+      → StopTold given input left stop k
   in_text k gained writer has delivered stops is =
       let run = run_of given input left gained in
       let written = exact run k.delivered delivered (fits run WriteFailed (Text (length gained)) are stops) in
       grind (arith, exact, fits)
 
   -- the writer broke
-  stop_writing : (k : Held) → IsWriter given k → StopsInWriting (grammar_of given) response_start began q (fresh_at given) k given.after.areas.description stop → StopTold given input left stop k
+  stop_writing : (k : Held) → IsWriter given k
+      → StopsInWriting (grammar_of given) response_start began q (fresh_at given) k given.after.areas.description stop
+      → StopTold given input left stop k
   stop_writing k writer y =
       let x = y.breaks in
       let d = sends _ _ k _ _ _ writer (rw x.puts.1 at x.puts.2) x.breaks.3 in
       in_text k _ writer d.has d.delivered (broken _ q k _ _ (reader_side _ _ _ _ q are ql reader) writer x y.holds refl d.all) x.breaks.8
 
   -- the last delivery failed
-  stop_at_end : (k : Held) → IsWriter given k → StopsAtEnd (grammar_of given) response_start began q (fresh_at given) k given.after.areas.description stop → StopTold given input left stop k
+  stop_at_end : (k : Held) → IsWriter given k
+      → StopsAtEnd (grammar_of given) response_start began q (fresh_at given) k given.after.areas.description stop → StopTold given input left stop k
   stop_at_end k writer y =
       let p = whole_puts y.whole in
       let d = sends _ _ k _ [] _ writer p y.fails.1 in
@@ -213,14 +281,19 @@ module _ (given : Given) (input left : List ℕ) (q : Seen) (stop : Stop) (are :
       in_text k _ writer d.has d.delivered (failed_at_end _ y.whole.tokens whole (simp (d.all, append-nil)) rises) y.fails.2
 
   -- each of these
-  stopped_of : (k l : Held) (failed : Bool) → IsWriter given l → RunStops (grammar_of given) response_start began q 0 (fresh_at given) k given.after.areas.description failed stop → (failed ≡ false → Tidied k l) → (failed ≡ true → l ≡ k) → StopTold given input left stop l
+  stopped_of : (k l : Held) (failed : Bool) → IsWriter given l
+      → RunStops (grammar_of given) response_start began q 0 (fresh_at given) k given.after.areas.description failed stop
+      → (failed ≡ false → Tidied k l) → (failed ≡ true → l ≡ k) → StopTold given input left stop l
   stopped_of k l failed writer (inl (inl y)) tidy same = stop_reading k l writer y.0 (tidy y.1)
   stopped_of k l failed writer (inl (inr y)) tidy same = rw (same y.1) (stop_writing k (subst (IsWriter given) (same y.1) writer) y.0)
   stopped_of k l failed writer (inr y) tidy same = rw (same y.1) (stop_at_end k (subst (IsWriter given) (same y.1) writer) y.0)
 
   -- the bound on its descriptions
-  stop_bounded : (gained : List ℕ) (k : Held) (failed : Bool) → RunStops (grammar_of given) response_start began q 0 (fresh_at given) k given.after.areas.description failed stop → Bounded (run_of given input left gained)
-  stop_bounded gained k failed (inl (inl y)) = let run = run_of given input left gained in bounded _ _ are (reached_stopped run q are ql y.0.stops) y.0.holds.peak
+  stop_bounded : (gained : List ℕ) (k : Held) (failed : Bool)
+      → RunStops (grammar_of given) response_start began q 0 (fresh_at given) k given.after.areas.description failed stop
+      → Bounded (run_of given input left gained)
+  stop_bounded gained k failed (inl (inl y)) = let run = run_of given input left gained in
+      bounded _ _ are (reached_stopped run q are ql y.0.stops) y.0.holds.peak
   stop_bounded gained k failed (inl (inr y)) =
       let run = run_of given input left gained in
       bounded _ _ are (reached_broken run q are ql y.0) y.0.holds.peak
@@ -229,7 +302,8 @@ module _ (given : Given) (input left : List ℕ) (q : Seen) (stop : Stop) (are :
       bounded _ _ are (reached_whole run q are ql y.0.whole) y.0.whole.holds.peak
 
 -- what a run that stopped read
-stops_read : (g : Grammar Part Fault) (a q : Seen) (h k : Held) (area : Space) (failed : Bool) (stop : Stop) → RunStops g response_start a q 0 h k area failed stop → (read : List ℕ) × Consumes a.left q.left read
+stops_read : (g : Grammar Part Fault) (a q : Seen) (h k : Held) (area : Space) (failed : Bool) (stop : Stop)
+    → RunStops g response_start a q 0 h k area failed stop → (read : List ℕ) × Consumes a.left q.left read
 stops_read g a q h k area failed stop h8 = grind arith
 
 pub stop_tells : (given : Given) (stopped : Stopped) → StopsExport given stopped → Tells given (Err stopped)
@@ -247,7 +321,8 @@ pub report_tells : (given : Given) (report : Report) → Reports given report �
 unfolding Tells
 report_tells given report x = λ input are e.
     let area = given.after.areas.description in
-    let z = subst (λ (a : Seen). (c : CompletesResponse (grammar_of given) response_start a x.seen (fresh_at given) x.held report area) × (given.after.areas.notice.bytes ≡ error_text c.whole.tokens)) (begins_run given input e) (x.completes, x.notice) in
+    let z = subst (λ (a : Seen). (c : CompletesResponse (grammar_of given) response_start a x.seen (fresh_at given) x.held report area)
+    × (given.after.areas.notice.bytes ≡ error_text c.whole.tokens)) (begins_run given input e) (x.completes, x.notice) in
     let y = z.0 in
     let tokens = y.whole.tokens in
     let left = known_left input y.whole.takes.0 x.seen.left y.whole.takes.1.0 in
@@ -258,7 +333,8 @@ report_tells given report x = λ input are e.
     let empty = sym x.writer.waiting ∙ y.finishes.2 in
     let same = d.all ∙ append-nil (text tokens) in
     let gained = sym (append-nil run.gained) ∙ ap (λ w. run.gained ++ w) (sym empty) ∙ same in
-    let few = fits_at run whole.packets left.0 (length (payload_of whole.packets)) (after_tokens tokens) (length (text_put run)) are whole.stands.begin whole.stands.within
+    let few = fits_at run whole.packets left.0 (length (payload_of whole.packets)) (after_tokens tokens) (length (text_put run)) are
+    whole.stands.begin whole.stands.within
     (rw (take_payload _) whole.spelt) (omega (arith, ap length same, ap length (text_after_tokens tokens))) in
     let written = exact run x.held.delivered d.delivered few ∙ ap length gained in
     let outcome : Reported run report = record {

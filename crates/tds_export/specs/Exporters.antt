@@ -17,7 +17,8 @@ use Rattle.tds_export.specs.TokenGrammar.{Part, response, response_start}
 use Rattle.tds_export.specs.Steps.{CompletesResponse, StepStops, IsHolding, IsNoted, ReadsTokens, RunStops, Tracks, TracksBefore, after_tokens}
 use Rattle.tds_export.specs.Tokens.{Token}
 
--- what a run reads, writes and keeps, at a moment: its payload and the place there, its sink and whether it failed, and its description and notice areas
+-- what a run reads, writes and keeps, at a moment: its payload and the place there, its sink and whether it failed, and its description and notice
+-- areas
 pub record View : Type 0 where
   pub seen : Seen
   pub place : ℕ
@@ -41,7 +42,8 @@ view remaining contents payload sink area notice = record {
 abbrev pub view_of : {R W : Type 0} → (R → Option (List ℕ)) → (W → Option (List ℕ)) → Exporter R W → View
 view_of remaining contents e = view remaining contents e.payload.now e.sink.now e.description.now e.notice.now
 
--- A response can be read from here: the payload goes on, the sink takes text, the description area is empty and has room for a column, the token area has room for a body, the notice area is empty, and the small area has its room.
+-- A response can be read from here: the payload goes on, the sink takes text, the description area is empty and has room for a column, the token area
+-- has room for a body, the notice area is empty, and the small area has its room.
 pub record CanBegin {R W : Type 0} (payload : Payload R) (sink : Sink W) (area token notice small : Space) : Type 0 where
   pub going : IsGoing payload
   pub writing : IsWriting sink
@@ -59,7 +61,8 @@ pub record CanBegin {R W : Type 0} (payload : Payload R) (sink : Sink W) (area t
 abbrev pub things_counted : Report → ℕ
 things_counted report = report.sets + report.rows + report.errors + report.infos + report.return_values
 
--- The run goes on: its payload and its sink do, its areas have their rooms, no more sets, rows, notices and returned values are counted than bytes were read, and the columns that are described are in the area.
+-- The run goes on: its payload and its sink do, its areas have their rooms, no more sets, rows, notices and returned values are counted than bytes
+-- were read, and the columns that are described are in the area.
 pub record IsRunning {R W : Type 0} (e : Exporter R W) : Type 0 where
   pub payload : IsGoing e.payload.now
   pub sink : IsWriting e.sink.now
@@ -105,11 +108,13 @@ Advances old new = old.payload.now.place < new.payload.now.place
 -- The next token was read from this state on, after these tokens, and its text put. The notice area has the text of the first error.
 abbrev pub ReadsNext : Charset → Part → List Token → View → View → Progress → Type 0
 ReadsNext charset from tokens old new progress =
-    (x : ReadsTokens (response charset old.area.room) from tokens old.seen new.seen old.place new.place old.held new.held progress new.area) × IsNoted new.notice (tokens ++ x.more)
+    (x : ReadsTokens (response charset old.area.room) from tokens old.seen new.seen old.place new.place old.held new.held progress new.area)
+    × IsNoted new.notice (tokens ++ x.more)
 
 -- The reading from this state on stopped.
 abbrev pub StopsIn : Charset → Part → View → View → Stop → Type 0
-StopsIn charset from old new stop = StepStops (response charset old.area.room) from old.seen new.seen old.place old.held new.held new.area new.failed stop
+StopsIn charset from old new stop = StepStops (response charset old.area.room) from old.seen new.seen old.place old.held new.held new.area new.failed
+    stop
 
 -- The message is over, and nothing else has changed.
 pub record FindsEnd {R W : Type 0} (remaining : R → Option (List ℕ)) (old new : Exporter R W) : Type 0 where
@@ -122,31 +127,38 @@ pub record FindsEnd {R W : Type 0} (remaining : R → Option (List ℕ)) (old ne
   pub progress : new.progress ≡ old.progress
 
 -- A token was read after its first byte, from this state on, and its text put; or that stopped: whatever the tokens before it are.
-abbrev pub BodyRead : {R W U : Type 0} → (R → Option (List ℕ)) → (W → Option (List ℕ)) → (List Token → Part) → Exporter R W → Exporter R W → Result U Stop → Type 0
-BodyRead remaining contents from old new result = (tokens : List Token) → TracksBefore old.progress tokens → IsHolding old.description.now (after_tokens tokens) → IsNoted old.notice.now tokens →
+abbrev pub BodyRead : {R W U : Type 0} → (R → Option (List ℕ)) → (W → Option (List ℕ)) → (List Token → Part) → Exporter R W → Exporter R W
+    → Result U Stop → Type 0
+BodyRead remaining contents from old new result = (tokens : List Token) → TracksBefore old.progress tokens
+    → IsHolding old.description.now (after_tokens tokens) → IsNoted old.notice.now tokens →
     MatchResult result
     (λ _. ReadsNext old.charset (from tokens) tokens (view_of remaining contents old) (view_of remaining contents new) new.progress)
     (λ stop. StopsIn old.charset (from tokens) (view_of remaining contents old) (view_of remaining contents new) stop)
 
 -- A call read a token after its first byte, as above, and left the run on the same devices and areas, going on if it returned no error.
-pub record StepRead {R W U : Type 0} (remaining : R → Option (List ℕ)) (contents : W → Option (List ℕ)) (from : List Token → Part) (old new : Exporter R W) (result : Result U Stop) : Type 0 where
+pub record StepRead {R W U : Type 0} (remaining : R → Option (List ℕ)) (contents : W → Option (List ℕ)) (from : List Token
+    → Part) (old new : Exporter R W) (result : Result U Stop) : Type 0 where
   pub leaves : LeavesRun old new result
   pub reads : BodyRead remaining contents from old new result
 
 -- The next token was read and its text put, or the message is over; or that stopped: whatever the tokens before it are.
 abbrev pub TokenRead : {R W : Type 0} → (R → Option (List ℕ)) → (W → Option (List ℕ)) → Exporter R W → Exporter R W → Result Bool Stop → Type 0
-TokenRead remaining contents old new result = (tokens : List Token) → Tracks old.progress tokens → IsHolding old.description.now (after_tokens tokens) → IsNoted old.notice.now tokens →
+TokenRead remaining contents old new result = (tokens : List Token) → Tracks old.progress tokens → IsHolding old.description.now (after_tokens tokens)
+    → IsNoted old.notice.now tokens →
     MatchResult result
-    (λ more. MatchBool more (ReadsNext old.charset (after_tokens tokens) tokens (view_of remaining contents old) (view_of remaining contents new) new.progress) (FindsEnd remaining old new))
+    (λ more. MatchBool more (ReadsNext old.charset (after_tokens tokens) tokens (view_of remaining contents old) (view_of remaining contents new)
+    new.progress) (FindsEnd remaining old new))
     (λ stop. StopsIn old.charset (after_tokens tokens) (view_of remaining contents old) (view_of remaining contents new) stop)
 
 -- A response was read whole, its text delivered and its report returned; or that stopped.
 abbrev pub ResponseRead : Charset → View → View → Result Report Stop → Type 0
 ResponseRead charset old new result = MatchResult result
-    (λ report. (x : CompletesResponse (response charset old.area.room) response_start old.seen new.seen old.held new.held report new.area) × IsNoted new.notice x.whole.tokens)
+    (λ report. (x : CompletesResponse (response charset old.area.room) response_start old.seen new.seen old.held new.held report new.area)
+    × IsNoted new.notice x.whole.tokens)
     (λ stop. RunStops (response charset old.area.room) response_start old.seen new.seen old.place old.held new.held new.area new.failed stop)
 
 -- A run that had read nothing read a response whole, delivered its text and returned its report; or that stopped.
 abbrev pub WholeRead : {R W : Type 0} → (R → Option (List ℕ)) → (W → Option (List ℕ)) → Exporter R W → Exporter R W → Result Report Stop → Type 0
-WholeRead remaining contents old new result = Tracks old.progress [] → old.description.now ≡ empty old.description.now.room → IsNoted old.notice.now [] →
+WholeRead remaining contents old new result = Tracks old.progress [] → old.description.now ≡ empty old.description.now.room
+    → IsNoted old.notice.now [] →
     ResponseRead old.charset (view_of remaining contents old) (view_of remaining contents new) result

@@ -73,7 +73,8 @@ pub record StopsExport (given : Given) (stopped : Stopped) : Type 0 where
   pub stopped_is : stopped ≡ stopped_with stop held
   pub notice : given.after.areas.notice.bytes ≡ []
 
--- A reader that told its bytes still does, a writer that tells its own gained some, and the export returns what the input makes of the response; of an accepted one its report, but for a device that fails.
+-- A reader that told its bytes still does, a writer that tells its own gained some, and the export returns what the input makes of the response; of
+-- an accepted one its report, but for a device that fails.
 unfoldable pub Tells : Given → Result Report Stopped → Type 0
 Tells given result = (input : List ℕ) → AreBytes input → given.before.reader.bytes ≡ Some input →
     (left : List ℕ) × (gained : List ℕ) × (given.after.reader.bytes ≡ Some left)

@@ -16,15 +16,17 @@ abbrev pub IsInBody : List Token → Bodied → Part → Type 0
 IsInBody tokens which at = (at ≡ in_length which tokens) ⊎ ((n : ℕ) × (at ≡ record { tokens = tokens; at = TokenBody which n }))
 
 -- The Length and the body were read, and this is the body.
-pub record ReadsNotice (charset : Charset) (room : ℕ) (tokens : List Token) (which : Bodied) (old new : Seen) (place place' : ℕ) (body : List ℕ) : Type 0 where
+pub record ReadsNotice (charset : Charset) (room : ℕ) (tokens : List Token) (which : Bodied) (old new : Seen) (place place' : ℕ)
+    (body : List ℕ) : Type 0 where
   pub reads : Reads (response charset room) (in_length which tokens) old new (with_token tokens (bodied which body))
   pub place_is : place' ≡ place + length reads.bytes
 
 -- That stopped before the Length or before the body.
-pub record StopsInNotice (charset : Charset) (room : ℕ) (tokens : List Token) (which : Bodied) (old new : Seen) (place : ℕ) (stop : Stop) : Type 0 where
-  pub at : Part
-  pub stops : StopsReading (response charset room) (in_length which tokens) old new place at stop
-  pub in_body : IsInBody tokens which at
+pub record StopsInNotice (charset : Charset) (room : ℕ) (tokens : List Token) (which : Bodied) (old new : Seen) (place : ℕ) (stop : Stop) : Type 0
+  where
+    pub at : Part
+    pub stops : StopsReading (response charset room) (in_length which tokens) old new place at stop
+    pub in_body : IsInBody tokens which at
 
 -- The Length and the body of an ERROR or INFO were read, or that stopped: whatever the tokens before it are.
 abbrev pub NoticeRead : {R U : Type 0} → (R → Option (List ℕ)) → (old new : Payload R) → List ℕ → Result U Stop → Type 0

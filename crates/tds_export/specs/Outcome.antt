@@ -1,5 +1,6 @@
 -- What an export returns and leaves.
-use Rattle.std.specs.Prelude.{◌≡◌, ◌+◌, ◌*◌, ◌-◌, ◌/◌, ◌^◌, ◌<◌, ◌≤◌, ◌⊎◌, ℕ, ℤ, pos, negsuc, List, [], ◌∷◌, ◌++◌, length, take, drop, Some, Result, Ok, Err, if◌then◌else◌, nat_lt, option_map}
+use Rattle.std.specs.Prelude.{◌≡◌, ◌+◌, ◌*◌, ◌-◌, ◌/◌, ◌^◌, ◌<◌, ◌≤◌, ◌⊎◌, ℕ, ℤ, pos, negsuc, List, [], ◌∷◌, ◌++◌, length, take, drop, Some, Result}
+use Rattle.std.specs.Prelude.{Ok, Err, if◌then◌else◌, nat_lt, option_map}
 use Rattle.tds_packet.specs.declared.fault.Fault.{Fault}
 use Rattle.tds_packet.specs.declared.fault.Fault.TheVariants.{InputEnded, ReadFailed, WriteFailed}
 use Rattle.tds_packet.specs.declared.fault.Place.{Place}
@@ -10,7 +11,8 @@ use Rattle.tds_columns.specs.Description.{description_bytes}
 use Rattle.tds_export.specs.declared.report.Report.{Report}
 use Rattle.tds_export.specs.declared.report.ServerError.{ServerError}
 use Rattle.tds_export.specs.declared.report.Stopped.{Stopped}
-use Rattle.tds_export.specs.Tokens.{Notice, Token, text, is_set, is_row, is_error, is_info, is_return, how_many, first_error, return_status, error_text, encoded_after}
+use Rattle.tds_export.specs.Tokens.{Notice, Token, text, is_set, is_row, is_error, is_info, is_return, how_many, first_error, return_status}
+use Rattle.tds_export.specs.Tokens.{error_text, encoded_after}
 use Rattle.tds_export.specs.Response.{Accepted}
 use Rattle.tds_export.specs.TokenGrammar.{Open, Describing, Part, response_start, text_so_far, span_so_far}
 use Rattle.tds_export.specs.Moments.{FailsToRead, FailsToWrite, Run, grammar_of, limits, text_put, waiting}

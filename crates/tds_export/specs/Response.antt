@@ -6,9 +6,11 @@ use Rattle.tds_values.specs.declared.charset.Charset.{Charset}
 use Rattle.tds_rows.specs.Cells.{Cell}
 use Rattle.tds_rows.specs.Rows.{SpellsRow, SpellsNbcRow}
 use Rattle.tds_packet.specs.Packets.{Packet, Message, payload_of}
-use Rattle.tds_export.specs.TokenBytes.{APassed, AnOrder, AnEnvChange, AnError, AnInfo, AStatus, ADone, ADoneInProc, Lead, AMetadata, ARow, AnNbcRow, AReturn, WithBody, WithFields}
+use Rattle.tds_export.specs.TokenBytes.{APassed, AnOrder, AnEnvChange, AnError, AnInfo, AStatus, ADone, ADoneInProc, Lead, AMetadata, ARow, AnNbcRow}
+use Rattle.tds_export.specs.TokenBytes.{AReturn, WithBody, WithFields}
 use Rattle.tds_export.specs.ReturnValue.{SpellsReturnValue}
-use Rattle.tds_export.specs.Tokens.{Notice, Token, Metadata, NoMetadata, Row, PassedOver, Error, Info, ReturnStatus, Returned, Done, DoneInProc, described_after, is_final}
+use Rattle.tds_export.specs.Tokens.{Notice, Token, Metadata, NoMetadata, Row, PassedOver, Error, Info, ReturnStatus, Returned, Done, DoneInProc}
+use Rattle.tds_export.specs.Tokens.{described_after, is_final}
 
 -- The bytes are a body with its length before it.
 abbrev pub SpellsBody : List ℕ → List ℕ → Type 0
@@ -22,7 +24,8 @@ pub record SpellsNotice (n : Notice) (body : List ℕ) : Type 0 where
   pub procedure : List ℕ
   pub last : List ℕ
   pub ignored : List ℕ
-  pub spelt : body ≡ ((((((head ++ n.state ∷ n.class ∷ []) ++ units) ++ n.message) ++ (length server / 2 ∷ server)) ++ (length procedure / 2 ∷ procedure)) ++ last) ++ ignored
+  pub spelt : body ≡ ((((((head ++ n.state ∷ n.class ∷ []) ++ units) ++ n.message) ++ (length server / 2 ∷ server))
+      ++ (length procedure / 2 ∷ procedure)) ++ last) ++ ignored
   pub number : (length head ≡ 4) × (little head ≡ n.number)
   pub message : (length units ≡ 2) × (length n.message ≡ 2 * little units)
   pub servers : length server % 2 ≡ 0
@@ -55,25 +58,34 @@ SpellsMore false fields = slice_index fields 0 % 2 ≡ 0
 -- The bytes spell a row of the columns.
 abbrev pub SpellsRowToken : Charset → Option (List Column) → List Cell → List ℕ → Type 0
 SpellsRowToken charset None cells bytes = ⊥
-SpellsRowToken charset (Some columns) cells bytes = (rest : List ℕ) × ((StartsToken ARow rest bytes × SpellsRow charset columns cells rest) ⊎ (StartsToken AnNbcRow rest bytes × SpellsNbcRow charset columns cells rest))
+SpellsRowToken charset (Some columns) cells bytes = (rest : List ℕ)
+    × ((StartsToken ARow rest bytes × SpellsRow charset columns cells rest)
+    ⊎ (StartsToken AnNbcRow rest bytes × SpellsNbcRow charset columns cells rest))
 
 -- The bytes spell the token if these columns are described.
 abbrev pub SpellsToken : Charset → ℕ → Option (List Column) → Token → List ℕ → Type 0
 SpellsToken charset room current (Metadata encoded columns) bytes = StartsToken AMetadata encoded bytes × SpellsDescription room columns encoded
 SpellsToken charset room current NoMetadata bytes = StartsToken AMetadata (255 ∷ 255 ∷ []) bytes
 SpellsToken charset room current (Row cells) bytes = SpellsRowToken charset current cells bytes
-SpellsToken charset room current (PassedOver passed body) bytes = (rest : List ℕ) × StartsToken (WithBody (APassed passed)) rest bytes × SpellsBody body rest
-SpellsToken charset room current (Error n) bytes = (rest : List ℕ) × (body : List ℕ) × StartsToken (WithBody AnError) rest bytes × SpellsBody body rest × SpellsNotice n body
-SpellsToken charset room current (Info n) bytes = (rest : List ℕ) × (body : List ℕ) × StartsToken (WithBody AnInfo) rest bytes × SpellsBody body rest × SpellsNotice n body
-SpellsToken charset room current (ReturnStatus n) bytes = (rest : List ℕ) × StartsToken (WithFields AStatus) rest bytes × (length rest ≡ 4) × (little rest ≡ n)
+SpellsToken charset room current (PassedOver passed body) bytes = (rest : List ℕ) × StartsToken (WithBody (APassed passed)) rest bytes
+    × SpellsBody body rest
+SpellsToken charset room current (Error n) bytes = (rest : List ℕ) × (body : List ℕ) × StartsToken (WithBody AnError) rest bytes
+    × SpellsBody body rest × SpellsNotice n body
+SpellsToken charset room current (Info n) bytes = (rest : List ℕ) × (body : List ℕ) × StartsToken (WithBody AnInfo) rest bytes × SpellsBody body rest
+    × SpellsNotice n body
+SpellsToken charset room current (ReturnStatus n) bytes = (rest : List ℕ) × StartsToken (WithFields AStatus) rest bytes × (length rest ≡ 4)
+    × (little rest ≡ n)
 SpellsToken charset room current (Returned r) bytes = (rest : List ℕ) × StartsToken AReturn rest bytes × SpellsReturnValue r rest
-SpellsToken charset room current (Done m) bytes = (fields : List ℕ) × StartsToken (WithFields ADone) fields bytes × (length fields ≡ 12) × SpellsMore m fields
-SpellsToken charset room current (DoneInProc m) bytes = (fields : List ℕ) × StartsToken (WithFields ADoneInProc) fields bytes × (length fields ≡ 12) × SpellsMore m fields
+SpellsToken charset room current (Done m) bytes = (fields : List ℕ) × StartsToken (WithFields ADone) fields bytes × (length fields ≡ 12)
+    × SpellsMore m fields
+SpellsToken charset room current (DoneInProc m) bytes = (fields : List ℕ) × StartsToken (WithFields ADoneInProc) fields bytes × (length fields ≡ 12)
+    × SpellsMore m fields
 
 -- The bytes spell the tokens one after the other, each row under the nearest description before it.
 abbrev pub SpellsTokens : Charset → ℕ → Option (List Column) → List Token → List ℕ → Type 0
 SpellsTokens charset room current [] bytes = bytes ≡ []
-SpellsTokens charset room current (t ∷ ts) bytes = (front : List ℕ) × (rest : List ℕ) × (bytes ≡ front ++ rest) × SpellsToken charset room current t front × SpellsTokens charset room (described_after current (t ∷ [])) ts rest
+SpellsTokens charset room current (t ∷ ts) bytes = (front : List ℕ) × (rest : List ℕ) × (bytes ≡ front ++ rest)
+    × SpellsToken charset room current t front × SpellsTokens charset room (described_after current (t ∷ [])) ts rest
 
 -- The payload spells the tokens of a response, which ends with a final DONE.
 pub record Response (charset : Charset) (room : ℕ) (tokens : List Token) (payload : List ℕ) : Type 0 where

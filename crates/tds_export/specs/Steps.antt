@@ -1,5 +1,6 @@
 -- What the calls inside an export do.
-use Rattle.std.specs.Prelude.{◌≡◌, ◌⊎◌, ◌+◌, ◌≤◌, ℕ, Bool, true, false, List, [], ◌∷◌, ◌++◌, length, Option, Some, None, Result, MatchOption, MatchResult, ⊤}
+use Rattle.std.specs.Prelude.{◌≡◌, ◌⊎◌, ◌+◌, ◌≤◌, ℕ, Bool, true, false, List, [], ◌∷◌, ◌++◌, length, Option, Some, None, Result, MatchOption}
+use Rattle.std.specs.Prelude.{MatchResult, ⊤}
 use Rattle.tds_meter.specs.Space.{Space}
 use Rattle.tds_packet.specs.declared.fault.Fault.{Fault}
 use Rattle.tds_packet.specs.declared.fault.Fault.TheVariants.{MessageEnded, RefusedToken, RowWithoutColumns}
@@ -15,7 +16,8 @@ use Rattle.tds_csv.specs.Sinks.{Held, Finishes, FinishFails}
 use Rattle.tds_csv.specs.Streaming.{PutsText, Streams, BreaksStreaming}
 use Rattle.tds_values.specs.declared.charset.Charset.{Charset}
 use Rattle.tds_rows.specs.Rows.{nbc_row_byte, nbc_row_start, row_start, row_byte}
-use Rattle.tds_export.specs.TokenBytes.{APassed, AnEnvChange, AnError, AnInfo, AnOrder, Bodied, Fixed, AStatus, ADone, ADoneInProc, Lead, AMetadata, ARow, AnNbcRow, WithBody, WithFields, AReturn, lead_of}
+use Rattle.tds_export.specs.TokenBytes.{APassed, AnEnvChange, AnError, AnInfo, AnOrder, Bodied, Fixed, AStatus, ADone, ADoneInProc, Lead, AMetadata}
+use Rattle.tds_export.specs.TokenBytes.{ARow, AnNbcRow, WithBody, WithFields, AReturn, lead_of}
 use Rattle.tds_export.specs.declared.progress.Progress.{Progress}
 use Rattle.tds_export.specs.declared.report.Report.{Report}
 use Rattle.tds_export.specs.declared.tokens.TokenKind.{TokenKind}
@@ -63,7 +65,8 @@ abbrev pub TracksBefore : Progress → List Token → Type 0
 TracksBefore progress tokens = Reflects progress tokens false
 
 -- One token or more were read whole, and their text put.
-pub record ReadsTokens (g : Grammar Part Fault) (from : Part) (tokens : List Token) (old new : Seen) (place place' : ℕ) (before after : Held) (progress : Progress) (area : Space) : Type 0 where
+pub record ReadsTokens (g : Grammar Part Fault) (from : Part) (tokens : List Token) (old new : Seen) (place place' : ℕ) (before after : Held)
+    (progress : Progress) (area : Space) : Type 0 where
   pub more : List Token
   pub streams : Streams g text_so_far from old new before after (after_tokens (tokens ++ more))
   pub place_is : place' ≡ place + length streams.bytes
@@ -156,7 +159,8 @@ abbrev pub in_kind : Charset → List Column → TokenKind → List Token → Pa
 in_kind charset columns kind = in_lead charset columns (lead kind)
 
 -- A call inside an export stopped in reading: the text of the state that it reached was put.
-pub record StopsInReading (g : Grammar Part Fault) (from : Part) (old new : Seen) (place : ℕ) (before after : Held) (area : Space) (stop : Stop) : Type 0 where
+pub record StopsInReading (g : Grammar Part Fault) (from : Part) (old new : Seen) (place : ℕ) (before after : Held) (area : Space)
+    (stop : Stop) : Type 0 where
   pub at : Part
   pub stops : StopsReading g from old new place at stop
   pub puts : PutsText text_so_far from at before after
@@ -186,11 +190,12 @@ pub record ReadsWhole (g : Grammar Part Fault) (from : Part) (old new : Seen) (b
   pub holds : IsHolding area (after_tokens tokens)
 
 -- The whole response was read and all of its text delivered, and this is its report.
-pub record CompletesResponse (g : Grammar Part Fault) (from : Part) (old new : Seen) (before after : Held) (report : Report) (area : Space) : Type 0 where
-  pub middle : Held
-  pub whole : ReadsWhole g from old new before middle area
-  pub finishes : Finishes middle after
-  pub report_is : report ≡ record (report_of whole.tokens) { written = after.delivered }
+pub record CompletesResponse (g : Grammar Part Fault) (from : Part) (old new : Seen) (before after : Held) (report : Report) (area : Space) : Type 0
+  where
+    pub middle : Held
+    pub whole : ReadsWhole g from old new before middle area
+    pub finishes : Finishes middle after
+    pub report_is : report ≡ record (report_of whole.tokens) { written = after.delivered }
 
 -- The whole response was read, and then the rest of its text couldn't be delivered, or the writer not be flushed.
 pub record StopsAtEnd (g : Grammar Part Fault) (from : Part) (old new : Seen) (before after : Held) (area : Space) (stop : Stop) : Type 0 where

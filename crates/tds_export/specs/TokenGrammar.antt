@@ -1,7 +1,9 @@
 -- The element grammar of a response: how many bytes the next element has, its fault, and the state after it.
-use Rattle.std.specs.Prelude.{◌≡◌, ◌==◌, ◌&&◌, ◌+◌, ◌*◌, ◌≤◌, ℕ, Bool, true, false, not, List, [], ◌∷◌, ◌++◌, length, take, drop, max, Option, Some, None, if◌then◌else◌, nat_lt, nat_le, slice_index}
+use Rattle.std.specs.Prelude.{◌≡◌, ◌==◌, ◌&&◌, ◌+◌, ◌*◌, ◌≤◌, ℕ, Bool, true, false, not, List, [], ◌∷◌, ◌++◌, length, take, drop, max, Option, Some}
+use Rattle.std.specs.Prelude.{None, if◌then◌else◌, nat_lt, nat_le, slice_index}
 use Rattle.tds_values.specs.Numbers.{little}
-use Rattle.tds_columns.specs.Description.{Column, DescriptionPart, BeforeCount, NoDescription, WholeDescription, described_size, described_fault, add_described, span}
+use Rattle.tds_columns.specs.Description.{Column, DescriptionPart, BeforeCount, NoDescription, WholeDescription, described_size, described_fault}
+use Rattle.tds_columns.specs.Description.{add_described, span}
 use Rattle.tds_values.specs.declared.charset.Charset.{Charset}
 use Rattle.tds_rows.specs.Rows.{RowPart, WholeRow, row_start, nbc_row_start, row_size, row_fault, row_add, row_so_far}
 use Rattle.tds_packet.specs.Elements.{Grammar}
@@ -10,7 +12,8 @@ use Rattle.tds_packet.specs.declared.fault.Fault.TheVariants.{MessageEnded, EndW
 pub use Rattle.tds_export.specs.TokenBytes.{AnError, AnInfo, Bodied}
 use Rattle.tds_export.specs.TokenBytes.{APassed, Fixed, Lead, AMetadata, ARow, AnNbcRow, WithBody, WithFields, AReturn, lead_of, is_row_lead}
 use Rattle.tds_export.specs.ReturnValue.{ReturnPart, ReturnOrdinal, WholeReturn, return_size, return_fault, return_add}
-use Rattle.tds_export.specs.Tokens.{Notice, Token, Metadata, NoMetadata, Row, PassedOver, Error, Info, Returned, described_after, fields_length, fixed, is_final, text, greatest_span}
+use Rattle.tds_export.specs.Tokens.{Notice, Token, Metadata, NoMetadata, Row, PassedOver, Error, Info, Returned, described_after, fields_length}
+use Rattle.tds_export.specs.Tokens.{fixed, is_final, text, greatest_span}
 
 -- where a response is read
 pub data Open : Type 0 where
@@ -155,7 +158,8 @@ part_add charset tokens Between element = after_first charset tokens (lead_of (s
 part_add charset tokens (Describing d) element = with_described tokens (add_described d element)
 part_add charset tokens (InRow part) element = with_row tokens (row_add charset part element)
 part_add charset tokens (InReturn part) element = with_return tokens (return_add part element)
-part_add charset tokens (TokenLength b) element = if little element == 0 then with_token tokens (bodied b []) else record { tokens = tokens; at = TokenBody b (little element) }
+part_add charset tokens (TokenLength b) element =
+    if little element == 0 then with_token tokens (bodied b []) else record { tokens = tokens; at = TokenBody b (little element) }
 part_add charset tokens (TokenBody b n) element = with_token tokens (bodied b element)
 part_add charset tokens (Fields f) element = with_token tokens (fixed f element)
 

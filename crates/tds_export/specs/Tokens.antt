@@ -1,5 +1,6 @@
 -- Tokens of a response, and what they say (MS-TDS, Packet Data Token Stream Definition).
-use Rattle.std.specs.Prelude.{◌==◌, ◌+◌, ◌%◌, ℕ, Bool, true, false, List, [], ◌∷◌, ◌++◌, length, map, max, Option, Some, None, if◌then◌else◌, slice_index}
+use Rattle.std.specs.Prelude.{◌==◌, ◌+◌, ◌%◌, ℕ, Bool, true, false, List, [], ◌∷◌, ◌++◌, length, map, max, Option, Some, None, if◌then◌else◌}
+use Rattle.std.specs.Prelude.{slice_index}
 use Rattle.tds_values.specs.Numbers.{little}
 use Rattle.tds_csv.specs.Conversion.{Utf16Text, long_field}
 use Rattle.tds_csv.specs.Cutting.{whole_within}

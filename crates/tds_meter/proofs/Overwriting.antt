@@ -1,5 +1,12 @@
 -- A list over whose end others are written, seen through its front.
-use Rattle.{std.{proofs.{Common.{◌≡◌, ◌+◌, ◌≤◌, ◌++◌, ℕ, zero, suc, List, [], ◌∷◌, length, take, drop, max, refl, sym, arith, append-nil, length-append, length-drop, length-take-le}, lemmas.List.{take-append-le, take-take, take_all}, Math.{ListN.drop_of_length-le, Seq.{take-add, take-append_seam}}}, specs.List.refill}, tds_meter.specs.{Space.{Space, appended}, Lent.{overwritten, with_tail}}}
+use Rattle.std.proofs.Common.{◌≡◌, ◌+◌, ◌≤◌, ◌++◌, ℕ, zero, suc, List, [], ◌∷◌, length, take, drop, max, refl, sym, arith, append-nil, length-append}
+use Rattle.std.proofs.Common.{length-drop, length-take-le}
+use Rattle.std.proofs.lemmas.List.{take-append-le, take-take, take_all}
+use Rattle.std.proofs.Math.ListN.{drop_of_length-le}
+use Rattle.std.proofs.Math.Seq.{take-add, take-append_seam}
+use Rattle.std.specs.List.{refill}
+use Rattle.tds_meter.specs.Space.{Space, appended}
+use Rattle.tds_meter.specs.Lent.{overwritten, with_tail}
 
 front_of_mid : (m : ℕ) (w ys : List ℕ) → take m (w ++ drop (length w) ys) ≡ take m (w ++ drop (length w) (take m ys))
 front_of_mid m [] ys = sym (take-take m m ys (omega arith))
@@ -8,7 +15,9 @@ front_of_mid (suc m) (x ∷ w) [] = refl
 front_of_mid (suc m) (x ∷ w) (y ∷ ys) = rw (front_of_mid m w ys)
 
 -- what is written over the end of a front is what is written over the whole, as far as the front goes
-front_of_written : (len from : ℕ) (w xs : List ℕ) → take len (take from xs ++ (w ++ drop (length w) (drop from xs))) ≡ take len (take from (take len xs) ++ (w ++ drop (length w) (drop from (take len xs))))
+front_of_written : (len from : ℕ) (w xs : List ℕ)
+    → take len (take from xs ++ (w ++ drop (length w) (drop from xs))) ≡ take len
+    (take from (take len xs) ++ (w ++ drop (length w) (drop from (take len xs))))
 front_of_written len zero w xs = front_of_mid len w xs
 front_of_written zero (suc from) w xs = refl
 front_of_written (suc len) (suc from) w [] = refl
@@ -18,26 +27,41 @@ written_length : (from : ℕ) (w xs : List ℕ) → from ≤ length xs → lengt
 written_length from w xs h = grind (arith, length-append, length-drop, length-take-le)
 
 -- the front of a list that is refilled so
-pub front-refill : (len from : ℕ) (w xs : List ℕ) → from ≤ len → len ≤ length xs → take len (refill (length xs) xs (take from xs ++ (w ++ drop (length w) (drop from xs)))) ≡ overwritten from w (take len xs)
+pub front-refill : (len from : ℕ) (w xs : List ℕ) → from ≤ len → len ≤ length xs
+    → take len (refill (length xs) xs (take from xs ++ (w ++ drop (length w) (drop from xs)))) ≡ overwritten from w (take len xs)
 front-refill len from w xs h k =
     let written = take from xs ++ (w ++ drop (length w) (drop from xs)) in
     let long = written_length from w xs (omega arith) in
-    rw (take-take len (length xs) (written ++ drop (length written) xs) k, take-append-le len written (drop (length written) xs) (omega arith), length-take-le len xs k) (front_of_written len from w xs)
+    rw (
+      take-take len (length xs) (written ++ drop (length written) xs) k,
+      take-append-le len written (drop (length written) xs) (omega arith),
+      length-take-le len xs k,
+    ) (front_of_written len from w xs)
 
 -- all from a place on is written over
 pub overwritten_all : (from : ℕ) (w xs : List ℕ) → from + length w ≡ length xs → overwritten from w xs ≡ take from xs ++ w
 overwritten_all from w xs e =
     let rest : drop (length w) (drop from xs) ≡ [] = drop_of_length-le (drop from xs) (omega (arith, length-drop from xs)) in
-    rw (rest, append-nil) (take_all (length xs) (take from xs ++ w) (omega (arith, length-append (take from xs) w, length-take-le from xs (omega arith))))
+    rw (rest, append-nil) (take_all (length xs) (take from xs ++ w) (omega (
+      arith,
+      length-append (take from xs) w,
+      length-take-le from xs (omega arith),
+    )))
 
 -- a front that grows by n items of the list after it, which are written over
 front_grows : (len n : ℕ) (w xs : List ℕ) → len + n ≤ length xs
-    → take (len + n) (refill (length xs) xs (take len xs ++ (w ++ drop (length w) (drop len xs)))) ≡ overwritten (length (take len xs)) w (take len xs ++ take n (drop len xs))
+    → take (len + n) (refill (length xs) xs (take len xs ++ (w ++ drop (length w) (drop len xs)))) ≡ overwritten (length (take len xs)) w
+    (take len xs ++ take n (drop len xs))
 front_grows len n w xs fits = rw (front-refill (len + n) len w xs (omega arith) fits, take-add len n xs, length-take-le len xs (omega arith))
 
 -- so for an area, whose peak is raised
-pub grows : (len n peak' : ℕ) (w xs : List ℕ) (s : Space) (lent : List ℕ) → s.room ≡ length xs → len + n ≤ length xs → take len xs ≡ s.bytes → lent ≡ take n (drop len xs) → peak' ≡ max s.peak (len + n)
-    → record { bytes = take (len + n) (refill s.room xs (take len xs ++ (w ++ drop (length w) (drop len xs)))); room = s.room; peak = peak' } ≡ with_tail (appended s lent) (length s.bytes) w
+pub grows : (len n peak' : ℕ) (w xs : List ℕ) (s : Space) (lent : List ℕ) → s.room ≡ length xs → len + n ≤ length xs → take len xs ≡ s.bytes
+    → lent ≡ take n (drop len xs) → peak' ≡ max s.peak (len + n)
+    → record {
+      bytes = take (len + n) (refill s.room xs (take len xs ++ (w ++ drop (length w) (drop len xs))));
+      room = s.room;
+      peak = peak';
+    } ≡ with_tail (appended s lent) (length s.bytes) w
 grows len n peak' w xs s lent all fits front stood top =
     let long = rw (take-add len n xs, front, ← stood) at (sym (length-take-le (len + n) xs fits)) in
     rw (all, front_grows len n w xs fits, front, ← stood, top, long)

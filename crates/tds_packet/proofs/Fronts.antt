@@ -1,5 +1,14 @@
 -- The packets at the front of an input, and what is read of it.
-use Rattle.tds_packet.proofs.{Words.{nil_from_length, common_steps, ◌≡◌, ◌∙◌, ◌⊎◌, inl, inr, ℕ, suc, zero, ◌+◌, ◌<◌, ◌≤◌, List, [], ◌∷◌, ◌++◌, length, take, Some, false, refl, sym, ap, arith, append-nil, append_assoc, length-append, take-append_seam, append_cancel_right, flat_map-append, one_more, Fault, InputEnded, MessageEnded, ReadFailed, Wire, Payload, Stop, AreBytes, Packet, packet_bytes, packet_length, is_last, header_length, wire_of, payload_of, AreBefore, AreMessage, IsPacket, WireFault, Coming, IsFrontMessage, Seen, Takes, Ends, IsBetween, IsOver, begun, WholePacket, after_packet, front_packet, message}, ElementLaws.AreBytes-front, PacketLaws.{good_header, header_of}, ComingLaws.front_message, Joins.whole_packet}
+use Rattle.tds_packet.proofs.Words.{nil_from_length, common_steps, ◌≡◌, ◌∙◌, ◌⊎◌, inl, inr, ℕ, suc, zero, ◌+◌, ◌<◌, ◌≤◌, List, [], ◌∷◌, ◌++◌, length}
+use Rattle.tds_packet.proofs.Words.{take, Some, false, refl, sym, ap, arith, append-nil, append_assoc, length-append, take-append_seam}
+use Rattle.tds_packet.proofs.Words.{append_cancel_right, flat_map-append, one_more, Fault, InputEnded, MessageEnded, ReadFailed, Wire, Payload, Stop}
+use Rattle.tds_packet.proofs.Words.{AreBytes, Packet, packet_bytes, packet_length, is_last, header_length, wire_of, payload_of, AreBefore, AreMessage}
+use Rattle.tds_packet.proofs.Words.{IsPacket, WireFault, Coming, IsFrontMessage, Seen, Takes, Ends, IsBetween, IsOver, begun, WholePacket}
+use Rattle.tds_packet.proofs.Words.{after_packet, front_packet, message}
+use Rattle.tds_packet.proofs.ElementLaws.{AreBytes-front}
+use Rattle.tds_packet.proofs.PacketLaws.{good_header, header_of}
+use Rattle.tds_packet.proofs.ComingLaws.{front_message}
+use Rattle.tds_packet.proofs.Joins.{whole_packet}
 
 -- whole packets at the front of an input, with the rest of it after them; none but the last is marked as the last
 pub record BeginsMessage (size limit : ℕ) (input rest payload : List ℕ) : Type 0 where
@@ -10,20 +19,25 @@ pub record BeginsMessage (size limit : ℕ) (input rest payload : List ℕ) : Ty
   pub payload_is : payload_of packets ≡ payload
 
 -- no fault of the wire is the message's end
-pub wire_goes_on : (size limit : ℕ) (input : List ℕ) (packets : List Packet) (fault : Fault) → WireFault size limit input packets fault → fault ≡ MessageEnded → ⊥
+pub wire_goes_on : (size limit : ℕ) (input : List ℕ) (packets : List Packet) (fault : Fault) → WireFault size limit input packets fault
+    → fault ≡ MessageEnded → ⊥
 wire_goes_on size limit input packets fault w e = grind (arith, common_steps)
 
 -- an input that begins with nothing but packets
-all_packets : (size limit : ℕ) (read rest payload : List ℕ) (place : ℕ) (c : Coming) → IsFrontMessage size limit read c → c.bytes ≡ payload → c.rest ≡ []
-    → ((c.stop.fault ≡ MessageEnded) ⊎ (c.stop ≡ record { fault = InputEnded; place = Wire place })) → place ≡ length read → BeginsMessage size limit (read ++ rest) rest payload
+all_packets : (size limit : ℕ) (read rest payload : List ℕ) (place : ℕ) (c : Coming) → IsFrontMessage size limit read c → c.bytes ≡ payload
+    → c.rest ≡ []
+    → ((c.stop.fault ≡ MessageEnded) ⊎ (c.stop ≡ record { fault = InputEnded; place = Wire place })) → place ≡ length read
+    → BeginsMessage size limit (read ++ rest) rest payload
 all_packets size limit read rest payload place c m b r s p = grind (arith, append-nil, length-append, nil_from_length)
 
 -- what was taken, right after a packet, came of whole packets at the front of the input
-pub takes_begins : (size limit f : ℕ) (input rest : List ℕ) (q : Seen) (bytes : List ℕ) (n : ℕ) → AreBytes input → q.left ≡ Some rest → Takes (begun size limit (Some input) f) q bytes n → IsBetween q
+pub takes_begins : (size limit f : ℕ) (input rest : List ℕ) (q : Seen) (bytes : List ℕ) (n : ℕ) → AreBytes input → q.left ≡ Some rest
+    → Takes (begun size limit (Some input) f) q bytes n → IsBetween q
     → BeginsMessage size limit input rest (bytes ++ (q.future []).bytes)
 takes_begins size limit f input rest q bytes n are left t b =
     let split = rw left at t.1.0 in
-    rw split (all_packets _ _ _ _ _ _ _ (rw (rw append-nil at (t.1.1 [])) at (front_message size limit t.0 (AreBytes-front t.0 rest (rw split at are)))) refl b.0 b.1 (omega arith))
+    rw split (all_packets _ _ _ _ _ _ _ (rw (rw append-nil at (t.1.1 [])) at
+    (front_message size limit t.0 (AreBytes-front t.0 rest (rw split at are)))) refl b.0 b.1 (omega arith))
 
 -- a read failed after these packets, all that what was read has whole, and the header after them wasn't refused
 pub record FailsAfterPackets (size limit : ℕ) (input rest : List ℕ) (packets : List Packet) : Type 0 where
@@ -40,7 +54,8 @@ pub record StopsAfterPackets (size limit : ℕ) (input rest payload : List ℕ) 
   pub within : length (wire_of packets) ≤ limit
   pub payload_is : payload_of packets ≡ payload
   pub place : stop.place ≡ Wire (length (wire_of packets))
-  pub cause : ((stop.fault ≡ ReadFailed) × (failures' ≡ one_more failures) × FailsAfterPackets size limit input rest packets) ⊎ (WireFault size limit input packets stop.fault × (failures' ≡ failures))
+  pub cause : ((stop.fault ≡ ReadFailed) × (failures' ≡ one_more failures) × FailsAfterPackets size limit input rest packets)
+      ⊎ (WireFault size limit input packets stop.fault × (failures' ≡ failures))
 
 -- the message ended
 pub record EndsMessage (size limit : ℕ) (input rest payload : List ℕ) (failures failures' : ℕ) (stop : Stop) : Type 0 where
@@ -53,14 +68,17 @@ pub record EndsMessage (size limit : ℕ) (input rest payload : List ℕ) (failu
   pub same : failures' ≡ failures
 
 -- a payload's stop, where its reader tells its bytes
-pub ends_front : (size limit f : ℕ) (input rest : List ℕ) (q : Seen) (payload : List ℕ) (stop : Stop) → AreBytes input → q.left ≡ Some rest → Ends (begun size limit (Some input) f) q payload stop
+pub ends_front : (size limit f : ℕ) (input rest : List ℕ) (q : Seen) (payload : List ℕ) (stop : Stop) → AreBytes input → q.left ≡ Some rest
+    → Ends (begun size limit (Some input) f) q payload stop
     → EndsMessage size limit input rest payload f q.failures stop ⊎ StopsAfterPackets size limit input rest payload f q.failures stop
 ends_front size limit f input rest q payload stop are left (inl x) = grind (arith, front_message size limit input are)
 ends_front size limit f input rest q payload stop are left (inr (inl x)) = grind (arith, append-nil, front_message size limit input are)
-ends_front size limit f input rest q payload stop are left (inr (inr x)) = grind (arith, append_assoc, front_message size limit x.0 (AreBytes-front x.0 rest (rw (rw left at x.1) at are)))
+ends_front size limit f input rest q payload stop are left (inr (inr x)) =
+    grind (arith, append_assoc, front_message size limit x.0 (AreBytes-front x.0 rest (rw (rw left at x.1) at are)))
 
 -- a message of which all was handed out
-pub over_front : (size limit f : ℕ) (input rest : List ℕ) (q : Seen) (bytes : List ℕ) (n : ℕ) → AreBytes input → q.left ≡ Some rest → Takes (begun size limit (Some input) f) q bytes n → (o : IsOver q)
+pub over_front : (size limit f : ℕ) (input rest : List ℕ) (q : Seen) (bytes : List ℕ) (n : ℕ) → AreBytes input → q.left ≡ Some rest
+    → Takes (begun size limit (Some input) f) q bytes n → (o : IsOver q)
     → EndsMessage size limit input rest bytes f q.failures o.0
 over_front size limit f input rest q bytes n are left t o = grind (arith, append-nil, front_message size limit input are)
 
@@ -73,7 +91,8 @@ pub record InLast (size : ℕ) (packets : List Packet) (n : ℕ) : Type 0 where
   pub earlier : length (payload_of before) < n
 
 -- packets as the last of them and those before it
-split_last : (size : ℕ) (packets : List Packet) → AreMessage size packets ⊎ AreBefore size packets → 0 < length packets → (before : List Packet) × (last : Packet) × (before ++ last ∷ [] ≡ packets) × AreBefore size before
+split_last : (size : ℕ) (packets : List Packet) → AreMessage size packets ⊎ AreBefore size packets → 0 < length packets → (before : List Packet)
+    × (last : Packet) × (before ++ last ∷ [] ≡ packets) × AreBefore size before
 split_last size [] each some = absurd (omega (arith, some))
 split_last size (p ∷ []) each some = ([], p, refl, tt)
 split_last size (p ∷ q ∷ ps) each some =
@@ -81,14 +100,17 @@ split_last size (p ∷ q ∷ ps) each some =
     (p ∷ r.0, r.1, ap (λ l. p ∷ l) r.2, elim each [ inl x ↦ (x.0, x.1, r.3) | inr x ↦ (x.0, x.1, r.3) ])
 
 -- what comes of a packet before the last, and of more after it
-front_whole : (size limit from : ℕ) (p : Packet) (more : List ℕ) → IsPacket size p → is_last p ≡ false → from + packet_length p ≤ limit → front_packet size limit from (packet_bytes p ++ more) ≡ WholePacket p.body false (packet_length p) more
+front_whole : (size limit from : ℕ) (p : Packet) (more : List ℕ) → IsPacket size p → is_last p ≡ false → from + packet_length p ≤ limit
+    → front_packet size limit from (packet_bytes p ++ more) ≡ WholePacket p.body false (packet_length p) more
 front_whole size limit from p more each last within =
     let size_is : header_length (header_of p) ≡ packet_length p = omega arith in
-    let front = whole_packet size limit from (header_of p) (record { length = header_length (header_of p); last = is_last p }) (omega arith) (rw good_header) p.body more (omega arith) in
+    let front = whole_packet size limit from (header_of p) (record { length = header_length (header_of p); last = is_last p }) (omega arith)
+    (rw good_header) p.body more (omega arith) in
     rw append_assoc (rw (size_is, last) at front)
 
 -- what comes of packets none of which is the last
-message_before : (size limit n from place : ℕ) (packets : List Packet) → AreBefore size packets → from + length (wire_of packets) ≤ limit → length (wire_of packets) < n → (message size limit n from place (wire_of packets)).bytes ≡ payload_of packets
+message_before : (size limit n from place : ℕ) (packets : List Packet) → AreBefore size packets → from + length (wire_of packets) ≤ limit
+    → length (wire_of packets) < n → (message size limit n from place (wire_of packets)).bytes ≡ payload_of packets
 unfolding message front_packet
 message_before size limit zero from place packets each within less = absurd (omega arith)
 message_before size limit (suc n) from place [] each within less = refl
@@ -98,10 +120,12 @@ message_before size limit (suc n) from place (p ∷ ps) each within less =
     ∙ ap (λ l. p.body ++ l) (message_before size limit n (from + packet_length p) (place + length p.body) ps each.2 (omega arith) (omega arith))
 
 -- the packets read were needed for n bytes of the payload
-pub in_last : (size limit f n : ℕ) (input rest : List ℕ) (q : Seen) (bytes payload : List ℕ) → q.left ≡ Some rest → Takes (begun size limit (Some input) f) q bytes n
+pub in_last : (size limit f n : ℕ) (input rest : List ℕ) (q : Seen) (bytes payload : List ℕ) → q.left ≡ Some rest
+    → Takes (begun size limit (Some input) f) q bytes n
     → (p : BeginsMessage size limit input rest payload) → 0 < length payload → InLast size p.packets n
 in_last size limit f n input rest q bytes payload left t p some =
-    let filled = λ (ps : List Packet). elim ps as (λ ps. payload_of ps ≡ payload → 0 < length ps) [ [] ↦ λ e. absurd (omega (arith, ap length e)) | ◌∷◌ x _ ↦ λ _. omega arith ] in
+    let filled = λ (ps : List Packet). elim ps as (λ ps. payload_of ps ≡ payload
+    → 0 < length ps) [ [] ↦ λ e. absurd (omega (arith, ap length e)) | ◌∷◌ x _ ↦ λ _. omega arith ] in
     let l = split_last size _ p.each (filled _ p.payload_is) in
     let split = rw left at t.1.0 in
     let wires = ap wire_of (sym l.2) ∙ simp (flat_map-append, append-nil) in

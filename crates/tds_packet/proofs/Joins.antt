@@ -1,5 +1,10 @@
 -- The parts of a packet's read, joined.
-use Rattle.tds_packet.proofs.{Words.{common_steps, ◌≡◌, ◌∙◌, ℕ, ◌+◌, ◌-◌, ◌^◌, ◌<◌, List, [], ◌++◌, length, take, drop, Option, Ok, Err, Bool, false, refl, ap, arith, length-append, length-take, append_assoc, drop-append_seam, take-append_seam, take-append-add, nat_tests, nat_lt, if◌then◌else◌, Consumes, Consumes-trans, dec_le, Device, one_more, Rises, Stays, Fault, InputEnded, ReadFailed, Header, header_fault, WholePacket, NoPacket, front_packet, packet_after_header, Faulted, ReadsPacket, header_of}, Choices.{choose_true, test_lt}}
+use Rattle.tds_packet.proofs.Words.{common_steps, ◌≡◌, ◌∙◌, ℕ, ◌+◌, ◌-◌, ◌^◌, ◌<◌, List, [], ◌++◌, length, take, drop, Option, Ok, Err, Bool, false}
+use Rattle.tds_packet.proofs.Words.{refl, ap, arith, length-append, length-take, append_assoc, drop-append_seam, take-append_seam, take-append-add}
+use Rattle.tds_packet.proofs.Words.{nat_tests, nat_lt, if◌then◌else◌, Consumes, Consumes-trans, dec_le, Device, one_more, Rises, Stays, Fault}
+use Rattle.tds_packet.proofs.Words.{InputEnded, ReadFailed, Header, header_fault, WholePacket, NoPacket, front_packet, packet_after_header, Faulted}
+use Rattle.tds_packet.proofs.Words.{ReadsPacket, header_of}
+use Rattle.tds_packet.proofs.Choices.{choose_true, test_lt}
 
 pub Stays-none : (f : ℕ) → Stays f f []
 Stays-none f = (refl, λ lt. absurd (omega (arith, lt)))
@@ -21,19 +26,23 @@ unfolding front_packet
 short_input size limit wire xs h = rw (test_lt (length xs) 8 h)
 
 -- the header is the first eight bytes
-after_header : (size limit wire : ℕ) (hdr ys : List ℕ) (o : Option Fault) → length hdr ≡ 8 → header_fault size limit wire hdr ≡ o → front_packet size limit wire (hdr ++ ys) ≡ packet_after_header hdr ys o
+after_header : (size limit wire : ℕ) (hdr ys : List ℕ) (o : Option Fault) → length hdr ≡ 8 → header_fault size limit wire hdr ≡ o
+    → front_packet size limit wire (hdr ++ ys) ≡ packet_after_header hdr ys o
 unfolding front_packet
 after_header size limit wire hdr ys o e f =
     let long : nat_lt (length hdr + length ys) 8 ≡ false = grind (arith, nat_tests) in
     rw (length-append, long, ← e, take-append_seam, drop-append_seam, e, f)
 
 -- a body that is whole, and one that is cut
-whole_at : (last : Bool) (len : ℕ) (bs ys : List ℕ) (n : ℕ) → n ≡ length bs → (if nat_lt (length (bs ++ ys)) n then NoPacket InputEnded [] else WholePacket (take n (bs ++ ys)) last len (drop n (bs ++ ys))) ≡ WholePacket bs last len ys
+whole_at : (last : Bool) (len : ℕ) (bs ys : List ℕ) (n : ℕ) → n ≡ length bs
+    → (if nat_lt (length (bs ++ ys)) n then NoPacket InputEnded [] else WholePacket (take n (bs ++ ys)) last len (drop n (bs ++ ys))) ≡ WholePacket bs
+    last len ys
 whole_at last len bs ys n e = grind (arith, length-append, take-append_seam, drop-append_seam)
 
 module _ (size limit wire : ℕ) (hdr : List ℕ) (h : Header) (eight : length hdr ≡ 8) (good : header_of size limit wire hdr ≡ Ok h) where
   -- a packet whose header says so
-  pub whole_packet : (bs ys : List ℕ) → length bs + 8 ≡ h.length → front_packet size limit wire (hdr ++ (bs ++ ys)) ≡ WholePacket bs h.last h.length ys
+  pub whole_packet : (bs ys : List ℕ) → length bs + 8 ≡ h.length
+      → front_packet size limit wire (hdr ++ (bs ++ ys)) ≡ WholePacket bs h.last h.length ys
   whole_packet bs ys fits = grind (arith, after_header, whole_at)
 
   -- an input that ends in the body
@@ -41,9 +50,13 @@ module _ (size limit wire : ℕ) (hdr : List ℕ) (h : Header) (eight : length h
   ended_body bs lt = grind (arith, after_header, choose_true, test_lt)
 
   -- no beginning of a packet is a packet
-  cut : (body : List ℕ) (j : ℕ) → length body + 8 ≡ h.length → j < length (hdr ++ body) → front_packet size limit wire (take j (hdr ++ body)) ≡ NoPacket InputEnded []
+  cut : (body : List ℕ) (j : ℕ) → length body + 8 ≡ h.length → j < length (hdr ++ body)
+      → front_packet size limit wire (take j (hdr ++ body)) ≡ NoPacket InputEnded []
   cut body j fits lt = elim (dec_le 8 j) [
-    | yes many ↦ (let all : length hdr + (j - 8) ≡ j = omega arith in rw (← all, take-append-add) (ended_body _ (omega (arith, length-append hdr body, length-take (j - 8) body))))
+    | yes many ↦ (let all : length hdr + (j - 8) ≡ j = omega arith in rw (
+      ← all,
+      take-append-add,
+    ) (ended_body _ (omega (arith, length-append hdr body, length-take (j - 8) body))))
     | no few ↦ short_input _ _ _ _ (omega (arith, length-take j (hdr ++ body)))
   ]
 
@@ -59,10 +72,12 @@ module _ (size limit wire : ℕ) (old new : Device) where
   pub fill_err : (hdr body : List ℕ) (e : Fault) → length hdr ≡ 8 → Faulted old new (length hdr) e → ReadsPacket size limit wire old new body (Err e)
   fill_err hdr body e len h = grind (arith, short_input)
 
-  pub header_err : (hdr body : List ℕ) (e : Fault) → length hdr ≡ 8 → Consumes old.bytes new.bytes hdr → Stays old.failures new.failures hdr → header_of size limit wire hdr ≡ Err e → ReadsPacket size limit wire old new body (Err e)
+  pub header_err : (hdr body : List ℕ) (e : Fault) → length hdr ≡ 8 → Consumes old.bytes new.bytes hdr → Stays old.failures new.failures hdr
+      → header_of size limit wire hdr ≡ Err e → ReadsPacket size limit wire old new body (Err e)
   header_err hdr body e len h same bad = grind (arith, after_header)
 
-  pub body_err : (mid : Device) (h : Header) (body : List ℕ) (e : Fault) → ReadsHeader size limit wire old mid h → length body + 8 ≡ h.length → Faulted mid new (length body) e → ReadsPacket size limit wire old new body (Err e)
+  pub body_err : (mid : Device) (h : Header) (body : List ℕ) (e : Fault) → ReadsHeader size limit wire old mid h → length body + 8 ≡ h.length
+      → Faulted mid new (length body) e → ReadsPacket size limit wire old new body (Err e)
   body_err mid h body InputEnded x fits r =
       let cut_short = ended_body size limit wire x.bytes h x.eight x.good r.0.0.0 (omega arith) in
       grind (arith, Consumes-trans)
@@ -71,5 +86,6 @@ module _ (size limit wire : ℕ) (old new : Device) where
       grind (arith, Consumes-trans)
   body_err mid h body e x fits r = absurd r
 
-  pub body_ok : (mid : Device) (h : Header) (body : List ℕ) → ReadsHeader size limit wire old mid h → length body + 8 ≡ h.length → Consumes mid.bytes new.bytes body → Stays mid.failures new.failures body → ReadsPacket size limit wire old new body (Ok h)
+  pub body_ok : (mid : Device) (h : Header) (body : List ℕ) → ReadsHeader size limit wire old mid h → length body + 8 ≡ h.length
+      → Consumes mid.bytes new.bytes body → Stays mid.failures new.failures body → ReadsPacket size limit wire old new body (Ok h)
   body_ok mid h body x fits r last = grind (arith, append_assoc, whole_packet, Consumes-trans, cut, length-append)

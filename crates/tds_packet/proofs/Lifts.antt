@@ -1,5 +1,7 @@
 -- What is read inside a greater grammar.
-use Rattle.tds_packet.proofs.{Words.{common_steps, ◌≡◌, inl, inr, ℕ, ◌<◌, List, [], ◌∷◌, ◌++◌, length, ap, arith, append_assoc, append-nil, concat, Fault, Stop, Grammar, IsNext, Leads, Spelt, Seen, Reads, StopsReading}, ElementLaws.{Inside, Inside-Spelt, Spelt-append, Spelt-none, Spelt-one}}
+use Rattle.tds_packet.proofs.Words.{common_steps, ◌≡◌, inl, inr, ℕ, ◌<◌, List, [], ◌∷◌, ◌++◌, length, ap, arith, append_assoc, append-nil, concat}
+use Rattle.tds_packet.proofs.Words.{Fault, Stop, Grammar, IsNext, Leads, Spelt, Seen, Reads, StopsReading}
+use Rattle.tds_packet.proofs.ElementLaws.{Inside, Inside-Spelt, Spelt-append, Spelt-none, Spelt-one}
 
 -- a state with a next element has some bytes to come
 pub next_some : {S : Type 0} (g : Grammar S Fault) (s : S) (element : List ℕ) → IsNext g s element → 0 < g.size s
@@ -15,7 +17,8 @@ module _ {S T : Type 0} (small : Grammar S Fault) (big : Grammar T Fault) (lift 
   reads_inside from a b to r = record { bytes = r.bytes; spelt = Inside-Spelt small big lift is from r.bytes to r.spelt; takes = r.takes }
 
   -- where the smaller grammar's reading stops, so does the greater one's
-  pub stops_inside : (from : S) (a b : Seen) (place : ℕ) (at : S) (stop : Stop) → big.end_fault (lift at) ≡ small.end_fault at → StopsReading small from a b place at stop → StopsReading big (lift from) a b place (lift at) stop
+  pub stops_inside : (from : S) (a b : Seen) (place : ℕ) (at : S) (stop : Stop) → big.end_fault (lift at) ≡ small.end_fault at
+      → StopsReading small from a b place at stop → StopsReading big (lift from) a b place (lift at) stop
   stops_inside from a b place at stop end r = record {
     bytes = r.bytes;
     spelt = Inside-Spelt small big lift is from r.bytes at r.spelt;
@@ -33,12 +36,20 @@ module _ {S T : Type 0} (small : Grammar S Fault) (big : Grammar T Fault) (lift 
     pub next : IsNext big (lift at) element
     pub to_is : big.add (lift at) element ≡ lift to
 
-  last_of : (from s : S) (front : List ℕ) (e : List ℕ) (es : List (List ℕ)) (to : S) → Spelt small from front s → Leads small s (e ∷ es) to → LastInside from (front ++ concat (e ∷ es)) to
+  last_of : (from s : S) (front : List ℕ) (e : List ℕ) (es : List (List ℕ)) (to : S) → Spelt small from front s → Leads small s (e ∷ es) to
+      → LastInside from (front ++ concat (e ∷ es)) to
   last_of from s front e [] to spelt leads = grind (arith, append-nil, Inside-Spelt)
-  last_of from s front e (f ∷ es) to spelt leads = grind (arith, append_assoc, last_of from (small.add s e) (front ++ e) f es to (Spelt-append small from front s e _ spelt (Spelt-one small s e leads.0)) leads.1)
+  last_of from s front e (f ∷ es) to spelt leads =
+      grind (
+        arith,
+        append_assoc,
+        last_of from (small.add s e) (front ++ e) f es to
+            (Spelt-append small from front s e _ spelt (Spelt-one small s e leads.0)) leads.1,
+      )
 
   pub last_inside : (from : S) (bytes : List ℕ) (to : S) → Spelt small from bytes to → 0 < length bytes → LastInside from bytes to
-  last_inside from bytes to spelt some = rw spelt.joined at (elim spelt.elements as (λ es. concat es ≡ bytes → Leads small from es to → LastInside from (concat es) to) [
-    | [] ↦ λ e leads. absurd (omega (arith, ap length e))
-    | ◌∷◌ e (es → _) ↦ λ _ leads. last_of _ _ _ e _ _ (Spelt-none small from) leads
-  ] spelt.joined spelt.leads)
+  last_inside from bytes to spelt some = rw spelt.joined at (elim spelt.elements as (λ es. concat es ≡ bytes → Leads small from es to
+      → LastInside from (concat es) to) [
+        | [] ↦ λ e leads. absurd (omega (arith, ap length e))
+        | ◌∷◌ e (es → _) ↦ λ _ leads. last_of _ _ _ e _ _ (Spelt-none small from) leads
+      ] spelt.joined spelt.leads)

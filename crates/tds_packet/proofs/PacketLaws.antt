@@ -1,5 +1,12 @@
 -- What the wire's grammar reads are the packets that the input begins with.
-use Rattle.tds_packet.proofs.{Words.{wire_add, ◌≡◌, ℕ, ◌+◌, ◌-◌, ◌/◌, ◌%◌, ◌≤◌, true, false, List, [], ◌∷◌, ◌++◌, length, take, drop, refl, sym, ◌∙◌, ap, inl, inr, append_assoc, append-nil, arith, length-append, ◌⊎◌, take-append-drop, length-take-le, take-append_seam, None, ◌==◌, slice_index, if◌then◌else◌, nat_tests, flat_map-append, AreBytes, Spelt, IsNext, Longest, Packet, packet_length, packet_bytes, wire_of, is_last, IsPacket, AreBefore, AreMessage, IsNextPacket, Front, WirePlace, BeforeHeader, BeforeBody, AfterLast, WirePart, no_wire, header_length, packet_of, with_packet, header_fault, wire}, ElementLaws.{Spelt-step, Spelt-append, Spelt-none, Spelt-induct, AreBytes-front, AreBytes-back, one_state}, Choices.{choose, eq_true}}
+use Rattle.tds_packet.proofs.Words.{wire_add, ◌≡◌, ℕ, ◌+◌, ◌-◌, ◌/◌, ◌%◌, ◌≤◌, true, false, List, [], ◌∷◌, ◌++◌, length, take, drop, refl, sym, ◌∙◌}
+use Rattle.tds_packet.proofs.Words.{ap, inl, inr, append_assoc, append-nil, arith, length-append, ◌⊎◌, take-append-drop, length-take-le}
+use Rattle.tds_packet.proofs.Words.{take-append_seam, None, ◌==◌, slice_index, if◌then◌else◌, nat_tests, flat_map-append, AreBytes, Spelt, IsNext}
+use Rattle.tds_packet.proofs.Words.{Longest, Packet, packet_length, packet_bytes, wire_of, is_last, IsPacket, AreBefore, AreMessage, IsNextPacket}
+use Rattle.tds_packet.proofs.Words.{Front, WirePlace, BeforeHeader, BeforeBody, AfterLast, WirePart, no_wire, header_length, packet_of, with_packet}
+use Rattle.tds_packet.proofs.Words.{header_fault, wire}
+use Rattle.tds_packet.proofs.ElementLaws.{Spelt-step, Spelt-append, Spelt-none, Spelt-induct, AreBytes-front, AreBytes-back, one_state}
+use Rattle.tds_packet.proofs.Choices.{choose, eq_true}
 
 pub one_more : (size : ℕ) (ps : List Packet) (p : Packet) → AreBefore size ps → IsPacket size p → is_last p ≡ false → AreBefore size (ps ++ p ∷ [])
 one_more size [] p h i l = (i, l, tt)
@@ -19,7 +26,8 @@ pub record Good (size limit : ℕ) (packets : List Packet) (header : List ℕ) :
   pub most : header_length header ≤ size
   pub within : length (wire_of packets) + header_length header ≤ limit
 
-pub free_is_good : (size limit : ℕ) (packets : List Packet) (header : List ℕ) → length header ≡ 8 → AreBytes header → header_fault size limit (length (wire_of packets)) header ≡ None → Good size limit packets header
+pub free_is_good : (size limit : ℕ) (packets : List Packet) (header : List ℕ) → length header ≡ 8 → AreBytes header
+    → header_fault size limit (length (wire_of packets)) header ≡ None → Good size limit packets header
 free_is_good size limit packets header eight bytes free = grind (arith, eq_true, nat_tests)
 
 -- what the bytes that lead to a place of the wire are
@@ -29,62 +37,82 @@ WireMeans size limit packets (BeforeBody header) b = (b ≡ wire_of packets ++ h
 WireMeans size limit packets AfterLast b = (b ≡ wire_of packets) × AreMessage size packets × (length b ≤ limit)
 
 module _ (size limit : ℕ) where
-  with_means : (packets : List Packet) (header body : List ℕ) → AreBefore size packets → Good size limit packets header → length body ≡ header_length header - 8 → let w = with_packet packets (packet_of header body) in WireMeans size limit w.packets w.place (wire_of packets ++ (header ++ body))
+  with_means : (packets : List Packet) (header body : List ℕ) → AreBefore size packets → Good size limit packets header
+      → length body ≡ header_length header - 8 → let w = with_packet packets (packet_of header body) in
+      WireMeans size limit w.packets w.place (wire_of packets ++ (header ++ body))
   with_means packets header body before good l = grind (arith, append-nil, flat_map-append, length-append, last_one, one_more)
 
-  wire_step : (packets : List Packet) (place : WirePlace) (b e : List ℕ) → AreBytes e → WireMeans size limit packets place b → IsNext (wire size limit) (record { packets = packets; place = place }) e → let w = wire_add packets place e in WireMeans size limit w.packets w.place (b ++ e)
+  wire_step : (packets : List Packet) (place : WirePlace) (b e : List ℕ) → AreBytes e → WireMeans size limit packets place b
+      → IsNext (wire size limit) (record { packets = packets; place = place }) e → let w = wire_add packets place e in
+      WireMeans size limit w.packets w.place (b ++ e)
   wire_step packets AfterLast b e bytes h n = absurd (omega arith)
   wire_step packets BeforeHeader b e bytes h n =
       let good : Good size limit packets e = free_is_good size limit packets e n.whole bytes n.free in
-      choose (λ w. WireMeans size limit w.packets w.place (b ++ e)) (header_length e == 8) (with_packet packets _) (record { packets = packets; place = BeforeBody e })
-      (λ z. (let eight : header_length e ≡ 8 = eq_true (header_length e) 8 z in rw h.0 (rw append-nil at (with_means packets e [] h.1 good (omega arith))))) (λ z. (rw h.0 refl, h.1, good))
+      choose (λ w. WireMeans size limit w.packets w.place (b ++ e)) (header_length e == 8) (with_packet packets _)
+      (record { packets = packets; place = BeforeBody e })
+      (λ z. (let eight : header_length e ≡ 8 = eq_true (header_length e) 8 z in rw h.0
+      (rw append-nil at (with_means packets e [] h.1 good (omega arith))))) (λ z. (rw h.0 refl, h.1, good))
   wire_step packets (BeforeBody header) b e bytes h n = grind (arith, append_assoc, with_means)
 
   -- what is read of a wire are the packets that it begins with
-  pub wire_is_spelt : (bytes : List ℕ) (w : WirePart) → AreBytes bytes → Spelt (wire size limit) no_wire bytes w → WireMeans size limit w.packets w.place bytes
-  wire_is_spelt bytes w are h = Spelt-induct _ (λ q b. AreBytes b → WireMeans size limit q.packets q.place b) (λ q b e k n t. wire_step _ _ b e (AreBytes-back b e t) (k (AreBytes-front b e t)) n) no_wire (λ t. (refl, tt, omega arith)) bytes w h are
+  pub wire_is_spelt : (bytes : List ℕ) (w : WirePart) → AreBytes bytes → Spelt (wire size limit) no_wire bytes w
+      → WireMeans size limit w.packets w.place bytes
+  wire_is_spelt bytes w are h = Spelt-induct _ (λ q b. AreBytes b → WireMeans size limit q.packets q.place b)
+      (λ q b e k n t. wire_step _ _ b e (AreBytes-back b e t) (k (AreBytes-front b e t)) n) no_wire (λ t. (refl, tt, omega arith)) bytes w h are
 
 -- the header of a packet
 abbrev pub header_of : Packet → List ℕ
 header_of p = 4 ∷ p.status ∷ packet_length p / 256 ∷ packet_length p % 256 ∷ p.id
 
 module _ (size limit : ℕ) where
-  pub good_header : (before : ℕ) (p : Packet) → IsPacket size p → before + packet_length p ≤ limit → header_fault size limit before (header_of p) ≡ None
+  pub good_header : (before : ℕ) (p : Packet) → IsPacket size p → before + packet_length p ≤ limit
+      → header_fault size limit before (header_of p) ≡ None
   good_header before p i f = grind (arith, nat_tests)
 
   abbrev pub before_packet : List Packet → WirePart
   before_packet packets = record { packets = packets; place = BeforeHeader }
 
   -- a packet that may follow is read
-  pub packet_is_read : (packets : List Packet) (p : Packet) → IsPacket size p → length (wire_of packets) + packet_length p ≤ limit → Spelt (wire size limit) (before_packet packets) (packet_bytes p) (with_packet packets p)
+  pub packet_is_read : (packets : List Packet) (p : Packet) → IsPacket size p → length (wire_of packets) + packet_length p ≤ limit
+      → Spelt (wire size limit) (before_packet packets) (packet_bytes p) (with_packet packets p)
   packet_is_read packets p i f =
       let g = wire size limit in
       let eight : length (header_of p) ≡ 8 = omega arith in
       let good = good_header _ p i f in
-      elim p.body as (λ b. p.body ≡ b → Spelt g (before_packet packets) (header_of p ++ b) (with_packet packets (record { status = p.status; id = p.id; body = b }))) [
-        | [] ↦ λ e. (let size_is : (header_length (header_of p) == 8) ≡ true = grind arith in rw append-nil (Spelt-step g _ _ _ (omega arith) eight good (rw size_is)))
+      elim p.body as (λ b. p.body ≡ b → Spelt g (before_packet packets) (header_of p ++ b)
+      (with_packet packets (record { status = p.status; id = p.id; body = b }))) [
+        | [] ↦ λ e. (let size_is : (header_length (header_of p) == 8) ≡ true = grind arith in rw append-nil
+            (Spelt-step g _ _ _ (omega arith) eight good (rw size_is)))
         | ◌∷◌ x (xs → _) ↦ λ e.
             (let inside : WirePart = record { packets = packets; place = BeforeBody (header_of p) } in
             let n : packet_length p ≡ 8 + length (x ∷ xs) = rw e in
             let off : (header_length (header_of p) == 8) ≡ false = grind (arith, nat_tests) in
-            Spelt-append g _ (header_of p) inside (x ∷ xs) _ (Spelt-step g _ (header_of p) inside (omega arith) eight good (rw off)) (Spelt-step g inside _ _ (omega arith) (omega arith) refl refl))
+            Spelt-append g _ (header_of p) inside (x ∷ xs) _ (Spelt-step g _ (header_of p) inside (omega arith) eight good (rw off))
+            (Spelt-step g inside _ _ (omega arith) (omega arith) refl refl))
       ] refl
 
   -- a packet before the last is read, and what follows it
-  pub one_is_read : (done : List Packet) (p : Packet) (packets : List Packet) (place : WirePlace) → IsPacket size p × (is_last p ≡ false) → length (wire_of (done ++ p ∷ packets)) ≤ limit
-      → (length (wire_of ((done ++ p ∷ []) ++ packets)) ≤ limit → Spelt (wire size limit) (before_packet (done ++ p ∷ [])) (wire_of packets) (record { packets = (done ++ p ∷ []) ++ packets; place = place }))
+  pub one_is_read : (done : List Packet) (p : Packet) (packets : List Packet) (place : WirePlace) → IsPacket size p × (is_last p ≡ false)
+      → length (wire_of (done ++ p ∷ packets)) ≤ limit
+      → (length (wire_of ((done ++ p ∷ []) ++ packets)) ≤ limit
+      → Spelt (wire size limit) (before_packet (done ++ p ∷ [])) (wire_of packets)
+      (record { packets = (done ++ p ∷ []) ++ packets; place = place }))
       → Spelt (wire size limit) (before_packet done) (wire_of (p ∷ packets)) (record { packets = done ++ p ∷ packets; place = place })
   one_is_read done p packets place h f more =
-      let long : length (wire_of (done ++ p ∷ packets)) ≡ length (wire_of done) + (packet_length p + length (wire_of packets)) = simp (flat_map-append, length-append) (omega arith) in
+      let long : length (wire_of (done ++ p ∷ packets)) ≡ length (wire_of done) + (packet_length p + length (wire_of packets)) =
+      simp (flat_map-append, length-append) (omega arith) in
       Spelt-append _ _ _ _ _ _ (rw h.1 at (packet_is_read done p h.0 (omega arith))) (rw append_assoc at (more (rw append_assoc f)))
 
   -- packets before the last are read
-  pub before_are_read : (done packets : List Packet) → AreBefore size packets → length (wire_of (done ++ packets)) ≤ limit → Spelt (wire size limit) (before_packet done) (wire_of packets) (before_packet (done ++ packets))
+  pub before_are_read : (done packets : List Packet) → AreBefore size packets → length (wire_of (done ++ packets)) ≤ limit
+      → Spelt (wire size limit) (before_packet done) (wire_of packets) (before_packet (done ++ packets))
   before_are_read done [] h f = rw append-nil (Spelt-none _ _)
   before_are_read done (p ∷ packets) h f = one_is_read _ p _ _ (h.0, h.1) f (before_are_read _ _ h.2)
 
   -- the packet that follows would be read too
-  no_next : (input : List ℕ) (taken : ℕ) (packets : List Packet) (place : WirePlace) (header : List ℕ) → Longest (wire size limit) no_wire input taken (record { packets = packets; place = place }) → AreBefore size packets → take taken input ≡ wire_of packets ++ header
+  no_next : (input : List ℕ) (taken : ℕ) (packets : List Packet) (place : WirePlace) (header : List ℕ)
+      → Longest (wire size limit) no_wire input taken (record { packets = packets; place = place }) → AreBefore size packets
+      → take taken input ≡ wire_of packets ++ header
       → (header ≡ []) ⊎ ((length header ≡ 8) × (place ≡ BeforeBody header)) → (next : Packet) → IsNextPacket size limit input packets next → ⊥
   no_next input taken packets place header l before is cause next f =
       let all = wire_of packets ++ packet_bytes next in
@@ -94,14 +122,26 @@ module _ (size limit : ℕ) where
       let read = Spelt-append _ _ _ _ _ _ (before_are_read _ _ before (omega arith)) (packet_is_read _ _ f.rules (omega arith)) in
       let within = l.longest (length all) (with_packet packets next) (omega (arith, ap length f.spelt, length-append all f.more)) (rw front read) in
       let counted = sym (length-take-le taken input l.within) ∙ ap length is ∙ length-append _ header in
-      let one : length all ≡ taken → place ≡ (if is_last next then AfterLast else BeforeHeader) = λ same. ap (λ w. w.place) (one_state _ no_wire _ _ (with_packet packets next) l.spelt (rw (← same, front) read)) in
+      let one : length all ≡ taken → place ≡ (if is_last next then AfterLast else BeforeHeader) =
+      λ same. ap (λ w. w.place) (one_state _ no_wire _ _ (with_packet packets next) l.spelt (rw (← same, front) read)) in
       grind arith
 
   -- What is read at most of an input are the packets at its front.
-  pub read_front : (input : List ℕ) (taken : ℕ) (w : WirePart) → AreBytes input → Longest (wire size limit) no_wire input taken w → Front size limit input w.packets
+  pub read_front : (input : List ℕ) (taken : ℕ) (w : WirePart) → AreBytes input → Longest (wire size limit) no_wire input taken w
+      → Front size limit input w.packets
   read_front input taken w are l = go w.place l (wire_is_spelt size limit _ w (AreBytes-front _ (drop taken input) (rw take-append-drop are)) l.spelt)
     where
-      go : (place : WirePlace) → Longest (wire size limit) no_wire input taken (record { packets = w.packets; place = place }) → WireMeans size limit w.packets place (take taken input) → Front size limit input w.packets
-      go BeforeHeader l k = grind (arith, take-append-drop taken input, no_next input taken w.packets BeforeHeader [] l k.1 (k.0 ∙ sym (append-nil _)) (inl refl))
-      go (BeforeBody header) l k = grind (arith, append_assoc, take-append-drop taken input, no_next input taken w.packets (BeforeBody header) header l k.1 k.0 (inr (k.2.eight, refl)))
+      go : (place : WirePlace) → Longest (wire size limit) no_wire input taken (record { packets = w.packets; place = place })
+          → WireMeans size limit w.packets place (take taken input) → Front size limit input w.packets
+      go BeforeHeader l k = grind (
+        arith,
+        take-append-drop taken input,
+        no_next input taken w.packets BeforeHeader [] l k.1 (k.0 ∙ sym (append-nil _)) (inl refl),
+      )
+      go (BeforeBody header) l k = grind (
+        arith,
+        append_assoc,
+        take-append-drop taken input,
+        no_next input taken w.packets (BeforeBody header) header l k.1 k.0 (inr (k.2.eight, refl)),
+      )
       go _ l k = grind (arith, take-append-drop taken input)

@@ -1,12 +1,17 @@
 -- Calls that read by a grammar, one after another.
-use Rattle.tds_packet.proofs.{Words.{◌≡◌, ◌∙◌, inl, inr, ℕ, ◌+◌, ◌<◌, List, [], ◌++◌, length, ap, arith, append_assoc, append-nil, length-append, Option, Some, Fault, MessageEnded, Payload, Stop, Grammar, IsNext, Seen, Takes, Ends, IsBetween, began_at, Reads, RefusesNext, StopsReading, IsCutStop}, ElementLaws.{Spelt-none, Spelt-append, Spelt-one}, Futures.{Takes-none, Takes-trans, Ends-after}}
+use Rattle.tds_packet.proofs.Words.{◌≡◌, ◌∙◌, inl, inr, ℕ, ◌+◌, ◌<◌, List, [], ◌++◌, length, ap, arith, append_assoc, append-nil, length-append}
+use Rattle.tds_packet.proofs.Words.{Option, Some, Fault, MessageEnded, Payload, Stop, Grammar, IsNext, Seen, Takes, Ends, IsBetween, began_at, Reads}
+use Rattle.tds_packet.proofs.Words.{RefusesNext, StopsReading, IsCutStop}
+use Rattle.tds_packet.proofs.ElementLaws.{Spelt-none, Spelt-append, Spelt-one}
+use Rattle.tds_packet.proofs.Futures.{Takes-none, Takes-trans, Ends-after}
 
 -- bytes taken by two calls
 pub takes_both : (a b c : Seen) (xs ys : List ℕ) → Takes a b xs (length xs) → Takes b c ys (length ys) → Takes a c (xs ++ ys) (length (xs ++ ys))
 takes_both a b c xs ys p q = rw length-append (Takes-trans a b c xs ys (length xs) (length ys) (omega arith) p q)
 
 -- bytes taken by two calls, of which the second handed out more than it needed
-pub takes_ahead : (a b c : Seen) (xs ys ahead : List ℕ) → Takes a b xs (length xs) → Takes b c (ys ++ ahead) (length ys) → Takes a c ((xs ++ ys) ++ ahead) (length (xs ++ ys))
+pub takes_ahead : (a b c : Seen) (xs ys ahead : List ℕ) → Takes a b xs (length xs) → Takes b c (ys ++ ahead) (length ys)
+    → Takes a c ((xs ++ ys) ++ ahead) (length (xs ++ ys))
 takes_ahead a b c xs ys ahead p q = rw (append_assoc, length-append) (Takes-trans a b c xs (ys ++ ahead) (length xs) (length ys) (omega arith) p q)
 
 -- no bytes more
@@ -14,7 +19,8 @@ pub add_none : (n : ℕ) → n + 0 ≡ n
 add_none n = omega arith
 
 -- a call of many bytes and a cut element of an open description stop alike
-pub began_is_cut : (place : ℕ) (ended : Option Fault) (own stop : Stop) → ended ≡ Some MessageEnded → stop ≡ began_at place own → IsCutStop place ended own stop
+pub began_is_cut : (place : ℕ) (ended : Option Fault) (own stop : Stop) → ended ≡ Some MessageEnded → stop ≡ began_at place own
+    → IsCutStop place ended own stop
 began_is_cut place ended own stop end is = grind arith
 
 module _ {S : Type 0} (g : Grammar S Fault) where
@@ -22,14 +28,21 @@ module _ {S : Type 0} (g : Grammar S Fault) where
   reads_none s a = record { bytes = []; spelt = Spelt-none g s; takes = Takes-none a 0 }
 
   -- an element is read whole, without a fault
-  abbrev pub reads_one : (s : S) (a b : Seen) (element : List ℕ) (t : S) → IsNext g s element → Takes a b element (length element) → g.add s element ≡ t → Reads g s a b t
+  abbrev pub reads_one : (s : S) (a b : Seen) (element : List ℕ) (t : S) → IsNext g s element → Takes a b element (length element)
+      → g.add s element ≡ t → Reads g s a b t
   reads_one s a b element t next takes to = record { bytes = element; spelt = rw to at (Spelt-one g s element next); takes = takes }
 
   abbrev pub reads_both : (s t u : S) (a b c : Seen) → Reads g s a b t → Reads g t b c u → Reads g s a c u
-  reads_both s t u a b c p q = record { bytes = p.bytes ++ q.bytes; spelt = Spelt-append g s p.bytes t q.bytes u p.spelt q.spelt; takes = takes_both a b c _ _ p.takes q.takes }
+  reads_both s t u a b c p q = record {
+    bytes = p.bytes ++ q.bytes;
+    spelt = Spelt-append g s p.bytes t q.bytes u p.spelt q.spelt;
+    takes = takes_both a
+        b c _ _ p.takes q.takes;
+  }
 
   -- what stops a call stops one that began before it
-  pub stops_after : (s t : S) (a b c : Seen) (place : ℕ) (at : S) (stop : Stop) → (p : Reads g s a b t) → StopsReading g t b c (place + length p.bytes) at stop → StopsReading g s a c place at stop
+  pub stops_after : (s t : S) (a b c : Seen) (place : ℕ) (at : S) (stop : Stop) → (p : Reads g s a b t)
+      → StopsReading g t b c (place + length p.bytes) at stop → StopsReading g s a c place at stop
   stops_after s t a b c place at stop p q =
       let placed : (place + length p.bytes) + length q.bytes ≡ place + length _ = omega (arith, length-append p.bytes q.bytes) in
       record {
@@ -38,18 +51,39 @@ module _ {S : Type 0} (g : Grammar S Fault) where
         cause = elim q.cause [
           | inl x ↦
               (let r = x.0 in
-              inl (record { element = r.element; ahead = r.ahead; some = r.some; whole = r.whole; first = r.first; takes = rw (append_assoc p.bytes q.bytes _) (takes_ahead a b c _ _ _ p.takes r.takes); between = r.between }, x.1 ∙ ap Payload placed))
-          | inr x ↦ inr (record { part = x.part; cut = x.cut; own = x.own; ends = rw append_assoc (Ends-after a b c p.bytes _ _ x.own p.takes x.ends); stop_is = rw placed at x.stop_is })
+              inl (
+                record {
+                  element = r.element;
+                  ahead = r.ahead;
+                  some = r.some;
+                  whole = r.whole;
+                  first = r.first;
+                  takes = rw
+                      (append_assoc p.bytes q.bytes _) (takes_ahead a b c _ _ _ p.takes r.takes);
+                  between = r.between;
+                },
+                x.1 ∙ ap Payload placed,
+              ))
+          | inr x ↦ inr (record {
+            part = x.part;
+            cut = x.cut;
+            own = x.own;
+            ends = rw append_assoc (Ends-after a b c p.bytes _ _ x.own p.takes x.ends);
+            stop_is = rw placed at x.stop_is;
+          })
         ];
       }
 
   -- the first element is refused
-  pub refused_at_once : (s : S) (a b : Seen) (place : ℕ) (element : List ℕ) (fault : Fault) → 0 < length element → length element ≡ g.size s → g.fault s element ≡ Some fault → Takes a b element (length element) → IsBetween b
+  pub refused_at_once : (s : S) (a b : Seen) (place : ℕ) (element : List ℕ) (fault : Fault) → 0 < length element → length element ≡ g.size s
+      → g.fault s element ≡ Some fault → Takes a b element (length element) → IsBetween b
       → StopsReading g s a b place s (record { fault = fault; place = Payload place })
   refused_at_once s a b place element fault some whole first takes between =
-      let refused : RefusesNext g a b [] s fault = record { element = element; ahead = []; some = some; whole = whole; first = first; takes = rw append-nil takes; between = between } in
+      let refused : RefusesNext g a b [] s fault =
+      record { element = element; ahead = []; some = some; whole = whole; first = first; takes = rw append-nil takes; between = between } in
       grind (arith, Spelt-none, add_none)
 
   -- the payload stopped in the first element
-  pub cut_at_once : (s : S) (a b : Seen) (place : ℕ) (part : List ℕ) (own stop : Stop) → length part < g.size s → Ends a b part own → IsCutStop place (g.end_fault s) own stop → StopsReading g s a b place s stop
+  pub cut_at_once : (s : S) (a b : Seen) (place : ℕ) (part : List ℕ) (own stop : Stop) → length part < g.size s → Ends a b part own
+      → IsCutStop place (g.end_fault s) own stop → StopsReading g s a b place s stop
   cut_at_once s a b place part own stop cut ends is = grind (arith, Spelt-none, add_none)

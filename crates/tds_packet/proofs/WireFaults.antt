@@ -1,5 +1,7 @@
 -- Which faults the payload itself may have.
-use Rattle.tds_packet.proofs.Words.{PayloadOf, common_steps, arith, ◌≡◌, ◌∙◌, inl, inr, ℕ, zero, suc, ◌+◌, true, false, length, List, [], sym, Option, None, ⊤, one_more, Fault, MessageEnded, ReadFailed, WriteFailed, Wire, Payload, Stop, Coming, FrontPacket, NoPacket, before, stopped_at, after_packet, coming_of, front_packet, message, buffered, seen, Ends, Seen}
+use Rattle.tds_packet.proofs.Words.{PayloadOf, common_steps, arith, ◌≡◌, ◌∙◌, inl, inr, ℕ, zero, suc, ◌+◌, true, false, length, List, [], sym, Option}
+use Rattle.tds_packet.proofs.Words.{None, ⊤, one_more, Fault, MessageEnded, ReadFailed, WriteFailed, Wire, Payload, Stop, Coming, FrontPacket}
+use Rattle.tds_packet.proofs.Words.{NoPacket, before, stopped_at, after_packet, coming_of, front_packet, message, buffered, seen, Ends, Seen}
 
 -- a fault that the wire or the end of a message may have
 abbrev pub IsOfWire : Fault → Type 0
@@ -8,40 +10,53 @@ IsOfWire WriteFailed = ⊥
 IsOfWire fault = ⊤
 
 -- no fault of a packet is the message's end
-front_faults : (size limit wire : ℕ) (input rest : List ℕ) (fault : Fault) → front_packet size limit wire input ≡ NoPacket fault rest → IsOfWire fault × (fault ≡ MessageEnded → ⊥)
+front_faults : (size limit wire : ℕ) (input rest : List ℕ) (fault : Fault) → front_packet size limit wire input ≡ NoPacket fault rest → IsOfWire fault
+    × (fault ≡ MessageEnded → ⊥)
 unfolding front_packet
 front_faults size limit wire input rest fault e = grind (arith, common_steps)
 
 -- what holds of each stop, and before the bytes of a packet, holds of what comes from each place on
 module _ (P : ℕ → Coming → Type 0) (ended : (place : ℕ) (rest : List ℕ) → P place (stopped_at MessageEnded (Payload place) rest))
-    (faulty : (wire place : ℕ) (fault : Fault) (rest : List ℕ) → IsOfWire fault × (fault ≡ MessageEnded → ⊥) → P place (stopped_at fault (Wire wire) rest))
+    (faulty : (wire place : ℕ) (fault : Fault) (rest : List ℕ) → IsOfWire fault × (fault ≡ MessageEnded → ⊥)
+    → P place (stopped_at fault (Wire wire) rest))
     (more : (place : ℕ) (body : List ℕ) (c : Coming) → P (place + length body) c → P place (before body c)) where
-  packet_keeps : (next : ℕ → ℕ → List ℕ → Coming) (wire place : ℕ) (p : FrontPacket) → ((rest : List ℕ) (fault : Fault) → p ≡ NoPacket fault rest → IsOfWire fault × (fault ≡ MessageEnded → ⊥)) → ((w q : ℕ) (l : List ℕ) → P q (next w q l)) → P place (after_packet next wire place p)
+  packet_keeps : (next : ℕ → ℕ → List ℕ → Coming) (wire place : ℕ) (p : FrontPacket)
+      → ((rest : List ℕ) (fault : Fault) → p ≡ NoPacket fault rest → IsOfWire fault × (fault ≡ MessageEnded → ⊥))
+      → ((w q : ℕ) (l : List ℕ) → P q (next w q l)) → P place (after_packet next wire place p)
   packet_keeps next wire place p h k = grind (arith, common_steps)
 
   message_keeps : (size limit fuel wire place : ℕ) (input : List ℕ) → P place (message size limit fuel wire place input)
   unfolding message
   message_keeps size limit zero wire place input = faulty wire place _ input (tt, λ e. cc)
-  message_keeps size limit (suc fuel) wire place input = packet_keeps _ wire place _ (front_faults size limit wire input) (message_keeps size limit fuel)
+  message_keeps size limit (suc fuel) wire place input =
+      packet_keeps _ wire place _ (front_faults size limit wire input) (message_keeps size limit fuel)
 
   -- so it does of what comes of a payload that has not stopped
-  pub seen_keeps : {R : Type 0} (remaining : R → Option (List ℕ)) (p : PayloadOf R) (input : List ℕ) → p.stopped ≡ None → P p.place ((seen remaining p).future input)
+  pub seen_keeps : {R : Type 0} (remaining : R → Option (List ℕ)) (p : PayloadOf R) (input : List ℕ) → p.stopped ≡ None
+      → P p.place ((seen remaining p).future input)
   unfolding coming_of
-  seen_keeps remaining p input going = rw going (elim p.last as (λ last. P p.place (coming_of p.packet.now.room p.max_wire p.wire p.place last None (buffered p) input)) [
-    | true ↦ more p.place _ _ (ended _ input)
-    | false ↦ more p.place _ _ (message_keeps _ _ _ p.wire _ input)
-  ])
+  seen_keeps remaining p input going = rw going
+      (elim p.last as (λ last. P p.place (coming_of p.packet.now.room p.max_wire p.wire p.place last None (buffered p) input)) [
+        | true ↦ more p.place _ _ (ended _ input)
+        | false ↦ more p.place _ _ (message_keeps _ _ _ p.wire _ input)
+      ])
 
 -- what comes of an input stops with such a fault
 pub message_of_wire : (size limit fuel wire place : ℕ) (input : List ℕ) → IsOfWire (message size limit fuel wire place input).stop.fault
 message_of_wire = message_keeps (λ _ c. IsOfWire c.stop.fault) (λ _ _. tt) (λ _ _ _ _ h. h.0) (λ _ _ _ h. h)
 
 -- a payload that stops blames a device only where a read failed
-pub ends_blame : {R : Type 0} (remaining : R → Option (List ℕ)) (p : PayloadOf R) (b : Seen) (bytes : List ℕ) (own : Stop) → p.stopped ≡ None → Ends (seen remaining p) b bytes own
+pub ends_blame : {R : Type 0} (remaining : R → Option (List ℕ)) (p : PayloadOf R) (b : Seen) (bytes : List ℕ) (own : Stop) → p.stopped ≡ None
+    → Ends (seen remaining p) b bytes own
     → (own.fault ≡ WriteFailed → ⊥) × (own.fault ≡ ReadFailed → b.failures ≡ one_more p.from.now.failures)
 ends_blame remaining p b bytes own going ends =
-    let of_wire : (input rest : List ℕ) → (seen remaining p).future input ≡ record { bytes = bytes; stop = own; rest = rest } → (own.fault ≡ WriteFailed → ⊥) × (own.fault ≡ ReadFailed → b.failures ≡ one_more p.from.now.failures) = λ input rest e.
-    (let h = rw e at (seen_keeps (λ _ c. IsOfWire c.stop.fault) (λ _ _. tt) (λ _ _ _ _ h. h.0) (λ _ _ _ h. h) remaining p input going) in (λ w. rw w at h, λ r. absurd (rw r at h))) in
+    let of_wire : (input rest : List ℕ) → (seen remaining p).future input ≡ record { bytes = bytes; stop = own; rest = rest }
+    → (own.fault ≡ WriteFailed → ⊥) × (own.fault ≡ ReadFailed → b.failures ≡ one_more p.from.now.failures) = λ input rest e.
+    (let h = rw e at (seen_keeps (λ _ c. IsOfWire c.stop.fault) (λ _ _. tt) (λ _ _ _ _ h. h.0) (λ _ _ _ h. h) remaining p input going) in (
+      λ w. rw
+          w at h,
+      λ r. absurd (rw r at h),
+    )) in
     elim ends [
       | inl x ↦ of_wire _ [] (x.2 [])
       | inr (inl x) ↦ of_wire x.0 [] x.3

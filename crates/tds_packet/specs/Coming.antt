@@ -1,11 +1,13 @@
 -- What a payload has still to give, and how reading from it stops.
-use Rattle.std.specs.Prelude.{◌≡◌, ◌⊎◌, ℕ, zero, suc, ◌+◌, ◌-◌, Bool, true, false, List, [], ◌++◌, length, take, drop, Option, Some, None, nat_lt, slice_index, if◌then◌else◌}
+use Rattle.std.specs.Prelude.{◌≡◌, ◌⊎◌, ℕ, zero, suc, ◌+◌, ◌-◌, Bool, true, false, List, [], ◌++◌, length, take, drop, Option, Some, None, nat_lt}
+use Rattle.std.specs.Prelude.{slice_index, if◌then◌else◌}
 use Rattle.tds_packet.specs.declared.fault.Fault.{Fault}
 use Rattle.tds_packet.specs.declared.fault.Fault.TheVariants.{InputEnded, MessageEnded}
 use Rattle.tds_packet.specs.declared.fault.Place.{Place}
 use Rattle.tds_packet.specs.declared.fault.Place.TheVariants.{Wire, Payload}
 use Rattle.tds_packet.specs.declared.fault.Stop.{Stop}
-use Rattle.tds_packet.specs.Packets.{Packet, wire_of, payload_of, AreBefore, AreMessage, Front, WireFault, header_length, header_fault, is_last_status}
+use Rattle.tds_packet.specs.Packets.{Packet, wire_of, payload_of, AreBefore, AreMessage, Front, WireFault, header_length, header_fault}
+use Rattle.tds_packet.specs.Packets.{is_last_status}
 
 -- the bytes to come, the stop after them, and what the reader has left then
 pub record Coming : Type 0 where
@@ -31,7 +33,8 @@ abbrev pub packet_after_header : List ℕ → List ℕ → Option Fault → Fron
 packet_after_header header rest (Some fault) = NoPacket fault rest
 packet_after_header header rest None =
     if nat_lt (length rest) (header_length header - 8) then NoPacket InputEnded []
-    else WholePacket (take (header_length header - 8) rest) (is_last_status (slice_index header 1)) (header_length header) (drop (header_length header - 8) rest)
+    else WholePacket (take (header_length header - 8) rest) (is_last_status (slice_index header 1)) (header_length header)
+    (drop (header_length header - 8) rest)
 
 -- the first packet of an input, after this many bytes of the wire
 unfoldable pub front_packet : ℕ → ℕ → ℕ → List ℕ → FrontPacket
@@ -54,7 +57,8 @@ message size limit (suc fuel) wire place input = after_packet (message size limi
 abbrev pub whole_message : ℕ → ℕ → List ℕ → Coming
 whole_message size limit input = message size limit (suc (length input)) 0 0 input
 
--- what comes of a payload: its limits, the bytes of the wire and of the payload after it, whether its packet is the last, the stop that it is at, and the bytes of its packet that are left
+-- what comes of a payload: its limits, the bytes of the wire and of the payload after it, whether its packet is the last, the stop that it is at, and
+-- the bytes of its packet that are left
 unfoldable pub coming_of : ℕ → ℕ → ℕ → ℕ → Bool → Option Stop → List ℕ → List ℕ → Coming
 coming_of size limit wire place last (Some stop) left input = record { bytes = []; stop = stop; rest = input }
 coming_of size limit wire place true None left input = before left (stopped_at MessageEnded (Payload (place + length left)) input)
@@ -66,5 +70,6 @@ pub record IsFrontMessage (size limit : ℕ) (input : List ℕ) (c : Coming) : T
   pub front : Front size limit input packets
   pub bytes : c.bytes ≡ payload_of packets
   pub stop :
-      (AreMessage size packets × (c.stop ≡ record { fault = MessageEnded; place = Payload (length (payload_of packets)) }) × (wire_of packets ++ c.rest ≡ input))
+      (AreMessage size packets × (c.stop ≡ record { fault = MessageEnded; place = Payload (length (payload_of packets)) })
+      × (wire_of packets ++ c.rest ≡ input))
       ⊎ (AreBefore size packets × WireFault size limit input packets c.stop.fault × (c.stop.place ≡ Wire (length (wire_of packets))))

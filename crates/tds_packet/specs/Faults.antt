@@ -1,7 +1,10 @@
 -- The faults by their numbers.
 use Rattle.std.specs.Prelude.{ℕ}
 use Rattle.tds_packet.specs.declared.fault.Fault.{Fault}
-use Rattle.tds_packet.specs.declared.fault.Fault.TheVariants.{ReadFailed, InputEnded, WrongPacketType, BadPacketLength, ResponseTooLong, RefusedToken, MessageEnded, EndWithoutDone, NoColumns, RefusedColumn, UnknownType, BadTypeInfo, DescriptionTooLong, RowWithoutColumns, BadValueLength, BadValue, OddText, PlpLength, BadNotice, WriteFailed, BadText}
+use Rattle.tds_packet.specs.declared.fault.Fault.TheVariants.{ReadFailed, InputEnded, WrongPacketType, BadPacketLength, ResponseTooLong, RefusedToken}
+use Rattle.tds_packet.specs.declared.fault.Fault.TheVariants.{MessageEnded, EndWithoutDone, NoColumns, RefusedColumn, UnknownType, BadTypeInfo}
+use Rattle.tds_packet.specs.declared.fault.Fault.TheVariants.{DescriptionTooLong, RowWithoutColumns, BadValueLength, BadValue, OddText, PlpLength}
+use Rattle.tds_packet.specs.declared.fault.Fault.TheVariants.{BadNotice, WriteFailed, BadText}
 
 -- the number of a fault, as a report shows it
 abbrev pub number_of : Fault → ℕ

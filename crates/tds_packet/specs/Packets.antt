@@ -1,5 +1,6 @@
 -- Packets of a tabular result (MS-TDS, Packets).
-use Rattle.std.specs.Prelude.{◌≡◌, ◌==◌, ◌||◌, ◌+◌, ◌*◌, ◌-◌, ◌%◌, ◌/◌, ◌≤◌, ◌⊎◌, ℕ, Bool, true, false, List, [], ◌∷◌, ◌++◌, length, drop, flat_map, Option, Some, None, if◌then◌else◌, nat_lt, slice_index}
+use Rattle.std.specs.Prelude.{◌≡◌, ◌==◌, ◌||◌, ◌+◌, ◌*◌, ◌-◌, ◌%◌, ◌/◌, ◌≤◌, ◌⊎◌, ℕ, Bool, true, false, List, [], ◌∷◌, ◌++◌, length, drop, flat_map}
+use Rattle.std.specs.Prelude.{Option, Some, None, if◌then◌else◌, nat_lt, slice_index}
 use Rattle.tds_packet.specs.declared.fault.Fault.{Fault}
 use Rattle.tds_packet.specs.declared.fault.Fault.TheVariants.{InputEnded, WrongPacketType, BadPacketLength, ResponseTooLong}
 use Rattle.tds_packet.specs.Elements.{Grammar, Longest, IsRefused}
@@ -119,7 +120,8 @@ wire_fault size limit packets AfterLast bytes = None
 
 -- the state after an element
 abbrev pub wire_add : List Packet → WirePlace → List ℕ → WirePart
-wire_add packets BeforeHeader header = if header_length header == 8 then with_packet packets (packet_of header []) else record { packets = packets; place = BeforeBody header }
+wire_add packets BeforeHeader header = if header_length header == 8 then with_packet packets (packet_of header []) else record
+    { packets = packets; place = BeforeBody header }
 wire_add packets (BeforeBody header) body = with_packet packets (packet_of header body)
 wire_add packets AfterLast bytes = record { packets = packets; place = AfterLast }
 
@@ -143,4 +145,5 @@ pub record WireFault (size limit : ℕ) (input : List ℕ) (packets : List Packe
   pub read : WirePart
   pub longest : Longest (wire size limit) no_wire input taken read
   pub packets_are : read.packets ≡ packets
-  pub first : IsRefused (wire size limit) read (drop taken input) fault ⊎ (((f : Fault) → IsRefused (wire size limit) read (drop taken input) f → ⊥) × ((wire size limit).end_fault read ≡ Some fault))
+  pub first : IsRefused (wire size limit) read (drop taken input) fault
+      ⊎ (((f : Fault) → IsRefused (wire size limit) read (drop taken input) f → ⊥) × ((wire size limit).end_fault read ≡ Some fault))

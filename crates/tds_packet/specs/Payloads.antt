@@ -1,5 +1,6 @@
 -- How the fields of a payload are seen.
-use Rattle.std.specs.Prelude.{◌≡◌, ℕ, ◌+◌, ◌-◌, ◌^◌, ◌<◌, ◌≤◌, Bool, true, false, IsTrue, List, [], length, take, drop, Option, Some, None, Result, Err, IfErr, IfSome, MatchResult, OnOk, ⊤}
+use Rattle.std.specs.Prelude.{◌≡◌, ℕ, ◌+◌, ◌-◌, ◌^◌, ◌<◌, ◌≤◌, Bool, true, false, IsTrue, List, [], length, take, drop, Option, Some, None, Result}
+use Rattle.std.specs.Prelude.{Err, IfErr, IfSome, MatchResult, OnOk, ⊤}
 use Rattle.std.specs.Borrow.{Fml, RattleType, MutBor}
 use Rattle.std.specs.Io.BufRead.{Rests}
 use mir.Syntax.{named}
@@ -39,7 +40,8 @@ pub record IsSound {R : Type 0} (p : Payload R) : Type 0 where
 
 -- It is on the same reader and area, under the same limits.
 abbrev pub IsOnSame : {R : Type 0} → Payload R → Payload R → Type 0
-IsOnSame old new = (new.from.ghost_name ≡ old.from.ghost_name) × (new.packet.ghost_name ≡ old.packet.ghost_name) × (new.packet.now.room ≡ old.packet.now.room) × (new.max_wire ≡ old.max_wire)
+IsOnSame old new = (new.from.ghost_name ≡ old.from.ghost_name) × (new.packet.ghost_name ≡ old.packet.ghost_name)
+    × (new.packet.now.room ≡ old.packet.now.room) × (new.max_wire ≡ old.max_wire)
 
 -- It hands out bytes: it is sound, and has not stopped.
 pub record IsGoing {R : Type 0} (p : Payload R) : Type 0 where
@@ -52,7 +54,8 @@ pub record LeavesPayload {R U : Type 0} (old new : Payload R) (result : Result U
   pub same : IsOnSame old new
   pub going : OnOk result (new.stopped ≡ None)
 
--- What a call of the payload itself returns: it is left as above; if it returned a stop, it is at that stop; and one that had stopped returns its stop again, with nothing changed.
+-- What a call of the payload itself returns: it is left as above; if it returned a stop, it is at that stop; and one that had stopped returns its
+-- stop again, with nothing changed.
 pub record AnswersAgain {R U : Type 0} (old new : Payload R) (result : Result U Stop) : Type 0 where
   pub sound : IsSound new
   pub same : IsOnSame old new

@@ -13,7 +13,8 @@ pub record Reads {S : Type 0} (g : Grammar S Fault) (from : S) (old new : Seen) 
   pub spelt : Spelt g from bytes to
   pub takes : Takes old new bytes (length bytes)
 
--- The next element was read whole, and this is its first fault. What comes after it in the packets read may have been handed out too; no packet was read for that.
+-- The next element was read whole, and this is its first fault. What comes after it in the packets read may have been handed out too; no packet was
+-- read for that.
 pub record RefusesNext {S : Type 0} (g : Grammar S Fault) (old new : Seen) (before : List ℕ) (at : S) (fault : Fault) : Type 0 where
   pub element : List ℕ
   pub ahead : List ℕ

@@ -1,5 +1,6 @@
 -- A payload cut into packets of one size, and what a call that cuts one leaves.
-use Rattle.std.specs.Prelude.{◌≡◌, ◌⊎◌, ℕ, zero, suc, ◌+◌, ◌-◌, ◌*◌, ◌/◌, ◌%◌, ◌^◌, ◌<◌, ◌≤◌, Bool, true, false, List, [], ◌∷◌, ◌++◌, length, drop, take, Option, Result, IfErr, IfOk, IsTrue, MatchResult, OnOk, if◌then◌else◌}
+use Rattle.std.specs.Prelude.{◌≡◌, ◌⊎◌, ℕ, zero, suc, ◌+◌, ◌-◌, ◌*◌, ◌/◌, ◌%◌, ◌^◌, ◌<◌, ◌≤◌, Bool, true, false, List, [], ◌∷◌, ◌++◌, length, drop}
+use Rattle.std.specs.Prelude.{take, Option, Result, IfErr, IfOk, IsTrue, MatchResult, OnOk, if◌then◌else◌}
 use Rattle.std.specs.Io.KnownBytes.{Appends, Keeps}
 use Rattle.tds_meter.specs.Counts.{one_more}
 use Rattle.tds_packet.specs.declared.counted.Counted.{Counted}
@@ -68,7 +69,8 @@ pub record StopsInput {W : Type 0} (contents : W → Option (List ℕ)) (m : ℕ
   pub unwritten : stop.unwritten ≡ 0
   pub flushed : let sent = wire_of (packets_before m payload) in Stays old.failures new.failures sent ⊎ Rises old.failures new.failures sent
 
--- A write or the flush failed after a part of a packet, which is the message's last, or full with more bytes to come. The packets before it were written.
+-- A write or the flush failed after a part of a packet, which is the message's last, or full with more bytes to come. The packets before it were
+-- written.
 pub record StopsOutput {W : Type 0} (contents : W → Option (List ℕ)) (m : ℕ) (a b : Seen) (old new : Counted W) (stop : RecutStop) : Type 0 where
   pub payload : List ℕ
   pub last : Bool
@@ -86,17 +88,20 @@ pub record StopsOutput {W : Type 0} (contents : W → Option (List ℕ)) (m : �
 -- A payload was written in packets with bodies of m bytes, or the input or the writer stopped that.
 abbrev pub Cuts : {W : Type 0} → (W → Option (List ℕ)) → ℕ → Seen → Seen → Counted W → Counted W → Result Recut RecutStop → Type 0
 Cuts contents m a b old new result =
-    MatchResult result (λ done. CutsAll contents m a b old new done) (λ stop. StopsInput contents m a b old new stop ⊎ StopsOutput contents m a b old new stop)
+    MatchResult result (λ done. CutsAll contents m a b old new done) (λ stop. StopsInput contents m a b old new stop
+    ⊎ StopsOutput contents m a b old new stop)
 
 -- The same of a reader of packets of at most this size, within this limit of the wire.
-pub record Recuts {R W : Type 0} (remaining : R → Option (List ℕ)) (contents : W → Option (List ℕ)) (size limit m : ℕ) (from from' : Counted R) (to to' : Counted W) (result : Result Recut RecutStop) : Type 0 where
+pub record Recuts {R W : Type 0} (remaining : R → Option (List ℕ)) (contents : W → Option (List ℕ)) (size limit m : ℕ) (from from' : Counted R)
+    (to to' : Counted W) (result : Result Recut RecutStop) : Type 0 where
   pub now : Seen
   pub left : now.left ≡ remaining from'.device
   pub failures : now.failures ≡ from'.failures
   pub cuts : Cuts contents m (begun size limit (remaining from.device) from.failures) now to to' result
 
 -- The bytes after 8 of a header were taken of the payload: as many as the room holds if more follow, or all that are left; or the payload stopped.
-pub record Gathers {R : Type 0} (remaining : R → Option (List ℕ)) (old new : Payload R) (room : ℕ) (packet : List ℕ) (result : Result Bool Stop) : Type 0 where
+pub record Gathers {R : Type 0} (remaining : R → Option (List ℕ)) (old new : Payload R) (room : ℕ) (packet : List ℕ)
+    (result : Result Bool Stop) : Type 0 where
   pub header : 8 ≤ length packet
   pub fits : length packet ≤ room
   pub gives : MatchResult result
@@ -111,7 +116,8 @@ pub record Gathers {R : Type 0} (remaining : R → Option (List ℕ)) (old new :
 -- A packet's bytes were written after others, or a part of them.
 abbrev pub WritesPacket : {W : Type 0} → (W → Option (List ℕ)) → Counted W → Counted W → Written → List ℕ → Result Written RecutStop → Type 0
 WritesPacket contents old new done bytes result = MatchResult result
-    (λ more. Gains contents old new bytes × (more ≡ record { packets = done.packets + 1; bytes = done.bytes + length bytes }) × Stays old.failures new.failures bytes)
+    (λ more. Gains contents old new bytes × (more ≡ record { packets = done.packets + 1; bytes = done.bytes + length bytes })
+    × Stays old.failures new.failures bytes)
     (λ stop. (part : List ℕ) × (rest : List ℕ) × (part ++ rest ≡ bytes) × Gains contents old new part
     × (stop ≡ write_stop (done.bytes + length part) (length rest)) × Rises old.failures new.failures part)
 

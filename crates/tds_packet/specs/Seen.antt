@@ -1,4 +1,5 @@
--- A payload as contracts see it, and what a call takes of it. What is still to come is a function of the input: a call says what it does whatever follows the bytes that it read.
+-- A payload as contracts see it, and what a call takes of it. What is still to come is a function of the input: a call says what it does whatever
+-- follows the bytes that it read.
 use Rattle.std.specs.Prelude.{◌≡◌, ◌⊎◌, ℕ, ◌+◌, ◌<◌, List, [], ◌++◌, length, take, Option}
 use Rattle.std.specs.Io.KnownBytes.{Consumes, IsAtEnd}
 use Rattle.tds_packet.specs.declared.fault.Fault.{Fault}
@@ -30,22 +31,26 @@ Needs old read n = (j : ℕ) → j < length read → length (old.future (take j 
 
 -- Whole packets were read, no more than n bytes need, and these bytes were handed out; no read failed.
 abbrev pub Takes : Seen → Seen → List ℕ → ℕ → Type 0
-Takes old new bytes n = (read : List ℕ) × Follows old new read bytes × (new.wire ≡ old.wire + length read) × Needs old read n × Stays old.failures new.failures read
+Takes old new bytes n = (read : List ℕ) × Follows old new read bytes × (new.wire ≡ old.wire + length read) × Needs old read n
+    × Stays old.failures new.failures read
 
 -- The message stops here once these bytes are handed out, whatever follows the bytes read.
 abbrev pub StopsAfter : Seen → Seen → List ℕ → Stop → Type 0
-StopsAfter old new bytes stop = (read : List ℕ) × Consumes old.left new.left read × ((zs : List ℕ) → old.future (read ++ zs) ≡ record { bytes = bytes; stop = stop; rest = zs })
+StopsAfter old new bytes stop = (read : List ℕ) × Consumes old.left new.left read
+    × ((zs : List ℕ) → old.future (read ++ zs) ≡ record { bytes = bytes; stop = stop; rest = zs })
     × Stays old.failures new.failures read
 
 -- The input is over, and with it the message, once these bytes are handed out.
 abbrev pub RunsOutAfter : Seen → Seen → List ℕ → Stop → Type 0
-RunsOutAfter old new bytes stop = (read : List ℕ) × Consumes old.left new.left read × IsAtEnd new.left × (old.future read ≡ record { bytes = bytes; stop = stop; rest = [] })
+RunsOutAfter old new bytes stop = (read : List ℕ) × Consumes old.left new.left read × IsAtEnd new.left
+    × (old.future read ≡ record { bytes = bytes; stop = stop; rest = [] })
     × IsAnswered old.failures new.failures
 
 -- A read failed, which was counted. These bytes were handed out, and the stop is, as they would be if the input had ended after what was read.
 abbrev pub FailsAfter : Seen → Seen → List ℕ → Stop → Type 0
 FailsAfter old new bytes stop = (read : List ℕ) × Consumes old.left new.left read × (stop.fault ≡ ReadFailed)
-    × (old.future read ≡ record { bytes = bytes; stop = record { fault = InputEnded; place = stop.place }; rest = [] }) × Rises old.failures new.failures read
+    × (old.future read ≡ record { bytes = bytes; stop = record { fault = InputEnded; place = stop.place }; rest = [] })
+    × Rises old.failures new.failures read
 
 -- These bytes were handed out, and then the payload stopped.
 abbrev pub Ends : Seen → Seen → List ℕ → Stop → Type 0
@@ -61,7 +66,8 @@ IsNotOver seen = 0 < length (seen.future []).bytes
 
 -- No packet is cut: without a further byte the message ends here, or its input does.
 abbrev pub IsBetween : Seen → Type 0
-IsBetween seen = ((seen.future []).rest ≡ []) × (((seen.future []).stop.fault ≡ MessageEnded) ⊎ ((seen.future []).stop ≡ record { fault = InputEnded; place = Wire seen.wire }))
+IsBetween seen = ((seen.future []).rest ≡ [])
+    × (((seen.future []).stop.fault ≡ MessageEnded) ⊎ ((seen.future []).stop ≡ record { fault = InputEnded; place = Wire seen.wire }))
 
 -- where a call of many bytes stops: a message that ends in it stops it where it began
 abbrev pub place_at : ℕ → Fault → Place → Place

@@ -1,10 +1,14 @@
 -- The lines on standard error.
-use Rattle.std.specs.Prelude.{ℕ, ℤ, List, [], ◌∷◌, ◌++◌, ◌≤◌, Option, None, Some, Result, Ok, Err, codes, decimal, length, map, flat_map, nat_lt, ◌==◌, ◌||◌, if◌then◌else◌}
+use Rattle.std.specs.Prelude.{ℕ, ℤ, List, [], ◌∷◌, ◌++◌, ◌≤◌, Option, None, Some, Result, Ok, Err, codes, decimal, length, map, flat_map, nat_lt}
+use Rattle.std.specs.Prelude.{◌==◌, ◌||◌, if◌then◌else◌}
 use Rattle.std.specs.Fmt.{signed_decimal}
 use Rattle.std.specs.List.{concat}
 use Rattle.hex.specs.Hex.{encode_lower}
 use Rattle.tds_packet.specs.declared.fault.Fault.{Fault}
-use Rattle.tds_packet.specs.declared.fault.Fault.TheVariants.{ReadFailed, InputEnded, WrongPacketType, BadPacketLength, ResponseTooLong, RefusedToken, MessageEnded, EndWithoutDone, NoColumns, RefusedColumn, UnknownType, BadTypeInfo, DescriptionTooLong, RowWithoutColumns, BadValueLength, BadValue, OddText, PlpLength, BadNotice, WriteFailed, BadText}
+use Rattle.tds_packet.specs.declared.fault.Fault.TheVariants.{ReadFailed, InputEnded, WrongPacketType, BadPacketLength, ResponseTooLong, RefusedToken}
+use Rattle.tds_packet.specs.declared.fault.Fault.TheVariants.{MessageEnded, EndWithoutDone, NoColumns, RefusedColumn, UnknownType, BadTypeInfo}
+use Rattle.tds_packet.specs.declared.fault.Fault.TheVariants.{DescriptionTooLong, RowWithoutColumns, BadValueLength, BadValue, OddText, PlpLength}
+use Rattle.tds_packet.specs.declared.fault.Fault.TheVariants.{BadNotice, WriteFailed, BadText}
 use Rattle.tds_packet.specs.declared.fault.Place.{Place}
 use Rattle.tds_packet.specs.declared.fault.Place.TheVariants.{Wire, Payload, Text}
 use Rattle.tds_packet.specs.declared.fault.RefusedKind.{RefusedKind}
@@ -98,7 +102,8 @@ place_number (Text n) = n
 
 -- the line of a stop
 unfoldable pub stop_line : Stopped → List ℕ
-stop_line s = concat (codes "fault " ∷ decimal (number_of s.fault) ∷ codes " " ∷ fault_name s.fault ∷ fault_fields s.fault ∷ codes " at " ∷ place_unit s.place ∷ codes " " ∷ decimal (place_number s.place)
+stop_line s = concat (codes "fault " ∷ decimal (number_of s.fault) ∷ codes " " ∷ fault_name s.fault ∷ fault_fields s.fault ∷ codes " at " ∷ place_unit
+    s.place ∷ codes " " ∷ decimal (place_number s.place)
     ∷ codes ", written " ∷ decimal s.written ∷ codes ", unwritten " ∷ decimal s.unwritten ∷ codes "\n" ∷ [])
 
 -- the line of a report's counts
@@ -126,7 +131,8 @@ shown_byte byte = if nat_lt byte 32 || byte == 127 then 32 else byte
 -- the line of the first error with its message, if there is one
 unfoldable pub error_line : Option ServerError → List ℕ → List ℕ
 error_line None message = []
-error_line (Some e) message = concat (codes "server error " ∷ signed_decimal e.number ∷ codes ", state " ∷ decimal e.state ∷ codes ", class " ∷ decimal e.class
+error_line (Some e) message = concat (codes "server error " ∷ signed_decimal e.number ∷ codes ", state " ∷ decimal e.state ∷ codes ", class " ∷
+    decimal e.class
     ∷ codes ", line " ∷ signed_decimal e.line ∷ codes ": " ∷ map shown_byte message ∷ codes "\n" ∷ [])
 
 -- the lines of what an export returned, with this message of the first error

@@ -48,7 +48,8 @@ abbrev pub with_areas : {R W N : Type 0} → Telling R W N → Devices R W N →
 with_areas tell d areas = moment tell.remaining tell.contents areas d.from d.to
 
 -- An export over these areas returned, with nothing kept beside them, and the status and the lines are those of what it returned.
-pub record RunsExport {R W N : Type 0} (tell : Telling R W N) (charset : Charset) (areas areas' : Areas) (before after : Devices R W N) (status : Status) : Type 0 where
+pub record RunsExport {R W N : Type 0} (tell : Telling R W N) (charset : Charset) (areas areas' : Areas) (before after : Devices R W N)
+    (status : Status) : Type 0 where
   pub kept : KeepsInAreas areas areas'
   pub answer : Result Report Stopped
   pub exports : Exports charset (with_areas tell before areas) (with_areas tell after areas') answer
@@ -56,7 +57,8 @@ pub record RunsExport {R W N : Type 0} (tell : Telling R W N) (charset : Charset
   pub lines : SaysOrFails tell.said before.notes after.notes (answer_lines answer areas'.notice.bytes)
 
 -- An export over areas made for these limits returned.
-pub record Performs {R W N : Type 0} (tell : Telling R W N) (charset : Charset) (limits : Limits) (before after : Devices R W N) (status : Status) : Type 0 where
+pub record Performs {R W N : Type 0} (tell : Telling R W N) (charset : Charset) (limits : Limits) (before after : Devices R W N)
+    (status : Status) : Type 0 where
   pub areas : Areas
   pub areas' : Areas
   pub made : AreMade limits areas
@@ -78,7 +80,8 @@ abbrev pub untold : Sink → Option (List ℕ)
 untold own = None
 
 -- An export was performed to a writer of its own, none of whose calls had failed.
-pub record Checks {R N : Type 0} (remaining : R → Option (List ℕ)) (said : N → Option (List ℕ)) (charset : Charset) (limits : Limits) (from from' : Counted R) (notes notes' : Counted N) (status : Status) : Type 0 where
+pub record Checks {R N : Type 0} (remaining : R → Option (List ℕ)) (said : N → Option (List ℕ)) (charset : Charset) (limits : Limits)
+    (from from' : Counted R) (notes notes' : Counted N) (status : Status) : Type 0 where
   pub own : Counted Sink
   pub own' : Counted Sink
   pub unfailed : own.failures ≡ 0
@@ -86,7 +89,8 @@ pub record Checks {R N : Type 0} (remaining : R → Option (List ℕ)) (said : N
 
 -- An export was performed to a writer of its own, with this status, and the writer given is as it was.
 abbrev pub PerformsCheck : {R W N : Type 0} → Telling R W N → Charset → Limits → Devices R W N → Devices R W N → Status → Type 0
-PerformsCheck tell charset limits before after status = Checks tell.remaining tell.said charset limits before.from after.from before.notes after.notes status × (after.to ≡ before.to)
+PerformsCheck tell charset limits before after status =
+    Checks tell.remaining tell.said charset limits before.from after.from before.notes after.notes status × (after.to ≡ before.to)
 
 -- A recut returned, and the status and the line are those of what it returned.
 pub record Rewrites {R W N : Type 0} (tell : Telling R W N) (packet_size max_wire : ℕ) (before after : Devices R W N) (status : Status) : Type 0 where
@@ -97,7 +101,8 @@ pub record Rewrites {R W N : Type 0} (tell : Telling R W N) (packet_size max_wir
 
 -- A recut to packets of this size was performed, with this status.
 abbrev pub PerformsRecut : {R W N : Type 0} → Telling R W N → ℕ → ℕ → Devices R W N → Devices R W N → Status → Type 0
-PerformsRecut tell packet_size max_wire before after status = Rewrites tell packet_size max_wire before after status ⊎ LacksMemory tell before after status
+PerformsRecut tell packet_size max_wire before after status = Rewrites tell packet_size max_wire before after status
+    ⊎ LacksMemory tell before after status
 
 -- The work was performed, with this status.
 abbrev pub PerformsAs : {R W N : Type 0} → Telling R W N → Work → Devices R W N → Devices R W N → Status → Type 0

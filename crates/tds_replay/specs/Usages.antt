@@ -9,7 +9,9 @@ use Rattle.tds_replay.specs.Lines.{memory_line}
 use Rattle.tds_replay.specs.Saying.{SaysOrFails}
 
 -- Help was written to the first writer, or another text to the notes, and this is how the command ends; the other writer is as it was.
-abbrev pub SaysUsage : {W N : Type 0} → (W → Option (List ℕ)) → (N → Option (List ℕ)) → Usage → Counted W → Counted W → Counted N → Counted N → Status → Type 0
+abbrev pub SaysUsage : {W N : Type 0} → (W → Option (List ℕ)) → (N → Option (List ℕ)) → Usage → Counted W → Counted W → Counted N → Counted N → Status
+    → Type 0
 SaysUsage contents said OutOfMemory to to' notes notes' end = SaysOrFails said notes notes' memory_line × (to' ≡ to) × (end ≡ status.OutOfMemory)
 SaysUsage contents said (Help text) to to' notes notes' end = SaysOrFails contents to to' (string_bytes text) × (notes' ≡ notes) × (end ≡ status.Done)
-SaysUsage contents said (Refused text) to to' notes notes' end = SaysOrFails said notes notes' (string_bytes text) × (to' ≡ to) × (end ≡ status.Refused)
+SaysUsage contents said (Refused text) to to' notes notes' end = SaysOrFails said notes notes' (string_bytes text) × (to' ≡ to)
+    × (end ≡ status.Refused)

@@ -1,11 +1,20 @@
 -- Cells whose bytes lie together, and the room that a sink lends for their text.
-use Rattle.tds_rows.proofs.{Words.{common_steps, ◌≡◌, ◌≢◌, ◌∙◌, ℕ, ◌+◌, ◌-◌, ◌<◌, ◌≤◌, Bool, true, false, List, [], ◌++◌, length, take, drop, Result, Ok, Err, MatchResult, inr, refl, sym, ap, arith, ◌∷◌, length-take-le, length-drop, None, Some, Option, ◌||◌, is_ok, slice_index, ne_eqb, Kind, IntN, ScalarValue, fixed_length, is_length_allowed, is_scalar, read_of, BadValueLength, Stop, Seen, Takes, IsBetween, choose_false, Spelt-none, Spelt-one, null_field, in_line, overwritten, Sink, Held, IsWriting, Puts, PutsPiece, held, spare_before, spare_written, Charset, CellPart, Null, ScalarBytes, ScalarCell, ScalarLength, cell, cell_start, shape, unless, value_part, IsScalarLeft, IsValueText, length_after, start_after, value_length, value_start, WritesCell, take-add, IsInt4}, CellSteps.{fixed_some, scalar_shape}, RowSteps.{ReadsCell, at_once_breaks, at_once_streams, PutsCell, StopsCell}}
+use Rattle.tds_rows.proofs.Words.{common_steps, ◌≡◌, ◌≢◌, ◌∙◌, ℕ, ◌+◌, ◌-◌, ◌<◌, ◌≤◌, Bool, true, false, List, [], ◌++◌, length, take, drop, Result}
+use Rattle.tds_rows.proofs.Words.{Ok, Err, MatchResult, inr, refl, sym, ap, arith, ◌∷◌, length-take-le, length-drop, None, Some, Option, ◌||◌, is_ok}
+use Rattle.tds_rows.proofs.Words.{slice_index, ne_eqb, Kind, IntN, ScalarValue, fixed_length, is_length_allowed, is_scalar, read_of, BadValueLength}
+use Rattle.tds_rows.proofs.Words.{Stop, Seen, Takes, IsBetween, choose_false, Spelt-none, Spelt-one, null_field, in_line, overwritten, Sink, Held}
+use Rattle.tds_rows.proofs.Words.{IsWriting, Puts, PutsPiece, held, spare_before, spare_written, Charset, CellPart, Null, ScalarBytes, ScalarCell}
+use Rattle.tds_rows.proofs.Words.{ScalarLength, cell, cell_start, shape, unless, value_part, IsScalarLeft, IsValueText, length_after, start_after}
+use Rattle.tds_rows.proofs.Words.{value_length, value_start, WritesCell, take-add, IsInt4}
+use Rattle.tds_rows.proofs.CellSteps.{fixed_some, scalar_shape}
+use Rattle.tds_rows.proofs.RowSteps.{ReadsCell, at_once_breaks, at_once_streams, PutsCell, StopsCell}
 
 -- a value that is read has a length that is allowed
 read_allowed : (kind : Kind) (bytes : List ℕ) (value : ScalarValue) → read_of kind bytes ≡ Ok value → is_length_allowed kind (length bytes) ≡ true
 read_allowed kind bytes value h = grind arith
 
-fixed_written : (column : ℕ) (kind : Kind) (n : ℕ) (last : Bool) (bytes text : List ℕ) → 0 < n → n ≤ length bytes → IsValueText kind column last (take n bytes) text → WritesCell (ScalarBytes kind n) column last (take n bytes) text
+fixed_written : (column : ℕ) (kind : Kind) (n : ℕ) (last : Bool) (bytes text : List ℕ) → 0 < n → n ≤ length bytes
+    → IsValueText kind column last (take n bytes) text → WritesCell (ScalarBytes kind n) column last (take n bytes) text
 fixed_written column kind n last bytes text some within x = record {
   value = ScalarCell x.0;
   front = [];
@@ -22,7 +31,8 @@ fixed_written column kind n last bytes text some within x = record {
 first_of : (bytes : List ℕ) (n : ℕ) → 1 ≤ length bytes → slice_index bytes 0 ≡ n → take 1 bytes ≡ n ∷ []
 first_of bytes n h is = grind arith
 
-null_written : (column : ℕ) (kind : Kind) (last : Bool) (bytes text : List ℕ) → 1 ≤ length bytes → slice_index bytes 0 ≡ 0 → text ≡ in_line column last null_field → WritesCell (ScalarLength kind) column last (take 1 bytes) text
+null_written : (column : ℕ) (kind : Kind) (last : Bool) (bytes text : List ℕ) → 1 ≤ length bytes → slice_index bytes 0 ≡ 0
+    → text ≡ in_line column last null_field → WritesCell (ScalarLength kind) column last (take 1 bytes) text
 null_written column kind last bytes text within is text_is = rw (first_of _ 0 within is) (record {
   value = Null;
   front = [];
@@ -36,7 +46,8 @@ null_written column kind last bytes text within is text_is = rw (first_of _ 0 wi
   text_is = text_is;
 })
 
-counted_written : (column : ℕ) (kind : Kind) (n : ℕ) (last : Bool) (bytes text : List ℕ) → slice_index bytes 0 ≡ n → n ≢ 0 → 1 + n ≤ length bytes → IsValueText kind column last (take n (drop 1 bytes)) text
+counted_written : (column : ℕ) (kind : Kind) (n : ℕ) (last : Bool) (bytes text : List ℕ) → slice_index bytes 0 ≡ n → n ≢ 0 → 1 + n ≤ length bytes
+    → IsValueText kind column last (take n (drop 1 bytes)) text
     → WritesCell (ScalarLength kind) column last (take (1 + n) bytes) text
 counted_written column kind n last bytes text is some within x =
     let whole = length-take-le n (drop 1 bytes) (grind (arith, length-drop)) in
@@ -49,7 +60,8 @@ counted_written column kind n last bytes text is some within x =
       at = ScalarBytes kind n;
       element = take n _;
       joined = sym (take-add 1 n bytes ∙ ap (λ l. l ++ take n (drop 1 bytes)) (first_of bytes n (omega arith) is));
-      spelt = rw to at (Spelt-one (cell column) (ScalarLength kind) (n ∷ []) (record { some = omega arith; whole = refl; free = ap (λ v. unless v (BadValueLength column)) yes }));
+      spelt = rw to at (Spelt-one (cell column) (ScalarLength kind) (n ∷ [])
+          (record { some = omega arith; whole = refl; free = ap (λ v. unless v (BadValueLength column)) yes }));
       next = grind arith;
       whole = ap value_part x.1;
       quiet = refl;
@@ -58,11 +70,13 @@ counted_written column kind n last bytes text is some within x =
 
 module _ (charset : Charset) (kind : Kind) (column : ℕ) (last : Bool) (bytes text : List ℕ) (scalar : is_scalar kind ≡ true) where
   -- NULL at the front of these bytes
-  pub null_cell : (start : ℕ) → start ≡ value_start kind → value_length kind bytes ≡ 0 → start + 0 ≤ length bytes → text ≡ in_line column last null_field → WritesCell (cell_start kind (shape charset kind)) column last (take (start + 0) bytes) text
+  pub null_cell : (start : ℕ) → start ≡ value_start kind → value_length kind bytes ≡ 0 → start + 0 ≤ length bytes
+      → text ≡ in_line column last null_field → WritesCell (cell_start kind (shape charset kind)) column last (take (start + 0) bytes) text
   null_cell start at none within is = grind (arith, fixed_some, null_written, scalar_shape)
 
   -- a value there
-  pub value_cell : (start n : ℕ) → start ≡ value_start kind → n ≡ value_length kind bytes → n ≢ 0 → start + n ≤ length bytes → IsValueText kind column last (take n (drop start bytes)) text
+  pub value_cell : (start n : ℕ) → start ≡ value_start kind → n ≡ value_length kind bytes → n ≢ 0 → start + n ≤ length bytes
+      → IsValueText kind column last (take n (drop start bytes)) text
       → WritesCell (cell_start kind (shape charset kind)) column last (take (start + n) bytes) text
   value_cell start n at many some within is = go _ refl
     where
@@ -74,24 +88,29 @@ module _ (charset : Charset) (kind : Kind) (column : ℕ) (last : Bool) (bytes t
           rw (scalar_shape, e, whole) (fixed_written column kind m last bytes text (omega arith) (omega arith) (rw (none, all) at is))
       go None e =
           let one = at ∙ ap start_after e in
-          rw (scalar_shape, e, one) (counted_written column kind n last bytes text (sym (ap (λ o. length_after o bytes) e) ∙ sym many) some (omega arith) (rw one at is))
+          rw (scalar_shape, e, one) (counted_written column kind n last bytes text (sym (ap (λ o. length_after o bytes) e)
+          ∙ sym many) some (omega arith) (rw one at is))
 
 -- a whole number of four bytes is read alike in each of its kinds
-pub int4_reads : (kind : Kind) (bytes : List ℕ) → IsInt4 kind → length bytes ≡ 4 → (is_scalar kind ≡ true) × (read_of kind bytes ≡ read_of (IntN 4) bytes)
+pub int4_reads : (kind : Kind) (bytes : List ℕ) → IsInt4 kind → length bytes ≡ 4 → (is_scalar kind ≡ true)
+    × (read_of kind bytes ≡ read_of (IntN 4) bytes)
 int4_reads kind bytes number four = grind (arith, common_steps)
 
 -- one that may be NULL comes after its length
-pub int4_start : {kind : Kind} {n : ℕ} → IsInt4 kind → kind ≡ IntN n → (bytes : List ℕ) → (is_scalar kind ≡ true) × ((1 ≡ value_start kind) × (value_length kind bytes ≡ slice_index bytes 0))
+pub int4_start : {kind : Kind} {n : ℕ} → IsInt4 kind → kind ≡ IntN n → (bytes : List ℕ) → (is_scalar kind ≡ true)
+    × ((1 ≡ value_start kind) × (value_length kind bytes ≡ slice_index bytes 0))
 int4_start number is bytes = grind (arith, common_steps)
 
 -- a cell whose value is refused is left
-pub refused_left : (kind : Kind) (bytes : List ℕ) (start n : ℕ) → start ≡ value_start kind → n ≡ value_length kind bytes → n ≢ 0 → is_ok (read_of kind (take ((start + n) - start) (drop start bytes))) ≡ false → IsScalarLeft kind bytes
+pub refused_left : (kind : Kind) (bytes : List ℕ) (start n : ℕ) → start ≡ value_start kind → n ≡ value_length kind bytes → n ≢ 0
+    → is_ok (read_of kind (take ((start + n) - start) (drop start bytes))) ≡ false → IsScalarLeft kind bytes
 refused_left kind bytes start n at many some bad =
     let after : (start + n) - start ≡ value_length kind bytes = omega (arith, many) in
     inr (omega (arith, some, many), rw (after, at) at bad)
 
 -- bytes that are a cell were read
-pub cell_reads : (from : CellPart) (column : ℕ) (last : Bool) (a b : Seen) (place place' : ℕ) (bytes text : List ℕ) → WritesCell from column last bytes text → Takes a b bytes (length bytes) → IsBetween b → place' ≡ place + length bytes
+pub cell_reads : (from : CellPart) (column : ℕ) (last : Bool) (a b : Seen) (place place' : ℕ) (bytes text : List ℕ)
+    → WritesCell from column last bytes text → Takes a b bytes (length bytes) → IsBetween b → place' ≡ place + length bytes
     → ReadsCell from column last a b place place' text
 cell_reads from column last a b place place' bytes text x takes between at = grind arith
 
@@ -119,10 +138,13 @@ module _ (h j : Held) (room written : List ℕ) (n : ℕ) (whole : length writte
   kept_text made x = grind (arith, after, same)
 
 -- a cell whose text comes at once was read, and the text put by one call of the sink, or a write of it failed
-pub put_cell : {W U : Type 0} {column place place' : ℕ} {last : Bool} {a b : Seen} {text : List ℕ} (r : Result U Stop) (charset : Charset) (kind : Kind) (contents : W → Option (List ℕ)) (old new : Sink W) → IsWriting old
+pub put_cell : {W U : Type 0} {column place place' : ℕ} {last : Bool} {a b : Seen} {text : List ℕ} (r : Result U Stop) (charset : Charset)
+    (kind : Kind) (contents : W → Option (List ℕ)) (old new : Sink W) → IsWriting old
     → ReadsCell (cell_start kind (shape charset kind)) column last a b place place' text → PutsPiece contents old new text r
-    → MatchResult r (λ _. PutsCell charset kind column last a b place place' (held contents old) (held contents new)) (λ stop. StopsCell charset kind column last a b place (held contents old) (held contents new) new.failed stop)
-put_cell (Ok u) charset kind contents old new going y x = record { value = y.value; streams = at_once_streams kind _ _ _ y x.gives; place_is = y.place_is }
+    → MatchResult r (λ _. PutsCell charset kind column last a b place place' (held contents old) (held contents new))
+    (λ stop. StopsCell charset kind column last a b place (held contents old) (held contents new) new.failed stop)
+put_cell (Ok u) charset kind contents old new going y x =
+    record { value = y.value; streams = at_once_streams kind _ _ _ y x.gives; place_is = y.place_is }
 put_cell (Err stop) charset kind contents old new going y x =
     let breaks = at_once_breaks kind _ _ _ going.ready.2 (going.ready.1 going.writing) y (x.gives going.writing) in
     record { at = y.at; cause = inr (breaks, x.failed) }

@@ -1,5 +1,11 @@
 -- The cells of scalar kinds, as they are read.
-use Rattle.tds_rows.proofs.Words.{common_steps, ◌≡◌, ◌≢◌, ◌∙◌, ℕ, ◌+◌, ◌<◌, true, false, List, [], ◌∷◌, ◌++◌, length, take, drop, refl, sym, ap, subst, arith, Result, Ok, Err, MatchResult, Option, Some, None, ◌||◌, is_ok, slice_index, if◌then◌else◌, ne_eqb, take_all, Kind, fixed_length, is_length_allowed, is_scalar, read_of, Space, appended, BadValue, BadValueLength, MessageEnded, Stop, Seen, Takes, Ends, IsBetween, began_at, choose_false, began_is_cut, cut_at_once, reads_one, refused_at_once, stops_after, takes_both, EndsInto, TakesInto, Charset, CellPart, ScalarBytes, ScalarLength, cell_end, cell_size, cell_start, field_so_far, shape, shape_of_length, unless, GathersCell, IsScalarLeft, StallsCell, length_after, start_after, value_bytes, value_start, Payload}
+use Rattle.tds_rows.proofs.Words.{common_steps, ◌≡◌, ◌≢◌, ◌∙◌, ℕ, ◌+◌, ◌<◌, true, false, List, [], ◌∷◌, ◌++◌, length, take, drop, refl, sym, ap}
+use Rattle.tds_rows.proofs.Words.{subst, arith, Result, Ok, Err, MatchResult, Option, Some, None, ◌||◌, is_ok, slice_index, if◌then◌else◌, ne_eqb}
+use Rattle.tds_rows.proofs.Words.{take_all, Kind, fixed_length, is_length_allowed, is_scalar, read_of, Space, appended, BadValue, BadValueLength}
+use Rattle.tds_rows.proofs.Words.{MessageEnded, Stop, Seen, Takes, Ends, IsBetween, began_at, choose_false, began_is_cut, cut_at_once, reads_one}
+use Rattle.tds_rows.proofs.Words.{refused_at_once, stops_after, takes_both, EndsInto, TakesInto, Charset, CellPart, ScalarBytes, ScalarLength}
+use Rattle.tds_rows.proofs.Words.{cell_end, cell_size, cell_start, field_so_far, shape, shape_of_length, unless, GathersCell, IsScalarLeft}
+use Rattle.tds_rows.proofs.Words.{StallsCell, length_after, start_after, value_bytes, value_start, Payload}
 
 pub scalar_shape : (charset : Charset) (kind : Kind) → is_scalar kind ≡ true → shape charset kind ≡ shape_of_length (fixed_length kind)
 scalar_shape charset kind h = grind (arith, common_steps)
@@ -9,7 +15,8 @@ pub fixed_some : (kind : Kind) (n : ℕ) → fixed_length kind ≡ Some n → 0 
 fixed_some kind n h = grind (arith, common_steps)
 
 -- the next element of a cell is cut
-pub cell_cut : {column n place : ℕ} {s : CellPart} {a b : Seen} {stop : Stop} (part : List ℕ) (own : Stop) → field_so_far s ≡ None → cell_size s ≡ n → cell_end s ≡ Some MessageEnded → length part < n → Ends a b part own → stop ≡ began_at place own → StallsCell s column a b place stop
+pub cell_cut : {column n place : ℕ} {s : CellPart} {a b : Seen} {stop : Stop} (part : List ℕ) (own : Stop) → field_so_far s ≡ None → cell_size s ≡ n
+    → cell_end s ≡ Some MessageEnded → length part < n → Ends a b part own → stop ≡ began_at place own → StallsCell s column a b place stop
 cell_cut {s = s} part own quiet size end fewer ends is = record {
   at = s;
   stops = cut_at_once _ s _ _ _ _ _ _ (omega (arith, fewer, size)) ends (began_is_cut _ _ _ _ end is);
@@ -17,7 +24,9 @@ cell_cut {s = s} part own quiet size end fewer ends is = record {
 }
 
 -- a value whose bytes were read is refused
-value_stalls : {column n place : ℕ} {kind : Kind} {a b : Seen} (bytes : List ℕ) → 0 < n → length bytes ≡ n → is_ok (read_of kind bytes) ≡ false → Takes a b bytes (length bytes) → IsBetween b → StallsCell (ScalarBytes kind n) column a b place (record { fault = BadValue column; place = Payload place })
+value_stalls : {column n place : ℕ} {kind : Kind} {a b : Seen} (bytes : List ℕ) → 0 < n → length bytes ≡ n → is_ok (read_of kind bytes) ≡ false
+    → Takes a b bytes (length bytes) → IsBetween b
+    → StallsCell (ScalarBytes kind n) column a b place (record { fault = BadValue column; place = Payload place })
 value_stalls {column = column} bytes some whole bad takes between = record {
   at = ScalarBytes _ _;
   stops = refused_at_once _ _ _ _ _ bytes _ (omega arith) whole (ap (λ v. unless v (BadValue column)) bad) takes between;
@@ -25,7 +34,8 @@ value_stalls {column = column} bytes some whole bad takes between = record {
 }
 
 -- the bytes of a value that has no length before it were read
-fixed_gathers : {column n place place' : ℕ} {kind : Kind} {a b : Seen} (bytes : List ℕ) → fixed_length kind ≡ Some n → length bytes ≡ n → Takes a b bytes n → IsBetween b → place' ≡ place + n → GathersCell kind (ScalarBytes kind n) column a b place place' bytes
+fixed_gathers : {column n place place' : ℕ} {kind : Kind} {a b : Seen} (bytes : List ℕ) → fixed_length kind ≡ Some n → length bytes ≡ n
+    → Takes a b bytes n → IsBetween b → place' ≡ place + n → GathersCell kind (ScalarBytes kind n) column a b place place' bytes
 fixed_gathers {column = column} {n = n} {place = place} {kind = kind} {a = a} {b = b} bytes is whole takes between at =
     let taken = rw (sym whole) at takes in
     record {
@@ -34,31 +44,43 @@ fixed_gathers {column = column} {n = n} {place = place} {kind = kind} {a = a} {b
       between = between;
       place_is = omega arith;
       refused = λ some bad.
-          let all : value_bytes kind bytes ≡ bytes = (λ i. take (length_after (is i) bytes) (drop (start_after (is i)) bytes)) ∙ take_all n bytes (omega arith) in
-          subst (λ k. StallsCell (ScalarBytes kind n) column a b place (record { fault = BadValue column; place = Payload k })) (omega (arith, ap start_after is))
+          let all : value_bytes kind bytes ≡ bytes = (λ i. take (length_after (is i) bytes) (drop (start_after (is i)) bytes))
+          ∙ take_all n bytes (omega arith) in
+          subst (λ k. StallsCell (ScalarBytes kind n) column a b place (record { fault = BadValue column; place = Payload k }))
+          (omega (arith, ap start_after is))
           (value_stalls bytes (fixed_some kind n is) whole (ap (λ l. is_ok (read_of kind l)) (sym all) ∙ bad) taken between);
     }
 
 -- ---- the length before it
 
 module _ {column n place : ℕ} {kind : Kind} {a b : Seen} where
-  pub length_refused : n ≢ 0 → is_length_allowed kind n ≡ false → Takes a b (n ∷ []) 1 → IsBetween b → StallsCell (ScalarLength kind) column a b place (record { fault = BadValueLength column; place = Payload place })
+  pub length_refused : n ≢ 0 → is_length_allowed kind n ≡ false → Takes a b (n ∷ []) 1 → IsBetween b
+      → StallsCell (ScalarLength kind) column a b place (record { fault = BadValueLength column; place = Payload place })
   length_refused some bad takes between =
       record {
         at = ScalarLength kind;
-        stops = refused_at_once _ _ a b place (n ∷ []) _ (omega arith) refl (ap (λ v. unless v (BadValueLength column)) (ap (λ v. v || is_length_allowed kind n) (ne_eqb n 0 some) ∙ bad)) takes between;
+        stops = refused_at_once _ _ a b place (n ∷ []) _ (omega arith) refl
+            (ap (λ v. unless v (BadValueLength column)) (ap (λ v. v || is_length_allowed kind n) (ne_eqb n 0 some) ∙ bad)) takes between;
         quiet = refl;
       }
 
   -- where the value stops after a length that is allowed, the cell does
-  length_then : {d : Seen} {middle : ℕ} {stop : Stop} → n ≢ 0 → is_length_allowed kind n ≡ true → Takes a b (n ∷ []) 1 → middle ≡ place + 1 → StallsCell (ScalarBytes kind n) column b d middle stop → StallsCell (ScalarLength kind) column a d place stop
+  length_then : {d : Seen} {middle : ℕ} {stop : Stop} → n ≢ 0 → is_length_allowed kind n ≡ true → Takes a b (n ∷ []) 1 → middle ≡ place + 1
+      → StallsCell (ScalarBytes kind n) column b d middle stop → StallsCell (ScalarLength kind) column a d place stop
   length_then some good takes at x =
-      let p = reads_one _ _ a b (n ∷ []) _ (record { some = omega arith; whole = refl; free = ap (λ v. unless v (BadValueLength column)) (ap (λ v. v || is_length_allowed kind n) (ne_eqb n 0 some) ∙ good) }) takes (choose_false _ _ _ (ne_eqb n 0 some)) in
+      let p = reads_one _ _ a b (n ∷ []) _ (record {
+        some = omega arith;
+        whole = refl;
+        free = ap (λ v. unless v (BadValueLength column))
+            (ap (λ v. v || is_length_allowed kind n) (ne_eqb n 0 some) ∙ good);
+      }) takes (choose_false _ _ _ (ne_eqb n 0 some)) in
       record { at = x.at; stops = stops_after _ _ _ a b _ place x.at _ p (rw at at x.stops); quiet = x.quiet }
 
 -- a length and the value after it were read
-counted_gathers : {column n place middle place' : ℕ} {kind : Kind} {a d : Seen} (b : Seen) (value : List ℕ) → fixed_length kind ≡ None → n ≢ 0 → is_length_allowed kind n ≡ true → Takes a b (n ∷ []) 1 → middle ≡ place + 1
-    → length value ≡ n → Takes b d value n → IsBetween d → place' ≡ middle + n → GathersCell kind (ScalarLength kind) column a d place place' (n ∷ value)
+counted_gathers : {column n place middle place' : ℕ} {kind : Kind} {a d : Seen} (b : Seen) (value : List ℕ) → fixed_length kind ≡ None → n ≢ 0
+    → is_length_allowed kind n ≡ true → Takes a b (n ∷ []) 1 → middle ≡ place + 1
+    → length value ≡ n → Takes b d value n → IsBetween d → place' ≡ middle + n
+    → GathersCell kind (ScalarLength kind) column a d place place' (n ∷ value)
 counted_gathers {column = column} {n = n} {place = place} {kind = kind} {a = a} {d = d} b value is some good first at whole then_takes between there =
     let taken = rw (sym whole) at then_takes in
     record {
@@ -67,9 +89,12 @@ counted_gathers {column = column} {n = n} {place = place} {kind = kind} {a = a} 
       between = between;
       place_is = omega arith;
       refused = λ more bad.
-          let all : value_bytes kind _ ≡ value = (λ i. take (length_after (is i) (n ∷ value)) (drop (start_after (is i)) (n ∷ value))) ∙ take_all n value (omega arith) in
-          subst (λ k. StallsCell (ScalarLength kind) column a d place (record { fault = BadValue column; place = Payload k })) (omega (arith, ap start_after is))
-          (length_then some good first refl (value_stalls value (omega arith) whole (ap (λ l. is_ok (read_of kind l)) (sym all) ∙ bad) taken between));
+          let all : value_bytes kind _ ≡ value = (λ i. take (length_after (is i) (n ∷ value)) (drop (start_after (is i)) (n ∷ value)))
+          ∙ take_all n value (omega arith) in
+          subst (λ k. StallsCell (ScalarLength kind) column a d place (record { fault = BadValue column; place = Payload k }))
+          (omega (arith, ap start_after is))
+          (length_then some good first refl (value_stalls value (omega arith) whole (ap (λ l. is_ok (read_of kind l)) (sym all)
+          ∙ bad) taken between));
     }
 
 -- ---- cells that are read into an area
@@ -79,21 +104,27 @@ stands_alone : (before after : Space) (element : List ℕ) → before.bytes ≡ 
 stands_alone before after element none is = grind (arith, common_steps)
 
 -- a cell that has no length before its value was read into an empty area, or it is cut
-pub fixed_taken : {U : Type 0} {stopped : Option Stop} {n place' : ℕ} (result : Result U Stop) (column : ℕ) (kind : Kind) (a b : Seen) (place : ℕ) (before after : Space) → fixed_length kind ≡ Some n → before.bytes ≡ [] → stopped ≡ None → place' ≡ (if is_ok result then place + n else place)
+pub fixed_taken : {U : Type 0} {stopped : Option Stop} {n place' : ℕ} (result : Result U Stop) (column : ℕ) (kind : Kind) (a b : Seen) (place : ℕ)
+    (before after : Space) → fixed_length kind ≡ Some n → before.bytes ≡ [] → stopped ≡ None → place' ≡ (if is_ok result then place + n else place)
     → MatchResult result (λ _. TakesInto a b before after n) (λ stop. stopped ≡ None → EndsInto a b before after place n stop)
-    → MatchResult result (λ _. GathersCell kind (ScalarBytes kind n) column a b place place' after.bytes) (λ stop. StallsCell (ScalarBytes kind n) column a b place stop)
-fixed_taken (Ok u) column kind a b place before after is none going at x = rw (stands_alone _ _ _ none x.stands) (fixed_gathers _ is x.whole x.takes x.between at)
+    → MatchResult result (λ _. GathersCell kind (ScalarBytes kind n) column a b place place' after.bytes)
+    (λ stop. StallsCell (ScalarBytes kind n) column a b place stop)
+fixed_taken (Ok u) column kind a b place before after is none going at x =
+    rw (stands_alone _ _ _ none x.stands) (fixed_gathers _ is x.whole x.takes x.between at)
 fixed_taken (Err stop) column kind a b place before after is none going at x = let e = x going in cell_cut _ _ refl refl refl e.fewer e.ends e.stop_is
 
 -- the length that an empty area got
-pub length_taken : {a b : Seen} {before after : Space} {n : ℕ} → before.bytes ≡ [] → slice_index after.bytes 0 ≡ n → TakesInto a b before after 1 → (after.bytes ≡ n ∷ []) × (Takes a b (n ∷ []) 1)
+pub length_taken : {a b : Seen} {before after : Space} {n : ℕ} → before.bytes ≡ [] → slice_index after.bytes 0 ≡ n → TakesInto a b before after 1
+    → (after.bytes ≡ n ∷ []) × (Takes a b (n ∷ []) 1)
 length_taken none is x = grind (arith, common_steps, stands_alone)
 
 -- the value after a length that is allowed was read into the area that has the length, or it is cut
-pub counted_taken : {U : Type 0} {stopped : Option Stop} {n middle place' : ℕ} (result : Result U Stop) (column : ℕ) (kind : Kind) (a b d : Seen) (place : ℕ) (before after : Space) → fixed_length kind ≡ None → before.bytes ≡ n ∷ [] → n ≢ 0 → is_length_allowed kind n ≡ true
+pub counted_taken : {U : Type 0} {stopped : Option Stop} {n middle place' : ℕ} (result : Result U Stop) (column : ℕ) (kind : Kind) (a b d : Seen)
+    (place : ℕ) (before after : Space) → fixed_length kind ≡ None → before.bytes ≡ n ∷ [] → n ≢ 0 → is_length_allowed kind n ≡ true
     → Takes a b (n ∷ []) 1 → middle ≡ place + 1 → stopped ≡ None → place' ≡ (if is_ok result then middle + n else middle)
     → MatchResult result (λ _. TakesInto b d before after n) (λ stop. stopped ≡ None → EndsInto b d before after middle n stop)
-    → MatchResult result (λ _. GathersCell kind (ScalarLength kind) column a d place place' after.bytes) (λ stop. StallsCell (ScalarLength kind) column a d place stop)
+    → MatchResult result (λ _. GathersCell kind (ScalarLength kind) column a d place place' after.bytes)
+    (λ stop. StallsCell (ScalarLength kind) column a d place stop)
 counted_taken (Ok u) column kind a b d place before after is first some good takes at going there x =
     rw (ap (λ s. s.bytes) x.stands ∙ ap (λ l. l ++ x.element) first) (counted_gathers b _ is some good takes at x.whole x.takes x.between there)
 counted_taken (Err stop) column kind a b d place before after is first some good takes at going there x =
@@ -101,10 +132,12 @@ counted_taken (Err stop) column kind a b d place before after is first some good
     length_then some good takes at (cell_cut e.part e.own refl refl refl e.fewer e.ends e.stop_is)
 
 -- from the shape of a scalar kind on
-pub scalar_start : (charset : Charset) (kind : Kind) (o : Option ℕ) → is_scalar kind ≡ true → fixed_length kind ≡ o → cell_start kind (shape_of_length o) ≡ cell_start kind (shape charset kind)
+pub scalar_start : (charset : Charset) (kind : Kind) (o : Option ℕ) → is_scalar kind ≡ true → fixed_length kind ≡ o
+    → cell_start kind (shape_of_length o) ≡ cell_start kind (shape charset kind)
 scalar_start charset kind o scalar is = grind (arith, common_steps, scalar_shape)
 
 -- a cell whose bytes were gathered, and that is left, stops at its value
-pub left_stalls : {kind : Kind} {from : CellPart} {column : ℕ} {a b : Seen} {place place' : ℕ} {bytes : List ℕ} (x : GathersCell kind from column a b place place' bytes) → IsScalarLeft kind bytes
+pub left_stalls : {kind : Kind} {from : CellPart} {column : ℕ} {a b : Seen} {place place' : ℕ} {bytes : List ℕ}
+    (x : GathersCell kind from column a b place place' bytes) → IsScalarLeft kind bytes
     → StallsCell from column a b place (record { fault = BadValue column; place = Payload (place + value_start kind) })
 left_stalls x h9 = grind arith

@@ -1,19 +1,33 @@
 -- Runs over cells by their forms, a cell after those that were written.
-use Rattle.tds_rows.proofs.{Words.{common_steps, ◌≡◌, ◌≢◌, ◌∙◌, ℕ, zero, suc, ◌+◌, ◌-◌, ◌<◌, ◌≤◌, Bool, false, List, [], ◌∷◌, ◌++◌, length, take, drop, get_or, refl, sym, ap, arith, append-nil, append_assoc, length-append, ◌==◌, ◌&&◌, map, slice_set, drop_more, length-map, length-take-le, take-append-le, take_all, take_more_set, get_or_default, length-drop, length-take, take-take, drop-drop, Kind, eq_false, eq_true, Column, all_after, after_comma, end_after, in_line, Charset, Form, IsLeft, WritesField, WritesKind, is_last_column, whole_size, AreNext, FieldsWritten, FirstUsed, FirstWritten, WritesForms, WritesColumn, WritesMarked, nat_tests, true}, LineTexts.{after_some_column, after_append}, RunSteps.{made_more, used_more}, TableSteps.{known_kind, last_one}}
+use Rattle.tds_rows.proofs.Words.{common_steps, ◌≡◌, ◌≢◌, ◌∙◌, ℕ, zero, suc, ◌+◌, ◌-◌, ◌<◌, ◌≤◌, Bool, false, List, [], ◌∷◌, ◌++◌, length, take, drop}
+use Rattle.tds_rows.proofs.Words.{get_or, refl, sym, ap, arith, append-nil, append_assoc, length-append, ◌==◌, ◌&&◌, map, slice_set, drop_more}
+use Rattle.tds_rows.proofs.Words.{length-map, length-take-le, take-append-le, take_all, take_more_set, get_or_default, length-drop, length-take}
+use Rattle.tds_rows.proofs.Words.{take-take, drop-drop, Kind, eq_false, eq_true, Column, all_after, after_comma, end_after, in_line, Charset, Form}
+use Rattle.tds_rows.proofs.Words.{IsLeft, WritesField, WritesKind, is_last_column, whole_size, AreNext, FieldsWritten, FirstUsed, FirstWritten}
+use Rattle.tds_rows.proofs.Words.{WritesForms, WritesColumn, WritesMarked, nat_tests, true}
+use Rattle.tds_rows.proofs.LineTexts.{after_some_column, after_append}
+use Rattle.tds_rows.proofs.RunSteps.{made_more, used_more}
+use Rattle.tds_rows.proofs.TableSteps.{known_kind, last_one}
 
 not_last : (rest : List Column) → 0 < length rest → false ≡ is_last_column rest
 not_last rest some = grind arith
 
 module _ (forms : List Form) (ends : Bool) (columns : List Column) (next : AreNext forms ends columns) where
   few : length forms ≤ length columns
-  few = omega (arith, sym (length-map forms (λ f. f.kind)) ∙ ap length next.kinds_are ∙ length-map (take (length forms) columns) (λ c. c.kind), length-take (length forms) columns)
+  few = omega (
+    arith,
+    sym (length-map forms (λ f. f.kind)) ∙ ap length next.kinds_are ∙ length-map (take (length forms) columns) (λ c. c.kind),
+    length-take (length forms) columns,
+  )
 
   -- the column after this many is the last where the forms say so
-  last_of : (k : ℕ) (c : Column) (rest : List Column) → k < length forms → drop k columns ≡ c ∷ rest → (ends && (k + 1 == length forms)) ≡ is_last_column rest
+  last_of : (k : ℕ) (c : Column) (rest : List Column) → k < length forms → drop k columns ≡ c ∷ rest
+      → (ends && (k + 1 == length forms)) ≡ is_last_column rest
   last_of k c rest within step = go (length forms == length columns) refl
     where
       go : (b : Bool) → (length forms == length columns) ≡ b → (ends && (k + 1 == length forms)) ≡ is_last_column rest
-      go true e = ap (λ v. v && (k + 1 == length forms)) (next.ends_are ∙ e) ∙ last_one columns rest c k (length forms) (eq_true (length forms) (length columns) e) step
+      go true e = ap (λ v. v && (k + 1 == length forms)) (next.ends_are ∙ e)
+          ∙ last_one columns rest c k (length forms) (eq_true (length forms) (length columns) e) step
       go false e = ap (λ v. v && (k + 1 == length forms)) (next.ends_are ∙ e) ∙ not_last rest (more (eq_false (length forms) (length columns) e))
         where
           more : length forms ≢ length columns → 0 < length rest
@@ -27,10 +41,13 @@ module _ (forms : List Form) (ends : Bool) (columns : List Column) (next : AreNe
     step = drop_more columns k (record { kind = d.kind; name = [] }) (omega (arith, few, within))
 
     kind_is : (get_or forms k d).kind ≡ next_column.kind
-    kind_is = known_kind _ _ _ k d _ (ap (map (λ f. f.kind)) (take_all (length forms) forms (omega arith)) ∙ next.kinds_are) within (omega arith) (omega (arith, few, within))
+    kind_is = known_kind _ _ _ k d _ (ap (map (λ f. f.kind)) (take_all (length forms) forms (omega arith))
+        ∙ next.kinds_are) within (omega arith) (omega (arith, few, within))
 
     -- the cell after this many
-    next_cell : (charset : Charset) (all : List Column) (column : ℕ) (bytes text : List ℕ) → columns ≡ drop column all → WritesKind charset (get_or forms k d).kind (column + k) (ends && (k + 1 == length forms)) bytes text → WritesColumn charset all (λ k. false) (column + k) bytes text
+    next_cell : (charset : Charset) (all : List Column) (column : ℕ) (bytes text : List ℕ) → columns ≡ drop column all
+        → WritesKind charset (get_or forms k d).kind (column + k) (ends && (k + 1 == length forms)) bytes text
+        → WritesColumn charset all (λ k. false) (column + k) bytes text
     next_cell charset all column bytes text is x = record {
       column = next_column;
       left = drop (k + 1) columns;
@@ -43,81 +60,122 @@ pub some_first : (forms : List Form) → 0 < length forms → (form : Form) × (
 some_first [] some = absurd (omega (arith, some))
 some_first (f ∷ fs) some = (f, fs, refl)
 
-module _ (charset : Charset) (forms : List Form) (column : ℕ) (ends : Bool) (columns : List Column) (next : AreNext forms ends (drop column columns)) where
-  -- whether so many cells end their row
-  abbrev closes : ℕ → Bool
-  closes n = ends && (n == length forms)
+module _ (charset : Charset) (forms : List Form) (column : ℕ) (ends : Bool) (columns : List Column) (next : AreNext forms ends (drop column columns))
+  where
+    -- whether so many cells end their row
+    abbrev closes : ℕ → Bool
+    closes n = ends && (n == length forms)
 
-  -- a cell after those that were written
-  one_more : {m : ℕ} (d : Form) (n : ℕ) (bytes text : List ℕ) → m ≡ n + 1 → m ≤ length forms → (x : WritesForms charset forms column (suc n) bytes text) → WritesMarked charset columns (λ k. false) column n x.0 x.2
-      → WritesMarked charset columns (λ k. false) column (suc n) bytes (text ++ end_after (closes m))
-  one_more d n bytes text is few x w =
-      let last = closes (n + 1) in
-      rw is (x.0, x.1, x.2, in_line (column + n) last x.3, x.4, ap (λ l. l ++ end_after last) x.5 ∙ append_assoc x.2 _ _, w, next_cell _ _ _ next n d (omega arith) _ _ _ _ _ refl (x.7 d (column + n) last))
+    -- a cell after those that were written
+    one_more : {m : ℕ} (d : Form) (n : ℕ) (bytes text : List ℕ) → m ≡ n + 1 → m ≤ length forms
+        → (x : WritesForms charset forms column (suc n) bytes text) → WritesMarked charset columns (λ k. false) column n x.0 x.2
+        → WritesMarked charset columns (λ k. false) column (suc n) bytes (text ++ end_after (closes m))
+    one_more d n bytes text is few x w =
+        let last = closes (n + 1) in
+        rw is (
+          x.0,
+          x.1,
+          x.2,
+          in_line (column + n) last x.3,
+          x.4,
+          ap (λ l. l ++ end_after last) x.5 ∙ append_assoc x.2 _ _,
+          w,
+          next_cell _ _ _ next n d (omega arith) _ _ _ _ _ refl (x.7 d (column + n) last),
+        )
 
-  not_closed : (n : ℕ) → n < length forms → closes n ≡ false
-  not_closed n few = grind (arith, nat_tests)
+    not_closed : (n : ℕ) → n < length forms → closes n ≡ false
+    not_closed n few = grind (arith, nat_tests)
 
-  -- the fields of cells before the last are their text
-  earlier : (d : Form) (n : ℕ) (bytes text : List ℕ) → n < length forms → WritesForms charset forms column n bytes text → WritesMarked charset columns (λ k. false) column n bytes text
-  earlier d zero bytes text few x = x
-  earlier d (suc n) bytes text few x = rw (not_closed _ few, append-nil) at (one_more {m = suc n} d n _ _ (omega arith) (omega arith) x (earlier d n _ _ (omega arith) x.6))
+    -- the fields of cells before the last are their text
+    earlier : (d : Form) (n : ℕ) (bytes text : List ℕ) → n < length forms → WritesForms charset forms column n bytes text
+        → WritesMarked charset columns (λ k. false) column n bytes text
+    earlier d zero bytes text few x = x
+    earlier d (suc n) bytes text few x = rw (
+      not_closed _ few,
+      append-nil,
+    ) at (one_more {m = suc n} d n _ _ (omega arith) (omega arith) x (earlier d n _ _ (omega arith) x.6))
 
-  -- the fields of some cells are the text of a run over them
-  pub run_marked : (cells : ℕ) (bytes fields : List ℕ) → 0 < cells → cells ≤ length forms → WritesForms charset forms column cells bytes fields → WritesMarked charset columns (λ k. false) column cells bytes (fields ++ end_after (closes cells))
-  run_marked zero bytes fields some few x = absurd (omega (arith, some))
-  run_marked (suc n) bytes fields some few x =
-      let d = (some_first forms (omega (arith, few))).0 in
-      one_more d n bytes fields (omega arith) few x (earlier d n x.0 x.2 (omega arith) x.6)
+    -- the fields of some cells are the text of a run over them
+    pub run_marked : (cells : ℕ) (bytes fields : List ℕ) → 0 < cells → cells ≤ length forms → WritesForms charset forms column cells bytes fields
+        → WritesMarked charset columns (λ k. false) column cells bytes (fields ++ end_after (closes cells))
+    run_marked zero bytes fields some few x = absurd (omega (arith, some))
+    run_marked (suc n) bytes fields some few x =
+        let d = (some_first forms (omega (arith, few))).0 in
+        one_more d n bytes fields (omega arith) few x (earlier d n x.0 x.2 (omega arith) x.6)
 
 -- what stands before the comma of the next cell
-pub before_comma : (made column : ℕ) (to fields : List ℕ) → 0 < column → made ≤ length to → take made to ≡ fields ++ after_comma column [] → take (made - 1) to ≡ fields
+pub before_comma : (made column : ℕ) (to fields : List ℕ) → 0 < column → made ≤ length to → take made to ≡ fields ++ after_comma column []
+    → take (made - 1) to ≡ fields
 before_comma made column to fields some within is =
     let comma : take made to ≡ fields ++ 44 ∷ [] = is ∙ ap (λ l. fields ++ l) (sym (after_some_column column [] (λ e. omega (arith, e, some)))) in
     let counted : length fields ≡ made - 1 = omega (arith, sym (length-take-le made to within) ∙ ap length comma ∙ length-append fields (44 ∷ [])) in
-    sym (take-take (made - 1) made to (omega arith)) ∙ ap (take (made - 1)) comma ∙ take-append-le (made - 1) fields (44 ∷ []) (omega (arith, counted)) ∙ take_all (made - 1) fields (omega (arith, counted))
+    sym (take-take (made - 1) made to (omega arith)) ∙ ap (take (made - 1)) comma
+    ∙ take-append-le (made - 1) fields (44 ∷ []) (omega (arith, counted)) ∙ take_all (made - 1) fields (omega (arith, counted))
 
 module _ (charset : Charset) (forms : List Form) (column : ℕ) (bytes : List ℕ) where
   -- before the first cell
-  pub fields_none : (start : ℕ) (to : List ℕ) → ((text : List ℕ) → take start to ++ text ≡ after_comma column text) → FieldsWritten charset forms column bytes to (record { cells = 0; used = 0; made = start })
+  pub fields_none : (start : ℕ) (to : List ℕ) → ((text : List ℕ) → take start to ++ text ≡ after_comma column text)
+      → FieldsWritten charset forms column bytes to (record { cells = 0; used = 0; made = start })
   fields_none start to x = grind (arith, common_steps, append-nil)
 
   -- one cell more
-  pub fields_more : (to text rest : List ℕ) (k used u now made m : ℕ) (d : Form) → now ≡ used + u → made ≤ length to → m < length text → k < length forms → WritesField charset (get_or forms k d).kind (take u (take (length bytes - used) (drop used bytes))) (take m text)
-      → FieldsWritten charset forms column bytes to (record { cells = k; used = used; made = made }) → FieldsWritten charset forms column bytes (slice_set (take made to ++ (text ++ rest)) (made + m) 44) (record { cells = k + 1; used = now; made = made + m + 1 })
+  pub fields_more : (to text rest : List ℕ) (k used u now made m : ℕ) (d : Form) → now ≡ used + u → made ≤ length to → m < length text
+      → k < length forms → WritesField charset (get_or forms k d).kind (take u (take (length bytes - used) (drop used bytes))) (take m text)
+      → FieldsWritten charset forms column bytes to (record { cells = k; used = used; made = made })
+      → FieldsWritten charset forms column bytes (slice_set (take made to ++ (text ++ rest)) (made + m) 44)
+      (record { cells = k + 1; used = now; made = made + m + 1 })
   fields_more to text rest k used u now made m d further within some there wrote (fields, x, is) =
       let read = take u (take (length bytes - used) (drop used bytes)) in
       let field = take m text in
       let all = take made to ++ (text ++ rest) in
-      let here : made + m < length all = omega (arith, some, length-append (take made to) (text ++ rest), length-append text rest, length-take-le made to within) in
+      let here : made + m < length all = omega (
+        arith,
+        some,
+        length-append (take made to) (text ++ rest),
+        length-append text rest,
+        length-take-le made to within,
+      ) in
       let is' : take (made + m + 1) (slice_set all (made + m) 44) ≡ (fields ++ after_comma (column + k) field) ++ after_comma (column + (k + 1)) [] =
-      take_more_set all (made + m) 44 here ∙ ap (λ l. l ++ 44 ∷ []) (made_more made m to text rest within (omega (arith, some)) ∙ ap (λ l. l ++ field) is ∙ append_assoc fields (after_comma (column + k) []) field ∙ ap (λ l. fields ++ l) (sym (after_append (column + k) [] field)))
+      take_more_set all (made + m) 44 here ∙ ap (λ l. l ++ 44 ∷ []) (made_more made m to text rest within (omega (arith, some))
+      ∙ ap (λ l. l ++ field) is ∙ append_assoc fields (after_comma (column + k) []) field
+      ∙ ap (λ l. fields ++ l) (sym (after_append (column + k) [] field)))
       ∙ ap (λ l. (fields ++ after_comma (column + k) field) ++ l) (after_some_column (column + (k + 1)) [] (λ e. omega (arith, e))) in
-      let written : WritesForms charset forms column (suc k) (take (used + u) bytes) (fields ++ after_comma (column + k) field) = (take used bytes, read, fields, field, used_more used u bytes, refl, x, λ form. rw (get_or_default forms k d form there) at wrote) in
+      let written : WritesForms charset forms column (suc k) (take (used + u) bytes) (fields ++ after_comma (column + k) field) =
+      (take used bytes, read, fields, field, used_more used u bytes, refl, x, λ form. rw (get_or_default forms k d form there) at wrote) in
       let next : suc k ≡ k + 1 = omega arith in
       rw further (fields ++ after_comma (column + k) field, rw (← next) written, is')
 
   -- what is left of the bytes, after some more of them
   pub left_after : (rest : List ℕ) (u : ℕ) → length rest ≤ length bytes → rest ≡ drop (length bytes - length rest) bytes → u ≤ length rest
-      → (length bytes - length (take (length rest - u) (drop u rest)) ≡ (length bytes - length rest) + u) × (take (length rest - u) (drop u rest) ≡ drop ((length bytes - length rest) + u) bytes)
-  left_after rest u within is some = (omega (arith, within, some, length-take (length rest - u) (drop u rest), length-drop u rest), all_after rest u ∙ ap (drop u) is ∙ drop-drop u (length bytes - length rest) bytes)
+      → (length bytes - length (take (length rest - u) (drop u rest)) ≡ (length bytes - length rest) + u)
+      × (take (length rest - u) (drop u rest) ≡ drop ((length bytes - length rest) + u) bytes)
+  left_after rest u within is some = (
+    omega (arith, within, some, length-take (length rest - u) (drop u rest), length-drop u rest),
+    all_after rest u
+        ∙ ap (drop u) is ∙ drop-drop u (length bytes - length rest) bytes,
+  )
 
   -- the bytes of the first cell were used
-  pub first_used : (used u k : ℕ) (d : Form) → k ≡ 0 → used ≡ 0 → u ≡ whole_size (get_or forms k d).kind (take (length bytes - used) (drop used bytes)) → FirstUsed forms bytes (used + u)
+  pub first_used : (used u k : ℕ) (d : Form) → k ≡ 0 → used ≡ 0
+      → u ≡ whole_size (get_or forms k d).kind (take (length bytes - used) (drop used bytes)) → FirstUsed forms bytes (used + u)
   first_used used u k d first none size form others are = grind (arith, all_after)
 
   -- the first alone
-  pub first_alone : (ends : Bool) (to : List ℕ) (used made : ℕ) (fields : List ℕ) → FirstUsed forms bytes used → WritesForms charset forms column 1 (take used bytes) fields → take made to ≡ fields ++ end_after (ends && (1 == length forms))
+  pub first_alone : (ends : Bool) (to : List ℕ) (used made : ℕ) (fields : List ℕ) → FirstUsed forms bytes used
+      → WritesForms charset forms column 1 (take used bytes) fields → take made to ≡ fields ++ end_after (ends && (1 == length forms))
       → FirstWritten charset forms column ends bytes to (record { cells = 1; used = used; made = made })
   first_alone ends to used made fields size (front, rest, before, field, b, t, x, y) is = λ form others are.
       let last = ends && (1 == length forms) in
       let read : rest ≡ take used bytes = sym (b ∙ ap (λ l. l ++ rest) x.0) in
-      let text : in_line column last field ≡ take made to = ap (λ l. l ++ end_after last) (ap (λ (n : ℕ). after_comma n field) (let n : column ≡ column + 0 = omega arith in n) ∙ sym (t ∙ ap (λ l. l ++ after_comma (column + 0) field) x.1)) ∙ sym is in
+      let text : in_line column last field ≡ take made to =
+      ap (λ l. l ++ end_after last) (ap (λ (n : ℕ). after_comma n field) (let n : column ≡ column + 0 = omega arith in n)
+      ∙ sym (t ∙ ap (λ l. l ++ after_comma (column + 0) field) x.1)) ∙ sym is in
       let kind_is : (get_or forms 0 form).kind ≡ form.kind = ap (λ (l : List Form). (get_or l 0 form).kind) are in
       record { size = size form others are; writes = rw kind_is at (rw text at (rw read at (y form column last))) }
 
 -- ---- a cell that is left
 
 -- with less room too
-pub left_less : (charset : Charset) (kind : Kind) (bytes : List ℕ) (fewer room : ℕ) → fewer ≤ room → IsLeft charset kind bytes room → IsLeft charset kind bytes fewer
+pub left_less : (charset : Charset) (kind : Kind) (bytes : List ℕ) (fewer room : ℕ) → fewer ≤ room → IsLeft charset kind bytes room
+    → IsLeft charset kind bytes fewer
 left_less charset kind bytes fewer room less h6 = grind (arith, common_steps)

@@ -1,5 +1,11 @@
 -- What a text that grows is, and what the cells and rows that are read add to it.
-use Rattle.tds_rows.proofs.{Words.{common_steps, ◌≡◌, ℕ, Bool, true, false, List, [], ◌∷◌, ◌++◌, refl, sym, ◌∙◌, ap, append_assoc, append-nil, arith, Option, Some, None, ◌==◌, ◌||◌, nat_lt, map, codes, map-append, joined, null_field, Conversion, closing, conversion_rest, conversion_text, is_fit, is_begun, is_quoted, long_field, open_field, open_closes, open_grows, begun_by_test, IsNext, or_cases, choose, eq_true, lt_true, Column, Charset, Cell, Null, field, shape, CellPart, ShortData, ChunkLength, ChunkData, WholeCell, cell_start, cell_add, cell, field_so_far, chunk_fault, RowPart, Bitmap, InCell, WholeRow, next_cell, with_cell, row_add, row, with_field, row_so_far}, CellMeaning.{guard_none, unless_none}}
+use Rattle.tds_rows.proofs.Words.{common_steps, ◌≡◌, ℕ, Bool, true, false, List, [], ◌∷◌, ◌++◌, refl, sym, ◌∙◌, ap, append_assoc, append-nil, arith}
+use Rattle.tds_rows.proofs.Words.{Option, Some, None, ◌==◌, ◌||◌, nat_lt, map, codes, map-append, joined, null_field, Conversion, closing}
+use Rattle.tds_rows.proofs.Words.{conversion_rest, conversion_text, is_fit, is_begun, is_quoted, long_field, open_field, open_closes, open_grows}
+use Rattle.tds_rows.proofs.Words.{begun_by_test, IsNext, or_cases, choose, eq_true, lt_true, Column, Charset, Cell, Null, field, shape, CellPart}
+use Rattle.tds_rows.proofs.Words.{ShortData, ChunkLength, ChunkData, WholeCell, cell_start, cell_add, cell, field_so_far, chunk_fault, RowPart}
+use Rattle.tds_rows.proofs.Words.{Bitmap, InCell, WholeRow, next_cell, with_cell, row_add, row, with_field, row_so_far}
+use Rattle.tds_rows.proofs.CellMeaning.{guard_none, unless_none}
 
 -- the second text begins with the first
 abbrev pub Grows : List ℕ → List ℕ → Type 0
@@ -64,7 +70,8 @@ pub last_fit : (left : ℕ) (b : Bool) → (nat_lt 0 left || b) ≡ true → (le
 last_fit left b h z = grind (arith, eq_true, lt_true, or_cases)
 
 -- what ends the chunks leaves the data fit
-pub end_fit : (column : ℕ) (c : Conversion) (total : Option ℕ) (content : List ℕ) (n : ℕ) → chunk_fault column c total content n ≡ None → (n == 0) ≡ true → is_fit c content ≡ true
+pub end_fit : (column : ℕ) (c : Conversion) (total : Option ℕ) (content : List ℕ) (n : ℕ) → chunk_fault column c total content n ≡ None
+    → (n == 0) ≡ true → is_fit c content ≡ true
 end_fit column c total content n h z = grind (arith, guard_none, unless_none)
 
 module _ (column : ℕ) where
@@ -78,11 +85,13 @@ module _ (charset : Charset) where
   -- the cells to come begin
   next_grows : (cells : List Cell) (ks : List (Column × Bool)) → Grows (joined (map field cells)) (row_so_far (next_cell charset cells ks))
   next_grows cells [] = grind arith
-  next_grows cells ((k, true) ∷ ks) = grows_trans _ _ _ (rw (sym (map-append field cells (Null ∷ []))) at (joined_more (map field cells) (null_field ∷ []))) (next_grows _ ks)
+  next_grows cells ((k, true) ∷ ks) = grows_trans _ _ _
+      (rw (sym (map-append field cells (Null ∷ []))) at (joined_more (map field cells) (null_field ∷ []))) (next_grows _ ks)
   next_grows cells ((k, false) ∷ ks) = with_field_grows _ None (field_so_far (cell_start k.kind (shape charset k.kind))) tt
 
   -- a cell in its row
-  with_cell_grows : (cells : List Cell) (ks : List (Column × Bool)) (p : CellPart) → Grows (joined (with_field cells (field_so_far p))) (row_so_far (with_cell charset cells ks p))
+  with_cell_grows : (cells : List Cell) (ks : List (Column × Bool)) (p : CellPart)
+      → Grows (joined (with_field cells (field_so_far p))) (row_so_far (with_cell charset cells ks p))
   with_cell_grows cells ks (WholeCell c) = rw map-append at (next_grows (cells ++ c ∷ []) ks)
   with_cell_grows cells ks (ShortData c left content) = grows_same (joined (map field cells ++ open_field c content ∷ []))
   with_cell_grows cells ks (ChunkLength c total content) = grows_same (joined (map field cells ++ open_field c content ∷ []))
@@ -94,4 +103,5 @@ module _ (charset : Charset) where
   row_grows (Bitmap columns) e n = grows_all _
   row_grows (WholeRow cells) e n = grows_same _
   row_grows (InCell cells part ks) e n =
-      grows_trans _ _ _ (with_field_grows _ _ _ (cell_grows _ part e (record { some = n.some; whole = n.whole; free = n.free }))) (with_cell_grows cells ks _)
+      grows_trans _ _ _ (with_field_grows _ _ _ (cell_grows _ part e (record { some = n.some; whole = n.whole; free = n.free })))
+      (with_cell_grows cells ks _)

@@ -1,14 +1,24 @@
 -- What joiners do with the pieces of some content, in the words of their conversion.
-use Rattle.tds_rows.proofs.{Words.{common_steps, ◌≡◌, ◌∙◌, ℕ, ◌+◌, ◌-◌, ◌^◌, ◌<◌, ◌≤◌, Bool, false, List, [], ◌∷◌, ◌++◌, length, take, drop, inl, inr, refl, sym, ap, subst, arith, append_assoc, append-nil, length-append, Result, Ok, Err, get_or, Option, append_cancel_left, length-take-le, take-append-drop, drop_more, take_more, BadText, Stop, Seen, Takes, IsBetween, Takes-more, Takes-none, takes_both, BeginsData, Conversion, IsFit, Suits, closing, conversion_rest, conversion_text, emit, JoinFault, Odd, Stopped, Completes, EndsBy, LeavesPart, Pushes, TakesPiece, TakesUpTo, is_stopped, end_after, Sink, Breaks, Held, Puts, PutsPiece, held, begun_front, joins_by_name, Breaks-after, Breaks-longer, Puts-none, Puts-trans, BreaksData, EndPut, FillsData, RefusesData, StopsData, StopsEnding, StopsFilling, TakesData, added_text, join_stop, Payload}, Paths.At}
+use Rattle.tds_rows.proofs.Words.{common_steps, ◌≡◌, ◌∙◌, ℕ, ◌+◌, ◌-◌, ◌^◌, ◌<◌, ◌≤◌, Bool, false, List, [], ◌∷◌, ◌++◌, length, take, drop, inl, inr}
+use Rattle.tds_rows.proofs.Words.{refl, sym, ap, subst, arith, append_assoc, append-nil, length-append, Result, Ok, Err, get_or, Option}
+use Rattle.tds_rows.proofs.Words.{append_cancel_left, length-take-le, take-append-drop, drop_more, take_more, BadText, Stop, Seen, Takes, IsBetween}
+use Rattle.tds_rows.proofs.Words.{Takes-more, Takes-none, takes_both, BeginsData, Conversion, IsFit, Suits, closing, conversion_rest, conversion_text}
+use Rattle.tds_rows.proofs.Words.{emit, JoinFault, Odd, Stopped, Completes, EndsBy, LeavesPart, Pushes, TakesPiece, TakesUpTo, is_stopped, end_after}
+use Rattle.tds_rows.proofs.Words.{Sink, Breaks, Held, Puts, PutsPiece, held, begun_front, joins_by_name, Breaks-after, Breaks-longer, Puts-none}
+use Rattle.tds_rows.proofs.Words.{Puts-trans, BreaksData, EndPut, FillsData, RefusesData, StopsData, StopsEnding, StopsFilling, TakesData, added_text}
+use Rattle.tds_rows.proofs.Words.{join_stop, Payload}
+use Rattle.tds_rows.proofs.Paths.{At}
 use Rattle.tds_csv.specs.declared.joiners.JoinFault.TheVariants as join_faults
 
-module _ {fit begins : List ℕ → Type 0} {rest text : List ℕ → List ℕ} {size : ℕ} {quoted : Bool} {c : Conversion} (suits : Suits fit begins rest text size quoted c) where
+module _ {fit begins : List ℕ → Type 0} {rest text : List ℕ → List ℕ} {size : ℕ} {quoted : Bool} {c : Conversion}
+    (suits : Suits fit begins rest text size quoted c) where
   module _ (content : List ℕ) {old : List ℕ} (is : old ≡ conversion_rest c content) (begun : BeginsData c content) where
     begun_with : (piece : List ℕ) → begins (old ++ piece) → BeginsData c (content ++ piece)
     begun_with piece h = (joins_by_name c).outward content piece (rw (← is) ((suits.begins_is (old ++ piece)).0 h))
 
     -- a piece was taken
-    pub piece_taken : {new piece : List ℕ} {p q : At} → 0 < length piece → Takes p.seen q.seen piece 1 → IsBetween q.seen → q.place ≡ p.place + length piece → TakesPiece begins rest text old new p.held q.held piece
+    pub piece_taken : {new piece : List ℕ} {p q : At} → 0 < length piece → Takes p.seen q.seen piece 1 → IsBetween q.seen
+        → q.place ≡ p.place + length piece → TakesPiece begins rest text old new p.held q.held piece
         → TakesData c content new p.seen q.seen p.place q.place p.held q.held (length piece)
     piece_taken {piece = piece} {p = p} {q = q} some takes between at x =
         let all = begun_with piece x.begun in
@@ -25,7 +35,8 @@ module _ {fit begins : List ℕ → Type 0} {rest text : List ℕ → List ℕ} 
         }
 
     -- a byte of it is bad
-    piece_bad : {new : List ℕ} {k : ℕ} {h i : Held} {column most : ℕ} {a b : Seen} {place : ℕ} (piece : List ℕ) → length piece ≤ most → Takes a b piece 1 → IsBetween b → TakesUpTo begins rest text old new h i piece k
+    piece_bad : {new : List ℕ} {k : ℕ} {h i : Held} {column most : ℕ} {a b : Seen} {place : ℕ} (piece : List ℕ) → length piece ≤ most
+        → Takes a b piece 1 → IsBetween b → TakesUpTo begins rest text old new h i piece k
         → RefusesData c content column most a b place h i (record { fault = BadText column; place = Payload (place + k) })
     piece_bad {k = k} {h = h} {column = column} {a = a} {b = b} {place = place} piece short takes between x =
         let within = x.within in
@@ -42,14 +53,16 @@ module _ {fit begins : List ℕ → Type 0} {rest text : List ℕ → List ℕ} 
           between = between;
           begun = begun_with good x.good.begun;
           no_text = λ so.
-              let inward : BeginsData c _ = (joins_by_name c).inward content (good ++ bad ∷ []) (subst (BeginsData c) (append_assoc content good (bad ∷ [])) so) in
+              let inward : BeginsData c _ = (joins_by_name c).inward content (good ++ bad ∷ [])
+              (subst (BeginsData c) (append_assoc content good (bad ∷ [])) so) in
               x.bad ((suits.begins_is _).1 (rw (is, take_more piece _ 0 within) inward));
           puts = subst (Puts h _) (grind arith) x.good.put;
           stop_is = ap (λ n. record { fault = BadText column; place = Payload (place + n) }) (sym len);
         }
 
     -- a write of its text failed
-    piece_breaks : {most : ℕ} {a b : Seen} {h i : Held} {stop : Stop} (piece : List ℕ) → length piece ≤ most → Takes a b piece 1 → IsBetween b → begins old → Breaks h i (emit rest text (old ++ piece)) stop → BreaksData c content most a b h i stop
+    piece_breaks : {most : ℕ} {a b : Seen} {h i : Held} {stop : Stop} (piece : List ℕ) → length piece ≤ most → Takes a b piece 1 → IsBetween b
+        → begins old → Breaks h i (emit rest text (old ++ piece)) stop → BreaksData c content most a b h i stop
     piece_breaks {h = h} {i = i} {stop = stop} piece short takes between begins_old breaks =
         let f = begun_front c old piece ((suits.begins_is old).0 begins_old) in
         let good = take f.taken piece in
@@ -61,15 +74,20 @@ module _ {fit begins : List ℕ → Type 0} {rest text : List ℕ → List ℕ} 
           takes = rw (take-append-drop f.taken piece) takes;
           between = between;
           begun = (joins_by_name c).outward content good (rw (← is) f.begun);
-          breaks = subst (λ l. Breaks h i l stop) (grind arith ∙ sym f.same ∙ ap (λ o. emit (conversion_rest c) (conversion_text c) (o ++ good)) is) breaks;
+          breaks = subst (λ l. Breaks h i l stop) (grind arith ∙ sym f.same ∙ ap (λ o. emit (conversion_rest c) (conversion_text c) (o ++ good)) is)
+              breaks;
         }
 
     -- the fault of a push
-    pub push_stops : {column most : ℕ} {a b : Seen} {place : ℕ} {h i : Held} {before after : Bool} (new piece : List ℕ) (fault : JoinFault) → length piece ≤ most → Takes a b piece 1 → IsBetween b → begins old → before ≡ false → after ≡ is_stopped {U = Unit {0}} (Err fault)
-        → Pushes {U = Unit {0}} begins rest text old new h i before piece (Err fault) → StopsData c content column most a b place h i after (join_stop column place fault)
-    push_stops new piece (Stopped stop) short takes between begins_old going failed x = inr (inr (piece_breaks piece short takes between begins_old (x going), failed))
+    pub push_stops : {column most : ℕ} {a b : Seen} {place : ℕ} {h i : Held} {before after : Bool} (new piece : List ℕ) (fault : JoinFault)
+        → length piece ≤ most → Takes a b piece 1 → IsBetween b → begins old → before ≡ false → after ≡ is_stopped {U = Unit {0}} (Err fault)
+        → Pushes {U = Unit {0}} begins rest text old new h i before piece (Err fault)
+        → StopsData c content column most a b place h i after (join_stop column place fault)
+    push_stops new piece (Stopped stop) short takes between begins_old going failed x =
+        inr (inr (piece_breaks piece short takes between begins_old (x going), failed))
     push_stops new piece Odd short takes between begins_old going failed x = absurd x
-    push_stops new piece (join_faults.BadText k) short takes between begins_old going failed x = inr (inl (piece_bad piece short takes between x, failed))
+    push_stops new piece (join_faults.BadText k) short takes between begins_old going failed x =
+        inr (inl (piece_bad piece short takes between x, failed))
 
     -- ---- the end
 
@@ -77,7 +95,8 @@ module _ {fit begins : List ℕ → Type 0} {rest text : List ℕ → List ℕ} 
     fit_whole h = (joins_by_name c).fit_whole content begun (subst (IsFit c) is ((suits.fit_is old).0 h))
 
     -- the content is whole
-    pub end_whole : {new : List ℕ} {h i : Held} → Completes fit text old new h i → IsFit c content × Puts h i (conversion_text c (conversion_rest c content))
+    pub end_whole : {new : List ℕ} {h i : Held} → Completes fit text old new h i → IsFit c content
+        × Puts h i (conversion_text c (conversion_rest c content))
     end_whole x = grind (arith, common_steps, fit_whole)
 
     -- it isn't
@@ -85,13 +104,16 @@ module _ {fit begins : List ℕ → Type 0} {rest text : List ℕ → List ℕ} 
     end_part x whole = x.part ((suits.fit_is old).1 (subst (IsFit c) (sym is) ((joins_by_name c).fit_rest content whole)))
 
     -- the fault of an end
-    pub end_stops : {column place : ℕ} {h i : Held} {before after : Bool} (new : List ℕ) (unit' : ℕ) (last : Bool) (fault : JoinFault) → before ≡ false → after ≡ is_stopped {U = Unit {0}} (Err fault) → EndsBy {U = Unit {0}} unit' fit text old new h i before (Err fault)
+    pub end_stops : {column place : ℕ} {h i : Held} {before after : Bool} (new : List ℕ) (unit' : ℕ) (last : Bool) (fault : JoinFault)
+        → before ≡ false → after ≡ is_stopped {U = Unit {0}} (Err fault) → EndsBy {U = Unit {0}} unit' fit text old new h i before (Err fault)
         → StopsEnding c quoted last content column place h i after (join_stop column place fault)
     end_stops {h = h} {i = i} new unit' last (Stopped stop) going failed x =
         let breaks = subst (λ l. Breaks h i l stop) (suits.text_is old ∙ ap (conversion_text c) is) (x going).1 in
         inl (fit_whole (x going).0, Breaks-longer h i _ _ stop breaks, failed)
-    end_stops {column = column} {place = place} new unit' last Odd going failed x = inr (end_part x.0, x.0.put, ap (λ n. record { fault = BadText column; place = Payload n }) (omega arith), failed)
-    end_stops {column = column} {place = place} new unit' last (join_faults.BadText k) going failed x = inr (end_part x.0, x.0.put, ap (λ n. record { fault = BadText column; place = Payload n }) (omega arith), failed)
+    end_stops {column = column} {place = place} new unit' last Odd going failed x =
+        inr (end_part x.0, x.0.put, ap (λ n. record { fault = BadText column; place = Payload n }) (omega arith), failed)
+    end_stops {column = column} {place = place} new unit' last (join_faults.BadText k) going failed x =
+        inr (end_part x.0, x.0.put, ap (λ n. record { fault = BadText column; place = Payload n }) (omega arith), failed)
 
 -- ---- piece after piece
 
@@ -99,20 +121,24 @@ module _ (c : Conversion) (content : List ℕ) (begun : BeginsData c content) wh
   added_none : added_text c content [] ≡ []
   added_none =
       append_cancel_left _ _ []
-      (sym ((joins_by_name c).emits content [] (subst (BeginsData c) (sym (append-nil content)) begun)) ∙ ap (emit (conversion_rest c) (conversion_text c)) (append-nil content) ∙ sym (append-nil _))
+      (sym ((joins_by_name c).emits content [] (subst (BeginsData c) (sym (append-nil content)) begun))
+      ∙ ap (emit (conversion_rest c) (conversion_text c)) (append-nil content) ∙ sym (append-nil _))
 
-  added_both : (more piece : List ℕ) → BeginsData c ((content ++ more) ++ piece) → added_text c content more ++ added_text c (content ++ more) piece ≡ added_text c content (more ++ piece)
+  added_both : (more piece : List ℕ) → BeginsData c ((content ++ more) ++ piece)
+      → added_text c content more ++ added_text c (content ++ more) piece ≡ added_text c content (more ++ piece)
   added_both more piece all =
       let e = emit (conversion_rest c) (conversion_text c) in
       let laws = joins_by_name c in
       let regroup = append_assoc content more piece in
       let front = laws.front (content ++ more) piece all in
       append_cancel_left _ _ _
-      (sym (append_assoc (e content) (added_text c content more) (added_text c (content ++ more) piece)) ∙ ap (λ l. l ++ added_text c (content ++ more) piece) (sym (laws.emits content more front)) ∙ sym (laws.emits (content ++ more) piece all)
+      (sym (append_assoc (e content) (added_text c content more) (added_text c (content ++ more) piece))
+      ∙ ap (λ l. l ++ added_text c (content ++ more) piece) (sym (laws.emits content more front)) ∙ sym (laws.emits (content ++ more) piece all)
       ∙ ap e regroup ∙ laws.emits content (more ++ piece) (subst (BeginsData c) regroup all))
 
   -- nothing was read
-  fills_none : {p : At} → IsBetween p.seen → length p.held.waiting < 4096 → p.held.delivered ≤ 2 ^ 64 - 1 → FillsData c content p.seen p.seen p.place p.place p.held p.held []
+  fills_none : {p : At} → IsBetween p.seen → length p.held.waiting < 4096 → p.held.delivered ≤ 2 ^ 64 - 1
+      → FillsData c content p.seen p.seen p.place p.place p.held p.held []
   fills_none {p = p} between few delivered = record {
     takes = Takes-none _ 0;
     between = between;
@@ -124,7 +150,9 @@ module _ (c : Conversion) (content : List ℕ) (begun : BeginsData c content) wh
   }
 
   -- a piece more was read
-  fills_more : {kept more : List ℕ} {n : ℕ} {p q r : At} → length r.held.waiting < 4096 → r.held.delivered ≤ 2 ^ 64 - 1 → FillsData c content p.seen q.seen p.place q.place p.held q.held more → (x : TakesData c (content ++ more) kept q.seen r.seen q.place r.place q.held r.held n)
+  fills_more : {kept more : List ℕ} {n : ℕ} {p q r : At} → length r.held.waiting < 4096 → r.held.delivered ≤ 2 ^ 64 - 1
+      → FillsData c content p.seen q.seen p.place q.place p.held q.held more
+      → (x : TakesData c (content ++ more) kept q.seen r.seen q.place r.place q.held r.held n)
       → FillsData c content p.seen r.seen p.place r.place p.held r.held (more ++ x.piece)
   fills_more {more = more} {p = p} {q = q} {r = r} few delivered y x =
       record {
@@ -144,11 +172,14 @@ pub record Filled (c : Conversion) (content kept : List ℕ) (p q : At) (n left 
   pub counted : length more + left ≡ n
   pub kept_is : kept ≡ conversion_rest c (content ++ more)
 
-pub filled_none : {c : Conversion} {content kept : List ℕ} {n : ℕ} {p : At} → BeginsData c content → kept ≡ conversion_rest c content → IsBetween p.seen → length p.held.waiting < 4096 → p.held.delivered ≤ 2 ^ 64 - 1 → Filled c content kept p p n n
-filled_none begun is between few delivered = record { more = []; fills = fills_none _ _ begun between few delivered; counted = omega arith; kept_is = rw (append-nil _) is }
+pub filled_none : {c : Conversion} {content kept : List ℕ} {n : ℕ} {p : At} → BeginsData c content → kept ≡ conversion_rest c content
+    → IsBetween p.seen → length p.held.waiting < 4096 → p.held.delivered ≤ 2 ^ 64 - 1 → Filled c content kept p p n n
+filled_none begun is between few delivered =
+    record { more = []; fills = fills_none _ _ begun between few delivered; counted = omega arith; kept_is = rw (append-nil _) is }
 
 module _ {c : Conversion} {content kept : List ℕ} {p q : At} {n left : ℕ} (begun : BeginsData c content) (x : Filled c content kept p q n left) where
-  pub filled_more : {kept' : List ℕ} {r : At} (k : ℕ) → k ≤ left → length r.held.waiting < 4096 → r.held.delivered ≤ 2 ^ 64 - 1 → TakesData c (content ++ x.more) kept' q.seen r.seen q.place r.place q.held r.held k → Filled c content kept' p r n (left - k)
+  pub filled_more : {kept' : List ℕ} {r : At} (k : ℕ) → k ≤ left → length r.held.waiting < 4096 → r.held.delivered ≤ 2 ^ 64 - 1
+      → TakesData c (content ++ x.more) kept' q.seen r.seen q.place r.place q.held r.held k → Filled c content kept' p r n (left - k)
   filled_more k most few delivered y = record {
     more = x.more ++ y.piece;
     fills = fills_more c content begun few delivered x.fills y;
@@ -156,13 +187,29 @@ module _ {c : Conversion} {content kept : List ℕ} {p q : At} {n left : ℕ} (b
     kept_is = y.kept_is ∙ ap (conversion_rest c) (append_assoc content x.more y.piece);
   }
 
-  pub filled_stops : {column : ℕ} {d : Seen} {j : Held} {failed : Bool} {stop : Stop} → 0 < left → StopsData c (content ++ x.more) column left q.seen d q.place q.held j failed stop → StopsFilling c content column n p.seen d p.place p.held j failed stop
+  pub filled_stops : {column : ℕ} {d : Seen} {j : Held} {failed : Bool} {stop : Stop} → 0 < left
+      → StopsData c (content ++ x.more) column left q.seen d q.place q.held j failed stop
+      → StopsFilling c content column n p.seen d p.place p.held j failed stop
   filled_stops {column = column} {d = d} {j = j} {failed = failed} {stop = stop} some y =
       let rest : left ≡ n - length x.more = omega (arith, x.counted) in
-      record { front = x.more; middle = q.seen; there = q.place; between = q.held; fewer = omega (arith, x.counted, some); fills = x.fills; stops = rw (← rest) y }
+      record {
+        front = x.more;
+        middle = q.seen;
+        there = q.place;
+        between = q.held;
+        fewer = omega (
+          arith,
+          x.counted,
+          some,
+        );
+        fills = x.fills;
+        stops = rw (← rest) y;
+      }
 
 -- the end of content that is whole was put, or a write of it failed
-pub end_puts : {W U : Type 0} (contents : W → Option (List ℕ)) (c : Conversion) (quoted last : Bool) (content : List ℕ) (column place : ℕ) (a b d : Sink W) (r : Result U Stop)
-    → IsFit c content × Puts (held contents a) (held contents b) (conversion_text c (conversion_rest c content)) → b.failed ≡ false → PutsPiece contents b d (closing quoted ++ end_after last) r → EndPut contents c quoted last content column place a d r
+pub end_puts : {W U : Type 0} (contents : W → Option (List ℕ)) (c : Conversion) (quoted last : Bool) (content : List ℕ) (column place : ℕ)
+    (a b d : Sink W) (r : Result U Stop)
+    → IsFit c content × Puts (held contents a) (held contents b) (conversion_text c (conversion_rest c content)) → b.failed ≡ false
+    → PutsPiece contents b d (closing quoted ++ end_after last) r → EndPut contents c quoted last content column place a d r
 end_puts contents c quoted last content column place a b d (Ok u) x going y = (x.0, Puts-trans _ _ _ _ _ x.1 y.gives)
 end_puts contents c quoted last content column place a b d (Err e) x going y = inl (x.0, Breaks-after _ _ _ _ _ e x.1 (y.gives going), y.failed)

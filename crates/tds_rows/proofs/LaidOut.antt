@@ -1,5 +1,10 @@
 -- Cells by how their values are laid out.
-use Rattle.tds_rows.{proofs.Words.{common_steps, false≢true, slice_index, ◌≤◌, ◌&&◌, sym, take, drop, length-drop, length-take-le, is_int4, AreInt4, IsInt4, ◌≡◌, ℕ, ◌<◌, Bool, true, false, List, length, replicate, get_or, refl, arith, ◌==◌, slice_set, get_or-set_at, get_or-replicate, get_or-set_other, length-replicate, length-set, Kind, Reach, is_scalar, eq_false, eq_true, Content, Conversion, Charset, Form, Layout, LongShape, shape, value_length, value_start, whole_size, Each, HasValueAt, IsLaidOut, short_size}, specs.declared.cell.layout.Layout.TheVariants.{Counted, Fixed, Short as ShortLayout}}
+use Rattle.tds_rows.proofs.Words.{common_steps, false≢true, slice_index, ◌≤◌, ◌&&◌, sym, take, drop, length-drop, length-take-le, is_int4, AreInt4}
+use Rattle.tds_rows.proofs.Words.{IsInt4, ◌≡◌, ℕ, ◌<◌, Bool, true, false, List, length, replicate, get_or, refl, arith, ◌==◌, slice_set}
+use Rattle.tds_rows.proofs.Words.{get_or-set_at, get_or-replicate, get_or-set_other, length-replicate, length-set, Kind, Reach, is_scalar, eq_false}
+use Rattle.tds_rows.proofs.Words.{eq_true, Content, Conversion, Charset, Form, Layout, LongShape, shape, value_length, value_start, whole_size, Each}
+use Rattle.tds_rows.proofs.Words.{HasValueAt, IsLaidOut, short_size}
+use Rattle.tds_rows.specs.declared.cell.layout.Layout.TheVariants.{Counted, Fixed, Short as ShortLayout}
 
 -- the same form many times
 pub each_all : (P : Form → Type 0) (n : ℕ) (f : Form) → P f → Each P (replicate n f)
@@ -14,7 +19,8 @@ each_set P forms k f all within is j d here = go _ refl
     go false e = rw (get_or-set_other forms k j f d (eq_false j k e)) (all j d (omega (arith, length-set forms k f, here)))
 
 -- one more whole number of four bytes, or a form of another kind
-pub int4_set : (forms : List Form) (k : ℕ) (f : Form) (all one : Bool) → (all ≡ true → AreInt4 forms) → k < length forms → one ≡ is_int4 f.kind → (all && one) ≡ true → AreInt4 (slice_set forms k f)
+pub int4_set : (forms : List Form) (k : ℕ) (f : Form) (all one : Bool) → (all ≡ true → AreInt4 forms) → k < length forms → one ≡ is_int4 f.kind
+    → (all && one) ≡ true → AreInt4 (slice_set forms k f)
 int4_set forms k f true true before within is both = each_set (λ f. IsInt4 f.kind) forms k f (before refl) within (sym is)
 int4_set forms k f true false before within is both = absurd (false≢true both)
 int4_set forms k f false one before within is both = absurd (false≢true both)
@@ -30,12 +36,14 @@ pub fixed_there : {l : Layout} (bytes : List ℕ) {start : ℕ × ℕ} {n : ℕ}
 fixed_there bytes is there = grind arith
 
 -- after a length of one byte
-pub counted_there : {l : Layout} (bytes : List ℕ) {start : ℕ × ℕ} → l ≡ Counted → start ≡ (1, slice_index bytes 0) → HasValueAt l bytes start.0 start.1
+pub counted_there : {l : Layout} (bytes : List ℕ) {start : ℕ × ℕ} → l ≡ Counted → start ≡ (1, slice_index bytes 0)
+    → HasValueAt l bytes start.0 start.1
 counted_there bytes is there = grind arith
 
 module _ (charset : Charset) (kind : Kind) where
   -- it is that of a scalar kind
-  pub value_there : (l : Layout) (bytes : List ℕ) (start n : ℕ) → IsLaidOut charset kind l → HasValueAt l bytes start n → (is_scalar kind ≡ true) × ((start ≡ value_start kind) × (n ≡ value_length kind bytes))
+  pub value_there : (l : Layout) (bytes : List ℕ) (start n : ℕ) → IsLaidOut charset kind l → HasValueAt l bytes start n → (is_scalar kind ≡ true)
+      × ((start ≡ value_start kind) × (n ≡ value_length kind bytes))
   value_there l bytes start n laid h = grind (arith, common_steps)
 
   -- a kind whose values have contents is a long one

@@ -1,5 +1,18 @@
 -- Long values, in the grammar of a cell: the text of its parts, and the pieces of its content.
-use Rattle.tds_rows.proofs.{Words.{StopsField, common_steps, ◌≡◌, ◌∙◌, ◌⊎◌, inl, inr, ℕ, suc, ◌+◌, ◌-◌, ◌^◌, ◌<◌, ◌≤◌, Bool, true, false, List, [], ◌∷◌, ◌++◌, length, refl, sym, ap, subst, arith, append_assoc, append-nil, length-append, Option, Some, None, ◌&&◌, ◌||◌, nat_lt, and_from, cases_lt, ne_eqb, or_left, or_right, append_cancel_left, BadText, MessageEnded, Stop, Spelt, Seen, Takes, IsBetween, choose_false, test_lt, Spelt-append, Spelt-step, Takes-more, began_is_cut, cut_at_once, BeginsData, Conversion, conversion_rest, conversion_text, is_begun, is_fit, is_quoted, closing, long_field, open_field, emit, after_comma, end_after, in_line, Breaks, Held, Puts, open_grows, open_closes, unfit_adds_none, begun_by_test, joins_by_name, breaks_somewhere, Breaks-after, Breaks-longer, Puts-none, Puts-trans, CellPart, ShortData, cell, cell_add, cell_end, cell_fault, cell_size, field_so_far, unless, cell_so_far, BreaksData, CutsData, EndsData, FillsData, RefusesData, StopsData, StopsFilling, added_text, ending, nil_of_length, Payload}, Paths.{At, Path, path_both, path_stops}, RowSteps.{line_grows, opened_text}, LineTexts.after_append, CellLaws.unless_true, Numbers.{chunk_left, short_left}}
+use Rattle.tds_rows.proofs.Words.{StopsField, common_steps, ◌≡◌, ◌∙◌, ◌⊎◌, inl, inr, ℕ, suc, ◌+◌, ◌-◌, ◌^◌, ◌<◌, ◌≤◌, Bool, true, false, List, []}
+use Rattle.tds_rows.proofs.Words.{◌∷◌, ◌++◌, length, refl, sym, ap, subst, arith, append_assoc, append-nil, length-append, Option, Some, None, ◌&&◌}
+use Rattle.tds_rows.proofs.Words.{◌||◌, nat_lt, and_from, cases_lt, ne_eqb, or_left, or_right, append_cancel_left, BadText, MessageEnded, Stop, Spelt}
+use Rattle.tds_rows.proofs.Words.{Seen, Takes, IsBetween, choose_false, test_lt, Spelt-append, Spelt-step, Takes-more, began_is_cut, cut_at_once}
+use Rattle.tds_rows.proofs.Words.{BeginsData, Conversion, conversion_rest, conversion_text, is_begun, is_fit, is_quoted, closing, long_field}
+use Rattle.tds_rows.proofs.Words.{open_field, emit, after_comma, end_after, in_line, Breaks, Held, Puts, open_grows, open_closes, unfit_adds_none}
+use Rattle.tds_rows.proofs.Words.{begun_by_test, joins_by_name, breaks_somewhere, Breaks-after, Breaks-longer, Puts-none, Puts-trans, CellPart}
+use Rattle.tds_rows.proofs.Words.{ShortData, cell, cell_add, cell_end, cell_fault, cell_size, field_so_far, unless, cell_so_far, BreaksData, CutsData}
+use Rattle.tds_rows.proofs.Words.{EndsData, FillsData, RefusesData, StopsData, StopsFilling, added_text, ending, nil_of_length, Payload}
+use Rattle.tds_rows.proofs.Paths.{At, Path, path_both, path_stops}
+use Rattle.tds_rows.proofs.RowSteps.{line_grows, opened_text}
+use Rattle.tds_rows.proofs.LineTexts.{after_append}
+use Rattle.tds_rows.proofs.CellLaws.{unless_true}
+use Rattle.tds_rows.proofs.Numbers.{chunk_left, short_left}
 
 -- ---- content, byte by byte
 
@@ -7,16 +20,19 @@ use Rattle.tds_rows.proofs.{Words.{StopsField, common_steps, ◌≡◌, ◌∙�
 abbrev pub emitted : Conversion → List ℕ → List ℕ
 emitted c = emit (conversion_rest c) (conversion_text c)
 
--- The states of the bytes of some content, by how many follow and what was read: each next byte is an element, and free of faults where text begins so, and where the content is good at its end.
+-- The states of the bytes of some content, by how many follow and what was read: each next byte is an element, and free of faults where text begins
+-- so, and where the content is good at its end.
 pub record HoldsContent (column : ℕ) (c : Conversion) (state : ℕ → List ℕ → CellPart) (Good : List ℕ → Type 0) : Type 0 where
   pub size : (r : ℕ) (d : List ℕ) → cell_size (state (suc r) d) ≡ 1
   pub end : (r : ℕ) (d : List ℕ) → cell_end (state (suc r) d) ≡ Some MessageEnded
   pub text : (r : ℕ) (d : List ℕ) → field_so_far (state (suc r) d) ≡ Some (open_field c d)
   pub add : (r : ℕ) (d : List ℕ) (x : ℕ) → cell_add (state (suc r) d) (x ∷ []) ≡ state r (d ++ x ∷ [])
-  pub free : (r : ℕ) (d : List ℕ) (x : ℕ) → is_begun c (d ++ x ∷ []) ≡ true → (r ≡ 0 → Good (d ++ x ∷ [])) → cell_fault column (state (suc r) d) (x ∷ []) ≡ None
+  pub free : (r : ℕ) (d : List ℕ) (x : ℕ) → is_begun c (d ++ x ∷ []) ≡ true → (r ≡ 0 → Good (d ++ x ∷ []))
+      → cell_fault column (state (suc r) d) (x ∷ []) ≡ None
   pub bad : (r : ℕ) (d : List ℕ) (x : ℕ) → is_begun c (d ++ x ∷ []) ≡ false → cell_fault column (state (suc r) d) (x ∷ []) ≡ Some (BadText column)
   pub ends : (d : List ℕ) (x : ℕ) → Good (d ++ x ∷ []) ⊎ (emitted c (d ++ x ∷ []) ≡ emitted c d)
-  pub whole : (last : Bool) (d : List ℕ) → Good d → (more : List ℕ) × (after_comma column (open_field c d) ++ more ≡ cell_so_far column last (state 0 d))
+  pub whole : (last : Bool) (d : List ℕ) → Good d → (more : List ℕ)
+      × (after_comma column (open_field c d) ++ more ≡ cell_so_far column last (state 0 d))
 
 -- a list that isn't empty has a last number
 snoc_of : (l : List ℕ) → 0 < length l → (p : List ℕ) × (x : ℕ) × (l ≡ p ++ x ∷ [])
@@ -27,12 +43,14 @@ snoc_of (x ∷ y ∷ l) some = let r = snoc_of (y ∷ l) (omega arith) in (x ∷
 no_text_false : (c : Conversion) (l : List ℕ) (b : Bool) → is_begun c l ≡ b → (BeginsData c l → ⊥) → b ≡ false
 no_text_false c l b is h = grind (arith, begun_by_test)
 
-module _ {column : ℕ} {c : Conversion} {state : ℕ → List ℕ → CellPart} {Good : List ℕ → Type 0} (last : Bool) (holds : HoldsContent column c state Good) where
+module _ {column : ℕ} {c : Conversion} {state : ℕ → List ℕ → CellPart} {Good : List ℕ
+    → Type 0} (last : Bool) (holds : HoldsContent column c state Good) where
   pub text_at : (r : ℕ) (d : List ℕ) → cell_so_far column last (state (suc r) d) ≡ after_comma column (open_field c d)
   text_at r d = grind (arith, common_steps, opened_text, column)
 
   -- the bytes of some content are elements
-  pub content_spelt : (d bytes : List ℕ) (m r : ℕ) → m ≡ length bytes + r → BeginsData c (d ++ bytes) → (r ≡ 0 → 0 < length bytes → Good (d ++ bytes)) → Spelt (cell column) (state m d) bytes (state r (d ++ bytes))
+  pub content_spelt : (d bytes : List ℕ) (m r : ℕ) → m ≡ length bytes + r → BeginsData c (d ++ bytes) → (r ≡ 0 → 0 < length bytes → Good (d ++ bytes))
+      → Spelt (cell column) (state m d) bytes (state r (d ++ bytes))
   content_spelt d [] m r is begun good = grind (arith, append-nil)
   content_spelt d (x ∷ xs) m r is begun good =
       let k = length xs + r in
@@ -41,27 +59,34 @@ module _ {column : ℕ} {c : Conversion} {state : ℕ → List ℕ → CellPart}
       let regroup = sym (append_assoc d _ xs) in
       let more_begun = subst (BeginsData c) regroup begun in
       let more = content_spelt (d ++ x ∷ []) xs k r refl more_begun (λ none some. subst Good regroup (good none (omega arith))) in
-      let one = Spelt-step _ _ _ _ (omega arith) (sym (holds.size k d)) (holds.free k d x ((begun_by_test c _).1 ((joins_by_name c).front _ xs more_begun)) good_one) (holds.add k d x) in
+      let one = Spelt-step _ _ _ _ (omega arith) (sym (holds.size k d))
+      (holds.free k d x ((begun_by_test c _).1 ((joins_by_name c).front _ xs more_begun)) good_one) (holds.add k d x) in
       rw (next, regroup) (Spelt-append _ _ _ _ xs _ one more)
 
   -- and where more follow
-  front_spelt : {m : ℕ} (d bytes : List ℕ) (r : ℕ) → m ≡ length bytes + suc r → BeginsData c (d ++ bytes) → Spelt (cell column) (state m d) bytes (state (suc r) (d ++ bytes))
+  front_spelt : {m : ℕ} (d bytes : List ℕ) (r : ℕ) → m ≡ length bytes + suc r → BeginsData c (d ++ bytes)
+      → Spelt (cell column) (state m d) bytes (state (suc r) (d ++ bytes))
   front_spelt d bytes r is begun = grind (arith, common_steps, bytes, content_spelt)
 
   -- what some content adds to the open field
-  text_more : (d more : List ℕ) → BeginsData c (d ++ more) → after_comma column (open_field c d) ++ added_text c d more ≡ after_comma column (open_field c (d ++ more))
+  text_more : (d more : List ℕ) → BeginsData c (d ++ more)
+      → after_comma column (open_field c d) ++ added_text c d more ≡ after_comma column (open_field c (d ++ more))
   text_more d more begun = grind (arith, common_steps, after_append, column, open_grows)
 
   -- what some content adds to the text, where more follows
-  text_grown : (d more : List ℕ) (r r' : ℕ) → BeginsData c (d ++ more) → cell_so_far column last (state (suc r) d) ++ added_text c d more ≡ cell_so_far column last (state (suc r') (d ++ more))
+  text_grown : (d more : List ℕ) (r r' : ℕ) → BeginsData c (d ++ more)
+      → cell_so_far column last (state (suc r) d) ++ added_text c d more ≡ cell_so_far column last (state (suc r') (d ++ more))
   text_grown d more r r' begun = grind (arith, common_steps, text_at, text_more)
 
   -- and where none does
-  text_closed : (d more tail : List ℕ) (r : ℕ) → BeginsData c (d ++ more) → after_comma column (open_field c (d ++ more)) ++ tail ≡ cell_so_far column last (state 0 (d ++ more)) → cell_so_far column last (state (suc r) d) ++ (added_text c d more ++ tail) ≡ cell_so_far column last (state 0 (d ++ more))
+  text_closed : (d more tail : List ℕ) (r : ℕ) → BeginsData c (d ++ more)
+      → after_comma column (open_field c (d ++ more)) ++ tail ≡ cell_so_far column last (state 0 (d ++ more))
+      → cell_so_far column last (state (suc r) d) ++ (added_text c d more ++ tail) ≡ cell_so_far column last (state 0 (d ++ more))
   text_closed d more tail r begun whole = grind (arith, common_steps, append_assoc, column, text_at, text_more)
 
   -- bytes were read and their text put, and more follow
-  fills_path : {d more : List ℕ} {p q : At} (m r : ℕ) → m ≡ length more + suc r → FillsData c d p.seen q.seen p.place q.place p.held q.held more → Path (cell column) (cell_so_far column last) (state m d) p q (state (suc r) (d ++ more))
+  fills_path : {d more : List ℕ} {p q : At} (m r : ℕ) → m ≡ length more + suc r → FillsData c d p.seen q.seen p.place q.place p.held q.held more
+      → Path (cell column) (cell_so_far column last) (state m d) p q (state (suc r) (d ++ more))
   fills_path {more = more} m r is x =
       let next : suc (length more + r) ≡ m = omega (arith, is) in
       record {
@@ -74,14 +99,18 @@ module _ {column : ℕ} {c : Conversion} {state : ℕ → List ℕ → CellPart}
       }
 
   -- what the last byte adds to the text, where it isn't good there
-  adds_none : (d p : List ℕ) (x : ℕ) → BeginsData c (d ++ (p ++ x ∷ [])) → emitted c ((d ++ p) ++ x ∷ []) ≡ emitted c (d ++ p) → added_text c d (p ++ x ∷ []) ≡ added_text c d p
+  adds_none : (d p : List ℕ) (x : ℕ) → BeginsData c (d ++ (p ++ x ∷ [])) → emitted c ((d ++ p) ++ x ∷ []) ≡ emitted c (d ++ p)
+      → added_text c d (p ++ x ∷ []) ≡ added_text c d p
   adds_none d p x begun same =
       let laws = joins_by_name c in
       let regroup = sym (append_assoc d p _) in
-      append_cancel_left _ _ _ (sym (laws.emits d _ begun) ∙ ap (emitted c) regroup ∙ same ∙ laws.emits d p (laws.front _ _ (subst (BeginsData c) regroup begun)))
+      append_cancel_left _ _ _ (sym (laws.emits d _ begun) ∙ ap (emitted c) regroup ∙ same
+      ∙ laws.emits d p (laws.front _ _ (subst (BeginsData c) regroup begun)))
 
   -- the byte after some that are good is refused
-  byte_refused : {a b : Seen} {h i : Held} {m : ℕ} (d good ahead : List ℕ) (y r place : ℕ) → m ≡ length good + suc r → BeginsData c (d ++ good) → cell_fault column (state (suc r) (d ++ good)) (y ∷ []) ≡ Some (BadText column) → Takes a b (good ++ y ∷ ahead) 1 → IsBetween b → Puts h i (added_text c d good)
+  byte_refused : {a b : Seen} {h i : Held} {m : ℕ} (d good ahead : List ℕ) (y r place : ℕ) → m ≡ length good + suc r → BeginsData c (d ++ good)
+      → cell_fault column (state (suc r) (d ++ good)) (y ∷ []) ≡ Some (BadText column) → Takes a b (good ++ y ∷ ahead) 1 → IsBetween b
+      → Puts h i (added_text c d good)
       → StopsField (state m d) column last a b place h i false (record { fault = BadText column; place = Payload (place + length good) })
   byte_refused {a = a} {m = m} d good ahead y r place is begun bad takes between puts =
       let next : suc (length good + r) ≡ m = omega arith in
@@ -109,7 +138,8 @@ module _ {column : ℕ} {c : Conversion} {state : ℕ → List ℕ → CellPart}
         );
       }
 
-  module _ (d : List ℕ) (r : ℕ) (a b : Seen) (place : ℕ) (h i : Held) (stop : Stop) (few : length h.waiting < 4096) (delivered : h.delivered ≤ 2 ^ 64 - 1) where
+  module _ (d : List ℕ) (r : ℕ) (a b : Seen) (place : ℕ) (h i : Held) (stop : Stop) (few : length h.waiting < 4096)
+      (delivered : h.delivered ≤ 2 ^ 64 - 1) where
     abbrev Stopped : Bool → Type 0
     Stopped failed = StopsField (state (suc r) d) column last a b place h i failed stop
 
@@ -123,15 +153,18 @@ module _ {column : ℕ} {c : Conversion} {state : ℕ → List ℕ → CellPart}
     piece_refused x =
         let within : length x.good < suc r = x.within in
         let no = no_text_false c _ _ refl x.no_text in
-        rw x.stop_is (byte_refused d _ _ _ _ _ (omega (arith, within)) x.begun (holds.bad (r - length x.good) (d ++ x.good) x.bad no) x.takes x.between x.puts)
+        rw x.stop_is (byte_refused d _ _ _ _ _ (omega (arith, within)) x.begun (holds.bad (r - length x.good) (d ++ x.good) x.bad no) x.takes
+        x.between x.puts)
 
     -- a write of the text of a piece failed, whose bytes lead to a state
-    broken : (good ahead added : List ℕ) (to : CellPart) → Spelt (cell column) (state (suc r) d) good to → Takes a b (good ++ ahead) 1 → IsBetween b → cell_so_far column last (state (suc r) d) ++ added ≡ cell_so_far column last to → Breaks h i added stop → Stopped true
+    broken : (good ahead added : List ℕ) (to : CellPart) → Spelt (cell column) (state (suc r) d) good to → Takes a b (good ++ ahead) 1 → IsBetween b
+        → cell_so_far column last (state (suc r) d) ++ added ≡ cell_so_far column last to → Breaks h i added stop → Stopped true
     broken good ahead added to spelt takes between text_is breaks =
         let x = breaks_somewhere _ _ (line_grows column last) _ a b h i _ between to _ _ _ spelt takes few delivered text_is breaks in
         record { at = x.0; cause = inr (x.1, refl) }
 
-    piece_broken_at : (ahead p : List ℕ) (x : ℕ) → length (p ++ x ∷ []) ≡ suc r → Takes a b ((p ++ x ∷ []) ++ ahead) 1 → IsBetween b → BeginsData c (d ++ (p ++ x ∷ [])) → Breaks h i (added_text c d (p ++ x ∷ [])) stop → Stopped true
+    piece_broken_at : (ahead p : List ℕ) (x : ℕ) → length (p ++ x ∷ []) ≡ suc r → Takes a b ((p ++ x ∷ []) ++ ahead) 1 → IsBetween b
+        → BeginsData c (d ++ (p ++ x ∷ [])) → Breaks h i (added_text c d (p ++ x ∷ [])) stop → Stopped true
     piece_broken_at ahead p x all takes between begun breaks =
         let good = p ++ x ∷ [] in
         let same = sym (append_assoc d p _) in
@@ -139,16 +172,19 @@ module _ {column : ℕ} {c : Conversion} {state : ℕ → List ℕ → CellPart}
           | inl whole ↦
               (let fine = subst Good (sym same) whole in
               let w = holds.whole last _ fine in
-              broken _ _ _ _ (content_spelt d _ _ 0 (omega arith) begun (λ _ _. fine)) takes between (text_closed d _ _ r begun w.1) (Breaks-longer h i _ _ _ breaks))
+              broken _ _ _ _ (content_spelt d _ _ 0 (omega arith) begun (λ _ _. fine)) takes between (text_closed d _ _ r begun w.1)
+              (Breaks-longer h i _ _ _ breaks))
           | inr none ↦
               (let front = (joins_by_name c).front _ _ (subst (BeginsData c) same begun) in
-              broken p _ _ _ (front_spelt d p 0 (omega (arith, length-append p (x ∷ []))) front) (rw append_assoc at takes) between (text_grown d p r 0 front) (rw (adds_none d p x begun none) at breaks))
+              broken p _ _ _ (front_spelt d p 0 (omega (arith, length-append p (x ∷ []))) front) (rw append_assoc at takes) between
+              (text_grown d p r 0 front) (rw (adds_none d p x begun none) at breaks))
         ]
 
     piece_broken : BreaksData c d (suc r) a b h i stop → Stopped true
     piece_broken x =
         elim (cases_lt (length x.good) (suc r)) [
-          | inl less ↦ broken x.good x.ahead _ _ (front_spelt d x.good (r - length x.good) (omega arith) x.begun) x.takes x.between (text_grown d x.good r (r - length x.good) x.begun) x.breaks
+          | inl less ↦ broken x.good x.ahead _ _ (front_spelt d x.good (r - length x.good) (omega arith) x.begun) x.takes x.between
+              (text_grown d x.good r (r - length x.good) x.begun) x.breaks
           | inr more ↦
               (let within = x.within in
               let all : length x.good ≡ suc r = omega arith in
@@ -163,7 +199,8 @@ module _ {column : ℕ} {c : Conversion} {state : ℕ → List ℕ → CellPart}
     piece_stops failed (inr (inr x)) = rw x.1 (piece_broken x.0)
 
   -- the content stopped in one of its pieces
-  pub filling_stops : {d : List ℕ} {m : ℕ} {p : At} {b : Seen} {i : Held} {failed : Bool} {stop : Stop} → StopsFilling c d column m p.seen b p.place p.held i failed stop → StopsField (state m d) column last p.seen b p.place p.held i failed stop
+  pub filling_stops : {d : List ℕ} {m : ℕ} {p : At} {b : Seen} {i : Held} {failed : Bool} {stop : Stop}
+      → StopsFilling c d column m p.seen b p.place p.held i failed stop → StopsField (state m d) column last p.seen b p.place p.held i failed stop
   filling_stops {m = m} x =
       let r = m - length x.front - 1 in
       let left : m - length x.front ≡ suc r = omega arith in
@@ -182,14 +219,16 @@ module _ {column : ℕ} {c : Conversion} {state : ℕ → List ℕ → CellPart}
     last_split : x.last ≡ suc last_left
     last_split = let some : 0 < x.last = x.takes.some in omega (arith, some)
 
-    front_path : Path (cell column) (cell_so_far column last) (state m d) p (record { seen = x.middle; place = x.there; held = x.between }) (state (suc last_left) (d ++ x.front))
+    front_path : Path (cell column) (cell_so_far column last) (state m d) p (record { seen = x.middle; place = x.there; held = x.between })
+        (state (suc last_left) (d ++ x.front))
     front_path = fills_path m last_left (omega (arith, x.counted, last_split)) x.fills
 
     last_spelt : Good all_content → Spelt (cell column) (state (suc last_left) (d ++ x.front)) x.takes.piece (state 0 all_content)
     last_spelt good = grind (arith, common_steps, content_spelt, last_split)
 
     -- all of it was read and its text put, and what ends it
-    pub ends_path : {j : Held} (tail : List ℕ) → Good all_content → after_comma column (open_field c all_content) ++ tail ≡ cell_so_far column last (state 0 all_content) → Puts q.held j tail
+    pub ends_path : {j : Held} (tail : List ℕ) → Good all_content
+        → after_comma column (open_field c all_content) ++ tail ≡ cell_so_far column last (state 0 all_content) → Puts q.held j tail
         → Path (cell column) (cell_so_far column last) (state m d) p (record q { held = j }) (state 0 all_content)
     ends_path tail good whole puts =
         path_both front_path (record {
@@ -202,15 +241,19 @@ module _ {column : ℕ} {c : Conversion} {state : ℕ → List ℕ → CellPart}
         })
 
     -- a write of what ends it failed
-    pub ends_break : {j : Held} {stop : Stop} (tail : List ℕ) → Good all_content → after_comma column (open_field c all_content) ++ tail ≡ cell_so_far column last (state 0 all_content) → Breaks q.held j tail stop
+    pub ends_break : {j : Held} {stop : Stop} (tail : List ℕ) → Good all_content
+        → after_comma column (open_field c all_content) ++ tail ≡ cell_so_far column last (state 0 all_content) → Breaks q.held j tail stop
         → StopsField (state m d) column last p.seen q.seen p.place p.held j true stop
     ends_break tail good whole breaks =
         let taken = rw (sym (append-nil x.takes.piece)) at x.takes.takes in
-        path_stops front_path (broken _ _ _ _ _ _ _ _ x.fills.few x.fills.delivered _ [] _ _ (last_spelt good) taken x.takes.between (text_closed _ _ _ _ x.takes.begun whole) (Breaks-after _ _ _ _ _ _ x.takes.puts breaks))
+        path_stops front_path (broken _ _ _ _ _ _ _ _ x.fills.few x.fills.delivered _ [] _ _ (last_spelt good) taken x.takes.between
+        (text_closed _ _ _ _ x.takes.begun whole) (Breaks-after _ _ _ _ _ _ x.takes.puts breaks))
 
     -- where the content isn't whole, its last byte is refused
-    pub ends_refused : ((e : List ℕ) (y : ℕ) → is_fit c (e ++ y ∷ []) ≡ false → cell_fault column (state 1 e) (y ∷ []) ≡ Some (BadText column)) → is_fit c all_content ≡ false
-        → StopsField (state m d) column last p.seen q.seen p.place p.held q.held false (record { fault = BadText column; place = Payload (q.place - 1) })
+    pub ends_refused : ((e : List ℕ) (y : ℕ) → is_fit c (e ++ y ∷ []) ≡ false → cell_fault column (state 1 e) (y ∷ []) ≡ Some (BadText column))
+        → is_fit c all_content ≡ false
+        → StopsField (state m d) column last p.seen q.seen p.place p.held q.held false
+        (record { fault = BadText column; place = Payload (q.place - 1) })
     ends_refused bad unfit =
         let s = snoc_of _ (omega arith) in
         let e = d ++ x.front in
@@ -222,7 +265,9 @@ module _ {column : ℕ} {c : Conversion} {state : ℕ → List ℕ → CellPart}
         let unfit_here = rw (s.2, same) at unfit in
         let adds = adds_none e f y begun (unfit_adds_none c _ y unfit_here) in
         let stands : x.there + length f ≡ q.place - 1 = omega arith in
-        path_stops front_path (rw stands at (byte_refused {a = x.middle} {h = x.between} {i = q.held} {m = suc last_left} e f [] y 0 x.there (omega (arith, x.takes.counted)) ((joins_by_name c).front _ _ (rw same at begun)) (bad _ y unfit_here) (rw s.2 at x.takes.takes) x.takes.between (rw (s.2, adds) at x.takes.puts)))
+        path_stops front_path (rw stands at (byte_refused {a = x.middle} {h = x.between} {i = q.held} {m = suc last_left} e f [] y 0 x.there
+        (omega (arith, x.takes.counted)) ((joins_by_name c).front _ _ (rw same at begun)) (bad _ y unfit_here) (rw s.2 at x.takes.takes)
+        x.takes.between (rw (s.2, adds) at x.takes.puts)))
 
 -- ---- the content of a short value, and of a chunk
 
@@ -230,11 +275,13 @@ short_next : (c : Conversion) (r : ℕ) (d : List ℕ) → short_left c (suc r) 
 short_next c r d = grind (arith, common_steps, choose_false, ne_eqb)
 
 module _ (column : ℕ) (c : Conversion) where
-  fit_or_none : (d : List ℕ) (x : ℕ) (b : Bool) → is_fit c (d ++ x ∷ []) ≡ b → (is_fit c (d ++ x ∷ []) ≡ true) ⊎ (emitted c (d ++ x ∷ []) ≡ emitted c d)
+  fit_or_none : (d : List ℕ) (x : ℕ) (b : Bool) → is_fit c (d ++ x ∷ []) ≡ b → (is_fit c (d ++ x ∷ []) ≡ true)
+      ⊎ (emitted c (d ++ x ∷ []) ≡ emitted c d)
   fit_or_none d x b is = grind (arith, unfit_adds_none)
 
   -- the end of a value that is whole
-  pub ending_text : (last : Bool) (d : List ℕ) → is_fit c d ≡ true → after_comma column (open_field c d) ++ ending c (is_quoted c) last d ≡ in_line column last (long_field c d)
+  pub ending_text : (last : Bool) (d : List ℕ) → is_fit c d ≡ true
+      → after_comma column (open_field c d) ++ ending c (is_quoted c) last d ≡ in_line column last (long_field c d)
   ending_text last d fit =
       let rest = conversion_text c _ in
       let close = closing _ in
@@ -247,8 +294,10 @@ module _ (column : ℕ) (c : Conversion) where
     end = λ r d. ap cell_end (short_next c r d);
     text = λ r d. ap field_so_far (short_next c r d);
     add = λ r d x. ap (λ s. cell_add s (x ∷ [])) (short_next c r d);
-    free = λ r d x begun fit. ap (λ s. cell_fault column s (x ∷ [])) (short_next c r d) ∙ unless_true _ _ (grind (arith, and_from, or_left, or_right, test_lt));
-    bad = λ r d x no. ap (λ s. cell_fault column s (x ∷ [])) (short_next c r d) ∙ ap (λ b. unless (b && (nat_lt 0 r || is_fit c (d ++ x ∷ []))) (BadText column)) no;
+    free = λ r d x begun fit. ap (λ s. cell_fault column s (x ∷ [])) (short_next c r d)
+        ∙ unless_true _ _ (grind (arith, and_from, or_left, or_right, test_lt));
+    bad = λ r d x no. ap (λ s. cell_fault column s (x ∷ [])) (short_next c r d)
+        ∙ ap (λ b. unless (b && (nat_lt 0 r || is_fit c (d ++ x ∷ []))) (BadText column)) no;
     ends = λ d x. fit_or_none d x _ refl;
     whole = λ last d fit. (ending c _ last d, ending_text last d fit);
   }

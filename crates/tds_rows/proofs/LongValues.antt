@@ -1,5 +1,15 @@
 -- Long values, element after element: their lengths, the content between, and the end.
-use Rattle.tds_rows.proofs.{Words.{common_steps, ◌≡◌, ◌∙◌, inl, inr, ℕ, zero, suc, ◌-◌, ◌^◌, ◌<◌, ◌≤◌, Bool, true, false, List, [], ◌∷◌, ◌++◌, length, sym, ap, arith, append-nil, Result, Ok, Err, MatchResult, Option, drop-nil, take-nil, Stop, StopsReading, Seen, Spelt-one, Spelt-none, BeginsData, Conversion, HexDigits, IsFit, Utf16Text, Utf8Text, Windows1252Text, conversion_rest, conversion_text, is_quoted, open_field, emit, after_comma, binary_mark, in_line, null_field, quote, Sink, Breaks, Held, IsWriting, Puts, PutsPiece, held, begun_by_test, fit_begins, fit_by_test, no_data_is_fit, hex-nil, Breaks-after, Puts-none, Puts-trans, Breaks-longer, text_nil, Cell, CellPart, Null, ShortLength, WholeCell, cell, PutsField, StopsField, cell_so_far, EndsData, StopsEnding, ending, opening, ◌≢◌, ◌+◌, refl, length-append, None, unit, ChunkLength, ReadsNumber, chunk_length_fault}, LongSteps.{ending_text, ends_break, ends_path, ends_refused, short_holds, short_refused, text_at, chunk_holds}, Numbers.{Next, short_left, chunk_end, chunk_start, chunk_unfit, chunk_left}, Paths.{At, Path, path_both, path_of, streams_of, path_none, path_stops}}
+use Rattle.tds_rows.proofs.Words.{common_steps, ◌≡◌, ◌∙◌, inl, inr, ℕ, zero, suc, ◌-◌, ◌^◌, ◌<◌, ◌≤◌, Bool, true, false, List, [], ◌∷◌, ◌++◌, length}
+use Rattle.tds_rows.proofs.Words.{sym, ap, arith, append-nil, Result, Ok, Err, MatchResult, Option, drop-nil, take-nil, Stop, StopsReading, Seen}
+use Rattle.tds_rows.proofs.Words.{Spelt-one, Spelt-none, BeginsData, Conversion, HexDigits, IsFit, Utf16Text, Utf8Text, Windows1252Text}
+use Rattle.tds_rows.proofs.Words.{conversion_rest, conversion_text, is_quoted, open_field, emit, after_comma, binary_mark, in_line, null_field, quote}
+use Rattle.tds_rows.proofs.Words.{Sink, Breaks, Held, IsWriting, Puts, PutsPiece, held, begun_by_test, fit_begins, fit_by_test, no_data_is_fit}
+use Rattle.tds_rows.proofs.Words.{hex-nil, Breaks-after, Puts-none, Puts-trans, Breaks-longer, text_nil, Cell, CellPart, Null, ShortLength, WholeCell}
+use Rattle.tds_rows.proofs.Words.{cell, PutsField, StopsField, cell_so_far, EndsData, StopsEnding, ending, opening, ◌≢◌, ◌+◌, refl, length-append}
+use Rattle.tds_rows.proofs.Words.{None, unit, ChunkLength, ReadsNumber, chunk_length_fault}
+use Rattle.tds_rows.proofs.LongSteps.{ending_text, ends_break, ends_path, ends_refused, short_holds, short_refused, text_at, chunk_holds}
+use Rattle.tds_rows.proofs.Numbers.{Next, short_left, chunk_end, chunk_start, chunk_unfit, chunk_left}
+use Rattle.tds_rows.proofs.Paths.{At, Path, path_both, path_of, streams_of, path_none, path_stops}
 
 -- ---- no content
 
@@ -21,24 +31,38 @@ none_begins c = (begun_by_test c []).0 (fit_begins c [] [] (no_data_is_fit c))
 -- ---- parts of a field, one after the other
 
 -- a cell was read to its end
-pub field_of : {column : ℕ} {last : Bool} {s : CellPart} {p q : At} {value : Cell} → Path (cell column) (cell_so_far column last) s p q (WholeCell value) → PutsField s column last p.seen q.seen p.place q.place p.held q.held
+pub field_of : {column : ℕ} {last : Bool} {s : CellPart} {p q : At} {value : Cell}
+    → Path (cell column) (cell_so_far column last) s p q (WholeCell value) → PutsField s column last p.seen q.seen p.place q.place p.held q.held
 field_of {value = value} x = record { value = value; streams = streams_of x; place_is = x.place_is }
 
 -- what was read and put, and then the rest of the field
-pub field_puts : {column : ℕ} {last : Bool} {s t : CellPart} {p q r : At} → Path (cell column) (cell_so_far column last) s p q t → PutsField t column last q.seen r.seen q.place r.place q.held r.held → PutsField s column last p.seen r.seen p.place r.place p.held r.held
+pub field_puts : {column : ℕ} {last : Bool} {s t : CellPart} {p q r : At} → Path (cell column) (cell_so_far column last) s p q t
+    → PutsField t column last q.seen r.seen q.place r.place q.held r.held → PutsField s column last p.seen r.seen p.place r.place p.held r.held
 field_puts x y = field_of (path_both x (path_of y.streams y.place_is))
 
 -- the reading stopped before any text
-pub reading_stops : {column place : ℕ} {s : CellPart} {a b : Seen} {h : Held} {failed : Bool} {stop : Stop} (last : Bool) → h.delivered ≤ 2 ^ 64 - 1 → failed ≡ false → StopsReading (cell column) s a b place s stop → StopsField s column last a b place h h failed stop
+pub reading_stops : {column place : ℕ} {s : CellPart} {a b : Seen} {h : Held} {failed : Bool} {stop : Stop} (last : Bool) → h.delivered ≤ 2 ^ 64 - 1
+    → failed ≡ false → StopsReading (cell column) s a b place s stop → StopsField s column last a b place h h failed stop
 reading_stops {s = s} last delivered going x = record { at = s; cause = inl (x, ([], append-nil _, Puts-none _ delivered), going) }
 
 module _ {column place' : ℕ} {s t : CellPart} {p : At} {b : Seen} (last : Bool) (x : Next column s p.seen b p.place place' t) where
   -- an element was read, and its text put
-  pub next_path : {i : Held} (added : List ℕ) → cell_so_far column last s ++ added ≡ cell_so_far column last t → Puts p.held i added → Path (cell column) (cell_so_far column last) s p (record { seen = b; place = place'; held = i }) t
-  next_path added text_is puts = record { bytes = x.element; made = added; writes = record { spelt = rw x.to at (Spelt-one _ s _ x.next); text_is = text_is }; takes = x.takes; puts = puts; place_is = x.place_is }
+  pub next_path : {i : Held} (added : List ℕ) → cell_so_far column last s ++ added ≡ cell_so_far column last t → Puts p.held i added
+      → Path (cell column) (cell_so_far column last) s p (record { seen = b; place = place'; held = i }) t
+  next_path added text_is puts = record {
+    bytes = x.element;
+    made = added;
+    writes = record
+        { spelt = rw x.to at (Spelt-one _ s _ x.next); text_is = text_is };
+    takes = x.takes;
+    puts = puts;
+    place_is = x.place_is;
+  }
 
   -- a write of it failed
-  pub next_breaks : {j : Held} {failed : Bool} {stop : Stop} (part rest : List ℕ) → length p.held.waiting < 4096 → p.held.delivered ≤ 2 ^ 64 - 1 → failed ≡ true → cell_so_far column last s ++ (part ++ rest) ≡ cell_so_far column last t → Breaks p.held j part stop → StopsField s column last p.seen b p.place p.held j failed stop
+  pub next_breaks : {j : Held} {failed : Bool} {stop : Stop} (part rest : List ℕ) → length p.held.waiting < 4096 → p.held.delivered ≤ 2 ^ 64 - 1
+      → failed ≡ true → cell_so_far column last s ++ (part ++ rest) ≡ cell_so_far column last t → Breaks p.held j part stop
+      → StopsField s column last p.seen b p.place p.held j failed stop
   next_breaks part rest few delivered broken text_is breaks = record {
     at = s;
     cause = inr (
@@ -62,11 +86,16 @@ module _ {column place' : ℕ} {s t : CellPart} {p : At} {b : Seen} (last : Bool
   }
 
 -- NULL was put, or a write of it failed
-pub null_puts : {column place place' : ℕ} {s : CellPart} {a b : Seen} {W U : Type 0} (last : Bool) (contents : W → Option (List ℕ)) (h k : Sink W) (r : Result U Stop) → Next column s a b place place' (WholeCell Null) → cell_so_far column last s ≡ [] → IsWriting h → PutsPiece contents h k (in_line column last null_field) r
-    → MatchResult r (λ _. PutsField s column last a b place place' (held contents h) (held contents k)) (λ stop. StopsField s column last a b place (held contents h) (held contents k) k.failed stop)
-null_puts {column = column} last contents h k (Ok u) x silent writing puts = field_of (next_path last x _ (ap (λ l. l ++ in_line column last null_field) silent) puts.gives)
+pub null_puts : {column place place' : ℕ} {s : CellPart} {a b : Seen} {W U : Type 0} (last : Bool) (contents : W
+    → Option (List ℕ)) (h k : Sink W) (r : Result U Stop) → Next column s a b place place' (WholeCell Null) → cell_so_far column last s ≡ []
+    → IsWriting h → PutsPiece contents h k (in_line column last null_field) r
+    → MatchResult r (λ _. PutsField s column last a b place place' (held contents h) (held contents k))
+    (λ stop. StopsField s column last a b place (held contents h) (held contents k) k.failed stop)
+null_puts {column = column} last contents h k (Ok u) x silent writing puts =
+    field_of (next_path last x _ (ap (λ l. l ++ in_line column last null_field) silent) puts.gives)
 null_puts {column = column} last contents h k (Err e) x silent writing puts =
-    next_breaks last x _ [] (writing.ready.1 writing.writing) writing.ready.2 puts.failed (ap (λ l. l ++ (in_line column last null_field ++ [])) silent ∙ append-nil _) (puts.gives writing.writing)
+    next_breaks last x _ [] (writing.ready.1 writing.writing) writing.ready.2 puts.failed
+    (ap (λ l. l ++ (in_line column last null_field ++ [])) silent ∙ append-nil _) (puts.gives writing.writing)
 
 -- ---- short values
 
@@ -83,12 +112,16 @@ module _ (column : ℕ) (last : Bool) (c : Conversion) where
   short_text (suc n) = ([], append-nil _ ∙ short_open _ (omega arith))
 
   -- the value has no bytes, and its end was put, or that stopped
-  pub empty_puts : {p : At} {b : Seen} {place' n : ℕ} {j : Held} (i : Held) → Next column (ShortLength c) p.seen b p.place place' (short_left c n []) → n ≡ 0 → Puts p.held i (after_comma column (opening (is_quoted c))) → Puts i j (ending c (is_quoted c) last [])
+  pub empty_puts : {p : At} {b : Seen} {place' n : ℕ} {j : Held} (i : Held) → Next column (ShortLength c) p.seen b p.place place' (short_left c n [])
+      → n ≡ 0 → Puts p.held i (after_comma column (opening (is_quoted c))) → Puts i j (ending c (is_quoted c) last [])
       → PutsField (ShortLength c) column last p.seen b p.place place' p.held j
   empty_puts {p = p} i x none opened ended = field_of (next_path last (rw none at x) _ empty_open (Puts-trans p.held i _ _ _ opened ended))
 
-  pub empty_stops : {p : At} {b : Seen} {place' n : ℕ} {j : Held} {failed : Bool} {stop : Stop} (i : Held) (there : ℕ) → Next column (ShortLength c) p.seen b p.place place' (short_left c n []) → n ≡ 0 → Puts p.held i (after_comma column (opening (is_quoted c))) → length p.held.waiting < 4096 → p.held.delivered ≤ 2 ^ 64 - 1
-      → StopsEnding c (is_quoted c) last [] column there i j failed stop → StopsField (ShortLength c) column last p.seen b p.place p.held j failed stop
+  pub empty_stops : {p : At} {b : Seen} {place' n : ℕ} {j : Held} {failed : Bool} {stop : Stop} (i : Held) (there : ℕ)
+      → Next column (ShortLength c) p.seen b p.place place' (short_left c n []) → n ≡ 0 → Puts p.held i (after_comma column (opening (is_quoted c)))
+      → length p.held.waiting < 4096 → p.held.delivered ≤ 2 ^ 64 - 1
+      → StopsEnding c (is_quoted c) last [] column there i j failed stop
+      → StopsField (ShortLength c) column last p.seen b p.place p.held j failed stop
   empty_stops {p = p} i there x none opened few delivered (inl y) =
       let text = after_comma column _ ++ ending c _ last [] in
       next_breaks last (rw none at x) text [] few delivered y.2 (append-nil text ∙ empty_open) (Breaks-after p.held i _ _ _ _ opened y.1)
@@ -99,17 +132,22 @@ module _ (column : ℕ) (last : Bool) (c : Conversion) where
     abbrev all : List ℕ
     all = x.front ++ x.takes.piece
 
-    pub short_whole : {k : Held} → IsFit c all → Puts q.held k (ending c (is_quoted c) last all) → PutsField (short_left c n []) column last p.seen q.seen p.place q.place p.held k
-    short_whole fit puts = let good = (fit_by_test c all).1 fit in field_of (ends_path last (short_holds column c) x (ending c (is_quoted c) last all) good (ending_text column c last all good) puts)
+    pub short_whole : {k : Held} → IsFit c all → Puts q.held k (ending c (is_quoted c) last all)
+        → PutsField (short_left c n []) column last p.seen q.seen p.place q.place p.held k
+    short_whole fit puts = let good = (fit_by_test c all).1 fit in
+        field_of (ends_path last (short_holds column c) x (ending c (is_quoted c) last all) good (ending_text column c last all good) puts)
 
-    pub short_end_stops : {k : Held} {failed : Bool} {stop : Stop} → StopsEnding c (is_quoted c) last all column (q.place - 1) q.held k failed stop → StopsField (short_left c n []) column last p.seen q.seen p.place p.held k failed stop
-    short_end_stops (inl z) = let good = (fit_by_test c all).1 z.0 in rw z.2 (ends_break last (short_holds column c) x _ good (ending_text column c last all good) z.1)
+    pub short_end_stops : {k : Held} {failed : Bool} {stop : Stop} → StopsEnding c (is_quoted c) last all column (q.place - 1) q.held k failed stop
+        → StopsField (short_left c n []) column last p.seen q.seen p.place p.held k failed stop
+    short_end_stops (inl z) = let good = (fit_by_test c all).1 z.0 in
+        rw z.2 (ends_break last (short_holds column c) x _ good (ending_text column c last all good) z.1)
     short_end_stops (inr z) = rw (z.3, z.2, z.1) (ends_refused last (short_holds column c) x (short_refused column c) (grind (arith, fit_by_test)))
 
 -- ---- values in chunks
 
 -- the text that comes with the total
-pub total_text : (column : ℕ) (last : Bool) (c : Conversion) (t : Option ℕ) → after_comma column (opening (is_quoted c)) ≡ cell_so_far column last (ChunkLength c t [])
+pub total_text : (column : ℕ) (last : Bool) (c : Conversion) (t : Option ℕ)
+    → after_comma column (opening (is_quoted c)) ≡ cell_so_far column last (ChunkLength c t [])
 total_text column last c t = ap (after_comma column) (open_none c)
 
 -- Chunks were read and their text put; so many bytes of content stand before the next length.
@@ -120,34 +158,43 @@ pub record Streamed (column : ℕ) (last : Bool) (c : Conversion) (total : Optio
   pub kept_is : kept ≡ conversion_rest c content
   pub path : Path (cell column) (cell_so_far column last) (ChunkLength c total []) p q (ChunkLength c total content)
 
-pub streamed_none : {column : ℕ} {last : Bool} {c : Conversion} {total : Option ℕ} {kept : List ℕ} {p : At} → kept ≡ conversion_rest c [] → p.held.delivered ≤ 2 ^ 64 - 1 → Streamed column last c total kept 0 p p
+pub streamed_none : {column : ℕ} {last : Bool} {c : Conversion} {total : Option ℕ} {kept : List ℕ} {p : At} → kept ≡ conversion_rest c []
+    → p.held.delivered ≤ 2 ^ 64 - 1 → Streamed column last c total kept 0 p p
 streamed_none is delivered = record { content = []; counted = refl; begun = none_begins _; kept_is = is; path = path_none delivered }
 
-module _ {column : ℕ} {last : Bool} {c : Conversion} {total : Option ℕ} {kept : List ℕ} {sum : ℕ} {p q : At} (size : ℕ) (unit_is : size ≡ unit c) (x : Streamed column last c total kept sum p q) {d : Seen} {there n : ℕ} (y : ReadsNumber 4 q.seen d q.place there n)
+module _ {column : ℕ} {last : Bool} {c : Conversion} {total : Option ℕ} {kept : List ℕ} {sum : ℕ} {p q : At} (size : ℕ) (unit_is : size ≡ unit c)
+    (x : Streamed column last c total kept sum p q) {d : Seen} {there n : ℕ} (y : ReadsNumber 4 q.seen d q.place there n)
     (free : chunk_length_fault column size total sum n ≡ None) where
   -- the terminator was read, and the end put
-  pub chunks_whole : {j : Held} → n ≡ 0 → IsFit c x.content → Puts q.held j (ending c (is_quoted c) last x.content) → PutsField (ChunkLength c total []) column last p.seen d p.place there p.held j
+  pub chunks_whole : {j : Held} → n ≡ 0 → IsFit c x.content → Puts q.held j (ending c (is_quoted c) last x.content)
+      → PutsField (ChunkLength c total []) column last p.seen d p.place there p.held j
   chunks_whole none fit puts =
       let good = (fit_by_test c x.content).1 fit in
       field_of (path_both x.path (next_path last (chunk_end c unit_is x.counted y free none good) _ (ending_text column c last x.content good) puts))
 
   -- the end stopped
-  pub chunks_end_stops : {j : Held} {failed : Bool} {stop : Stop} → length q.held.waiting < 4096 → q.held.delivered ≤ 2 ^ 64 - 1 → n ≡ 0 → StopsEnding c (is_quoted c) last x.content column q.place q.held j failed stop → StopsField (ChunkLength c total []) column last p.seen d p.place p.held j failed stop
+  pub chunks_end_stops : {j : Held} {failed : Bool} {stop : Stop} → length q.held.waiting < 4096 → q.held.delivered ≤ 2 ^ 64 - 1 → n ≡ 0
+      → StopsEnding c (is_quoted c) last x.content column q.place q.held j failed stop
+      → StopsField (ChunkLength c total []) column last p.seen d p.place p.held j failed stop
   chunks_end_stops few delivered none (inl z) =
       let good = (fit_by_test c _).1 z.0 in
       let tail = ending c _ last _ in
-      path_stops x.path (next_breaks last (chunk_end c unit_is x.counted y free none good) tail [] few delivered z.2 (ap (λ l. cell_so_far column last (ChunkLength c total x.content) ++ l) (append-nil tail) ∙ ending_text column c last _ good) z.1)
+      path_stops x.path (next_breaks last (chunk_end c unit_is x.counted y free none good) tail [] few delivered z.2
+      (ap (λ l. cell_so_far column last (ChunkLength c total x.content) ++ l) (append-nil tail) ∙ ending_text column c last _ good) z.1)
   chunks_end_stops few delivered none (inr z) =
       path_stops x.path (rw (z.1, z.2) (reading_stops last delivered z.3 (chunk_unfit c unit_is x.counted y free none (grind (arith, fit_by_test)))))
 
   -- the length of a chunk was read
-  pub chunk_path : n ≢ 0 → q.held.delivered ≤ 2 ^ 64 - 1 → Path (cell column) (cell_so_far column last) (ChunkLength c total []) p (record { seen = d; place = there; held = q.held }) (chunk_left c total n x.content)
+  pub chunk_path : n ≢ 0 → q.held.delivered ≤ 2 ^ 64 - 1
+      → Path (cell column) (cell_so_far column last) (ChunkLength c total []) p (record { seen = d; place = there; held = q.held })
+      (chunk_left c total n x.content)
   chunk_path some delivered =
       let text : cell_so_far column last (ChunkLength c total _) ++ [] ≡ cell_so_far column last _ = grind (arith, append-nil) in
       path_both x.path (next_path _ (chunk_start c unit_is x.counted y free some) _ text (Puts-none _ delivered))
 
   -- one chunk more was read
-  pub streamed_more : {kept' : List ℕ} {r : At} → n ≢ 0 → q.held.delivered ≤ 2 ^ 64 - 1 → r.held.delivered ≤ 2 ^ 64 - 1 → EndsData c x.content kept' d r.seen there r.place q.held r.held n → Streamed column last c total kept' (sum + n) p r
+  pub streamed_more : {kept' : List ℕ} {r : At} → n ≢ 0 → q.held.delivered ≤ 2 ^ 64 - 1 → r.held.delivered ≤ 2 ^ 64 - 1
+      → EndsData c x.content kept' d r.seen there r.place q.held r.held n → Streamed column last c total kept' (sum + n) p r
   streamed_more {r = r} some delivered most z =
       record {
         content = (x.content ++ z.front) ++ z.takes.piece;

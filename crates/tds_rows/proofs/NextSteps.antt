@@ -1,8 +1,21 @@
 -- The next cells of a row, those of a run or one, NULL or not, and rows one after another.
-use Rattle.tds_rows.proofs.{Words.{common_steps, arith, ◌≡◌, ◌+◌, ℕ, Bool, true, false, List, ◌∷◌, drop, refl, sym, Err, Ok, Result, Option, ◌==◌, Kind, Stop, seen, between_of, Column, held, Rows, Ahead, is_last_column, MarkedPut, CellRead, IsInRow, KindRead, LeavesRows, NextRead, StaysInRow, RowStops, RowPart, marked, IsAhead, IsNextKind, Knows, TakesColumn, ◌∙◌, zero, suc, ◌-◌, ◌^◌, ◌≤◌, ◌<◌, [], ◌++◌, length, ap, subst, append_assoc, append-nil, add-zero, length-append, Consumes-nil, Coming, before, IsBetween, Seen, Takes, Takes-more, Stays-none, takes_both, Held, Puts, nears_put, Puts_split, Charset, Table, PutsMarked, WritesColumn, WritesMarked, WritesNext, Inside, Puts-none, RowsRun, Cell, PlainRow, RowToken, WholeRow, next_cell, row, row_so_far, token_byte, token_start, ReadsRow, ReadsRows, RowsStop, RowsPart, RowsPut, RunsRows, Writes, lines, rows, rows_so_far, rows_start}, NullSteps.{NearsCells, all_put, cell_nears, cell_stops, null_breaks, null_nears, cell_path, marked_stops}, RowSteps.{ends, ends_marked, coming, nulls_ahead, PutsAt, StopsAt}, Paths.{At, here, Path, path_both, path_map, path_none, path_of, streams_of, writes_inside}, TableSteps.{last_one, next_column}, RunSteps.{whole_puts, lines-append, row_among, row_token}}
+use Rattle.tds_rows.proofs.Words.{common_steps, arith, ◌≡◌, ◌+◌, ℕ, Bool, true, false, List, ◌∷◌, drop, refl, sym, Err, Ok, Result, Option, ◌==◌}
+use Rattle.tds_rows.proofs.Words.{Kind, Stop, seen, between_of, Column, held, Rows, Ahead, is_last_column, MarkedPut, CellRead, IsInRow, KindRead}
+use Rattle.tds_rows.proofs.Words.{LeavesRows, NextRead, StaysInRow, RowStops, RowPart, marked, IsAhead, IsNextKind, Knows, TakesColumn, ◌∙◌, zero}
+use Rattle.tds_rows.proofs.Words.{suc, ◌-◌, ◌^◌, ◌≤◌, ◌<◌, [], ◌++◌, length, ap, subst, append_assoc, append-nil, add-zero, length-append}
+use Rattle.tds_rows.proofs.Words.{Consumes-nil, Coming, before, IsBetween, Seen, Takes, Takes-more, Stays-none, takes_both, Held, Puts, nears_put}
+use Rattle.tds_rows.proofs.Words.{Puts_split, Charset, Table, PutsMarked, WritesColumn, WritesMarked, WritesNext, Inside, Puts-none, RowsRun, Cell}
+use Rattle.tds_rows.proofs.Words.{PlainRow, RowToken, WholeRow, next_cell, row, row_so_far, token_byte, token_start, ReadsRow, ReadsRows, RowsStop}
+use Rattle.tds_rows.proofs.Words.{RowsPart, RowsPut, RunsRows, Writes, lines, rows, rows_so_far, rows_start}
+use Rattle.tds_rows.proofs.NullSteps.{NearsCells, all_put, cell_nears, cell_stops, null_breaks, null_nears, cell_path, marked_stops}
+use Rattle.tds_rows.proofs.RowSteps.{ends, ends_marked, coming, nulls_ahead, PutsAt, StopsAt}
+use Rattle.tds_rows.proofs.Paths.{At, here, Path, path_both, path_map, path_none, path_of, streams_of, writes_inside}
+use Rattle.tds_rows.proofs.TableSteps.{last_one, next_column}
+use Rattle.tds_rows.proofs.RunSteps.{whole_puts, lines-append, row_among, row_token}
 
 -- text that doesn't fill the block waits
-pub all_waits : (h j : Held) (text : List ℕ) → Puts h j text → length h.waiting + length text < 4096 → length j.waiting ≡ length h.waiting + length text
+pub all_waits : (h j : Held) (text : List ℕ) → Puts h j text → length h.waiting + length text < 4096
+    → length j.waiting ≡ length h.waiting + length text
 all_waits h j text puts few = omega (arith, ap length puts.2.1, length-append h.waiting text, length-append puts.0 j.waiting)
 
 -- ---- what was read and put at once could have been so one after the other
@@ -22,7 +35,13 @@ passes_apart p q a b m n x =
     let seen : Seen = record { left = q.seen.left; future = λ zs. before b _; wire = q.seen.wire; failures = q.seen.failures } in
     let f : Coming → List ℕ → Coming = λ c l. record { bytes = l; stop = c.stop; rest = c.rest } in
     let h = Puts_split _ _ m n x.few x.puts in
-    let first : Takes p.seen seen a 0 = (x.takes.0, (x.takes.1.0, λ zs. x.takes.1.1 zs ∙ ap (f (q.seen.future zs)) (append_assoc a b (q.seen.future zs).bytes)), x.takes.2, x.takes.3, x.takes.4) in
+    let first : Takes p.seen seen a 0 = (
+      x.takes.0,
+      (x.takes.1.0, λ zs. x.takes.1.1 zs ∙ ap (f (q.seen.future zs)) (append_assoc a b (q.seen.future zs).bytes)),
+      x.takes.2,
+      x.takes.3,
+      x.takes.4,
+    ) in
     let then : Takes seen q.seen b 0 = ([], (Consumes-nil _, λ zs. refl), sym (add-zero _), (λ j lt. absurd (omega arith)), Stays-none _) in (
       record { seen = seen; place = p.place + length a; held = h.0 },
       record { takes = first; between = x.between; puts = h.2; few = h.1; delivered = x.delivered; place_is = refl },
@@ -31,15 +50,38 @@ passes_apart p q a b m n x =
 
 module _ {charset : Charset} {start : RowPart} {left : List (Column × Bool)} {p q : At} {column : ℕ} where
   -- nothing more was read
-  nears_onward : {r : At} {text : List ℕ} → Passes q r [] text → NearsCells charset start left p q column → NearsCells charset start left p (record r { held = q.held }) column
+  nears_onward : {r : At} {text : List ℕ} → Passes q r [] text → NearsCells charset start left p q column
+      → NearsCells charset start left p (record r { held = q.held }) column
   nears_onward {r = r} y x =
       let n = x.nears in
       let read = n.bytes ++ n.element in
       let takes = rw (append-nil read) at (takes_both p.seen q.seen r.seen read [] n.takes y.takes) in
-      record { cells = x.cells; counted = x.counted; nears = record { bytes = n.bytes; element = n.element; at = n.at; spelt = n.spelt; next = n.next; to_is = n.to_is; takes = takes; between = y.between; middle = n.middle; few = n.few; puts = n.puts; part = n.part; text_is = n.text_is; half = n.half }; place_is = omega (arith, x.place_is, y.place_is) }
+      record {
+        cells = x.cells;
+        counted = x.counted;
+        nears = record {
+          bytes = n.bytes;
+          element = n.element;
+          at = n.at;
+          spelt = n.spelt;
+          next = n.next;
+          to_is = n.to_is;
+          takes = takes;
+          between = y.between;
+          middle = n.middle;
+          few = n.few;
+          puts = n.puts;
+          part = n.part;
+          text_is =
+              n.text_is;
+          half = n.half;
+        };
+        place_is = omega (arith, x.place_is, y.place_is);
+      }
 
   -- nothing more was put
-  nears_same : {j : Held} → Puts q.held j [] → NearsCells charset start left p q column → NearsCells charset start left p (record q { held = j }) column
+  nears_same : {j : Held} → Puts q.held j [] → NearsCells charset start left p q column
+      → NearsCells charset start left p (record q { held = j }) column
   nears_same puts x =
       let n = nears_put _ _ _ _ _ _ _ _ _ _ _ x.nears puts in
       record { cells = x.cells; counted = x.counted; nears = n; place_is = x.place_is }
@@ -52,20 +94,25 @@ module _ (charset : Charset) (start : RowPart) (columns : List Column) (nulls : 
   Near at q = NearsCells charset start (marked (drop at columns) nulls at) p q at
 
   -- one column more
-  column_nears : (at : ℕ) (q r : At) (bytes text : List ℕ) → WritesColumn charset columns nulls at bytes text → Passes q r bytes text → Near at q → Near (at + 1) r
+  column_nears : (at : ℕ) (q r : At) (bytes text : List ℕ) → WritesColumn charset columns nulls at bytes text → Passes q r bytes text → Near at q
+      → Near (at + 1) r
   column_nears at q r bytes text w y x =
       rw (next_column columns at w.column w.left w.next).1.1 (go _ w.writes (rw w.next at x))
     where
-      go : (null : Bool) → WritesNext charset null w.column.kind at (is_last_column w.left) bytes text → NearsCells charset start ((w.column, null) ∷ marked w.left nulls (at + 1)) p q at → NearsCells charset start (marked w.left nulls (at + 1)) p r (at + 1)
+      go : (null : Bool) → WritesNext charset null w.column.kind at (is_last_column w.left) bytes text
+          → NearsCells charset start ((w.column, null) ∷ marked w.left nulls (at + 1)) p q at
+          → NearsCells charset start (marked w.left nulls (at + 1)) p r (at + 1)
       go true v z =
           let y' = rw (v.0, v.1, ends_marked w.left nulls (at + 1)) at y in
           null_nears (nears_onward y' z) y'.puts
       go false v z =
-          let put = whole_puts charset _ at (is_last_column w.left) q r bytes text v (Takes-more q.seen r.seen bytes 0 _ (omega arith) y.takes) y.place_is y.puts in
+          let put = whole_puts charset _ at (is_last_column w.left) q r bytes text v (Takes-more q.seen r.seen bytes 0 _ (omega arith) y.takes)
+          y.place_is y.puts in
           cell_nears y.between y.few (all_put refl y.delivered z) (rw (ends_marked w.left nulls (at + 1)) at put)
 
   -- so many columns more
-  marked_nears : (from n : ℕ) (q r : At) (bytes text : List ℕ) → WritesMarked charset columns nulls from n bytes text → Passes q r bytes text → Near from q → Near (from + n) r
+  marked_nears : (from n : ℕ) (q r : At) (bytes text : List ℕ) → WritesMarked charset columns nulls from n bytes text → Passes q r bytes text
+      → Near from q → Near (from + n) r
   marked_nears from zero q r bytes text w y x = let y' = rw (w.0, w.1) at y in
       rw (add-zero from) (nears_same y'.puts (nears_onward y' x))
   marked_nears from (suc n) q r bytes text w y x =
@@ -74,8 +121,11 @@ module _ (charset : Charset) (start : RowPart) (columns : List Column) (nulls : 
       subst (λ (k : ℕ). Near k r) (omega arith) z
 
 -- as many columns more as a run took
-run_nears : {table : Table} {columns : List Column} {nulls : ℕ → Bool} {from to : Ahead} {start : RowPart} {p q r : At} → PutsMarked table columns nulls from to q.seen r.seen q.place r.place q.held r.held → IsBetween r.seen → length r.held.waiting < 4096 → q.held.delivered ≤ 2 ^ 64 - 1
-    → NearsCells table.charset start (marked (drop from.column columns) nulls from.column) p q from.column → NearsCells table.charset start (marked (drop to.column columns) nulls to.column) p r to.column
+run_nears : {table : Table} {columns : List Column} {nulls : ℕ → Bool} {from to : Ahead} {start : RowPart} {p q r : At}
+    → PutsMarked table columns nulls from to q.seen r.seen q.place r.place q.held r.held → IsBetween r.seen → length r.held.waiting < 4096
+    → q.held.delivered ≤ 2 ^ 64 - 1
+    → NearsCells table.charset start (marked (drop from.column columns) nulls from.column) p q from.column
+    → NearsCells table.charset start (marked (drop to.column columns) nulls to.column) p r to.column
 run_nears x between few delivered near = grind (arith, common_steps, marked_nears)
 
 -- ---- a reading of rows, from call to call
@@ -102,19 +152,28 @@ said_of P a a' b b' first second x = grind (arith, common_steps)
 
 -- ---- the next cell
 
-module _ {R W : Type 0} (remaining : R → Option (List ℕ)) (contents : W → Option (List ℕ)) (columns : List Column) (nulls : ℕ → Bool) (start : RowPart) (p : At) where
+module _ {R W : Type 0} (remaining : R → Option (List ℕ)) (contents : W → Option (List ℕ)) (columns : List Column) (nulls : ℕ
+    → Bool) (start : RowPart) (p : At) where
   -- The cells before a place were read and their text put, but for that of the NULLs by their bit from there on.
   abbrev pub NearsHere : Rows R W → Ahead → Type 0
-  NearsHere rows at = IsAhead rows.table.now columns at × NearsCells rows.table.now.charset start (marked (drop at.column columns) nulls at.column) p (here remaining contents rows) at.column
+  NearsHere rows at = IsAhead rows.table.now columns at
+      × NearsCells rows.table.now.charset start (marked (drop at.column columns) nulls at.column) p (here remaining contents rows) at.column
 
   -- the cells of a run are read, and after them the table is the same
-  pub run_near : {old new : Rows R W} {from to : Ahead} → IsInRow old → StaysInRow old new → Knows old.table.now columns → MarkedPut remaining contents old.table.now nulls from old.payload.now new.payload.now old.sink.now new.sink.now to → NearsHere old from → NearsHere new to
+  pub run_near : {old new : Rows R W} {from to : Ahead} → IsInRow old → StaysInRow old new → Knows old.table.now columns
+      → MarkedPut remaining contents old.table.now nulls from old.payload.now new.payload.now old.sink.now new.sink.now to → NearsHere old from
+      → NearsHere new to
   run_near {new = new} x kept knows f near =
       let put = f columns knows near.0 in
       let sink = kept.in_row.sink in
-      rw kept.same.3 (put.runs.ahead, run_nears put (between_of remaining new.payload.now kept.in_row.payload.going) (sink.ready.1 sink.writing) x.sink.ready.2 near.1)
+      rw kept.same.3 (
+        put.runs.ahead,
+        run_nears put (between_of remaining new.payload.now kept.in_row.payload.going) (sink.ready.1 sink.writing)
+            x.sink.ready.2 near.1,
+      )
 
-module _ {R W : Type 0} (remaining : R → Option (List ℕ)) (contents : W → Option (List ℕ)) (old new : Rows R W) {columns : List Column} (nulls : ℕ → Bool) {at after : Ahead} {kind : Kind} (knows : Knows old.table.now columns)
+module _ {R W : Type 0} (remaining : R → Option (List ℕ)) (contents : W → Option (List ℕ)) (old new : Rows R W) {columns : List Column} (nulls : ℕ
+    → Bool) {at after : Ahead} {kind : Kind} (knows : Knows old.table.now columns)
     (taken : TakesColumn old.table.now columns at after kind) where
   abbrev left : List (Column × Bool)
   left = marked (drop after.column columns) nulls (at.column + 1)
@@ -123,27 +182,45 @@ module _ {R W : Type 0} (remaining : R → Option (List ℕ)) (contents : W → 
   last_is = grind (arith, common_steps, last_one, after, ends_marked)
 
   -- the next cell was read, or it stopped
-  pub cell_read : {U : Type 0} (result : Result U Stop) → IsAhead old.table.now columns at → CellRead remaining contents at kind old new result → KindRead remaining contents at.column (ends left) taken.column.kind old new result
+  pub cell_read : {U : Type 0} (result : Result U Stop) → IsAhead old.table.now columns at → CellRead remaining contents at kind old new result
+      → KindRead remaining contents at.column (ends left) taken.column.kind old new result
   cell_read result ahead x =
-      let next : IsNextKind _ at kind (is_last_column _) = record { columns = columns; knows = knows; ahead = ahead; column = taken.column; rest = drop _ columns; next = taken.next; kind = taken.kind; last = refl } in
+      let next : IsNextKind _ at kind (is_last_column _) =
+      record {
+        columns = columns;
+        knows = knows;
+        ahead = ahead;
+        column = taken.column;
+        rest = drop _ columns;
+        next = taken.next;
+        kind = taken.kind;
+        last = refl;
+      } in
       rw (taken.kind, ends_marked _ nulls (at.column + 1)) at (x _ next)
 
   module _ (start : RowPart) (p : At) (in_row : IsInRow old) (before : NearsHere remaining contents columns nulls start p old at) where
-    left_here : (null : Bool) → nulls at.column ≡ null → NearsCells old.table.now.charset start ((taken.column, null) ∷ left) p (here remaining contents old) at.column
+    left_here : (null : Bool) → nulls at.column ≡ null
+        → NearsCells old.table.now.charset start ((taken.column, null) ∷ left) p (here remaining contents old) at.column
     left_here null is = rw is at (rw taken.next at before.1)
 
-    there : {U : Type 0} {u : U} → LeavesRows old new (Ok u) → NearsCells old.table.now.charset start left p (here remaining contents new) (at.column + 1) → NearsHere remaining contents columns nulls start p new after
+    there : {U : Type 0} {u : U} → LeavesRows old new (Ok u)
+        → NearsCells old.table.now.charset start left p (here remaining contents new) (at.column + 1)
+        → NearsHere remaining contents columns nulls start p new after
     there leaves x = rw leaves.same.3 (taken.ahead, rw (sym taken.further) at x)
 
     -- it was put
-    pub next_nears : {U : Type 0} (u : U) (null : Bool) → nulls at.column ≡ null → LeavesRows old new (Ok u) → NextRead remaining contents at kind null old new (Ok u) → NearsHere remaining contents columns nulls start p new after
+    pub next_nears : {U : Type 0} (u : U) (null : Bool) → nulls at.column ≡ null → LeavesRows old new (Ok u)
+        → NextRead remaining contents at kind null old new (Ok u) → NearsHere remaining contents columns nulls start p new after
     next_nears u true is leaves y = there leaves (rw y.0 (null_nears (left_here true is) (rw last_is at y.1.gives)))
     next_nears u false is leaves y =
-        there leaves (cell_nears (between_of remaining new.payload.now leaves.payload.going) (leaves.sink.ready.1 leaves.sink.writing) (all_put refl in_row.sink.ready.2 (left_here false is)) (cell_read (Ok u) before.0 y))
+        there leaves (cell_nears (between_of remaining new.payload.now leaves.payload.going) (leaves.sink.ready.1 leaves.sink.writing)
+        (all_put refl in_row.sink.ready.2 (left_here false is)) (cell_read (Ok u) before.0 y))
 
     -- it stopped
-    pub next_stops : (U : Type 0) (stop : Stop) (null : Bool) → nulls at.column ≡ null → NextRead {U = U} remaining contents at kind null old new (Err stop)
-        → RowStops old.table.now.charset start p.seen (seen remaining new.payload.now) p.place p.held (held contents new.sink.now) new.sink.now.failed stop
+    pub next_stops : (U : Type 0) (stop : Stop) (null : Bool) → nulls at.column ≡ null
+        → NextRead {U = U} remaining contents at kind null old new (Err stop)
+        → RowStops old.table.now.charset start p.seen (seen remaining new.payload.now) p.place p.held (held contents new.sink.now) new.sink.now.failed
+        stop
     next_stops U stop true is y = rw (y.0, y.1.failed) (null_breaks (left_here _ is) (rw last_is at (y.1.gives in_row.sink.writing)))
     next_stops U stop false is y = cell_stops (all_put refl in_row.sink.ready.2 (left_here _ is)) (cell_read {U = U} (Err stop) before.0 y)
 
@@ -161,29 +238,57 @@ module _ {token : RowToken} {charset : Charset} {all : List Column} where
 
   module _ {p q : At} {count : ℕ} where
     -- more of the next one
-    rows_on : {part more : RowPart} {r : At} → RowsAt token charset all p q count part → Path (row charset) row_so_far part q r more → RowsAt token charset all p r count more
+    rows_on : {part more : RowPart} {r : At} → RowsAt token charset all p q count part → Path (row charset) row_so_far part q r more
+        → RowsAt token charset all p r count more
     rows_on x y = record { before = x.before; counted = x.counted; path = path_both x.path (path_map (λ a m. row_among _ _ _ _) y) }
 
     -- it stopped
-    pub rows_stop : {part : RowPart} {d : Seen} {j : Held} {failed : Bool} {stop : Stop} → RowsAt token charset all p q count part → RowStops charset part q.seen d q.place q.held j failed stop → RowsStop token charset all p.seen d p.place p.held j failed stop
-    rows_stop {part = part} x y = record { earlier = x.before; part = part; middle = q.seen; between = q.held; streams = streams_of x.path; stops = rw x.path.place_is at y }
+    pub rows_stop : {part : RowPart} {d : Seen} {j : Held} {failed : Bool} {stop : Stop} → RowsAt token charset all p q count part
+        → RowStops charset part q.seen d q.place q.held j failed stop → RowsStop token charset all p.seen d p.place p.held j failed stop
+    rows_stop {part = part} x y = record {
+      earlier = x.before;
+      part = part;
+      middle = q.seen;
+      between = q.held;
+      streams = streams_of x.path;
+      stops = rw
+          x.path.place_is at y;
+    }
 
     -- all of it
-    pub rows_whole : {cells : List Cell} → RowsAt token charset all p q count (WholeRow cells) → ReadsRows token charset all (count + 1) p.seen q.seen p.place q.place p.held q.held
-    rows_whole {cells = cells} x = record { earlier = x.before; last = cells; counted = omega (arith, x.counted); streams = streams_of x.path; place_is = x.path.place_is }
+    pub rows_whole : {cells : List Cell} → RowsAt token charset all p q count (WholeRow cells)
+        → ReadsRows token charset all (count + 1) p.seen q.seen p.place q.place p.held q.held
+    rows_whole {cells = cells} x = record {
+      earlier = x.before;
+      last = cells;
+      counted = omega (arith, x.counted);
+      streams = streams_of x.path;
+      place_is = x.path.place_is;
+    }
 
   -- a whole row that was read by itself
-  pub rows_row : {p : At} {count : ℕ} {part : RowPart} {b d : Seen} {middle place' : ℕ} {i j : Held} → RowsAt token charset all p (record { seen = b; place = middle; held = i }) count part → ReadsRow charset part b d middle place' i j
+  pub rows_row : {p : At} {count : ℕ} {part : RowPart} {b d : Seen} {middle place' : ℕ} {i j : Held}
+      → RowsAt token charset all p (record { seen = b; place = middle; held = i }) count part → ReadsRow charset part b d middle place' i j
       → ReadsRows token charset all (count + 1) p.seen d p.place place' p.held j
   rows_row x y = rows_whole (rows_on x (path_of y.streams y.place_is))
 
   -- the token byte of the next row was read
-  pub rows_token : {a b d : Seen} {place middle count : ℕ} {h i : Held} → 0 < length all → i.delivered ≤ 2 ^ 64 - 1 → ReadsRows token charset all count a b place middle h i → Takes b d (token_byte token ∷ []) 1
-      → RowsAt token charset all (record { seen = a; place = place; held = h }) (record { seen = d; place = middle + 1; held = i }) count (token_start token charset all)
+  pub rows_token : {a b d : Seen} {place middle count : ℕ} {h i : Held} → 0 < length all → i.delivered ≤ 2 ^ 64 - 1
+      → ReadsRows token charset all count a b place middle h i → Takes b d (token_byte token ∷ []) 1
+      → RowsAt token charset all (record { seen = a; place = place; held = h }) (record { seen = d; place = middle + 1; held = i }) count
+      (token_start token charset all)
   rows_token some delivered x takes = record {
     before = x.earlier ++ x.last ∷ [];
     counted = omega (arith, length-append x.earlier (x.last ∷ []));
-    path = path_both (path_of x.streams x.place_is) (record { bytes = token_byte _ ∷ []; made = []; writes = row_token _ _ _ _ x.last some; takes = takes; puts = Puts-none _ delivered; place_is = refl });
+    path = path_both (path_of x.streams x.place_is)
+        (record {
+          bytes = token_byte _ ∷ [];
+          made = [];
+          writes = row_token _ _ _ _ x.last some;
+          takes = takes;
+          puts = Puts-none _ delivered;
+          place_is = refl;
+        });
   }
 
 -- ---- ROWs, run after run and cell after cell
@@ -199,7 +304,8 @@ module _ (charset : Charset) (all : List Column) (before : List (List Cell)) whe
   rows_after_text : (p : RowsPart) → lines before ++ rows_so_far p ≡ rows_so_far (after_rows p)
   rows_after_text p = grind (arith, common_steps, append_assoc, before, lines-append)
 
-  rows_after : {p q : RowsPart} {bytes made : List ℕ} → Writes (rows PlainRow charset all) rows_so_far p bytes made q → Writes (rows PlainRow charset all) rows_so_far (after_rows p) bytes made (after_rows q)
+  rows_after : {p q : RowsPart} {bytes made : List ℕ} → Writes (rows PlainRow charset all) rows_so_far p bytes made q
+      → Writes (rows PlainRow charset all) rows_so_far (after_rows p) bytes made (after_rows q)
   rows_after x = writes_inside _ rows_among_rows rows_after_text x
 
 -- ROWs were read and their lines put, so many whole ones and the first cells of the next, whose other columns are left.
@@ -210,33 +316,51 @@ pub record Rowing (charset : Charset) (all : List Column) (left : List (Column �
 
 module _ {charset : Charset} {all : List Column} {p q : At} {column count : ℕ} where
   -- a run
-  rowing_run : {left left' : List Column} {column' count' : ℕ} {r : At} → Rowing charset all (coming left column) p q column count → ((cells : List Cell) → length cells ≡ column → RunsRows charset all cells left left' column' count' q.seen r.seen q.place r.place q.held r.held)
+  rowing_run : {left left' : List Column} {column' count' : ℕ} {r : At} → Rowing charset all (coming left column) p q column count
+      → ((cells : List Cell) → length cells ≡ column
+      → RunsRows charset all cells left left' column' count' q.seen r.seen q.place r.place q.held r.held)
       → Rowing charset all (coming left' column') p r column' (count + count')
   rowing_run x f =
       let y = f x.cells x.counted in
       let run = path_map (λ a m. rows_after charset all x.rows.before) (path_of y.streams y.place_is) in
       let there = rw (append-nil, x.counted, y.counted) at run in
-      record { cells = y.more; counted = y.counted; rows = record { before = x.rows.before ++ y.before; counted = omega (arith, length-append x.rows.before y.before); path = path_both x.rows.path there } }
+      record {
+        cells = y.more;
+        counted = y.counted;
+        rows = record {
+          before = x.rows.before ++ y.before;
+          counted = omega (
+            arith,
+            length-append x.rows.before y.before,
+          );
+          path = path_both x.rows.path there;
+        };
+      }
 
   module _ {c : Column} {ks : List (Column × Bool)} where
     -- a cell
-    pub rowing_cell : {r : At} → nulls_ahead (column + 1) ks ≡ [] → Rowing charset all ((c, false) ∷ ks) p q column count → PutsAt charset c.kind column (ends ks) q r → Rowing charset all ks p r (column + 1) count
+    pub rowing_cell : {r : At} → nulls_ahead (column + 1) ks ≡ [] → Rowing charset all ((c, false) ∷ ks) p q column count
+        → PutsAt charset c.kind column (ends ks) q r → Rowing charset all ks p r (column + 1) count
     rowing_cell none x y =
         let one = cell_path _ c _ x.counted none y in
         record { cells = x.cells ++ one.0 ∷ []; counted = omega (arith, length-append x.cells (one.0 ∷ [])); rows = rows_on x.rows one.1 }
 
     -- a cell that stopped
-    pub rowing_stop : {d : Seen} {j : Held} {failed : Bool} {stop : Stop} → Rowing charset all ((c, false) ∷ ks) p q column count → StopsAt charset c.kind column (ends ks) q d j failed stop → RowsStop PlainRow charset all p.seen d p.place p.held j failed stop
+    pub rowing_stop : {d : Seen} {j : Held} {failed : Bool} {stop : Stop} → Rowing charset all ((c, false) ∷ ks) p q column count
+        → StopsAt charset c.kind column (ends ks) q d j failed stop → RowsStop PlainRow charset all p.seen d p.place p.held j failed stop
     rowing_stop x y = rows_stop x.rows (marked_stops _ _ _ c (rw (sym x.counted) at y))
 
 -- The reading of ROWs stands at this place of the last one.
 abbrev pub RowsHere : {R W : Type 0} → (R → Option (List ℕ)) → (W → Option (List ℕ)) → List Column → At → Rows R W → Ahead → ℕ → Type 0
 RowsHere remaining contents columns p rows at count =
-    IsAhead rows.table.now columns at × Rowing rows.table.now.charset columns (coming (drop at.column columns) at.column) p (here remaining contents rows) at.column count
+    IsAhead rows.table.now columns at × Rowing rows.table.now.charset columns (coming (drop at.column columns) at.column) p
+    (here remaining contents rows) at.column count
 
 -- after a run
-pub rows_ran : {R W : Type 0} {columns : List Column} {p : At} {old new : Rows R W} {from : Ahead} {count : ℕ} (remaining : R → Option (List ℕ)) (contents : W → Option (List ℕ)) (run : RowsRun) → StaysInRow old new → Knows old.table.now columns
-    → RowsPut remaining contents old.table.now from old.payload.now new.payload.now old.sink.now new.sink.now run → RowsHere remaining contents columns p old from count → RowsHere remaining contents columns p new run.ahead (count + run.rows)
+pub rows_ran : {R W : Type 0} {columns : List Column} {p : At} {old new : Rows R W} {from : Ahead} {count : ℕ} (remaining : R
+    → Option (List ℕ)) (contents : W → Option (List ℕ)) (run : RowsRun) → StaysInRow old new → Knows old.table.now columns
+    → RowsPut remaining contents old.table.now from old.payload.now new.payload.now old.sink.now new.sink.now run
+    → RowsHere remaining contents columns p old from count → RowsHere remaining contents columns p new run.ahead (count + run.rows)
 rows_ran {columns = columns} {old = old} remaining contents run kept knows put x =
     let ran = put columns knows x.0 in
     let there = rowing_run x.1 (λ cells is. ran.1 old.table.now.charset cells refl is) in

@@ -1,5 +1,16 @@
 -- Rows with NULLs by their bit, column after column, as they are read and their text is put.
-use Rattle.tds_rows.proofs.{Words.{append-nil, common_steps, ◌≡◌, ◌∙◌, inl, inr, ℕ, ◌+◌, ◌-◌, ◌^◌, ◌<◌, ◌≤◌, Bool, true, false, List, [], ◌∷◌, ◌++◌, length, refl, sym, ap, arith, length-append, map, Fault, Stop, Grammar, IsNext, Ends, IsBetween, Seen, Takes, began_at, Inside-Spelt, next_inside, next_some, stops_inside, began_is_cut, cut_at_once, Column, in_line, joined, null_field, Breaks, Held, Puts, BreaksStreaming, StopsStreaming, Nears, added_between, last_read, nears_after, nears_breaks, nears_from, nears_inside, nears_put, tail_after, Breaks-longer, Puts-none, Charset, Cell, CellPart, Null, WholeCell, cell, cell_add, cell_size, cell_start, field, shape, cell_so_far, Bitmap, InCell, RowPart, bit, bitmap_length, marked, nbc_row_start, next_cell, row, row_so_far, row_start, with_cell, stops_size, ReadsRow, RowStops, Writes, nears_done}, RowSteps.{begun_text, coming, ends, line_grows, nulls_ahead, nulls_text, part_text, rest_of, PutsAt, StopsAt, cell_some, same_end, StopsCell}, RowLaws.{begins_open, cell_in_row}, Paths.{At, Path, path_both, path_map, path_none, path_of, path_stops, streams_of, writes_inside}}
+use Rattle.tds_rows.proofs.Words.{append-nil, common_steps, ◌≡◌, ◌∙◌, inl, inr, ℕ, ◌+◌, ◌-◌, ◌^◌, ◌<◌, ◌≤◌, Bool, true, false, List, [], ◌∷◌, ◌++◌}
+use Rattle.tds_rows.proofs.Words.{length, refl, sym, ap, arith, length-append, map, Fault, Stop, Grammar, IsNext, Ends, IsBetween, Seen, Takes}
+use Rattle.tds_rows.proofs.Words.{began_at, Inside-Spelt, next_inside, next_some, stops_inside, began_is_cut, cut_at_once, Column, in_line, joined}
+use Rattle.tds_rows.proofs.Words.{null_field, Breaks, Held, Puts, BreaksStreaming, StopsStreaming, Nears, added_between, last_read, nears_after}
+use Rattle.tds_rows.proofs.Words.{nears_breaks, nears_from, nears_inside, nears_put, tail_after, Breaks-longer, Puts-none, Charset, Cell, CellPart}
+use Rattle.tds_rows.proofs.Words.{Null, WholeCell, cell, cell_add, cell_size, cell_start, field, shape, cell_so_far, Bitmap, InCell, RowPart, bit}
+use Rattle.tds_rows.proofs.Words.{bitmap_length, marked, nbc_row_start, next_cell, row, row_so_far, row_start, with_cell, stops_size, ReadsRow}
+use Rattle.tds_rows.proofs.Words.{RowStops, Writes, nears_done}
+use Rattle.tds_rows.proofs.RowSteps.{begun_text, coming, ends, line_grows, nulls_ahead, nulls_text, part_text, rest_of, PutsAt, StopsAt, cell_some}
+use Rattle.tds_rows.proofs.RowSteps.{same_end, StopsCell}
+use Rattle.tds_rows.proofs.RowLaws.{begins_open, cell_in_row}
+use Rattle.tds_rows.proofs.Paths.{At, Path, path_both, path_map, path_none, path_of, path_stops, streams_of, writes_inside}
 
 -- ---- a cell in its row, with the NULLs after it
 
@@ -20,7 +31,8 @@ module _ (charset : Charset) (cells : List Cell) (ks : List (Column × Bool)) wh
   front = joined (map field cells)
 
   -- a write of the cell's text failed, and so one of the row's
-  breaks_there : {from at : CellPart} {b d : Seen} {i j : Held} {stop : Stop} → 0 < cell_size from → BreaksStreaming small text from b d i j at stop → BreaksStreaming big row_so_far (up from) b d i j (up at) stop
+  breaks_there : {from at : CellPart} {b d : Seen} {i j : Held} {stop : Stop} → 0 < cell_size from → BreaksStreaming small text from b d i j at stop
+      → BreaksStreaming big row_so_far (up from) b d i j (up at) stop
   breaks_there {at = at} {j = j} {stop = stop} some x =
       let is = cell_in_row charset cells ks in
       let begun = begun_text charset cells ks in
@@ -40,12 +52,14 @@ module _ (charset : Charset) (cells : List Cell) (ks : List (Column × Bool)) wh
         few = x.few;
         puts = (x.puts.0, added_between _ _ up is text row_so_far front begun grows _ _ _ some size x.puts.1, x.puts.2);
         more = x.more ++ rest;
-        text_is = tail_after _ _ up is text row_so_far front begun grows at to _ rest size x.text_is (part_text charset cells ks to) ∙ ap row_so_far (sym (is.add at x.element size));
+        text_is = tail_after _ _ up is text row_so_far front begun grows at to _ rest size x.text_is (part_text charset cells ks to)
+            ∙ ap row_so_far (sym (is.add at x.element size));
         breaks = Breaks-longer x.middle j x.more rest stop x.breaks;
       }
 
   -- the cell stopped, and so the row
-  stops_there : {from : CellPart} {b d : Seen} {place : ℕ} {i j : Held} {failed : Bool} {stop : Stop} → 0 < cell_size from → StopsStreaming small text from b d place i j failed stop → StopsStreaming big row_so_far (up from) b d place i j failed stop
+  stops_there : {from : CellPart} {b d : Seen} {place : ℕ} {i j : Held} {failed : Bool} {stop : Stop} → 0 < cell_size from
+      → StopsStreaming small text from b d place i j failed stop → StopsStreaming big row_so_far (up from) b d place i j failed stop
   stops_there some x =
       let is = cell_in_row charset cells ks in
       record {
@@ -53,20 +67,29 @@ module _ (charset : Charset) (cells : List Cell) (ks : List (Column × Bool)) wh
         cause = elim x.cause [
           | inl y ↦ inl (
             stops_inside _ _ up is _ _ _ _ _ _ (same_end charset cells ks x.at (stops_size _ _ _ _ _ _ _ y.0)) y.0,
-            (y.1.0, added_between _ _ up is text row_so_far front (begun_text charset cells ks) (line_grows _ (ends ks)) _ _ _ some (stops_size _ _ _ _ _ _ _ y.0) y.1.1, y.1.2),
+            (
+              y.1.0,
+              added_between _ _ up is text row_so_far front (begun_text charset cells ks) (line_grows _ (ends ks)) _ _ _ some
+                  (stops_size _ _ _ _ _ _ _ y.0) y.1.1,
+              y.1.2,
+            ),
             y.2,
           )
           | inr y ↦ inr (breaks_there some y.0, y.1)
         ];
       }
 
-  pub marked_stops : {b d : Seen} {place : ℕ} {i j : Held} {failed : Bool} {stop : Stop} (c : Column) → StopsCell charset c.kind (length cells) (ends ks) b d place i j failed stop → RowStops charset (InCell cells (cell_start c.kind (shape charset c.kind)) ks) b d place i j failed stop
+  pub marked_stops : {b d : Seen} {place : ℕ} {i j : Held} {failed : Bool} {stop : Stop} (c : Column)
+      → StopsCell charset c.kind (length cells) (ends ks) b d place i j failed stop
+      → RowStops charset (InCell cells (cell_start c.kind (shape charset c.kind)) ks) b d place i j failed stop
   marked_stops c x = rw (← begins_open charset cells ks c.kind _) (stops_there (grind arith) x)
 
   -- a cell in its row, with no NULL by its bit after it
-  pub row_cell : (c : Column) → nulls_ahead (length cells + 1) ks ≡ [] → {bytes made : List ℕ} {v : Cell} → Writes (cell (length cells)) (cell_so_far (length cells) (ends ks)) (cell_start c.kind (shape charset c.kind)) bytes made (WholeCell v)
+  pub row_cell : (c : Column) → nulls_ahead (length cells + 1) ks ≡ [] → {bytes made : List ℕ} {v : Cell}
+      → Writes (cell (length cells)) (cell_so_far (length cells) (ends ks)) (cell_start c.kind (shape charset c.kind)) bytes made (WholeCell v)
       → Writes (row charset) row_so_far (next_cell charset cells ((c, false) ∷ ks)) bytes made (next_cell charset (cells ++ v ∷ []) ks)
-  row_cell c none x = rw begins_open at (writes_inside {whole = row_so_far} front (cell_in_row charset cells ks) (grind (arith, common_steps, append-nil, part_text)) x)
+  row_cell c none x = rw begins_open at (writes_inside {whole = row_so_far} front (cell_in_row charset cells ks)
+      (grind (arith, common_steps, append-nil, part_text)) x)
 
 -- ---- column after column
 
@@ -84,13 +107,17 @@ pub record NearsCells (charset : Charset) (start : RowPart) (left : List (Column
   pub place_is : q.place ≡ p.place + length (nears.bytes ++ nears.element)
 
 -- some columns are left, so the line doesn't end there
-all_ahead : (charset : Charset) (columns : List Column) (nulls : ℕ → Bool) → 0 < length columns → nulls_ahead 0 (marked columns nulls 0) ≡ row_so_far (next_cell charset [] (marked columns nulls 0))
+all_ahead : (charset : Charset) (columns : List Column) (nulls : ℕ → Bool) → 0 < length columns
+    → nulls_ahead 0 (marked columns nulls 0) ≡ row_so_far (next_cell charset [] (marked columns nulls 0))
 all_ahead charset [] nulls some = absurd (omega arith)
 all_ahead charset (c ∷ cs) nulls some = nulls_text charset [] ((c, nulls 0) ∷ marked cs nulls 1)
 
 -- the bitmap was read
-pub bitmap_nears : {charset : Charset} {p : At} {b : Seen} {place' : ℕ} (columns : List Column) (bitmap : List ℕ) → 0 < length columns → length bitmap ≡ bitmap_length (length columns) → Takes p.seen b bitmap (length bitmap) → IsBetween b → length p.held.waiting < 4096 → p.held.delivered ≤ 2 ^ 64 - 1
-    → place' ≡ p.place + length bitmap → NearsCells charset (nbc_row_start columns) (marked columns (bit bitmap) 0) p (record { seen = b; place = place'; held = p.held }) 0
+pub bitmap_nears : {charset : Charset} {p : At} {b : Seen} {place' : ℕ} (columns : List Column) (bitmap : List ℕ) → 0 < length columns
+    → length bitmap ≡ bitmap_length (length columns) → Takes p.seen b bitmap (length bitmap) → IsBetween b → length p.held.waiting < 4096
+    → p.held.delivered ≤ 2 ^ 64 - 1
+    → place' ≡ p.place + length bitmap → NearsCells charset (nbc_row_start columns) (marked columns (bit bitmap) 0) p
+    (record { seen = b; place = place'; held = p.held }) 0
 bitmap_nears {p = p} columns bitmap some whole takes between few d at =
     let next : IsNext _ _ bitmap = record { some = omega arith; whole = whole; free = refl } in
     record {
@@ -101,12 +128,15 @@ bitmap_nears {p = p} columns bitmap some whole takes between few d at =
     }
 
 -- the payload stopped in the bitmap
-pub bitmap_cut : {columns : List Column} {a b : Seen} {place : ℕ} {h : Held} {stop : Stop} (charset : Charset) (part : List ℕ) (own : Stop) → length part < bitmap_length (length columns) → Ends a b part own → stop ≡ began_at place own → h.delivered ≤ 2 ^ 64 - 1
+pub bitmap_cut : {columns : List Column} {a b : Seen} {place : ℕ} {h : Held} {stop : Stop} (charset : Charset) (part : List ℕ) (own : Stop)
+    → length part < bitmap_length (length columns) → Ends a b part own → stop ≡ began_at place own → h.delivered ≤ 2 ^ 64 - 1
     → RowStops charset (nbc_row_start columns) a b place h h false stop
-bitmap_cut charset part own fewer ended is d = record { at = Bitmap _; cause = inl (cut_at_once _ _ _ _ _ _ _ _ fewer ended (began_is_cut _ _ _ _ refl is), ([], refl, Puts-none _ d), refl) }
+bitmap_cut charset part own fewer ended is d =
+    record { at = Bitmap _; cause = inl (cut_at_once _ _ _ _ _ _ _ _ fewer ended (began_is_cut _ _ _ _ refl is), ([], refl, Puts-none _ d), refl) }
 
 -- a cell was read and its text put, in its row, and no NULL by its bit is after it
-pub cell_path : {ks : List (Column × Bool)} {column : ℕ} {p q : At} (charset : Charset) (c : Column) (cells : List Cell) → length cells ≡ column → nulls_ahead (column + 1) ks ≡ [] → PutsAt charset c.kind column (ends ks) p q
+pub cell_path : {ks : List (Column × Bool)} {column : ℕ} {p q : At} (charset : Charset) (c : Column) (cells : List Cell) → length cells ≡ column
+    → nulls_ahead (column + 1) ks ≡ [] → PutsAt charset c.kind column (ends ks) p q
     → (v : Cell) × Path (row charset) row_so_far (next_cell charset cells ((c, false) ∷ ks)) p q (next_cell charset (cells ++ v ∷ []) ks)
 cell_path charset c cells counted none y =
     let z = rw (sym counted) at y in
@@ -117,7 +147,8 @@ further a b e l m n k joined first second = grind (arith, common_steps, length-a
 
 module _ {charset : Charset} {start : RowPart} {c : Column} {ks : List (Column × Bool)} {p q : At} {column : ℕ} where
   -- a NULL by its bit was put
-  pub null_nears : {j : Held} → NearsCells charset start ((c, true) ∷ ks) p q column → Puts q.held j (in_line column (ends ks) null_field) → NearsCells charset start ks p (record q { held = j }) (column + 1)
+  pub null_nears : {j : Held} → NearsCells charset start ((c, true) ∷ ks) p q column → Puts q.held j (in_line column (ends ks) null_field)
+      → NearsCells charset start ks p (record q { held = j }) (column + 1)
   null_nears x puts = record {
     cells = x.cells ++ Null ∷ [];
     counted = omega (arith, length-append x.cells (Null ∷ []));
@@ -126,23 +157,27 @@ module _ {charset : Charset} {start : RowPart} {c : Column} {ks : List (Column �
   }
 
   -- a write of it failed
-  pub null_breaks : {j : Held} {stop : Stop} → NearsCells charset start ((c, true) ∷ ks) p q column → Breaks q.held j (in_line column (ends ks) null_field) stop → RowStops charset start p.seen q.seen p.place p.held j true stop
+  pub null_breaks : {j : Held} {stop : Stop} → NearsCells charset start ((c, true) ∷ ks) p q column
+      → Breaks q.held j (in_line column (ends ks) null_field) stop → RowStops charset start p.seen q.seen p.place p.held j true stop
   null_breaks x breaks =
       let broken = nears_breaks _ _ _ _ _ _ _ _ _ _ _ _ _ x.nears refl breaks in
       record { at = broken.0; cause = inr (broken.1, refl) }
 
   -- a cell was read and its text put, and no NULL by its bit is after it
-  pub cell_reads : {r : At} → nulls_ahead (column + 1) ks ≡ [] → Reads charset start ((c, false) ∷ ks) p q column → PutsAt charset c.kind column (ends ks) q r → Reads charset start ks p r (column + 1)
+  pub cell_reads : {r : At} → nulls_ahead (column + 1) ks ≡ [] → Reads charset start ((c, false) ∷ ks) p q column
+      → PutsAt charset c.kind column (ends ks) q r → Reads charset start ks p r (column + 1)
   cell_reads none x y =
       let one = cell_path _ c _ x.counted none y in
       record { cells = x.cells ++ one.0 ∷ []; counted = omega (arith, length-append x.cells (one.0 ∷ [])); path = path_both x.path one.1 }
 
   -- it stopped the row
-  pub cell_stops : {d : Seen} {j : Held} {failed : Bool} {stop : Stop} → Reads charset start ((c, false) ∷ ks) p q column → StopsAt charset c.kind column (ends ks) q d j failed stop → RowStops charset start p.seen d p.place p.held j failed stop
+  pub cell_stops : {d : Seen} {j : Held} {failed : Bool} {stop : Stop} → Reads charset start ((c, false) ∷ ks) p q column
+      → StopsAt charset c.kind column (ends ks) q d j failed stop → RowStops charset start p.seen d p.place p.held j failed stop
   cell_stops x y = path_stops x.path (marked_stops _ _ _ c (rw (sym x.counted) at y))
 
   -- a cell was read and its text put, and NULLs may be after it
-  pub cell_nears : {r : At} → IsBetween r.seen → length r.held.waiting < 4096 → Reads charset start ((c, false) ∷ ks) p q column → PutsAt charset c.kind column (ends ks) q r → NearsCells charset start ks p r (column + 1)
+  pub cell_nears : {r : At} → IsBetween r.seen → length r.held.waiting < 4096 → Reads charset start ((c, false) ∷ ks) p q column
+      → PutsAt charset c.kind column (ends ks) q r → NearsCells charset start ks p r (column + 1)
   cell_nears {r = r} between few x y =
       let n = length x.cells in
       let z = rw (sym x.counted) at y in
@@ -150,7 +185,8 @@ module _ {charset : Charset} {start : RowPart} {c : Column} {ks : List (Column �
       let begin = cell_start c.kind _ in
       let tail = nulls_ahead _ ks in
       let whole =
-      nears_inside _ _ _ (cell_in_row charset x.cells ks) _ _ _ (begun_text charset x.cells ks) (line_grows n (ends ks)) begin _ _ _ _ _ tail z.streams some between few (part_text charset x.cells ks (WholeCell z.value)) in
+      nears_inside _ _ _ (cell_in_row charset x.cells ks) _ _ _ (begun_text charset x.cells ks) (line_grows n (ends ks)) begin _ _ _ _ _ tail
+      z.streams some between few (part_text charset x.cells ks (WholeCell z.value)) in
       let begun = rw (sym (begins_open charset x.cells ks c.kind (shape charset c.kind))) at x.path in
       let near : NearsCells charset start ks p r _ = record {
         cells = x.cells ++ z.value ∷ [];
@@ -162,14 +198,22 @@ module _ {charset : Charset} {start : RowPart} {c : Column} {ks : List (Column �
 
 module _ {charset : Charset} {start : RowPart} {ks : List (Column × Bool)} {p q : At} {column : ℕ} where
   -- no NULL by its bit is next, so all text was put
-  pub all_put : nulls_ahead column ks ≡ [] → q.held.delivered ≤ 2 ^ 64 - 1 → NearsCells charset start ks p q column → Reads charset start ks p q column
+  pub all_put : nulls_ahead column ks ≡ [] → q.held.delivered ≤ 2 ^ 64 - 1 → NearsCells charset start ks p q column
+      → Reads charset start ks p q column
   all_put none d x =
       let last : Puts q.held q.held _ = rw none (Puts-none q.held d) in
-      record { cells = x.cells; counted = x.counted; path = path_of (nears_done _ _ start p.seen q.seen p.held q.held q.held (next_cell charset x.cells ks) _ x.nears last) x.place_is }
+      record {
+        cells = x.cells;
+        counted = x.counted;
+        path = path_of
+            (nears_done _ _ start p.seen q.seen p.held q.held q.held (next_cell charset x.cells ks) _ x.nears last) x.place_is;
+      }
 
 -- before the first column of a ROW, and after the last one of a row
-pub row_begins : {charset : Charset} {p : At} (columns : List Column) → p.held.delivered ≤ 2 ^ 64 - 1 → Reads charset (row_start charset columns) (coming columns 0) p p 0
+pub row_begins : {charset : Charset} {p : At} (columns : List Column) → p.held.delivered ≤ 2 ^ 64 - 1
+    → Reads charset (row_start charset columns) (coming columns 0) p p 0
 row_begins columns d = record { cells = []; counted = refl; path = path_none d }
 
-pub row_ends : {charset : Charset} {start : RowPart} {p q : At} {column : ℕ} → Reads charset start [] p q column → ReadsRow charset start p.seen q.seen p.place q.place p.held q.held
+pub row_ends : {charset : Charset} {start : RowPart} {p q : At} {column : ℕ} → Reads charset start [] p q column
+    → ReadsRow charset start p.seen q.seen p.place q.place p.held q.held
 row_ends x = record { cells = x.cells; streams = streams_of x.path; place_is = x.path.place_is }

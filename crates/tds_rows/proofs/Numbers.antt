@@ -1,5 +1,13 @@
 -- The numbers of a long value, its length or total and those of its chunks, as elements of its cell: how each is judged, and where it leads.
-use Rattle.{tds_rows.proofs.{Words.{null_total, common_steps, ◌-◌, if◌then◌else◌, ChunkData, ShortData, ◌≡◌, ◌≢◌, ◌∙◌, ◌⊎◌, inl, inr, ℕ, ◌+◌, ◌<◌, true, false, List, [], length, refl, sym, ap, subst, arith, Option, Some, None, ◌==◌, ne_eqb, little, Fault, BadText, MessageEnded, Stop, IsNext, StopsReading, IsBetween, Seen, Takes, choose_false, choose_true, began_is_cut, cut_at_once, refused_at_once, Conversion, is_fit, unit, CellPart, ChunkLength, DataCell, Null, ShortLength, Total, WholeCell, cell, cell_add, cell_end, cell_fault, cell_size, unless, CutsNumber, ReadsNumber, RefusesNumber, chunk_length_fault, short_fault, short_length, total_fault, total_of, Payload, ⊤, one_more, ReadFailed, WriteFailed, seen, ends_blame, Failures, StopBlames}, CellLaws.unless_true}, tds_packet.specs.declared.payload.Payload.Payload as Input}
+use Rattle.tds_rows.proofs.Words.{null_total, common_steps, ◌-◌, if◌then◌else◌, ChunkData, ShortData, ◌≡◌, ◌≢◌, ◌∙◌, ◌⊎◌, inl, inr, ℕ, ◌+◌, ◌<◌, true}
+use Rattle.tds_rows.proofs.Words.{false, List, [], length, refl, sym, ap, subst, arith, Option, Some, None, ◌==◌, ne_eqb, little, Fault, BadText}
+use Rattle.tds_rows.proofs.Words.{MessageEnded, Stop, IsNext, StopsReading, IsBetween, Seen, Takes, choose_false, choose_true, began_is_cut}
+use Rattle.tds_rows.proofs.Words.{cut_at_once, refused_at_once, Conversion, is_fit, unit, CellPart, ChunkLength, DataCell, Null, ShortLength, Total}
+use Rattle.tds_rows.proofs.Words.{WholeCell, cell, cell_add, cell_end, cell_fault, cell_size, unless, CutsNumber, ReadsNumber, RefusesNumber}
+use Rattle.tds_rows.proofs.Words.{chunk_length_fault, short_fault, short_length, total_fault, total_of, Payload, ⊤, one_more, ReadFailed, WriteFailed}
+use Rattle.tds_rows.proofs.Words.{seen, ends_blame, Failures, StopBlames}
+use Rattle.tds_rows.proofs.CellLaws.{unless_true}
+use Rattle.tds_packet.specs.declared.payload.Payload.{Payload as Input}
 
 -- within a short value: this many bytes follow its data so far
 abbrev pub short_left : Conversion → ℕ → List ℕ → CellPart
@@ -19,11 +27,13 @@ pub record Next (column : ℕ) (s : CellPart) (a b : Seen) (place place' : ℕ) 
   pub place_is : place' ≡ place + length element
 
 -- a number was read, where one of so many bytes is next
-next_by : {column size place place' n : ℕ} {s t : CellPart} {a b : Seen} → 0 < size → cell_size s ≡ size → (x : ReadsNumber size a b place place' n) → cell_fault column s x.element ≡ None → cell_add s x.element ≡ t → Next column s a b place place' t
+next_by : {column size place place' n : ℕ} {s t : CellPart} {a b : Seen} → 0 < size → cell_size s ≡ size → (x : ReadsNumber size a b place place' n)
+    → cell_fault column s x.element ≡ None → cell_add s x.element ≡ t → Next column s a b place place' t
 next_by some is x free to = grind (arith, common_steps)
 
 -- it was refused, or is cut
-number_stops : {column size place : ℕ} {s : CellPart} {fault : ℕ → Option Fault} {a b : Seen} {stop : Stop} → 0 < size → cell_size s ≡ size → cell_end s ≡ Some MessageEnded → ((e : List ℕ) (n : ℕ) (f : Fault) → little e ≡ n → fault n ≡ Some f → cell_fault column s e ≡ Some f)
+number_stops : {column size place : ℕ} {s : CellPart} {fault : ℕ → Option Fault} {a b : Seen} {stop : Stop} → 0 < size → cell_size s ≡ size
+    → cell_end s ≡ Some MessageEnded → ((e : List ℕ) (n : ℕ) (f : Fault) → little e ≡ n → fault n ≡ Some f → cell_fault column s e ≡ Some f)
     → RefusesNumber size fault a b place stop ⊎ CutsNumber size a b place stop → StopsReading (cell column) s a b place s stop
 number_stops {column = column} {place = place} {s = s} {a = a} {b = b} {stop = stop} some is end first (inl x) =
     let r = x.reads in
@@ -31,17 +41,20 @@ number_stops {column = column} {place = place} {s = s} {a = a} {b = b} {stop = s
     (refused_at_once _ s a b _ _ _ (omega arith) (r.whole ∙ sym is) (first _ x.n _ r.number x.first) r.takes r.between)
 number_stops some is end first (inr x) = cut_at_once _ _ _ _ _ _ _ _ (let few = x.fewer in omega arith) x.ends (began_is_cut _ _ _ _ end x.stop_is)
 
-total_same : (column : ℕ) (c : Conversion) (size n : ℕ) (e : List ℕ) → size ≡ unit c → little e ≡ n → cell_fault column (Total c) e ≡ total_fault column size n
+total_same : (column : ℕ) (c : Conversion) (size n : ℕ) (e : List ℕ) → size ≡ unit c → little e ≡ n
+    → cell_fault column (Total c) e ≡ total_fault column size n
 total_same column c size n e unit_is is = grind (arith, common_steps, column)
 
 -- ---- the length of a short value
 
 module _ {column : ℕ} (c : Conversion) {size : ℕ} (unit_is : size ≡ unit c) where
-  pub short_stops : {a b : Seen} {place : ℕ} {stop : Stop} → RefusesNumber 2 (short_fault column size) a b place stop ⊎ CutsNumber 2 a b place stop → StopsReading (cell column) (ShortLength c) a b place (ShortLength c) stop
+  pub short_stops : {a b : Seen} {place : ℕ} {stop : Stop} → RefusesNumber 2 (short_fault column size) a b place stop ⊎ CutsNumber 2 a b place stop
+      → StopsReading (cell column) (ShortLength c) a b place (ShortLength c) stop
   short_stops x = number_stops (omega arith) refl refl (λ e n f is first. grind (arith, common_steps, column)) x
 
   -- as a call read it
-  module _ {a b : Seen} {place place' : ℕ} {answer : Option ℕ} (x : (n : ℕ) × ReadsNumber 2 a b place place' n × (short_fault column size n ≡ None) × (answer ≡ short_length n)) where
+  module _ {a b : Seen} {place place' : ℕ} {answer : Option ℕ} (x : (n : ℕ) × ReadsNumber 2 a b place place' n × (short_fault column size n ≡ None)
+      × (answer ≡ short_length n)) where
     pub short_none : answer ≡ None → Next column (ShortLength c) a b place place' (WholeCell Null)
     short_none is = grind arith
 
@@ -50,14 +63,17 @@ module _ {column : ℕ} (c : Conversion) {size : ℕ} (unit_is : size ≡ unit c
 
   -- ---- the total
 
-  pub total_stops : {a b : Seen} {place : ℕ} {stop : Stop} → RefusesNumber 8 (total_fault column size) a b place stop ⊎ CutsNumber 8 a b place stop → StopsReading (cell column) (Total c) a b place (Total c) stop
+  pub total_stops : {a b : Seen} {place : ℕ} {stop : Stop} → RefusesNumber 8 (total_fault column size) a b place stop ⊎ CutsNumber 8 a b place stop
+      → StopsReading (cell column) (Total c) a b place (Total c) stop
   total_stops x = number_stops (omega arith) refl refl (λ e n f is first. grind (arith, common_steps, column)) x
 
-  module _ {a b : Seen} {place place' : ℕ} {answer : Option (Option ℕ)} (x : (n : ℕ) × ReadsNumber 8 a b place place' n × (total_fault column size n ≡ None) × (answer ≡ total_of n)) where
+  module _ {a b : Seen} {place place' : ℕ} {answer : Option (Option ℕ)} (x : (n : ℕ) × ReadsNumber 8 a b place place' n
+      × (total_fault column size n ≡ None) × (answer ≡ total_of n)) where
     pub total_none : answer ≡ None → Next column (Total c) a b place place' (WholeCell Null)
     total_none is =
         let null : x.0 ≡ null_total = grind arith in
-        next_by (omega arith) refl x.1 (total_same column c _ _ _ unit_is x.1.number ∙ x.2) (choose_true _ _ _ (ap (λ m. m == null_total) (x.1.number ∙ null)))
+        next_by (omega arith) refl x.1 (total_same column c _ _ _ unit_is x.1.number
+        ∙ x.2) (choose_true _ _ _ (ap (λ m. m == null_total) (x.1.number ∙ null)))
 
     pub total_start : {t : Option ℕ} → answer ≡ Some t → Next column (Total c) a b place place' (ChunkLength c t [])
     total_start is = next_by (omega arith) refl x.1 (total_same column c _ _ _ unit_is x.1.number ∙ x.2) (let number = x.1.number in grind arith)
@@ -66,7 +82,8 @@ module _ {column : ℕ} (c : Conversion) {size : ℕ} (unit_is : size ≡ unit c
 
 module _ {column : ℕ} (c : Conversion) {size : ℕ} (unit_is : size ≡ unit c) {total : Option ℕ} where
   module _ {content : List ℕ} {sum : ℕ} (counted : length content ≡ sum) {a b : Seen} {place : ℕ} where
-    pub chunk_stops : {stop : Stop} → RefusesNumber 4 (λ n. chunk_length_fault column size total sum n) a b place stop ⊎ CutsNumber 4 a b place stop → StopsReading (cell column) (ChunkLength c total content) a b place (ChunkLength c total content) stop
+    pub chunk_stops : {stop : Stop} → RefusesNumber 4 (λ n. chunk_length_fault column size total sum n) a b place stop ⊎ CutsNumber 4 a b place stop
+        → StopsReading (cell column) (ChunkLength c total content) a b place (ChunkLength c total content) stop
     chunk_stops x = number_stops (omega arith) refl refl (λ e n f is first. grind (arith, common_steps)) x
 
     module _ {n place' : ℕ} (x : ReadsNumber 4 a b place place' n) (free : chunk_length_fault column size total sum n ≡ None) where
@@ -75,8 +92,11 @@ module _ {column : ℕ} (c : Conversion) {size : ℕ} (unit_is : size ≡ unit c
       chunk_end none fit = grind (arith, common_steps, next_by, unless_true, choose_true)
 
       -- after content that isn't, it is refused
-      pub chunk_unfit : n ≡ 0 → is_fit c content ≡ false → StopsReading (cell column) (ChunkLength c total content) a b place (ChunkLength c total content) (record { fault = BadText column; place = Payload place })
-      chunk_unfit none unfit = refused_at_once _ _ a b place _ _ (omega arith) x.whole (grind arith ∙ ap (λ f. unless f (BadText column)) unfit) x.takes x.between
+      pub chunk_unfit : n ≡ 0 → is_fit c content ≡ false
+          → StopsReading (cell column) (ChunkLength c total content) a b place (ChunkLength c total content)
+          (record { fault = BadText column; place = Payload place })
+      chunk_unfit none unfit = refused_at_once _ _ a b place _ _ (omega arith) x.whole (grind arith ∙ ap (λ f. unless f (BadText column)) unfit)
+          x.takes x.between
 
       -- the length of a chunk was read
       pub chunk_start : n ≢ 0 → Next column (ChunkLength c total content) a b place place' (chunk_left c total n content)
@@ -114,8 +134,10 @@ pub chunk_blames : (column size : ℕ) (total : Option ℕ) (sum n : ℕ) → No
 chunk_blames column size total sum n = grind (arith, common_steps)
 
 -- a length that was refused or cut
-pub length_blames : {R : Type 0} {size : ℕ} {b : Seen} {stop : Stop} (remaining : R → Option (List ℕ)) (fault : ℕ → Option Fault) (old : Input R) → old.stopped ≡ None → ((n : ℕ) → NoDevice (fault n))
-    → RefusesNumber size fault (seen remaining old) b old.place stop ⊎ CutsNumber size (seen remaining old) b old.place stop → ReadBlames old.from.now.failures b.failures stop
+pub length_blames : {R : Type 0} {size : ℕ} {b : Seen} {stop : Stop} (remaining : R → Option (List ℕ)) (fault : ℕ → Option Fault) (old : Input R)
+    → old.stopped ≡ None → ((n : ℕ) → NoDevice (fault n))
+    → RefusesNumber size fault (seen remaining old) b old.place stop ⊎ CutsNumber size (seen remaining old) b old.place stop
+    → ReadBlames old.from.now.failures b.failures stop
 length_blames remaining fault old going none (inl x) = grind arith
 length_blames {b = b} remaining fault old going none (inr x) =
     let h = ends_blame remaining old b x.part x.own going x.ends in

@@ -1,5 +1,17 @@
 -- The value of a RETURNVALUE, as it is passed over.
-use Rattle.tds_rows.proofs.{Words.{HexDigits, Utf16Text, Windows1252Text, ◌≢◌, Some, None, eq_true, ReadsNumber, chunk_length_fault, short_fault, short_length, reads_one, ◌≡◌, ◌∙◌, inr, ℕ, ◌+◌, ◌-◌, ◌%◌, ◌<◌, ◌≤◌, Bool, true, List, [], ◌++◌, length, refl, sym, ap, subst, arith, append-nil, length-append, Option, is_ok, Kind, is_scalar, read_of, Stop, Spelt, Seen, Takes, IsBetween, began_at, Ends-after, Takes-none, Takes-trans, add_none, began_is_cut, reads_both, reads_none, stops_after, BeginsData, Conversion, Charset, Cell, CellPart, ChunkLength, DataCell, ShortLength, WholeCell, cell_start, shape, GathersCell, StallsCell, scalar_size, value_bytes, value_length, value_start, WritesCell, return_column, AnyData, CutsPassing, IsGoodValue, PassesCell, PassesData, StepsOver, StopsPassing, return_cell, begun_by_test, take_all, zero}, BufferedCells.{null_cell, value_cell}, RunSteps.whole_of, LongSteps.{HoldsContent, content_spelt, chunk_holds, short_holds}, CellMeaning.is_ok_value, Numbers.{Next, chunk_end, chunk_start, chunk_left, short_left}}
+use Rattle.tds_rows.proofs.Words.{HexDigits, Utf16Text, Windows1252Text, ◌≢◌, Some, None, eq_true, ReadsNumber, chunk_length_fault, short_fault}
+use Rattle.tds_rows.proofs.Words.{short_length, reads_one, ◌≡◌, ◌∙◌, inr, ℕ, ◌+◌, ◌-◌, ◌%◌, ◌<◌, ◌≤◌, Bool, true, List, [], ◌++◌, length, refl, sym}
+use Rattle.tds_rows.proofs.Words.{ap, subst, arith, append-nil, length-append, Option, is_ok, Kind, is_scalar, read_of, Stop, Spelt, Seen, Takes}
+use Rattle.tds_rows.proofs.Words.{IsBetween, began_at, Ends-after, Takes-none, Takes-trans, add_none, began_is_cut, reads_both, reads_none}
+use Rattle.tds_rows.proofs.Words.{stops_after, BeginsData, Conversion, Charset, Cell, CellPart, ChunkLength, DataCell, ShortLength, WholeCell}
+use Rattle.tds_rows.proofs.Words.{cell_start, shape, GathersCell, StallsCell, scalar_size, value_bytes, value_length, value_start, WritesCell}
+use Rattle.tds_rows.proofs.Words.{return_column, AnyData, CutsPassing, IsGoodValue, PassesCell, PassesData, StepsOver, StopsPassing, return_cell}
+use Rattle.tds_rows.proofs.Words.{begun_by_test, take_all, zero}
+use Rattle.tds_rows.proofs.BufferedCells.{null_cell, value_cell}
+use Rattle.tds_rows.proofs.RunSteps.{whole_of}
+use Rattle.tds_rows.proofs.LongSteps.{HoldsContent, content_spelt, chunk_holds, short_holds}
+use Rattle.tds_rows.proofs.CellMeaning.{is_ok_value}
+use Rattle.tds_rows.proofs.Numbers.{Next, chunk_end, chunk_start, chunk_left, short_left}
 
 -- ---- elements
 
@@ -7,10 +19,19 @@ use Rattle.tds_rows.proofs.{Words.{HexDigits, Utf16Text, Windows1252Text, ◌≢
 step_none : {s : CellPart} {a : Seen} {place : ℕ} → IsBetween a → StepsOver s s a a place place
 step_none between = record { reads = reads_none _ _ _; between = between; place_is = sym (add_none _) }
 
-steps_both : {s t u : CellPart} {a b d : Seen} {place middle place' : ℕ} → StepsOver s t a b place middle → StepsOver t u b d middle place' → StepsOver s u a d place place'
-steps_both x y = record { reads = reads_both _ _ _ _ _ _ _ x.reads y.reads; between = y.between; place_is = omega (arith, length-append x.reads.bytes y.reads.bytes) }
+steps_both : {s t u : CellPart} {a b d : Seen} {place middle place' : ℕ} → StepsOver s t a b place middle → StepsOver t u b d middle place'
+    → StepsOver s u a d place place'
+steps_both x y = record {
+  reads = reads_both _ _ _ _ _ _ _ x.reads y.reads;
+  between = y.between;
+  place_is = omega (
+    arith,
+    length-append x.reads.bytes y.reads.bytes,
+  );
+}
 
-pub stops_after_steps : {s t : CellPart} {a b d : Seen} {place middle : ℕ} {stop : Stop} → StepsOver s t a b place middle → StopsPassing t b d middle stop → StopsPassing s a d place stop
+pub stops_after_steps : {s t : CellPart} {a b d : Seen} {place middle : ℕ} {stop : Stop} → StepsOver s t a b place middle
+    → StopsPassing t b d middle stop → StopsPassing s a d place stop
 stops_after_steps x y = record { at = y.at; stops = stops_after _ _ _ _ _ _ _ _ _ x.reads (rw x.place_is at y.stops) }
 
 -- ---- data, byte by byte
@@ -18,11 +39,18 @@ stops_after_steps x y = record { at = y.at; stops = stops_after _ _ _ _ _ _ _ _ 
 any_begins : {c : Conversion} {size : ℕ} → AnyData c size → (bytes : List ℕ) → BeginsData c bytes
 any_begins any bytes = (begun_by_test _ bytes).0 (any.begun bytes)
 
-module _ {c : Conversion} {state : ℕ → List ℕ → CellPart} {Good : List ℕ → Type 0} (holds : HoldsContent return_column c state Good) (begins : (bytes : List ℕ) → BeginsData c bytes) where
+module _ {c : Conversion} {state : ℕ → List ℕ → CellPart} {Good : List ℕ → Type 0} (holds : HoldsContent return_column c state Good)
+    (begins : (bytes : List ℕ) → BeginsData c bytes) where
   -- all the data was handed out
-  data_steps : {m : ℕ} {a b : Seen} {place place' : ℕ} (d : List ℕ) (x : PassesData m a b place place') → Good (d ++ x.bytes) → StepsOver (state m d) (state 0 (d ++ x.bytes)) a b place place'
+  data_steps : {m : ℕ} {a b : Seen} {place place' : ℕ} (d : List ℕ) (x : PassesData m a b place place') → Good (d ++ x.bytes)
+      → StepsOver (state m d) (state 0 (d ++ x.bytes)) a b place place'
   data_steps d x good = record {
-    reads = record { bytes = x.bytes; spelt = content_spelt true holds d x.bytes _ 0 (omega arith) (begins _) (λ _ _. good); takes = rw (sym x.counted) at x.takes };
+    reads = record {
+      bytes = x.bytes;
+      spelt = content_spelt true holds d x.bytes _ 0 (omega arith) (begins _) (λ _ _. good);
+      takes = rw
+          (sym x.counted) at x.takes;
+    };
     between = x.between;
     place_is = omega arith;
   }
@@ -49,15 +77,18 @@ module _ {c : Conversion} {state : ℕ → List ℕ → CellPart} {Good : List �
 -- ---- scalars
 
 -- a scalar's cell stops as any
-pub scalar_stops : {from : CellPart} {a b : Seen} {place : ℕ} {stop : Stop} → StallsCell from return_column a b place stop → StopsPassing from a b place stop
+pub scalar_stops : {from : CellPart} {a b : Seen} {place : ℕ} {stop : Stop} → StallsCell from return_column a b place stop
+    → StopsPassing from a b place stop
 scalar_stops x = record { at = x.at; stops = x.stops }
 
 -- what is written of a cell is its spelling
-written_spelt : {from : CellPart} {last : Bool} {bytes text : List ℕ} → WritesCell from return_column last bytes text → (value : Cell) × Spelt return_cell from bytes (WholeCell value)
+written_spelt : {from : CellPart} {last : Bool} {bytes text : List ℕ} → WritesCell from return_column last bytes text → (value : Cell)
+    × Spelt return_cell from bytes (WholeCell value)
 written_spelt x = let whole = whole_of x in (whole.value, whole.spelt)
 
 -- the bytes of a scalar cell whose value isn't refused are a whole cell
-pub scalar_whole : (charset : Charset) (kind : Kind) (bytes : List ℕ) → is_scalar kind ≡ true → length bytes ≡ scalar_size kind bytes → (0 < value_length kind bytes → is_ok (read_of kind (value_bytes kind bytes)) ≡ true)
+pub scalar_whole : (charset : Charset) (kind : Kind) (bytes : List ℕ) → is_scalar kind ≡ true → length bytes ≡ scalar_size kind bytes
+    → (0 < value_length kind bytes → is_ok (read_of kind (value_bytes kind bytes)) ≡ true)
     → (value : Cell) × Spelt return_cell (cell_start kind (shape charset kind)) bytes (WholeCell value)
 scalar_whole charset kind bytes scalar whole good = go _ refl
   where
@@ -74,10 +105,12 @@ scalar_whole charset kind bytes scalar whole good = go _ refl
 
 -- nothing was passed over
 pub passes_none : {n : ℕ} {a : Seen} {place : ℕ} → n ≡ 0 → IsBetween a → PassesData n a a place place
-passes_none {n = n} {a = a} none between = record { bytes = []; counted = sym none; takes = Takes-none a n; between = between; place_is = omega (arith, none) }
+passes_none {n = n} {a = a} none between =
+    record { bytes = []; counted = sym none; takes = Takes-none a n; between = between; place_is = omega (arith, none) }
 
 -- a piece more was
-pub passes_more : {m n k : ℕ} {a b d : Seen} {place middle place' : ℕ} → k ≡ m + n → PassesData m a b place middle → PassesData n b d middle place' → PassesData k a d place place'
+pub passes_more : {m n k : ℕ} {a b d : Seen} {place middle place' : ℕ} → k ≡ m + n → PassesData m a b place middle → PassesData n b d middle place'
+    → PassesData k a d place place'
 passes_more {m = m} {n = n} {a = a} {b = b} {d = d} sum x y = record {
   bytes = x.bytes ++ y.bytes;
   counted = omega (arith, length-append x.bytes y.bytes);
@@ -87,7 +120,8 @@ passes_more {m = m} {n = n} {a = a} {b = b} {d = d} sum x y = record {
 }
 
 -- the payload stopped after what was passed over
-pub cuts_more : {m n k : ℕ} {a b d : Seen} {place middle : ℕ} {stop : Stop} → m + n ≤ k → PassesData m a b place middle → CutsPassing n b d middle stop → CutsPassing k a d place stop
+pub cuts_more : {m n k : ℕ} {a b d : Seen} {place middle : ℕ} {stop : Stop} → m + n ≤ k → PassesData m a b place middle
+    → CutsPassing n b d middle stop → CutsPassing k a d place stop
 cuts_more {m = m} {a = a} {b = b} {d = d} sum x y = record {
   bytes = x.bytes ++ y.bytes;
   own = y.own;
@@ -97,22 +131,36 @@ cuts_more {m = m} {a = a} {b = b} {d = d} sum x y = record {
 }
 
 -- a scalar cell whose value isn't refused was read
-pub scalar_passes : {kind : Kind} {a b : Seen} {place place' : ℕ} {bytes : List ℕ} (charset : Charset) → is_scalar kind ≡ true → GathersCell kind (cell_start kind (shape charset kind)) return_column a b place place' bytes → IsGoodValue kind bytes
+pub scalar_passes : {kind : Kind} {a b : Seen} {place place' : ℕ} {bytes : List ℕ} (charset : Charset) → is_scalar kind ≡ true
+    → GathersCell kind (cell_start kind (shape charset kind)) return_column a b place place' bytes → IsGoodValue kind bytes
     → PassesCell (cell_start kind (shape charset kind)) a b place place'
 scalar_passes {kind = kind} {bytes = bytes} charset scalar x good =
     let v = scalar_whole _ _ _ scalar x.whole good in
-    record { value = v.0; steps = record { reads = record { bytes = bytes; spelt = v.1; takes = x.takes }; between = x.between; place_is = x.place_is } }
+    record {
+      value = v.0;
+      steps = record {
+        reads = record { bytes = bytes; spelt = v.1; takes = x.takes };
+        between = x.between;
+        place_is = x.place_is;
+      };
+    }
 
 -- ---- short values
 
 -- a value after what was read of it
-pub cell_after : {s t : CellPart} {a b d : Seen} {place middle place' : ℕ} → StepsOver s t a b place middle → PassesCell t b d middle place' → PassesCell s a d place place'
+pub cell_after : {s t : CellPart} {a b d : Seen} {place middle place' : ℕ} → StepsOver s t a b place middle → PassesCell t b d middle place'
+    → PassesCell s a d place place'
 cell_after x y = record { value = y.value; steps = steps_both x y.steps }
 
 -- the data of a short value after its length
-module _ {c : Conversion} {size n : ℕ} {a b d : Seen} {place middle : ℕ} (any : AnyData c size) (x : StepsOver (ShortLength c) (short_left c n []) a b place middle) where
+module _ {c : Conversion} {size n : ℕ} {a b d : Seen} {place middle : ℕ} (any : AnyData c size)
+    (x : StepsOver (ShortLength c) (short_left c n []) a b place middle) where
   pub short_passes : {place' : ℕ} → n % size ≡ 0 → PassesData n b d middle place' → PassesCell (ShortLength c) a d place place'
-  short_passes even y = cell_after x (record { value = DataCell c y.bytes; steps = data_steps (short_holds return_column c) (any_begins any) [] y (any.fit y.bytes (rw y.counted even)) })
+  short_passes even y = cell_after x (record {
+    value = DataCell c y.bytes;
+    steps = data_steps (short_holds return_column c) (any_begins any) [] y
+        (any.fit y.bytes (rw y.counted even));
+  })
 
   pub short_cuts : {stop : Stop} → CutsPassing n b d middle stop → StopsPassing (ShortLength c) a d place stop
   short_cuts y = stops_after_steps x (data_stops (short_holds return_column c) (any_begins any) [] y)
@@ -130,10 +178,12 @@ chunks_none between = record { content = []; counted = refl; steps = step_none b
 
 module _ {c : Conversion} {total : Option ℕ} {sum : ℕ} {a b d : Seen} {place middle there : ℕ} (x : WalksChunks c total sum a b place middle) where
   -- the terminator was read
-  pub chunks_end : StepsOver (ChunkLength c total x.content) (WholeCell (DataCell c x.content)) b d middle there → PassesCell (ChunkLength c total []) a d place there
+  pub chunks_end : StepsOver (ChunkLength c total x.content) (WholeCell (DataCell c x.content)) b d middle there
+      → PassesCell (ChunkLength c total []) a d place there
   chunks_end y = record { value = DataCell c x.content; steps = steps_both x.steps y }
 
-  module _ {size n : ℕ} {e : Seen} (any : AnyData c size) (y : StepsOver (ChunkLength c total x.content) (chunk_left c total n x.content) b d middle there) where
+  module _ {size n : ℕ} {e : Seen} (any : AnyData c size) (y : StepsOver (ChunkLength c total x.content) (chunk_left c total n x.content) b d middle
+      there) where
     -- a chunk more was passed over
     pub chunks_more : {place' : ℕ} → PassesData n d e there place' → WalksChunks c total (sum + n) a e place place'
     chunks_more z = record {
@@ -154,10 +204,13 @@ steps_of x = record { reads = reads_one _ _ _ _ _ _ x.next x.takes x.to; between
 
 module _ {c : Conversion} {size : ℕ} (any : AnyData c size) where
   -- a short value has whole units
-  pub short_even : {a b : Seen} {place place' k : ℕ} {answer : Option ℕ} → ((n : ℕ) × ReadsNumber 2 a b place place' n × (short_fault return_column size n ≡ None) × (answer ≡ short_length n)) → answer ≡ Some k → k % size ≡ 0
+  pub short_even : {a b : Seen} {place place' k : ℕ} {answer : Option ℕ}
+      → ((n : ℕ) × ReadsNumber 2 a b place place' n × (short_fault return_column size n ≡ None) × (answer ≡ short_length n)) → answer ≡ Some k
+      → k % size ≡ 0
   short_even x is = grind arith
 
-  module _ {total : Option ℕ} {content : List ℕ} {sum n k place place' : ℕ} {a b : Seen} (counted : length content ≡ sum) (x : ReadsNumber 4 a b place place' n) (free : chunk_length_fault return_column size total sum n ≡ None) (is : k ≡ n) where
+  module _ {total : Option ℕ} {content : List ℕ} {sum n k place place' : ℕ} {a b : Seen} (counted : length content ≡ sum)
+      (x : ReadsNumber 4 a b place place' n) (free : chunk_length_fault return_column size total sum n ≡ None) (is : k ≡ n) where
     -- the terminator was read
     pub end_steps : k ≡ 0 → StepsOver (ChunkLength c total content) (WholeCell (DataCell c content)) a b place place'
     end_steps ends =

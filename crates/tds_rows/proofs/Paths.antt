@@ -1,5 +1,9 @@
 -- What bytes make by a grammar, and how a call that reads them and puts what they make goes from place to place.
-use Rattle.{tds_rows.proofs.Words.{common_steps, ◌≡◌, ℕ, ◌+◌, ◌-◌, ◌^◌, ◌≤◌, Bool, List, [], ◌++◌, length, arith, append_assoc, append-nil, length-append, Fault, Stop, Grammar, Seen, Takes, Inside, Inside-Spelt, Spelt-append, Spelt-none, Takes-none, takes_both, Option, seen, Sink, Held, Puts, held, StopsStreaming, Streams, Puts-none, Puts-trans, added_inside, streaming_after, Rows, Writes}, tds_packet.specs.declared.payload.Payload.Payload}
+use Rattle.tds_rows.proofs.Words.{common_steps, ◌≡◌, ℕ, ◌+◌, ◌-◌, ◌^◌, ◌≤◌, Bool, List, [], ◌++◌, length, arith, append_assoc, append-nil}
+use Rattle.tds_rows.proofs.Words.{length-append, Fault, Stop, Grammar, Seen, Takes, Inside, Inside-Spelt, Spelt-append, Spelt-none, Takes-none}
+use Rattle.tds_rows.proofs.Words.{takes_both, Option, seen, Sink, Held, Puts, held, StopsStreaming, Streams, Puts-none, Puts-trans, added_inside}
+use Rattle.tds_rows.proofs.Words.{streaming_after, Rows, Writes}
+use Rattle.tds_packet.specs.declared.payload.Payload.{Payload}
 
 -- where a reading stands: what the payload is seen to give, how many of its bytes were read, and what the sink holds
 pub record At : Type 0 where
@@ -32,8 +36,16 @@ module _ {S : Type 0} {g : Grammar S Fault} {text : S → List ℕ} where
   abbrev pub streams_of : {s t : S} {p q : At} → Path g text s p q t → Streams g text s p.seen q.seen p.held q.held t
   streams_of x = record { bytes = x.bytes; spelt = x.writes.spelt; takes = x.takes; puts = (x.made, x.writes.text_is, x.puts) }
 
-  abbrev pub path_of : {s t : S} {p q : At} → (x : Streams g text s p.seen q.seen p.held q.held t) → q.place ≡ p.place + length x.bytes → Path g text s p q t
-  path_of x at = record { bytes = x.bytes; made = x.puts.0; writes = record { spelt = x.spelt; text_is = x.puts.1 }; takes = x.takes; puts = x.puts.2; place_is = at }
+  abbrev pub path_of : {s t : S} {p q : At} → (x : Streams g text s p.seen q.seen p.held q.held t) → q.place ≡ p.place + length x.bytes
+      → Path g text s p q t
+  path_of x at = record {
+    bytes = x.bytes;
+    made = x.puts.0;
+    writes = record { spelt = x.spelt; text_is = x.puts.1 };
+    takes = x.takes;
+    puts = x.puts.2;
+    place_is = at;
+  }
 
   abbrev pub path_none : {s : S} {p : At} → p.held.delivered ≤ 2 ^ 64 - 1 → Path g text s p p s
   path_none {p = p} d = record { bytes = []; made = []; writes = writes_none; takes = Takes-none _ 0; puts = Puts-none _ d; place_is = omega arith }
@@ -49,13 +61,17 @@ module _ {S : Type 0} {g : Grammar S Fault} {text : S → List ℕ} where
   }
 
   -- a call that stops after one that doesn't
-  pub path_stops : {s t : S} {p q : At} {d : Seen} {j : Held} {failed : Bool} {stop : Stop} → Path g text s p q t → StopsStreaming g text t q.seen d q.place q.held j failed stop → StopsStreaming g text s p.seen d p.place p.held j failed stop
+  pub path_stops : {s t : S} {p q : At} {d : Seen} {j : Held} {failed : Bool} {stop : Stop} → Path g text s p q t
+      → StopsStreaming g text t q.seen d q.place q.held j failed stop → StopsStreaming g text s p.seen d p.place p.held j failed stop
   path_stops {p = p} x y = streaming_after _ _ _ _ _ _ _ _ _ _ p.place _ _ (streams_of x) (rw x.place_is at y)
 
 -- a small grammar inside a big one, with a text before it
-pub writes_inside : {S T : Type 0} {small : Grammar S Fault} {big : Grammar T Fault} {lift : S → T} {text : S → List ℕ} {whole : T → List ℕ} {s t : S} {a p : List ℕ} (front : List ℕ) → Inside small big lift → ((s : S) → front ++ text s ≡ whole (lift s)) → Writes small text s a p t → Writes big whole (lift s) a p (lift t)
+pub writes_inside : {S T : Type 0} {small : Grammar S Fault} {big : Grammar T Fault} {lift : S → T} {text : S → List ℕ} {whole : T
+    → List ℕ} {s t : S} {a p : List ℕ} (front : List ℕ) → Inside small big lift → ((s : S) → front ++ text s ≡ whole (lift s))
+    → Writes small text s a p t → Writes big whole (lift s) a p (lift t)
 writes_inside {whole = whole} front is text_is x = grind (arith, common_steps, whole, Inside-Spelt, added_inside)
 
 -- what is known of all bytes and what they make
-pub path_map : {S T : Type 0} {g : Grammar S Fault} {k : Grammar T Fault} {text : S → List ℕ} {whole : T → List ℕ} {s t : S} {u v : T} {p q : At} → ((a m : List ℕ) → Writes g text s a m t → Writes k whole u a m v) → Path g text s p q t → Path k whole u p q v
+pub path_map : {S T : Type 0} {g : Grammar S Fault} {k : Grammar T Fault} {text : S → List ℕ} {whole : T → List ℕ} {s t : S} {u v : T} {p q : At}
+    → ((a m : List ℕ) → Writes g text s a m t → Writes k whole u a m v) → Path g text s p q t → Path k whole u p q v
 path_map f x = record { bytes = x.bytes; made = x.made; writes = f _ _ x.writes; takes = x.takes; puts = x.puts; place_is = x.place_is }

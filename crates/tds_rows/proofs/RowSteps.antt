@@ -1,5 +1,14 @@
 -- The cells of a row, as they are read one after another and their text is put.
-use Rattle.tds_rows.proofs.{Words.{common_steps, PutsField, StopsField, shape, ◌≡◌, ◌∙◌, ℕ, ◌+◌, ◌^◌, ◌-◌, ◌<◌, ◌≤◌, Bool, false, List, [], ◌∷◌, ◌++◌, length, sym, ap, arith, append-nil, length-append, None, map, length-map, map-append, Kind, Stop, IsNext, Leads, Spelt, concat, IsBetween, Seen, Takes, Spelt-append, Spelt-one, Column, joined, after_comma, in_line, Breaks, Held, Puts, BreaksStreaming, PutsText, Streams, Puts-none, Charset, Cell, CellPart, Shape, WholeCell, cell, cell_add, cell_end, cell_size, cell_start, field, field_so_far, row, with_cell, StallsCell, cell_so_far, true, refl, append_assoc, Option, Some, next_some, end_after, null_field, ChunkData, ChunkLength, Null, ShortData, is_last_column, opened, RowPart, marked, next_cell, row_so_far}, Paths.At, LineTexts.joined_snoc, GrowingTexts.{Grows, OptionGrows, cell_grows, grows_all, grows_same, grows_trans, grows_under}}
+use Rattle.tds_rows.proofs.Words.{common_steps, PutsField, StopsField, shape, ◌≡◌, ◌∙◌, ℕ, ◌+◌, ◌^◌, ◌-◌, ◌<◌, ◌≤◌, Bool, false, List, [], ◌∷◌, ◌++◌}
+use Rattle.tds_rows.proofs.Words.{length, sym, ap, arith, append-nil, length-append, None, map, length-map, map-append, Kind, Stop, IsNext, Leads}
+use Rattle.tds_rows.proofs.Words.{Spelt, concat, IsBetween, Seen, Takes, Spelt-append, Spelt-one, Column, joined, after_comma, in_line, Breaks, Held}
+use Rattle.tds_rows.proofs.Words.{Puts, BreaksStreaming, PutsText, Streams, Puts-none, Charset, Cell, CellPart, Shape, WholeCell, cell, cell_add}
+use Rattle.tds_rows.proofs.Words.{cell_end, cell_size, cell_start, field, field_so_far, row, with_cell, StallsCell, cell_so_far, true, refl}
+use Rattle.tds_rows.proofs.Words.{append_assoc, Option, Some, next_some, end_after, null_field, ChunkData, ChunkLength, Null, ShortData}
+use Rattle.tds_rows.proofs.Words.{is_last_column, opened, RowPart, marked, next_cell, row_so_far}
+use Rattle.tds_rows.proofs.Paths.{At}
+use Rattle.tds_rows.proofs.LineTexts.{joined_snoc}
+use Rattle.tds_rows.proofs.GrowingTexts.{Grows, OptionGrows, cell_grows, grows_all, grows_same, grows_trans, grows_under}
 
 -- A cell was read, of those whose text comes with the last element alone, and this is its text in its line.
 pub record ReadsCell (from : CellPart) (column : ℕ) (last : Bool) (old new : Seen) (place place' : ℕ) (text : List ℕ) : Type 0 where
@@ -42,11 +51,13 @@ pub quiet_text : (column : ℕ) (last : Bool) (at : CellPart) → field_so_far a
 quiet_text column last at h = grind arith
 
 module _ (kind : Kind) (s : Shape) (column : ℕ) (last : Bool) where
-  none_put : (at : CellPart) (h : Held) → field_so_far at ≡ None → h.delivered ≤ 2 ^ 64 - 1 → PutsText (cell_so_far column last) (cell_start kind s) at h h
+  none_put : (at : CellPart) (h : Held) → field_so_far at ≡ None → h.delivered ≤ 2 ^ 64 - 1
+      → PutsText (cell_so_far column last) (cell_start kind s) at h h
   none_put at h quiet d = grind (arith, Puts-none)
 
   -- it was read, and its text put
-  abbrev pub at_once_streams : {a b : Seen} {place place' : ℕ} {h i : Held} {text : List ℕ} (r : ReadsCell (cell_start kind s) column last a b place place' text) → Puts h i text
+  abbrev pub at_once_streams : {a b : Seen} {place place' : ℕ} {h i : Held} {text : List ℕ}
+      (r : ReadsCell (cell_start kind s) column last a b place place' text) → Puts h i text
       → Streams (cell column) (cell_so_far column last) (cell_start kind s) a b h i (WholeCell r.value)
   at_once_streams {text = text} r x = record {
     bytes = r.front ++ r.element;
@@ -56,7 +67,8 @@ module _ (kind : Kind) (s : Shape) (column : ℕ) (last : Bool) where
   }
 
   -- it was read, and a write of its text failed
-  pub at_once_breaks : {a b : Seen} {place place' : ℕ} {h i : Held} {text : List ℕ} {stop : Stop} → h.delivered ≤ 2 ^ 64 - 1 → length h.waiting < 4096 → (r : ReadsCell (cell_start kind s) column last a b place place' text) → Breaks h i text stop
+  pub at_once_breaks : {a b : Seen} {place place' : ℕ} {h i : Held} {text : List ℕ} {stop : Stop} → h.delivered ≤ 2 ^ 64 - 1 → length h.waiting < 4096
+      → (r : ReadsCell (cell_start kind s) column last a b place place' text) → Breaks h i text stop
       → BreaksStreaming (cell column) (cell_so_far column last) (cell_start kind s) a b h i r.at stop
   at_once_breaks {h = h} {text = text} d few r x = record {
     bytes = r.front;
@@ -75,7 +87,8 @@ module _ (kind : Kind) (s : Shape) (column : ℕ) (last : Bool) where
   }
 
   -- it stopped before it had any text
-  pub at_once_stalls : {a b : Seen} {place : ℕ} {h : Held} {stop : Stop} → h.delivered ≤ 2 ^ 64 - 1 → StallsCell (cell_start kind s) column a b place stop → StopsField (cell_start kind s) column last a b place h h false stop
+  pub at_once_stalls : {a b : Seen} {place : ℕ} {h : Held} {stop : Stop} → h.delivered ≤ 2 ^ 64 - 1
+      → StallsCell (cell_start kind s) column a b place stop → StopsField (cell_start kind s) column last a b place h h false stop
   at_once_stalls d x = grind (arith, common_steps, none_put)
 
 -- ---- a cell in its row
@@ -83,7 +96,8 @@ module _ (kind : Kind) (s : Shape) (column : ℕ) (last : Bool) where
 pub fields_more : (cells : List Cell) (v : List ℕ) → joined (map field cells) ++ after_comma (length cells) v ≡ joined (map field cells ++ v ∷ [])
 fields_more cells v = ap (λ n. joined (map field cells) ++ after_comma n v) (sym (length-map cells field)) ∙ joined_snoc _ v
 
-pub cell_more : (cells : List Cell) (v : Cell) → joined (map field cells) ++ after_comma (length cells) (field v) ≡ joined (map field (cells ++ v ∷ []))
+pub cell_more : (cells : List Cell) (v : Cell)
+    → joined (map field cells) ++ after_comma (length cells) (field v) ≡ joined (map field (cells ++ v ∷ []))
 cell_more cells v = grind (arith, common_steps, fields_more, map-append)
 
 -- the columns to come, each with whether it is NULL by its bit
@@ -92,7 +106,8 @@ module _ (charset : Charset) (cells : List Cell) (ks : List (Column × Bool)) wh
   pub same_end : (at : CellPart) → 0 < cell_size at → (row charset).end_fault (with_cell charset cells ks at) ≡ cell_end at
   same_end at h = grind arith
 
-some_bytes : (column : ℕ) (from : CellPart) (v : Cell) (es : List (List ℕ)) → (from ≡ WholeCell v → ⊥) → Leads (cell column) from es (WholeCell v) → 0 < length (concat es)
+some_bytes : (column : ℕ) (from : CellPart) (v : Cell) (es : List (List ℕ)) → (from ≡ WholeCell v → ⊥) → Leads (cell column) from es (WholeCell v)
+    → 0 < length (concat es)
 some_bytes column from v [] before h = absurd (before h)
 some_bytes column from v (e ∷ es) before h = omega (arith, h.0.some, length-append e (concat es))
 
@@ -129,19 +144,23 @@ none_ahead [] n = refl
 none_ahead (c ∷ cs) n = refl
 
 -- one more whole cell, and what is known of the text after it
-one_more : (cells : List Cell) (v : Cell) (ks : List (Column × Bool)) (text : List ℕ) → (joined (map field (cells ++ v ∷ [])) ++ end_after (ends ks)) ++ nulls_ahead (length (cells ++ v ∷ [])) ks ≡ text
+one_more : (cells : List Cell) (v : Cell) (ks : List (Column × Bool)) (text : List ℕ)
+    → (joined (map field (cells ++ v ∷ [])) ++ end_after (ends ks)) ++ nulls_ahead (length (cells ++ v ∷ [])) ks ≡ text
     → (joined (map field cells) ++ in_line (length cells) (ends ks) (field v)) ++ nulls_ahead (length cells + 1) ks ≡ text
 one_more cells v ks text is =
     let begun =
     sym (append_assoc (joined (map field cells)) _ _) ∙ ap (λ l. l ++ end_after (ends ks)) (cell_more cells v) in
-    ap (λ l. l ++ nulls_ahead (length cells + 1) ks) begun ∙ ap (λ n. (joined (map field (cells ++ v ∷ [])) ++ end_after (ends ks)) ++ nulls_ahead n ks) (sym (length-append cells _)) ∙ is
+    ap (λ l. l ++ nulls_ahead (length cells + 1) ks) begun
+    ∙ ap (λ n. (joined (map field (cells ++ v ∷ [])) ++ end_after (ends ks)) ++ nulls_ahead n ks) (sym (length-append cells _)) ∙ is
 
 -- a row's text so far is that of its whole cells, the end of the line where no column follows, and that of the NULLs to come
-pub nulls_text : (charset : Charset) (cells : List Cell) (ks : List (Column × Bool)) → (joined (map field cells) ++ end_after (ends ks)) ++ nulls_ahead (length cells) ks ≡ row_so_far (next_cell charset cells ks)
+pub nulls_text : (charset : Charset) (cells : List Cell) (ks : List (Column × Bool))
+    → (joined (map field cells) ++ end_after (ends ks)) ++ nulls_ahead (length cells) ks ≡ row_so_far (next_cell charset cells ks)
 nulls_text charset cells [] = append-nil _
 nulls_text charset cells ((k, true) ∷ ks) =
     let tail = nulls_ahead _ ks in
-    ap (λ l. l ++ (in_line (length cells) (ends ks) null_field ++ tail)) (append-nil (joined (map field cells))) ∙ sym (append_assoc (joined (map field cells)) _ tail)
+    ap (λ l. l ++ (in_line (length cells) (ends ks) null_field ++ tail)) (append-nil (joined (map field cells)))
+    ∙ sym (append_assoc (joined (map field cells)) _ tail)
     ∙ one_more cells Null ks _ (nulls_text charset (cells ++ Null ∷ []) ks)
 nulls_text charset cells ((k, false) ∷ ks) = grind (arith, append-nil)
 

@@ -1,18 +1,38 @@
 -- The cells of a run, as they are written one after another.
-use Rattle.tds_rows.proofs.{Words.{common_steps, false, zero, suc, add-zero, ◌≡◌, ◌∙◌, ℕ, ◌+◌, ◌-◌, ◌≤◌, ◌<◌, Bool, List, [], ◌∷◌, ◌++◌, length, take, drop, get_or, refl, sym, ap, subst, arith, append_assoc, append-nil, length-append, Result, Ok, Err, MatchResult, true, length-take, length-take-le, take-append-le, take_all, take_more, take-append-add, take-add, Stop, map, Option, Seen, Takes, joined, line, Sink, Breaks, Held, IsWriting, Puts, PutsPiece, held, Inside, Spelt-append, Spelt-one, Column, all_after, Charset, Cell, CellPart, Shape, WholeCell, cell, cell_start, field, shape, NbcRow, PlainRow, RowPart, RowToken, WholeRow, next_cell, row, row_so_far, token_byte, token_start, with_field, IsLeft, IsScalarLeft, WritesKind, cell_so_far, is_last_column, scalar_size, whole_size, WritesCell, WritesWhole, is_scalar, Writes, WritesRows, after_cells, lines, rows, rows_so_far, Kind, WritesColumn, WritesMarked}, CellSteps.fixed_some, NullSteps.row_cell, RowSteps.{coming, ends_marked, none_ahead, quiet_text, start_quiet, PutsCell, StopsCell}, Paths.{At, writes_both, writes_inside, writes_none}, TableSteps.next_column}
+use Rattle.tds_rows.proofs.Words.{common_steps, false, zero, suc, add-zero, ◌≡◌, ◌∙◌, ℕ, ◌+◌, ◌-◌, ◌≤◌, ◌<◌, Bool, List, [], ◌∷◌, ◌++◌, length, take}
+use Rattle.tds_rows.proofs.Words.{drop, get_or, refl, sym, ap, subst, arith, append_assoc, append-nil, length-append, Result, Ok, Err, MatchResult}
+use Rattle.tds_rows.proofs.Words.{true, length-take, length-take-le, take-append-le, take_all, take_more, take-append-add, take-add, Stop, map}
+use Rattle.tds_rows.proofs.Words.{Option, Seen, Takes, joined, line, Sink, Breaks, Held, IsWriting, Puts, PutsPiece, held, Inside, Spelt-append}
+use Rattle.tds_rows.proofs.Words.{Spelt-one, Column, all_after, Charset, Cell, CellPart, Shape, WholeCell, cell, cell_start, field, shape, NbcRow}
+use Rattle.tds_rows.proofs.Words.{PlainRow, RowPart, RowToken, WholeRow, next_cell, row, row_so_far, token_byte, token_start, with_field, IsLeft}
+use Rattle.tds_rows.proofs.Words.{IsScalarLeft, WritesKind, cell_so_far, is_last_column, scalar_size, whole_size, WritesCell, WritesWhole, is_scalar}
+use Rattle.tds_rows.proofs.Words.{Writes, WritesRows, after_cells, lines, rows, rows_so_far, Kind, WritesColumn, WritesMarked}
+use Rattle.tds_rows.proofs.CellSteps.{fixed_some}
+use Rattle.tds_rows.proofs.NullSteps.{row_cell}
+use Rattle.tds_rows.proofs.RowSteps.{coming, ends_marked, none_ahead, quiet_text, start_quiet, PutsCell, StopsCell}
+use Rattle.tds_rows.proofs.Paths.{At, writes_both, writes_inside, writes_none}
+use Rattle.tds_rows.proofs.TableSteps.{next_column}
 
 -- ---- cells of a row
 
 -- a cell whose text comes with its last element
-pub whole_of : {from : CellPart} {column : ℕ} {last : Bool} {bytes made : List ℕ} → WritesCell from column last bytes made → WritesWhole from column last bytes made
-whole_of {from = from} x = record { value = x.value; spelt = rw x.joined at (Spelt-append _ _ _ _ _ _ x.spelt (rw x.whole at (Spelt-one _ _ _ x.next))); text_is = x.text_is }
+pub whole_of : {from : CellPart} {column : ℕ} {last : Bool} {bytes made : List ℕ} → WritesCell from column last bytes made
+    → WritesWhole from column last bytes made
+whole_of {from = from} x = record {
+  value = x.value;
+  spelt = rw x.joined at
+      (Spelt-append _ _ _ _ _ _ x.spelt (rw x.whole at (Spelt-one _ _ _ x.next)));
+  text_is = x.text_is;
+}
 
 -- a scalar cell, in any set
-pub writes_scalar : (set : Charset) (kind : Kind) (column : ℕ) (last : Bool) (bytes made : List ℕ) → ((any : Charset) → WritesCell (cell_start kind (shape any kind)) column last bytes made) → WritesKind set kind column last bytes made
+pub writes_scalar : (set : Charset) (kind : Kind) (column : ℕ) (last : Bool) (bytes made : List ℕ)
+    → ((any : Charset) → WritesCell (cell_start kind (shape any kind)) column last bytes made) → WritesKind set kind column last bytes made
 writes_scalar set kind column last bytes made x = grind (arith, common_steps, whole_of)
 
 -- what is made after what was made
-pub made_more : (made m : ℕ) (to new rest : List ℕ) → made ≤ length to → m ≤ length new → take (made + m) (take made to ++ (new ++ rest)) ≡ take made to ++ take m new
+pub made_more : (made m : ℕ) (to new rest : List ℕ) → made ≤ length to → m ≤ length new
+    → take (made + m) (take made to ++ (new ++ rest)) ≡ take made to ++ take m new
 made_more made m to new rest within some = grind (arith, length-take-le, take-append-add, take-append-le)
 
 -- what is used after what was used
@@ -30,7 +50,8 @@ pub scalar_whole : (kind : Kind) (bytes : List ℕ) → is_scalar kind ≡ true 
 scalar_whole kind bytes h = grind (arith, common_steps)
 
 -- it is left as a scalar cell is
-pub scalar_left : (set : Charset) (kind : Kind) (bytes : List ℕ) (room : ℕ) → is_scalar kind ≡ true → IsLeft set kind bytes room → IsScalarLeft kind bytes
+pub scalar_left : (set : Charset) (kind : Kind) (bytes : List ℕ) (room : ℕ) → is_scalar kind ≡ true → IsLeft set kind bytes room
+    → IsScalarLeft kind bytes
 scalar_left set kind bytes room scalar h5 = grind arith
 
 -- a cell has some bytes
@@ -42,7 +63,8 @@ whole_some kind bytes = grind (arith, common_steps, fixed_some)
 -- what doesn't fill a block isn't delivered, so no write of it fails
 fills_no_block : (h j : Held) (piece : List ℕ) (stop : Stop) → length h.waiting + length piece < 4096 → Breaks h j piece stop → ⊥
 fills_no_block h j piece stop few (sent, blocks, n, adds, most, least, less, whole, is, risen) =
-    let both : length h.waiting + length (take n piece) ≡ length sent + length j.waiting = sym (length-append h.waiting (take n piece)) ∙ ap length adds.1 ∙ length-append sent j.waiting in
+    let both : length h.waiting + length (take n piece) ≡ length sent + length j.waiting = sym (length-append h.waiting (take n piece))
+    ∙ ap length adds.1 ∙ length-append sent j.waiting in
     omega (arith, both, few, whole, most, length-take n piece)
 
 -- ---- over the ends of rows
@@ -62,36 +84,47 @@ module _ (token : RowToken) (charset : Charset) (all : List Column) (before : Li
   row_among_rows = grind arith
 
   -- what is written of a row is written of the rows
-  pub row_among : {p q : RowPart} {bytes made : List ℕ} → Writes (row charset) row_so_far p bytes made q → Writes (rows token charset all) rows_so_far (record { before = before; at = p }) bytes made (record { before = before; at = q })
+  pub row_among : {p q : RowPart} {bytes made : List ℕ} → Writes (row charset) row_so_far p bytes made q
+      → Writes (rows token charset all) rows_so_far (record { before = before; at = p }) bytes made (record { before = before; at = q })
   row_among x = writes_inside {text = row_so_far} {whole = rows_so_far} _ row_among_rows (λ p. refl) x
 
   -- the token byte of the next row
-  pub row_token : (cells : List Cell) → 0 < length all → Writes (rows token charset all) rows_so_far (record { before = before; at = WholeRow cells }) (token_byte token ∷ []) [] (record { before = before ++ cells ∷ []; at = token_start token charset all })
+  pub row_token : (cells : List Cell) → 0 < length all
+      → Writes (rows token charset all) rows_so_far (record { before = before; at = WholeRow cells }) (token_byte token ∷ []) []
+      (record { before = before ++ cells ∷ []; at = token_start token charset all })
   row_token cells some = grind (arith, common_steps, Spelt-one, append-nil, lines-append, start_text)
 
 -- ---- cells of the last row
 
 -- a cell that lies whole, by itself
-cell_writes : {column : ℕ} {last : Bool} {bytes made : List ℕ} (kind : Kind) (sh : Shape) → (x : WritesWhole (cell_start kind sh) column last bytes made) → Writes (cell column) (cell_so_far column last) (cell_start kind sh) bytes made (WholeCell x.value)
+cell_writes : {column : ℕ} {last : Bool} {bytes made : List ℕ} (kind : Kind) (sh : Shape)
+    → (x : WritesWhole (cell_start kind sh) column last bytes made)
+    → Writes (cell column) (cell_so_far column last) (cell_start kind sh) bytes made (WholeCell x.value)
 cell_writes {column = column} {last = last} {made = made} kind sh x = grind (arith, common_steps, made, quiet_text, start_quiet)
 
 -- a cell after these, in its row
-after_more : {bytes made : List ℕ} {v : Cell} (charset : Charset) (cells : List Cell) (c : Column) (left : List Column) → Writes (cell (length cells)) (cell_so_far (length cells) (is_last_column left)) (cell_start c.kind (shape charset c.kind)) bytes made (WholeCell v)
+after_more : {bytes made : List ℕ} {v : Cell} (charset : Charset) (cells : List Cell) (c : Column) (left : List Column)
+    → Writes (cell (length cells)) (cell_so_far (length cells) (is_last_column left)) (cell_start c.kind (shape charset c.kind)) bytes made
+    (WholeCell v)
     → Writes (row charset) row_so_far (after_cells charset cells (c ∷ left)) bytes made (after_cells charset (cells ++ v ∷ []) left)
 after_more {bytes = bytes} {made = made} {v = v} charset cells c left x =
     let n = length cells + 1 in
-    subst (λ (k : ℕ). Writes (row charset) row_so_far (after_cells charset cells (c ∷ left)) bytes made (next_cell charset (cells ++ v ∷ []) (coming left k))) (sym (length-append cells (v ∷ [])))
+    subst (λ (k : ℕ). Writes (row charset) row_so_far (after_cells charset cells (c ∷ left)) bytes made
+    (next_cell charset (cells ++ v ∷ []) (coming left k))) (sym (length-append cells (v ∷ [])))
     (row_cell _ _ _ c (none_ahead _ n) (rw (ends_marked _ (λ k. false) n) at x))
 
-pub rows_none : {charset : Charset} {all : List Column} {cells : List Cell} {columns : List Column} {column : ℕ} → length cells ≡ column → WritesRows charset all cells columns columns column 0 [] []
+pub rows_none : {charset : Charset} {all : List Column} {cells : List Cell} {columns : List Column} {column : ℕ} → length cells ≡ column
+    → WritesRows charset all cells columns columns column 0 [] []
 rows_none {cells = cells} h = record { before = []; more = cells; rows_counted = refl; counted = h; writes = writes_none }
 
 module _ {charset : Charset} {all : List Column} {cells : List Cell} {columns : List Column} {count : ℕ} where
   -- one column more
-  column_writes : {a b p q : List ℕ} (at : ℕ) → WritesRows charset all cells columns (drop at all) at count a p → WritesColumn charset all (λ k. false) at b q → WritesRows charset all cells columns (drop (at + 1) all) (at + 1) count (a ++ b) (p ++ q)
+  column_writes : {a b p q : List ℕ} (at : ℕ) → WritesRows charset all cells columns (drop at all) at count a p
+      → WritesColumn charset all (λ k. false) at b q → WritesRows charset all cells columns (drop (at + 1) all) (at + 1) count (a ++ b) (p ++ q)
   column_writes at x w =
       let z = rw (sym x.counted) at w.writes in
-      let one = row_among PlainRow charset all x.before (after_more charset x.more w.column w.left (cell_writes w.column.kind (shape charset w.column.kind) z)) in
+      let one = row_among PlainRow charset all x.before
+      (after_more charset x.more w.column w.left (cell_writes w.column.kind (shape charset w.column.kind) z)) in
       let next = sym (next_column all at w.column w.left w.next).1.1 in
       record {
         before = x.before;
@@ -102,7 +135,8 @@ module _ {charset : Charset} {all : List Column} {cells : List Cell} {columns : 
       }
 
   -- so many columns more
-  pub marked_writes : {a p : List ℕ} (at n : ℕ) (b q : List ℕ) → WritesRows charset all cells columns (drop at all) at count a p → WritesMarked charset all (λ k. false) at n b q → WritesRows charset all cells columns (drop (at + n) all) (at + n) count (a ++ b) (p ++ q)
+  pub marked_writes : {a p : List ℕ} (at n : ℕ) (b q : List ℕ) → WritesRows charset all cells columns (drop at all) at count a p
+      → WritesMarked charset all (λ k. false) at n b q → WritesRows charset all cells columns (drop (at + n) all) (at + n) count (a ++ b) (p ++ q)
   marked_writes {a = a} {p = p} at zero b q x w = rw (w.0, w.1, append-nil a, append-nil p, add-zero at) x
   marked_writes {a = a} {p = p} at (suc n) b q x w =
       let y = column_writes _ (marked_writes _ n _ _ x w.6) w.7 in
@@ -110,7 +144,8 @@ module _ {charset : Charset} {all : List Column} {cells : List Cell} {columns : 
       rw (w.4, w.5, sym (append_assoc a w.0 w.1), sym (append_assoc p w.2 w.3)) (rw further at y)
 
   -- and then the token byte of the next row
-  rows_next : {column : ℕ} {a p : List ℕ} → 0 < length all → WritesRows charset all cells columns [] column count a p → WritesRows charset all cells columns all 0 (count + 1) (a ++ 0xD1 ∷ []) p
+  rows_next : {column : ℕ} {a p : List ℕ} → 0 < length all → WritesRows charset all cells columns [] column count a p
+      → WritesRows charset all cells columns all 0 (count + 1) (a ++ 0xD1 ∷ []) p
   rows_next {p = p} some x = record {
     before = x.before ++ x.more ∷ [];
     more = [];
@@ -119,24 +154,36 @@ module _ {charset : Charset} {all : List Column} {cells : List Cell} {columns : 
     writes = rw (append-nil p) at (writes_both x.writes (row_token PlainRow charset all x.before x.more some));
   }
 
-  pub rows_onward : {left : List Column} {column : ℕ} {p : List ℕ} (used : ℕ) (bytes : List ℕ) → 0 < length all → left ≡ [] → used < length bytes → get_or bytes used 0 ≡ 0xD1
-      → WritesRows charset all cells columns left column count (take used bytes) p → WritesRows charset all cells columns all 0 (count + 1) (take (used + 1) bytes) p
+  pub rows_onward : {left : List Column} {column : ℕ} {p : List ℕ} (used : ℕ) (bytes : List ℕ) → 0 < length all → left ≡ [] → used < length bytes
+      → get_or bytes used 0 ≡ 0xD1
+      → WritesRows charset all cells columns left column count (take used bytes) p
+      → WritesRows charset all cells columns all 0 (count + 1) (take (used + 1) bytes) p
   rows_onward used bytes some none within is x = grind (arith, rows_next, take_more)
 
 -- ---- a cell that lies whole, and whose text fills no block
 
 -- its bytes were passed over and its text put, so it was read
-pub whole_puts : (charset : Charset) (kind : Kind) (column : ℕ) (last : Bool) (p q : At) (bytes text : List ℕ) → WritesWhole (cell_start kind (shape charset kind)) column last bytes text
-    → Takes p.seen q.seen bytes (length bytes) → q.place ≡ p.place + length bytes → Puts p.held q.held text → PutsCell charset kind column last p.seen q.seen p.place q.place p.held q.held
+pub whole_puts : (charset : Charset) (kind : Kind) (column : ℕ) (last : Bool) (p q : At) (bytes text : List ℕ)
+    → WritesWhole (cell_start kind (shape charset kind)) column last bytes text
+    → Takes p.seen q.seen bytes (length bytes) → q.place ≡ p.place + length bytes → Puts p.held q.held text
+    → PutsCell charset kind column last p.seen q.seen p.place q.place p.held q.held
 whole_puts charset kind column last p q bytes text x takes at puts =
     let writes = cell_writes _ _ x in
-    record { value = x.value; streams = record { bytes = bytes; spelt = writes.spelt; takes = takes; puts = (text, writes.text_is, puts) }; place_is = at }
+    record {
+      value = x.value;
+      streams = record { bytes = bytes; spelt = writes.spelt; takes = takes; puts = (text, writes.text_is, puts) };
+      place_is = at;
+    }
 
 -- a put of it can't stop
-pub put_whole : {W U : Type 0} {column place' : ℕ} {last : Bool} {bytes text : List ℕ} (r : Result U Stop) (charset : Charset) (kind : Kind) (a b : Seen) (place : ℕ) (contents : W → Option (List ℕ)) (old new : Sink W) → IsWriting old
-    → WritesWhole (cell_start kind (shape charset kind)) column last bytes text → Takes a b bytes (length bytes) → place' ≡ place + length bytes → length old.output.now.bytes + length text < 4096 → PutsPiece contents old new text r
-    → MatchResult r (λ _. PutsCell charset kind column last a b place place' (held contents old) (held contents new)) (λ stop. StopsCell charset kind column last a b place (held contents old) (held contents new) new.failed stop)
-put_whole {column = column} {place' = place'} {last = last} {bytes = bytes} {text = text} (Ok u) charset kind a b place contents old new going x takes at few puts =
+pub put_whole : {W U : Type 0} {column place' : ℕ} {last : Bool} {bytes text : List ℕ} (r : Result U Stop) (charset : Charset) (kind : Kind)
+    (a b : Seen) (place : ℕ) (contents : W → Option (List ℕ)) (old new : Sink W) → IsWriting old
+    → WritesWhole (cell_start kind (shape charset kind)) column last bytes text → Takes a b bytes (length bytes) → place' ≡ place + length bytes
+    → length old.output.now.bytes + length text < 4096 → PutsPiece contents old new text r
+    → MatchResult r (λ _. PutsCell charset kind column last a b place place' (held contents old) (held contents new))
+    (λ stop. StopsCell charset kind column last a b place (held contents old) (held contents new) new.failed stop)
+put_whole {column = column} {place' = place'} {last = last} {bytes = bytes} {text = text} (Ok u) charset kind a b place contents old new going x
+    takes at few puts =
     whole_puts _ _ _ _ _ _ _ _ x takes at puts.gives
 put_whole {text = text} (Err stop) charset kind a b place contents old new going x takes at few puts =
     absurd (fills_no_block _ _ _ _ few (puts.gives going.writing))

@@ -1,7 +1,11 @@
 -- Cells of short values whose bytes lie together.
-use Rattle.tds_rows.proofs.{Words.{◌≡◌, ◌≢◌, ◌∙◌, ℕ, ◌+◌, ◌/◌, ◌%◌, ◌<◌, ◌≤◌, Bool, true, List, [], ◌∷◌, ◌++◌, length, take, drop, refl, ap, arith, length-drop, length-take-le, slice_index, Kind, Short, Conversion, is_fit, long_field, in_line, null_field, DataCell, LongShape, Null, ShortLength, SpellsShort, stated_length, WritesWhole, take-add}, CellLaws.cell_is_read}
+use Rattle.tds_rows.proofs.Words.{◌≡◌, ◌≢◌, ◌∙◌, ℕ, ◌+◌, ◌/◌, ◌%◌, ◌<◌, ◌≤◌, Bool, true, List, [], ◌∷◌, ◌++◌, length, take, drop, refl, ap, arith}
+use Rattle.tds_rows.proofs.Words.{length-drop, length-take-le, slice_index, Kind, Short, Conversion, is_fit, long_field, in_line, null_field}
+use Rattle.tds_rows.proofs.Words.{DataCell, LongShape, Null, ShortLength, SpellsShort, stated_length, WritesWhole, take-add}
+use Rattle.tds_rows.proofs.CellLaws.{cell_is_read}
 
-module _ (column : ℕ) (kind : Kind) (c : Conversion) (last : Bool) (bytes text : List ℕ) (within : 2 ≤ length bytes) (low : slice_index bytes 0 < 256) (high : slice_index bytes 1 < 256) where
+module _ (column : ℕ) (kind : Kind) (c : Conversion) (last : Bool) (bytes text : List ℕ) (within : 2 ≤ length bytes) (low : slice_index bytes 0 < 256)
+    (high : slice_index bytes 1 < 256) where
   -- NULL
   pub short_null : stated_length bytes ≡ 65535 → text ≡ in_line column last null_field → WritesWhole (ShortLength c) column last (take 2 bytes) text
   short_null all is =
@@ -10,7 +14,8 @@ module _ (column : ℕ) (kind : Kind) (c : Conversion) (last : Bool) (bytes text
       record { value = Null; spelt = cell_is_read column kind (LongShape c Short) Null _ tt (grind arith ∙ (λ i. a i ∷ b i ∷ [])); text_is = is }
 
   -- a value
-  pub short_value : (n : ℕ) → n ≡ stated_length bytes → n ≢ 65535 → 2 + n ≤ length bytes → is_fit c (take n (drop 2 bytes)) ≡ true → text ≡ in_line column last (long_field c (take n (drop 2 bytes)))
+  pub short_value : (n : ℕ) → n ≡ stated_length bytes → n ≢ 65535 → 2 + n ≤ length bytes → is_fit c (take n (drop 2 bytes)) ≡ true
+      → text ≡ in_line column last (long_field c (take n (drop 2 bytes)))
       → WritesWhole (ShortLength c) column last (take (2 + n) bytes) text
   short_value n counted some all fit is =
       let d = take n _ in

@@ -1,5 +1,17 @@
 -- A call that reads what comes whole stops only where a device fails.
-use Rattle.{tds_rows.proofs.{Words.{◌≡◌, ◌∙◌, inl, inr, ℕ, ◌+◌, ◌<◌, Bool, List, [], ◌∷◌, ◌++◌, length, take, refl, sym, ap, subst, arith, append_assoc, append-nil, length-append, Result, Ok, Err, MatchResult, seen, held, Option, Some, None, if◌then◌else◌, take-append_seam, nat_tests, Consumes, Rose, one_more, Fault, RefusedToken, Stop, before, Grammar, IsRefused, Longest, Spelt, CutsNext, RefusesNext, StopsReading, Ends, Seen, Inside-Spelt, Spelt-append, longest_at, longest_cut, longest_refused, no_further, one_longest, stops_inside, stops_after, Column, Sink, Conversion, Held, StopsStreaming, stops_size, Kind, Reach, Short, Chunked, Charset, Cell, LongShape, SpellsCell, WholeCell, cell, cell_start, long_start, return_charset, shape, CellPassed, RowsRead, RowsStop, RowPart, RowToken, SpellsRowAs, WholeRow, row, token_byte, token_start, RowsPart, rows, BeginNoRow, Brings, ReadsOn, SpellsRows, SucceedsOn, length-take-le}, CellLaws.cell_is_read, RowLaws.{nbc_row_is_read, row_is_read, shape-HasBytes}, RunSteps.{row_token, row_among_rows}}, tds_packet.specs.declared.payload.Payload.Payload}
+use Rattle.tds_rows.proofs.Words.{◌≡◌, ◌∙◌, inl, inr, ℕ, ◌+◌, ◌<◌, Bool, List, [], ◌∷◌, ◌++◌, length, take, refl, sym, ap, subst, arith, append_assoc}
+use Rattle.tds_rows.proofs.Words.{append-nil, length-append, Result, Ok, Err, MatchResult, seen, held, Option, Some, None, if◌then◌else◌}
+use Rattle.tds_rows.proofs.Words.{take-append_seam, nat_tests, Consumes, Rose, one_more, Fault, RefusedToken, Stop, before, Grammar, IsRefused}
+use Rattle.tds_rows.proofs.Words.{Longest, Spelt, CutsNext, RefusesNext, StopsReading, Ends, Seen, Inside-Spelt, Spelt-append, longest_at}
+use Rattle.tds_rows.proofs.Words.{longest_cut, longest_refused, no_further, one_longest, stops_inside, stops_after, Column, Sink, Conversion, Held}
+use Rattle.tds_rows.proofs.Words.{StopsStreaming, stops_size, Kind, Reach, Short, Chunked, Charset, Cell, LongShape, SpellsCell, WholeCell, cell}
+use Rattle.tds_rows.proofs.Words.{cell_start, long_start, return_charset, shape, CellPassed, RowsRead, RowsStop, RowPart, RowToken, SpellsRowAs}
+use Rattle.tds_rows.proofs.Words.{WholeRow, row, token_byte, token_start, RowsPart, rows, BeginNoRow, Brings, ReadsOn, SpellsRows, SucceedsOn}
+use Rattle.tds_rows.proofs.Words.{length-take-le}
+use Rattle.tds_rows.proofs.CellLaws.{cell_is_read}
+use Rattle.tds_rows.proofs.RowLaws.{nbc_row_is_read, row_is_read, shape-HasBytes}
+use Rattle.tds_rows.proofs.RunSteps.{row_token, row_among_rows}
+use Rattle.tds_packet.specs.declared.payload.Payload.{Payload}
 
 -- a call that fails raises the count
 pub rose : (f : ℕ) → Rose f (one_more f)
@@ -8,12 +20,15 @@ rose f = grind (arith, nat_tests)
 -- ---- the reading of what comes whole
 
 -- what is left, where it is told
-left_of : (input read : List ℕ) (new : Option (List ℕ)) → Consumes (Some input) new read → (left : List ℕ) × (new ≡ Some left) × (input ≡ read ++ left)
+left_of : (input read : List ℕ) (new : Option (List ℕ)) → Consumes (Some input) new read → (left : List ℕ) × (new ≡ Some left)
+    × (input ≡ read ++ left)
 left_of input read new h = grind arith
 
-module _ {S : Type 0} (g : Grammar S Fault) (from to : S) (a b : Seen) (front more : List ℕ) (brings : Brings a (front ++ more)) (last : Longest g from (front ++ more) (length front) to) (calm : Rose a.failures b.failures → ⊥) where
+module _ {S : Type 0} (g : Grammar S Fault) (from to : S) (a b : Seen) (front more : List ℕ) (brings : Brings a (front ++ more))
+    (last : Longest g from (front ++ more) (length front) to) (calm : Rose a.failures b.failures → ⊥) where
   -- what was read is the beginning of what comes
-  came : (read : List ℕ) (bytes : List ℕ) → Consumes a.left b.left read → ((zs : List ℕ) → (a.future (read ++ zs)).bytes ≡ bytes ++ (b.future zs).bytes) → (rest : List ℕ) × (front ++ more ≡ bytes ++ rest)
+  came : (read : List ℕ) (bytes : List ℕ) → Consumes a.left b.left read
+      → ((zs : List ℕ) → (a.future (read ++ zs)).bytes ≡ bytes ++ (b.future zs).bytes) → (rest : List ℕ) × (front ++ more ≡ bytes ++ rest)
   came read bytes taken gives = grind (arith, left_of)
 
   refused_there : (at : S) (bytes : List ℕ) (fault : Fault) → Spelt g from bytes at → RefusesNext g a b bytes at fault → at ≡ to
@@ -42,13 +57,15 @@ module _ {S : Type 0} (g : Grammar S Fault) (from to : S) (a b : Seen) (front mo
   stopped_there place at stop x = elim x.cause [ inl y ↦ refused_there _ _ _ x.spelt y.0 | inr y ↦ cut_there _ _ _ _ x.spelt y ]
 
 -- a state at which nothing follows is the end of what comes
-longest_end : {S : Type 0} (g : Grammar S Fault) (from to : S) (front more : List ℕ) → Spelt g from front to → g.size to ≡ 0 → Longest g from (front ++ more) (length front) to
+longest_end : {S : Type 0} (g : Grammar S Fault) (from to : S) (front more : List ℕ) → Spelt g from front to → g.size to ≡ 0
+    → Longest g from (front ++ more) (length front) to
 longest_end g from to front more spelt none = longest_at g _ _ _ _ spelt (λ d other some within k.
     let e = no_further g _ _ _ _ _ spelt (λ i a b. omega arith) k in
     omega (arith, ap length e, length-take-le d more within))
 
 -- a call that reads whole elements to a state at which nothing follows doesn't stop in reading
-none_stops_reading : {S : Type 0} {a b : Seen} {place : ℕ} {at : S} {stop : Stop} (g : Grammar S Fault) (from to : S) (front more : List ℕ) → Brings a (front ++ more) → Spelt g from front to → g.size to ≡ 0
+none_stops_reading : {S : Type 0} {a b : Seen} {place : ℕ} {at : S} {stop : Stop} (g : Grammar S Fault) (from to : S) (front more : List ℕ)
+    → Brings a (front ++ more) → Spelt g from front to → g.size to ≡ 0
     → (Rose a.failures b.failures → ⊥) → StopsReading g from a b place at stop → ⊥
 none_stops_reading {stop = stop} g from to front more brings spelt none reads x =
     let there = stopped_there g from to _ _ front more brings (longest_end g from to front more spelt none) reads _ _ stop x in
@@ -56,7 +73,8 @@ none_stops_reading {stop = stop} g from to front more brings spelt none reads x 
     omega (arith, ap g.size there)
 
 -- a call that reads whole elements to a state at which nothing follows, and puts their text, doesn't stop
-pub none_stops : {S : Type 0} {a b : Seen} {place : ℕ} {h i : Held} {failed : Bool} {stop : Stop} (g : Grammar S Fault) (text : S → List ℕ) (from to : S) (front more : List ℕ) → Brings a (front ++ more) → Spelt g from front to → g.size to ≡ 0
+pub none_stops : {S : Type 0} {a b : Seen} {place : ℕ} {h i : Held} {failed : Bool} {stop : Stop} (g : Grammar S Fault) (text : S
+    → List ℕ) (from to : S) (front more : List ℕ) → Brings a (front ++ more) → Spelt g from front to → g.size to ≡ 0
     → (Rose a.failures b.failures → ⊥) → (Rose h.failures i.failures → ⊥) → StopsStreaming g text from a b place h i failed stop → ⊥
 none_stops g text from to front more brings spelt none reads writes x = elim x.cause [
   | inl y ↦ none_stops_reading g _ _ _ _ brings spelt none reads y.0
@@ -68,19 +86,27 @@ none_stops g text from to front more brings spelt none reads writes x = elim x.c
 -- ---- the calls
 
 -- one that reads to such a state and puts the text succeeds
-pub streaming_succeeds : {S R W U : Type 0} {from to : S} {bytes : List ℕ} (g : Grammar S Fault) (text : S → List ℕ) (remaining : R → Option (List ℕ)) (contents : W → Option (List ℕ)) (old new : Payload R) (sink sink' : Sink W) (result : Result U Stop) (more : List ℕ) (P : U → Type 0)
-    → MatchResult result P (λ stop. StopsStreaming g text from (seen remaining old) (seen remaining new) old.place (held contents sink) (held contents sink') sink'.failed stop) → Spelt g from bytes to → g.size to ≡ 0 → SucceedsOn remaining old new sink sink' result (bytes ++ more)
+pub streaming_succeeds : {S R W U : Type 0} {from to : S} {bytes : List ℕ} (g : Grammar S Fault) (text : S → List ℕ) (remaining : R
+    → Option (List ℕ)) (contents : W → Option (List ℕ)) (old new : Payload R) (sink sink' : Sink W) (result : Result U Stop) (more : List ℕ) (P : U
+    → Type 0)
+    → MatchResult result P (λ stop. StopsStreaming g text from (seen remaining old) (seen remaining new) old.place (held contents sink)
+    (held contents sink') sink'.failed stop) → Spelt g from bytes to → g.size to ≡ 0
+    → SucceedsOn remaining old new sink sink' result (bytes ++ more)
 streaming_succeeds g text remaining contents old new sink sink' (Ok x) more P put spelt none = λ brings reads writes. refl
-streaming_succeeds g text remaining contents old new sink sink' (Err stop) more P put spelt none = λ brings reads writes. absurd (none_stops _ _ _ _ _ more brings spelt none reads writes put)
+streaming_succeeds g text remaining contents old new sink sink' (Err stop) more P put spelt none =
+    λ brings reads writes. absurd (none_stops _ _ _ _ _ more brings spelt none reads writes put)
 
-pub value_passes : {R U : Type 0} (remaining : R → Option (List ℕ)) (kind : Kind) (old new : Payload R) (result : Result U Stop) (value : Cell) (bytes more : List ℕ)
-    → CellPassed remaining (cell_start kind (shape return_charset kind)) old new result → SpellsCell kind (shape return_charset kind) value bytes → ReadsOn remaining old new result (bytes ++ more)
+pub value_passes : {R U : Type 0} (remaining : R → Option (List ℕ)) (kind : Kind) (old new : Payload R) (result : Result U Stop) (value : Cell)
+    (bytes more : List ℕ)
+    → CellPassed remaining (cell_start kind (shape return_charset kind)) old new result → SpellsCell kind (shape return_charset kind) value bytes
+    → ReadsOn remaining old new result (bytes ++ more)
 value_passes remaining kind old new (Ok x) value bytes more passed spelt = λ brings reads. refl
 value_passes remaining kind old new (Err stop) value bytes more passed spelt = λ brings reads.
     let read = cell_is_read _ _ _ _ _ (shape-HasBytes return_charset _) spelt in
     absurd (none_stops_reading _ _ _ _ _ brings read refl reads passed.stops)
 
-pub long_is_read : (column : ℕ) (kind : Kind) (c : Conversion) (reach : Reach) (value : Cell) (bytes : List ℕ) → SpellsCell kind (LongShape c reach) value bytes → Spelt (cell column) (long_start c reach) bytes (WholeCell value)
+pub long_is_read : (column : ℕ) (kind : Kind) (c : Conversion) (reach : Reach) (value : Cell) (bytes : List ℕ)
+    → SpellsCell kind (LongShape c reach) value bytes → Spelt (cell column) (long_start c reach) bytes (WholeCell value)
 long_is_read column kind c Short value bytes h = cell_is_read column kind (LongShape c Short) value bytes tt h
 long_is_read column kind c Chunked value bytes h = cell_is_read column kind (LongShape c Chunked) value bytes tt h
 
@@ -96,11 +122,14 @@ module _ (token : RowToken) (charset : Charset) (columns : List Column) (some_co
   abbrev begun_after : List (List Cell) → RowsPart
   begun_after before = among before (token_start token charset columns)
 
-  row_of_rows : (before : List (List Cell)) (cells : List Cell) (bytes : List ℕ) → SpellsRowAs token charset columns cells bytes → Spelt all_rows (begun_after before) bytes (among before (WholeRow cells))
-  row_of_rows before cells bytes h = Inside-Spelt _ all_rows _ (row_among_rows token charset columns before) _ bytes _ (grind (arith, nbc_row_is_read, row_is_read))
+  row_of_rows : (before : List (List Cell)) (cells : List Cell) (bytes : List ℕ) → SpellsRowAs token charset columns cells bytes
+      → Spelt all_rows (begun_after before) bytes (among before (WholeRow cells))
+  row_of_rows before cells bytes h = Inside-Spelt _ all_rows _ (row_among_rows token charset columns before) _ bytes _
+      (grind (arith, nbc_row_is_read, row_is_read))
 
   -- rows that are spelt are read as rows
-  rows_are_read : (before : List (List Cell)) (first : List Cell) (later : List (List Cell)) (bytes : List ℕ) → SpellsRows token charset columns first later bytes
+  rows_are_read : (before : List (List Cell)) (first : List Cell) (later : List (List Cell)) (bytes : List ℕ)
+      → SpellsRows token charset columns first later bytes
       → (earlier : List (List Cell)) × (last : List Cell) × Spelt all_rows (begun_after before) bytes (among earlier (WholeRow last))
   rows_are_read before first [] bytes h = (before, first, row_of_rows before first bytes h)
   rows_are_read before first (next ∷ later) bytes h =
@@ -108,25 +137,30 @@ module _ (token : RowToken) (charset : Charset) (columns : List Column) (some_co
       let from = begun_after before in
       let there = begun_after (before ++ first ∷ []) in
       let t = rows_are_read (before ++ first ∷ []) next later h.1 h.4 in
-      let one = Spelt-append all_rows from h.0 (among before _) (byte ∷ []) there (row_of_rows before first h.0 h.3) (row_token token charset columns before first some_columns).spelt in
+      let one = Spelt-append all_rows from h.0 (among before _) (byte ∷ []) there (row_of_rows before first h.0 h.3)
+      (row_token token charset columns before first some_columns).spelt in
       (t.0, t.1, rw (append_assoc, ← h.2) at (Spelt-append all_rows from _ there h.1 _ one t.2))
 
   -- where no row follows, the last one is the end
-  longest_rows : (from : RowsPart) (earlier : List (List Cell)) (last : List Cell) (front more : List ℕ) → Spelt all_rows from front (among earlier (WholeRow last)) → BeginNoRow token more
+  longest_rows : (from : RowsPart) (earlier : List (List Cell)) (last : List Cell) (front more : List ℕ)
+      → Spelt all_rows from front (among earlier (WholeRow last)) → BeginNoRow token more
       → Longest all_rows from (front ++ more) (length front) (among earlier (WholeRow last))
   longest_rows from earlier last front [] spelt none = longest_cut _ _ _ _ _ spelt (omega arith)
   longest_rows from earlier last front (byte ∷ more) spelt none = longest_refused _ _ _ _ _ _ spelt
       (record { some = omega arith; whole = omega arith; first = ap (λ b. if b then None else Some (RefusedToken byte)) none })
 
-  rows_stop_not : {a b : Seen} {place : ℕ} {h i : Held} {failed : Bool} {stop : Stop} (first : List Cell) (later : List (List Cell)) (front more : List ℕ) → Brings a (front ++ more) → SpellsRows token charset columns first later front → BeginNoRow token more
+  rows_stop_not : {a b : Seen} {place : ℕ} {h i : Held} {failed : Bool} {stop : Stop} (first : List Cell) (later : List (List Cell))
+      (front more : List ℕ) → Brings a (front ++ more) → SpellsRows token charset columns first later front → BeginNoRow token more
       → (Rose a.failures b.failures → ⊥) → (Rose h.failures i.failures → ⊥) → RowsStop token charset columns a b place h i failed stop → ⊥
   rows_stop_not {place = place} {stop = stop} first later front more brings spelt none reads writes x = elim x.stops.cause [
     | inl y ↦
         (let t = rows_are_read [] first later front spelt in
         let at = x.stops.at in
         let some = stops_size _ x.part x.middle _ (place + length _) at stop y.0 in
-        let among_rows = stops_inside _ all_rows _ (row_among_rows token charset columns x.earlier) x.part x.middle _ (place + length _) at stop (grind arith) y.0 in
-        let all = stops_after all_rows _ _ _ x.middle _ place _ stop (record { bytes = x.streams.bytes; spelt = x.streams.spelt; takes = x.streams.takes }) among_rows in
+        let among_rows = stops_inside _ all_rows _ (row_among_rows token charset columns x.earlier) x.part x.middle _ (place + length _) at stop
+        (grind arith) y.0 in
+        let all = stops_after all_rows _ _ _ x.middle _ place _ stop
+        (record { bytes = x.streams.bytes; spelt = x.streams.spelt; takes = x.streams.takes }) among_rows in
         let same = stopped_there all_rows _ _ _ _ front more brings (longest_rows _ t.0 t.1 front more t.2 none) reads place _ stop all in
         omega (arith, ap (row charset).size (ap (λ p. p.at) same)))
     | inr y ↦
@@ -134,7 +168,10 @@ module _ (token : RowToken) (charset : Charset) (columns : List Column) (some_co
         writes (subst (Rose _) (sym (z.breaks.9.0 ∙ ap one_more (z.puts.2.4.0 ∙ x.streams.puts.2.4.0))) (rose _)))
   ]
 
-  pub rows_succeed : {R W : Type 0} (remaining : R → Option (List ℕ)) (contents : W → Option (List ℕ)) (old new : Payload R) (before after : Sink W) (result : Result ℕ Stop) (first : List Cell) (later : List (List Cell)) (bytes more : List ℕ)
-      → RowsRead remaining contents token charset columns old new before after result → SpellsRows token charset columns first later bytes → BeginNoRow token more → SucceedsOn remaining old new before after result (bytes ++ more)
+  pub rows_succeed : {R W : Type 0} (remaining : R → Option (List ℕ)) (contents : W → Option (List ℕ)) (old new : Payload R) (before after : Sink W)
+      (result : Result ℕ Stop) (first : List Cell) (later : List (List Cell)) (bytes more : List ℕ)
+      → RowsRead remaining contents token charset columns old new before after result → SpellsRows token charset columns first later bytes
+      → BeginNoRow token more → SucceedsOn remaining old new before after result (bytes ++ more)
   rows_succeed remaining contents old new before after (Ok n) first later bytes more read spelt none = λ brings reads writes. refl
-  rows_succeed remaining contents old new before after (Err stop) first later bytes more read spelt none = λ brings reads writes. absurd (rows_stop_not first later bytes more brings spelt none reads writes read)
+  rows_succeed remaining contents old new before after (Err stop) first later bytes more read spelt none =
+      λ brings reads writes. absurd (rows_stop_not first later bytes more brings spelt none reads writes read)

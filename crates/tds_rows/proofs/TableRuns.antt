@@ -1,23 +1,40 @@
 -- Runs of cells over the columns that a table knows: more cells after those that were written.
-use Rattle.tds_rows.proofs.{Words.{arith, true, false, [], ◌∷◌, ◌≡◌, ◌∙◌, ap, all_after, drop_more, refl, BeginsRow, ℕ, ◌+◌, ◌-◌, ◌<◌, ◌≤◌, List, ◌++◌, length, length-append, length-drop, length-take, length-take-le, take, drop, get_or, sym, ◌==◌, Column, Charset, Ahead, CellRun, CellsWritten, RowsRun, Table, Cell, WritesRows, IsAhead, Knows, RunsMarked}, TableSteps.at_end, RunSteps.{made_more, marked_writes, rows_none, rows_onward, used_more}}
+use Rattle.tds_rows.proofs.Words.{arith, true, false, [], ◌∷◌, ◌≡◌, ◌∙◌, ap, all_after, drop_more, refl, BeginsRow, ℕ, ◌+◌, ◌-◌, ◌<◌, ◌≤◌, List, ◌++◌}
+use Rattle.tds_rows.proofs.Words.{length, length-append, length-drop, length-take, length-take-le, take, drop, get_or, sym, ◌==◌, Column, Charset}
+use Rattle.tds_rows.proofs.Words.{Ahead, CellRun, CellsWritten, RowsRun, Table, Cell, WritesRows, IsAhead, Knows, RunsMarked}
+use Rattle.tds_rows.proofs.TableSteps.{at_end}
+use Rattle.tds_rows.proofs.RunSteps.{made_more, marked_writes, rows_none, rows_onward, used_more}
 
 -- Between two places of rows, over the ends of so many, these bytes are their cells, and this is their text.
 abbrev pub RowsBetween : Table → List Column → Ahead → Ahead → ℕ → List ℕ → List ℕ → Type 0
-RowsBetween table columns old new count bytes text = IsAhead table columns new × ((charset : Charset) (cells : List Cell) → table.charset ≡ charset → length cells ≡ old.column → WritesRows charset columns cells (drop old.column columns) (drop new.column columns) new.column count bytes text)
+RowsBetween table columns old new count bytes text = IsAhead table columns new
+    × ((charset : Charset) (cells : List Cell) → table.charset ≡ charset → length cells ≡ old.column
+    → WritesRows charset columns cells (drop old.column columns) (drop new.column columns) new.column count bytes text)
 
 -- what a run over rows has used, made and written so far
 pub record RowsSoFar (table : Table) (from : Ahead) (bytes to : List ℕ) (run : RowsRun) : Type 0 where
   pub used : run.used ≤ length bytes
   pub made : run.made ≤ length to
   pub few : run.rows ≤ run.used
-  pub writes : (columns : List Column) → Knows table columns → IsAhead table columns from → RowsBetween table columns from run.ahead run.rows (take run.used bytes) (take run.made to)
+  pub writes : (columns : List Column) → Knows table columns → IsAhead table columns from
+      → RowsBetween table columns from run.ahead run.rows (take run.used bytes) (take run.made to)
 
 -- nothing yet
-pub rows_begin : {table : Table} {from : Ahead} {bytes to : List ℕ} → RowsSoFar table from bytes to (record { used = 0; made = 0; rows = 0; ahead = from })
-rows_begin = record { used = omega arith; made = omega arith; few = omega arith; writes = λ columns knows ahead. (ahead, λ charset cells set is. rows_none is) }
+pub rows_begin : {table : Table} {from : Ahead} {bytes to : List ℕ}
+    → RowsSoFar table from bytes to (record { used = 0; made = 0; rows = 0; ahead = from })
+rows_begin = record {
+  used = omega arith;
+  made = omega arith;
+  few = omega arith;
+  writes = λ columns knows ahead. (
+    ahead,
+    λ charset cells set is. rows_none is,
+  );
+}
 
 -- the token byte of a ROW is next
-begins_at : (used : ℕ) (bytes : List ℕ) → BeginsRow (take (length bytes - used) (drop used bytes)) → (used < length bytes) × (get_or bytes used 0 ≡ 0xD1)
+begins_at : (used : ℕ) (bytes : List ℕ) → BeginsRow (take (length bytes - used) (drop used bytes)) → (used < length bytes)
+    × (get_or bytes used 0 ≡ 0xD1)
 begins_at used bytes begins = go _ refl
   where
     go : (rest : List ℕ) → drop used bytes ≡ rest → (used < length bytes) × (get_or bytes used 0 ≡ 0xD1)
@@ -27,8 +44,11 @@ begins_at used bytes begins = go _ refl
         (within, ap (λ l. get_or l 0 0) (sym (drop_more bytes used 0 within) ∙ e) ∙ (rw (all_after bytes used, e) at begins))
 
 -- one row more, after its token byte
-pub row_begun : {table : Table} {from start : Ahead} {bytes to : List ℕ} {run : RowsRun} → 0 < table.count → true ≡ (run.ahead.column == table.count) → BeginsRow (take (length bytes - run.used) (drop run.used bytes)) × (start.column ≡ 0)
-    → ((columns : List Column) → Knows table columns → IsAhead table columns run.ahead → IsAhead table columns start) → RowsSoFar table from bytes to run → RowsSoFar table from bytes to (record { used = run.used + 1; made = run.made; rows = run.rows + 1; ahead = start })
+pub row_begun : {table : Table} {from start : Ahead} {bytes to : List ℕ} {run : RowsRun} → 0 < table.count → true ≡ (run.ahead.column == table.count)
+    → BeginsRow (take (length bytes - run.used) (drop run.used bytes)) × (start.column ≡ 0)
+    → ((columns : List Column) → Knows table columns → IsAhead table columns run.ahead → IsAhead table columns start)
+    → RowsSoFar table from bytes to run → RowsSoFar table from bytes to
+    (record { used = run.used + 1; made = run.made; rows = run.rows + 1; ahead = start })
 row_begun {bytes = bytes} {run = run} some at (begins, first) ahead x =
     let (within, byte) = begins_at run.used bytes begins in
     record {
@@ -37,23 +57,34 @@ row_begun {bytes = bytes} {run = run} some at (begins, first) ahead x =
       few = omega (arith, x.few);
       writes = λ columns knows is.
           let y = x.writes columns knows is in
-          let none = at_end columns run.ahead.column _ knows.counted (sym at) in
-          (ahead columns knows y.0, λ charset cells set counted. rw first (rows_onward run.used bytes (omega (arith, some, knows.counted)) none within byte (y.1 charset cells set counted)));
+          let none = at_end columns run.ahead.column _ knows.counted (sym at) in (
+            ahead columns knows y.0,
+            λ charset cells set counted. rw first
+                (rows_onward run.used bytes (omega (arith, some, knows.counted)) none within byte (y.1 charset cells set counted)),
+          );
     }
 
 -- more cells of the last row, in the bytes that are left and after what was made
-pub more_in_rows : {table : Table} {columns : List Column} {old new : Ahead} {count : ℕ} (from : Ahead) (used u made m : ℕ) (bytes to text rest : List ℕ) → made ≤ length to → m ≤ length text → RowsBetween table columns from old count (take used bytes) (take made to)
-    → RunsMarked table columns (λ k. false) old new (take u (take (length bytes - used) (drop used bytes))) (take m text) → RowsBetween table columns from new count (take (used + u) bytes) (take (made + m) (take made to ++ (text ++ rest)))
+pub more_in_rows : {table : Table} {columns : List Column} {old new : Ahead} {count : ℕ} (from : Ahead) (used u made m : ℕ)
+    (bytes to text rest : List ℕ) → made ≤ length to → m ≤ length text → RowsBetween table columns from old count (take used bytes) (take made to)
+    → RunsMarked table columns (λ k. false) old new (take u (take (length bytes - used) (drop used bytes))) (take m text)
+    → RowsBetween table columns from new count (take (used + u) bytes) (take (made + m) (take made to ++ (text ++ rest)))
 more_in_rows from used u made m bytes to text rest within some x y = (
   y.ahead,
   λ charset cells set is.
-      rw (used_more used u bytes, made_more made m to text rest within some, y.further) (marked_writes _ y.count _ _ (x.1 charset cells set is) (rw set at y.writes)),
+      rw (
+        used_more used u bytes,
+        made_more made m to text rest within some,
+        y.further,
+      ) (marked_writes _ y.count _ _ (x.1 charset cells set is) (rw set at y.writes)),
 )
 
 -- the same of what a run over rows has done
-pub rows_more : {table : Table} {from : Ahead} {bytes to : List ℕ} {run : RowsRun} {cells : CellRun} (text rest : List ℕ) → 0 < cells.used → cells.used ≤ length (take (length bytes - run.used) (drop run.used bytes)) → cells.made ≤ length text
+pub rows_more : {table : Table} {from : Ahead} {bytes to : List ℕ} {run : RowsRun} {cells : CellRun} (text rest : List ℕ) → 0 < cells.used
+    → cells.used ≤ length (take (length bytes - run.used) (drop run.used bytes)) → cells.made ≤ length text
     → CellsWritten table run.ahead (take (length bytes - run.used) (drop run.used bytes)) text cells → RowsSoFar table from bytes to run
-    → RowsSoFar table from bytes (take run.made to ++ (text ++ rest)) (record { used = run.used + cells.used; made = run.made + cells.made; rows = run.rows; ahead = cells.ahead })
+    → RowsSoFar table from bytes (take run.made to ++ (text ++ rest))
+    (record { used = run.used + cells.used; made = run.made + cells.made; rows = run.rows; ahead = cells.ahead })
 rows_more {from = from} {bytes = bytes} {to = to} {run = run} text rest some within fits gives x = record {
   used = omega (arith, x.used, within, length-take (length bytes - run.used) (drop run.used bytes), length-drop run.used bytes);
   made = omega (arith, x.made, fits, length-append (take run.made to) (text ++ rest), length-append text rest, length-take-le run.made to x.made);

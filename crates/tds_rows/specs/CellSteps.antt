@@ -1,5 +1,6 @@
 -- What reading a cell and putting it into its line does.
-use Rattle.std.specs.Prelude.{◌≡◌, ◌==◌, ◌⊎◌, ◌+◌, ◌<◌, ◌≤◌, ℕ, Bool, true, false, List, [], ◌∷◌, length, max, take, drop, slice_index, is_ok, Option, Some, None, Result, Ok, IsTrue, MatchOption, MatchResult, if◌then◌else◌}
+use Rattle.std.specs.Prelude.{◌≡◌, ◌==◌, ◌⊎◌, ◌+◌, ◌<◌, ◌≤◌, ℕ, Bool, true, false, List, [], ◌∷◌, length, max, take, drop, slice_index, is_ok, Option}
+use Rattle.std.specs.Prelude.{Some, None, Result, Ok, IsTrue, MatchOption, MatchResult, if◌then◌else◌}
 use Rattle.tds_meter.specs.Space.{Space}
 use Rattle.tds_values.specs.declared.kind.Kind.{Kind}
 use Rattle.tds_values.specs.declared.kind.Kind.TheVariants.{Int4, IntN}
@@ -39,7 +40,8 @@ is_last_column (c ∷ cs) = false
 abbrev pub IsValueText : Kind → ℕ → Bool → List ℕ → List ℕ → Type 0
 IsValueText kind column last bytes text = (value : ScalarValue) × (read_of kind bytes ≡ Ok value) × (text ≡ in_line column last (text_of value))
 
--- the text so far of a cell in its line: nothing before its length is accepted, then a comma unless it is the first, and its field so far; and the end of the line after it if it is the last
+-- the text so far of a cell in its line: nothing before its length is accepted, then a comma unless it is the first, and its field so far; and the
+-- end of the line after it if it is the last
 abbrev pub cell_so_far : ℕ → Bool → CellPart → List ℕ
 cell_so_far column last (WholeCell cell) = in_line column last (field cell)
 cell_so_far column last part = opened column (field_so_far part)
@@ -91,7 +93,8 @@ whole_size kind bytes = if is_scalar kind then scalar_size kind bytes else short
 
 -- The scalar cell at the front of these bytes is left for another way: it isn't whole, or its value is refused.
 abbrev pub IsScalarLeft : Kind → List ℕ → Type 0
-IsScalarLeft kind bytes = (length bytes < scalar_size kind bytes) ⊎ ((0 < value_length kind bytes) × (is_ok (read_of kind (value_bytes kind bytes)) ≡ false))
+IsScalarLeft kind bytes = (length bytes < scalar_size kind bytes)
+    ⊎ ((0 < value_length kind bytes) × (is_ok (read_of kind (value_bytes kind bytes)) ≡ false))
 
 -- The cell at the front of these bytes is left, with this much room.
 abbrev pub IsLeft : Charset → Kind → List ℕ → ℕ → Type 0
@@ -158,17 +161,21 @@ pub record LeavesGathering {R U : Type 0} (old new : payloads.Payload R) (before
   pub small : LeavesSmall before after
 
 -- These bytes, those of a scalar cell, were read from this state on; or the reading stopped.
-abbrev pub CellGathered : {R U : Type 0} → (R → Option (List ℕ)) → Kind → CellPart → ℕ → payloads.Payload R → payloads.Payload R → List ℕ → Result U Stop → Type 0
+abbrev pub CellGathered : {R U : Type 0} → (R → Option (List ℕ)) → Kind → CellPart → ℕ → payloads.Payload R → payloads.Payload R → List ℕ
+    → Result U Stop → Type 0
 CellGathered remaining kind from column old new cell result = MatchResult result
     (λ _. GathersCell kind from column (seen remaining old) (seen remaining new) old.place new.place cell)
     (λ stop. StallsCell from column (seen remaining old) (seen remaining new) old.place stop)
 
 -- A cell was read from its first element on and its text put, or the call stopped.
-abbrev pub FieldPut : {R W U : Type 0} → (R → Option (List ℕ)) → (W → Option (List ℕ)) → CellPart → ℕ → Bool → payloads.Payload R → payloads.Payload R → Sink W → Sink W → Result U Stop → Type 0
+abbrev pub FieldPut : {R W U : Type 0} → (R → Option (List ℕ)) → (W → Option (List ℕ)) → CellPart → ℕ → Bool → payloads.Payload R → payloads.Payload R
+    → Sink W → Sink W → Result U Stop → Type 0
 FieldPut remaining contents from column last old new before after result = MatchResult result
     (λ _. PutsField from column last (seen remaining old) (seen remaining new) old.place new.place (held contents before) (held contents after))
-    (λ stop. StopsField from column last (seen remaining old) (seen remaining new) old.place (held contents before) (held contents after) after.failed stop)
+    (λ stop. StopsField from column last (seen remaining old) (seen remaining new) old.place (held contents before) (held contents after) after.failed
+    stop)
 
 -- A cell of a kind was read and its text put, or the call stopped.
-abbrev pub CellPut : {R W U : Type 0} → (R → Option (List ℕ)) → (W → Option (List ℕ)) → Charset → Kind → ℕ → Bool → payloads.Payload R → payloads.Payload R → Sink W → Sink W → Result U Stop → Type 0
+abbrev pub CellPut : {R W U : Type 0} → (R → Option (List ℕ)) → (W → Option (List ℕ)) → Charset → Kind → ℕ → Bool → payloads.Payload R
+    → payloads.Payload R → Sink W → Sink W → Result U Stop → Type 0
 CellPut remaining contents charset kind = FieldPut remaining contents (cell_start kind (shape charset kind))

@@ -1,5 +1,6 @@
 -- Cells: the values of a row (MS-TDS, Data Stream Types).
-use Rattle.std.specs.Prelude.{◌≡◌, ◌==◌, ◌&&◌, ◌||◌, ◌+◌, ◌-◌, ◌%◌, ◌/◌, ◌^◌, ◌<◌, ◌⊎◌, ℕ, Bool, true, false, List, [], ◌∷◌, ◌++◌, length, replicate, Option, Some, None, if◌then◌else◌, nat_lt, nat_le, slice_index, Result, Ok, Err, is_ok}
+use Rattle.std.specs.Prelude.{◌≡◌, ◌==◌, ◌&&◌, ◌||◌, ◌+◌, ◌-◌, ◌%◌, ◌/◌, ◌^◌, ◌<◌, ◌⊎◌, ℕ, Bool, true, false, List, [], ◌∷◌, ◌++◌, length, replicate}
+use Rattle.std.specs.Prelude.{Option, Some, None, if◌then◌else◌, nat_lt, nat_le, slice_index, Result, Ok, Err, is_ok}
 use Rattle.std.specs.List.{concat}
 use Rattle.tds_values.specs.declared.kind.Kind.{Kind}
 use Rattle.tds_values.specs.declared.kind.Kind.TheVariants.{Binary, Narrow, Wide}
@@ -36,7 +37,8 @@ abbrev pub narrow : Charset → Conversion
 narrow sets.Windows1252 = Windows1252Text
 narrow sets.Utf8 = Utf8Text
 
--- the set in which the value of a RETURNVALUE is read: it is passed over, so its single-byte text may be any bytes, and this set has a character for each
+-- the set in which the value of a RETURNVALUE is read: it is passed over, so its single-byte text may be any bytes, and this set has a character for
+-- each
 abbrev pub return_charset : Charset
 return_charset = sets.Windows1252
 
@@ -79,7 +81,8 @@ unknown_total = 2 ^ 64 - 2
 abbrev pub null_total : ℕ
 null_total = 2 ^ 64 - 1
 
--- The bytes spell the data of a chunked value (MS-TDS, Partially Length-prefixed Bytes): a total, unknown or its length, its chunks and the terminator.
+-- The bytes spell the data of a chunked value (MS-TDS, Partially Length-prefixed Bytes): a total, unknown or its length, its chunks and the
+-- terminator.
 pub record SpellsChunked (content bytes : List ℕ) : Type 0 where
   pub total : List ℕ
   pub rest : List ℕ
@@ -100,7 +103,8 @@ abbrev pub SpellsCell : Kind → Shape → Cell → List ℕ → Type 0
 SpellsCell kind (FixedShape n) (ScalarCell v) bytes = (length bytes ≡ n) × (read_of kind bytes ≡ Ok v)
 SpellsCell kind (FixedShape n) cell bytes = ⊥
 SpellsCell kind CountedShape Null bytes = bytes ≡ 0 ∷ []
-SpellsCell kind CountedShape (ScalarCell v) bytes = (value : List ℕ) × (bytes ≡ length value ∷ value) × (0 < length value) × (is_length_allowed kind (length value) ≡ true) × (read_of kind value ≡ Ok v)
+SpellsCell kind CountedShape (ScalarCell v) bytes = (value : List ℕ) × (bytes ≡ length value ∷ value) × (0 < length value)
+    × (is_length_allowed kind (length value) ≡ true) × (read_of kind value ≡ Ok v)
 SpellsCell kind CountedShape (DataCell c d) bytes = ⊥
 SpellsCell kind (LongShape c Short) Null bytes = bytes ≡ 255 ∷ 255 ∷ []
 SpellsCell kind (LongShape c Short) (DataCell c' d) bytes = (c' ≡ c) × (is_fit c d ≡ true) × SpellsShort d bytes
@@ -173,14 +177,17 @@ end_of_chunks column c total content =
 
 -- the length of a chunk is judged
 abbrev pub chunk_fault : ℕ → Conversion → Option ℕ → List ℕ → ℕ → Option Fault
-chunk_fault column c total content n = if n == 0 then end_of_chunks column c total content else unless (within_total total (length content + n)) (PlpLength column)
+chunk_fault column c total content n = if n == 0 then end_of_chunks column c total content else unless (within_total total (length content + n))
+    (PlpLength column)
 
 -- the first fault of an element of a cell
 abbrev pub cell_fault : ℕ → CellPart → List ℕ → Option Fault
 cell_fault column (ScalarBytes kind n) element = unless (is_ok (read_of kind element)) (BadValue column)
-cell_fault column (ScalarLength kind) element = unless ((slice_index element 0 == 0) || is_length_allowed kind (slice_index element 0)) (BadValueLength column)
+cell_fault column (ScalarLength kind) element =
+    unless ((slice_index element 0 == 0) || is_length_allowed kind (slice_index element 0)) (BadValueLength column)
 cell_fault column (ShortLength c) element = unless ((little element == 0xFFFF) || (little element % unit c == 0)) (OddText column)
-cell_fault column (ShortData c left content) element = unless (is_begun c (content ++ element) && (nat_lt 0 left || is_fit c (content ++ element))) (BadText column)
+cell_fault column (ShortData c left content) element =
+    unless (is_begun c (content ++ element) && (nat_lt 0 left || is_fit c (content ++ element))) (BadText column)
 cell_fault column (Total c) element = unless (nat_le unknown_total (little element) || (little element % unit c == 0)) (OddText column)
 cell_fault column (ChunkLength c total content) element = chunk_fault column c total content (little element)
 cell_fault column (ChunkData c total left content) element = unless (is_begun c (content ++ element)) (BadText column)
@@ -199,11 +206,15 @@ known_total n = if n == unknown_total then None else Some n
 abbrev pub cell_add : CellPart → List ℕ → CellPart
 cell_add (ScalarBytes kind n) element = value_part (read_of kind element)
 cell_add (ScalarLength kind) element = if slice_index element 0 == 0 then WholeCell Null else ScalarBytes kind (slice_index element 0)
-cell_add (ShortLength c) element = if little element == 0xFFFF then WholeCell Null else if little element == 0 then WholeCell (DataCell c []) else ShortData c (little element - 1) []
-cell_add (ShortData c left content) element = if left == 0 then WholeCell (DataCell c (content ++ element)) else ShortData c (left - 1) (content ++ element)
+cell_add (ShortLength c) element = if little element == 0xFFFF then WholeCell Null else if little element == 0 then WholeCell (DataCell c []) else
+    ShortData c (little element - 1) []
+cell_add (ShortData c left content) element =
+    if left == 0 then WholeCell (DataCell c (content ++ element)) else ShortData c (left - 1) (content ++ element)
 cell_add (Total c) element = if little element == null_total then WholeCell Null else ChunkLength c (known_total (little element)) []
-cell_add (ChunkLength c total content) element = if little element == 0 then WholeCell (DataCell c content) else ChunkData c total (little element - 1) content
-cell_add (ChunkData c total left content) element = if left == 0 then ChunkLength c total (content ++ element) else ChunkData c total (left - 1) (content ++ element)
+cell_add (ChunkLength c total content) element =
+    if little element == 0 then WholeCell (DataCell c content) else ChunkData c total (little element - 1) content
+cell_add (ChunkData c total left content) element =
+    if left == 0 then ChunkLength c total (content ++ element) else ChunkData c total (left - 1) (content ++ element)
 cell_add (WholeCell cell) element = WholeCell cell
 
 -- the fault of a message that ends here

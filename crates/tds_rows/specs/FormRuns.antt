@@ -34,13 +34,15 @@ FirstUsed forms bytes used = (form : Form) (rest : List Form) → forms ≡ form
 
 -- Only the first cell was written so.
 abbrev pub FirstWritten : Charset → List Form → ℕ → Bool → List ℕ → List ℕ → FormsRun → Type 0
-FirstWritten charset forms column ends bytes text run = (form : Form) (rest : List Form) → forms ≡ form ∷ rest → WritesOne charset form.kind column (ends && (1 == length forms)) bytes text run.used run.made
+FirstWritten charset forms column ends bytes text run = (form : Form) (rest : List Form) → forms ≡ form ∷ rest
+    → WritesOne charset form.kind column (ends && (1 == length forms)) bytes text run.used run.made
 
 -- The bytes are the cells of this number of forms, and these are their fields after one another, each after its comma.
 abbrev pub WritesForms : Charset → List Form → ℕ → ℕ → List ℕ → List ℕ → Type 0
 WritesForms charset forms column zero bytes text = (bytes ≡ []) × (text ≡ [])
 WritesForms charset forms column (suc n) bytes text = (front : List ℕ) × (rest : List ℕ) × (before : List ℕ) × (field : List ℕ)
-    × (bytes ≡ front ++ rest) × (text ≡ before ++ after_comma (column + n) field) × WritesForms charset forms column n front before × ((form : Form) → WritesField charset (get_or forms n form).kind rest field)
+    × (bytes ≡ front ++ rest) × (text ≡ before ++ after_comma (column + n) field) × WritesForms charset forms column n front before
+    × ((form : Form) → WritesField charset (get_or forms n form).kind rest field)
 
 -- A run wrote the fields of the bytes that it used, and the comma of the next one.
 abbrev pub FieldsWritten : Charset → List Form → ℕ → List ℕ → List ℕ → FormsRun → Type 0

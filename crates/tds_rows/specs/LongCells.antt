@@ -1,5 +1,6 @@
 -- What the parts of reading a long value do: its lengths, the pieces of its content, and its end.
-use Rattle.std.specs.Prelude.{◌≡◌, ◌⊎◌, ◌==◌, ◌||◌, ◌%◌, ◌^◌, ℕ, ◌+◌, ◌-◌, ◌<◌, ◌≤◌, Bool, true, false, List, [], ◌∷◌, ◌++◌, length, nat_le, Option, Some, None, Result, MatchResult, if◌then◌else◌}
+use Rattle.std.specs.Prelude.{◌≡◌, ◌⊎◌, ◌==◌, ◌||◌, ◌%◌, ◌^◌, ℕ, ◌+◌, ◌-◌, ◌<◌, ◌≤◌, Bool, true, false, List, [], ◌∷◌, ◌++◌, length, nat_le, Option}
+use Rattle.std.specs.Prelude.{Some, None, Result, MatchResult, if◌then◌else◌}
 use Rattle.tds_values.specs.Numbers.{little}
 use Rattle.tds_packet.specs.declared.fault.Fault.{Fault}
 use Rattle.tds_packet.specs.declared.fault.Fault.TheVariants.{BadText, OddText, PlpLength}
@@ -57,10 +58,12 @@ NumberRead remaining size old new result = MatchResult result
     (λ stop. CutsNumber size (seen remaining old) (seen remaining new) old.place stop)
 
 -- A number without such a fault was read, and this is what it means; or it is refused, or the payload stopped in it.
-abbrev pub LengthRead : {R A : Type 0} → (R → Option (List ℕ)) → ℕ → (ℕ → Option Fault) → (ℕ → A) → payloads.Payload R → payloads.Payload R → Result A Stop → Type 0
+abbrev pub LengthRead : {R A : Type 0} → (R → Option (List ℕ)) → ℕ → (ℕ → Option Fault) → (ℕ → A) → payloads.Payload R → payloads.Payload R
+    → Result A Stop → Type 0
 LengthRead remaining size fault says old new result = MatchResult result
     (λ answer. (n : ℕ) × ReadsNumber size (seen remaining old) (seen remaining new) old.place new.place n × (fault n ≡ None) × (answer ≡ says n))
-    (λ stop. RefusesNumber size fault (seen remaining old) (seen remaining new) old.place stop ⊎ CutsNumber size (seen remaining old) (seen remaining new) old.place stop)
+    (λ stop. RefusesNumber size fault (seen remaining old) (seen remaining new) old.place stop
+    ⊎ CutsNumber size (seen remaining old) (seen remaining new) old.place stop)
 
 -- the fault of the length of a short value, by the bytes of a unit
 abbrev pub short_fault : ℕ → ℕ → ℕ → Option Fault
@@ -76,7 +79,8 @@ end_fault column size total sum = if is_total total sum then unless (sum % size 
 
 -- the fault of the length of a chunk after this many bytes of content, 0 being the terminator
 abbrev pub chunk_length_fault : ℕ → ℕ → Option ℕ → ℕ → ℕ → Option Fault
-chunk_length_fault column size total sum n = if n == 0 then end_fault column size total sum else unless (within_total total (sum + n)) (PlpLength column)
+chunk_length_fault column size total sum n =
+    if n == 0 then end_fault column size total sum else unless (within_total total (sum + n)) (PlpLength column)
 
 -- a length, unless it stands for NULL
 abbrev pub short_length : ℕ → Option ℕ
@@ -112,17 +116,18 @@ pub record CutsData (old new : Seen) (place : ℕ) (before after : Held) (stop :
   pub same : after ≡ before
 
 -- A piece was read; its first bytes and their text are good, and the next one is bad.
-pub record RefusesData (c : Conversion) (content : List ℕ) (column most : ℕ) (old new : Seen) (place : ℕ) (before after : Held) (stop : Stop) : Type 0 where
-  pub good : List ℕ
-  pub bad : ℕ
-  pub ahead : List ℕ
-  pub within : length good < most
-  pub takes : Takes old new (good ++ bad ∷ ahead) 1
-  pub between : IsBetween new
-  pub begun : BeginsData c (content ++ good)
-  pub no_text : ¬ (BeginsData c ((content ++ good) ++ bad ∷ []))
-  pub puts : Puts before after (added_text c content good)
-  pub stop_is : stop ≡ record { fault = BadText column; place = Payload (place + length good) }
+pub record RefusesData (c : Conversion) (content : List ℕ) (column most : ℕ) (old new : Seen) (place : ℕ) (before after : Held) (stop : Stop) : Type 0
+  where
+    pub good : List ℕ
+    pub bad : ℕ
+    pub ahead : List ℕ
+    pub within : length good < most
+    pub takes : Takes old new (good ++ bad ∷ ahead) 1
+    pub between : IsBetween new
+    pub begun : BeginsData c (content ++ good)
+    pub no_text : ¬ (BeginsData c ((content ++ good) ++ bad ∷ []))
+    pub puts : Puts before after (added_text c content good)
+    pub stop_is : stop ≡ record { fault = BadText column; place = Payload (place + length good) }
 
 -- A piece was read, and a write of the text of its first bytes failed.
 pub record BreaksData (c : Conversion) (content : List ℕ) (most : ℕ) (old new : Seen) (before after : Held) (stop : Stop) : Type 0 where
@@ -142,10 +147,12 @@ StopsData c content column most old new place before after failed stop =
     ⊎ (BreaksData c content most old new before after stop × (failed ≡ true)))
 
 -- The next piece of the content was read and its text put, or that stopped.
-abbrev pub PieceTaken : {R W : Type 0} → (R → Option (List ℕ)) → (W → Option (List ℕ)) → Conversion → List ℕ → List ℕ → ℕ → ℕ → payloads.Payload R → payloads.Payload R → Sink W → Sink W → Result ℕ Stop → Type 0
+abbrev pub PieceTaken : {R W : Type 0} → (R → Option (List ℕ)) → (W → Option (List ℕ)) → Conversion → List ℕ → List ℕ → ℕ → ℕ → payloads.Payload R
+    → payloads.Payload R → Sink W → Sink W → Result ℕ Stop → Type 0
 PieceTaken remaining contents c content kept column most old new before after result = MatchResult result
     (λ n. TakesData c content kept (seen remaining old) (seen remaining new) old.place new.place (held contents before) (held contents after) n)
-    (λ stop. StopsData c content column most (seen remaining old) (seen remaining new) old.place (held contents before) (held contents after) after.failed stop)
+    (λ stop. StopsData c content column most (seen remaining old) (seen remaining new) old.place (held contents before) (held contents after)
+    after.failed stop)
 
 -- Bytes after this content were read piece by piece, and their text put.
 pub record FillsData (c : Conversion) (content : List ℕ) (old new : Seen) (place place' : ℕ) (before after : Held) (more : List ℕ) : Type 0 where
@@ -169,7 +176,8 @@ pub record EndsData (c : Conversion) (content kept : List ℕ) (old new : Seen) 
   pub counted : length front + last ≡ n
 
 -- Bytes were read so, fewer than all, and then a piece stopped.
-pub record StopsFilling (c : Conversion) (content : List ℕ) (column n : ℕ) (old new : Seen) (place : ℕ) (before after : Held) (failed : Bool) (stop : Stop) : Type 0 where
+pub record StopsFilling (c : Conversion) (content : List ℕ) (column n : ℕ) (old new : Seen) (place : ℕ) (before after : Held) (failed : Bool)
+    (stop : Stop) : Type 0 where
   pub front : List ℕ
   pub middle : Seen
   pub there : ℕ
@@ -179,10 +187,12 @@ pub record StopsFilling (c : Conversion) (content : List ℕ) (column n : ℕ) (
   pub stops : StopsData c (content ++ front) column (n - length front) middle new there between after failed stop
 
 -- The content of this many bytes, one at least, was read and its text put, or that stopped.
-abbrev pub DataTaken : {R W U : Type 0} → (R → Option (List ℕ)) → (W → Option (List ℕ)) → Conversion → List ℕ → List ℕ → ℕ → ℕ → payloads.Payload R → payloads.Payload R → Sink W → Sink W → Result U Stop → Type 0
+abbrev pub DataTaken : {R W U : Type 0} → (R → Option (List ℕ)) → (W → Option (List ℕ)) → Conversion → List ℕ → List ℕ → ℕ → ℕ → payloads.Payload R
+    → payloads.Payload R → Sink W → Sink W → Result U Stop → Type 0
 DataTaken remaining contents c content kept column n old new before after result = MatchResult result
     (λ _. EndsData c content kept (seen remaining old) (seen remaining new) old.place new.place (held contents before) (held contents after) n)
-    (λ stop. StopsFilling c content column n (seen remaining old) (seen remaining new) old.place (held contents before) (held contents after) after.failed stop)
+    (λ stop. StopsFilling c content column n (seen remaining old) (seen remaining new) old.place (held contents before) (held contents after)
+    after.failed stop)
 
 -- how many bytes are good before a fault of a joiner
 abbrev pub good_of : JoinFault → ℕ

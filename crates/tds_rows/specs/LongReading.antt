@@ -18,7 +18,8 @@ pub record LeavesBoth {R W U : Type 0} (old new : Payload R) (before after : Sin
   pub sink : LeavesSink before after result
 
 -- It left both so, and some whole data begins with what is withheld then.
-pub record LeavesJoining {R W U : Type 0} (begins : List ℕ → Type 0) (withheld : List ℕ) (old new : Payload R) (before after : Sink W) (result : Result U Stop) : Type 0 where
+pub record LeavesJoining {R W U : Type 0} (begins : List ℕ → Type 0) (withheld : List ℕ) (old new : Payload R) (before after : Sink W)
+    (result : Result U Stop) : Type 0 where
   pub payload : LeavesPayload old new result
   pub sink : LeavesSink before after result
   pub begun : begins withheld

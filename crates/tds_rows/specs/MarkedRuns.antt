@@ -45,9 +45,11 @@ pub record WritesColumn (charset : Charset) (columns : List Column) (nulls : ℕ
 abbrev pub WritesMarked : Charset → List Column → (ℕ → Bool) → ℕ → ℕ → List ℕ → List ℕ → Type 0
 WritesMarked charset columns nulls from zero bytes text = (bytes ≡ []) × (text ≡ [])
 WritesMarked charset columns nulls from (suc n) bytes text = (front : List ℕ) × (rest : List ℕ) × (before : List ℕ) × (more : List ℕ)
-    × (bytes ≡ front ++ rest) × (text ≡ before ++ more) × WritesMarked charset columns nulls from n front before × WritesColumn charset columns nulls (from + n) rest more
+    × (bytes ≡ front ++ rest) × (text ≡ before ++ more) × WritesMarked charset columns nulls from n front before
+    × WritesColumn charset columns nulls (from + n) rest more
 
--- Between two places of a row the bytes are the cells, each but those that are NULL by their bit, and this is their text; single-byte text is read in the table's set.
+-- Between two places of a row the bytes are the cells, each but those that are NULL by their bit, and this is their text; single-byte text is read in
+-- the table's set.
 pub record RunsMarked (table : Table) (columns : List Column) (nulls : ℕ → Bool) (from to : Ahead) (bytes text : List ℕ) : Type 0 where
   pub count : ℕ
   pub ahead : IsAhead table columns to
@@ -58,7 +60,8 @@ pub record RunsMarked (table : Table) (columns : List Column) (nulls : ℕ → B
 
 -- The next cell isn't NULL by its bit and is left, with this much room; or there isn't room for every scalar, or none is ahead.
 abbrev pub EndsLeft : Table → (ℕ → Bool) → Ahead → List ℕ → ℕ → Type 0
-EndsLeft table nulls at bytes room = (columns : List Column) (column : Column) (left : List Column) → Knows table columns → IsAhead table columns at → drop at.column columns ≡ column ∷ left →
+EndsLeft table nulls at bytes room = (columns : List Column) (column : Column) (left : List Column) → Knows table columns → IsAhead table columns at
+    → drop at.column columns ≡ column ∷ left →
     (room < CELL_ROOM) ⊎ ((nulls at.column ≡ false) × IsLeft table.charset column.kind bytes room)
 
 -- how many bytes may be put into a sink and wait, short of a block
@@ -71,7 +74,8 @@ MarkedWritten table nulls from bytes text run = (columns : List Column) → Know
     RunsMarked table columns nulls from run.ahead (take run.used bytes) (take run.made text)
 
 -- The cells between two places were read, without a packet, and their text put.
-pub record PutsMarked (table : Table) (columns : List Column) (nulls : ℕ → Bool) (from to : Ahead) (old new : Seen) (place place' : ℕ) (before after : Held) : Type 0 where
+pub record PutsMarked (table : Table) (columns : List Column) (nulls : ℕ → Bool) (from to : Ahead) (old new : Seen) (place place' : ℕ)
+    (before after : Held) : Type 0 where
   pub bytes : List ℕ
   pub text : List ℕ
   pub runs : RunsMarked table columns nulls from to bytes text
@@ -80,6 +84,7 @@ pub record PutsMarked (table : Table) (columns : List Column) (nulls : ℕ → B
   pub place_is : place' ≡ place + length bytes
 
 -- The same between a payload and a sink.
-abbrev pub MarkedPut : {R W : Type 0} → (R → Option (List ℕ)) → (W → Option (List ℕ)) → Table → (ℕ → Bool) → Ahead → Payload R → Payload R → Sink W → Sink W → Ahead → Type 0
+abbrev pub MarkedPut : {R W : Type 0} → (R → Option (List ℕ)) → (W → Option (List ℕ)) → Table → (ℕ → Bool) → Ahead → Payload R → Payload R → Sink W
+    → Sink W → Ahead → Type 0
 MarkedPut remaining contents table nulls from old new before after to = (columns : List Column) → Knows table columns → IsAhead table columns from →
     PutsMarked table columns nulls from to (seen remaining old) (seen remaining new) old.place new.place (held contents before) (held contents after)

@@ -25,7 +25,8 @@ pub record IsInRow {R W : Type 0} (rows : Rows R W) : Type 0 where
 
 -- Two readings are on the same payload, sink and area, by the same table.
 abbrev pub IsOnSameRows : {R W : Type 0} → Rows R W → Rows R W → Type 0
-IsOnSameRows old new = (new.payload.ghost_name ≡ old.payload.ghost_name) × (new.sink.ghost_name ≡ old.sink.ghost_name) × (new.small.ghost_name ≡ old.small.ghost_name) × (new.table ≡ old.table)
+IsOnSameRows old new = (new.payload.ghost_name ≡ old.payload.ghost_name) × (new.sink.ghost_name ≡ old.sink.ghost_name)
+    × (new.small.ghost_name ≡ old.small.ghost_name) × (new.table ≡ old.table)
 
 -- A call left the reading on the same devices and area, by the same table, with no more than a cell gathered, and, if it returned no error, going on.
 pub record LeavesRows {R W U : Type 0} (old new : Rows R W) (result : Result U Stop) : Type 0 where
@@ -43,23 +44,28 @@ pub record StaysInRow {R W : Type 0} (old new : Rows R W) : Type 0 where
   pub small : LeavesSmall old.small.now new.small.now
 
 -- The cell after this many columns, the row's last or not, was read from this state on and its text put, or the call stopped.
-abbrev pub ContentRead : {R W U : Type 0} → (R → Option (List ℕ)) → (W → Option (List ℕ)) → CellPart → ℕ → Bool → Rows R W → Rows R W → Result U Stop → Type 0
+abbrev pub ContentRead : {R W U : Type 0} → (R → Option (List ℕ)) → (W → Option (List ℕ)) → CellPart → ℕ → Bool → Rows R W → Rows R W → Result U Stop
+    → Type 0
 ContentRead remaining contents start column last old new result =
     FieldPut remaining contents start column last old.payload.now new.payload.now old.sink.now new.sink.now result
 
 -- The cell of this kind after this many columns, the row's last or not, was read and its text put, or the call stopped.
-abbrev pub KindRead : {R W U : Type 0} → (R → Option (List ℕ)) → (W → Option (List ℕ)) → ℕ → Bool → Kind → Rows R W → Rows R W → Result U Stop → Type 0
+abbrev pub KindRead : {R W U : Type 0} → (R → Option (List ℕ)) → (W → Option (List ℕ)) → ℕ → Bool → Kind → Rows R W → Rows R W → Result U Stop
+    → Type 0
 KindRead remaining contents column last kind old new result =
     CellPut remaining contents old.table.now.charset kind column last old.payload.now new.payload.now old.sink.now new.sink.now result
 
 -- The next cell, of this kind, was read and its text put, or the call stopped.
 abbrev pub CellRead : {R W U : Type 0} → (R → Option (List ℕ)) → (W → Option (List ℕ)) → Ahead → Kind → Rows R W → Rows R W → Result U Stop → Type 0
-CellRead remaining contents at kind old new result = (last : Bool) → IsNextKind old.table.now at kind last → KindRead remaining contents at.column last kind old new result
+CellRead remaining contents at kind old new result = (last : Bool) → IsNextKind old.table.now at kind last
+    → KindRead remaining contents at.column last kind old new result
 
 -- The next cell was put, NULL or, of this kind, as it was read, or the call stopped.
-abbrev pub NextRead : {R W U : Type 0} → (R → Option (List ℕ)) → (W → Option (List ℕ)) → Ahead → Kind → Bool → Rows R W → Rows R W → Result U Stop → Type 0
+abbrev pub NextRead : {R W U : Type 0} → (R → Option (List ℕ)) → (W → Option (List ℕ)) → Ahead → Kind → Bool → Rows R W → Rows R W → Result U Stop
+    → Type 0
 NextRead remaining contents at kind true old new result =
-    (new.payload.now ≡ old.payload.now) × PutsPiece contents old.sink.now new.sink.now (in_line at.column (at.column + 1 == old.table.now.count) null_field) result
+    (new.payload.now ≡ old.payload.now) × PutsPiece contents old.sink.now new.sink.now
+    (in_line at.column (at.column + 1 == old.table.now.count) null_field) result
 NextRead remaining contents at kind false old new result = CellRead remaining contents at kind old new result
 
 -- A bitmap can be read into the area: it is empty, and has room for the longest.
@@ -70,7 +76,8 @@ pub record AwaitsBitmap (bitmap : Space) : Type 0 where
 
 -- A row was read from this state on and its line put, or the call stopped.
 abbrev pub RowRead : {R W U : Type 0} → (R → Option (List ℕ)) → (W → Option (List ℕ)) → RowPart → Rows R W → Rows R W → Result U Stop → Type 0
-RowRead remaining contents start old new result = RowPut remaining contents old.table.now.charset start old.payload.now new.payload.now old.sink.now new.sink.now result
+RowRead remaining contents start old new result =
+    RowPut remaining contents old.table.now.charset start old.payload.now new.payload.now old.sink.now new.sink.now result
 
 -- The token byte of one more row was taken; or, if the result is false, nothing was, and none is next in the packet.
 abbrev pub TokenTaken : {R : Type 0} → (R → Option (List ℕ)) → RowToken → Payload R → Payload R → Bool → Type 0

@@ -24,35 +24,45 @@ abbrev pub RowStops : Charset → RowPart → Seen → Seen → ℕ → Held →
 RowStops charset = StopsStreaming (row charset) row_so_far
 
 -- A row was read and its line put, or the call stopped.
-abbrev pub RowPut : {R W U : Type 0} → (R → Option (List ℕ)) → (W → Option (List ℕ)) → Charset → RowPart → Payload R → Payload R → Sink W → Sink W → Result U Stop → Type 0
+abbrev pub RowPut : {R W U : Type 0} → (R → Option (List ℕ)) → (W → Option (List ℕ)) → Charset → RowPart → Payload R → Payload R → Sink W → Sink W
+    → Result U Stop → Type 0
 RowPut remaining contents charset start old new before after result = MatchResult result
     (λ _. ReadsRow charset start (seen remaining old) (seen remaining new) old.place new.place (held contents before) (held contents after))
-    (λ stop. RowStops charset start (seen remaining old) (seen remaining new) old.place (held contents before) (held contents after) after.failed stop)
+    (λ stop. RowStops charset start (seen remaining old) (seen remaining new) old.place (held contents before) (held contents after) after.failed
+    stop)
 
 -- Rows were read, this many, and their lines put.
-pub record ReadsRows (token : RowToken) (charset : Charset) (columns : List Column) (count : ℕ) (old new : Seen) (place place' : ℕ) (before after : Held) : Type 0 where
+pub record ReadsRows (token : RowToken) (charset : Charset) (columns : List Column) (count : ℕ) (old new : Seen) (place place' : ℕ)
+    (before after : Held) : Type 0 where
   pub earlier : List (List Cell)
   pub last : List Cell
   pub counted : count ≡ length earlier + 1
-  pub streams : Streams (rows token charset columns) rows_so_far (rows_start token charset columns) old new before after (record { before = earlier; at = WholeRow last })
+  pub streams : Streams (rows token charset columns) rows_so_far (rows_start token charset columns) old new before after
+      (record { before = earlier; at = WholeRow last })
   pub place_is : place' ≡ place + length streams.bytes
 
 -- Rows were read and their lines put, as far as a place in a row, and there the reading of that row stopped.
-pub record RowsStop (token : RowToken) (charset : Charset) (columns : List Column) (old new : Seen) (place : ℕ) (before after : Held) (failed : Bool) (stop : Stop) : Type 0 where
+pub record RowsStop (token : RowToken) (charset : Charset) (columns : List Column) (old new : Seen) (place : ℕ) (before after : Held) (failed : Bool)
+    (stop : Stop) : Type 0 where
   pub earlier : List (List Cell)
   pub part : RowPart
   pub middle : Seen
   pub between : Held
-  pub streams : Streams (rows token charset columns) rows_so_far (rows_start token charset columns) old middle before between (record { before = earlier; at = part })
+  pub streams : Streams (rows token charset columns) rows_so_far (rows_start token charset columns) old middle before between
+      (record { before = earlier; at = part })
   pub stops : RowStops charset part middle new (place + length streams.bytes) between after failed stop
 
 -- Rows were read and their lines put, or the call stopped in one of them.
-abbrev pub RowsRead : {R W : Type 0} → (R → Option (List ℕ)) → (W → Option (List ℕ)) → RowToken → Charset → List Column → Payload R → Payload R → Sink W → Sink W → Result ℕ Stop → Type 0
+abbrev pub RowsRead : {R W : Type 0} → (R → Option (List ℕ)) → (W → Option (List ℕ)) → RowToken → Charset → List Column → Payload R → Payload R
+    → Sink W → Sink W → Result ℕ Stop → Type 0
 RowsRead remaining contents token charset columns old new before after result = MatchResult result
-    (λ count. ReadsRows token charset columns count (seen remaining old) (seen remaining new) old.place new.place (held contents before) (held contents after))
-    (λ stop. RowsStop token charset columns (seen remaining old) (seen remaining new) old.place (held contents before) (held contents after) after.failed stop)
+    (λ count. ReadsRows token charset columns count (seen remaining old) (seen remaining new) old.place new.place (held contents before)
+    (held contents after))
+    (λ stop. RowsStop token charset columns (seen remaining old) (seen remaining new) old.place (held contents before) (held contents after)
+    after.failed stop)
 
 -- A payload or a sink that had stopped gives its stop again, the payload's first, and nothing changes.
-pub record StopsAgain {R W U : Type 0} (contents : W → Option (List ℕ)) (old new : Payload R) (before after : Sink W) (result : Result U Stop) : Type 0 where
+pub record StopsAgain {R W U : Type 0} (contents : W → Option (List ℕ)) (old new : Payload R) (before after : Sink W) (result : Result U Stop) : Type
+    0 where
   pub stopped : IfSome old.stopped (λ stop. (result ≡ Err stop) × (new ≡ old) × (after ≡ before))
   pub failed : old.stopped ≡ None → before.failed ≡ true → (result ≡ Err (stop_of (held contents before))) × (new ≡ old) × (after ≡ before)

@@ -49,7 +49,8 @@ marked (c ∷ cs) nulls k = (c, nulls k) ∷ marked cs nulls (k + 1)
 abbrev pub SpellsMarked : Charset → List (Column × Bool) → List Cell → List ℕ → Type 0
 SpellsMarked charset [] [] bytes = bytes ≡ []
 SpellsMarked charset ((k, true) ∷ ks) (c ∷ cs) bytes = (c ≡ Null) × SpellsMarked charset ks cs bytes
-SpellsMarked charset ((k, false) ∷ ks) (c ∷ cs) bytes = (front : List ℕ) × (rest : List ℕ) × (bytes ≡ front ++ rest) × SpellsCell k.kind (shape charset k.kind) c front × SpellsMarked charset ks cs rest
+SpellsMarked charset ((k, false) ∷ ks) (c ∷ cs) bytes = (front : List ℕ) × (rest : List ℕ) × (bytes ≡ front ++ rest)
+    × SpellsCell k.kind (shape charset k.kind) c front × SpellsMarked charset ks cs rest
 SpellsMarked charset [] (c ∷ cs) bytes = ⊥
 SpellsMarked charset ((k, null) ∷ ks) [] bytes = ⊥
 

@@ -1,5 +1,6 @@
 -- What a run of cells does, which lie whole in the packet.
-use Rattle.std.specs.Prelude.{◌≡◌, ◌==◌, ◌+◌, ◌<◌, ◌≤◌, ℕ, Bool, false, List, [], ◌∷◌, ◌++◌, length, map, take, drop, Option, Some, None, MatchOption, if◌then◌else◌, slice_index}
+use Rattle.std.specs.Prelude.{◌≡◌, ◌==◌, ◌+◌, ◌<◌, ◌≤◌, ℕ, Bool, false, List, [], ◌∷◌, ◌++◌, length, map, take, drop, Option, Some, None, MatchOption}
+use Rattle.std.specs.Prelude.{if◌then◌else◌, slice_index}
 use Rattle.tds_values.specs.declared.kind.Kind.{Kind}
 use Rattle.tds_packet.specs.declared.fault.Fault.{Fault}
 use Rattle.tds_packet.specs.declared.fault.Fault.TheVariants.{MessageEnded, RefusedToken}
@@ -19,7 +20,8 @@ use Rattle.tds_rows.specs.declared.run.RowsRun.{RowsRun}
 use Rattle.tds_rows.specs.declared.table.Ahead.{Ahead}
 use Rattle.tds_rows.specs.declared.table.Table.{Table}
 use Rattle.tds_rows.specs.Cells.{Cell, field}
-use Rattle.tds_rows.specs.Rows.{PlainRow, RowPart, RowToken, WholeRow, marked, next_cell, row_add, row_fault, row_size, row_so_far, token_byte, token_start}
+use Rattle.tds_rows.specs.Rows.{PlainRow, RowPart, RowToken, WholeRow, marked, next_cell, row_add, row_fault, row_size, row_so_far, token_byte}
+use Rattle.tds_rows.specs.Rows.{token_start}
 use Rattle.tds_rows.specs.MarkedRuns.{EndsLeft, MarkedWritten}
 use Rattle.tds_rows.specs.CellSteps.{IsLeft, WritesKind, whole_size}
 use Rattle.tds_rows.specs.Tables.{IsAhead, Knows}
@@ -61,7 +63,13 @@ rows_add token charset columns before part element = record { before = before; a
 
 -- How rows of one token are read, one after another.
 abbrev pub rows : RowToken → Charset → List Column → Grammar RowsPart Fault
-rows token charset columns = record { size = λ p. rows_size p.at; fault = λ p element. rows_fault token p.at element; add = λ p element. rows_add token charset columns p.before p.at element; end_fault = λ p. Some MessageEnded }
+rows token charset columns = record {
+  size = λ p. rows_size p.at;
+  fault = λ p element. rows_fault token p.at element;
+  add = λ p element. rows_add
+      token charset columns p.before p.at element;
+  end_fault = λ p. Some MessageEnded;
+}
 
 -- the lines of whole rows
 abbrev pub lines : List (List Cell) → List ℕ
@@ -73,20 +81,24 @@ abbrev pub rows_so_far : RowsPart → List ℕ
 rows_so_far p = lines p.before ++ row_so_far p.at
 
 -- The bytes are more cells after these, over the ends of this many rows, and this is their text; the columns left come after.
-pub record WritesRows (charset : Charset) (all : List Column) (cells : List Cell) (columns left : List Column) (column count : ℕ) (bytes made : List ℕ) : Type 0 where
+pub record WritesRows (charset : Charset) (all : List Column) (cells : List Cell) (columns left : List Column) (column count : ℕ)
+    (bytes made : List ℕ) : Type 0 where
   pub before : List (List Cell)
   pub more : List Cell
   pub rows_counted : length before ≡ count
   pub counted : length more ≡ column
-  pub writes : Writes (rows PlainRow charset all) rows_so_far (record { before = []; at = after_cells charset cells columns }) bytes made (record { before = before; at = after_cells charset more left })
+  pub writes : Writes (rows PlainRow charset all) rows_so_far (record { before = []; at = after_cells charset cells columns }) bytes made
+      (record { before = before; at = after_cells charset more left })
 
 -- More cells after these were read, over the ends of this many rows, and their text put.
-pub record RunsRows (charset : Charset) (all : List Column) (cells : List Cell) (columns left : List Column) (column count : ℕ) (old new : Seen) (place place' : ℕ) (earlier after : Held) : Type 0 where
+pub record RunsRows (charset : Charset) (all : List Column) (cells : List Cell) (columns left : List Column) (column count : ℕ) (old new : Seen)
+    (place place' : ℕ) (earlier after : Held) : Type 0 where
   pub before : List (List Cell)
   pub more : List Cell
   pub rows_counted : length before ≡ count
   pub counted : length more ≡ column
-  pub streams : Streams (rows PlainRow charset all) rows_so_far (record { before = []; at = after_cells charset cells columns }) old new earlier after (record { before = before; at = after_cells charset more left })
+  pub streams : Streams (rows PlainRow charset all) rows_so_far (record { before = []; at = after_cells charset cells columns }) old new earlier after
+      (record { before = before; at = after_cells charset more left })
   pub place_is : place' ≡ place + length streams.bytes
 
 -- ---- what a run gives, whatever the columns that its table knows, and whatever the cells before it
@@ -109,7 +121,8 @@ pub record WritesOne (charset : Charset) (kind : Kind) (column : ℕ) (last : Bo
 
 -- The cell of this kind was written so, or it is left, with this much room.
 abbrev pub AloneWritten : Charset → Kind → ℕ → Bool → List ℕ → ℕ → List ℕ → Option Written → Type 0
-AloneWritten charset kind column last bytes room text result = MatchOption result (IsLeft charset kind bytes room) (λ written. WritesOne charset kind column last bytes text written.used written.made)
+AloneWritten charset kind column last bytes room text result =
+    MatchOption result (IsLeft charset kind bytes room) (λ written. WritesOne charset kind column last bytes text written.used written.made)
 
 -- A run wrote the text of the cells between two places of a row, whose bytes it used; none of them is NULL by a bit.
 abbrev pub CellsWritten : Table → Ahead → List ℕ → List ℕ → CellRun → Type 0
@@ -119,10 +132,13 @@ CellsWritten table from bytes text run = MarkedWritten table (λ k. false) from 
 abbrev pub RowsWritten : Table → Ahead → List ℕ → List ℕ → RowsRun → Type 0
 RowsWritten table from bytes text run = (columns : List Column) → Knows table columns → IsAhead table columns from →
     IsAhead table columns run.ahead × ((charset : Charset) (cells : List Cell) → table.charset ≡ charset → length cells ≡ from.column →
-    WritesRows charset columns cells (drop from.column columns) (drop run.ahead.column columns) run.ahead.column run.rows (take run.used bytes) (take run.made text))
+    WritesRows charset columns cells (drop from.column columns) (drop run.ahead.column columns) run.ahead.column run.rows (take run.used bytes)
+    (take run.made text))
 
 -- The same between a payload and a sink.
-abbrev pub RowsPut : {R W : Type 0} → (R → Option (List ℕ)) → (W → Option (List ℕ)) → Table → Ahead → Payload R → Payload R → Sink W → Sink W → RowsRun → Type 0
+abbrev pub RowsPut : {R W : Type 0} → (R → Option (List ℕ)) → (W → Option (List ℕ)) → Table → Ahead → Payload R → Payload R → Sink W → Sink W
+    → RowsRun → Type 0
 RowsPut remaining contents table from old new before after run = (columns : List Column) → Knows table columns → IsAhead table columns from →
     IsAhead table columns run.ahead × ((charset : Charset) (cells : List Cell) → table.charset ≡ charset → length cells ≡ from.column →
-    RunsRows charset columns cells (drop from.column columns) (drop run.ahead.column columns) run.ahead.column run.rows (seen remaining old) (seen remaining new) old.place new.place (held contents before) (held contents after))
+    RunsRows charset columns cells (drop from.column columns) (drop run.ahead.column columns) run.ahead.column run.rows (seen remaining old)
+    (seen remaining new) old.place new.place (held contents before) (held contents after))

@@ -67,7 +67,8 @@ pub record AreAhead (table : Table) (at : Ahead) (end : ℕ) (forms : List Form)
   pub some : 0 < length forms
   pub within : at.column + length forms ≤ end
   pub known : (at.column + length forms ≤ table.known) ⊎ (length forms ≡ 1)
-  pub next : (columns : List Column) → Knows table columns → IsAhead table columns at → map (λ f. f.kind) forms ≡ kinds (take (length forms) (drop at.column columns))
+  pub next : (columns : List Column) → Knows table columns → IsAhead table columns at
+      → map (λ f. f.kind) forms ≡ kinds (take (length forms) (drop at.column columns))
 
 -- This is the kind of the next column ahead, of columns that the table knows, and so it is with the last one.
 pub record IsNextKind (table : Table) (at : Ahead) (next_kind : Kind) (is_end : Bool) : Type 0 where

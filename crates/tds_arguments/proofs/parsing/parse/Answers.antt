@@ -8,10 +8,12 @@ pub returns-in-Ok-clause-answers : goal.returns-in-Ok-clause-answers
 returns-in-Ok-clause-answers c =
     let app = app_of c.in_ok-program.program in
     let job = c.found_job.ensures in
-    found app (map string_bytes c.args.arguments.now) c.in_ok-program.ensures c.in-Ok.matches c.found_job.result (c.in-Ok.ensures.kinds (is_known app c.in_ok-program.ensures)) c.in-Ok.ensures.matches
+    found app (map string_bytes c.args.arguments.now) c.in_ok-program.ensures c.in-Ok.matches c.found_job.result
+    (c.in-Ok.ensures.kinds (is_known app c.in_ok-program.ensures)) c.in-Ok.ensures.matches
     job.range job.job job.refusal job.err
 
 pub returns-in-Err-clause-answers : goal.returns-in-Err-clause-answers
 returns-in-Err-clause-answers c =
     let app = app_of c.in_ok-program.program in
-    refused app (map string_bytes c.args.arguments.now) c.in_ok-program.ensures c.in-Err.error c.usage_of.result (c.in-Err.ensures.kinds (is_known app c.in_ok-program.ensures)) c.usage_of.ensures
+    refused app (map string_bytes c.args.arguments.now) c.in_ok-program.ensures c.in-Err.error c.usage_of.result
+    (c.in-Err.ensures.kinds (is_known app c.in_ok-program.ensures)) c.usage_of.ensures

@@ -4,12 +4,20 @@ use Rattle.tds_columns.proofs.element.take_into.Goals as goal
 pub returns-in-Ok-clause-gives : goal.returns-in-Ok-clause-gives
 returns-in-Ok-clause-gives g c =
     let n = c.fill.auto.to ∙ c.grow_within-lent.ensures.value in
-    record { element = c.fill.new.to; whole = n; takes = rw n at c.in-Ok.ensures.all; between = c.in-Ok.ensures.between; stands = grown c.args.area.now c.grow_within-lent.result.now c.fill.new.to c.fill.auto.to }
+    record {
+      element = c.fill.new.to;
+      whole = n;
+      takes = rw n at c.in-Ok.ensures.all;
+      between = c.in-Ok.ensures.between;
+      stands = grown
+          c.args.area.now c.grow_within-lent.result.now c.fill.new.to c.fill.auto.to;
+    }
 
 pub returns-in-Err-clause-area : goal.returns-in-Err-clause-area
 returns-in-Err-clause-area g c =
     let stands = grown c.args.area.now c.grow_within-lent.result.now c.fill.new.to c.fill.auto.to in
-    let back = shrunk c.args.area.now c.fill.new.to stands (c.fill.auto.to ∙ c.grow_within-lent.ensures.value) c.len-start.ensures.value c.truncate.ensures in
+    let back = shrunk c.args.area.now c.fill.new.to stands (c.fill.auto.to ∙ c.grow_within-lent.ensures.value) c.len-start.ensures.value
+    c.truncate.ensures in
     record { room = rw c.truncate.ensures; kept = (back.0, omega (arith, back.1)) }
 
 pub returns-in-Err-clause-gives : goal.returns-in-Err-clause-gives
@@ -19,4 +27,12 @@ returns-in-Err-clause-gives g c = λ going.
     let back = shrunk c.args.area.now c.fill.new.to stands n c.len-start.ensures.value c.truncate.ensures in
     let part = c.in-Err.ensures.part going in
     let few = length-take-le part.0 c.fill.new.to (omega (arith, part.2)) in
-    record { part = take part.0 c.fill.new.to; fewer = omega (arith, few, part.2, n); own = part.1; ends = part.3; stop_is = part.4; stands = back.0; peak = omega (arith, back.1) }
+    record {
+      part = take part.0 c.fill.new.to;
+      fewer = omega (arith, few, part.2, n);
+      own = part.1;
+      ends = part.3;
+      stop_is = part.4;
+      stands = back.0;
+      peak = omega (arith, back.1);
+    }

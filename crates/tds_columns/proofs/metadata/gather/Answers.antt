@@ -5,7 +5,8 @@ pub returns-in_default-clause-gives : goal.returns-in_default-clause-gives
 returns-in_default-clause-gives g c = rw (c.in_default.is, c.clear.ensures.value) at c.in_ok-count.ensures.gives
 
 pub returns-in_err-count-clause-gives : goal.returns-in_err-count-clause-gives
-returns-in_err-count-clause-gives g c = passed _ _ _ _ c.from_residual.ensures.1 (λ going. gather_stops (rw c.clear.ensures.value at (c.in_err-count.ensures.gives.2 going)))
+returns-in_err-count-clause-gives g c = passed _ _ _ _ c.from_residual.ensures.1
+    (λ going. gather_stops (rw c.clear.ensures.value at (c.in_err-count.ensures.gives.2 going)))
 
 pub returns-in_err-read_columns-clause-gives : goal.returns-in_err-read_columns-clause-gives
 returns-in_err-read_columns-clause-gives g c = passed _ _ _ _ c.from_residual-in_err-read_columns.ensures.1 (λ going.

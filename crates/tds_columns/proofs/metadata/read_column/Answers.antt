@@ -2,7 +2,8 @@ use Rattle.tds_columns.proofs.{GatherSteps.part_after, Words.passed}
 use Rattle.tds_columns.proofs.metadata.read_column.Goals as goal
 
 pub returns-in_err-read_type-clause-gives : goal.returns-in_err-read_type-clause-gives
-returns-in_err-read_type-clause-gives g c = λ columns number. passed _ _ _ _ c.from_residual.ensures.1 (c.in_err-read_type.ensures.gives columns number)
+returns-in_err-read_type-clause-gives g c =
+    λ columns number. passed _ _ _ _ c.from_residual.ensures.1 (c.in_err-read_type.ensures.gives columns number)
 
 pub returns-clause-gives : goal.returns-clause-gives
 returns-clause-gives g c = λ columns number.

@@ -1,4 +1,7 @@
-use Rattle.tds_columns.proofs.{Words.{◌≡◌, ◌∙◌, [], ◌∷◌, ◌++◌, length, refl, arith, rules, le_refl, length-append, ◌==◌, nat_tests, choose_true, passed, reads_none}, ColumnLaws.at_column, GatherSteps.{describes_both, stops_describing_after}}
+use Rattle.tds_columns.proofs.Words.{◌≡◌, ◌∙◌, [], ◌∷◌, ◌++◌, length, refl, arith, rules, le_refl, length-append, ◌==◌, nat_tests, choose_true}
+use Rattle.tds_columns.proofs.Words.{passed, reads_none}
+use Rattle.tds_columns.proofs.ColumnLaws.{at_column}
+use Rattle.tds_columns.proofs.GatherSteps.{describes_both, stops_describing_after}
 use Rattle.tds_columns.proofs.metadata.read_columns.Goals as goal
 
 pub columns-init : goal.columns-init
@@ -7,14 +10,20 @@ columns-init g c = record {
   same = search rules;
   room = search rules;
   fits = omega (arith, c.requires.fits);
-  reads = ([], refl, rw (at_column c.args.area.now.bytes c.args.count [] c.requires.some) (record { reads = reads_none _ _ _; place_is = omega arith; kept = refl; bound = omega arith; further = le_refl _ }));
+  reads = (
+    [],
+    refl,
+    rw (at_column c.args.area.now.bytes c.args.count [] c.requires.some)
+        (record { reads = reads_none _ _ _; place_is = omega arith; kept = refl; bound = omega arith; further = le_refl _ }),
+  );
 }
 
 pub returns-in_err-read_column-clause-gives : goal.returns-in_err-read_column-clause-gives
 returns-in_err-read_column-clause-gives g c =
     let columns = c.columns.invariant.reads in
     let read = rw (at_column c.columns.area.bytes c.args.count columns.0 (omega (arith, columns.1, c.columns-test.true))) at columns.2 in
-    passed _ _ _ _ c.from_residual.ensures.1 (stops_describing_after c.columns.invariant.room read (c.in_err-read_column.ensures.gives columns.0 columns.1))
+    passed _ _ _ _ c.from_residual.ensures.1 (stops_describing_after c.columns.invariant.room read
+    (c.in_err-read_column.ensures.gives columns.0 columns.1))
 
 pub columns-preserved : goal.columns-preserved
 columns-preserved g c =

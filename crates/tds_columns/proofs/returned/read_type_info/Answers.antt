@@ -1,28 +1,43 @@
-use Rattle.tds_columns.proofs.{Words.{◌≡◌, ◌∙◌, ◌∷◌, refl, sym, rules, arith, slice_index, None, kind_of, passed, refused_at_once, TypeHead, returned_type}, ElementSteps.{shrunk, cut_into, element_at, refused_into}, TypeSteps.{no_kind, stops_after_steps, type_whole}}
+use Rattle.tds_columns.proofs.Words.{◌≡◌, ◌∙◌, ◌∷◌, refl, sym, rules, arith, slice_index, None, kind_of, passed, refused_at_once, TypeHead}
+use Rattle.tds_columns.proofs.Words.{returned_type}
+use Rattle.tds_columns.proofs.ElementSteps.{shrunk, cut_into, element_at, refused_into}
+use Rattle.tds_columns.proofs.TypeSteps.{no_kind, stops_after_steps, type_whole}
 use Rattle.tds_columns.proofs.returned.read_type_info.Goals as goal
 
 pub returns-in-Err-clause-gives : goal.returns-in-Err-clause-gives
 returns-in-Err-clause-gives g c = λ before taken.
     let first = rw c.bytes.ensures.value at c.in-Err.ensures.gives in
-    rw (c.in_payload.ensures, c.place-place.ensures) (record { at = TypeHead; stops = refused_at_once returned_type TypeHead _ _ _ c.args.small.now.bytes _ (omega (arith, c.requires.head.eight)) c.requires.head.eight first (rw c.requires.head.eight taken.0) taken.1 })
+    rw (c.in_payload.ensures, c.place-place.ensures)
+    (record {
+      at = TypeHead;
+      stops = refused_at_once returned_type TypeHead _ _ _ c.args.small.now.bytes _ (omega (arith, c.requires.head.eight))
+          c.requires.head.eight first (rw c.requires.head.eight taken.0) taken.1;
+    })
 
 pub returns-in_err-take_into-clause-gives : goal.returns-in_err-take_into-clause-gives
 returns-in_err-take_into-clause-gives g c = λ before taken.
     let known = rw c.bytes.ensures.value at c.in-Ok.ensures.gives in
     let e = c.in_err-take_into.ensures.gives c.requires.going.going in
-    passed _ _ _ _ c.from_residual.ensures.1 (stops_after_steps c.args.small.now.bytes taken c.requires.head.eight c.in-Ok.rest known (λ z. omega (arith, z, e.fewer)) c.requires.head.place (cut_into e (rw known) refl))
+    passed _ _ _ _ c.from_residual.ensures.1 (stops_after_steps c.args.small.now.bytes taken c.requires.head.eight c.in-Ok.rest known
+    (λ z. omega (arith, z, e.fewer)) c.requires.head.place (cut_into e (rw known) refl))
 
 pub returns-in-Some-clause-kind : goal.returns-in-Some-clause-kind
 returns-in-Some-clause-kind g c =
     let t = c.in_ok-take_into.ensures.gives in
     let same = element_at t c.bytes-2.ensures.value (sym c.requires.head.eight) in
-    record { rest = t.element; info = rw (← same, ← c.bytes.ensures.value) (sym c.kind_of.ensures ∙ c.in-Some.is); takes = rw t.whole t.takes; place_is = rw t.whole c.in_ok-take_into.ensures.place }
+    record {
+      rest = t.element;
+      info = rw (← same, ← c.bytes.ensures.value) (sym c.kind_of.ensures ∙ c.in-Some.is);
+      takes = rw t.whole t.takes;
+      place_is = rw t.whole c.in_ok-take_into.ensures.place;
+    }
 
 pub returns-in-Some-clause-gives : goal.returns-in-Some-clause-gives
 returns-in-Some-clause-gives g c = λ before taken.
     let t = c.in_ok-take_into.ensures.gives in
     let same = element_at t c.bytes-2.ensures.value (sym c.requires.head.eight) in
-    type_whole c.args.small.now.bytes taken c.requires.head.eight c.in-Ok.rest (rw c.bytes.ensures.value at c.in-Ok.ensures.gives) t (rw (same, c.bytes.ensures.value) at (sym c.kind_of.ensures ∙ c.in-Some.is))
+    type_whole c.args.small.now.bytes taken c.requires.head.eight c.in-Ok.rest (rw c.bytes.ensures.value at c.in-Ok.ensures.gives) t
+    (rw (same, c.bytes.ensures.value) at (sym c.kind_of.ensures ∙ c.in-Some.is))
 
 pub returns-in-None-clause-area : goal.returns-in-None-clause-area
 returns-in-None-clause-area g c =
@@ -35,6 +50,8 @@ returns-in-None-clause-gives g c = λ before taken.
     let t = c.in_ok-take_into.ensures.gives in
     let known = rw c.bytes.ensures.value at c.in-Ok.ensures.gives in
     let same = element_at t c.bytes-2.ensures.value (sym c.requires.head.eight) in
-    let none : kind_of (slice_index c.args.small.now.bytes 7 ∷ t.element) ≡ None = rw (same, c.bytes.ensures.value) at (sym c.kind_of.ensures ∙ c.in-None.is) in
+    let none : kind_of (slice_index c.args.small.now.bytes 7 ∷ t.element) ≡ None =
+    rw (same, c.bytes.ensures.value) at (sym c.kind_of.ensures ∙ c.in-None.is) in
     let some = no_kind (slice_index c.args.small.now.bytes 7) t.element known t.whole none in
-    rw (c.in_payload-in-None.ensures, c.place-place.ensures) (stops_after_steps c.args.small.now.bytes taken c.requires.head.eight c.in-Ok.rest known some c.requires.head.place (refused_into t (omega (arith, some)) (rw known) (rw none)))
+    rw (c.in_payload-in-None.ensures, c.place-place.ensures) (stops_after_steps c.args.small.now.bytes taken c.requires.head.eight c.in-Ok.rest known
+    some c.requires.head.place (refused_into t (omega (arith, some)) (rw known) (rw none)))

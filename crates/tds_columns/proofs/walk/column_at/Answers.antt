@@ -1,4 +1,6 @@
-use Rattle.tds_columns.proofs.{Words.{◌≡◌, ◌+◌, ◌*◌, ◌-◌, ◌%◌, ℕ, List, length, take, drop, get_or, slice_index, true, sym, ap, arith, length-drop, length-take-le, Some, Kind, is_valid, named_kind, rest_length, Column, column_at, name_size, rest_size}, ViewLaws.{all_after, Lies, lies}}
+use Rattle.tds_columns.proofs.Words.{◌≡◌, ◌+◌, ◌*◌, ◌-◌, ◌%◌, ℕ, List, length, take, drop, get_or, slice_index, true, sym, ap, arith, length-drop}
+use Rattle.tds_columns.proofs.Words.{length-take-le, Some, Kind, is_valid, named_kind, rest_length, Column, column_at, name_size, rest_size}
+use Rattle.tds_columns.proofs.ViewLaws.{all_after, Lies, lies}
 use Rattle.tds_columns.proofs.walk.column_at.Goals as goal
 
 pub kind_at-kind-requires : goal.kind_at-kind-requires
@@ -7,8 +9,11 @@ kind_at-kind-requires c =
     (rest_size c.args.bytes.now, l.known, omega (arith, l.enough, ap length (all_after c.args.bytes.now 7), length-drop 7 c.args.bytes.now))
 
 -- the kind and the name at the front, by the number of bytes after the type byte and that of the name's units
-at_front : {bytes : List ℕ} {kind : Kind} {rest units : ℕ} → Lies bytes → rest_length (slice_index bytes 6) ≡ Some rest → ((k : Kind) → named_kind (slice_index bytes 6) (take rest (take (length bytes - 7) (drop 7 bytes))) ≡ Some k → kind ≡ k) → units ≡ get_or bytes (8 + rest - 1) 0
-    → (is_valid kind ≡ true) × (length (take (8 + rest + 2 * units - (8 + rest)) (drop (8 + rest) bytes)) % 2 ≡ 0) × (◌≡◌ {A = Column} (record { kind = kind; name = take (8 + rest + 2 * units - (8 + rest)) (drop (8 + rest) bytes) }) (column_at bytes))
+at_front : {bytes : List ℕ} {kind : Kind} {rest units : ℕ} → Lies bytes → rest_length (slice_index bytes 6) ≡ Some rest
+    → ((k : Kind) → named_kind (slice_index bytes 6) (take rest (take (length bytes - 7) (drop 7 bytes))) ≡ Some k → kind ≡ k)
+    → units ≡ get_or bytes (8 + rest - 1) 0
+    → (is_valid kind ≡ true) × (length (take (8 + rest + 2 * units - (8 + rest)) (drop (8 + rest) bytes)) % 2 ≡ 0)
+    × (◌≡◌ {A = Column} (record { kind = kind; name = take (8 + rest + 2 * units - (8 + rest)) (drop (8 + rest) bytes) }) (column_at bytes))
 at_front {bytes} {kind} {rest} {units} l known named is =
     let r : rest ≡ rest_size bytes = cc in
     let byte : 8 + rest - 1 ≡ 7 + rest_size bytes = omega (arith, r) in

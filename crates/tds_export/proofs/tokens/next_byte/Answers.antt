@@ -1,4 +1,5 @@
-use Rattle.tds_export.proofs.Words.{common_steps, List, Takes, Takes-more, Takes-trans, [], arith, buffered, length, passed, refl, seen, slice_index, take, ℕ, ◌<◌, ◌∷◌, ◌≡◌}
+use Rattle.tds_export.proofs.Words.{common_steps, List, Takes, Takes-more, Takes-trans, [], arith, buffered, length, passed, refl, seen, slice_index}
+use Rattle.tds_export.proofs.Words.{take, ℕ, ◌<◌, ◌∷◌, ◌≡◌}
 use Rattle.tds_export.proofs.tokens.next_byte.Goals as goal
 
 -- the first byte of those that lie ready
@@ -10,4 +11,7 @@ pub returns-clause-gives : goal.returns-clause-gives
 returns-clause-gives g c = grind (arith, common_steps, seen, buffered, Takes, Takes-trans, Takes-more, first, slice_index)
 
 pub returns-in_err-at_end-clause-gives : goal.returns-in_err-at_end-clause-gives
-returns-in_err-at_end-clause-gives g c = passed _ _ _ _ c.from_residual.ensures.1 (c.in_err-at_end.ensures.gives, c.in_err-at_end.ensures.goes_on c.requires.going)
+returns-in_err-at_end-clause-gives g c = passed _ _ _ _ c.from_residual.ensures.1 (
+  c.in_err-at_end.ensures.gives,
+  c.in_err-at_end.ensures.goes_on c.requires.going,
+)

@@ -1,4 +1,5 @@
-use Rattle.tds_packet.proofs.Words.{◌≡◌, length, take, drop, ap, subst, rules, arith, length-drop, length-take-le, take-append-drop, Appends, Rises, packet_bytes, cut_packet}
+use Rattle.tds_packet.proofs.Words.{◌≡◌, length, take, drop, ap, subst, rules, arith, length-drop, length-take-le, take-append-drop, Appends, Rises}
+use Rattle.tds_packet.proofs.Words.{packet_bytes, cut_packet}
 use Rattle.tds_packet.proofs.recutting.write_packet.Goals as goal
 
 pub returns-in-Err-clause-writes : goal.returns-in-Err-clause-writes
@@ -8,5 +9,12 @@ returns-in-Err-clause-writes g c =
     let is : c.bytes.result.now ≡ all = search rules in
     let taken : length (take k all) ≡ k = length-take-le k all (omega (arith, c.in-Err.ensures.part, ap length is)) in
     let len : c.len-length.result ≡ length all = search rules in
-    let took = subst (λ l. Appends (g.W.Write.contents c.args.to.now.device) (g.W.Write.contents c.deliver.new.self.device) (take k l)) is c.in-Err.ensures.err in
-    (take k all, drop k all, take-append-drop k all, took, rw (taken, length-drop k all, ← len) c.write_failed.ensures, subst (λ l. Rises c.args.to.now.failures c.deliver.new.self.failures (take k l)) is c.in-Err.ensures.counted)
+    let took = subst (λ l. Appends (g.W.Write.contents c.args.to.now.device) (g.W.Write.contents c.deliver.new.self.device) (take k l)) is
+    c.in-Err.ensures.err in (
+      take k all,
+      drop k all,
+      take-append-drop k all,
+      took,
+      rw (taken, length-drop k all, ← len) c.write_failed.ensures,
+      subst (λ l. Rises c.args.to.now.failures c.deliver.new.self.failures (take k l)) is c.in-Err.ensures.counted,
+    )

@@ -8,7 +8,8 @@ invariant-loop-to g l = record {
   room : l.output.room ≡ l.initial.output.room;
   few : l.done.packets ≤ l.payload.place;
   short : l.done.bytes ≤ 2 * l.payload.place;
-  cutting : Cutting g.R.Read.remaining g.W.Write.contents (l.output.room - 8) (seen g.R.Read.remaining l.initial.payload) l.payload l.initial.to l.to l.done;
+  cutting : Cutting g.R.Read.remaining g.W.Write.contents (l.output.room - 8) (seen g.R.Read.remaining l.initial.payload) l.payload l.initial.to l.to
+      l.done;
 }
 
 abbrev pub decreases-loop-to : goal.decreases-loop-to

@@ -10,4 +10,12 @@ unfolding error_line
 returns g c =
     let number : SFits w32 c.in-Some.error.number = search rules in
     let line : SFits w32 c.in-Some.error.line = search rules in
-    rw (c.in-Some.is, ← c.shown-text.ensures, ← c.as_slice.ensures.value, ← c.from.ensures, ← c.from-2.ensures, ← to_z-of_z w32 c.in-Some.error.number number, ← to_z-of_z w32 c.in-Some.error.line line) c.say.ensures
+    rw (
+      c.in-Some.is,
+      ← c.shown-text.ensures,
+      ← c.as_slice.ensures.value,
+      ← c.from.ensures,
+      ← c.from-2.ensures,
+      ← to_z-of_z w32 c.in-Some.error.number number,
+      ← to_z-of_z w32 c.in-Some.error.line line,
+    ) c.say.ensures

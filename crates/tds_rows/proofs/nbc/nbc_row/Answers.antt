@@ -1,4 +1,6 @@
-use Rattle.tds_rows.proofs.{Words.{refl, ◌≡◌, rules, columns_of, row, row_so_far}, RowLaws.{nbc_row_is_read, some_bitmap}, Successes.streaming_succeeds}
+use Rattle.tds_rows.proofs.Words.{refl, ◌≡◌, rules, columns_of, row, row_so_far}
+use Rattle.tds_rows.proofs.RowLaws.{nbc_row_is_read, some_bitmap}
+use Rattle.tds_rows.proofs.Successes.{streaming_succeeds}
 use Rattle.tds_rows.proofs.nbc.nbc_row.Goals as goal
 
 pub returns-clause-row : goal.returns-clause-row
@@ -10,5 +12,6 @@ returns-clause-row g c = λ _ _.
 
 pub returns-clause-succeeds : goal.returns-clause-succeeds
 returns-clause-succeeds g c = λ going writing cells bytes more spelt.
-    streaming_succeeds (row _) row_so_far g.R.Read.remaining g.W.Write.contents c.args.payload.now c.payload-1.given.0 c.args.sink.now c.sink-1.given.0 _ _ _
+    streaming_succeeds (row _) row_so_far g.R.Read.remaining g.W.Write.contents c.args.payload.now c.payload-1.given.0 c.args.sink.now
+    c.sink-1.given.0 _ _ _
     (returns-clause-row g c going writing) (nbc_row_is_read _ _ _ _ (some_bitmap _ c.args.columns.some) spelt) refl

@@ -1,4 +1,9 @@
-use Rattle.tds_rows.proofs.{Words.{add-zero, inl, ℕ, ◌≡◌, ◌∙◌, ◌-◌, ◌<◌, ◌≤◌, Bool, [], ◌∷◌, refl, sym, ap, length, take, drop, subst, arith, rules, true, length-take, length-drop, all_after, in_line, null_field, is_last_column, bit}, nbc.run_nulls.Goals.{else-loop-to-test, then-loop-to-test+else-ahead-count, then-loop-to-test+then-ahead-count+else-end-ahead+then-cells-eq0}, Stretches.{ends_clear, runs_clear, runs_column, runs_more}, TableSteps.{last_one, next_any, none_next, takes}}
+use Rattle.tds_rows.proofs.Words.{add-zero, inl, ℕ, ◌≡◌, ◌∙◌, ◌-◌, ◌<◌, ◌≤◌, Bool, [], ◌∷◌, refl, sym, ap, length, take, drop, subst, arith, rules}
+use Rattle.tds_rows.proofs.Words.{true, length-take, length-drop, all_after, in_line, null_field, is_last_column, bit}
+use Rattle.tds_rows.proofs.nbc.run_nulls.Goals.{else-loop-to-test, then-loop-to-test+else-ahead-count}
+use Rattle.tds_rows.proofs.nbc.run_nulls.Goals.{then-loop-to-test+then-ahead-count+else-end-ahead+then-cells-eq0}
+use Rattle.tds_rows.proofs.Stretches.{ends_clear, runs_clear, runs_column, runs_more}
+use Rattle.tds_rows.proofs.TableSteps.{last_one, next_any, none_next, takes}
 use Rattle.tds_rows.proofs.nbc.run_nulls.Goals as goal
 
 -- a column that is NULL by its bit
@@ -10,7 +15,8 @@ loop-to-preserved-then-end-ahead c =
     let made = c.write_null-made.result in
     let text = c.write_null-made.new.to in
     let at : end.result ≡ l.ahead.column = c.if-end-ahead.true in
-    let null : bits l.ahead.column ≡ true = subst (λ (k : ℕ). bits k ≡ true) at (end.ensures.set (omega (arith, at, c.if-ahead-count.true, c.count.ensures, c.count-in-loop-to.ensures))) in
+    let null : bits l.ahead.column ≡ true = subst (λ (k : ℕ). bits k ≡ true) at
+    (end.ensures.set (omega (arith, at, c.if-ahead-count.true, c.count.ensures, c.count-in-loop-to.ensures))) in
     let within : made ≤ length text = search (arith, rules) in
     record {
       used = l.invariant.used;
@@ -24,7 +30,8 @@ loop-to-preserved-then-end-ahead c =
           let taken = takes _ _ _ _ _ one.1 c.step.ensures.further (c.step.ensures.ahead columns knows ran.ahead) in
           let left = drop c.step.new.at.column columns in
           let last = c.is_last.ensures ∙ last_one _ _ _ _ _ knows.counted taken.next in
-          let line : take made text ≡ in_line l.ahead.column (is_last_column left) null_field = c.write_null-made.ensures.text ∙ ap (λ (k : ℕ). in_line k c.is_last.result null_field) at ∙ ap (λ (e : Bool). in_line l.ahead.column e null_field) last in
+          let line : take made text ≡ in_line l.ahead.column (is_last_column left) null_field = c.write_null-made.ensures.text
+          ∙ ap (λ (k : ℕ). in_line k c.is_last.result null_field) at ∙ ap (λ (e : Bool). in_line l.ahead.column e null_field) last in
           rw (sym (add-zero l.used)) (runs_more _ _ _ _ _ _ _ _ _ l.invariant.made within ran (runs_column taken refl (rw null (refl, line))));
     }
 
@@ -56,9 +63,12 @@ returns-clause-ends c = λ columns column left knows ahead step.
     let bits = bit c.args.bitmap.now in
     elim c.loop-to-test.branch [
       | else-loop-to-test w ↦ inl (omega (arith, w.loop-to-test.false, l.auto.to))
-      | then-loop-to-test+else-ahead-count w ↦ absurd (let none = none_next _ _ _ knows.counted (omega (arith, w.count.ensures, w.if-ahead-count.false)) in let e : column ∷ left ≡ [] = sym step ∙ none in omega (arith, ap length e))
+      | then-loop-to-test+else-ahead-count w ↦ absurd
+          (let none = none_next _ _ _ knows.counted (omega (arith, w.count.ensures, w.if-ahead-count.false)) in let e : column ∷ left ≡ [] = sym step
+          ∙ none in omega (arith, ap length e))
       | then-loop-to-test+then-ahead-count+else-end-ahead+then-cells-eq0 w ↦ (let lent = take (length l.to - l.made) (drop l.made l.to) in
-          let room : length lent ≡ length c.args.to.now - l.made = omega (arith, l.auto.to, length-take (length l.to - l.made) (drop l.made l.to), length-drop l.made l.to) in
+          let room : length lent ≡ length c.args.to.now - l.made =
+          omega (arith, l.auto.to, length-take (length l.to - l.made) (drop l.made l.to), length-drop l.made l.to) in
           let before : l.ahead.column < w.clear_end-end.result = omega (arith, w.clear_end-end.ensures.least, w.if-end-ahead.false) in
           let run = rw room at (rw (all_after bytes l.used) at (w.run_cells-cells.ensures.ends w.if-cells-eq0.true before)) in
           ends_clear _ bits _ _ _ (w.clear_end-end.ensures.clear l.ahead.column (omega arith) before) run columns column left knows ahead step)

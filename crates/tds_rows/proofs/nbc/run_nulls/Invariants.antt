@@ -7,7 +7,8 @@ invariant-loop-to l = record {
   made : l.made ≤ length l.to;
   most : l.end ≤ l.fn.table.count;
   clear : AreClear (bit l.fn.bitmap) l.ahead.column l.end;
-  writes : (columns : List Column) → Knows l.fn.table columns → IsAhead l.fn.table columns l.fn.from → RunsMarked l.fn.table columns (bit l.fn.bitmap) l.fn.from l.ahead (take l.used l.fn.bytes) (take l.made l.to);
+  writes : (columns : List Column) → Knows l.fn.table columns → IsAhead l.fn.table columns l.fn.from
+      → RunsMarked l.fn.table columns (bit l.fn.bitmap) l.fn.from l.ahead (take l.used l.fn.bytes) (take l.made l.to);
 }
 
 abbrev pub decreases-loop-to : goal.decreases-loop-to

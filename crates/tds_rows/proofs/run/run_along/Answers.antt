@@ -9,7 +9,8 @@ returns-clause-ends c = λ none columns column left knows is step.
 pub returns-clause-cells : goal.returns-clause-cells
 returns-clause-cells c = λ columns knows is.
     let run = c.run_forms-run in
-    forms_between _ _ _ _ c.requires.within c.requires.ahead _ (search (arith, rules)) _ knows is _ _ _ run.result c.step.ensures.further (c.step.ensures.ahead columns knows is) run.ensures.cells
+    forms_between _ _ _ _ c.requires.within c.requires.ahead _ (search (arith, rules)) _ knows is _ _ _ run.result c.step.ensures.further
+    (c.step.ensures.ahead columns knows is) run.ensures.cells
 
 pub returns-clause-within : goal.returns-clause-within
 returns-clause-within c =

@@ -2,7 +2,8 @@ use Rattle.{tds_rows.proofs.Words.{arith, refl, inl, inr, []}, std.proofs.Math.B
 use Rattle.tds_rows.proofs.run.write_alone.Goals as goal
 
 pub returns-then-run-eq0-clause-cell : goal.returns-then-run-eq0-clause-cell
-returns-then-run-eq0-clause-cell c = elim (c.run_forms-run.ensures.ends c.if-run-eq0.true c.args.form.now [] refl) [ inl few ↦ absurd (omega (arith, few, c.requires.room)) | inr left ↦ left ]
+returns-then-run-eq0-clause-cell c = elim (c.run_forms-run.ensures.ends c.if-run-eq0.true c.args.form.now [] refl)
+    [ inl few ↦ absurd (omega (arith, few, c.requires.room)) | inr left ↦ left ]
 
 pub returns-clause-cell : goal.returns-clause-cell
 returns-clause-cell c =

@@ -11,7 +11,11 @@ pub returns-clause-value : goal.returns-clause-value
 returns-clause-value c = rw (all_after c.args.self.now.bytes.now 2, c.count.ensures.value, length_columns)
 
 pub returns-clause-columns : goal.returns-clause-columns
-returns-clause-columns c = λ room columns h. rw (all_after c.args.self.now.bytes.now 2, c.count.ensures.value, length_columns) (description_shows _ _ _ h).0
+returns-clause-columns c = λ room columns h. rw (
+  all_after c.args.self.now.bytes.now 2,
+  c.count.ensures.value,
+  length_columns,
+) (description_shows _ _ _ h).0
 
 pub returns-clause-bound : goal.returns-clause-bound
 returns-clause-bound c = rw length_columns (omega (arith, c.count.type_inv))

@@ -1,4 +1,5 @@
-use Rattle.tds_columns.proofs.{Words.{◌≡◌, ◌≢◌, ◌-◌, ℕ, List, true, drop, arith, and_parts, are_columns, column_size}, ViewLaws.{all_after, length_columns}}
+use Rattle.tds_columns.proofs.Words.{◌≡◌, ◌≢◌, ◌-◌, ℕ, List, true, drop, arith, and_parts, are_columns, column_size}
+use Rattle.tds_columns.proofs.ViewLaws.{all_after, length_columns}
 use Rattle.tds_columns.proofs.walk.WalkIterator.next.Goals as goal
 
 -- the columns after the first
@@ -9,10 +10,23 @@ pub column_at-size-requires : goal.column_at-size-requires
 column_at-size-requires c = grind (arith, and_parts)
 
 pub invariant_of-self : goal.invariant_of-self
-invariant_of-self c = record { whole = rw (all_after c.args.self.now.rest.now c.column_at-size.result.1, c.column_at-size.ensures.size) (others c.args.self.now.left c.args.self.now.rest.now c.if-self-eq0.false c.args.self.now.whole) }
+invariant_of-self c = record {
+  whole = rw (
+    all_after c.args.self.now.rest.now c.column_at-size.result.1,
+    c.column_at-size.ensures.size,
+  ) (others c.args.self.now.left c.args.self.now.rest.now c.if-self-eq0.false c.args.self.now.whole);
+}
 
 pub returns-clause-steps : goal.returns-clause-steps
-returns-clause-steps c = rw (all_after c.args.self.now.rest.now c.column_at-size.result.1, c.column_at-size.ensures.size, c.column_at-size.ensures.column) (grind (arith, and_parts))
+returns-clause-steps c = rw (
+  all_after c.args.self.now.rest.now c.column_at-size.result.1,
+  c.column_at-size.ensures.size,
+  c.column_at-size.ensures.column,
+) (grind (arith, and_parts))
 
 pub returns-clause-goes : goal.returns-clause-goes
-returns-clause-goes c = record { on = λ _. (tt, tt, rw (length_columns, length_columns) (omega (arith, c.if-self-eq0.false))); keeps = tt; rests = λ _. tt }
+returns-clause-goes c = record {
+  on = λ _. (tt, tt, rw (length_columns, length_columns) (omega (arith, c.if-self-eq0.false)));
+  keeps = tt;
+  rests = λ _. tt;
+}

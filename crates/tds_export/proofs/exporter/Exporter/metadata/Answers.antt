@@ -1,4 +1,5 @@
-use Rattle.tds_export.proofs.{Words.{IsDescription, between_of, description_shows, inr, passed, rules, subst, sym}, TokenSteps.{metadata_breaks, metadata_reads, metadata_stops, none_reads, step_read}}
+use Rattle.tds_export.proofs.Words.{IsDescription, between_of, description_shows, inr, passed, rules, subst, sym}
+use Rattle.tds_export.proofs.TokenSteps.{metadata_breaks, metadata_reads, metadata_stops, none_reads, step_read}
 use Rattle.tds_export.proofs.exporter.Exporter.metadata.Goals as goal
 
 pub returns-in-NoMetadata : goal.returns-in-NoMetadata
@@ -7,7 +8,9 @@ returns-in-NoMetadata g c = step_read c.requires.running (search rules) (λ toke
     none_reads _ begun gives.0)
 
 pub returns-in_err-gather : goal.returns-in_err-gather
-returns-in_err-gather g c = step_read c.requires.running (search rules) (λ tokens begun. passed _ _ _ _ c.from_residual.ensures.1 (metadata_stops _ begun (c.in_err-gather.ensures.gives c.requires.running.payload.going).describing))
+returns-in_err-gather g c = step_read c.requires.running (search rules)
+    (λ tokens begun. passed _ _ _ _ c.from_residual.ensures.1
+    (metadata_stops _ begun (c.in_err-gather.ensures.gives c.requires.running.payload.going).describing))
 
 pub view-columns-requires : goal.view-columns-requires
 view-columns-requires g c =
@@ -21,7 +24,8 @@ returns-in_err-put_header g c = step_read c.requires.running (search rules) (λ 
     let breaks = rw (c.view-columns.ensures, c.bytes.ensures.value) at (c.in_err-put_header.ensures.gives sink.writing) in
     let between = between_of g.R.Read.remaining c.gather.new.payload c.in_ok-gather.ensures.payload.going in
     let shows = description_shows c.args.self.now.description.now.room gives.0 c.gather.new.area.bytes gives.4 in
-    passed _ _ _ _ c.from_residual-in_err-put_header.ensures.1 (inr (metadata_breaks _ begun shows.0 gives.2 (sink.ready.1 sink.writing) between breaks, c.in_err-put_header.ensures.failed)))
+    passed _ _ _ _ c.from_residual-in_err-put_header.ensures.1
+    (inr (metadata_breaks _ begun shows.0 gives.2 (sink.ready.1 sink.writing) between breaks, c.in_err-put_header.ensures.failed)))
 
 pub returns : goal.returns
 returns g c = step_read c.requires.running (search rules) (λ tokens begun.

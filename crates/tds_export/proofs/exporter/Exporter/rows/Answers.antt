@@ -2,7 +2,11 @@ use Rattle.tds_export.proofs.{Words.{PlainRow, ap, columns_of, passed, rules, �
 use Rattle.tds_export.proofs.exporter.Exporter.rows.Goals as goal
 
 pub returns-in_err-count : goal.returns-in_err-count
-returns-in_err-count g c = step_read c.requires.begun.running (search rules) (λ tokens begun. passed _ _ _ _ c.from_residual.ensures.1 (rows_stop PlainRow _ c.requires.described (ap columns_of (c.view-columns.ensures ∙ c.bytes.ensures.value)) begun c.in_err-count.ensures.rows))
+returns-in_err-count g c = step_read c.requires.begun.running (search rules)
+    (λ tokens begun. passed _ _ _ _ c.from_residual.ensures.1
+    (rows_stop PlainRow _ c.requires.described (ap columns_of (c.view-columns.ensures ∙ c.bytes.ensures.value)) begun c.in_err-count.ensures.rows))
 
 pub returns : goal.returns
-returns g c = step_read c.requires.begun.running (search rules) (λ tokens begun. rows_read PlainRow _ c.requires.described (ap columns_of (c.view-columns.ensures ∙ c.bytes.ensures.value)) begun c.in_ok-count.ensures.rows)
+returns g c = step_read c.requires.begun.running (search rules)
+    (λ tokens begun. rows_read PlainRow _ c.requires.described (ap columns_of (c.view-columns.ensures ∙ c.bytes.ensures.value)) begun
+    c.in_ok-count.ensures.rows)

@@ -1,4 +1,5 @@
-use Rattle.tds_export.proofs.{Words.{ap, arith, false, held, inl, inr, passed, refl, rules, true, ◌∙◌, ◌≡◌}, RunSteps.{completes, runs_none, runs_on, runs_same, stops_at_end, stops_end, stops_on}}
+use Rattle.tds_export.proofs.Words.{ap, arith, false, held, inl, inr, passed, refl, rules, true, ◌∙◌, ◌≡◌}
+use Rattle.tds_export.proofs.RunSteps.{completes, runs_none, runs_on, runs_same, stops_at_end, stops_end, stops_on}
 use Rattle.tds_export.proofs.exporter.Exporter.run.Goals as goal
 
 pub tokens-init : goal.tokens-init
@@ -28,13 +29,15 @@ tokens-preserved g c = record {
   forward = omega (arith, c.tokens.invariant.forward, c.in_ok-token.ensures.leaves.forward);
   runs = λ tracks empty noted.
       let x = c.tokens.invariant.runs tracks empty noted in
-      runs_on x c.tokens.invariant.same.6 c.tokens.invariant.room (rw c.if-branch.true at (c.in_ok-token.ensures.gives x.tokens x.tracks x.holds x.noted));
+      runs_on x c.tokens.invariant.same.6 c.tokens.invariant.room
+      (rw c.if-branch.true at (c.in_ok-token.ensures.gives x.tokens x.tracks x.holds x.noted));
 }
 
 pub returns-in_err-token-clause-gives : goal.returns-in_err-token-clause-gives
 returns-in_err-token-clause-gives g c = λ tracks empty noted.
     let x = c.tokens.invariant.runs tracks empty noted in
-    passed _ _ _ _ c.from_residual.ensures.1 (inl (stops_on x c.tokens.invariant.same.6 c.tokens.invariant.room (c.in_err-token.ensures.gives x.tokens x.tracks x.holds x.noted)))
+    passed _ _ _ _ c.from_residual.ensures.1 (inl
+    (stops_on x c.tokens.invariant.same.6 c.tokens.invariant.room (c.in_err-token.ensures.gives x.tokens x.tracks x.holds x.noted)))
 
 pub returns-then-not-self-clause-gives : goal.returns-then-not-self-clause-gives
 returns-then-not-self-clause-gives g c = λ tracks empty noted.

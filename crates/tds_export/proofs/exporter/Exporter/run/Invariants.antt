@@ -1,4 +1,5 @@
-use Rattle.tds_export.proofs.{Words.{IsNoted, IsOnSame, IsOnSameRun, IsOnSameSink, IsRunning, Tracks, [], empty, ◌-◌, ◌≡◌, ◌≤◌, view_of}, RunSteps.Runs}
+use Rattle.tds_export.proofs.Words.{IsNoted, IsOnSame, IsOnSameRun, IsOnSameSink, IsRunning, Tracks, [], empty, ◌-◌, ◌≡◌, ◌≤◌, view_of}
+use Rattle.tds_export.proofs.RunSteps.{Runs}
 use Rattle.tds_export.proofs.exporter.Exporter.run.Given as goal
 
 abbrev pub invariant-tokens : goal.invariant-tokens
@@ -12,8 +13,10 @@ invariant-tokens g l = record {
   notice : l.self.notice.now.room ≡ l.initial.self.notice.now.room;
   small : l.self.small.now.room ≡ l.initial.self.small.now.room;
   forward : l.initial.self.payload.now.place ≤ l.self.payload.now.place;
-  runs : Tracks l.initial.self.progress [] → l.initial.self.description.now ≡ empty l.initial.self.description.now.room → IsNoted l.initial.self.notice.now [] →
-      Runs l.initial.self.charset (view_of g.R.Read.remaining g.W.Write.contents l.initial.self) (view_of g.R.Read.remaining g.W.Write.contents l.self) l.self.progress;
+  runs : Tracks l.initial.self.progress [] → l.initial.self.description.now ≡ empty l.initial.self.description.now.room
+      → IsNoted l.initial.self.notice.now [] →
+      Runs l.initial.self.charset (view_of g.R.Read.remaining g.W.Write.contents l.initial.self)
+      (view_of g.R.Read.remaining g.W.Write.contents l.self) l.self.progress;
 }
 
 abbrev pub decreases-tokens : goal.decreases-tokens

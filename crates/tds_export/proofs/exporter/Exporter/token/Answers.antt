@@ -1,10 +1,13 @@
-use Rattle.tds_export.proofs.{Words.{Payload, StepStops, after_tokens, arith, held, passed, response, seen, subst, ◌-◌, ◌≡◌}, TokenBytes.{begins_kind, reads_after_byte, stops_after_byte, stops_at_byte, stops_between}, TokenLaws.tracks_begun}
+use Rattle.tds_export.proofs.Words.{Payload, StepStops, after_tokens, arith, held, passed, response, seen, subst, ◌-◌, ◌≡◌}
+use Rattle.tds_export.proofs.TokenBytes.{begins_kind, reads_after_byte, stops_after_byte, stops_at_byte, stops_between}
+use Rattle.tds_export.proofs.TokenLaws.{tracks_begun}
 use Rattle.tds_export.proofs.exporter.Exporter.token.Goals as goal
 
 pub returns-in_err-byte-clause-gives : goal.returns-in_err-byte-clause-gives
 returns-in_err-byte-clause-gives g c = λ tokens tracks holds noted.
     let sink = c.requires.sink in
-    passed _ _ _ _ c.from_residual.ensures.1 (stops_between _ _ sink.ready.2 sink.writing holds c.in_err-byte.ensures.gives.0 c.in_err-byte.ensures.gives.1)
+    passed _ _ _ _ c.from_residual.ensures.1 (stops_between _ _ sink.ready.2 sink.writing holds c.in_err-byte.ensures.gives.0
+    c.in_err-byte.ensures.gives.1)
 
 -- ---- a token
 
@@ -12,7 +15,8 @@ pub returns-in_ok-body-in-Ok-clause-gives : goal.returns-in_ok-body-in-Ok-clause
 returns-in_ok-body-in-Ok-clause-gives g c = λ tokens tracks holds noted.
     let run = c.args.self.now in
     let read = rw c.in-Some.is at c.in_ok-byte.ensures.gives in
-    let begins = begins_kind run.charset run.description.now.room tokens c.in-Some.byte run.progress.described run.description.now.bytes c.in-Ok.kind c.in-Ok.ensures holds.bytes c.requires.described tracks.described in
+    let begins = begins_kind run.charset run.description.now.room tokens c.in-Some.byte run.progress.described run.description.now.bytes c.in-Ok.kind
+    c.in-Ok.ensures holds.bytes c.requires.described tracks.described in
     let x = c.in_ok-body-in-Ok.ensures.reads tokens (tracks_begun run.progress tokens tracks) holds noted in
     (reads_after_byte _ begins c.requires.sink.ready.2 read.takes read.place_is x.0, x.1)
 
@@ -20,8 +24,11 @@ pub returns-in_err-body-in-Ok-clause-gives : goal.returns-in_err-body-in-Ok-clau
 returns-in_err-body-in-Ok-clause-gives g c = λ tokens tracks holds noted.
     let run = c.args.self.now in
     let read = rw c.in-Some.is at c.in_ok-byte.ensures.gives in
-    let begins = begins_kind run.charset run.description.now.room tokens c.in-Some.byte run.progress.described run.description.now.bytes c.in-Ok.kind c.in-Ok.ensures holds.bytes c.requires.described tracks.described in
-    passed _ _ _ _ c.from_residual-in_err-body-in-Ok.ensures.1 (stops_after_byte _ begins c.requires.sink.ready.2 read.takes read.place_is (c.in_err-body-in-Ok.ensures.reads tokens (tracks_begun run.progress tokens tracks) holds noted))
+    let begins = begins_kind run.charset run.description.now.room tokens c.in-Some.byte run.progress.described run.description.now.bytes c.in-Ok.kind
+    c.in-Ok.ensures holds.bytes c.requires.described tracks.described in
+    passed _ _ _ _ c.from_residual-in_err-body-in-Ok.ensures.1
+    (stops_after_byte _ begins c.requires.sink.ready.2 read.takes read.place_is
+    (c.in_err-body-in-Ok.ensures.reads tokens (tracks_begun run.progress tokens tracks) holds noted))
 
 -- ---- a byte that begins no token
 
@@ -34,5 +41,6 @@ returns-in-Err-clause-gives g c = λ tokens tracks holds noted.
     let b = seen g.R.Read.remaining c.next_byte.new.payload in
     let read = rw c.in-Some.is at c.in_ok-byte.ensures.gives in
     let at : run.payload.now.place ≡ c.place-place.result - 1 = omega (arith, read.place_is, c.place-place.ensures) in
-    rw c.in_payload.ensures (subst (λ n. StepStops (response run.charset run.description.now.room) (after_tokens tokens) a b run.payload.now.place h h run.description.now run.sink.now.failed (record { fault = c.in-Err.fault; place = Payload n })) at
+    rw c.in_payload.ensures (subst (λ n. StepStops (response run.charset run.description.now.room) (after_tokens tokens) a b run.payload.now.place h h
+    run.description.now run.sink.now.failed (record { fault = c.in-Err.fault; place = Payload n })) at
     (stops_at_byte _ _ sink.ready.2 sink.writing holds tracks.described c.in-Err.ensures read.takes read.between))

@@ -1,4 +1,7 @@
-use Rattle.{std.proofs.Common.{◌≡◌, ◌∙◌, ◌+◌, ◌≤◌, length, take, drop, refl, sym, ap, arith, vec_len, length-drop, length-take-le}, tds_meter.{specs.{Space.{Space, appended}, Lent.with_tail}, proofs.Overwriting.grows}}
+use Rattle.std.proofs.Common.{◌≡◌, ◌∙◌, ◌+◌, ◌≤◌, length, take, drop, refl, sym, ap, arith, vec_len, length-drop, length-take-le}
+use Rattle.tds_meter.specs.Space.{Space, appended}
+use Rattle.tds_meter.specs.Lent.{with_tail}
+use Rattle.tds_meter.proofs.Overwriting.{grows}
 
 -- what is lent lies in the store after the front
 pub returns : Rattle.tds_meter.proofs.area.Area.grow_within.Goals.returns
@@ -12,6 +15,10 @@ returns c =
     let stood : length c.args.self.now.bytes ≡ len = ap (λ (s : Space). length s.bytes) (sym c.self.view_is) ∙ length-take-le len old within in
     let fits : len + n ≤ length old = omega (arith, stood, all, ap (λ (s : Space). s.room) c.self.view_is, c.requires) in
     let lent : c.slice_mut.result.now ≡ take n (drop len old) = c.slice_mut.ensures.value ∙ ap (λ k. take k (drop len old)) {y = n} (omega arith) in (
-      (refl, λ w. grows len n c.max-self-inside.result w old space c.slice_mut.result.now all fits refl lent c.max-self-inside.ensures ∙ ap (λ s. with_tail (appended s c.slice_mut.result.now) (length s.bytes) w) c.self.view_is),
+      (
+        refl,
+        λ w. grows len n c.max-self-inside.result w old space c.slice_mut.result.now all fits refl lent c.max-self-inside.ensures
+            ∙ ap (λ s. with_tail (appended s c.slice_mut.result.now) (length s.bytes) w) c.self.view_is,
+      ),
       record { lends = tt; value = ap length lent ∙ length-take-le n (drop len old) (omega (arith, fits, length-drop len old)) },
     )

@@ -1,4 +1,9 @@
-use Rattle.{std.{proofs.{Common.{◌≡◌, ◌∙◌, ◌+◌, ◌-◌, ◌++◌, ◌≤◌, ℕ, List, length, take, drop, refl, sym, ap, arith, vec_len, length-take-le}, lemmas.List.drop-take}, specs.List.refill}, tds_meter.{specs.{Space.Space, Lent.with_tail}, proofs.Overwriting.front-refill}}
+use Rattle.std.proofs.Common.{◌≡◌, ◌∙◌, ◌+◌, ◌-◌, ◌++◌, ◌≤◌, ℕ, List, length, take, drop, refl, sym, ap, arith, vec_len, length-take-le}
+use Rattle.std.proofs.lemmas.List.{drop-take}
+use Rattle.std.specs.List.{refill}
+use Rattle.tds_meter.specs.Space.{Space}
+use Rattle.tds_meter.specs.Lent.{with_tail}
+use Rattle.tds_meter.proofs.Overwriting.{front-refill}
 
 -- what is lent lies in the front of the store
 pub returns : Rattle.tds_meter.proofs.area.Area.tail.Goals.returns
@@ -12,6 +17,14 @@ returns c =
     let rest : from + (len - from) ≡ len = omega arith in
     let written : List ℕ → List ℕ = λ w. take from old ++ (w ++ drop (length w) (drop from old)) in
     let at : List ℕ → Space = λ bytes. record { bytes = bytes; room = vec_len c.self.inside.store; peak = c.self.inside.peak } in (
-      (refl, λ w. ap (λ n. at (take len (refill n old (written w)))) all ∙ ap at (front-refill len from w old le within) ∙ ap (λ s. with_tail s from w) c.self.view_is),
-      record { lends = tt; value = c.slice_mut.ensures.value ∙ sym (drop-take from (len - from) old) ∙ ap (λ m. drop from (take m old)) rest ∙ ap (λ (s : Space). drop from s.bytes) c.self.view_is },
+      (
+        refl,
+        λ w. ap (λ n. at (take len (refill n old (written w)))) all ∙ ap at (front-refill len from w old le within)
+            ∙ ap (λ s. with_tail s from w) c.self.view_is,
+      ),
+      record {
+        lends = tt;
+        value = c.slice_mut.ensures.value ∙ sym (drop-take from (len - from) old) ∙ ap (λ m. drop from (take m old)) rest
+            ∙ ap (λ (s : Space). drop from s.bytes) c.self.view_is;
+      },
     )

@@ -1,4 +1,5 @@
-use Rattle.tds_packet.proofs.Words.{◌≡◌, ℕ, List, ◌+◌, ◌-◌, ◌≤◌, ◌++◌, rules, arith, length, take, ap, ◌∙◌, subst, length-take-le, take-append-add, take-append-le, Consumes, Consumes-trans, Consumes-kept, put_mid, post_of, one_more}
+use Rattle.tds_packet.proofs.Words.{◌≡◌, ℕ, List, ◌+◌, ◌-◌, ◌≤◌, ◌++◌, rules, arith, length, take, ap, ◌∙◌, subst, length-take-le, take-append-add}
+use Rattle.tds_packet.proofs.Words.{take-append-le, Consumes, Consumes-trans, Consumes-kept, put_mid, post_of, one_more}
 use Rattle.tds_packet.proofs.counted.Counted.fill.Goals as goal
 
 -- the first bytes of a part that was written over
@@ -13,11 +14,16 @@ loop-at-preserved g c =
       same = search rules;
       within = search rules;
       stays = (c.in-Ok.ensures.counts.0 ∙ inv.stays.0, λ _. omega (arith, c.in-Ok.ensures.counts.1, inv.stays.0));
-      read = subst (Consumes _ _) (take_put c.loop-at.at (length c.loop-at.to - c.loop-at.at) c.in-Ok.n c.loop-at.to c.read.new.to inv.within bound) (Consumes-trans _ _ _ _ _ inv.read c.in-Ok.ensures.ok);
+      read = subst (Consumes _ _) (take_put c.loop-at.at (length c.loop-at.to - c.loop-at.at) c.in-Ok.n c.loop-at.to c.read.new.to inv.within bound)
+          (Consumes-trans _ _ _ _ _ inv.read c.in-Ok.ensures.ok);
     }
 
 pub returns-in-Err : goal.returns-in-Err
 returns-in-Err g c =
     let inv = c.loop-at.invariant in
-    let same : length (put_mid c.loop-at.at (length c.loop-at.to - c.loop-at.at) c.loop-at.to c.read.new.to) ≡ length c.args.to.now = search rules in
-    (take c.loop-at.at c.loop-at.to, omega (arith, same, c.loop-at.auto.to, length-take-le c.loop-at.at c.loop-at.to inv.within), Consumes-kept _ _ _ _ inv.read c.in-Err.ensures.err, (c.in-Err.ensures.counts ∙ ap one_more inv.stays.0, inv.stays.1))
+    let same : length (put_mid c.loop-at.at (length c.loop-at.to - c.loop-at.at) c.loop-at.to c.read.new.to) ≡ length c.args.to.now = search rules in (
+      take c.loop-at.at c.loop-at.to,
+      omega (arith, same, c.loop-at.auto.to, length-take-le c.loop-at.at c.loop-at.to inv.within),
+      Consumes-kept _ _ _ _ inv.read c.in-Err.ensures.err,
+      (c.in-Err.ensures.counts ∙ ap one_more inv.stays.0, inv.stays.1),
+    )

@@ -1,4 +1,6 @@
-use Rattle.tds_packet.proofs.{Words.{◌<◌, arith, drop, length, length-drop, refl, None, drop_of_length-le}, Futures.{over, not_over, stopped_ends}, PayloadLaws.between_of}
+use Rattle.tds_packet.proofs.Words.{◌<◌, arith, drop, length, length-drop, refl, None, drop_of_length-le}
+use Rattle.tds_packet.proofs.Futures.{over, not_over, stopped_ends}
+use Rattle.tds_packet.proofs.PayloadLaws.{between_of}
 use Rattle.tds_packet.proofs.payload.Payload.at_end.Goals as goal
 
 pub returns-in-Ok-clause-tells : goal.returns-in-Ok-clause-tells
@@ -11,7 +13,12 @@ pub returns-in-MessageEnded-clause-tells : goal.returns-in-MessageEnded-clause-t
 returns-in-MessageEnded-clause-tells g c =
     let s = record c.ready.new.self { stopped = None } in
     let ends = c.in-Err.ensures.ended c.in-MessageEnded.is c.in_default.is in
-    record { over = λ _. over g.R.Read.remaining s ends.last refl (drop_of_length-le s.packet.now.bytes (omega (arith, ends.used_up))); more = λ e. cc; ready = λ e. cc }
+    record {
+      over = λ _. over g.R.Read.remaining s ends.last refl (drop_of_length-le s.packet.now.bytes (omega (arith, ends.used_up)));
+      more = λ e.
+          cc;
+      ready = λ e. cc;
+    }
 
 pub returns-in-Some-clause-gives : goal.returns-in-Some-clause-gives
 returns-in-Some-clause-gives g c = stopped_ends g.R.Read.remaining c.args.self.now _ c.in-Some.is

@@ -2,7 +2,8 @@ use Rattle.tds_packet.proofs.{Words.{refl, further}, PayloadLaws.{between_of, pa
 use Rattle.tds_packet.proofs.payload.Payload.consume.Goals as goal
 
 pub returns-clause-gives : goal.returns-clause-gives
-returns-clause-gives g c = pass_takes g.R.Read.remaining c.args.self.now c.args.n c.args.self.now.stopped refl c.requires.sound.used_up c.requires.within
+returns-clause-gives g c = pass_takes g.R.Read.remaining c.args.self.now c.args.n c.args.self.now.stopped refl c.requires.sound.used_up
+    c.requires.within
 
 pub returns-clause-between : goal.returns-clause-between
 returns-clause-between g c = λ e. between_of g.R.Read.remaining (further c.args.self.now c.args.n) e

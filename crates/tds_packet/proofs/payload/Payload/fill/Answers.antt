@@ -1,4 +1,5 @@
-use Rattle.tds_packet.proofs.{Words.{◌≡◌, ◌+◌, ◌-◌, ◌≤◌, length, take, subst, arith, rules, length-take-le, sym, take-put_mid, Takes, seen}, PayloadLaws.{at_ok, at_err, between_of, ends_there, takes_piece}}
+use Rattle.tds_packet.proofs.Words.{◌≡◌, ◌+◌, ◌-◌, ◌≤◌, length, take, subst, arith, rules, length-take-le, sym, take-put_mid, Takes, seen}
+use Rattle.tds_packet.proofs.PayloadLaws.{at_ok, at_err, between_of, ends_there, takes_piece}
 use Rattle.tds_packet.proofs.payload.Payload.fill.Goals as goal
 
 pub loop-at-preserved : goal.loop-at-preserved
@@ -10,7 +11,8 @@ loop-at-preserved g c =
     let bytes = c.in-Ok.bytes.now in
     let fits : c.loop-at.at + length bytes ≤ length c.loop-at.to = omega (arith, c.in-Ok.ensures.len, inv.within) in
     let all : c.copy_from_slice-in-Ok.new.self ≡ bytes = search rules in
-    let done = sym (take-put_mid c.loop-at.at ((c.loop-at.at + length bytes) - c.loop-at.at) c.loop-at.to bytes (c.loop-at.at + length bytes) (omega arith) inv.within) in
+    let done = sym (take-put_mid c.loop-at.at ((c.loop-at.at + length bytes) - c.loop-at.at) c.loop-at.to bytes (c.loop-at.at + length bytes)
+    (omega arith) inv.within) in
     record {
       sound = h.0;
       same = search rules;
@@ -19,7 +21,8 @@ loop-at-preserved g c =
       place = omega (arith, k.2, inv.place);
       going = k.3;
       takes = rw all (subst (λ l. Takes (seen g.R.Read.remaining c.args.self.now) (seen g.R.Read.remaining s) l (c.loop-at.at + length bytes)) done
-          (takes_piece g.R.Read.remaining c.args.self.now c.loop-at.self s (take c.loop-at.at c.loop-at.to) bytes c.loop-at.at (length-take-le c.loop-at.at c.loop-at.to inv.within) c.in-Ok.ensures.len.0 inv.takes k.0));
+          (takes_piece g.R.Read.remaining c.args.self.now c.loop-at.self s (take c.loop-at.at c.loop-at.to) bytes c.loop-at.at
+          (length-take-le c.loop-at.at c.loop-at.to inv.within) c.in-Ok.ensures.len.0 inv.takes k.0));
     }
 
 pub returns-in-Err-clause-part : goal.returns-in-Err-clause-part
@@ -27,8 +30,14 @@ returns-in-Err-clause-part g c = λ _.
     let s = c.piece.follows.lender-at-none in
     let k = at_err _ _ _ _ c.in-Err.is c.piece.follows.holds-at-none.2 in
     let left : g.R.Read.remaining c.cut.new.self.from.now.device ≡ g.R.Read.remaining s.from.now.device = search rules in
-    let count : c.cut.new.self.from.now.failures ≡ s.from.now.failures = search rules in
-    (c.loop-at.at, c.in-Err.stop, search rules, rw (left, count) (ends_there g.R.Read.remaining c.args.self.now c.loop-at.self s (take c.loop-at.at c.loop-at.to) c.loop-at.at c.in-Err.stop c.loop-at.invariant.takes k.0), search rules)
+    let count : c.cut.new.self.from.now.failures ≡ s.from.now.failures = search rules in (
+      c.loop-at.at,
+      c.in-Err.stop,
+      search rules,
+      rw (left, count) (ends_there g.R.Read.remaining c.args.self.now c.loop-at.self s (take c.loop-at.at c.loop-at.to) c.loop-at.at c.in-Err.stop
+          c.loop-at.invariant.takes k.0),
+      search rules,
+    )
 
 pub returns-clause-between : goal.returns-clause-between
 returns-clause-between g c = between_of g.R.Read.remaining c.loop-at.self c.loop-at.invariant.going

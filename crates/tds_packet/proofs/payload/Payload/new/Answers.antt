@@ -11,5 +11,14 @@ returns-clause-begun g c = record {
   place = refl;
   going = refl;
   begins = rw c.clear.ensures.value refl;
-  between = between_of g.R.Read.remaining (record { from = c.args.from; packet = record c.args.packet { now = c.clear.new.self }; at = 0; last = false; wire = 0; max_wire = c.args.max_wire; place = 0; stopped = None }) refl;
+  between = between_of g.R.Read.remaining (record {
+    from = c.args.from;
+    packet = record c.args.packet { now = c.clear.new.self };
+    at = 0;
+    last = false;
+    wire = 0;
+    max_wire = c.args.max_wire;
+    place = 0;
+    stopped = None;
+  }) refl;
 }

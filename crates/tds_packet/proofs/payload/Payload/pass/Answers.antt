@@ -1,4 +1,5 @@
-use Rattle.{std.proofs.Common.{◌≡◌, ◌∙◌, ◌++◌, ◌+◌, length, ap, arith, rules, length-append}, tds_packet.proofs.PayloadLaws.{at_ok, at_err, between_of, ends_there, takes_piece}}
+use Rattle.std.proofs.Common.{◌≡◌, ◌∙◌, ◌++◌, ◌+◌, length, ap, arith, rules, length-append}
+use Rattle.tds_packet.proofs.PayloadLaws.{at_ok, at_err, between_of, ends_there, takes_piece}
 use Rattle.tds_packet.proofs.payload.Payload.pass.Goals as goal
 
 pub loop-passed-preserved : goal.loop-passed-preserved
@@ -7,7 +8,8 @@ loop-passed-preserved g c =
     let k = at_ok _ _ _ _ c.in-Ok.is h.2 in
     let inv = c.loop-passed.invariant in
     let bytes = c.in-Ok.bytes.now in
-    let takes = takes_piece g.R.Read.remaining c.args.self.now c.loop-passed.self c.piece.follows.lender-at-none inv.passes.bytes bytes c.loop-passed.passed inv.passes.counted c.in-Ok.ensures.len.0 inv.passes.takes k.0 in
+    let takes = takes_piece g.R.Read.remaining c.args.self.now c.loop-passed.self c.piece.follows.lender-at-none inv.passes.bytes bytes
+    c.loop-passed.passed inv.passes.counted c.in-Ok.ensures.len.0 inv.passes.takes k.0 in
     record {
       sound = h.0;
       same = search rules;
@@ -15,7 +17,12 @@ loop-passed-preserved g c =
       within = search rules;
       place = omega (arith, k.2, inv.place);
       going = k.3;
-      passes = record { bytes = inv.passes.bytes ++ bytes; counted = length-append inv.passes.bytes bytes ∙ ap (λ n. n + length bytes) inv.passes.counted; takes = takes };
+      passes = record {
+        bytes = inv.passes.bytes ++ bytes;
+        counted = length-append inv.passes.bytes bytes
+            ∙ ap (λ n. n + length bytes) inv.passes.counted;
+        takes = takes;
+      };
     }
 
 pub returns-in-Err-clause-part : goal.returns-in-Err-clause-part
@@ -29,7 +36,8 @@ returns-in-Err-clause-part g c = λ _.
       part = before.bytes;
       own = c.in-Err.stop;
       fewer = omega (arith, before.counted, c.loop-passed-test.true);
-      ends = rw (left, count) (ends_there g.R.Read.remaining c.args.self.now c.loop-passed.self s before.bytes c.loop-passed.passed c.in-Err.stop before.takes k.0);
+      ends = rw (left, count) (ends_there g.R.Read.remaining c.args.self.now c.loop-passed.self s before.bytes c.loop-passed.passed c.in-Err.stop
+          before.takes k.0);
       stop_is = search rules;
     }
 

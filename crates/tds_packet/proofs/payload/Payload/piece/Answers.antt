@@ -1,4 +1,7 @@
-use Rattle.tds_packet.proofs.{Words.{◌≡◌, [], ◌+◌, ◌-◌, ◌≤◌, length, take, min, refl, arith, rules, length-take-le, length-drop, le_refl, seen, buffered, further}, Futures.{Takes-trans, further_takes}, PayloadLaws.{between_of, not_again}}
+use Rattle.tds_packet.proofs.Words.{◌≡◌, [], ◌+◌, ◌-◌, ◌≤◌, length, take, min, refl, arith, rules, length-take-le, length-drop, le_refl, seen}
+use Rattle.tds_packet.proofs.Words.{buffered, further}
+use Rattle.tds_packet.proofs.Futures.{Takes-trans, further_takes}
+use Rattle.tds_packet.proofs.PayloadLaws.{between_of, not_again}
 use Rattle.tds_packet.proofs.payload.Payload.piece.Goals as goal
 
 pub returns : goal.returns
@@ -13,12 +16,20 @@ returns g c =
     let fits : n ≤ length (buffered s) = omega (arith, length-drop s.at s.packet.now.bytes, up) in
     let len = length-take-le n (buffered s) fits in
     let value = c.bytes-bytes.ensures.value in
-    let takes = Takes-trans (seen g.R.Read.remaining c.args.self.now) (seen g.R.Read.remaining s) (seen g.R.Read.remaining (further s n)) [] (take n (buffered s)) 1 1 (le_refl 1) ready.gives (further_takes g.R.Read.remaining s n 1 fits going) in (
+    let takes = Takes-trans (seen g.R.Read.remaining c.args.self.now) (seen g.R.Read.remaining s) (seen g.R.Read.remaining (further s n)) []
+    (take n (buffered s)) 1 1 (le_refl 1) ready.gives (further_takes g.R.Read.remaining s n 1 fits going) in (
       (
         refl,
         λ _. tt,
         (
-          record { at = omega (arith, up, ready.stands); place = omega (arith, sound.place, up, ready.stands); wire = sound.wire; limit = sound.limit; peak = sound.peak; used_up = rw going tt },
+          record {
+            at = omega (arith, up, ready.stands);
+            place = omega (arith, sound.place, up, ready.stands);
+            wire = sound.wire;
+            limit = sound.limit;
+            peak = sound.peak;
+            used_up = rw going tt;
+          },
           ready.payload.answers.same,
           (rw (value, m) takes, between_of g.R.Read.remaining (further s n) going, rw (value, m) (omega (arith, len, ready.payload.place)), going),
           not_again _ _ _ _ ready.payload.answers.again,

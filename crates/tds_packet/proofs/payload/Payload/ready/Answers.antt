@@ -1,4 +1,7 @@
-use Rattle.tds_packet.proofs.{Words.{◌≡◌, ◌∙◌, [], length, drop, ap, rules, arith, le_refl, drop_of_length-le, seen}, Futures.{stopped_ends, ended_ends, Takes-trans}, PayloadLaws.ends_there, Passing.passed}
+use Rattle.tds_packet.proofs.Words.{◌≡◌, ◌∙◌, [], length, drop, ap, rules, arith, le_refl, drop_of_length-le, seen}
+use Rattle.tds_packet.proofs.Futures.{stopped_ends, ended_ends, Takes-trans}
+use Rattle.tds_packet.proofs.PayloadLaws.{ends_there}
+use Rattle.tds_packet.proofs.Passing.{passed}
 use Rattle.tds_packet.proofs.payload.Payload.ready.Goals as goal
 
 pub returns-in-Some-clause-gives : goal.returns-in-Some-clause-gives
@@ -8,10 +11,13 @@ pub returns-then-self-clause-gives : goal.returns-then-self-clause-gives
 returns-then-self-clause-gives g c =
     let s = c.loop-self.self in
     let none : drop s.at s.packet.now.bytes ≡ [] = drop_of_length-le s.packet.now.bytes (omega (arith, c.loop-self-test.true, c.len.ensures)) in
-    rw c.in_payload-stop.ensures (ends_there g.R.Read.remaining c.args.self.now s s [] 1 _ c.loop-self.invariant.gives (ended_ends g.R.Read.remaining s c.if-self.true c.loop-self.invariant.going none))
+    rw c.in_payload-stop.ensures (ends_there g.R.Read.remaining c.args.self.now s s [] 1 _ c.loop-self.invariant.gives
+    (ended_ends g.R.Read.remaining s c.if-self.true c.loop-self.invariant.going none))
 
 pub returns-in_err-advance-clause-gives : goal.returns-in_err-advance-clause-gives
-returns-in_err-advance-clause-gives g c = passed _ _ _ _ c.from_residual.ensures.1 (ends_there g.R.Read.remaining c.args.self.now c.loop-self.self c.advance.new.self [] 1 _ c.loop-self.invariant.gives c.in_err-advance.ensures.gives)
+returns-in_err-advance-clause-gives g c =
+    passed _ _ _ _ c.from_residual.ensures.1 (ends_there g.R.Read.remaining c.args.self.now c.loop-self.self c.advance.new.self [] 1 _
+    c.loop-self.invariant.gives c.in_err-advance.ensures.gives)
 
 pub loop-self-preserved : goal.loop-self-preserved
 loop-self-preserved g c =
@@ -20,8 +26,15 @@ loop-self-preserved g c =
     record {
       sound = answers.answers.sound;
       same = search rules;
-      lazy = λ h. absurd (omega (arith, ap (λ p. p.at) (inv.lazy h), ap (λ p. length p.packet.now.bytes) (inv.lazy h), c.loop-self-test.true, c.len.ensures));
+      lazy = λ h. absurd (omega (
+        arith,
+        ap (λ p. p.at) (inv.lazy h),
+        ap (λ p. length p.packet.now.bytes) (inv.lazy h),
+        c.loop-self-test.true,
+        c.len.ensures,
+      ));
       place = answers.place ∙ inv.place;
       going = answers.answers.going;
-      gives = Takes-trans (seen g.R.Read.remaining c.args.self.now) (seen g.R.Read.remaining c.loop-self.self) (seen g.R.Read.remaining c.advance.new.self) [] [] 1 1 (le_refl 1) inv.gives c.in_ok-advance.ensures.gives;
+      gives = Takes-trans (seen g.R.Read.remaining c.args.self.now) (seen g.R.Read.remaining c.loop-self.self)
+          (seen g.R.Read.remaining c.advance.new.self) [] [] 1 1 (le_refl 1) inv.gives c.in_ok-advance.ensures.gives;
     }

@@ -1,4 +1,6 @@
-use Rattle.tds_rows.proofs.{Words.{arith, rules, sym, passed, between_of}, PassedCells.{chunks_cut, chunks_end, chunks_more, chunks_none, stops_after_steps, chunk_steps, end_steps}, Numbers.chunk_stops}
+use Rattle.tds_rows.proofs.Words.{arith, rules, sym, passed, between_of}
+use Rattle.tds_rows.proofs.PassedCells.{chunks_cut, chunks_end, chunks_more, chunks_none, stops_after_steps, chunk_steps, end_steps}
+use Rattle.tds_rows.proofs.Numbers.{chunk_stops}
 use Rattle.tds_rows.proofs.cell.passed.pass_chunks.Goals as goal
 
 pub loop-n-init : goal.loop-n-init
@@ -12,7 +14,8 @@ loop-n-init g c = record {
 pub returns-in_err-n-clause-cell : goal.returns-in_err-n-clause-cell
 returns-in_err-n-clause-cell g c = λ conversion any.
     let x = c.loop-n.invariant.walks conversion any in
-    passed _ _ _ _ c.from_residual.ensures.1 (stops_after_steps x.steps (record { at = _; stops = chunk_stops _ (sym any.unit_is) x.counted c.in_err-n.ensures.length }))
+    passed _ _ _ _ c.from_residual.ensures.1 (stops_after_steps x.steps
+    (record { at = _; stops = chunk_stops _ (sym any.unit_is) x.counted c.in_err-n.ensures.length }))
 
 pub returns-then-n-eq0-clause-cell : goal.returns-then-n-eq0-clause-cell
 returns-then-n-eq0-clause-cell g c = λ conversion any.

@@ -6,7 +6,9 @@ invariant-loop-n g l = record {
   going : IsGoing l.payload;
   same : IsOnSame l.initial.payload l.payload;
   few : l.sum ≤ l.payload.place;
-  walks : (c : Conversion) → AnyData c l.unit → WalksChunks c l.total l.sum (seen g.R.Read.remaining l.initial.payload) (seen g.R.Read.remaining l.payload) l.initial.payload.place l.payload.place;
+  walks : (c : Conversion) → AnyData c l.unit
+      → WalksChunks c l.total l.sum (seen g.R.Read.remaining l.initial.payload) (seen g.R.Read.remaining l.payload) l.initial.payload.place
+      l.payload.place;
 }
 
 abbrev pub decreases-loop-n : goal.decreases-loop-n

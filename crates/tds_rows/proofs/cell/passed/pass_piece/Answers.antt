@@ -8,7 +8,8 @@ returns-clause-piece g c =
     record {
       bytes = bytes;
       counted = length-take-le n (buffered c.args.payload.now) (search (arith, rules));
-      takes = Takes-more (seen g.R.Read.remaining c.args.payload.now) (seen g.R.Read.remaining c.consume.new.self) bytes _ _ (omega arith) c.consume.ensures.gives;
+      takes = Takes-more (seen g.R.Read.remaining c.args.payload.now) (seen g.R.Read.remaining c.consume.new.self) bytes _ _ (omega arith)
+          c.consume.ensures.gives;
       between = c.consume.ensures.between c.requires.going.going;
       place_is = search rules;
     }

@@ -12,7 +12,8 @@ loop-left-init g c = record {
   place = search rules;
   calm = refl;
   filled = λ conversion content suits is begun.
-      filled_none begun is (between_of g.R.Read.remaining c.args.payload.now c.requires.joining.payload.going) (c.requires.joining.sink.ready.1 c.requires.joining.sink.writing) c.requires.joining.sink.ready.2;
+      filled_none begun is (between_of g.R.Read.remaining c.args.payload.now c.requires.joining.payload.going)
+      (c.requires.joining.sink.ready.1 c.requires.joining.sink.writing) c.requires.joining.sink.ready.2;
 }
 
 pub returns-in_err-left-clause-data : goal.returns-in_err-left-clause-data

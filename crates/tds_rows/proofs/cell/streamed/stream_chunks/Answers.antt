@@ -1,4 +1,8 @@
-use Rattle.tds_rows.proofs.{Words.{◌≡◌, ◌∙◌, arith, refl, rules, sym, MatchResult-weaker, passed, chunk_length_fault}, LongValues.{chunk_path, chunks_end_stops, chunks_whole, streamed_more, streamed_none, reading_stops, rest_none}, LongSteps.{chunk_holds, filling_stops}, Numbers.{chunk_stops, chunk_blames, length_blames, read_stops, same_failures, stops_after}, Paths.path_stops}
+use Rattle.tds_rows.proofs.Words.{◌≡◌, ◌∙◌, arith, refl, rules, sym, MatchResult-weaker, passed, chunk_length_fault}
+use Rattle.tds_rows.proofs.LongValues.{chunk_path, chunks_end_stops, chunks_whole, streamed_more, streamed_none, reading_stops, rest_none}
+use Rattle.tds_rows.proofs.LongSteps.{chunk_holds, filling_stops}
+use Rattle.tds_rows.proofs.Numbers.{chunk_stops, chunk_blames, length_blames, read_stops, same_failures, stops_after}
+use Rattle.tds_rows.proofs.Paths.{path_stops}
 use Rattle.tds_rows.proofs.cell.streamed.stream_chunks.Goals as goal
 
 pub loop-n-init : goal.loop-n-init
@@ -31,7 +35,8 @@ returns-then-n-eq0-clause-field g c = λ conversion suits.
     let free = rw c.UNIT.ensures at r.2 in
     let ended = rw c.place-place.ensures at (rw suits.quoted_is at (c.put_end.ensures.end conversion x.content suits x.kept_is x.begun)) in
     MatchResult-weaker c.put_end.result ended (λ _ y. chunks_whole _ suits.unit_is x r.1 free none y.0 y.1)
-    (λ stop y. chunks_end_stops _ suits.unit_is x r.1 free (l.invariant.writing.ready.1 l.invariant.writing.writing) l.invariant.writing.ready.2 none y)
+    (λ stop y. chunks_end_stops _ suits.unit_is x r.1 free (l.invariant.writing.ready.1 l.invariant.writing.writing) l.invariant.writing.ready.2 none
+    y)
 
 pub returns-in_err-push_data-clause-field : goal.returns-in_err-push_data-clause-field
 returns-in_err-push_data-clause-field g c = λ conversion suits.
@@ -41,7 +46,9 @@ returns-in_err-push_data-clause-field g c = λ conversion suits.
     let reads = rw (sym r.3) at r.1 in
     let free = rw (sym r.3) at (rw c.UNIT.ensures at r.2) in
     let read = chunk_path _ suits.unit_is x reads free c.if-n-eq0.false l.invariant.writing.ready.2 in
-    passed _ _ _ _ c.from_residual-in_err-push_data.ensures.1 (path_stops read (filling_stops _ (chunk_holds _ conversion _) (c.in_err-push_data.ensures.data conversion x.content suits x.kept_is x.begun)))
+    passed _ _ _ _ c.from_residual-in_err-push_data.ensures.1
+    (path_stops read (filling_stops _ (chunk_holds _ conversion _)
+    (c.in_err-push_data.ensures.data conversion x.content suits x.kept_is x.begun)))
 
 pub loop-n-preserved : goal.loop-n-preserved
 loop-n-preserved g c =
@@ -60,7 +67,8 @@ loop-n-preserved g c =
           let r = c.in_ok-n.ensures.length in
           let reads = rw (sym r.3) at r.1 in
           let free = rw (sym r.3) at (rw c.UNIT.ensures at r.2) in
-          streamed_more _ suits.unit_is x reads free c.if-n-eq0.false l.invariant.writing.ready.2 done.leaves.sink.ready.2 (done.data conversion x.content suits x.kept_is x.begun);
+          streamed_more _ suits.unit_is x reads free c.if-n-eq0.false l.invariant.writing.ready.2 done.leaves.sink.ready.2
+          (done.data conversion x.content suits x.kept_is x.begun);
     }
 
 pub returns-in_err-n-clause-blames : goal.returns-in_err-n-clause-blames
@@ -68,4 +76,5 @@ returns-in_err-n-clause-blames g c =
     let l = c.loop-n in
     let stop = c.in_err-n.field-0.0 in
     passed _ _ _ _ c.from_residual.ensures.1 (stops_after _ _ _ stop l.invariant.calm (read_stops _ _ stop
-    (length_blames g.R.Read.remaining (λ n. chunk_length_fault c.args.column c.UNIT.result c.args.total l.sum n) l.payload l.invariant.going.going (chunk_blames c.args.column c.UNIT.result c.args.total l.sum) c.in_err-n.ensures.length)))
+    (length_blames g.R.Read.remaining (λ n. chunk_length_fault c.args.column c.UNIT.result c.args.total l.sum n) l.payload l.invariant.going.going
+    (chunk_blames c.args.column c.UNIT.result c.args.total l.sum) c.in_err-n.ensures.length)))

@@ -1,13 +1,21 @@
-use Rattle.tds_rows.proofs.{Words.{◌∙◌, ◌<◌, ◌++◌, ℕ, [], List, arith, refl, rules, sym, MatchResult-weaker, passed, short_fault}, Numbers.{length_blames, read_stops, short_blames, short_none, short_start, short_stops}, LongValues.{empty_puts, empty_stops, field_puts, next_breaks, next_path, none_begins, null_puts, reading_stops, rest_none, short_end_stops, short_open, short_text, short_whole}, LongSteps.{filling_stops, short_holds}, Paths.path_stops}
+use Rattle.tds_rows.proofs.Words.{◌∙◌, ◌<◌, ◌++◌, ℕ, [], List, arith, refl, rules, sym, MatchResult-weaker, passed, short_fault}
+use Rattle.tds_rows.proofs.Numbers.{length_blames, read_stops, short_blames, short_none, short_start, short_stops}
+use Rattle.tds_rows.proofs.LongValues.{empty_puts, empty_stops, field_puts, next_breaks, next_path, none_begins, null_puts, reading_stops, rest_none}
+use Rattle.tds_rows.proofs.LongValues.{short_end_stops, short_open, short_text, short_whole}
+use Rattle.tds_rows.proofs.LongSteps.{filling_stops, short_holds}
+use Rattle.tds_rows.proofs.Paths.{path_stops}
 use Rattle.tds_rows.proofs.cell.streamed.stream_short.Goals as goal
 
 pub returns-in_err-n-clause-field : goal.returns-in_err-n-clause-field
 returns-in_err-n-clause-field g c = λ conversion suits.
-    passed _ _ _ _ c.from_residual.ensures.1 (reading_stops _ c.requires.joining.sink.ready.2 c.requires.joining.sink.writing (short_stops _ (c.UNIT.ensures ∙ suits.unit_is) c.in_err-n.ensures.length))
+    passed _ _ _ _ c.from_residual.ensures.1 (reading_stops _ c.requires.joining.sink.ready.2 c.requires.joining.sink.writing
+    (short_stops _ (c.UNIT.ensures ∙ suits.unit_is) c.in_err-n.ensures.length))
 
 pub returns-in_default-clause-field : goal.returns-in_default-clause-field
 returns-in_default-clause-field g c = λ conversion suits.
-    null_puts c.args.last g.W.Write.contents c.args.sink.now c.put_null.new.sink c.put_null.result (short_none conversion (c.UNIT.ensures ∙ suits.unit_is) c.in_ok-n.ensures.length c.in_default.is) refl c.requires.joining.sink c.put_null.ensures
+    null_puts c.args.last g.W.Write.contents c.args.sink.now c.put_null.new.sink c.put_null.result
+    (short_none conversion (c.UNIT.ensures ∙ suits.unit_is) c.in_ok-n.ensures.length c.in_default.is) refl c.requires.joining.sink
+    c.put_null.ensures
 
 pub returns-in_err-put_opening-clause-field : goal.returns-in_err-put_opening-clause-field
 returns-in_err-put_opening-clause-field g c = λ conversion suits.
@@ -15,7 +23,8 @@ returns-in_err-put_opening-clause-field g c = λ conversion suits.
     let x = short_start _ (c.UNIT.ensures ∙ suits.unit_is) c.in_ok-n.ensures.length c.in-Some.is in
     let breaks = rw (c.QUOTED.ensures ∙ suits.quoted_is) at (c.in_err-put_opening.ensures.gives sink.writing) in
     let rest = short_text c.args.column c.args.last conversion c.in-Some.n in
-    passed _ _ _ _ c.from_residual-in_err-put_opening.ensures.1 (next_breaks _ x _ rest.0 (sink.ready.1 sink.writing) sink.ready.2 c.in_err-put_opening.ensures.failed rest.1 breaks)
+    passed _ _ _ _ c.from_residual-in_err-put_opening.ensures.1
+    (next_breaks _ x _ rest.0 (sink.ready.1 sink.writing) sink.ready.2 c.in_err-put_opening.ensures.failed rest.1 breaks)
 
 pub returns-then-n-eq0-clause-field : goal.returns-then-n-eq0-clause-field
 returns-then-n-eq0-clause-field g c = λ conversion suits.
@@ -23,7 +32,8 @@ returns-then-n-eq0-clause-field g c = λ conversion suits.
     let x = short_start _ (c.UNIT.ensures ∙ suits.unit_is) c.in_ok-n.ensures.length c.in-Some.is in
     let opened = rw (c.QUOTED.ensures ∙ suits.quoted_is) at c.in_ok-put_opening.ensures.gives in
     let ended = rw suits.quoted_is at (c.put_end.ensures.end conversion [] suits (c.requires.withheld ∙ sym (rest_none _)) (none_begins _)) in
-    MatchResult-weaker c.put_end.result ended (λ _ y. empty_puts _ _ _ _ x c.if-n-eq0.true opened y.1) (λ stop y. empty_stops _ _ _ _ _ x c.if-n-eq0.true opened (sink.ready.1 sink.writing) sink.ready.2 y)
+    MatchResult-weaker c.put_end.result ended (λ _ y. empty_puts _ _ _ _ x c.if-n-eq0.true opened y.1)
+    (λ stop y. empty_stops _ _ _ _ _ x c.if-n-eq0.true opened (sink.ready.1 sink.writing) sink.ready.2 y)
 
 pub returns-in_err-push_data-clause-field : goal.returns-in_err-push_data-clause-field
 returns-in_err-push_data-clause-field g c = λ conversion suits.
@@ -31,7 +41,9 @@ returns-in_err-push_data-clause-field g c = λ conversion suits.
     let opened = rw (c.QUOTED.ensures ∙ suits.quoted_is) at c.in_ok-put_opening.ensures.gives in
     let some : 0 < c.in-Some.n = search (arith, rules) in
     let stops = c.in_err-push_data.ensures.data conversion [] suits (c.requires.withheld ∙ sym (rest_none _)) (none_begins _) in
-    passed _ _ _ _ c.from_residual-in_err-push_data.ensures.1 (path_stops (next_path c.args.last x _ (short_open c.args.column c.args.last conversion _ some) opened) (filling_stops _ (short_holds _ conversion) stops))
+    passed _ _ _ _ c.from_residual-in_err-push_data.ensures.1
+    (path_stops (next_path c.args.last x _ (short_open c.args.column c.args.last conversion _ some) opened)
+    (filling_stops _ (short_holds _ conversion) stops))
 
 pub returns-clause-field : goal.returns-clause-field
 returns-clause-field g c = λ conversion suits.
@@ -42,9 +54,11 @@ returns-clause-field g c = λ conversion suits.
     let y = c.in_ok-push_data.ensures.data conversion [] suits (c.requires.withheld ∙ sym (rest_none _)) (none_begins _) in
     let all : List ℕ = y.front ++ y.takes.piece in
     let ended = rw suits.quoted_is at (rw c.place-2.ensures at (c.put_end-2.ensures.end conversion all suits y.takes.kept_is y.takes.begun)) in
-    MatchResult-weaker c.put_end-2.result ended (λ _ z. field_puts start (short_whole _ _ _ y z.0 z.1)) (λ stop z. path_stops start (short_end_stops _ _ _ y z))
+    MatchResult-weaker c.put_end-2.result ended (λ _ z. field_puts start (short_whole _ _ _ y z.0 z.1))
+    (λ stop z. path_stops start (short_end_stops _ _ _ y z))
 
 pub returns-in_err-n-clause-blames : goal.returns-in_err-n-clause-blames
 returns-in_err-n-clause-blames g c =
     passed _ _ _ _ c.from_residual.ensures.1 (read_stops _ _ c.in_err-n.field-0.0
-    (length_blames g.R.Read.remaining (short_fault c.args.column c.UNIT.result) c.args.payload.now c.requires.joining.payload.going (short_blames c.args.column c.UNIT.result) c.in_err-n.ensures.length))
+    (length_blames g.R.Read.remaining (short_fault c.args.column c.UNIT.result) c.args.payload.now c.requires.joining.payload.going
+    (short_blames c.args.column c.UNIT.result) c.in_err-n.ensures.length))

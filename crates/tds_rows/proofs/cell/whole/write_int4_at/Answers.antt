@@ -1,4 +1,7 @@
-use Rattle.tds_rows.proofs.{Words.{Ok, answered, ◌≡◌, ◌∙◌, ◌+◌, ◌-◌, take, drop, length, sym, ap, arith, length-drop, length-take-le, in_line, IsValueText}, BufferedCells.{int4_reads, value_cell}, RunSteps.writes_scalar}
+use Rattle.tds_rows.proofs.Words.{Ok, answered, ◌≡◌, ◌∙◌, ◌+◌, ◌-◌, take, drop, length, sym, ap, arith, length-drop, length-take-le, in_line}
+use Rattle.tds_rows.proofs.Words.{IsValueText}
+use Rattle.tds_rows.proofs.BufferedCells.{int4_reads, value_cell}
+use Rattle.tds_rows.proofs.RunSteps.{writes_scalar}
 use Rattle.tds_rows.proofs.cell.whole.write_int4_at.Goals as goal
 
 pub returns-clause-field : goal.returns-clause-field
@@ -8,9 +11,15 @@ returns-clause-field c = λ charset column last.
     let bytes = c.args.bytes.now in
     let value = take ((start + 4) - start) (drop start bytes) in
     let text = in_line column last (take c.write_int4-made.result c.write_int4-made.new.to) in
-    let four : length value ≡ 4 = omega (arith, c.if-bytes-used.false, length-drop start bytes, length-take-le ((start + 4) - start) (drop start bytes)) in
+    let four : length value ≡ 4 = omega (
+      arith,
+      c.if-bytes-used.false,
+      length-drop start bytes,
+      length-take-le ((start + 4) - start) (drop start bytes),
+    ) in
     let reads = int4_reads kind value c.requires.number four in
     let x = answered _ (Ok c.write_int4-made.result) _ c.write_int4-made.ensures.text in
     let is : IsValueText kind column last value text = (x.0, reads.1 ∙ x.1.0, ap (in_line column last) x.1.1.0) in
     let after : (start + 4) - start ≡ 4 = omega arith in
-    writes_scalar _ _ _ _ _ _ (λ any. value_cell _ _ _ _ _ _ reads.0 _ _ c.requires.start (sym c.requires.four) (λ e. absurd (omega (arith, e))) c.if-bytes-used.false (rw after at is))
+    writes_scalar _ _ _ _ _ _ (λ any. value_cell _ _ _ _ _ _ reads.0 _ _ c.requires.start (sym c.requires.four) (λ e. absurd (omega (arith, e)))
+    c.if-bytes-used.false (rw after at is))

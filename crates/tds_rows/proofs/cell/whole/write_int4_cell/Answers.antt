@@ -4,4 +4,5 @@ use Rattle.tds_rows.proofs.cell.whole.write_int4_cell.Goals as goal
 pub returns-in-0-clause-field : goal.returns-in-0-clause-field
 returns-in-0-clause-field c = λ charset column last.
     let kind = int4_start c.requires.number c.in-IntN.is c.args.bytes.now in
-    writes_scalar _ _ _ _ _ _ (λ any. null_cell _ _ _ _ _ _ kind.0 _ kind.1.0 (kind.1.1 ∙ c.in-0.is) (search (arith, rules)) (ap (in_line column last) c.write_null-made.ensures.text))
+    writes_scalar _ _ _ _ _ _ (λ any. null_cell _ _ _ _ _ _ kind.0 _ kind.1.0 (kind.1.1
+    ∙ c.in-0.is) (search (arith, rules)) (ap (in_line column last) c.write_null-made.ensures.text))

@@ -1,4 +1,6 @@
-use Rattle.tds_rows.proofs.{Words.{◌≡◌, ◌∙◌, ◌-◌, length, take, drop, sym, ap, arith, rules, true, take_rest, Wide, Short, is_fit, long_field, conversion_of, in_line, stated_length}, ShortCells.{short_null, short_value}}
+use Rattle.tds_rows.proofs.Words.{◌≡◌, ◌∙◌, ◌-◌, length, take, drop, sym, ap, arith, rules, true, take_rest, Wide, Short, is_fit, long_field}
+use Rattle.tds_rows.proofs.Words.{conversion_of, in_line, stated_length}
+use Rattle.tds_rows.proofs.ShortCells.{short_null, short_value}
 use Rattle.tds_rows.proofs.cell.whole.write_short.Goals as goal
 
 pub returns-then-n-clause-field : goal.returns-then-n-clause-field
@@ -19,4 +21,5 @@ returns-clause-field c = λ column last.
     let after : take n (take (length bytes - 2) (drop 2 bytes)) ≡ value = ap (take n) (take_rest bytes 2) in
     let fit : is_fit conversion value ≡ true = ap (is_fit conversion) (sym after) ∙ wrote.0 in
     let field : take made c.write_field.new.to ≡ long_field conversion value = wrote.1 ∙ ap (long_field conversion) after in
-    short_value column (Wide Short) conversion last bytes (in_line column last (take made c.write_field.new.to)) (omega (arith, c.if-bytes-lt2.false)) (c.type_inv.bytes 0).fits (c.type_inv.bytes 1).fits n counted c.if-n.false (search (arith, rules)) fit (ap (in_line column last) field)
+    short_value column (Wide Short) conversion last bytes (in_line column last (take made c.write_field.new.to)) (omega (arith, c.if-bytes-lt2.false))
+    (c.type_inv.bytes 0).fits (c.type_inv.bytes 1).fits n counted c.if-n.false (search (arith, rules)) fit (ap (in_line column last) field)

@@ -1,21 +1,31 @@
-use Rattle.tds_rows.proofs.{Words.{ℕ, ◌<◌, List, length, refl, sym, arith, rules, ◌∙◌, ◌≡◌, ap, ◌++◌, passed, passed_on, Space, LeavesRows, bitmap_length}, NextSteps.{next_nears, next_stops, run_near, leaves_after, stays_after, stays_on}, NullSteps.{all_put, bitmap_cut, bitmap_nears, row_ends}}
+use Rattle.tds_rows.proofs.Words.{ℕ, ◌<◌, List, length, refl, sym, arith, rules, ◌∙◌, ◌≡◌, ap, ◌++◌, passed, passed_on, Space, LeavesRows}
+use Rattle.tds_rows.proofs.Words.{bitmap_length}
+use Rattle.tds_rows.proofs.NextSteps.{next_nears, next_stops, run_near, leaves_after, stays_after, stays_on}
+use Rattle.tds_rows.proofs.NullSteps.{all_put, bitmap_cut, bitmap_nears, row_ends}
 use Rattle.tds_rows.proofs.rows.Rows.nbc_row.Goals as goal
 
 pub returns-in_err-take_into-clause-row : goal.returns-in_err-take_into-clause-row
 returns-in_err-take_into-clause-row g c = λ columns known.
     let sink = c.requires.in_row.sink in
     let x = c.in_err-take_into.ensures.gives c.requires.in_row.payload.going in
-    passed _ _ _ _ c.from_residual.ensures.1 (rw sink.writing (bitmap_cut _ x.part x.own (omega (arith, x.fewer, c.bitmap_size.ensures.value, c.count.ensures, known.counted)) x.ends x.stop_is sink.ready.2))
+    passed _ _ _ _ c.from_residual.ensures.1 (rw sink.writing
+    (bitmap_cut _ x.part x.own (omega (arith, x.fewer, c.bitmap_size.ensures.value, c.count.ensures, known.counted)) x.ends x.stop_is
+    sink.ready.2))
 
 pub loop-form-init : goal.loop-form-init
 loop-form-init g c =
     let old = c.args.self.now in
     let sink = c.requires.in_row.sink in
     let x = c.in_ok-take_into.ensures.gives in
-    let bytes : c.take_into.new.area.bytes ≡ x.element = ap (λ (s : Space). s.bytes) x.stands ∙ ap (λ (l : List ℕ). l ++ x.element) c.requires.awaits.empty in
+    let bytes : c.take_into.new.area.bytes ≡ x.element = ap (λ (s : Space). s.bytes) x.stands
+    ∙ ap (λ (l : List ℕ). l ++ x.element) c.requires.awaits.empty in
     record {
       stays = record {
-        in_row = record { payload = record { sound = c.in_ok-take_into.ensures.payload.sound; going = c.in_ok-take_into.ensures.payload.going }; sink = sink; room = c.requires.in_row.room };
+        in_row = record {
+          payload = record { sound = c.in_ok-take_into.ensures.payload.sound; going = c.in_ok-take_into.ensures.payload.going };
+          sink = sink;
+          room = c.requires.in_row.room;
+        };
         same = (refl, refl, refl, refl);
         payload = c.in_ok-take_into.ensures.payload.same;
         sink = (refl, refl, refl);
@@ -24,10 +34,12 @@ loop-form-init g c =
       knows = c.requires.knows;
       fits = omega (arith, ap length bytes, x.whole, c.bitmap_size.ensures.value, c.count.ensures);
       reads = λ columns knows.
-          let whole : length x.element ≡ bitmap_length (length columns) = x.whole ∙ c.bitmap_size.ensures.value ∙ ap bitmap_length (c.count.ensures ∙ knows.counted) in
+          let whole : length x.element ≡ bitmap_length (length columns) = x.whole ∙ c.bitmap_size.ensures.value
+          ∙ ap bitmap_length (c.count.ensures ∙ knows.counted) in
           let some : 0 < length columns = omega (arith, c.requires.knows.2, knows.counted) in
           let taken = rw (sym x.whole) at x.takes in
-          let near = bitmap_nears columns x.element some whole taken x.between (sink.ready.1 sink.writing) sink.ready.2 (omega (arith, x.whole, c.in_ok-take_into.ensures.place)) in
+          let near = bitmap_nears columns x.element some whole taken x.between (sink.ready.1 sink.writing) sink.ready.2
+          (omega (arith, x.whole, c.in_ok-take_into.ensures.place)) in
           (c.start-ahead.ensures.ahead columns knows, rw (c.start-ahead.ensures.first, bytes) near);
     }
 
@@ -38,15 +50,18 @@ returns-in_err-put_next-clause-row g c = λ columns known.
     let kept = run.ensures.stays in
     let knows = rw (sym l.invariant.stays.same.3) at known in
     let there = rw (sym kept.same.3) at knows in
-    let near = run_near g.R.Read.remaining g.W.Write.contents columns _ _ _ l.invariant.stays.in_row kept knows (rw c.bytes.ensures.value at run.ensures.cells) (l.invariant.reads columns knows) in
+    let near = run_near g.R.Read.remaining g.W.Write.contents columns _ _ _ l.invariant.stays.in_row kept knows
+    (rw c.bytes.ensures.value at run.ensures.cells) (l.invariant.reads columns knows) in
     let taken = c.in-Some.ensures.taken columns there near.0 in
     let is = rw c.bytes-in-loop-form.ensures.value at (sym c.is_null-null.ensures) in
-    let stops = next_stops g.R.Read.remaining g.W.Write.contents run.new.self c.put_next.new.self _ there taken _ _ kept.in_row near _ _ _ is c.in_err-put_next.ensures.cell in
+    let stops = next_stops g.R.Read.remaining g.W.Write.contents run.new.self c.put_next.new.self _ there taken _ _ kept.in_row near _ _ _ is
+    c.in_err-put_next.ensures.cell in
     passed _ _ _ _ c.from_residual-in_err-put_next.ensures.1 (rw (kept.same.3 ∙ l.invariant.stays.same.3) at stops)
 
 pub returns-in_err-put_next-clause-leaves : goal.returns-in_err-put_next-clause-leaves
 returns-in_err-put_next-clause-leaves g c =
-    passed_on _ _ (λ r. LeavesRows c.args.self.now c.put_next.new.self r) c.from_residual-in_err-put_next.ensures.1 (leaves_after (stays_on c.loop-form.invariant.stays c.put_nulls-at.ensures.stays) c.in_err-put_next.ensures.leaves)
+    passed_on _ _ (λ r. LeavesRows c.args.self.now c.put_next.new.self r) c.from_residual-in_err-put_next.ensures.1
+    (leaves_after (stays_on c.loop-form.invariant.stays c.put_nulls-at.ensures.stays) c.in_err-put_next.ensures.leaves)
 
 pub loop-form-preserved : goal.loop-form-preserved
 loop-form-preserved g c =
@@ -62,10 +77,12 @@ loop-form-preserved g c =
       reads = λ columns known.
           let there = rw done.leaves.same.3 at known in
           let knows = rw kept.same.3 at there in
-          let near = run_near g.R.Read.remaining g.W.Write.contents columns _ _ _ l.invariant.stays.in_row kept knows (rw c.bytes.ensures.value at run.ensures.cells) (l.invariant.reads columns knows) in
+          let near = run_near g.R.Read.remaining g.W.Write.contents columns _ _ _ l.invariant.stays.in_row kept knows
+          (rw c.bytes.ensures.value at run.ensures.cells) (l.invariant.reads columns knows) in
           let taken = c.in-Some.ensures.taken columns there near.0 in
           let is = rw c.bytes-in-loop-form.ensures.value at (sym c.is_null-null.ensures) in
-          next_nears g.R.Read.remaining g.W.Write.contents run.new.self c.put_next.new.self _ there taken _ _ kept.in_row near _ _ is done.leaves done.cell;
+          next_nears g.R.Read.remaining g.W.Write.contents run.new.self c.put_next.new.self _ there taken _ _ kept.in_row near _ _ is done.leaves
+          done.cell;
     }
 
 pub returns-in_default-clause-row : goal.returns-in_default-clause-row
@@ -74,6 +91,7 @@ returns-in_default-clause-row g c = λ columns known.
     let run = c.put_nulls-at in
     let kept = run.ensures.stays in
     let knows = rw (sym l.invariant.stays.same.3) at known in
-    let near = run_near g.R.Read.remaining g.W.Write.contents columns _ _ _ l.invariant.stays.in_row kept knows (rw c.bytes.ensures.value at run.ensures.cells) (l.invariant.reads columns knows) in
+    let near = run_near g.R.Read.remaining g.W.Write.contents columns _ _ _ l.invariant.stays.in_row kept knows
+    (rw c.bytes.ensures.value at run.ensures.cells) (l.invariant.reads columns knows) in
     let none = c.in_default.ensures.taken columns (rw (sym kept.same.3) at knows) near.0 in
     rw (kept.same.3 ∙ l.invariant.stays.same.3) at (row_ends (all_put refl kept.in_row.sink.ready.2 (rw none at near.1)))

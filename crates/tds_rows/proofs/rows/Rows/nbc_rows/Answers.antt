@@ -1,8 +1,16 @@
-use Rattle.tds_rows.proofs.{Words.{NbcRow, ◌∙◌, refl, sym, ap, arith, rules, passed}, NextSteps.{rows_first, rows_row, rows_stop, rows_token, stays, stays_after, stays_on}}
+use Rattle.tds_rows.proofs.Words.{NbcRow, ◌∙◌, refl, sym, ap, arith, rules, passed}
+use Rattle.tds_rows.proofs.NextSteps.{rows_first, rows_row, rows_stop, rows_token, stays, stays_after, stays_on}
 use Rattle.tds_rows.proofs.rows.Rows.nbc_rows.Goals as goal
 
 pub loop-ended-init : goal.loop-ended-init
-loop-ended-init g c = record { stays = stays c.requires.in_row; knows = c.requires.knows; room = refl; few = omega arith; reads = λ columns knows. rows_first c.requires.in_row.sink.ready.2 }
+loop-ended-init g c = record {
+  stays = stays c.requires.in_row;
+  knows = c.requires.knows;
+  room = refl;
+  few = omega arith;
+  reads = λ columns knows.
+      rows_first c.requires.in_row.sink.ready.2;
+}
 
 pub returns-in_err-nbc_row-clause-rows : goal.returns-in_err-nbc_row-clause-rows
 returns-in_err-nbc_row-clause-rows g c = λ columns known.
@@ -23,7 +31,12 @@ pub returns-then-not-take_token-clause-few : goal.returns-then-not-take_token-cl
 returns-then-not-take_token-clause-few g c =
     let l = c.loop-ended in
     let known = l.invariant.knows in
-    omega (arith, l.invariant.few, (c.in_ok-nbc_row.ensures.row known.0 known.1).place_is, ap (λ p. p.place) (c.if-not-take_token.ensures.token NbcRow refl).0)
+    omega (
+      arith,
+      l.invariant.few,
+      (c.in_ok-nbc_row.ensures.row known.0 known.1).place_is,
+      ap (λ p. p.place) (c.if-not-take_token.ensures.token NbcRow refl).0,
+    )
 
 pub returns-then-not-take_token-clause-all : goal.returns-then-not-take_token-clause-all
 returns-then-not-take_token-clause-all g c = (c.if-not-take_token.ensures.token NbcRow refl).1
@@ -54,4 +67,12 @@ loop-ended-smaller g c =
     let kept = c.take_token.ensures.stays in
     let taken = c.if-not-take_token.ensures.token NbcRow refl in
     let known = l.invariant.knows in
-    omega (arith, (done.row known.0 known.1).place_is, taken.1, kept.in_row.payload.sound.place, kept.in_row.payload.sound.wire, kept.payload.3, done.leaves.payload.same.3)
+    omega (
+      arith,
+      (done.row known.0 known.1).place_is,
+      taken.1,
+      kept.in_row.payload.sound.place,
+      kept.in_row.payload.sound.wire,
+      kept.payload.3,
+      done.leaves.payload.same.3,
+    )

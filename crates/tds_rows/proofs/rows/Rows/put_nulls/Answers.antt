@@ -1,4 +1,6 @@
-use Rattle.tds_rows.proofs.{Words.{◌≡◌, ◌∙◌, ap, sym, drop, ◌-◌, ◌+◌, ◌≤◌, length, take, arith, rules, length-take, drop-drop, buffered, held}, BufferedCells.kept_text, NextSteps.all_waits}
+use Rattle.tds_rows.proofs.Words.{◌≡◌, ◌∙◌, ap, sym, drop, ◌-◌, ◌+◌, ◌≤◌, length, take, arith, rules, length-take, drop-drop, buffered, held}
+use Rattle.tds_rows.proofs.BufferedCells.{kept_text}
+use Rattle.tds_rows.proofs.NextSteps.{all_waits}
 use Rattle.tds_rows.proofs.rows.Rows.put_nulls.Goals as goal
 
 pub returns-clause-ends : goal.returns-clause-ends
@@ -11,11 +13,13 @@ returns-clause-ends g c =
     let lent = c.spare.result.now in
     let whole : length written ≡ length lent = c.run_nulls-run.auto.to in
     let puts = kept_text h j lent written c.waiting-waiting.result whole c.waiting-waiting.ensures run.made c.commit.ensures.gives in
-    let block : length lent + length h.waiting ≡ 4095 = omega (arith, c.spare.ensures.value, c.room-room.ensures, c.requires.in_row.sink.ready.1 c.requires.in_row.sink.writing) in
+    let block : length lent + length h.waiting ≡ 4095 =
+    omega (arith, c.spare.ensures.value, c.room-room.ensures, c.requires.in_row.sink.ready.1 c.requires.in_row.sink.writing) in
     let text : length (take run.made written) ≡ run.made = omega (arith, whole, c.run_nulls-run.ensures.made, length-take run.made written) in
     let waits = all_waits h j (take run.made written) puts (omega (arith, block, text, c.run_nulls-run.ensures.made)) in
     let room : length lent - run.made ≡ 4095 - length j.waiting = omega (arith, block, text, waits, c.run_nulls-run.ensures.made) in
-    let rest : drop run.used (buffered old) ≡ buffered c.consume.new.self = drop-drop run.used old.at old.packet.now.bytes ∙ ap buffered (sym c.consume.ensures.rest) in
+    let rest : drop run.used (buffered old) ≡ buffered c.consume.new.self = drop-drop run.used old.at old.packet.now.bytes
+    ∙ ap buffered (sym c.consume.ensures.rest) in
     rw room at (rw rest at (rw c.buffered.ensures at c.run_nulls-run.ensures.ends))
 
 pub returns-clause-cells : goal.returns-clause-cells

@@ -1,4 +1,6 @@
-use Rattle.tds_rows.proofs.{Words.{[], refl, ◌≡◌, ap, ◌+◌, ◌≤◌, length, take, arith, rules, length-take, buffered, seen, Takes-more}, BufferedCells.kept_text, Paths.{here, path_none, streams_of}}
+use Rattle.tds_rows.proofs.Words.{[], refl, ◌≡◌, ap, ◌+◌, ◌≤◌, length, take, arith, rules, length-take, buffered, seen, Takes-more}
+use Rattle.tds_rows.proofs.BufferedCells.{kept_text}
+use Rattle.tds_rows.proofs.Paths.{here, path_none, streams_of}
 use Rattle.tds_rows.proofs.rows.Rows.put_run.Goals as goal
 
 pub returns-then-room-lt-CELL_ROOM-clause-rows : goal.returns-then-room-lt-CELL_ROOM-clause-rows
@@ -21,8 +23,10 @@ returns-clause-rows g c = λ columns knows ahead.
     let written = c.run_rows-run.new.to in
     let bytes = take run.used (buffered c.args.self.now.payload.now) in
     let lies : run.used ≤ length (buffered c.args.self.now.payload.now) = search (arith, rules) in
-    let takes = Takes-more (seen g.R.Read.remaining c.args.self.now.payload.now) (seen g.R.Read.remaining c.consume.new.self) bytes 0 (length bytes) (omega arith) c.consume.ensures.gives in
-    let at : c.consume.new.self.place ≡ c.args.self.now.payload.now.place + length bytes = omega (arith, lies, ap (λ p. p.place) c.consume.ensures.rest, length-take run.used (buffered c.args.self.now.payload.now)) in
+    let takes = Takes-more (seen g.R.Read.remaining c.args.self.now.payload.now) (seen g.R.Read.remaining c.consume.new.self) bytes 0 (length bytes)
+    (omega arith) c.consume.ensures.gives in
+    let at : c.consume.new.self.place ≡ c.args.self.now.payload.now.place + length bytes =
+    omega (arith, lies, ap (λ p. p.place) c.consume.ensures.rest, length-take run.used (buffered c.args.self.now.payload.now)) in
     let ran = c.run_rows-run.ensures.rows columns knows ahead in (
       ran.0,
       λ charset cells set is.

@@ -1,4 +1,6 @@
-use Rattle.tds_rows.proofs.{Words.{◌≡◌, ◌∙◌, ◌+◌, ◌<◌, ◌≤◌, ap, length, sym, take, arith, rules, length-take, buffered, seen, Takes-more}, RunSteps.put_whole, TableSteps.last_one}
+use Rattle.tds_rows.proofs.Words.{◌≡◌, ◌∙◌, ◌+◌, ◌<◌, ◌≤◌, ap, length, sym, take, arith, rules, length-take, buffered, seen, Takes-more}
+use Rattle.tds_rows.proofs.RunSteps.{put_whole}
+use Rattle.tds_rows.proofs.TableSteps.{last_one}
 use Rattle.tds_rows.proofs.rows.Rows.put_scalar.Goals as goal
 
 pub returns-in-Some-clause-cell : goal.returns-in-Some-clause-cell
@@ -10,7 +12,11 @@ returns-in-Some-clause-cell g c = λ last next.
     let end = last_one _ _ _ _ _ next.knows.counted next.next ∙ sym next.last in
     let alone = rw end at c.in-Some.ensures.cell in
     let lies : n ≤ length (buffered old.payload.now) = search (arith, rules) in
-    let takes = Takes-more (seen g.R.Read.remaining old.payload.now) (seen g.R.Read.remaining c.consume.new.self) bytes 0 (length bytes) (omega arith) c.consume.ensures.gives in
-    let at : c.consume.new.self.place ≡ old.payload.now.place + length bytes = omega (arith, lies, ap (λ p. p.place) c.consume.ensures.rest, length-take n (buffered old.payload.now)) in
-    let few : length old.sink.now.output.now.bytes + length text < 4096 = omega (arith, c.in-Some.ensures.waits, length-take c.in-Some.cell.made c.write_whole.new.text) in
-    put_whole c.put.result _ _ _ _ _ g.W.Write.contents old.sink.now c.put.new.self c.requires.in_row.sink alone.writes.whole takes at few c.put.ensures
+    let takes = Takes-more (seen g.R.Read.remaining old.payload.now) (seen g.R.Read.remaining c.consume.new.self) bytes 0 (length bytes) (omega arith)
+    c.consume.ensures.gives in
+    let at : c.consume.new.self.place ≡ old.payload.now.place + length bytes =
+    omega (arith, lies, ap (λ p. p.place) c.consume.ensures.rest, length-take n (buffered old.payload.now)) in
+    let few : length old.sink.now.output.now.bytes + length text < 4096 =
+    omega (arith, c.in-Some.ensures.waits, length-take c.in-Some.cell.made c.write_whole.new.text) in
+    put_whole c.put.result _ _ _ _ _ g.W.Write.contents old.sink.now c.put.new.self c.requires.in_row.sink alone.writes.whole takes at few
+    c.put.ensures

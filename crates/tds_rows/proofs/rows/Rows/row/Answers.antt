@@ -1,8 +1,17 @@
-use Rattle.tds_rows.proofs.{Words.{Err, Ok, drop, false, sym, passed}, NextSteps.{cell_read, stays, stays_after, stays_on}, NullSteps.{cell_reads, cell_stops, row_begins, row_ends}, RowSteps.none_ahead}
+use Rattle.tds_rows.proofs.Words.{Err, Ok, drop, false, sym, passed}
+use Rattle.tds_rows.proofs.NextSteps.{cell_read, stays, stays_after, stays_on}
+use Rattle.tds_rows.proofs.NullSteps.{cell_reads, cell_stops, row_begins, row_ends}
+use Rattle.tds_rows.proofs.RowSteps.{none_ahead}
 use Rattle.tds_rows.proofs.rows.Rows.row.Goals as goal
 
 pub loop-form-init : goal.loop-form-init
-loop-form-init g c = record { stays = stays c.requires; reads = λ columns knows. (c.start-at.ensures.ahead columns knows, rw c.start-at.ensures.first (row_begins columns c.requires.sink.ready.2)) }
+loop-form-init g c = record {
+  stays = stays c.requires;
+  reads = λ columns knows. (
+    c.start-at.ensures.ahead columns knows,
+    rw c.start-at.ensures.first (row_begins columns c.requires.sink.ready.2),
+  );
+}
 
 pub returns-in_err-put_cell-clause-row : goal.returns-in_err-put_cell-clause-row
 returns-in_err-put_cell-clause-row g c = λ columns known.
@@ -10,7 +19,8 @@ returns-in_err-put_cell-clause-row g c = λ columns known.
     let knows = rw (sym l.invariant.stays.same.3) at known in
     let reads = l.invariant.reads columns knows in
     let taken = c.in-Some.ensures.taken columns knows reads.0 in
-    let y = cell_read g.R.Read.remaining g.W.Write.contents l.self c.put_cell.new.self (λ k. false) knows taken {U = Unit {0}} (Err _) reads.0 c.in_err-put_cell.ensures.cell in
+    let y = cell_read g.R.Read.remaining g.W.Write.contents l.self c.put_cell.new.self (λ k. false) knows taken {U = Unit {0}} (Err _) reads.0
+    c.in_err-put_cell.ensures.cell in
     passed _ _ _ _ c.from_residual.ensures.1 (rw l.invariant.stays.same.3 at (cell_stops (rw taken.next at reads.1) y))
 
 pub loop-form-preserved : goal.loop-form-preserved
@@ -22,7 +32,8 @@ loop-form-preserved g c =
       reads = rw done.leaves.same.3 (λ columns knows.
           let reads = l.invariant.reads columns knows in
           let taken = c.in-Some.ensures.taken columns knows reads.0 in
-          let y = cell_read g.R.Read.remaining g.W.Write.contents l.self c.put_cell.new.self (λ k. false) knows taken {U = Unit {0}} (Ok tt) reads.0 done.cell in
+          let y = cell_read g.R.Read.remaining g.W.Write.contents l.self c.put_cell.new.self (λ k. false) knows taken {U = Unit {0}} (Ok tt) reads.0
+          done.cell in
           (taken.ahead, rw (sym taken.further) at (cell_reads (none_ahead (drop c.in-Some.after.column columns) _) (rw taken.next at reads.1) y)));
     }
 

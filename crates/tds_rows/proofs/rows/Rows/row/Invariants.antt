@@ -5,7 +5,8 @@ abbrev pub invariant-loop-form : goal.invariant-loop-form
 invariant-loop-form g l = record {
   stays : StaysInRow l.initial.self l.self;
   reads : (columns : List Column) → Knows l.self.table.now columns → IsAhead l.self.table.now columns l.at
-      × Reads l.self.table.now.charset (row_start l.self.table.now.charset columns) (coming (drop l.at.column columns) l.at.column) (here g.R.Read.remaining g.W.Write.contents l.initial.self) (here g.R.Read.remaining g.W.Write.contents l.self) l.at.column;
+      × Reads l.self.table.now.charset (row_start l.self.table.now.charset columns) (coming (drop l.at.column columns) l.at.column)
+      (here g.R.Read.remaining g.W.Write.contents l.initial.self) (here g.R.Read.remaining g.W.Write.contents l.self) l.at.column;
 }
 
 abbrev pub decreases-loop-form : goal.decreases-loop-form

@@ -1,4 +1,9 @@
-use Rattle.tds_rows.proofs.{Words.{◌∙◌, ◌+◌, ◌<◌, [], Err, List, Ok, drop, false, refl, sym, ap, arith, passed, Column, PlainRow, Knows}, rows.Rows.rows.Given.Over, NextSteps.{RowsHere, rowing_cell, rowing_stop, rows_first, rows_ran, rows_token, rows_whole, cell_read, stays, stays_after, stays_on}, RowSteps.{none_ahead, cell_some}, Paths.here}
+use Rattle.tds_rows.proofs.Words.{◌∙◌, ◌+◌, ◌<◌, [], Err, List, Ok, drop, false, refl, sym, ap, arith, passed, Column, PlainRow, Knows}
+use Rattle.tds_rows.proofs.rows.Rows.rows.Given.{Over}
+use Rattle.tds_rows.proofs.NextSteps.{RowsHere, rowing_cell, rowing_stop, rows_first, rows_ran, rows_token, rows_whole, cell_read, stays, stays_after}
+use Rattle.tds_rows.proofs.NextSteps.{stays_on}
+use Rattle.tds_rows.proofs.RowSteps.{none_ahead, cell_some}
+use Rattle.tds_rows.proofs.Paths.{here}
 use Rattle.tds_rows.proofs.rows.Rows.rows.Goals as goal
 
 pub loop-form-init : goal.loop-form-init
@@ -7,7 +12,10 @@ loop-form-init g c =
       stays = stays c.requires.in_row;
       knows = c.requires.knows;
       few = omega arith;
-      reads = λ columns knows. (c.start-ahead.ensures.ahead columns knows, rw c.start-ahead.ensures.first (record { cells = []; counted = refl; rows = rows_first c.requires.in_row.sink.ready.2 }));
+      reads = λ columns knows. (
+        c.start-ahead.ensures.ahead columns knows,
+        rw c.start-ahead.ensures.first (record { cells = []; counted = refl; rows = rows_first c.requires.in_row.sink.ready.2 }),
+      );
     }
 
 pub returns-then-not-take_token-clause-rows : goal.returns-then-not-take_token-clause-rows
@@ -15,13 +23,15 @@ returns-then-not-take_token-clause-rows g c = λ columns known.
     let l = c.loop-form in
     let kept = c.put_run-run.ensures.stays in
     let knows = rw (sym l.invariant.stays.same.3) at known in
-    let x = rows_ran g.R.Read.remaining g.W.Write.contents c.put_run-run.result kept knows c.put_run-run.ensures.rows (l.invariant.reads columns knows) in
+    let x = rows_ran g.R.Read.remaining g.W.Write.contents c.put_run-run.result kept knows c.put_run-run.ensures.rows
+    (l.invariant.reads columns knows) in
     let none = c.in_default.ensures.taken columns (rw (sym kept.same.3) at knows) x.0 in
     let there = rw (kept.same.3 ∙ l.invariant.stays.same.3) at (rows_whole (rw none at x.1).rows) in
     rw (sym (c.if-not-take_token.ensures.token PlainRow refl).0, sym c.take_token.ensures.sink) at there
 
 pub returns-then-not-take_token-clause-few : goal.returns-then-not-take_token-clause-few
-returns-then-not-take_token-clause-few g c = omega (arith, c.loop-form.invariant.few, c.put_run-run.ensures.few, ap (λ p. p.place) (c.if-not-take_token.ensures.token PlainRow refl).0)
+returns-then-not-take_token-clause-few g c =
+    omega (arith, c.loop-form.invariant.few, c.put_run-run.ensures.few, ap (λ p. p.place) (c.if-not-take_token.ensures.token PlainRow refl).0)
 
 pub returns-then-not-take_token-clause-all : goal.returns-then-not-take_token-clause-all
 returns-then-not-take_token-clause-all g c = (c.if-not-take_token.ensures.token PlainRow refl).1
@@ -32,23 +42,34 @@ returns-in_err-put_cell-clause-rows g c = λ columns known.
     let kept = c.put_run-run.ensures.stays in
     let knows = rw (sym l.invariant.stays.same.3) at known in
     let there = rw (sym kept.same.3) at knows in
-    let x = rows_ran g.R.Read.remaining g.W.Write.contents c.put_run-run.result kept knows c.put_run-run.ensures.rows (l.invariant.reads columns knows) in
+    let x = rows_ran g.R.Read.remaining g.W.Write.contents c.put_run-run.result kept knows c.put_run-run.ensures.rows
+    (l.invariant.reads columns knows) in
     let taken = c.in-Some.ensures.taken columns there x.0 in
-    let y = cell_read g.R.Read.remaining g.W.Write.contents c.put_run-run.new.self c.put_cell.new.self (λ k. false) there taken {U = Unit {0}} (Err _) x.0 c.in_err-put_cell.ensures.cell in
+    let y = cell_read g.R.Read.remaining g.W.Write.contents c.put_run-run.new.self c.put_cell.new.self (λ k. false) there taken {U = Unit {0}} (Err _)
+    x.0 c.in_err-put_cell.ensures.cell in
     passed _ _ _ _ c.from_residual.ensures.1 (rw (kept.same.3 ∙ l.invariant.stays.same.3) at (rowing_stop (rw taken.next at x.1) y))
 
 -- where a run and then a cell were read
 step : (g : Over) (c : goal.In_ok-put_cell g) (columns : List Column) → Knows c.loop-form.self.table.now columns
-    → (c.put_run-run.new.self.payload.now.place < c.put_cell.new.self.payload.now.place) × RowsHere g.R.Read.remaining g.W.Write.contents columns (here g.R.Read.remaining g.W.Write.contents c.args.self.now) c.put_cell.new.self c.in-Some.after (c.loop-form.ended + c.put_run-run.result.rows)
+    → (c.put_run-run.new.self.payload.now.place < c.put_cell.new.self.payload.now.place)
+    × RowsHere g.R.Read.remaining g.W.Write.contents columns (here g.R.Read.remaining g.W.Write.contents c.args.self.now) c.put_cell.new.self
+    c.in-Some.after (c.loop-form.ended + c.put_run-run.result.rows)
 step g c columns knows =
     let l = c.loop-form in
     let kept = c.put_run-run.ensures.stays in
     let done = c.in_ok-put_cell.ensures in
     let there = rw (sym kept.same.3) at knows in
-    let x = rows_ran g.R.Read.remaining g.W.Write.contents c.put_run-run.result kept knows c.put_run-run.ensures.rows (l.invariant.reads columns knows) in
+    let x = rows_ran g.R.Read.remaining g.W.Write.contents c.put_run-run.result kept knows c.put_run-run.ensures.rows
+    (l.invariant.reads columns knows) in
     let taken = c.in-Some.ensures.taken columns there x.0 in
-    let y = cell_read g.R.Read.remaining g.W.Write.contents c.put_run-run.new.self c.put_cell.new.self (λ k. false) there taken {U = Unit {0}} (Ok tt) x.0 done.cell in
-    (cell_some _ _ y, rw done.leaves.same.3 (taken.ahead, rw (sym taken.further) at (rowing_cell (none_ahead (drop c.in-Some.after.column columns) _) (rw taken.next at x.1) y)))
+    let y = cell_read g.R.Read.remaining g.W.Write.contents c.put_run-run.new.self c.put_cell.new.self (λ k. false) there taken {U = Unit {0}} (Ok tt)
+    x.0 done.cell in (
+      cell_some _ _ y,
+      rw done.leaves.same.3 (
+        taken.ahead,
+        rw (sym taken.further) at (rowing_cell (none_ahead (drop c.in-Some.after.column columns) _) (rw taken.next at x.1) y),
+      ),
+    )
 
 pub loop-form-preserved : goal.loop-form-preserved
 loop-form-preserved g c =
@@ -77,7 +98,8 @@ loop-form-preserved-in_default g c =
       knows = rw (sym same) at l.invariant.knows;
       few = omega (arith, l.invariant.few, c.put_run-run.ensures.few, taken.1);
       reads = rw same (λ columns knows.
-          let x = rows_ran g.R.Read.remaining g.W.Write.contents c.put_run-run.result kept knows c.put_run-run.ensures.rows (l.invariant.reads columns knows) in
+          let x = rows_ran g.R.Read.remaining g.W.Write.contents c.put_run-run.result kept knows c.put_run-run.ensures.rows
+          (l.invariant.reads columns knows) in
           let none = c.in_default.ensures.taken columns (rw (sym kept.same.3) at knows) x.0 in
           let whole = rw kept.same.3 at (rows_whole (rw none at x.1).rows) in
           let begun = rows_token (omega (arith, l.invariant.knows.2, knows.counted)) kept.in_row.sink.ready.2 whole taken.0 in
@@ -98,4 +120,12 @@ loop-form-smaller g c =
     let known = c.loop-form.invariant.knows in
     let kept = c.put_run-run.ensures.stays in
     let done = c.in_ok-put_cell.ensures in
-    omega (arith, (step g c known.0 known.1).0, c.put_run-run.ensures.few, done.leaves.payload.sound.place, done.leaves.payload.sound.wire, done.leaves.payload.same.3, kept.payload.3)
+    omega (
+      arith,
+      (step g c known.0 known.1).0,
+      c.put_run-run.ensures.few,
+      done.leaves.payload.sound.place,
+      done.leaves.payload.sound.wire,
+      done.leaves.payload.same.3,
+      kept.payload.3,
+    )

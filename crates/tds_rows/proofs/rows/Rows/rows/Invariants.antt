@@ -6,7 +6,8 @@ invariant-loop-form g l = record {
   stays : StaysInRow l.initial.self l.self;
   knows : KnowsSome l.self.table.now;
   few : l.initial.self.payload.now.place + l.ended ≤ l.self.payload.now.place;
-  reads : (columns : List Column) → Knows l.self.table.now columns → RowsHere g.R.Read.remaining g.W.Write.contents columns (here g.R.Read.remaining g.W.Write.contents l.initial.self) l.self l.ahead l.ended;
+  reads : (columns : List Column) → Knows l.self.table.now columns
+      → RowsHere g.R.Read.remaining g.W.Write.contents columns (here g.R.Read.remaining g.W.Write.contents l.initial.self) l.self l.ahead l.ended;
 }
 
 abbrev pub decreases-loop-form : goal.decreases-loop-form

@@ -1,4 +1,9 @@
-use Rattle.tds_rows.proofs.{Words.{inr, ◌≡◌, ◌∙◌, ◌+◌, ◌-◌, ◌<◌, ◌≤◌, ℕ, List, length, take, drop, get_or, refl, sym, subst, ap, arith, rules, length-take, length-drop, all_after, Form, FirstUsed}, FormSteps.{fields_more, fields_none, first_used, left_after, left_less}, RunSteps.{made_same, whole_some}, run.forms.write_fields.Goals.{else-loop-cells-test, then-loop-cells-test+else-made-most, then-loop-cells-test+then-made-most+in_default}}
+use Rattle.tds_rows.proofs.Words.{inr, ◌≡◌, ◌∙◌, ◌+◌, ◌-◌, ◌<◌, ◌≤◌, ℕ, List, length, take, drop, get_or, refl, sym, subst, ap, arith, rules}
+use Rattle.tds_rows.proofs.Words.{length-take, length-drop, all_after, Form, FirstUsed}
+use Rattle.tds_rows.proofs.FormSteps.{fields_more, fields_none, first_used, left_after, left_less}
+use Rattle.tds_rows.proofs.RunSteps.{made_same, whole_some}
+use Rattle.tds_rows.proofs.run.forms.write_fields.Goals.{else-loop-cells-test, then-loop-cells-test+else-made-most}
+use Rattle.tds_rows.proofs.run.forms.write_fields.Goals.{then-loop-cells-test+then-made-most+in_default}
 use Rattle.tds_rows.proofs.run.forms.write_fields.Goals as goal
 
 pub loop-cells-init : goal.loop-cells-init
@@ -13,7 +18,8 @@ loop-cells-init c =
       some = λ never. absurd (omega (arith, never));
       room = λ never. absurd (omega (arith, never));
       one = λ never. absurd (omega (arith, never));
-      writes = (let none : length c.args.bytes.now - length c.args.bytes.now ≡ 0 = omega arith in rw none (fields_none c.args.charset c.args.forms.now _ c.args.bytes.now _ _ made.ensures.text));
+      writes = (let none : length c.args.bytes.now - length c.args.bytes.now ≡ 0 = omega arith in rw none
+          (fields_none c.args.charset c.args.forms.now _ c.args.bytes.now _ _ made.ensures.text));
     }
 
 pub loop-cells-preserved : goal.loop-cells-preserved
@@ -38,10 +44,20 @@ loop-cells-preserved c =
       rest = left.1 ∙ ap (λ (n : ℕ). drop n bytes) (sym left.0);
       made = search (arith, rules);
       begun = λ never. absurd (omega (arith, never));
-      some = λ _. omega (arith, within, l.invariant.within, left.0, whole, whole_some (get_or forms l.cells form).kind (take (length bytes - (length bytes - length rest)) (drop (length bytes - length rest) bytes)));
+      some = λ _. omega (
+        arith,
+        within,
+        l.invariant.within,
+        left.0,
+        whole,
+        whole_some (get_or forms l.cells form).kind (take (length bytes - (length bytes - length rest)) (drop (length bytes - length rest) bytes)),
+      );
       room = λ _. (omega arith, search (arith, rules));
-      one = λ first. subst (λ (n : ℕ). FirstUsed forms bytes n) (sym left.0) (first_used c.args.charset forms c.args.column bytes _ written.used l.cells form (omega (arith, first)) (omega (arith, (l.invariant.begun (omega (arith, first))).0)) whole);
-      writes = fields_more c.args.charset forms c.args.column bytes l.to text _ l.cells _ written.used _ l.made written.made form left.0 l.invariant.made some c.loop-cells-test.true wrote l.invariant.writes;
+      one = λ first. subst (λ (n : ℕ). FirstUsed forms bytes n) (sym left.0)
+          (first_used c.args.charset forms c.args.column bytes _ written.used l.cells form (omega (arith, first))
+          (omega (arith, (l.invariant.begun (omega (arith, first))).0)) whole);
+      writes = fields_more c.args.charset forms c.args.column bytes l.to text _ l.cells _ written.used _ l.made written.made form left.0
+          l.invariant.made some c.loop-cells-test.true wrote l.invariant.writes;
     }
 
 pub returns-clause-ends : goal.returns-clause-ends
@@ -55,7 +71,13 @@ returns-clause-ends c = λ none form others are.
       | then-loop-cells-test+else-made-most w ↦ absurd (omega (arith, w.if-made-most.false, begun.1))
       | then-loop-cells-test+then-made-most+in_default w ↦ (let d = w.index-forms-cells.result in
           let lent = take (length l.to - l.made) (drop l.made l.to) in
-          let room : length c.args.to.now ≤ length lent + 1 = omega (arith, begun.1, l.auto.to, length-take (length l.to - l.made) (drop l.made l.to), length-drop l.made l.to) in
+          let room : length c.args.to.now ≤ length lent + 1 = omega (
+            arith,
+            begun.1,
+            l.auto.to,
+            length-take (length l.to - l.made) (drop l.made l.to),
+            length-drop l.made l.to,
+          ) in
           let there : d ≡ get_or forms l.cells d = search (arith, rules) in
           let form_is : d ≡ form = there ∙ ap (λ (n : ℕ). get_or forms n d) none ∙ ap (λ (f : List Form). get_or f 0 d) are in
           let at : length bytes - length l.rest.now ≡ 0 = omega (arith, begun.0) in

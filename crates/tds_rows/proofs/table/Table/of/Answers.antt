@@ -1,4 +1,6 @@
-use Rattle.tds_rows.proofs.{Words.{◌∙◌, ap, sym, arith, rules, is_int4, IsInt4, IsLaidOut, column_value, columns_left, columns_of}, LaidOut.{each_all, each_set, int4_set}, TableSteps.{first_more, next_column}}
+use Rattle.tds_rows.proofs.Words.{◌∙◌, ap, sym, arith, rules, is_int4, IsInt4, IsLaidOut, column_value, columns_left, columns_of}
+use Rattle.tds_rows.proofs.LaidOut.{each_all, each_set, int4_set}
+use Rattle.tds_rows.proofs.TableSteps.{first_more, next_column}
 use Rattle.tds_rows.proofs.table.Table.of.Goals as goal
 
 pub loop-known-init : goal.loop-known-init
@@ -22,8 +24,11 @@ loop-known-preserved c =
       most = search (arith, rules);
       few = omega (arith, next.0);
       whole = search (arith, rules);
-      first = first_more c.loop-known.forms columns c.loop-known.known c.of.result (column_value c.in-Some.column) (columns_left c.next.new.self) (omega (arith, inv.whole, c.loop-known-test.true)) inv.first step c.of.ensures.kind;
-      laid = each_set (λ f. IsLaidOut c.args.charset f.kind f.layout) c.loop-known.forms c.loop-known.known c.of.result inv.laid (omega (arith, inv.whole, c.loop-known-test.true)) c.of.ensures.laid;
-      numbers = int4_set c.loop-known.forms c.loop-known.known c.of.result c.loop-known.only_numbers c.is_int4.result inv.numbers (omega (arith, inv.whole, c.loop-known-test.true)) (c.is_int4.ensures ∙ ap is_int4 (sym c.of.ensures.kind));
+      first = first_more c.loop-known.forms columns c.loop-known.known c.of.result (column_value c.in-Some.column) (columns_left c.next.new.self)
+          (omega (arith, inv.whole, c.loop-known-test.true)) inv.first step c.of.ensures.kind;
+      laid = each_set (λ f. IsLaidOut c.args.charset f.kind f.layout) c.loop-known.forms c.loop-known.known c.of.result inv.laid
+          (omega (arith, inv.whole, c.loop-known-test.true)) c.of.ensures.laid;
+      numbers = int4_set c.loop-known.forms c.loop-known.known c.of.result c.loop-known.only_numbers c.is_int4.result inv.numbers
+          (omega (arith, inv.whole, c.loop-known-test.true)) (c.is_int4.ensures ∙ ap is_int4 (sym c.of.ensures.kind));
       rest = sym next.1.1;
     }

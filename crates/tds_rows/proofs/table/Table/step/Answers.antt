@@ -1,4 +1,7 @@
-use Rattle.tds_rows.proofs.{Words.{inl, inr, ◌≡◌, ◌∙◌, ◌+◌, ◌⊎◌, ◌≤◌, ap, arith, columns_left}, table.Table.step.Goals.{then-cells-gt0+then-at-self, else-cells-gt0, else-cells-gt0-via-then-cells-gt0+else-at-self, else-cells-gt0-via-else-cells-gt0}, TableSteps.{after_known, after_walked, walk_after}}
+use Rattle.tds_rows.proofs.Words.{inl, inr, ◌≡◌, ◌∙◌, ◌+◌, ◌⊎◌, ◌≤◌, ap, arith, columns_left}
+use Rattle.tds_rows.proofs.table.Table.step.Goals.{then-cells-gt0+then-at-self, else-cells-gt0, else-cells-gt0-via-then-cells-gt0+else-at-self}
+use Rattle.tds_rows.proofs.table.Table.step.Goals.{else-cells-gt0-via-else-cells-gt0}
+use Rattle.tds_rows.proofs.TableSteps.{after_known, after_walked, walk_after}
 use Rattle.tds_rows.proofs.table.Table.step.Goals as goal
 
 pub returns-clause-ahead : goal.returns-clause-ahead
@@ -7,7 +10,8 @@ returns-clause-ahead c = λ columns knows ahead.
     let table = c.args.self.now in
     elim c.if-cells-gt0.branch [
       | then-cells-gt0+then-at-self w ↦ (let one : c.args.cells ≡ 1 = omega (arith, c.requires.known, w.if-cells-gt0.true, w.if-at-self.true) in
-          after_walked knows ahead (omega (arith, one, ap (λ a. a.column) w.at-is)) (omega (arith, one, c.requires.within)) w.if-at-self.true (ap (λ a. columns_left a.walk) w.at-is ∙ walk_after at.walk w.next.new.self w.next.result w.next.ensures.steps))
+          after_walked knows ahead (omega (arith, one, ap (λ a. a.column) w.at-is)) (omega (arith, one, c.requires.within)) w.if-at-self.true
+          (ap (λ a. columns_left a.walk) w.at-is ∙ walk_after at.walk w.next.new.self w.next.result w.next.ensures.steps))
       | else-cells-gt0 w ↦ (let few : (c.args.cells ≡ 0) ⊎ (at.column + c.args.cells ≤ table.known) = elim w.else-cells-gt0.branch [
         | else-cells-gt0-via-then-cells-gt0+else-at-self x ↦ inr (omega (arith, c.requires.known, x.if-at-self.false))
         | else-cells-gt0-via-else-cells-gt0 x ↦ inl (omega (arith, x.if-cells-gt0.false))
