@@ -162,17 +162,16 @@ pub(crate) fn write_alone(
 }
 
 // Writes cell after cell of rows whose columns the table all knows, as far as they are whole in these bytes, aren't in
-// chunks and have room, over the ends of rows. `numbers` says that all their values are whole numbers of four bytes.
-#[inline(always)]
-fn run_along_rows<'a>(
-    numbers: bool,
+// chunks and have room, over the ends of rows. `NUMBERS` says that all their values are whole numbers of four bytes.
+#[inline(never)]
+fn run_known<'a, const NUMBERS: bool>(
     table: &Table<'a>,
     from: Ahead<'a>,
     bytes: &[u8],
     to: &mut [u8],
 ) -> RowsRun<'a>
     requires known { KnowsAll table.now }
-    requires numbers { numbers ≡ true → table.now.only_numbers ≡ true }
+    requires numbers { NUMBERS ≡ true → table.now.only_numbers ≡ true }
     ensures used { result.used ≤ length bytes.now }
     ensures made { result.made ≤ length to.old }
     ensures few { result.rows ≤ result.used }
@@ -185,12 +184,12 @@ fn run_along_rows<'a>(
     let mut ahead = from;
     loop {
         if table.is_end(ahead) {
-            let Some(first) = table.end_row(&bytes[used..]) else {
+            if !table.row_follows(&bytes[used..]) {
                 break;
-            };
+            }
             used += 1;
             rows += 1;
-            ahead = first;
+            table.rewind(&mut ahead);
             continue;
         }
         let end = table.count();
@@ -199,15 +198,7 @@ fn run_along_rows<'a>(
         };
         let ends = table.ends_after(ahead, forms);
         let (rest, room) = (&bytes[used..], &mut to[made..]);
-        let run = run_next(
-            numbers,
-            forms,
-            table.charset,
-            ahead.column,
-            ends,
-            rest,
-            room,
-        );
+        let run = run_next::<NUMBERS>(forms, table.charset, ahead.column, ends, rest, room);
         if run.cells == 0 {
             break;
         }
@@ -221,33 +212,6 @@ fn run_along_rows<'a>(
         rows,
         ahead,
     }
-}
-
-// Writes rows as `run_along_rows` does, whose values are all whole numbers of four bytes.
-#[inline(never)]
-fn run_numbers<'a>(table: &Table<'a>, from: Ahead<'a>, bytes: &[u8], to: &mut [u8]) -> RowsRun<'a>
-    requires known { KnowsAll table.now }
-    requires numbers { table.now.only_numbers ≡ true }
-    ensures used { result.used ≤ length bytes.now }
-    ensures made { result.made ≤ length to.old }
-    ensures few { result.rows ≤ result.used }
-    ensures ends { RunEnds table.now result.ahead (drop result.used bytes.now) (length to.old - result.made) }
-    ensures rows { RowsWritten table.now from.entry bytes.now to.new result }
-{
-    run_along_rows(true, table, from, bytes, to)
-}
-
-// Writes rows as `run_along_rows` does, whose values are of any kind.
-#[inline(never)]
-fn run_known<'a>(table: &Table<'a>, from: Ahead<'a>, bytes: &[u8], to: &mut [u8]) -> RowsRun<'a>
-    requires { KnowsAll table.now }
-    ensures used { result.used ≤ length bytes.now }
-    ensures made { result.made ≤ length to.old }
-    ensures few { result.rows ≤ result.used }
-    ensures ends { RunEnds table.now result.ahead (drop result.used bytes.now) (length to.old - result.made) }
-    ensures rows { RowsWritten table.now from.entry bytes.now to.new result }
-{
-    run_along_rows(false, table, from, bytes, to)
 }
 
 // Writes rows as `run_rows` does, whose columns the table doesn't all know.
@@ -271,12 +235,12 @@ fn run_partly_known<'a>(
     let mut ahead = from;
     loop {
         if table.is_end(ahead) {
-            let Some(first) = table.end_row(&bytes[used..]) else {
+            if !table.row_follows(&bytes[used..]) {
                 break;
-            };
+            }
             used += 1;
             rows += 1;
-            ahead = first;
+            ahead = table.start();
             continue;
         }
         let cells = run_cells(table, ahead, table.count(), &bytes[used..], &mut to[made..]);
@@ -316,7 +280,7 @@ pub(crate) fn run_rows<'a>(
         return run_partly_known(table, from, bytes, to);
     }
     if table.only_numbers {
-        return run_numbers(table, from, bytes, to);
+        return run_known::<true>(table, from, bytes, to);
     }
-    run_known(table, from, bytes, to)
+    run_known::<false>(table, from, bytes, to)
 }

@@ -1,5 +1,5 @@
 // What the cells of a description's columns need of them, known once for all its rows.
-ghost use Rattle.std.specs.Prelude.{◌≡◌, ◌==◌, ◌⊎◌, ◌+◌, ◌<◌, ◌≤◌, get_or, length, true, IfSome, List, MatchOption};
+ghost use Rattle.std.specs.Prelude.{◌≡◌, ◌==◌, ◌⊎◌, ◌+◌, ◌<◌, ◌≤◌, get_or, length, true, false, IfSome, List, MatchOption};
 ghost use Rattle.tds_rows.specs.CellSteps.{is_int4};
 ghost use Rattle.tds_rows.specs.Forms.{AreInt4, AreLaidOut, table_length};
 ghost use Rattle.tds_rows.specs.Layouts.{IsLaidOut};
@@ -189,16 +189,24 @@ impl<'a> Table<'a> {
         at.column += cells as u16;
     }
 
-    /// The place before the first cell of the next row, if the token byte of a ROW comes next.
+    /// Whether the token byte of another ROW comes next.
     #[inline(always)]
-    pub(crate) fn end_row(&self, rest: &[u8]) -> Option<Ahead<'a>>
-        ensures next { MatchOption result (BeginsRow rest.now → ⊥) (λ first. BeginsRow rest.now × (first.column ≡ 0)) }
-        ensures ahead { (columns : List spec.Column) → Knows self.now columns → IfSome result (λ first. IsAhead self.now columns first) }
+    pub(crate) fn row_follows(&self, rest: &[u8]) -> bool
+        ensures begins { result ≡ true → BeginsRow rest.now }
+        ensures other { result ≡ false → BeginsRow rest.now → ⊥ }
     {
-        if rest.is_empty() || rest[0] != ROW {
-            return None;
-        }
-        Some(self.start())
+        !rest.is_empty() && rest[0] == ROW
+    }
+
+    /// Steps back to the place before the first cell of a row, all of whose columns the table knows.
+    #[inline(always)]
+    pub(crate) fn rewind(&self, at: &mut Ahead<'a>)
+        requires all { self.now.known ≡ self.now.count }
+        ensures first { at.new.column ≡ 0 }
+        ensures ahead { (columns : List spec.Column) → Knows self.now columns → IsAhead self.now columns at.old →
+            IsAhead self.now columns at.new }
+    {
+        at.column = 0;
     }
 
     /// What the next cell needs, and the place after it. `None` at the row's end.

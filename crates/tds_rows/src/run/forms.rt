@@ -26,17 +26,16 @@ fn is_last(ends: bool, cells: usize, count: usize) -> bool
     ends && cells == count
 }
 
-// Writes the field of the cell at the front of these bytes, as `write_cell` does. `numbers` says that its kind's values are
+// Writes the field of the cell at the front of these bytes, as `write_cell` does. `NUMBERS` says that its kind's values are
 // whole numbers of four bytes.
 #[inline(always)]
-fn write_next(
-    numbers: bool,
+fn write_next<const NUMBERS: bool>(
     form: &Form,
     charset: Charset,
     bytes: &[u8],
     to: &mut [u8],
 ) -> Option<Written>
-    requires number { numbers ≡ true → IsInt4 form.now.kind }
+    requires number { NUMBERS ≡ true → IsInt4 form.now.kind }
     requires laid { IsLaidOut charset form.now.kind form.now.layout }
     requires room { VALUE_ROOM ≤ length to.old }
     ensures used { IfSome result (λ written. written.used ≤ length bytes.now) }
@@ -44,7 +43,7 @@ fn write_next(
     ensures whole { IfSome result (λ written. written.used ≡ whole_size form.now.kind bytes.now) }
     ensures field { CellWritten charset form.now.kind bytes.now (length to.old + 1) to.new result }
 {
-    if numbers {
+    if NUMBERS {
         return write_int4_cell(form, bytes, to);
     }
     write_cell(form, charset, bytes, to)
@@ -53,15 +52,14 @@ fn write_next(
 // Writes the fields of the next cells, each after a comma unless it is the row's first, and a comma after the last
 // of them.
 #[inline(always)]
-fn write_fields(
-    numbers: bool,
+fn write_fields<const NUMBERS: bool>(
     forms: &[Form],
     charset: Charset,
     column: u16,
     bytes: &[u8],
     to: &mut [u8],
 ) -> FormsRun
-    requires numbers { numbers ≡ true → AreInt4 forms.now }
+    requires numbers { NUMBERS ≡ true → AreInt4 forms.now }
     requires laid { AreLaidOut charset forms.now }
     requires room { CELL_ROOM ≤ length to.old }
     ensures within { IsWithin result (length forms.now) (length bytes.now) (length to.old) }
@@ -76,7 +74,7 @@ fn write_fields(
     let most = to.len() - VALUE_ROOM;
     while cells < forms.len() && made <= most {
         let form = &forms[cells];
-        let Some(written) = write_next(numbers, form, charset, rest, &mut to[made..]) else {
+        let Some(written) = write_next::<NUMBERS>(form, charset, rest, &mut to[made..]) else {
             break;
         };
         cells += 1;
@@ -92,11 +90,10 @@ fn write_fields(
     }
 }
 
-// Writes the cells of the next columns of a row, as `run_forms` does. `numbers` says that their values are whole numbers of
+// Writes the cells of the next columns of a row, as `run_forms` does. `NUMBERS` says that their values are whole numbers of
 // four bytes.
 #[inline(always)]
-fn run_fields(
-    numbers: bool,
+fn run_fields<const NUMBERS: bool>(
     forms: &[Form],
     charset: Charset,
     column: u16,
@@ -104,7 +101,7 @@ fn run_fields(
     bytes: &[u8],
     to: &mut [u8],
 ) -> FormsRun
-    requires numbers { numbers ≡ true → AreInt4 forms.now }
+    requires numbers { NUMBERS ≡ true → AreInt4 forms.now }
     requires laid { AreLaidOut charset forms.now }
     ensures within { IsWithin result (length forms.now) (length bytes.now) (length to.old) }
     ensures ends { result.cells ≡ 0 → FirstLeft charset forms.now bytes.now (length to.old) }
@@ -119,7 +116,7 @@ fn run_fields(
     if to.len() < CELL_ROOM {
         return none;
     }
-    let run = write_fields(numbers, forms, charset, column, bytes, to);
+    let run = write_fields::<NUMBERS>(forms, charset, column, bytes, to);
     if run.cells == 0 {
         return none;
     }
@@ -146,13 +143,12 @@ pub(crate) fn run_forms(
     ensures one { result.cells ≡ 1 → FirstWritten charset forms.now column ends bytes.now to.new result }
     ensures cells { FormsWritten charset forms.now column ends bytes.now to.new result }
 {
-    run_fields(false, forms, charset, column, ends, bytes, to)
+    run_fields::<false>(forms, charset, column, ends, bytes, to)
 }
 
-/// Writes such cells as [`run_forms`] does, whose values are whole numbers of four bytes if `numbers` says so.
+/// Writes such cells as [`run_forms`] does, whose values are whole numbers of four bytes if `NUMBERS` says so.
 #[inline(always)]
-pub(crate) fn run_next(
-    numbers: bool,
+pub(crate) fn run_next<const NUMBERS: bool>(
     forms: &[Form],
     charset: Charset,
     column: u16,
@@ -160,15 +156,15 @@ pub(crate) fn run_next(
     bytes: &[u8],
     to: &mut [u8],
 ) -> FormsRun
-    requires numbers { numbers ≡ true → AreInt4 forms.now }
+    requires numbers { NUMBERS ≡ true → AreInt4 forms.now }
     requires laid { AreLaidOut charset forms.now }
     ensures within { IsWithin result (length forms.now) (length bytes.now) (length to.old) }
     ensures ends { result.cells ≡ 0 → FirstLeft charset forms.now bytes.now (length to.old) }
     ensures one { result.cells ≡ 1 → FirstWritten charset forms.now column ends bytes.now to.new result }
     ensures cells { FormsWritten charset forms.now column ends bytes.now to.new result }
 {
-    if numbers {
-        return run_fields(true, forms, charset, column, ends, bytes, to);
+    if NUMBERS {
+        return run_fields::<true>(forms, charset, column, ends, bytes, to);
     }
     run_forms(forms, charset, column, ends, bytes, to)
 }

@@ -7,7 +7,7 @@ use Rattle.tds_rows.proofs.run.forms.write_fields.Goals.{then-loop-cells-test+th
 use Rattle.tds_rows.proofs.run.forms.write_fields.Goals as goal
 
 pub loop-cells-init : goal.loop-cells-init
-loop-cells-init c =
+loop-cells-init g c =
     let made = c.write_comma-made in
     record {
       cells = omega arith;
@@ -23,7 +23,7 @@ loop-cells-init c =
     }
 
 pub loop-cells-preserved : goal.loop-cells-preserved
-loop-cells-preserved c =
+loop-cells-preserved g c =
     let l = c.loop-cells in
     let written = c.in-Some.written in
     let text = c.write_next.new.to in
@@ -61,7 +61,7 @@ loop-cells-preserved c =
     }
 
 pub returns-clause-ends : goal.returns-clause-ends
-returns-clause-ends c = λ none form others are.
+returns-clause-ends g c = λ none form others are.
     let l = c.loop-cells in
     let forms = c.args.forms.now in
     let bytes = c.args.bytes.now in
@@ -86,7 +86,7 @@ returns-clause-ends c = λ none form others are.
     ]
 
 pub returns-clause-fields : goal.returns-clause-fields
-returns-clause-fields c =
+returns-clause-fields g c =
     let l = c.loop-cells in
     let x = l.invariant.writes in
     let same : take l.made c.loop-cells-test.to ≡ take l.made l.to = elim c.loop-cells-test.branch [

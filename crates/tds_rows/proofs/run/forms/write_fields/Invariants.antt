@@ -2,7 +2,7 @@ use Rattle.tds_rows.proofs.Words.{drop, length, ◌-◌, ◌≡◌, ◌<◌, ◌
 use Rattle.tds_rows.proofs.run.forms.write_fields.Given as goal
 
 abbrev pub invariant-loop-cells : goal.invariant-loop-cells
-invariant-loop-cells l = record {
+invariant-loop-cells g l = record {
   cells : l.cells ≤ length l.forms;
   within : length l.rest ≤ length l.bytes;
   rest : l.rest ≡ drop (length l.bytes - length l.rest) l.bytes;
@@ -16,4 +16,4 @@ invariant-loop-cells l = record {
 
 -- proposed from the loop's first test
 abbrev pub decreases-loop-cells : goal.decreases-loop-cells
-decreases-loop-cells l = length l.forms - l.cells
+decreases-loop-cells g l = length l.forms - l.cells
