@@ -59,7 +59,12 @@ pub(crate) fn convert_wide(bytes: &[u8], to: &mut [u8]) -> Converted
 {
     let mut at = 0;
     let mut made = 0;
-    while bytes.len() - at >= WIDE && to.len() - made >= PART {
+    if bytes.len() < WIDE || to.len() < PART {
+        return Converted { used: at, made };
+    }
+    let last = bytes.len() - WIDE;
+    let limit = to.len() - PART;
+    while at <= last && made <= limit {
         let n = take_wide(bytes, at, to, made);
         at += n;
         made += n;
