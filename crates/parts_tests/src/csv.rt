@@ -688,3 +688,34 @@ fn each_unit_of_eight_may_be_of_any_kind(rt: HostRuntime) -> Result<(), Fail> {
     }
     Ok(())
 }
+
+// A byte after `before` others, with `after` behind it, and its text among theirs.
+fn check_byte<J: Joiner + Drop>(
+    alloc: Global,
+    fill: (&[u8], &[u8]),
+    before: usize,
+    one: (&[u8], &[u8]),
+    after: usize,
+) -> Result<(), Fail> {
+    let bytes = around(alloc, fill.0, before, one.0, after)?;
+    let text = around(alloc, fill.1, before, one.1, after)?;
+    let came = joined::<J>(alloc, (&bytes, b"", b""), &text)?;
+    same("a byte among 32", &came, &(Ok(()), true))
+}
+
+// At each lane of 32 bytes, in front of a value and where a block ends.
+#[test]
+fn each_byte_of_32_may_be_of_any_kind(rt: HostRuntime) -> Result<(), Fail> {
+    let alloc = rt.alloc();
+    let letter: (&[u8], &[u8]) = (b"a", b"a");
+    for lane in 0..=66 {
+        for before in [lane, 3900 + lane] {
+            check_byte::<Cp1252Joiner>(alloc, letter, before, (b"\"", b"\"\""), 170)?;
+            check_byte::<Cp1252Joiner>(alloc, letter, before, (b"\x80", b"\xE2\x82\xAC"), 170)?;
+            check_byte::<Utf8Joiner>(alloc, letter, before, (b"\"", b"\"\""), 170)?;
+        }
+        check_byte::<HexJoiner>(alloc, (b"\xA5", b"a5"), lane, (b"\x3C", b"3c"), 1)?;
+        check_byte::<HexJoiner>(alloc, (b"\xA5", b"a5"), 2000, (b"\x3C", b"3c"), lane)?;
+    }
+    Ok(())
+}

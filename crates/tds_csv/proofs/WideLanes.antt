@@ -1,5 +1,5 @@
 -- Units that are looked at eight at a time, lane by lane.
-use Rattle.{tds_csv.{proofs.{Words.{common_steps, take, get_or, ◌++◌, ◌≡◌, ◌∙◌, ◌+◌, ◌*◌, ◌/◌, ◌%◌, ◌^◌, ◌<◌, ℕ, Bool, not, cond, zero, suc, List, [], ◌∷◌, map, length, refl, ap, ap₂, arith, Fits, w8, w16, Each1, map-map, mask_l, top, first_set, prefix_len, sel_l}, Masks.{run_before, same_prefix}}, specs.{Utf16.units, Wide.triples}}, std.specs.Simd.Lanes.number_l}
+use Rattle.{tds_csv.{proofs.{Words.{common_steps, drop, take, get_or, ◌++◌, ◌≡◌, ◌∙◌, ◌+◌, ◌*◌, ◌/◌, ◌%◌, ◌^◌, ◌<◌, ℕ, Bool, not, cond, zero, suc, List, [], ◌∷◌, map, length, refl, ap, ap₂, arith, Fits, w8, w16, Each1, map-map, mask_l, top, first_set, prefix_len, sel_l}, Masks.{run_before, same_prefix}}, specs.{Utf16.units, Wide.triples}}, std.specs.Simd.Lanes.number_l}
 use lib.Lanes.{digits_l}
 
 -- two functions that are the same on units
@@ -26,35 +26,54 @@ units_of_bytes zero [] long fits = refl
 units_of_bytes (suc n) (low ∷ high ∷ xs) long fits = let more = units_of_bytes n xs (omega arith) fits.1.1 in grind (arith, fits.0.fits, fits.1.0.fits)
 units_of_bytes n xs long fits = absurd (omega arith)
 
--- a long character's bytes as a number, low byte first
-abbrev pub word : ℕ → ℕ
-word u = (224 + u / 4096) + (128 + u / 64 % 64) * 256 + (128 + u % 64) * 65536
+-- the first byte of a long character, and the two others as a number, low byte first
+abbrev pub lead : ℕ → ℕ
+lead u = 224 + u / 4096
 
--- the four bytes of each number
+abbrev pub others : ℕ → ℕ
+others u = (128 + u / 64 % 64) + (128 + u % 64) * 256
+
+-- the two bytes of each number
 abbrev bytes_of : List ℕ → List ℕ
 bytes_of [] = []
-bytes_of (x ∷ xs) = (x % 256) ∷ (x / 256 % 256) ∷ (x / 256 / 256 % 256) ∷ (x / 256 / 256 / 256 % 256) ∷ bytes_of xs
+bytes_of (x ∷ xs) = (x % 256) ∷ (x / 256 % 256) ∷ bytes_of xs
 
-bytes_of_words : (n : ℕ) (xs : List ℕ) → length xs ≡ n → Each1 (λ x. x < 4294967296) xs → digits_l 256 (4 * n) (number_l 4294967296 xs) ≡ bytes_of xs
-bytes_of_words zero [] long fits = refl
-bytes_of_words (suc n) (x ∷ xs) long fits =
-    let four : 4 * suc n ≡ suc (suc (suc (suc (4 * n)))) = omega arith in
-    rw four (grind (arith, fits.0, bytes_of_words n xs (omega arith) fits.1))
-bytes_of_words n xs long fits = absurd (omega arith)
+bytes_of_pairs : (n : ℕ) (xs : List ℕ) → length xs ≡ n → Each1 (λ x. x < 65536) xs → digits_l 256 (2 * n) (number_l 65536 xs) ≡ bytes_of xs
+bytes_of_pairs zero [] long fits = refl
+bytes_of_pairs (suc n) (x ∷ xs) long fits =
+    let two : 2 * suc n ≡ suc (suc (2 * n)) = omega arith in
+    rw two (grind (arith, fits.0, bytes_of_pairs n xs (omega arith) fits.1))
+bytes_of_pairs n xs long fits = absurd (omega arith)
 
--- of each four the first three, and then the last
-abbrev woven : List ℕ → List ℕ
-woven bs = map (λ k. get_or (bs ++ bs) k 0) (0 ∷ 1 ∷ 2 ∷ 4 ∷ 5 ∷ 6 ∷ 8 ∷ 9 ∷ 10 ∷ 12 ∷ 13 ∷ 14 ∷ 3 ∷ 7 ∷ 11 ∷ 15 ∷ [])
+-- of each four bytes the first, the third and the fourth, and then the second
+abbrev pub woven : List ℕ → List ℕ
+woven bs = map (λ k. get_or (bs ++ bs) k 0) (0 ∷ 2 ∷ 3 ∷ 4 ∷ 6 ∷ 7 ∷ 8 ∷ 10 ∷ 11 ∷ 12 ∷ 14 ∷ 15 ∷ 1 ∷ 5 ∷ 9 ∷ 13 ∷ [])
 
-word_fits : (u : ℕ) → u < 65536 → (word u % 256 ≡ 224 + u / 4096) × (word u / 256 % 256 ≡ 128 + u / 64 % 64) × (word u / 256 / 256 % 256 ≡ 128 + u % 64) × (word u < 4294967296)
-word_fits u small = grind arith
+split : (u : ℕ) → u < 65536 → (lead u % 256 ≡ 224 + u / 4096) × (others u % 256 ≡ 128 + u / 64 % 64) × (others u / 256 % 256 ≡ 128 + u % 64) × (lead u < 65536) × (others u < 65536)
+split u small = grind arith
 
-pub three_each : (us ws : List ℕ) → length us ≡ 4 → Each1 (Fits w16) us → ws ≡ map word us → take 12 (woven (digits_l 256 16 (number_l 4294967296 ws))) ≡ triples us
-three_each (a ∷ b ∷ c ∷ d ∷ []) ws long fits is =
-    let fa = word_fits a fits.0.fits in
-    let fb = word_fits b fits.1.0.fits in
-    let fc = word_fits c fits.1.1.0.fits in
-    let fd = word_fits d fits.1.1.1.0.fits in
-    let all = ap (λ l. digits_l 256 16 (number_l 4294967296 l)) is ∙ bytes_of_words 4 (map word (a ∷ b ∷ c ∷ d ∷ [])) refl (fa.3, (fb.3, (fc.3, (fd.3, tt)))) in
+-- the bytes of four of them
+abbrev four : ℕ → ℕ → ℕ → ℕ → List ℕ
+four a b c d = lead a ∷ others a ∷ lead b ∷ others b ∷ lead c ∷ others c ∷ lead d ∷ others d ∷ []
+
+four_each : (a b c d : ℕ) → a < 65536 → b < 65536 → c < 65536 → d < 65536 → take 12 (woven (digits_l 256 16 (number_l 65536 (four a b c d)))) ≡ triples (a ∷ b ∷ c ∷ d ∷ [])
+four_each a b c d sa sb sc sd =
+    let fa = split a sa in
+    let fb = split b sb in
+    let fc = split c sc in
+    let fd = split d sd in
+    let all = bytes_of_pairs 8 (four a b c d) refl (fa.3, (fa.4, (fb.3, (fb.4, (fc.3, (fc.4, (fd.3, (fd.4, tt)))))))) in
     ap (λ bs. take 12 (woven bs)) all ∙ (cc)
-three_each us ws long fits is = absurd (omega arith)
+
+-- eight of them, each lane beside the other
+abbrev pub beside_first : List ℕ → List ℕ → List ℕ
+beside_first ls os = map (λ k. get_or (ls ++ os) k 0) (0 ∷ 8 ∷ 1 ∷ 9 ∷ 2 ∷ 10 ∷ 3 ∷ 11 ∷ [])
+
+abbrev pub beside_second : List ℕ → List ℕ → List ℕ
+beside_second ls os = map (λ k. get_or (ls ++ os) k 0) (4 ∷ 12 ∷ 5 ∷ 13 ∷ 6 ∷ 14 ∷ 7 ∷ 15 ∷ [])
+
+pub three_each : (us ls os : List ℕ) → length us ≡ 8 → Each1 (Fits w16) us → ls ≡ map lead us → os ≡ map others us
+    → (take 12 (woven (digits_l 256 16 (number_l 65536 (beside_first ls os)))) ≡ take 12 (triples us)) × (take 12 (woven (digits_l 256 16 (number_l 65536 (beside_second ls os)))) ≡ take 12 (drop 12 (triples us)))
+three_each (a ∷ b ∷ c ∷ d ∷ e ∷ f ∷ g ∷ h ∷ []) ls os long (fa, (fb, (fc, (fd, (fe, (ff, (fg, (fh, _)))))))) is_lead is_others =
+    rw (is_lead, is_others) (four_each a b c d fa.fits fb.fits fc.fits fd.fits, four_each e f g h fe.fits ff.fits fg.fits fh.fits)
+three_each us ls os long fits is_lead is_others = absurd (omega arith)

@@ -51,30 +51,20 @@ long_text (suc n) (u ∷ us) few fits =
     rw (← three) (grind (arith, nat_tests, of_three, fits.0.fits, h.0, long_text n us h.1 fits.1))
 long_text n us few fits = absurd (omega arith)
 
--- four units from a place on, of a vector that is joined with itself
-abbrev quad : List ℕ → ℕ → List ℕ
-quad us i = get_or (us ++ us) i 0 ∷ get_or (us ++ us) (i + 1) 0 ∷ get_or (us ++ us) (i + 2) 0 ∷ get_or (us ++ us) (i + 3) 0 ∷ []
-
--- the bytes of the first four of eight, and of the others
-halved : (us : List ℕ) → length us ≡ 8 → (triples (quad us 0) ≡ take 12 (triples us)) × (triples (quad us 4) ≡ take 12 (drop 12 (triples us)))
-halved (a ∷ b ∷ c ∷ d ∷ e ∷ f ∷ g ∷ h ∷ []) long = (refl, refl)
-halved us long = absurd (omega arith)
-
 -- fewer bytes of two lists that begin alike
 same_front : (k n : ℕ) (xs ys : List ℕ) → k ≤ n → take n xs ≡ take n ys → take k xs ≡ take k ys
 same_front k n xs ys few e = sym (take-take k n xs few) ∙ ap (take k) e ∙ take-take k n ys few
 
 -- at most four long characters are in the first half
-pub low_half : (n : ℕ) (us low : List ℕ) → length us ≡ 8 → Each1 (Fits w16) us → n ≤ prefix_len is_long us → n ≤ 4 → take 12 low ≡ triples (quad us 0) → take (3 * n) low ≡ encode_utf8_all (take n us)
-low_half n us low long fits few half is = same_front (3 * n) 12 _ _ (omega arith) (is ∙ (halved us long).0) ∙ long_text n us few fits
+pub low_half : (n : ℕ) (us low : List ℕ) → Each1 (Fits w16) us → n ≤ prefix_len is_long us → n ≤ 4 → take 12 low ≡ take 12 (triples us) → take (3 * n) low ≡ encode_utf8_all (take n us)
+low_half n us low fits few half is = same_front (3 * n) 12 _ _ (omega arith) is ∙ long_text n us few fits
 
 -- and more are in both
-pub both_halves : (n : ℕ) (us low high : List ℕ) → length us ≡ 8 → Each1 (Fits w16) us → n ≤ prefix_len is_long us → 4 ≤ n → take 12 low ≡ triples (quad us 0) → take 12 high ≡ triples (quad us 4) → take 12 low ++ take (3 * (n - 4)) high ≡ encode_utf8_all (take n us)
+pub both_halves : (n : ℕ) (us low high : List ℕ) → length us ≡ 8 → Each1 (Fits w16) us → n ≤ prefix_len is_long us → 4 ≤ n → take 12 low ≡ take 12 (triples us) → take 12 high ≡ take 12 (drop 12 (triples us)) → take 12 low ++ take (3 * (n - 4)) high ≡ encode_utf8_all (take n us)
 both_halves n us low high long fits few half is_low is_high =
-    let h = halved us long in
-    let back = same_front (3 * (n - 4)) 12 _ _ (omega (arith, prefix_len-le-length is_long us)) (is_high ∙ h.1) in
+    let back = same_front (3 * (n - 4)) 12 _ _ (omega (arith, prefix_len-le-length is_long us)) is_high in
     let all : 12 + 3 * (n - 4) ≡ 3 * n = omega arith in
-    rw (is_low ∙ h.0, back, ← take-add 12 (3 * (n - 4)) (triples us), all) (long_text n us few fits)
+    rw (is_low, back, ← take-add 12 (3 * (n - 4)) (triples us), all) (long_text n us few fits)
 
 -- the low bytes of characters of ASCII are their units
 pub low_units : (n : ℕ) (ys : List ℕ) → n ≤ prefix_len is_plain (units ys) → take n (evens ys) ≡ take n (units ys)

@@ -1,5 +1,5 @@
 // Characters beyond ASCII in UTF-16, eight units at a time.
-ghost use Rattle.std.specs.Prelude.{◌≡◌, ◌+◌, ◌*◌, ◌/◌, ◌%◌, ◌<◌, ◌≤◌, ◌++◌, [], ◌∷◌, length, take, map, encode_utf8_all};
+ghost use Rattle.std.specs.Prelude.{◌≡◌, ◌+◌, ◌*◌, ◌/◌, ◌%◌, ◌<◌, ◌≤◌, ◌++◌, [], ◌∷◌, length, take, drop, map, encode_utf8_all};
 ghost use Rattle.std.specs.List.{prefix_len};
 ghost use Rattle.tds_csv.specs.Utf16Next.{Converts, ConvertsIn};
 ghost use Rattle.tds_csv.specs.Wide.{is_long, is_short, pair, size, triples};
@@ -31,19 +31,24 @@ fn sizes(units: u16x8) -> [u16; UNITS]
     ascii.select(u16x8::splat(1), u16x8::splat(2)).to_array()
 }
 
-// The bytes of four long characters, and four bytes more.
+// The bytes of eight long characters: of the first four and of the others, each with four bytes more.
 #[inline(always)]
-fn triples(units: u16x4) -> u8x16
-    ensures { take 12 result ≡ triples units }
+fn triples(units: u16x8) -> (u8x16, u8x16)
+    ensures first { take 12 result.0 ≡ take 12 (triples units) }
+    ensures second { take 12 result.1 ≡ take 12 (drop 12 (triples units)) }
 {
-    let codes = units.cast::<u32>();
-    let lead = codes / u32x4::splat(4096) + u32x4::splat(0xE0);
-    let middle = codes / u32x4::splat(64) % u32x4::splat(64) + u32x4::splat(0x80);
-    let trail = codes % u32x4::splat(64) + u32x4::splat(0x80);
-    let words = lead + middle * u32x4::splat(256) + trail * u32x4::splat(65536);
-    words
-        .to_le_bytes()
-        .swizzle([0, 1, 2, 4, 5, 6, 8, 9, 10, 12, 13, 14, 3, 7, 11, 15])
+    let lead = units / u16x8::splat(4096) + u16x8::splat(0xE0);
+    let middle = units / u16x8::splat(64) % u16x8::splat(64) + u16x8::splat(0x80);
+    let trail = units % u16x8::splat(64) + u16x8::splat(0x80);
+    let (first, second) = lead.interleave(middle + trail * u16x8::splat(256));
+    (
+        first
+            .to_le_bytes()
+            .swizzle([0, 2, 3, 4, 6, 7, 8, 10, 11, 12, 14, 15, 1, 5, 9, 13]),
+        second
+            .to_le_bytes()
+            .swizzle([0, 2, 3, 4, 6, 7, 8, 10, 11, 12, 14, 15, 1, 5, 9, 13]),
+    )
 }
 
 // Writes the first `size` bytes of a pair.
@@ -85,13 +90,12 @@ fn put_long(to: &mut [u8], at: usize, units: u16x8, n: usize)
     requires more { 4 < n → at + 12 + LANES ≤ length to.old }
     ensures { take (at + 3 * n) to.new ≡ take at to.old ++ encode_utf8_all (take n units) }
 {
-    let low = triples(units.extract::<0, 4>());
+    let (low, high) = triples(units);
     if n <= 4 {
         put_bytes(to, at, low, 3 * n);
         return;
     }
     put_bytes(to, at, low, 12);
-    let high = triples(units.extract::<4, 4>());
     put_bytes(to, at + 12, high, 3 * (n - 4));
 }
 

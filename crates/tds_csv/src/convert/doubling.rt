@@ -49,7 +49,7 @@ fn take_wide(bytes: &[u8], at: usize, to: &mut [u8], made: usize) -> usize
 }
 
 // Writes the bytes with their quotes doubled, as long as 32 of them are left and there is room for more.
-#[inline(always)]
+#[inline(never)]
 pub(crate) fn convert_wide(bytes: &[u8], to: &mut [u8]) -> Converted
     ensures within { result.used ≤ length bytes.now }
     ensures fits { result.made ≤ length to.new }
@@ -59,7 +59,12 @@ pub(crate) fn convert_wide(bytes: &[u8], to: &mut [u8]) -> Converted
 {
     let mut at = 0;
     let mut made = 0;
-    while bytes.len() - at >= WIDE && to.len() - made >= PART {
+    if bytes.len() < WIDE || to.len() < PART {
+        return Converted { used: at, made };
+    }
+    let last = bytes.len() - WIDE;
+    let limit = to.len() - PART;
+    while at <= last && made <= limit {
         let n = take_wide(bytes, at, to, made);
         at += n;
         made += n;
@@ -72,13 +77,26 @@ pub(crate) fn convert_wide(bytes: &[u8], to: &mut [u8]) -> Converted
     Converted { used: at, made }
 }
 
+// Writes the bytes with their quotes doubled, as long as 32 of them are left. It makes no call for fewer.
+#[inline(always)]
+fn convert_front(bytes: &[u8], to: &mut [u8]) -> Converted
+    ensures within { result.used ≤ length bytes.now }
+    ensures short { result.made ≤ 2 * result.used }
+    ensures text { take result.made to.new ≡ doubled (take result.used bytes.now) }
+{
+    if bytes.len() < WIDE {
+        return Converted { used: 0, made: 0 };
+    }
+    convert_wide(bytes, to)
+}
+
 // Writes bytes with their quotes doubled, and returns how many they are then.
 pub(crate) fn convert(bytes: &[u8], to: &mut [u8]) -> usize
     requires { 2 * length bytes.now + LANES ≤ length to.old }
     ensures short { result ≤ 2 * length bytes.now }
     ensures text { take result to.new ≡ doubled bytes.now }
 {
-    let done = convert_wide(bytes, to);
+    let done = convert_front(bytes, to);
     let mut at = done.used;
     let mut made = done.made;
     while at < bytes.len() {

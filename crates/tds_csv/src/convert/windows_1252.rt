@@ -144,7 +144,7 @@ fn convert_by_hand(bytes: &[u8], from: usize, end: usize, to: &mut [u8], start: 
 }
 
 // Writes the text of the bytes, as long as 32 of them are left and there is room for any text of 32 and 32 more.
-#[inline(always)]
+#[inline(never)]
 pub(crate) fn convert_wide(bytes: &[u8], to: &mut [u8]) -> Converted
     ensures within { result.used ≤ length bytes.now }
     ensures fits { result.made ≤ length to.new }
@@ -153,7 +153,12 @@ pub(crate) fn convert_wide(bytes: &[u8], to: &mut [u8]) -> Converted
 {
     let mut at = 0;
     let mut made = 0;
-    while bytes.len() - at >= WIDE && to.len() - made >= PART {
+    if bytes.len() < WIDE || to.len() < PART {
+        return Converted { used: at, made };
+    }
+    let last = bytes.len() - WIDE;
+    let limit = to.len() - PART;
+    while at <= last && made <= limit {
         let n = take_wide(bytes, at, to, made);
         at += n;
         made += n;
@@ -167,14 +172,27 @@ pub(crate) fn convert_wide(bytes: &[u8], to: &mut [u8]) -> Converted
     Converted { used: at, made }
 }
 
+// Writes the text of the bytes, as long as 32 of them are left. It makes no call for fewer.
+#[inline(always)]
+fn convert_front(bytes: &[u8], to: &mut [u8]) -> Converted
+    ensures within { result.used ≤ length bytes.now }
+    ensures text { windows_1252.Converts bytes.now to.new result.used result.made }
+{
+    if bytes.len() < WIDE {
+        return Converted { used: 0, made: 0 };
+    }
+    convert_wide(bytes, to)
+}
+
 // Writes the text of bytes, and returns its length. What follows them in the source may be looked at.
+#[inline(always)]
 pub(crate) fn convert(bytes: &[u8], source: &[u8], to: &mut [u8]) -> usize
     requires source { LiesIn bytes.now source.now }
     requires room { 3 * length bytes.now + LANES ≤ length to.old }
     ensures short { result ≤ 3 * length bytes.now }
     ensures text { take result to.new ≡ windows_1252.text bytes.now }
 {
-    let done = convert_wide(bytes, to);
+    let done = convert_front(bytes, to);
     let mut at = done.used;
     let mut made = done.made;
     while at < bytes.len() {

@@ -13,5 +13,5 @@ put_bytes-requires-3-clause-within c = omega (arith, prefix_len-le-length is_lon
 pub returns : goal.returns
 returns c =
     let end : c.args.at + 12 + 3 * (c.args.n - 4) ≡ c.args.at + 3 * c.args.n = omega arith in
-    let text = both_halves c.args.n c.args.units _ _ c.fits-units.0 c.fits-units.1 c.requires.long (omega arith) c.triples-low.ensures c.triples-high.ensures in
+    let text = both_halves c.args.n c.args.units _ _ c.fits-units.0 c.fits-units.1 c.requires.long (omega arith) c.triples.ensures.first c.triples.ensures.second in
     rw (← end, c.put_bytes-3.ensures, c.put_bytes-2.ensures, append_assoc, text) refl

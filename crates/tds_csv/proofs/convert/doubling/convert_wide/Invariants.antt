@@ -1,4 +1,4 @@
-use Rattle.tds_csv.proofs.Words.{◌≡◌, ◌*◌, ◌-◌, ◌≤◌, ◌+◌, length, take, doubled}
+use Rattle.tds_csv.proofs.Words.{◌≡◌, ◌*◌, ◌-◌, ◌≤◌, length, take, doubled}
 use Rattle.tds_csv.proofs.convert.doubling.convert_wide.Given as goal
 
 -- the text so far is that of the bytes so far

@@ -1,4 +1,4 @@
-use Rattle.tds_csv.proofs.{Words.{rules, ◌+◌, ◌≡◌, ◌*◌, ◌-◌, ◌≤◌, ℕ, List, length, take, drop, arith, append_assoc, length-drop, take-append-drop, length-put_chunk, take_more_put_chunk, append-nil, take_all, put_mid, post_of, put_chunk, chunk, take-add, encode_lower, lower_digits, refl}, Utf16Steps.nil_of_length, SingleLaws.hex-append, Singles.text_taken}
+use Rattle.tds_csv.proofs.{Words.{rules, ◌+◌, ◌≡◌, ◌*◌, ◌-◌, ◌≤◌, ℕ, List, length, take, drop, arith, length-drop, take-append-drop, append-nil, take_all, put_mid, post_of, encode_lower, lower_digits, refl}, Utf16Steps.nil_of_length, SingleLaws.hex-append, Singles.text_taken}
 use Rattle.tds_csv.proofs.convert.lanes_hex.encode.Goals as goal
 
 pub loop-at-preserved : goal.loop-at-preserved

@@ -1,4 +1,4 @@
-use Rattle.tds_csv.proofs.Words.{◌≡◌, ◌+◌, ◌*◌, ◌-◌, ◌≤◌, length, take}
+use Rattle.tds_csv.proofs.Words.{◌≡◌, ◌*◌, ◌-◌, ◌≤◌, length, take}
 use Rattle.tds_csv.specs.Windows1252 as windows_1252
 use Rattle.tds_csv.proofs.convert.windows_1252.convert_wide.Given as goal
 
