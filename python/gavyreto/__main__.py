@@ -11,18 +11,20 @@ COMMANDS = {
     "query": "asks a server, and writes the rows of its answers as quoted CSV",
     "capture": "exports the responses in a capture of the network, each to a text",
     "columns": "prints the columns of a response with their types, or tables for them",
-    "adapt": "rewrites a response whose columns are refused, with types that are read",
+    "adapt": "rewrites a response with refused columns, with types that are read",
     "many": "exports many responses, several at once, here or on a Dask cluster",
 }
-USAGE = "usage: gavyreto COMMAND [ARGUMENTS]\n\n" + "".join(f"  {name:10}{does}\n" for name, does in COMMANDS.items()) + (
-    "\ngavyreto COMMAND --help tells of each; gavyreto --version prints the version\n")
+USAGE = "usage: gavyreto COMMAND [ARGUMENTS]\n\n" + "".join(f"  {name:9}{does}\n" for name, does in COMMANDS.items()) + (
+    "\ngavyreto help COMMAND prints the help of one; gavyreto --version the version\n")
 
 
 def run(words: list[str]) -> int:
     """Runs a command, and returns its exit status."""
-    name = words[0] if words else ""
+    name, *rest = words or [""]
+    if name == "help" and rest:
+        name, rest = rest[0], ["--help"]
     if name in COMMANDS:
-        status = importlib.import_module(f"gavyreto.commands.{name}").run(words[1:])
+        status = importlib.import_module(f"gavyreto.commands.{name}").run(rest)
         return int(status)
     if name in ("-h", "--help", "help"):
         print(USAGE, end="")

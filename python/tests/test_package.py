@@ -8,7 +8,6 @@ import tempfile
 import unittest
 
 import gavyreto
-from gavyreto.version import SOURCE
 from tests.beside import PROGRAM, ROOT, skip
 
 DEBIAN = "/usr/bin/python3"
@@ -24,28 +23,52 @@ def packed(folder: str, into: str) -> tuple[str, bytes]:
         return os.path.basename(path), file.read()
 
 
+def environment_in(folder: str) -> str:
+    """The folder of programs of a new environment of Python, which has pip and nothing else."""
+    environment = os.path.join(folder, "environment")
+    subprocess.run([DEBIAN, "-m", "venv", environment], check=True, capture_output=True)
+    programs = os.path.join(environment, "bin")
+    subprocess.run([os.path.join(programs, "python"), "-m", "pip", "uninstall", "--quiet", "--yes", "setuptools", "wheel"], check=True, capture_output=True)
+    return programs
+
+
+def names_in(folder: str) -> list[str]:
+    """All files and folders below a folder."""
+    return sorted(os.path.join(at, name) for at, folders, names in os.walk(folder) for name in [*folders, *names])
+
+
 class Installed(unittest.TestCase):
     def test_pip_installs_the_package_and_its_command(self) -> None:
-        """From a copy, since the build leaves files beside its sources. Nothing is asked of the network."""
-        if subprocess.run([DEBIAN, "-c", "import setuptools, wheel, pip"], capture_output=True, check=False).returncode != 0:
-            skip(self, "Python's module pip isn't there: `make needs` installs it")
+        """From a copy of its folder alone, in an environment without setuptools and wheel. No index is asked, and nothing is left in the copy."""
+        if subprocess.run([DEBIAN, "-c", "import venv, ensurepip"], capture_output=True, check=False).returncode != 0:
+            skip(self, "Python's module venv isn't there: `make needs` installs it")
         with tempfile.TemporaryDirectory() as folder:
-            shutil.copytree(os.path.join(ROOT, "python"), os.path.join(folder, "python"), ignore=shutil.ignore_patterns("__pycache__", "tests"))
-            os.makedirs(os.path.join(folder, os.path.dirname(SOURCE)))
-            shutil.copy(os.path.join(ROOT, SOURCE), os.path.join(folder, SOURCE))
-            words = ["install", "--quiet", "--no-index", "--no-deps", "--no-build-isolation", "--target", "there", "./python"]
-            subprocess.run([DEBIAN, "-m", "pip", *words], cwd=folder, check=True, capture_output=True)
-            variables = {"PYTHONPATH": os.path.join(folder, "there"), "PATH": os.path.join(folder, "there", "bin") + os.pathsep + os.environ["PATH"]}
-            for command, wanted in (
-                (["gavyreto", "--version"], f"gavyreto {gavyreto.__version__}\n"),
-                ([DEBIAN, "-m", "gavyreto", "--version"], f"gavyreto {gavyreto.__version__}\n"),
-                ([DEBIAN, "-c", "import gavyreto; print(gavyreto.__version__, [len(list(it)) for it in gavyreto.export(*__import__('sys').argv[1:2], program=__import__('sys').argv[2])])",
-                  os.path.join(ROOT, "examples", "first.tds"), PROGRAM], f"{gavyreto.__version__} [1]\n"),
-            ):
-                with self.subTest(command=command[:3]):
-                    came = subprocess.run(command, cwd=folder, env=os.environ | variables, capture_output=True, text=True, check=False)
-                    self.assertEqual((came.returncode, came.stdout), (0, wanted), came.stderr)
-            self.assertTrue(os.path.exists(os.path.join(folder, "there", "gavyreto", "py.typed")))
+            copy, programs = os.path.join(folder, "python"), environment_in(folder)
+            shutil.copytree(os.path.join(ROOT, "python"), copy, ignore=shutil.ignore_patterns("__pycache__", "tests"))
+            variables = {name: value for name, value in os.environ.items() if name not in ("PYTHONPATH", "PYTHONDONTWRITEBYTECODE")}
+            variables["PATH"] = programs + os.pathsep + variables["PATH"]
+            was = names_in(copy)
+            for words in ([], ["--no-build-isolation", "--force-reinstall"]):
+                subprocess.run(["pip", "install", "--quiet", "--no-index", *words, "./python"], cwd=folder, env=variables, check=True, capture_output=True)
+                self.assertEqual(names_in(copy), was)
+                self.look_at_installed(folder, variables)
+
+    def look_at_installed(self, folder: str, variables: dict[str, str]) -> None:
+        """Looks whether the command and the modules are those of this repository, and are whole."""
+        code = "import sys, gavyreto; print(gavyreto.__version__, [len(list(it)) for it in gavyreto.export(sys.argv[1], program=sys.argv[2])])"
+        example = os.path.join(ROOT, "examples", "first.tds")
+        for command, wanted in (
+            (["gavyreto", "--version"], f"gavyreto {gavyreto.__version__}\n"),
+            (["python", "-m", "gavyreto", "--version"], f"gavyreto {gavyreto.__version__}\n"),
+            (["python", "-c", code, example, PROGRAM], f"{gavyreto.__version__} [1]\n"),
+            (["gavyreto", "columns", example], '"set","name","type","length","precision","scale","nullable"\n1,"a","int",NULL,NULL,NULL,0\n'),
+        ):
+            with self.subTest(command=command[:3]):
+                came = subprocess.run(command, cwd=folder, env=variables, capture_output=True, text=True, check=False)
+                self.assertEqual((came.returncode, came.stdout.replace("\r", "")), (0, wanted), came.stderr)
+        listed = subprocess.run(["pip", "show", "--files", "gavyreto"], env=variables, check=True, capture_output=True, text=True).stdout
+        for name in ("gavyreto/py.typed", "gavyreto/commands/query.py"):
+            self.assertIn(f"  {name}\n", listed)
 
     def test_the_version_is_that_of_the_program(self) -> None:
         said = subprocess.run([PROGRAM, "--version"], capture_output=True, text=True, check=True).stdout
@@ -68,7 +91,7 @@ class Installed(unittest.TestCase):
     def test_completion(self) -> None:
         """Each command's words complete; the words that help names are held to completion by `tools/lint`."""
         for program, words, wanted in (
-            ("gavyreto", ["ca"], ["capture"]), ("gavyreto", ["--v"], ["--version"]), ("gavyreto", ["many", "--sch"], ["--scheduler"]), ("gavyreto", ["columns", "--as", "s"], ["sqlite"]),
+            ("gavyreto", ["ca"], ["capture"]), ("gavyreto", ["--v"], ["--version"]), ("gavyreto", ["many", "--sch"], ["--scheduler"]), ("gavyreto", ["columns", "--as", "s"], ["sqlite"]), ("gavyreto", ["help", "c"], ["capture", "columns"]),
             ("tds_replay", ["-V"], ["-V"]), ("tds_replay", ["--v"], ["--version"]), ("tds_replay", ["recut", "--c"], []), ("tds_replay", ["export", "--c"], ["--column-room", "--charset"]),
         ):
             path = os.path.join(ROOT, "tools", "package", f"{program}.bash")
@@ -85,7 +108,7 @@ class Installed(unittest.TestCase):
             getattr(gavyreto, "nothing")
 
     def test_commands(self) -> None:
-        cases: list[tuple[list[str], int]] = [(["--help"], 0), (["query", "--help"], 0), ([], 2), (["nothing"], 2), (["query"], 2)]
+        cases: list[tuple[list[str], int]] = [(["--help"], 0), (["query", "--help"], 0), (["help", "query"], 0), (["help"], 0), (["help", "nothing"], 2), ([], 2), (["nothing"], 2), (["query"], 2)]
         for words, status in cases:
             came = subprocess.run([shutil.which("python3") or DEBIAN, "-m", "gavyreto", *words], cwd=os.path.join(ROOT, "python"), capture_output=True, check=False)
             with self.subTest(words=words):

@@ -12,12 +12,12 @@ from collections.abc import Iterator
 from dataclasses import dataclass
 
 import repository as repo
+from lints import shells
 from lints.counts import number
 from lints.pages import PAGES
 
 PAGE, MANUAL, HELP = "docs/COMMAND.md", "docs/tds_replay.1", "crates/tds_arguments/src/help.rt"
 PROGRAM = repo.path_of("bin", "tds_replay")
-COMPLETIONS = {name: f"tools/package/{name}.bash" for name in ("tds_replay", "gavyreto")}
 LINES, COLUMNS = 24, 80  # of a terminal
 
 
@@ -100,6 +100,16 @@ def wrong_code() -> Iterator[str]:
     code_statuses = set(re.findall(r"Status::\w+ => (\d),", repo.text_of("crates/tds_replay/src/status.rt")))
     if {*statuses()} != code_statuses:
         yield f"{PAGE}: statuses {sorted(statuses())}, in the code {sorted(code_statuses)}"
+
+
+def wrong_version() -> Iterator[str]:
+    """The version of the Python package, and the last one of CHANGELOG, if they aren't the program's."""
+    program = re.search(r'VERSION: &str = "([\d.]+)"', repo.text_of(HELP))
+    version = program[1] if program else ""
+    for page, pattern in (("python/gavyreto/version.py", r'(?m)^__version__ = "([\d.]+)"$'), ("CHANGELOG.md", r"(?m)^## (\d[\d.]*)$")):
+        found = re.search(pattern, repo.text_of(page))
+        if found is None or found[1] != version:
+            yield f"{page}: version {found[1] if found else 'none'}, the program has {version}"
 
 
 # The man page
@@ -203,35 +213,39 @@ def wrong_help() -> Iterator[str]:
 
 # Completion
 
-def completed(program: str, *words: str) -> list[str]:
-    """What completion offers after these words."""
-    quoted = " ".join(f"'{word}'" for word in words)
-    script = f'. {repo.path_of(COMPLETIONS[program])}; COMP_WORDS=({program} {quoted}); COMP_CWORD={len(words)}; _{program}; printf "%s\\n" "${{COMPREPLY[@]}}"'
-    return subprocess.run(["bash", "-c", script], capture_output=True, text=True, check=True).stdout.split()
-
-
-def unlike(what: str, found: list[str], wanted: set[str]) -> Iterator[str]:
+def unlike(what: str, found: set[str], wanted: set[str]) -> Iterator[str]:
     """What completion lacks, and what it has beside that."""
-    if wanted - {*found}:
-        yield f"{what}: no {', '.join(sorted(wanted - {*found}))}"
-    if {*found} - wanted:
-        yield f"{what}: {', '.join(sorted({*found} - wanted))} isn't there to be completed"
+    if wanted - found:
+        yield f"{what}: no {', '.join(sorted(wanted - found))}"
+    if found - wanted:
+        yield f"{what}: {', '.join(sorted(found - wanted))} isn't there to be completed"
+
+
+def wrong_values(shell: str, option: Option) -> Iterator[str]:
+    """Values that completion offers of an option and that COMMAND doesn't have, or the other way."""
+    path, name = shells.file_of(shell, "tds_replay"), option.names[0]
+    values = shells.completed(shell, "tds_replay", "export", name, "")
+    if option.range[:1].isdigit():
+        least, greatest = map(int, option.range.split(" to "))
+        yield from (f"{path}: {name} {value} isn't in its range" for value in values if not least <= int(value) <= greatest)
+    elif option.range:
+        yield from unlike(f"{path}: {name}", values, {*option.range.split(", ")})
 
 
 def wrong_completion() -> Iterator[str]:
     """Commands, options and values that completion doesn't offer as COMMAND has them."""
-    path = COMPLETIONS["tds_replay"]
     general = {name for option in options() if not option.range for name in option.names}
-    yield from unlike(path, completed("tds_replay", ""), {*usages(), "help", *general})
-    for command, wanted in usages().items():
-        yield from unlike(f"{path}: {command}", completed("tds_replay", command, "-"), {*wanted, "-h", "--help"})
-    for option in options():
-        name, values = option.names[0], completed("tds_replay", "export", option.names[0], "")
-        if option.range[:1].isdigit():
-            least, greatest = map(int, option.range.split(" to "))
-            yield from (f"{path}: {name} {value} isn't in its range" for value in values if not least <= int(value) <= greatest)
-        elif option.range:
-            yield from unlike(f"{path}: {name}", values, {*option.range.split(", ")})
+    yield from shells.lacking()
+    for shell in shells.there():
+        path = shells.file_of(shell, "tds_replay")
+        first = shells.completed(shell, "tds_replay", "") | shells.completed(shell, "tds_replay", "-")
+        yield from unlike(path, first, {*usages(), "help", *general})
+        yield from unlike(f"{path}: help", shells.completed(shell, "tds_replay", "help", "") & {*usages()}, {*usages()})
+        for command, wanted in usages().items():
+            yield from unlike(f"{path}: {command}", shells.completed(shell, "tds_replay", command, "-"), {*wanted, "-h", "--help"})
+        for option in options():
+            if option.range:
+                yield from wrong_values(shell, option)
 
 
 # The Python package
@@ -243,18 +257,27 @@ def package_options(command: str) -> set[str]:
     return set(re.findall(r"(?<![\w-])(--?[a-zA-Z][a-z-]*)\b", said.split("options:")[-1]))
 
 
+def package_commands() -> dict[str, set[str]]:
+    """The options of each command of the Python package."""
+    files = os.listdir(repo.path_of("python", "gavyreto", "commands"))
+    names = sorted(name[:-len(".py")] for name in files if name[0] != "_" and name.endswith(".py"))
+    return {name: package_options(name) for name in names}
+
+
 def wrong_package() -> Iterator[str]:
     """Commands of the Python package, and options of them, that its man page or completion doesn't have."""
-    text, path = repo.text_of("docs/gavyreto.1").replace("\\-", "-"), COMPLETIONS["gavyreto"]
-    files = os.listdir(repo.path_of("python", "gavyreto", "commands"))
-    commands = sorted(name[:-len(".py")] for name in files if name[0] != "_" and name.endswith(".py"))
-    yield from unlike(path, completed("gavyreto", ""), {*commands, "--help", "--version"})
-    for command in commands:
-        wanted = package_options(command)
-        yield from unlike(f"{path}: {command}", completed("gavyreto", command, "-"), wanted)
+    text, commands = repo.text_of("docs/gavyreto.1").replace("\\-", "-"), package_commands()
+    for command, wanted in commands.items():
         for name in sorted({command, *wanted}):
             if not re.search(rf"(?<![\w-]){name}(?![\w-])", text):
                 yield f"docs/gavyreto.1: no {name}"
+    for shell in shells.there():
+        path = shells.file_of(shell, "gavyreto")
+        first = shells.completed(shell, "gavyreto", "") | shells.completed(shell, "gavyreto", "-")
+        yield from unlike(path, first, {*commands, "help", "-h", "--help", "-V", "--version"})
+        yield from unlike(f"{path}: help", shells.completed(shell, "gavyreto", "help", ""), {*commands})
+        for command, wanted in commands.items():
+            yield from unlike(f"{path}: {command}", shells.completed(shell, "gavyreto", command, "-"), wanted)
 
 
 # Ranges and examples
@@ -264,7 +287,7 @@ def wrong_ranges() -> Iterator[str]:
     known = {*limits().values()}
     ends = {greatest for _, greatest in known} | {least for least, _ in known if least > 10}
     sources = [os.path.relpath(it, repo.ROOT) for it in glob.glob(repo.path_of("python", "gavyreto", "**", "*.py"), recursive=True)]
-    for page in (*PAGES, MANUAL, "docs/gavyreto.1", HELP, *COMPLETIONS.values(), *sources):
+    for page in (*PAGES, MANUAL, "docs/gavyreto.1", HELP, *shells.FILES, *sources):
         for least, greatest in re.findall(r"\b(\d[\d,]*)(?: to |\.\.=?)(\d[\d,]*\d|\d)", repo.text_of(page)):
             pair = number(least), number(greatest)
             if pair not in known and (pair[0] in ends or pair[1] in ends):
@@ -288,7 +311,7 @@ def wrong_examples() -> Iterator[str]:
 def findings() -> Iterator[str]:
     """What isn't so of the command's surface."""
     checks = (
-        wrong_code, wrong_synopsis, wrong_options, wrong_statuses, wrong_remedies, wrong_help_texts, wrong_help, wrong_completion, wrong_package, wrong_ranges, wrong_examples,
+        wrong_code, wrong_version, wrong_synopsis, wrong_options, wrong_statuses, wrong_remedies, wrong_help_texts, wrong_help, wrong_completion, wrong_package, wrong_ranges, wrong_examples,
     )
     for check in checks:
         yield from check()

@@ -9,7 +9,11 @@ _gavyreto() {
         -S | --server | -U | --user | -d | --database | --seconds | --packet-size | --column-room | --port | --table | -j | --jobs) return ;;
     esac
     if ((COMP_CWORD == 1)); then
-        mapfile -t COMPREPLY < <(compgen -W "query capture columns adapt many --help --version" -- "$word")
+        mapfile -t COMPREPLY < <(compgen -W "query capture columns adapt many help --help --version -h -V" -- "$word")
+        return
+    fi
+    if [[ $command == help ]]; then
+        mapfile -t COMPREPLY < <(compgen -W "query capture columns adapt many" -- "$word")
         return
     fi
     case $command in

@@ -1,6 +1,7 @@
 #compdef tds_replay
 # Completion of tds_replay's commands, options and files, for zsh.
 _tds_replay() {
+    local -a commands=('export:write the rows as CSV' 'check:read the response and write only the report' 'recut:write the message in packets of another size')
     local -a limits=(
         '--packet-size=[greatest packet, or the new size]:bytes:(512 4096 8000 32767)'
         '--max-wire=[greatest number of bytes read]:bytes:'
@@ -12,7 +13,7 @@ _tds_replay() {
         '--charset=[set of single-byte text]:charset:(windows-1252 utf-8)'
     )
     if ((CURRENT == 2)); then
-        local -a commands=('export:write the rows as CSV' 'check:read the response and write only the report' 'recut:write the message in packets of another size' 'help:print help')
+        commands+=('help:print help')
         _describe command commands
         _arguments '(-h --help)'{-h,--help}'[print help]' '(-V --version)'{-V,--version}'[print the version]'
         return
@@ -23,6 +24,7 @@ _tds_replay() {
     case $command in
         export | check) _arguments $limits $texts ;;
         recut) _arguments $limits ;;
+        help) _describe command commands ;;
     esac
 }
 _tds_replay "$@"
