@@ -9,7 +9,12 @@ PREFIX ?= /usr/local
 # What is installed, packed or measured: PROGRAM if it is named, else what is proved and built here.
 BUILT = $(if $(PROGRAM),,build)
 BIN = $(or $(PROGRAM),bin/tds_replay)
-INSTALLED = $(addprefix $(DESTDIR)$(PREFIX)/,bin/tds_replay share/man/man1/tds_replay.1 share/bash-completion/completions/tds_replay)
+ROOT = $(DESTDIR)$(PREFIX)
+COMPLETION = $(addprefix share/,bash-completion/completions zsh/site-functions fish/vendor_completions.d)
+INSTALLED = bin/tds_replay share/man/man1/tds_replay.1 $(join $(COMPLETION),/tds_replay /_tds_replay /tds_replay.fish)
+
+# What `make uninstall` takes out if it is empty then: folders of completion, and the others too below a PREFIX of your own.
+FOLDERS = $(COMPLETION) $(if $(filter-out /usr /usr/local,$(ROOT)),bin share/man/man1)
 
 # Ends with one line if the kit isn't there.
 NEED_RT = command -v rt > /dev/null || { echo "rt isn't there: proving and building need the Rattle kit (README.md says where it comes from)" >&2; exit 1; }
@@ -46,13 +51,16 @@ export: build
 	@bin/tds_replay export "$(FILE)"
 
 install: $(BUILT)
-	install -d $(dir $(INSTALLED))
-	install -m 755 "$(BIN)" "$(word 1,$(INSTALLED))"
-	install -m 644 docs/tds_replay.1 "$(word 2,$(INSTALLED))"
-	install -m 644 tools/package/tds_replay.bash "$(word 3,$(INSTALLED))"
+	install -d "$(ROOT)" && cd "$(ROOT)" && install -d $(dir $(INSTALLED))
+	install -m 755 "$(BIN)" "$(ROOT)/$(word 1,$(INSTALLED))"
+	install -m 644 docs/tds_replay.1 "$(ROOT)/$(word 2,$(INSTALLED))"
+	install -m 644 tools/package/tds_replay.bash "$(ROOT)/$(word 3,$(INSTALLED))"
+	install -m 644 tools/package/tds_replay.zsh "$(ROOT)/$(word 4,$(INSTALLED))"
+	install -m 644 tools/package/tds_replay.fish "$(ROOT)/$(word 5,$(INSTALLED))"
 
 uninstall:
-	rm -f $(INSTALLED)
+	cd "$(ROOT)" && rm -f $(INSTALLED)
+	@cd "$(ROOT)" && for it in $(FOLDERS); do if [ -d $$it ]; then rmdir -p --ignore-fail-on-non-empty $$it; fi; done
 
 deb: $(BUILT)
 	@mkdir -p bin

@@ -102,8 +102,14 @@ def has_tests(name: str) -> bool:
 
 @functools.cache
 def kit() -> bytes:
-    """The kit's one-line identity."""
-    return subprocess.run(["rt", "version"], capture_output=True, check=True).stdout
+    """The kit's one-line identity. Where `rt` isn't on the path, as under `sudo`, it is that of the kit that proved last, or nothing."""
+    if shutil.which("rt"):
+        return subprocess.run(["rt", "version"], capture_output=True, check=True).stdout
+    noted = os.path.join(BIN, "kit")
+    if not os.path.exists(noted):
+        return b""
+    with open(noted, "rb") as file:
+        return file.read()
 
 
 def sum_of(name: str) -> str:
@@ -131,6 +137,8 @@ def set_done(what: str, name: str, found: str) -> None:
     os.makedirs(os.path.join(BIN, what), exist_ok=True)
     with open(os.path.join(BIN, what, name), "w", encoding="utf-8") as it:
         it.write(found)
+    with open(os.path.join(BIN, "kit"), "wb") as noted:
+        noted.write(kit())
 
 
 def is_built(name: str) -> bool:
