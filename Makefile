@@ -54,9 +54,9 @@ install: $(BUILT)
 	install -d "$(ROOT)" && cd "$(ROOT)" && install -d $(dir $(INSTALLED))
 	install -m 755 "$(BIN)" "$(ROOT)/$(word 1,$(INSTALLED))"
 	install -m 644 docs/tds_replay.1 "$(ROOT)/$(word 2,$(INSTALLED))"
-	install -m 644 tools/package/tds_replay.bash "$(ROOT)/$(word 3,$(INSTALLED))"
-	install -m 644 tools/package/tds_replay.zsh "$(ROOT)/$(word 4,$(INSTALLED))"
-	install -m 644 tools/package/tds_replay.fish "$(ROOT)/$(word 5,$(INSTALLED))"
+	install -m 644 tools/completion/tds_replay.bash "$(ROOT)/$(word 3,$(INSTALLED))"
+	install -m 644 tools/completion/tds_replay.zsh "$(ROOT)/$(word 4,$(INSTALLED))"
+	install -m 644 tools/completion/tds_replay.fish "$(ROOT)/$(word 5,$(INSTALLED))"
 
 uninstall:
 	cd "$(ROOT)" && rm -f $(INSTALLED)

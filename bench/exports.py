@@ -18,7 +18,7 @@ import tempfile
 from collections.abc import Callable
 from typing import IO, cast
 
-from packing import in_packets
+from lib.packing import in_packets
 
 PACKET_SIZE = 4096
 CHUNK = 8000

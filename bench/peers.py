@@ -14,8 +14,7 @@ import tempfile
 from collections.abc import Callable
 from typing import NamedTuple
 
-import packages
-import repository as repo
+from lib import repository as repo, requirements
 
 RUNS = 7
 ROWS = 300_000
@@ -129,14 +128,14 @@ def table_of_costs(costs: dict[str, dict[str, Measured]]) -> None:
 
 def draw(costs: dict[str, dict[str, Measured]]) -> None:
     """Draws the pictures, if Debian's Python has what bench/draw needs."""
-    if not packages.has_module(packages.DEBIAN_PYTHON, "matplotlib"):
+    if not requirements.has_module(requirements.DEBIAN_PYTHON, "matplotlib"):
         print("no pictures: Python's matplotlib isn't there, `make needs` installs it", file=sys.stderr)
         return
     told = {
         "rows": ROWS, "seconds": {client: found["rows"].seconds for client, found in costs.items()}, "sizes": SIZES,
         "peaks": {client: [sum(found[f"value{size}"].peaks) for size in SIZES] for client, found in costs.items()},
     }
-    subprocess.run([packages.DEBIAN_PYTHON, repo.path_of("bench", "draw"), PICTURES], input=json.dumps(told), text=True, check=True)
+    subprocess.run([requirements.DEBIAN_PYTHON, repo.path_of("bench", "draw"), PICTURES], input=json.dumps(told), text=True, check=True)
 
 
 def table_of_losses(folder: str, program: str) -> None:

@@ -19,12 +19,12 @@ python3 - <<'PYTHON'
 import sys
 sys.path.insert(0, "tools")
 import gavyreto
-import responses
+from lib import sample_responses
 
 for sets in gavyreto.export("kinds.tds"), gavyreto.read("kinds.csv"):
     kinds = sets.only()
     values = list(kinds)
-    assert kinds.names == responses.NAMES and repr(values) == repr(responses.VALUES)
+    assert kinds.names == sample_responses.NAMES and repr(values) == repr(sample_responses.VALUES)
     print(len(values), "rows of", len(kinds.names), "columns")
 PYTHON
 

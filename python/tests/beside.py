@@ -18,12 +18,12 @@ PROGRAM = os.path.abspath(os.environ.get("PROGRAM", os.path.join(ROOT, "bin", "t
 STAND_IN, RESPONSE = (os.path.join(ROOT, "tools", name) for name in ("stand-in", "response"))
 SECONDS = 100
 sys.path[:0] = [os.path.join(ROOT, "tools")]
-import packing  # noqa: E402
-import responses as responses  # noqa: E402
+from lib import packing, sample_responses  # noqa: E402
 
 from gavyreto import tds  # noqa: E402
 from gavyreto.connection import Channel  # noqa: E402
 
+responses = sample_responses  # by the name that tests call it
 ORDERS = (
     '"id","customer","total","ordered","note"\r\n'
     '1,"Ann ""A"" Lee, Zürich",12.50,2024-02-29 12:34:56.1234567,"two\r\nlines"\r\n'
@@ -33,7 +33,7 @@ ORDERS = (
 
 
 def wire(name: str, count: int = 0, size: int = 4096) -> bytes:
-    """A response of tools/responses.py in packets."""
+    """A response of tools/lib/sample_responses.py in packets."""
     return packing.in_packets(b"".join(responses.RESPONSES[name](count)), size)
 
 

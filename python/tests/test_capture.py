@@ -15,7 +15,7 @@ from gavyreto import tds
 from tests.beside import PROGRAM, ROOT, Live, answered, need, responses, started, wire
 
 sys.path[:0] = [os.path.join(ROOT, "tools")]
-import captures  # noqa: E402
+from lib import capture_builder as captures  # noqa: E402
 
 OTHER = (bytes([192, 0, 2, 11]), 50999)
 STATEMENTS = ["SELECT * FROM kinds", "SELECT * FROM sets WHERE note = 'x' AND  total > 5 ORDER BY\n id, note, total", "SELECT * FROM error"]

@@ -18,7 +18,7 @@ from gavyreto.values import Value
 from tests.beside import PROGRAM, ROOT, responses, skip, wire
 
 sys.path[:0] = [os.path.join(ROOT, "tools")]
-import packages  # noqa: E402
+from lib import requirements  # noqa: E402
 
 NULL = "(null)"  # what stands for NULL in what PostgreSQL writes, since a value may be the text NULL
 
@@ -83,7 +83,7 @@ class Server:
     """A server of PostgreSQL in a folder of its own, for as long as it is entered."""
 
     def __init__(self, test: unittest.TestCase) -> None:
-        if not all(packages.has_program(name) for name in ("initdb", "pg_ctl", "psql")):
+        if not all(requirements.has_program(name) for name in ("initdb", "pg_ctl", "psql")):
             skip(test, "initdb, pg_ctl or psql isn't there: `make needs` installs them")
         self._user = pwd.getpwnam("postgres") if os.geteuid() == 0 else None
         self._made = tempfile.TemporaryDirectory()
@@ -106,7 +106,7 @@ class Server:
 
     def run(self, *command: str, text: str = "") -> None:
         rights: dict[str, Any] = {"user": self._user.pw_uid, "group": self._user.pw_gid, "extra_groups": []} if self._user else {}
-        variables = {"PATH": packages.path(), "HOME": self.folder, "LC_ALL": "C.UTF-8"}
+        variables = {"PATH": requirements.path(), "HOME": self.folder, "LC_ALL": "C.UTF-8"}
         with open(os.path.join(self.folder, "said"), "wb") as said:
             done = subprocess.run(command, cwd=self.folder, env=variables, input=text.encode(), stdout=said, stderr=subprocess.STDOUT, check=False, **rights)
         if done.returncode != 0:

@@ -15,7 +15,7 @@ from collections.abc import Callable
 from tests.beside import PROGRAM, ROOT, SECONDS, need, skip, started, wire
 
 sys.path[:0] = [os.path.join(ROOT, "tools")]
-import packages  # noqa: E402
+from lib import requirements  # noqa: E402
 
 KINDS, ERROR, FLOAT = wire("kinds", 40), wire("error"), wire("float")
 REFUSAL = "fault 10 RefusedColumn 1 FLTN at payload 15, written 0, unwritten 0"
@@ -51,7 +51,7 @@ class Many(unittest.TestCase):
 
     def begin(self, *words: str, python: str = sys.executable) -> subprocess.Popen[bytes]:
         own = started()
-        own["env"] |= {"PATH": os.path.dirname(PROGRAM) + os.pathsep + packages.path()}
+        own["env"] |= {"PATH": os.path.dirname(PROGRAM) + os.pathsep + requirements.path()}
         command = [python, "-m", "gavyreto", "many", *words]
         return subprocess.Popen(command, cwd=self.folder, stdout=subprocess.PIPE, stderr=subprocess.PIPE, **own)
 
@@ -194,14 +194,14 @@ class OnCluster(Many):
     def setUp(self) -> None:
         super().setUp()
         need(self, "dask-scheduler", "dask-worker")
-        if not packages.has_module(packages.DEBIAN_PYTHON, "distributed"):
+        if not requirements.has_module(requirements.DEBIAN_PYTHON, "distributed"):
             skip(self, "Python's module distributed isn't there: `make needs` installs it")
         self.start("dask-scheduler", "--port", "0", "--no-dashboard")
         self.workers = [self.start("dask-worker", "--nthreads", "1", "--no-nanny", "--no-dashboard", "--local-directory", name) for name in ("one", "two")]
 
     def start(self, *words: str) -> subprocess.Popen[bytes]:
         own = started()
-        own["env"] |= {"PATH": os.path.dirname(PROGRAM) + os.pathsep + packages.path()}
+        own["env"] |= {"PATH": os.path.dirname(PROGRAM) + os.pathsep + requirements.path()}
         command = [*words, "--host", "127.0.0.1", "--scheduler-file", "scheduler.json"]
         process = subprocess.Popen(command, cwd=self.folder, stdout=subprocess.DEVNULL, stderr=subprocess.DEVNULL, **own)
         self.addCleanup(process.wait)
@@ -211,14 +211,14 @@ class OnCluster(Many):
     def test_a_worker_that_is_killed_costs_nothing(self) -> None:
         names = self.store(100, failed=ERROR, refused=FLOAT)
         words = ["--scheduler", "scheduler.json", "--program", self.script('sleep 0.02; exec "$PROGRAM" "$@"'), "in", "out"]
-        with self.begin(*words, python=packages.DEBIAN_PYTHON) as process:
+        with self.begin(*words, python=requirements.DEBIAN_PYTHON) as process:
             self.wait_for(lambda: len(self.table()) >= 20)
             self.workers[0].kill()
             self.wait_for(lambda: len(self.table()) >= 40)
             process.send_signal(signal.SIGINT)
             said = process.communicate(timeout=SECONDS)[1].decode().splitlines()
             self.assertEqual((process.returncode, said[-1:]), (130, ["interrupted: begun again it goes on from here"]))
-        self.assertEqual(self.many(*words, python=packages.DEBIAN_PYTHON), (4, "102 responses: 100 done, 1 with an error of the server, 1 refused, 0 failed"))
+        self.assertEqual(self.many(*words, python=requirements.DEBIAN_PYTHON), (4, "102 responses: 100 done, 1 with an error of the server, 1 refused, 0 failed"))
         self.assert_texts(names[:100], "failed.csv", "refused.csv.partial")
         self.assertEqual([name for name, _, _ in self.table()], names)
 

@@ -11,7 +11,7 @@ import unittest
 from tests.beside import ORDERS, ROOT, Live, need, skip
 
 sys.path[:0] = [os.path.join(ROOT, "tools")]
-import captures  # noqa: E402
+from lib import capture_builder as captures  # noqa: E402
 
 DEBIAN = "/usr/bin/python3"
 LOGIN = {

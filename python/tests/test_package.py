@@ -48,8 +48,8 @@ class Installed(unittest.TestCase):
             variables = {name: value for name, value in os.environ.items() if name not in ("PYTHONPATH", "PYTHONDONTWRITEBYTECODE")}
             variables["PATH"] = programs + os.pathsep + variables["PATH"]
             was = names_in(copy)
-            for words in ([], ["--no-build-isolation", "--force-reinstall"]):
-                subprocess.run(["pip", "install", "--quiet", "--no-index", *words, "./python"], cwd=folder, env=variables, check=True, capture_output=True)
+            for word in ("--no-deps", "--no-build-isolation"):
+                subprocess.run(["pip", "install", "--quiet", "--no-index", "--force-reinstall", word, "./python"], cwd=folder, env=variables, check=True, capture_output=True)
                 self.assertEqual(names_in(copy), was)
                 self.look_at_installed(folder, variables)
 
@@ -94,7 +94,7 @@ class Installed(unittest.TestCase):
             ("gavyreto", ["ca"], ["capture"]), ("gavyreto", ["--v"], ["--version"]), ("gavyreto", ["many", "--sch"], ["--scheduler"]), ("gavyreto", ["columns", "--as", "s"], ["sqlite"]), ("gavyreto", ["help", "c"], ["capture", "columns"]),
             ("tds_replay", ["-V"], ["-V"]), ("tds_replay", ["--v"], ["--version"]), ("tds_replay", ["recut", "--c"], []), ("tds_replay", ["export", "--c"], ["--column-room", "--charset"]),
         ):
-            path = os.path.join(ROOT, "tools", "package", f"{program}.bash")
+            path = os.path.join(ROOT, "tools", "completion", f"{program}.bash")
             script = f'. {path}; COMP_WORDS=({program} {" ".join(words)}); COMP_CWORD={len(words)}; _{program}; printf "%s\\n" "${{COMPREPLY[@]}}"'
             with self.subTest(program=program, words=words):
                 self.assertEqual(subprocess.run(["bash", "-c", script], capture_output=True, text=True, check=True).stdout.split(), wanted)

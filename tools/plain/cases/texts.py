@@ -4,7 +4,7 @@ from __future__ import annotations
 from collections.abc import Iterator
 from typing import NamedTuple
 
-from packing import in_packets, joined, pieces
+from lib.packing import in_packets, joined, pieces
 
 from .spelling import (
     CHUNKED_NULL, COLLATION, DONE, INT, NO_MORE, SHORT_NULL, TINYINT, UNKNOWN, UTF8, WINDOWS_1252, Case, case_of, chunk,

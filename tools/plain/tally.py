@@ -5,8 +5,8 @@ from collections import Counter
 from collections.abc import Iterator, Sequence
 from typing import NamedTuple
 
-import plain_reader as plain
-from cases.spelling import Case
+from plain import reader as plain
+from plain.cases.spelling import Case
 
 # In how many cases all that a table counts has to come at least.
 LEAST = {"ends": 8, "elements": 3, "values": 3, "described": 9, "sizes": 3}

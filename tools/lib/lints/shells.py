@@ -1,4 +1,4 @@
-"""What completion offers in bash, zsh and fish: the shells run the files of tools/package themselves."""
+"""What completion offers in bash, zsh and fish: the shells run the files of tools/completion themselves."""
 from __future__ import annotations
 
 import os
@@ -8,7 +8,7 @@ import shutil
 import subprocess
 from collections.abc import Iterator
 
-import repository as repo
+from lib import repository as repo
 
 SHELLS = ("bash", "zsh", "fish")
 PROGRAMS = ("tds_replay", "gavyreto")
@@ -19,7 +19,7 @@ ZSH_CALLS = '_arguments() { print -rl -- "$@"; }; _describe() { print -rl -- ${(
 
 def file_of(shell: str, program: str) -> str:
     """The file of completion, by its path in the repository."""
-    return f"tools/package/{program}.{shell}"
+    return f"tools/completion/{program}.{shell}"
 
 
 FILES = [file_of(shell, program) for shell in SHELLS for program in PROGRAMS]

@@ -6,10 +6,9 @@ import os
 import re
 from collections.abc import Iterator
 
-import repository as repo
-import worked_rows
-from cases import chosen
-from lints.pages import PAGES, functions
+from lib import repository as repo, worked_rows
+from lib.lints.pages import PAGES, functions
+from plain.cases import chosen
 
 PROOFS = "docs/PROOFS.md"
 RANDOM = 1_000  # responses at random that `make generated` reads by default
@@ -82,7 +81,7 @@ def wrong_tests() -> Iterator[str]:
 def wrong_rows() -> Iterator[str]:
     """Counts of worked rows, wrong rules and generated responses that aren't so."""
     yield from told("worked rows", len(worked_rows.all_rows()), r"([\d,]+) worked rows", *PAGES)
-    yield from told("wrong rules", len(re.findall(r"(?m)^== ", repo.text_of("tools", "wrong_rules.txt"))), r"([\d,]+) wrong rules", *PAGES)
+    yield from told("wrong rules", len(re.findall(r"(?m)^== ", repo.text_of("tools", "plain", "wrong_rules.txt"))), r"([\d,]+) wrong rules", *PAGES)
     yield from told("generated responses, to the nearest thousand", round(len(chosen()) + RANDOM, -3), r"([\d,]+) generated responses", *PAGES)
 
 

@@ -14,7 +14,7 @@ import sys
 from collections.abc import Callable, Iterator
 from typing import NoReturn
 
-ROOT = os.path.dirname(os.path.dirname(os.path.abspath(__file__)))
+ROOT = os.path.dirname(os.path.dirname(os.path.dirname(os.path.abspath(__file__))))
 BIN = os.path.join(ROOT, "bin")
 PARTS = ("src", "specs", "proofs")
 STORED = ("stdin", "stdout", "args", "status", "data")

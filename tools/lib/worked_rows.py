@@ -12,9 +12,9 @@ from dataclasses import dataclass, field
 from fractions import Fraction
 from typing import NamedTuple
 
-import repository as repo
-from cases.spelling import COLLATION, DONE, INT, columns_of, little, nbc_row, short
-from packing import in_packets, packet
+from lib import repository as repo
+from plain.cases.spelling import COLLATION, DONE, INT, columns_of, little, nbc_row, short
+from lib.packing import in_packets, packet
 
 ROWS = repo.path_of("examples", "worked.txt")
 NAMES = {"then any byte": "is_refused", "cut anywhere": "is_cut", "split anywhere": "is_split", "wire": "is_wire"}

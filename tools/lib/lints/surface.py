@@ -11,10 +11,10 @@ import sys
 from collections.abc import Iterator
 from dataclasses import dataclass
 
-import repository as repo
-from lints import shells
-from lints.counts import number
-from lints.pages import PAGES
+from lib import repository as repo
+from lib.lints import shells
+from lib.lints.counts import number
+from lib.lints.pages import PAGES
 
 PAGE, MANUAL, HELP = "docs/COMMAND.md", "docs/tds_replay.1", "crates/tds_arguments/src/help.rt"
 PROGRAM = repo.path_of("bin", "tds_replay")

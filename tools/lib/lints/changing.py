@@ -7,7 +7,7 @@ import os
 import re
 from collections.abc import Iterator
 
-import repository as repo
+from lib import repository as repo
 
 PAGE = "docs/CONTRIBUTING.md"
 
@@ -21,7 +21,7 @@ NAMES = {
 }
 
 # What no new token or kind has to touch: the edits, the benchmarks, pages that only mention it.
-LEFT_OUT = re.compile(r"crates/\w+/must-fail/|bench/|docs/(?!PROTOCOL)|README|tools/lints/|examples/|python/")
+LEFT_OUT = re.compile(r"crates/\w+/must-fail/|bench/|docs/(?!PROTOCOL)|README|tools/lib/lints/|examples/|python/")
 
 
 def files_with(pattern: str) -> list[str]:

@@ -4,7 +4,7 @@ from __future__ import annotations
 from collections.abc import Iterable
 from typing import NamedTuple
 
-from packing import in_packets
+from lib.packing import in_packets
 
 COLLATION = bytes.fromhex("0904D00034")
 DONE = b"\xFD" + bytes(12)

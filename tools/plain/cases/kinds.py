@@ -4,7 +4,7 @@ from __future__ import annotations
 from collections.abc import Iterator
 from typing import NamedTuple
 
-from packing import in_packets
+from lib.packing import in_packets
 
 from .spelling import (
     DONE, INT, TINYINT, Case, case_of, columns_of, counted, little, nbc_row, returned, row,

@@ -2,7 +2,7 @@
 import struct
 from typing import BinaryIO
 
-import repository  # noqa: F401  after it the Python package is on the path
+from lib import repository  # noqa: F401  after it the Python package is on the path
 from gavyreto import tds
 
 CLIENT, SERVER = (bytes([192, 0, 2, 10]), 50123), (bytes([192, 0, 2, 20]), 1433)

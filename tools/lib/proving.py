@@ -9,7 +9,7 @@ import time
 from collections.abc import Callable, Iterator
 from concurrent.futures import FIRST_COMPLETED, Future, ThreadPoolExecutor, wait
 
-import repository as repo
+from lib import repository as repo
 
 ERROR = re.compile(r"error(\[\w+\])?:|\S+: error|note: .*it is not proved that|.*: not proved$|error ")
 

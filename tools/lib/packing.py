@@ -6,7 +6,7 @@ from __future__ import annotations
 import random
 from collections.abc import Iterable, Iterator
 
-import repository  # noqa: F401  after it the Python package is on the path
+from lib import repository  # noqa: F401  after it the Python package is on the path
 from gavyreto import tds
 
 ANSWER = tds.PacketType.ANSWER

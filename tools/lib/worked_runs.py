@@ -8,8 +8,8 @@ from collections.abc import Iterator
 from dataclasses import dataclass
 from typing import Optional
 
-from packing import headers_of, in_packets, in_single_bytes, packet
-from worked_rows import Row, reached, size_of
+from lib.packing import headers_of, in_packets, in_single_bytes, packet
+from lib.worked_rows import Row, reached, size_of
 
 
 @dataclass

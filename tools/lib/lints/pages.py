@@ -7,7 +7,7 @@ import os
 import re
 from collections.abc import Iterator
 
-import repository as repo
+from lib import repository as repo
 
 PAGES = ["README.md", *sorted(os.path.relpath(it, repo.ROOT) for it in glob.glob(repo.path_of("docs", "*.md")))]
 MOST_WORDS = {"README.md": 1_400, "docs/ARCHITECTURE.md": 2_000, "docs/RECIPES.md": 2_500}

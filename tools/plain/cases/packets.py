@@ -3,7 +3,7 @@ from __future__ import annotations
 
 from collections.abc import Iterator
 
-from packing import header, in_packets, joined, packet, pieces
+from lib.packing import header, in_packets, joined, packet, pieces
 
 from .spelling import (
     DONE, INT, NO_METADATA, Case, column, description, little, name_of, row, sized,

@@ -3,7 +3,7 @@ from __future__ import annotations
 
 from collections.abc import Iterator
 
-from packing import in_packets, joined, pieces
+from lib.packing import in_packets, joined, pieces
 
 from .spelling import (
     CHUNKED_NULL, COLLATION, DONE, INT, SHORT_NULL, TINYINT, UTF8, Case, case_of, chunked, column, columns_of, counted,

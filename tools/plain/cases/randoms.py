@@ -3,8 +3,8 @@ from __future__ import annotations
 
 import random
 
-import plain_reader as plain
-from packing import joined, random_pieces
+from plain import reader as plain
+from lib.packing import joined, random_pieces
 
 from .spelling import (
     CHUNKED_NULL, DONE, NO_METADATA, SHORT_NULL, UNKNOWN, Case, chunked, counted, description, little, nbc_row, row,
