@@ -1,5 +1,7 @@
-use Rattle.tds_csv.{proofs.{Words.{common_steps, ◌∙◌, get_or, arith, rules, ap₂, take, ◌∷◌, [], ◌%◌, ◌/◌, prefix_len_passes, prefix_len-le-length, ◌<◌}, WideText.{lane_at, one_more, short_bytes, sized, sized_at}}, specs.Wide.{is_short, pair, size}}
-use Rattle.tds_csv.proofs.convert.beyond_ascii.put_short.Goals as goal
+use Rattle.tds_csv.proofs.Words.{common_steps, ◌∙◌, get_or, arith, rules, ap₂, take, ◌∷◌, [], ◌%◌, ◌/◌, prefix_len_passes, prefix_len-le-length, ◌<◌}
+use Rattle.tds_csv.proofs.WideText.{lane_at, one_more, short_bytes, sized, sized_at}
+use Rattle.tds_csv.specs.Wide.{is_short, pair, size}
+use Rattle.tds_csv.proofs.convert.beyond_ascii.put_pairs.Goals as goal
 
 pub loop-i-init : goal.loop-i-init
 loop-i-init c = let few = prefix_len-le-length is_short c.args.units in grind (arith, common_steps)

@@ -1,5 +1,5 @@
 use Rattle.tds_csv.proofs.Words.{◌≡◌, ◌+◌, ◌*◌, ◌≤◌, ◌++◌, length, take, encode_utf8_all}
-use Rattle.tds_csv.proofs.convert.beyond_ascii.put_short.Given as goal
+use Rattle.tds_csv.proofs.convert.beyond_ascii.put_pairs.Given as goal
 
 -- the first units are written
 abbrev pub invariant-loop-i : goal.invariant-loop-i
