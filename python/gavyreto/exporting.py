@@ -6,9 +6,7 @@ import socket
 import subprocess
 from typing import NamedTuple
 
-from gavyreto.program import report_of, written_by
-
-DONE, SERVER_ERROR, BAD_INPUT, FAILED = 0, 3, 4, 5  # statuses of tds_replay
+from gavyreto.commands.common import BAD_INPUT, DONE, SERVER_ERROR, judged
 
 
 class Outcome(NamedTuple):
@@ -37,20 +35,11 @@ def export_file(file: str, folder: str, command: list[str]) -> Outcome:
         with open(unfinished, "wb") as out:
             done = subprocess.run([*command, "--", file], stdin=subprocess.DEVNULL, stdout=out, stderr=subprocess.PIPE, check=False)
             os.fsync(out.fileno())
-        outcome = judged(file, done.returncode, done.stderr.decode("utf-8", "replace"), os.path.getsize(unfinished))
+        ending = judged(done.returncode, done.stderr.decode("utf-8", "replace"), os.path.getsize(unfinished))
+        outcome = Outcome(file, ending.status, ending.line)
         if outcome.is_final():
             os.replace(unfinished, text + ".partial" if outcome.status == BAD_INPUT else text)
         return outcome
     finally:
         if os.path.exists(unfinished):
             os.remove(unfinished)
-
-
-def judged(file: str, status: int, notes: str, length: int) -> Outcome:
-    """What the program's status and lines come to, and the bytes of the text that it left."""
-    said, line = report_of(notes), notes.partition("\n")[0]
-    if status < 0:
-        return Outcome(file, 128 - status, f"tds_replay was ended by the signal {-status}")
-    if status in (DONE, SERVER_ERROR, BAD_INPUT) and (said is None or written_by(said) != length):
-        return Outcome(file, FAILED, f"tds_replay ended with status {status}, and a text of {length} bytes: {line}")
-    return Outcome(file, status, line)

@@ -7,13 +7,13 @@ import threading
 from typing import IO, Callable, Iterator, NamedTuple, Optional
 
 from gavyreto import columns, tds
-from gavyreto.columns import COUNTED, FIXED, LONG, VARIANT, Column, Described, Type
+from gavyreto.columns import COUNTED, FIXED, LONG, Column, Described, Type
+from gavyreto.tds import DataType, Token
 
 Read = Callable[[int], bytes]
 Write = Callable[[bytes], object]
 
-ROW, NBCROW, RETURN_VALUE = 0xD1, 0xD2, 0xAC
-DONE_PROC, DONE_IN_PROC = 0xFE, 0xFF
+ROW, NBCROW = int(Token.ROW), int(Token.NBCROW)  # compared with once a row
 SHORT_NULL = 0xFFFF
 
 
@@ -78,26 +78,26 @@ class Payload:
 
 # Tokens, rows and cells.
 
-class Token(NamedTuple):
+class Found(NamedTuple):
     """A token: its byte; of a COLMETADATA the columns, of a row those whose values follow."""
 
     byte: int
     columns: Optional[list[Described]] = None
 
 
-def tokens(payload: Payload) -> Iterator[Token]:
+def tokens(payload: Payload) -> Iterator[Found]:
     """The tokens of a response. Whoever takes a row reads its cells before the next token; other tokens are passed over."""
     described: Optional[list[Described]] = None
     while payload.has(1):
         byte = payload.number(1)
-        if byte == tds.Token.COLUMNS:
+        if byte == Token.COLUMNS:
             described = columns.read_description(payload.need)
-            yield Token(byte, described)
+            yield Found(byte, described)
         elif byte in (ROW, NBCROW):
             bitmap = payload.need(bytes_of_bitmap(byte, described))
-            yield Token(byte, present(bitmap, described or []))
+            yield Found(byte, present(bitmap, described or []))
         else:
-            yield Token(byte)
+            yield Found(byte)
             for _ in rest_of(payload, byte):
                 pass
 
@@ -117,13 +117,13 @@ def present(bitmap: bytes, described: list[Described]) -> list[Described]:
 
 def rest_of(payload: Payload, byte: int) -> Iterator[bytes]:
     """What follows the byte of a token that is neither a description nor a row. Raises ValueError if there is no such token."""
-    if byte in (tds.Token.ORDER, tds.Token.ERROR, tds.Token.INFO, tds.Token.ENV_CHANGE):
+    if byte in (Token.ORDER, Token.ERROR, Token.INFO, Token.ENV_CHANGE):
         yield from _after(payload, payload.need(2))
-    elif byte == tds.Token.RETURN_STATUS:
+    elif byte == Token.RETURN_STATUS:
         yield payload.need(4)
-    elif byte in (tds.Token.DONE, DONE_PROC, DONE_IN_PROC):
+    elif byte in (Token.DONE, Token.DONE_PROC, Token.DONE_IN_PROC):
         yield payload.need(12)
-    elif byte == RETURN_VALUE:
+    elif byte == Token.RETURN_VALUE:
         yield head_of_value(payload)
         type_ = columns.read_type(payload.need)
         yield bytes([type_.byte]) + type_.info
@@ -155,7 +155,7 @@ def cell(payload: Payload, type_: Type) -> Iterator[bytes]:
     elif type_.byte in LONG:
         length = payload.need(2)
         yield from (length,) if length == b"\xFF\xFF" else _after(payload, length)
-    elif type_.byte == VARIANT:
+    elif type_.byte == DataType.VARIANT:
         yield from _after(payload, payload.need(4))
     else:
         pointer = payload.need(1)
@@ -187,7 +187,7 @@ def descriptions(payload: Payload) -> Iterator[list[Described]]:
     """The descriptions of a response, each with columns, in order."""
     ways: list[int] = []
     for token in tokens(payload):
-        if token.byte == tds.Token.COLUMNS:
+        if token.byte == Token.COLUMNS:
             ways = ways_over(token.columns or [])
             yield from [token.columns] if token.columns else []
         elif token.columns:

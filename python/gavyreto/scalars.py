@@ -6,6 +6,8 @@ from datetime import date, timedelta
 from typing import Callable
 from uuid import UUID
 
+from gavyreto.tds import DataType
+
 FIRST_DAY, DAY_1900 = date(1, 1, 1), date(1900, 1, 1)
 MONEY_SCALE = 4
 
@@ -124,7 +126,9 @@ def _packed(text: str) -> bytes:
 
 
 TEXTS: dict[int, Callable[[bytes, int], str]] = {
-    0x30: _whole, 0x34: _whole, 0x38: _whole, 0x7F: _whole, 0x26: _whole, 0x32: _bit, 0x68: _bit, 0x6A: _decimal, 0x6C: _decimal, 0x3C: _money,
-    0x7A: _small_money, 0x24: _guid, 0x28: _date, 0x29: _time, 0x2A: _date_time2, 0x2B: _date_time_offset, 0x3A: _small_date_time,
-    0x3D: _old_date_time, 0x3E: _double, 0x3B: _single,
+    DataType.INT1: _whole, DataType.INT2: _whole, DataType.INT4: _whole, DataType.INT8: _whole, DataType.INTN: _whole, DataType.BIT: _bit,
+    DataType.BITN: _bit, DataType.DECIMAL: _decimal, DataType.NUMERIC: _decimal, DataType.MONEY: _money, DataType.MONEY4: _small_money,
+    DataType.GUID: _guid, DataType.DATE: _date, DataType.TIME: _time, DataType.DATETIME2: _date_time2,
+    DataType.DATETIMEOFFSET: _date_time_offset, DataType.DATETIME4: _small_date_time, DataType.DATETIME: _old_date_time,
+    DataType.FLT8: _double, DataType.FLT4: _single,
 }

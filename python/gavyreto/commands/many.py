@@ -22,9 +22,10 @@ from concurrent.futures import FIRST_COMPLETED, Future, ThreadPoolExecutor, wait
 from typing import Any, Iterable, Iterator, Optional
 
 from gavyreto import program
-from gavyreto.commands import FAILED, INTERRUPTED, REFUSED, say
-from gavyreto.commands.query import Stopped, checked_program, number_in
-from gavyreto.exporting import BAD_INPUT, DONE, SERVER_ERROR, Outcome, export_file, text_name
+from gavyreto.commands.common import (
+    BAD_INPUT, DONE, FAILED, INTERRUPTED, REFUSED, SERVER_ERROR, Stopped, add_options_of_program, checked_program, number_in, say,
+)
+from gavyreto.exporting import Outcome, export_file, text_name
 
 TABLE = "outcomes.csv"
 HEADER = ["file", "status", "line"]
@@ -191,9 +192,7 @@ def arguments(words: list[str]) -> argparse.Namespace:
     add = parser.add_argument
     add("-j", "--jobs", metavar="N", type=number_in(1, 1024), default=len(os.sched_getaffinity(0)), help="how many at once, without it as many as processors")
     add("--scheduler", metavar="WHERE", help="of a Dask cluster: its address, or the file that it writes. Files and OUT have the same paths on each worker")
-    add("--column-room", metavar="N", type=number_in(10, 67108864), default=program.COLUMN_ROOM, help="as of tds_replay")
-    add("--charset", choices=program.CHARSETS, default=program.CHARSETS[0], help="of char and varchar")
-    add("--program", metavar="FILE", default=program.PROGRAM, help="tds_replay, without it that of the path")
+    add_options_of_program(parser)
     add("files", metavar="FILE", nargs="+", help="responses, or folders of them")
     add("out", metavar="OUT", help="the folder of the texts, which is made if it isn't there")
     asked = parser.parse_args(words)
@@ -202,18 +201,12 @@ def arguments(words: list[str]) -> argparse.Namespace:
 
 
 def run(words: list[str]) -> int:
-    """The command `many`. Returns its exit status."""
+    """The command `many`. Returns its exit status, or raises what ended it."""
+    asked = arguments(words)
+    asked.program = asked.program if asked.scheduler else checked_program(asked.program)
     try:
-        asked = arguments(words)
-        asked.program = asked.program if asked.scheduler else checked_program(asked.program)
         return export_all(asked)
-    except Stopped as stop:
-        line, status = str(stop), stop.status
     except ImportError:
-        line, status = "a cluster needs Python's module distributed: Debian's package python3-distributed", REFUSED
-    except OSError as failure:
-        line, status = f"{failure.filename or 'the cluster'}: {failure.strerror or failure}", FAILED
+        raise Stopped("a cluster needs Python's module distributed: Debian's package python3-distributed", REFUSED) from None
     except KeyboardInterrupt:
-        line, status = "interrupted: begun again it goes on from here", INTERRUPTED
-    say(line + "\n")
-    return status
+        raise Stopped("interrupted: begun again it goes on from here", INTERRUPTED) from None

@@ -17,26 +17,19 @@ import re
 import select
 import signal
 import subprocess
-import sys
 from types import FrameType
-from typing import IO, BinaryIO, Callable, Iterable, Iterator, NamedTuple, Optional, cast
+from typing import IO, BinaryIO, Iterable, Iterator, Optional, cast
 
 from gavyreto import connection, program, tds
-from gavyreto.commands import BAD_INPUT, FAILED, INTERRUPTED, REFUSED, SERVER_ERROR, say
+from gavyreto.commands.common import (
+    FAILED, INTERRUPTED, REFUSED, STANDARD_INPUT, STANDARD_OUTPUT, STREAMS, Ending, Stopped, add_options_of_program, cause_of,
+    checked_program, judged, needed, number_in, tell_all,
+)
 from gavyreto.connection import BLOCK, Session
-from gavyreto.errors import BadAnswer, ConnectionFailed, ServerError
+from gavyreto.errors import ConnectionFailed
 
-STANDARD_OUTPUT = 1
 SEPARATOR = b"\r\n"
 GO = re.compile(r"\s*GO(?:\s+(\d+))?\s*", re.IGNORECASE | re.ASCII)
-
-
-class Stopped(Exception):
-    """A line for standard error, and the status to end with."""
-
-    def __init__(self, line: str, status: int) -> None:
-        super().__init__(line)
-        self.status = status
 
 
 # Statements.
@@ -75,7 +68,7 @@ def batches_of(path: str) -> list[str]:
         with open(path, "rb") as file:
             return list(batches(lines_of(file, path)))
     except OSError as failure:
-        raise Stopped(f"{path}: {failure.strerror}", FAILED) from None
+        raise Stopped(f"{path}: {cause_of(failure)}", FAILED) from None
 
 
 def statements_of(asked: argparse.Namespace) -> Iterator[str]:
@@ -86,7 +79,7 @@ def statements_of(asked: argparse.Namespace) -> Iterator[str]:
     elif asked.input:
         found = [batch for path in asked.input for batch in batches_of(path)]
     else:
-        found = batches(lines_of(sys.stdin.buffer, "standard input"))
+        found = batches(lines_of(os.fdopen(needed(STANDARD_INPUT), "rb", closefd=False), STREAMS[STANDARD_INPUT]))
         found = list(found) if asked.output and "{}" not in asked.output else found
     if isinstance(found, list):
         found = [statement for statement in found if statement.strip()]
@@ -130,7 +123,7 @@ def opened(asked: argparse.Namespace, number: int) -> Iterator[int]:
     try:
         descriptor = os.open(path, os.O_WRONLY | os.O_CREAT | os.O_TRUNC | os.O_CLOEXEC, 0o666)
     except OSError as failure:
-        raise Stopped(f"{path}: {failure.strerror}", FAILED) from None
+        raise Stopped(f"{path}: {cause_of(failure)}", FAILED) from None
     try:
         yield descriptor
     finally:
@@ -152,18 +145,6 @@ class Interrupt:
         self.came = True
         with contextlib.suppress(ConnectionFailed):  # who waits for the answer finds it too
             self._session.interrupt()
-
-
-class Ending(NamedTuple):
-    """How the program ended on an answer: its status, its lines, and the bytes of text that it wrote."""
-
-    status: int
-    notes: str
-    written: int
-
-    def line_after(self, line: str) -> str:
-        """One line, of what happened and what the program says to it."""
-        return ": ".join(it for it in (line, self.notes.partition("\n")[0]) if it)
 
 
 class Run:
@@ -222,7 +203,7 @@ class Run:
         try:
             program.write_all(self._out, self._before + data if data else b"")
         except OSError as failure:
-            raise Stopped(f"standard output: {failure.strerror}", FAILED) from None
+            raise Stopped(f"standard output: {cause_of(failure)}", FAILED) from None
         self._before = b"" if data else self._before
         return bool(data)
 
@@ -233,16 +214,6 @@ class Run:
             pass
         notes = cast("IO[bytes]", self._program.stderr).read().decode("utf-8", "replace")
         return judged(self._program.wait(), notes)
-
-
-def judged(status: int, notes: str) -> Ending:
-    """How the program ended. Raises `Stopped` if it didn't end as it does."""
-    said = program.report_of(notes)
-    if status < 0:
-        raise Stopped(f"tds_replay was ended by the signal {-status}", 128 - status)
-    if said is None:
-        raise Stopped(f"tds_replay ended with status {status}: {notes.strip()}", status or FAILED)
-    return Ending(status, notes, program.written_by(said))
 
 
 def answer(session: Session, statement: str, run: Run, interrupt: Interrupt) -> Ending:
@@ -279,7 +250,7 @@ def ask(asked: argparse.Namespace, statements: Iterator[str], password: str) -> 
             with opened(asked, number) as out, Run(command, out, is_begun and not asked.output) as run:
                 ending = answer(session, statement, run, interrupt)
             is_begun = is_begun or ending.written > 0
-            say(ending.notes)
+            tell_all(ending.notes)
             if ending.status:
                 return ending.status
     return 0
@@ -296,14 +267,6 @@ def session_of(asked: argparse.Namespace, password: str) -> Session:
 
 
 # Arguments.
-
-def number_in(least: int, most: int) -> Callable[[str], int]:
-    def number(text: str) -> int:
-        if not re.fullmatch("[0-9]+", text) or not least <= int(text) <= most:
-            raise argparse.ArgumentTypeError(f"{text} is not in {least} to {most}")
-        return int(text)
-    return number
-
 
 def server(text: str) -> tuple[str, int]:
     """The host and the port of `[tcp:]HOST[,PORT]`."""
@@ -332,25 +295,12 @@ def arguments(words: list[str]) -> argparse.Namespace:
         help=f"the longest that the server may be silent, 1 to 86400, without it {connection.SECONDS}")
     add("--packet-size", metavar="N", type=number_in(tds.LEAST_PACKET_SIZE, tds.GREATEST_PACKET_SIZE), default=connection.PACKET_SIZE,
         help=f"bytes asked for, 512 to 32767, without it {connection.PACKET_SIZE}")
-    add("--column-room", metavar="N", type=number_in(10, 67108864), default=program.COLUMN_ROOM, help="as of tds_replay")
-    add("--charset", choices=program.CHARSETS, default=program.CHARSETS[0], help="of char and varchar")
-    add("--program", metavar="FILE", default=program.PROGRAM, help="tds_replay, without it that of the path")
+    add_options_of_program(parser)
     add("statements", metavar="STATEMENT", nargs="*")
     asked = parser.parse_args(words)
     if asked.statements and asked.input:
         parser.error("statements are arguments, or in files: not both")
     return asked
-
-
-def checked_program(name: str) -> str:
-    """The path of the program, which is there and is tds_replay."""
-    try:
-        path = program.path_of(name)
-        if program.is_there(path):
-            return path
-        raise Stopped(f"{path} isn't tds_replay", REFUSED)
-    except OSError as failure:
-        raise Stopped(str(failure.strerror or failure), REFUSED) from None
 
 
 def asked_password(user: str) -> str:
@@ -368,22 +318,11 @@ def asked_password(user: str) -> str:
 
 
 def run(words: list[str]) -> int:
-    """The command `query`. Returns its exit status."""
+    """The command `query`. Returns its exit status, or raises what ended it."""
     password = os.environ.pop("SQLCMDPASSWORD", "")  # the processes that are started from here don't get it
-    try:
-        asked = arguments(words)
-        asked.program = checked_program(asked.program)
-        statements = statements_of(asked)
-        return ask(asked, statements, password or asked_password(asked.user))
-    except Stopped as stop:
-        line, status = str(stop), stop.status
-    except ServerError as error:
-        line, status = str(error), SERVER_ERROR
-    except BadAnswer as answered:
-        line, status = str(answered), BAD_INPUT
-    except ConnectionFailed as failure:
-        line, status = str(failure), FAILED
-    except KeyboardInterrupt:
-        line, status = "interrupted", INTERRUPTED
-    say(line + "\n")
-    return status
+    asked = arguments(words)
+    if not asked.output:
+        needed(STANDARD_OUTPUT)
+    asked.program = checked_program(asked.program)
+    statements = statements_of(asked)
+    return ask(asked, statements, password or asked_password(asked.user))
