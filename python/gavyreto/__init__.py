@@ -36,7 +36,7 @@ if TYPE_CHECKING:
     from gavyreto.client import Connection, connect, query
     from gavyreto.errors import (
         BadAnswer, ConnectionFailed, Error, Fault, MalformedText, NotOneSet, PassedOver, ProgramFailed, Report, ServerError,
-        UnfinishedText,
+        UnfinishedAnswer, UnfinishedText,
     )
     from gavyreto.response import Response, Source, export
     from gavyreto.text import ResultSet, Sets, read
@@ -45,8 +45,8 @@ if TYPE_CHECKING:
 
 __all__ = [
     "export", "read", "query", "connect", "value_of", "Connection", "Sets", "Response", "ResultSet", "Report", "Value", "Source",
-    "Error", "Fault", "ServerError", "ProgramFailed", "NotOneSet", "UnfinishedText", "MalformedText", "PassedOver",
-    "ConnectionFailed", "BadAnswer", "__version__",
+    "Error", "Fault", "ServerError", "ProgramFailed", "NotOneSet", "UnfinishedAnswer", "UnfinishedText", "MalformedText",
+    "PassedOver", "ConnectionFailed", "BadAnswer", "__version__",
 ]
 _MODULES = ["errors", "version", "values", "text", "response", "client"]
 

@@ -88,7 +88,10 @@ class Answer(Response):
         self.owns_session = False  # whether the session was made for this answer
         self.is_left = False  # whether no more of it is read
         self._session, found = session, Descriptions()
-        super().__init__(run, dates, lambda write: hand_on(session, write, found), found)
+        super().__init__(run, dates, found, copy=lambda write: hand_on(session, write, found), tail=bytes)
+
+    def _unfinished(self) -> Optional[str]:
+        return self._session.unfinished
 
     def _release(self) -> None:
         super()._release()

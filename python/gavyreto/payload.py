@@ -4,7 +4,7 @@ It judges nothing: the program tds_replay does. What it can't follow raises Valu
 from __future__ import annotations
 
 import threading
-from typing import IO, Callable, Iterator, NamedTuple, Optional
+from typing import Callable, Iterator, NamedTuple, Optional
 
 from gavyreto import columns, tds
 from gavyreto.columns import COUNTED, FIXED, LONG, Column, Described, Type
@@ -27,6 +27,7 @@ class Payload:
     def __init__(self, read: Read, hand_on: Optional[Write] = None) -> None:
         self.data, self.at = b"", 0  #: what was read and not used up begins at this place
         self.is_over = False  #: whether the last packet was read
+        self.tail = b""  #: the end of what was read, as long as a DONE at most
         self._read, self._hand_on = read, hand_on
 
     def packet(self) -> bool:
@@ -42,6 +43,7 @@ class Payload:
             raise Ended
         self.is_over = bool(header[1] & tds.LAST)
         self.data, self.at = self.data[self.at:] + body, 0
+        self.tail = (self.tail + body[-tds.DONE_LENGTH:])[-tds.DONE_LENGTH:]
         return True
 
     def has(self, length: int) -> bool:
@@ -274,9 +276,6 @@ class Descriptions:
         self._is_over = False
         self._changed = threading.Condition()
 
-    def close(self) -> None:
-        """Ends what is still to be read."""
-
     def of(self, place: int) -> Optional[list[Column]]:
         """The columns of a set by its place among the sets, once they have come; None if they don't."""
         with self._changed:
@@ -306,23 +305,14 @@ class Descriptions:
 class LateDescriptions(Descriptions):
     """The same of packets that can be read again: they are read once somebody asks, and no further than needed."""
 
-    def __init__(self, opened: Callable[[], IO[bytes]]) -> None:
+    def __init__(self, read: Read) -> None:
         super().__init__()
-        self._opened = opened
-        self._file: Optional[IO[bytes]] = None
-        self._walk: Optional[Iterator[list[Described]]] = None
-
-    def close(self) -> None:
-        if self._file:
-            self._file.close()
+        self._walk = descriptions(Payload(read))
 
     def of(self, place: int) -> Optional[list[Column]]:
-        if not self._walk:
-            self._file = self._opened()
-            self._walk = descriptions(Payload(self._file.read))
         try:
             while len(self._found) <= place:
                 self._found.append([column.column() for column in next(self._walk)])
-        except (StopIteration, ValueError, KeyError, Ended):
+        except (StopIteration, ValueError, KeyError, Ended, OSError):
             return None
         return self._found[place]

@@ -12,7 +12,8 @@ from typing import IO, Callable, Union
 from gavyreto.errors import FAULT, SERVER_ERROR, Fault, Report, ServerError
 
 PROGRAM = "tds_replay"
-PACKET_SIZE = 32767
+PACKET_SIZE = 32767  # where packets are only read: the greatest that there is
+PACKET_SIZE_ASKED = 8000  # of a server, as .NET asks for
 COLUMN_ROOM = 1048576
 MAX_WIRE = 2**40
 CHARSETS = ("windows-1252", "utf-8")

@@ -6,10 +6,12 @@ from __future__ import annotations
 
 import re
 import struct
+from collections import deque
 from enum import IntEnum
 from typing import Callable, Iterable, Iterator, NamedTuple, Optional, Union
 
 Bytes = Union[bytes, bytearray, memoryview]
+ReadAt = Callable[[int, int], Bytes]  # so many bytes from a place on, or fewer at the end
 
 
 class PacketType(IntEnum):
@@ -162,6 +164,23 @@ def copy_message(read: Callable[[int], bytes], write: Callable[[bytes], object])
         body = read_fully(read, length_of(header) - HEADER) if len(header) == HEADER else b""
         write(body)
         is_over = len(header) < HEADER or HEADER + len(body) != length_of(header) or bool(header[1] & LAST)
+
+
+def tail_of(read_at: ReadAt, start: int = 0) -> bytes:
+    """The end of the payload of a message, as long as a DONE if it is as long, by its packets from a place on; b"" if they
+    aren't whole. `read_at` is called as os.pread is, without its descriptor."""
+    last: deque[tuple[int, int]] = deque(maxlen=DONE_LENGTH)  # where the last bodies that aren't empty end, and how long they are
+    at, is_last = start, False
+    while not is_last:
+        header = read_at(HEADER, at)
+        length = length_of(header)
+        if len(header) < HEADER or length < HEADER:
+            return b""
+        at, is_last = at + length, bool(header[1] & LAST)
+        if length > HEADER:
+            last.append((at, length - HEADER))
+    pieces = [(end, min(length, DONE_LENGTH)) for end, length in last]
+    return b"".join(read_at(length, end - length) for end, length in pieces)[-DONE_LENGTH:]
 
 
 def read_fully(read: Callable[[int], bytes], length: int) -> bytes:
@@ -404,7 +423,7 @@ def read_login_answer(payload: bytes) -> Accepted:
     while True:
         token, length = struct.unpack_from("<BH", payload, at)
         body = payload[at + 3:at + 3 + length]
-        if token == Token.DONE and acknowledged and LEAST_PACKET_SIZE <= size <= GREATEST_PACKET_SIZE:
+        if token == Token.DONE and acknowledged and LEAST_PACKET_SIZE <= size <= GREATEST_PACKET_SIZE and at + DONE_LENGTH == len(payload):
             return Accepted(size, routed)
         if token == Token.ERROR:
             raise Refused(error_line(body))
@@ -421,9 +440,10 @@ def read_login_answer(payload: bytes) -> Accepted:
 
 def _routing_of(body: bytes) -> tuple[str, int]:
     protocol, port, units = struct.unpack_from("<BHH", body, 3)
-    if protocol != 0:
-        raise ValueError("a redirection by another protocol than TCP")
-    return body[8:8 + 2 * units].decode("utf-16-le"), port
+    host = body[8:8 + 2 * units].decode("utf-16-le")
+    if protocol != 0 or not host or not port:
+        raise ValueError("a redirection by another protocol than TCP, or to nowhere")
+    return host, port
 
 
 def error_line(body: bytes) -> str:

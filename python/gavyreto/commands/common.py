@@ -4,6 +4,7 @@ from __future__ import annotations
 import argparse
 import os
 import re
+import stat
 import sys
 from typing import Callable, Iterable, NamedTuple, Optional, Union
 
@@ -122,6 +123,15 @@ def needed(number: int) -> int:
     if number in _closed:
         raise Stopped(f"{STREAMS[number]} is closed", FAILED)
     return number
+
+
+def is_one_file(path: str, other: Union[str, int]) -> bool:
+    """Whether two names, or a name and a descriptor, are one file. A device or a pipe is read and written without harm."""
+    try:
+        found, read = os.stat(path), os.stat(other)
+    except OSError:
+        return False
+    return stat.S_ISREG(found.st_mode) and os.path.samestat(found, read)
 
 
 def put(text: str) -> None:

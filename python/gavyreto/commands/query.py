@@ -6,8 +6,8 @@ separates two texts, as it does two result sets. The login is by SQL authenticat
 SQLCMDPASSWORD, or asked for. The server's certificate is verified. Everything is encrypted, unless --encrypt says less.
 
 The lines on standard error are those of tds_replay, and so is the status: 0, 3 if the server reported an error or refused the
-login, 4 if its answer can't be read, 5 if the connection or a write failed; 2 if the arguments are refused, 130 after Ctrl-C.
-The first statement whose status isn't 0 is the last one sent. A transaction has to end in the statement that begins it."""
+login, or ended an answer as cancelled or failed, 4 if its answer can't be read, 5 if the connection or a write failed; 2 if the
+arguments are refused, 130 after Ctrl-C. The first statement whose status isn't 0 is the last one sent. A transaction has to end in the statement that begins it."""
 from __future__ import annotations
 
 import argparse
@@ -18,37 +18,52 @@ import select
 import signal
 import subprocess
 from types import FrameType
-from typing import IO, BinaryIO, Iterable, Iterator, Optional, cast
+from typing import IO, BinaryIO, Iterable, Iterator, NamedTuple, Optional, cast
 
 from gavyreto import connection, program, tds
 from gavyreto.commands.common import (
-    FAILED, INTERRUPTED, REFUSED, STANDARD_INPUT, STANDARD_OUTPUT, STREAMS, Ending, Stopped, add_options_of_program, cause_of,
-    checked_program, judged, needed, number_in, tell_all,
+    DONE, FAILED, INTERRUPTED, REFUSED, SERVER_ERROR, STANDARD_INPUT, STANDARD_OUTPUT, STREAMS, Ending, Stopped, add_options_of_program,
+    cause_of, checked_program, is_one_file, judged, needed, number_in, tell_all,
 )
 from gavyreto.connection import BLOCK, Session
 from gavyreto.errors import ConnectionFailed
 
 SEPARATOR = b"\r\n"
-GO = re.compile(r"\s*GO(?:\s+(\d+))?\s*", re.IGNORECASE | re.ASCII)
+GO = re.compile(r"\s*GO(?:\s+(\d+))?\s*;?\s*(?:--.*)?", re.IGNORECASE | re.ASCII | re.DOTALL)
+MOST_TIMES = 2**31 - 1  # that a GO sends a statement
+CHECKED_OUTPUTS = 1000  # outputs that are looked at before anything is sent
 
 
 # Statements.
 
-def batches(lines: Iterable[str]) -> Iterator[str]:
-    """The texts before lines that are GO, each as often as its GO says, and what follows the last of these lines."""
+class Batch(NamedTuple):
+    """A statement, and how often it is sent."""
+
+    statement: str
+    times: int
+
+
+def batches(lines: Iterable[str]) -> Iterator[Batch]:
+    """The texts before lines that are GO, and what follows the last of these lines. A comment or a semicolon may follow GO."""
     batch: list[str] = []
     for line in lines:
         found = GO.fullmatch(line)
-        if not found:
+        if found:
+            yield Batch("".join(batch), times_of(found[1] or "1"))
+            batch.clear()
+        else:
             batch.append(line)
-            continue
-        count = int(found[1] or "1")
-        if count == 0:
-            raise Stopped("GO 0: a statement is sent once at least", REFUSED)
-        for _ in range(count):
-            yield "".join(batch)
-        batch.clear()
-    yield "".join(batch)
+    yield Batch("".join(batch), 1)
+
+
+def times_of(digits: str) -> int:
+    """The number of a GO."""
+    digits = digits.lstrip("0") or "0"
+    if digits == "0":
+        raise Stopped("GO 0: a statement is sent once at least", REFUSED)
+    if len(digits) > len(str(MOST_TIMES)) or int(digits) > MOST_TIMES:
+        raise Stopped(f"GO {digits[:20]}: a statement is sent {MOST_TIMES} times at most", REFUSED)
+    return int(digits)
 
 
 def lines_of(file: BinaryIO, name: str) -> Iterator[str]:
@@ -63,7 +78,7 @@ def lines_of(file: BinaryIO, name: str) -> Iterator[str]:
         yield text
 
 
-def batches_of(path: str) -> list[str]:
+def batches_of(path: str) -> list[Batch]:
     try:
         with open(path, "rb") as file:
             return list(batches(lines_of(file, path)))
@@ -74,30 +89,40 @@ def batches_of(path: str) -> list[str]:
 def statements_of(asked: argparse.Namespace) -> Iterator[str]:
     """The statements to send. Those of arguments and files are read before the first is handed out, and those of standard
     input too where they go to one file, which has room for one."""
+    found: Iterable[Batch]
     if asked.statements:
-        found = asked.statements
+        found = [Batch(statement, 1) for statement in asked.statements]
     elif asked.input:
         found = [batch for path in asked.input for batch in batches_of(path)]
     else:
         found = batches(lines_of(os.fdopen(needed(STANDARD_INPUT), "rb", closefd=False), STREAMS[STANDARD_INPUT]))
         found = list(found) if asked.output and "{}" not in asked.output else found
     if isinstance(found, list):
-        found = [statement for statement in found if statement.strip()]
+        found = [batch for batch in found if batch.statement.strip()]
         check(found, asked)
-    return (statement for statement in found if statement.strip())
+    return (it.statement for it in found if it.statement.strip() for _ in range(it.times))
 
 
-def check(statements: list[str], asked: argparse.Namespace) -> None:
+def check(found: list[Batch], asked: argparse.Namespace) -> None:
     """Refuses what can be known before anything is sent: statements that are no text, and outputs that can't be opened."""
-    for statement in statements:
-        encoded(statement)
-    if asked.output and "{}" not in asked.output and len(statements) > 1:
-        raise Stopped(f"{len(statements)} statements, and one output: a name with {{}} gets the number of each", REFUSED)
-    for number in range(1, len(statements) + 1 if asked.output else 0):
+    for batch in found:
+        encoded(batch.statement)
+    count = sum(batch.times for batch in found)
+    if asked.output and "{}" not in asked.output and count > 1:
+        raise Stopped(f"{count} statements, and one output: a name with {{}} gets the number of each", REFUSED)
+    for number in range(1, min(count, CHECKED_OUTPUTS) + 1 if asked.output else 0):
         path = output_of(asked, number)
+        check_apart(path, asked)
         where = path if os.path.exists(path) else os.path.dirname(path) or "."
         if os.path.isdir(path) or not os.access(where, os.W_OK):
             raise Stopped(f"{path}: can't be written", FAILED)
+
+
+def check_apart(path: str, asked: argparse.Namespace) -> None:
+    """Refuses an output from which statements are read: opening it would empty it."""
+    for source in [*(asked.input or []), *([] if asked.input or asked.statements else [STANDARD_INPUT])]:
+        if is_one_file(path, source):
+            raise Stopped(f"{path}: the statements are read from it", REFUSED)
 
 
 def encoded(statement: str) -> bytes:
@@ -120,6 +145,7 @@ def opened(asked: argparse.Namespace, number: int) -> Iterator[int]:
         yield STANDARD_OUTPUT
         return
     path = output_of(asked, number)
+    check_apart(path, asked)
     try:
         descriptor = os.open(path, os.O_WRONLY | os.O_CREAT | os.O_TRUNC | os.O_CLOEXEC, 0o666)
     except OSError as failure:
@@ -226,6 +252,8 @@ def answer(session: Session, statement: str, run: Run, interrupt: Interrupt) -> 
     ending = run.end()
     if interrupt.came:
         raise Stopped(ending.line_after(finished(session)), INTERRUPTED)
+    if ending.status == DONE and session.unfinished:
+        return ending._replace(status=SERVER_ERROR, notes=f"{ending.notes}{session.unfinished}\n")
     return ending
 
 
@@ -253,6 +281,7 @@ def ask(asked: argparse.Namespace, statements: Iterator[str], password: str) -> 
             tell_all(ending.notes)
             if ending.status:
                 return ending.status
+        session.check_used()
     return 0
 
 
@@ -261,7 +290,8 @@ def session_of(asked: argparse.Namespace, password: str) -> Session:
     try:
         return connection.log_in_to(
             host, user=asked.user, password=password, port=port, database=asked.database, encrypt=asked.encrypt,
-            certificates=asked.certificates, trust_server=asked.trust_server, packet_size=asked.packet_size, seconds=asked.seconds)
+            certificates=asked.certificates, certificate_name=asked.certificate_name or "", trust_server=asked.trust_server,
+            packet_size=asked.packet_size, seconds=asked.seconds)
     except ValueError as refused:
         raise Stopped(str(refused), REFUSED) from None
 
@@ -291,10 +321,11 @@ def arguments(words: list[str]) -> argparse.Namespace:
     add("-No", dest="encrypt", action="store_const", const="login", help="as --encrypt login")
     add("-C", "--trust-server", action="store_true", help="don't verify the certificate: anyone between can read all")
     add("--certificates", metavar="FILE", help="authorities to trust in place of the system's, in PEM")
+    add("--certificate-name", metavar="NAME", help="that the certificate has, without it HOST; also that of a server to which HOST redirects")
     add("--seconds", metavar="N", type=number_in(1, 86400), default=connection.SECONDS,
         help=f"the longest that the server may be silent, 1 to 86400, without it {connection.SECONDS}")
-    add("--packet-size", metavar="N", type=number_in(tds.LEAST_PACKET_SIZE, tds.GREATEST_PACKET_SIZE), default=connection.PACKET_SIZE,
-        help=f"bytes asked for, 512 to 32767, without it {connection.PACKET_SIZE}")
+    add("--packet-size", metavar="N", type=number_in(tds.LEAST_PACKET_SIZE, tds.GREATEST_PACKET_SIZE), default=program.PACKET_SIZE_ASKED,
+        help=f"bytes asked for, 512 to 32767, without it {program.PACKET_SIZE_ASKED}")
     add_options_of_program(parser)
     add("statements", metavar="STATEMENT", nargs="*")
     asked = parser.parse_args(words)
@@ -313,7 +344,7 @@ def asked_password(user: str) -> str:
 
     try:
         return getpass.getpass(f"Password of {user}: ")
-    except EOFError:
+    except (EOFError, UnicodeError):
         raise Stopped("no password", REFUSED) from None
 
 
