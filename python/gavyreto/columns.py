@@ -59,9 +59,9 @@ class Type(NamedTuple):
         return self.byte in (DataType.XML, DataType.UDT) or self.byte in LONG and self.length == MAX
 
     def sql(self) -> str:
-        """As SQL writes it, for example `decimal(18,4)`. Raises KeyError for a type that no server of today sends."""
-        if self.byte in SIZED:
-            return SIZED[self.byte][self.length or 0]
+        """As SQL writes it, for example `decimal(18,4)`. Raises ValueError for a type that no server of today sends."""
+        if self.byte in SIZED and self.length in SIZED[self.byte]:
+            return SIZED[self.byte][self.length]
         if self.byte in (DataType.DECIMAL, DataType.NUMERIC):
             return f"{'decimal' if self.byte == DataType.DECIMAL else 'numeric'}({self.precision},{self.scale})"
         if self.byte in SCALED:
@@ -69,7 +69,11 @@ class Type(NamedTuple):
         if self.byte in LENGTHY:
             units = (self.length or 0) // (2 if self.byte in (DataType.NVARCHAR, DataType.NCHAR) else 1)
             return f"{LENGTHY[self.byte]}({'max' if self.length == MAX else units})"
-        return self.name if self.byte == DataType.UDT else NAMES[self.byte]
+        if self.byte == DataType.UDT:
+            return self.name
+        if self.byte not in NAMES:
+            raise ValueError(f"no type of a column: 0x{self.byte:02x}" + (f" of {self.length} bytes" if self.byte in SIZED else ""))
+        return NAMES[self.byte]
 
 
 class Column(NamedTuple):

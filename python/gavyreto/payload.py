@@ -31,7 +31,7 @@ class Payload:
         self._read, self._hand_on = read, hand_on
 
     def packet(self) -> bool:
-        """Reads a packet. False after the last one. Raises Ended if it isn't whole."""
+        """Reads a packet. False after the last one. Raises Ended if it isn't whole, and ValueError if it is none of an answer."""
         if self.is_over:
             return False
         header = tds.read_fully(self._read, tds.HEADER)
@@ -39,6 +39,9 @@ class Payload:
         body = tds.read_fully(self._read, length) if len(header) == tds.HEADER else b""
         if self._hand_on:
             self._hand_on(header + body)
+        if len(header) == tds.HEADER and (header[0] != tds.PacketType.ANSWER or length < 0):
+            self.is_over = True
+            raise ValueError(f"no packet of an answer: type 0x{header[0]:02x}, {length + tds.HEADER} bytes")
         if len(header) < tds.HEADER or len(body) != length:
             raise Ended
         self.is_over = bool(header[1] & tds.LAST)
@@ -289,7 +292,7 @@ class Descriptions:
                 with self._changed:
                     self._found.append([column.column() for column in described])
                     self._changed.notify_all()
-        except (ValueError, KeyError, Ended):
+        except (ValueError, Ended):
             pass  # the program says what is wrong
         finally:
             with self._changed:
@@ -298,7 +301,7 @@ class Descriptions:
         try:
             while payload.packet():
                 payload.at = len(payload.data)
-        except Ended:
+        except (Ended, ValueError):
             pass
 
 
@@ -313,6 +316,6 @@ class LateDescriptions(Descriptions):
         try:
             while len(self._found) <= place:
                 self._found.append([column.column() for column in next(self._walk)])
-        except (StopIteration, ValueError, KeyError, Ended, OSError):
+        except (StopIteration, ValueError, Ended, OSError):
             return None
         return self._found[place]

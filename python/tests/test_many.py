@@ -156,7 +156,7 @@ class Here(Many):
             os.utime(file, ns=(1, os.stat(self.path("before")).st_mtime_ns))
 
         changes: list[tuple[Callable[[], None], tuple[str, ...]]] = [
-            (lambda: None, ("--charset", "utf-8")), (lambda: None, ()), (lambda: None, ("--column-room", "100000")), (lambda: None, ()),
+            (lambda: None, ("--column-room", "90000")), (lambda: None, ()), (lambda: None, ("--column-room", "100000")), (lambda: None, ()),
             (replaced, ()), (same_time, ()), (lambda: os.truncate(text, 20), ()),
         ]
         for change, words in changes:

@@ -12,7 +12,7 @@ import argparse
 import os
 
 from gavyreto.adapting import Adapter
-from gavyreto.commands.common import BAD_INPUT, STANDARD_INPUT, STANDARD_OUTPUT, Stopped, needed
+from gavyreto.commands.common import BAD_INPUT, FAILED, REFUSED, STANDARD_OUTPUT, STREAMS, Stopped, cause_of, is_one_file, needed, open_response
 from gavyreto.program import CHARSETS, write_all
 
 
@@ -25,10 +25,23 @@ def arguments(words: list[str]) -> argparse.Namespace:
 
 
 def adapt(asked: argparse.Namespace) -> None:
-    source = open(needed(STANDARD_INPUT) if asked.file == "-" else asked.file, "rb", closefd=asked.file != "-")
-    target = needed(STANDARD_OUTPUT) if not asked.output else os.open(asked.output, os.O_WRONLY | os.O_CREAT | os.O_TRUNC, 0o666)
-    with source:
-        Adapter(source.read, lambda data: write_all(target, data), asked.charset).run()
+    out = asked.output or needed(STANDARD_OUTPUT)
+    name = asked.output or STREAMS[STANDARD_OUTPUT]
+    with open_response(asked.file) as source:
+        if is_one_file(out, source.fileno()):
+            raise Stopped(f"{name}: the response is read from it", REFUSED)
+        try:
+            target = out if isinstance(out, int) else os.open(out, os.O_WRONLY | os.O_CREAT | os.O_TRUNC, 0o666)
+        except OSError as failure:
+            raise Stopped(f"{name}: {cause_of(failure)}", FAILED) from None
+
+        def write(data: bytes) -> None:
+            try:
+                write_all(target, data)
+            except OSError as failure:
+                raise Stopped(f"{name}: {cause_of(failure)}", FAILED) from None
+
+        Adapter(source.read, write, asked.charset).run()
 
 
 def run(words: list[str]) -> int:

@@ -11,7 +11,7 @@ import argparse
 from typing import IO
 
 from gavyreto.columns import TABLES, Column, create_table
-from gavyreto.commands.common import BAD_INPUT, FAILED, REFUSED, STANDARD_INPUT, STANDARD_OUTPUT, Stopped, cause_of, line, needed, put
+from gavyreto.commands.common import BAD_INPUT, REFUSED, STANDARD_OUTPUT, Stopped, line, needed, open_response, put
 from gavyreto.payload import Payload, descriptions
 
 HEADER = ("set", "name", "type", "length", "precision", "scale", "nullable")
@@ -48,14 +48,11 @@ def run(words: list[str]) -> int:
     """The command `columns`. Returns its exit status, or raises what ended it."""
     asked = arguments(words)
     needed(STANDARD_OUTPUT)
-    name = "standard input" if asked.file == "-" else asked.file
     try:
-        with open(needed(STANDARD_INPUT) if asked.file == "-" else asked.file, "rb", closefd=asked.file != "-") as file:
+        with open_response(asked.file) as file:
             sets = sets_of(file)
-    except (ValueError, KeyError) as wrong:
+    except ValueError as wrong:
         raise Stopped(f"the response can't be followed: {wrong}", BAD_INPUT) from None
-    except OSError as failure:
-        raise Stopped(f"{name}: {cause_of(failure)}", FAILED) from None
     try:
         put(as_csv(sets) if asked.form == "csv" else as_tables(sets, asked))
     except ValueError as refused:

@@ -6,9 +6,9 @@ import os
 import re
 import stat
 import sys
-from typing import Callable, Iterable, NamedTuple, Optional, Union
+from typing import IO, Callable, Iterable, NamedTuple, Optional, Union
 
-from gavyreto import program
+from gavyreto import program, tds
 from gavyreto.errors import BadAnswer, ConnectionFailed, Fault, Report, ServerError
 from gavyreto.payload import Ended
 
@@ -20,6 +20,16 @@ STANDARD_INPUT, STANDARD_OUTPUT, STANDARD_ERROR = 0, 1, 2
 STREAMS = ("standard input", "standard output", "standard error")
 # Characters that a terminal obeys, that change the direction or the place of others, or that no UTF-8 has.
 CONTROLS = re.compile("[\0-\x1F\x7F-\x9F\u200B-\u200F\u2028-\u202E\u2060-\u206F\uFEFF\uD800-\uDFFF]")
+LONGEST_HEAD = 4096  # bytes by which a file is known
+CAPTURE = "a capture of the network: gavyreto capture reads it"
+BEGINNINGS = {
+    b"\xD4\xC3\xB2\xA1": CAPTURE, b"\xA1\xB2\xC3\xD4": CAPTURE, b"\x4D\x3C\xB2\xA1": CAPTURE, b"\xA1\xB2\x3C\x4D": CAPTURE,
+    b"\x0A\x0D\x0D\x0A": CAPTURE, b"\x1F\x8B": "compressed: gunzip -c gives what is in it", b"\xFD7zXZ": "compressed: xz -dc gives what is in it",
+    b"PK\x03\x04": "compressed: unzip -p gives what is in it", b"BZh": "compressed: bunzip2 -c gives what is in it",
+    b"\x28\xB5\x2F\xFD": "compressed: zstd -dc gives what is in it",
+    bytes([tds.MARS]): "packets within those of MARS: ask without MARS",
+    b'"': "a text that tds_replay wrote, and no packets: gavyreto.read reads it",
+}
 OF_TESTS = "GAVYRETO_TRACEBACK"  # a variable that lets the traceback of an unforeseen exception out
 
 
@@ -125,7 +135,40 @@ def needed(number: int) -> int:
     return number
 
 
-def is_one_file(path: str, other: Union[str, int]) -> bool:
+def open_response(name: str) -> IO[bytes]:
+    """A recorded response, or standard input if its name is "-". Raises `Stopped` if it can't be read, or is something else."""
+    shown = STREAMS[STANDARD_INPUT] if name == "-" else name
+    try:
+        file = open(needed(STANDARD_INPUT) if name == "-" else name, "rb", closefd=name != "-")
+        head = file.peek(LONGEST_HEAD)
+    except OSError as failure:
+        raise Stopped(f"{shown}: {cause_of(failure)}", FAILED) from None
+    other = other_than_response(head)
+    if other:
+        file.close()
+        raise Stopped(f"{shown} is {other}", BAD_INPUT)
+    return file
+
+
+def other_than_response(head: bytes) -> str:
+    """What a file is that begins like this, and what reads it; "" for a response, or if nothing is there."""
+    if not head or head[0] == tds.PacketType.ANSWER:
+        return ""
+    known = next((what for magic, what in BEGINNINGS.items() if head.startswith(magic)), None)
+    if known:
+        return known
+    if head[0] in tds.TLS_RECORDS:
+        return "encrypted: the bytes after decryption are needed"
+    if head[0] in tuple(tds.PacketType):
+        return "what a client sent: the packets of the server are needed"
+    if b"\0" not in head and b"packet" in head:
+        return "the dump of a client of FreeTDS: gavyreto capture reads it"
+    if all(byte >= 0x20 or byte in b"\t\r\n" for byte in head):
+        return "a text, and no packets"
+    return f"no response: its first byte is 0x{head[0]:02x}, and that of a packet of a server is 0x04"
+
+
+def is_one_file(path: Union[str, int], other: Union[str, int]) -> bool:
     """Whether two names, or a name and a descriptor, are one file. A device or a pipe is read and written without harm."""
     try:
         found, read = os.stat(path), os.stat(other)
