@@ -34,7 +34,7 @@ from gavyreto.values import value_of
 
 TABLE = "outcomes.csv"
 TEXT, PARTIAL = ".csv", ".csv.partial"  # behind the name of a file, that of its text
-SECONDS_OF_SCHEDULER = 30  # the longest that it may be silent
+SECONDS_OF_SCHEDULER = 30  # the longest that it may be silent, or that its file is waited for
 LONGEST_LINE = 1 << 16  # bytes of a line of the table, more than any has
 
 
@@ -238,18 +238,23 @@ class Cluster:
 
     def __init__(self, where: str) -> None:
         self._where = where
-        if os.path.exists(where):
-            self._how: dict[str, Any] = {"scheduler_file": where}
-        elif re.search(r"[^/:]:\d+$", where):
-            self._how = {"address": where}
-        else:
-            raise Stopped(f"{where} is neither an address with a port nor a file that is there", REFUSED)
+        is_address = re.search(r"[^/:]:\d+$", where) is not None and not os.path.exists(where)
+        self._how: dict[str, Any] = {"address": where} if is_address else {"scheduler_file": where}
+
+    def _wait_for_file(self) -> None:
+        """Waits for the file that a scheduler writes once it has begun."""
+        until = time.monotonic() + SECONDS_OF_SCHEDULER
+        while "scheduler_file" in self._how and not os.path.exists(self._where):
+            if time.monotonic() > until:
+                raise Stopped(f"{self._where} is neither an address with a port nor the file of a scheduler", REFUSED)
+            time.sleep(0.1)
 
     def __enter__(self) -> Cluster:
         for name in ("distributed", "distributed.client", "asyncio", "tornado.application"):
             logging.getLogger(name).setLevel(logging.CRITICAL)  # a worker that was lost, or is slow to leave, is seen by its responses
         from distributed import Client
 
+        self._wait_for_file()
         try:
             self._client = Client(**self._how, timeout=SECONDS_OF_SCHEDULER)  # type: ignore[no-untyped-call]
         except (OSError, ValueError, KeyError) as failure:
