@@ -250,7 +250,7 @@ class SlowReaders(Live):
                 pass
 
         with listening(serve) as port:
-            run = subprocess.Popen(command_for(port, "--seconds", "1", "SELECT 1"), stdout=subprocess.PIPE, stderr=subprocess.PIPE, **started())
+            run = subprocess.Popen(command_for(port, "--seconds", "1", "SELECT 1"), bufsize=0, stdout=subprocess.PIPE, stderr=subprocess.PIPE, **started())
             assert run.stdout
             text = run.stdout.read(1)
             threading.Event().wait(2.5)

@@ -2,6 +2,7 @@
 from __future__ import annotations
 
 import argparse
+import codecs
 import os
 import re
 import stat
@@ -27,7 +28,6 @@ BEGINNINGS = {
     b"\x0A\x0D\x0D\x0A": CAPTURE, b"\x1F\x8B": "compressed: gunzip -c gives what is in it", b"\xFD7zXZ": "compressed: xz -dc gives what is in it",
     b"PK\x03\x04": "compressed: unzip -p gives what is in it", b"BZh": "compressed: bunzip2 -c gives what is in it",
     b"\x28\xB5\x2F\xFD": "compressed: zstd -dc gives what is in it",
-    bytes([tds.MARS]): "packets within those of MARS: ask without MARS",
     b'"': "a text that tds_replay wrote, and no packets: gavyreto.read reads it",
 }
 OF_TESTS = "GAVYRETO_TRACEBACK"  # a variable that lets the traceback of an unforeseen exception out
@@ -157,15 +157,23 @@ def other_than_response(head: bytes) -> str:
     known = next((what for magic, what in BEGINNINGS.items() if head.startswith(magic)), None)
     if known:
         return known
+    if _is_text(head):
+        return "the dump of a client of FreeTDS: gavyreto capture reads it" if b"packet" in head else "a text, and no packets"
+    if head[0] == tds.MARS:
+        return "packets within those of MARS: ask without MARS"
     if head[0] in tds.TLS_RECORDS:
         return "encrypted: the bytes after decryption are needed"
     if head[0] in tuple(tds.PacketType):
         return "what a client sent: the packets of the server are needed"
-    if b"\0" not in head and b"packet" in head:
-        return "the dump of a client of FreeTDS: gavyreto capture reads it"
-    if all(byte >= 0x20 or byte in b"\t\r\n" for byte in head):
-        return "a text, and no packets"
     return f"no response: its first byte is 0x{head[0]:02x}, and that of a packet of a server is 0x04"
+
+
+def _is_text(head: bytes) -> bool:
+    """Whether bytes are the beginning of a text in UTF-8."""
+    try:
+        return not re.search("[^\t\r\n -\x7E\xA0-\U0010FFFF]", codecs.getincrementaldecoder("utf-8")().decode(head))
+    except UnicodeDecodeError:
+        return False
 
 
 def is_one_file(path: Union[str, int], other: Union[str, int]) -> bool:
