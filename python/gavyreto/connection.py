@@ -10,7 +10,7 @@ from typing import Any, NamedTuple, Optional, Union
 
 from gavyreto import tds
 from gavyreto.errors import BadAnswer, ConnectionFailed, ServerError
-from gavyreto.program import PACKET_SIZE_ASKED, Write
+from gavyreto.program import Write
 from gavyreto.tds import Encryption, PacketType
 
 PORT = 1433
@@ -372,9 +372,8 @@ class Session:
 
 
 def log_in_to(
-    server: str, *, user: str, password: str, port: int = PORT, database: str = "", encrypt: str = ENCRYPT[0],
-    certificates: Optional[str] = None, certificate_name: str = "", trust_server: bool = False,
-    packet_size: int = PACKET_SIZE_ASKED, seconds: int = SECONDS,
+    server: str, *, user: str, password: str, port: int, database: str, encrypt: str, certificates: Optional[str], certificate_name: str,
+    trust_server: bool, packet_size: int, seconds: int,
 ) -> Session:
     """Connects to a server, and logs in by SQL authentication: what `gavyreto.connect` does with the same arguments."""
     if encrypt not in ENCRYPT:

@@ -15,6 +15,7 @@ from gavyreto.errors import Error, Fault, ProgramFailed, Report, ServerError, Un
 from gavyreto.program import CHARSETS, COLUMN_ROOM, MAX_WIRE, PACKET_SIZE, PROGRAM, Write, command_of, report_of, widen, write_all
 from gavyreto.payload import Descriptions, LateDescriptions, Payload, Read
 from gavyreto.text import Sets
+from gavyreto.values import Dates
 
 
 class Readable(Protocol):
@@ -32,6 +33,7 @@ class HeldFile:
     """A descriptor of its own of an open file, from whose place on it is read, whoever else reads the file."""
 
     def __init__(self, descriptor: int) -> None:
+        self.descriptor = -1
         self.descriptor = os.dup(descriptor)
         self._start = self._at = os.lseek(descriptor, 0, os.SEEK_CUR)
 
@@ -47,6 +49,9 @@ class HeldFile:
         if self.descriptor >= 0:
             os.close(self.descriptor)
             self.descriptor = -1
+
+    def __del__(self) -> None:
+        self.close()
 
 
 class Feeding:
@@ -75,7 +80,7 @@ class Response(Sets):
     """The result sets of a response, while the program reads it."""
 
     def __init__(
-        self, program: subprocess.Popen[bytes], dates: bool, descriptions: Descriptions, *, copy: Optional[Copy] = None,
+        self, program: subprocess.Popen[bytes], dates: Dates, descriptions: Descriptions, *, copy: Optional[Copy] = None,
         tail: Tail, held: Optional[HeldFile] = None,
     ) -> None:
         self.report: Optional[Report] = None  #: once all is read and the server reported no error
@@ -90,8 +95,8 @@ class Response(Sets):
 
     def _release(self) -> None:
         """Ends the program if it still runs, in the middle of the response then."""
-        if self._held:
-            self._held.close()
+        if self._held and (self._is_closed or self._failure):
+            self._held.close()  # at the end of the response its descriptions may still be asked for
         if self._program.poll() is None:
             self._program.kill()
         self._program.wait()
@@ -104,8 +109,9 @@ class Response(Sets):
         said = report_of(notes)
         if isinstance(said, Fault):
             said.rest = rest
-        if self._feeding and (not isinstance(said, Fault) or said.name == "InputEnded"):
-            self._judge_feeding(self._feeding)
+        is_all_read = isinstance(said, (Report, ServerError)) or isinstance(said, Fault) and said.name == "InputEnded"
+        if self._feeding and (is_all_read or said is None):
+            self._judge_feeding(self._feeding, is_all_read)
         self.is_whole = isinstance(said, (Report, ServerError))
         if isinstance(said, Error):
             self._raise(said)
@@ -119,9 +125,10 @@ class Response(Sets):
         """What there is to say of an answer that the server ended as cancelled or failed."""
         return tds.unfinished(bytes(self._tail()))
 
-    def _judge_feeding(self, feeding: Feeding) -> None:
+    def _judge_feeding(self, feeding: Feeding, is_all_read: bool) -> None:
         """Raises what ended the feeding of the program before the response was over."""
-        feeding.join()
+        if is_all_read:
+            feeding.join()
         if isinstance(feeding.error, Error):
             self._raise(feeding.error)
         if feeding.error:
@@ -144,7 +151,7 @@ def started(command: list[str], source: int) -> subprocess.Popen[bytes]:
 
 
 def export(
-    source: Source, *, dates: bool = False, packet_size: int = PACKET_SIZE, column_room: int = COLUMN_ROOM,
+    source: Source, *, dates: Dates = False, packet_size: int = PACKET_SIZE, column_room: int = COLUMN_ROOM,
     max_wire: int = MAX_WIRE, charset: str = CHARSETS[0], program: str = PROGRAM,
 ) -> Response:
     """Runs the program on one response, and returns an iterator over its result sets.
@@ -152,7 +159,8 @@ def export(
     source       the packets: the path of a file, the bytes themselves, or an open binary file, socket or descriptor, of
                  which exactly one response is read, from where it is. A descriptor, an unbuffered file and a socket have to
                  block
-    dates        whether dates, times and GUIDs become date, time, datetime and UUID
+    dates        True if dates, times and GUIDs become date, time, datetime and UUID, but for columns of seven digits of a
+                 second; "truncate" if these do too, and lose the seventh
     packet_size  the greatest packet that is read, in bytes, 512 to 32767
     column_room  the room for the encoded description of columns, in bytes, 10 to 67108864
     max_wire     the most bytes of packets that are read, 8 to 2**56
@@ -172,7 +180,7 @@ def export(
     return _fed(_read_of(source), command, dates)
 
 
-def _of_bytes(data: bytes, command: list[str], dates: bool) -> Response:
+def _of_bytes(data: bytes, command: list[str], dates: Dates) -> Response:
     def tail() -> bytes:
         return tds.tail_of(lambda most, place: data[place:place + most])
 
@@ -180,13 +188,13 @@ def _of_bytes(data: bytes, command: list[str], dates: bool) -> Response:
     return Response(started(command, subprocess.PIPE), dates, found, copy=lambda write: cast(None, write(data)), tail=tail)
 
 
-def _of_path(path: Union[str, os.PathLike[str]], command: list[str], dates: bool) -> Response:
+def _of_path(path: Union[str, os.PathLike[str]], command: list[str], dates: Dates) -> Response:
     """A response in a file or in a pipe with a name."""
     with open(path, "rb", buffering=0) as file:
         return _of_descriptor(file.fileno(), command, dates)
 
 
-def _of_descriptor(descriptor: int, command: list[str], dates: bool) -> Response:
+def _of_descriptor(descriptor: int, command: list[str], dates: Dates) -> Response:
     """A response in a file, which the program reads, and which is read here again for its descriptions and its end; or one
     that comes by a pipe or a socket."""
     if not stat.S_ISREG(os.fstat(descriptor).st_mode):
@@ -196,7 +204,7 @@ def _of_descriptor(descriptor: int, command: list[str], dates: bool) -> Response
     return Response(started(command, held.descriptor), dates, LateDescriptions(held.read), tail=held.tail, held=held)
 
 
-def _fed(read: Read, command: list[str], dates: bool) -> Response:
+def _fed(read: Read, command: list[str], dates: Dates) -> Response:
     """A response whose packets are read here, and handed to the program."""
     found, tails = Descriptions(), list[Callable[[], bytes]]()
 

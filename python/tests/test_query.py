@@ -533,7 +533,7 @@ class FromPython(Live):
             came = self.asked(
                 f"with gavyreto.query('SELECT * FROM sets', 'localhost', encrypt='{encrypt}', **own, **run) as answer:\n"
                 "    print([(one.names, list(one)) for one in answer], answer.report.rows)\n")
-            wanted = "[(['id', 'note'], [[1, 'first\\r\\n\\r\\nthird line'], [2, None]]), (['total'], [[Decimal('12.50')]]), (['id'], [])] 3\n"
+            wanted = "[(['id', 'note'], [(1, 'first\\r\\n\\r\\nthird line'), (2, None)]), (['total'], [(Decimal('12.50'),)]), (['id'], [])] 3\n"
             self.assert_ends(came, 0, wanted.encode())
 
     def test_statements_on_one_connection(self) -> None:
