@@ -5,7 +5,6 @@ from __future__ import annotations
 import contextlib
 import os
 import socket
-import ssl
 import subprocess
 import sys
 import threading
@@ -16,7 +15,7 @@ import gavyreto
 from gavyreto import tds
 from gavyreto.connection import Channel
 from gavyreto.tds import Encryption, PacketType
-from tests.beside import ORDERS, PROGRAM, SECONDS, Live, answered, ask_port, command_for, listening, log_in, responses, started, wire
+from tests.beside import ORDERS, PROGRAM, SECONDS, Live, answered, ask_port, command_for, context_of, listening, log_in, responses, started, wire
 
 UNASKED = "the server sent bytes that weren't asked for"
 REPORT = f"sets 1 rows 3 errors 0 infos 0 written {len(ORDERS)}"
@@ -46,9 +45,7 @@ class BeforeEncryption(Live):
 
     def asked(self, forged: bytes) -> subprocess.CompletedProcess[bytes]:
         certificate = self.server(()).variables["CERTIFICATE"]
-        context = ssl.SSLContext(ssl.PROTOCOL_TLS_SERVER)
-        context.maximum_version = ssl.TLSVersion.TLSv1_2
-        context.load_cert_chain(certificate, os.path.join(os.path.dirname(certificate), "key.pem"))
+        context = context_of(certificate)
 
         def serve(channel: Channel) -> None:
             forger = Forger(channel, forged)
