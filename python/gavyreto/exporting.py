@@ -68,7 +68,7 @@ def _exported(file: str, waiting: str, command: list[str]) -> Outcome:
         if not stat.S_ISREG(found.st_mode):
             return Outcome(file, FAILED, f"cannot read {file}: no regular file")
         with open(waiting, "xb") as out:
-            done = subprocess.run([*command, "--", file], stdin=subprocess.DEVNULL, stdout=out, stderr=subprocess.PIPE, check=False)
+            done = subprocess.run([*command, "--", _argument_for(file)], stdin=source, stdout=out, stderr=subprocess.PIPE, check=False)
             os.fsync(out.fileno())
             written = os.fstat(out.fileno()).st_size
         ending = judged(done.returncode, done.stderr.decode("utf-8", "replace"), written)
@@ -81,6 +81,15 @@ def _exported(file: str, waiting: str, command: list[str]) -> Outcome:
         return Outcome(file, status, line, waiting, written, stamp_of(found), version_of(command[0]))
     finally:
         os.close(source)
+
+
+def _argument_for(file: str) -> str:
+    """A file as the program takes it, whose arguments are UTF-8: by its name, or as its standard input."""
+    try:
+        file.encode()
+        return file
+    except UnicodeEncodeError:
+        return "/dev/stdin"
 
 
 @functools.lru_cache(maxsize=None)

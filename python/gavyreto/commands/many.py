@@ -113,6 +113,9 @@ class Table:
         os.replace(out.name, self._path)
         self._descriptor = os.open(self._path, os.O_WRONLY | os.O_APPEND | os.O_CLOEXEC)
 
+    def close(self) -> None:
+        os.close(self._descriptor)
+
     def add(self, outcome: Outcome) -> None:
         """Gives a text its name, takes away the one that was there before, and writes the line."""
         name = os.path.basename(outcome.file)
@@ -294,19 +297,28 @@ class Cluster:
             return Outcome(file, FAILED, f"the scheduler {self._where} was lost")
 
 
-def lock(folder: str) -> None:
-    """Keeps a folder of texts for this command until it ends. Raises `Stopped` if another one has it."""
+@contextlib.contextmanager
+def locked(folder: str) -> Iterator[None]:
+    """Keeps a folder of texts for this command. Raises `Stopped` if another one has it."""
+    descriptor = os.open(folder, os.O_RDONLY)
     try:
-        fcntl.flock(os.open(folder, os.O_RDONLY), fcntl.LOCK_EX | fcntl.LOCK_NB)
+        fcntl.flock(descriptor, fcntl.LOCK_EX | fcntl.LOCK_NB)
+        yield
     except BlockingIOError:
         raise Stopped(f"{folder}: another command writes its texts there", REFUSED) from None
+    finally:
+        os.close(descriptor)
 
 
 def export_all(asked: argparse.Namespace) -> int:
     """Exports what isn't done, and returns the greatest status."""
     files = files_of(asked)
     os.makedirs(asked.out, exist_ok=True)
-    lock(asked.out)
+    with locked(asked.out):
+        return export_left(files, asked)
+
+
+def export_left(files: list[str], asked: argparse.Namespace) -> int:
     command = program.command_of(asked.program, program.PACKET_SIZE, asked.column_room, program.MAX_WIRE, asked.charset)
     place: Union[Here, Cluster] = Cluster(asked.scheduler) if asked.scheduler else Here(asked.jobs)
     with place:
@@ -321,6 +333,7 @@ def export_all(asked: argparse.Namespace) -> int:
                 failed += outcome.status not in (DONE, SERVER_ERROR)
                 progress.step(failed)
         finally:
+            table.close()
             progress.end()
             remove_unfinished(asked.out)
     return summed(files, table)
