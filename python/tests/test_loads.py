@@ -22,10 +22,10 @@ import packages  # noqa: E402
 
 NULL = "(null)"  # what stands for NULL in what PostgreSQL writes, since a value may be the text NULL
 
-def kinds() -> tuple[list[Column], list[gavyreto.Row]]:
+def kinds() -> tuple[list[Column], list[list[Value]]]:
     """The columns and the rows of a response with every kind: usual values, extreme ones, and NULL."""
     rows = gavyreto.export(wire("kinds"), program=PROGRAM).only()
-    return rows.columns or [], list(rows)
+    return rows.columns or [], [list(row) for row in rows]
 
 
 def copied(value: Value) -> str:
