@@ -284,6 +284,35 @@ class Here(Many):
         self.assert_texts([])
 
 
+    def test_a_full_disk_for_the_table(self) -> None:
+        self.store(0, **{f"{number:03}": tds.packet(4, tds.done()) for number in range(40)})
+        command = f"ulimit -f 8; trap '' XFSZ; exec {sys.executable} -m gavyreto many -j 1 --program {PROGRAM} in out"
+        came = subprocess.run(["sh", "-c", command], cwd=self.folder, capture_output=True, check=False, **started())
+        self.assertEqual((came.returncode, came.stdout, came.stderr.decode()), (5, b"", f"{self.path('out', 'outcomes.csv')}: File too large\n"))
+        self.assertEqual(self.many("--program", PROGRAM, "in", "out")[0], 0)
+        self.assertEqual(len(self.table()), 40)
+
+
+class NoCluster(Many):
+    def test_a_scheduler_that_is_not_there(self) -> None:
+        """A file that doesn't come, one that is none, and an address where nobody is."""
+        if not packages.has_module(packages.DEBIAN_PYTHON, "distributed"):
+            skip(self, "Python's module distributed isn't there: `make needs` installs it")
+        self.store(1)
+        with open(self.path("text"), "w", encoding="ascii") as file:
+            file.write("no scheduler")
+        script = "import sys; from gavyreto.commands import common, many; from gavyreto import __main__; many.SECONDS_OF_SCHEDULER = 2; sys.exit(__main__.ended(sys.argv[1:]))"
+        for where, status, line in (
+            ("nothere", 2, "nothere is neither an address with a port nor the file of a scheduler\n"), ("127.0.0.1", 2, "127.0.0.1 is neither an address"),
+            ("text", 5, "the scheduler text can't be reached: "), ("tcp://127.0.0.1:9", 5, "the scheduler tcp://127.0.0.1:9 can't be reached: "),
+        ):
+            command = [packages.DEBIAN_PYTHON, "-c", script, "many", "--scheduler", where, "--program", PROGRAM, "in", "out"]
+            came = subprocess.run(command, cwd=self.folder, capture_output=True, check=False, timeout=SECONDS, **started())
+            with self.subTest(where=where):
+                self.assertEqual((came.returncode, came.stdout, came.stderr.count(b"\n")), (status, b"", 1), came.stderr.decode())
+                self.assertTrue(came.stderr.decode().startswith(line), came.stderr)
+
+
 class OnCluster(Many):
     """On a cluster of a scheduler and two workers on this machine."""
 
@@ -292,7 +321,7 @@ class OnCluster(Many):
         need(self, "dask-scheduler", "dask-worker")
         if not packages.has_module(packages.DEBIAN_PYTHON, "distributed"):
             skip(self, "Python's module distributed isn't there: `make needs` installs it")
-        self.start("dask-scheduler", "--port", "0", "--no-dashboard")
+        self.scheduler = self.start("dask-scheduler", "--port", "0", "--no-dashboard")
         self.workers = [self.start("dask-worker", "--nthreads", "1", "--no-nanny", "--no-dashboard", "--local-directory", name) for name in ("one", "two")]
 
     def start(self, *words: str) -> subprocess.Popen[bytes]:
@@ -303,6 +332,19 @@ class OnCluster(Many):
         self.addCleanup(process.wait)
         self.addCleanup(process.kill)
         return process
+
+    def test_a_scheduler_that_dies(self) -> None:
+        """What it had is told as failed, in the table and by the status, and nothing is said besides."""
+        self.store(60)
+        words = ["--scheduler", "scheduler.json", "--program", self.script('sleep 0.1; exec "$PROGRAM" "$@"'), "in", "out"]
+        with self.begin(*words, python=packages.DEBIAN_PYTHON) as process:
+            self.wait_for(lambda: len(self.table()) >= 5)
+            self.scheduler.kill()
+            said = process.communicate(timeout=SECONDS)[1].decode().splitlines()
+        self.assertEqual((process.returncode, len(said)), (5, 1), said)
+        statuses = [status for _, status, _ in self.table()]
+        self.assertEqual((len(statuses), set(statuses)), (60, {0, 5}))
+        self.assertEqual(said, [f"60 responses: {statuses.count(0)} done, 0 with an error of the server, 0 refused, {statuses.count(5)} failed"])
 
     def test_a_worker_that_is_killed_costs_nothing(self) -> None:
         names = self.store(100, failed=ERROR, refused=FLOAT)

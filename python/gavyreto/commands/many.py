@@ -253,14 +253,14 @@ class Cluster:
             time.sleep(0.1)
 
     def __enter__(self) -> Cluster:
-        for name in ("distributed", "distributed.client", "asyncio", "tornado.application"):
-            logging.getLogger(name).setLevel(logging.CRITICAL)  # a worker that was lost, or is slow to leave, is seen by its responses
         from distributed import Client
 
+        for name in ("distributed", "distributed.client", "asyncio", "tornado.application"):
+            logging.getLogger(name).setLevel(logging.CRITICAL)  # a worker that was lost, or is slow to leave, is seen by its responses
         self._wait_for_file()
         try:
             self._client = Client(**self._how, timeout=SECONDS_OF_SCHEDULER)  # type: ignore[no-untyped-call]
-        except (OSError, ValueError, KeyError) as failure:
+        except Exception as failure:  # of several kinds, if the file has something else
             cause = cause_of(failure) if isinstance(failure, OSError) else str(failure)
             raise Stopped(f"the scheduler {self._where} can't be reached: {cause}", FAILED) from None
         return self
