@@ -30,10 +30,10 @@ own offset. A row is a tuple, and `row.name` is its value in the column `name`.
 Python 3.9 or later, standard library alone. `python3 -m gavyreto` has commands for a terminal."""
 from __future__ import annotations
 
-import importlib
-from typing import TYPE_CHECKING, Any
-
+TYPE_CHECKING = False  # as typing has it, which isn't imported for it: a command begins with this module
 if TYPE_CHECKING:
+    from typing import Any
+
     from gavyreto.client import Connection, connect, query
     from gavyreto.errors import (
         BadAnswer, ConnectionFailed, Error, Fault, MalformedText, NotOneSet, PassedOver, ProgramFailed, Report, ServerError,
@@ -55,6 +55,8 @@ _MODULES = ["errors", "version", "values", "rows", "text", "response", "client"]
 
 def __getattr__(name: str) -> Any:
     """A name of `__all__`, imported when it is first asked for: so a command imports no more than it uses."""
+    import importlib
+
     if name in __all__:
         for module in _MODULES:
             found = importlib.import_module(f"gavyreto.{module}")

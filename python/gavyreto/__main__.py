@@ -4,7 +4,6 @@ from __future__ import annotations
 import os
 import signal
 import sys
-from typing import NoReturn, Optional
 
 INTERRUPTED = 130
 
@@ -22,6 +21,7 @@ if __name__ == "__main__" and signal.getsignal(signal.SIGINT) is signal.default_
     signal.signal(signal.SIGINT, _interrupted)
 
 import importlib  # noqa: E402
+from typing import NoReturn, Optional  # noqa: E402
 
 from gavyreto.commands import common  # noqa: E402
 from gavyreto.version import __version__  # noqa: E402
