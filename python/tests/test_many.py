@@ -247,6 +247,11 @@ class Here(Many):
         self.assertEqual((status, line), (2, f"000.csv is the text of {self.path('in', '000')}: export {self.path('other', '000')} to another folder"))
         self.assertEqual(self.many("--program", PROGRAM, "in", "out")[0], 0)
         self.assert_texts(["000"])
+        with open(self.path("out", "000.csv.partial"), "wb") as file:
+            file.write(ERROR)
+        status, line = self.many("--program", PROGRAM, "in", "out/000.csv.partial", "out")
+        self.assertEqual((status, line), (2, f"000.csv.partial would be the text of {self.path('in', '000')}, and is a file to export: name another folder"))
+        os.remove(file.name)
         self.store(0, outcomes=KINDS)
         status, line = self.many("--program", PROGRAM, "in", "out")
         self.assertEqual((status, line), (2, f"{self.path('in', 'outcomes')}: its text would have the name of the table, outcomes.csv: give the file another name"))

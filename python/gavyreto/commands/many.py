@@ -85,11 +85,14 @@ class Table:
     def check(self, files: list[str]) -> None:
         """Refuses files whose text has the name of the table, or of a text of another file."""
         of = {record.text: record.file for record in self.records.values() if record.text}
+        inputs = set(files)
         for file in files:
             name = os.path.basename(file)
             if name + TEXT == TABLE:
                 raise Stopped(f"{file}: its text would have the name of the table, {TABLE}: give the file another name", REFUSED)
             for text in (name + TEXT, name + PARTIAL):
+                if os.path.join(self._folder, text) in inputs:
+                    raise Stopped(f"{text} would be the text of {file}, and is a file to export: name another folder", REFUSED)
                 if of.get(text, file) != file and os.path.exists(os.path.join(self._folder, text)):
                     raise Stopped(f"{text} is the text of {of[text]}: export {file} to another folder", REFUSED)
 
@@ -105,9 +108,9 @@ class Table:
             return False
 
     def begin(self, files: list[str]) -> None:
-        """Leaves out the lines of files that are to be done again, and goes on behind the others."""
-        for file in files:
-            self.records.pop(file, None)
+        """Leaves out the lines of files that are to be done again, and of texts that they get, and goes on behind the others."""
+        again, texts = set(files), {os.path.basename(file) + end for file in files for end in (TEXT, PARTIAL)}
+        self.records = {file: record for file, record in self.records.items() if file not in again and record.text not in texts}
         with open(self._path + UNFINISHED, "wb") as out:
             out.write(HEADER + b"".join(map(_line_of, self.records.values())))
         os.replace(out.name, self._path)
