@@ -73,7 +73,8 @@ def main(words: Optional[list[str]] = None) -> NoReturn:
     status = ended(sys.argv[1:] if words is None else words)
     try:
         sys.stdout.flush()
-    except (OSError, ValueError):
+    except OSError as failure:
+        common.tell(f"standard output: {common.cause_of(failure)}")
         sys.stdout = open(os.devnull, "w", encoding="utf-8")  # so that the interpreter doesn't try again
         status = status or common.FAILED
     sys.exit(status)
