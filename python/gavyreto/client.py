@@ -8,7 +8,7 @@ from gavyreto.connection import ENCRYPT, PORT, SECONDS, Session, log_in_to
 from gavyreto.payload import Descriptions, Payload, Write
 from gavyreto.program import CHARSETS, COLUMN_ROOM, MAX_WIRE, PACKET_SIZE_ASKED, PROGRAM, command_of, path_of
 from gavyreto.response import Response, started
-from gavyreto.values import Dates
+from gavyreto.values import Dates, check_dates
 
 
 class Connection:
@@ -41,6 +41,7 @@ class Connection:
         started, ConnectionFailed, and BadAnswer if bytes have come that weren't asked for."""
         if self._answer and not self._answer.is_left:
             raise ValueError("the answer before isn't read to its end")
+        check_dates(dates)
         command = command_of(program, self._session.packet_size, column_room, max_wire, charset)
         run = started(command, subprocess.PIPE)
         try:
@@ -89,7 +90,7 @@ class Answer(Response):
         self.owns_session = False  # whether the session was made for this answer
         self.is_left = False  # whether no more of it is read
         self._session, found = session, Descriptions()
-        super().__init__(run, dates, found, copy=lambda write: hand_on(session, write, found), tail=bytes)
+        super().__init__(run, dates, found, copy=lambda write: hand_on(session, write, found))
 
     def _unfinished(self) -> Optional[str]:
         return self._session.unfinished

@@ -15,7 +15,7 @@ from gavyreto.errors import Error, Fault, ProgramFailed, Report, ServerError, Un
 from gavyreto.program import CHARSETS, COLUMN_ROOM, MAX_WIRE, PACKET_SIZE, PROGRAM, Write, command_of, report_of, widen, write_all
 from gavyreto.payload import Descriptions, LateDescriptions, Payload, Read
 from gavyreto.text import Sets
-from gavyreto.values import Dates
+from gavyreto.values import Dates, check_dates
 
 
 class Readable(Protocol):
@@ -81,7 +81,7 @@ class Response(Sets):
 
     def __init__(
         self, program: subprocess.Popen[bytes], dates: Dates, descriptions: Descriptions, *, copy: Optional[Copy] = None,
-        tail: Tail, held: Optional[HeldFile] = None,
+        tail: Optional[Tail] = None, held: Optional[HeldFile] = None,
     ) -> None:
         self.report: Optional[Report] = None  #: once all is read and the server reported no error
         self.is_whole = False  #: once all is read, whether or not the server reported an error
@@ -123,7 +123,7 @@ class Response(Sets):
 
     def _unfinished(self) -> Optional[str]:
         """What there is to say of an answer that the server ended as cancelled or failed."""
-        return tds.unfinished(bytes(self._tail()))
+        return tds.unfinished(bytes(self._tail())) if self._tail else None
 
     def _judge_feeding(self, feeding: Feeding, is_all_read: bool) -> None:
         """Raises what ended the feeding of the program before the response was over."""
@@ -170,6 +170,7 @@ def export(
     Raises OSError if the file or the program can't be opened, ValueError if the source is closed or doesn't block, TypeError
     for another source. While the sets and rows are read, once all that came before is handed out, it raises Fault,
     ServerError or ProgramFailed, and what a method `read` of the source raised."""
+    check_dates(dates)
     command = command_of(program, packet_size, column_room, max_wire, charset)
     if isinstance(source, (str, os.PathLike)):
         return _of_path(source, command, dates)

@@ -12,7 +12,7 @@ from gavyreto.columns import Column
 from gavyreto.errors import Error, MalformedText, NotOneSet, PassedOver, UnfinishedText
 from gavyreto.records import SEPARATOR, LongField, LongRecord, OpenField, Read, Records, end_of_set, record_at
 from gavyreto.rows import Row, row_type
-from gavyreto.values import BINARY, DATES, Converter, Dates, Value, value_of
+from gavyreto.values import BINARY, Converter, Dates, Value, check_dates, value_of
 
 MOST_GROUPS = 1000  # columns of a set whose rows are read by one pattern
 SEVERAL = "several sets: split them first, as docs/RECIPES.md has it in \"Several result sets\""
@@ -32,8 +32,6 @@ class Parser:
     """The headers of a text and the rows under each. The end of the text within a row is an EOFError."""
 
     def __init__(self, read: Read, dates: Dates) -> None:
-        if dates not in DATES:
-            raise ValueError(f"dates is one of {', '.join(map(repr, DATES))}, not {dates!r}")
         self.records = Records(read)
         self.sets = self.rows = 0  #: so far
         self.is_over = False  #: nothing is left of the text but `records.rest`
@@ -519,4 +517,5 @@ def read(text: Union[str, os.PathLike[str]], *, dates: Dates = False) -> Sets:
 
     Raises OSError if it can't be opened; while the sets and rows are read, once all before is handed out, MalformedText if
     it isn't such a text, and UnfinishedText if it ends within a row."""
+    check_dates(dates)
     return Text(text, dates)

@@ -12,6 +12,12 @@ DATES: tuple[Dates, ...] = (False, True, "truncate")
 Value = Union[None, int, Decimal, bytes, str, date, time, datetime, UUID]
 
 
+def check_dates(dates: Dates) -> None:
+    """Raises ValueError if dates are asked for in a way that isn't there."""
+    if dates not in DATES:
+        raise ValueError(f"dates is one of {', '.join(map(repr, DATES))}, not {dates!r}")
+
+
 class Shape(NamedTuple):
     """How the fields of a column look, NULL aside, and what they are."""
 
