@@ -247,10 +247,10 @@ class SlowReaders(Live):
                 pass
 
         with listening(serve) as port:
-            run = subprocess.Popen(command_for(port, "--seconds", "1", "SELECT 1"), bufsize=0, stdout=subprocess.PIPE, stderr=subprocess.PIPE, **started())
+            run = subprocess.Popen(command_for(port, "--seconds", "2", "SELECT 1"), bufsize=0, stdout=subprocess.PIPE, stderr=subprocess.PIPE, **started())
             assert run.stdout
             text = run.stdout.read(1)
-            threading.Event().wait(2.5)
+            threading.Event().wait(4.5)
             out, err = run.communicate(timeout=SECONDS)
             self.assertEqual((run.returncode, text + out == wanted), (0, True), err)
 
