@@ -13,7 +13,10 @@ PROGRAMS = {
     "dask-worker": "python3-distributed", "time": "time", "mypy": "mypy", "lintian": "lintian", "cc": "gcc",
     "tcpflow": "tcpflow-nox", "editcap": "wireshark-common",
 }
-MODULES = {"pandas": "python3-pandas", "distributed": "python3-distributed", "pymssql": "python3-pymssql", "pip": "python3-pip", "matplotlib": "python3-matplotlib"}
+MODULES = {
+    "pandas": "python3-pandas", "distributed": "python3-distributed", "pymssql": "python3-pymssql", "pip": "python3-pip",
+    "matplotlib": "python3-matplotlib", "hypothesis": "python3-hypothesis",
+}
 
 
 def path() -> str:

@@ -24,7 +24,7 @@ import responses
 for sets in gavyreto.export("kinds.tds"), gavyreto.read("kinds.csv"):
     kinds = sets.only()
     values = list(kinds)
-    assert kinds.names == responses.NAMES and repr(values) == repr(responses.VALUES)
+    assert kinds.names == responses.NAMES and repr([list(row) for row in values]) == repr(responses.VALUES)
     print(len(values), "rows of", len(kinds.names), "columns")
 PYTHON
 

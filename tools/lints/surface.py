@@ -247,7 +247,7 @@ def wrong_package() -> Iterator[str]:
     """Commands of the Python package, and options of them, that its man page or completion doesn't have."""
     text, path = repo.text_of("docs/gavyreto.1").replace("\\-", "-"), COMPLETIONS["gavyreto"]
     files = os.listdir(repo.path_of("python", "gavyreto", "commands"))
-    commands = sorted(name[:-len(".py")] for name in files if name[0] != "_" and name.endswith(".py"))
+    commands = sorted(name[:-len(".py")] for name in files if name not in ("__init__.py", "common.py") and name.endswith(".py"))
     yield from unlike(path, completed("gavyreto", ""), {*commands, "--help", "--version"})
     for command in commands:
         wanted = package_options(command)

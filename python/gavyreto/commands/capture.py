@@ -25,10 +25,7 @@ from typing import IO, Callable, Iterable, Iterator, NamedTuple, Optional, Union
 
 from gavyreto import capturing, program, tds
 from gavyreto.capturing import Answer, Lost
-from gavyreto.commands import BAD_INPUT, FAILED, INTERRUPTED, REFUSED, say
-from gavyreto.commands.columns import line
-from gavyreto.commands.query import Stopped, checked_program, number_in
-from gavyreto.exporting import Outcome, judged
+from gavyreto.commands.common import BAD_INPUT, FAILED, INTERRUPTED, REFUSED, Ending, Stopped, checked_program, judged, line, number_in, say
 
 HEADER = ("text", "client", "server", "time", "statement", "status", "line")
 CAPTURES = (b"\xD4\xC3\xB2\xA1", b"\xA1\xB2\xC3\xD4", b"\x4D\x3C\xB2\xA1", b"\xA1\xB2\x3C\x4D", b"\x0A\x0D\x0D\x0A")
@@ -76,7 +73,7 @@ class Export:
             with contextlib.suppress(FileNotFoundError):
                 os.remove(unfinished)
 
-    def _run(self, packets: Iterator[bytes], unfinished: str) -> Outcome:
+    def _run(self, packets: Iterator[bytes], unfinished: str) -> Ending:
         """Runs the program on an answer. What it needs no more of is left."""
         with open(unfinished, "wb") as out:
             run = subprocess.Popen(self._command, bufsize=0, stdin=subprocess.PIPE, stdout=out, stderr=subprocess.PIPE, start_new_session=True)
@@ -86,7 +83,7 @@ class Export:
                 program.write_all(pipe.fileno(), packet)
         with cast("IO[bytes]", run.stderr) as stderr:
             notes = stderr.read().decode("utf-8", "replace")
-        return judged(unfinished, run.wait(), notes, os.path.getsize(unfinished))
+        return judged(run.wait(), notes, os.path.getsize(unfinished))
 
     def _next_name(self, sides: Sides) -> str:
         number = self._counts[sides.name()] = self._counts.get(sides.name(), 0) + 1
