@@ -5,6 +5,7 @@ import csv
 import io
 import os
 import random
+import re
 import subprocess
 import sys
 import tempfile
@@ -47,7 +48,7 @@ class Captures(unittest.TestCase):
     folder: str
 
     def setUp(self) -> None:
-        need(self, "tcpflow", "editcap")
+        need(self, "editcap")
         folder = tempfile.TemporaryDirectory()
         self.addCleanup(folder.cleanup)
         self.folder = folder.name
@@ -70,6 +71,12 @@ class Captures(unittest.TestCase):
         lines = csv.DictReader(io.StringIO(came.stdout.decode(), newline=""))
         return came, [{name: None if value == "NULL" else value for name, value in line.items()} for line in lines]
 
+    def sums(self, came: subprocess.CompletedProcess[bytes]) -> dict[str, int]:
+        """The counts of the last line on standard error, by what is counted."""
+        last = came.stderr.decode().splitlines()[-1]
+        counts = {name: int(count) for count, name in re.findall(r"(\d+) ((?:not read|of others|in \w+|answered|not|told))", last)}
+        return counts | {name: int(count) for name, count in re.findall(r"(frames|packets|connections|requests|bytes) (\d+)", last)}
+
     def texts(self) -> dict[str, bytes]:
         found = {}
         for name in sorted(os.listdir(os.path.join(self.folder, "out"))):
@@ -86,7 +93,7 @@ class Captures(unittest.TestCase):
         for form in ("pcap", "nsecpcap", "pcapng"):
             with self.subTest(form=form):
                 came, table = self.captured(conversation().frames, form)
-                self.assertEqual((came.returncode, came.stderr), (3, b""))
+                self.assertEqual((came.returncode, self.sums(came)["not read"], self.sums(came)["told"]), (3, 0, 0))
                 self.assertEqual(self.texts(), dict(zip(self.names(), map(exported, RESPONSES))))
                 self.assertEqual([(line["text"], line["statement"], line["status"]) for line in table], list(zip(self.names(), SHOWN, "003")))
                 self.assertEqual({(line["client"], line["server"]) for line in table}, {("192.0.2.10.50123", "192.0.2.20.1433")})
@@ -137,22 +144,24 @@ class Captures(unittest.TestCase):
 
     def test_an_encrypted_connection(self) -> None:
         came, table = self.captured(conversation(encrypted=True).frames)
-        self.assertEqual((came.returncode, [line["line"] for line in table]), (4, ["the connection is encrypted"]))
+        self.assertEqual((came.returncode, [line["line"] for line in table]), (4, ["the connection is encrypted: 15420 bytes"]))
         self.assertEqual(self.texts(), {})
 
     def test_what_is_no_answer(self) -> None:
         """A response that is refused leaves its part; bytes of anything else are told."""
-        for data, line in (
-            (wire("float"), "fault 10 RefusedColumn 1 FLTN at payload 15, written 0, unwritten 0"), (b"HTTP/1.1 200 OK\r\n\r\n", "no packet begins here: 19 bytes are passed over"),
-            (b"\x53\x01" + bytes(14), "several answers at once (MARS), which aren't read"), (answered(b"\x99"), "fault 6 RefusedToken 0x99 at payload 0, written 0, unwritten 0"),
+        for data, lines in (
+            (wire("float"), ["fault 10 RefusedColumn 1 FLTN at payload 15, written 0, unwritten 0"]),
+            (b"HTTP/1.1 200 OK\r\n\r\n", ["no answer to it came", "no packet begins here: 19 bytes are passed over"]),
+            (b"\x53\x01" + bytes(14), ["several answers at once (MARS), which aren't read: 16 bytes"]),
+            (answered(b"\x99"), ["fault 6 RefusedToken 0x99 at payload 0, written 0, unwritten 0"]),
         ):
             made = captures.Capture()
             made.open()
             made.send(captures.CLIENT, tds.packet(1, tds.statement("SELECT 1")))
             made.send(captures.SERVER, data)
             came, table = self.captured(made.frames)
-            with self.subTest(line=line):
-                self.assertEqual((came.returncode, [it["line"] for it in table]), (4, [line]))
+            with self.subTest(lines=lines):
+                self.assertEqual((came.returncode, [it["line"] for it in table]), (4, lines))
                 self.assertFalse(any(name.endswith(".csv") for name in self.texts()))
 
     def test_random_bytes(self) -> None:
@@ -164,7 +173,7 @@ class Captures(unittest.TestCase):
             made.send(captures.CLIENT, numbers.randbytes(numbers.randint(1, 3000)))
             made.send(captures.SERVER, bytes([4, 1, 0, numbers.randint(8, 255)]) * (numbers.random() < 0.5) + numbers.randbytes(numbers.randint(1, 9000)))
             came, _ = self.captured(made.frames)
-            self.assertEqual((came.returncode, came.stderr), (4, b""))
+            self.assertEqual((came.returncode, came.stderr.count(b"\n")), (4, 1))
             self.texts()
 
     def test_all_that_a_server_sent(self) -> None:
@@ -175,14 +184,14 @@ class Captures(unittest.TestCase):
         for data, status, told, left in (
             (whole, 3, None, texts), (b"".join(RESPONSES), 3, None, texts),
             (whole + b"HTTP", 4, "no packet begins here: 4 bytes are passed over", texts),
-            (whole[:-1], 4, "fault 2 InputEnded at wire 0, written 0, unwritten 0", {name: text for name, text in texts.items() if "3" not in name} | {"answer.3.csv.partial": b""}),
+            (whole[:-1], 4, "the connection ends within it: fault 2 InputEnded at wire 0, written 0, unwritten 0", {name: text for name, text in texts.items() if "3" not in name} | {"answer.3.csv.partial": b""}),
         ):
             with open(os.path.join(self.folder, "sent"), "wb") as file:
                 file.write(data)
             came = self.run_capture("sent", "out")
             with self.subTest(status=status, told=told):
                 lines = list(csv.DictReader(io.StringIO(came.stdout.decode(), newline="")))
-                self.assertEqual((came.returncode, came.stderr, self.texts()), (status, b"", left))
+                self.assertEqual((came.returncode, self.sums(came)["bytes"], self.texts()), (status, len(data), left))
                 self.assertEqual((lines[0]["client"], lines[0]["time"], lines[-1]["line"] if told else None), ("NULL", "NULL", told))
 
     def test_arguments(self) -> None:
@@ -190,10 +199,10 @@ class Captures(unittest.TestCase):
         again = self.run_capture("capture", "out")
         self.assertEqual(again.returncode, 2)
         self.assertIn(b"has texts", again.stderr)
-        for words, status in ((["nothere", "other"], 5), (["--port", "1434", "capture", "other"], 4), ([sys.executable, "other"], 2), (["--port", "0", "capture", "other"], 2)):
+        for words, status in ((["nothere", "other"], 5), (["--port", "1434", "capture", "third"], 4), ([sys.executable, "other"], 2), (["--port", "0", "capture", "other"], 2)):
             with self.subTest(words=words):
                 came = self.run_capture(*words)
-                self.assertEqual((came.returncode, came.stdout), (status, b""))
+                self.assertEqual((came.returncode, came.stdout.count(b"\n")), (status, int(status == 4)))
                 self.assertNotIn(b"Traceback", came.stderr)
 
 
@@ -208,7 +217,7 @@ class Dumps(Live):
                 'TDSDUMP=$PWD/dump tsql -S here -U reader -P secret > rows 2> notes; exec $CAPTURE --program "$PROGRAM" dump out')
             came = self.beside(("--encrypt", server), command, FREETDSCONF=self.path("freetds.conf"), CAPTURE=f"{sys.executable} -m gavyreto capture")
             with self.subTest(server=server):
-                self.assertEqual((came.returncode, came.stderr), (3, b""))
+                self.assertEqual((came.returncode, came.stderr.count(b"\n")), (3, 1))
                 lines = list(csv.DictReader(io.StringIO(came.stdout.decode(), newline="")))
                 self.assertEqual([(it["text"], it["statement"], it["status"]) for it in lines], [
                     ("answer.1.csv", "SELECT * FROM orders SELECT 2", "0"), ("answer.2.csv", "SELECT * FROM broken", "3")])
