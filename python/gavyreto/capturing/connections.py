@@ -10,7 +10,7 @@ from gavyreto.capturing.conversations import Conversation, Desk, Sides
 from gavyreto.capturing.files import Frame
 from gavyreto.capturing.frames import ACK, FIN, PUSH, RESET, SYN, Other, Segment, Tags, Unread, address_of, port_of, segment_of
 from gavyreto.capturing.messages import KINDS, is_header
-from gavyreto.capturing.streams import Memory
+from gavyreto.capturing.streams import WINDOW, Memory
 from gavyreto.tds import PacketType
 
 Key = tuple[Tags, bytes, bytes]  # client and server
@@ -58,7 +58,7 @@ class Connections:
         self.cut = 0  #: frames that weren't captured whole
         self._ports, self._desk, self._accounts = ports, desk, accounts
         self._open: OrderedDict[Key, Conversation] = OrderedDict()
-        self._ended: OrderedDict[Key, None] = OrderedDict()
+        self._ended: OrderedDict[Key, tuple[int, int]] = OrderedDict()  # with the sequence numbers after their last bytes
         self._memory = Memory()
         self._run: Optional[Run] = None
 
@@ -123,7 +123,7 @@ class Connections:
             self._end(key)
             conversation = None
         if conversation is None:
-            if key in self._ended and not flags & SYN:
+            if self._is_late_copy(key, segment, is_client):
                 return
             conversation = self._begin(key)
         self._open.move_to_end(key)
@@ -138,6 +138,14 @@ class Connections:
             conversation.end(is_client, (sequence + len(data) + segment.cut) % (1 << 32))
         if flags & FIN or not data:
             self._end_whole(key, conversation)
+
+    def _is_late_copy(self, key: Key, segment: Segment, is_client: bool) -> bool:
+        """Whether a segment is one more of a connection that has ended: without data, or by both its numbers."""
+        if key not in self._ended or segment.flags & SYN:
+            return False
+        own, other = self._ended[key] if is_client else reversed(self._ended[key])
+        numbers = ((segment.sequence, own), (segment.acknowledged, other))
+        return not segment.data or all((end - number) % (1 << 32) <= WINDOW for number, end in numbers)
 
     def _begin(self, key: Key) -> Conversation:
         _, client, server = key
@@ -154,8 +162,9 @@ class Connections:
             self._end(key)
 
     def _end(self, key: Key) -> None:
-        self._open.pop(key).finish()
-        self._ended[key] = None
+        conversation = self._open.pop(key)
+        conversation.finish()
+        self._ended[key] = conversation.ends()
         if len(self._ended) > MOST_ENDED:
             self._ended.popitem(last=False)
 

@@ -382,7 +382,7 @@ class Conversation:
         if is_client and not self._answers.is_client_known and not self._is_client_absent:
             self._answers.is_client_known = True
         place = stream.place_of(sequence)
-        if data and not (is_probe and place == stream.place - 1):
+        if data and not (is_probe and place != stream.place):
             self._arrived(flow, stream.add(Piece(place, data, acknowledged, time), flow.acknowledged))
             self._advance()
 
@@ -391,6 +391,10 @@ class Conversation:
         stream = (self.client if is_client else self.server).stream
         if stream.is_begun() and stream.end is None:
             stream.end = stream.place_of(sequence)
+
+    def ends(self) -> tuple[int, int]:
+        """The sequence numbers after the last bytes of client and server."""
+        return self.client.stream.place % (1 << 32), self.server.stream.place % (1 << 32)
 
     def is_over(self) -> bool:
         """Whether both sides are there to their ends."""

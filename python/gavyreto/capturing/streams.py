@@ -54,11 +54,11 @@ class Stream:
         self.is_late = False  #: whether its beginning isn't there
         self.delivered = 0  #: bytes handed out
         self.differing = 0  #: bytes of copies that differ from the first
-        self.early = 0  #: bytes that came again, unacknowledged, when the first copy wasn't remembered any more
+        self.early = 0  #: bytes that came before the first that counts, or again, unacknowledged, when the first copy was forgotten
         self.end: Optional[int] = None  #: its place, after a FIN
         self.held: list[Piece] = []  #: what came before its turn, in order, none twice
         self.held_bytes = 0
-        self._memory, self._is_firm = memory, False
+        self._memory, self._is_firm, self._start = memory, False, 0
         self._handed_out: deque[Piece] = deque()
 
     # Places.
@@ -72,6 +72,7 @@ class Stream:
         """Its first byte has this number; if that isn't firm, it may have a lower one. The places begin so high that none is
         below 0."""
         self.place, self.is_late, self._is_firm = SPACE + sequence, is_late, is_firm
+        self._start = self.place
 
     def is_begun(self) -> bool:
         return self.place >= 0
@@ -89,11 +90,11 @@ class Stream:
             return [self._hand_out(piece)]
         if piece.place < self.place:
             if self._lowers(piece):
-                self.place = piece.place
+                self.place = self._start = piece.place
             else:
                 compared = self._compare(piece, self._handed_out)
                 known = max(min(piece.end(), self.place) - piece.place, 0)
-                if compared < known and piece.end() > acknowledged:
+                if compared < known and (piece.end() > acknowledged or piece.place < self._start):
                     self.early += known - compared
                 piece = _from(piece, self.place)
         if piece.data:
