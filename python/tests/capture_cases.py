@@ -57,10 +57,12 @@ class Conversation:
     answers: list[bytes] = field(default_factory=list)
 
 
-def conversation(numbers: random.Random, client: tuple[bytes, int], server: tuple[bytes, int]) -> Conversation:
-    """Greeting, login, and some statements with their answers."""
+def conversation(numbers: random.Random, client: tuple[bytes, int], server: tuple[bytes, int], first: int) -> Conversation:
+    """Greeting, login, and some statements with their answers. Of two connections of the same ports each has first sequence numbers
+    of its own, as RFC 9293, section 3.4.1, has it."""
     made = Conversation(client, server)
     place = {True: numbers.choice([0, 7, SPACE - 1, SPACE - 700, numbers.randrange(SPACE)]), False: numbers.choice([5, SPACE - 2, SPACE - 3000, numbers.randrange(SPACE)])}
+    place = {side: (number + first) % SPACE for side, number in place.items()}
     channel, size, most = numbers.choice([0, 51, 300]), numbers.choice([512, 900, 4096]), numbers.choice([80, 536, 1460])
 
     def add(is_client: bool, flags: int, data: bytes = b"") -> None:
@@ -101,7 +103,7 @@ def conversation(numbers: random.Random, client: tuple[bytes, int], server: tupl
 
 def checksum(data: bytes) -> int:
     data += bytes(len(data) % 2)
-    total = sum(struct.unpack(f">{len(data) // 2}H", data))
+    total = int(sum(struct.unpack(f">{len(data) // 2}H", data)))
     while total >> 16:
         total = (total & 0xFFFF) + (total >> 16)
     return ~total & 0xFFFF
@@ -183,19 +185,18 @@ def case(seed: int) -> Case:
     hosts = [numbers.randbytes(16) if is_6 else numbers.randbytes(4) for _ in range(2)]
     client, server = (hosts[0], numbers.randint(40000, 60000)), (hosts[1], 1433)
     link = Link(numbers)
-    made = [conversation(numbers, client, server)]
+    made = [conversation(numbers, client, server, 0)]
     if "port reuse" in happening:
-        made.append(conversation(numbers, client, server))
-    streams = [_altered(numbers, it, happening) for it in made]
-    answers = [answer for segments, it in zip(streams, made) for answer in _captured(segments, it, "begins late" in happening)]
-    streams = [[(segment, it) for segment in segments] for segments, it in zip(streams, made)]
-    frames = [(link.frame(segment, it), segment) for stream in streams for segment, it in stream]
+        made.append(conversation(numbers, client, server, 1 << 25))
+    streams = [(_altered(numbers, it, happening), it) for it in made]
+    answers = [answer for segments, it in streams for answer in _captured(segments, it, "begins late" in happening)]
+    frames = [link.frame(segment, it) for segments, it in streams for segment in segments]
     if "two captures" in happening:
         frames = [it for it in frames for _ in range(2)]
     cut = numbers.choice([70, 100, 300]) if "cut frames" in happening else 1 << 20
-    data = _file(numbers, link.kind, [frame for frame, _ in frames], cut)
+    data = _file(numbers, link.kind, frames, cut)
     if "cut file" in happening:
-        data = data[:len(data) - numbers.randint(1, max(1, len(data) // 3))]
+        data = data[:len(data) - numbers.randint(1, min(len(frames[-1]), cut))]  # within the last frame
     return Case(data, answers, not set(happening) & set(HARMFUL), f"{seed}: {', '.join(happening)}")
 
 
@@ -225,7 +226,7 @@ def _altered(numbers: random.Random, made: Conversation, happening: list[str]) -
         elif what == "wrong checksum and again":
             segments.insert(at, Segment(other.is_client, other.sequence, other.acknowledged, other.flags, other.data, True))
         elif what == "lost":
-            for _ in range(numbers.randint(1, 3)):
+            for _ in range(min(numbers.randint(1, 3), len(segments) - 1)):
                 segments.remove(numbers.choice(segments))
         elif what == "other copy after":
             segments.insert(at + 1, other)
@@ -242,6 +243,12 @@ def _altered(numbers: random.Random, made: Conversation, happening: list[str]) -
             segments = [it for it in segments if it.is_client] + [it for it in segments if not it.is_client]
         with_data = [it for it in segments if it.data] or with_data
     return segments
+
+
+def pcap(link: int, frames: list[bytes]) -> bytes:
+    """A file of pcap with whole frames."""
+    data = struct.pack("<IHHiIII", 0xA1B2C3D4, 2, 4, 0, 0, 65535, link)
+    return data + b"".join(struct.pack("<IIII", 1_700_000_000, number, len(it), len(it)) + it for number, it in enumerate(frames))
 
 
 def _file(numbers: random.Random, link: int, frames: list[bytes], cut: int) -> bytes:

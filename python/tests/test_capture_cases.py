@@ -3,7 +3,6 @@ from __future__ import annotations
 
 import io
 import os
-import sys
 import unittest
 from collections import Counter
 from typing import NamedTuple
@@ -100,4 +99,4 @@ class Generated(unittest.TestCase):
 
 
 if __name__ == "__main__":
-    sys.exit(unittest.main())
+    unittest.main()

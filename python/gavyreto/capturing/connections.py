@@ -2,7 +2,7 @@
 from __future__ import annotations
 
 from collections import Counter, OrderedDict
-from typing import Optional
+from typing import NamedTuple, Optional
 
 from gavyreto import tds
 from gavyreto.capturing.accounts import Accounts
@@ -19,6 +19,13 @@ MOST_ENDED = 4096  # whose late copies are known
 MOST_OF_A_RUN = 1 << 16  # bytes of segments that are taken as one
 MOST_PORTS = 64  # of other servers that are named
 HARMLESS = "a wrong checksum of TCP"  # no receiver takes such a segment
+
+
+class Ends(NamedTuple):
+    """What is known of a connection that has ended: the sequence numbers of each side's SYN, and after its last byte."""
+
+    first: tuple[Optional[int], Optional[int]]
+    last: tuple[int, int]
 
 
 class Run:
@@ -58,7 +65,7 @@ class Connections:
         self.cut = 0  #: frames that weren't captured whole
         self._ports, self._desk, self._accounts = ports, desk, accounts
         self._open: OrderedDict[Key, Conversation] = OrderedDict()
-        self._ended: OrderedDict[Key, tuple[int, int]] = OrderedDict()  # with the sequence numbers after their last bytes
+        self._ended: OrderedDict[Key, Ends] = OrderedDict()
         self._memory = Memory()
         self._run: Optional[Run] = None
 
@@ -140,10 +147,13 @@ class Connections:
             self._end_whole(key, conversation)
 
     def _is_late_copy(self, key: Key, segment: Segment, is_client: bool) -> bool:
-        """Whether a segment is one more of a connection that has ended: without data, or by both its numbers."""
-        if key not in self._ended or segment.flags & SYN:
+        """Whether a segment is one more of a connection that has ended: without data, or by both its numbers, or by that of its SYN."""
+        if key not in self._ended:
             return False
-        own, other = self._ended[key] if is_client else reversed(self._ended[key])
+        ended = self._ended[key]
+        if segment.flags & SYN:
+            return segment.sequence in ended.first
+        own, other = ended.last if is_client else reversed(ended.last)
         numbers = ((segment.sequence, own), (segment.acknowledged, other))
         return not segment.data or all((end - number) % (1 << 32) <= WINDOW for number, end in numbers)
 
@@ -164,7 +174,8 @@ class Connections:
     def _end(self, key: Key) -> None:
         conversation = self._open.pop(key)
         conversation.finish()
-        self._ended[key] = conversation.ends()
+        streams = conversation.client.stream, conversation.server.stream
+        self._ended[key] = Ends((streams[0].first, streams[1].first), (streams[0].place % (1 << 32), streams[1].place % (1 << 32)))
         if len(self._ended) > MOST_ENDED:
             self._ended.popitem(last=False)
 

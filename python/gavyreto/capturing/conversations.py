@@ -87,12 +87,16 @@ class Answers:
         self._answer: Optional[Answer] = None
         self._lost: Optional[Lost] = None
         self._answered = 0  # answers to statements so far
-        self._greeted = False
+        self._greeted = self._logged_in = False
         self._has_asked = False  # whether a client has asked for more than greeting and login
         self._acknowledged = 0  # attentions that an answer has acknowledged before they came
         self._before: Optional[Piece] = None  # the piece before
         self._over_bytes, self._over_time = 0, 0
         self._channel: Optional[int] = None
+
+    def is_early(self) -> bool:
+        """Whether nothing was asked for yet but a greeting and a login."""
+        return not self._logged_in and not self._has_asked
 
     def is_between(self) -> bool:
         """Whether the next bytes may begin an answer."""
@@ -260,6 +264,7 @@ class Answers:
 
     def _end_login(self, answer: Answer, kind: Asked) -> None:
         self._greeted = True
+        self._logged_in = self._logged_in or kind is Asked.LOGIN
         if kind is Asked.GREETING:
             self._accounts.in_greetings += answer.length
         else:
@@ -391,10 +396,6 @@ class Conversation:
         stream = (self.client if is_client else self.server).stream
         if stream.is_begun() and stream.end is None:
             stream.end = stream.place_of(sequence)
-
-    def ends(self) -> tuple[int, int]:
-        """The sequence numbers after the last bytes of client and server."""
-        return self.client.stream.place % (1 << 32), self.server.stream.place % (1 << 32)
 
     def is_over(self) -> bool:
         """Whether both sides are there to their ends."""

@@ -59,8 +59,8 @@ class _Connection:
         accounts.connections += 1
 
     def is_waiting(self) -> bool:
-        """Whether a request has no answer yet."""
-        return bool(self.answers.pending)
+        """Whether a request has no answer yet; the login, which a dump doesn't have, is one."""
+        return bool(self.answers.pending) or self.answers.is_early()
 
     def is_idle(self) -> bool:
         """Whether all that was asked is answered."""

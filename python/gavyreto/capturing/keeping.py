@@ -37,8 +37,11 @@ class Kept:
     def _store(self) -> None:
         if not self._path:
             self._path, self._first = self._room.next_path(), bytes(self._data[:MOST_IN_MEMORY])
-        with open(self._path, "ab", buffering=0) as file:
-            file.write(self._data)
+        try:
+            with open(self._path, "ab") as file:
+                file.write(self._data)
+        except OSError as failure:
+            raise OSError(failure.errno, failure.strerror, self._path) from None
         self._room.used -= len(self._data)
         self._data.clear()
 

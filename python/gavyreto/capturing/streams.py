@@ -11,7 +11,7 @@ from typing import NamedTuple, Optional, Union
 SPACE, HALF = 1 << 32, 1 << 31
 WINDOW = 1 << 20  # bytes that are held of one stream
 ALL_WINDOWS = 1 << 23  # of all streams
-REMEMBERED = 1 << 22  # bytes of all streams, already handed out, that further copies are compared with
+REMEMBERED = 3 << 19  # bytes of all streams, already handed out, that further copies are compared with
 OBJECT = 200  # bytes that each piece costs besides
 
 
