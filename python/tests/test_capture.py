@@ -2,6 +2,7 @@
 from __future__ import annotations
 
 import csv
+import gzip
 import io
 import os
 import random
@@ -10,10 +11,10 @@ import subprocess
 import sys
 import tempfile
 import unittest
-from typing import Optional
+from typing import IO, Optional, cast
 
 from gavyreto import tds
-from tests.beside import PROGRAM, ROOT, Live, answered, need, responses, started, wire
+from tests.beside import PROGRAM, ROOT, Live, answered, need, responses, skip, started, wire
 
 sys.path[:0] = [os.path.join(ROOT, "tools")]
 import captures  # noqa: E402
@@ -119,7 +120,7 @@ class Captures(unittest.TestCase):
         """Whichever is lost: each text is that of a whole response or a part of it, and what is lost is told."""
         frames = conversation().frames
         wholes = [exported(data) for data in RESPONSES]
-        for place in range(3, len(frames)):
+        for place in range(3, len(frames), 5):
             is_server = frames[place][34:36] == (1433).to_bytes(2, "big") and len(frames[place]) > 54
             came, table = self.captured(frames[:place] + frames[place + 1:])
             with self.subTest(place=place):
@@ -135,7 +136,7 @@ class Captures(unittest.TestCase):
     def test_captures_that_begin_anywhere(self) -> None:
         frames = conversation().frames
         wholes = [exported(data) for data in RESPONSES]
-        for place in range(0, len(frames), 3):
+        for place in range(0, len(frames), 10):
             came, table = self.captured(frames[place:])
             with self.subTest(place=place):
                 texts = self.texts()
@@ -167,7 +168,7 @@ class Captures(unittest.TestCase):
     def test_random_bytes(self) -> None:
         """Whatever a server sends: no traceback, and the status isn't 0."""
         numbers = random.Random(7)
-        for _ in range(30):
+        for _ in range(10):
             made = captures.Capture()
             made.open()
             made.send(captures.CLIENT, numbers.randbytes(numbers.randint(1, 3000)))
@@ -204,6 +205,140 @@ class Captures(unittest.TestCase):
                 came = self.run_capture(*words)
                 self.assertEqual((came.returncode, came.stdout.count(b"\n")), (status, int(status == 4)))
                 self.assertNotIn(b"Traceback", came.stderr)
+
+
+    def test_files_that_are_compressed_or_come_by_a_pipe(self) -> None:
+        made = captures.Capture()
+        made.frames = conversation().frames
+        with open(os.path.join(self.folder, "plain"), "wb") as file:
+            made.write(file)
+        with open(file.name, "rb") as file, gzip.open(os.path.join(self.folder, "packed"), "wb") as packed:
+            packed.write(file.read())
+        for words in ("plain out", "packed out", "- out < plain", "- out < packed", "<(cat plain) out"):
+            command = f'exec {sys.executable} -m gavyreto capture --program "{PROGRAM}" {words}'
+            given = started()
+            given.pop("stdin")
+            came = subprocess.run(["bash", "-c", command], cwd=self.folder, capture_output=True, check=False, **given)
+            with self.subTest(words):
+                self.assertEqual((came.returncode, self.texts()), (3, dict(zip(self.names(), map(exported, RESPONSES)))))
+
+    def test_packets_beside_texts(self) -> None:
+        """As they came; if columns are refused, as they were rewritten."""
+        made = captures.Capture()
+        made.open()
+        for data in (wire("orders"), wire("float")):
+            made.send(captures.CLIENT, tds.packet(1, tds.statement("SELECT 1")))
+            made.send(captures.SERVER, data)
+        came, table = self.captured(made.frames, "pcap", "--packets")
+        stem = "192.0.2.10.50123-192.0.2.20.1433"
+        texts = self.texts()
+        self.assertEqual((came.returncode, texts[f"{stem}.1.tds"], texts[f"{stem}.2.tds"]), (4, wire("orders"), wire("float")))
+        came, table = self.captured(made.frames, "pcap", "--packets", "--adapt")
+        texts = self.texts()
+        self.assertEqual((came.returncode, texts[f"{stem}.1.tds"], texts[f"{stem}.2.csv"]), (0, wire("orders"), b'"id","ratio"\r\n1,NULL\r\n'))
+        self.assertEqual(exported(texts[f"{stem}.2.tds"]), texts[f"{stem}.2.csv"])
+
+    def test_answers_that_say_how_they_ended(self) -> None:
+        """By the bits of the last DONE: an error, an attention, an error of the server."""
+        for bit, said in ((0x0002, "ended with an error"), (0x0020, "cancelled by the client"), (0x0100, "ended by an error of the server")):
+            made = captures.Capture()
+            made.open()
+            made.send(captures.CLIENT, tds.packet(1, tds.statement("SELECT 1")))
+            made.send(captures.SERVER, answered(tds.done(bit)))
+            came, table = self.captured(made.frames)
+            with self.subTest(said):
+                self.assertEqual((came.returncode, table[0]["line"]), (3, f"sets 0 rows 0 errors 0 infos 0 written 0, {said}"))
+            self.texts()
+
+    def test_a_capture_that_is_cut(self) -> None:
+        """By one byte: all before it is there, and it is told."""
+        self.captured(conversation().frames)
+        self.texts()
+        path = os.path.join(self.folder, "capture")
+        os.truncate(path, os.path.getsize(path) - 1)
+        came = self.run_capture("capture", "out")
+        self.assertEqual((came.returncode, [it for it in self.texts() if it.endswith(".csv")]), (4, self.names()[:2]))
+        self.assertIn(b"the capture ends within a frame\n", came.stderr)
+
+    def test_servers_on_other_ports_are_named(self) -> None:
+        self.captured(conversation().frames)
+        self.texts()
+        came = self.run_capture("--port", "1434", "capture", "out")
+        self.assertEqual(came.returncode, 4)
+        self.assertIn(b"no server on port 1434; what looks like TDS is on port 1433: --port names another\n", came.stderr)
+
+    def test_what_the_machine_refuses(self) -> None:
+        """A folder whose name isn't UTF-8, and an output that is full: a line and a status."""
+        self.captured(conversation().frames)
+        name = os.fsdecode(b"o\xff")
+        self.assertEqual((self.run_capture("capture", name).returncode, self.run_capture("capture", name).returncode), (3, 2))
+        command = f'exec {sys.executable} -m gavyreto capture --program "{PROGRAM}" capture other > /dev/full'
+        came = subprocess.run(["sh", "-c", command], cwd=self.folder, capture_output=True, check=False, **started())
+        self.assertEqual((came.returncode, came.stderr), (5, b"standard output: No space left on device\n"))
+
+    def test_a_signal_leaves_nothing_under_way(self) -> None:
+        """SIGTERM, while the command waits for the rest of a capture."""
+        made = captures.Capture()
+        made.frames = conversation().frames[:20]
+        command = [sys.executable, "-m", "gavyreto", "capture", "--program", PROGRAM, "-", "out"]
+        given = started() | {"stdin": subprocess.PIPE}
+        with subprocess.Popen(command, cwd=self.folder, stdout=subprocess.PIPE, stderr=subprocess.PIPE, **given) as run:
+            made.write(cast("IO[bytes]", run.stdin))
+            cast("IO[bytes]", run.stdin).flush()
+            cast("IO[bytes]", run.stdout).readline()
+            run.terminate()
+            self.assertEqual(cast("IO[bytes]", run.stderr).read(), b"ended by SIGTERM\n")
+        self.assertEqual((run.returncode, [it for it in os.listdir(os.path.join(self.folder, "out")) if not it.endswith(".csv")]), (143, []))
+
+
+class Written(Live):
+    def test_captures_of_other_programs(self) -> None:
+        """Written by `tcpdump`, `dumpcap` and `tshark`, of what `tsql`, `freebcp` and `pymssql` ask the stand-in."""
+        need(self, "tcpdump", "dumpcap", "tshark", "tsql", "freebcp")
+        if os.geteuid() != 0:
+            skip(self, "only root may capture here")
+        if subprocess.run([DEBIAN, "-c", "import pymssql"], capture_output=True, check=False).returncode != 0:
+            skip(self, "Python's module pymssql isn't there: `make needs` installs it")
+        self.script("client.sh", CLIENTS)
+        came = self.beside(("--encrypt", "none"), "exec ./client.sh", FREETDSCONF=self.path("freetds.conf"), PYTHON=DEBIAN, CAPTURE=f"{sys.executable} -m gavyreto capture")
+        self.assertEqual((came.returncode, came.stdout.decode().split()), (0, ["any", "0", "lo", "0", "ts", "0"]), came.stderr)
+        for name in ("any", "lo", "ts"):
+            texts = [self.text(os.path.join(name, it)) for it in sorted(os.listdir(self.path(name)))]
+            self.assertEqual(texts.count(exported(wire("orders"))), 2, name)
+            self.assertEqual(texts.count(exported(wire("sets"))), 1, name)
+            subprocess.run(["rm", "-r", self.path(name)], check=True)
+
+
+DEBIAN = "/usr/bin/python3"
+CLIENTS = r"""set -eu
+printf '[global]\ntds version = 7.4\nencryption = off\n[here]\nhost = 127.0.0.1\nport = %s\n' "$PORT" > freetds.conf
+chmod 777 .
+tcpdump -i any -s 0 -U --immediate-mode -w any.pcap "tcp port $PORT" 2> tcpdump.notes &
+first=$!
+dumpcap -q -i lo -w lo.pcapng -f "tcp port $PORT" 2> dumpcap.notes &
+second=$!
+tshark -q -i lo -w ts.pcapng -f "tcp port $PORT" 2> tshark.notes &
+third=$!
+until grep -q 'listening on' tcpdump.notes && grep -q '^File' dumpcap.notes && test -s ts.pcapng; do sleep 0.1; done
+printf 'SELECT * FROM orders\ngo\nexit\n' | tsql -S here -U reader -P secret > rows 2>&1
+freebcp orders out bcp.out -S here -U reader -P secret -c > bcp.notes
+"$PYTHON" -c 'import os, pymssql
+connection = pymssql.connect(server="127.0.0.1", port=os.environ["PORT"], user="reader", password="secret")
+cursor = connection.cursor()
+cursor.execute("SELECT * FROM sets")
+cursor.fetchall()
+connection.close()'
+for file in any.pcap lo.pcapng ts.pcapng; do
+    until [ "$(tshark -r $file -Y 'tcp.flags.fin == 1' 2> reading.notes | wc -l)" -ge 6 ]; do sleep 0.2; done
+done
+kill $first $second $third
+wait
+for file in any.pcap lo.pcapng ts.pcapng; do
+    name=${file%.*} status=0
+    $CAPTURE --program "$PROGRAM" --port "$PORT" $file $name > $name.table 2> $name.notes || status=$?
+    echo "$name $status"
+done
+"""
 
 
 class Dumps(Live):

@@ -9,7 +9,7 @@ from gavyreto.capturing.accounts import Accounts
 from gavyreto.capturing.conversations import Conversation, Desk, Sides
 from gavyreto.capturing.files import Frame
 from gavyreto.capturing.frames import ACK, FIN, PUSH, RESET, SYN, Other, Segment, Tags, Unread, address_of, port_of, segment_of
-from gavyreto.capturing.messages import KINDS, is_header
+from gavyreto.capturing.messages import is_header, is_record
 from gavyreto.capturing.streams import WINDOW, Memory
 from gavyreto.tds import PacketType
 
@@ -112,7 +112,7 @@ class Connections:
         """Notes the port of a server elsewhere whose segment looks like TDS: a greeting to it, or an answer from it, of one packet."""
         data = segment.data
         if len(data) >= tds.HEADER and tds.length_of(data) == len(data) and data[1] == tds.LAST:
-            if is_header(data, (PacketType.PRELOGIN, PacketType.STATEMENT)) and data[0] in KINDS:
+            if is_header(data, (PacketType.PRELOGIN, PacketType.STATEMENT)) and not is_record(data[tds.HEADER:]):
                 port = port_of(segment.target)
             elif is_header(data, (PacketType.ANSWER,)):
                 port = port_of(segment.source)
