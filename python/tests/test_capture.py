@@ -11,7 +11,7 @@ import subprocess
 import sys
 import tempfile
 import unittest
-from typing import IO, Optional, cast
+from typing import BinaryIO, Optional, cast
 
 from gavyreto import tds
 from tests.beside import PROGRAM, ROOT, Live, answered, need, responses, skip, started, wire
@@ -212,8 +212,8 @@ class Captures(unittest.TestCase):
         made.frames = conversation().frames
         with open(os.path.join(self.folder, "plain"), "wb") as file:
             made.write(file)
-        with open(file.name, "rb") as file, gzip.open(os.path.join(self.folder, "packed"), "wb") as packed:
-            packed.write(file.read())
+        with open(file.name, "rb") as plain, gzip.open(os.path.join(self.folder, "packed"), "wb") as packed:
+            packed.write(plain.read())
         for words in ("plain out", "packed out", "- out < plain", "- out < packed", "<(cat plain) out"):
             command = f'exec {sys.executable} -m gavyreto capture --program "{PROGRAM}" {words}'
             given = started()
@@ -281,13 +281,12 @@ class Captures(unittest.TestCase):
         made = captures.Capture()
         made.frames = conversation().frames[:20]
         command = [sys.executable, "-m", "gavyreto", "capture", "--program", PROGRAM, "-", "out"]
-        given = started() | {"stdin": subprocess.PIPE}
-        with subprocess.Popen(command, cwd=self.folder, stdout=subprocess.PIPE, stderr=subprocess.PIPE, **given) as run:
-            made.write(cast("IO[bytes]", run.stdin))
-            cast("IO[bytes]", run.stdin).flush()
-            cast("IO[bytes]", run.stdout).readline()
+        with subprocess.Popen(command, cwd=self.folder, stdin=subprocess.PIPE, stdout=subprocess.PIPE, stderr=subprocess.PIPE, env=started()["env"]) as run:
+            made.write(cast(BinaryIO, run.stdin))
+            cast(BinaryIO, run.stdin).flush()
+            cast(BinaryIO, run.stdout).readline()
             run.terminate()
-            self.assertEqual(cast("IO[bytes]", run.stderr).read(), b"ended by SIGTERM\n")
+            self.assertEqual(cast(BinaryIO, run.stderr).read(), b"ended by SIGTERM\n")
         self.assertEqual((run.returncode, [it for it in os.listdir(os.path.join(self.folder, "out")) if not it.endswith(".csv")]), (143, []))
 
 

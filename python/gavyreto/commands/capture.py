@@ -21,13 +21,11 @@ import argparse
 import contextlib
 import os
 import signal
-import subprocess
-import sys
 import tempfile
 from collections.abc import Iterator
 from datetime import datetime, timedelta, timezone
 from types import FrameType
-from typing import IO, NoReturn, Optional, cast
+from typing import NoReturn, Optional, cast
 
 from gavyreto import program, tds
 from gavyreto.adapting import Adapter
@@ -62,7 +60,6 @@ class Export:
     def __init__(self, asked: argparse.Namespace, room: Room) -> None:
         self.worst = 0
         self._asked, self._room = asked, room
-        self._command = program.command_of(asked.program, program.PACKET_SIZE, asked.column_room, program.MAX_WIRE, asked.charset)
         self._counts: dict[str, int] = {}
 
     def keep(self) -> Kept:
@@ -75,41 +72,30 @@ class Export:
 
     def answer(self, sides: Sides, answer: Answer) -> None:
         """Exports an answer whose packets are kept."""
-        packets, text = cast(Kept, answer.kept).file(), os.path.join(self._room.folder, "text")
-        adapted = os.path.join(self._room.folder, "adapted")
-        if self._asked.adapt and self._adapt(packets, adapted):
-            os.replace(adapted, packets)
-        outcome = self._outcome(self._run(packets, text), answer)
+        kept = cast(Kept, answer.kept)
+        run, packets = kept.piped(), ""
+        if run is None:
+            packets = kept.file()
+            if self._asked.adapt:
+                self._adapt(packets)
+            run = self._room.run(packets)
+        status, notes = run.end()
+        outcome = self._outcome(judged(run.text, status, notes, os.path.getsize(run.text)), answer)
         name = self._next_name(sides)
         ending = ".csv" if outcome.status in (0, SERVER_ERROR) else ".csv.partial"
-        os.replace(text, os.path.join(self._asked.out, name + ending))
+        os.replace(run.text, os.path.join(self._asked.out, name + ending))
         if self._asked.packets:
             os.replace(packets, os.path.join(self._asked.out, name + ".tds"))
-        answer.kept.drop()
+        kept.drop()
         self._put(name + ending, sides, answer.time, answer.words(), outcome.status, outcome.line)
 
-    def _adapt(self, packets: str, adapted: str) -> bool:
-        """Rewrites columns that the program refuses. Returns whether the answer could be followed."""
-        with open(packets, "rb") as source, open(adapted, "wb") as target:
-            try:
+    def _adapt(self, packets: str) -> None:
+        """Rewrites columns that the program refuses. What can't be followed stays as it is, and the program says why."""
+        adapted = packets + ".adapted"
+        with contextlib.suppress(ValueError, KeyError, Ended):
+            with open(packets, "rb") as source, open(adapted, "wb") as target:
                 Adapter(source.read, target.write, self._asked.charset).run()
-            except (ValueError, KeyError, Ended):
-                return False
-        return True
-
-    def _run(self, packets: str, text: str) -> Outcome:
-        """Runs the program on the packets of an answer."""
-        with open(packets, "rb") as source, open(text, "wb") as out:
-            run = subprocess.Popen(self._command, stdin=source, stdout=out, stderr=subprocess.PIPE, start_new_session=True)
-        try:
-            with cast("IO[bytes]", run.stderr) as stderr:
-                notes = stderr.read().decode("utf-8", "replace")
-            status = run.wait()
-        except BaseException:
-            run.kill()
-            run.wait()
-            raise
-        return judged(text, status, notes, os.path.getsize(text))
+            os.replace(adapted, packets)
 
     def _outcome(self, outcome: Outcome, answer: Answer) -> Outcome:
         """The outcome of an answer, with what its packets say of its end."""
@@ -176,8 +162,10 @@ def capture(asked: argparse.Namespace) -> int:
         left = [name for name in os.listdir(asked.out) if name.endswith((".csv", ".partial", ".tds"))]
         if left:
             raise Stopped(f"{asked.out} has texts, as {left[0]}: name a folder without them", REFUSED)
-        with tempfile.TemporaryDirectory(prefix="unfinished", dir=asked.out) as folder:
-            export, accounts = Export(asked, Room(folder)), Accounts()
+        with tempfile.TemporaryDirectory(prefix="unfinished", dir=asked.out) as folder, contextlib.ExitStack() as stack:
+            command = program.command_of(asked.program, program.PACKET_SIZE, asked.column_room, program.MAX_WIRE, asked.charset)
+            room = stack.enter_context(Room(folder, command, not asked.packets and not asked.adapt))
+            export, accounts = Export(asked, room), Accounts()
             notes = Notes(export)
             if files.is_capture(source.head()):
                 take_capture(source, export, accounts, notes, set(asked.port or [1433]))
