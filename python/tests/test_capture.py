@@ -14,7 +14,7 @@ import unittest
 from typing import BinaryIO, Optional, cast
 
 from gavyreto import tds
-from tests.beside import PROGRAM, ROOT, Live, answered, need, responses, skip, started, wire
+from tests.beside import PROGRAM, ROOT, Live, answered, need, skip, started, wire
 
 sys.path[:0] = [os.path.join(ROOT, "tools")]
 import captures  # noqa: E402

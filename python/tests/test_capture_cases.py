@@ -9,8 +9,9 @@ from typing import NamedTuple
 
 from gavyreto.capturing import files
 from gavyreto.capturing.accounts import Accounts
-from gavyreto.capturing.connections import HARMLESS, Connections
+from gavyreto.capturing.connections import Connections
 from gavyreto.capturing.conversations import Answer, Sides
+from gavyreto.capturing.frames import WRONG_CHECKSUM
 from tests.capture_cases import Case, case
 
 CASES = int(os.environ.get("CASES", "1000"))
@@ -74,7 +75,7 @@ def read(data: bytes) -> Read:
     except files.CutShort as cut:
         desk.told.append(str(cut))
     connections.finish()
-    desk.told += [reason for reason in accounts.unread if reason != HARMLESS]
+    desk.told += [reason for reason in accounts.unread if reason != WRONG_CHECKSUM]
     desk.told += ["cut frames"] * bool(connections.cut) + ["no connection"] * (not accounts.connections)
     return Read(desk.answers, desk.told, accounts)
 

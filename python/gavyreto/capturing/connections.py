@@ -18,7 +18,6 @@ MOST_OPEN = 8192  # connections that are followed at once; past them the one tha
 MOST_ENDED = 4096  # whose late copies are known
 MOST_OF_A_RUN = 1 << 16  # bytes of segments that are taken as one
 MOST_PORTS = 64  # of other servers that are named
-HARMLESS = "a wrong checksum of TCP"  # no receiver takes such a segment
 
 
 class Ends(NamedTuple):

@@ -26,6 +26,7 @@ PART = 384  # bytes of a segment that are summed as one number
 TCP_HEADER = struct.Struct(">HHIIBBHHH")
 IPV4_HEADER = struct.Struct(">BBHHHBBH8s")
 SYN, FIN, RESET, PUSH, ACK = 2, 1, 4, 8, 16
+WRONG_CHECKSUM = "a wrong checksum of TCP"  # neither its own, nor one left to the adapter: no receiver takes such a segment
 
 
 class Segment(NamedTuple):
@@ -47,10 +48,6 @@ class Other(Exception):
 
 class Unread(Exception):
     """A frame may have one that isn't read. The message says why."""
-
-
-class WrongChecksum(Unread):
-    """A segment whose checksum isn't its own, nor what a system writes that leaves it to the adapter: no receiver takes it."""
 
 
 class Bytes:
@@ -271,7 +268,7 @@ def _tcp(frame: Bytes, at: int, end: int, addresses: bytes, tags: Tags) -> Segme
         raise Unread("a wrong header of TCP")
     captured = min(end, len(frame.data))
     if captured == end and not is_sound(frame.data[at:end], addresses, checksum):
-        raise WrongChecksum("a wrong checksum of TCP")
+        raise Unread(WRONG_CHECKSUM)
     ports, half = frame.data[at:at + 4], len(addresses) // 2
     return Segment(
         tags, addresses[:half] + ports[:2], addresses[half:] + ports[2:], sequence, acknowledged, flags, frame.data[start:captured], end - max(captured, start))

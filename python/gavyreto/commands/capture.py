@@ -31,8 +31,9 @@ from gavyreto import program, tds
 from gavyreto.adapting import Adapter
 from gavyreto.capturing import dumps, files
 from gavyreto.capturing.accounts import Accounts
-from gavyreto.capturing.connections import HARMLESS, Connections
+from gavyreto.capturing.connections import Connections
 from gavyreto.capturing.conversations import Answer, Sides
+from gavyreto.capturing.frames import WRONG_CHECKSUM
 from gavyreto.capturing.keeping import Kept, Room
 from gavyreto.capturing.messages import is_header
 from gavyreto.commands import BAD_INPUT, FAILED, INTERRUPTED, REFUSED, SERVER_ERROR, say
@@ -191,7 +192,7 @@ def take_capture(source: files.Source, export: Export, accounts: Accounts, notes
         cut = str(why)
     connections.finish()
     for reason, count in accounts.unread.most_common():
-        notes.add(f"{count} frames aren't read: {reason}", 0 if reason == HARMLESS else BAD_INPUT)
+        notes.add(f"{count} frames aren't read: {reason}", 0 if reason == WRONG_CHECKSUM else BAD_INPUT)
     if connections.cut:
         notes.add(f"{connections.cut} frames weren't captured whole: `tcpdump -s 0` keeps all of them", BAD_INPUT)
     others = ", ".join(str(port) for port, _ in connections.others.most_common())
