@@ -14,7 +14,7 @@ _gavyreto() {
     fi
     case $command in
         query) options="-S --server -U --user -d --database -i --input -o --output --encrypt -N -Nm -No -C --trust-server --certificates --certificate-name --seconds --packet-size --column-room --charset --program" ;;
-        capture) options="--port --column-room --charset --program" ;;
+        capture) options="--port --packets --adapt --column-room --charset --program" ;;
         columns) options="--as --table" ;;
         adapt) options="-o --output --charset" ;;
         many) options="-j --jobs --scheduler --column-room --charset --program" ;;
