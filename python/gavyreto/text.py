@@ -274,6 +274,12 @@ class ResultSet:
 
         return frame_of(self)
 
+    def arrow(self) -> Any:
+        """The rows that are left as a Table of pyarrow, which has to be there beside pandas, with the types of `frame`."""
+        import pyarrow  # type: ignore[import]
+
+        return pyarrow.Table.from_pandas(self.frame(), preserve_index=False)
+
     def __iter__(self) -> Iterator[Row]:
         yield from self._rows
         while self._take():

@@ -30,6 +30,16 @@ with tempfile.NamedTemporaryFile() as file:
     file.write(b'"a","b","a","c"\\r\\n1,"x",NULL,1.50\\r\\nNULL,NULL,NULL,99999999999999999999999999999999999.00\\r\\n')
     file.flush()
     table = next(gavyreto.read(file.name)).frame()
+# no package of Debian has pyarrow: what it is asked for
+import types
+class Table:
+    @staticmethod
+    def from_pandas(frame, preserve_index):
+        return frame, preserve_index
+sys.modules["pyarrow"] = types.ModuleType("pyarrow")
+sys.modules["pyarrow"].Table = Table
+whole, keeps_index = gavyreto.export(beside.wire("kinds", 3000), program=program).only().arrow()
+assert whole.shape == (3000, len(rows.names)) and not keeps_index
 print(list(table.columns), [str(kind) for kind in table.dtypes], table.iloc[1, 3] == decimal.Decimal("99999999999999999999999999999999999.00"))
 """
 KINDS = {
