@@ -3,19 +3,19 @@
 #
 # Needs: `python3`, Python's `pandas`.
 #
-# The table is made by pandas_frame.py, beside this script, which says what its columns are. With your own data, put your file in
-# place of kinds.tds.
+# `frame()` gives columns of `Int32` and its kin, with a capital letter, which have room for NULL, and of strings. Decimals stay
+# Decimal, binary values bytes, and dates text, in columns of objects. With your own data, put your file in place of kinds.tds.
 #
 # It prints of seven columns the dtype, where NULL is, and a value; and a column of text as a time of pandas. `to_datetime` counts
 # nanoseconds from 1677 to 2262: keep the text for dates outside of these years.
 set -eu
 
 tools/response kinds > kinds.tds
-PYTHONPATH="examples/recipes:${PYTHONPATH-}" python3 - <<'PYTHON'
+python3 - <<'PYTHON'
+import gavyreto
 import pandas
-from pandas_frame import frame
 
-table = frame("kinds.tds")
+table = gavyreto.export("kinds.tds").only().frame()
 for column in ("whole", "whole_or_null", "flag_or_null", "name", "total", "hash", "minute"):
     print(column, table[column].dtype, table[column].isna().tolist(), repr(table.loc[1, column]))
 print(pandas.to_datetime(table["minute"].iloc[0:1]).iloc[0])

@@ -24,7 +24,7 @@ from lib import sample_responses
 for sets in gavyreto.export("kinds.tds"), gavyreto.read("kinds.csv"):
     kinds = sets.only()
     values = list(kinds)
-    assert kinds.names == sample_responses.NAMES and repr(values) == repr(sample_responses.VALUES)
+    assert kinds.names == sample_responses.NAMES and repr([list(row) for row in values]) == repr(sample_responses.VALUES)
     print(len(values), "rows of", len(kinds.names), "columns")
 PYTHON
 

@@ -24,35 +24,39 @@ Values are exact:
     NULL                                        None
 
 All values of a column have one type. Python's times have six digits of a second: with `dates=True` a column of seven, as
-datetime2(7), stays text, so that nothing is lost. A datetimeoffset is a datetime with its own offset.
+datetime2(7), stays text, so that nothing is lost; `dates="truncate"` cuts the seventh off. A datetimeoffset is a datetime with its
+own offset. A row is a tuple, and `row.name` is its value in the column `name`.
 
 Python 3.9 or later, standard library alone. `python3 -m gavyreto` has commands for a terminal."""
 from __future__ import annotations
 
-import importlib
-from typing import TYPE_CHECKING, Any
-
+TYPE_CHECKING = False  # as typing has it, which isn't imported for it: a command begins with this module
 if TYPE_CHECKING:
+    from typing import Any
+
     from gavyreto.client import Connection, connect, query
     from gavyreto.errors import (
         BadAnswer, ConnectionFailed, Error, Fault, MalformedText, NotOneSet, PassedOver, ProgramFailed, Report, ServerError,
-        UnfinishedText,
+        UnfinishedAnswer, UnfinishedText,
     )
     from gavyreto.response import Response, Source, export
+    from gavyreto.rows import Row
     from gavyreto.text import ResultSet, Sets, read
     from gavyreto.values import Value, value_of
     from gavyreto.version import __version__
 
 __all__ = [
-    "export", "read", "query", "connect", "value_of", "Connection", "Sets", "Response", "ResultSet", "Report", "Value", "Source",
-    "Error", "Fault", "ServerError", "ProgramFailed", "NotOneSet", "UnfinishedText", "MalformedText", "PassedOver",
-    "ConnectionFailed", "BadAnswer", "__version__",
+    "export", "read", "query", "connect", "value_of", "Connection", "Sets", "Response", "ResultSet", "Row", "Report", "Value",
+    "Source", "Error", "Fault", "ServerError", "ProgramFailed", "NotOneSet", "UnfinishedAnswer", "UnfinishedText", "MalformedText",
+    "PassedOver", "ConnectionFailed", "BadAnswer", "__version__",
 ]
-_MODULES = ["errors", "version", "values", "text", "response", "client"]
+_MODULES = ["errors", "version", "values", "rows", "text", "response", "client"]
 
 
 def __getattr__(name: str) -> Any:
     """A name of `__all__`, imported when it is first asked for: so a command imports no more than it uses."""
+    import importlib
+
     if name in __all__:
         for module in _MODULES:
             found = importlib.import_module(f"gavyreto.{module}")

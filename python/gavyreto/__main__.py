@@ -1,11 +1,30 @@
 """The commands of the package: python3 -m gavyreto COMMAND, or gavyreto COMMAND once it is installed."""
 from __future__ import annotations
 
-import importlib
+import os
+import signal
 import sys
-from typing import NoReturn, Optional
 
-from gavyreto.version import __version__
+INTERRUPTED = 130
+
+
+def _interrupted(_: int, __: object) -> NoReturn:
+    """Ctrl-C before a command has begun."""
+    try:
+        os.write(2, b"interrupted\n")
+    finally:
+        os._exit(INTERRUPTED)
+
+
+# Before anything else is imported: what is imported may be interrupted too. It is ignored of what the shell runs in the background.
+if __name__ == "__main__" and signal.getsignal(signal.SIGINT) is signal.default_int_handler:
+    signal.signal(signal.SIGINT, _interrupted)
+
+import importlib  # noqa: E402
+from typing import NoReturn, Optional  # noqa: E402
+
+from gavyreto.commands import common  # noqa: E402
+from gavyreto.version import __version__  # noqa: E402
 
 COMMANDS = {
     "query": "asks a server, and writes the rows of its answers as quoted CSV",
@@ -19,7 +38,7 @@ USAGE = "usage: gavyreto COMMAND [ARGUMENTS]\n\n" + "".join(f"  {name:9}{does}\n
 
 
 def run(words: list[str]) -> int:
-    """Runs a command, and returns its exit status."""
+    """Runs a command, and returns its exit status. Raises what ended it."""
     name, *rest = words or [""]
     if name == "help" and rest:
         name, rest = rest[0], ["--help"]
@@ -27,20 +46,39 @@ def run(words: list[str]) -> int:
         status = importlib.import_module(f"gavyreto.commands.{name}").run(rest)
         return int(status)
     if name in ("-h", "--help", "help"):
-        print(USAGE, end="")
+        common.put(USAGE)
         return 0
     if name in ("-V", "--version"):
-        print(f"gavyreto {__version__}")
+        common.put(f"gavyreto {__version__}\n")
         return 0
-    print(f"gavyreto: {f'no command {name}' if name else 'a command is needed'}\n\n{USAGE}", end="", file=sys.stderr)
-    return 2
+    common.tell(f"gavyreto: {f'no command {name}' if name else 'a command is needed'}")
+    common.say("\n" + USAGE)
+    return common.REFUSED
+
+
+def ended(words: list[str]) -> int:
+    """Runs a command, and returns its exit status: whatever ends it is a line on standard error."""
+    try:
+        if signal.getsignal(signal.SIGINT) is _interrupted:
+            signal.signal(signal.SIGINT, signal.default_int_handler)
+        return run(words)
+    except SystemExit as refused:  # by argparse, which has said why
+        return refused.code if isinstance(refused.code, int) else common.REFUSED
+    except BaseException as failure:
+        line, status = common.ending_of(failure)
+        common.tell(line)
+        return status
 
 
 def main(words: Optional[list[str]] = None) -> NoReturn:
+    common.open_descriptors()
+    status = ended(sys.argv[1:] if words is None else words)
     try:
-        status = run(sys.argv[1:] if words is None else words)
-    except KeyboardInterrupt:
-        status = 130
+        sys.stdout.flush()
+    except OSError as failure:
+        common.tell(f"standard output: {common.cause_of(failure)}")
+        sys.stdout = open(os.devnull, "w", encoding="utf-8")  # so that the interpreter doesn't try again
+        status = status or common.FAILED
     sys.exit(status)
 
 

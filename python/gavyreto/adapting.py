@@ -10,12 +10,15 @@ from typing import Callable, Iterator, NamedTuple, Optional
 from gavyreto import columns, tds
 from gavyreto.columns import FIXED, Described, Type
 from gavyreto.payload import (
-    NBCROW, RETURN_VALUE, ROW, Payload, Read, Write, after_rows, bytes_of_bitmap, cell, head_of_value, rest_of, ways_over,
+    Payload, Read, Write, after_rows, bytes_of_bitmap, cell, head_of_value, rest_of, ways_over,
 )
-from gavyreto.scalars import TEXTS
+from gavyreto.scalars import TEXTS, check_variant
+from gavyreto.tds import DataType, Token
 
 COLLATION = bytes.fromhex("0904D00034")
 NULL_VALUE, NULL_CHUNKS, NO_MORE = b"\xFF\xFF", b"\xFF" * 8, bytes(4)
+LONGEST_OLD = 2**31 - 1  # bytes of a text, ntext or image
+LONGEST_VARIANT = 8016  # bytes of a sql_variant with its type and properties
 TEXT_OF_FLOAT = 40  # characters at most
 MAX = b"\xFF\xFF"
 Convert = Callable[[Payload, Type], Iterator[bytes]]
@@ -35,11 +38,13 @@ def _float(payload: Payload, type_: Type) -> Iterator[bytes]:
     if length == 0:
         yield NULL_VALUE
         return
-    text = TEXTS[columns.FLT8 if length == 8 else columns.FLT4](payload.need(length), 0).encode()
+    if type_.byte == DataType.FLTN and (length != type_.length or length not in (4, 8)):
+        raise ValueError(f"a float of {length} bytes in a column of {type_.length}")
+    text = TEXTS[DataType.FLT8 if length == 8 else DataType.FLT4](payload.need(length), 0).encode()
     yield struct.pack("<H", len(text)) + text
 
 
-def _old(payload: Payload, _: Type) -> Iterator[bytes]:
+def _old(payload: Payload, type_: Type) -> Iterator[bytes]:
     """A value after a pointer and a timestamp, which are left out, as one chunk."""
     pointer = payload.number(1)
     if pointer == 0:
@@ -47,6 +52,8 @@ def _old(payload: Payload, _: Type) -> Iterator[bytes]:
         return
     payload.skip(pointer + 8)
     length = payload.number(4)
+    if length > LONGEST_OLD or type_.byte == DataType.NTEXT and length % 2:
+        raise ValueError(f"a value of the type 0x{type_.byte:02x} of {length} bytes")
     yield struct.pack("<Q", length) + (struct.pack("<I", length) if length else b"")
     yield from payload.pieces(length)
     yield NO_MORE
@@ -62,7 +69,11 @@ def _variant(charset: str) -> Convert:
         if length == 0:
             yield NULL_CHUNKS
             return
+        if not 2 <= length <= LONGEST_VARIANT:
+            raise ValueError(f"a sql_variant of {length} bytes")
         base, size = payload.number(1), payload.number(1)
+        if length < 2 + size:
+            raise ValueError(f"a sql_variant of {length} bytes, with {size} of properties")
         properties = payload.need(size)
         data = variant_text(base, properties, payload.need(length - 2 - size), charset).encode("utf-16-le", "surrogatepass")
         yield struct.pack("<Q", len(data)) + (struct.pack("<I", len(data)) + data if data else b"") + NO_MORE
@@ -71,15 +82,14 @@ def _variant(charset: str) -> Convert:
 
 def variant_text(base: int, properties: bytes, data: bytes, charset: str) -> str:
     """The text of a value of a sql_variant, by its base type and what that has besides. Raises ValueError if there is none."""
+    check_variant(base, properties, len(data))
     if base in TEXTS:
         return TEXTS[base](data, properties[-1] if properties else 0)
-    if base in (columns.VARBINARY, columns.BINARY):
+    if base in (DataType.VARBINARY, DataType.BINARY):
         return "0x" + data.hex()
-    if base in (columns.NVARCHAR, columns.NCHAR):
+    if base in (DataType.NVARCHAR, DataType.NCHAR):
         return data.decode("utf-16-le", "surrogatepass")
-    if base in (columns.VARCHAR, columns.CHAR):
-        return data.decode("utf-8") if charset == "utf-8" else windows_1252(data)
-    raise ValueError(f"no base type of a sql_variant: 0x{base:02x}")
+    return data.decode("utf-8") if charset == "utf-8" else windows_1252(data)
 
 
 def windows_1252(data: bytes) -> str:
@@ -89,19 +99,19 @@ def windows_1252(data: bytes) -> str:
 
 def adapted(type_: Type, charset: str) -> Optional[Adapted]:
     """What takes the place of a type, or None if it stays."""
-    if type_.byte in (columns.FLT4, columns.FLT8, columns.FLTN):
-        return Adapted(struct.pack("<BH", columns.VARCHAR, TEXT_OF_FLOAT) + COLLATION, _float)
-    if type_.byte == columns.TEXT:
-        return Adapted(bytes([columns.VARCHAR]) + MAX + type_.info[4:9], _old)
-    if type_.byte == columns.NTEXT:
-        return Adapted(bytes([columns.NVARCHAR]) + MAX + type_.info[4:9], _old)
-    if type_.byte == columns.IMAGE:
-        return Adapted(bytes([columns.VARBINARY]) + MAX, _old)
-    if type_.byte == columns.UDT:
-        return Adapted(bytes([columns.VARBINARY]) + MAX, _same)
-    if type_.byte == columns.XML:
-        return Adapted(bytes([columns.NVARCHAR]) + MAX + COLLATION, _same)
-    return Adapted(bytes([columns.NVARCHAR]) + MAX + COLLATION, _variant(charset)) if type_.byte == columns.VARIANT else None
+    if type_.byte in (DataType.FLT4, DataType.FLT8, DataType.FLTN):
+        return Adapted(struct.pack("<BH", DataType.VARCHAR, TEXT_OF_FLOAT) + COLLATION, _float)
+    if type_.byte == DataType.TEXT:
+        return Adapted(bytes([DataType.VARCHAR]) + MAX + type_.info[4:9], _old)
+    if type_.byte == DataType.NTEXT:
+        return Adapted(bytes([DataType.NVARCHAR]) + MAX + type_.info[4:9], _old)
+    if type_.byte == DataType.IMAGE:
+        return Adapted(bytes([DataType.VARBINARY]) + MAX, _old)
+    if type_.byte == DataType.UDT:
+        return Adapted(bytes([DataType.VARBINARY]) + MAX, _same)
+    if type_.byte == DataType.XML:
+        return Adapted(bytes([DataType.NVARCHAR]) + MAX + COLLATION, _same)
+    return Adapted(bytes([DataType.NVARCHAR]) + MAX + COLLATION, _variant(charset)) if type_.byte == DataType.VARIANT else None
 
 
 # Packets: those that came, up to the first change; from there on packets of the greatest size that came.
@@ -177,11 +187,11 @@ class Adapter:
             self._output.finish(is_whole)
 
     def _token(self, byte: int) -> None:
-        if byte == tds.Token.COLUMNS:
+        if byte == Token.COLUMNS:
             self._description()
-        elif byte in (ROW, NBCROW):
+        elif byte in (Token.ROW, Token.NBCROW):
             self._row(byte)
-        elif byte == RETURN_VALUE:
+        elif byte == Token.RETURN_VALUE:
             self._return_value()
         else:
             self._output.keep(bytes([byte]))
@@ -190,7 +200,7 @@ class Adapter:
 
     def _description(self) -> None:
         """A description of columns is written once it is whole: as it came, or with other types."""
-        came = bytearray([tds.Token.COLUMNS])
+        came = bytearray([Token.COLUMNS])
 
         def need(length: int) -> bytes:
             data = self._payload.need(length)
@@ -236,7 +246,7 @@ class Adapter:
         self._output.keep(self._payload.data[start:self._payload.at])
 
     def _return_value(self) -> None:
-        self._output.keep(bytes([RETURN_VALUE]) + head_of_value(self._payload))
+        self._output.keep(bytes([Token.RETURN_VALUE]) + head_of_value(self._payload))
         type_ = columns.read_type(self._payload.need)
         new = adapted(type_, self._charset)
         if new:

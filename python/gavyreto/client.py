@@ -2,12 +2,13 @@
 from __future__ import annotations
 
 import subprocess
-from typing import Any, Optional
+from typing import Optional
 
-from gavyreto.connection import Session, log_in_to
+from gavyreto.connection import ENCRYPT, PORT, SECONDS, Session, log_in_to
 from gavyreto.payload import Descriptions, Payload, Write
-from gavyreto.program import CHARSETS, COLUMN_ROOM, MAX_WIRE, PROGRAM, command_of, path_of
+from gavyreto.program import CHARSETS, COLUMN_ROOM, MAX_WIRE, PACKET_SIZE_ASKED, PROGRAM, command_of, path_of
 from gavyreto.response import Response, started
+from gavyreto.values import Dates, check_dates
 
 
 class Connection:
@@ -30,16 +31,17 @@ class Connection:
         self._session.close()
 
     def query(
-        self, statement: str, *, dates: bool = False, column_room: int = COLUMN_ROOM, max_wire: int = MAX_WIRE,
+        self, statement: str, *, dates: Dates = False, column_room: int = COLUMN_ROOM, max_wire: int = MAX_WIRE,
         charset: str = CHARSETS[0], program: str = PROGRAM,
     ) -> Answer:
         """Asks, and returns an iterator over the result sets of the answer, as `export` does with the same arguments. The
         answer has to be read to its end before the next statement; a connection whose answer isn't is closed with it.
 
         Raises ValueError if the answer before isn't read, or the statement is no Unicode, OSError if the program can't be
-        started, and ConnectionFailed."""
+        started, ConnectionFailed, and BadAnswer if bytes have come that weren't asked for."""
         if self._answer and not self._answer.is_left:
             raise ValueError("the answer before isn't read to its end")
+        check_dates(dates)
         command = command_of(program, self._session.packet_size, column_room, max_wire, charset)
         run = started(command, subprocess.PIPE)
         try:
@@ -84,11 +86,14 @@ def hand_on(session: Session, write: Write, found: Descriptions) -> None:
 class Answer(Response):
     """The result sets of a server's answer, while it comes."""
 
-    def __init__(self, session: Session, run: subprocess.Popen[bytes], dates: bool) -> None:
+    def __init__(self, session: Session, run: subprocess.Popen[bytes], dates: Dates) -> None:
         self.owns_session = False  # whether the session was made for this answer
         self.is_left = False  # whether no more of it is read
         self._session, found = session, Descriptions()
-        super().__init__(run, dates, lambda write: hand_on(session, write, found), found)
+        super().__init__(run, dates, found, copy=lambda write: hand_on(session, write, found))
+
+    def _unfinished(self) -> Optional[str]:
+        return self._session.unfinished
 
     def _release(self) -> None:
         super()._release()
@@ -97,31 +102,41 @@ class Answer(Response):
             self._session.close()
 
 
-def connect(server: str, *, user: str, password: str, **options: Any) -> Connection:
+def connect(
+    server: str, *, user: str, password: str, port: int = PORT, database: str = "", encrypt: str = ENCRYPT[0],
+    certificates: Optional[str] = None, certificate_name: str = "", trust_server: bool = False, packet_size: int = PACKET_SIZE_ASKED,
+    seconds: int = SECONDS,
+) -> Connection:
     """Connects to a server, and logs in by SQL authentication.
 
-    server        the name that its certificate has, or an address
-    port          without it 1433
-    database      without it that of the user
-    encrypt       the least that is encrypted: "all", "login" or "none", without it all; a server that asks for more gets it
-    certificates  a file of authorities to trust in place of the system's, in PEM
-    trust_server  whether the certificate isn't verified: anyone between can read all then
-    packet_size   bytes that are asked for, 512 to 32767, without it 8000
-    seconds       the longest that the server may be silent, without it 300
+    server            the name that its certificate has, or an address
+    database          without it that of the user
+    encrypt           the least that is encrypted: "all", "login" or "none"; a server that asks for more gets it
+    certificates      a file of authorities to trust in place of the system's, in PEM
+    certificate_name  the name that the certificate has, without it `server`; also that of a server to which it redirects
+    trust_server      whether the certificate isn't verified: anyone between can read all then
+    packet_size       bytes that are asked for, 512 to 32767
+    seconds           the longest that the server may be silent
 
     Raises ConnectionFailed, ServerError if the login is refused, BadAnswer if what answers is no such server, and ValueError if
     an argument is none. A redirection is followed once, and only if it came encrypted."""
-    return Connection(log_in_to(server, user=user, password=password, **options))
+    return Connection(log_in_to(
+        server, user=user, password=password, port=port, database=database, encrypt=encrypt, certificates=certificates,
+        certificate_name=certificate_name, trust_server=trust_server, packet_size=packet_size, seconds=seconds))
 
 
 def query(
-    statement: str, server: str, *, user: str, password: str, dates: bool = False, column_room: int = COLUMN_ROOM,
-    max_wire: int = MAX_WIRE, charset: str = CHARSETS[0], program: str = PROGRAM, **options: Any,
+    statement: str, server: str, *, user: str, password: str, port: int = PORT, database: str = "", encrypt: str = ENCRYPT[0],
+    certificates: Optional[str] = None, certificate_name: str = "", trust_server: bool = False, packet_size: int = PACKET_SIZE_ASKED,
+    seconds: int = SECONDS, dates: Dates = False, column_room: int = COLUMN_ROOM, max_wire: int = MAX_WIRE, charset: str = CHARSETS[0],
+    program: str = PROGRAM,
 ) -> Response:
     """Asks a server one statement, on a connection of its own, and returns an iterator over the result sets of the answer:
     what `connect` and `Connection.query` do with the same arguments."""
     path = path_of(program)
-    connection = connect(server, user=user, password=password, **options)
+    connection = connect(
+        server, user=user, password=password, port=port, database=database, encrypt=encrypt, certificates=certificates,
+        certificate_name=certificate_name, trust_server=trust_server, packet_size=packet_size, seconds=seconds)
     try:
         answer = connection.query(
             statement, dates=dates, column_room=column_room, max_wire=max_wire, charset=charset, program=path)

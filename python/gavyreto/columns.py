@@ -4,32 +4,43 @@ from __future__ import annotations
 import struct
 from typing import Callable, NamedTuple, Optional, Union
 
+from gavyreto.tds import DataType
+
 Need = Callable[[int], bytes]  # hands out as many bytes as it is asked for, or raises `payload.Ended`
 
 # Types without a length, and how many bytes a value has.
-FIXED = {0x1F: 0, 0x30: 1, 0x32: 1, 0x34: 2, 0x38: 4, 0x3A: 4, 0x3B: 4, 0x3C: 8, 0x3D: 8, 0x3E: 8, 0x7A: 4, 0x7F: 8}
+FIXED: dict[int, int] = {
+    DataType.NULL: 0, DataType.INT1: 1, DataType.BIT: 1, DataType.INT2: 2, DataType.INT4: 4, DataType.DATETIME4: 4, DataType.FLT4: 4,
+    DataType.MONEY: 8, DataType.DATETIME: 8, DataType.FLT8: 8, DataType.MONEY4: 4, DataType.INT8: 8,
+}
 # Types with a length of one byte before each value, and how many bytes follow the type's byte.
-COUNTED = {0x24: 1, 0x26: 1, 0x28: 0, 0x29: 1, 0x2A: 1, 0x2B: 1, 0x68: 1, 0x6A: 3, 0x6C: 3, 0x6D: 1, 0x6E: 1, 0x6F: 1}
+COUNTED: dict[int, int] = {
+    DataType.GUID: 1, DataType.INTN: 1, DataType.DATE: 0, DataType.TIME: 1, DataType.DATETIME2: 1, DataType.DATETIMEOFFSET: 1,
+    DataType.BITN: 1, DataType.DECIMAL: 3, DataType.NUMERIC: 3, DataType.FLTN: 1, DataType.MONEYN: 1, DataType.DATETIMEN: 1,
+}
 # Types with a length of two bytes before each value, or in chunks if they are described as FFFF long.
-LONG = {0xA5: 2, 0xAD: 2, 0xA7: 7, 0xAF: 7, 0xE7: 7, 0xEF: 7}
-GUID, DATE, TIME, DATETIME2, DATETIMEOFFSET, DECIMAL, NUMERIC = 0x24, 0x28, 0x29, 0x2A, 0x2B, 0x6A, 0x6C
-FLT4, FLT8, FLTN, IMAGE, TEXT, NTEXT, VARIANT, UDT, XML = 0x3B, 0x3E, 0x6D, 0x22, 0x23, 0x63, 0x62, 0xF0, 0xF1
-VARBINARY, VARCHAR, BINARY, CHAR, NVARCHAR, NCHAR = 0xA5, 0xA7, 0xAD, 0xAF, 0xE7, 0xEF
+LONG: dict[int, int] = {
+    DataType.VARBINARY: 2, DataType.BINARY: 2, DataType.VARCHAR: 7, DataType.CHAR: 7, DataType.NVARCHAR: 7, DataType.NCHAR: 7,
+}
 MAX = 0xFFFF
 ROWVERSION = 80  # the user type of a rowversion, which is a binary(8) otherwise
 NULLABLE = 0x0001  # a bit of the flags
 
-NAMES = {
-    0x30: "tinyint", 0x32: "bit", 0x34: "smallint", 0x38: "int", 0x7F: "bigint", 0x3A: "smalldatetime", 0x3D: "datetime",
-    0x7A: "smallmoney", 0x3C: "money", FLT4: "real", FLT8: "float", GUID: "uniqueidentifier", DATE: "date", 0x68: "bit",
-    IMAGE: "image", TEXT: "text", NTEXT: "ntext", VARIANT: "sql_variant", XML: "xml",
+NAMES: dict[int, str] = {
+    DataType.INT1: "tinyint", DataType.BIT: "bit", DataType.INT2: "smallint", DataType.INT4: "int", DataType.INT8: "bigint",
+    DataType.DATETIME4: "smalldatetime", DataType.DATETIME: "datetime", DataType.MONEY4: "smallmoney", DataType.MONEY: "money",
+    DataType.FLT4: "real", DataType.FLT8: "float", DataType.GUID: "uniqueidentifier", DataType.DATE: "date", DataType.BITN: "bit",
+    DataType.IMAGE: "image", DataType.TEXT: "text", DataType.NTEXT: "ntext", DataType.VARIANT: "sql_variant", DataType.XML: "xml",
 }
-SIZED = {
-    0x26: {1: "tinyint", 2: "smallint", 4: "int", 8: "bigint"}, FLTN: {4: "real", 8: "float"}, 0x6E: {4: "smallmoney", 8: "money"},
-    0x6F: {4: "smalldatetime", 8: "datetime"},
+SIZED: dict[int, dict[int, str]] = {
+    DataType.INTN: {1: "tinyint", 2: "smallint", 4: "int", 8: "bigint"}, DataType.FLTN: {4: "real", 8: "float"},
+    DataType.MONEYN: {4: "smallmoney", 8: "money"}, DataType.DATETIMEN: {4: "smalldatetime", 8: "datetime"},
 }
-SCALED = {TIME: "time", DATETIME2: "datetime2", DATETIMEOFFSET: "datetimeoffset"}
-LENGTHY = {VARBINARY: "varbinary", VARCHAR: "varchar", BINARY: "binary", CHAR: "char", NVARCHAR: "nvarchar", NCHAR: "nchar"}
+SCALED: dict[int, str] = {DataType.TIME: "time", DataType.DATETIME2: "datetime2", DataType.DATETIMEOFFSET: "datetimeoffset"}
+LENGTHY: dict[int, str] = {
+    DataType.VARBINARY: "varbinary", DataType.VARCHAR: "varchar", DataType.BINARY: "binary", DataType.CHAR: "char",
+    DataType.NVARCHAR: "nvarchar", DataType.NCHAR: "nchar",
+}
 WHOLE = ("tinyint", "smallint", "int", "bigint")
 
 
@@ -45,20 +56,24 @@ class Type(NamedTuple):
 
     def is_chunked(self) -> bool:
         """Whether its values come in chunks."""
-        return self.byte in (XML, UDT) or self.byte in LONG and self.length == MAX
+        return self.byte in (DataType.XML, DataType.UDT) or self.byte in LONG and self.length == MAX
 
     def sql(self) -> str:
-        """As SQL writes it, for example `decimal(18,4)`. Raises KeyError for a type that no server of today sends."""
-        if self.byte in SIZED:
-            return SIZED[self.byte][self.length or 0]
-        if self.byte in (DECIMAL, NUMERIC):
-            return f"{'decimal' if self.byte == DECIMAL else 'numeric'}({self.precision},{self.scale})"
+        """As SQL writes it, for example `decimal(18,4)`. Raises ValueError for a type that no server of today sends."""
+        if self.byte in SIZED and self.length in SIZED[self.byte]:
+            return SIZED[self.byte][self.length]
+        if self.byte in (DataType.DECIMAL, DataType.NUMERIC):
+            return f"{'decimal' if self.byte == DataType.DECIMAL else 'numeric'}({self.precision},{self.scale})"
         if self.byte in SCALED:
             return f"{SCALED[self.byte]}({self.scale})"
         if self.byte in LENGTHY:
-            units = (self.length or 0) // (2 if self.byte in (NVARCHAR, NCHAR) else 1)
+            units = (self.length or 0) // (2 if self.byte in (DataType.NVARCHAR, DataType.NCHAR) else 1)
             return f"{LENGTHY[self.byte]}({'max' if self.length == MAX else units})"
-        return self.name if self.byte == UDT else NAMES[self.byte]
+        if self.byte == DataType.UDT:
+            return self.name
+        if self.byte not in NAMES:
+            raise ValueError(f"no type of a column: 0x{self.byte:02x}" + (f" of {self.length} bytes" if self.byte in SIZED else ""))
+        return NAMES[self.byte]
 
 
 class Column(NamedTuple):
@@ -79,21 +94,21 @@ def read_type(need: Need) -> Type:
         return Type(byte, b"")
     if byte in COUNTED:
         return _counted(byte, need(COUNTED[byte]))
-    if byte in LONG or byte == VARIANT:
+    if byte in LONG or byte == DataType.VARIANT:
         info = need(LONG.get(byte, 4))
         return Type(byte, info, int.from_bytes(info[:2] if byte in LONG else info, "little"))
-    if byte in (TEXT, NTEXT, IMAGE):
+    if byte in (DataType.TEXT, DataType.NTEXT, DataType.IMAGE):
         return _old(byte, need)
-    if byte == XML:
+    if byte == DataType.XML:
         return _xml(need)
-    if byte == UDT:
+    if byte == DataType.UDT:
         return _clr(need)
     raise ValueError(f"no type: 0x{byte:02x}")
 
 
 def _old(byte: int, need: Need) -> Type:
     """Text, ntext or image: the length, of text the collation, and the name of the table in parts."""
-    info = need(4 if byte == IMAGE else 9)
+    info = need(4 if byte == DataType.IMAGE else 9)
     parts = need(1)
     return Type(byte, info + parts + b"".join(_counted_by_two(need) for _ in range(parts[0])), int.from_bytes(info[:4], "little"))
 
@@ -101,18 +116,18 @@ def _old(byte: int, need: Need) -> Type:
 def _xml(need: Need) -> Type:
     """Whether there is a schema, and its names."""
     flag = need(1)
-    return Type(XML, flag + b"".join((_counted_by_one(need), _counted_by_one(need), _counted_by_two(need))) if flag[0] else flag)
+    return Type(DataType.XML, flag + b"".join((_counted_by_one(need), _counted_by_one(need), _counted_by_two(need))) if flag[0] else flag)
 
 
 def _clr(need: Need) -> Type:
     """The length, the names of database, schema and type, and that of the assembly."""
     length, names = need(2), [_counted_by_one(need) for _ in range(3)]
     name = ".".join(it[1:].decode("utf-16-le", "replace") for it in names if len(it) > 1)
-    return Type(UDT, length + b"".join(names) + _counted_by_two(need), int.from_bytes(length, "little"), name=name)
+    return Type(DataType.UDT, length + b"".join(names) + _counted_by_two(need), int.from_bytes(length, "little"), name=name)
 
 
 def _counted(byte: int, info: bytes) -> Type:
-    if byte in (DECIMAL, NUMERIC):
+    if byte in (DataType.DECIMAL, DataType.NUMERIC):
         return Type(byte, info, *info)
     if byte in SCALED:
         return Type(byte, info, scale=info[0])
@@ -142,9 +157,9 @@ class Described(NamedTuple):
         return self.spelt_name[1:].decode("utf-16-le", "replace")
 
     def column(self) -> Column:
-        type_, sql = self.type, "rowversion" if self.user_type == ROWVERSION and self.type.byte == BINARY else self.type.sql()
+        type_, sql = self.type, "rowversion" if self.user_type == ROWVERSION and self.type.byte == DataType.BINARY else self.type.sql()
         length = None if type_.byte not in LENGTHY or type_.length in (MAX, None) else type_.length
-        if length is not None and type_.byte in (NVARCHAR, NCHAR):
+        if length is not None and type_.byte in (DataType.NVARCHAR, DataType.NCHAR):
             length //= 2
         return Column(self.name, sql, length, type_.precision, type_.scale, bool(self.flags & NULLABLE))
 

@@ -15,9 +15,9 @@ from gavyreto.tds import Encryption, PacketType
 
 PORT = 1433
 SECONDS = 300
-PACKET_SIZE = 8000  # as .NET asks for
 ENCRYPT = ("all", "login", "none")
 BLOCK = 1 << 18  # bytes that are received at once, at most
+UNASKED = "the server sent bytes that weren't asked for"
 LONGEST_MESSAGE = 1 << 20  # of those that are read whole: greetings and logins
 
 
@@ -25,7 +25,8 @@ class Channel:
     """The packets of a connection, through TLS once `encrypt` is done and until `uncover`.
 
     Nothing is waited for longer than `seconds`, and no longer than twice that for the end of a message that is read whole, or
-    for a byte of a body of an answer, so that empty packets don't last for ever."""
+    for a byte of a body of an answer, so that empty packets don't last for ever. Only time in which the other side is waited
+    for counts, not what is spent on what came."""
 
     def __init__(self, connected: socket.socket, seconds: int) -> None:
         self.socket, self.seconds = connected, seconds
@@ -35,24 +36,56 @@ class Channel:
         self.tls: Optional[ssl.SSLObject] = None
         self._received, self._to_send = ssl.MemoryBIO(), ssl.MemoryBIO()
         self._block = b""  # received and not used
-        self._until = 0.0
+        self._left = 0.0  # of the seconds
 
     def wait(self) -> None:
         """Begins to wait for what comes next."""
-        self._until = time.monotonic() + self.seconds
+        self._left = float(self.seconds)
 
     def _receive(self) -> bytes:
         """The next bytes of the socket, or none if the other side has closed. Raises BlockingIOError or TimeoutError."""
+        began = time.monotonic()
         data = self.socket.recv(BLOCK)
-        if time.monotonic() > self._until:
+        self._left -= min(time.monotonic() - began, self.seconds)  # it's longer if this process was stopped meanwhile
+        if self._left < 0:
             raise TimeoutError
         return data
+
+    def expect_nothing(self) -> None:
+        """Sees to it that nothing has come that isn't used: what comes before encryption, a login or a statement doesn't count
+        after it. Raises BadAnswer."""
+        self.check_used()
+        if self._has_come():
+            raise BadAnswer(UNASKED)
+
+    def check_used(self) -> None:
+        """Sees to it that what was received is used. Raises BadAnswer."""
+        if self._block or self._received.pending:
+            raise BadAnswer(UNASKED)
+
+    def _has_come(self) -> bool:
+        """Whether bytes have come that weren't received. That the other side has closed is found later."""
+        try:
+            data = self.socket.recv(BLOCK, socket.MSG_DONTWAIT | (0 if self.tls else socket.MSG_PEEK))
+        except BlockingIOError:
+            return False
+        if not self.tls:
+            return bool(data)
+        self._received.write(data)
+        try:
+            return bool(self.tls.read(1))
+        except ssl.SSLZeroReturnError:
+            return False
+        except ssl.SSLWantReadError:
+            return bool(data)
 
     def receive(self) -> bytes:
         """The next bytes, decrypted, or none if the other side has closed."""
         while self.tls:
             try:
                 return self.tls.read(BLOCK)
+            except ssl.SSLZeroReturnError:
+                return b""
             except ssl.SSLWantReadError:
                 data = self._receive()
                 if not data:
@@ -110,7 +143,10 @@ class Channel:
 
     def encrypt(self, context: ssl.SSLContext, **side: Any) -> None:
         """The handshake of TLS, whose records go in packets of type PRELOGIN until it is done (MS-TDS, PRELOGIN)."""
-        tls = context.wrap_bio(self._received, self._to_send, **side)
+        try:
+            tls = context.wrap_bio(self._received, self._to_send, **side)
+        except ValueError as wrong:
+            raise ConnectionFailed(f"no certificate has the name that is asked for: {wrong}") from None
         is_done = False
         while not is_done:
             try:
@@ -144,13 +180,17 @@ class Server(NamedTuple):
 
     host: str
     port: int
+    certified: str  #: the name that its certificate has to have, if that is verified
     encrypt: str
     context: ssl.SSLContext
     seconds: int
 
     def reach(self) -> Channel:
         """A connection, before its greeting."""
-        connected = socket.create_connection((self.host, self.port), timeout=self.seconds)
+        try:
+            connected = socket.create_connection((self.host, self.port), timeout=self.seconds)
+        except (ValueError, OverflowError) as wrong:
+            raise ConnectionFailed(f"{self.host}, port {self.port}: no host of a network ({wrong})") from None
         connected.setsockopt(socket.IPPROTO_TCP, socket.TCP_NODELAY, 1)
         return Channel(connected, self.seconds)
 
@@ -212,6 +252,7 @@ def greet(channel: Channel, server: Server) -> Encryption:
     """Greets, and begins the encryption that is agreed on. Returns what the server answered."""
     channel.write_message(PacketType.PRELOGIN, tds.prelogin(Encryption.ON if server.encrypt == "all" else Encryption.OFF))
     kind, payload = channel.read_message()
+    channel.expect_nothing()
     try:
         answered = tds.encryption_of(payload)
     except (ValueError, struct.error):
@@ -221,7 +262,8 @@ def greet(channel: Channel, server: Server) -> Encryption:
     if answered not in ENOUGH[server.encrypt]:
         raise ConnectionFailed(LACKING[answered])
     if answered != Encryption.NOT_SUPPORTED:
-        channel.encrypt(server.context, server_hostname=server.host)
+        channel.encrypt(server.context, server_hostname=server.certified)
+        channel.expect_nothing()
     return answered
 
 
@@ -254,6 +296,7 @@ class Session:
 
     def __init__(self, channel: Channel, server: Server, packet_size: int) -> None:
         self.packet_size = packet_size  #: in bytes, as the server has it
+        self.unfinished: Optional[str] = None  #: what there is to say of the last answer if it isn't whole, and has no ERROR
         self._channel, self._server = channel, server
         self._framing: Optional[tds.Framing] = None  # of the answer under way
         self._is_sending = self._is_interrupted = False
@@ -272,15 +315,21 @@ class Session:
         return self._framing is None
 
     def send(self, statement: str) -> None:
-        """Sends a statement. Its answer has to be handed on next."""
+        """Sends a statement. Its answer has to be handed on next. Raises BadAnswer if something has come before."""
         message = tds.statement(statement)
-        self._framing, self._is_sending = tds.Framing(), True
+        with told(self._server):
+            self._channel.expect_nothing()
+        self._framing, self._is_sending, self.unfinished = tds.Framing(), True, None
         with told(self._server):
             self._channel.write_message(PacketType.STATEMENT, message, self.packet_size)
         self._is_sending = False
         self._channel.wait()
         if self._is_interrupted:
             self._attend()
+
+    def check_used(self) -> None:
+        """Sees to it that all that was received belongs to an answer. Raises BadAnswer."""
+        self._channel.check_used()
 
     def next(self) -> bytes:
         """The next bytes of the answer, or none after its last packet, where the connection is closed, or after an interrupt."""
@@ -290,7 +339,7 @@ class Session:
         with told(self._server):
             block = self._channel.next_of(framing)
         if framing.is_whole and not self._is_interrupted:
-            self._framing = None
+            self._framing, self.unfinished = None, tds.unfinished(framing.tail)
         return block
 
     def forward(self, write: Write) -> None:
@@ -323,24 +372,15 @@ class Session:
 
 
 def log_in_to(
-    server: str, *, user: str, password: str, port: int = PORT, database: str = "", encrypt: str = ENCRYPT[0],
-    certificates: Optional[str] = None, trust_server: bool = False, packet_size: int = PACKET_SIZE, seconds: int = SECONDS,
+    server: str, *, user: str, password: str, port: int, database: str, encrypt: str, certificates: Optional[str], certificate_name: str,
+    trust_server: bool, packet_size: int, seconds: int,
 ) -> Session:
-    """Connects to a server, and logs in by SQL authentication.
-
-    server        the name that its certificate has, or an address
-    database      without it that of the user
-    encrypt       the least that is encrypted: "all", "login" or "none"; a server that asks for more gets it
-    certificates  a file of authorities to trust in place of the system's, in PEM
-    trust_server  don't verify the certificate: anyone between can read all
-    packet_size   bytes that are asked for, 512 to 32767
-    seconds       the longest that the server may be silent
-
-    Raises ConnectionFailed, ServerError if the login is refused, BadAnswer if what answers is no such server, and ValueError if
-    an argument is none. A redirection is followed once, and only if it came encrypted."""
+    """Connects to a server, and logs in by SQL authentication: what `gavyreto.connect` does with the same arguments."""
     if encrypt not in ENCRYPT:
         raise ValueError(f"encrypt is one of {', '.join(ENCRYPT)}, not {encrypt}")
-    here = Server(server, port, encrypt, context_of(certificates, trust_server), seconds)
+    if not tds.LEAST_PACKET_SIZE <= packet_size <= tds.GREATEST_PACKET_SIZE:
+        raise ValueError(f"packet_size is {tds.LEAST_PACKET_SIZE} to {tds.GREATEST_PACKET_SIZE}, not {packet_size}")
+    here = Server(server, port, certificate_name or server, encrypt, context_of(certificates, trust_server), seconds)
     login = tds.Login(socket.gethostname(), user, password, "gavyreto", server, "", "", database, packet_size)
     channel, accepted = _session(here, login)
     if accepted.routing:

@@ -80,6 +80,14 @@ class ServerError(Error):
         self.report = report  #: None if it was the login that the server refused
 
 
+class UnfinishedAnswer(Error):
+    """The server ended its answer as cancelled or failed, and told no error. All rows that it sent were handed out."""
+
+    def __init__(self, message: str, report: Optional[Report] = None) -> None:
+        super().__init__(message)
+        self.report = report
+
+
 class ProgramFailed(Error):
     """The program couldn't do its work: its arguments were refused, memory wasn't to be had, or a signal ended it."""
 

@@ -4,16 +4,16 @@ It judges nothing: the program tds_replay does. What it can't follow raises Valu
 from __future__ import annotations
 
 import threading
-from typing import IO, Callable, Iterator, NamedTuple, Optional
+from typing import Callable, Iterator, NamedTuple, Optional
 
 from gavyreto import columns, tds
-from gavyreto.columns import COUNTED, FIXED, LONG, VARIANT, Column, Described, Type
+from gavyreto.columns import COUNTED, FIXED, LONG, Column, Described, Type
+from gavyreto.tds import DataType, Token
 
 Read = Callable[[int], bytes]
 Write = Callable[[bytes], object]
 
-ROW, NBCROW, RETURN_VALUE = 0xD1, 0xD2, 0xAC
-DONE_PROC, DONE_IN_PROC = 0xFE, 0xFF
+ROW, NBCROW = int(Token.ROW), int(Token.NBCROW)  # compared with once a row
 SHORT_NULL = 0xFFFF
 
 
@@ -27,10 +27,11 @@ class Payload:
     def __init__(self, read: Read, hand_on: Optional[Write] = None) -> None:
         self.data, self.at = b"", 0  #: what was read and not used up begins at this place
         self.is_over = False  #: whether the last packet was read
+        self.tail = b""  #: the end of what was read, as long as a DONE at most
         self._read, self._hand_on = read, hand_on
 
     def packet(self) -> bool:
-        """Reads a packet. False after the last one. Raises Ended if it isn't whole."""
+        """Reads a packet. False after the last one. Raises Ended if it isn't whole, and ValueError if it is none of an answer."""
         if self.is_over:
             return False
         header = tds.read_fully(self._read, tds.HEADER)
@@ -38,10 +39,14 @@ class Payload:
         body = tds.read_fully(self._read, length) if len(header) == tds.HEADER else b""
         if self._hand_on:
             self._hand_on(header + body)
+        if len(header) == tds.HEADER and (header[0] != tds.PacketType.ANSWER or length < 0):
+            self.is_over = True
+            raise ValueError(f"no packet of an answer: type 0x{header[0]:02x}, {length + tds.HEADER} bytes")
         if len(header) < tds.HEADER or len(body) != length:
             raise Ended
         self.is_over = bool(header[1] & tds.LAST)
         self.data, self.at = self.data[self.at:] + body, 0
+        self.tail = (self.tail + body[-tds.DONE_LENGTH:])[-tds.DONE_LENGTH:]
         return True
 
     def has(self, length: int) -> bool:
@@ -78,26 +83,26 @@ class Payload:
 
 # Tokens, rows and cells.
 
-class Token(NamedTuple):
+class Found(NamedTuple):
     """A token: its byte; of a COLMETADATA the columns, of a row those whose values follow."""
 
     byte: int
     columns: Optional[list[Described]] = None
 
 
-def tokens(payload: Payload) -> Iterator[Token]:
+def tokens(payload: Payload) -> Iterator[Found]:
     """The tokens of a response. Whoever takes a row reads its cells before the next token; other tokens are passed over."""
     described: Optional[list[Described]] = None
     while payload.has(1):
         byte = payload.number(1)
-        if byte == tds.Token.COLUMNS:
+        if byte == Token.COLUMNS:
             described = columns.read_description(payload.need)
-            yield Token(byte, described)
+            yield Found(byte, described)
         elif byte in (ROW, NBCROW):
             bitmap = payload.need(bytes_of_bitmap(byte, described))
-            yield Token(byte, present(bitmap, described or []))
+            yield Found(byte, present(bitmap, described or []))
         else:
-            yield Token(byte)
+            yield Found(byte)
             for _ in rest_of(payload, byte):
                 pass
 
@@ -117,13 +122,13 @@ def present(bitmap: bytes, described: list[Described]) -> list[Described]:
 
 def rest_of(payload: Payload, byte: int) -> Iterator[bytes]:
     """What follows the byte of a token that is neither a description nor a row. Raises ValueError if there is no such token."""
-    if byte in (tds.Token.ORDER, tds.Token.ERROR, tds.Token.INFO, tds.Token.ENV_CHANGE):
+    if byte in (Token.ORDER, Token.ERROR, Token.INFO, Token.ENV_CHANGE):
         yield from _after(payload, payload.need(2))
-    elif byte == tds.Token.RETURN_STATUS:
+    elif byte == Token.RETURN_STATUS:
         yield payload.need(4)
-    elif byte in (tds.Token.DONE, DONE_PROC, DONE_IN_PROC):
+    elif byte in (Token.DONE, Token.DONE_PROC, Token.DONE_IN_PROC):
         yield payload.need(12)
-    elif byte == RETURN_VALUE:
+    elif byte == Token.RETURN_VALUE:
         yield head_of_value(payload)
         type_ = columns.read_type(payload.need)
         yield bytes([type_.byte]) + type_.info
@@ -155,7 +160,7 @@ def cell(payload: Payload, type_: Type) -> Iterator[bytes]:
     elif type_.byte in LONG:
         length = payload.need(2)
         yield from (length,) if length == b"\xFF\xFF" else _after(payload, length)
-    elif type_.byte == VARIANT:
+    elif type_.byte == DataType.VARIANT:
         yield from _after(payload, payload.need(4))
     else:
         pointer = payload.need(1)
@@ -187,7 +192,7 @@ def descriptions(payload: Payload) -> Iterator[list[Described]]:
     """The descriptions of a response, each with columns, in order."""
     ways: list[int] = []
     for token in tokens(payload):
-        if token.byte == tds.Token.COLUMNS:
+        if token.byte == Token.COLUMNS:
             ways = ways_over(token.columns or [])
             yield from [token.columns] if token.columns else []
         elif token.columns:
@@ -274,9 +279,6 @@ class Descriptions:
         self._is_over = False
         self._changed = threading.Condition()
 
-    def close(self) -> None:
-        """Ends what is still to be read."""
-
     def of(self, place: int) -> Optional[list[Column]]:
         """The columns of a set by its place among the sets, once they have come; None if they don't."""
         with self._changed:
@@ -290,7 +292,7 @@ class Descriptions:
                 with self._changed:
                     self._found.append([column.column() for column in described])
                     self._changed.notify_all()
-        except (ValueError, KeyError, Ended):
+        except (ValueError, Ended):
             pass  # the program says what is wrong
         finally:
             with self._changed:
@@ -299,30 +301,21 @@ class Descriptions:
         try:
             while payload.packet():
                 payload.at = len(payload.data)
-        except Ended:
+        except (Ended, ValueError):
             pass
 
 
 class LateDescriptions(Descriptions):
     """The same of packets that can be read again: they are read once somebody asks, and no further than needed."""
 
-    def __init__(self, opened: Callable[[], IO[bytes]]) -> None:
+    def __init__(self, read: Read) -> None:
         super().__init__()
-        self._opened = opened
-        self._file: Optional[IO[bytes]] = None
-        self._walk: Optional[Iterator[list[Described]]] = None
-
-    def close(self) -> None:
-        if self._file:
-            self._file.close()
+        self._walk = descriptions(Payload(read))
 
     def of(self, place: int) -> Optional[list[Column]]:
-        if not self._walk:
-            self._file = self._opened()
-            self._walk = descriptions(Payload(self._file.read))
         try:
             while len(self._found) <= place:
                 self._found.append([column.column() for column in next(self._walk)])
-        except (StopIteration, ValueError, KeyError, Ended):
+        except (StopIteration, ValueError, Ended, OSError):
             return None
         return self._found[place]

@@ -12,7 +12,8 @@ from typing import IO, Callable, Union
 from gavyreto.errors import FAULT, SERVER_ERROR, Fault, Report, ServerError
 
 PROGRAM = "tds_replay"
-PACKET_SIZE = 32767
+PACKET_SIZE = 32767  # where packets are only read: the greatest that there is
+PACKET_SIZE_ASKED = 8000  # of a server, as .NET asks for
 COLUMN_ROOM = 1048576
 MAX_WIRE = 2**40
 CHARSETS = ("windows-1252", "utf-8")
@@ -54,10 +55,11 @@ def written_by(said: Union[Report, Fault, ServerError]) -> int:
     return report.written if report else 0
 
 
-def is_there(program: str) -> bool:
-    """Whether this is tds_replay. Raises OSError if it can't be started."""
+def version_of(program: str) -> str:
+    """What this program says of its name and version, or "" if it isn't tds_replay. Raises OSError if it can't be started."""
     said = subprocess.run([program, "--version"], stdin=subprocess.DEVNULL, capture_output=True, check=False).stdout
-    return VERSION.fullmatch(said.decode("utf-8", "replace").strip()) is not None
+    version = said.decode("utf-8", "replace").strip()
+    return version if VERSION.fullmatch(version) else ""
 
 
 def path_of(program: str) -> str:

@@ -10,10 +10,12 @@ import subprocess
 import threading
 from typing import IO, Any, Callable, Optional, Protocol, Union, cast
 
-from gavyreto.errors import Error, Fault, ProgramFailed, Report, ServerError
+from gavyreto import tds
+from gavyreto.errors import Error, Fault, ProgramFailed, Report, ServerError, UnfinishedAnswer
 from gavyreto.program import CHARSETS, COLUMN_ROOM, MAX_WIRE, PACKET_SIZE, PROGRAM, Write, command_of, report_of, widen, write_all
 from gavyreto.payload import Descriptions, LateDescriptions, Payload, Read
 from gavyreto.text import Sets
+from gavyreto.values import Dates, check_dates
 
 
 class Readable(Protocol):
@@ -24,6 +26,32 @@ class Readable(Protocol):
 
 Source = Union[str, "os.PathLike[str]", bytes, bytearray, memoryview, int, socket.socket, Readable]
 Copy = Callable[[Write], None]
+Tail = Callable[[], tds.Bytes]  # the end of the payload, once all of it was read
+
+
+class HeldFile:
+    """A descriptor of its own of an open file, from whose place on it is read, whoever else reads the file."""
+
+    def __init__(self, descriptor: int) -> None:
+        self.descriptor = -1
+        self.descriptor = os.dup(descriptor)
+        self._start = self._at = os.lseek(descriptor, 0, os.SEEK_CUR)
+
+    def read(self, most: int) -> bytes:
+        data = os.pread(self.descriptor, most, self._at)
+        self._at += len(data)
+        return data
+
+    def tail(self) -> bytes:
+        return tds.tail_of(lambda most, place: os.pread(self.descriptor, most, place), self._start)
+
+    def close(self) -> None:
+        if self.descriptor >= 0:
+            os.close(self.descriptor)
+            self.descriptor = -1
+
+    def __del__(self) -> None:
+        self.close()
 
 
 class Feeding:
@@ -52,11 +80,12 @@ class Response(Sets):
     """The result sets of a response, while the program reads it."""
 
     def __init__(
-        self, program: subprocess.Popen[bytes], dates: bool, copy: Optional[Copy] = None, descriptions: Optional[Descriptions] = None,
+        self, program: subprocess.Popen[bytes], dates: Dates, descriptions: Descriptions, *, copy: Optional[Copy] = None,
+        tail: Optional[Tail] = None, held: Optional[HeldFile] = None,
     ) -> None:
         self.report: Optional[Report] = None  #: once all is read and the server reported no error
         self.is_whole = False  #: once all is read, whether or not the server reported an error
-        self._program, self._found = program, descriptions
+        self._program, self._tail, self._held = program, tail, held
         self._text = cast("IO[bytes]", program.stdout)
         self._feeding = Feeding(copy, cast("IO[bytes]", program.stdin)) if copy else None
         super().__init__(self._read, dates, descriptions)
@@ -66,8 +95,8 @@ class Response(Sets):
 
     def _release(self) -> None:
         """Ends the program if it still runs, in the middle of the response then."""
-        if self._found:
-            self._found.close()
+        if self._held and (self._is_closed or self._failure):
+            self._held.close()  # at the end of the response its descriptions may still be asked for
         if self._program.poll() is None:
             self._program.kill()
         self._program.wait()
@@ -80,18 +109,26 @@ class Response(Sets):
         said = report_of(notes)
         if isinstance(said, Fault):
             said.rest = rest
-        if self._feeding and (not isinstance(said, Fault) or said.name == "InputEnded"):
-            self._judge_feeding(self._feeding)
+        is_all_read = isinstance(said, (Report, ServerError)) or isinstance(said, Fault) and said.name == "InputEnded"
+        if self._feeding and (is_all_read or said is None):
+            self._judge_feeding(self._feeding, is_all_read)
         self.is_whole = isinstance(said, (Report, ServerError))
         if isinstance(said, Error):
             self._raise(said)
         if status != 0 or said is None or not self._is_text_of(said):
             self._raise(ProgramFailed(status, notes))
+        if unfinished := self._unfinished():
+            self._raise(UnfinishedAnswer(unfinished, said))
         self.report = said
 
-    def _judge_feeding(self, feeding: Feeding) -> None:
+    def _unfinished(self) -> Optional[str]:
+        """What there is to say of an answer that the server ended as cancelled or failed."""
+        return tds.unfinished(bytes(self._tail())) if self._tail else None
+
+    def _judge_feeding(self, feeding: Feeding, is_all_read: bool) -> None:
         """Raises what ended the feeding of the program before the response was over."""
-        feeding.join()
+        if is_all_read:
+            feeding.join()
         if isinstance(feeding.error, Error):
             self._raise(feeding.error)
         if feeding.error:
@@ -114,16 +151,16 @@ def started(command: list[str], source: int) -> subprocess.Popen[bytes]:
 
 
 def export(
-    source: Source, *, dates: bool = False, packet_size: int = PACKET_SIZE, column_room: int = COLUMN_ROOM,
+    source: Source, *, dates: Dates = False, packet_size: int = PACKET_SIZE, column_room: int = COLUMN_ROOM,
     max_wire: int = MAX_WIRE, charset: str = CHARSETS[0], program: str = PROGRAM,
 ) -> Response:
     """Runs the program on one response, and returns an iterator over its result sets.
 
     source       the packets: the path of a file, the bytes themselves, or an open binary file, socket or descriptor, of
-                 which exactly one response is read, from where it is. A descriptor, an unbuffered file and a socket are
-                 handed to the program, so they have to block; of anything else with a method `read`, as a file of `gzip`,
-                 the packets are read here
-    dates        whether dates, times and GUIDs become date, time, datetime and UUID
+                 which exactly one response is read, from where it is. A descriptor, an unbuffered file and a socket have to
+                 block
+    dates        True if dates, times and GUIDs become date, time, datetime and UUID, but for columns of seven digits of a
+                 second; "truncate" if these do too, and lose the seventh
     packet_size  the greatest packet that is read, in bytes, 512 to 32767
     column_room  the room for the encoded description of columns, in bytes, 10 to 67108864
     max_wire     the most bytes of packets that are read, 8 to 2**56
@@ -133,31 +170,51 @@ def export(
     Raises OSError if the file or the program can't be opened, ValueError if the source is closed or doesn't block, TypeError
     for another source. While the sets and rows are read, once all that came before is handed out, it raises Fault,
     ServerError or ProgramFailed, and what a method `read` of the source raised."""
+    check_dates(dates)
     command = command_of(program, packet_size, column_room, max_wire, charset)
     if isinstance(source, (str, os.PathLike)):
         return _of_path(source, command, dates)
     if isinstance(source, (bytes, bytearray, memoryview)):
-        data = bytes(source)
-        late = LateDescriptions(lambda: io.BytesIO(data))
-        return Response(started(command, subprocess.PIPE), dates, lambda write: cast(None, write(data)), late)
+        return _of_bytes(bytes(source), command, dates)
     if isinstance(source, (int, io.FileIO, socket.socket)) and not isinstance(source, (bool, ssl.SSLSocket)):
-        return Response(started(command, _descriptor_of(source)), dates)
+        return _of_descriptor(_descriptor_of(source), command, dates)
     return _fed(_read_of(source), command, dates)
 
 
-def _of_path(path: Union[str, os.PathLike[str]], command: list[str], dates: bool) -> Response:
-    """A response in a file, which is read by the program, and again here for its descriptions; or in a pipe with a name."""
-    file = open(path, "rb", buffering=0)
-    if not stat.S_ISREG(os.fstat(file.fileno()).st_mode):
-        return _fed(lambda most: file.read(most) or b"", command, dates)
-    with file:
-        return Response(started(command, file.fileno()), dates, None, LateDescriptions(lambda: open(path, "rb")))
+def _of_bytes(data: bytes, command: list[str], dates: Dates) -> Response:
+    def tail() -> bytes:
+        return tds.tail_of(lambda most, place: data[place:place + most])
+
+    found = LateDescriptions(io.BytesIO(data).read)
+    return Response(started(command, subprocess.PIPE), dates, found, copy=lambda write: cast(None, write(data)), tail=tail)
 
 
-def _fed(read: Read, command: list[str], dates: bool) -> Response:
+def _of_path(path: Union[str, os.PathLike[str]], command: list[str], dates: Dates) -> Response:
+    """A response in a file or in a pipe with a name."""
+    with open(path, "rb", buffering=0) as file:
+        return _of_descriptor(file.fileno(), command, dates)
+
+
+def _of_descriptor(descriptor: int, command: list[str], dates: Dates) -> Response:
+    """A response in a file, which the program reads, and which is read here again for its descriptions and its end; or one
+    that comes by a pipe or a socket."""
+    if not stat.S_ISREG(os.fstat(descriptor).st_mode):
+        own = os.fdopen(os.dup(descriptor), "rb", buffering=0)
+        return _fed(lambda most: own.read(most) or b"", command, dates)
+    held = HeldFile(descriptor)
+    return Response(started(command, held.descriptor), dates, LateDescriptions(held.read), tail=held.tail, held=held)
+
+
+def _fed(read: Read, command: list[str], dates: Dates) -> Response:
     """A response whose packets are read here, and handed to the program."""
-    found = Descriptions()
-    return Response(started(command, subprocess.PIPE), dates, lambda write: found.watch(Payload(read, write)), found)
+    found, tails = Descriptions(), list[Callable[[], bytes]]()
+
+    def copy(write: Write) -> None:
+        payload = Payload(read, write)
+        tails.append(lambda: payload.tail)
+        found.watch(payload)
+
+    return Response(started(command, subprocess.PIPE), dates, found, copy=copy, tail=lambda: tails[0]())
 
 
 def _descriptor_of(source: Union[int, io.FileIO, socket.socket]) -> int:

@@ -6,8 +6,14 @@ from datetime import date, timedelta
 from typing import Callable
 from uuid import UUID
 
+from gavyreto.tds import DataType
+
 FIRST_DAY, DAY_1900 = date(1, 1, 1), date(1900, 1, 1)
 MONEY_SCALE = 4
+GREATEST_OFFSET = 840  # minutes
+GREATEST_PRECISION = 38
+TIME_LENGTHS = (3, 3, 3, 4, 4, 5, 5, 5)  # bytes of a time, by its scale
+DAYS_LENGTH, OFFSET_LENGTH = 3, 2
 
 
 def decimal_text(units: int, scale: int) -> str:
@@ -82,8 +88,8 @@ def _date_time_offset(data: bytes, scale: int) -> str:
     """Time and date in UTC and minutes, as the local time with its offset."""
     minutes, = struct.unpack("<h", data[-2:])
     day, units = 86400 * 10**scale, _number(data[:-5])
-    if units >= day:
-        raise ValueError("a time out of its range")
+    if units >= day or abs(minutes) > GREATEST_OFFSET:
+        raise ValueError("a time or an offset out of its range")
     days, local = divmod(_number(data[-5:-2]) * day + units + minutes * 60 * 10**scale, day)
     sign = "-" if minutes < 0 else "+"
     return f"{_day(days)} {_time_of(local, scale)} {sign}{abs(minutes) // 60:02}:{abs(minutes) % 60:02}"
@@ -124,7 +130,52 @@ def _packed(text: str) -> bytes:
 
 
 TEXTS: dict[int, Callable[[bytes, int], str]] = {
-    0x30: _whole, 0x34: _whole, 0x38: _whole, 0x7F: _whole, 0x26: _whole, 0x32: _bit, 0x68: _bit, 0x6A: _decimal, 0x6C: _decimal, 0x3C: _money,
-    0x7A: _small_money, 0x24: _guid, 0x28: _date, 0x29: _time, 0x2A: _date_time2, 0x2B: _date_time_offset, 0x3A: _small_date_time,
-    0x3D: _old_date_time, 0x3E: _double, 0x3B: _single,
+    DataType.INT1: _whole, DataType.INT2: _whole, DataType.INT4: _whole, DataType.INT8: _whole, DataType.INTN: _whole, DataType.BIT: _bit,
+    DataType.BITN: _bit, DataType.DECIMAL: _decimal, DataType.NUMERIC: _decimal, DataType.MONEY: _money, DataType.MONEY4: _small_money,
+    DataType.GUID: _guid, DataType.DATE: _date, DataType.TIME: _time, DataType.DATETIME2: _date_time2,
+    DataType.DATETIMEOFFSET: _date_time_offset, DataType.DATETIME4: _small_date_time, DataType.DATETIME: _old_date_time,
+    DataType.FLT8: _double, DataType.FLT4: _single,
 }
+
+
+# How many bytes of properties a base type of a sql_variant has, if it has some (MS-TDS, sql_variant Values).
+PROPERTIES: dict[int, int] = {
+    DataType.TIME: 1, DataType.DATETIME2: 1, DataType.DATETIMEOFFSET: 1, DataType.DECIMAL: 2, DataType.NUMERIC: 2, DataType.VARBINARY: 2,
+    DataType.BINARY: 2, DataType.VARCHAR: 7, DataType.CHAR: 7, DataType.NVARCHAR: 7, DataType.NCHAR: 7,
+}
+# How many bytes a value may have, of those without a scale.
+LENGTHS: dict[int, tuple[int, ...]] = {
+    DataType.INT1: (1,), DataType.INT2: (2,), DataType.INT4: (4,), DataType.INT8: (8,), DataType.INTN: (1, 2, 4, 8), DataType.BIT: (1,),
+    DataType.BITN: (1,), DataType.DECIMAL: (5, 9, 13, 17), DataType.NUMERIC: (5, 9, 13, 17), DataType.MONEY: (8,), DataType.MONEY4: (4,),
+    DataType.GUID: (16,), DataType.DATE: (DAYS_LENGTH,), DataType.DATETIME4: (4,), DataType.DATETIME: (8,), DataType.FLT4: (4,), DataType.FLT8: (8,),
+}
+BESIDE_TIME: dict[int, int] = {DataType.TIME: 0, DataType.DATETIME2: DAYS_LENGTH, DataType.DATETIMEOFFSET: DAYS_LENGTH + OFFSET_LENGTH}
+
+
+def check_variant(base: int, properties: bytes, length: int) -> None:
+    """Sees to it that a sql_variant may have a base type with these properties and a value of so many bytes. Raises
+    ValueError."""
+    if base not in LENGTHS and base not in PROPERTIES:
+        raise ValueError(f"no base type of a sql_variant: 0x{base:02x}")
+    if len(properties) != PROPERTIES.get(base, 0):
+        raise ValueError(f"a sql_variant of the type 0x{base:02x} with {len(properties)} bytes of properties")
+    if not _is_described(base, properties) or not _is_length(base, properties, length):
+        raise ValueError(f"a sql_variant of the type 0x{base:02x}, the properties {properties.hex()} and {length} bytes")
+
+
+def _is_described(base: int, properties: bytes) -> bool:
+    """Whether scale and precision are in their ranges."""
+    if base in BESIDE_TIME:
+        return properties[0] < len(TIME_LENGTHS)
+    if base in (DataType.DECIMAL, DataType.NUMERIC):
+        return 1 <= properties[0] <= GREATEST_PRECISION and properties[1] <= properties[0]
+    return True
+
+
+def _is_length(base: int, properties: bytes, length: int) -> bool:
+    if base in BESIDE_TIME:
+        return length == TIME_LENGTHS[properties[0]] + BESIDE_TIME[base]
+    if base in LENGTHS:
+        return length in LENGTHS[base]
+    is_whole = length % 2 == 0 or base not in (DataType.NVARCHAR, DataType.NCHAR)
+    return is_whole and length <= int.from_bytes(properties[-2:], "little")

@@ -6,18 +6,23 @@ from __future__ import annotations
 
 import re
 import struct
+from collections import deque
 from enum import IntEnum
 from typing import Callable, Iterable, Iterator, NamedTuple, Optional, Union
 
 Bytes = Union[bytes, bytearray, memoryview]
+ReadAt = Callable[[int, int], Bytes]  # so many bytes from a place on, or fewer at the end
 
 
 class PacketType(IntEnum):
     """The first byte of a packet (MS-TDS, Packet Header)."""
 
     STATEMENT = 0x01
+    PROCEDURE = 0x03
     ANSWER = 0x04
     ATTENTION = 0x06
+    BULK = 0x07
+    TRANSACTION = 0x0E
     LOGIN = 0x10
     PRELOGIN = 0x12
 
@@ -32,16 +37,62 @@ class Encryption(IntEnum):
 
 
 class Token(IntEnum):
-    """The first byte of a token that isn't part of a result set (MS-TDS, Packet Data Token Stream Definition)."""
+    """The first byte of a token (MS-TDS, Packet Data Token Stream Definition)."""
 
     RETURN_STATUS = 0x79
     COLUMNS = 0x81
     ORDER = 0xA9
     ERROR = 0xAA
     INFO = 0xAB
+    RETURN_VALUE = 0xAC
     LOGIN_ACK = 0xAD
+    ROW = 0xD1
+    NBCROW = 0xD2
     ENV_CHANGE = 0xE3
     DONE = 0xFD
+    DONE_PROC = 0xFE
+    DONE_IN_PROC = 0xFF
+
+
+class DataType(IntEnum):
+    """The byte of a data type (MS-TDS, Data Type Definitions)."""
+
+    NULL = 0x1F
+    IMAGE = 0x22
+    TEXT = 0x23
+    GUID = 0x24
+    INTN = 0x26
+    DATE = 0x28
+    TIME = 0x29
+    DATETIME2 = 0x2A
+    DATETIMEOFFSET = 0x2B
+    INT1 = 0x30
+    BIT = 0x32
+    INT2 = 0x34
+    INT4 = 0x38
+    DATETIME4 = 0x3A
+    FLT4 = 0x3B
+    MONEY = 0x3C
+    DATETIME = 0x3D
+    FLT8 = 0x3E
+    VARIANT = 0x62
+    NTEXT = 0x63
+    BITN = 0x68
+    DECIMAL = 0x6A
+    NUMERIC = 0x6C
+    FLTN = 0x6D
+    MONEYN = 0x6E
+    DATETIMEN = 0x6F
+    MONEY4 = 0x7A
+    INT8 = 0x7F
+    VARBINARY = 0xA5
+    VARCHAR = 0xA7
+    BINARY = 0xAD
+    CHAR = 0xAF
+    NVARCHAR = 0xE7
+    NCHAR = 0xEF
+    UDT = 0xF0
+    XML = 0xF1
 
 
 class Change(IntEnum):
@@ -53,9 +104,11 @@ class Change(IntEnum):
     ROUTING = 20
 
 
+TLS_RECORDS = range(0x14, 0x18)  # the first byte of a record of TLS (RFC 5246, Record Layer)
+MARS = 0x53  # the first byte of a packet of MARS, which has those of TDS within (MC-SMP, SMP Header)
 HEADER = 8  # bytes of a packet's header
 LAST = 0x01  # the bit of a packet's status that marks the last one of a message
-MORE, FAILED, CANCELLED = 0x01, 0x02, 0x20  # bits of the status of a DONE
+MORE, FAILED, CANCELLED, SERVER_FAILED = 0x0001, 0x0002, 0x0020, 0x0100  # bits of the status of a DONE (MS-TDS, DONE)
 DONE_LENGTH = 13  # bytes of a DONE with its token byte
 LEAST_PACKET_SIZE, FIRST_PACKET_SIZE, GREATEST_PACKET_SIZE = 512, 4096, 32767  # the second holds until the login's answer
 VERSION = bytes.fromhex("74000004")  # 7.4, in the order of a LOGINACK
@@ -111,6 +164,23 @@ def copy_message(read: Callable[[int], bytes], write: Callable[[bytes], object])
         body = read_fully(read, length_of(header) - HEADER) if len(header) == HEADER else b""
         write(body)
         is_over = len(header) < HEADER or HEADER + len(body) != length_of(header) or bool(header[1] & LAST)
+
+
+def tail_of(read_at: ReadAt, start: int = 0) -> bytes:
+    """The end of the payload of a message, as long as a DONE if it is as long, by its packets from a place on; b"" if they
+    aren't whole. `read_at` is called as os.pread is, without its descriptor."""
+    last: deque[tuple[int, int]] = deque(maxlen=DONE_LENGTH)  # where the last bodies that aren't empty end, and how long they are
+    at, is_last = start, False
+    while not is_last:
+        header = read_at(HEADER, at)
+        length = length_of(header)
+        if len(header) < HEADER or length < HEADER:
+            return b""
+        at, is_last = at + length, bool(header[1] & LAST)
+        if length > HEADER:
+            last.append((at, length - HEADER))
+    pieces = [(end, min(length, DONE_LENGTH)) for end, length in last]
+    return b"".join(read_at(length, end - length) for end, length in pieces)[-DONE_LENGTH:]
 
 
 def read_fully(read: Callable[[int], bytes], length: int) -> bytes:
@@ -294,6 +364,17 @@ def is_cancelled(payload: bytes) -> bool:
     return len(end) == DONE_LENGTH and end[0] == Token.DONE and bool(end[1] & CANCELLED)
 
 
+def unfinished(tail: bytes) -> Optional[str]:
+    """What there is to say of an answer without an ERROR whose last DONE, DONEPROC or DONEINPROC, at the end of these bytes,
+    says that it was cancelled or failed (MS-TDS, DONE); None if it was neither."""
+    if len(tail) < DONE_LENGTH or tail[-DONE_LENGTH] not in (Token.DONE, Token.DONE_PROC, Token.DONE_IN_PROC):
+        return None
+    status = int.from_bytes(tail[1 - DONE_LENGTH:3 - DONE_LENGTH], "little")
+    if status & (FAILED | SERVER_FAILED):
+        return f"the answer isn't whole: the server ended it with a failure, DONE 0x{status:04x}, and told no error"
+    return f"the answer isn't whole: it was cancelled, DONE 0x{status:04x}" if status & CANCELLED else None
+
+
 def counted_body(token: int, body: bytes) -> bytes:
     """A token whose body has a length of two bytes before it."""
     return struct.pack("<BH", token, len(body)) + body
@@ -342,7 +423,7 @@ def read_login_answer(payload: bytes) -> Accepted:
     while True:
         token, length = struct.unpack_from("<BH", payload, at)
         body = payload[at + 3:at + 3 + length]
-        if token == Token.DONE and acknowledged and LEAST_PACKET_SIZE <= size <= GREATEST_PACKET_SIZE:
+        if token == Token.DONE and acknowledged and LEAST_PACKET_SIZE <= size <= GREATEST_PACKET_SIZE and at + DONE_LENGTH == len(payload):
             return Accepted(size, routed)
         if token == Token.ERROR:
             raise Refused(error_line(body))
@@ -359,9 +440,10 @@ def read_login_answer(payload: bytes) -> Accepted:
 
 def _routing_of(body: bytes) -> tuple[str, int]:
     protocol, port, units = struct.unpack_from("<BHH", body, 3)
-    if protocol != 0:
-        raise ValueError("a redirection by another protocol than TCP")
-    return body[8:8 + 2 * units].decode("utf-16-le"), port
+    host = body[8:8 + 2 * units].decode("utf-16-le")
+    if protocol != 0 or not host or not port:
+        raise ValueError("a redirection by another protocol than TCP, or to nowhere")
+    return host, port
 
 
 def error_line(body: bytes) -> str:

@@ -4,21 +4,22 @@ from __future__ import annotations
 import io
 import os
 import re
+from itertools import islice
 from operator import length_hint
 from typing import Any, Callable, Iterator, NoReturn, Optional, Protocol, Sequence, TypeVar, Union, cast
 
 from gavyreto.columns import Column
 from gavyreto.errors import Error, MalformedText, NotOneSet, PassedOver, UnfinishedText
 from gavyreto.records import SEPARATOR, LongField, LongRecord, OpenField, Read, Records, end_of_set, record_at
-from gavyreto.values import BINARY, Converter, Value, value_of
+from gavyreto.rows import Row, row_type
+from gavyreto.values import BINARY, Converter, Dates, Value, check_dates, value_of
 
 MOST_GROUPS = 1000  # columns of a set whose rows are read by one pattern
 SEVERAL = "several sets: split them first, as docs/RECIPES.md has it in \"Several result sets\""
 
 
-Row = list[Value]
 Columns = list[list[Value]]  # the values of some rows, by columns
-Described = tuple[str, str, None, Optional[int], Optional[int], Optional[int], bool]
+Described = tuple[str, Optional[str], None, Optional[int], Optional[int], Optional[int], Optional[bool]]
 
 
 class Describes(Protocol):
@@ -30,7 +31,7 @@ class Describes(Protocol):
 class Parser:
     """The headers of a text and the rows under each. The end of the text within a row is an EOFError."""
 
-    def __init__(self, read: Read, dates: bool) -> None:
+    def __init__(self, read: Read, dates: Dates) -> None:
         self.records = Records(read)
         self.sets = self.rows = 0  #: so far
         self.is_over = False  #: nothing is left of the text but `records.rest`
@@ -121,7 +122,7 @@ class Parser:
             self._rows = re.compile(",".join(it.groups() for it in self._converters) + SEPARATOR)
         return columns
 
-    def _row_of(self, fields: Sequence[Union[str, LongField]]) -> Row:
+    def _row_of(self, fields: Sequence[Union[str, LongField]]) -> list[Value]:
         self._check_width(len(fields))
         return [self._value(converter, field) for converter, field in zip(self._converters, fields)]
 
@@ -222,13 +223,15 @@ class TextFile(io.TextIOBase):
 
 
 class ResultSet:
-    """An iterator over the rows of one set, each a list with a value for each column.
+    """An iterator over the rows of one set, each a tuple with a value for each column, which `row.name` gives too.
 
     It is read from the same text as the set after it: asking for the next set passes over the rows left here, and asking for
     them after that raises `PassedOver`."""
 
     def __init__(self, sets: Sets, place: int, names: list[str], is_only: bool) -> None:
         self.names = names  #: of the columns, as the server gave them: some may be "" or equal
+        self.arraysize = 1  #: how many rows `fetchmany` gives without a number
+        self._row = row_type(tuple(names))
         self._sets, self._place, self._is_only = sets, place, is_only
         self._values: Columns = []  # of a block
         self._first: Iterator[Value] = iter(())  # those of the first column that weren't handed out
@@ -244,13 +247,38 @@ class ResultSet:
         return [column._replace(name=name) for column, name in zip(found, self.names)] if found else None
 
     @property
-    def description(self) -> Optional[list[Described]]:
-        """The columns as Python's DB-API has them: name, type, no display size, size, precision, scale, and whether NULL is
-        allowed."""
+    def description(self) -> list[Described]:
+        """The columns as Python's DB-API has them (PEP 249): name, type, no display size, size, precision, scale, and whether
+        NULL is allowed; of a text the names alone."""
         columns = self.columns
         if columns is None:
-            return None
+            return [(name, None, None, None, None, None, None) for name in self.names]
         return [(it.name, it.type, None, it.length, it.precision, it.scale, it.nullable) for it in columns]
+
+    def fetchone(self) -> Optional[Row]:
+        """The next row, or None after the last one (PEP 249)."""
+        return next(self, None)
+
+    def fetchmany(self, size: Optional[int] = None) -> list[Row]:
+        """The next rows: so many, or `arraysize` without a number, and fewer at the end (PEP 249)."""
+        return list(islice(self, self.arraysize if size is None else size))
+
+    def fetchall(self) -> list[Row]:
+        """The rows that are left (PEP 249)."""
+        return list(self)
+
+    def frame(self) -> Any:
+        """The rows that are left as a DataFrame of pandas, which has to be there. Whole numbers, bit and text have the types of
+        pandas that hold NULL too; all else are objects."""
+        from gavyreto.frames import frame_of
+
+        return frame_of(self)
+
+    def arrow(self) -> Any:
+        """The rows that are left as a Table of pyarrow, which has to be there beside pandas, with the types of `frame`."""
+        import pyarrow  # type: ignore[import]
+
+        return pyarrow.Table.from_pandas(self.frame(), preserve_index=False)
 
     def __iter__(self) -> Iterator[Row]:
         yield from self._rows
@@ -262,7 +290,13 @@ class ResultSet:
         return next(iter(self))
 
     def batches(self, size: int) -> Iterator[Columns]:
-        """The rows by columns: a list for each column, with so many values each time, and fewer at the end."""
+        """The rows by columns: a list for each column, with so many values each time, and fewer at the end. Raises ValueError
+        if the size is less than 1."""
+        if size < 1:
+            raise ValueError(f"a batch has at least 1 row, not {size}")
+        return self._batches(size)
+
+    def _batches(self, size: int) -> Iterator[Columns]:
         waiting = [list(values) for values in zip(*self._rows)] or [[] for _ in self.names]
         is_more = True
         while is_more:
@@ -282,7 +316,8 @@ class ResultSet:
         """The value of a column in the next row, as a file of bytes or of text that is read once, in fixed memory however long
         the value is; None for NULL. Its `close` passes over the rest of the row, and is needed before anything else is read.
 
-        Raises StopIteration after the last row, and ValueError if the value has neither bytes nor text."""
+        Raises StopIteration after the last row, and ValueError if the value has neither bytes nor text, or the file before
+        isn't closed."""
         place = self.names.index(column) if isinstance(column, str) else range(len(self.names))[column]
         if length_hint(self._first):
             return _file_of(next(self)[place])
@@ -295,7 +330,8 @@ class ResultSet:
         if isinstance(field, str):
             self._sets._close_row(place, iter(()))
             return _file_of(value_of(field))
-        return io.BufferedReader(ValueFile(self._sets, place, field)) if field.shape is BINARY else TextFile(self._sets, place, field)
+        self._sets._opened = ValueFile(self._sets, place, field) if field.shape is BINARY else TextFile(self._sets, place, field)
+        return io.BufferedReader(self._sets._opened) if isinstance(self._sets._opened, ValueFile) else self._sets._opened
 
     def _check_passed_over(self) -> None:
         if self._is_passed_over:
@@ -308,7 +344,7 @@ class ResultSet:
             self._before += len(self._values[0]) if self._values else 0
             self._values = columns or []
             self._first = iter(self._values[0] if self._values else ())
-            self._rows = map(list, zip(self._first, *self._values[1:]))
+            self._rows = map(self._row, zip(self._first, *self._values[1:]))
             self._is_over = columns is None
             if length_hint(self._first):
                 return True
@@ -345,11 +381,12 @@ class Sets:
 
     After an error each further call raises that error again; after `close` before the end it raises ValueError."""
 
-    def __init__(self, read: Read, dates: bool, descriptions: Optional[Describes] = None) -> None:
+    def __init__(self, read: Read, dates: Dates, descriptions: Optional[Describes] = None) -> None:
         self.sets = 0  #: handed out so far
         self._descriptions = descriptions
         self._parser = Parser(read, dates)
         self._current: Optional[ResultSet] = None
+        self._opened: Union[None, ValueFile, TextFile] = None  # the last value that was opened as a file
         self._rows_before = 0  # of the sets before the current one
         self._failure: Optional[Error] = None
         self._is_closed = self._is_ended = False
@@ -384,7 +421,13 @@ class Sets:
         self._is_closed = True
         self._release()
 
+    def _check_closed(self) -> None:
+        """Sees to it that nothing is read past a value that is open."""
+        if self._opened and not self._opened.closed and not self._failure and not self._is_closed:
+            raise ValueError("the value that was opened before isn't closed")
+
     def _next_set(self, is_only: bool) -> ResultSet:
+        self._check_closed()
         if self._current:
             self._current._pass_over()
         names = self._step(self._parser.next_header)
@@ -397,12 +440,14 @@ class Sets:
         return self._current
 
     def _next_rows(self, is_only: bool) -> Optional[Columns]:
+        self._check_closed()
         columns = self._step(self._parser.next_rows)
         if columns is None:
             self._end_set(is_only)
         return columns
 
     def _open_row(self, place: int, is_only: bool) -> Union[None, str, OpenField]:
+        self._check_closed()
         field = self._step(lambda: self._parser.open_row(place))
         if field is None:
             self._end_set(is_only)
@@ -462,7 +507,7 @@ S = TypeVar("S", bound=Sets)
 class Text(Sets):
     """The result sets of a text in a file."""
 
-    def __init__(self, path: Union[str, os.PathLike[str]], dates: bool) -> None:
+    def __init__(self, path: Union[str, os.PathLike[str]], dates: Dates) -> None:
         self._file = open(path, "rb", buffering=0)
         super().__init__(self._read, dates)
 
@@ -473,9 +518,10 @@ class Text(Sets):
         self._file.close()
 
 
-def read(text: Union[str, os.PathLike[str]], *, dates: bool = False) -> Sets:
+def read(text: Union[str, os.PathLike[str]], *, dates: Dates = False) -> Sets:
     """The result sets of a text that the program wrote, by the path of its file.
 
     Raises OSError if it can't be opened; while the sets and rows are read, once all before is handed out, MalformedText if
     it isn't such a text, and UnfinishedText if it ends within a row."""
+    check_dates(dates)
     return Text(text, dates)

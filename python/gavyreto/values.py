@@ -4,10 +4,18 @@ from __future__ import annotations
 import re
 from datetime import date, datetime, time
 from decimal import Decimal
-from typing import Callable, Iterable, Iterator, NamedTuple, Optional, Union
+from typing import Callable, Iterable, Iterator, Literal, NamedTuple, Optional, Union
 from uuid import UUID
 
+Dates = Union[bool, Literal["truncate"]]
+DATES: tuple[Dates, ...] = (False, True, "truncate")
 Value = Union[None, int, Decimal, bytes, str, date, time, datetime, UUID]
+
+
+def check_dates(dates: Dates) -> None:
+    """Raises ValueError if dates are asked for in a way that isn't there."""
+    if dates not in DATES:
+        raise ValueError(f"dates is one of {', '.join(map(repr, DATES))}, not {dates!r}")
 
 
 class Shape(NamedTuple):
@@ -39,7 +47,7 @@ DECIMAL = re.compile(r"-?[0-9]+\.([0-9]+)")
 MOMENT = re.compile(rf"({DAY})?(?:(?(1) )({CLOCK})(?:\.([0-9]{{1,7}}))?)?({OFFSET})?")
 
 
-def shape_of(field: str, dates: bool) -> Shape:
+def shape_of(field: str, dates: Dates) -> Shape:
     """The shape of a column by one of its fields. Raises ValueError if no field looks so."""
     for shape in (TEXT, BINARY, INTEGER):
         if re.fullmatch(shape.pattern, field):
@@ -54,24 +62,25 @@ def shape_of(field: str, dates: bool) -> Shape:
     return _moment(found, dates)
 
 
-def _moment(found: re.Match[str], dates: bool) -> Shape:
-    """The shape of dates, times or both. Of seven digits of a second Python's types would lose one: such a column is text."""
+def _moment(found: re.Match[str], dates: Dates) -> Shape:
+    """The shape of dates, times or both. Of seven digits of a second Python's types would lose one: such a column is text,
+    unless the last digit is to be cut off."""
     day, clock, fraction, offset = found.groups()
     digits = len(fraction or "")
     parts = [DAY] * bool(day) + [CLOCK + (rf"\.[0-9]{{{digits}}}" if digits else "")] * bool(clock)
     pattern = " ".join(parts) + (OFFSET if offset else "")
-    if not dates or digits == 7:
+    if not dates or digits == 7 and dates != "truncate":
         return Shape("moment", pattern, list)
     if not clock:
         return Shape("date", pattern, _each(date.fromisoformat))
     kind: Union[type[datetime], type[time]] = datetime if day else time
-    missing = ("." if not digits else "") + "0" * (6 - digits)  # `fromisoformat` of each version reads six digits
+    missing, cut = ("." if not digits else "") + "0" * (6 - digits), digits == 7  # `fromisoformat` of each version reads six digits
     if offset:
-        return Shape("moment", pattern, _each(lambda field: kind.fromisoformat(field[:-7] + missing + field[-6:])))
-    return Shape("moment", pattern, _each(lambda field: kind.fromisoformat(field + missing)))
+        return Shape("moment", pattern, _each(lambda field: kind.fromisoformat(field[:-7 - cut] + missing + field[-6:])))
+    return Shape("moment", pattern, _each(lambda field: kind.fromisoformat(field[:len(field) - cut] + missing)))
 
 
-def value_of(field: str, dates: bool = False) -> Value:
+def value_of(field: str, dates: Dates = False) -> Value:
     """The value of a field of the text, quotes and all. Raises ValueError if no field looks so."""
     return Converter("", dates).value(field)
 
@@ -79,7 +88,7 @@ def value_of(field: str, dates: bool = False) -> Value:
 class Converter:
     """Makes values of the fields of a column."""
 
-    def __init__(self, name: str, dates: bool) -> None:
+    def __init__(self, name: str, dates: Dates) -> None:
         self.name = name
         self.shape: Optional[Shape] = None  # once a value has come
         self._dates = dates

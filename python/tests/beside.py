@@ -5,6 +5,7 @@ import contextlib
 import os
 import shutil
 import socket
+import ssl
 import subprocess
 import sys
 import tempfile
@@ -173,6 +174,23 @@ def log_in(channel: Channel) -> None:
     channel.write_message(tds.PacketType.ANSWER, tds.login_ack("Test") + tds.done())
 
 
+def context_of(certificate: str) -> ssl.SSLContext:
+    """What a server encrypts with that has the certificate of a stand-in."""
+    context = ssl.SSLContext(ssl.PROTOCOL_TLS_SERVER)
+    context.maximum_version = ssl.TLSVersion.TLSv1_2  # the greatest within TDS 7.4
+    context.load_cert_chain(certificate, os.path.join(os.path.dirname(certificate), "key.pem"))
+    return context
+
+
+def log_in_encrypted(channel: Channel, context: ssl.SSLContext) -> None:
+    """The server's side of a login of which all is encrypted."""
+    channel.read_message()
+    channel.write_message(tds.PacketType.ANSWER, tds.prelogin(tds.Encryption.ON))
+    channel.encrypt(context, server_side=True)
+    channel.read_message()
+    channel.write_message(tds.PacketType.ANSWER, tds.login_ack("Test") + tds.done())
+
+
 def ask_port(port: int, *words: str, **options: Any) -> subprocess.CompletedProcess[bytes]:
     """What the command `query` gives that asks a port of this machine, without encryption."""
     return subprocess.run(command_for(port, *words), capture_output=True, check=False, **started(), **options)
@@ -185,5 +203,5 @@ def command_for(port: int, *words: str) -> list[str]:
 
 def started(**variables: str) -> dict[str, Any]:
     """How a command is started: with a password, without a terminal."""
-    own = {"SQLCMDPASSWORD": "secret", "PYTHONPATH": os.path.join(ROOT, "python"), "PYTHONDONTWRITEBYTECODE": "1"} | variables
+    own = {"SQLCMDPASSWORD": "secret", "PYTHONPATH": os.path.join(ROOT, "python"), "PYTHONDONTWRITEBYTECODE": "1", "GAVYRETO_TRACEBACK": "1"} | variables
     return {"env": os.environ | own, "stdin": subprocess.DEVNULL, "start_new_session": True}

@@ -1,7 +1,10 @@
 """Tests of `adapt` and `columns`: responses with columns that the program refuses."""
 from __future__ import annotations
 
+import contextlib
+import gzip
 import io
+import lzma
 import os
 import random
 import struct
@@ -9,13 +12,15 @@ import subprocess
 import sys
 import tempfile
 import unittest
-from typing import Any
+from typing import Any, Optional
 
 import gavyreto
 from gavyreto import tds
-from gavyreto.adapting import Adapter
-from gavyreto.payload import Ended
+from gavyreto.adapting import Adapter, variant_text
+from gavyreto.payload import Ended, Payload, descriptions
 from tests.beside import PROGRAM, Live, answered, need, responses, started, wire
+
+from plain import reader  # isort: skip  the tools are on the path after it
 
 LONG = 200_000_000
 
@@ -122,6 +127,72 @@ class Adapted(unittest.TestCase):
                 adapted(answered(*pieces, tds.done()))
 
 
+    def test_values_of_a_sql_variant_that_none_has(self) -> None:
+        """Each base type with lengths, scales and values in and out of their ranges is read or refused as a plain reading does."""
+        numbers, counts, wrong = random.Random(2), {True: 0, False: 0}, []
+        for number in range(20_000):
+            byte = BASES[number % len(BASES)]
+            rest = numbers.choice((b"", bytes([numbers.randrange(9)]), bytes([numbers.randrange(42), numbers.randrange(42)]), b"\xFF"))
+            kind = reader.Kind(byte, b"\x11" + rest if byte in (0x6A, 0x6C) else rest)
+            length = numbers.choice((0, 1, 2, 3, 4, 5, 6, 7, 8, 9, 10, 13, 16, 17))
+            data = numbers.choice((bytes(length), b"\xFF" * length, numbers.randbytes(length), numbers.randbytes(length)[:-2] + b"\x84\x03"))[:length]
+            wanted = plain_text(kind, data)
+            counts[wanted is None] += 1
+            came = variant_text_or_none(byte, rest, data)
+            wrong += [(byte, rest, data, came, wanted)] if came != wanted else []
+        self.assertEqual(wrong[:5], [])
+        self.assertGreater(min(counts.values()), 200)
+
+    def test_texts_of_a_sql_variant_that_none_has(self) -> None:
+        for byte, properties, data in (
+            (0xE7, responses.TEXT_PROPERTIES, b"abc"), (0xA7, b"", b"abc"), (0xA7, bytes(5) + b"\x02\0", b"abc"), (0xA5, b"\x02\0", b"abc"), (0x62, b"", b""),
+            (0x22, b"", b""), (0x1F, b"", b""), (0xF1, b"", b""),
+        ):
+            with self.subTest(byte=byte):
+                self.assertIsNone(variant_text_or_none(byte, properties, data))
+
+    def test_lengths_that_none_has(self) -> None:
+        """Floats of another length than their column, and a sql_variant, text or image that is too long or too short for what it has."""
+        float_, image, ntext = (responses.Column("x", info, responses.fixed, responses.as_it_is, bytes) for info in (
+            "6D08", "22" + responses.LAST + responses.table("t"), "63" + responses.LAST + responses.COLLATION.hex() + responses.table("t")))
+        variant = responses.Column("v", "62491F0000", responses.variant, responses.as_it_is, bytes)
+        old = b"\x10" + responses.POINTER
+        cases = [(float_, bytes([length]) + bytes(length)) for length in (1, 2, 3, 4, 5, 7, 9, 255)]
+        cases += [(image, old + b"\xFF\xFF\xFF\xFF"), (ntext, old + b"\x03\0\0\0abc")]
+        cases += [(variant, struct.pack("<I", length) + b"\x38\0" + bytes(4)) for length in (1, 5, 7, 8017, 2**24, 2**32 - 1)]
+        cases += [(variant, struct.pack("<I", 3) + b"\x38\x07\0")]
+        for column, cell in cases:
+            with self.subTest(column=column.name, cell=cell[:8]), self.assertRaises(ValueError):
+                adapted(answered(responses.description([column]), b"\xD1" + cell, tds.done()))
+
+    def test_a_later_packet_of_another_type(self) -> None:
+        packets = list(tds.packets([*responses.refused_float(0)], 30))
+        self.assertEqual(exported(adapted(b"".join(packets)))[0], 0)
+        for wrong in (b"\x01" + packets[1][1:], packets[1][:2] + b"\0\x07" + packets[1][4:]):
+            with self.assertRaises(ValueError):
+                adapted(packets[0] + wrong + b"".join(packets[2:]))
+
+
+BASES = (0x30, 0x32, 0x34, 0x38, 0x7F, 0x3A, 0x3D, 0x7A, 0x3C, 0x24, 0x28, 0x29, 0x2A, 0x2B, 0x6A, 0x6C)
+SCALAR = {**reader.FIXED_LENGTH, 0x24: 16}
+
+
+def plain_text(kind: reader.Kind, data: bytes) -> Optional[str]:
+    """The text of a value by a plain reading of a column of its kind, or None."""
+    with contextlib.suppress(ValueError, IndexError, KeyError):
+        if kind.byte in SCALAR:
+            return reader.scalar_text(kind, data) if not kind.rest and len(data) == SCALAR[kind.byte] else None
+        if len(kind.rest) == reader.REST[kind.byte] and reader.is_described(kind.byte, kind.rest) and data:
+            return reader.scalar_text(kind, data) if reader.is_allowed(kind, len(data)) else None
+    return None
+
+
+def variant_text_or_none(byte: int, properties: bytes, data: bytes) -> Optional[str]:
+    with contextlib.suppress(ValueError):
+        return variant_text(byte, properties, data, "windows-1252")
+    return None
+
+
 class Commands(Live):
     def run_command(self, *words: str, data: bytes = b"") -> subprocess.CompletedProcess[bytes]:
         given = started()
@@ -141,6 +212,50 @@ class Commands(Live):
             self.assertEqual((came.returncode, came.stderr.decode()), (4, line))
         full = subprocess.run(["sh", "-c", f"{sys.executable} -m gavyreto adapt float.tds > /dev/full"], cwd=self.folder, capture_output=True, check=False, **started())
         self.assertEqual((full.returncode, full.stderr.count(b"\n")), (5, 1))
+
+    def test_what_is_no_response(self) -> None:
+        """The file is named for what it is, with what reads it, and nothing of it is written."""
+        for data, line in (
+            (b"\xD4\xC3\xB2\xA1" + bytes(100), "a capture of the network: gavyreto capture reads it"),
+            (b"\x0A\x0D\x0D\x0A" + bytes(100), "a capture of the network: gavyreto capture reads it"),
+            (gzip.compress(wire("float")), "compressed: gunzip -c gives what is in it"), (lzma.compress(b"x"), "compressed: xz -dc gives what is in it"),
+            (b'"a"\r\n1\r\n', "a text that tds_replay wrote, and no packets: gavyreto.read reads it"), (b"SELECT 1\n", "a text, and no packets"),
+            (b"net.c:100:Received packet\n0000 04 01\n", "the dump of a client of FreeTDS: gavyreto capture reads it"),
+            (tds.packet(1, tds.statement("SELECT 1")), "what a client sent: the packets of the server are needed"), (b"\x17\x03\x03\0\x01x", "encrypted: the bytes after decryption are needed"),
+            (b"\xFF\xFE", "no response: its first byte is 0xff, and that of a packet of a server is 0x04"),
+        ):
+            with open(self.path("it"), "wb") as file:
+                file.write(data)
+            for command in ("columns", "adapt"):
+                with self.subTest(command=command, line=line):
+                    self.assert_ends(self.run_command(command, "it"), 4, b"", f"it is {line}")
+                    self.assert_ends(self.run_command(command, data=data), 4, b"", f"standard input is {line}")
+            self.assertEqual(self.run_command("adapt", "-o", "out", "it").returncode, 4)
+            self.assertFalse(os.path.exists(self.path("out")))
+
+    def test_an_input_is_no_output(self) -> None:
+        with open(self.path("x"), "wb") as file:
+            file.write(wire("float"))
+        os.link(self.path("x"), self.path("y"))
+        for words in ("-o x x", "-o y x", "-o x < x", "x >> x", "< x >> y"):
+            came = subprocess.run(["sh", "-c", f"exec {sys.executable} -m gavyreto adapt {words}"], cwd=self.folder, capture_output=True, check=False, **started())
+            with self.subTest(words=words):
+                self.assertEqual((came.returncode, came.stdout), (2, b""))
+                self.assertRegex(came.stderr.decode(), "^[^\n]*: the response is read from it\n$")
+                self.assertEqual(self.text("x"), wire("float"))
+
+    def test_responses_of_random_bytes_end_with_a_line(self) -> None:
+        """Each command ends by itself, with one line and a status."""
+        numbers, whole = random.Random(3), wire("refused")
+        for _ in range(300):
+            data = bytearray(whole)
+            for _ in range(numbers.choice((1, 1, 3))):
+                data[numbers.randrange(8, len(data))] = numbers.choice((0, 1, 2, 0x7F, 0x80, 0xFF, numbers.randrange(256)))
+            with contextlib.suppress(ValueError, Ended):
+                adapted(bytes(data))
+            with contextlib.suppress(ValueError, Ended):
+                for described in descriptions(Payload(io.BytesIO(data).read)):
+                    self.assertTrue(all(isinstance(column.column().type, str) for column in described))
 
     def test_columns(self) -> None:
         came = self.run_command("columns", "sets.tds")

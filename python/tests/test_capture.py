@@ -2,17 +2,19 @@
 from __future__ import annotations
 
 import csv
+import gzip
 import io
 import os
 import random
+import re
 import subprocess
 import sys
 import tempfile
 import unittest
-from typing import Optional
+from typing import BinaryIO, Optional, cast
 
 from gavyreto import tds
-from tests.beside import PROGRAM, ROOT, Live, answered, need, responses, started, wire
+from tests.beside import PROGRAM, ROOT, Live, answered, need, skip, started, wire
 
 sys.path[:0] = [os.path.join(ROOT, "tools")]
 from lib import capture_builder as captures  # noqa: E402
@@ -47,7 +49,7 @@ class Captures(unittest.TestCase):
     folder: str
 
     def setUp(self) -> None:
-        need(self, "tcpflow", "editcap")
+        need(self, "editcap")
         folder = tempfile.TemporaryDirectory()
         self.addCleanup(folder.cleanup)
         self.folder = folder.name
@@ -70,6 +72,12 @@ class Captures(unittest.TestCase):
         lines = csv.DictReader(io.StringIO(came.stdout.decode(), newline=""))
         return came, [{name: None if value == "NULL" else value for name, value in line.items()} for line in lines]
 
+    def sums(self, came: subprocess.CompletedProcess[bytes]) -> dict[str, int]:
+        """The counts of the last line on standard error, by what is counted."""
+        last = came.stderr.decode().splitlines()[-1]
+        counts = {name: int(count) for count, name in re.findall(r"(\d+) ((?:not read|of others|in \w+|answered|not|told))", last)}
+        return counts | {name: int(count) for name, count in re.findall(r"(frames|packets|connections|requests|bytes) (\d+)", last)}
+
     def texts(self) -> dict[str, bytes]:
         found = {}
         for name in sorted(os.listdir(os.path.join(self.folder, "out"))):
@@ -86,7 +94,7 @@ class Captures(unittest.TestCase):
         for form in ("pcap", "nsecpcap", "pcapng"):
             with self.subTest(form=form):
                 came, table = self.captured(conversation().frames, form)
-                self.assertEqual((came.returncode, came.stderr), (3, b""))
+                self.assertEqual((came.returncode, self.sums(came)["not read"], self.sums(came)["told"]), (3, 0, 0))
                 self.assertEqual(self.texts(), dict(zip(self.names(), map(exported, RESPONSES))))
                 self.assertEqual([(line["text"], line["statement"], line["status"]) for line in table], list(zip(self.names(), SHOWN, "003")))
                 self.assertEqual({(line["client"], line["server"]) for line in table}, {("192.0.2.10.50123", "192.0.2.20.1433")})
@@ -112,7 +120,7 @@ class Captures(unittest.TestCase):
         """Whichever is lost: each text is that of a whole response or a part of it, and what is lost is told."""
         frames = conversation().frames
         wholes = [exported(data) for data in RESPONSES]
-        for place in range(3, len(frames)):
+        for place in range(3, len(frames), 5):
             is_server = frames[place][34:36] == (1433).to_bytes(2, "big") and len(frames[place]) > 54
             came, table = self.captured(frames[:place] + frames[place + 1:])
             with self.subTest(place=place):
@@ -128,7 +136,7 @@ class Captures(unittest.TestCase):
     def test_captures_that_begin_anywhere(self) -> None:
         frames = conversation().frames
         wholes = [exported(data) for data in RESPONSES]
-        for place in range(0, len(frames), 3):
+        for place in range(0, len(frames), 10):
             came, table = self.captured(frames[place:])
             with self.subTest(place=place):
                 texts = self.texts()
@@ -137,34 +145,36 @@ class Captures(unittest.TestCase):
 
     def test_an_encrypted_connection(self) -> None:
         came, table = self.captured(conversation(encrypted=True).frames)
-        self.assertEqual((came.returncode, [line["line"] for line in table]), (4, ["the connection is encrypted"]))
+        self.assertEqual((came.returncode, [line["line"] for line in table]), (4, ["the connection is encrypted: 15420 bytes"]))
         self.assertEqual(self.texts(), {})
 
     def test_what_is_no_answer(self) -> None:
         """A response that is refused leaves its part; bytes of anything else are told."""
-        for data, line in (
-            (wire("float"), "fault 10 RefusedColumn 1 FLTN at payload 15, written 0, unwritten 0"), (b"HTTP/1.1 200 OK\r\n\r\n", "no packet begins here: 19 bytes are passed over"),
-            (b"\x53\x01" + bytes(14), "several answers at once (MARS), which aren't read"), (answered(b"\x99"), "fault 6 RefusedToken 0x99 at payload 0, written 0, unwritten 0"),
+        for data, lines in (
+            (wire("float"), ["fault 10 RefusedColumn 1 FLTN at payload 15, written 0, unwritten 0"]),
+            (b"HTTP/1.1 200 OK\r\n\r\n", ["no answer to it came", "no packet begins here: 19 bytes are passed over"]),
+            (b"\x53\x01" + bytes(14), ["several answers at once (MARS), which aren't read: 16 bytes"]),
+            (answered(b"\x99"), ["fault 6 RefusedToken 0x99 at payload 0, written 0, unwritten 0"]),
         ):
             made = captures.Capture()
             made.open()
             made.send(captures.CLIENT, tds.packet(1, tds.statement("SELECT 1")))
             made.send(captures.SERVER, data)
             came, table = self.captured(made.frames)
-            with self.subTest(line=line):
-                self.assertEqual((came.returncode, [it["line"] for it in table]), (4, [line]))
+            with self.subTest(lines=lines):
+                self.assertEqual((came.returncode, [it["line"] for it in table]), (4, lines))
                 self.assertFalse(any(name.endswith(".csv") for name in self.texts()))
 
     def test_random_bytes(self) -> None:
         """Whatever a server sends: no traceback, and the status isn't 0."""
         numbers = random.Random(7)
-        for _ in range(30):
+        for _ in range(10):
             made = captures.Capture()
             made.open()
             made.send(captures.CLIENT, numbers.randbytes(numbers.randint(1, 3000)))
             made.send(captures.SERVER, bytes([4, 1, 0, numbers.randint(8, 255)]) * (numbers.random() < 0.5) + numbers.randbytes(numbers.randint(1, 9000)))
             came, _ = self.captured(made.frames)
-            self.assertEqual((came.returncode, came.stderr), (4, b""))
+            self.assertEqual((came.returncode, came.stderr.count(b"\n")), (4, 1))
             self.texts()
 
     def test_all_that_a_server_sent(self) -> None:
@@ -175,14 +185,14 @@ class Captures(unittest.TestCase):
         for data, status, told, left in (
             (whole, 3, None, texts), (b"".join(RESPONSES), 3, None, texts),
             (whole + b"HTTP", 4, "no packet begins here: 4 bytes are passed over", texts),
-            (whole[:-1], 4, "fault 2 InputEnded at wire 0, written 0, unwritten 0", {name: text for name, text in texts.items() if "3" not in name} | {"answer.3.csv.partial": b""}),
+            (whole[:-1], 4, "the connection ends within it: fault 2 InputEnded at wire 0, written 0, unwritten 0", {name: text for name, text in texts.items() if "3" not in name} | {"answer.3.csv.partial": b""}),
         ):
             with open(os.path.join(self.folder, "sent"), "wb") as file:
                 file.write(data)
             came = self.run_capture("sent", "out")
             with self.subTest(status=status, told=told):
                 lines = list(csv.DictReader(io.StringIO(came.stdout.decode(), newline="")))
-                self.assertEqual((came.returncode, came.stderr, self.texts()), (status, b"", left))
+                self.assertEqual((came.returncode, self.sums(came)["bytes"], self.texts()), (status, len(data), left))
                 self.assertEqual((lines[0]["client"], lines[0]["time"], lines[-1]["line"] if told else None), ("NULL", "NULL", told))
 
     def test_arguments(self) -> None:
@@ -190,11 +200,146 @@ class Captures(unittest.TestCase):
         again = self.run_capture("capture", "out")
         self.assertEqual(again.returncode, 2)
         self.assertIn(b"has texts", again.stderr)
-        for words, status in ((["nothere", "other"], 5), (["--port", "1434", "capture", "other"], 4), ([sys.executable, "other"], 2), (["--port", "0", "capture", "other"], 2)):
+        for words, status in ((["nothere", "other"], 5), (["--port", "1434", "capture", "third"], 4), ([sys.executable, "other"], 2), (["--port", "0", "capture", "other"], 2)):
             with self.subTest(words=words):
                 came = self.run_capture(*words)
-                self.assertEqual((came.returncode, came.stdout), (status, b""))
+                self.assertEqual((came.returncode, came.stdout.count(b"\n")), (status, int(status == 4)))
                 self.assertNotIn(b"Traceback", came.stderr)
+
+
+    def test_files_that_are_compressed_or_come_by_a_pipe(self) -> None:
+        made = captures.Capture()
+        made.frames = conversation().frames
+        with open(os.path.join(self.folder, "plain"), "wb") as file:
+            made.write(file)
+        with open(file.name, "rb") as plain, gzip.open(os.path.join(self.folder, "packed"), "wb") as packed:
+            packed.write(plain.read())
+        for words in ("plain out", "packed out", "- out < plain", "- out < packed", "<(cat plain) out"):
+            command = f'exec {sys.executable} -m gavyreto capture --program "{PROGRAM}" {words}'
+            given = started()
+            given.pop("stdin")
+            came = subprocess.run(["bash", "-c", command], cwd=self.folder, capture_output=True, check=False, **given)
+            with self.subTest(words):
+                self.assertEqual((came.returncode, self.texts()), (3, dict(zip(self.names(), map(exported, RESPONSES)))))
+
+    def test_packets_beside_texts(self) -> None:
+        """As they came; if columns are refused, as they were rewritten."""
+        made = captures.Capture()
+        made.open()
+        for data in (wire("orders"), wire("float")):
+            made.send(captures.CLIENT, tds.packet(1, tds.statement("SELECT 1")))
+            made.send(captures.SERVER, data)
+        came, table = self.captured(made.frames, "pcap", "--packets")
+        stem = "192.0.2.10.50123-192.0.2.20.1433"
+        texts = self.texts()
+        self.assertEqual((came.returncode, texts[f"{stem}.1.tds"], texts[f"{stem}.2.tds"]), (4, wire("orders"), wire("float")))
+        came, table = self.captured(made.frames, "pcap", "--packets", "--adapt")
+        texts = self.texts()
+        self.assertEqual((came.returncode, texts[f"{stem}.1.tds"], texts[f"{stem}.2.csv"]), (0, wire("orders"), b'"id","ratio"\r\n1,NULL\r\n'))
+        self.assertEqual(exported(texts[f"{stem}.2.tds"]), texts[f"{stem}.2.csv"])
+
+    def test_answers_that_say_how_they_ended(self) -> None:
+        """By the bits of the last DONE: an error, an attention, an error of the server."""
+        failed = "the server ended it with a failure, DONE 0x{:04x}, and told no error"
+        for bit, said in ((0x0002, failed), (0x0020, "it was cancelled, DONE 0x{:04x}"), (0x0100, failed)):
+            made = captures.Capture()
+            made.open()
+            made.send(captures.CLIENT, tds.packet(1, tds.statement("SELECT 1")))
+            made.send(captures.SERVER, answered(tds.done(bit)))
+            came, table = self.captured(made.frames)
+            wanted = f"sets 0 rows 0 errors 0 infos 0 written 0, the answer isn't whole: {said.format(bit)}"
+            with self.subTest(bit):
+                self.assertEqual((came.returncode, table[0]["line"]), (3, wanted))
+            self.texts()
+
+    def test_a_capture_that_is_cut(self) -> None:
+        """By one byte: all before it is there, and it is told."""
+        self.captured(conversation().frames)
+        self.texts()
+        path = os.path.join(self.folder, "capture")
+        os.truncate(path, os.path.getsize(path) - 1)
+        came = self.run_capture("capture", "out")
+        self.assertEqual((came.returncode, [it for it in self.texts() if it.endswith(".csv")]), (4, self.names()[:2]))
+        self.assertIn(b"the capture ends within a frame\n", came.stderr)
+
+    def test_servers_on_other_ports_are_named(self) -> None:
+        self.captured(conversation().frames)
+        self.texts()
+        came = self.run_capture("--port", "1434", "capture", "out")
+        self.assertEqual(came.returncode, 4)
+        self.assertIn(b"no server on port 1434; what looks like TDS is on port 1433: --port names another\n", came.stderr)
+
+    def test_what_the_machine_refuses(self) -> None:
+        """A folder whose name isn't UTF-8, and an output that is full: a line and a status."""
+        self.captured(conversation().frames)
+        name = os.fsdecode(b"o\xff")
+        self.assertEqual((self.run_capture("capture", name).returncode, self.run_capture("capture", name).returncode), (3, 2))
+        command = f'exec {sys.executable} -m gavyreto capture --program "{PROGRAM}" capture other > /dev/full'
+        came = subprocess.run(["sh", "-c", command], cwd=self.folder, capture_output=True, check=False, **started())
+        self.assertEqual((came.returncode, came.stderr), (5, b"standard output: No space left on device\n"))
+
+    def test_a_signal_leaves_nothing_under_way(self) -> None:
+        """SIGTERM, while the command waits for the rest of a capture."""
+        made = captures.Capture()
+        made.frames = conversation().frames[:20]
+        command = [sys.executable, "-m", "gavyreto", "capture", "--program", PROGRAM, "-", "out"]
+        with subprocess.Popen(command, cwd=self.folder, stdin=subprocess.PIPE, stdout=subprocess.PIPE, stderr=subprocess.PIPE, env=started()["env"]) as run:
+            made.write(cast(BinaryIO, run.stdin))
+            cast(BinaryIO, run.stdin).flush()
+            cast(BinaryIO, run.stdout).readline()
+            run.terminate()
+            self.assertEqual(cast(BinaryIO, run.stderr).read(), b"ended by SIGTERM\n")
+        self.assertEqual((run.returncode, [it for it in os.listdir(os.path.join(self.folder, "out")) if not it.endswith(".csv")]), (143, []))
+
+
+class Written(Live):
+    def test_captures_of_other_programs(self) -> None:
+        """Written by `tcpdump`, `dumpcap` and `tshark`, of what `tsql`, `freebcp` and `pymssql` ask the stand-in."""
+        need(self, "tcpdump", "dumpcap", "tshark", "tsql", "freebcp")
+        if os.geteuid() != 0:
+            skip(self, "only root may capture here")
+        if subprocess.run([DEBIAN, "-c", "import pymssql"], capture_output=True, check=False).returncode != 0:
+            skip(self, "Python's module pymssql isn't there: `make needs` installs it")
+        self.script("client.sh", CLIENTS)
+        came = self.beside(("--encrypt", "none"), "exec ./client.sh", FREETDSCONF=self.path("freetds.conf"), PYTHON=DEBIAN, CAPTURE=f"{sys.executable} -m gavyreto capture")
+        self.assertEqual((came.returncode, came.stdout.decode().split()), (0, ["any", "0", "lo", "0", "ts", "0"]), came.stderr)
+        for name in ("any", "lo", "ts"):
+            texts = [self.text(os.path.join(name, it)) for it in sorted(os.listdir(self.path(name)))]
+            self.assertEqual(texts.count(exported(wire("orders"))), 2, name)
+            self.assertEqual(texts.count(exported(wire("sets"))), 1, name)
+            subprocess.run(["rm", "-r", self.path(name)], check=True)
+
+
+DEBIAN = "/usr/bin/python3"
+CLIENTS = r"""set -eu
+printf '[global]\ntds version = 7.4\nencryption = off\n[here]\nhost = 127.0.0.1\nport = %s\n' "$PORT" > freetds.conf
+chmod 777 .
+tcpdump -i any -s 0 -U --immediate-mode -w any.pcap "tcp port $PORT" 2> tcpdump.notes &
+first=$!
+dumpcap -q -i lo -w lo.pcapng -f "tcp port $PORT" 2> dumpcap.notes &
+second=$!
+tshark -q -i lo -w ts.pcapng -f "tcp port $PORT" 2> tshark.notes &
+third=$!
+until grep -q 'listening on' tcpdump.notes && grep -q '^File' dumpcap.notes && test -s ts.pcapng; do sleep 0.1; done
+printf 'SELECT * FROM orders\ngo\nexit\n' | tsql -S here -U reader -P secret > rows 2>&1
+freebcp orders out bcp.out -S here -U reader -P secret -c > bcp.notes
+"$PYTHON" -c 'import os, pymssql
+connection = pymssql.connect(server="127.0.0.1", port=os.environ["PORT"], user="reader", password="secret")
+cursor = connection.cursor()
+cursor.execute("SELECT * FROM sets")
+cursor.fetchall()
+connection.close()'
+for file in any.pcap lo.pcapng ts.pcapng; do
+    until [ "$(tshark -r $file -Y 'tcp.flags.fin == 1' 2> reading.notes | wc -l)" -ge 6 ]; do sleep 0.2; done
+done
+kill $first $second $third
+wait
+for file in any.pcap lo.pcapng ts.pcapng; do
+    name=${file%.*} status=0
+    $CAPTURE --program "$PROGRAM" --port "$PORT" $file $name > $name.table 2> $name.notes || status=$?
+    echo "$name $status"
+done
+"""
 
 
 class Dumps(Live):
@@ -208,7 +353,7 @@ class Dumps(Live):
                 'TDSDUMP=$PWD/dump tsql -S here -U reader -P secret > rows 2> notes; exec $CAPTURE --program "$PROGRAM" dump out')
             came = self.beside(("--encrypt", server), command, FREETDSCONF=self.path("freetds.conf"), CAPTURE=f"{sys.executable} -m gavyreto capture")
             with self.subTest(server=server):
-                self.assertEqual((came.returncode, came.stderr), (3, b""))
+                self.assertEqual((came.returncode, came.stderr.count(b"\n")), (3, 1))
                 lines = list(csv.DictReader(io.StringIO(came.stdout.decode(), newline="")))
                 self.assertEqual([(it["text"], it["statement"], it["status"]) for it in lines], [
                     ("answer.1.csv", "SELECT * FROM orders SELECT 2", "0"), ("answer.2.csv", "SELECT * FROM broken", "3")])

@@ -25,7 +25,7 @@ NULL = "(null)"  # what stands for NULL in what PostgreSQL writes, since a value
 def kinds() -> tuple[list[Column], list[list[Value]]]:
     """The columns and the rows of a response with every kind: usual values, extreme ones, and NULL."""
     rows = gavyreto.export(wire("kinds"), program=PROGRAM).only()
-    return rows.columns or [], list(rows)
+    return rows.columns or [], [list(row) for row in rows]
 
 
 def copied(value: Value) -> str:

@@ -12,12 +12,14 @@ import time
 import unittest
 from collections.abc import Callable
 
-from tests.beside import PROGRAM, ROOT, SECONDS, need, skip, started, wire
+from gavyreto import tds
+from tests.beside import PROGRAM, ROOT, SECONDS, answered, need, responses, skip, started, wire
 
 sys.path[:0] = [os.path.join(ROOT, "tools")]
 from lib import requirements  # noqa: E402
 
 KINDS, ERROR, FLOAT = wire("kinds", 40), wire("error"), wire("float")
+COLUMNS = 10  # of the table
 REFUSAL = "fault 10 RefusedColumn 1 FLTN at payload 15, written 0, unwritten 0"
 
 
@@ -79,10 +81,10 @@ class Many(unittest.TestCase):
         """The lines of the table, by the names of their files."""
         try:
             with open(self.path("out", "outcomes.csv"), encoding="utf-8", newline="") as file:
-                lines = [line for line in csv.reader(io.StringIO(file.read())) if len(line) == 3][1:]
+                lines = [line for line in csv.reader(io.StringIO(file.read())) if len(line) == COLUMNS][1:]
         except FileNotFoundError:
             return []
-        return sorted((os.path.basename(file), int(status), line) for file, status, line in lines)
+        return sorted((os.path.basename(line[0]), int(line[1]), line[2]) for line in lines)
 
     def assert_texts(self, good: list[str], *others: str) -> None:
         """Each of these has the text of an export by hand, and beside the table and the others nothing is there."""
@@ -135,6 +137,55 @@ class Here(Many):
         self.assertEqual(self.runs(), sorted([*names, *names[:2]]))
         self.assert_texts(names)
 
+    def test_what_differs_from_its_line_is_done_again(self) -> None:
+        """A file in the place of another one, older and as long; other options; another program; a text that was cut."""
+        name, = self.store(1)
+        logged = self.script('for file; do :; done; echo "$file" >> runs; exec "$PROGRAM" "$@"')
+        file, text = self.path("in", name), self.path("out", f"{name}.csv")
+        self.many("--program", logged, "in", "out")
+        count = 1
+
+        def replaced() -> None:
+            os.rename(file, self.path("before"))
+            self.store(1)
+            os.utime(file, ns=(1, os.stat(self.path("before")).st_mtime_ns - 10**9))
+
+        def same_time() -> None:
+            os.rename(file, self.path("before"))
+            self.store(1)
+            os.utime(file, ns=(1, os.stat(self.path("before")).st_mtime_ns))
+
+        changes: list[tuple[Callable[[], None], tuple[str, ...]]] = [
+            (lambda: None, ("--column-room", "90000")), (lambda: None, ()), (lambda: None, ("--column-room", "100000")), (lambda: None, ()),
+            (replaced, ()), (same_time, ()), (lambda: os.truncate(text, 20), ()),
+        ]
+        for change, words in changes:
+            change()
+            for _ in range(2):
+                self.assertEqual(self.many(*words, "--program", logged, "in", "out")[0], 0)
+                self.assert_texts([name])
+            count += 1
+            self.assertEqual(len([it for it in self.runs() if it != "--version"]), count)
+        newer = self.script('test "$1" = --version && { echo tds_replay 9.9; exit; }; for file; do :; done; echo "$file" >> runs; exec "$PROGRAM" "$@"')
+        self.assertEqual(self.many("--program", newer, "in", "out")[0], 0)
+        self.assertEqual(len(self.runs()), count + 1)
+
+    def test_a_text_of_before_does_not_stay_beside_another(self) -> None:
+        for data, status, text in ((KINDS, 0, "x.csv"), (FLOAT, 4, "x.csv.partial"), (KINDS, 0, "x.csv")):
+            self.store(0, x=data)
+            self.assertEqual(self.many("--program", PROGRAM, "in", "out")[0], status)
+            self.assertEqual(sorted(os.listdir(self.path("out"))), ["outcomes.csv", text])
+        killed = self.script('test "$1" = --version || kill -KILL $$; exec "$PROGRAM" "$@"')
+        self.store(0, x=FLOAT)
+        self.assertEqual(self.many("--program", killed, "in", "out")[0], 5)
+        self.assertEqual(os.listdir(self.path("out")), ["outcomes.csv"])
+
+    def test_a_file_that_changes_while_it_is_read(self) -> None:
+        self.store(1)
+        changing = self.script('test "$1" = --version || printf x >> in/000; exec "$PROGRAM" "$@"')
+        self.assertEqual(self.many("--program", changing, "in", "out")[0], 5)
+        self.assertEqual(self.table(), [("000", 5, f"{self.path('in', '000')}: it changed while it was read")])
+
     def test_a_program_that_is_killed_costs_its_own_response(self) -> None:
         names = self.store(4)
         killed = self.script('case "$*" in */001) test -e again || { echo x; kill -KILL $$; } ;; esac; exec "$PROGRAM" "$@"')
@@ -171,6 +222,56 @@ class Here(Many):
                 self.assertEqual(self.many(*words), (2, line))
                 self.assertFalse(os.path.exists(self.path("out", "000.csv")))
         self.assertEqual(self.many("--program", PROGRAM, "nothere", "out"), (5, "1 responses: 0 done, 0 with an error of the server, 0 refused, 1 failed"))
+        self.assertEqual(self.table(), [("nothere", 5, f"cannot read {self.path('nothere')}: No such file or directory")])
+
+    def test_foreign_files_stay(self) -> None:
+        """Another table, also one that ends its lines otherwise, and texts of which no table tells."""
+        self.store(1)
+        for name, data in (("outcomes.csv", b"a,b\n1,2\n"), ("outcomes.csv", b'"file","status","line"\n'), ("outcomes.csv", b"\0" * 100), ("mine.csv", b"x"), ("mine.csv.partial", b"")):
+            with self.subTest(name=name, data=data), tempfile.TemporaryDirectory(dir=self.folder) as folder:
+                with open(os.path.join(folder, name), "wb") as file:
+                    file.write(data)
+                status, line = self.many("--program", PROGRAM, "in", folder)
+                self.assertEqual((status, os.listdir(folder)), (2, [name]), line)
+                with open(file.name, "rb") as left:
+                    self.assertEqual(left.read(), data)
+
+    def test_names_that_meet(self) -> None:
+        """The text of another file of a later run, and that of a file with the name of the table."""
+        self.store(1)
+        self.many("--program", PROGRAM, "in", "out")
+        os.mkdir(self.path("other"))
+        with open(self.path("other", "000"), "wb") as file:
+            file.write(ERROR)
+        status, line = self.many("--program", PROGRAM, "other", "out")
+        self.assertEqual((status, line), (2, f"000.csv is the text of {self.path('in', '000')}: export {self.path('other', '000')} to another folder"))
+        self.assertEqual(self.many("--program", PROGRAM, "in", "out")[0], 0)
+        self.assert_texts(["000"])
+        with open(self.path("out", "000.csv.partial"), "wb") as file:
+            file.write(ERROR)
+        status, line = self.many("--program", PROGRAM, "in", "out/000.csv.partial", "out")
+        self.assertEqual((status, line), (2, f"000.csv.partial would be the text of {self.path('in', '000')}, and is a file to export: name another folder"))
+        os.remove(file.name)
+        self.store(0, outcomes=KINDS)
+        status, line = self.many("--program", PROGRAM, "in", "out")
+        self.assertEqual((status, line), (2, f"{self.path('in', 'outcomes')}: its text would have the name of the table, outcomes.csv: give the file another name"))
+
+    def test_names_of_any_kind(self) -> None:
+        """Names that aren't UTF-8, have line ends, quotes or controls, or are too long for a text."""
+        self.store(1)
+        names = [b"\xff\xfe", b'a"b\r\nc,\x1b', b"n" * 250, b"n" * 251, b"n" * 252]
+        for name in names:
+            with open(os.path.join(os.fsencode(self.path("in")), name), "wb") as file:
+                file.write(KINDS)
+        for _ in range(2):
+            self.assertEqual(self.many("--program", PROGRAM, "in", "out"), (5, "6 responses: 5 done, 0 with an error of the server, 0 refused, 1 failed"))
+            texts = {name for name in os.listdir(os.fsencode(self.path("out")))}
+            self.assertEqual(texts, {b"000.csv", b"outcomes.csv", *(name + b".csv" for name in names[:4])})
+
+    def test_a_response_that_the_server_ended_unfinished(self) -> None:
+        self.store(0, cancelled=answered(*list(responses.order_rows(0)), tds.done(tds.CANCELLED)))
+        self.assertEqual(self.many("--program", PROGRAM, "in", "out"), (3, "1 responses: 0 done, 1 with an error of the server, 0 refused, 0 failed"))
+        self.assertEqual(self.table(), [("cancelled", 3, "the answer isn't whole: it was cancelled, DONE 0x0020")])
 
     def test_two_commands_do_not_share_a_folder(self) -> None:
         self.store(2)
@@ -188,6 +289,35 @@ class Here(Many):
         self.assert_texts([])
 
 
+    def test_a_full_disk_for_the_table(self) -> None:
+        self.store(0, **{f"{number:03}": tds.packet(4, tds.done()) for number in range(40)})
+        command = f"ulimit -f 8; trap '' XFSZ; exec {sys.executable} -m gavyreto many -j 1 --program {PROGRAM} in out"
+        came = subprocess.run(["sh", "-c", command], cwd=self.folder, capture_output=True, check=False, **started())
+        self.assertEqual((came.returncode, came.stdout, came.stderr.decode()), (5, b"", f"{self.path('out', 'outcomes.csv')}: File too large\n"))
+        self.assertEqual(self.many("--program", PROGRAM, "in", "out")[0], 0)
+        self.assertEqual(len(self.table()), 40)
+
+
+class NoCluster(Many):
+    def test_a_scheduler_that_is_not_there(self) -> None:
+        """A file that doesn't come, one that is none, and an address where nobody is."""
+        if not requirements.has_module(requirements.DEBIAN_PYTHON, "distributed"):
+            skip(self, "Python's module distributed isn't there: `make needs` installs it")
+        self.store(1)
+        with open(self.path("text"), "w", encoding="ascii") as file:
+            file.write("no scheduler")
+        script = "import sys; from gavyreto.commands import common, many; from gavyreto import __main__; many.SECONDS_OF_SCHEDULER = 2; sys.exit(__main__.ended(sys.argv[1:]))"
+        for where, status, line in (
+            ("nothere", 2, "nothere is neither an address with a port nor the file of a scheduler\n"), ("127.0.0.1", 2, "127.0.0.1 is neither an address"),
+            ("text", 5, "the scheduler text can't be reached: "), ("tcp://127.0.0.1:9", 5, "the scheduler tcp://127.0.0.1:9 can't be reached: "),
+        ):
+            command = [requirements.DEBIAN_PYTHON, "-c", script, "many", "--scheduler", where, "--program", PROGRAM, "in", "out"]
+            came = subprocess.run(command, cwd=self.folder, capture_output=True, check=False, timeout=SECONDS, **started())
+            with self.subTest(where=where):
+                self.assertEqual((came.returncode, came.stdout, came.stderr.count(b"\n")), (status, b"", 1), came.stderr.decode())
+                self.assertTrue(came.stderr.decode().startswith(line), came.stderr)
+
+
 class OnCluster(Many):
     """On a cluster of a scheduler and two workers on this machine."""
 
@@ -196,7 +326,7 @@ class OnCluster(Many):
         need(self, "dask-scheduler", "dask-worker")
         if not requirements.has_module(requirements.DEBIAN_PYTHON, "distributed"):
             skip(self, "Python's module distributed isn't there: `make needs` installs it")
-        self.start("dask-scheduler", "--port", "0", "--no-dashboard")
+        self.scheduler = self.start("dask-scheduler", "--port", "0", "--no-dashboard")
         self.workers = [self.start("dask-worker", "--nthreads", "1", "--no-nanny", "--no-dashboard", "--local-directory", name) for name in ("one", "two")]
 
     def start(self, *words: str) -> subprocess.Popen[bytes]:
@@ -207,6 +337,19 @@ class OnCluster(Many):
         self.addCleanup(process.wait)
         self.addCleanup(process.kill)
         return process
+
+    def test_a_scheduler_that_dies(self) -> None:
+        """What it had is told as failed, in the table and by the status, and nothing is said besides."""
+        self.store(60)
+        words = ["--scheduler", "scheduler.json", "--program", self.script('sleep 0.1; exec "$PROGRAM" "$@"'), "in", "out"]
+        with self.begin(*words, python=requirements.DEBIAN_PYTHON) as process:
+            self.wait_for(lambda: len(self.table()) >= 5)
+            self.scheduler.kill()
+            said = process.communicate(timeout=SECONDS)[1].decode().splitlines()
+        self.assertEqual((process.returncode, len(said)), (5, 1), said)
+        statuses = [status for _, status, _ in self.table()]
+        self.assertEqual((len(statuses), set(statuses)), (60, {0, 5}))
+        self.assertEqual(said, [f"60 responses: {statuses.count(0)} done, 0 with an error of the server, 0 refused, {statuses.count(5)} failed"])
 
     def test_a_worker_that_is_killed_costs_nothing(self) -> None:
         names = self.store(100, failed=ERROR, refused=FLOAT)

@@ -18,7 +18,9 @@ import gavyreto
 from gavyreto import tds
 from gavyreto.connection import Channel
 from gavyreto.tds import PacketType
-from tests.beside import ORDERS, PROGRAM, SECONDS, Live, StandIn, ask_port, command_for, listening, log_in, need, responses, started
+from tests.beside import (
+    ORDERS, PROGRAM, SECONDS, Live, StandIn, ask_port, command_for, context_of, listening, log_in, log_in_encrypted, need, responses, started,
+)
 
 LONG = 200_000_000
 MODES = [("none", "none"), ("login", "none"), ("all", "none"), ("login", "login"), ("all", "login"), ("login", "all"), ("all", "all")]
@@ -287,13 +289,25 @@ class Refusals(Live):
 
 class Silence(Live):
     def test_a_server_that_falls_silent_between_statements(self) -> None:
-        statements = "{ echo 'SELECT * FROM orders'; echo GO; until test -s text; do sleep 0.05; done; kill -STOP $SERVER; echo 'SELECT * FROM orders'; }"
-        query = '$QUERY --seconds 2 -S localhost,$PORT -U reader --certificates "$CERTIFICATE" --program "$PROGRAM"'
-        line = "the server was silent for longer than 2 seconds: fault 2 InputEnded at wire 0, written 0, unwritten 0"
-        for encrypt in ("login", "all"):
-            with self.subTest(encrypt=encrypt):
-                came = self.beside((), f"rm -f text; status=0; {statements} | {query} --encrypt {encrypt} > text || status=$?; kill -CONT $SERVER; cat text; exit $status")
-                self.assert_ends(came, 5, ORDERS, REPORT, line)
+        """It answers the first statement, and reads the second."""
+        context = context_of(self.server(()).variables["CERTIFICATE"])
+        line = "the server was silent for longer than 3 seconds: fault 2 InputEnded at wire 0, written 0, unwritten 0"
+        for encrypt in ("none", "all"):
+            def serve(channel: Channel, encrypt: str = encrypt) -> None:
+                if encrypt == "none":
+                    log_in(channel)
+                else:
+                    log_in_encrypted(channel, context)
+                channel.read_message()
+                channel.write_message(PacketType.ANSWER, b"".join(responses.order_rows(0)) + tds.done())
+                channel.read_message()
+                channel.wait()
+                while channel.receive():
+                    pass
+
+            with self.subTest(encrypt=encrypt), listening(serve) as port:
+                words = ["--seconds", "3", "--encrypt", encrypt, "-C", "SELECT 1", "SELECT 2"]
+                self.assert_ends(ask_port(port, *words), 5, ORDERS, REPORT, line)
 
     def test_no_server_and_servers_that_are_none(self) -> None:
         with socket.create_server(("127.0.0.1", 0)) as server:
@@ -533,7 +547,7 @@ class FromPython(Live):
             came = self.asked(
                 f"with gavyreto.query('SELECT * FROM sets', 'localhost', encrypt='{encrypt}', **own, **run) as answer:\n"
                 "    print([(one.names, list(one)) for one in answer], answer.report.rows)\n")
-            wanted = "[(['id', 'note'], [[1, 'first\\r\\n\\r\\nthird line'], [2, None]]), (['total'], [[Decimal('12.50')]]), (['id'], [])] 3\n"
+            wanted = "[(['id', 'note'], [(1, 'first\\r\\n\\r\\nthird line'), (2, None)]), (['total'], [(Decimal('12.50'),)]), (['id'], [])] 3\n"
             self.assert_ends(came, 0, wanted.encode())
 
     def test_statements_on_one_connection(self) -> None:

@@ -7,11 +7,13 @@ import io
 import os
 import pickle
 import socket
+import subprocess
 import tempfile
 import threading
 import time
 import unittest
 from collections.abc import Iterator
+from datetime import datetime
 from decimal import Decimal
 from typing import Any
 
@@ -25,14 +27,14 @@ def export(source: Any, **options: Any) -> gavyreto.Response:
     return gavyreto.export(source, program=PROGRAM, **options)
 
 
-def all_of(sets: gavyreto.Sets) -> list[tuple[list[str], list[list[gavyreto.Value]]]]:
+def all_of(sets: gavyreto.Sets) -> list[tuple[list[str], list[gavyreto.Row]]]:
     with sets:
         return [(result_set.names, list(result_set)) for result_set in sets]
 
 
 SETS = [
-    (["id", "note"], [[1, "first\r\n\r\nthird line"], [2, None]]),
-    (["total"], [[Decimal("12.50")]]),
+    (["id", "note"], [(1, "first\r\n\r\nthird line"), (2, None)]),
+    (["total"], [(Decimal("12.50"),)]),
     (["id"], []),
 ]
 
@@ -44,7 +46,7 @@ class SetsAndRows(unittest.TestCase):
             self.assertEqual((names, len(rows)), (responses.NAMES, 900))
             for column in zip(*rows):
                 self.assertEqual(len({type(value) for value in column if value is not None}), 1)
-        self.assertEqual(repr(all_of(export(wire("kinds")))[0][1]), repr(responses.VALUES))
+        self.assertEqual(repr([list(row) for row in all_of(export(wire("kinds")))[0][1]]), repr(responses.VALUES))
 
     def test_several_sets_and_one_without_rows(self) -> None:
         with export(wire("sets")) as came:
@@ -132,11 +134,52 @@ class Columns(unittest.TestCase):
             sets = list(came)
             self.assertEqual([it.type for it in sets[2].columns or []], ["int"])
 
-    def test_packets_that_are_not_read_here(self) -> None:
-        ours, theirs = socket.socketpair()
-        with ours, theirs:
-            theirs.sendall(wire("sets"))
-            self.assertEqual([(one.columns, one.description) for one in export(ours)], [(None, None)] * 3)
+    def test_a_text_has_names_alone(self) -> None:
+        with tempfile.NamedTemporaryFile() as file:
+            subprocess.run([PROGRAM, "export"], input=wire("sets"), stdout=file, check=True, stderr=subprocess.DEVNULL)
+            for one in gavyreto.read(file.name):
+                self.assertIsNone(one.columns)
+                self.assertEqual(one.description, [(name, None, None, None, None, None, None) for name in one.names])
+
+    def test_a_file_that_is_replaced(self) -> None:
+        """The types are those of the file that is read, whatever gets its name meanwhile."""
+        with tempfile.TemporaryDirectory() as folder:
+            path = os.path.join(folder, "it")
+            self.write_to(path, wire("sets"))
+            with export(path) as came:
+                self.write_to(path + ".new", wire("kinds"))
+                os.replace(path + ".new", path)
+                sets = list(came)
+                self.assertEqual([[it.type for it in one.columns or []] for one in sets], [["int", "nvarchar(40)"], ["decimal(9,2)"], ["int"]])
+
+    def test_rows_by_name_and_as_a_cursor_has_them(self) -> None:
+        """PEP 249's calls; a row is a tuple, which pickle keeps, and has its names too."""
+        with export(wire("orders", 7)) as came:
+            rows = came.only()
+            first = rows.fetchone()
+            self.assertEqual((first, first and first.customer, first and first.id), ((first or ())[:5], 'Ann "A" Lee, Zürich', 1))
+            self.assertIsInstance(first, tuple)
+            copy = pickle.loads(pickle.dumps(first))
+            self.assertEqual((copy, copy.total), (first, Decimal("12.50")))
+            self.assertEqual([row.id for row in rows.fetchmany()], [2])
+            rows.arraysize = 2
+            self.assertEqual([[row.id for row in some] for some in (rows.fetchmany(), rows.fetchmany(1), rows.fetchall(), rows.fetchmany(3))], [[3, 1], [2], [3, 1], []])
+            self.assertIsNone(rows.fetchone())
+        column = [responses.Column(name, "38", responses.fixed, responses.whole(4), int) for name in ("count", "a b", "twice", "twice", "", "__len__", "class")]
+        with export(answered(responses.description(column), responses.row(column, [str(number) for number in range(7)]), tds.done())) as came:
+            row = next(came.only())
+            self.assertEqual((row.count, getattr(row, "a b"), getattr(row, "class"), len(row), tuple(row)), (0, 1, 6, 7, tuple(range(7))))
+            self.assertFalse(hasattr(row, "twice"))
+
+    def test_seven_digits_of_a_second(self) -> None:
+        """Kept as text, or cut where that is asked for."""
+        for name, wanted in (("orders", [datetime(2024, 2, 29, 12, 34, 56, 123456), datetime(2024, 3, 1), datetime(2024, 3, 2, 23, 59, 59, 999999)]),):
+            with export(wire(name), dates="truncate") as came:
+                self.assertEqual([row.ordered for row in came.only()], wanted)
+            with export(wire(name), dates=True) as came:
+                self.assertEqual(next(came.only()).ordered, "2024-02-29 12:34:56.1234567")
+        with self.assertRaisesRegex(ValueError, "dates is one of False, True, 'truncate'"):
+            export(b"", dates="round")
 
     def test_a_response_that_cannot_be_followed(self) -> None:
         payload = b"".join(responses.orders(0))
@@ -230,7 +273,7 @@ class Sources(unittest.TestCase):
 
 
 class Stops(unittest.TestCase):
-    def stop(self, kind: type[Any], source: Any, **options: Any) -> tuple[Any, list[list[gavyreto.Value]]]:
+    def stop(self, kind: type[Any], source: Any, **options: Any) -> tuple[Any, list[gavyreto.Row]]:
         """What ends the reading, at this call and each further one, and the rows before it."""
         rows = []
         with export(source, **options) as came, self.assertRaises(kind) as stop:

@@ -25,7 +25,7 @@ def sets_of(data: bytes, step: int = 1 << 20, dates: bool = False) -> Sets:
 
 def all_of(sets: Sets) -> list[tuple[list[str], list[list[gavyreto.Value]]]]:
     with sets:
-        return [(result_set.names, list(result_set)) for result_set in sets]
+        return [(result_set.names, [list(row) for row in result_set]) for result_set in sets]
 
 
 class Values(unittest.TestCase):
@@ -114,7 +114,7 @@ class ByColumns(unittest.TestCase):
                     first = next(rows)
                     batches = list(rows.batches(size))
                     self.assertEqual([len(batch[0]) for batch in batches], [size] * (999 // size) + [999 % size] * (999 % size > 0))
-                    self.assertEqual([first, *([a, b] for batch in batches for a, b in zip(*batch))], [[n, f"x{n}"] for n in range(1000)])
+                    self.assertEqual([list(first), *([a, b] for batch in batches for a, b in zip(*batch))], [[n, f"x{n}"] for n in range(1000)])
                     self.assertEqual(came.rows, 1000)
         self.assertEqual(list(sets_of(b'"a"\r\n').only().batches(5)), [])
 
@@ -133,15 +133,41 @@ class ByColumns(unittest.TestCase):
                 self.assertEqual((rows.open("text"), rows.open(2).read(), came.rows), (None, b"\n", 4))
                 with self.assertRaises(StopIteration):
                     rows.open()
-                self.assertEqual(next(next(came)), ["y"])
+                self.assertEqual(next(next(came)), ("y",))
         with sets_of(data, 4093) as came:
             rows = next(came)
             with rows.open("text") as file:
                 pieces = [file.read(10), file.read(1)]
                 self.assertEqual("".join(pieces), text[:11])
-            self.assertEqual(next(rows), [2, "", b""])
+            self.assertEqual(next(rows), (2, "", b""))
             with self.assertRaises(ValueError):
                 rows.open("n")
+
+    def test_nothing_is_read_past_a_value_that_is_open(self) -> None:
+        for text, kind in (('"a","b"\r\n"' + "x" * 3_000_000 + '",1\r\n"y",2\r\n\r\n"c"\r\n', str), ('"a","b"\r\n0x' + "ab" * 3_000_000 + ',1\r\n0x00,2\r\n', bytes)):
+            came = sets_of(text.encode(), 4093)
+            rows = next(came)
+            file = rows.open("a")
+            assert file
+            for wrong in (lambda: rows.open("a"), lambda: next(rows), lambda: next(came), rows.fetchall):
+                with self.assertRaisesRegex(ValueError, "isn't closed"):
+                    wrong()
+            self.assertEqual(len(file.read()), 3_000_000)
+            file.close()
+            self.assertEqual(next(rows)[1], 2)
+            self.assertIs(kind, str if "x" * 9 in text else bytes)
+
+    def test_batches_of_no_rows(self) -> None:
+        for size in (0, -1):
+            with self.assertRaisesRegex(ValueError, "at least 1 row"):
+                next(sets_of(b'"a"\r\n1\r\n')).batches(size)
+
+    def test_offsets_and_seven_digits_that_are_cut(self) -> None:
+        for field, value in (
+            ("2024-02-29 01:00:00.1259999 +05:30", datetime(2024, 2, 29, 1, 0, 0, 125999, timezone(timedelta(hours=5, minutes=30)))),
+            ("23:59:59.9999999", time(23, 59, 59, 999999)), ("0001-01-01 00:00:00.0000001", datetime(1, 1, 1)),
+        ):
+            self.assertEqual(gavyreto.value_of(field, "truncate"), value)
 
     def test_a_value_as_a_file_that_ends(self) -> None:
         data = b'"a","b"\r\n0x' + b"00" * LONGEST
@@ -168,7 +194,7 @@ class Malformed(unittest.TestCase):
                     with self.assertRaises(gavyreto.MalformedText) as stop:
                         for result_set in came:
                             for row in result_set:
-                                rows.append(row)
+                                rows.append(list(row))
                     self.assertEqual(rows[:2], [[1, "x"], [2, "y"]])
                     self.assertEqual(stop.exception.rows, len(rows))
                     with self.assertRaises(gavyreto.MalformedText):
@@ -186,7 +212,7 @@ class Malformed(unittest.TestCase):
             for step in (1000, 1 << 22):
                 with self.subTest(rest=rest[:10], step=step), sets_of(self.ROWS + rest, step) as came:
                     rows = next(came)
-                    self.assertEqual([next(rows), next(rows)], [[1, "x"], [2, "y"]])
+                    self.assertEqual([next(rows), next(rows)], [(1, "x"), (2, "y")])
                     with self.assertRaises(gavyreto.UnfinishedText) as stop:
                         list(rows)
                         list(came)
@@ -210,7 +236,7 @@ class Files(unittest.TestCase):
         self.assertEqual((stop.exception.sets, stop.exception.rows), (1, 1))
         with sets_of(b"") as came, self.assertRaises(gavyreto.NotOneSet):
             came.only()
-        self.assertEqual(list(sets_of(b'"a"\r\n1\r\n').only()), [[1]])
+        self.assertEqual(list(sets_of(b'"a"\r\n1\r\n').only()), [(1,)])
 
     def test_rows_that_were_passed_over(self) -> None:
         data = b'"a"\r\n1\r\n2\r\n\r\n"b"\r\n3\r\n\r\n"c"\r\n\r\n"d"\r\n'
@@ -222,7 +248,7 @@ class Files(unittest.TestCase):
         self.assertEqual(list(third), [])
         came = sets_of(data)
         first = next(came)
-        self.assertEqual(list(first), [[1], [2]])
+        self.assertEqual(list(first), [(1,), (2,)])
         self.assertEqual([one.names for one in came], [["b"], ["c"], ["d"]])
         self.assertEqual((list(first), came.sets, came.rows), ([], 4, 2))
 

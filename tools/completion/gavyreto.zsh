@@ -14,7 +14,7 @@ _gavyreto() {
         '(-d --database)'{-d,--database=}'[database to use]:database:' '*'{-i,--input=}'[file with statements]:file:_files'
         '--encrypt=[least encryption]:encryption:(all login none)' '-N[encrypt all]' '-Nm[encrypt all]' '-No[encrypt the login]'
         '(-C --trust-server)'{-C,--trust-server}'[trust any certificate]' '--certificates=[authorities to trust]:file:_files'
-        '--seconds=[longest silence of the server]:seconds:' '--packet-size=[packet size to ask for]:bytes:'
+        '--certificate-name=[name that the certificate has]:name:' '--seconds=[longest silence of the server]:seconds:' '--packet-size=[packet size to ask for]:bytes:'
     )
     if ((CURRENT == 2)); then
         commands+=('help:print help')
@@ -27,7 +27,7 @@ _gavyreto() {
     ((CURRENT--))
     case $command in
         query) _arguments $help $query $output $program '*:statement:' ;;
-        capture) _arguments $help '*--port=[port of servers]:port:' $program '*:file:_files' ;;
+        capture) _arguments $help '*--port=[port of servers]:port:' '--adapt[rewrite columns that are refused]' '--packets[keep the packets of each response]' $program '*:file:_files' ;;
         columns) _arguments $help '--as=[what is printed]:format:(csv sqlite postgresql)' '--table=[name of the table]:table:' '*:file:_files' ;;
         adapt) _arguments $help $output $charset '*:file:_files' ;;
         many) _arguments $help '(-j --jobs)'{-j,--jobs=}'[how many at once]:jobs:' '--scheduler=[Dask cluster]:address or file:_files' $program '*:file:_files' ;;

@@ -11,9 +11,12 @@ PROGRAMS = {
     "sha256sum": "coreutils", "nproc": "coreutils", "xargs": "findutils", "openssl": "openssl", "socat": "socat", "tsql": "freetds-bin",
     "freebcp": "freetds-bin", "pv": "pv", "strip": "binutils", "dpkg-deb": "dpkg", "dpkg": "dpkg", "dask-scheduler": "python3-distributed",
     "dask-worker": "python3-distributed", "time": "time", "mypy": "mypy", "lintian": "lintian", "cc": "gcc",
-    "tcpflow": "tcpflow-nox", "editcap": "wireshark-common", "zsh": "zsh", "fish": "fish",
+    "tcpdump": "tcpdump", "editcap": "wireshark-common", "zsh": "zsh", "fish": "fish",
 }
-MODULES = {"pandas": "python3-pandas", "distributed": "python3-distributed", "pymssql": "python3-pymssql", "ensurepip": "python3-venv", "matplotlib": "python3-matplotlib"}
+MODULES = {
+    "pandas": "python3-pandas", "distributed": "python3-distributed", "pymssql": "python3-pymssql", "ensurepip": "python3-venv",
+    "matplotlib": "python3-matplotlib", "hypothesis": "python3-hypothesis",
+}
 
 
 def path() -> str:

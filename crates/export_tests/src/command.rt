@@ -15,8 +15,8 @@ use std::test::Fail;
 use tds_export::Charset;
 use tds_meter::Limits;
 use tds_packet::Counted;
-use tds_replay::{Job, Usage, parse, perform, say_usage};
 use tds_packet::rig::{Failing, ScriptedReader, ScriptedWriter};
+use tds_replay::{Job, Usage, parse, perform, say_usage};
 
 // A line of arguments.
 fn arguments_of(alloc: Global, line: &[&str]) -> Result<Vec<String>, AllocError> {

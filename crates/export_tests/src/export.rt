@@ -8,8 +8,8 @@ use std::alloc::{AllocError, Global};
 use std::test::Fail;
 use tds_export::*;
 use tds_meter::{Areas, Limits};
-use tds_packet::{Counted, Fault, Place, RefusedKind};
 use tds_packet::rig::{Failing, RepeatingReader, ScriptedReader, ScriptedWriter};
+use tds_packet::{Counted, Fault, Place, RefusedKind};
 
 mod every_cut;
 mod long_values;

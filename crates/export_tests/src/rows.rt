@@ -12,9 +12,9 @@ use std::test::Fail;
 use tds_columns::{Columns, Described, gather};
 use tds_csv::Sink;
 use tds_meter::{Area, SMALL_ROOM};
+use tds_packet::rig::{Failing, ScriptedReader, ScriptedWriter};
 use tds_packet::{Counted, Fault, Payload, Place, Stop};
 use tds_rows::*;
-use tds_packet::rig::{Failing, ScriptedReader, ScriptedWriter};
 
 mod nulls;
 mod passed;

@@ -10,9 +10,9 @@ use std::io::Read;
 use std::test::Fail;
 use tds_columns::{Columns, Described, gather, read_type_info, take_into};
 use tds_meter::Area;
+use tds_packet::rig::{RepeatingReader, ScriptedReader};
 use tds_packet::{Counted, Fault, Payload, Place, Stop};
 use tds_values::{Kind, Reach};
-use tds_packet::rig::{RepeatingReader, ScriptedReader};
 
 // A room that most descriptions fit.
 const ROOM: usize = 1024;

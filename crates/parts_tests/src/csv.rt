@@ -8,8 +8,8 @@ use std::io::Write;
 use std::test::Fail;
 use tds_csv::*;
 use tds_meter::Area;
-use tds_packet::{Counted, Fault, Place, Stop};
 use tds_packet::rig::{Failing, ScriptedWriter};
+use tds_packet::{Counted, Fault, Place, Stop};
 
 fn make_writer(failing: Failing) -> Counted<ScriptedWriter> {
     Counted::new(ScriptedWriter::new(4096, failing))

@@ -6,8 +6,8 @@ use std::alloc::{AllocError, Global};
 use std::io::Read;
 use std::test::Fail;
 use tds_meter::Area;
-use tds_packet::*;
 use tds_packet::rig::{Failing, RepeatingReader, ScriptedReader, ScriptedWriter};
+use tds_packet::*;
 
 mod recuts;
 

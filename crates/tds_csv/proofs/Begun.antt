@@ -1,5 +1,13 @@
 -- The text of data that is still open, by the name of its conversion.
-use Rattle.tds_csv.proofs.{Words.{◌≡◌, inl, inr, ℕ, ◌+◌, ◌-◌, ◌<◌, ◌≤◌, ◌%◌, true, false, List, [], ◌∷◌, ◌++◌, length, take, Option, Some, None, refl, ap, arith, append_assoc, append-nil, length-append, IsUtf8, cases_lt, take-append-le, take_all, is_utf8-from_IsUtf8, utf8_valid_len_le, take-append-add, utf8_error_len, utf8_valid_len, emit, StopsAt, Conversion, HexDigits, Utf16Text, Windows1252Text, Utf8Text, BeginsData, conversion_rest, conversion_text, is_fit, is_quoted, long_field, open_field, closing}, ConversionLaws.{fit_by_test, joins_by_name}, Utf8Pushing.after_kept, Utf8Stops.stops_at, Utf8Test.none_begins}
+use Rattle.tds_csv.proofs.Words.{◌≡◌, inl, inr, ℕ, ◌+◌, ◌-◌, ◌<◌, ◌≤◌, ◌%◌, true, false, List, [], ◌∷◌, ◌++◌, length, take, Option, Some, None, refl}
+use Rattle.tds_csv.proofs.Words.{ap, arith, append_assoc, append-nil, length-append, IsUtf8, cases_lt, take-append-le, take_all, is_utf8-from_IsUtf8}
+use Rattle.tds_csv.proofs.Words.{utf8_valid_len_le, take-append-add, utf8_error_len, utf8_valid_len, emit, StopsAt, Conversion, HexDigits, Utf16Text}
+use Rattle.tds_csv.proofs.Words.{Windows1252Text, Utf8Text, BeginsData, conversion_rest, conversion_text, is_fit, is_quoted, long_field, open_field}
+use Rattle.tds_csv.proofs.Words.{closing}
+use Rattle.tds_csv.proofs.ConversionLaws.{fit_by_test, joins_by_name}
+use Rattle.tds_csv.proofs.Utf8Pushing.{after_kept}
+use Rattle.tds_csv.proofs.Utf8Stops.{stops_at}
+use Rattle.tds_csv.proofs.Utf8Test.{none_begins}
 use Rattle.tds_csv.specs.Utf8 as utf8
 use Rattle.tds_csv.proofs.Utf16Laws as utf16_laws
 use Rattle.tds_csv.proofs.Utf8Laws as utf8_laws
@@ -22,7 +30,8 @@ stopped_front old piece whole good begins stops =
     let at : good ≡ length old + n = omega arith in
     grind (arith, after_kept, take-append-add, length-append)
 
-utf8_front : (old piece : List ℕ) (fault : Option ℕ) → utf8_error_len (utf8.rest (old ++ piece)) ≡ fault → utf8.Begins old → BegunFront Utf8Text old piece
+utf8_front : (old piece : List ℕ) (fault : Option ℕ) → utf8_error_len (utf8.rest (old ++ piece)) ≡ fault → utf8.Begins old
+    → BegunFront Utf8Text old piece
 utf8_front old piece None is begins = all_begun Utf8Text old piece (none_begins (old ++ piece) is)
 utf8_front old piece (Some k) is begins =
     stopped_front old piece _ _ begins (stops_at (old ++ piece) _ k _ refl is refl)
@@ -54,7 +63,8 @@ unfit_front d x unfit =
     rw (utf8_laws.valid_len_is all n (omega arith) (rw same (utf8_laws.front_is d)) longest) same
 
 -- a byte after which the data isn't whole adds no text
-pub unfit_adds_none : (c : Conversion) (d : List ℕ) (x : ℕ) → is_fit c (d ++ x ∷ []) ≡ false → emit (conversion_rest c) (conversion_text c) (d ++ x ∷ []) ≡ emit (conversion_rest c) (conversion_text c) d
+pub unfit_adds_none : (c : Conversion) (d : List ℕ) (x : ℕ) → is_fit c (d ++ x ∷ []) ≡ false
+    → emit (conversion_rest c) (conversion_text c) (d ++ x ∷ []) ≡ emit (conversion_rest c) (conversion_text c) d
 unfit_adds_none HexDigits d x unfit = cc
 unfit_adds_none Utf16Text d x unfit =
     let same = odd_front d x (λ e. cc ((fit_by_test Utf16Text (d ++ x ∷ [])).1 e)) in
@@ -65,9 +75,11 @@ unfit_adds_none Utf8Text d x unfit =
     rw (utf8_laws.emit-front, utf8_laws.emit-front, same) refl
 
 -- a piece grows the open field by the text of what was withheld and the piece
-pub open_grows : (c : Conversion) (d e : List ℕ) → BeginsData c (d ++ e) → open_field c d ++ emit (conversion_rest c) (conversion_text c) (conversion_rest c d ++ e) ≡ open_field c (d ++ e)
+pub open_grows : (c : Conversion) (d e : List ℕ) → BeginsData c (d ++ e)
+    → open_field c d ++ emit (conversion_rest c) (conversion_text c) (conversion_rest c d ++ e) ≡ open_field c (d ++ e)
 open_grows c d e begins = let next = (joins_by_name c).emits d e begins in grind (arith, append_assoc)
 
 -- the open field of whole data, the text of what was withheld and what closes the field are the field
-pub open_closes : (c : Conversion) (d : List ℕ) → is_fit c d ≡ true → open_field c d ++ (conversion_text c (conversion_rest c d) ++ closing (is_quoted c)) ≡ long_field c d
+pub open_closes : (c : Conversion) (d : List ℕ) → is_fit c d ≡ true
+    → open_field c d ++ (conversion_text c (conversion_rest c d) ++ closing (is_quoted c)) ≡ long_field c d
 open_closes c d fit = let whole = (joins_by_name c).ends d ((fit_by_test c d).0 fit) in grind (arith, append_assoc, append-nil)

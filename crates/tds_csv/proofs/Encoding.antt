@@ -1,5 +1,7 @@
 -- Bytes that were written to a place, one after the other or many at once.
-use Rattle.tds_csv.proofs.{Words.{◌≡◌, ◌+◌, ◌≤◌, ◌∷◌, ◌++◌, [], ℕ, List, length, take, append_assoc, arith, length-take-le, take-append-add, take-take, encode_utf8, doubled}, Characters.doubled_character}
+use Rattle.tds_csv.proofs.Words.{◌≡◌, ◌+◌, ◌≤◌, ◌∷◌, ◌++◌, [], ℕ, List, length, take, append_assoc, arith, length-take-le, take-append-add, take-take}
+use Rattle.tds_csv.proofs.Words.{encode_utf8, doubled}
+use Rattle.tds_csv.proofs.Characters.{doubled_character}
 
 -- two bytes
 pub two_more : (t u v : List ℕ) (a b : ℕ) → u ≡ t ++ a ∷ [] → v ≡ u ++ b ∷ [] → v ≡ t ++ a ∷ b ∷ []
@@ -10,7 +12,8 @@ pub three_more : (t u v w : List ℕ) (a b c : ℕ) → u ≡ t ++ a ∷ [] → 
 three_more t u v w a b c eu ev ew = simp (ew, ev, eu, append_assoc)
 
 -- four
-pub four_more : (t u v w x : List ℕ) (a b c d : ℕ) → u ≡ t ++ a ∷ [] → v ≡ u ++ b ∷ [] → w ≡ v ++ c ∷ [] → x ≡ w ++ d ∷ [] → x ≡ t ++ a ∷ b ∷ c ∷ d ∷ []
+pub four_more : (t u v w x : List ℕ) (a b c d : ℕ) → u ≡ t ++ a ∷ [] → v ≡ u ++ b ∷ [] → w ≡ v ++ c ∷ [] → x ≡ w ++ d ∷ []
+    → x ≡ t ++ a ∷ b ∷ c ∷ d ∷ []
 four_more t u v w x a b c d eu ev ew ex = simp (ex, ew, ev, eu, append_assoc)
 
 -- a character that isn't a quote is as long as it is without doubling
@@ -22,7 +25,8 @@ pub added_doubled : (c : ℕ) (t u : List ℕ) → 128 ≤ c → u ≡ t ++ enco
 added_doubled c t u big e = grind (arith, doubled_character)
 
 -- the first of some bytes that were written to a place
-pub front_written : (old new bytes : List ℕ) (at n m : ℕ) → n ≤ m → at ≤ length old → take (at + m) new ≡ take at old ++ bytes → take (at + n) new ≡ take at old ++ take n bytes
+pub front_written : (old new bytes : List ℕ) (at n m : ℕ) → n ≤ m → at ≤ length old → take (at + m) new ≡ take at old ++ bytes
+    → take (at + n) new ≡ take at old ++ take n bytes
 front_written old new bytes at n m few within written =
     let place : at + n ≡ length (take at old) + n = omega (arith, length-take-le at old within) in
     rw (← take-take (at + n) (at + m) new (omega arith), written, place) (take-append-add (take at old) bytes n)

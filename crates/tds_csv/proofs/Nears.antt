@@ -1,8 +1,16 @@
 -- Calls that put the text of an element part after part.
-use Rattle.{tds_csv.proofs.{Words.{common_steps, ◌≡◌, ◌∙◌, ℕ, ◌-◌, ◌^◌, ◌<◌, ◌≤◌, List, [], ◌∷◌, ◌++◌, length, refl, sym, ap, arith, append_assoc, append-nil, concat, append_cancel_left, Fault, Stop, Grammar, IsNext, Spelt, Seen, Takes, IsBetween, Inside, Inside-Spelt, Spelt-append, Spelt-one, LastInside, last_inside, next_inside, next_some, takes_both, Held, Puts, Breaks, BreaksStreaming, PutsText, Streams}, Sinks.{Breaks-after, Breaks-longer, Puts-none, Puts-trans}, Streams.puts_both, Splits.Puts_split}, tds_packet.specs.Elements.Leads}
+use Rattle.tds_csv.proofs.Words.{common_steps, ◌≡◌, ◌∙◌, ℕ, ◌-◌, ◌^◌, ◌<◌, ◌≤◌, List, [], ◌∷◌, ◌++◌, length, refl, sym, ap, arith, append_assoc}
+use Rattle.tds_csv.proofs.Words.{append-nil, concat, append_cancel_left, Fault, Stop, Grammar, IsNext, Spelt, Seen, Takes, IsBetween, Inside}
+use Rattle.tds_csv.proofs.Words.{Inside-Spelt, Spelt-append, Spelt-one, LastInside, last_inside, next_inside, next_some, takes_both, Held, Puts}
+use Rattle.tds_csv.proofs.Words.{Breaks, BreaksStreaming, PutsText, Streams}
+use Rattle.tds_csv.proofs.Sinks.{Breaks-after, Breaks-longer, Puts-none, Puts-trans}
+use Rattle.tds_csv.proofs.Streams.{puts_both}
+use Rattle.tds_csv.proofs.Splits.{Puts_split}
+use Rattle.tds_packet.specs.Elements.{Leads}
 
 -- Whole elements were read, which lead from one state to another. The text of all but the last was put, and that of the last but for its tail.
-pub record Nears {S : Type 0} (g : Grammar S Fault) (text : S → List ℕ) (from : S) (old new : Seen) (before after : Held) (to : S) (tail : List ℕ) : Type 0 where
+pub record Nears {S : Type 0} (g : Grammar S Fault) (text : S → List ℕ) (from : S) (old new : Seen) (before after : Held) (to : S)
+    (tail : List ℕ) : Type 0 where
   pub bytes : List ℕ
   pub element : List ℕ
   pub at : S
@@ -24,7 +32,8 @@ Grows {S} g text = (s : S) (element : List ℕ) → IsNext g s element → (more
 
 module _ {S : Type 0} (g : Grammar S Fault) (text : S → List ℕ) where
   -- an element was read after what was read and put
-  abbrev pub nears_from : (s at : S) (a b c : Seen) (h i : Held) (element tail : List ℕ) → Streams g text s a b h i at → IsNext g at element → Takes b c element (length element) → IsBetween c → length i.waiting < 4096 → i.delivered ≤ 2 ^ 64 - 1
+  abbrev pub nears_from : (s at : S) (a b c : Seen) (h i : Held) (element tail : List ℕ) → Streams g text s a b h i at → IsNext g at element
+      → Takes b c element (length element) → IsBetween c → length i.waiting < 4096 → i.delivered ≤ 2 ^ 64 - 1
       → text at ++ tail ≡ text (g.add at element) → Nears g text s a c h i (g.add at element) tail
   nears_from s at a b c h i element tail x next takes between few delivered text_is = record {
     bytes = x.bytes;
@@ -44,7 +53,8 @@ module _ {S : Type 0} (g : Grammar S Fault) (text : S → List ℕ) where
   }
 
   -- a further part was put
-  abbrev pub nears_put : (s : S) (a b : Seen) (h i j : Held) (to : S) (p q : List ℕ) → Nears g text s a b h i to (p ++ q) → Puts i j p → Nears g text s a b h j to q
+  abbrev pub nears_put : (s : S) (a b : Seen) (h i j : Held) (to : S) (p q : List ℕ) → Nears g text s a b h i to (p ++ q) → Puts i j p
+      → Nears g text s a b h j to q
   nears_put s a b h i j to p q x puts = record {
     bytes = x.bytes;
     element = x.element;
@@ -63,7 +73,8 @@ module _ {S : Type 0} (g : Grammar S Fault) (text : S → List ℕ) where
   }
 
   -- all was put
-  abbrev pub nears_done : (s : S) (a b : Seen) (h i j : Held) (to : S) (tail : List ℕ) → Nears g text s a b h i to tail → Puts i j tail → Streams g text s a b h j to
+  abbrev pub nears_done : (s : S) (a b : Seen) (h i j : Held) (to : S) (tail : List ℕ) → Nears g text s a b h i to tail → Puts i j tail
+      → Streams g text s a b h j to
   nears_done s a b h i j to tail x puts = record {
     bytes = x.bytes ++ x.element;
     spelt = Spelt-append _ _ _ _ _ _ x.spelt (rw x.to_is at (Spelt-one _ _ _ x.next));
@@ -72,7 +83,8 @@ module _ {S : Type 0} (g : Grammar S Fault) (text : S → List ℕ) where
   }
 
   -- a write of a further part failed
-  abbrev pub nears_breaks : (s : S) (a b : Seen) (h i j : Held) (to : S) (tail p q : List ℕ) (stop : Stop) → Nears g text s a b h i to tail → tail ≡ p ++ q → Breaks i j p stop → (at : S) × BreaksStreaming g text s a b h j at stop
+  abbrev pub nears_breaks : (s : S) (a b : Seen) (h i j : Held) (to : S) (tail p q : List ℕ) (stop : Stop) → Nears g text s a b h i to tail
+      → tail ≡ p ++ q → Breaks i j p stop → (at : S) × BreaksStreaming g text s a b h j at stop
   nears_breaks s a b h i j to tail p q stop x parts breaks = (
     x.at,
     record {
@@ -93,7 +105,8 @@ module _ {S : Type 0} (g : Grammar S Fault) (text : S → List ℕ) where
   )
 
   -- a call that reads on, of whose last element's text a part was put
-  abbrev pub nears_after : (s t : S) (a b c : Seen) (h i j : Held) (to : S) (tail : List ℕ) → Streams g text s a b h i t → Nears g text t b c i j to tail → Nears g text s a c h j to tail
+  abbrev pub nears_after : (s t : S) (a b c : Seen) (h i j : Held) (to : S) (tail : List ℕ) → Streams g text s a b h i t
+      → Nears g text t b c i j to tail → Nears g text s a c h j to tail
   nears_after s t a b c h i j to tail x y = record {
     bytes = x.bytes ++ y.bytes;
     element = y.element;
@@ -134,17 +147,21 @@ module _ {S : Type 0} (g : Grammar S Fault) where
   last_read s bytes t spelt some = last_inside _ _ _ inside_itself _ _ _ spelt some
 
 -- A small grammar inside a big one, whose text is that of the small one after a text that stands before it, where the small one has a next element.
-module _ {S T : Type 0} (small : Grammar S Fault) (big : Grammar T Fault) (lift : S → T) (is : Inside small big lift) (text : S → List ℕ) (whole : T → List ℕ) (front : List ℕ) (text_is : (s : S) → 0 < small.size s → front ++ text s ≡ whole (lift s)) (grows : Grows small text) where
+module _ {S T : Type 0} (small : Grammar S Fault) (big : Grammar T Fault) (lift : S → T) (is : Inside small big lift) (text : S → List ℕ) (whole : T
+    → List ℕ) (front : List ℕ) (text_is : (s : S) → 0 < small.size s → front ++ text s ≡ whole (lift s)) (grows : Grows small text) where
   -- what is added to the small text between two states with a next element is added to the big one
-  pub added_between : (s t : S) (more : List ℕ) → 0 < small.size s → 0 < small.size t → text s ++ more ≡ text t → whole (lift s) ++ more ≡ whole (lift t)
+  pub added_between : (s t : S) (more : List ℕ) → 0 < small.size s → 0 < small.size t → text s ++ more ≡ text t
+      → whole (lift s) ++ more ≡ whole (lift t)
   added_between s t more some more_to_come e = grind (arith, common_steps, append_assoc, front)
 
   -- after the small text the big one has a tail
-  pub tail_after : (s t : S) (more tail : List ℕ) → 0 < small.size s → text s ++ more ≡ text t → (front ++ text t) ++ tail ≡ whole (lift t) → whole (lift s) ++ (more ++ tail) ≡ whole (lift t)
+  pub tail_after : (s t : S) (more tail : List ℕ) → 0 < small.size s → text s ++ more ≡ text t → (front ++ text t) ++ tail ≡ whole (lift t)
+      → whole (lift s) ++ (more ++ tail) ≡ whole (lift t)
   tail_after s t more tail some e end = grind (arith, append_assoc)
 
   -- the small grammar was read to its end, and its text put: of the big one's text only what stands after it is to be put
-  abbrev pub nears_inside : (from : S) (a b : Seen) (h i : Held) (to : S) (tail : List ℕ) → (x : Streams small text from a b h i to) → 0 < length x.bytes → IsBetween b → length i.waiting < 4096 → (front ++ text to) ++ tail ≡ whole (lift to)
+  abbrev pub nears_inside : (from : S) (a b : Seen) (h i : Held) (to : S) (tail : List ℕ) → (x : Streams small text from a b h i to)
+      → 0 < length x.bytes → IsBetween b → length i.waiting < 4096 → (front ++ text to) ++ tail ≡ whole (lift to)
       → Nears big whole (lift from) a b h i (lift to) tail
   nears_inside from a b h i to tail x some between few end =
       let l = last_read _ _ _ _ x.spelt some in
@@ -152,7 +169,11 @@ module _ {S T : Type 0} (small : Grammar S Fault) (big : Grammar T Fault) (lift 
       let before = grown_leads _ text grows _ _ _ l.spelt.leads in
       let last = grows _ _ l.next in
       let closed = last.1 ∙ ap text l.to_is in
-      let parts = append_cancel_left (text from) x.puts.0 (before.0 ++ last.0) (rw (← append_assoc (text from) before.0 last.0, before.1, closed) x.puts.1) in
+      let parts = append_cancel_left (text from) x.puts.0 (before.0 ++ last.0) (rw (
+        ← append_assoc (text from) before.0 last.0,
+        before.1,
+        closed,
+      ) x.puts.1) in
       let cut = Puts_split h i before.0 last.0 few (rw parts at x.puts.2) in
       record {
         bytes = l.front;

@@ -1,12 +1,16 @@
 -- A text that is put in one call could have been put in two.
-use Rattle.tds_csv.proofs.{Words.{◌≡◌, ◌∙◌, ◌⊎◌, inl, inr, ℕ, ◌+◌, ◌-◌, ◌*◌, ◌^◌, ◌<◌, ◌≤◌, List, ◌++◌, length, take, drop, refl, sym, ap, subst, arith, append_assoc, length-append, length-drop, ◌/◌, length-take-le, take-append-drop, take-append-le, drop-append-le, take-append-add, Appends, append_known, dec_le, counted, one_more, Stop, Held, Adds, Puts, Breaks}, Sinks.counted-twice}
+use Rattle.tds_csv.proofs.Words.{◌≡◌, ◌∙◌, ◌⊎◌, inl, inr, ℕ, ◌+◌, ◌-◌, ◌*◌, ◌^◌, ◌<◌, ◌≤◌, List, ◌++◌, length, take, drop, refl, sym, ap, subst}
+use Rattle.tds_csv.proofs.Words.{arith, append_assoc, length-append, length-drop, ◌/◌, length-take-le, take-append-drop, take-append-le}
+use Rattle.tds_csv.proofs.Words.{drop-append-le, take-append-add, Appends, append_known, dec_le, counted, one_more, Stop, Held, Adds, Puts, Breaks}
+use Rattle.tds_csv.proofs.Sinks.{counted-twice}
 
 -- what waits and a piece is what is delivered and then waits
 total_of : (a b : Held) (p r sent : List ℕ) → Adds a b sent (p ++ r) → length (a.waiting ++ p) + length r ≡ length sent + length b.waiting
 total_of a b p r sent adds = sym (length-append (a.waiting ++ p) r) ∙ ap length (append_assoc a.waiting p r ∙ adds.1) ∙ length-append sent b.waiting
 
 -- the whole blocks of what waits and comes first are delivered before the rest is put
-split_at : (a b : Held) (p r sent : List ℕ) (n : ℕ) → Adds a b sent (p ++ r) → 4096 * n ≤ length sent → 4096 * n ≤ length (a.waiting ++ p) → length (a.waiting ++ p) < 4096 * (n + 1) → (0 < length sent → a.failures < 2 ^ 64 - 1)
+split_at : (a b : Held) (p r sent : List ℕ) (n : ℕ) → Adds a b sent (p ++ r) → 4096 * n ≤ length sent → 4096 * n ≤ length (a.waiting ++ p)
+    → length (a.waiting ++ p) < 4096 * (n + 1) → (0 < length sent → a.failures < 2 ^ 64 - 1)
     → (m : Held) × (length m.waiting < 4096) × Puts a m p × Adds m b (drop (4096 * n) sent) r × (m.failures ≡ a.failures) × (m.delivered ≤ 2 ^ 64 - 1)
     × (0 < length (drop (4096 * n) sent) → m.failures < 2 ^ 64 - 1)
 split_at a b p r sent n adds enough below above asked =
@@ -32,7 +36,8 @@ split_at a b p r sent n adds enough below above asked =
     )
 
 -- a piece that was put in one call could have been put in two
-pub Puts_split : (a b : Held) (p q : List ℕ) → length b.waiting < 4096 → Puts a b (p ++ q) → (m : Held) × (length m.waiting < 4096) × Puts a m p × Puts m b q × (m.delivered ≤ 2 ^ 64 - 1)
+pub Puts_split : (a b : Held) (p q : List ℕ) → length b.waiting < 4096 → Puts a b (p ++ q) → (m : Held) × (length m.waiting < 4096) × Puts a m p
+    × Puts m b q × (m.delivered ≤ 2 ^ 64 - 1)
 Puts_split a b p q few x =
     let n = length (a.waiting ++ p) / 4096 in
     let total = total_of a b p q x.0 x.2 in
@@ -40,7 +45,8 @@ Puts_split a b p q few x =
     (s.0, s.1, s.2, (drop (4096 * n) x.0, x.1 - n, s.3, omega (arith, length-drop (4096 * n) x.0), (x.4.0 ∙ sym s.4, s.6)), s.5)
 
 -- a write that failed in a piece would have failed in its first part or in its second
-pub Breaks_split : (a b : Held) (p q : List ℕ) (stop : Stop) → Breaks a b (p ++ q) stop → Breaks a b p stop ⊎ ((m : Held) × (length m.waiting < 4096) × Puts a m p × Breaks m b q stop × (m.delivered ≤ 2 ^ 64 - 1))
+pub Breaks_split : (a b : Held) (p q : List ℕ) (stop : Stop) → Breaks a b (p ++ q) stop → Breaks a b p stop
+    ⊎ ((m : Held) × (length m.waiting < 4096) × Puts a m p × Breaks m b q stop × (m.delivered ≤ 2 ^ 64 - 1))
 Breaks_split a b p q stop x = elim (dec_le x.2 (length p)) [
   | yes le ↦ inl (x.0, x.1, x.2, subst (Adds a b x.0) (take-append-le x.2 p q le) x.3, le, x.5, x.6, x.7, x.8, x.9)
   | no above ↦
@@ -53,5 +59,22 @@ Breaks_split a b p q stop x = elim (dec_le x.2 (length p)) [
       let size = length-take-le i q fits in
       let s = split_at a b p (take i q) x.0 n adds (omega arith) (omega arith) (omega arith) x.9.1 in
       let left = length-drop (4096 * n) x.0 in
-      inr (s.0, s.1, s.2, (drop (4096 * n) x.0, x.1 - n, i, s.3, fits, omega arith, omega arith, omega arith, x.8, (x.9.0 ∙ ap one_more (sym s.4), s.6)), s.5)
+      inr (
+        s.0,
+        s.1,
+        s.2,
+        (
+          drop (4096 * n) x.0,
+          x.1 - n,
+          i,
+          s.3,
+          fits,
+          omega arith,
+          omega arith,
+          omega arith,
+          x.8,
+          (x.9.0 ∙ ap one_more (sym s.4), s.6),
+        ),
+        s.5,
+      )
 ]

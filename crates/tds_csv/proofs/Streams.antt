@@ -1,8 +1,12 @@
 -- Calls that read by a grammar and put the text of what they read: one after another, and inside a greater grammar.
-use Rattle.tds_csv.proofs.{Words.{common_steps, ◌≡◌, ◌∙◌, inl, inr, ℕ, ◌+◌, ◌<◌, Bool, List, ◌++◌, length, sym, ap, arith, append_assoc, Fault, Stop, Grammar, Seen, Inside, Inside-Spelt, Spelt-append, StopsReading, next_inside, next_some, stops_after, takes_ahead, Held, BreaksStreaming, PutsText, StopsStreaming, Streams}, Sinks.Puts-trans}
+use Rattle.tds_csv.proofs.Words.{common_steps, ◌≡◌, ◌∙◌, inl, inr, ℕ, ◌+◌, ◌<◌, Bool, List, ◌++◌, length, sym, ap, arith, append_assoc, Fault, Stop}
+use Rattle.tds_csv.proofs.Words.{Grammar, Seen, Inside, Inside-Spelt, Spelt-append, StopsReading, next_inside, next_some, stops_after, takes_ahead}
+use Rattle.tds_csv.proofs.Words.{Held, BreaksStreaming, PutsText, StopsStreaming, Streams}
+use Rattle.tds_csv.proofs.Sinks.{Puts-trans}
 
 -- a state where a reading stops has a next element
-pub stops_size : {S : Type 0} (g : Grammar S Fault) (from : S) (a b : Seen) (place : ℕ) (at : S) (stop : Stop) → StopsReading g from a b place at stop → 0 < g.size at
+pub stops_size : {S : Type 0} (g : Grammar S Fault) (from : S) (a b : Seen) (place : ℕ) (at : S) (stop : Stop) → StopsReading g from a b place at stop
+    → 0 < g.size at
 stops_size g from a b place at stop r = grind arith
 
 -- the text between three states, put by two calls
@@ -11,7 +15,8 @@ puts_both text s t u a b c x y = (x.0 ++ y.0, sym (append_assoc (text s) x.0 y.0
 
 module _ {S : Type 0} (g : Grammar S Fault) (text : S → List ℕ) where
   -- a call that reads on, and one whose write fails
-  abbrev pub breaks_after : (s t : S) (a b c : Seen) (h i j : Held) (at : S) (stop : Stop) → Streams g text s a b h i t → BreaksStreaming g text t b c i j at stop → BreaksStreaming g text s a c h j at stop
+  abbrev pub breaks_after : (s t : S) (a b c : Seen) (h i j : Held) (at : S) (stop : Stop) → Streams g text s a b h i t
+      → BreaksStreaming g text t b c i j at stop → BreaksStreaming g text s a c h j at stop
   breaks_after s t a b c h i j at stop x y = record {
     bytes = x.bytes ++ y.bytes;
     element = y.element;
@@ -30,17 +35,23 @@ module _ {S : Type 0} (g : Grammar S Fault) (text : S → List ℕ) where
 
 module _ {S : Type 0} (g : Grammar S Fault) (text : S → List ℕ) where
   -- what stops a call that puts text stops one that began before it
-  pub streaming_after : (s t : S) (a b c : Seen) (h i j : Held) (place : ℕ) (failed : Bool) (stop : Stop) → (x : Streams g text s a b h i t) → StopsStreaming g text t b c (place + length x.bytes) i j failed stop → StopsStreaming g text s a c place h j failed stop
+  pub streaming_after : (s t : S) (a b c : Seen) (h i j : Held) (place : ℕ) (failed : Bool) (stop : Stop) → (x : Streams g text s a b h i t)
+      → StopsStreaming g text t b c (place + length x.bytes) i j failed stop → StopsStreaming g text s a c place h j failed stop
   streaming_after s t a b c h i j place failed stop x y = record {
     at = y.at;
     cause = elim y.cause [
-      | inl z ↦ inl (stops_after g s t a b c place y.at stop (record { bytes = x.bytes; spelt = x.spelt; takes = x.takes }) z.0, puts_both text _ _ _ _ _ _ x.puts z.1, z.2)
+      | inl z ↦ inl (
+        stops_after g s t a b c place y.at stop (record { bytes = x.bytes; spelt = x.spelt; takes = x.takes }) z.0,
+        puts_both text _ _ _ _ _ _ x.puts z.1,
+        z.2,
+      )
       | inr z ↦ inr (breaks_after _ _ _ _ _ _ _ _ _ _ _ _ x z.0, z.1)
     ];
   }
 
 -- A small grammar inside a big one, whose text is that of the small one after a text that stands before it.
-module _ {S T : Type 0} (small : Grammar S Fault) (big : Grammar T Fault) (lift : S → T) (is : Inside small big lift) (text : S → List ℕ) (whole : T → List ℕ) (front : List ℕ) (text_is : (s : S) → front ++ text s ≡ whole (lift s)) where
+module _ {S T : Type 0} (small : Grammar S Fault) (big : Grammar T Fault) (lift : S → T) (is : Inside small big lift) (text : S → List ℕ) (whole : T
+    → List ℕ) (front : List ℕ) (text_is : (s : S) → front ++ text s ≡ whole (lift s)) where
   -- what is added to the small text is added to the big one
   pub added_inside : (s t : S) (more : List ℕ) → text s ++ more ≡ text t → whole (lift s) ++ more ≡ whole (lift t)
   added_inside s t more e = grind (arith, common_steps, append_assoc, front)
@@ -50,7 +61,8 @@ module _ {S T : Type 0} (small : Grammar S Fault) (big : Grammar T Fault) (lift 
   puts_inside s t a b x = (x.0, added_inside s t x.0 x.1, x.2)
 
   -- a write that fails in the text of the small grammar fails in that of the big one
-  abbrev pub breaks_inside : (from : S) (a b : Seen) (h i : Held) (at : S) (stop : Stop) → BreaksStreaming small text from a b h i at stop → BreaksStreaming big whole (lift from) a b h i (lift at) stop
+  abbrev pub breaks_inside : (from : S) (a b : Seen) (h i : Held) (at : S) (stop : Stop) → BreaksStreaming small text from a b h i at stop
+      → BreaksStreaming big whole (lift from) a b h i (lift at) stop
   breaks_inside from a b h i at stop x = record {
     bytes = x.bytes;
     element = x.element;

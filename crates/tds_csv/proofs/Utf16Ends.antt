@@ -1,5 +1,9 @@
 -- Where a conversion of UTF-16 has come to what is withheld.
-use Rattle.tds_csv.{proofs.{Words.{common_steps, ◌≡◌, ◌∙◌, ◌++◌, ℕ, List, take, drop, length, sym, ap, arith, length-drop, append-nil, emit}, Leading.emit_held, Utf16Laws.short, Utf16Steps.{text_nil, nil_of_length}}, specs.Utf16Next.{Converts, LeavesRest}}
+use Rattle.tds_csv.proofs.Words.{common_steps, ◌≡◌, ◌∙◌, ◌++◌, ℕ, List, take, drop, length, sym, ap, arith, length-drop, append-nil, emit}
+use Rattle.tds_csv.proofs.Leading.{emit_held}
+use Rattle.tds_csv.proofs.Utf16Laws.{short}
+use Rattle.tds_csv.proofs.Utf16Steps.{text_nil, nil_of_length}
+use Rattle.tds_csv.specs.Utf16Next.{Converts, LeavesRest}
 use Rattle.tds_csv.specs.Utf16.{rest, text}
 
 -- The text so far is that of all that is fixed.
@@ -8,7 +12,8 @@ pub record Ended (bytes to : List ℕ) (used made : ℕ) : Type 0 where
   pub leaves : LeavesRest bytes 0 used
 
 -- nothing after this place is fixed
-pub ends_held : {bytes to : List ℕ} {used made : ℕ} → Converts bytes to used made → rest (drop used bytes) ≡ drop used bytes → Ended bytes to used made
+pub ends_held : {bytes to : List ℕ} {used made : ℕ} → Converts bytes to used made → rest (drop used bytes) ≡ drop used bytes
+    → Ended bytes to used made
 ends_held {bytes} {to} {used} {made} before held =
     let run = take made to in
     record {

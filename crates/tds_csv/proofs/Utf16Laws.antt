@@ -1,5 +1,10 @@
 -- The laws of UTF-16 in pieces.
-use Rattle.{tds_csv.{proofs.{Words.{common_steps, ◌≡◌, ℕ, ◌%◌, ◌≤◌, ◌&&◌, Bool, true, false, cond, List, [], ◌∷◌, ◌++◌, length, refl, ap, ◌∙◌, arith, encode_utf8_all, unwrap_or, ⊤, map-append, length-append, encodes-append, and_right, nat_tests, utf16_lossy_chars, is_high_surrogate, is_low_surrogate, JoinsPieces, emit, doubled}, JoiningLemmas.{doubled-append, settled_front}}, specs.Utf16.{units, is_high, IsFit, text, rest}}, std.specs.Char.Utf16.utf16_chars}
+use Rattle.tds_csv.proofs.Words.{common_steps, ◌≡◌, ℕ, ◌%◌, ◌≤◌, ◌&&◌, Bool, true, false, cond, List, [], ◌∷◌, ◌++◌, length, refl, ap, ◌∙◌, arith}
+use Rattle.tds_csv.proofs.Words.{encode_utf8_all, unwrap_or, ⊤, map-append, length-append, encodes-append, and_right, nat_tests, utf16_lossy_chars}
+use Rattle.tds_csv.proofs.Words.{is_high_surrogate, is_low_surrogate, JoinsPieces, emit, doubled}
+use Rattle.tds_csv.proofs.JoiningLemmas.{doubled-append, settled_front}
+use Rattle.tds_csv.specs.Utf16.{units, is_high, IsFit, text, rest}
+use Rattle.std.specs.Char.Utf16.{utf16_chars}
 
 -- the first unit is a low surrogate
 unfoldable pub starts_low : List ℕ → Bool
@@ -63,7 +68,8 @@ seam (low ∷ high ∷ odd ∷ []) b = grind (arith, front_step, rest_step)
 seam (low ∷ high ∷ low' ∷ high' ∷ bytes) b = let more = seam (low' ∷ high' ∷ bytes) b in grind arith
 
 -- one unit before the front of what follows it
-Apart-cons : (u : ℕ) (a : List ℕ) (low high : ℕ) (vs : List ℕ) → (starts_high (units (rest (low ∷ high ∷ a))) ≡ true → starts_low vs ≡ false) → Apart (units (front (low ∷ high ∷ a))) vs → Apart (u ∷ units (front (low ∷ high ∷ a))) vs
+Apart-cons : (u : ℕ) (a : List ℕ) (low high : ℕ) (vs : List ℕ) → (starts_high (units (rest (low ∷ high ∷ a))) ≡ true → starts_low vs ≡ false)
+    → Apart (units (front (low ∷ high ∷ a))) vs → Apart (u ∷ units (front (low ∷ high ∷ a))) vs
 Apart-cons u a low high vs f h = grind (arith, and_right)
 
 -- no pair lies across the end of the front, where no low surrogate comes first after a rest that begins with a high one
@@ -75,7 +81,8 @@ Apart-front (low ∷ high ∷ odd ∷ []) vs f = grind arith
 Apart-front (low ∷ high ∷ low' ∷ high' ∷ bytes) vs f = grind (arith, Apart-cons, Apart-front (low' ∷ high' ∷ bytes) vs f)
 
 -- the text of units is that of both parts where no pair lies across
-texts : (us vs : List ℕ) → Apart us vs → doubled (encode_utf8_all (utf16_lossy_chars (us ++ vs))) ≡ doubled (encode_utf8_all (utf16_lossy_chars us)) ++ doubled (encode_utf8_all (utf16_lossy_chars vs))
+texts : (us vs : List ℕ) → Apart us vs → doubled (encode_utf8_all (utf16_lossy_chars (us ++ vs))) ≡ doubled (encode_utf8_all (utf16_lossy_chars us))
+    ++ doubled (encode_utf8_all (utf16_lossy_chars vs))
 texts us vs h = grind (arith, encode_utf8_all, unwrap_or, chars-apart, map-append, encodes-append, doubled-append)
 
 text-front : (a b : List ℕ) → Apart (units (front a)) (units b) → text (front a ++ b) ≡ text (front a) ++ text b

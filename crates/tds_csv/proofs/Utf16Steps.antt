@@ -1,5 +1,13 @@
 -- One character after the other of text in UTF-16.
-use Rattle.{tds_csv.{proofs.{Words.{common_steps, ◌⊎◌, inl, ◌≡◌, ◌&&◌, ◌||◌, or-false, ◌+◌, ◌*◌, ◌<◌, ◌≤◌, ◌%◌, ℕ, true, false, List, [], ◌∷◌, ◌++◌, length, map, drop, get_or, refl, ap, arith, encode_utf8_all, unwrap_or, drop_more, and_right, nat_tests, encode_utf8, utf16_lossy_chars, is_high_surrogate, is_low_surrogate, surrogate_pair_char, lone_unit_char, emit, doubled, nil_from_length}, Utf16Laws.{starts_low, chars-apart, front, front_step, rest_step, emit-front, short}, JoiningLemmas.doubled-append}, specs.{Utf16.{units, is_high, characters, rest, text}, Utf16Next.IsNext}}, std.specs.Char.Utf16.utf16_chars}
+use Rattle.tds_csv.proofs.Words.{common_steps, ◌⊎◌, inl, ◌≡◌, ◌&&◌, ◌||◌, or-false, ◌+◌, ◌*◌, ◌<◌, ◌≤◌, ◌%◌, ℕ, true, false, List, [], ◌∷◌, ◌++◌}
+use Rattle.tds_csv.proofs.Words.{length, map, drop, get_or, refl, ap, arith, encode_utf8_all, unwrap_or, drop_more, and_right, nat_tests, encode_utf8}
+use Rattle.tds_csv.proofs.Words.{utf16_lossy_chars, is_high_surrogate, is_low_surrogate, surrogate_pair_char, lone_unit_char, emit, doubled}
+use Rattle.tds_csv.proofs.Words.{nil_from_length}
+use Rattle.tds_csv.proofs.Utf16Laws.{starts_low, chars-apart, front, front_step, rest_step, emit-front, short}
+use Rattle.tds_csv.proofs.JoiningLemmas.{doubled-append}
+use Rattle.tds_csv.specs.Utf16.{units, is_high, characters, rest, text}
+use Rattle.tds_csv.specs.Utf16Next.{IsNext}
+use Rattle.std.specs.Char.Utf16.{utf16_chars}
 
 pub text_nil : text [] ≡ []
 unfolding utf16_chars
@@ -13,11 +21,13 @@ pub nil_of_length : (xs : List ℕ) → length xs ≡ 0 → xs ≡ []
 nil_of_length = nil_from_length
 
 -- a unit that isn't the first of a pair
-chars_one : (u : ℕ) (us : List ℕ) → (is_high_surrogate u && starts_low us) ≡ false → utf16_lossy_chars (u ∷ us) ≡ unwrap_or (lone_unit_char u) 0xFFFD ∷ utf16_lossy_chars us
+chars_one : (u : ℕ) (us : List ℕ) → (is_high_surrogate u && starts_low us) ≡ false
+    → utf16_lossy_chars (u ∷ us) ≡ unwrap_or (lone_unit_char u) 0xFFFD ∷ utf16_lossy_chars us
 unfolding utf16_chars
 chars_one u us h = ap (map (λ o. unwrap_or o 0xFFFD)) (chars-apart (u ∷ []) us h)
 
-spells_one : (low high : ℕ) (bytes : List ℕ) (code : ℕ) → unwrap_or (lone_unit_char (low + 256 * high)) 0xFFFD ≡ code → (is_high low high ≡ true → starts_low (units bytes) ≡ false) → characters (low ∷ high ∷ bytes) ≡ encode_utf8 code ++ characters bytes
+spells_one : (low high : ℕ) (bytes : List ℕ) (code : ℕ) → unwrap_or (lone_unit_char (low + 256 * high)) 0xFFFD ≡ code
+    → (is_high low high ≡ true → starts_low (units bytes) ≡ false) → characters (low ∷ high ∷ bytes) ≡ encode_utf8 code ++ characters bytes
 spells_one low high bytes code e h = grind (arith, encode_utf8_all, chars_one)
 
 spells_pair : (low high low' high' : ℕ) (bytes : List ℕ) → is_high low high ≡ true → is_low_surrogate (low' + 256 * high') ≡ true
@@ -26,11 +36,13 @@ unfolding utf16_chars
 spells_pair low high low' high' bytes h l = simp (h, l)
 
 -- the text of a front, from its characters
-emits_by : (bytes more : List ℕ) (code : ℕ) → characters (front bytes) ≡ encode_utf8 code ++ characters (front more) → emit rest text bytes ≡ doubled (encode_utf8 code) ++ emit rest text more
+emits_by : (bytes more : List ℕ) (code : ℕ) → characters (front bytes) ≡ encode_utf8 code ++ characters (front more)
+    → emit rest text bytes ≡ doubled (encode_utf8 code) ++ emit rest text more
 emits_by bytes more code e = grind (arith, emit-front, doubled-append, front)
 
 -- a unit that is no high surrogate
-pub next_one : (low high : ℕ) (bytes : List ℕ) (code : ℕ) → is_high low high ≡ false → unwrap_or (lone_unit_char (low + 256 * high)) 0xFFFD ≡ code → IsNext (low ∷ high ∷ bytes) code 2
+pub next_one : (low high : ℕ) (bytes : List ℕ) (code : ℕ) → is_high low high ≡ false → unwrap_or (lone_unit_char (low + 256 * high)) 0xFFFD ≡ code
+    → IsNext (low ∷ high ∷ bytes) code 2
 next_one low high bytes code h e = record {
   emits = emits_by (low ∷ high ∷ bytes) bytes code (rw (front_step low high bytes h) (spells_one low high (front bytes) code e (λ t. cc)));
   keeps = rest_step low high bytes h;
@@ -52,13 +64,15 @@ pub not_high : (u : ℕ) → is_low_surrogate u ≡ true → is_high_surrogate u
 not_high u low = grind (arith, nat_tests)
 
 -- a high surrogate before a unit that is no low one
-pub next_alone : (low high low' high' : ℕ) (bytes : List ℕ) → is_high low high ≡ true → is_low_surrogate (low' + 256 * high') ≡ false → IsNext (low ∷ high ∷ low' ∷ high' ∷ bytes) 0xFFFD 2
+pub next_alone : (low high low' high' : ℕ) (bytes : List ℕ) → is_high low high ≡ true → is_low_surrogate (low' + 256 * high') ≡ false
+    → IsNext (low ∷ high ∷ low' ∷ high' ∷ bytes) 0xFFFD 2
 unfolding starts_low
 next_alone low high low' high' bytes h l =
     let lone = lone_half (low + 256 * high) (inl h) in
     let first : starts_low (units (front (low' ∷ high' ∷ bytes))) ≡ false = grind arith in
     record {
-      emits = emits_by (low ∷ high ∷ low' ∷ high' ∷ bytes) (low' ∷ high' ∷ bytes) 0xFFFD (spells_one low high (front (low' ∷ high' ∷ bytes)) 0xFFFD lone (λ _. first));
+      emits = emits_by (low ∷ high ∷ low' ∷ high' ∷ bytes) (low' ∷ high' ∷ bytes) 0xFFFD
+          (spells_one low high (front (low' ∷ high' ∷ bytes)) 0xFFFD lone (λ _. first));
       keeps = refl;
       spells = spells_one low high (low' ∷ high' ∷ bytes) 0xFFFD lone (λ _. l);
     }
@@ -69,7 +83,8 @@ pub next_pair : (low high low' high' : ℕ) (bytes : List ℕ) → is_high low h
 next_pair low high low' high' bytes h l =
     let second : is_high low' high' ≡ false = grind (arith, nat_tests, l) in
     record {
-      emits = emits_by (low ∷ high ∷ low' ∷ high' ∷ bytes) bytes (surrogate_pair_char (low + 256 * high) (low' + 256 * high')) (rw (front_step low' high' bytes second) (spells_pair low high low' high' (front bytes) h l));
+      emits = emits_by (low ∷ high ∷ low' ∷ high' ∷ bytes) bytes (surrogate_pair_char (low + 256 * high) (low' + 256 * high'))
+          (rw (front_step low' high' bytes second) (spells_pair low high low' high' (front bytes) h l));
       keeps = rest_step low' high' bytes second;
       spells = spells_pair low high low' high' bytes h l;
     }
@@ -87,18 +102,22 @@ held_high low high more few h = grind arith
 pub drop_two : (xs : List ℕ) (i : ℕ) → i + 1 < length xs → drop i xs ≡ get_or xs i 0 ∷ get_or xs (i + 1) 0 ∷ drop (i + 2) xs
 drop_two xs i h = grind (arith, drop_more)
 
-pub drop_four : (xs : List ℕ) (i : ℕ) → i + 3 < length xs → drop i xs ≡ get_or xs i 0 ∷ get_or xs (i + 1) 0 ∷ get_or xs (i + 2) 0 ∷ get_or xs (i + 3) 0 ∷ drop (i + 4) xs
+pub drop_four : (xs : List ℕ) (i : ℕ) → i + 3 < length xs
+    → drop i xs ≡ get_or xs i 0 ∷ get_or xs (i + 1) 0 ∷ get_or xs (i + 2) 0 ∷ get_or xs (i + 3) 0 ∷ drop (i + 4) xs
 drop_four xs i h = grind (arith, drop_two)
 
 -- ---- the steps from a place on, by the units that stand there
 
-pub held_at : (xs : List ℕ) (i : ℕ) {u : ℕ} → i + 1 < length xs → length xs < i + 4 → u ≡ get_or xs i 0 + 256 * get_or xs (i + 1) 0 → is_high_surrogate u ≡ true → rest (drop i xs) ≡ drop i xs
+pub held_at : (xs : List ℕ) (i : ℕ) {u : ℕ} → i + 1 < length xs → length xs < i + 4 → u ≡ get_or xs i 0 + 256 * get_or xs (i + 1) 0
+    → is_high_surrogate u ≡ true → rest (drop i xs) ≡ drop i xs
 held_at xs i within few is h = grind (arith, common_steps, drop_two, held_high)
 
-pub one_at : (xs : List ℕ) (i : ℕ) {u code : ℕ} → i + 1 < length xs → u ≡ get_or xs i 0 + 256 * get_or xs (i + 1) 0 → is_high_surrogate u ≡ false → unwrap_or (lone_unit_char u) 0xFFFD ≡ code → IsNext (drop i xs) code 2
+pub one_at : (xs : List ℕ) (i : ℕ) {u code : ℕ} → i + 1 < length xs → u ≡ get_or xs i 0 + 256 * get_or xs (i + 1) 0 → is_high_surrogate u ≡ false
+    → unwrap_or (lone_unit_char u) 0xFFFD ≡ code → IsNext (drop i xs) code 2
 one_at xs i within is h e = rw drop_two (next_one _ _ _ _ (rw is at h) (rw is at e))
 
-module _ (xs : List ℕ) (i : ℕ) {u v : ℕ} (within : i + 3 < length xs) (first : u ≡ get_or xs i 0 + 256 * get_or xs (i + 1) 0) (second : v ≡ get_or xs (i + 2) 0 + 256 * get_or xs (i + 2 + 1) 0) (high : is_high_surrogate u ≡ true) where
+module _ (xs : List ℕ) (i : ℕ) {u v : ℕ} (within : i + 3 < length xs) (first : u ≡ get_or xs i 0 + 256 * get_or xs (i + 1) 0)
+    (second : v ≡ get_or xs (i + 2) 0 + 256 * get_or xs (i + 2 + 1) 0) (high : is_high_surrogate u ≡ true) where
   second_is : v ≡ get_or xs (i + 2) 0 + 256 * get_or xs (i + 3) 0
   second_is = grind arith
 

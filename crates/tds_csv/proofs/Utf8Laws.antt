@@ -1,5 +1,13 @@
 -- The laws of UTF-8 in pieces.
-use Rattle.{tds_csv.{proofs.{Words.{◌≡◌, ℕ, zero, suc, ◌+◌, ◌-◌, ◌≤◌, ◌<◌, true, false, cond, List, [], ◌∷◌, ◌++◌, length, take, refl, sym, ap, ◌∙◌, arith, IsUtf8, encode_utf8, encode_utf8_all, append_assoc, length-append, length-drop, take_at, drop_at, length-take-le, take-append-drop, take-append-le, IsUtf8-append, IsUtf8-nil, IsUtf8-drop, IsUtf8-encode, IsCharBoundary-from_take, is_utf8-from_IsUtf8, IsUtf8-from_is_utf8, utf8_valid_len_le, length-encode, len_utf8_bounds, and_parts, cases_lt, is_utf8, all_scalars, scalar, valid_len_up_to, JoinsPieces, emit, drop-append-add, inl, inr, nil_from_length, take-append-add, ◌⊎◌}, JoiningLemmas.{doubled-append, settled_front}}, specs.Utf8.{IsFit, Begins, rest, text}}, std.specs.Str.Lossy.utf8_valid_len}
+use Rattle.tds_csv.proofs.Words.{◌≡◌, ℕ, zero, suc, ◌+◌, ◌-◌, ◌≤◌, ◌<◌, true, false, cond, List, [], ◌∷◌, ◌++◌, length, take, refl, sym, ap, ◌∙◌}
+use Rattle.tds_csv.proofs.Words.{arith, IsUtf8, encode_utf8, encode_utf8_all, append_assoc, length-append, length-drop, take_at, drop_at}
+use Rattle.tds_csv.proofs.Words.{length-take-le, take-append-drop, take-append-le, IsUtf8-append, IsUtf8-nil, IsUtf8-drop, IsUtf8-encode}
+use Rattle.tds_csv.proofs.Words.{IsCharBoundary-from_take, is_utf8-from_IsUtf8, IsUtf8-from_is_utf8, utf8_valid_len_le, length-encode}
+use Rattle.tds_csv.proofs.Words.{len_utf8_bounds, and_parts, cases_lt, is_utf8, all_scalars, scalar, valid_len_up_to, JoinsPieces, emit}
+use Rattle.tds_csv.proofs.Words.{drop-append-add, inl, inr, nil_from_length, take-append-add, ◌⊎◌}
+use Rattle.tds_csv.proofs.JoiningLemmas.{doubled-append, settled_front}
+use Rattle.tds_csv.specs.Utf8.{IsFit, Begins, rest, text}
+use Rattle.std.specs.Str.Lossy.{utf8_valid_len}
 
 -- what is found going down is UTF-8, and nothing longer is
 front_up_to : (bs : List ℕ) (n : ℕ) → IsUtf8 (take (valid_len_up_to bs n) bs)
@@ -47,7 +55,8 @@ after_text w z u whole =
     rw (drop_at w z (length w) refl) at (IsUtf8-drop (w ++ z) (length w) whole edge)
 
 -- a text at the front than which no longer one stands there
-pub valid_len_is : (bs : List ℕ) (n : ℕ) → n ≤ length bs → IsUtf8 (take n bs) → ((m : ℕ) → n < m → m ≤ length bs → IsUtf8 (take m bs) → ⊥) → utf8_valid_len bs ≡ n
+pub valid_len_is : (bs : List ℕ) (n : ℕ) → n ≤ length bs → IsUtf8 (take n bs) → ((m : ℕ) → n < m → m ≤ length bs → IsUtf8 (take m bs) → ⊥)
+    → utf8_valid_len bs ≡ n
 unfolding front
 valid_len_is bs n within u longest = grind (arith, longest_is bs n, longest (utf8_valid_len bs), utf8_valid_len_le, front_is bs)
 
@@ -57,7 +66,8 @@ unfolding front
 valid_len-past w y u =
     let k = utf8_valid_len y in
     let sum = length-append w y in
-    valid_len_is (w ++ y) (length w + k) (omega (arith, utf8_valid_len_le y)) (rw (take-append-add w y k) (IsUtf8-append w (take k y) u (front_is y))) (λ m more within whole.
+    valid_len_is (w ++ y) (length w + k) (omega (arith, utf8_valid_len_le y)) (rw (take-append-add w y k) (IsUtf8-append w (take k y) u (front_is y)))
+    (λ m more within whole.
     let n = m - length w in
     let split : m ≡ length w + n = omega arith in
     longest_is y n (omega arith) (omega arith) (after_text w (take n y) u (rw (split, take-append-add w y n) at whole)))
@@ -97,11 +107,13 @@ NoText r = (n : ℕ) → 0 < n → n ≤ length r → IsUtf8 (take n r) → ⊥
 pub no_text : (bytes : List ℕ) → NoText (rest bytes)
 unfolding NoText
 no_text bytes n some within u =
-    longest_is bytes (utf8_valid_len bytes + n) (omega arith) (omega (arith, length-drop (utf8_valid_len bytes) bytes)) (rw take-front (IsUtf8-append (front bytes) (take n (rest bytes)) (front_is bytes) u))
+    longest_is bytes (utf8_valid_len bytes + n) (omega arith) (omega (arith, length-drop (utf8_valid_len bytes) bytes))
+    (rw take-front (IsUtf8-append (front bytes) (take n (rest bytes)) (front_is bytes) u))
 
 -- the list is empty, or a beginning of a character, as what follows shows
 abbrev IsBegun : List ℕ → List ℕ → Type 0
-IsBegun r more = (r ≡ []) ⊎ ((c : ℕ) × (tail : List ℕ) × (scalar c ≡ true) × (encode_utf8 c ++ tail ≡ r ++ more) × (length r < length (encode_utf8 c)))
+IsBegun r more = (r ≡ []) ⊎ ((c : ℕ) × (tail : List ℕ) × (scalar c ≡ true) × (encode_utf8 c ++ tail ≡ r ++ more)
+    × (length r < length (encode_utf8 c)))
 
 -- the rest of what begins a text is so
 pub begun_rest : (a : List ℕ) → (b : Begins a) → IsBegun (rest a) b.0
@@ -116,12 +128,21 @@ begun_rest a b =
       | inl less ↦ inr (c, encode_utf8_all cs, (and_parts (scalar c) (all_scalars cs) valid).0, e, less)
       | inr more ↦
           let k = length (encode_utf8 c) in
-          let found : take k (rest a) ≡ encode_utf8 c = rw (← take-append-le k (rest a) b.0 more, ← e) (take_at (encode_utf8 c) (encode_utf8_all cs) k refl) in
-          absurd (no_text a k (omega (arith, length-encode c, len_utf8_bounds c)) more (rw found (IsUtf8-encode c (and_parts (scalar c) (all_scalars cs) valid).0)))
+          let found : take k (rest a) ≡ encode_utf8 c =
+          rw (← take-append-le k (rest a) b.0 more, ← e) (take_at (encode_utf8 c) (encode_utf8_all cs) k refl) in
+          absurd (no_text a k (omega (arith, length-encode c, len_utf8_bounds c)) more
+          (rw found (IsUtf8-encode c (and_parts (scalar c) (all_scalars cs) valid).0)))
     ]
 
 short : (a : List ℕ) → Begins a → length (rest a) ≤ 3
-short a begins = elim (begun_rest a begins) [ inl none ↦ omega (arith, ap length none) | inr part ↦ omega (arith, length-encode part.0, len_utf8_bounds part.0) ]
+short a begins = elim (begun_rest a begins) [
+  | inl none ↦ omega (arith, ap length none)
+  | inr part ↦ omega (
+    arith,
+    length-encode part.0,
+    len_utf8_bounds part.0,
+  )
+]
 
 -- what follows, seen from the front
 seam : (a b more : List ℕ) → (a ++ b) ++ more ≡ front a ++ ((rest a ++ b) ++ more)

@@ -1,5 +1,12 @@
 -- Pieces of text in UTF-8, one after the other.
-use Rattle.tds_csv.{proofs.{Words.{common_steps, ◌≡◌, ◌∙◌, ◌↔◌, ℕ, ◌+◌, ◌-◌, ◌<◌, ◌≤◌, List, [], ◌++◌, length, take, drop, inl, inr, Option, Result, Ok, Err, refl, sym, ap, arith, append_assoc, append-nil, length-append, length-drop, length-take-le, cases_lt, take-append-drop, take-take, take-append-le, drop-append-le, take_all, drop-append-add, take-append-add, utf8_valid_len, utf8_valid_len_le, emit, IsErrAnd, err_from_is_err_and, JoinFault, Stopped, Odd, BadText, Sink, Pushes, PushesPiece, TakesPiece, TakesUpTo, Held, held, IsScan, StopsAt}, Utf8Laws.{joins_utf8, emits, rest-append}, Sinks.{Puts-trans, Breaks-after, Breaks-longer}}, specs.Utf8.{Begins, rest, text}}
+use Rattle.tds_csv.proofs.Words.{common_steps, ◌≡◌, ◌∙◌, ◌↔◌, ℕ, ◌+◌, ◌-◌, ◌<◌, ◌≤◌, List, [], ◌++◌, length, take, drop, inl, inr, Option, Result, Ok}
+use Rattle.tds_csv.proofs.Words.{Err, refl, sym, ap, arith, append_assoc, append-nil, length-append, length-drop, length-take-le, cases_lt}
+use Rattle.tds_csv.proofs.Words.{take-append-drop, take-take, take-append-le, drop-append-le, take_all, drop-append-add, take-append-add}
+use Rattle.tds_csv.proofs.Words.{utf8_valid_len, utf8_valid_len_le, emit, IsErrAnd, err_from_is_err_and, JoinFault, Stopped, Odd, BadText, Sink}
+use Rattle.tds_csv.proofs.Words.{Pushes, PushesPiece, TakesPiece, TakesUpTo, Held, held, IsScan, StopsAt}
+use Rattle.tds_csv.proofs.Utf8Laws.{joins_utf8, emits, rest-append}
+use Rattle.tds_csv.proofs.Sinks.{Puts-trans, Breaks-after, Breaks-longer}
+use Rattle.tds_csv.specs.Utf8.{Begins, rest, text}
 
 -- the answer of a push, by where its piece begins in another one
 abbrev pub moved_by : {V : Type 0} → ℕ → Result V JoinFault → Result V JoinFault
@@ -9,12 +16,19 @@ moved_by n (Err Odd) = Err Odd
 moved_by n (Ok v) = Ok v
 
 -- three bytes hold what is withheld
-pub is_scan : (bytes : List ℕ) (whole good : ℕ) → whole ≤ good → good ≤ length bytes → drop whole bytes ≡ rest bytes → (good ≡ length bytes → Begins bytes) → (good < length bytes → StopsAt bytes whole good) → IsScan bytes whole good
+pub is_scan : (bytes : List ℕ) (whole good : ℕ) → whole ≤ good → good ≤ length bytes → drop whole bytes ≡ rest bytes
+    → (good ≡ length bytes → Begins bytes) → (good < length bytes → StopsAt bytes whole good) → IsScan bytes whole good
 is_scan bytes whole good order most same begins stops =
     let short : good ≤ whole + 3 = elim (cases_lt good (length bytes)) [
       | inl less ↦
           let s = stops less in
-          omega (arith, ap length s.keeps, joins_utf8.short (take good bytes) s.begun, length-drop whole bytes, length-take-le (good - whole) (drop whole bytes) (omega (arith, length-drop whole bytes)))
+          omega (
+            arith,
+            ap length s.keeps,
+            joins_utf8.short (take good bytes) s.begun,
+            length-drop whole bytes,
+            length-take-le (good - whole) (drop whole bytes) (omega (arith, length-drop whole bytes)),
+          )
       | inr all ↦ omega (arith, ap length same, length-drop whole bytes, joins_utf8.short bytes (begins (omega arith)))
     ] in
     record { order = order; most = most; short = short; rest = same; begins = begins; stops = stops }
@@ -22,12 +36,14 @@ is_scan bytes whole good order most same begins stops =
 -- the bad byte is after what is withheld
 pub after_kept : (kept piece bytes : List ℕ) (k : ℕ) → bytes ≡ kept ++ piece → Begins kept → (Begins (take (k + 1) bytes) → ⊥) → length kept ≤ k
 after_kept kept piece bytes k is begun bad = elim (cases_lt k (length kept)) [
-  | inl before ↦ absurd (bad (rw (is, take-append-le (k + 1) kept piece (omega arith)) (joins_utf8.front _ (drop (k + 1) kept) (rw take-append-drop begun))))
+  | inl before ↦ absurd (bad (rw (is, take-append-le (k + 1) kept piece (omega arith))
+      (joins_utf8.front _ (drop (k + 1) kept) (rw take-append-drop begun))))
   | inr after ↦ after
 ]
 
 -- bytes that are withheld, and a piece, taken as one
-up_to_seam : {kept piece bytes new : List ℕ} {a b : Held} {k : ℕ} → bytes ≡ kept ++ piece → Begins kept → TakesUpTo Begins rest text [] new a b bytes k → TakesUpTo Begins rest text kept new a b piece (k - length kept)
+up_to_seam : {kept piece bytes new : List ℕ} {a b : Held} {k : ℕ} → bytes ≡ kept ++ piece → Begins kept
+    → TakesUpTo Begins rest text [] new a b bytes k → TakesUpTo Begins rest text kept new a b piece (k - length kept)
 up_to_seam {kept} {k = k} is begun x =
     let past = after_kept _ _ _ _ is begun x.bad in
     let j = k - length kept in
@@ -37,7 +53,8 @@ up_to_seam {kept} {k = k} is begun x =
 
 -- two parts of a piece, of which the first was taken
 halves : (kept part : List ℕ) {mid : List ℕ} (more : List ℕ) → mid ≡ rest (kept ++ part)
-    → (emit rest text (kept ++ (part ++ more)) ≡ emit rest text (kept ++ part) ++ emit rest text (mid ++ more)) × (rest (kept ++ (part ++ more)) ≡ rest (mid ++ more)) × (Begins (kept ++ (part ++ more)) ↔ Begins (mid ++ more))
+    → (emit rest text (kept ++ (part ++ more)) ≡ emit rest text (kept ++ part) ++ emit rest text (mid ++ more))
+    × (rest (kept ++ (part ++ more)) ≡ rest (mid ++ more)) × (Begins (kept ++ (part ++ more)) ↔ Begins (mid ++ more))
 halves kept part more is =
     let all = kept ++ part in
     rw (is, ← append_assoc kept part more) (emits all more, rest-append all more, (joins_utf8.inward all more, joins_utf8.outward all more))
@@ -47,11 +64,23 @@ pub rest_begins : {new : List ℕ} (bytes : List ℕ) → new ≡ rest bytes →
 rest_begins bytes is begun = rw (is, ← append-nil (rest bytes)) (joins_utf8.inward bytes [] (rw append-nil begun))
 
 -- what is withheld, and the rest of a piece whose first bytes were taken
-kept_tail : (kept part more mid : List ℕ) (at : ℕ) → mid ≡ rest (kept ++ part) → at + length mid ≡ length part → take (length (part ++ more) - at) (drop at (part ++ more)) ≡ mid ++ more
+kept_tail : (kept part more mid : List ℕ) (at : ℕ) → mid ≡ rest (kept ++ part) → at + length mid ≡ length part
+    → take (length (part ++ more) - at) (drop at (part ++ more)) ≡ mid ++ more
 kept_tail kept part more mid at is e =
-    let whole : utf8_valid_len (kept ++ part) ≡ length kept + at = omega (arith, ap length is, length-drop (utf8_valid_len (kept ++ part)) (kept ++ part), length-append kept part, utf8_valid_len_le (kept ++ part)) in
+    let whole : utf8_valid_len (kept ++ part) ≡ length kept + at =
+    omega (
+      arith,
+      ap length is,
+      length-drop (utf8_valid_len (kept ++ part)) (kept ++ part),
+      length-append kept part,
+      utf8_valid_len_le (kept ++ part),
+    ) in
     let ends = sym (is ∙ ap (λ n. drop n (kept ++ part)) whole ∙ drop-append-add kept part at) in
-    rw (take_all (length (part ++ more) - at) (drop at (part ++ more)) (omega (arith, length-drop at (part ++ more))), drop-append-le at part more (omega arith), ends) refl
+    rw (
+      take_all (length (part ++ more) - at) (drop at (part ++ more)) (omega (arith, length-drop at (part ++ more))),
+      drop-append-le at part more (omega arith),
+      ends,
+    ) refl
 
 module _ {kept mid new : List ℕ} {a b d : Held} {part : List ℕ} (x : TakesPiece Begins rest text kept mid a b part) where
   -- a part of a piece was taken, and then the next bytes
@@ -61,10 +90,12 @@ module _ {kept mid new : List ℕ} {a b d : Held} {part : List ℕ} (x : TakesPi
       record { begun = h.2.1 y.begun; put = rw h.0 (Puts-trans _ _ _ _ _ x.put y.put); withheld = y.withheld ∙ sym h.1 }
 
   -- and then a byte was bad
-  up_to_both : (more : List ℕ) (n : ℕ) → TakesUpTo Begins rest text [] new b d (mid ++ more) (length mid + n) → TakesUpTo Begins rest text kept new a d (part ++ more) (length part + n)
+  up_to_both : (more : List ℕ) (n : ℕ) → TakesUpTo Begins rest text [] new b d (mid ++ more) (length mid + n)
+      → TakesUpTo Begins rest text kept new a d (part ++ more) (length part + n)
   up_to_both more n y =
       let h = halves kept part (take (n + 1) more) x.withheld in
-      let next : (part : List ℕ) → take ((length part + n) + 1) (part ++ more) ≡ part ++ take (n + 1) more = λ part. ap (λ k. take k (part ++ more)) {y = length part + (n + 1)} (omega arith) ∙ take-append-add part more (n + 1) in
+      let next : (part : List ℕ) → take ((length part + n) + 1) (part ++ more) ≡ part ++ take (n + 1) more =
+      λ part. ap (λ k. take k (part ++ more)) {y = length part + (n + 1)} (omega arith) ∙ take-append-add part more (n + 1) in
       record {
         within = omega (arith, length-append mid more, length-append part more);
         good = rw (take-append-add part more n) (takes_both (take n more) (rw (take-append-add mid more n) at y.good));
@@ -72,16 +103,28 @@ module _ {kept mid new : List ℕ} {a b d : Held} {part : List ℕ} (x : TakesPi
       }
 
 -- a byte was bad in the first bytes of a piece
-up_to_first : {kept piece new : List ℕ} {a b : Held} (n k : ℕ) → n ≤ length piece → TakesUpTo Begins rest text kept new a b (take n piece) k → TakesUpTo Begins rest text kept new a b piece k
+up_to_first : {kept piece new : List ℕ} {a b : Held} (n k : ℕ) → n ≤ length piece → TakesUpTo Begins rest text kept new a b (take n piece) k
+    → TakesUpTo Begins rest text kept new a b piece k
 up_to_first n k long x = grind (arith, length-take-le, take-take)
 
 module _ {W U : Type 0} {contents : W → Option (List ℕ)} {a b : Sink W} {kept new : List ℕ} where
   -- bytes that are withheld, and a piece, taken as one up to a bad byte
-  pub pushes_seam : {piece bytes : List ℕ} {k : ℕ} → bytes ≡ kept ++ piece → Begins kept → PushesPiece {U = U} contents Begins rest text [] new a b bytes (Err (BadText k)) → PushesPiece {U = U} contents Begins rest text kept new a b piece (Err (BadText (k - length kept)))
-  pushes_seam is begun x = record { ready = x.ready; same = x.same; failed = x.failed; gives = up_to_seam is begun x.gives; begun = x.begun; again = λ failed. absurd (cc ((x.again failed).0)) }
+  pub pushes_seam : {piece bytes : List ℕ} {k : ℕ} → bytes ≡ kept ++ piece → Begins kept
+      → PushesPiece {U = U} contents Begins rest text [] new a b bytes (Err (BadText k))
+      → PushesPiece {U = U} contents Begins rest text kept new a b piece (Err (BadText (k - length kept)))
+  pushes_seam is begun x = record {
+    ready = x.ready;
+    same = x.same;
+    failed = x.failed;
+    gives = up_to_seam is begun x.gives;
+    begun = x.begun;
+    again = λ failed. absurd (cc ((x.again failed).0));
+  }
 
   -- a push of the first bytes of a piece failed
-  first_gives : (piece : List ℕ) (n : ℕ) (e : JoinFault) → n ≤ length piece → PushesPiece {U = U} contents Begins rest text kept new a b (take n piece) (Err e) → Pushes {U = U} Begins rest text kept new (held contents a) (held contents b) a.failed piece (Err e)
+  first_gives : (piece : List ℕ) (n : ℕ) (e : JoinFault) → n ≤ length piece
+      → PushesPiece {U = U} contents Begins rest text kept new a b (take n piece) (Err e)
+      → Pushes {U = U} Begins rest text kept new (held contents a) (held contents b) a.failed piece (Err e)
   first_gives piece n (Stopped stop) long x =
       let fixed = rw take-append-drop at (halves kept (take n piece) {mid = rest (kept ++ take n piece)} (drop n piece) refl).0 in
       λ going. rw fixed (Breaks-longer _ _ _ _ _ (x.gives going))
@@ -89,12 +132,15 @@ module _ {W U : Type 0} {contents : W → Option (List ℕ)} {a b : Sink W} {kep
   first_gives piece n (BadText k) long x = up_to_first n k long x.gives
 
   -- and `?` passed its error on
-  pub pushes_passed : {piece : List ℕ} {n : ℕ} {e : JoinFault} {r : Result U JoinFault} → n ≤ length piece → IsErrAnd r (λ fault. fault ≡ e) → PushesPiece {U = U} contents Begins rest text kept new a b (take n piece) (Err e) → PushesPiece contents Begins rest text kept new a b piece r
+  pub pushes_passed : {piece : List ℕ} {n : ℕ} {e : JoinFault} {r : Result U JoinFault} → n ≤ length piece → IsErrAnd r (λ fault. fault ≡ e)
+      → PushesPiece {U = U} contents Begins rest text kept new a b (take n piece) (Err e) → PushesPiece contents Begins rest text kept new a b piece r
   pushes_passed long is x = grind (arith, common_steps, err_from_is_err_and, first_gives)
 
-module _ {W U V : Type 0} {contents : W → Option (List ℕ)} {a b d : Sink W} {kept mid new part : List ℕ} {u : U} (more : List ℕ) (at : ℕ) (le : at + length mid ≡ length part) (x : PushesPiece contents Begins rest text kept mid a b part (Ok u)) where
+module _ {W U V : Type 0} {contents : W → Option (List ℕ)} {a b d : Sink W} {kept mid new part : List ℕ} {u : U} (more : List ℕ) (at : ℕ)
+    (le : at + length mid ≡ length part) (x : PushesPiece contents Begins rest text kept mid a b part (Ok u)) where
   -- the first bytes of a piece were taken, and then what was withheld was pushed with the others
-  both_give : (r : Result V JoinFault) → PushesPiece contents Begins rest text [] new b d (mid ++ more) r → Pushes Begins rest text kept new (held contents a) (held contents d) a.failed (part ++ more) (moved_by at r)
+  both_give : (r : Result V JoinFault) → PushesPiece contents Begins rest text [] new b d (mid ++ more) r
+      → Pushes Begins rest text kept new (held contents a) (held contents d) a.failed (part ++ more) (moved_by at r)
   both_give (Ok v) y = takes_both x.gives more y.gives
   both_give (Err (Stopped stop)) y = λ _. rw (halves kept part more x.gives.withheld).0 (Breaks-after _ _ _ _ _ _ x.gives.put (y.gives x.failed))
   both_give (Err Odd) y = y.gives
@@ -105,12 +151,15 @@ module _ {W U V : Type 0} {contents : W → Option (List ℕ)} {a b d : Sink W} 
       let there : length part + n ≡ at + k = omega arith in
       rw (← there) (up_to_both x.gives more n (rw here y.gives))
 
-  pushes_both : {r : Result V JoinFault} → PushesPiece contents Begins rest text [] new b d (mid ++ more) r → PushesPiece contents Begins rest text kept new a d (part ++ more) (moved_by at r)
+  pushes_both : {r : Result V JoinFault} → PushesPiece contents Begins rest text [] new b d (mid ++ more) r
+      → PushesPiece contents Begins rest text kept new a d (part ++ more) (moved_by at r)
   pushes_both y = grind (arith, common_steps, both_give)
 
 -- the first three bytes of a piece were taken, and then what was withheld was pushed with the others
-pub pushes_long : {W U V : Type 0} {contents : W → Option (List ℕ)} {a b d : Sink W} {kept mid new : List ℕ} {u : U} {r : Result V JoinFault} {piece held' : List ℕ} → 3 ≤ length piece → held' ≡ mid → length mid ≤ 3
-    → PushesPiece contents Begins rest text kept mid a b (take 3 piece) (Ok u) → PushesPiece contents Begins rest text [] new b d (take (length piece - (3 - length held')) (drop (3 - length held') piece)) r
+pub pushes_long : {W U V : Type 0} {contents : W → Option (List ℕ)} {a b d : Sink W} {kept mid new : List ℕ} {u : U} {r : Result V JoinFault}
+    {piece held' : List ℕ} → 3 ≤ length piece → held' ≡ mid → length mid ≤ 3
+    → PushesPiece contents Begins rest text kept mid a b (take 3 piece) (Ok u)
+    → PushesPiece contents Begins rest text [] new b d (take (length piece - (3 - length held')) (drop (3 - length held') piece)) r
     → PushesPiece contents Begins rest text kept new a d piece (moved_by (3 - length held') r)
 pushes_long {kept = kept} {mid = mid} {piece = piece} {held' = held'} long same le x y =
     let at = 3 - length held' in

@@ -1,5 +1,10 @@
 -- Whether bytes begin a text: std's test of what follows the last whole character.
-use Rattle.{tds_csv.{proofs.{Words.{◌≡◌, ℕ, ◌+◌, ◌*◌, ◌≤◌, ◌<◌, inl, inr, ⊎_elim, List, [], ◌∷◌, ◌++◌, length, None, refl, sym, ap, arith, IsUtf8, encode_utf8, len_utf8, second_byte_min, second_byte_max, cases_lt, nat_tests, length-encode, Scalar, Follows, Shape, of1, of2, of3, of4, shape, IsUtf8-append, IsUtf8-nil, scalar_cases, of_two, of_three, of_four}, Utf8Laws.{front, front_is, regrouped, begun_rest, NoText, no_text}}, specs.Utf8.{Begins, rest}}, std.specs.Str.Lossy.utf8_error_len}
+use Rattle.tds_csv.proofs.Words.{◌≡◌, ℕ, ◌+◌, ◌*◌, ◌≤◌, ◌<◌, inl, inr, ⊎_elim, List, [], ◌∷◌, ◌++◌, length, None, refl, sym, ap, arith, IsUtf8}
+use Rattle.tds_csv.proofs.Words.{encode_utf8, len_utf8, second_byte_min, second_byte_max, cases_lt, nat_tests, length-encode, Scalar, Follows, Shape}
+use Rattle.tds_csv.proofs.Words.{of1, of2, of3, of4, shape, IsUtf8-append, IsUtf8-nil, scalar_cases, of_two, of_three, of_four}
+use Rattle.tds_csv.proofs.Utf8Laws.{front, front_is, regrouped, begun_rest, NoText, no_text}
+use Rattle.tds_csv.specs.Utf8.{Begins, rest}
+use Rattle.std.specs.Str.Lossy.{utf8_error_len}
 
 -- the first two bytes of a character of four
 four : (c a b d w : ℕ) → Scalar c → 240 ≤ a → Follows b → Follows d → Follows w → c + 63447168 ≡ a * 262144 + b * 4096 + d * 64 + w → 4 ≤ len_utf8 c
@@ -7,7 +12,8 @@ four : (c a b d w : ℕ) → Scalar c → 240 ≤ a → Follows b → Follows d 
 four c a b d w k l f g h s long = grind (arith, ⊎_elim, nat_tests)
 
 -- the front of a character
-front_none : (c : ℕ) (r more tail : List ℕ) → Scalar c → Shape c → r ++ more ≡ encode_utf8 c ++ tail → length r < length (encode_utf8 c) → utf8_error_len r ≡ None
+front_none : (c : ℕ) (r more tail : List ℕ) → Scalar c → Shape c → r ++ more ≡ encode_utf8 c ++ tail → length r < length (encode_utf8 c)
+    → utf8_error_len r ≡ None
 unfolding utf8_error_len
 front_none c [] more tail k s e short = refl
 front_none c (x ∷ r) more tail k (of1 h e') e short = absurd (omega (arith, ap length e'))
@@ -32,10 +38,17 @@ two_bytes : (a b : ℕ) → 194 ≤ a → a < 224 → second_byte_min a ≤ b �
 two_bytes a b l u lo hi = of_two (a ∷ b ∷ []) 0 (omega arith) (l, u) (grind (arith, nat_tests))
 
 three_bytes : (a b d : ℕ) → 224 ≤ a → a < 240 → second_byte_min a ≤ b → b ≤ second_byte_max a → 128 ≤ d → d < 192 → IsUtf8 (a ∷ b ∷ d ∷ [])
-three_bytes a b d l u lo hi dl dh = of_three (a ∷ b ∷ d ∷ []) 0 (omega arith) (l, u) (grind (arith, nat_tests)) (dl, dh) (grind (arith, nat_tests)) (grind (arith, nat_tests))
+three_bytes a b d l u lo hi dl dh = of_three (a ∷ b ∷ d ∷ []) 0 (omega arith) (l, u) (grind (arith, nat_tests)) (
+  dl,
+  dh,
+) (grind (arith, nat_tests)) (grind (arith, nat_tests))
 
-four_bytes : (a b d w : ℕ) → 240 ≤ a → a ≤ 244 → second_byte_min a ≤ b → b ≤ second_byte_max a → 128 ≤ d → d < 192 → 128 ≤ w → w < 192 → IsUtf8 (a ∷ b ∷ d ∷ w ∷ [])
-four_bytes a b d w l u lo hi dl dh wl wh = of_four (a ∷ b ∷ d ∷ w ∷ []) 0 (omega arith) l (grind (arith, nat_tests)) (dl, dh) (wl, wh) (grind (arith, nat_tests))
+four_bytes : (a b d w : ℕ) → 240 ≤ a → a ≤ 244 → second_byte_min a ≤ b → b ≤ second_byte_max a → 128 ≤ d → d < 192 → 128 ≤ w → w < 192
+    → IsUtf8 (a ∷ b ∷ d ∷ w ∷ [])
+four_bytes a b d w l u lo hi dl dh wl wh = of_four (a ∷ b ∷ d ∷ w ∷ []) 0 (omega arith) l (grind (arith, nat_tests)) (dl, dh) (
+  wl,
+  wh,
+) (grind (arith, nat_tests))
 
 Completes : List ℕ → Type 0
 Completes r = (more : List ℕ) × IsUtf8 (r ++ more)
@@ -61,11 +74,16 @@ one_completes a l h =
 -- a first byte of two with the next byte is a text
 more_than_two : (a b : ℕ) (r : List ℕ) → 194 ≤ a → second_byte_min a ≤ b → b ≤ second_byte_max a → NoText (a ∷ b ∷ r) → 224 ≤ a
 unfolding NoText
-more_than_two a b r l lo hi none = elim (cases_lt a 224) [ inl two ↦ absurd (none 2 (omega arith) (omega arith) (two_bytes a b l two lo hi)) | inr more ↦ more ]
+more_than_two a b r l lo hi none = elim (cases_lt a 224) [
+  | inl two ↦ absurd (none 2 (omega arith) (omega arith) (two_bytes a b l two lo hi))
+  | inr
+      more ↦ more
+]
 
 two_complete : (a b : ℕ) → 194 ≤ a → a ≤ 244 → second_byte_min a ≤ b → b ≤ second_byte_max a → NoText (a ∷ b ∷ []) → Completes (a ∷ b ∷ [])
 unfolding Completes
-two_complete a b l h lo hi none = let x = three_complete a b 128 (more_than_two a b [] l lo hi none) h lo hi (omega arith) (omega arith) in (128 ∷ x.0, x.1)
+two_complete a b l h lo hi none = let x = three_complete a b 128 (more_than_two a b [] l lo hi none) h lo hi (omega arith) (omega arith) in
+    (128 ∷ x.0, x.1)
 
 -- what std finds no fault in can be completed
 completes : (r : List ℕ) → NoText r → utf8_error_len r ≡ None → Completes r

@@ -20,4 +20,5 @@ field_room Utf8Text n = 2 * n + 20
 
 -- The first bytes of a room, this number of them, are the field of these data, which are whole; or these aren't whole.
 abbrev pub FieldWritten : Conversion → List ℕ → List ℕ → Option ℕ → Type 0
-FieldWritten c bytes room result = MatchOption result (is_fit c bytes ≡ false) (λ made. (is_fit c bytes ≡ true) × (take made room ≡ long_field c bytes))
+FieldWritten c bytes room result = MatchOption result (is_fit c bytes ≡ false) (λ made. (is_fit c bytes ≡ true)
+    × (take made room ≡ long_field c bytes))

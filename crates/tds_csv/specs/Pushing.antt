@@ -12,13 +12,15 @@ pub record CanTake {W : Type 0} (begins : List ℕ → Type 0) (kept : List ℕ)
   pub writing : IsWriting sink
 
 -- the piece is taken: its text is put as far as it is fixed, and the rest is withheld
-pub record TakesPiece (begins : List ℕ → Type 0) (rest text : List ℕ → List ℕ) (old new : List ℕ) (before after : Held) (piece : List ℕ) : Type 0 where
-  pub begun : begins (old ++ piece)
-  pub put : Puts before after (emit rest text (old ++ piece))
-  pub withheld : new ≡ rest (old ++ piece)
+pub record TakesPiece (begins : List ℕ → Type 0) (rest text : List ℕ → List ℕ) (old new : List ℕ) (before after : Held) (piece : List ℕ) : Type 0
+  where
+    pub begun : begins (old ++ piece)
+    pub put : Puts before after (emit rest text (old ++ piece))
+    pub withheld : new ≡ rest (old ++ piece)
 
 -- the first k bytes of the piece are taken, and the next one is bad
-pub record TakesUpTo (begins : List ℕ → Type 0) (rest text : List ℕ → List ℕ) (old new : List ℕ) (before after : Held) (piece : List ℕ) (k : ℕ) : Type 0 where
+pub record TakesUpTo (begins : List ℕ → Type 0) (rest text : List ℕ → List ℕ) (old new : List ℕ) (before after : Held) (piece : List ℕ) (k : ℕ) : Type
+    0 where
   pub within : k < length piece
   pub good : TakesPiece begins rest text old new before after (take k piece)
   pub bad : ¬ (begins (old ++ take (k + 1) piece))
@@ -41,21 +43,26 @@ is_stopped (Err (Stopped stop)) = true
 is_stopped _ = false
 
 -- what a push does, by its result; `failed` says that the sink had stopped before
-abbrev pub Pushes : {U : Type 0} → (begins : List ℕ → Type 0) → (rest text : List ℕ → List ℕ) → (old new : List ℕ) → (before after : Held) → (failed : Bool) → (piece : List ℕ) → Result U JoinFault → Type 0
+abbrev pub Pushes : {U : Type 0} → (begins : List ℕ → Type 0) → (rest text : List ℕ → List ℕ) → (old new : List ℕ) → (before after : Held)
+    → (failed : Bool) → (piece : List ℕ) → Result U JoinFault → Type 0
 Pushes begins rest text old new before after failed piece (Ok _) = TakesPiece begins rest text old new before after piece
-Pushes begins rest text old new before after failed piece (Err (Stopped stop)) = failed ≡ false → Breaks before after (emit rest text (old ++ piece)) stop
+Pushes begins rest text old new before after failed piece (Err (Stopped stop)) = failed ≡ false
+    → Breaks before after (emit rest text (old ++ piece)) stop
 Pushes begins rest text old new before after failed piece (Err Odd) = ⊥
 Pushes begins rest text old new before after failed piece (Err (BadText k)) = TakesUpTo begins rest text old new before after piece k
 
 -- what an end does, by its result; `unit` is the number of bytes of a unit
-abbrev pub EndsBy : {U : Type 0} → (unit : ℕ) → (fit : List ℕ → Type 0) → (text : List ℕ → List ℕ) → (old new : List ℕ) → (before after : Held) → (failed : Bool) → Result U JoinFault → Type 0
+abbrev pub EndsBy : {U : Type 0} → (unit : ℕ) → (fit : List ℕ → Type 0) → (text : List ℕ → List ℕ) → (old new : List ℕ) → (before after : Held)
+    → (failed : Bool) → Result U JoinFault → Type 0
 EndsBy unit fit text old new before after failed (Ok _) = Completes fit text old new before after
 EndsBy unit fit text old new before after failed (Err (Stopped stop)) = failed ≡ false → fit old × Breaks before after (text old) stop
 EndsBy unit fit text old new before after failed (Err Odd) = LeavesPart fit old new before after × (length old % unit ≢ 0)
 EndsBy unit fit text old new before after failed (Err (BadText k)) = LeavesPart fit old new before after × (length old % unit ≡ 0) × (k ≡ 0)
 
--- A push, by its result. What is withheld then begins some data whatever the result is; after a failure of the sink it returns the same stop, and the sink is as it was.
-pub record PushesPiece {W U : Type 0} (contents : W → Option (List ℕ)) (begins : List ℕ → Type 0) (rest text : List ℕ → List ℕ) (old new : List ℕ) (before after : Sink W) (piece : List ℕ)
+-- A push, by its result. What is withheld then begins some data whatever the result is; after a failure of the sink it returns the same stop, and the
+-- sink is as it was.
+pub record PushesPiece {W U : Type 0} (contents : W → Option (List ℕ)) (begins : List ℕ → Type 0) (rest text : List ℕ
+    → List ℕ) (old new : List ℕ) (before after : Sink W) (piece : List ℕ)
     (result : Result U JoinFault) : Type 0 where
   pub ready : IsReady after
   pub same : IsOnSameSink before after
@@ -64,8 +71,10 @@ pub record PushesPiece {W U : Type 0} (contents : W → Option (List ℕ)) (begi
   pub begun : begins new
   pub again : before.failed ≡ true → (result ≡ Err (Stopped (stop_of (held contents before)))) × (after ≡ before)
 
--- An end, by its result. What is withheld then begins some data if it did before; after a failure of the sink it returns the same stop, and the sink is as it was.
-pub record EndsPieces {W U : Type 0} (contents : W → Option (List ℕ)) (unit : ℕ) (fit begins : List ℕ → Type 0) (text : List ℕ → List ℕ) (old new : List ℕ) (before after : Sink W) (result : Result U JoinFault) : Type 0 where
+-- An end, by its result. What is withheld then begins some data if it did before; after a failure of the sink it returns the same stop, and the sink
+-- is as it was.
+pub record EndsPieces {W U : Type 0} (contents : W → Option (List ℕ)) (unit : ℕ) (fit begins : List ℕ → Type 0) (text : List ℕ
+    → List ℕ) (old new : List ℕ) (before after : Sink W) (result : Result U JoinFault) : Type 0 where
   pub ready : IsReady after
   pub same : IsOnSameSink before after
   pub failed : after.failed ≡ is_stopped result

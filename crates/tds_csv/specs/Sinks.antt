@@ -1,5 +1,6 @@
 -- A sink as contracts see it, and what calls do to it.
-use Rattle.std.specs.Prelude.{◌≡◌, ℕ, ◌+◌, ◌-◌, ◌*◌, ◌^◌, ◌<◌, ◌≤◌, true, false, if◌then◌else◌, List, [], ◌++◌, length, take, Option, Result, Err, is_ok, MatchResult, OnOk, OnErr}
+use Rattle.std.specs.Prelude.{◌≡◌, ℕ, ◌+◌, ◌-◌, ◌*◌, ◌^◌, ◌<◌, ◌≤◌, true, false, if◌then◌else◌, List, [], ◌++◌, length, take, Option, Result, Err}
+use Rattle.std.specs.Prelude.{is_ok, MatchResult, OnOk, OnErr}
 use Rattle.std.specs.Io.KnownBytes.{Appends}
 use Rattle.tds_meter.specs.Counts.{counted}
 use Rattle.tds_packet.specs.declared.fault.Fault.TheVariants.{WriteFailed}
@@ -25,7 +26,8 @@ fresh had failures = record { had = had; waiting = []; delivered = 0; failures =
 
 -- A piece was added, and these bytes delivered: what is delivered and what waits grew by the piece.
 abbrev pub Adds : Held → Held → List ℕ → List ℕ → Type 0
-Adds old new sent piece = Appends old.had new.had sent × (old.waiting ++ piece ≡ sent ++ new.waiting) × (new.delivered ≡ counted old.delivered (length sent))
+Adds old new sent piece = Appends old.had new.had sent × (old.waiting ++ piece ≡ sent ++ new.waiting)
+    × (new.delivered ≡ counted old.delivered (length sent))
 
 -- the stop of a sink
 abbrev pub stop_of : Held → Stop
@@ -37,7 +39,8 @@ Puts old new piece = (sent : List ℕ) × (blocks : ℕ) × Adds old new sent pi
 
 -- A write failed in the block after this number of them, and what the writer didn't take of it waits: a beginning of the piece was added.
 abbrev pub Breaks : Held → Held → List ℕ → Stop → Type 0
-Breaks old new piece stop = (sent : List ℕ) × (blocks : ℕ) × (n : ℕ) × Adds old new sent (take n piece) × (n ≤ length piece) × (4096 * blocks ≤ length sent) × (length sent < 4096 * (blocks + 1))
+Breaks old new piece stop = (sent : List ℕ) × (blocks : ℕ) × (n : ℕ) × Adds old new sent (take n piece) × (n ≤ length piece)
+    × (4096 * blocks ≤ length sent) × (length sent < 4096 * (blocks + 1))
     × (length sent + length new.waiting ≡ 4096 * (blocks + 1)) × (stop ≡ stop_of new) × Rises old.failures new.failures sent
 
 -- All was delivered.
@@ -54,11 +57,13 @@ FinishFails old new stop = (sent : List ℕ) × Adds old new sent [] × (stop �
 
 -- It has room for a block, and less than one waits unless it has stopped.
 abbrev pub IsReady : {W : Type 0} → Sink W → Type 0
-IsReady s = (4096 ≤ s.output.now.room) × (s.failed ≡ false → length s.output.now.bytes < 4096) × (s.delivered ≤ 2 ^ 64 - 1) × (s.output.now.peak ≤ s.output.now.room)
+IsReady s = (4096 ≤ s.output.now.room) × (s.failed ≡ false → length s.output.now.bytes < 4096) × (s.delivered ≤ 2 ^ 64 - 1)
+    × (s.output.now.peak ≤ s.output.now.room)
 
 -- It is on the same writer and area.
 abbrev pub IsOnSameSink : {W : Type 0} → Sink W → Sink W → Type 0
-IsOnSameSink old new = (new.to.ghost_name ≡ old.to.ghost_name) × (new.output.ghost_name ≡ old.output.ghost_name) × (new.output.now.room ≡ old.output.now.room)
+IsOnSameSink old new = (new.to.ghost_name ≡ old.to.ghost_name) × (new.output.ghost_name ≡ old.output.ghost_name)
+    × (new.output.now.room ≡ old.output.now.room)
 
 -- It takes text: it is ready, and no write has failed.
 pub record IsWriting {W : Type 0} (s : Sink W) : Type 0 where
@@ -70,7 +75,8 @@ pub record PutsPiece {W U : Type 0} (contents : W → Option (List ℕ)) (old ne
   pub ready : IsReady new
   pub same : IsOnSameSink old new
   pub failed : new.failed ≡ (if is_ok result then false else true)
-  pub gives : MatchResult result (λ _. Puts (held contents old) (held contents new) text) (λ stop. old.failed ≡ false → Breaks (held contents old) (held contents new) text stop)
+  pub gives : MatchResult result (λ _. Puts (held contents old) (held contents new) text) (λ stop. old.failed ≡ false
+      → Breaks (held contents old) (held contents new) text stop)
   pub again : old.failed ≡ true → (result ≡ Err (stop_of (held contents old))) × (new ≡ old)
 
 -- A delivery of all that waits, which leaves some of it if a write fails.
@@ -78,7 +84,8 @@ pub record Delivers {W U : Type 0} (contents : W → Option (List ℕ)) (old new
   pub ready : IsReady new
   pub same : IsOnSameSink old new
   pub failed : new.failed ≡ (if is_ok result then false else true)
-  pub gives : MatchResult result (λ _. Sends (held contents old) (held contents new)) (λ stop. FinishFails (held contents old) (held contents new) stop)
+  pub gives : MatchResult result (λ _. Sends (held contents old) (held contents new))
+      (λ stop. FinishFails (held contents old) (held contents new) stop)
   pub rest : OnErr result (0 < length new.output.now.bytes)
 
 -- The end of a text: all that waits is delivered, and the writer flushed. After a failure it returns the same stop and does nothing.

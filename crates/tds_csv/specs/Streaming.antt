@@ -18,8 +18,10 @@ pub record Streams {S : Type 0} (g : Grammar S Fault) (text : S → List ℕ) (f
   pub takes : Takes old new bytes (length bytes)
   pub puts : PutsText text from to before after
 
--- Whole elements were read, and the text put; then the next element was read, and a write of its text failed. What comes after it in the packets read may have been handed out too; no packet was read for that.
-pub record BreaksStreaming {S : Type 0} (g : Grammar S Fault) (text : S → List ℕ) (from : S) (old new : Seen) (before after : Held) (at : S) (stop : Stop) : Type 0 where
+-- Whole elements were read, and the text put; then the next element was read, and a write of its text failed. What comes after it in the packets read
+-- may have been handed out too; no packet was read for that.
+pub record BreaksStreaming {S : Type 0} (g : Grammar S Fault) (text : S → List ℕ) (from : S) (old new : Seen) (before after : Held) (at : S)
+    (stop : Stop) : Type 0 where
   pub bytes : List ℕ
   pub element : List ℕ
   pub ahead : List ℕ
@@ -34,8 +36,10 @@ pub record BreaksStreaming {S : Type 0} (g : Grammar S Fault) (text : S → List
   pub text_is : text at ++ more ≡ text (g.add at element)
   pub breaks : Breaks middle after more stop
 
--- A call that reads by a grammar and puts the text of what it reads stopped: in reading, with the text of the state that it reached; or in writing. It began after this number of bytes of the payload.
-pub record StopsStreaming {S : Type 0} (g : Grammar S Fault) (text : S → List ℕ) (from : S) (old new : Seen) (place : ℕ) (before after : Held) (failed : Bool) (stop : Stop) : Type 0 where
+-- A call that reads by a grammar and puts the text of what it reads stopped: in reading, with the text of the state that it reached; or in writing.
+-- It began after this number of bytes of the payload.
+pub record StopsStreaming {S : Type 0} (g : Grammar S Fault) (text : S → List ℕ) (from : S) (old new : Seen) (place : ℕ) (before after : Held)
+    (failed : Bool) (stop : Stop) : Type 0 where
   pub at : S
   pub cause :
       (StopsReading g from old new place at stop × PutsText text from at before after × (failed ≡ false))

@@ -1,5 +1,8 @@
 -- Local times by their whole seconds.
-use Rattle.tds_values.proofs.{Words.{◌≡◌, ℕ, ◌+◌, ◌*◌, ◌/◌, ◌%◌, ◌^◌, ◌<◌, ◌++◌, ℤ, unsigned_abs, Some, ap, arith, is_some, one-le-pow, div-add-mod, mul-le, div-mul-add, mod-mul-add, mod_below, local_units, is_local, local_seconds, fraction_text, seconds_text, local_text, date_and_time}, DigitLemmas.{last_digits-above, last_digits-mod}}
+use Rattle.tds_values.proofs.Words.{◌≡◌, ℕ, ◌+◌, ◌*◌, ◌/◌, ◌%◌, ◌^◌, ◌<◌, ◌++◌, ℤ, unsigned_abs, Some, ap, arith, is_some, one-le-pow, div-add-mod}
+use Rattle.tds_values.proofs.Words.{mul-le, div-mul-add, mod-mul-add, mod_below, local_units, is_local, local_seconds, fraction_text, seconds_text}
+use Rattle.tds_values.proofs.Words.{local_text, date_and_time}
+use Rattle.tds_values.proofs.DigitLemmas.{last_digits-above, last_digits-mod}
 
 more : (p x t f : ℕ) → f < p → t < x → t * p + f < x * p
 more p x t f h less = omega (arith, mul-le (t + 1) p x p (omega arith) (omega arith))
@@ -11,7 +14,13 @@ local_by_seconds scale units day offset =
     let small : units % p < p = mod_below units p (one-le-pow scale 10 (omega arith)) in
     let o = unsigned_abs offset * 60 in
     let t = day * 86400 + units / p in
-    grind (arith, (more p o t (units % p) small), (mul-le o p t p), (more p 315537897600 (t + o) (units % p) small), (mul-le 315537897600 p (t + o) p))
+    grind (
+      arith,
+      (more p o t (units % p) small),
+      (mul-le o p t p),
+      (more p 315537897600 (t + o) (units % p) small),
+      (mul-le 315537897600 p (t + o) p),
+    )
 
 scaled_sum : (p s o t : ℕ) → s + o ≡ t → s * p + o * p ≡ t * p
 scaled_sum p s o t e = omega (arith, ap (λ k. k * p) e)
@@ -40,4 +49,10 @@ pub text_of_seconds : (scale l units : ℕ)
 text_of_seconds scale l units =
     let small = mod_below units (10 ^ scale) (one-le-pow scale 10 (omega arith)) in
     let p = day_parts (10 ^ scale) l (units % 10 ^ scale) small in
-    rw (p.0, p.1, div-mul-add (l % 86400) (10 ^ scale) (units % 10 ^ scale) small, fraction-above scale (l % 86400) (units % 10 ^ scale), last_digits-mod scale units)
+    rw (
+      p.0,
+      p.1,
+      div-mul-add (l % 86400) (10 ^ scale) (units % 10 ^ scale) small,
+      fraction-above scale (l % 86400) (units % 10 ^ scale),
+      last_digits-mod scale units,
+    )

@@ -10,14 +10,17 @@ kept w j high mask low q n is fits few e = grind (arith, and_block, and_mask)
 hundredth : (a rest mask : ℕ) → a < 10000
     → bit_and ((rest * 2 ^ 32 + a) * 5243 / 524288) (mask * 2 ^ 32 + 127) ≡ bit_and (rest * 5243 / 524288) mask * 2 ^ 32 + a / 100
 hundredth a rest mask h =
-    kept 32 7 (rest * 5243 / 524288) mask (rest * 5243 % 524288 * 8192 + a * 5243 / 524288) (a / 100) _ (omega arith) (omega arith) (omega arith) (omega arith)
+    kept 32 7 (rest * 5243 / 524288) mask (rest * 5243 % 524288 * 8192 + a * 5243 / 524288) (a / 100) _ (omega arith) (omega arith) (omega arith)
+    (omega arith)
 
 -- the lowest of some numbers of two digits, divided by 10
 tenth : (b rest mask : ℕ) → b < 100
     → bit_and ((rest * 2 ^ 16 + b) * 103 / 1024) (mask * 2 ^ 16 + 15) ≡ bit_and (rest * 103 / 1024) mask * 2 ^ 16 + b / 10
-tenth b rest mask h = kept 16 4 (rest * 103 / 1024) mask (rest * 103 % 1024 * 64 + b * 103 / 1024) (b / 10) _ (omega arith) (omega arith) (omega arith) (omega arith)
+tenth b rest mask h = kept 16 4 (rest * 103 / 1024) mask (rest * 103 % 1024 * 64 + b * 103 / 1024) (b / 10) _ (omega arith) (omega arith)
+    (omega arith) (omega arith)
 
-hundreds : (a b n : ℕ) → n ≡ (0 * 2 ^ 32 + b) * 2 ^ 32 + a → a < 10000 → b < 10000 → bit_and (n * 5243 / 524288) (127 * 2 ^ 32 + 127) ≡ b / 100 * 2 ^ 32 + a / 100
+hundreds : (a b n : ℕ) → n ≡ (0 * 2 ^ 32 + b) * 2 ^ 32 + a → a < 10000 → b < 10000
+    → bit_and (n * 5243 / 524288) (127 * 2 ^ 32 + 127) ≡ b / 100 * 2 ^ 32 + a / 100
 hundreds a b n e first second = rw (e, hundredth a (0 * 2 ^ 32 + b) 127 first, hundredth b 0 0 second) (omega arith)
 
 -- two numbers of four digits, divided by 100

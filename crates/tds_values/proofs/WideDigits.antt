@@ -1,13 +1,25 @@
 -- Forty digits of a number, and its text in them.
-use Rattle.{tds_values.{proofs.{Words.{◌≡◌, inl, inr, ℕ, zero, suc, ◌+◌, ◌-◌, ◌/◌, ◌%◌, ◌^◌, ◌<◌, ◌≤◌, List, [], ◌∷◌, ◌++◌, take, drop, length, get_or, refl, sym, ap, ◌∙◌, arith, false, append_assoc, cases_lt, ⊎_elim, decimal, nat_tests, div-eq_of_lt, le-div, div_below, drop-take, take-take, one-le-pow, pow-add, cond}, DigitLemmas.{decimal_last, last_digits-add, last_digits-mod}, TextLengths.length-last_digits}, specs.ScalarText.{last_digits, is_zero}}, std.{proofs.{Common.take_all, Math.Seq.drop-append-add, lemmas.List.take-append-le}, specs.List.prefix_len}}
+use Rattle.tds_values.proofs.Words.{◌≡◌, inl, inr, ℕ, zero, suc, ◌+◌, ◌-◌, ◌/◌, ◌%◌, ◌^◌, ◌<◌, ◌≤◌, List, [], ◌∷◌, ◌++◌, take, drop, length, get_or}
+use Rattle.tds_values.proofs.Words.{refl, sym, ap, ◌∙◌, arith, false, append_assoc, cases_lt, ⊎_elim, decimal, nat_tests, div-eq_of_lt, le-div}
+use Rattle.tds_values.proofs.Words.{div_below, drop-take, take-take, one-le-pow, pow-add, cond}
+use Rattle.tds_values.proofs.DigitLemmas.{decimal_last, last_digits-add, last_digits-mod}
+use Rattle.tds_values.proofs.TextLengths.{length-last_digits}
+use Rattle.tds_values.specs.ScalarText.{last_digits, is_zero}
+use Rattle.std.proofs.Common.{take_all}
+use Rattle.std.proofs.Math.Seq.{drop-append-add}
+use Rattle.std.proofs.lemmas.List.{take-append-le}
+use Rattle.std.specs.List.{prefix_len}
 
 -- eight more digits after some
-eight_more : (k n : ℕ) {m g : ℕ} (t : List ℕ) {x y : List ℕ} → m ≡ n / 10 ^ 8 → g ≡ n % 10 ^ 8 → x ≡ t ++ last_digits k m → y ≡ x ++ last_digits 8 g → y ≡ t ++ last_digits (k + 8) n
+eight_more : (k n : ℕ) {m g : ℕ} (t : List ℕ) {x y : List ℕ} → m ≡ n / 10 ^ 8 → g ≡ n % 10 ^ 8 → x ≡ t ++ last_digits k m → y ≡ x ++ last_digits 8 g
+    → y ≡ t ++ last_digits (k + 8) n
 eight_more k n t em eg ex ey = rw (ey, ex, em, eg, append_assoc, last_digits-mod 8 n, ← last_digits-add k 8 n)
 
 -- five groups of eight digits, one after the other
-pub forty : (n : ℕ) {gs t1 t2 t3 t4 t5 : List ℕ} → gs ≡ n / 10 ^ 32 ∷ n / 10 ^ 24 % 10 ^ 8 ∷ n / 10 ^ 16 % 10 ^ 8 ∷ n / 10 ^ 8 % 10 ^ 8 ∷ n % 10 ^ 8 ∷ [] → t1 ≡ last_digits 8 (get_or gs 0 0)
-    → t2 ≡ t1 ++ last_digits 8 (get_or gs 1 0) → t3 ≡ t2 ++ last_digits 8 (get_or gs 2 0) → t4 ≡ t3 ++ last_digits 8 (get_or gs 3 0) → t5 ≡ t4 ++ last_digits 8 (get_or gs 4 0) → t5 ≡ last_digits 40 n
+pub forty : (n : ℕ) {gs t1 t2 t3 t4 t5 : List ℕ}
+    → gs ≡ n / 10 ^ 32 ∷ n / 10 ^ 24 % 10 ^ 8 ∷ n / 10 ^ 16 % 10 ^ 8 ∷ n / 10 ^ 8 % 10 ^ 8 ∷ n % 10 ^ 8 ∷ [] → t1 ≡ last_digits 8 (get_or gs 0 0)
+    → t2 ≡ t1 ++ last_digits 8 (get_or gs 1 0) → t3 ≡ t2 ++ last_digits 8 (get_or gs 2 0) → t4 ≡ t3 ++ last_digits 8 (get_or gs 3 0)
+    → t5 ≡ t4 ++ last_digits 8 (get_or gs 4 0) → t5 ≡ last_digits 40 n
 forty n is a b c d e =
     eight_more 32 n [] refl (ap (λ gs. get_or gs 4 0) is)
     (eight_more 24 (n / 10 ^ 8) {m = n / 10 ^ 16} [] (omega arith) (ap (λ gs. get_or gs 3 0) is)
@@ -19,7 +31,8 @@ one_more : (k n : ℕ) → last_digits (suc k) n ≡ (48 + n / 10 ^ k % 10) ∷ 
 one_more k n = grind (arith, (last_digits-add 1 k n))
 
 -- the text of a number is what follows the zeros before its digits, of which the last stays
-pub after_zeros : (k n : ℕ) → n < 10 ^ suc k → n < 10 ^ 64 → drop (prefix_len is_zero (take k (last_digits (suc k) n))) (last_digits (suc k) n) ≡ decimal n
+pub after_zeros : (k n : ℕ) → n < 10 ^ suc k → n < 10 ^ 64
+    → drop (prefix_len is_zero (take k (last_digits (suc k) n))) (last_digits (suc k) n) ≡ decimal n
 after_zeros zero n small fits = sym (decimal_last zero n (inl refl) small fits)
 after_zeros (suc k) n small fits =
     ⊎_elim
@@ -46,13 +59,16 @@ whole_fits n scale k fits e =
     (div_below n _ (10 ^ suc k) (one-le-pow scale 10 (omega arith)) (omega arith), omega arith)
 
 -- the text before the point
-pub whole_part : (n scale : ℕ) {ds : List ℕ} {first : ℕ} → n < 2 ^ 128 → scale ≤ 38 → ds ≡ last_digits 40 n → first ≤ 40 - scale - 1 → first ≡ prefix_len is_zero (take (40 - scale - 1) ds) → take (40 - scale - first) (drop first ds) ≡ decimal (n / 10 ^ scale)
+pub whole_part : (n scale : ℕ) {ds : List ℕ} {first : ℕ} → n < 2 ^ 128 → scale ≤ 38 → ds ≡ last_digits 40 n → first ≤ 40 - scale - 1
+    → first ≡ prefix_len is_zero (take (40 - scale - 1) ds) → take (40 - scale - first) (drop first ds) ≡ decimal (n / 10 ^ scale)
 whole_part n scale {ds} {first} fits small is few zeros =
     let k = 40 - scale - 1 in
     let w = n / 10 ^ scale in
     let e : suc k + scale ≡ 40 = omega arith in
     let long = length-last_digits (suc k) w in
-    let front : take (suc k) ds ≡ last_digits (suc k) w = rw (is ∙ split n scale k e, take-append-le (suc k) (last_digits (suc k) w) (last_digits scale n) (omega arith)) (take_all (suc k) (last_digits (suc k) w) (omega arith)) in
+    let front : take (suc k) ds ≡ last_digits (suc k) w =
+    rw (is ∙ split n scale k e, take-append-le (suc k) (last_digits (suc k) w) (last_digits scale n) (omega arith))
+    (take_all (suc k) (last_digits (suc k) w) (omega arith)) in
     let some = rw front at (take-take k (suc k) ds (omega arith)) in
     let point : first + (40 - scale - first) ≡ suc k = omega arith in
     let bounds = whole_fits n scale k fits e in
@@ -64,4 +80,5 @@ fraction_part n scale {ds} small is =
     let k = 40 - scale - 1 in
     let e : suc k + scale ≡ 40 = omega arith in
     let same : 40 - scale ≡ length (last_digits (suc k) (n / 10 ^ scale)) + 0 = omega (arith, length-last_digits (suc k) (n / 10 ^ scale)) in
-    ap (drop (40 - scale)) (is ∙ split n scale k e) ∙ ap (λ j. drop j (last_digits (suc k) (n / 10 ^ scale) ++ last_digits scale n)) same ∙ drop-append-add (last_digits (suc k) (n / 10 ^ scale)) (last_digits scale n) 0
+    ap (drop (40 - scale)) (is ∙ split n scale k e) ∙ ap (λ j. drop j (last_digits (suc k) (n / 10 ^ scale) ++ last_digits scale n)) same
+    ∙ drop-append-add (last_digits (suc k) (n / 10 ^ scale)) (last_digits scale n) 0

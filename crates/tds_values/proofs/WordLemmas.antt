@@ -1,5 +1,8 @@
 -- Digits as the bytes of one number.
-use Rattle.tds_values.proofs.{Words.{add-suc, ◌≡◌, ℕ, zero, suc, ◌+◌, ◌*◌, ◌/◌, ◌%◌, ◌^◌, ◌<◌, List, [], ◌∷◌, ◌++◌, refl, arith, take, length, pow-succ', div-div-eq-div-mul, bytes_low_first, All, All-head, All-nil, All-push, All-tail, last_digits}, DigitLemmas.last_digits-add, TextLengths.length-last_digits}
+use Rattle.tds_values.proofs.Words.{add-suc, ◌≡◌, ℕ, zero, suc, ◌+◌, ◌*◌, ◌/◌, ◌%◌, ◌^◌, ◌<◌, List, [], ◌∷◌, ◌++◌, refl, arith, take, length}
+use Rattle.tds_values.proofs.Words.{pow-succ', div-div-eq-div-mul, bytes_low_first, All, All-head, All-nil, All-push, All-tail, last_digits}
+use Rattle.tds_values.proofs.DigitLemmas.{last_digits-add}
+use Rattle.tds_values.proofs.TextLengths.{length-last_digits}
 
 -- the number whose bytes these are, the first the lowest
 abbrev pub word_of : List ℕ → ℕ
@@ -34,7 +37,10 @@ shifted xs ys h g = rw (word_of-shift xs ys h) (bytes_of-word_of ys g)
 -- of a digits in a word, a shift leaves the last k
 pub shifted_digits : (a k n : ℕ) → bytes_of k (word_of (last_digits (a + k) n) / 256 ^ a) ≡ last_digits k n
 shifted_digits a k n =
-    rw (last_digits-add a k n) (rw (length-last_digits k n, length-last_digits a (n / 10 ^ k)) at (shifted _ _ (digits_are_bytes a (n / 10 ^ k)) (digits_are_bytes k n)))
+    rw (last_digits-add a k n) (rw (
+      length-last_digits k n,
+      length-last_digits a (n / 10 ^ k),
+    ) at (shifted _ _ (digits_are_bytes a (n / 10 ^ k)) (digits_are_bytes k n)))
 
 pub take-bytes_of : (j k w : ℕ) → take k (bytes_of (j + k) w) ≡ bytes_of k w
 take-bytes_of j zero w = refl

@@ -1,5 +1,8 @@
 -- What the bytes of a kind spell is written, or its fault answered.
-use Rattle.tds_values.proofs.{Words.{Result, ◌≡◌, ℕ, ◌/◌, ◌%◌, ◌^◌, ◌≤◌, List, ◌++◌, nat_lt, ℤ, codes, Some, Ok, arith, one-le-pow, div_below, le-div, IfOk, ScalarValue, text_of, seconds_text, fraction_text, date_and_time, offset_text, local_seconds, ValueFault, is_time, IsText, IsWritten}, LocalLemmas.{units_of_seconds, text_of_seconds}}
+use Rattle.tds_values.proofs.Words.{Result, ◌≡◌, ℕ, ◌/◌, ◌%◌, ◌^◌, ◌≤◌, List, ◌++◌, nat_lt, ℤ, codes, Some, Ok, arith, one-le-pow, div_below, le-div}
+use Rattle.tds_values.proofs.Words.{IfOk, ScalarValue, text_of, seconds_text, fraction_text, date_and_time, offset_text, local_seconds, ValueFault}
+use Rattle.tds_values.proofs.Words.{is_time, IsText, IsWritten}
+use Rattle.tds_values.proofs.LocalLemmas.{units_of_seconds, text_of_seconds}
 use Rattle.tds_values.specs.declared.scalar.ScalarValue.TheVariants as values
 
 -- whole seconds tell whether they lie in a day
@@ -10,7 +13,8 @@ time_by_seconds scale units s =
 
 -- the text of a local time by its seconds
 pub local_spelt : (scale units day seconds l : ℕ) (offset : ℤ) → seconds ≡ units / 10 ^ scale → local_seconds seconds day offset ≡ Some l
-    → date_and_time (l / 86400) (seconds_text (l % 86400) ++ fraction_text scale units) ++ codes " " ++ offset_text offset ≡ text_of (values.DateTimeOffset scale units day offset)
+    → date_and_time (l / 86400) (seconds_text (l % 86400) ++ fraction_text scale units) ++ codes " " ++ offset_text offset ≡ text_of
+    (values.DateTimeOffset scale units day offset)
 local_spelt scale units day seconds l offset es some =
     cc (text_of_seconds scale l units, units_of_seconds scale units day l offset (rw es at some))
 

@@ -1,5 +1,8 @@
 -- The zeros before a number's digits, counted as the zero bits of one number.
-use Rattle.tds_values.proofs.{Words.{suc-add, add-zero, zero-add, ◌≡◌, ◌⊎◌, inl, inr, ℕ, zero, suc, ◌+◌, ◌-◌, ◌*◌, ◌/◌, ◌%◌, ◌^◌, ◌<◌, ◌≤◌, refl, ap, arith, ⊎_elim, pow-succ', one-le-pow, div-eq_of_lt, div_below, le-div, cases_lt, under, last_digits}, DigitLemmas.last_digits-add, WordLemmas.word_of}
+use Rattle.tds_values.proofs.Words.{suc-add, add-zero, zero-add, ◌≡◌, ◌⊎◌, inl, inr, ℕ, zero, suc, ◌+◌, ◌-◌, ◌*◌, ◌/◌, ◌%◌, ◌^◌, ◌<◌, ◌≤◌, refl, ap}
+use Rattle.tds_values.proofs.Words.{arith, ⊎_elim, pow-succ', one-le-pow, div-eq_of_lt, div_below, le-div, cases_lt, under, last_digits}
+use Rattle.tds_values.proofs.DigitLemmas.{last_digits-add}
+use Rattle.tds_values.proofs.WordLemmas.{word_of}
 use lib.Count.{count_trailing_zeros}
 
 -- the values of the last k + 1 digits as the bytes of a number, the first the lowest, and a bit more in the last
@@ -61,7 +64,10 @@ needless (suc k) n h =
     let same : d % 10 ≡ d = omega arith in
     let width : 8 * suc (suc k) ≡ 8 + 8 * suc k = omega arith in
     rw (width, same) (⊎_elim
-    (λ less. let none : d ≡ 0 = div-eq_of_lt less in rw (none, zero-add) (next k n _ _ (omega (arith, low_zeros 8 (8 * suc k) v)) (needless k n less)))
+    (λ less. let none : d ≡ 0 = div-eq_of_lt less in rw (
+      none,
+      zero-add,
+    ) (next k n _ _ (omega (arith, low_zeros 8 (8 * suc k) v)) (needless k n less)))
     (λ more. first_set (suc k) n _ (low_bit 8 (8 * suc k) d v (le-div 1 n (10 ^ suc k) some (omega arith)) (omega arith)) h (inr more))
     (cases_lt n (10 ^ suc k)))
 

@@ -1,5 +1,6 @@
 -- TYPE_INFO: a type byte, and the bytes that describe it further (MS-TDS, Type Info Rule Definition).
-use Rattle.std.specs.Prelude.{◌≡◌, ℕ, ◌==◌, ◌||◌, ◌&&◌, Bool, List, [], ◌∷◌, length, slice_index, Option, Some, None, if◌then◌else◌, option_and_then, is_some}
+use Rattle.std.specs.Prelude.{◌≡◌, ℕ, ◌==◌, ◌||◌, ◌&&◌, Bool, List, [], ◌∷◌, length, slice_index, Option, Some, None, if◌then◌else◌, option_and_then}
+use Rattle.std.specs.Prelude.{is_some}
 use Rattle.byteorder.specs.Endian.{little_number}
 use Rattle.tds_values.specs.declared.kind.Kind.{Kind}
 use Rattle.tds_values.specs.declared.kind.Kind.TheVariants as kinds

@@ -10,11 +10,9 @@ from __future__ import annotations
 
 import argparse
 import os
-import sys
 
 from gavyreto.adapting import Adapter
-from gavyreto.commands import BAD_INPUT, FAILED, INTERRUPTED, say
-from gavyreto.payload import Ended
+from gavyreto.commands.common import BAD_INPUT, FAILED, REFUSED, STANDARD_OUTPUT, STREAMS, Stopped, cause_of, is_one_file, needed, open_response
 from gavyreto.program import CHARSETS, write_all
 
 
@@ -27,25 +25,30 @@ def arguments(words: list[str]) -> argparse.Namespace:
 
 
 def adapt(asked: argparse.Namespace) -> None:
-    source = open(0 if asked.file == "-" else asked.file, "rb", closefd=asked.file != "-")
-    target = 1 if not asked.output else os.open(asked.output, os.O_WRONLY | os.O_CREAT | os.O_TRUNC, 0o666)
-    with source:
-        Adapter(source.read, lambda data: write_all(target, data), asked.charset).run()
+    out = asked.output or needed(STANDARD_OUTPUT)
+    name = asked.output or STREAMS[STANDARD_OUTPUT]
+    with open_response(asked.file) as source:
+        if is_one_file(out, source.fileno()):
+            raise Stopped(f"{name}: the response is read from it", REFUSED)
+        try:
+            target = out if isinstance(out, int) else os.open(out, os.O_WRONLY | os.O_CREAT | os.O_TRUNC, 0o666)
+        except OSError as failure:
+            raise Stopped(f"{name}: {cause_of(failure)}", FAILED) from None
+
+        def write(data: bytes) -> None:
+            try:
+                write_all(target, data)
+            except OSError as failure:
+                raise Stopped(f"{name}: {cause_of(failure)}", FAILED) from None
+
+        Adapter(source.read, write, asked.charset).run()
 
 
 def run(words: list[str]) -> int:
-    """The command `adapt`. Returns its exit status."""
+    """The command `adapt`. Returns its exit status, or raises what ended it."""
     asked = arguments(words)
     try:
         adapt(asked)
-        return 0
-    except Ended:
-        line, status = "the response ends before its last packet", BAD_INPUT
     except ValueError as wrong:
-        line, status = f"the response can't be followed: {wrong}", BAD_INPUT
-    except OSError as failure:
-        line, status = f"{failure.filename or 'a read or a write failed'}: {failure.strerror}", FAILED
-    except KeyboardInterrupt:
-        line, status = "interrupted", INTERRUPTED
-    say(line + "\n")
-    return status
+        raise Stopped(f"the response can't be followed: {wrong}", BAD_INPUT) from None
+    return 0

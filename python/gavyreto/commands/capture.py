@@ -1,171 +1,241 @@
 """Exports the answers of servers in a capture of the network: one text for each response, and a table.
 
 FILE is a capture (pcap or pcapng), the dump of a client of FreeTDS (what the variable TDSDUMP names), or all that a server sent on
-one connection, as a proxy keeps it. The text of a response is CLIENT-SERVER.NUMBER.csv in the folder OUT, or answer.NUMBER.csv where
-client and server aren't known, with .partial after it if the response can't be read to its end. Standard
-output gets a table as CSV, a line for each response as it ends: its text, client, server, the time of its first byte (UTC), the
-first words of the statement if the client's side is there, the status of tds_replay, and the first line that it says; and a line
-for bytes of a server that can't be read, since they are encrypted, or lack what comes before them, and for a last statement without
-an answer. Of answers to greetings and logins nothing is said.
+one connection, as a proxy keeps it; it may be compressed by gzip, and - is standard input. The text of a response is
+CLIENT-SERVER.NUMBER.csv in the folder OUT, or answer.NUMBER.csv where client and server aren't known, with .partial after it if the
+response can't be read to its end; with --packets its packets are beside it, as CLIENT-SERVER.NUMBER.tds. Standard output gets a
+table as CSV, a line for each response as it ends: its text, client, server, the time of its first byte (UTC), the first words of
+the statement if the client's side is there, the status, and the first line that tds_replay says. Each request without an answer
+has a line too, and so has whatever isn't read: bytes that are encrypted, that lack what comes before them, or that came again with
+other values. Of several copies of a byte the first counts.
 
-The memory doesn't grow with a connection. tcpflow puts segments in order (Debian's package tcpflow-nox).
+Standard error tells of frames that aren't read, by the reason, and ends with the sums of frames, connections, requests and bytes of
+servers. The memory doesn't grow with the capture, nor with an answer.
 
-The status is the greatest of them: 0, 3 if the server reported an error in a response, 4 if something can't be read, 5 if a
-read, a write or the program failed; 2 if the arguments are refused, 130 after Ctrl-C."""
+The status is the greatest of them: 0 if every answer is whole and nothing else had to be told, 3 if the server reported an error in
+a response or the response was cancelled, 4 if something can't be read, 5 if a read, a write or the program failed, or a sum doesn't
+meet; 2 if the arguments are refused, 130 after Ctrl-C, 143 after SIGTERM."""
 from __future__ import annotations
 
 import argparse
 import contextlib
 import os
-import subprocess
-import sys
+import signal
 import tempfile
-from datetime import datetime, timezone
-from typing import IO, Callable, Iterable, Iterator, NamedTuple, Optional, Union, cast
+from collections.abc import Iterator
+from datetime import datetime, timedelta, timezone
+from types import FrameType
+from typing import NoReturn, Optional, cast
 
-from gavyreto import capturing, program, tds
-from gavyreto.capturing import Answer, Lost
-from gavyreto.commands import BAD_INPUT, FAILED, INTERRUPTED, REFUSED, say
-from gavyreto.commands.columns import line
-from gavyreto.commands.query import Stopped, checked_program, number_in
-from gavyreto.exporting import Outcome, judged
+from gavyreto import program, tds
+from gavyreto.adapting import Adapter
+from gavyreto.capturing import dumps, files
+from gavyreto.capturing.accounts import Accounts
+from gavyreto.capturing.connections import Connections
+from gavyreto.capturing.conversations import Answer, Sides
+from gavyreto.capturing.frames import WRONG_CHECKSUM
+from gavyreto.capturing.keeping import Kept, Room
+from gavyreto.capturing.messages import is_header
+from gavyreto.commands.common import (
+    BAD_INPUT, FAILED, OF_SIGNAL, REFUSED, SERVER_ERROR, Ending, Stopped, add_options_of_program, checked_program, judged, line, number_in,
+    put, tell,
+)
+from gavyreto.payload import Ended
+from gavyreto.tds import PacketType
 
 HEADER = ("text", "client", "server", "time", "statement", "status", "line")
-CAPTURES = (b"\xD4\xC3\xB2\xA1", b"\xA1\xB2\xC3\xD4", b"\x4D\x3C\xB2\xA1", b"\xA1\xB2\x3C\x4D", b"\x0A\x0D\x0D\x0A")
-GREETING = "fault 6 RefusedToken 0x00 at payload 0,"  # the first byte of an answer to a greeting, which has no tokens
-LOGIN = "fault 6 RefusedToken 0xad "  # LOGINACK, which no answer to a statement has
-Put = Callable[..., None]
+TERMINATED = OF_SIGNAL + signal.SIGTERM
+EPOCH = datetime(1970, 1, 1, tzinfo=timezone.utc)
 
 
-class Sides(NamedTuple):
-    """A connection in the table and in the names of texts."""
-
-    client: str
-    server: str
-
-    def name(self) -> str:
-        return f"{self.client}-{self.server}".replace(":", "_").replace("/", "_") if self.client else "answer"
+class Terminated(BaseException):
+    """SIGTERM came."""
 
 
 class Export:
     """Exports answers to texts in a folder, and puts a line into the table for each."""
 
-    def __init__(self, asked: argparse.Namespace) -> None:
+    def __init__(self, asked: argparse.Namespace, room: Room) -> None:
         self.worst = 0
-        self._folder = asked.out
-        self._command = program.command_of(asked.program, program.PACKET_SIZE, asked.column_room, program.MAX_WIRE, asked.charset)
+        self._asked, self._room = asked, room
         self._counts: dict[str, int] = {}
 
-    def connection(self, sides: Sides, found: Iterable[Union[Answer, Lost]]) -> None:
-        for it in found:
-            if isinstance(it, Lost):
-                self._put(None, sides, it.time, it.statement, BAD_INPUT, it.why)
-            else:
-                self._answer(sides, it)
+    def keep(self) -> Kept:
+        """Where the packets of an answer go."""
+        return Kept(self._room)
 
-    def _answer(self, sides: Sides, answer: Answer) -> None:
-        unfinished = os.path.join(self._folder, f"{os.getpid()}.unfinished")
-        try:
-            outcome = self._run(answer.packets, unfinished)
-            if outcome.line.startswith((GREETING, LOGIN)):
-                return
-            name = self._next_name(sides) + ("" if outcome.status in (0, 3) else ".partial")
-            os.replace(unfinished, os.path.join(self._folder, name))
-            self._put(name, sides, answer.time, answer.statement, outcome.status, outcome.line)
-        finally:
-            with contextlib.suppress(FileNotFoundError):
-                os.remove(unfinished)
+    def tell(self, sides: Sides, time: int, why: str, statement: str = "") -> None:
+        """Puts a line for what isn't read."""
+        self._put(None, sides, time, statement, BAD_INPUT, why)
 
-    def _run(self, packets: Iterator[bytes], unfinished: str) -> Outcome:
-        """Runs the program on an answer. What it needs no more of is left."""
-        with open(unfinished, "wb") as out:
-            run = subprocess.Popen(self._command, bufsize=0, stdin=subprocess.PIPE, stdout=out, stderr=subprocess.PIPE, start_new_session=True)
-        with contextlib.suppress(BrokenPipeError), cast("IO[bytes]", run.stdin) as pipe:
-            program.widen(pipe)
-            for packet in packets:
-                program.write_all(pipe.fileno(), packet)
-        with cast("IO[bytes]", run.stderr) as stderr:
-            notes = stderr.read().decode("utf-8", "replace")
-        return judged(unfinished, run.wait(), notes, os.path.getsize(unfinished))
+    def answer(self, sides: Sides, answer: Answer) -> None:
+        """Exports an answer whose packets are kept."""
+        kept = cast(Kept, answer.kept)
+        run, packets = kept.piped(), ""
+        if run is None:
+            packets = kept.file()
+            if self._asked.adapt:
+                self._adapt(packets)
+            run = self._room.run(packets)
+        status, notes = run.end()
+        outcome = self._outcome(judged(status, notes, os.path.getsize(run.text)), answer)
+        name = self._next_name(sides)
+        ending = ".csv" if outcome.status in (0, SERVER_ERROR) else ".csv.partial"
+        os.replace(run.text, os.path.join(self._asked.out, name + ending))
+        if self._asked.packets:
+            os.replace(packets, os.path.join(self._asked.out, name + ".tds"))
+        kept.drop()
+        self._put(name + ending, sides, answer.time, answer.words(), outcome.status, outcome.line)
+
+    def _adapt(self, packets: str) -> None:
+        """Rewrites columns that the program refuses. What can't be followed stays as it is, and the program says why."""
+        adapted = packets + ".adapted"
+        with contextlib.suppress(ValueError, KeyError, Ended):
+            with open(packets, "rb") as source, open(adapted, "wb") as target:
+                Adapter(source.read, target.write, self._asked.charset).run()
+            os.replace(adapted, packets)
+
+    def _outcome(self, outcome: Ending, answer: Answer) -> Ending:
+        """The outcome of an answer, with what its packets say of its end."""
+        if outcome.status == FAILED or outcome.status > BAD_INPUT:
+            return outcome
+        if answer.why:
+            return outcome._replace(status=BAD_INPUT, line=f"{answer.why}: {outcome.line}")
+        unfinished = tds.unfinished(answer.packets.tail) if outcome.status == 0 else None
+        if unfinished:
+            return outcome._replace(status=SERVER_ERROR, line=f"{outcome.line}, {unfinished}")
+        return outcome
 
     def _next_name(self, sides: Sides) -> str:
-        number = self._counts[sides.name()] = self._counts.get(sides.name(), 0) + 1
-        return f"{sides.name()}.{number}.csv"
+        stem = f"{sides.client}-{sides.server}".replace(":", "_") if sides.client else "answer"
+        number = self._counts[stem] = self._counts.get(stem, 0) + 1
+        return f"{stem}.{number}"
 
-    def _put(self, text: Optional[str], sides: Sides, time: float, statement: str, status: int, said: str) -> None:
-        moment = datetime.fromtimestamp(time, timezone.utc).strftime("%Y-%m-%d %H:%M:%S.%f") if time else None
-        put(line((text, sides.client or None, sides.server or None, moment, statement or None, status, said)))
-        self.worst = max(self.worst, status if status in (0, 3, BAD_INPUT) else FAILED)
+    def _put(self, text: Optional[str], sides: Sides, time: int, statement: str, status: int, said: str) -> None:
+        put(line((text, sides.client or None, sides.server or None, moment_of(time), statement or None, status, said)))
+        self.note(status)
+
+    def note(self, status: int) -> None:
+        """Something came to a status."""
+        self.worst = max(self.worst, status if status in (0, SERVER_ERROR, BAD_INPUT) else FAILED)
 
 
-def put(text: str) -> None:
-    program.write_all(1, text.encode("utf-8"))
+def moment_of(time: int) -> Optional[str]:
+    """A time as it is written, or None if there is none that a calendar has."""
+    try:
+        return (EPOCH + timedelta(microseconds=time)).strftime("%Y-%m-%d %H:%M:%S.%f") if time else None
+    except OverflowError:
+        return None
+
+
+class Notes:
+    """Lines for standard error, each with a status."""
+
+    def __init__(self, export: Export) -> None:
+        self._export = export
+
+    def add(self, text: str, status: int = 0) -> None:
+        tell(text)
+        self._export.note(status)
 
 
 def capture(asked: argparse.Namespace) -> int:
     """Exports a capture or a dump, and returns the greatest status."""
-    with open(asked.file, "rb") as file:
-        head = file.read(4096)
-    os.makedirs(asked.out, exist_ok=True)
-    left = [name for name in os.listdir(asked.out) if name.endswith((".csv", ".partial"))]
-    if left:
-        raise Stopped(f"{asked.out} has texts, as {left[0]}: name a folder without them", REFUSED)
-    export = Export(asked)
-    if head.startswith(CAPTURES):
-        with tempfile.TemporaryDirectory(prefix="unfinished", dir=asked.out) as folder:
-            ports = set(asked.port or [1433])
-            if not export_connections(export, capturing.connections(asked.file, folder, ports)):
-                raise Stopped(f"{asked.file} has no server on port {', '.join(map(str, sorted(ports)))}: --port names another", BAD_INPUT)
-    elif b"packet" in head and b"\0" not in head:
-        put(line(HEADER))
-        with open(asked.file, encoding="latin-1", newline="\n") as lines:
-            export.connection(Sides("", ""), capturing.dumped(lines))
-    elif capturing.is_header(head[:tds.HEADER], (tds.PacketType.ANSWER,)):
-        put(line(HEADER))
-        export.connection(Sides("", ""), capturing.answers(capturing.recorded(asked.file)))
-    else:
-        raise Stopped(f"{asked.file} is neither a capture (pcap or pcapng), nor a dump of FreeTDS, nor what a server sent", REFUSED)
+    with files.opened(asked.file) as file:
+        source = files.Source(file)
+        os.makedirs(asked.out, exist_ok=True)
+        left = [name for name in os.listdir(asked.out) if name.endswith((".csv", ".partial", ".tds"))]
+        if left:
+            raise Stopped(f"{asked.out} has texts, as {left[0]}: name a folder without them", REFUSED)
+        with tempfile.TemporaryDirectory(prefix="unfinished", dir=asked.out) as folder, contextlib.ExitStack() as stack:
+            command = program.command_of(asked.program, program.PACKET_SIZE, asked.column_room, program.MAX_WIRE, asked.charset)
+            room = stack.enter_context(Room(folder, command, not asked.packets and not asked.adapt))
+            export, accounts = Export(asked, room), Accounts()
+            notes = Notes(export)
+            if files.is_capture(source.head()):
+                take_capture(source, export, accounts, notes, set(asked.port or [1433]))
+            elif is_header(source.head(), (PacketType.ANSWER,)):
+                put(line(HEADER))
+                dumps.take_recorded(source, export, accounts)
+            elif not take_dump(source, export, accounts, notes):
+                raise Stopped(f"{asked.file} is neither a capture (pcap or pcapng), nor a dump of FreeTDS, nor what a server sent", REFUSED)
+    notes.add(accounts.line())
+    if not accounts.meets():
+        notes.add("the sums don't meet", FAILED)
     return export.worst
 
 
-def export_connections(export: Export, connections: Iterator[capturing.Connection]) -> int:
-    """Exports the answers of each connection. Returns how many connections there are."""
-    count = 0
-    for count, connection in enumerate(connections, 1):
-        if count == 1:
-            put(line(HEADER))
-        sides = Sides(*(f"{host}.{port}" for host, port in (connection.client, connection.server)))
-        export.connection(sides, capturing.answers(connection))
-    return count
+def take_capture(source: files.Source, export: Export, accounts: Accounts, notes: Notes, ports: set[int]) -> None:
+    """Exports the answers in a capture."""
+    connections, cut = Connections(ports, export, accounts), ""
+    put(line(HEADER))
+    try:
+        for frame in files.frames(source):
+            connections.take(frame)
+    except files.CutShort as why:
+        cut = str(why)
+    connections.finish()
+    for reason, count in accounts.unread.most_common():
+        notes.add(f"{count} frames aren't read: {reason}", 0 if reason == WRONG_CHECKSUM else BAD_INPUT)
+    if connections.cut:
+        notes.add(f"{connections.cut} frames weren't captured whole: `tcpdump -s 0` keeps all of them", BAD_INPUT)
+    others = ", ".join(str(port) for port, _ in connections.others.most_common())
+    asked = ", ".join(map(str, sorted(ports)))
+    if not accounts.connections:
+        notes.add(f"no server on port {asked}" + (f"; what looks like TDS is on port {others}" if others else "") + ": --port names another", BAD_INPUT)
+    elif others:
+        notes.add(f"what looks like TDS is on port {others} too: --port names others than {asked}")
+    if cut:
+        notes.add(cut, BAD_INPUT)
+
+
+def take_dump(source: files.Source, export: Export, accounts: Accounts, notes: Notes) -> bool:
+    """Exports the answers in a dump. Returns whether it is one."""
+    packets = dumps.dumped(source.lines())
+    first = next(packets, None)
+    if first is None:
+        return False
+    put(line(HEADER))
+    try:
+        dumps.take_packets(first, packets, export, accounts)
+    except dumps.Mixed as why:
+        notes.add(f"{why}: the packets of several connections are mixed, or some are lacking, and the rest isn't read", BAD_INPUT)
+    return True
 
 
 def arguments(words: list[str]) -> argparse.Namespace:
     parser = argparse.ArgumentParser(prog="gavyreto capture", description=__doc__, formatter_class=argparse.RawDescriptionHelpFormatter)
     add = parser.add_argument
     add("--port", metavar="N", type=number_in(1, 65535), action="append", help="of servers, without it 1433; more than once for several")
-    add("--column-room", metavar="N", type=number_in(10, 67108864), default=program.COLUMN_ROOM, help="as of tds_replay")
-    add("--charset", choices=program.CHARSETS, default=program.CHARSETS[0], help="of char and varchar")
-    add("--program", metavar="FILE", default=program.PROGRAM, help="tds_replay, without it that of the path")
-    add("file", metavar="FILE", help="the capture or dump")
+    add("--packets", action="store_true", help="keep the packets of each response beside its text, for columns, adapt and many")
+    add("--adapt", action="store_true", help="rewrite columns that tds_replay refuses, as the command adapt does; the packets kept are those rewritten")
+    add_options_of_program(parser)
+    add("file", metavar="FILE", help="the capture or dump, or - for standard input")
     add("out", metavar="OUT", help="the folder of the texts, which is made if it isn't there")
     return parser.parse_args(words)
 
 
+@contextlib.contextmanager
+def ending_by_signal() -> Iterator[None]:
+    """SIGTERM ends what is under way as Ctrl-C does."""
+    def end(_: int, __: Optional[FrameType]) -> NoReturn:
+        raise Terminated
+
+    before = signal.signal(signal.SIGTERM, end)
+    try:
+        yield
+    finally:
+        signal.signal(signal.SIGTERM, before)
+
+
 def run(words: list[str]) -> int:
     """The command `capture`. Returns its exit status."""
+    asked = arguments(words)
+    asked.program = checked_program(asked.program)
     try:
-        asked = arguments(words)
-        asked.program = checked_program(asked.program)
-        return capture(asked)
-    except Stopped as stop:
-        said, status = str(stop), stop.status
-    except ValueError as wrong:
-        said, status = f"{asked.file}: {wrong}", BAD_INPUT
-    except OSError as failure:
-        said, status = f"{failure.filename or 'standard output'}: {failure.strerror}", FAILED
-        if failure.filename == capturing.TCPFLOW:
-            said, status = "tcpflow isn't there: Debian's package tcpflow-nox has it", REFUSED
-    except KeyboardInterrupt:
-        said, status = "interrupted", INTERRUPTED
-    say(said + "\n")
-    return status
+        with ending_by_signal():
+            return capture(asked)
+    except files.CutShort as cut:
+        raise Stopped(f"{asked.file}: {cut}", BAD_INPUT) from None
+    except Terminated:
+        raise Stopped("ended by SIGTERM", TERMINATED) from None

@@ -8,12 +8,11 @@ a table can't be made of the columns' names."""
 from __future__ import annotations
 
 import argparse
-import sys
-from typing import IO, Union
+from typing import IO
 
-from gavyreto.commands import BAD_INPUT, FAILED, REFUSED, say
 from gavyreto.columns import TABLES, Column, create_table
-from gavyreto.payload import Ended, Payload, descriptions
+from gavyreto.commands.common import BAD_INPUT, REFUSED, STANDARD_OUTPUT, Stopped, line, needed, open_response, put
+from gavyreto.payload import Payload, descriptions
 
 HEADER = ("set", "name", "type", "length", "precision", "scale", "nullable")
 
@@ -24,11 +23,6 @@ def arguments(words: list[str]) -> argparse.Namespace:
     parser.add_argument("--table", metavar="NAME", help="of the table, without it response; {} is the number of the set, from 1")
     parser.add_argument("file", metavar="FILE", nargs="?", default="-", help="the response; without it, or if it is -, standard input")
     return parser.parse_args(words)
-
-
-def line(values: tuple[Union[None, int, str], ...]) -> str:
-    """A line as tds_replay writes it."""
-    return ",".join("NULL" if it is None else str(it) if isinstance(it, int) else '"' + it.replace('"', '""') + '"' for it in values) + "\r\n"
 
 
 def as_csv(sets: list[list[Column]]) -> str:
@@ -51,25 +45,16 @@ def sets_of(file: IO[bytes]) -> list[list[Column]]:
 
 
 def run(words: list[str]) -> int:
-    """The command `columns`. Returns its exit status."""
+    """The command `columns`. Returns its exit status, or raises what ended it."""
     asked = arguments(words)
+    needed(STANDARD_OUTPUT)
     try:
-        with open(0 if asked.file == "-" else asked.file, "rb", closefd=asked.file != "-") as file:
+        with open_response(asked.file) as file:
             sets = sets_of(file)
-    except Ended:
-        return said("the response ends before its last packet", BAD_INPUT)
-    except (ValueError, KeyError) as wrong:
-        return said(f"the response can't be followed: {wrong}", BAD_INPUT)
-    except OSError as failure:
-        return said(f"{asked.file}: {failure.strerror}", FAILED)
+    except ValueError as wrong:
+        raise Stopped(f"the response can't be followed: {wrong}", BAD_INPUT) from None
     try:
-        text = as_csv(sets) if asked.form == "csv" else as_tables(sets, asked)
+        put(as_csv(sets) if asked.form == "csv" else as_tables(sets, asked))
     except ValueError as refused:
-        return said(str(refused), REFUSED)
-    sys.stdout.buffer.write(text.encode("utf-8"))
+        raise Stopped(str(refused), REFUSED) from None
     return 0
-
-
-def said(what: str, status: int) -> int:
-    say(what + "\n")
-    return status

@@ -2,74 +2,172 @@
 
 The text of FILE is FILE.csv in the folder OUT, where it gets its name when it is whole; a response that is refused leaves
 FILE.csv.partial. A folder stands for the files in it. The table OUT/outcomes.csv gets a line for each response as it ends: its
-file, the status of tds_replay, and the first line that it says. A command that was stopped goes on where it is begun again: what
-has its line and its text isn't done again.
+file, the status of tds_replay and the first line that it says; then the text, its bytes, size, time and inode of the file, the
+options and the program's version. A command that was stopped goes on where it is begun again: a response isn't done again
+whose line and text are there, and whose file, options and program are those of its line.
 
 The status is the greatest of them: 0, 3 if the server reported an error in a response, 4 if one was refused, 5 if one failed and
 has to be tried again; 2 if the arguments are refused, 130 after Ctrl-C."""
 from __future__ import annotations
 
 import argparse
-import csv
+import concurrent.futures
+import contextlib
 import fcntl
-import io
 import logging
 import os
 import re
 import sys
 import time
 from concurrent.futures import FIRST_COMPLETED, Future, ThreadPoolExecutor, wait
-from typing import Any, Iterable, Iterator, Optional
+from types import TracebackType
+from typing import Any, Iterator, NamedTuple, Optional, Union
 
 from gavyreto import program
-from gavyreto.commands import FAILED, INTERRUPTED, REFUSED, say
-from gavyreto.commands.query import Stopped, checked_program, number_in
-from gavyreto.exporting import BAD_INPUT, DONE, SERVER_ERROR, Outcome, export_file, text_name
+from gavyreto.commands.common import (
+    BAD_INPUT, DONE, FAILED, INTERRUPTED, REFUSED, SERVER_ERROR, Stopped, add_options_of_program, cause_of, checked_program, line, number_in, say,
+    tell,
+)
+from gavyreto.exporting import UNFINISHED, Outcome, Stamp, export_file, stamp_of, version_of
+from gavyreto.records import record_at
+from gavyreto.values import value_of
 
 TABLE = "outcomes.csv"
-HEADER = ["file", "status", "line"]
+TEXT, PARTIAL = ".csv", ".csv.partial"  # behind the name of a file, that of its text
+SECONDS_OF_SCHEDULER = 30  # the longest that it may be silent, or that its file is waited for
+LONGEST_LINE = 1 << 16  # bytes of a line of the table, more than any has
+
+
+class Record(NamedTuple):
+    """A line of the table: an outcome, and what it was made of. NULL stands for a text that isn't there."""
+
+    file: str
+    status: int
+    line: str
+    text: Optional[str]
+    written: int
+    size: int
+    time: int
+    inode: int
+    options: str
+    program: str
+
+    def stamp(self) -> Stamp:
+        return Stamp(self.size, self.time, self.inode)
+
+
+HEADER = line(Record._fields).encode()
 
 
 class Table:
-    """The table of outcomes. Its lines are written whole; those of files that are to be done again are left out."""
+    """The table of outcomes, and the texts that it tells of. Its lines are written whole."""
 
-    def __init__(self, folder: str) -> None:
+    def __init__(self, folder: str, options: str, version: str) -> None:
         self._path, self._folder = os.path.join(folder, TABLE), folder
-        self.done = {it.file: it for it in self._lines() if self._is_done(it)}
-        with open(self._path + ".unfinished", "wb") as file:
-            file.write(b"".join(map(line_of, [HEADER, *self.done.values()])))
-        os.replace(file.name, self._path)
-        self._file = open(self._path, "ab", buffering=0)
+        self._options, self._version = options, version
+        self.records = self._read()
+        self._descriptor = -1
 
-    def _lines(self) -> list[Outcome]:
-        """The lines that are there, but for one at the end that isn't whole, since its writing was stopped."""
+    def _read(self) -> dict[str, Record]:
+        """The lines that are there, by their files, but for one at the end that isn't whole, since its writing was stopped."""
         if not os.path.exists(self._path):
-            return []
+            left = next((name for name in os.listdir(self._folder) if name.endswith((TEXT, PARTIAL))), None)
+            if left:
+                raise Stopped(f"{self._folder} has {left}, and no table of this command: name a folder without texts", REFUSED)
+            return {}
         with open(self._path, "rb") as file:
             data = file.read()
-        text = data[:data.rfind(b"\r\n") + 2].decode("utf-8", "replace") if b"\r\n" in data else ""
-        header, *lines = list(csv.reader(io.StringIO(text, newline=""))) or [HEADER]
-        if header != HEADER or any(len(line) != 3 or not line[1].isdecimal() for line in lines):
+        records = _records_in(data)
+        if records is None:
             raise Stopped(f"{self._path} isn't a table of this command", REFUSED)
-        return [Outcome(file, int(status), said) for file, status, said in lines]
+        return {record.file: record for record in records}
 
-    def _is_done(self, outcome: Outcome) -> bool:
-        """Whether a file has the text that belongs to its line, and wasn't written since."""
-        text = os.path.join(self._folder, text_name(outcome.file) + (".partial" if outcome.status == BAD_INPUT else ""))
+    def check(self, files: list[str]) -> None:
+        """Refuses files whose text has the name of the table, or of a text of another file."""
+        of = {record.text: record.file for record in self.records.values() if record.text}
+        inputs = set(files)
+        for file in files:
+            name = os.path.basename(file)
+            if name + TEXT == TABLE:
+                raise Stopped(f"{file}: its text would have the name of the table, {TABLE}: give the file another name", REFUSED)
+            for text in (name + TEXT, name + PARTIAL):
+                if os.path.join(self._folder, text) in inputs:
+                    raise Stopped(f"{text} would be the text of {file}, and is a file to export: name another folder", REFUSED)
+                if of.get(text, file) != file and os.path.exists(os.path.join(self._folder, text)):
+                    raise Stopped(f"{text} is the text of {of[text]}: export {file} to another folder", REFUSED)
+
+    def is_done(self, file: str) -> bool:
+        """Whether a file has the text that belongs to its line, and is as it was, with the same options and program."""
+        record = self.records.get(file)
+        if not record or not record.text or (record.options, record.program) != (self._options, self._version):
+            return False
         try:
-            return outcome.is_final() and os.path.getmtime(text) >= os.path.getmtime(outcome.file)
+            text = os.stat(os.path.join(self._folder, record.text))
+            return text.st_size == record.written and stamp_of(os.stat(file)) == record.stamp()
         except OSError:
             return False
 
+    def begin(self, files: list[str]) -> None:
+        """Leaves out the lines of files that are to be done again, and of texts that they get, and goes on behind the others."""
+        again, texts = set(files), {os.path.basename(file) + end for file in files for end in (TEXT, PARTIAL)}
+        self.records = {file: record for file, record in self.records.items() if file not in again and record.text not in texts}
+        with open(self._path + UNFINISHED, "wb") as out:
+            out.write(HEADER + b"".join(map(_line_of, self.records.values())))
+        os.replace(out.name, self._path)
+        self._descriptor = os.open(self._path, os.O_WRONLY | os.O_APPEND | os.O_CLOEXEC)
+
+    def close(self) -> None:
+        os.close(self._descriptor)
+
     def add(self, outcome: Outcome) -> None:
-        program.write_all(self._file.fileno(), line_of(outcome))
-        self.done[outcome.file] = outcome
+        """Gives a text its name, takes away the one that was there before, and writes the line."""
+        name = os.path.basename(outcome.file)
+        text = None if outcome.waiting is None else name + (PARTIAL if outcome.status == BAD_INPUT else TEXT)
+        if outcome.waiting and text:
+            try:
+                os.replace(outcome.waiting, os.path.join(self._folder, text))
+            except OSError as failure:
+                outcome, text = Outcome(outcome.file, FAILED, f"{text}: {cause_of(failure)}"), None
+        for other in {name + TEXT, name + PARTIAL} - {text}:
+            with contextlib.suppress(OSError):
+                os.remove(os.path.join(self._folder, other))
+        record = Record(outcome.file, outcome.status, outcome.line, text, outcome.written, *outcome.stamp, self._options, outcome.program)
+        try:
+            program.write_all(self._descriptor, _line_of(record))
+        except OSError as failure:
+            raise Stopped(f"{self._path}: {cause_of(failure)}", FAILED) from None
+        self.records[outcome.file] = record
 
 
-def line_of(fields: Iterable[object]) -> bytes:
-    line = io.StringIO()
-    csv.writer(line, quoting=csv.QUOTE_NONNUMERIC).writerow(fields)
-    return line.getvalue().encode("utf-8")
+def _line_of(record: Record) -> bytes:
+    return line(record).encode("utf-8", "surrogateescape")
+
+
+def _records_in(data: bytes) -> Optional[list[Record]]:
+    """The lines of a table, or None if it is another table."""
+    if not data.startswith(HEADER):
+        return [] if not data else None
+    text, at = data.decode("utf-8", "surrogateescape"), len(HEADER)
+    records: list[Record] = []
+    while at < len(text):
+        try:
+            fields, after = record_at(text, at)
+            values = [value_of(field) for field in fields]
+        except ValueError:
+            return records if len(text) - at < LONGEST_LINE else None
+        record = _record_of(values)
+        if record is None:
+            return None
+        records.append(record)
+        at = after
+    return records
+
+
+def _record_of(values: list[Any]) -> Optional[Record]:
+    """The record of some values, if they have its types."""
+    kinds = [str, int, str, (str, type(None)), int, int, int, int, str, str]
+    fits = len(values) == len(kinds) and all(isinstance(value, kind) for value, kind in zip(values, kinds))  # type: ignore[arg-type]
+    return Record(*values) if fits else None
 
 
 class Progress:
@@ -107,82 +205,157 @@ def files_of(asked: argparse.Namespace) -> list[str]:
     return list(names.values())
 
 
-def here(files: list[str], asked: argparse.Namespace, command: list[str]) -> Iterator[Outcome]:
-    """The outcomes on this machine, as they come."""
-    with ThreadPoolExecutor(asked.jobs) as pool:
-        running: set[Future[Outcome]] = set()
+# Where the work is done.
+
+class Here:
+    """This machine. A context, as a cluster is."""
+
+    def __init__(self, jobs: int) -> None:
+        self._jobs = jobs
+
+    def __enter__(self) -> Here:
+        return self
+
+    def __exit__(self, *_: object) -> None:
+        pass
+
+    def version(self, name: str) -> str:
+        return version_of(name)
+
+    def outcomes(self, files: list[str], folder: str, command: list[str]) -> Iterator[Outcome]:
+        """The outcomes, as they come."""
+        with ThreadPoolExecutor(self._jobs) as pool:
+            running: set[Future[Outcome]] = set()
+            try:
+                for file in files:
+                    running.add(pool.submit(export_file, file, folder, command))
+                    if len(running) >= 2 * self._jobs:
+                        ended, running = wait(running, return_when=FIRST_COMPLETED)
+                        yield from (it.result() for it in ended)
+                for it in list(running):
+                    yield it.result()
+            except BaseException:
+                pool.shutdown(wait=True, cancel_futures=True)
+                raise
+
+
+class Cluster:
+    """The workers of a Dask cluster."""
+
+    def __init__(self, where: str) -> None:
+        self._where = where
+        is_address = re.search(r"[^/:]:\d+$", where) is not None and not os.path.exists(where)
+        self._how: dict[str, Any] = {"address": where} if is_address else {"scheduler_file": where}
+
+    def _wait_for_file(self) -> None:
+        """Waits for the file that a scheduler writes once it has begun."""
+        until = time.monotonic() + SECONDS_OF_SCHEDULER
+        while "scheduler_file" in self._how and not os.path.exists(self._where):
+            if time.monotonic() > until:
+                raise Stopped(f"{self._where} is neither an address with a port nor the file of a scheduler", REFUSED)
+            time.sleep(0.1)
+
+    def __enter__(self) -> Cluster:
+        from distributed import Client
+
+        for name in ("distributed", "distributed.client", "asyncio", "tornado.application"):
+            logging.getLogger(name).setLevel(logging.CRITICAL)  # a worker that was lost, or is slow to leave, is seen by its responses
+        self._wait_for_file()
         try:
-            for file in files:
-                running.add(pool.submit(export_file, file, asked.out, command))
-                if len(running) >= 2 * asked.jobs:
-                    ended, running = wait(running, return_when=FIRST_COMPLETED)
-                    yield from (it.result() for it in ended)
-            for it in list(running):
-                yield it.result()
-        except BaseException:
-            pool.shutdown(wait=True, cancel_futures=True)
-            raise
+            self._client = Client(**self._how, timeout=SECONDS_OF_SCHEDULER)  # type: ignore[no-untyped-call]
+        except Exception as failure:  # of several kinds, if the file has something else
+            cause = cause_of(failure) if isinstance(failure, OSError) else str(failure)
+            raise Stopped(f"the scheduler {self._where} can't be reached: {cause}", FAILED) from None
+        return self
 
+    def __exit__(self, *_: Union[None, type[BaseException], BaseException, TracebackType]) -> None:
+        with contextlib.suppress(OSError, RuntimeError, concurrent.futures.CancelledError):
+            self._client.close(timeout=SECONDS_OF_SCHEDULER)  # type: ignore[no-untyped-call]
 
-def on_cluster(files: list[str], asked: argparse.Namespace, command: list[str]) -> Iterator[Outcome]:
-    """The outcomes on the workers of a Dask cluster, as they come. A response whose workers were lost has the status 5."""
-    from distributed import Client, as_completed
+    def version(self, name: str) -> str:
+        """That of the program of a worker."""
+        future = self._client.submit(version_of, name, pure=False)  # type: ignore[no-untyped-call]
+        try:
+            return str(future.result())
+        except concurrent.futures.CancelledError:
+            raise Stopped(f"the scheduler {self._where} was lost", FAILED) from None
+        except OSError as failure:
+            raise Stopped(f"{name}, on a worker: {cause_of(failure)}", REFUSED) from None
 
-    for name in ("distributed", "distributed.client", "asyncio"):
-        logging.getLogger(name).setLevel(logging.CRITICAL)  # a worker that was lost, or is slow to leave, is seen by its responses
+    def outcomes(self, files: list[str], folder: str, command: list[str]) -> Iterator[Outcome]:
+        """The outcomes, as they come. A response whose workers or whose scheduler were lost has failed."""
+        from distributed import as_completed
 
-    is_address = re.search(r":\d+$", asked.scheduler) is not None
-    where: dict[str, Any] = {"address": asked.scheduler} if is_address else {"scheduler_file": asked.scheduler}
-    with Client(**where) as client:  # type: ignore[no-untyped-call]
-        futures = client.map(export_file, files, folder=asked.out, command=command, pure=False)
+        futures = self._client.map(export_file, files, folder=folder, command=command, pure=False)  # type: ignore[no-untyped-call]
         of = dict(zip(futures, files))
         for future in as_completed(futures):  # type: ignore[no-untyped-call]
+            yield self._outcome_of(future, of[future])
+
+    def _outcome_of(self, future: Any, file: str) -> Outcome:
+        try:
             failure = future.exception()
-            yield future.result() if failure is None else Outcome(of[future], FAILED, f"its worker failed: {failure}")
+            outcome: Outcome = future.result() if failure is None else Outcome(file, FAILED, f"its worker failed: {failure}")
+            return outcome
+        except concurrent.futures.CancelledError:
+            return Outcome(file, FAILED, f"the scheduler {self._where} was lost")
 
 
-def lock(folder: str) -> None:
-    """Keeps a folder of texts for this command until it ends. Raises `Stopped` if another one has it."""
+@contextlib.contextmanager
+def locked(folder: str) -> Iterator[None]:
+    """Keeps a folder of texts for this command. Raises `Stopped` if another one has it."""
+    descriptor = os.open(folder, os.O_RDONLY)
     try:
-        fcntl.flock(os.open(folder, os.O_RDONLY), fcntl.LOCK_EX | fcntl.LOCK_NB)
+        fcntl.flock(descriptor, fcntl.LOCK_EX | fcntl.LOCK_NB)
+        yield
     except BlockingIOError:
         raise Stopped(f"{folder}: another command writes its texts there", REFUSED) from None
+    finally:
+        os.close(descriptor)
 
 
 def export_all(asked: argparse.Namespace) -> int:
     """Exports what isn't done, and returns the greatest status."""
     files = files_of(asked)
     os.makedirs(asked.out, exist_ok=True)
-    lock(asked.out)
-    table = Table(asked.out)
+    with locked(asked.out):
+        return export_left(files, asked)
+
+
+def export_left(files: list[str], asked: argparse.Namespace) -> int:
     command = program.command_of(asked.program, program.PACKET_SIZE, asked.column_room, program.MAX_WIRE, asked.charset)
-    left = [file for file in files if file not in table.done]
-    progress, failed = Progress(len(files), len(files) - len(left)), 0
-    try:
-        for outcome in (on_cluster if asked.scheduler else here)(left, asked, command):
-            table.add(outcome)
-            failed += outcome.status not in (DONE, SERVER_ERROR)
-            progress.step(failed)
-    finally:
-        progress.end()
-        remove_unfinished(asked.out, files)
+    place: Union[Here, Cluster] = Cluster(asked.scheduler) if asked.scheduler else Here(asked.jobs)
+    with place:
+        table = Table(asked.out, " ".join(command[2:]), place.version(asked.program))
+        table.check(files)
+        left = [file for file in files if not table.is_done(file)]
+        table.begin(left)
+        progress, failed = Progress(len(files), len(files) - len(left)), 0
+        try:
+            for outcome in place.outcomes(left, asked.out, command):
+                table.add(outcome)
+                failed += outcome.status not in (DONE, SERVER_ERROR)
+                progress.step(failed)
+        finally:
+            table.close()
+            progress.end()
+            remove_unfinished(asked.out)
     return summed(files, table)
 
 
-def remove_unfinished(folder: str, files: list[str]) -> None:
-    """Removes what workers left that were killed."""
-    names = {text_name(file) for file in files}
+def remove_unfinished(folder: str) -> None:
+    """Removes what is left of texts that didn't get their names."""
     for name in os.listdir(folder):
-        if name.endswith(".unfinished") and re.sub(r"\.[^.]+\.\d+\.unfinished$", "", name) in names:
-            os.remove(os.path.join(folder, name))
+        if re.fullmatch(rf".+\.\d+\.\d+\.\d+{re.escape(UNFINISHED)}", name):
+            with contextlib.suppress(FileNotFoundError):
+                os.remove(os.path.join(folder, name))
 
 
 def summed(files: list[str], table: Table) -> int:
     """Says how many responses ended in each way, and returns the greatest status."""
-    statuses = [table.done[file].status for file in files]
+    statuses = [table.records[file].status for file in files]
     counts = [statuses.count(status) for status in (DONE, SERVER_ERROR, BAD_INPUT)]
     done, errors, refused = counts
-    say(f"{len(files)} responses: {done} done, {errors} with an error of the server, {refused} refused, {len(files) - sum(counts)} failed\n")
+    tell(f"{len(files)} responses: {done} done, {errors} with an error of the server, {refused} refused, {len(files) - sum(counts)} failed")
     return FAILED if len(files) > sum(counts) else max(statuses, default=0)
 
 
@@ -191,9 +364,7 @@ def arguments(words: list[str]) -> argparse.Namespace:
     add = parser.add_argument
     add("-j", "--jobs", metavar="N", type=number_in(1, 1024), default=len(os.sched_getaffinity(0)), help="how many at once, without it as many as processors")
     add("--scheduler", metavar="WHERE", help="of a Dask cluster: its address, or the file that it writes. Files and OUT have the same paths on each worker")
-    add("--column-room", metavar="N", type=number_in(10, 67108864), default=program.COLUMN_ROOM, help="as of tds_replay")
-    add("--charset", choices=program.CHARSETS, default=program.CHARSETS[0], help="of char and varchar")
-    add("--program", metavar="FILE", default=program.PROGRAM, help="tds_replay, without it that of the path")
+    add_options_of_program(parser)
     add("files", metavar="FILE", nargs="+", help="responses, or folders of them")
     add("out", metavar="OUT", help="the folder of the texts, which is made if it isn't there")
     asked = parser.parse_args(words)
@@ -202,18 +373,12 @@ def arguments(words: list[str]) -> argparse.Namespace:
 
 
 def run(words: list[str]) -> int:
-    """The command `many`. Returns its exit status."""
+    """The command `many`. Returns its exit status, or raises what ended it."""
+    asked = arguments(words)
+    asked.program = asked.program if asked.scheduler else checked_program(asked.program)
     try:
-        asked = arguments(words)
-        asked.program = asked.program if asked.scheduler else checked_program(asked.program)
         return export_all(asked)
-    except Stopped as stop:
-        line, status = str(stop), stop.status
     except ImportError:
-        line, status = "a cluster needs Python's module distributed: Debian's package python3-distributed", REFUSED
-    except OSError as failure:
-        line, status = f"{failure.filename or 'the cluster'}: {failure.strerror or failure}", FAILED
+        raise Stopped("a cluster needs Python's module distributed: Debian's package python3-distributed", REFUSED) from None
     except KeyboardInterrupt:
-        line, status = "interrupted: begun again it goes on from here", INTERRUPTED
-    say(line + "\n")
-    return status
+        raise Stopped("interrupted: begun again it goes on from here", INTERRUPTED) from None

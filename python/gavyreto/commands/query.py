@@ -6,8 +6,8 @@ separates two texts, as it does two result sets. The login is by SQL authenticat
 SQLCMDPASSWORD, or asked for. The server's certificate is verified. Everything is encrypted, unless --encrypt says less.
 
 The lines on standard error are those of tds_replay, and so is the status: 0, 3 if the server reported an error or refused the
-login, 4 if its answer can't be read, 5 if the connection or a write failed; 2 if the arguments are refused, 130 after Ctrl-C.
-The first statement whose status isn't 0 is the last one sent. A transaction has to end in the statement that begins it."""
+login, or ended an answer as cancelled or failed, 4 if its answer can't be read, 5 if the connection or a write failed; 2 if the
+arguments are refused, 130 after Ctrl-C. The first statement whose status isn't 0 is the last one sent. A transaction has to end in the statement that begins it."""
 from __future__ import annotations
 
 import argparse
@@ -17,45 +17,53 @@ import re
 import select
 import signal
 import subprocess
-import sys
 from types import FrameType
-from typing import IO, BinaryIO, Callable, Iterable, Iterator, NamedTuple, Optional, cast
+from typing import IO, BinaryIO, Iterable, Iterator, NamedTuple, Optional, cast
 
 from gavyreto import connection, program, tds
-from gavyreto.commands import BAD_INPUT, FAILED, INTERRUPTED, REFUSED, SERVER_ERROR, say
+from gavyreto.commands.common import (
+    DONE, FAILED, INTERRUPTED, REFUSED, SERVER_ERROR, STANDARD_INPUT, STANDARD_OUTPUT, STREAMS, Ending, Stopped, add_options_of_program,
+    cause_of, checked_program, is_one_file, judged, needed, number_in, tell_all,
+)
 from gavyreto.connection import BLOCK, Session
-from gavyreto.errors import BadAnswer, ConnectionFailed, ServerError
+from gavyreto.errors import ConnectionFailed
 
-STANDARD_OUTPUT = 1
 SEPARATOR = b"\r\n"
-GO = re.compile(r"\s*GO(?:\s+(\d+))?\s*", re.IGNORECASE | re.ASCII)
-
-
-class Stopped(Exception):
-    """A line for standard error, and the status to end with."""
-
-    def __init__(self, line: str, status: int) -> None:
-        super().__init__(line)
-        self.status = status
+GO = re.compile(r"\s*GO(?:\s+(\d+))?\s*;?\s*(?:--.*)?", re.IGNORECASE | re.ASCII | re.DOTALL)
+MOST_TIMES = 2**31 - 1  # that a GO sends a statement
+CHECKED_OUTPUTS = 1000  # outputs that are looked at before anything is sent
 
 
 # Statements.
 
-def batches(lines: Iterable[str]) -> Iterator[str]:
-    """The texts before lines that are GO, each as often as its GO says, and what follows the last of these lines."""
+class Batch(NamedTuple):
+    """A statement, and how often it is sent."""
+
+    statement: str
+    times: int
+
+
+def batches(lines: Iterable[str]) -> Iterator[Batch]:
+    """The texts before lines that are GO, and what follows the last of these lines. A comment or a semicolon may follow GO."""
     batch: list[str] = []
     for line in lines:
         found = GO.fullmatch(line)
-        if not found:
+        if found:
+            yield Batch("".join(batch), times_of(found[1] or "1"))
+            batch.clear()
+        else:
             batch.append(line)
-            continue
-        count = int(found[1] or "1")
-        if count == 0:
-            raise Stopped("GO 0: a statement is sent once at least", REFUSED)
-        for _ in range(count):
-            yield "".join(batch)
-        batch.clear()
-    yield "".join(batch)
+    yield Batch("".join(batch), 1)
+
+
+def times_of(digits: str) -> int:
+    """The number of a GO."""
+    digits = digits.lstrip("0") or "0"
+    if digits == "0":
+        raise Stopped("GO 0: a statement is sent once at least", REFUSED)
+    if len(digits) > len(str(MOST_TIMES)) or int(digits) > MOST_TIMES:
+        raise Stopped(f"GO {digits[:20]}: a statement is sent {MOST_TIMES} times at most", REFUSED)
+    return int(digits)
 
 
 def lines_of(file: BinaryIO, name: str) -> Iterator[str]:
@@ -70,41 +78,51 @@ def lines_of(file: BinaryIO, name: str) -> Iterator[str]:
         yield text
 
 
-def batches_of(path: str) -> list[str]:
+def batches_of(path: str) -> list[Batch]:
     try:
         with open(path, "rb") as file:
             return list(batches(lines_of(file, path)))
     except OSError as failure:
-        raise Stopped(f"{path}: {failure.strerror}", FAILED) from None
+        raise Stopped(f"{path}: {cause_of(failure)}", FAILED) from None
 
 
 def statements_of(asked: argparse.Namespace) -> Iterator[str]:
     """The statements to send. Those of arguments and files are read before the first is handed out, and those of standard
     input too where they go to one file, which has room for one."""
+    found: Iterable[Batch]
     if asked.statements:
-        found = asked.statements
+        found = [Batch(statement, 1) for statement in asked.statements]
     elif asked.input:
         found = [batch for path in asked.input for batch in batches_of(path)]
     else:
-        found = batches(lines_of(sys.stdin.buffer, "standard input"))
+        found = batches(lines_of(os.fdopen(needed(STANDARD_INPUT), "rb", closefd=False), STREAMS[STANDARD_INPUT]))
         found = list(found) if asked.output and "{}" not in asked.output else found
     if isinstance(found, list):
-        found = [statement for statement in found if statement.strip()]
+        found = [batch for batch in found if batch.statement.strip()]
         check(found, asked)
-    return (statement for statement in found if statement.strip())
+    return (it.statement for it in found if it.statement.strip() for _ in range(it.times))
 
 
-def check(statements: list[str], asked: argparse.Namespace) -> None:
+def check(found: list[Batch], asked: argparse.Namespace) -> None:
     """Refuses what can be known before anything is sent: statements that are no text, and outputs that can't be opened."""
-    for statement in statements:
-        encoded(statement)
-    if asked.output and "{}" not in asked.output and len(statements) > 1:
-        raise Stopped(f"{len(statements)} statements, and one output: a name with {{}} gets the number of each", REFUSED)
-    for number in range(1, len(statements) + 1 if asked.output else 0):
+    for batch in found:
+        encoded(batch.statement)
+    count = sum(batch.times for batch in found)
+    if asked.output and "{}" not in asked.output and count > 1:
+        raise Stopped(f"{count} statements, and one output: a name with {{}} gets the number of each", REFUSED)
+    for number in range(1, min(count, CHECKED_OUTPUTS) + 1 if asked.output else 0):
         path = output_of(asked, number)
+        check_apart(path, asked)
         where = path if os.path.exists(path) else os.path.dirname(path) or "."
         if os.path.isdir(path) or not os.access(where, os.W_OK):
             raise Stopped(f"{path}: can't be written", FAILED)
+
+
+def check_apart(path: str, asked: argparse.Namespace) -> None:
+    """Refuses an output from which statements are read: opening it would empty it."""
+    for source in [*(asked.input or []), *([] if asked.input or asked.statements else [STANDARD_INPUT])]:
+        if is_one_file(path, source):
+            raise Stopped(f"{path}: the statements are read from it", REFUSED)
 
 
 def encoded(statement: str) -> bytes:
@@ -127,10 +145,11 @@ def opened(asked: argparse.Namespace, number: int) -> Iterator[int]:
         yield STANDARD_OUTPUT
         return
     path = output_of(asked, number)
+    check_apart(path, asked)
     try:
         descriptor = os.open(path, os.O_WRONLY | os.O_CREAT | os.O_TRUNC | os.O_CLOEXEC, 0o666)
     except OSError as failure:
-        raise Stopped(f"{path}: {failure.strerror}", FAILED) from None
+        raise Stopped(f"{path}: {cause_of(failure)}", FAILED) from None
     try:
         yield descriptor
     finally:
@@ -152,18 +171,6 @@ class Interrupt:
         self.came = True
         with contextlib.suppress(ConnectionFailed):  # who waits for the answer finds it too
             self._session.interrupt()
-
-
-class Ending(NamedTuple):
-    """How the program ended on an answer: its status, its lines, and the bytes of text that it wrote."""
-
-    status: int
-    notes: str
-    written: int
-
-    def line_after(self, line: str) -> str:
-        """One line, of what happened and what the program says to it."""
-        return ": ".join(it for it in (line, self.notes.partition("\n")[0]) if it)
 
 
 class Run:
@@ -222,7 +229,7 @@ class Run:
         try:
             program.write_all(self._out, self._before + data if data else b"")
         except OSError as failure:
-            raise Stopped(f"standard output: {failure.strerror}", FAILED) from None
+            raise Stopped(f"standard output: {cause_of(failure)}", FAILED) from None
         self._before = b"" if data else self._before
         return bool(data)
 
@@ -235,16 +242,6 @@ class Run:
         return judged(self._program.wait(), notes)
 
 
-def judged(status: int, notes: str) -> Ending:
-    """How the program ended. Raises `Stopped` if it didn't end as it does."""
-    said = program.report_of(notes)
-    if status < 0:
-        raise Stopped(f"tds_replay was ended by the signal {-status}", 128 - status)
-    if said is None:
-        raise Stopped(f"tds_replay ended with status {status}: {notes.strip()}", status or FAILED)
-    return Ending(status, notes, program.written_by(said))
-
-
 def answer(session: Session, statement: str, run: Run, interrupt: Interrupt) -> Ending:
     """Sends a statement, and runs the program on its answer."""
     try:
@@ -255,6 +252,8 @@ def answer(session: Session, statement: str, run: Run, interrupt: Interrupt) -> 
     ending = run.end()
     if interrupt.came:
         raise Stopped(ending.line_after(finished(session)), INTERRUPTED)
+    if ending.status == DONE and session.unfinished:
+        return ending._replace(status=SERVER_ERROR, notes=f"{ending.notes}{session.unfinished}\n")
     return ending
 
 
@@ -279,9 +278,10 @@ def ask(asked: argparse.Namespace, statements: Iterator[str], password: str) -> 
             with opened(asked, number) as out, Run(command, out, is_begun and not asked.output) as run:
                 ending = answer(session, statement, run, interrupt)
             is_begun = is_begun or ending.written > 0
-            say(ending.notes)
+            tell_all(ending.notes)
             if ending.status:
                 return ending.status
+        session.check_used()
     return 0
 
 
@@ -290,20 +290,13 @@ def session_of(asked: argparse.Namespace, password: str) -> Session:
     try:
         return connection.log_in_to(
             host, user=asked.user, password=password, port=port, database=asked.database, encrypt=asked.encrypt,
-            certificates=asked.certificates, trust_server=asked.trust_server, packet_size=asked.packet_size, seconds=asked.seconds)
+            certificates=asked.certificates, certificate_name=asked.certificate_name or "", trust_server=asked.trust_server,
+            packet_size=asked.packet_size, seconds=asked.seconds)
     except ValueError as refused:
         raise Stopped(str(refused), REFUSED) from None
 
 
 # Arguments.
-
-def number_in(least: int, most: int) -> Callable[[str], int]:
-    def number(text: str) -> int:
-        if not re.fullmatch("[0-9]+", text) or not least <= int(text) <= most:
-            raise argparse.ArgumentTypeError(f"{text} is not in {least} to {most}")
-        return int(text)
-    return number
-
 
 def server(text: str) -> tuple[str, int]:
     """The host and the port of `[tcp:]HOST[,PORT]`."""
@@ -328,29 +321,17 @@ def arguments(words: list[str]) -> argparse.Namespace:
     add("-No", dest="encrypt", action="store_const", const="login", help="as --encrypt login")
     add("-C", "--trust-server", action="store_true", help="don't verify the certificate: anyone between can read all")
     add("--certificates", metavar="FILE", help="authorities to trust in place of the system's, in PEM")
+    add("--certificate-name", metavar="NAME", help="that the certificate has, without it HOST; also that of a server to which HOST redirects")
     add("--seconds", metavar="N", type=number_in(1, 86400), default=connection.SECONDS,
         help=f"the longest that the server may be silent, 1 to 86400, without it {connection.SECONDS}")
-    add("--packet-size", metavar="N", type=number_in(tds.LEAST_PACKET_SIZE, tds.GREATEST_PACKET_SIZE), default=connection.PACKET_SIZE,
-        help=f"bytes asked for, 512 to 32767, without it {connection.PACKET_SIZE}")
-    add("--column-room", metavar="N", type=number_in(10, 67108864), default=program.COLUMN_ROOM, help="as of tds_replay")
-    add("--charset", choices=program.CHARSETS, default=program.CHARSETS[0], help="of char and varchar")
-    add("--program", metavar="FILE", default=program.PROGRAM, help="tds_replay, without it that of the path")
+    add("--packet-size", metavar="N", type=number_in(tds.LEAST_PACKET_SIZE, tds.GREATEST_PACKET_SIZE), default=program.PACKET_SIZE_ASKED,
+        help=f"bytes asked for, 512 to 32767, without it {program.PACKET_SIZE_ASKED}")
+    add_options_of_program(parser)
     add("statements", metavar="STATEMENT", nargs="*")
     asked = parser.parse_args(words)
     if asked.statements and asked.input:
         parser.error("statements are arguments, or in files: not both")
     return asked
-
-
-def checked_program(name: str) -> str:
-    """The path of the program, which is there and is tds_replay."""
-    try:
-        path = program.path_of(name)
-        if program.is_there(path):
-            return path
-        raise Stopped(f"{path} isn't tds_replay", REFUSED)
-    except OSError as failure:
-        raise Stopped(str(failure.strerror or failure), REFUSED) from None
 
 
 def asked_password(user: str) -> str:
@@ -363,27 +344,16 @@ def asked_password(user: str) -> str:
 
     try:
         return getpass.getpass(f"Password of {user}: ")
-    except EOFError:
+    except (EOFError, UnicodeError):
         raise Stopped("no password", REFUSED) from None
 
 
 def run(words: list[str]) -> int:
-    """The command `query`. Returns its exit status."""
+    """The command `query`. Returns its exit status, or raises what ended it."""
     password = os.environ.pop("SQLCMDPASSWORD", "")  # the processes that are started from here don't get it
-    try:
-        asked = arguments(words)
-        asked.program = checked_program(asked.program)
-        statements = statements_of(asked)
-        return ask(asked, statements, password or asked_password(asked.user))
-    except Stopped as stop:
-        line, status = str(stop), stop.status
-    except ServerError as error:
-        line, status = str(error), SERVER_ERROR
-    except BadAnswer as answered:
-        line, status = str(answered), BAD_INPUT
-    except ConnectionFailed as failure:
-        line, status = str(failure), FAILED
-    except KeyboardInterrupt:
-        line, status = "interrupted", INTERRUPTED
-    say(line + "\n")
-    return status
+    asked = arguments(words)
+    if not asked.output:
+        needed(STANDARD_OUTPUT)
+    asked.program = checked_program(asked.program)
+    statements = statements_of(asked)
+    return ask(asked, statements, password or asked_password(asked.user))

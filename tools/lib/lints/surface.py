@@ -260,7 +260,7 @@ def package_options(command: str) -> set[str]:
 def package_commands() -> dict[str, set[str]]:
     """The options of each command of the Python package."""
     files = os.listdir(repo.path_of("python", "gavyreto", "commands"))
-    names = sorted(name[:-len(".py")] for name in files if name[0] != "_" and name.endswith(".py"))
+    names = sorted(name[:-len(".py")] for name in files if name not in ("__init__.py", "common.py") and name.endswith(".py"))
     return {name: package_options(name) for name in names}
 
 

@@ -4,8 +4,8 @@ use std::process::Abort;
 use std::test::Fail;
 use tds_export::Charset;
 use tds_packet::Counted;
-use tds_replay::Job;
 use tds_packet::rig::{Failing, ScriptedReader};
+use tds_replay::Job;
 
 // What a command line is held to: one that came out otherwise is named.
 fn expect_line(rt: &impl Abort, line: &[&str], holds: bool) {

@@ -3,9 +3,9 @@ use super::writer;
 use crate::checks::expect;
 use std::test::Fail;
 use tds_export::{Report, ServerError, Stopped};
+use tds_packet::rig::Failing;
 use tds_packet::{Fault, Place, RefusedKind};
 use tds_replay::say_answer;
-use tds_packet::rig::Failing;
 
 // A stop, and its line.
 struct StopCase {

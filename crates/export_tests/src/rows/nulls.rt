@@ -14,10 +14,10 @@ use std::test::Fail;
 use tds_columns::Columns;
 use tds_csv::Sink;
 use tds_meter::{Area, SMALL_ROOM};
+use tds_packet::rig::{Failing, ScriptedReader, ScriptedWriter};
 use tds_packet::{Counted, Fault, Payload, Place, Stop};
 use tds_rows::{NBCROW, read_nbc_rows};
 use tds_values::Charset;
-use tds_packet::rig::{Failing, ScriptedReader, ScriptedWriter};
 
 const TWO: &[&[u8]] = &[INT4, INT4_N];
 

@@ -4,10 +4,10 @@ use crate::checks::expect_at;
 use std::alloc::{AllocError, Global};
 use std::test::Fail;
 use tds_meter::{Area, SMALL_ROOM};
+use tds_packet::rig::ScriptedReader;
 use tds_packet::{Counted, Fault, Payload, Place, Stop};
 use tds_rows::pass_over;
 use tds_values::{Kind, Reach};
-use tds_packet::rig::ScriptedReader;
 
 // A value of a kind, the place after it, or the stop, and the most bytes that the small area had.
 struct Value {

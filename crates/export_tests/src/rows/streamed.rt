@@ -8,10 +8,10 @@ use std::io::Write;
 use std::test::Fail;
 use tds_csv::{Cp1252Joiner, HexJoiner, JoinFault, Joiner, Sink, Utf8Joiner, Utf16Joiner};
 use tds_meter::Area;
+use tds_packet::rig::ScriptedReader;
 use tds_packet::{Counted, Fault, Payload, Place, Stop};
 use tds_rows::stream_value;
 use tds_values::Reach;
-use tds_packet::rig::ScriptedReader;
 
 // Reads a value of a column in packets of `size` bytes of it, with a new joiner.
 fn stream<J: Joiner + Drop>(

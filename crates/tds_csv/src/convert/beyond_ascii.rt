@@ -67,7 +67,7 @@ fn put_pair(to: &mut [u8], at: usize, pair: u16, size: u16) -> usize
 
 // Writes the first `n` of eight short characters.
 #[inline(always)]
-fn put_short(to: &mut [u8], from: usize, units: u16x8, n: usize) -> usize
+fn put_pairs(to: &mut [u8], from: usize, units: u16x8, n: usize) -> usize
     requires short { n ≤ prefix_len is_short units }
     requires room { from + LANES ≤ length to.old }
     ensures most { result ≤ from + 2 * n }
@@ -84,7 +84,7 @@ fn put_short(to: &mut [u8], from: usize, units: u16x8, n: usize) -> usize
 
 // Writes the first `n` of eight long characters.
 #[inline(always)]
-fn put_long(to: &mut [u8], at: usize, units: u16x8, n: usize)
+fn put_triples(to: &mut [u8], at: usize, units: u16x8, n: usize)
     requires long { n ≤ prefix_len is_long units }
     requires room { at + LANES ≤ length to.old }
     requires more { 4 < n → at + 12 + LANES ≤ length to.old }
@@ -119,11 +119,11 @@ pub(crate) fn convert_short(
         let units = units_at(source, at);
         let n = units_below(units, 0x800).min((bytes.len() - at) / 2);
         if n == UNITS {
-            made = put_short(to, made, units, UNITS);
+            made = put_pairs(to, made, units, UNITS);
             at += 2 * UNITS;
             continue;
         }
-        made = put_short(to, made, units, n);
+        made = put_pairs(to, made, units, n);
         at += 2 * n;
         if n == 0 {
             break;
@@ -154,12 +154,12 @@ pub(crate) fn convert_long(
         let units = units_at(source, at);
         let n = long_units(units).min((bytes.len() - at) / 2);
         if n == UNITS {
-            put_long(to, made, units, UNITS);
+            put_triples(to, made, units, UNITS);
             made += 3 * UNITS;
             at += 2 * UNITS;
             continue;
         }
-        put_long(to, made, units, n);
+        put_triples(to, made, units, n);
         made += 3 * n;
         at += 2 * n;
         if n == 0 {

@@ -84,7 +84,7 @@ fn last_text(kept: &[u8]) -> Run<4>
 impl Utf16Joiner {
     // Puts the text of the withheld bytes with three bytes of the piece, if any are withheld, and
     // returns where the text of the piece goes on.
-    fn put_kept<W: Write>(&self, piece: &[u8], sink: &mut Sink<'_, W>) -> Result<usize, Stop>
+    fn put_withheld<W: Write>(&self, piece: &[u8], sink: &mut Sink<'_, W>) -> Result<usize, Stop>
         requires writing { IsWriting sink.old }
         requires long { 3 ≤ length piece.now }
         ensures puts { let put = emit utf16.rest utf16.text (seam self.now.kept piece.now) in
@@ -111,7 +111,7 @@ impl Utf16Joiner {
         ensures { PushesPiece W.contents (λ _. ⊤) utf16.rest utf16.text self.old.kept self.new.kept
             sink.old sink.new piece.now result }
     {
-        let from = self.put_kept(piece, sink)?;
+        let from = self.put_withheld(piece, sink)?;
         let at = put_from(piece, from, sink)?;
         self.kept.clear();
         self.kept.extend(&piece[at..]);

@@ -1,17 +1,26 @@
-use Rattle.tds_values.proofs.{Words.{◌∙◌, ◌/◌, ◌%◌, map, ap, ap₂, arith, zip2_splat, Each2-splat, Each1-all, length-map, slice_index, lower_digits}, LaneLemmas.{high_small, low_small, woven, woven_digits}}
+use Rattle.tds_values.proofs.Words.{◌∙◌, ◌/◌, ◌%◌, map, ap, ap₂, arith, zip2_splat, Each2-splat, Each1-all, length-map, slice_index, lower_digits}
+use Rattle.tds_values.proofs.LaneLemmas.{high_small, low_small, woven, woven_digits}
 use Rattle.tds_values.proofs.lanes.hex_lanes.Goals as goal
 
 pub nonzero_div-bytes : goal.nonzero_div-bytes
 nonzero_div-bytes c = Each2-splat _ c.args.bytes 16 16 (Each1-all _ (λ x. omega arith) c.args.bytes)
 
 pub digits-high-requires : goal.digits-high-requires
-digits-high-requires c = rw (zip2_splat ◌/◌ c.args.bytes 16 16 c.requires) (record { few = length-map c.args.bytes _ ∙ c.requires; small = high_small c.args.bytes c.fits-bytes.1 })
+digits-high-requires c = rw (zip2_splat ◌/◌ c.args.bytes 16 16 c.requires) (record {
+  few = length-map c.args.bytes _
+      ∙ c.requires;
+  small = high_small c.args.bytes c.fits-bytes.1;
+})
 
 pub nonzero_rem-bytes : goal.nonzero_rem-bytes
 nonzero_rem-bytes c = Each2-splat _ c.args.bytes 16 16 (Each1-all _ (λ x. omega arith) c.args.bytes)
 
 pub digits-low-requires : goal.digits-low-requires
-digits-low-requires c = rw (zip2_splat ◌%◌ c.args.bytes 16 16 c.requires) (record { few = length-map c.args.bytes _ ∙ c.requires; small = low_small c.args.bytes })
+digits-low-requires c = rw (zip2_splat ◌%◌ c.args.bytes 16 16 c.requires) (record {
+  few = length-map c.args.bytes _
+      ∙ c.requires;
+  small = low_small c.args.bytes;
+})
 
 pub returns-clause-digits : goal.returns-clause-digits
 returns-clause-digits c =

@@ -6,9 +6,11 @@ loop-at-preserved-then-n-eq-UNITS c =
     record {
       more = omega arith;
       long = search rules;
-      now = units_more is_long long_single 8 c.requires.inside (search (arith, rules)) c.units_at-units.ensures (omega arith) (omega arith) (omega arith) c.put_long.ensures c.loop-at.invariant.now;
+      now = units_more is_long long_single 8 c.requires.inside (search (arith, rules)) c.units_at-units.ensures (omega arith) (omega arith)
+          (omega arith) c.put_triples.ensures c.loop-at.invariant.now;
     }
 
 pub convert_one-one-requires-clause-before : goal.convert_one-one-requires-clause-before
 convert_one-one-requires-clause-before c =
-    units_more is_long long_single c.min-n.result c.requires.inside (search (arith, rules)) c.units_at-units.ensures (omega arith) (omega arith) (omega arith) c.put_long-in-loop-at.ensures c.loop-at.invariant.now
+    units_more is_long long_single c.min-n.result c.requires.inside (search (arith, rules)) c.units_at-units.ensures (omega arith) (omega arith)
+    (omega arith) c.put_triples-in-loop-at.ensures c.loop-at.invariant.now

@@ -6,9 +6,11 @@ loop-at-preserved-then-n-eq-UNITS c =
     record {
       more = omega arith;
       long = search rules;
-      now = units_more is_short short_single 8 c.requires.inside (search (arith, rules)) c.units_at-units.ensures (omega arith) (omega arith) (omega arith) c.put_short-made.ensures.written c.loop-at.invariant.now;
+      now = units_more is_short short_single 8 c.requires.inside (search (arith, rules)) c.units_at-units.ensures (omega arith) (omega arith)
+          (omega arith) c.put_pairs-made.ensures.written c.loop-at.invariant.now;
     }
 
 pub convert_one-one-requires-clause-before : goal.convert_one-one-requires-clause-before
 convert_one-one-requires-clause-before c =
-    units_more is_short short_single c.min-n.result c.requires.inside (search (arith, rules)) c.units_at-units.ensures (omega arith) (omega arith) (omega arith) c.put_short-made-in-loop-at.ensures.written c.loop-at.invariant.now
+    units_more is_short short_single c.min-n.result c.requires.inside (search (arith, rules)) c.units_at-units.ensures (omega arith) (omega arith)
+    (omega arith) c.put_pairs-made-in-loop-at.ensures.written c.loop-at.invariant.now

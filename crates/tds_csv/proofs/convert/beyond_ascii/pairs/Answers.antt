@@ -1,4 +1,5 @@
-use Rattle.tds_csv.proofs.{Words.{◌∙◌, arith, nat_tests, map-id, sym, zip2_of_maps, splat_is_map, Each2-splat, Each1-all}, WideLanes.{same_map, chosen}}
+use Rattle.tds_csv.proofs.Words.{◌∙◌, arith, nat_tests, map-id, sym, zip2_of_maps, splat_is_map, Each2-splat, Each1-all}
+use Rattle.tds_csv.proofs.WideLanes.{same_map, chosen}
 use Rattle.tds_csv.proofs.convert.beyond_ascii.pairs.Goals as goal
 
 pub nonzero_div-lead : goal.nonzero_div-lead
@@ -15,5 +16,6 @@ returns c =
     let parts = splat_is_map us 8 64 n in
     let lead = zip2_of_maps _ _ _ us (zip2_of_maps _ _ _ us id parts) (splat_is_map us 8 192 n) in
     let trail = zip2_of_maps _ _ _ us (zip2_of_maps _ _ _ us id parts) (splat_is_map us 8 128 n) in
-    chosen _ _ _ us (zip2_of_maps _ _ _ us id (splat_is_map us 8 128 n)) id (zip2_of_maps _ _ _ us lead (zip2_of_maps _ _ _ us trail (splat_is_map us 8 256 n)))
+    chosen _ _ _ us (zip2_of_maps _ _ _ us id (splat_is_map us 8 128 n)) id
+    (zip2_of_maps _ _ _ us lead (zip2_of_maps _ _ _ us trail (splat_is_map us 8 256 n)))
     ∙ same_map (λ u small. grind (arith, nat_tests)) us c.fits-units.1

@@ -1,4 +1,5 @@
-use Rattle.tds_csv.proofs.{Words.{◌∙◌, arith, nat_tests, map-id, sym, zip2_of_maps, splat_is_map, Each2-splat, Each1-all}, WideLanes.{same_map, three_each, lead, others}}
+use Rattle.tds_csv.proofs.Words.{◌∙◌, arith, nat_tests, map-id, sym, zip2_of_maps, splat_is_map, Each2-splat, Each1-all}
+use Rattle.tds_csv.proofs.WideLanes.{same_map, three_each, lead, others}
 use Rattle.tds_csv.proofs.convert.beyond_ascii.triples.Goals as goal
 
 pub nonzero_div-lead : goal.nonzero_div-lead
@@ -24,7 +25,8 @@ returns-clause-first c =
     let middle = zip2_of_maps _ _ _ us (zip2_of_maps _ _ _ us (zip2_of_maps _ _ _ us id parts) parts) high in
     let trail = zip2_of_maps _ _ _ us (zip2_of_maps _ _ _ us id parts) high in
     let rest = zip2_of_maps _ _ _ us middle (zip2_of_maps _ _ _ us trail (splat_is_map us 8 256 n)) in
-    (three_each us _ _ n c.fits-units.1 (first ∙ same_map {g = lead} (λ u small. grind (arith, nat_tests)) us c.fits-units.1) (rest ∙ same_map {g = others} (λ u small. grind (arith, nat_tests)) us c.fits-units.1)).0
+    (three_each us _ _ n c.fits-units.1 (first ∙ same_map {g = lead} (λ u small. grind (arith, nat_tests)) us c.fits-units.1) (rest
+    ∙ same_map {g = others} (λ u small. grind (arith, nat_tests)) us c.fits-units.1)).0
 
 pub returns-clause-second : goal.returns-clause-second
 returns-clause-second c =
@@ -37,4 +39,5 @@ returns-clause-second c =
     let middle = zip2_of_maps _ _ _ us (zip2_of_maps _ _ _ us (zip2_of_maps _ _ _ us id parts) parts) high in
     let trail = zip2_of_maps _ _ _ us (zip2_of_maps _ _ _ us id parts) high in
     let rest = zip2_of_maps _ _ _ us middle (zip2_of_maps _ _ _ us trail (splat_is_map us 8 256 n)) in
-    (three_each us _ _ n c.fits-units.1 (first ∙ same_map {g = lead} (λ u small. grind (arith, nat_tests)) us c.fits-units.1) (rest ∙ same_map {g = others} (λ u small. grind (arith, nat_tests)) us c.fits-units.1)).1
+    (three_each us _ _ n c.fits-units.1 (first ∙ same_map {g = lead} (λ u small. grind (arith, nat_tests)) us c.fits-units.1) (rest
+    ∙ same_map {g = others} (λ u small. grind (arith, nat_tests)) us c.fits-units.1)).1

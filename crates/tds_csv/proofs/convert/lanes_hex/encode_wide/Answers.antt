@@ -1,12 +1,16 @@
-use Rattle.tds_csv.proofs.{Words.{common_steps, ◌≡◌, ◌+◌, ◌*◌, ◌++◌, ℕ, List, take, arith, rules, chunk, encode_lower, lower_digits}, SingleLaws.{hex-append, hex-nil}, Singles.text_taken}
+use Rattle.tds_csv.proofs.Words.{common_steps, ◌≡◌, ◌+◌, ◌*◌, ◌++◌, ℕ, List, take, arith, rules, chunk, encode_lower, lower_digits}
+use Rattle.tds_csv.proofs.SingleLaws.{hex-append, hex-nil}
+use Rattle.tds_csv.proofs.Singles.{text_taken}
 use Rattle.tds_csv.proofs.convert.lanes_hex.encode_wide.Goals as goal
 
 pub loop-at-init : goal.loop-at-init
 loop-at-init c = grind (arith, common_steps, hex-nil)
 
 -- the digits of twice 16 bytes were written
-two_steps : (bytes first second third : List ℕ) (at : ℕ) → take (2 * at) first ≡ encode_lower (take at bytes) → take (2 * at + 32) second ≡ take (2 * at) first ++ encode_lower (chunk at 16 bytes)
-    → take (2 * (at + 16) + 32) third ≡ take (2 * (at + 16)) second ++ encode_lower (chunk (at + 16) 16 bytes) → take (2 * (at + 32)) third ≡ encode_lower (take (at + 32) bytes)
+two_steps : (bytes first second third : List ℕ) (at : ℕ) → take (2 * at) first ≡ encode_lower (take at bytes)
+    → take (2 * at + 32) second ≡ take (2 * at) first ++ encode_lower (chunk at 16 bytes)
+    → take (2 * (at + 16) + 32) third ≡ take (2 * (at + 16)) second ++ encode_lower (chunk (at + 16) 16 bytes)
+    → take (2 * (at + 32)) third ≡ encode_lower (take (at + 32) bytes)
 two_steps bytes first second third at before one two =
     let half : 2 * at + 32 ≡ 2 * (at + 16) = omega arith in
     let all : 2 * (at + 16) + 32 ≡ 2 * (at + 32) = omega arith in
@@ -15,4 +19,9 @@ two_steps bytes first second third at before one two =
     rw end at (rw all at (text_taken encode_lower (hex-append lower_digits) bytes (at + 16) 16 two (rw half at more)))
 
 pub loop-at-preserved : goal.loop-at-preserved
-loop-at-preserved c = record { within = omega arith; room = search rules; digits = two_steps c.args.bytes.now _ _ _ c.loop-at.at c.loop-at.invariant.digits c.put_digits.ensures c.put_digits-in-loop-at.ensures }
+loop-at-preserved c = record {
+  within = omega arith;
+  room = search rules;
+  digits = two_steps c.args.bytes.now _ _ _ c.loop-at.at
+      c.loop-at.invariant.digits c.put_digits.ensures c.put_digits-in-loop-at.ensures;
+}

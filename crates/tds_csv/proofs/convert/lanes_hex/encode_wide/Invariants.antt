@@ -3,7 +3,12 @@ use Rattle.tds_csv.proofs.convert.lanes_hex.encode_wide.Given as goal
 
 -- the digits of the bytes so far stand there
 abbrev pub invariant-loop-at : goal.invariant-loop-at
-invariant-loop-at l = record { within : l.at ≤ length l.bytes; room : length l.to ≡ 2 * length l.bytes; digits : take (2 * l.at) l.to ≡ encode_lower (take l.at l.bytes) }
+invariant-loop-at l = record {
+  within : l.at ≤ length l.bytes;
+  room : length l.to ≡ 2 * length l.bytes;
+  digits : take (2 * l.at) l.to ≡ encode_lower
+      (take l.at l.bytes);
+}
 
 abbrev pub decreases-loop-at : goal.decreases-loop-at
 decreases-loop-at l = length l.bytes - l.at

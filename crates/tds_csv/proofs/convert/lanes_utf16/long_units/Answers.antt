@@ -6,5 +6,6 @@ returns c =
     let long = c.fits-units.0 in
     let id = sym (map-id us) in
     c.first_set.ensures ∙ units_before is_long _ us long c.fits-units.1
-    (zip2_of_maps _ _ _ us (zip2_of_maps _ _ _ us id (splat_is_map us 8 2048 long)) (zip2_of_maps _ _ _ us (zip2_of_maps _ _ _ us id (splat_is_map us 8 55296 long)) (splat_is_map us 8 2048 long)))
+    (zip2_of_maps _ _ _ us (zip2_of_maps _ _ _ us id (splat_is_map us 8 2048 long))
+    (zip2_of_maps _ _ _ us (zip2_of_maps _ _ _ us id (splat_is_map us 8 55296 long)) (splat_is_map us 8 2048 long)))
     (λ u small. grind (arith, nat_tests))

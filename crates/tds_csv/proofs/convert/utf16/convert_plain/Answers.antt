@@ -5,13 +5,15 @@ pub returns-then-n-eq0-clause-after : goal.returns-then-n-eq0-clause-after
 returns-then-n-eq0-clause-after c =
     let n = c.put_plain-n.ensures in
     let room = c.loop-at-test.true in
-    plain_more c.put_plain-n.result (lies_itself c.args.bytes.now) (omega arith) (omega arith) n.most (omega arith) c.loop-at.invariant.long n.written c.loop-at.invariant.now
+    plain_more c.put_plain-n.result (lies_itself c.args.bytes.now) (omega arith) (omega arith) n.most (omega arith) c.loop-at.invariant.long n.written
+    c.loop-at.invariant.now
 
 pub convert_one-one-requires-clause-before : goal.convert_one-one-requires-clause-before
 convert_one-one-requires-clause-before c =
     let n = c.put_plain-n.ensures in
     let room = c.loop-at-test.true in
-    plain_more c.put_plain-n.result (lies_itself c.args.bytes.now) (omega arith) (omega arith) n.most (omega arith) c.loop-at.invariant.long n.written c.loop-at.invariant.now
+    plain_more c.put_plain-n.result (lies_itself c.args.bytes.now) (omega arith) (omega arith) n.most (omega arith) c.loop-at.invariant.long n.written
+    c.loop-at.invariant.now
 
 pub loop-at-preserved-then-n-eq-UNITS : goal.loop-at-preserved-then-n-eq-UNITS
 loop-at-preserved-then-n-eq-UNITS c =
@@ -19,10 +21,12 @@ loop-at-preserved-then-n-eq-UNITS c =
     record {
       more = omega arith;
       long = search rules;
-      now = plain_more 8 (lies_itself c.args.bytes.now) (omega arith) (omega arith) (omega arith) (omega arith) c.loop-at.invariant.long c.put_plain-n.ensures.written c.loop-at.invariant.now;
+      now = plain_more 8 (lies_itself c.args.bytes.now) (omega arith) (omega arith) (omega arith) (omega arith) c.loop-at.invariant.long
+          c.put_plain-n.ensures.written c.loop-at.invariant.now;
     }
 
 pub returns-clause-after : goal.returns-clause-after
 returns-clause-after c =
     let min = c.min-n.ensures in
-    plain_more c.min-n.result c.requires.inside (search (arith, rules)) (omega arith) (omega arith) (omega arith) c.loop-at.invariant.long c.put_plain.ensures.written c.loop-at.invariant.now
+    plain_more c.min-n.result c.requires.inside (search (arith, rules)) (omega arith) (omega arith) (omega arith) c.loop-at.invariant.long
+    c.put_plain.ensures.written c.loop-at.invariant.now

@@ -1,4 +1,9 @@
-use Rattle.tds_csv.{proofs.{Words.{common_steps, ◌≡◌, ◌≢◌, ◌%◌, ◌++◌, ℕ, List, [], length, drop, sym, ap, arith, length-drop, append-nil, encode_utf8, emit, doubled}, Characters.doubled_length, Utf16Laws.joins_utf16, Utf16Steps.{characters_nil, nil_of_length, spells_held}}, specs.Utf16Next.LeavesRest}
+use Rattle.tds_csv.proofs.Words.{common_steps, ◌≡◌, ◌≢◌, ◌%◌, ◌++◌, ℕ, List, [], length, drop, sym, ap, arith, length-drop, append-nil, encode_utf8}
+use Rattle.tds_csv.proofs.Words.{emit, doubled}
+use Rattle.tds_csv.proofs.Characters.{doubled_length}
+use Rattle.tds_csv.proofs.Utf16Laws.{joins_utf16}
+use Rattle.tds_csv.proofs.Utf16Steps.{characters_nil, nil_of_length, spells_held}
+use Rattle.tds_csv.specs.Utf16Next.{LeavesRest}
 use Rattle.tds_csv.specs.Utf16 as utf16
 use Rattle.tds_csv.proofs.convert.utf16.convert_whole.Goals as goal
 
@@ -14,7 +19,8 @@ left_text bytes tail is two =
     ap doubled (rw (none, characters_nil, append-nil) at (spells_held tail (omega arith) (ap (λ n. n % 2) two) (sym again)))
 
 -- so the text of whole data ends with it
-ended : (bytes tail : List ℕ) → length bytes % 2 ≡ 0 → tail ≡ utf16.rest bytes → length tail ≡ 2 → utf16.text bytes ≡ emit utf16.rest utf16.text bytes ++ doubled (encode_utf8 0xFFFD)
+ended : (bytes tail : List ℕ) → length bytes % 2 ≡ 0 → tail ≡ utf16.rest bytes → length tail ≡ 2
+    → utf16.text bytes ≡ emit utf16.rest utf16.text bytes ++ doubled (encode_utf8 0xFFFD)
 ended bytes tail whole is two = cc (joins_utf16.ends bytes whole, left_text bytes tail is two)
 
 pub returns-clause-short : goal.returns-clause-short

@@ -8,4 +8,10 @@ convert_by_hand-made-requires-clause-before c =
 
 pub loop-at-preserved-then-n-eq-WIDE : goal.loop-at-preserved-then-n-eq-WIDE
 loop-at-preserved-then-n-eq-WIDE c =
-    record { within = omega arith; fits = search rules; room = omega arith; text = text_taken windows_1252.text windows_1252-append _ _ _ c.take_wide-n.ensures.taken c.loop-at.invariant.text }
+    record {
+      within = omega arith;
+      fits = search rules;
+      room = omega arith;
+      text = text_taken windows_1252.text windows_1252-append _ _ _
+          c.take_wide-n.ensures.taken c.loop-at.invariant.text;
+    }

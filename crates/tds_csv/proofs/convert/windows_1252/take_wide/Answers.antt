@@ -1,4 +1,6 @@
-use Rattle.tds_csv.proofs.{Words.{◌∙◌, ◌≡◌, ◌++◌, ◌≤◌, ap, take, arith, chunk, prefix_len, length-chunk, is_plain}, Masks.run_most, PlainText.wide_lanes}
+use Rattle.tds_csv.proofs.Words.{◌∙◌, ◌≡◌, ◌++◌, ◌≤◌, ap, take, arith, chunk, prefix_len, length-chunk, is_plain}
+use Rattle.tds_csv.proofs.Masks.{run_most}
+use Rattle.tds_csv.proofs.PlainText.{wide_lanes}
 use Rattle.tds_csv.proofs.convert.windows_1252.take_wide.Goals as goal
 
 pub put_wide_bytes-requires-clause-lanes : goal.put_wide_bytes-requires-clause-lanes
@@ -8,10 +10,16 @@ pub put_wide_bytes-requires-2-clause-lanes : goal.put_wide_bytes-requires-2-clau
 put_wide_bytes-requires-2-clause-lanes c = length-chunk c.args.at 32 c.args.bytes.now c.requires.wide
 
 pub put_wide_bytes-requires-2-clause-within : goal.put_wide_bytes-requires-2-clause-within
-put_wide_bytes-requires-2-clause-within c = omega (arith, c.first_set-n.ensures, c.wide_stops-stops.ensures, run_most is_plain c.args.bytes.now c.args.at 32 c.requires.wide)
+put_wide_bytes-requires-2-clause-within c =
+    omega (arith, c.first_set-n.ensures, c.wide_stops-stops.ensures, run_most is_plain c.args.bytes.now c.args.at 32 c.requires.wide)
 
 pub returns-clause-most : goal.returns-clause-most
-returns-clause-most c = omega (arith, c.first_set-n.ensures, c.wide_stops-stops.ensures, run_most is_plain c.args.bytes.now c.args.at 32 c.requires.wide)
+returns-clause-most c = omega (
+  arith,
+  c.first_set-n.ensures,
+  c.wide_stops-stops.ensures,
+  run_most is_plain c.args.bytes.now c.args.at 32 c.requires.wide,
+)
 
 pub returns-clause-taken : goal.returns-clause-taken
 returns-clause-taken c =

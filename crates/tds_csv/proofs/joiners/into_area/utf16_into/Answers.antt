@@ -1,10 +1,13 @@
-use Rattle.tds_csv.proofs.{Words.{◌≡◌, ◌∙◌, [], drop, arith, common_steps, length-drop, encode_utf8}, Cuts.{added_more, stays_cut, stays_whole}, Utf16Steps.{characters_nil, nil_of_length}}
+use Rattle.tds_csv.proofs.Words.{◌≡◌, ◌∙◌, [], drop, arith, common_steps, length-drop, encode_utf8}
+use Rattle.tds_csv.proofs.Cuts.{added_more, stays_cut, stays_whole}
+use Rattle.tds_csv.proofs.Utf16Steps.{characters_nil, nil_of_length}
 use Rattle.tds_csv.proofs.joiners.into_area.utf16_into.Goals as goal
 
 pub returns-in-Err : goal.returns-in-Err
 returns-in-Err c =
     let is : c.bytes.result.now ≡ encode_utf8 c.character_at-next.result.code = grind (arith, common_steps) in
-    c.in-Err.ensures.err ∙ stays_cut c.loop-at.invariant.added c.character_at-next.result.code _ c.character_at-next.ensures.spells is c.in-Err.ensures.full
+    c.in-Err.ensures.err ∙ stays_cut c.loop-at.invariant.added c.character_at-next.result.code _ c.character_at-next.ensures.spells is
+    c.in-Err.ensures.full
 
 pub loop-at-preserved : goal.loop-at-preserved
 loop-at-preserved c = grind (arith, common_steps, added_more)

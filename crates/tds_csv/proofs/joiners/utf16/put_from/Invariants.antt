@@ -7,7 +7,8 @@ abbrev pub invariant-loop-at : goal.invariant-loop-at
 invariant-loop-at g l = record {
   within : l.at ≤ length l.bytes;
   after : l.from ≤ l.at;
-  puts : (out : List ℕ) × PutsPiece g.W.Write.contents l.initial.sink l.sink out (Ok (tt {0})) × Leads utf16.rest utf16.text (drop l.from l.bytes) (drop l.at l.bytes) out;
+  puts : (out : List ℕ) × PutsPiece g.W.Write.contents l.initial.sink l.sink out (Ok (tt {0}))
+      × Leads utf16.rest utf16.text (drop l.from l.bytes) (drop l.at l.bytes) out;
 }
 
 abbrev pub decreases-loop-at : goal.decreases-loop-at

@@ -3,12 +3,14 @@ use Rattle.tds_csv.proofs.sink.Sink.put.Goals as goal
 
 pub returns-in_err-push : goal.returns-in_err-push
 returns-in_err-push g c =
-    puts_break (λ l. l) (λ x y. refl) c.loop-taken.taken (c.loop-taken.taken + c.min-n.result) c.args.piece.now (omega arith) c.loop-taken.invariant.puts c.in_err-push.ensures c.from_residual-in_err-push.ensures.1
+    puts_break (λ l. l) (λ x y. refl) c.loop-taken.taken (c.loop-taken.taken + c.min-n.result) c.args.piece.now (omega arith)
+    c.loop-taken.invariant.puts c.in_err-push.ensures c.from_residual-in_err-push.ensures.1
 
 pub loop-taken-preserved : goal.loop-taken-preserved
 loop-taken-preserved g c = record {
   within = search rules;
-  puts = puts_more (λ l. l) (λ x y. refl) c.loop-taken.taken (c.loop-taken.taken + c.min-n.result) c.args.piece.now (omega arith) c.loop-taken.invariant.puts c.in_ok-push.ensures;
+  puts = puts_more (λ l. l) (λ x y. refl) c.loop-taken.taken (c.loop-taken.taken + c.min-n.result) c.args.piece.now (omega arith)
+      c.loop-taken.invariant.puts c.in_ok-push.ensures;
 }
 
 pub returns : goal.returns

@@ -1,12 +1,17 @@
-use Rattle.tds_csv.proofs.{Words.{common_steps, refl, arith, length-drop, take_all}, Leading.{puts_part, puts_whole}, Pushings.{pushes_stopped, pushes_taken}, Utf16Seam.Leads-after}
+use Rattle.tds_csv.proofs.Words.{common_steps, refl, arith, length-drop, take_all}
+use Rattle.tds_csv.proofs.Leading.{puts_part, puts_whole}
+use Rattle.tds_csv.proofs.Pushings.{pushes_stopped, pushes_taken}
+use Rattle.tds_csv.proofs.Utf16Seam.{Leads-after}
 use Rattle.tds_csv.proofs.joiners.utf16.Utf16Joiner.push_long.Goals as goal
 
 pub returns-in_err-from : goal.returns-in_err-from
-returns-in_err-from g c = pushes_stopped c.requires.writing.writing tt refl (puts_part (Leads-after c.args.self.now.kept c.args.piece.now) c.in_err-from.ensures.puts) c.from_residual.ensures.1
+returns-in_err-from g c = pushes_stopped c.requires.writing.writing tt refl
+    (puts_part (Leads-after c.args.self.now.kept c.args.piece.now) c.in_err-from.ensures.puts) c.from_residual.ensures.1
 
 pub returns-in_err-at : goal.returns-in_err-at
 returns-in_err-at g c =
-    pushes_stopped c.requires.writing.writing tt refl (puts_whole c.in_ok-from.ensures.leads c.in_ok-from.ensures.puts c.in_err-at.ensures.puts) c.from_residual-in_err-at.ensures.1
+    pushes_stopped c.requires.writing.writing tt refl (puts_whole c.in_ok-from.ensures.leads c.in_ok-from.ensures.puts c.in_err-at.ensures.puts)
+    c.from_residual-in_err-at.ensures.1
 
 pub returns : goal.returns
 returns g c =

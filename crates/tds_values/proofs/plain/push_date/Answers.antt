@@ -1,4 +1,0 @@
-use Rattle.tds_values.proofs.{Words.{arith, append_assoc}, JiffDates.date_since_min}
-
-pub returns-clause-items : Rattle.tds_values.proofs.plain.push_date.Goals.returns-clause-items
-returns-clause-items c = grind (arith, append_assoc, date_since_min)

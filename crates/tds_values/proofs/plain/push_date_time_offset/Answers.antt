@@ -1,8 +1,0 @@
-use Rattle.tds_values.proofs.{Words.{arith, common_steps, to_z-of_z}, LocalLemmas.local_by_seconds, WrittenLemmas.local_spelt}
-use Rattle.tds_values.proofs.plain.push_date_time_offset.Goals as goal
-
-pub unreachable-requires : goal.unreachable-requires
-unreachable-requires c = grind (arith, local_by_seconds)
-
-pub returns-clause-items : goal.returns-clause-items
-returns-clause-items c = grind (arith, common_steps, to_z-of_z, local_spelt)

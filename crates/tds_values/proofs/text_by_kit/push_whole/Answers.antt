@@ -1,0 +1,11 @@
+use Rattle.tds_values.proofs.{Words.{arith, one-le-pow, pow-le-pow_right}, TextLengths.length-whole}
+use Rattle.tds_values.proofs.text_by_kit.push_whole.Goals as goal
+
+pub pow-requires : goal.pow-requires
+pow-requires c = grind (arith, pow-le-pow_right)
+
+pub nonzero_div-whole : goal.nonzero_div-whole
+nonzero_div-whole c = grind (arith, one-le-pow)
+
+pub returns-clause-len : goal.returns-clause-len
+returns-clause-len c = grind (arith, length-whole)

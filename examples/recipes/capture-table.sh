@@ -1,0 +1,38 @@
+#!/bin/sh
+# Makes a typed table, and one of pandas, of what a client and a server say on the network.
+#
+# Needs: `python3`, `openssl`, `tsql`, `tcpdump`, Python's `pandas`.
+#
+# Three commands are enough with your own server, whose port is 1433:
+#
+#     tcpdump -i any -s 0 -w orders.pcap 'tcp port 1433'
+#     gavyreto capture --packets --adapt orders.pcap captured
+#     python3 -c 'from pandas_frame import frame; print(frame("captured/NAME.tds"))'
+#
+# `-s 0` keeps whole frames, and `-i any` those of all interfaces; `tcpdump` needs the right to read them. With --packets the packets of
+# each response are beside its text, for all that reads a response; with --adapt columns that are refused are rewritten.
+#
+# The client here is `tsql`, and the server tools/stand-in, whose port is in PORT.
+#
+# It prints the types of the columns in SQL and in pandas.
+set -eu
+
+rm -rf orders.pcap captured tcpdump.notes
+tools/response orders > orders.tds
+printf '[global]\ntds version = 7.4\nencryption = request\n' > freetds.conf
+export FREETDSCONF="$PWD/freetds.conf"
+tools/stand-in --seconds 60 orders.tds -- sh -eu <<'SESSION'
+tcpdump -i any -s 0 -U --immediate-mode -w orders.pcap "tcp port $PORT" 2> tcpdump.notes &
+until grep -q 'listening on' tcpdump.notes; do
+    kill -0 $! || { cat tcpdump.notes; exit 1; }
+    sleep 0.1
+done
+printf 'SELECT * FROM orders\ngo\nexit\n' | tsql -H 127.0.0.1 -p "$PORT" -U reader -P secret > tsql.out 2> tsql.notes
+until [ "$(tcpdump -r orders.pcap 'tcp[tcpflags] & tcp-fin != 0' 2> reading.notes | wc -l)" -ge 2 ]; do
+    sleep 0.1
+done
+kill $!
+python3 -m gavyreto capture --packets --adapt --port "$PORT" orders.pcap captured > captured.table 2> captured.notes
+SESSION
+python3 -m gavyreto columns captured/*.1.tds
+PYTHONPATH=$PYTHONPATH:examples/recipes python3 -c 'import glob; from pandas_frame import frame; print(frame(*glob.glob("captured/*.1.tds")).dtypes.to_string())'

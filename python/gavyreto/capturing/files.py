@@ -1,0 +1,198 @@
+"""The frames in a capture: files of pcap and pcapng (draft-ietf-opsawg-pcap, draft-ietf-opsawg-pcapng), also as they come from a
+pipe, and compressed by gzip."""
+from __future__ import annotations
+
+import gzip
+import io
+import struct
+import zlib
+from collections.abc import Iterator
+from typing import IO, NamedTuple, cast
+
+GZIP = b"\x1F\x8B"
+PCAP = {  # by the first bytes: the order of bytes, and the units of time in a second
+    b"\xD4\xC3\xB2\xA1": ("<", 10**6), b"\xA1\xB2\xC3\xD4": (">", 10**6), b"\x4D\x3C\xB2\xA1": ("<", 10**9), b"\xA1\xB2\x3C\x4D": (">", 10**9)}
+PCAPNG = b"\x0A\x0D\x0D\x0A"
+ORDERS = {b"\x4D\x3C\x2B\x1A": "<", b"\x1A\x2B\x3C\x4D": ">"}
+SECTION, INTERFACE, OLD_PACKET, SIMPLE_PACKET, PACKET = 0x0A0D0D0A, 1, 2, 3, 6  # types of blocks of pcapng
+RESOLUTION, OFFSET = 9, 14  # options of an interface: units of time in a second, seconds to add
+MOST_OF_A_FRAME = 1 << 20  # bytes; a greater length is no length
+MOST_OF_A_BLOCK = 1 << 24
+HEAD = 4096  # bytes that are looked at before a file is read
+
+
+class Frame(NamedTuple):
+    """A frame: microseconds since 1970, the type of its link, its bytes as far as they were captured, and its length."""
+
+    time: int
+    link: int
+    data: bytes
+    length: int
+
+
+class CutShort(Exception):
+    """A capture ends within a frame, or goes on with what is none. The message says which."""
+
+
+class Source:
+    """The bytes of a file, a pipe, or what gzip made of them, of which the first can be looked at before they are read."""
+
+    def __init__(self, file: IO[bytes]) -> None:
+        self._file = io.BufferedReader(cast(io.RawIOBase, file), 1 << 18)
+        if self._file.peek(2)[:2] == GZIP:
+            self._file = io.BufferedReader(cast(io.RawIOBase, gzip.GzipFile(fileobj=self._file)), 1 << 18)
+        self._head = self._first(HEAD)
+
+    def _first(self, length: int) -> bytes:
+        head = b""
+        while len(head) < length:
+            piece = self._some(length - len(head))
+            if not piece:
+                break
+            head += piece
+        return head
+
+    def _some(self, length: int) -> bytes:
+        try:
+            return self._file.read(length)
+        except (EOFError, zlib.error, gzip.BadGzipFile) as cut:
+            raise CutShort(f"the compressed file ends too early, or is damaged: {cut}") from None
+
+    def head(self) -> bytes:
+        """The first bytes, which `read` gives too."""
+        return self._head
+
+    def read(self, length: int) -> bytes:
+        """As many bytes, or fewer at the end."""
+        if not self._head:
+            return self._some(length)
+        data, self._head = self._head[:length], self._head[length:]
+        return data if len(data) == length else data + self._some(length - len(data))
+
+    def lines(self) -> Iterator[bytes]:
+        """The lines, each at most as long as a line of a dump may be; a longer one comes in several."""
+        rest = b""
+        while True:
+            block = self.read(1 << 16)
+            pieces = (rest + block).split(b"\n")
+            rest = pieces.pop()
+            yield from pieces
+            if not block or len(rest) > 1 << 16:
+                yield rest
+                rest = b""
+            if not block:
+                return
+
+
+def is_capture(head: bytes) -> bool:
+    """Whether a file that begins so is a capture."""
+    return head[:4] in PCAP or head[:4] == PCAPNG
+
+
+def frames(source: Source) -> Iterator[Frame]:
+    """The frames of a capture. Raises `CutShort` after the last whole one if it doesn't end there."""
+    return _pcapng(source) if source.head()[:4] == PCAPNG else _pcap(source)
+
+
+def _need(source: Source, length: int, what: str) -> bytes:
+    data = source.read(length)
+    if len(data) < length:
+        raise CutShort(f"the capture ends within {what}")
+    return data
+
+
+def _pcap(source: Source) -> Iterator[Frame]:
+    head = _need(source, 24, "its header")
+    order, units = PCAP[head[:4]]
+    link = struct.unpack_from(order + "I", head, 20)[0] & 0xFFFF  # the bits above tell of check sequences
+    record = struct.Struct(order + "IIII")
+    read, unpack, nanoseconds = source.read, record.unpack, units // 10**6
+    while True:
+        head = read(16)
+        if len(head) < 16:
+            break
+        seconds, parts, captured, length = unpack(head)
+        if captured > MOST_OF_A_FRAME:
+            raise CutShort(f"the capture goes on with what is no frame: {captured} bytes")
+        data = read(captured)
+        if len(data) < captured:
+            raise CutShort("the capture ends within a frame")
+        yield Frame(seconds * 10**6 + parts // nanoseconds, link, data, max(length, captured))
+    if head:
+        raise CutShort("the capture ends within a frame's header")
+
+
+class _Interface(NamedTuple):
+    """An interface of a section: its link, the bytes that are captured of a frame, the units of time, the offset in seconds."""
+
+    link: int
+    most: int
+    units: int
+    offset: int
+
+
+def _pcapng(source: Source) -> Iterator[Frame]:
+    order, interfaces = "<", list[_Interface]()
+    while True:
+        head = source.read(8)
+        if not head:
+            return
+        if len(head) < 8:
+            raise CutShort("the capture ends within a block's header")
+        if head[:4] == PCAPNG:
+            mark = _need(source, 4, "a section's header")
+            if mark not in ORDERS:
+                raise CutShort("the capture goes on with a section in no order of bytes")
+            order, interfaces = ORDERS[mark], []
+            head += mark
+        kind, length = struct.unpack_from(order + "II", head)
+        if not 12 <= length <= MOST_OF_A_BLOCK or length % 4:
+            raise CutShort(f"the capture goes on with what is no block: {length} bytes")
+        body = _need(source, length - len(head), "a block")[:-4]
+        if kind == INTERFACE:
+            interfaces.append(_interface(order, body))
+        elif kind in (PACKET, SIMPLE_PACKET, OLD_PACKET):
+            try:
+                yield _frame(order, kind, body, interfaces)
+            except (struct.error, IndexError):
+                raise CutShort("the capture goes on with a block that is no frame") from None
+
+
+def _interface(order: str, body: bytes) -> _Interface:
+    if len(body) < 8:
+        raise CutShort("the capture goes on with an interface that is none")
+    link, most = struct.unpack_from(order + "HxxI", body)
+    units, offset, at = 10**6, 0, 8
+    while at + 4 <= len(body):
+        option, length = struct.unpack_from(order + "HH", body, at)
+        value = body[at + 4:at + 4 + length]
+        if option == RESOLUTION and value:
+            units = 2 ** (value[0] & 0x7F) if value[0] & 0x80 else 10 ** value[0]
+        elif option == OFFSET and len(value) == 8:
+            offset = struct.unpack(order + "q", value)[0]
+        at += 4 + length + -length % 4
+    return _Interface(link, most, units, offset)
+
+
+def _frame(order: str, kind: int, body: bytes, interfaces: list[_Interface]) -> Frame:
+    if kind == SIMPLE_PACKET:
+        length, = struct.unpack_from(order + "I", body)
+        captured = min(length, interfaces[0].most or length)
+        return Frame(0, interfaces[0].link, _whole(body[4:4 + captured], captured), length)
+    number, high, low, captured, length = struct.unpack_from(order + ("IIIII" if kind == PACKET else "HxxIIII"), body)
+    interface = interfaces[number]
+    time = interface.offset * 10**6 + (high << 32 | low) * 10**6 // interface.units
+    return Frame(time, interface.link, _whole(body[20:20 + captured], captured), max(length, captured))
+
+
+def _whole(data: bytes, captured: int) -> bytes:
+    if len(data) < captured:
+        raise IndexError
+    return data
+
+
+def opened(path: str) -> IO[bytes]:
+    """A file by its name, or standard input."""
+    return open(0 if path == "-" else path, "rb", buffering=0, closefd=path != "-")
+
+

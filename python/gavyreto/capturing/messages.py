@@ -1,0 +1,223 @@
+"""Messages of TDS as they come in pieces: what a client asks, and the packets of a server (MS-TDS, Packets)."""
+from __future__ import annotations
+
+import re
+from collections.abc import Container
+from dataclasses import dataclass
+from enum import Enum
+from typing import Optional
+
+from gavyreto import tds
+from gavyreto.capturing.streams import Piece
+from gavyreto.tds import PacketType
+
+TLS_RECORDS = range(0x14, 0x18)  # types of TLS records
+MARS = 0x53
+PROCEDURE, BULK, FEDERATED, TRANSACTION, SSPI = 0x03, 0x07, 0x08, 0x0E, 0x11  # further types of packets that a client sends
+STATEMENT_LENGTH = 60  # characters of a statement that are shown
+MOST_OF_A_STATEMENT = 4096  # bytes that these are looked for in
+
+
+class Asked(Enum):
+    """What a message of a client asks for."""
+
+    GREETING = "(a greeting)"
+    LOGIN = "(a login)"
+    STATEMENT = "(a statement)"
+    PROCEDURE = "(a procedure call)"
+    BULK = "(a bulk load)"
+    TRANSACTION = "(a request of a transaction)"
+    ATTENTION = "(an attention)"
+
+
+KINDS = {
+    PacketType.STATEMENT: Asked.STATEMENT, PROCEDURE: Asked.PROCEDURE, PacketType.ATTENTION: Asked.ATTENTION, BULK: Asked.BULK,
+    TRANSACTION: Asked.TRANSACTION, PacketType.LOGIN: Asked.LOGIN, SSPI: Asked.LOGIN, FEDERATED: Asked.LOGIN, PacketType.PRELOGIN: Asked.GREETING}
+
+
+@dataclass
+class Request:
+    """A message of a client: what the server had sent as far as the client knew, and when it began."""
+
+    kind: Asked
+    words: str
+    acknowledged: int
+    time: int
+
+
+def is_header(data: bytes, kinds: Container[int]) -> bool:
+    """Whether a packet may begin so."""
+    return len(data) >= tds.HEADER and data[0] in kinds and tds.HEADER <= tds.length_of(data) <= tds.GREATEST_PACKET_SIZE
+
+
+def is_record(data: bytes) -> bool:
+    """Whether a record of TLS begins so."""
+    return len(data) >= 2 and data[0] in TLS_RECORDS and data[1] == 3
+
+
+def shortened(body: bytes) -> str:
+    """The first words of a statement, on one line."""
+    headers = int.from_bytes(body[:4], "little")  # bytes before the text, as it itself says
+    text = body[headers:len(body) & ~1 | headers & 1].decode("utf-16-le", "replace")
+    words = re.sub(r"[\s\x00-\x1F\x7F-\x9F]+", " ", text[:4 * STATEMENT_LENGTH]).strip()
+    return words if len(words) <= STATEMENT_LENGTH else words[:STATEMENT_LENGTH - 2].rstrip() + " .."
+
+
+class Requests:
+    """Takes the bytes of a client, and finds its messages."""
+
+    def __init__(self) -> None:
+        self.strange = 0  #: bytes that are in no message
+        self._waiting = b""  # of a header that isn't whole
+        self._left = 0  # bytes of the packet or record under way
+        self._kind: Optional[Asked] = None  # of the message under way
+        self._is_last, self._is_lost = False, False
+        self._body, self._time, self._acknowledged = bytearray(), 0, 0
+
+    def lose(self) -> None:
+        """Bytes are lacking: what was under way is no message, and the next one begins with a piece."""
+        self.strange += len(self._waiting)
+        self._waiting, self._left, self._kind, self._is_lost = b"", 0, None, True
+
+    def is_between(self) -> bool:
+        """Whether no message is under way."""
+        return not self._waiting and not self._left and self._kind is None
+
+    def take(self, piece: Piece) -> list[Request]:
+        """The messages that end in a piece."""
+        found: list[Request] = []
+        data, self._waiting = self._waiting + piece.data, b""
+        if self._is_lost and not is_header(data, KINDS) and not is_record(data):
+            self.strange += len(data)
+            return found
+        self._is_lost, at = False, 0
+        while at < len(data):
+            if not self._left:
+                used = self._begin(data[at:at + tds.HEADER], piece)
+                if used == 0:
+                    self._keep(data[at:])
+                    break
+                at += used
+            body = data[at:at + self._left]
+            if self._kind is Asked.STATEMENT and len(self._body) < MOST_OF_A_STATEMENT:
+                self._body += body[:MOST_OF_A_STATEMENT]
+            at += len(body)
+            self._left -= len(body)
+            self._acknowledged = piece.acknowledged
+            if not self._left and self._is_last:
+                found.append(self._request())
+        return found
+
+    def _begin(self, head: bytes, piece: Piece) -> int:
+        """Takes a header, and returns its length, or 0 if there is none."""
+        if is_record(head) and len(head) >= 5:
+            kind, length, size, self._is_last = Asked.LOGIN, int.from_bytes(head[3:5], "big"), 5, True
+        elif is_header(head, KINDS):
+            kind, length, size, self._is_last = KINDS[head[0]], tds.length_of(head) - tds.HEADER, tds.HEADER, bool(head[1] & tds.LAST)
+        else:
+            return 0
+        if self._kind is None:
+            self._kind, self._time = kind, piece.time
+            self._body.clear()
+        self._left = length
+        return size
+
+    def _keep(self, rest: bytes) -> None:
+        """A header that isn't whole waits; anything else is passed over, up to the piece that begins with one."""
+        if len(rest) < tds.HEADER and (rest[0] in KINDS or rest[0] in TLS_RECORDS):
+            self._waiting = rest
+        else:
+            self.strange += len(rest)
+            self._kind, self._is_lost = None, True
+
+    def _request(self) -> Request:
+        kind, self._kind = self._kind or Asked.STATEMENT, None
+        words = shortened(bytes(self._body)) if kind is Asked.STATEMENT else kind.value
+        return Request(kind, words, self._acknowledged, self._time)
+
+
+# What a server sends.
+
+class Packets:
+    """Follows the packets of a message of a server through pieces that are cut anywhere."""
+
+    def __init__(self, kinds: tuple[int, ...], is_numbered: bool) -> None:
+        self.is_over = False  #: after the last packet
+        self.wrong = ""  #: why what comes next isn't the next packet
+        self.channel: Optional[int] = None  #: the SPID of its packets
+        self.tail = b""  #: its last bytes, as many as a DONE has
+        self._kinds, self._is_numbered = kinds, is_numbered
+        self._header, self._left, self._is_last = b"", 0, False
+        self._number: Optional[int] = None  # of the packet before
+        self._is_constant = False  # whether all packets have the number of the first
+
+    def is_within(self) -> bool:
+        """Whether a packet is under way."""
+        return bool(self._left or self._header)
+
+    def take(self, data: bytes) -> int:
+        """How many bytes, from the first on, belong to the message. If something is wrong, a header's bytes too many were taken."""
+        at = 0
+        while at < len(data) and not self.is_over and not self.wrong:
+            if self._left:
+                end = min(at + self._left, len(data))
+                self._left -= end - at
+                self.tail = (self.tail + data[max(at, end - tds.DONE_LENGTH):end])[-tds.DONE_LENGTH:]
+                at = end
+            else:
+                end = at + tds.HEADER - len(self._header)
+                self._header += data[at:end]
+                at = min(end, len(data))
+                if len(self._header) == tds.HEADER:
+                    self._begin()
+            self.is_over = self._is_last and not self._left and not self._header
+        return at
+
+    def _begin(self) -> None:
+        """A header is whole."""
+        header, self._header = self._header, b""
+        number, channel = header[6], header[4] << 8 | header[5]
+        if not is_header(header, self._kinds):
+            self.wrong = "no packet follows"
+        elif self.channel is not None and channel != self.channel:
+            self.wrong = f"a packet of SPID {channel} comes within a message of SPID {self.channel}"
+        elif not self._follows(number):
+            self.wrong = f"packet {number} comes after packet {self._number}" if self._number is not None else f"its first packet has number {number}"
+        if self.wrong:
+            return
+        self.channel, self._number = channel, number
+        self._left, self._is_last = tds.length_of(header) - tds.HEADER, bool(header[1] & tds.LAST)
+
+    def _follows(self, number: int) -> bool:
+        """Whether a packet with this number comes next: one more, modulo 256. Where the stream itself shows that none is lacking,
+        packets may also have one number all."""
+        if self._number is None:
+            return not self._is_numbered or number in (0, 1)
+        if number == (self._number + 1) % 256 and not self._is_constant:
+            return True
+        self._is_constant = not self._is_numbered and number == self._number
+        return self._is_constant
+
+
+# What an answer is, if nothing is known of the client.
+
+def is_greeting(payload: bytes) -> bool:
+    """Whether a payload is the answer to a PRELOGIN: a table of options with their places and lengths (MS-TDS, PRELOGIN)."""
+    at = 0
+    while payload[at:at + 1] not in (b"", b"\xFF"):
+        place, length = int.from_bytes(payload[at + 1:at + 3], "big"), int.from_bytes(payload[at + 3:at + 5], "big")
+        if payload[at] > 10 or place + length > len(payload):
+            return False
+        at += 5
+    return at > 0 and payload[at:at + 1] == b"\xFF"
+
+
+LOGIN_TOKENS = (tds.Token.ENV_CHANGE, tds.Token.INFO, tds.Token.ERROR, 0xED)  # what comes before the LOGINACK
+
+
+def is_login(payload: bytes) -> bool:
+    """Whether a payload begins as the answer to a login: with a LOGINACK, after changes and messages only."""
+    at = 0
+    while at < len(payload) and payload[at] in LOGIN_TOKENS:
+        at += 3 + int.from_bytes(payload[at + 1:at + 3], "little")
+    return at < len(payload) and payload[at] == tds.Token.LOGIN_ACK

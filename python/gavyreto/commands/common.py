@@ -1,0 +1,262 @@
+"""What the commands share: statuses, lines, standard input and output, arguments, and how the program tds_replay ended."""
+from __future__ import annotations
+
+import argparse
+import codecs
+import os
+import re
+import stat
+import sys
+from typing import IO, Callable, Iterable, NamedTuple, Optional, Union
+
+from gavyreto import program, tds
+from gavyreto.errors import BadAnswer, ConnectionFailed, Fault, Report, ServerError
+from gavyreto.payload import Ended
+
+# Exit statuses; all but the last are those of tds_replay.
+DONE, REFUSED, SERVER_ERROR, BAD_INPUT, FAILED, NO_MEMORY, INTERRUPTED = 0, 2, 3, 4, 5, 6, 130
+OF_SIGNAL = 128  # is added to the number of a signal
+
+STANDARD_INPUT, STANDARD_OUTPUT, STANDARD_ERROR = 0, 1, 2
+STREAMS = ("standard input", "standard output", "standard error")
+# Characters that a terminal obeys, that change the direction or the place of others, or that no UTF-8 has.
+CONTROLS = re.compile("[\0-\x1F\x7F-\x9F\u200B-\u200F\u2028-\u202E\u2060-\u206F\uFEFF\uD800-\uDFFF]")
+LONGEST_HEAD = 4096  # bytes by which a file is known
+CAPTURE = "a capture of the network: gavyreto capture reads it"
+BEGINNINGS = {
+    b"\xD4\xC3\xB2\xA1": CAPTURE, b"\xA1\xB2\xC3\xD4": CAPTURE, b"\x4D\x3C\xB2\xA1": CAPTURE, b"\xA1\xB2\x3C\x4D": CAPTURE,
+    b"\x0A\x0D\x0D\x0A": CAPTURE, b"\x1F\x8B": "compressed: gunzip -c gives what is in it", b"\xFD7zXZ": "compressed: xz -dc gives what is in it",
+    b"PK\x03\x04": "compressed: unzip -p gives what is in it", b"BZh": "compressed: bunzip2 -c gives what is in it",
+    b"\x28\xB5\x2F\xFD": "compressed: zstd -dc gives what is in it",
+    b'"': "a text that tds_replay wrote, and no packets: gavyreto.read reads it",
+}
+OF_TESTS = "GAVYRETO_TRACEBACK"  # a variable that lets the traceback of an unforeseen exception out
+
+
+class Stopped(Exception):
+    """A line for standard error, and the status to end with."""
+
+    def __init__(self, line: str, status: int) -> None:
+        super().__init__(line)
+        self.status = status
+
+
+# Lines.
+
+def escaped(text: str) -> str:
+    """A text in which control characters are spelt, as `\\x1b`. A byte of a name that isn't UTF-8 is spelt too."""
+    return CONTROLS.sub(lambda found: _spelt(ord(found[0])), text)
+
+
+def _spelt(number: int) -> str:
+    if 0xDC80 <= number <= 0xDCFF:  # as Python reads such a byte
+        number -= 0xDC00
+    return f"\\x{number:02x}" if number < 0x100 else f"\\u{number:04x}"
+
+
+def say(text: str) -> None:
+    """Writes to standard error; a failure changes no status, as with tds_replay."""
+    try:
+        sys.stderr.write(text)
+        sys.stderr.flush()
+    except (OSError, ValueError):
+        pass  # it is closed, or full
+
+
+def tell(line: str) -> None:
+    """Writes one line to standard error, whatever is in it."""
+    say(escaped(line) + "\n")
+
+
+def tell_all(notes: str) -> None:
+    """Writes the lines of the program to standard error, at once."""
+    say("".join(escaped(it) + "\n" for it in notes.split("\n") if it))
+
+
+def line(values: Iterable[Union[None, int, str]]) -> str:
+    """A line of a table, as tds_replay writes it."""
+    return ",".join("NULL" if it is None else str(it) if isinstance(it, int) else '"' + it.replace('"', '""') + '"' for it in values) + "\r\n"
+
+
+def cause_of(failure: OSError) -> str:
+    """Why a call of the system failed."""
+    return failure.strerror or str(failure) or type(failure).__name__
+
+
+# The end of a command.
+
+def ending_of(failure: BaseException) -> tuple[str, int]:
+    """The line that tells what ended a command, and its exit status."""
+    if isinstance(failure, Stopped):
+        return str(failure), failure.status
+    if isinstance(failure, ServerError):
+        return str(failure), SERVER_ERROR
+    if isinstance(failure, Ended):
+        return "the response ends before its last packet", BAD_INPUT
+    if isinstance(failure, BadAnswer):
+        return str(failure), BAD_INPUT
+    if isinstance(failure, ConnectionFailed):
+        return str(failure), FAILED
+    if isinstance(failure, OSError):
+        name = os.fsdecode(failure.filename) if isinstance(failure.filename, (str, bytes)) else "a read or a write"
+        return f"{name}: {cause_of(failure)}", FAILED
+    if isinstance(failure, KeyboardInterrupt):
+        return "interrupted", INTERRUPTED
+    if isinstance(failure, MemoryError):
+        return "want of memory", NO_MEMORY
+    if os.environ.get(OF_TESTS):
+        raise failure
+    return f"gavyreto failed, which it shouldn't: {type(failure).__name__}: {failure}", FAILED
+
+
+# Standard input, output and error.
+
+_closed: set[int] = set()  # of descriptors 0 to 2, those that were closed when the command began
+
+
+def open_descriptors() -> None:
+    """Opens /dev/null on each of the descriptors 0 to 2 that is closed: a file or a socket that is opened later would take its
+    place, and get what is written there."""
+    for number in (STANDARD_INPUT, STANDARD_OUTPUT, STANDARD_ERROR):
+        try:
+            os.fstat(number)
+        except OSError:
+            _closed.add(number)
+            os.set_inheritable(os.open(os.devnull, os.O_RDWR), True)  # the lowest number that is free
+    sys.stdin = sys.stdin or open(STANDARD_INPUT, encoding="utf-8", closefd=False)
+    sys.stdout = sys.stdout or open(STANDARD_OUTPUT, "w", encoding="utf-8", closefd=False)
+    sys.stderr = sys.stderr or open(STANDARD_ERROR, "w", encoding="utf-8", closefd=False)
+
+
+def needed(number: int) -> int:
+    """A descriptor of standard input or output. Raises `Stopped` if it was closed when the command began."""
+    if number in _closed:
+        raise Stopped(f"{STREAMS[number]} is closed", FAILED)
+    return number
+
+
+def open_response(name: str) -> IO[bytes]:
+    """A recorded response, or standard input if its name is "-". Raises `Stopped` if it can't be read, or is something else."""
+    shown = STREAMS[STANDARD_INPUT] if name == "-" else name
+    try:
+        file = open(needed(STANDARD_INPUT) if name == "-" else name, "rb", closefd=name != "-")
+        head = file.peek(LONGEST_HEAD)
+    except OSError as failure:
+        raise Stopped(f"{shown}: {cause_of(failure)}", FAILED) from None
+    other = other_than_response(head)
+    if other:
+        file.close()
+        raise Stopped(f"{shown} is {other}", BAD_INPUT)
+    return file
+
+
+def other_than_response(head: bytes) -> str:
+    """What a file is that begins like this, and what reads it; "" for a response, or if nothing is there."""
+    if not head or head[0] == tds.PacketType.ANSWER:
+        return ""
+    known = next((what for magic, what in BEGINNINGS.items() if head.startswith(magic)), None)
+    if known:
+        return known
+    if _is_text(head):
+        return "the dump of a client of FreeTDS: gavyreto capture reads it" if b"packet" in head else "a text, and no packets"
+    if head[0] == tds.MARS:
+        return "packets within those of MARS: ask without MARS"
+    if head[0] in tds.TLS_RECORDS:
+        return "encrypted: the bytes after decryption are needed"
+    if head[0] in tuple(tds.PacketType):
+        return "what a client sent: the packets of the server are needed"
+    return f"no response: its first byte is 0x{head[0]:02x}, and that of a packet of a server is 0x04"
+
+
+def _is_text(head: bytes) -> bool:
+    """Whether bytes are the beginning of a text in UTF-8."""
+    try:
+        return not re.search("[^\t\r\n -\x7E\xA0-\U0010FFFF]", codecs.getincrementaldecoder("utf-8")().decode(head))
+    except UnicodeDecodeError:
+        return False
+
+
+def is_one_file(path: Union[str, int], other: Union[str, int]) -> bool:
+    """Whether two names, or a name and a descriptor, are one file. A device or a pipe is read and written without harm."""
+    try:
+        found, read = os.stat(path), os.stat(other)
+    except OSError:
+        return False
+    return stat.S_ISREG(found.st_mode) and os.path.samestat(found, read)
+
+
+def put(text: str) -> None:
+    """Writes to standard output. Raises `Stopped` if it can't be written."""
+    try:
+        program.write_all(needed(STANDARD_OUTPUT), text.encode("utf-8", "surrogateescape"))
+    except OSError as failure:
+        raise Stopped(f"{STREAMS[STANDARD_OUTPUT]}: {cause_of(failure)}", FAILED) from None
+
+
+# Arguments.
+
+def number_in(least: int, most: int) -> Callable[[str], int]:
+    """A parser of numbers of a range, which have only decimal digits."""
+    def number(text: str) -> int:
+        digits = text.lstrip("0") or "0"
+        if not re.fullmatch("[0-9]+", text) or len(digits) > len(str(most)) or not least <= int(digits) <= most:
+            raise argparse.ArgumentTypeError(f"{text[:40]} is not in {least} to {most}")
+        return int(digits)
+    return number
+
+
+def add_options_of_program(parser: argparse.ArgumentParser) -> None:
+    """The options of commands that run tds_replay."""
+    parser.add_argument("--column-room", metavar="N", type=number_in(10, 67108864), default=program.COLUMN_ROOM, help="as of tds_replay")
+    parser.add_argument("--charset", choices=program.CHARSETS, default=program.CHARSETS[0], help="of char and varchar")
+    parser.add_argument("--program", metavar="FILE", default=program.PROGRAM, help="tds_replay, without it that of the path")
+
+
+def checked_program(name: str) -> str:
+    """The path of the program, which is there and is tds_replay."""
+    try:
+        path = program.path_of(name)
+        if program.version_of(path):
+            return path
+        raise Stopped(f"{path} isn't tds_replay", REFUSED)
+    except OSError as failure:
+        raise Stopped(cause_of(failure), REFUSED) from None
+
+
+# The end of the program.
+
+class Ending(NamedTuple):
+    """How the program ended on a response."""
+
+    status: int  #: its own; 128 and the number of the signal that ended it; 5 if its lines, its status and its text don't agree
+    line: str  #: its first line, or what is wrong
+    notes: str  #: all its lines, or the same line
+    written: int  #: bytes of text that it wrote, as it says
+
+    def line_after(self, line: str) -> str:
+        """One line, of what happened and what the program says to it."""
+        return ": ".join(it for it in (line, self.line) if it)
+
+
+def judged(status: int, notes: str, length: Optional[int] = None) -> Ending:
+    """What the program's status and lines come to, and the bytes of the text that it left, where they are known."""
+    said, first = program.report_of(notes), notes.partition("\n")[0]
+    if status < 0:
+        return _wrong(OF_SIGNAL - status, f"tds_replay was ended by the signal {-status}")
+    written = program.written_by(said) if said else 0
+    if status in (DONE, SERVER_ERROR, BAD_INPUT) and (not _agree(status, said) or length not in (None, written)):
+        left = "" if length is None else f", and a text of {length} bytes"
+        return _wrong(FAILED, f"tds_replay ended with status {status}{left}: {first}")
+    if said is None:
+        return _wrong(status, first or f"tds_replay ended with status {status} and no line")
+    return Ending(status, first, notes, written)
+
+
+def _wrong(status: int, line: str) -> Ending:
+    return Ending(status, line, line + "\n", 0)
+
+
+def _agree(status: int, said: Union[Report, Fault, ServerError, None]) -> bool:
+    """Whether a status is that of what the program says."""
+    kinds = {DONE: Report, SERVER_ERROR: ServerError, BAD_INPUT: Fault}
+    return isinstance(said, kinds[status])

@@ -1,0 +1,103 @@
+"""Tests of `capture` by captures by chance: each answer is exact, or something is told; of harmless ones nothing is."""
+from __future__ import annotations
+
+import io
+import os
+import unittest
+from collections import Counter
+from typing import NamedTuple
+
+from gavyreto.capturing import files
+from gavyreto.capturing.accounts import Accounts
+from gavyreto.capturing.connections import Connections
+from gavyreto.capturing.conversations import Answer, Sides
+from gavyreto.capturing.frames import WRONG_CHECKSUM
+from tests.capture_cases import Case, case
+
+CASES = int(os.environ.get("CASES", "1000"))
+
+
+class Kept:
+    """The packets of an answer, in memory."""
+
+    def __init__(self) -> None:
+        self.data = b""
+
+    def write(self, data: bytes) -> None:
+        self.data += data
+
+    def cut(self, length: int) -> None:
+        self.data = self.data[:-length]
+
+    def first(self, length: int) -> bytes:
+        return self.data[:length]
+
+    def drop(self) -> None:
+        pass
+
+
+class Desk:
+    """What was handed on: the answers that are whole, and what was told."""
+
+    def __init__(self) -> None:
+        self.answers: list[bytes] = []
+        self.told: list[str] = []
+
+    def keep(self) -> Kept:
+        return Kept()
+
+    def answer(self, _: Sides, answer: Answer) -> None:
+        assert isinstance(answer.kept, Kept)
+        if answer.why or not answer.packets.is_over:
+            self.told.append(answer.why)
+        else:
+            self.answers.append(answer.kept.data)
+
+    def tell(self, _: Sides, time: int, why: str, statement: str = "") -> None:
+        self.told.append(why)
+
+
+class Read(NamedTuple):
+    """What a capture gave."""
+
+    answers: list[bytes]
+    told: list[str]
+    accounts: Accounts
+
+
+def read(data: bytes) -> Read:
+    """What a capture gives."""
+    desk, accounts = Desk(), Accounts()
+    connections = Connections({1433}, desk, accounts)
+    try:
+        for frame in files.frames(files.Source(io.BytesIO(data))):
+            connections.take(frame)
+    except files.CutShort as cut:
+        desk.told.append(str(cut))
+    connections.finish()
+    desk.told += [reason for reason in accounts.unread if reason != WRONG_CHECKSUM]
+    desk.told += ["cut frames"] * bool(connections.cut) + ["no connection"] * (not accounts.connections)
+    return Read(desk.answers, desk.told, accounts)
+
+
+def wrong(made: Case) -> str:
+    """What is wrong with what a capture gives, or nothing."""
+    came = read(made.data)
+    is_exact = Counter(came.answers) == Counter(made.answers)
+    if not came.accounts.meets():
+        return f"{made.what}: the sums don't meet: {came.accounts.line()}"
+    if made.is_harmless and came.told:
+        return f"{made.what}: told {came.told}"
+    if not is_exact and not came.told:
+        return f"{made.what}: {len(came.answers)} answers of {len(made.answers)}, and nothing is told"
+    return ""
+
+
+class Generated(unittest.TestCase):
+    def test_each_answer_is_exact_or_told(self) -> None:
+        found = [it for it in map(wrong, map(case, range(CASES))) if it]
+        self.assertEqual("\n".join(found[:20]), "")
+
+
+if __name__ == "__main__":
+    unittest.main()

@@ -1,0 +1,99 @@
+"""Tests of what the commands share: each exception is one line and a status, and no line moves a terminal."""
+from __future__ import annotations
+
+import argparse
+import io
+import os
+import random
+import signal
+import subprocess
+import sys
+import unittest
+from contextlib import redirect_stderr
+from typing import Any
+from unittest import mock
+
+from gavyreto import __main__ as entry
+from gavyreto.commands import common
+from gavyreto.commands.common import Ending, Stopped, judged
+from gavyreto.errors import BadAnswer, ConnectionFailed, ServerError
+from gavyreto.payload import Ended
+from tests.beside import Live, started
+
+SERVER_LINE = "server error 1, state 1, class 16, line 1: no"
+
+
+class Exceptions(unittest.TestCase):
+    def ended(self, failure: BaseException) -> tuple[int, str]:
+        said = io.StringIO()
+        with mock.patch.object(entry, "run", side_effect=failure), mock.patch.dict(os.environ), redirect_stderr(said):
+            os.environ.pop(common.OF_TESTS, None)
+            status = entry.ended([])
+        return status, said.getvalue()
+
+    def test_each_is_a_line_and_a_status(self) -> None:
+        cases: list[tuple[BaseException, int, str]] = [
+            (Stopped("it", 2), 2, "it"), (ServerError(SERVER_LINE), 3, SERVER_LINE), (BadAnswer("it"), 4, "it"), (ConnectionFailed("it"), 5, "it"),
+            (Ended(), 4, "the response ends before its last packet"), (FileNotFoundError(2, "No such file", "x"), 5, "x: No such file"),
+            (OSError(28, "No space left"), 5, "a read or a write: No space left"), (OSError("odd"), 5, "a read or a write: odd"),
+            (KeyboardInterrupt(), 130, "interrupted"), (MemoryError(), 6, "want of memory"),
+            (KeyError("x"), 5, "gavyreto failed, which it shouldn't: KeyError: 'x'"), (RecursionError("deep"), 5, "gavyreto failed, which it shouldn't: RecursionError: deep"),
+            (Stopped("a\x1b[2J\r\nb\u202e\udcff\x85", 2), 2, "a\\x1b[2J\\x0d\\x0ab\\u202e\\xff\\x85"),
+        ]
+        for failure, status, line in cases:
+            with self.subTest(failure=failure):
+                self.assertEqual(self.ended(failure), (status, line + "\n"))
+        self.assertEqual(self.ended(SystemExit(2)), (2, ""))
+
+    def test_an_unforeseen_one_is_let_out_in_tests_alone(self) -> None:
+        with mock.patch.object(entry, "run", side_effect=KeyError("x")), mock.patch.dict(os.environ, {common.OF_TESTS: "1"}), self.assertRaises(KeyError):
+            entry.ended([])
+
+
+class Numbers(unittest.TestCase):
+    def test_numbers_of_a_range(self) -> None:
+        number = common.number_in(8, 32767)
+        self.assertEqual([number(text) for text in ("8", "32767", "0" * 9000 + "9")], [8, 32767, 9])
+        for text in ("7", "32768", "9" * 5000, "", "-8", "+8", "8.0", " 8", "٨", "1_0"):
+            with self.subTest(text=text[:10]), self.assertRaises(argparse.ArgumentTypeError):
+                number(text)
+
+
+class Endings(unittest.TestCase):
+    REPORT, FAULT = "sets 1 rows 2 errors 0 infos 0 written 9\n", "fault 7 MessageEnded at payload 40, written 6, unwritten 0\n"
+
+    def test_lines_status_and_text_have_to_agree(self) -> None:
+        error = self.REPORT.replace("errors 0", "errors 1") + SERVER_LINE + "\n"
+        cases: list[tuple[int, str, Any, int]] = [
+            (0, self.REPORT, 9, 0), (0, self.REPORT, None, 0), (3, error, 9, 3), (4, self.FAULT, 6, 4), (0, self.REPORT, 8, 5), (0, self.FAULT, 6, 5),
+            (3, self.REPORT, 9, 5), (4, self.REPORT, 9, 5), (0, error, 9, 5), (0, "", 0, 5), (0, "hello\n", 0, 5), (5, "cannot read x\n", 0, 5),
+            (6, "want of memory\n", 0, 6), (2, "error: no\n\nmore\n", 0, 2), (7, "", 0, 7), (-9, "", 0, 137), (-9, self.REPORT, 9, 137),
+        ]
+        for status, notes, length, wanted in cases:
+            with self.subTest(status=status, notes=notes, length=length):
+                came = judged(status, notes, length)
+                self.assertEqual((came.status, came.line.count("\n"), bool(came.line)), (wanted, 0, True))
+        self.assertEqual(judged(0, self.REPORT, 9), Ending(0, self.REPORT.strip(), self.REPORT, 9))
+        self.assertEqual(judged(-9, self.REPORT).line, "tds_replay was ended by the signal 9")
+
+
+class Interrupts(Live):
+    def test_ctrl_c_at_any_time(self) -> None:
+        """From the first line of the package on it is a line and a status, or the signal itself; never a traceback of the package."""
+        numbers = random.Random(4)
+        for _ in range(40):
+            given = started()
+            del given["stdin"]
+            run = subprocess.Popen([sys.executable, "-m", "gavyreto", "columns"], stdin=subprocess.PIPE, stdout=subprocess.PIPE, stderr=subprocess.PIPE, **given)
+            with self.subTest(), run:
+                try:
+                    run.wait(numbers.uniform(0, 0.15))
+                except subprocess.TimeoutExpired:
+                    run.send_signal(signal.SIGINT)
+                _, said = run.communicate()
+                self.assertNotIn(b"/gavyreto/commands/", said)
+                self.assertIn(run.returncode, (130, 1, -signal.SIGINT))
+
+
+if __name__ == "__main__":
+    unittest.main()

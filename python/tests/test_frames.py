@@ -1,0 +1,67 @@
+"""Tests of `frame`, beside pandas, by Debian's Python."""
+from __future__ import annotations
+
+import os
+import subprocess
+import sys
+import unittest
+
+from tests.beside import PROGRAM, ROOT, skip, started
+
+sys.path[:0] = [os.path.join(ROOT, "tools")]
+from lib import requirements  # noqa: E402
+
+SCRIPT = """
+import sys, tempfile, decimal, gavyreto, pandas
+from tests import beside
+program = beside.PROGRAM
+rows = gavyreto.export(beside.wire("kinds", 3000), program=program).only()
+table = rows.frame()
+values = [list(row) for row in gavyreto.export(beside.wire("kinds", 3000), program=program).only()]
+assert list(table.columns) == rows.names and table.shape == (3000, len(rows.names)), table.shape
+for place in range(table.shape[1]):
+    came = [None if it is pandas.NA else it for it in table.iloc[:, place]]
+    assert came == [row[place] for row in values], (rows.names[place], came[:3])
+print(sorted({(column.type.partition("(")[0], str(kind)) for column, kind in zip(rows.columns, table.dtypes)}))
+empty = gavyreto.export(beside.wire("sets"), program=program)
+*_, last = empty
+print(dict(last.frame().dtypes))
+with tempfile.NamedTemporaryFile() as file:
+    file.write(b'"a","b","a","c"\\r\\n1,"x",NULL,1.50\\r\\nNULL,NULL,NULL,99999999999999999999999999999999999.00\\r\\n')
+    file.flush()
+    table = next(gavyreto.read(file.name)).frame()
+# no package of Debian has pyarrow: what it is asked for
+import types
+class Table:
+    @staticmethod
+    def from_pandas(frame, preserve_index):
+        return frame, preserve_index
+sys.modules["pyarrow"] = types.ModuleType("pyarrow")
+sys.modules["pyarrow"].Table = Table
+whole, keeps_index = gavyreto.export(beside.wire("kinds", 3000), program=program).only().arrow()
+assert whole.shape == (3000, len(rows.names)) and not keeps_index
+print(list(table.columns), [str(kind) for kind in table.dtypes], table.iloc[1, 3] == decimal.Decimal("99999999999999999999999999999999999.00"))
+"""
+KINDS = {
+    "tinyint": "UInt8", "smallint": "Int16", "int": "Int32", "bigint": "Int64", "bit": "UInt8", "char": "string", "nchar": "string", "varchar": "string",
+    "nvarchar": "string",
+}
+
+
+class Frames(unittest.TestCase):
+    def test_each_kind(self) -> None:
+        """Each value as the rows have it, in columns typed by those of SQL; a text's by its values."""
+        if not requirements.has_module(requirements.DEBIAN_PYTHON, "pandas"):
+            skip(self, "Python's module pandas isn't there: `make needs` installs it")
+        came = subprocess.run(
+            [requirements.DEBIAN_PYTHON, "-B", "-c", SCRIPT], cwd=os.path.join(ROOT, "python"), capture_output=True, text=True, check=False, **started(PROGRAM=PROGRAM))
+        self.assertEqual((came.returncode, came.stderr), (0, ""))
+        kinds, empty, text = came.stdout.splitlines()
+        found = dict(eval(kinds))
+        self.assertEqual({kind: found[kind] for kind in KINDS if kind in found}, {kind: it for kind, it in KINDS.items() if kind in found})
+        self.assertEqual({it for kind, it in found.items() if kind not in KINDS}, {"object"})
+        self.assertEqual((empty, text), ("{'id': Int32Dtype()}", "['a', 'b', 'a', 'c'] ['Int64', 'string', 'object', 'object'] True"))
+
+
+if __name__ == "__main__":
+    unittest.main()
