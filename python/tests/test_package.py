@@ -113,3 +113,15 @@ class Installed(unittest.TestCase):
             came = subprocess.run([shutil.which("python3") or DEBIAN, "-m", "gavyreto", *words], cwd=os.path.join(ROOT, "python"), capture_output=True, check=False)
             with self.subTest(words=words):
                 self.assertEqual((came.returncode, bool(came.stdout), bool(came.stderr)), (status, status == 0, status != 0))
+
+    def test_flags_of_sqlcmd(self) -> None:
+        """A flag that means something else here is refused by a line that says what to write; a password isn't repeated."""
+        for words, wanted in (
+            (["-Q", "SELECT 1"], "argument"), (["-P", "secret"], "SQLCMDPASSWORD"), (["-Psecret"], "SQLCMDPASSWORD"), (["-E"], "-U NAME"),
+            (["-t", "5"], "--seconds"), (["-a", "4096"], "--packet-size"), (["-S", "db:1434"], "db,1434"), (["-S", "tcp:db:1434"], "db,1434"),
+        ):
+            command = [shutil.which("python3") or DEBIAN, "-m", "gavyreto", "query", "-U", "reader", *words]
+            came = subprocess.run(command, cwd=os.path.join(ROOT, "python"), capture_output=True, text=True, check=False)
+            with self.subTest(words=words):
+                self.assertEqual((came.returncode, came.stdout, "secret" in came.stderr), (2, "", False))
+                self.assertIn(wanted, came.stderr.splitlines()[-1])

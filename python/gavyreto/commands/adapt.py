@@ -12,15 +12,15 @@ import argparse
 import os
 
 from gavyreto.adapting import Adapter
-from gavyreto.commands.common import BAD_INPUT, FAILED, REFUSED, STANDARD_OUTPUT, STREAMS, Stopped, cause_of, is_one_file, needed, open_response
+from gavyreto.commands.common import BAD_INPUT, FAILED, REFUSED, STANDARD_OUTPUT, STREAMS, Stopped, cause_of, is_one_file, needed, open_response, parser_of
 from gavyreto.program import CHARSETS, write_all
 
 
 def arguments(words: list[str]) -> argparse.Namespace:
-    parser = argparse.ArgumentParser(prog="gavyreto adapt", description=__doc__, formatter_class=argparse.RawDescriptionHelpFormatter)
-    parser.add_argument("-o", "--output", metavar="FILE", help="in place of standard output")
-    parser.add_argument("--charset", choices=CHARSETS, default=CHARSETS[0], help="of text of one byte a character within a sql_variant")
-    parser.add_argument("file", metavar="FILE", nargs="?", default="-", help="the response; without it, or if it is -, standard input")
+    parser = parser_of("adapt", __doc__)
+    parser.add_argument("-o", "--output", metavar="FILE", help="file to write (default: standard output)")
+    parser.add_argument("--charset", choices=CHARSETS, default=CHARSETS[0], help="character set of char and varchar within a sql_variant")
+    parser.add_argument("file", metavar="FILE", nargs="?", default="-", help="the response (default, or -: standard input)")
     return parser.parse_args(words)
 
 

@@ -38,7 +38,7 @@ from gavyreto.capturing.keeping import Kept, Room
 from gavyreto.capturing.messages import is_header
 from gavyreto.commands.common import (
     BAD_INPUT, FAILED, OF_SIGNAL, REFUSED, SERVER_ERROR, Ending, Stopped, add_options_of_program, checked_program, judged, line, number_in,
-    put, tell,
+    parser_of, put, tell,
 )
 from gavyreto.payload import Ended
 from gavyreto.tds import PacketType
@@ -204,9 +204,9 @@ def take_dump(source: files.Source, export: Export, accounts: Accounts, notes: N
 
 
 def arguments(words: list[str]) -> argparse.Namespace:
-    parser = argparse.ArgumentParser(prog="gavyreto capture", description=__doc__, formatter_class=argparse.RawDescriptionHelpFormatter)
+    parser = parser_of("capture", __doc__)
     add = parser.add_argument
-    add("--port", metavar="N", type=number_in(1, 65535), action="append", help="of servers, without it 1433; more than once for several")
+    add("--port", metavar="N", type=number_in(1, 65535), action="append", help="port of a server (default: 1433); repeat it for several")
     add("--packets", action="store_true", help="keep the packets of each response beside its text, for columns, adapt and many")
     add("--adapt", action="store_true", help="rewrite columns that tds_replay refuses, as the command adapt does; the packets kept are those rewritten")
     add_options_of_program(parser)

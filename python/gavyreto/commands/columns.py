@@ -11,17 +11,17 @@ import argparse
 from typing import IO
 
 from gavyreto.columns import TABLES, Column, create_table
-from gavyreto.commands.common import BAD_INPUT, REFUSED, STANDARD_OUTPUT, Stopped, line, needed, open_response, put
+from gavyreto.commands.common import BAD_INPUT, REFUSED, STANDARD_OUTPUT, Stopped, line, needed, open_response, parser_of, put
 from gavyreto.payload import Payload, descriptions
 
 HEADER = ("set", "name", "type", "length", "precision", "scale", "nullable")
 
 
 def arguments(words: list[str]) -> argparse.Namespace:
-    parser = argparse.ArgumentParser(prog="gavyreto columns", description=__doc__, formatter_class=argparse.RawDescriptionHelpFormatter)
-    parser.add_argument("--as", dest="form", choices=["csv", *TABLES], default="csv", help="what is printed, without it csv")
-    parser.add_argument("--table", metavar="NAME", help="of the table, without it response; {} is the number of the set, from 1")
-    parser.add_argument("file", metavar="FILE", nargs="?", default="-", help="the response; without it, or if it is -, standard input")
+    parser = parser_of("columns", __doc__)
+    parser.add_argument("--as", dest="form", choices=["csv", *TABLES], default="csv", help="form of the output (default: csv)")
+    parser.add_argument("--table", metavar="NAME", help="name of the table (default: response); {} is the number of the set, from 1")
+    parser.add_argument("file", metavar="FILE", nargs="?", default="-", help="the response (default, or -: standard input)")
     return parser.parse_args(words)
 
 

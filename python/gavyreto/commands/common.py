@@ -7,6 +7,7 @@ import os
 import re
 import stat
 import sys
+import textwrap
 from typing import IO, Callable, Iterable, NamedTuple, Optional, Union
 
 from gavyreto import program, tds
@@ -195,6 +196,19 @@ def put(text: str) -> None:
 
 # Arguments.
 
+class Help(argparse.HelpFormatter):
+    """Help whose paragraphs, those of a module's docstring, are as wide as the terminal."""
+
+    def _fill_text(self, text: str, width: int, indent: str) -> str:
+        paragraphs = (" ".join(it.split()) for it in text.split("\n\n"))
+        return "\n\n".join(textwrap.fill(it, width, initial_indent=indent, subsequent_indent=indent) for it in paragraphs)
+
+
+def parser_of(command: str, about: Optional[str]) -> argparse.ArgumentParser:
+    """The parser of a command's arguments; help begins with its module's docstring."""
+    return argparse.ArgumentParser(prog=f"gavyreto {command}", description=about, formatter_class=Help)
+
+
 def number_in(least: int, most: int) -> Callable[[str], int]:
     """A parser of numbers of a range, which have only decimal digits."""
     def number(text: str) -> int:
@@ -207,9 +221,9 @@ def number_in(least: int, most: int) -> Callable[[str], int]:
 
 def add_options_of_program(parser: argparse.ArgumentParser) -> None:
     """The options of commands that run tds_replay."""
-    parser.add_argument("--column-room", metavar="N", type=number_in(10, 67108864), default=program.COLUMN_ROOM, help="as of tds_replay")
-    parser.add_argument("--charset", choices=program.CHARSETS, default=program.CHARSETS[0], help="of char and varchar")
-    parser.add_argument("--program", metavar="FILE", default=program.PROGRAM, help="tds_replay, without it that of the path")
+    parser.add_argument("--column-room", metavar="N", type=number_in(10, 67108864), default=program.COLUMN_ROOM, help="bytes for the description of columns, as in tds_replay")
+    parser.add_argument("--charset", choices=program.CHARSETS, default=program.CHARSETS[0], help="character set of char and varchar")
+    parser.add_argument("--program", metavar="FILE", default=program.PROGRAM, help="the program tds_replay (default: the one on PATH)")
 
 
 def checked_program(name: str) -> str:

@@ -25,8 +25,8 @@ from typing import Any, Iterator, NamedTuple, Optional, Union
 
 from gavyreto import program
 from gavyreto.commands.common import (
-    BAD_INPUT, DONE, FAILED, INTERRUPTED, REFUSED, SERVER_ERROR, Stopped, add_options_of_program, cause_of, checked_program, line, number_in, say,
-    tell,
+    BAD_INPUT, DONE, FAILED, INTERRUPTED, REFUSED, SERVER_ERROR, Stopped, add_options_of_program, cause_of, checked_program, line, number_in,
+    parser_of, say, tell,
 )
 from gavyreto.exporting import UNFINISHED, Outcome, Stamp, export_file, stamp_of, version_of
 from gavyreto.records import record_at
@@ -360,10 +360,10 @@ def summed(files: list[str], table: Table) -> int:
 
 
 def arguments(words: list[str]) -> argparse.Namespace:
-    parser = argparse.ArgumentParser(prog="gavyreto many", description=__doc__, formatter_class=argparse.RawDescriptionHelpFormatter)
+    parser = parser_of("many", __doc__)
     add = parser.add_argument
-    add("-j", "--jobs", metavar="N", type=number_in(1, 1024), default=len(os.sched_getaffinity(0)), help="how many at once, without it as many as processors")
-    add("--scheduler", metavar="WHERE", help="of a Dask cluster: its address, or the file that it writes. Files and OUT have the same paths on each worker")
+    add("-j", "--jobs", metavar="N", type=number_in(1, 1024), default=len(os.sched_getaffinity(0)), help="responses read at once (default: the number of processors)")
+    add("--scheduler", metavar="WHERE", help="a Dask cluster: its address, or its scheduler file; each worker must see FILE and OUT under the same paths")
     add_options_of_program(parser)
     add("files", metavar="FILE", nargs="+", help="responses, or folders of them")
     add("out", metavar="OUT", help="the folder of the texts, which is made if it isn't there")

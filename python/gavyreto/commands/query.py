@@ -18,12 +18,12 @@ import select
 import signal
 import subprocess
 from types import FrameType
-from typing import IO, BinaryIO, Iterable, Iterator, NamedTuple, Optional, cast
+from typing import IO, BinaryIO, Iterable, Iterator, NamedTuple, NoReturn, Optional, cast
 
 from gavyreto import connection, program, tds
 from gavyreto.commands.common import (
     DONE, FAILED, INTERRUPTED, REFUSED, SERVER_ERROR, STANDARD_INPUT, STANDARD_OUTPUT, STREAMS, Ending, Stopped, add_options_of_program,
-    cause_of, checked_program, is_one_file, judged, needed, number_in, tell_all,
+    cause_of, checked_program, is_one_file, judged, needed, number_in, parser_of, tell_all,
 )
 from gavyreto.connection import BLOCK, Session
 from gavyreto.errors import ConnectionFailed
@@ -298,34 +298,55 @@ def session_of(asked: argparse.Namespace, password: str) -> Session:
 
 # Arguments.
 
+# Flags of sqlcmd that aren't flags here, and what to write instead.
+OF_SQLCMD = {
+    "-Q": "write the statement itself, as an argument", "-q": "write the statement itself, as an argument",
+    "-P": "put the password into the variable SQLCMDPASSWORD, or type it when it is asked for",
+    "-E": "the login is by SQL authentication: write -U NAME",
+    "-t": "write --seconds N", "-l": "write --seconds N", "-a": "write --packet-size N",
+    "-s": "the text is always CSV", "-W": "the text is always CSV",
+}
+
+
+class OfSqlcmd(argparse.Action):
+    """Refuses a flag of sqlcmd, and says what to write instead. What follows the flag, as a password, isn't repeated."""
+
+    def __call__(self, parser: argparse.ArgumentParser, namespace: argparse.Namespace, values: object, option_string: Optional[str] = None) -> NoReturn:
+        parser.error(f"{option_string} isn't an option here: {self.const}")
+
+
 def server(text: str) -> tuple[str, int]:
     """The host and the port of `[tcp:]HOST[,PORT]`."""
     host, comma, port = text[4 * text.startswith("tcp:"):].partition(",")
     if not host or "\\" in host:
         raise argparse.ArgumentTypeError(f"{text} is not HOST or HOST,PORT: a named instance has a port of its own")
+    name, colon, digits = host.partition(":")
+    if colon and digits.isdigit():  # an address of IPv6 has two colons at least
+        raise argparse.ArgumentTypeError(f"{text} is not HOST or HOST,PORT: write {name},{digits}")
     return host, number_in(1, 65535)(port) if comma else connection.PORT
 
 
 def arguments(words: list[str]) -> argparse.Namespace:
-    parser = argparse.ArgumentParser(
-        prog="gavyreto query", description=__doc__, formatter_class=argparse.RawDescriptionHelpFormatter)
+    parser = parser_of("query", __doc__)
     add = parser.add_argument
-    add("-S", "--server", metavar="HOST[,PORT]", type=server, required=True, help="the name that its certificate has, or an address")
-    add("-U", "--user", metavar="NAME", required=True)
-    add("-d", "--database", metavar="NAME", default="", help="without it that of the user")
-    add("-i", "--input", metavar="FILE", action="append", help="statements, in UTF-8; more than once for several files")
-    add("-o", "--output", metavar="FILE", help="in place of standard output; {} is the number of the statement, from 1")
+    add("-S", "--server", metavar="HOST[,PORT]", type=server, required=True, help="name of the server, as in its certificate, or its address")
+    add("-U", "--user", metavar="NAME", required=True, help="login name")
+    add("-d", "--database", metavar="NAME", default="", help="database to use (default: the user's)")
+    add("-i", "--input", metavar="FILE", action="append", help="file of statements, in UTF-8; repeat it for several")
+    add("-o", "--output", metavar="FILE", help="file to write (default: standard output); {} is the number of the statement, from 1")
     add("--encrypt", choices=connection.ENCRYPT, default=connection.ENCRYPT[0],
-        help="the least that is encrypted, without it all; a server that asks for more gets it")
-    add("-N", "-Nm", dest="encrypt", action="store_const", const="all", help="as --encrypt all")
-    add("-No", dest="encrypt", action="store_const", const="login", help="as --encrypt login")
-    add("-C", "--trust-server", action="store_true", help="don't verify the certificate: anyone between can read all")
-    add("--certificates", metavar="FILE", help="authorities to trust in place of the system's, in PEM")
-    add("--certificate-name", metavar="NAME", help="that the certificate has, without it HOST; also that of a server to which HOST redirects")
+        help="minimum encryption (default: all); a server that asks for more gets it")
+    add("-N", "-Nm", dest="encrypt", action="store_const", const="all", help="same as --encrypt all")
+    add("-No", dest="encrypt", action="store_const", const="login", help="same as --encrypt login")
+    add("-C", "--trust-server", action="store_true", help="accept any certificate: whoever is between can read everything")
+    add("--certificates", metavar="FILE", help="authorities to trust instead of the system's, in PEM")
+    add("--certificate-name", metavar="NAME", help="name in the certificate (default: HOST), also in that of a server to which HOST redirects")
     add("--seconds", metavar="N", type=number_in(1, 86400), default=connection.SECONDS,
-        help=f"the longest that the server may be silent, 1 to 86400, without it {connection.SECONDS}")
+        help=f"longest time that the server may be silent, 1 to 86400 (default: {connection.SECONDS})")
     add("--packet-size", metavar="N", type=number_in(tds.LEAST_PACKET_SIZE, tds.GREATEST_PACKET_SIZE), default=program.PACKET_SIZE_ASKED,
-        help=f"bytes asked for, 512 to 32767, without it {program.PACKET_SIZE_ASKED}")
+        help=f"packet size to ask for, 512 to 32767 (default: {program.PACKET_SIZE_ASKED})")
+    for flag, instead in OF_SQLCMD.items():
+        add(flag, nargs="?", action=OfSqlcmd, const=instead, help=argparse.SUPPRESS)
     add_options_of_program(parser)
     add("statements", metavar="STATEMENT", nargs="*")
     asked = parser.parse_args(words)

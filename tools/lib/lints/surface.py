@@ -250,11 +250,22 @@ def wrong_completion() -> Iterator[str]:
 
 # The Python package
 
+@functools.cache
+def package_help(*words: str) -> str:
+    """The help of the Python package's commands, as a terminal gets it."""
+    environment = os.environ | {"PYTHONPATH": repo.path_of("python"), "PYTHONDONTWRITEBYTECODE": "1", "COLUMNS": str(COLUMNS)}
+    return subprocess.run([sys.executable, "-m", "gavyreto", *words], env=environment, capture_output=True, text=True, check=True).stdout
+
+
 def package_options(command: str) -> set[str]:
     """The options that the help of a command of the Python package names."""
-    environment = os.environ | {"PYTHONPATH": repo.path_of("python"), "PYTHONDONTWRITEBYTECODE": "1", "COLUMNS": "120"}
-    said = subprocess.run([sys.executable, "-m", "gavyreto", command, "--help"], env=environment, capture_output=True, text=True, check=True).stdout
-    return set(re.findall(r"(?<![\w-])(--?[a-zA-Z][a-z-]*)\b", said.split("options:")[-1]))
+    return set(re.findall(r"(?<![\w-])(--?[a-zA-Z][a-z-]*)\b", package_help("help", command).split("options:")[-1]))
+
+
+def wide_help() -> Iterator[str]:
+    """Lines of the Python package's help that are wider than a terminal."""
+    for words in (["help"], *(["help", command] for command in package_commands())):
+        yield from (f"gavyreto {' '.join(words)} has a line of {len(it)} columns: {it}" for it in package_help(*words).splitlines() if len(it) > COLUMNS)
 
 
 def package_commands() -> dict[str, set[str]]:
@@ -311,7 +322,7 @@ def wrong_examples() -> Iterator[str]:
 def findings() -> Iterator[str]:
     """What isn't so of the command's surface."""
     checks = (
-        wrong_code, wrong_version, wrong_synopsis, wrong_options, wrong_statuses, wrong_remedies, wrong_help_texts, wrong_help, wrong_completion, wrong_package, wrong_ranges, wrong_examples,
+        wrong_code, wrong_version, wrong_synopsis, wrong_options, wrong_statuses, wrong_remedies, wrong_help_texts, wrong_help, wrong_completion, wrong_package, wide_help, wrong_ranges, wrong_examples,
     )
     for check in checks:
         yield from check()
