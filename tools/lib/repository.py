@@ -66,7 +66,9 @@ def files() -> list[str]:
 
 
 def listed() -> dict[str, list[str]]:
-    """Each crate of crates.txt with all that it names, in the order of the file."""
+    """Each crate of crates.txt with all that it names, in the order of the file; none where the package is that has some of the tools."""
+    if not os.path.exists(path_of("crates.txt")):
+        return {}
     with open(path_of("crates.txt"), encoding="utf-8") as lines:
         pairs = [line.split(":") for line in lines if ":" in line and not line.startswith("#")]
     return {name.strip(): named.split() for name, named in pairs}
