@@ -10,7 +10,9 @@ from collections.abc import Iterator
 from lib import repository as repo
 
 PAGES = ["README.md", *sorted(os.path.relpath(it, repo.ROOT) for it in glob.glob(repo.path_of("docs", "*.md")))]
-MOST_WORDS = {"README.md": 1_400, "docs/ARCHITECTURE.md": 2_000, "docs/RECIPES.md": 2_500}
+INDEX = "docs/README.md"
+BESIDE = ["CHANGELOG.md", "crates/README.md"]  # whose links are looked at
+MOST_WORDS = {"README.md": 1_300, "docs/ARCHITECTURE.md": 2_000, "docs/RECIPES.md": 2_500}
 MOST_IN_DOCS = 20_000
 
 
@@ -90,9 +92,19 @@ def long_pages() -> Iterator[str]:
         yield f"docs: {total} words, more than {MOST_IN_DOCS}"
 
 
+def without_entry() -> Iterator[str]:
+    """Pages and man pages that the index doesn't name."""
+    index = repo.text_of(INDEX)
+    for name in sorted(os.listdir(repo.path_of("docs"))):
+        is_page = name.endswith(".md") and f"]({name})" in index
+        if name.endswith((".md", ".1")) and name != os.path.basename(INDEX) and not is_page and f"`{name}`" not in index:
+            yield f"{INDEX}: no entry for {name}"
+
+
 def findings() -> Iterator[str]:
     """What isn't so in the pages."""
     files = repo.files()
     for page in PAGES:
         yield from (*dead_links(page), *wrong_names(page, files), *wrong_targets(page), *wrong_calls(page))
-    yield from long_pages()
+    yield from (it for page in BESIDE for it in dead_links(page))
+    yield from (*long_pages(), *without_entry())
