@@ -22,21 +22,21 @@ NEED_RT = command -v rt > /dev/null || { echo "rt isn't there: proving and build
 .PHONY: help try build export install uninstall deb needs test gate lint worked generated recipes python-tests bench try-test refused-memory check
 
 help:
-	@echo "make try FILE=F        exports the response in F before anything is proved"
+	@echo "make try FILE=F        exports the response in F, unproved"
 	@echo "make build             proves and builds the program, bin/tds_replay"
 	@echo "make export FILE=F     builds it, and exports the response in F"
-	@echo "make install PREFIX=P  puts it and its man page into P; uninstall takes them out"
-	@echo "make deb               makes a Debian package of it and of all other commands"
+	@echo "make install PREFIX=P  puts it, man page and completion into P; or uninstall"
+	@echo "make deb               makes a Debian package of it and of all commands"
 	@echo "make needs             installs what tests, recipes and pictures need, as root"
-	@echo "make test              proves what isn't proved yet, and runs every test"
-	@echo "make gate              what a merge needs: each proof, edit, test and script"
-	@echo "make lint              holds pages, help and completion to the sources; types"
+	@echo "make test              proves what isn't proved yet, and runs the crates' tests"
+	@echo "make gate              runs everything: each proof, edit, test and script"
+	@echo "make lint              compares pages, help and sources; checks types"
 	@echo "make worked            runs the program over the worked rows"
-	@echo "make generated         holds it to a plain reading of 8,000 responses"
+	@echo "make generated         compares it with a plain reading, response by response"
 	@echo "make recipes           runs the commands of the pages and of examples/recipes"
-	@echo "make python-tests      tests the Python package, beside a stand-in server too"
+	@echo "make python-tests      tests the Python package, also against a stand-in server"
 	@echo "make bench WHAT=W      measures text, values, export or peers"
-	@echo "PROGRAM=F takes the program F in place of the one that is built here."
+	@echo "PROGRAM=F uses the program F instead of the one that is built here."
 
 # `rt try` compiles the crates and checks while they run what it can; it proves nothing.
 try:

@@ -55,7 +55,7 @@ class Connection:
 
 
 class Blocks:
-    """An answer in blocks. Each is handed on once what is in it was read here: who waits for what is read waits for nobody else."""
+    """An answer in blocks. Each is handed on only after it was parsed here, so the parser never lags behind the program."""
 
     def __init__(self, session: Session, write: Write) -> None:
         self._session, self._write = session, write
@@ -111,7 +111,7 @@ def connect(
 
     server            the name that its certificate has, or an address
     database          without it that of the user
-    encrypt           the least that is encrypted: "all", "login" or "none"; a server that asks for more gets it
+    encrypt           minimum encryption: "all", "login" or "none"; a server that asks for more gets it
     certificates      a file of authorities to trust in place of the system's, in PEM
     certificate_name  the name that the certificate has, without it `server`; also that of a server to which it redirects
     trust_server      whether the certificate isn't verified: anyone between can read all then

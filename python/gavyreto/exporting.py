@@ -43,7 +43,7 @@ class Outcome(NamedTuple):
 
 
 def export_file(file: str, folder: str, command: list[str]) -> Outcome:
-    """Exports a file by the program to a text in a folder. Of one that failed nothing is left."""
+    """Exports a file by the program to a text in a folder. One that failed leaves nothing."""
     waiting = os.path.join(folder, f"{socket.gethostname()}.{os.getpid()}.{threading.get_ident()}.{time.monotonic_ns()}{UNFINISHED}")
     outcome = Outcome(file, FAILED, "interrupted")
     try:

@@ -19,23 +19,8 @@ ROOM = 3_500_000_000
 # The most processes that share a proof; more gain nothing.
 MOST_JOBS = 4
 
-# By how much a proof gets shorter if processes share it, each of which reads the libraries first.
-GAIN = 1.7
-
-# The minutes of a processor that a crate's proof takes, in the table of docs/PROOFS.md.
-MINUTES = re.compile(r"^\| `(\w+)` \| ([\d.]+) \|", re.M)
-
-
-def minutes_of(names: list[str]) -> float:
-    """How many minutes the proofs of these crates take by the clock, by the table of docs/PROOFS.md: all that they take of the
-    processors, or the longest chain of them, of which each waits for the one before."""
-    with open(repo.path_of("docs", "PROOFS.md"), encoding="utf-8") as page:
-        listed = {name: float(minutes) for name, minutes in MINUTES.findall(page.read())}
-    chains: dict[str, float] = {}
-    for name in (it for it in repo.CRATES if it in names):
-        chains[name] = listed.get(name, 0) + max((chains[it] for it in repo.below(name) if it in chains), default=0)
-    processors = at_once()
-    return max(sum(listed.get(it, 0) for it in names) / processors, max(chains.values(), default=0) / min(GAIN, processors))
+# What the proofs of all crates take by the clock, from nothing.
+WHOLE = "all of them take 10 to 15 minutes on four processors"
 
 
 class Progress:
@@ -67,15 +52,15 @@ class Progress:
                 self.show()
 
     def begin(self) -> None:
-        """Shows how long it will take."""
+        """Shows how many crates are to be proved."""
         if self.left:
-            self.show(f"{len(self.left)} of {len(self.names)} crates to prove, some {math.ceil(minutes_of(self.left))} minutes")
+            self.show(f"{len(self.left)} of {len(self.names)} crates to prove; {WHOLE}")
 
     def end(self, name: str, text: str) -> None:
-        """Shows what became of a crate, and how long the others will take."""
+        """Shows what became of a crate, and how many are left."""
         with self.lock:
             self.left.remove(name)
-            left = f", some {math.ceil(minutes_of(self.left))} minutes left" if self.left else ""
+            left = f", {len(self.left)} left" if self.left else ""
             self.show(f"crate {self.names.index(name) + 1} of {len(self.names)}, {name}: {text}{left}")
 
 

@@ -1,11 +1,12 @@
 """Rewrites a recorded response whose columns tds_replay refuses, with types that it reads.
 
 float and real become varchar, with the shortest text that reads back to the same bits; xml and ntext become nvarchar(max), text
-varchar(max), image and CLR types varbinary(max); sql_variant becomes nvarchar(max), with the text of its base type. All else
-stays byte for byte, and so does a response without such columns, packets and all. A value of any length goes through in pieces.
+becomes varchar(max), image and CLR types varbinary(max), and sql_variant nvarchar(max), with the text of its base type. Everything
+else is copied byte for byte, and so is a response without such columns, with its packets. A value of any length goes through in
+pieces.
 
-The status is 0; 4 if the response ends too early or can't be followed, with all that came before written; 5 if a read or a write
-failed, 2 if the arguments are refused."""
+The status is 0; 4 if the response ends too early or can't be followed, after everything before that point was written; 5 if a read
+or a write failed; 2 if the arguments are refused."""
 from __future__ import annotations
 
 import argparse

@@ -1,20 +1,20 @@
-"""Exports the answers of servers in a capture of the network: one text for each response, and a table.
+"""Exports the answers of servers in a capture of the network: a text for each response, and a table.
 
-FILE is a capture (pcap or pcapng), the dump of a client of FreeTDS (what the variable TDSDUMP names), or all that a server sent on
-one connection, as a proxy keeps it; it may be compressed by gzip, and - is standard input. The text of a response is
-CLIENT-SERVER.NUMBER.csv in the folder OUT, or answer.NUMBER.csv where client and server aren't known, with .partial after it if the
-response can't be read to its end; with --packets its packets are beside it, as CLIENT-SERVER.NUMBER.tds. Standard output gets a
-table as CSV, a line for each response as it ends: its text, client, server, the time of its first byte (UTC), the first words of
-the statement if the client's side is there, the status, and the first line that tds_replay says. Each request without an answer
-has a line too, and so has whatever isn't read: bytes that are encrypted, that lack what comes before them, or that came again with
-other values. Of several copies of a byte the first counts.
+FILE is a capture (pcap or pcapng), the dump of a client of FreeTDS (the file that the variable TDSDUMP names), or everything that
+a server sent on one connection, as a proxy records it; it may be compressed by gzip, and - is standard input. The text of a
+response is CLIENT-SERVER.NUMBER.csv in the folder OUT, or answer.NUMBER.csv if client and server aren't known, with .partial after
+it if the response can't be read to its end. With --packets its packets are kept beside it, as CLIENT-SERVER.NUMBER.tds. The table
+on standard output is CSV and has a line for each response as it ends: its text, client, server, the time of its first byte (UTC),
+the first words of the statement if the client's side is there, the status, and the first line of tds_replay. A request without an
+answer has a line too, and so has whatever isn't read: bytes that are encrypted, that follow a gap, or that came again with other
+values. If a byte was captured several times, the first copy counts.
 
-Standard error tells of frames that aren't read, by the reason, and ends with the sums of frames, connections, requests and bytes of
-servers. The memory doesn't grow with the capture, nor with an answer.
+Standard error has the number of frames that aren't read, by reason, and ends with the sums of frames, connections, requests and
+bytes of servers. Memory doesn't grow with the capture, nor with an answer.
 
-The status is the greatest of them: 0 if every answer is whole and nothing else had to be told, 3 if the server reported an error in
-a response or the response was cancelled, 4 if something can't be read, 5 if a read, a write or the program failed, or a sum doesn't
-meet; 2 if the arguments are refused, 130 after Ctrl-C, 143 after SIGTERM."""
+The status is the greatest of these: 0 if every answer is whole and there is nothing else to report; 3 if the server reported an
+error in a response, or a response was cancelled; 4 if something can't be read; 5 if a read, a write or the program failed, or the
+sums don't agree; 2 if the arguments are refused; 130 after Ctrl-C, 143 after SIGTERM."""
 from __future__ import annotations
 
 import argparse

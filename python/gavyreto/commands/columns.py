@@ -1,10 +1,11 @@
 """Prints the columns of a recorded response: as CSV, or as statements that create tables for its rows.
 
-Of each result set the columns with name, type as SQL writes it, length, precision, scale, and whether NULL is allowed. With
---as sqlite or --as postgresql a CREATE TABLE, whose columns have room for all that `gavyreto.export` gives.
+The CSV has a line for each column of each result set: name, type as SQL writes it, length, precision, scale, and whether NULL is
+allowed. With --as sqlite or --as postgresql each set gives a CREATE TABLE whose columns hold everything that `gavyreto.export`
+returns.
 
-The status is 0; 4 if the response ends too early or can't be followed, 5 if it can't be read, 2 if the arguments are refused, or
-a table can't be made of the columns' names."""
+The status is 0; 4 if the response ends too early or can't be followed; 5 if it can't be read; 2 if the arguments are refused, or if
+the names of the columns don't make a table."""
 from __future__ import annotations
 
 import argparse

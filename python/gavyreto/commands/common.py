@@ -65,7 +65,7 @@ def say(text: str) -> None:
 
 
 def tell(line: str) -> None:
-    """Writes one line to standard error, whatever is in it."""
+    """Writes one line to standard error, with control characters spelt."""
     say(escaped(line) + "\n")
 
 

@@ -1,13 +1,13 @@
 """Exports many responses, several at once: on this machine, or on the workers of a Dask cluster.
 
-The text of FILE is FILE.csv in the folder OUT, where it gets its name when it is whole; a response that is refused leaves
+The text of FILE is FILE.csv in the folder OUT, and gets this name when it is whole; a response that is refused leaves
 FILE.csv.partial. A folder stands for the files in it. The table OUT/outcomes.csv gets a line for each response as it ends: its
-file, the status of tds_replay and the first line that it says; then the text, its bytes, size, time and inode of the file, the
-options and the program's version. A command that was stopped goes on where it is begun again: a response isn't done again
-whose line and text are there, and whose file, options and program are those of its line.
+file, the status and first line of tds_replay, then its text, the bytes of the text, the size, time and inode of the file, the
+options, and the program's version. A command that was stopped can be run again: it skips each response whose line and text are
+there, if file, options and program are those of the line.
 
-The status is the greatest of them: 0, 3 if the server reported an error in a response, 4 if one was refused, 5 if one failed and
-has to be tried again; 2 if the arguments are refused, 130 after Ctrl-C."""
+The status is the greatest of these: 0; 3 if the server reported an error in a response; 4 if a response was refused; 5 if one
+failed and has to be tried again; 2 if the arguments are refused; 130 after Ctrl-C."""
 from __future__ import annotations
 
 import argparse

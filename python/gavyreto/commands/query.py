@@ -1,13 +1,14 @@
 """Asks a SQL Server, and writes the rows of its answers as quoted CSV by tds_replay.
 
-Each STATEMENT is sent on one connection, one after the other. Without one they are read from the files of -i, or from
-standard input, where a line GO ends a statement, and a line GO N sends it N times. On standard output an empty line
-separates two texts, as it does two result sets. The login is by SQL authentication; the password is read from the variable
-SQLCMDPASSWORD, or asked for. The server's certificate is verified. Everything is encrypted, unless --encrypt says less.
+The statements are sent on one connection, one after the other. Without a STATEMENT they are read from the files of -i, or from
+standard input; there a line GO ends a statement, and a line GO N sends it N times. On standard output an empty line separates
+two answers, as it separates two result sets. The login is by SQL authentication; the password is read from the variable
+SQLCMDPASSWORD, or asked for. The server's certificate is verified, and everything is encrypted unless --encrypt asks for less.
 
-The lines on standard error are those of tds_replay, and so is the status: 0, 3 if the server reported an error or refused the
-login, or ended an answer as cancelled or failed, 4 if its answer can't be read, 5 if the connection or a write failed; 2 if the
-arguments are refused, 130 after Ctrl-C. The first statement whose status isn't 0 is the last one sent. A transaction has to end in the statement that begins it."""
+Standard error gets the lines of tds_replay. The status is 0; 3 if the server reported an error, refused the login, or ended an
+answer as cancelled or failed; 4 if an answer can't be read; 5 if the connection or a write failed; 2 if the arguments are
+refused; 130 after Ctrl-C. No statement is sent after the first whose status isn't 0. A transaction has to end in the statement
+that begins it."""
 from __future__ import annotations
 
 import argparse
