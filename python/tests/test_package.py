@@ -13,6 +13,24 @@ from tests.beside import PROGRAM, ROOT, skip
 DEBIAN = "/usr/bin/python3"
 
 
+# In a clone: leaves what a build leaves, with the program of the first argument as the one that was built.
+AS_BUILT = """
+import os, shutil, sys
+sys.path.insert(0, "tools")
+from lib import repository
+for name in (*repository.below("replay"), "replay"):
+    repository.set_done("proved", name, repository.sum_of(name))
+os.makedirs("crates/replay/out")
+shutil.copy2(sys.argv[1], "crates/replay/out/replay")
+"""
+
+
+def made_without_kit(clone: str, *words: str) -> subprocess.CompletedProcess[str]:
+    """What `make` does in a clone where `rt` isn't on the path."""
+    folders = [it for it in os.environ["PATH"].split(os.pathsep) if not os.path.exists(os.path.join(it, "rt"))]
+    return subprocess.run(["make", *words], cwd=clone, env={"PATH": os.pathsep.join(folders)}, capture_output=True, text=True, check=False)
+
+
 def packed(folder: str, into: str) -> tuple[str, bytes]:
     """The name and the bytes of the package for Debian that a clone of the repository makes."""
     os.mkdir(os.path.join(folder, into))
@@ -32,7 +50,7 @@ def environment_in(folder: str) -> str:
     return programs
 
 
-def names_in(folder: str) -> list[str]:
+def names_below(folder: str) -> list[str]:
     """All files and folders below a folder."""
     return sorted(os.path.join(at, name) for at, folders, names in os.walk(folder) for name in [*folders, *names])
 
@@ -47,10 +65,10 @@ class Installed(unittest.TestCase):
             shutil.copytree(os.path.join(ROOT, "python"), copy, ignore=shutil.ignore_patterns("__pycache__", "tests"))
             variables = {name: value for name, value in os.environ.items() if name not in ("PYTHONPATH", "PYTHONDONTWRITEBYTECODE")}
             variables["PATH"] = programs + os.pathsep + variables["PATH"]
-            was = names_in(copy)
+            was = names_below(copy)
             for word in ("--no-deps", "--no-build-isolation"):
                 subprocess.run(["pip", "install", "--quiet", "--no-index", "--force-reinstall", word, "./python"], cwd=folder, env=variables, check=True, capture_output=True)
-                self.assertEqual(names_in(copy), was)
+                self.assertEqual(names_below(copy), was)
                 self.look_at_installed(folder, variables)
 
     def look_at_installed(self, folder: str, variables: dict[str, str]) -> None:
@@ -87,6 +105,23 @@ class Installed(unittest.TestCase):
         self.assertEqual(first, again)
         self.assertEqual(len({name for name, _ in (first, other, modified)}), 3)
         self.assertEqual([name.count("+modified") for name, _ in (first, other, modified)], [0, 0, 1])
+
+    def test_make_installs_what_is_built_without_the_kit(self) -> None:
+        """As under sudo, where `rt` isn't on the path: if the sources are those of the program, and not if one of them changed."""
+        with tempfile.TemporaryDirectory() as folder:
+            clone, prefix = os.path.join(folder, "clone"), os.path.join(folder, "prefix")
+            subprocess.run(["git", "clone", "--quiet", "--shared", ROOT, clone], check=True)
+            subprocess.run([DEBIAN, "-B", "-c", AS_BUILT, PROGRAM], cwd=clone, check=True)
+            first = made_without_kit(clone, "install", f"PREFIX={prefix}")
+            self.assertEqual(first.returncode, 0, first.stderr)
+            self.assertEqual(sum(os.path.isfile(it) for it in names_below(prefix)), 5)
+            self.assertEqual(made_without_kit(clone, "uninstall", f"PREFIX={prefix}").returncode, 0)
+            self.assertEqual(names_below(prefix), [])
+            with open(os.path.join(clone, "crates", "tds_meter", "src", "limits.rt"), "a", encoding="utf-8") as source:
+                source.write("\n")
+            changed = made_without_kit(clone, "install", f"PREFIX={prefix}")
+            self.assertIn("rt isn't there", changed.stderr)
+            self.assertEqual((changed.returncode == 0, names_below(prefix)), (False, []))
 
     def test_completion(self) -> None:
         """Each command's words complete; the words that help names are held to completion by `tools/lint`."""
