@@ -7,7 +7,7 @@
 #
 #     tcpdump -i any -s 0 -w orders.pcap 'tcp port 1433'
 #     gavyreto capture --packets --adapt orders.pcap captured
-#     python3 -c 'from pandas_frame import frame; print(frame("captured/NAME.tds"))'
+#     python3 -c 'import gavyreto; print(gavyreto.export("captured/NAME.tds").only().frame())'
 #
 # `-s 0` keeps whole frames, and `-i any` those of all interfaces; `tcpdump` needs the right to read them. With --packets the packets of
 # each response are beside its text, for all that reads a response; with --adapt columns that are refused are rewritten.
@@ -35,4 +35,4 @@ kill $!
 python3 -m gavyreto capture --packets --adapt --port "$PORT" orders.pcap captured > captured.table 2> captured.notes
 SESSION
 python3 -m gavyreto columns captured/*.1.tds
-PYTHONPATH=$PYTHONPATH:examples/recipes python3 -c 'import glob; from pandas_frame import frame; print(frame(*glob.glob("captured/*.1.tds")).dtypes.to_string())'
+python3 -c 'import glob, gavyreto; print(gavyreto.export(*glob.glob("captured/*.1.tds")).only().frame().dtypes.to_string())'
