@@ -43,8 +43,10 @@ def run(words: list[str]) -> int:
     if name == "help" and rest:
         name, rest = rest[0], ["--help"]
     if name in COMMANDS:
-        status = importlib.import_module(f"gavyreto.commands.{name}").run(rest)
-        return int(status)
+        command = importlib.import_module(f"gavyreto.commands.{name}")
+        if signal.getsignal(signal.SIGINT) is _interrupted:  # until here: an exception raised while modules are imported may be lost
+            signal.signal(signal.SIGINT, signal.default_int_handler)
+        return int(command.run(rest))
     if name in ("-h", "--help", "help"):
         common.put(USAGE)
         return 0
@@ -59,8 +61,6 @@ def run(words: list[str]) -> int:
 def ended(words: list[str]) -> int:
     """Runs a command, and returns its exit status: whatever ends it is a line on standard error."""
     try:
-        if signal.getsignal(signal.SIGINT) is _interrupted:
-            signal.signal(signal.SIGINT, signal.default_int_handler)
         return run(words)
     except SystemExit as refused:  # by argparse, which has said why
         return refused.code if isinstance(refused.code, int) else common.REFUSED
