@@ -1,7 +1,7 @@
-"""Times the program on made-up responses, beside the native reader if one is given, and prints what a cell costs, and what a
+"""Times the program on made-up responses, beside the other readers that are given, and prints what a cell costs, and what a
 byte of a long value does.
 
-The response is named as a FILE. Both texts are compared, and a difference ends the run. If valgrind is there, the instructions are
+The response is named as a FILE. The texts are compared, and a difference ends the run. If valgrind is there, the instructions are
 counted too."""
 from __future__ import annotations
 
@@ -238,11 +238,11 @@ def instructions_a_unit(command: list[str], folder: str, response: Response) -> 
 
 
 def figures_of(response: Response, seconds: float, costs: dict[str, float], best: dict[str, float]) -> list[str]:
-    """Seconds, nanoseconds and instructions, those of the native reader, and the seconds to its and to the floor's."""
+    """Seconds, nanoseconds and instructions, those of the other readers, and the seconds to theirs and to the floor's."""
     byte = response.unit == "byte"
     each = seconds / (response.count * response.units) * 1e9
-    shown = [f"{costs[who]:.{2 if byte else 0}f}" if who in costs else "" for who in ("gavyreto", "native")]
-    ratios = [f"{seconds / best[who]:.{digits}f}" if who in best else "" for who, digits in (("native", 2), ("floor", 1))]
+    shown = [f"{costs[who]:.{2 if byte else 0}f}" if who in costs else "" for who in ("gavyreto", "expert", "native")]
+    ratios = [f"{seconds / best[who]:.{digits}f}" if who in best else "" for who, digits in (("expert", 2), ("native", 2), ("floor", 1))]
     return [f"{seconds:.3f}", f"{each:.{2 if byte else 1}f}", *shown, *ratios]
 
 
@@ -261,9 +261,11 @@ def line_of(folder: str, commands: dict[str, list[str]], response: Response, bes
     return f"| {response.name} | {size:.1f} | {' | '.join(figures_of(response, best['gavyreto'], costs, best))} |"
 
 
-def run(program: str, native: str | None, floor: str | None) -> None:
-    """Prints the table of the program and, if there are such, the native reader and the least that any program does."""
+def run(program: str, expert: list[str], native: str | None, floor: str | None) -> None:
+    """Prints the table of the program and, if there are such, an expert's reader, the native one and the least that any program does."""
     commands = {"gavyreto": [program, "export"]}
+    if expert:
+        commands["expert"] = expert
     if native:
         commands["native"] = [native]
     counts = shutil.which("valgrind") is not None
@@ -273,8 +275,8 @@ def run(program: str, native: str | None, floor: str | None) -> None:
         for _ in range(ROUNDS):
             for i, response in enumerate(RESPONSES):
                 least_seconds(best[i], programs[i], response.file(folder, response.count))
-        print("| response | MB | seconds | nanoseconds | instructions | the native reader's | seconds to its | to the floor's |")
-        print("|---|---:|---:|---:|---:|---:|---:|---:|")
+        print("| response | MB | seconds | ns | instructions | an expert's | native reader's | seconds to an expert's | to the native's | to the floor's |")
+        print("|---|---:|---:|---:|---:|---:|---:|---:|---:|---:|")
         for i, response in enumerate(RESPONSES):
             print(line_of(folder, commands, response, best[i], counts), flush=True)
     if not counts:
