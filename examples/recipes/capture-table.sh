@@ -23,7 +23,7 @@ printf '[global]\ntds version = 7.4\nencryption = request\n' > freetds.conf
 export FREETDSCONF="$PWD/freetds.conf"
 tools/stand-in --seconds 60 orders.tds -- sh -eu <<'SESSION'
 tcpdump -i any -s 0 -U --immediate-mode -w orders.pcap "tcp port $PORT" 2> tcpdump.notes &
-until grep -q 'listening on' tcpdump.notes; do
+until grep -qs 'listening on' tcpdump.notes; do
     kill -0 $! || { cat tcpdump.notes; exit 1; }
     sleep 0.1
 done

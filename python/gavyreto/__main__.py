@@ -16,6 +16,17 @@ def _interrupted(_: int, __: object) -> NoReturn:
         os._exit(INTERRUPTED)
 
 
+_came = False  # whether Ctrl-C came while a command ran
+
+
+def _raising(_: int, __: object) -> NoReturn:
+    """Ctrl-C while a command runs. An exception that is raised where Python drops one, as in the call of a weak reference, ends
+    nothing: that it came is kept too."""
+    global _came
+    _came = True
+    raise KeyboardInterrupt
+
+
 # Before anything else is imported: what is imported may be interrupted too. It is ignored of what the shell runs in the background.
 if __name__ == "__main__" and signal.getsignal(signal.SIGINT) is signal.default_int_handler:
     signal.signal(signal.SIGINT, _interrupted)
@@ -44,8 +55,8 @@ def run(words: list[str]) -> int:
         name, rest = rest[0], ["--help"]
     if name in COMMANDS:
         command = importlib.import_module(f"gavyreto.commands.{name}")
-        if signal.getsignal(signal.SIGINT) is _interrupted:  # until here: an exception raised while modules are imported may be lost
-            signal.signal(signal.SIGINT, signal.default_int_handler)
+        if signal.getsignal(signal.SIGINT) is _interrupted:
+            signal.signal(signal.SIGINT, _raising)
         return int(command.run(rest))
     if name in ("-h", "--help", "help"):
         common.put(USAGE)
@@ -58,16 +69,24 @@ def run(words: list[str]) -> int:
     return common.REFUSED
 
 
+def ending(words: list[str]) -> tuple[str, int]:
+    """Runs a command, and returns the line that tells what ended it, if anything did, and its exit status."""
+    try:
+        return "", run(words)
+    except SystemExit as refused:  # by argparse, which has said why
+        return "", refused.code if isinstance(refused.code, int) else common.REFUSED
+    except BaseException as failure:
+        return common.ending_of(failure)
+
+
 def ended(words: list[str]) -> int:
     """Runs a command, and returns its exit status: whatever ends it is a line on standard error."""
-    try:
-        return run(words)
-    except SystemExit as refused:  # by argparse, which has said why
-        return refused.code if isinstance(refused.code, int) else common.REFUSED
-    except BaseException as failure:
-        line, status = common.ending_of(failure)
+    line, status = ending(words)
+    if _came and status != common.INTERRUPTED:
+        line, status = common.ending_of(KeyboardInterrupt())
+    if line:
         common.tell(line)
-        return status
+    return status
 
 
 def main(words: Optional[list[str]] = None) -> NoReturn:

@@ -359,7 +359,8 @@ class Silence(Live):
                 for answer in answers:
                     channel.read_message()
                     channel.write(answer)
-                channel.socket.shutdown(socket.SHUT_WR)
+                with contextlib.suppress(OSError):  # the client may be gone
+                    channel.socket.shutdown(socket.SHUT_WR)
                 channel.wait()
                 while channel.receive():
                     pass
