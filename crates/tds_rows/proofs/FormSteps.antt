@@ -1,12 +1,12 @@
 -- Runs over cells by their forms, a cell after those that were written.
 use Rattle.tds_rows.proofs.Words.{common_steps, ◌≡◌, ◌≢◌, ◌∙◌, ℕ, zero, suc, ◌+◌, ◌-◌, ◌<◌, ◌≤◌, Bool, false, List, [], ◌∷◌, ◌++◌, length, take, drop}
-use Rattle.tds_rows.proofs.Words.{get_or, refl, sym, ap, arith, append-nil, append_assoc, length-append, ◌==◌, ◌&&◌, map, slice_set, drop_more}
+use Rattle.tds_rows.proofs.Words.{get_or, refl, ◌*◌, sym, ap, arith, append-nil, append_assoc, length-append, ◌==◌, ◌&&◌, map, slice_set, drop_more}
 use Rattle.tds_rows.proofs.Words.{length-map, length-take-le, take-append-le, take_all, take_more_set, get_or_default, length-drop, length-take}
 use Rattle.tds_rows.proofs.Words.{take-take, drop-drop, Kind, eq_false, eq_true, Column, all_after, after_comma, end_after, in_line, Charset, Form}
 use Rattle.tds_rows.proofs.Words.{IsLeft, WritesField, WritesKind, is_last_column, whole_size, AreNext, FieldsWritten, FirstUsed, FirstWritten}
-use Rattle.tds_rows.proofs.Words.{WritesForms, WritesColumn, WritesMarked, nat_tests, true}
+use Rattle.tds_rows.proofs.Words.{FormsRun, RunsForms, WritesFields, subst, WritesForms, WritesColumn, WritesMarked, nat_tests, true}
 use Rattle.tds_rows.proofs.LineTexts.{after_some_column, after_append}
-use Rattle.tds_rows.proofs.RunSteps.{made_more, used_more}
+use Rattle.tds_rows.proofs.RunSteps.{made_more, used_more, whole_some}
 use Rattle.tds_rows.proofs.TableSteps.{known_kind, last_one}
 
 not_last : (rest : List Column) → 0 < length rest → false ≡ is_last_column rest
@@ -145,21 +145,6 @@ module _ (charset : Charset) (forms : List Form) (column : ℕ) (bytes : List �
       let next : suc k ≡ k + 1 = omega arith in
       rw further (fields ++ after_comma (column + k) field, rw (← next) written, is')
 
-  -- what is left of the bytes, after some more of them
-  pub left_after : (rest : List ℕ) (u : ℕ) → length rest ≤ length bytes → rest ≡ drop (length bytes - length rest) bytes → u ≤ length rest
-      → (length bytes - length (take (length rest - u) (drop u rest)) ≡ (length bytes - length rest) + u)
-      × (take (length rest - u) (drop u rest) ≡ drop ((length bytes - length rest) + u) bytes)
-  left_after rest u within is some = (
-    omega (arith, within, some, length-take (length rest - u) (drop u rest), length-drop u rest),
-    all_after rest u
-        ∙ ap (drop u) is ∙ drop-drop u (length bytes - length rest) bytes,
-  )
-
-  -- the bytes of the first cell were used
-  pub first_used : (used u k : ℕ) (d : Form) → k ≡ 0 → used ≡ 0
-      → u ≡ whole_size (get_or forms k d).kind (take (length bytes - used) (drop used bytes)) → FirstUsed forms bytes (used + u)
-  first_used used u k d first none size form others are = grind (arith, all_after)
-
   -- the first alone
   pub first_alone : (ends : Bool) (to : List ℕ) (used made : ℕ) (fields : List ℕ) → FirstUsed forms bytes used
       → WritesForms charset forms column 1 (take used bytes) fields → take made to ≡ fields ++ end_after (ends && (1 == length forms))
@@ -172,6 +157,91 @@ module _ (charset : Charset) (forms : List Form) (column : ℕ) (bytes : List �
       ∙ sym (t ∙ ap (λ l. l ++ after_comma (column + 0) field) x.1)) ∙ sym is in
       let kind_is : (get_or forms 0 form).kind ≡ form.kind = ap (λ (l : List Form). (get_or l 0 form).kind) are in
       record { size = size form others are; writes = rw kind_is at (rw text at (rw read at (y form column last))) }
+
+-- the bytes of the first cell were used
+first_used : (forms : List Form) (bytes : List ℕ) (used u k : ℕ) (d : Form) → k ≡ 0 → used ≡ 0
+    → u ≡ whole_size (get_or forms k d).kind (take (length bytes - used) (drop used bytes)) → FirstUsed forms bytes (used + u)
+first_used forms bytes used u k d first none size form others are = grind (arith, all_after)
+
+-- what is left of the bytes, after some more of them
+pub left_after : (bytes rest : List ℕ) (u : ℕ) → length rest ≤ length bytes → rest ≡ drop (length bytes - length rest) bytes → u ≤ length rest
+    → (length bytes - length (take (length rest - u) (drop u rest)) ≡ (length bytes - length rest) + u)
+    × (take (length rest - u) (drop u rest) ≡ drop ((length bytes - length rest) + u) bytes)
+left_after bytes rest u within is some = (
+  omega (arith, within, some, length-take (length rest - u) (drop u rest), length-drop u rest),
+  all_after rest u ∙ ap (drop u) is ∙ drop-drop u (length bytes - length rest) bytes,
+)
+
+-- ---- a run so far
+
+-- how far a run over cells by their forms is: how many it wrote, of how many bytes, and how many bytes of this much room it made
+pub record FieldsAt (forms : List Form) (bytes : List ℕ) (room cells used made : ℕ) : Type 0 where
+  pub few : cells ≤ length forms
+  pub taken : used ≤ length bytes
+  pub fits : made ≤ room
+  pub begun : cells ≡ 0 → (used ≡ 0) × (made ≤ 1)
+  pub some : 0 < cells → 0 < used
+  pub further : 0 < cells → (0 < made) × (made < room)
+  pub one : cells ≡ 1 → FirstUsed forms bytes used
+
+-- before the first cell
+pub fields_begin : (forms : List Form) (bytes : List ℕ) (room made : ℕ) → made ≤ 1 → 1 ≤ room → FieldsAt forms bytes room 0 0 made
+fields_begin forms bytes room made few some = record {
+  few = omega arith;
+  taken = omega arith;
+  fits = omega arith;
+  begun = λ _. (refl, few);
+  some = λ never. absurd (omega (arith, never));
+  further = λ never. absurd (omega (arith, never));
+  one = λ never. absurd (omega (arith, never));
+}
+
+-- one cell more, and the comma after it
+pub fields_step : {forms : List Form} {bytes : List ℕ} {room more_room cells used now made : ℕ} (u m : ℕ) (d : Form)
+    → FieldsAt forms bytes room cells used made → now ≡ used + u → more_room ≡ room → cells < length forms → u ≤ length bytes - used → made + m + 2 ≤ room
+    → u ≡ whole_size (get_or forms cells d).kind (take (length bytes - used) (drop used bytes))
+    → FieldsAt forms bytes more_room (cells + 1) now (made + m + 1)
+fields_step {forms = forms} {bytes = bytes} {cells = cells} {used = used} u m d x further same there within fits whole =
+    let more = whole_some (get_or forms cells d).kind (take (length bytes - used) (drop used bytes)) in
+    record {
+      few = omega arith;
+      taken = omega (arith, x.taken);
+      fits = omega arith;
+      begun = λ never. absurd (omega (arith, never));
+      some = λ _. omega (arith, more, whole);
+      further = λ _. (omega arith, omega arith);
+      one = λ first. let begun = x.begun (omega (arith, first)) in
+          rw further (first_used forms bytes used u cells d (omega (arith, first)) begun.0 whole);
+    }
+
+-- the run is over once the end of the line, or nothing, stands over the last comma
+pub fields_run : {charset : Charset} {forms : List Form} {column : ℕ} {ends : Bool} {bytes text : List ℕ} {run : FormsRun} (room made : ℕ)
+    (new : List ℕ) → 0 < run.cells → WritesFields charset forms column bytes text run → made ≤ room
+    → take made new ≡ take (run.made - 1) text ++ end_after (ends && (run.cells == length forms))
+    → RunsForms charset forms column ends bytes room new (record run { made = made })
+fields_run {charset = charset} {forms = forms} {column = column} {ends = ends} {bytes = bytes} {text = text} {run = run} room made new some x fits is =
+    let (fields, wrote, there) = x.fields in
+    let before = before_comma run.made (column + run.cells) text fields (omega (arith, some)) x.within.made there in
+    let text_is = is ∙ ap (λ l. l ++ end_after (ends && (run.cells == length forms))) before in
+    record {
+      within = record { cells = x.within.cells; used = x.within.used; made = fits; some = x.within.some; none = x.within.none };
+      ends = λ none. absurd (omega (arith, some, none));
+      one = λ alone.
+          let one = subst (λ (n : ℕ). WritesForms charset forms column n (take run.used bytes) fields) alone wrote in
+          let first = first_alone charset forms column bytes ends new run.used made fields (x.one alone) one
+          (text_is ∙ ap (λ (n : ℕ). fields ++ end_after (ends && (n == length forms))) alone) in
+          first;
+      cells = λ columns next. rw (sym text_is) at (run_marked charset forms column ends columns next run.cells _ fields some x.within.cells wrote);
+    }
+
+-- a cell of at most five bytes leaves five for each of the others
+pub bytes_step : (n k used u size : ℕ) → k < n → u ≤ 5 → used + 5 * (n - k) ≤ size → used + u + 5 * (n - (k + 1)) ≤ size
+bytes_step n k used u size some few within = omega arith
+
+-- its field, of at most 25, and the comma after it leave room for those of the others
+pub room_step : (n k made m room more : ℕ) → more ≡ room → k < n → m ≤ 25 → made + 26 * (n - k) + 65 ≤ room
+    → made + m + 1 + 26 * (n - (k + 1)) + 65 ≤ more
+room_step n k made m room more same some few within = omega arith
 
 -- ---- a cell that is left
 

@@ -1,5 +1,5 @@
 -- The next cells of a row, those of a run or one, NULL or not, and rows one after another.
-use Rattle.tds_rows.proofs.Words.{common_steps, arith, ◌≡◌, ◌+◌, ℕ, Bool, true, false, List, ◌∷◌, drop, refl, sym, Err, Ok, Result, Option, ◌==◌}
+use Rattle.tds_rows.proofs.Words.{after_cells, common_steps, arith, ◌≡◌, ◌+◌, ℕ, Bool, true, false, List, ◌∷◌, drop, refl, sym, Err, Ok, Result, Option, ◌==◌}
 use Rattle.tds_rows.proofs.Words.{Kind, Stop, seen, between_of, Column, held, Rows, Ahead, is_last_column, MarkedPut, CellRead, IsInRow, KindRead}
 use Rattle.tds_rows.proofs.Words.{LeavesRows, NextRead, StaysInRow, RowStops, RowPart, marked, IsAhead, IsNextKind, Knows, TakesColumn, ◌∙◌, zero}
 use Rattle.tds_rows.proofs.Words.{suc, ◌-◌, ◌^◌, ◌≤◌, ◌<◌, [], ◌++◌, length, ap, subst, append_assoc, append-nil, add-zero, length-append}
@@ -336,6 +336,13 @@ module _ {charset : Charset} {all : List Column} {p q : At} {column count : ℕ}
           path = path_both x.rows.path there;
         };
       }
+
+  -- a run whose write failed
+  pub rowing_breaks : (left : List Column) {d : Seen} {j : Held} {failed : Bool} {stop : Stop} → Rowing charset all (coming left column) p q column count
+      → ((cells : List Cell) → length cells ≡ column
+      → RowStops charset (after_cells charset cells left) q.seen d q.place q.held j failed stop)
+      → RowsStop PlainRow charset all p.seen d p.place p.held j failed stop
+  rowing_breaks left x f = rows_stop x.rows (rw x.counted at (f x.cells x.counted))
 
   module _ {c : Column} {ks : List (Column × Bool)} where
     -- a cell

@@ -117,31 +117,50 @@ pub rows_none : {charset : Charset} {all : List Column} {cells : List Cell} {col
     → WritesRows charset all cells columns columns column 0 [] []
 rows_none {cells = cells} h = record { before = []; more = cells; rows_counted = refl; counted = h; writes = writes_none }
 
-module _ {charset : Charset} {all : List Column} {cells : List Cell} {columns : List Column} {count : ℕ} where
+-- After these cells, as many as lie before a column, the bytes are those of the columns up to another, and this is their text.
+pub record WritesCells (charset : Charset) (all : List Column) (cells : List Cell) (from to : ℕ) (bytes made : List ℕ) : Type 0 where
+  pub more : List Cell
+  pub counted : length more ≡ to
+  pub writes : Writes (row charset) row_so_far (after_cells charset cells (drop from all)) bytes made (after_cells charset more (drop to all))
+
+module _ {charset : Charset} {all : List Column} {cells : List Cell} {from : ℕ} where
   -- one column more
-  column_writes : {a b p q : List ℕ} (at : ℕ) → WritesRows charset all cells columns (drop at all) at count a p
-      → WritesColumn charset all (λ k. false) at b q → WritesRows charset all cells columns (drop (at + 1) all) (at + 1) count (a ++ b) (p ++ q)
-  column_writes at x w =
+  column_cells : {a b p q : List ℕ} (at : ℕ) → WritesCells charset all cells from at a p → WritesColumn charset all (λ k. false) at b q
+      → WritesCells charset all cells from (at + 1) (a ++ b) (p ++ q)
+  column_cells {b = b} {q = q} at x w =
       let z = rw (sym x.counted) at w.writes in
-      let one = row_among PlainRow charset all x.before
-      (after_more charset x.more w.column w.left (cell_writes w.column.kind (shape charset w.column.kind) z)) in
-      let next = sym (next_column all at w.column w.left w.next).1.1 in
+      let one = after_more charset x.more w.column w.left (cell_writes w.column.kind (shape charset w.column.kind) z) in
+      let after = λ (l : List Column). after_cells charset (x.more ++ z.value ∷ []) l in
+      let next = subst (λ l. Writes (row charset) row_so_far (after_cells charset x.more (w.column ∷ w.left)) b q (after l))
+      (sym (next_column all at w.column w.left w.next).1.1) one in
       record {
-        before = x.before;
         more = x.more ++ z.value ∷ [];
-        rows_counted = x.rows_counted;
         counted = omega (arith, x.counted, length-append x.more (z.value ∷ []));
-        writes = writes_both (rw (w.next, next) at x.writes) (rw next at one);
+        writes = writes_both (rw w.next at x.writes) next;
       }
 
-  -- so many columns more
+  -- so many columns
+  pub marked_cells : (n : ℕ) (b q : List ℕ) → length cells ≡ from → WritesMarked charset all (λ k. false) from n b q
+      → WritesCells charset all cells from (from + n) b q
+  marked_cells zero b q counted w = rw (w.0, w.1, add-zero from) (record { more = cells; counted = counted; writes = writes_none })
+  marked_cells (suc n) b q counted w =
+      let y = column_cells _ (marked_cells n _ _ counted w.6) w.7 in
+      let further : (from + n) + 1 ≡ from + suc n = omega arith in
+      rw (w.4, w.5) (rw further at y)
+
+module _ {charset : Charset} {all : List Column} {cells : List Cell} {columns : List Column} {count : ℕ} where
+  -- so many columns more of the last row
   pub marked_writes : {a p : List ℕ} (at n : ℕ) (b q : List ℕ) → WritesRows charset all cells columns (drop at all) at count a p
       → WritesMarked charset all (λ k. false) at n b q → WritesRows charset all cells columns (drop (at + n) all) (at + n) count (a ++ b) (p ++ q)
-  marked_writes {a = a} {p = p} at zero b q x w = rw (w.0, w.1, append-nil a, append-nil p, add-zero at) x
-  marked_writes {a = a} {p = p} at (suc n) b q x w =
-      let y = column_writes _ (marked_writes _ n _ _ x w.6) w.7 in
-      let further : (at + n) + 1 ≡ at + suc n = omega arith in
-      rw (w.4, w.5, sym (append_assoc a w.0 w.1), sym (append_assoc p w.2 w.3)) (rw further at y)
+  marked_writes at n b q x w =
+      let y = marked_cells n b q x.counted w in
+      record {
+        before = x.before;
+        more = y.more;
+        rows_counted = x.rows_counted;
+        counted = y.counted;
+        writes = writes_both x.writes (row_among PlainRow charset all x.before y.writes);
+      }
 
   -- and then the token byte of the next row
   rows_next : {column : ℕ} {a p : List ℕ} → 0 < length all → WritesRows charset all cells columns [] column count a p

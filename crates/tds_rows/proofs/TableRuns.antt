@@ -2,8 +2,12 @@
 use Rattle.tds_rows.proofs.Words.{arith, true, false, [], ◌∷◌, ◌≡◌, ◌∙◌, ap, all_after, drop_more, refl, BeginsRow, ℕ, ◌+◌, ◌-◌, ◌<◌, ◌≤◌, List, ◌++◌}
 use Rattle.tds_rows.proofs.Words.{length, length-append, length-drop, length-take, length-take-le, take, drop, get_or, sym, ◌==◌, Column, Charset}
 use Rattle.tds_rows.proofs.Words.{Ahead, CellRun, CellsWritten, RowsRun, Table, Cell, WritesRows, IsAhead, Knows, RunsMarked}
-use Rattle.tds_rows.proofs.TableSteps.{at_end}
-use Rattle.tds_rows.proofs.RunSteps.{made_more, marked_writes, rows_none, rows_onward, used_more}
+use Rattle.tds_rows.proofs.Words.{◌^◌, inr, append-nil, Bool, Breaks, Held, IsBetween, Puts, RowStops, RunsRows, Seen, Stop, Takes, Takes-more}
+use Rattle.tds_rows.proofs.Words.{after_cells, breaks_somewhere, row, row_so_far}
+use Rattle.tds_rows.proofs.GrowingTexts.{row_grows}
+use Rattle.tds_rows.proofs.Paths.{At}
+use Rattle.tds_rows.proofs.TableSteps.{none_next}
+use Rattle.tds_rows.proofs.RunSteps.{made_more, marked_cells, marked_writes, rows_none, rows_onward, used_more}
 
 -- Between two places of rows, over the ends of so many, these bytes are their cells, and this is their text.
 abbrev pub RowsBetween : Table → List Column → Ahead → Ahead → ℕ → List ℕ → List ℕ → Type 0
@@ -44,7 +48,7 @@ begins_at used bytes begins = go _ refl
         (within, ap (λ l. get_or l 0 0) (sym (drop_more bytes used 0 within) ∙ e) ∙ (rw (all_after bytes used, e) at begins))
 
 -- one row more, after its token byte
-pub row_begun : {table : Table} {from start : Ahead} {bytes to : List ℕ} {run : RowsRun} → 0 < table.count → true ≡ (run.ahead.column == table.count)
+pub row_begun : {table : Table} {from start : Ahead} {bytes to : List ℕ} {run : RowsRun} → 0 < table.count → table.count ≤ run.ahead.column
     → BeginsRow (take (length bytes - run.used) (drop run.used bytes)) × (start.column ≡ 0)
     → ((columns : List Column) → Knows table columns → IsAhead table columns run.ahead → IsAhead table columns start)
     → RowsSoFar table from bytes to run → RowsSoFar table from bytes to
@@ -57,7 +61,7 @@ row_begun {bytes = bytes} {run = run} some at (begins, first) ahead x =
       few = omega (arith, x.few);
       writes = λ columns knows is.
           let y = x.writes columns knows is in
-          let none = at_end columns run.ahead.column _ knows.counted (sym at) in (
+          let none = none_next columns run.ahead.column _ knows.counted at in (
             ahead columns knows y.0,
             λ charset cells set counted. rw first
                 (rows_onward run.used bytes (omega (arith, some, knows.counted)) none within byte (y.1 charset cells set counted)),
@@ -91,3 +95,33 @@ rows_more {from = from} {bytes = bytes} {to = to} {run = run} text rest some wit
   few = omega (arith, x.few);
   writes = λ columns knows is. (let y = x.writes columns knows is in more_in_rows from _ _ _ _ _ _ _ _ x.made fits y (gives columns knows y.0));
 }
+
+-- the cells of a run within a row, none of which is NULL by its bit
+pub marked_in_rows : {table : Table} {columns : List Column} {from to : Ahead} {bytes text : List ℕ}
+    → RunsMarked table columns (λ k. false) from to bytes text → RowsBetween table columns from to 0 bytes text
+marked_in_rows y = (y.ahead, λ charset cells set is. rw y.further (marked_writes _ y.count _ _ (rows_none is) (rw set at y.writes)))
+
+-- what was written of rows was read and put
+pub runs_rows : {charset : Charset} {all : List Column} {cells : List Cell} {columns left : List Column} {column count : ℕ} {bytes made : List ℕ}
+    {p q : At} → WritesRows charset all cells columns left column count bytes made → Takes p.seen q.seen bytes (length bytes)
+    → Puts p.held q.held made → q.place ≡ p.place + length bytes
+    → RunsRows charset all cells columns left column count p.seen q.seen p.place q.place p.held q.held
+runs_rows {bytes = bytes} {made = made} x takes puts at = record {
+  before = x.before;
+  more = x.more;
+  rows_counted = x.rows_counted;
+  counted = x.counted;
+  streams = record { bytes = bytes; spelt = x.writes.spelt; takes = takes; puts = (made, x.writes.text_is, puts) };
+  place_is = at;
+}
+
+-- a write of their text failed, in the row that the run began in
+pub run_breaks : {table : Table} {columns : List Column} {from to : Ahead} {bytes text : List ℕ} {a b : Seen} {h j : Held} {place : ℕ} {failed : Bool}
+    {stop : Stop} (cells : List Cell) → RunsMarked table columns (λ k. false) from to bytes text → length cells ≡ from.column
+    → Takes a b bytes 0 → IsBetween b → length h.waiting < 4096 → h.delivered ≤ 2 ^ 64 - 1 → Breaks h j text stop → failed ≡ true
+    → RowStops table.charset (after_cells table.charset cells (drop from.column columns)) a b place h j failed stop
+run_breaks {table = table} {bytes = bytes} {a = a} {b = b} {h = h} {j = j} {stop = stop} cells y counted takes between few delivered breaks failed =
+    let x = marked_cells {charset = table.charset} {cells = cells} y.count bytes _ counted y.writes in
+    let broken = breaks_somewhere (row table.charset) row_so_far (row_grows table.charset) _ a b h j stop between _ bytes [] _ x.writes.spelt
+    (rw append-nil (Takes-more a b bytes 0 1 (omega arith) takes)) few delivered x.writes.text_is breaks in
+    record { at = broken.0; cause = inr (broken.1, failed) }

@@ -100,6 +100,10 @@ next_any columns at n whole some =
       },
     )
 
--- so it is at the row's end
+-- as many lie before where the place is the row's end
+pub all_before : (k n : ℕ) → true ≡ (k == n) → n ≤ k
+all_before k n is = omega (arith, eq_true k n (sym is))
+
+-- none is next at the row's end
 pub at_end : (columns : List Column) (k n : ℕ) → n ≡ length columns → (k == n) ≡ true → drop k columns ≡ []
 at_end columns k n whole is = none_next columns k n whole (omega (arith, eq_true k n is))

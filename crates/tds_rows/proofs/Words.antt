@@ -84,7 +84,7 @@ pub use Rattle.tds_rows.specs.Cells.{value_part, end_of_chunks, ShortLength, cel
 pub use Rattle.tds_rows.specs.Cells.{cell_size, unless, shape, ScalarBytes, Total, field, SpellsShort, Shape, known_total, cell_end, FixedShape}
 pub use Rattle.tds_rows.specs.Cells.{field_so_far, ChunkData, CellPart, SpellsChunk, return_charset, SpellsChunks, LongShape, shape_of_length}
 pub use Rattle.tds_rows.specs.Cells.{cell_fault, Cell, is_total, SpellsCell, long_start, DataCell}
-pub use Rattle.tds_rows.specs.FormRuns.{FormsWritten, FirstLeft, FieldsWritten, AreNext, WritesForms, FirstUsed, FirstWritten}
+pub use Rattle.tds_rows.specs.FormRuns.{FormsWritten, FirstLeft, FieldsWritten, AreNext, WritesForms, FirstUsed, FirstWritten, AreNumbers, NumbersWithin, RunsForms, WritesFields}
 pub use Rattle.tds_rows.specs.Forms.{AreInt4, AreLaidOut, Each}
 pub use Rattle.tds_rows.specs.Layouts.{HasValueAt, shape_of_layout, IsLaidOut}
 pub use Rattle.tds_rows.specs.LongCells.{RefusesNumber, EndsData, added_text, StopsFilling, StopsEnding, total_of, chunk_length_fault, EndPut}

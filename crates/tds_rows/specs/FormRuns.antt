@@ -1,5 +1,5 @@
 -- What a run over cells by their forms does, whose columns follow one another in a row.
-use Rattle.std.specs.Prelude.{◌≡◌, ◌==◌, ◌⊎◌, ◌+◌, ◌<◌, ◌≤◌, ◌&&◌, ◌∷◌, ◌++◌, ℕ, zero, suc, Bool, false, List, [], length, map, take, drop, get_or}
+use Rattle.std.specs.Prelude.{◌≡◌, ◌==◌, ◌⊎◌, ◌+◌, ◌<◌, ◌≤◌, ◌*◌, ◌&&◌, ◌∷◌, ◌++◌, ℕ, zero, suc, Bool, false, List, [], length, map, take, drop, get_or}
 use Rattle.tds_columns.specs.Description.{Column}
 use Rattle.tds_csv.specs.Quoting.{after_comma}
 use Rattle.tds_values.specs.declared.charset.Charset.{Charset}
@@ -7,6 +7,7 @@ use Rattle.tds_rows.specs.declared.cell.layout.Form.{Form}
 use Rattle.tds_rows.specs.declared.cell.whole.TheConstants.{CELL_ROOM}
 use Rattle.tds_rows.specs.declared.run.forms.FormsRun.{FormsRun}
 use Rattle.tds_rows.specs.CellSteps.{IsLeft, WritesField, whole_size}
+use Rattle.tds_rows.specs.Forms.{AreInt4}
 use Rattle.tds_rows.specs.MarkedRuns.{WritesMarked}
 use Rattle.tds_rows.specs.Runs.{WritesOne}
 use Rattle.tds_rows.specs.Tables.{kinds}
@@ -49,7 +50,32 @@ abbrev pub FieldsWritten : Charset → List Form → ℕ → List ℕ → List �
 FieldsWritten charset forms column bytes text run = (fields : List ℕ) × WritesForms charset forms column run.cells (take run.used bytes) fields
     × (take run.made text ≡ fields ++ after_comma (column + run.cells) [])
 
+-- A run wrote the fields of the first cells and the comma after them, with room for the end of the line.
+pub record WritesFields (charset : Charset) (forms : List Form) (column : ℕ) (bytes text : List ℕ) (run : FormsRun) : Type 0 where
+  pub within : IsWithin run (length forms) (length bytes) (length text)
+  pub room : 0 < run.cells → (0 < run.made) × (run.made < length text)
+  pub one : run.cells ≡ 1 → FirstUsed forms bytes run.used
+  pub fields : FieldsWritten charset forms column bytes text run
+
+-- So many cells of whole numbers of four bytes are there with all their bytes, and with room for their fields and the end of the line.
+pub record NumbersWithin (cells bytes room : ℕ) : Type 0 where
+  pub whole : 5 * cells ≤ bytes
+  pub fits : 26 * cells + CELL_ROOM ≤ room
+
+-- The values of these forms' kinds are whole numbers of four bytes, which are there with their bytes and room.
+pub record AreNumbers (forms : List Form) (bytes room : ℕ) : Type 0 where
+  pub numbers : AreInt4 forms
+  pub within : NumbersWithin (length forms) bytes room
+
 -- A run wrote the text of the bytes that it used, which are the next cells.
 abbrev pub FormsWritten : Charset → List Form → ℕ → Bool → List ℕ → List ℕ → FormsRun → Type 0
 FormsWritten charset forms column ends bytes text run = (columns : List Column) → AreNext forms ends (drop column columns) →
     WritesMarked charset columns (λ k. false) column run.cells (take run.used bytes) (take run.made text)
+
+-- A run over cells by their forms did so much: it wrote the text of what it used, and left the first cell if it wrote none.
+pub record RunsForms (charset : Charset) (forms : List Form) (column : ℕ) (last : Bool) (bytes : List ℕ) (room : ℕ) (text : List ℕ)
+    (run : FormsRun) : Type 0 where
+  pub within : IsWithin run (length forms) (length bytes) room
+  pub ends : run.cells ≡ 0 → FirstLeft charset forms bytes room
+  pub one : run.cells ≡ 1 → FirstWritten charset forms column last bytes text run
+  pub cells : FormsWritten charset forms column last bytes text run

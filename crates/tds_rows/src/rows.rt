@@ -12,6 +12,7 @@ ghost use Rattle.tds_packet.specs.Payloads.{IsGoing, IsSound, LeavesPayload, buf
 ghost use Rattle.tds_rows.specs.CellSteps.{LeavesSmall, longest_cell};
 ghost use Rattle.tds_rows.specs.RowSteps.{RowPut, RowsRead, StopsAgain};
 ghost use Rattle.tds_rows.specs.Runs.{RowsPut, WritesOne};
+ghost use Rattle.tds_rows.specs.RowRuns.{PassesBy, RunRead};
 ghost use Rattle.tds_rows.specs.declared.cell.layout.Layout.TheVariants as layouts;
 ghost use Rattle.tds_rows.specs.Successes.{BeginNoRow, SpellsRows, SucceedsOn};
 ghost use Rattle.tds_rows.specs.Tables.{Knows, KnowsSome};
@@ -21,7 +22,7 @@ use crate::cell::gathered::{gather_scalar, length_size};
 use crate::cell::layout::{Form, Layout};
 use crate::cell::streamed::stream_long;
 use crate::cell::whole::{CELL_ROOM, Written};
-use crate::run::{RowsRun, run_rows, write_alone};
+use crate::run::{RowsRun, run_cells, run_rows, write_alone};
 use crate::table::{Ahead, ROW, Table};
 use std::io::{Read, Write};
 use tds_columns::Columns;
@@ -34,6 +35,9 @@ use tds_values::{Charset, Reach};
 
 /// The room for the text of a short value that no run took.
 const SHORT_TEXT: usize = 256;
+
+/// The room in a block in which no run is begun, since its cells may want more: it goes on with a small text.
+const BLOCK_END: usize = 128;
 
 /// The reading of rows: the payload, the sink, the area in which a cell is gathered, and the table of the columns.
 #[derive(Drop)]
@@ -191,21 +195,20 @@ impl<'r, 't, 'p, 's, 'c, R: Read, W: Write> Rows<'r, 't, 'p, 's, 'c, R, W> {
 }
 
 impl<'r, 't, 'p, 's, 'c, R: Read, W: Write> Rows<'r, 't, 'p, 's, 'c, R, W> {
-    // Reads the next cells, as many as are whole in the packet, aren't in chunks and have room, over the
+    // Reads the next cells, as many as are whole in the packet, aren't in chunks and have room in the block, over the
     // ends of rows, and puts their text where it waits. It reads nothing and delivers nothing.
-    fn put_run(&mut self, from: Ahead<'c>) -> RowsRun<'c>
+    fn put_within(&mut self, from: Ahead<'c>) -> RowsRun<'c>
         requires in_row { IsInRow self.old }
         requires some { 0 < self.old.table.now.count }
+        requires room { length self.old.sink.now.output.now.bytes + CELL_ROOM < 4096 }
         ensures stays { StaysInRow self.old self.new }
-        ensures few { self.old.payload.now.place + result.rows ≤ self.new.payload.now.place }
+        ensures place { self.new.payload.now.place ≡ self.old.payload.now.place + result.used }
+        ensures few { result.rows ≤ result.used }
         ensures rows { RowsPut R.remaining W.contents self.old.table.now from.entry
             self.old.payload.now self.new.payload.now self.old.sink.now self.new.sink.now result }
     {
         let waiting = self.sink.waiting() as usize;
         let room = self.sink.room() - 1;
-        if room < CELL_ROOM {
-            return RowsRun::none(from);
-        }
         let run = run_rows(
             self.table,
             from,
@@ -215,6 +218,41 @@ impl<'r, 't, 'p, 's, 'c, R: Read, W: Write> Rows<'r, 't, 'p, 's, 'c, R, W> {
         self.payload.consume(run.used);
         self.sink.commit(waiting, run.made);
         run
+    }
+
+    // Reads the next cells of the row, as many as are whole in the packet, aren't in chunks and have room in a small
+    // text, and puts that text over the end of the block.
+    fn put_across(&mut self, from: Ahead<'c>) -> Result<RowsRun<'c>, Stop>
+        requires { IsInRow self.old }
+        ensures leaves { LeavesRows self.old self.new result }
+        ensures place { PassesBy self.old.payload.now.place self.new.payload.now.place result }
+        ensures run { RunRead R.remaining W.contents from.entry self.old self.new result }
+    {
+        let mut text = [0u8; SHORT_TEXT];
+        let end = self.table.count();
+        let run = run_cells(self.table, from, end, self.payload.buffered(), &mut text);
+        self.payload.consume(run.used);
+        self.sink.put(&text[..run.made])?;
+        Ok(RowsRun {
+            used: run.used,
+            made: run.made,
+            rows: 0,
+            ahead: run.ahead,
+        })
+    }
+
+    // Reads the next cells, as many as are whole in the packet, aren't in chunks and have room, and puts their text.
+    fn put_run(&mut self, from: Ahead<'c>) -> Result<RowsRun<'c>, Stop>
+        requires in_row { IsInRow self.old }
+        requires some { 0 < self.old.table.now.count }
+        ensures leaves { LeavesRows self.old self.new result }
+        ensures place { PassesBy self.old.payload.now.place self.new.payload.now.place result }
+        ensures run { RunRead R.remaining W.contents from.entry self.old self.new result }
+    {
+        if self.sink.room() <= BLOCK_END {
+            return self.put_across(from);
+        }
+        Ok(self.put_within(from))
     }
 
     // Reads a row cell after cell, and puts its line.
@@ -246,9 +284,13 @@ impl<'r, 't, 'p, 's, 'c, R: Read, W: Write> Rows<'r, 't, 'p, 's, 'c, R, W> {
         let mut ahead = self.table.start();
         let mut ended: u64 = 0;
         loop {
-            let run = self.put_run(ahead);
+            let run = self.put_run(ahead)?;
             ended += run.rows as u64;
-            let Some((form, after)) = self.table.next(run.ahead) else {
+            ahead = run.ahead;
+            if run.used > 0 {
+                continue;
+            }
+            let Some((form, after)) = self.table.next(ahead) else {
                 if !self.take_token(ROW) {
                     return Ok(ended + 1);
                 }
@@ -256,7 +298,7 @@ impl<'r, 't, 'p, 's, 'c, R: Read, W: Write> Rows<'r, 't, 'p, 's, 'c, R, W> {
                 ahead = self.table.start();
                 continue;
             };
-            self.put_cell(run.ahead, &form)?;
+            self.put_cell(ahead, &form)?;
             ahead = after;
         }
     }

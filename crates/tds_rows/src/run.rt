@@ -43,20 +43,6 @@ impl<'a> CellRun<'a> {
     }
 }
 
-impl<'a> RowsRun<'a> {
-    /// A run that took nothing.
-    pub(crate) fn none(at: Ahead<'a>) -> RowsRun<'a>
-        ensures { result ≡ record { used = 0; made = 0; rows = 0; ahead = at.entry } }
-    {
-        RowsRun {
-            used: 0,
-            made: 0,
-            rows: 0,
-            ahead: at,
-        }
-    }
-}
-
 // Writes cell after cell of a row by the forms of the next ones, as far as they are whole in these bytes, aren't in
 // chunks and have room.
 #[inline(always)]
@@ -182,8 +168,9 @@ fn run_known<'a, const NUMBERS: bool>(
     let mut made = 0;
     let mut rows = 0;
     let mut ahead = from;
+    let row = (&*table).row();
     loop {
-        if table.is_end(ahead) {
+        let Some(forms) = (&*table).rest_of_row(ahead) else {
             if !table.row_follows(&bytes[used..]) {
                 break;
             }
@@ -191,14 +178,9 @@ fn run_known<'a, const NUMBERS: bool>(
             rows += 1;
             table.rewind(&mut ahead);
             continue;
-        }
-        let end = table.count();
-        let Some(forms) = (&*table).forms(ahead, end) else {
-            break;
         };
-        let ends = table.ends_after(ahead, forms);
         let (rest, room) = (&bytes[used..], &mut to[made..]);
-        let run = run_next::<NUMBERS>(forms, table.charset, ahead.column, ends, rest, room);
+        let run = run_next::<NUMBERS>(row, forms, table.charset, ahead.column, rest, room);
         if run.cells == 0 {
             break;
         }

@@ -1,5 +1,5 @@
 // What the cells of a description's columns need of them, known once for all its rows.
-ghost use Rattle.std.specs.Prelude.{◌≡◌, ◌==◌, ◌⊎◌, ◌+◌, ◌<◌, ◌≤◌, get_or, length, true, false, IfSome, List, MatchOption};
+ghost use Rattle.std.specs.Prelude.{◌≡◌, ◌==◌, ◌⊎◌, ◌+◌, ◌-◌, ◌<◌, ◌≤◌, drop, get_or, length, take, true, false, IfSome, List, MatchOption};
 ghost use Rattle.tds_rows.specs.CellSteps.{is_int4};
 ghost use Rattle.tds_rows.specs.Forms.{AreInt4, AreLaidOut, table_length};
 ghost use Rattle.tds_rows.specs.Layouts.{IsLaidOut};
@@ -126,9 +126,8 @@ impl<'a> Table<'a> {
     #[inline(always)]
     pub(crate) fn forms(&self, at: Ahead<'a>, end: u16) -> Option<&[Form]>
         requires { end ≤ self.now.count }
-        ensures ahead { MatchOption result ((self.now.known ≤ at.entry.column) ⊎ (end ≤ at.entry.column))
+        ensures { MatchOption result ((self.now.known ≤ at.entry.column) ⊎ (end ≤ at.entry.column))
             (λ forms. AreAhead self.now at.entry end forms.now) }
-        ensures numbers { self.now.only_numbers ≡ true → IfSome result (λ forms. AreInt4 forms.now) }
     {
         let from = at.column as usize;
         let until = self.known.min(end as usize);
@@ -136,6 +135,33 @@ impl<'a> Table<'a> {
             return None;
         }
         Some(&self.forms[from..until])
+    }
+
+    /// What the cells of a whole row need, all of whose columns the table knows.
+    #[inline(always)]
+    pub(crate) fn row(&self) -> &[Form]
+        requires all { self.now.known ≡ self.now.count }
+        ensures row { result.now ≡ take self.now.known self.now.forms }
+        ensures few { length result.now ≤ 65535 }
+        ensures numbers { self.now.only_numbers ≡ true → AreInt4 result.now }
+    {
+        &self.forms[..self.known]
+    }
+
+    /// What the cells of a row that are ahead need, all of whose columns the table knows. `None` at the row's end.
+    #[inline(always)]
+    pub(crate) fn rest_of_row(&self, at: Ahead<'a>) -> Option<&[Form]>
+        requires all { self.now.known ≡ self.now.count }
+        ensures ahead { MatchOption result (self.now.count ≤ at.entry.column)
+            (λ forms. AreAhead self.now at.entry self.now.count forms.now) }
+        ensures whole { IfSome result (λ forms. at.entry.column + length forms.now ≡ self.now.count) }
+        ensures forms { IfSome result (λ forms. forms.now ≡ take (self.now.known - at.entry.column) (drop at.entry.column self.now.forms)) }
+    {
+        let from = at.column as usize;
+        if from >= self.known {
+            return None;
+        }
+        Some(&self.forms[from..self.known])
     }
 
     /// Whether no cell of the row is ahead.

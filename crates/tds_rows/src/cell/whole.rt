@@ -1,8 +1,8 @@
 // A cell that is whole in the packet: its bytes are together.
-ghost use Rattle.std.specs.Prelude.{◌≡◌, ◌≤◌, length, take, ◌+◌, IfSome};
+ghost use Rattle.std.specs.Prelude.{◌≡◌, ◌+◌, ◌<◌, ◌≤◌, length, take, IfSome};
 ghost use Rattle.tds_csv.specs.Quoting.{in_line, null_field};
 ghost use Rattle.tds_csv.specs.Sinks.{IsReady, PutsPiece};
-ghost use Rattle.tds_rows.specs.CellSteps.{CellWritten, IsInt4, value_length, value_start, whole_size};
+ghost use Rattle.tds_rows.specs.CellSteps.{CellWritten, IsInt4, WritesField, value_length, value_start, whole_size};
 ghost use Rattle.tds_values.specs.declared.charset.Charset.{Charset};
 ghost use Rattle.tds_rows.specs.ShortCells.{ShortWritten, short_size};
 ghost use Rattle.tds_csv.specs.Fields.{conversion_of};
@@ -14,7 +14,7 @@ use byteorder::{ByteOrder, LittleEndian};
 use std::io::Write;
 use tds_csv::{Content, NULL_ROOM, Sink, field_room, write_field, write_null};
 use tds_packet::Stop;
-use tds_values::{Charset, Kind, write_int4, write_scalar};
+use tds_values::{Charset, INTEGER_ROOM, Kind, write_int4, write_scalar};
 
 // How many bytes a cell has, and how many its text in its line.
 #[derive(Clone, Copy)]
@@ -92,7 +92,7 @@ pub(crate) fn write_cell(
             (1, bytes[0] as usize)
         }
         Layout::Short(content) => return write_short(content, bytes, to),
-        Layout::Chunked(_) => return None,
+        _ => return None,
     };
     let used = start + n;
     if bytes.len() < used {
@@ -111,46 +111,47 @@ pub(crate) fn write_cell(
 /// How many bytes a whole number of four bytes has.
 const INT4_SIZE: usize = 4;
 
-// Writes the field of a cell whose value is a whole number of four bytes, so far after its front. `None` if it isn't
-// whole in these bytes.
+/// How many bytes its cell has at most, with a length before it.
+pub(crate) const INT4_CELL: usize = 5;
+
+/// How much room its field wants with the comma after it, in bytes.
+pub(crate) const NUMBER_ROOM: usize = INTEGER_ROOM + 1;
+
+// Writes the field of a cell whose value is a whole number of four bytes, so far after its front.
 #[inline(always)]
-fn write_int4_at(kind: &Kind, start: usize, bytes: &[u8], to: &mut [u8]) -> Option<Written>
+fn write_int4_at(kind: &Kind, start: usize, bytes: &[u8], to: &mut [u8]) -> Written
     requires number { IsInt4 kind.now }
     requires start { start ≡ value_start kind.now }
     requires four { value_length kind.now bytes.now ≡ 4 }
+    requires within { start + 4 ≤ length bytes.now }
     requires room { VALUE_ROOM ≤ length to.old }
-    ensures used { IfSome result (λ written. written.used ≤ length bytes.now) }
-    ensures most { IfSome result (λ written. written.made + 2 ≤ length to.old) }
-    ensures whole { IfSome result (λ written. written.used ≡ whole_size kind.now bytes.now) }
-    ensures field { (charset : Charset) → CellWritten charset kind.now bytes.now (length to.old + 1) to.new result }
+    ensures used { result.used ≡ start + 4 }
+    ensures made { result.made ≤ 25 }
+    ensures whole { result.used ≡ whole_size kind.now bytes.now }
+    ensures field { (charset : Charset) →
+        WritesField charset kind.now (take result.used bytes.now) (take result.made to.new) }
 {
     let used = start + INT4_SIZE;
-    if bytes.len() < used {
-        return None;
-    }
     let made = write_int4(&bytes[start..used], to);
-    Some(Written { used, made })
+    Written { used, made }
 }
 
 /// Writes the field of the cell at the front of these bytes, as [`write_cell`] does, of a kind whose values are whole
-/// numbers of four bytes.
+/// numbers of four bytes. `None` if its length isn't allowed.
 #[inline(always)]
 pub(crate) fn write_int4_cell(form: &Form, bytes: &[u8], to: &mut [u8]) -> Option<Written>
     requires number { IsInt4 form.now.kind }
+    requires within { 5 ≤ length bytes.now }
     requires room { VALUE_ROOM ≤ length to.old }
-    ensures used { IfSome result (λ written. written.used ≤ length bytes.now) }
-    ensures most { IfSome result (λ written. written.made + 2 ≤ length to.old) }
+    ensures most { IfSome result (λ written. (written.used ≤ 5) × (written.made ≤ 25)) }
     ensures whole { IfSome result (λ written. written.used ≡ whole_size form.now.kind bytes.now) }
     ensures field { (charset : Charset) → CellWritten charset form.now.kind bytes.now (length to.old + 1) to.new result }
 {
     let Kind::IntN(_) = form.kind else {
-        return write_int4_at(&form.kind, 0, bytes, to);
+        return Some(write_int4_at(&form.kind, 0, bytes, to));
     };
-    if bytes.is_empty() {
-        return None;
-    }
     match bytes[0] {
-        4 => write_int4_at(&form.kind, 1, bytes, to),
+        4 => Some(write_int4_at(&form.kind, 1, bytes, to)),
         0 => {
             let made = write_null(0, false, to);
             Some(Written { used: 1, made })

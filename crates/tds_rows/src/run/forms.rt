@@ -1,12 +1,13 @@
 // A run over cells by their forms, whose columns follow one another in a row.
-ghost use Rattle.std.specs.Prelude.{◌≡◌, ◌==◌, ◌&&◌, ◌+◌, ◌<◌, ◌≤◌, length, true, IfSome};
-ghost use Rattle.tds_rows.specs.CellSteps.{CellWritten, IsInt4, whole_size};
-ghost use Rattle.tds_rows.specs.FormRuns.{FieldsWritten, FirstLeft, FirstUsed, FirstWritten, FormsWritten, IsWithin};
+ghost use Rattle.std.specs.Prelude.{◌≡◌, ◌==◌, ◌&&◌, ◌≤◌, length, true};
+ghost use Rattle.tds_values.specs.declared.charset.Charset.{Charset};
+ghost use Rattle.tds_rows.specs.FormRuns.{AreNumbers, FirstLeft, NumbersWithin, RunsForms, WritesFields};
 ghost use Rattle.tds_rows.specs.Forms.{AreInt4, AreLaidOut};
-ghost use Rattle.tds_rows.specs.Layouts.{IsLaidOut};
 
 use crate::cell::layout::Form;
-use crate::cell::whole::{CELL_ROOM, VALUE_ROOM, Written, write_cell, write_int4_cell};
+use crate::cell::whole::{
+    CELL_ROOM, INT4_CELL, NUMBER_ROOM, VALUE_ROOM, write_cell, write_int4_cell,
+};
 use tds_csv::{COMMA, write_comma, write_line_end};
 use tds_values::Charset;
 
@@ -26,47 +27,20 @@ fn is_last(ends: bool, cells: usize, count: usize) -> bool
     ends && cells == count
 }
 
-// Writes the field of the cell at the front of these bytes, as `write_cell` does. `NUMBERS` says that its kind's values are
-// whole numbers of four bytes.
-#[inline(always)]
-fn write_next<const NUMBERS: bool>(
-    form: &Form,
-    charset: Charset,
-    bytes: &[u8],
-    to: &mut [u8],
-) -> Option<Written>
-    requires number { NUMBERS ≡ true → IsInt4 form.now.kind }
-    requires laid { IsLaidOut charset form.now.kind form.now.layout }
-    requires room { VALUE_ROOM ≤ length to.old }
-    ensures used { IfSome result (λ written. written.used ≤ length bytes.now) }
-    ensures most { IfSome result (λ written. written.made + 2 ≤ length to.old) }
-    ensures whole { IfSome result (λ written. written.used ≡ whole_size form.now.kind bytes.now) }
-    ensures field { CellWritten charset form.now.kind bytes.now (length to.old + 1) to.new result }
-{
-    if NUMBERS {
-        return write_int4_cell(form, bytes, to);
-    }
-    write_cell(form, charset, bytes, to)
-}
-
 // Writes the fields of the next cells, each after a comma unless it is the row's first, and a comma after the last
 // of them.
 #[inline(always)]
-fn write_fields<const NUMBERS: bool>(
+fn write_fields(
     forms: &[Form],
     charset: Charset,
     column: u16,
     bytes: &[u8],
     to: &mut [u8],
 ) -> FormsRun
-    requires numbers { NUMBERS ≡ true → AreInt4 forms.now }
     requires laid { AreLaidOut charset forms.now }
     requires room { CELL_ROOM ≤ length to.old }
-    ensures within { IsWithin result (length forms.now) (length bytes.now) (length to.old) }
-    ensures room { 0 < result.cells → (0 < result.made) × (result.made < length to.old) }
     ensures ends { result.cells ≡ 0 → FirstLeft charset forms.now bytes.now (length to.old) }
-    ensures one { result.cells ≡ 1 → FirstUsed forms.now bytes.now result.used }
-    ensures fields { FieldsWritten charset forms.now column bytes.now to.new result }
+    ensures fields { WritesFields charset forms.now column bytes.now to.new result }
 {
     let mut cells = 0;
     let mut rest = bytes;
@@ -74,7 +48,7 @@ fn write_fields<const NUMBERS: bool>(
     let most = to.len() - VALUE_ROOM;
     while cells < forms.len() && made <= most {
         let form = &forms[cells];
-        let Some(written) = write_next::<NUMBERS>(form, charset, rest, &mut to[made..]) else {
+        let Some(written) = write_cell(form, charset, rest, &mut to[made..]) else {
             break;
         };
         cells += 1;
@@ -90,8 +64,65 @@ fn write_fields<const NUMBERS: bool>(
     }
 }
 
+// Whether there are bytes and room for any cells of these forms, whose values are whole numbers of four bytes.
+#[inline(always)]
+fn are_within(forms: &[Form], bytes: &[u8], to: &[u8]) -> bool
+    requires { length forms.now ≤ 65535 }
+    ensures { result ≡ true → NumbersWithin (length forms.now) (length bytes.now) (length to.now) }
+{
+    INT4_CELL * forms.len() <= bytes.len() && NUMBER_ROOM * forms.len() + CELL_ROOM <= to.len()
+}
+
+// Writes the fields of the next cells as `write_fields` does, whose values are whole numbers of four bytes, and which
+// need no look at the ends of bytes and room.
+#[inline(always)]
+fn write_numbers(forms: &[Form], column: u16, bytes: &[u8], to: &mut [u8]) -> FormsRun
+    requires numbers { AreInt4 forms.now }
+    requires within { NumbersWithin (length forms.now) (length bytes.now) (length to.old) }
+    ensures ends { (charset : Charset) → result.cells ≡ 0 → FirstLeft charset forms.now bytes.now (length to.old) }
+    ensures fields { (charset : Charset) → WritesFields charset forms.now column bytes.now to.new result }
+{
+    let mut cells = 0;
+    let mut used = 0;
+    let mut made = write_comma(column, to);
+    while cells < forms.len() {
+        let form = &forms[cells];
+        let Some(written) = write_int4_cell(form, &bytes[used..], &mut to[made..]) else {
+            break;
+        };
+        cells += 1;
+        used += written.used;
+        made += written.made;
+        to[made] = COMMA;
+        made += 1;
+    }
+    FormsRun { cells, used, made }
+}
+
+// Writes the fields of the next cells as `write_fields` does. `NUMBERS` says that their values are whole numbers of four
+// bytes, for which there are bytes and room.
+#[inline(always)]
+fn write_some<const NUMBERS: bool>(
+    forms: &[Form],
+    charset: Charset,
+    column: u16,
+    bytes: &[u8],
+    to: &mut [u8],
+) -> FormsRun
+    requires numbers { NUMBERS ≡ true → AreNumbers forms.now (length bytes.now) (length to.old) }
+    requires laid { AreLaidOut charset forms.now }
+    requires room { CELL_ROOM ≤ length to.old }
+    ensures ends { result.cells ≡ 0 → FirstLeft charset forms.now bytes.now (length to.old) }
+    ensures fields { WritesFields charset forms.now column bytes.now to.new result }
+{
+    if NUMBERS {
+        return write_numbers(forms, column, bytes, to);
+    }
+    write_fields(forms, charset, column, bytes, to)
+}
+
 // Writes the cells of the next columns of a row, as `run_forms` does. `NUMBERS` says that their values are whole numbers of
-// four bytes.
+// four bytes, for which there are bytes and room.
 #[inline(always)]
 fn run_fields<const NUMBERS: bool>(
     forms: &[Form],
@@ -101,12 +132,9 @@ fn run_fields<const NUMBERS: bool>(
     bytes: &[u8],
     to: &mut [u8],
 ) -> FormsRun
-    requires numbers { NUMBERS ≡ true → AreInt4 forms.now }
+    requires numbers { NUMBERS ≡ true → AreNumbers forms.now (length bytes.now) (length to.old) }
     requires laid { AreLaidOut charset forms.now }
-    ensures within { IsWithin result (length forms.now) (length bytes.now) (length to.old) }
-    ensures ends { result.cells ≡ 0 → FirstLeft charset forms.now bytes.now (length to.old) }
-    ensures one { result.cells ≡ 1 → FirstWritten charset forms.now column ends bytes.now to.new result }
-    ensures cells { FormsWritten charset forms.now column ends bytes.now to.new result }
+    ensures { RunsForms charset forms.now column ends bytes.now (length to.old) to.new result }
 {
     let none = FormsRun {
         cells: 0,
@@ -116,7 +144,7 @@ fn run_fields<const NUMBERS: bool>(
     if to.len() < CELL_ROOM {
         return none;
     }
-    let run = write_fields::<NUMBERS>(forms, charset, column, bytes, to);
+    let run = write_some::<NUMBERS>(forms, charset, column, bytes, to);
     if run.cells == 0 {
         return none;
     }
@@ -138,33 +166,31 @@ pub(crate) fn run_forms(
     to: &mut [u8],
 ) -> FormsRun
     requires laid { AreLaidOut charset forms.now }
-    ensures within { IsWithin result (length forms.now) (length bytes.now) (length to.old) }
-    ensures ends { result.cells ≡ 0 → FirstLeft charset forms.now bytes.now (length to.old) }
-    ensures one { result.cells ≡ 1 → FirstWritten charset forms.now column ends bytes.now to.new result }
-    ensures cells { FormsWritten charset forms.now column ends bytes.now to.new result }
+    ensures { RunsForms charset forms.now column ends bytes.now (length to.old) to.new result }
 {
     run_fields::<false>(forms, charset, column, ends, bytes, to)
 }
 
-/// Writes such cells as [`run_forms`] does, whose values are whole numbers of four bytes if `NUMBERS` says so.
+/// Writes the cells of a row that are ahead, as [`run_forms`] does: those of a whole row at once, if `NUMBERS` says that
+/// its values are whole numbers of four bytes, and if there are bytes and room for any such row. `row` has the forms of
+/// all columns, and `forms` those ahead.
 #[inline(always)]
 pub(crate) fn run_next<const NUMBERS: bool>(
+    row: &[Form],
     forms: &[Form],
     charset: Charset,
     column: u16,
-    ends: bool,
     bytes: &[u8],
     to: &mut [u8],
 ) -> FormsRun
-    requires numbers { NUMBERS ≡ true → AreInt4 forms.now }
+    requires numbers { NUMBERS ≡ true → AreInt4 row.now }
+    requires few { length row.now ≤ 65535 }
+    requires whole { column ≡ 0 → row.now ≡ forms.now }
     requires laid { AreLaidOut charset forms.now }
-    ensures within { IsWithin result (length forms.now) (length bytes.now) (length to.old) }
-    ensures ends { result.cells ≡ 0 → FirstLeft charset forms.now bytes.now (length to.old) }
-    ensures one { result.cells ≡ 1 → FirstWritten charset forms.now column ends bytes.now to.new result }
-    ensures cells { FormsWritten charset forms.now column ends bytes.now to.new result }
+    ensures { RunsForms charset forms.now column true bytes.now (length to.old) to.new result }
 {
-    if NUMBERS {
-        return run_fields::<true>(forms, charset, column, ends, bytes, to);
+    if NUMBERS && column == 0 && are_within(row, bytes, to) {
+        return run_fields::<true>(row, charset, 0, true, bytes, to);
     }
-    run_forms(forms, charset, column, ends, bytes, to)
+    run_forms(forms, charset, column, true, bytes, to)
 }

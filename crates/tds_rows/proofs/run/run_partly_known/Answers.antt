@@ -1,14 +1,14 @@
 use Rattle.tds_rows.proofs.Words.{[], ◌∷◌, rules, arith, sym, ap, ◌≡◌, ◌∙◌, ◌-◌, length, take, drop, length-take, length-drop, all_after}
 use Rattle.tds_rows.proofs.run.run_partly_known.Goals.{then-is_end+then-not-row_follows, else-is_end+then-cells-eq0}
 use Rattle.tds_rows.proofs.TableRuns.{row_begun, rows_begin, rows_more}
-use Rattle.tds_rows.proofs.TableSteps.{at_end, not_end}
+use Rattle.tds_rows.proofs.TableSteps.{all_before, at_end, not_end}
 use Rattle.tds_rows.proofs.run.run_partly_known.Goals as goal
 
 pub loop-ahead-init : goal.loop-ahead-init
 loop-ahead-init c = rows_begin
 
 pub loop-ahead-preserved-then-is_end : goal.loop-ahead-preserved-then-is_end
-loop-ahead-preserved-then-is_end c = row_begun c.requires.some (sym c.if-is_end.true ∙ c.is_end.ensures) (c.row_follows.ensures.begins (search rules), c.start-ahead.ensures.first)
+loop-ahead-preserved-then-is_end c = row_begun c.requires.some (all_before _ _ (sym c.if-is_end.true ∙ c.is_end.ensures)) (c.row_follows.ensures.begins (search rules), c.start-ahead.ensures.first)
     (λ columns knows is. c.start-ahead.ensures.ahead columns knows) c.loop-ahead.invariant
 
 pub loop-ahead-preserved : goal.loop-ahead-preserved

@@ -13,7 +13,7 @@ returns-clause-field c = λ charset column last.
     let text = in_line column last (take c.write_int4-made.result c.write_int4-made.new.to) in
     let four : length value ≡ 4 = omega (
       arith,
-      c.if-bytes-used.false,
+      c.requires.within,
       length-drop start bytes,
       length-take-le ((start + 4) - start) (drop start bytes),
     ) in
@@ -22,4 +22,4 @@ returns-clause-field c = λ charset column last.
     let is : IsValueText kind column last value text = (x.0, reads.1 ∙ x.1.0, ap (in_line column last) x.1.1.0) in
     let after : (start + 4) - start ≡ 4 = omega arith in
     writes_scalar _ _ _ _ _ _ (λ any. value_cell _ _ _ _ _ _ reads.0 _ _ c.requires.start (sym c.requires.four) (λ e. absurd (omega (arith, e)))
-    c.if-bytes-used.false (rw after at is))
+    c.requires.within (rw after at is))

@@ -1,8 +1,8 @@
 use Rattle.tds_rows.proofs.{Words.{◌+◌, ◌-◌, ◌≤◌, List, Column, StaysInRow, Knows, KnowsSome}, NextSteps.RowsHere, Paths.here}
 use Rattle.tds_rows.proofs.rows.Rows.rows.Given as goal
 
-abbrev pub invariant-loop-form : goal.invariant-loop-form
-invariant-loop-form g l = record {
+abbrev pub invariant-loop-run : goal.invariant-loop-run
+invariant-loop-run g l = record {
   stays : StaysInRow l.initial.self l.self;
   knows : KnowsSome l.self.table.now;
   few : l.initial.self.payload.now.place + l.ended ≤ l.self.payload.now.place;
@@ -10,5 +10,5 @@ invariant-loop-form g l = record {
       → RowsHere g.R.Read.remaining g.W.Write.contents columns (here g.R.Read.remaining g.W.Write.contents l.initial.self) l.self l.ahead l.ended;
 }
 
-abbrev pub decreases-loop-form : goal.decreases-loop-form
-decreases-loop-form g l = l.self.payload.now.max_wire - l.self.payload.now.place
+abbrev pub decreases-loop-run : goal.decreases-loop-run
+decreases-loop-run g l = l.self.payload.now.max_wire - l.self.payload.now.place

@@ -1,0 +1,7 @@
+use Rattle.tds_rows.proofs.{Words.{arith, rules}, LaidOut.int4_part}
+use Rattle.tds_rows.proofs.table.Table.row.Goals as goal
+
+pub returns-clause-numbers : goal.returns-clause-numbers
+returns-clause-numbers c = λ only.
+    let table = c.args.self.now in
+    int4_part table.forms 0 table.known (table.numbers only) (search (arith, rules))
