@@ -11,7 +11,7 @@ use Rattle.tds_rows.proofs.NullSteps.{NearsCells, all_put, cell_nears, cell_stop
 use Rattle.tds_rows.proofs.RowSteps.{ends, ends_marked, coming, nulls_ahead, PutsAt, StopsAt}
 use Rattle.tds_rows.proofs.Paths.{At, here, Path, path_both, path_map, path_none, path_of, streams_of, writes_inside}
 use Rattle.tds_rows.proofs.TableSteps.{last_one, next_column}
-use Rattle.tds_rows.proofs.RunSteps.{whole_puts, lines-append, row_among, row_token}
+use Rattle.tds_rows.proofs.RunSteps.{rows_after, whole_puts, lines-append, row_among, row_token}
 
 -- text that doesn't fill the block waits
 pub all_waits : (h j : Held) (text : List ℕ) → Puts h j text → length h.waiting + length text < 4096
@@ -292,21 +292,6 @@ module _ {token : RowToken} {charset : Charset} {all : List Column} where
   }
 
 -- ---- ROWs, run after run and cell after cell
-
-module _ (charset : Charset) (all : List Column) (before : List (List Cell)) where
-  -- rows after these
-  abbrev after_rows : RowsPart → RowsPart
-  after_rows p = record { before = before ++ p.before; at = p.at }
-
-  rows_among_rows : Inside (rows PlainRow charset all) (rows PlainRow charset all) after_rows
-  rows_among_rows = grind (arith, append_assoc)
-
-  rows_after_text : (p : RowsPart) → lines before ++ rows_so_far p ≡ rows_so_far (after_rows p)
-  rows_after_text p = grind (arith, common_steps, append_assoc, before, lines-append)
-
-  rows_after : {p q : RowsPart} {bytes made : List ℕ} → Writes (rows PlainRow charset all) rows_so_far p bytes made q
-      → Writes (rows PlainRow charset all) rows_so_far (after_rows p) bytes made (after_rows q)
-  rows_after x = writes_inside _ rows_among_rows rows_after_text x
 
 -- ROWs were read and their lines put, so many whole ones and the first cells of the next, whose other columns are left.
 pub record Rowing (charset : Charset) (all : List Column) (left : List (Column × Bool)) (p q : At) (column count : ℕ) : Type 0 where

@@ -1,5 +1,5 @@
 -- The cells of a run, as they are written one after another.
-use Rattle.tds_rows.proofs.Words.{common_steps, false, zero, suc, add-zero, ◌≡◌, ◌∙◌, ℕ, ◌+◌, ◌-◌, ◌≤◌, ◌<◌, Bool, List, [], ◌∷◌, ◌++◌, length, take}
+use Rattle.tds_rows.proofs.Words.{RowsPart, common_steps, false, zero, suc, add-zero, ◌≡◌, ◌∙◌, ℕ, ◌+◌, ◌-◌, ◌≤◌, ◌<◌, Bool, List, [], ◌∷◌, ◌++◌, length, take}
 use Rattle.tds_rows.proofs.Words.{drop, get_or, refl, sym, ap, subst, arith, append_assoc, append-nil, length-append, Result, Ok, Err, MatchResult}
 use Rattle.tds_rows.proofs.Words.{true, length-take, length-take-le, take-append-le, take_all, take_more, take-append-add, take-add, Stop, map}
 use Rattle.tds_rows.proofs.Words.{Option, Seen, Takes, joined, line, Sink, Breaks, Held, IsWriting, Puts, PutsPiece, held, Inside, Spelt-append}
@@ -178,6 +178,35 @@ module _ {charset : Charset} {all : List Column} {cells : List Cell} {columns : 
       → WritesRows charset all cells columns left column count (take used bytes) p
       → WritesRows charset all cells columns all 0 (count + 1) (take (used + 1) bytes) p
   rows_onward used bytes some none within is x = grind (arith, rows_next, take_more)
+
+-- ---- rows after rows
+
+module _ (charset : Charset) (all : List Column) (before : List (List Cell)) where
+  -- rows after these
+  abbrev after_rows : RowsPart → RowsPart
+  after_rows p = record { before = before ++ p.before; at = p.at }
+
+  rows_among_rows : Inside (rows PlainRow charset all) (rows PlainRow charset all) after_rows
+  rows_among_rows = grind (arith, append_assoc)
+
+  rows_after_text : (p : RowsPart) → lines before ++ rows_so_far p ≡ rows_so_far (after_rows p)
+  rows_after_text p = grind (arith, common_steps, append_assoc, before, lines-append)
+
+  pub rows_after : {p q : RowsPart} {bytes made : List ℕ} → Writes (rows PlainRow charset all) rows_so_far p bytes made q
+      → Writes (rows PlainRow charset all) rows_so_far (after_rows p) bytes made (after_rows q)
+  rows_after x = writes_inside _ rows_among_rows rows_after_text x
+
+-- rows, and then more of the last and those after it
+pub rows_both : {charset : Charset} {all : List Column} {cells : List Cell} {columns left left' : List Column} {column column' count count' : ℕ}
+    {a b m n : List ℕ} → (x : WritesRows charset all cells columns left column count a m)
+    → WritesRows charset all x.more left left' column' count' b n → WritesRows charset all cells columns left' column' (count + count') (a ++ b) (m ++ n)
+rows_both {charset = charset} {all = all} x y = record {
+  before = x.before ++ y.before;
+  more = y.more;
+  rows_counted = omega (arith, x.rows_counted, y.rows_counted, length-append x.before y.before);
+  counted = y.counted;
+  writes = writes_both x.writes (rw append-nil at (rows_after charset all x.before y.writes));
+}
 
 -- ---- a cell that lies whole, and whose text fills no block
 

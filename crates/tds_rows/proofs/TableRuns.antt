@@ -1,13 +1,13 @@
 -- Runs of cells over the columns that a table knows: more cells after those that were written.
 use Rattle.tds_rows.proofs.Words.{arith, true, false, [], ◌∷◌, ◌≡◌, ◌∙◌, ap, all_after, drop_more, refl, BeginsRow, ℕ, ◌+◌, ◌-◌, ◌<◌, ◌≤◌, List, ◌++◌}
 use Rattle.tds_rows.proofs.Words.{length, length-append, length-drop, length-take, length-take-le, take, drop, get_or, sym, ◌==◌, Column, Charset}
-use Rattle.tds_rows.proofs.Words.{Ahead, CellRun, CellsWritten, RowsRun, Table, Cell, WritesRows, IsAhead, Knows, RunsMarked}
+use Rattle.tds_rows.proofs.Words.{Ahead, CellRun, CellsWritten, RowsRan, RowsRun, Table, Cell, WritesRows, IsAhead, Knows, RunsMarked}
 use Rattle.tds_rows.proofs.Words.{◌^◌, inr, append-nil, Bool, Breaks, Held, IsBetween, Puts, RowStops, RunsRows, Seen, Stop, Takes, Takes-more}
 use Rattle.tds_rows.proofs.Words.{after_cells, breaks_somewhere, row, row_so_far}
 use Rattle.tds_rows.proofs.GrowingTexts.{row_grows}
 use Rattle.tds_rows.proofs.Paths.{At}
 use Rattle.tds_rows.proofs.TableSteps.{none_next}
-use Rattle.tds_rows.proofs.RunSteps.{made_more, marked_cells, marked_writes, rows_none, rows_onward, used_more}
+use Rattle.tds_rows.proofs.RunSteps.{made_more, marked_cells, marked_writes, rows_both, rows_none, rows_onward, used_more}
 
 -- Between two places of rows, over the ends of so many, these bytes are their cells, and this is their text.
 abbrev pub RowsBetween : Table → List Column → Ahead → Ahead → ℕ → List ℕ → List ℕ → Type 0
@@ -15,17 +15,9 @@ RowsBetween table columns old new count bytes text = IsAhead table columns new
     × ((charset : Charset) (cells : List Cell) → table.charset ≡ charset → length cells ≡ old.column
     → WritesRows charset columns cells (drop old.column columns) (drop new.column columns) new.column count bytes text)
 
--- what a run over rows has used, made and written so far
-pub record RowsSoFar (table : Table) (from : Ahead) (bytes to : List ℕ) (run : RowsRun) : Type 0 where
-  pub used : run.used ≤ length bytes
-  pub made : run.made ≤ length to
-  pub few : run.rows ≤ run.used
-  pub writes : (columns : List Column) → Knows table columns → IsAhead table columns from
-      → RowsBetween table columns from run.ahead run.rows (take run.used bytes) (take run.made to)
-
 -- nothing yet
 pub rows_begin : {table : Table} {from : Ahead} {bytes to : List ℕ}
-    → RowsSoFar table from bytes to (record { used = 0; made = 0; rows = 0; ahead = from })
+    → RowsRan table from bytes to (record { used = 0; made = 0; rows = 0; ahead = from })
 rows_begin = record {
   used = omega arith;
   made = omega arith;
@@ -51,7 +43,7 @@ begins_at used bytes begins = go _ refl
 pub row_begun : {table : Table} {from start : Ahead} {bytes to : List ℕ} {run : RowsRun} → 0 < table.count → table.count ≤ run.ahead.column
     → BeginsRow (take (length bytes - run.used) (drop run.used bytes)) × (start.column ≡ 0)
     → ((columns : List Column) → Knows table columns → IsAhead table columns run.ahead → IsAhead table columns start)
-    → RowsSoFar table from bytes to run → RowsSoFar table from bytes to
+    → RowsRan table from bytes to run → RowsRan table from bytes to
     (record { used = run.used + 1; made = run.made; rows = run.rows + 1; ahead = start })
 row_begun {bytes = bytes} {run = run} some at (begins, first) ahead x =
     let (within, byte) = begins_at run.used bytes begins in
@@ -86,8 +78,8 @@ more_in_rows from used u made m bytes to text rest within some x y = (
 -- the same of what a run over rows has done
 pub rows_more : {table : Table} {from : Ahead} {bytes to : List ℕ} {run : RowsRun} {cells : CellRun} (text rest : List ℕ) → 0 < cells.used
     → cells.used ≤ length (take (length bytes - run.used) (drop run.used bytes)) → cells.made ≤ length text
-    → CellsWritten table run.ahead (take (length bytes - run.used) (drop run.used bytes)) text cells → RowsSoFar table from bytes to run
-    → RowsSoFar table from bytes (take run.made to ++ (text ++ rest))
+    → CellsWritten table run.ahead (take (length bytes - run.used) (drop run.used bytes)) text cells → RowsRan table from bytes to run
+    → RowsRan table from bytes (take run.made to ++ (text ++ rest))
     (record { used = run.used + cells.used; made = run.made + cells.made; rows = run.rows; ahead = cells.ahead })
 rows_more {from = from} {bytes = bytes} {to = to} {run = run} text rest some within fits gives x = record {
   used = omega (arith, x.used, within, length-take (length bytes - run.used) (drop run.used bytes), length-drop run.used bytes);
@@ -125,3 +117,26 @@ run_breaks {table = table} {bytes = bytes} {a = a} {b = b} {h = h} {j = j} {stop
     let broken = breaks_somewhere (row table.charset) row_so_far (row_grows table.charset) _ a b h j stop between _ bytes [] _ x.writes.spelt
     (rw append-nil (Takes-more a b bytes 0 1 (omega arith) takes)) few delivered x.writes.text_is breaks in
     record { at = broken.0; cause = inr (broken.1, failed) }
+
+-- what stands after what was made may be another
+pub rows_kept : {table : Table} {from : Ahead} {bytes to : List ℕ} {run : RowsRun} (new : List ℕ) → length new ≡ length to
+    → take run.made new ≡ take run.made to → RowsRan table from bytes to run → RowsRan table from bytes new run
+rows_kept new same is x = record { used = x.used; made = omega (arith, x.made, same); few = x.few; writes = rw (sym is) at x.writes }
+
+-- a run, and then another that ended where it began
+pub rows_further : {table : Table} {from : Ahead} {bytes to : List ℕ} {run more : RowsRun} (text rest : List ℕ) → more.ahead ≡ run.ahead
+    → RowsRan table from bytes to run → RowsRan table run.ahead (take (length bytes - run.used) (drop run.used bytes)) text more
+    → RowsRan table from bytes (take run.made to ++ (text ++ rest))
+    (record { used = run.used + more.used; made = run.made + more.made; rows = run.rows + more.rows; ahead = run.ahead })
+rows_further {bytes = bytes} {to = to} {run = run} {more = more} text rest is x y = record {
+  used = omega (arith, x.used, y.used, length-take (length bytes - run.used) (drop run.used bytes), length-drop run.used bytes);
+  made = omega (arith, x.made, y.made, length-append (take run.made to) (text ++ rest), length-append text rest, length-take-le run.made to x.made);
+  few = omega (arith, x.few, y.few);
+  writes = λ columns knows ahead. (let u = x.writes columns knows ahead in let v = y.writes columns knows u.0 in (
+    u.0,
+    λ charset cells set counted. (let w = u.1 charset cells set counted in rw (
+      used_more run.used more.used bytes,
+      made_more run.made more.made to text rest x.made y.made,
+    ) (rows_both w (rw is at (v.1 charset w.more set w.counted)))),
+  ));
+}

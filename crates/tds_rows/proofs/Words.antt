@@ -98,7 +98,7 @@ pub use Rattle.tds_rows.specs.RowSteps.{ReadsRow, ReadsRows, RowsRead, RowStops,
 pub use Rattle.tds_rows.specs.Rows.{marked, WholeRow, bitmap_length, row_add, SpellsMarked, bit, RowToken, Bitmap, PlainRow, with_cell, RowPart}
 pub use Rattle.tds_rows.specs.Rows.{SpellsNbcRow, SpellsRow, row, SpellsRowAs, NbcRow, row_so_far, with_field, row_size, InCell, token_byte}
 pub use Rattle.tds_rows.specs.Rows.{row_start, token_start, next_cell, nbc_row_start}
-pub use Rattle.tds_rows.specs.Runs.{rows_so_far, lines, rows, RunsRows, Writes, rows_start, RowsPut, CellsWritten, after_cells, RunEnds, RowsPart}
+pub use Rattle.tds_rows.specs.Runs.{RowsRan, rows_so_far, lines, rows, RunsRows, Writes, rows_start, RowsPut, CellsWritten, after_cells, RunEnds, RowsPart}
 pub use Rattle.tds_rows.specs.Runs.{WritesRows}
 pub use Rattle.tds_rows.specs.ShortCells.{stated_length, short_size}
 pub use Rattle.tds_rows.specs.Successes.{SpellsRows, ReadsOn, SucceedsOn, BeginNoRow, Brings}

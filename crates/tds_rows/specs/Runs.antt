@@ -135,6 +135,13 @@ RowsWritten table from bytes text run = (columns : List Column) → Knows table 
     WritesRows charset columns cells (drop from.column columns) (drop run.ahead.column columns) run.ahead.column run.rows (take run.used bytes)
     (take run.made text))
 
+-- A run over rows used and made no more than there is, began fewer rows than it used bytes, and wrote the text of what it used.
+pub record RowsRan (table : Table) (from : Ahead) (bytes text : List ℕ) (run : RowsRun) : Type 0 where
+  pub used : run.used ≤ length bytes
+  pub made : run.made ≤ length text
+  pub few : run.rows ≤ run.used
+  pub writes : RowsWritten table from bytes text run
+
 -- The same between a payload and a sink.
 abbrev pub RowsPut : {R W : Type 0} → (R → Option (List ℕ)) → (W → Option (List ℕ)) → Table → Ahead → Payload R → Payload R → Sink W → Sink W
     → RowsRun → Type 0

@@ -2,12 +2,12 @@
 ghost use Rattle.std.specs.Prelude.{true, ◌≡◌, ◌+◌, ◌-◌, ◌<◌, ◌≤◌, Bool, drop, length, IfSome};
 ghost use Rattle.tds_rows.specs.declared.cell.whole.TheConstants.{CELL_ROOM};
 ghost use Rattle.tds_rows.specs.Layouts.{IsLaidOut};
-ghost use Rattle.tds_rows.specs.Runs.{AloneWritten, CellsWritten, RowsWritten, RunEnds, StaysWithin};
+ghost use Rattle.tds_rows.specs.Runs.{AloneWritten, CellsWritten, RowsRan, RunEnds, StaysWithin};
 ghost use Rattle.tds_rows.specs.Tables.{AreAhead, KnowsAll};
 
 use crate::cell::layout::Form;
 use crate::cell::whole::{CELL_ROOM, Written};
-use crate::run::forms::{run_forms, run_next};
+use crate::run::forms::{are_within, run_forms, run_row};
 use crate::table::{Ahead, Table};
 use tds_values::Charset;
 
@@ -28,6 +28,20 @@ pub(crate) struct RowsRun<'a> {
     pub(crate) made: usize,
     pub(crate) rows: usize,
     pub(crate) ahead: Ahead<'a>,
+}
+
+impl<'a> RowsRun<'a> {
+    // A run that took nothing.
+    fn none(at: Ahead<'a>) -> RowsRun<'a>
+        ensures { result ≡ record { used = 0; made = 0; rows = 0; ahead = at.entry } }
+    {
+        RowsRun {
+            used: 0,
+            made: 0,
+            rows: 0,
+            ahead: at,
+        }
+    }
 }
 
 impl<'a> CellRun<'a> {
@@ -147,6 +161,57 @@ pub(crate) fn write_alone(
     })
 }
 
+// Writes whole rows of whole numbers of four bytes, each with the token byte of the next, as long as there are bytes and
+// room for any row.
+#[inline(never)]
+fn run_numbers<'a>(table: &Table<'a>, from: Ahead<'a>, bytes: &[u8], to: &mut [u8]) -> RowsRun<'a>
+    requires known { KnowsAll table.now }
+    requires numbers { table.now.only_numbers ≡ true }
+    requires first { from.column ≡ 0 }
+    ensures ahead { result.ahead ≡ from.entry }
+    ensures rows { RowsRan table.now from.entry bytes.now to.new result }
+{
+    let row = (&*table).row();
+    let mut used = 0;
+    let mut made = 0;
+    let mut rows = 0;
+    while are_within(row, &bytes[used..], &to[made..]) {
+        let run = run_row(row, table.charset, &bytes[used..], &mut to[made..]);
+        let end = used + run.used;
+        if run.cells < row.len() || !table.row_follows(&bytes[end..]) {
+            break;
+        }
+        used = end + 1;
+        made += run.made;
+        rows += 1;
+    }
+    RowsRun {
+        used,
+        made,
+        rows,
+        ahead: from,
+    }
+}
+
+// Writes rows of whole numbers as `run_numbers` does, if the place is before a row of such; `None` if it isn't.
+#[inline(always)]
+fn run_whole<'a, const NUMBERS: bool>(
+    table: &Table<'a>,
+    from: Ahead<'a>,
+    bytes: &[u8],
+    to: &mut [u8],
+) -> RowsRun<'a>
+    requires known { KnowsAll table.now }
+    requires numbers { NUMBERS ≡ true → table.now.only_numbers ≡ true }
+    ensures ahead { result.ahead ≡ from.entry }
+    ensures rows { RowsRan table.now from.entry bytes.now to.new result }
+{
+    if NUMBERS && from.column == 0 {
+        return run_numbers(table, from, bytes, to);
+    }
+    RowsRun::none(from)
+}
+
 // Writes cell after cell of rows whose columns the table all knows, as far as they are whole in these bytes, aren't in
 // chunks and have room, over the ends of rows. `NUMBERS` says that all their values are whole numbers of four bytes.
 #[inline(never)]
@@ -158,18 +223,18 @@ fn run_known<'a, const NUMBERS: bool>(
 ) -> RowsRun<'a>
     requires known { KnowsAll table.now }
     requires numbers { NUMBERS ≡ true → table.now.only_numbers ≡ true }
-    ensures used { result.used ≤ length bytes.now }
-    ensures made { result.made ≤ length to.old }
-    ensures few { result.rows ≤ result.used }
     ensures ends { RunEnds table.now result.ahead (drop result.used bytes.now) (length to.old - result.made) }
-    ensures rows { RowsWritten table.now from.entry bytes.now to.new result }
+    ensures rows { RowsRan table.now from.entry bytes.now to.new result }
 {
     let mut used = 0;
     let mut made = 0;
     let mut rows = 0;
     let mut ahead = from;
-    let row = (&*table).row();
     loop {
+        let whole = run_whole::<NUMBERS>(table, ahead, &bytes[used..], &mut to[made..]);
+        used += whole.used;
+        made += whole.made;
+        rows += whole.rows;
         let Some(forms) = (&*table).rest_of_row(ahead) else {
             if !table.row_follows(&bytes[used..]) {
                 break;
@@ -180,7 +245,7 @@ fn run_known<'a, const NUMBERS: bool>(
             continue;
         };
         let (rest, room) = (&bytes[used..], &mut to[made..]);
-        let run = run_next::<NUMBERS>(row, forms, table.charset, ahead.column, rest, room);
+        let run = run_forms(forms, table.charset, ahead.column, true, rest, room);
         if run.cells == 0 {
             break;
         }
@@ -205,11 +270,8 @@ fn run_partly_known<'a>(
     to: &mut [u8],
 ) -> RowsRun<'a>
     requires some { 0 < table.now.count }
-    ensures used { result.used ≤ length bytes.now }
-    ensures made { result.made ≤ length to.old }
-    ensures few { result.rows ≤ result.used }
     ensures ends { RunEnds table.now result.ahead (drop result.used bytes.now) (length to.old - result.made) }
-    ensures rows { RowsWritten table.now from.entry bytes.now to.new result }
+    ensures rows { RowsRan table.now from.entry bytes.now to.new result }
 {
     let mut used = 0;
     let mut made = 0;
@@ -252,11 +314,8 @@ pub(crate) fn run_rows<'a>(
 ) -> RowsRun<'a>
     requires some { 0 < table.now.count }
     requires room { CELL_ROOM ≤ length to.old }
-    ensures used { result.used ≤ length bytes.now }
-    ensures made { result.made ≤ length to.old }
-    ensures few { result.rows ≤ result.used }
     ensures ends { RunEnds table.now result.ahead (drop result.used bytes.now) (length to.old - result.made) }
-    ensures rows { RowsWritten table.now from.entry bytes.now to.new result }
+    ensures rows { RowsRan table.now from.entry bytes.now to.new result }
 {
     if !table.knows_all() {
         return run_partly_known(table, from, bytes, to);

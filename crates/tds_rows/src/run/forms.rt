@@ -64,9 +64,9 @@ fn write_fields(
     }
 }
 
-// Whether there are bytes and room for any cells of these forms, whose values are whole numbers of four bytes.
+/// Whether there are bytes and room for any cells of these forms, whose values are whole numbers of four bytes.
 #[inline(always)]
-fn are_within(forms: &[Form], bytes: &[u8], to: &[u8]) -> bool
+pub(crate) fn are_within(forms: &[Form], bytes: &[u8], to: &[u8]) -> bool
     requires { length forms.now ≤ 65535 }
     ensures { result ≡ true → NumbersWithin (length forms.now) (length bytes.now) (length to.now) }
 {
@@ -171,26 +171,13 @@ pub(crate) fn run_forms(
     run_fields::<false>(forms, charset, column, ends, bytes, to)
 }
 
-/// Writes the cells of a row that are ahead, as [`run_forms`] does: those of a whole row at once, if `NUMBERS` says that
-/// its values are whole numbers of four bytes, and if there are bytes and room for any such row. `row` has the forms of
-/// all columns, and `forms` those ahead.
+/// Writes the cells of a whole row as [`run_forms`] does, whose values are whole numbers of four bytes, if there are bytes
+/// and room for any such row.
 #[inline(always)]
-pub(crate) fn run_next<const NUMBERS: bool>(
-    row: &[Form],
-    forms: &[Form],
-    charset: Charset,
-    column: u16,
-    bytes: &[u8],
-    to: &mut [u8],
-) -> FormsRun
-    requires numbers { NUMBERS ≡ true → AreInt4 row.now }
-    requires few { length row.now ≤ 65535 }
-    requires whole { column ≡ 0 → row.now ≡ forms.now }
+pub(crate) fn run_row(forms: &[Form], charset: Charset, bytes: &[u8], to: &mut [u8]) -> FormsRun
+    requires numbers { AreNumbers forms.now (length bytes.now) (length to.old) }
     requires laid { AreLaidOut charset forms.now }
-    ensures { RunsForms charset forms.now column true bytes.now (length to.old) to.new result }
+    ensures { RunsForms charset forms.now 0 true bytes.now (length to.old) to.new result }
 {
-    if NUMBERS && column == 0 && are_within(row, bytes, to) {
-        return run_fields::<true>(row, charset, 0, true, bytes, to);
-    }
-    run_forms(forms, charset, column, true, bytes, to)
+    run_fields::<true>(forms, charset, 0, true, bytes, to)
 }

@@ -13,7 +13,7 @@ returns-clause-rows g c = λ columns knows ahead.
     (omega arith) c.consume.ensures.gives in
     let at : c.consume.new.self.place ≡ c.args.self.now.payload.now.place + length bytes =
     omega (arith, lies, ap (λ p. p.place) c.consume.ensures.rest, length-take run.used (buffered c.args.self.now.payload.now)) in
-    let ran = c.run_rows-run.ensures.rows columns knows ahead in
+    let ran = c.run_rows-run.ensures.rows.writes columns knows ahead in
     let puts = kept_text _ _ _ _ _ c.run_rows-run.auto.to c.waiting-waiting.ensures _ c.commit.ensures.gives in (
       ran.0,
       λ charset cells set is. runs_rows {p = here g.R.Read.remaining g.W.Write.contents c.args.self.now}
