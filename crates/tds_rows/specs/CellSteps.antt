@@ -87,6 +87,13 @@ is_int4 kind = false
 abbrev pub IsInt4 : Kind → Type 0
 IsInt4 kind = is_int4 kind ≡ true
 
+-- A whole number of four bytes is the value of the cell at the front of these bytes, so far after it.
+pub record HasInt4 (kind : Kind) (start : ℕ) (bytes : List ℕ) : Type 0 where
+  pub number : IsInt4 kind
+  pub starts : start ≡ value_start kind
+  pub four : value_length kind bytes ≡ 4
+  pub within : start + 4 ≤ length bytes
+
 -- how many bytes the cell at the front of these bytes has; of one in chunks nothing is said
 abbrev pub whole_size : Kind → List ℕ → ℕ
 whole_size kind bytes = if is_scalar kind then scalar_size kind bytes else short_size bytes

@@ -12,9 +12,13 @@ use Rattle.tds_rows.specs.RowSteps.{RowStops}
 use Rattle.tds_rows.specs.Runs.{RowsPut, after_cells}
 use Rattle.tds_rows.specs.Tables.{IsAhead, Knows}
 
--- The place in the payload is as many bytes further as a run used, which has no more rows than bytes.
+-- The place in the payload is as many bytes further as a run used, which began no more rows than it used bytes.
+abbrev pub IsFurther : ℕ → ℕ → RowsRun → Type 0
+IsFurther old new run = (new ≡ old + run.used) × (run.rows ≤ run.used)
+
+-- So it is if a run was put.
 abbrev pub PassesBy : ℕ → ℕ → Result RowsRun Stop → Type 0
-PassesBy old new result = IfOk result (λ run. (new ≡ old + run.used) × (run.rows ≤ run.used))
+PassesBy old new result = IfOk result (λ run. IsFurther old new run)
 
 -- The cells of a run were read and their text put; or a write of it failed, in the row that the run began in.
 abbrev pub RunRead : {R W : Type 0} → (R → Option (List ℕ)) → (W → Option (List ℕ)) → Ahead → Rows R W → Rows R W → Result RowsRun Stop → Type 0

@@ -12,7 +12,7 @@ ghost use Rattle.tds_packet.specs.Payloads.{IsGoing, IsSound, LeavesPayload, buf
 ghost use Rattle.tds_rows.specs.CellSteps.{LeavesSmall, longest_cell};
 ghost use Rattle.tds_rows.specs.RowSteps.{RowPut, RowsRead, StopsAgain};
 ghost use Rattle.tds_rows.specs.Runs.{RowsPut, WritesOne};
-ghost use Rattle.tds_rows.specs.RowRuns.{PassesBy, RunRead};
+ghost use Rattle.tds_rows.specs.RowRuns.{IsFurther, PassesBy, RunRead};
 ghost use Rattle.tds_rows.specs.declared.cell.layout.Layout.TheVariants as layouts;
 ghost use Rattle.tds_rows.specs.Successes.{BeginNoRow, SpellsRows, SucceedsOn};
 ghost use Rattle.tds_rows.specs.Tables.{Knows, KnowsSome};
@@ -202,8 +202,7 @@ impl<'r, 't, 'p, 's, 'c, R: Read, W: Write> Rows<'r, 't, 'p, 's, 'c, R, W> {
         requires some { 0 < self.old.table.now.count }
         requires room { length self.old.sink.now.output.now.bytes + CELL_ROOM < 4096 }
         ensures stays { StaysInRow self.old self.new }
-        ensures place { self.new.payload.now.place ≡ self.old.payload.now.place + result.used }
-        ensures few { result.rows ≤ result.used }
+        ensures place { IsFurther self.old.payload.now.place self.new.payload.now.place result }
         ensures rows { RowsPut R.remaining W.contents self.old.table.now from.entry
             self.old.payload.now self.new.payload.now self.old.sink.now self.new.sink.now result }
     {

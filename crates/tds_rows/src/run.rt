@@ -193,36 +193,24 @@ fn run_numbers<'a>(table: &Table<'a>, from: Ahead<'a>, bytes: &[u8], to: &mut [u
     }
 }
 
-// Writes rows of whole numbers as `run_numbers` does, if the place is before a row of such; `None` if it isn't.
+// Writes rows as `run_numbers` does, if the place is before a row of whole numbers of four bytes.
 #[inline(always)]
-fn run_whole<'a, const NUMBERS: bool>(
-    table: &Table<'a>,
-    from: Ahead<'a>,
-    bytes: &[u8],
-    to: &mut [u8],
-) -> RowsRun<'a>
-    requires known { KnowsAll table.now }
-    requires numbers { NUMBERS ≡ true → table.now.only_numbers ≡ true }
+fn run_whole<'a>(table: &Table<'a>, from: Ahead<'a>, bytes: &[u8], to: &mut [u8]) -> RowsRun<'a>
+    requires { KnowsAll table.now }
     ensures ahead { result.ahead ≡ from.entry }
     ensures rows { RowsRan table.now from.entry bytes.now to.new result }
 {
-    if NUMBERS && from.column == 0 {
+    if table.only_numbers && from.column == 0 {
         return run_numbers(table, from, bytes, to);
     }
     RowsRun::none(from)
 }
 
 // Writes cell after cell of rows whose columns the table all knows, as far as they are whole in these bytes, aren't in
-// chunks and have room, over the ends of rows. `NUMBERS` says that all their values are whole numbers of four bytes.
+// chunks and have room, over the ends of rows.
 #[inline(never)]
-fn run_known<'a, const NUMBERS: bool>(
-    table: &Table<'a>,
-    from: Ahead<'a>,
-    bytes: &[u8],
-    to: &mut [u8],
-) -> RowsRun<'a>
-    requires known { KnowsAll table.now }
-    requires numbers { NUMBERS ≡ true → table.now.only_numbers ≡ true }
+fn run_known<'a>(table: &Table<'a>, from: Ahead<'a>, bytes: &[u8], to: &mut [u8]) -> RowsRun<'a>
+    requires { KnowsAll table.now }
     ensures ends { RunEnds table.now result.ahead (drop result.used bytes.now) (length to.old - result.made) }
     ensures rows { RowsRan table.now from.entry bytes.now to.new result }
 {
@@ -231,7 +219,7 @@ fn run_known<'a, const NUMBERS: bool>(
     let mut rows = 0;
     let mut ahead = from;
     loop {
-        let whole = run_whole::<NUMBERS>(table, ahead, &bytes[used..], &mut to[made..]);
+        let whole = run_whole(table, ahead, &bytes[used..], &mut to[made..]);
         used += whole.used;
         made += whole.made;
         rows += whole.rows;
@@ -317,11 +305,8 @@ pub(crate) fn run_rows<'a>(
     ensures ends { RunEnds table.now result.ahead (drop result.used bytes.now) (length to.old - result.made) }
     ensures rows { RowsRan table.now from.entry bytes.now to.new result }
 {
-    if !table.knows_all() {
-        return run_partly_known(table, from, bytes, to);
+    if table.knows_all() {
+        return run_known(table, from, bytes, to);
     }
-    if table.only_numbers {
-        return run_known::<true>(table, from, bytes, to);
-    }
-    run_known::<false>(table, from, bytes, to)
+    run_partly_known(table, from, bytes, to)
 }

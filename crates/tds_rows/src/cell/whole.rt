@@ -2,7 +2,7 @@
 ghost use Rattle.std.specs.Prelude.{◌≡◌, ◌+◌, ◌<◌, ◌≤◌, length, take, IfSome};
 ghost use Rattle.tds_csv.specs.Quoting.{in_line, null_field};
 ghost use Rattle.tds_csv.specs.Sinks.{IsReady, PutsPiece};
-ghost use Rattle.tds_rows.specs.CellSteps.{CellWritten, IsInt4, WritesField, value_length, value_start, whole_size};
+ghost use Rattle.tds_rows.specs.CellSteps.{CellWritten, HasInt4, IsInt4, WritesField, whole_size};
 ghost use Rattle.tds_values.specs.declared.charset.Charset.{Charset};
 ghost use Rattle.tds_rows.specs.ShortCells.{ShortWritten, short_size};
 ghost use Rattle.tds_csv.specs.Fields.{conversion_of};
@@ -120,10 +120,7 @@ pub(crate) const NUMBER_ROOM: usize = INTEGER_ROOM + 1;
 // Writes the field of a cell whose value is a whole number of four bytes, so far after its front.
 #[inline(always)]
 fn write_int4_at(kind: &Kind, start: usize, bytes: &[u8], to: &mut [u8]) -> Written
-    requires number { IsInt4 kind.now }
-    requires start { start ≡ value_start kind.now }
-    requires four { value_length kind.now bytes.now ≡ 4 }
-    requires within { start + 4 ≤ length bytes.now }
+    requires there { HasInt4 kind.now start bytes.now }
     requires room { VALUE_ROOM ≤ length to.old }
     ensures used { result.used ≡ start + 4 }
     ensures made { result.made ≤ 25 }

@@ -13,13 +13,13 @@ returns-clause-field c = λ charset column last.
     let text = in_line column last (take c.write_int4-made.result c.write_int4-made.new.to) in
     let four : length value ≡ 4 = omega (
       arith,
-      c.requires.within,
+      c.requires.there.within,
       length-drop start bytes,
       length-take-le ((start + 4) - start) (drop start bytes),
     ) in
-    let reads = int4_reads kind value c.requires.number four in
+    let reads = int4_reads kind value c.requires.there.number four in
     let x = answered _ (Ok c.write_int4-made.result) _ c.write_int4-made.ensures.text in
     let is : IsValueText kind column last value text = (x.0, reads.1 ∙ x.1.0, ap (in_line column last) x.1.1.0) in
     let after : (start + 4) - start ≡ 4 = omega arith in
-    writes_scalar _ _ _ _ _ _ (λ any. value_cell _ _ _ _ _ _ reads.0 _ _ c.requires.start (sym c.requires.four) (λ e. absurd (omega (arith, e)))
-    c.requires.within (rw after at is))
+    writes_scalar _ _ _ _ _ _ (λ any. value_cell _ _ _ _ _ _ reads.0 _ _ c.requires.there.starts (sym c.requires.there.four) (λ e. absurd (omega (arith, e)))
+    c.requires.there.within (rw after at is))
