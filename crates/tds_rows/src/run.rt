@@ -176,9 +176,11 @@ fn run_numbers<'a>(table: &Table<'a>, from: Ahead<'a>, bytes: &[u8], to: &mut [u
     let mut made = 0;
     let mut rows = 0;
     while are_within(row, &bytes[used..], &to[made..]) {
-        let run = run_row(row, table.charset, &bytes[used..], &mut to[made..]);
+        let Some(run) = run_row(row, &bytes[used..], &mut to[made..]) else {
+            break;
+        };
         let end = used + run.used;
-        if run.cells < row.len() || !table.row_follows(&bytes[end..]) {
+        if !table.row_follows(&bytes[end..]) {
             break;
         }
         used = end + 1;

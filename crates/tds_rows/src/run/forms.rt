@@ -1,7 +1,7 @@
 // A run over cells by their forms, whose columns follow one another in a row.
-ghost use Rattle.std.specs.Prelude.{◌≡◌, ◌==◌, ◌&&◌, ◌≤◌, length, true};
+ghost use Rattle.std.specs.Prelude.{◌≡◌, ◌==◌, ◌&&◌, ◌<◌, ◌≤◌, length, true, IfSome};
 ghost use Rattle.tds_values.specs.declared.charset.Charset.{Charset};
-ghost use Rattle.tds_rows.specs.FormRuns.{AreNumbers, FirstLeft, NumbersWithin, RunsForms, WritesFields};
+ghost use Rattle.tds_rows.specs.FormRuns.{AreNumbers, FirstLeft, IsWithin, NumbersWithin, RunsForms, WritesFields};
 ghost use Rattle.tds_rows.specs.Forms.{AreInt4, AreLaidOut};
 
 use crate::cell::layout::Form;
@@ -99,60 +99,6 @@ fn write_numbers(forms: &[Form], column: u16, bytes: &[u8], to: &mut [u8]) -> Fo
     FormsRun { cells, used, made }
 }
 
-// Writes the fields of the next cells as `write_fields` does. `NUMBERS` says that their values are whole numbers of four
-// bytes, for which there are bytes and room.
-#[inline(always)]
-fn write_some<const NUMBERS: bool>(
-    forms: &[Form],
-    charset: Charset,
-    column: u16,
-    bytes: &[u8],
-    to: &mut [u8],
-) -> FormsRun
-    requires numbers { NUMBERS ≡ true → AreNumbers forms.now (length bytes.now) (length to.old) }
-    requires laid { AreLaidOut charset forms.now }
-    requires room { CELL_ROOM ≤ length to.old }
-    ensures ends { result.cells ≡ 0 → FirstLeft charset forms.now bytes.now (length to.old) }
-    ensures fields { WritesFields charset forms.now column bytes.now to.new result }
-{
-    if NUMBERS {
-        return write_numbers(forms, column, bytes, to);
-    }
-    write_fields(forms, charset, column, bytes, to)
-}
-
-// Writes the cells of the next columns of a row, as `run_forms` does. `NUMBERS` says that their values are whole numbers of
-// four bytes, for which there are bytes and room.
-#[inline(always)]
-fn run_fields<const NUMBERS: bool>(
-    forms: &[Form],
-    charset: Charset,
-    column: u16,
-    ends: bool,
-    bytes: &[u8],
-    to: &mut [u8],
-) -> FormsRun
-    requires numbers { NUMBERS ≡ true → AreNumbers forms.now (length bytes.now) (length to.old) }
-    requires laid { AreLaidOut charset forms.now }
-    ensures { RunsForms charset forms.now column ends bytes.now (length to.old) to.new result }
-{
-    let none = FormsRun {
-        cells: 0,
-        used: 0,
-        made: 0,
-    };
-    if to.len() < CELL_ROOM {
-        return none;
-    }
-    let run = write_some::<NUMBERS>(forms, charset, column, bytes, to);
-    if run.cells == 0 {
-        return none;
-    }
-    let last = is_last(ends, run.cells, forms.len());
-    let made = write_line_end(last, run.made - 1, to);
-    FormsRun { made, ..run }
-}
-
 /// Writes the cells of the next columns of a row, after its first `column` ones, one after another, as far as they
 /// are whole in these bytes, aren't in chunks and have room. `ends` says that the last of these columns is the row's
 /// last.
@@ -165,19 +111,41 @@ pub(crate) fn run_forms(
     bytes: &[u8],
     to: &mut [u8],
 ) -> FormsRun
-    requires laid { AreLaidOut charset forms.now }
+    requires { AreLaidOut charset forms.now }
     ensures { RunsForms charset forms.now column ends bytes.now (length to.old) to.new result }
 {
-    run_fields::<false>(forms, charset, column, ends, bytes, to)
+    let none = FormsRun {
+        cells: 0,
+        used: 0,
+        made: 0,
+    };
+    if to.len() < CELL_ROOM {
+        return none;
+    }
+    let run = write_fields(forms, charset, column, bytes, to);
+    if run.cells == 0 {
+        return none;
+    }
+    let last = is_last(ends, run.cells, forms.len());
+    let made = write_line_end(last, run.made - 1, to);
+    FormsRun { made, ..run }
 }
 
-/// Writes the cells of a whole row as [`run_forms`] does, whose values are whole numbers of four bytes, if there are bytes
-/// and room for any such row.
+/// Writes the cells of a whole row as [`run_forms`] does, whose values are whole numbers of four bytes, and for which
+/// there are bytes and room. `None` if one of them is refused.
 #[inline(always)]
-pub(crate) fn run_row(forms: &[Form], charset: Charset, bytes: &[u8], to: &mut [u8]) -> FormsRun
+pub(crate) fn run_row(forms: &[Form], bytes: &[u8], to: &mut [u8]) -> Option<FormsRun>
+    requires some { 0 < length forms.now }
     requires numbers { AreNumbers forms.now (length bytes.now) (length to.old) }
-    requires laid { AreLaidOut charset forms.now }
-    ensures { RunsForms charset forms.now 0 true bytes.now (length to.old) to.new result }
+    ensures row { (charset : Charset) → IfSome result
+        (λ run. RunsForms charset forms.now 0 true bytes.now (length to.old) to.new run) }
+    ensures whole { IfSome result (λ run. run.cells ≡ length forms.now) }
+    ensures within { IfSome result (λ run. IsWithin run (length forms.now) (length bytes.now) (length to.old)) }
 {
-    run_fields::<true>(forms, charset, 0, true, bytes, to)
+    let run = write_numbers(forms, 0, bytes, to);
+    if run.cells < forms.len() {
+        return None;
+    }
+    let made = write_line_end(true, run.made - 1, to);
+    Some(FormsRun { made, ..run })
 }

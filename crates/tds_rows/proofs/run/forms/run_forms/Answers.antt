@@ -1,17 +1,17 @@
 use Rattle.tds_rows.proofs.Words.{◌∙◌, ◌-◌, ◌++◌, ap, take, arith, rules, end_after}
 use Rattle.tds_rows.proofs.FormSteps.{fields_run}
-use Rattle.tds_rows.proofs.run.forms.run_fields.Goals as goal
+use Rattle.tds_rows.proofs.run.forms.run_forms.Goals as goal
 
 pub returns-then-run-eq0 : goal.returns-then-run-eq0
-returns-then-run-eq0 g c = record {
+returns-then-run-eq0 c = record {
   within = search (arith, rules);
-  ends = λ _. c.write_some-run.ensures.ends c.if-run-eq0.true;
+  ends = λ _. c.write_fields-run.ensures.ends c.if-run-eq0.true;
   one = λ one. absurd (omega (arith, one));
   cells = search (arith, rules);
 }
 
 pub returns : goal.returns
-returns g c =
-    let run = c.write_some-run in
+returns c =
+    let run = c.write_fields-run in
     fields_run _ _ _ (omega (arith, c.if-run-eq0.false)) run.ensures.fields (search (arith, rules))
     (c.write_line_end-made.ensures.text ∙ ap (λ v. take (run.result.made - 1) run.new.to ++ end_after v) c.is_last-last.ensures)

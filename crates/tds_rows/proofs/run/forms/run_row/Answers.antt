@@ -1,0 +1,30 @@
+use Rattle.tds_values.specs.declared.charset.Charset.TheVariants.{Windows1252}
+use Rattle.tds_rows.proofs.Words.{◌<◌, ◌∙◌, ◌-◌, ◌++◌, ◌≡◌, ap, sym, take, length, arith, rules, eq-eqb, end_after}
+use Rattle.tds_rows.proofs.FormSteps.{fields_run}
+use Rattle.tds_rows.proofs.run.forms.run_row.Goals as goal
+
+pub overflow_sub-run : goal.overflow_sub-run
+overflow_sub-run c =
+    let x = c.write_numbers-run.ensures.fields Windows1252 in
+    omega (arith, (x.room (omega (arith, c.if-run-forms.false, c.requires.some))).0)
+
+pub write_line_end-made-requires : goal.write_line_end-made-requires
+write_line_end-made-requires c =
+    let x = c.write_numbers-run.ensures.fields Windows1252 in
+    omega (arith, x.room (omega (arith, c.if-run-forms.false, c.requires.some)), c.write_numbers-run.auto.to)
+
+pub returns-clause-whole : goal.returns-clause-whole
+returns-clause-whole c =
+    let x = c.write_numbers-run.ensures.fields Windows1252 in
+    omega (arith, x.within.cells, c.if-run-forms.false)
+
+pub returns-clause-row : goal.returns-clause-row
+returns-clause-row c = λ charset.
+    let run = c.write_numbers-run in
+    let x = run.ensures.fields charset in
+    let all : run.result.cells ≡ length c.args.forms.now = omega (arith, x.within.cells, c.if-run-forms.false) in
+    fields_run _ _ _ (omega (arith, all, c.requires.some)) x (search (arith, rules))
+    (c.write_line_end-made.ensures.text ∙ ap (λ v. take (run.result.made - 1) run.new.to ++ end_after v) (sym (eq-eqb _ _ all)))
+
+pub returns-clause-within : goal.returns-clause-within
+returns-clause-within c = (returns-clause-row c Windows1252).within
