@@ -31,6 +31,7 @@ mod moments;
 mod numbers;
 mod ranges;
 mod scalar;
+mod tables;
 mod text;
 mod text_by_kit;
 mod wide;

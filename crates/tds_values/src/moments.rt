@@ -1,10 +1,11 @@
 // The texts of dates and times, written to a slice from a place on.
-ghost use Rattle.std.specs.Prelude.{◌≡◌, ◌+◌, ◌<◌, ◌≤◌, ◌++◌, take, length, unsigned_abs};
+ghost use Rattle.std.specs.Prelude.{◌≡◌, ◌+◌, ◌<◌, ◌≤◌, ◌++◌, codes, take, length, unsigned_abs};
 ghost use Rattle.tds_values.specs.ScalarText.{date_text, seconds_text, minutes_text, fraction_text, ticks_text, offset_text, date_and_time};
 ghost use Rattle.tds_values.specs.TimeOfDay.{IsClockTime};
 
-use crate::digits::{put_byte, put_tail, put_two};
+use crate::digits::{put_byte, put_bytes, put_four, put_tail, put_two};
 use crate::ranges::{LARGEST_OFFSET, LAST_DAY, MINUTES_A_DAY, SECONDS_A_DAY, TICKS_A_DAY};
+use crate::tables::MINUTES;
 use jiff_core::civil::Date;
 
 // How many days the first day of `jiff`, -9999-01-01, is before day 0.
@@ -20,25 +21,34 @@ pub(crate) fn put_date(to: &mut [u8], at: usize, day: u32) -> usize
 {
     let date = Date::from_days_since_min(day + DAYS_BEFORE_DAY_0);
     let year = date.year.unsigned_abs() as u32;
-    let at = put_two(to, at, year / 100);
-    let at = put_two(to, at, year % 100);
+    let at = put_four(to, at, year);
     let at = put_byte(to, at, b'-');
     let at = put_two(to, at, date.month as u32);
     let at = put_byte(to, at, b'-');
     put_two(to, at, date.day as u32)
 }
 
-// HH:MM.
+// HH:MM:00.
+#[inline(always)]
+fn text_of_minute(minutes: u32) -> &'static [u8]
+    requires { minutes < MINUTES_A_DAY }
+    ensures { result.now ≡ minutes_text minutes ++ codes ":00" }
+{
+    let from = 8 * minutes as usize;
+    &MINUTES[from..from + 8]
+}
+
+// HH:MM, and a colon after it.
 #[inline(always)]
 fn put_minutes(to: &mut [u8], at: usize, minutes: u32) -> usize
-    requires room { at + 5 ≤ length to.old }
+    requires room { at + 8 ≤ length to.old }
     requires day { minutes < MINUTES_A_DAY }
     ensures end { result ≡ at + 5 }
     ensures written { take result to.new ≡ take at to.old ++ minutes_text minutes }
+    ensures colon { take (result + 1) to.new ≡ take result to.new ++ codes ":" }
 {
-    let at = put_two(to, at, minutes / 60);
-    let at = put_byte(to, at, b':');
-    put_two(to, at, minutes % 60)
+    put_bytes(to, at, text_of_minute(minutes));
+    at + 5
 }
 
 // HH:MM:SS.
@@ -50,8 +60,7 @@ pub(crate) fn put_clock(to: &mut [u8], at: usize, seconds: u32) -> usize
     ensures written { take result to.new ≡ take at to.old ++ seconds_text seconds }
 {
     let at = put_minutes(to, at, seconds / 60);
-    let at = put_byte(to, at, b':');
-    put_two(to, at, seconds % 60)
+    put_two(to, at + 1, seconds % 60)
 }
 
 // A point and the digits of a fraction of a second; nothing at scale 0.
@@ -111,7 +120,7 @@ pub(crate) fn put_ticks(to: &mut [u8], at: usize, ticks: u32) -> usize
 // +HH:MM or -HH:MM.
 #[inline(always)]
 pub(crate) fn put_offset(to: &mut [u8], at: usize, offset: i16) -> usize
-    requires room { at + 6 ≤ length to.old }
+    requires room { at + 9 ≤ length to.old }
     requires offset { unsigned_abs offset ≤ LARGEST_OFFSET }
     ensures end { result ≡ at + 6 }
     ensures written { take result to.new ≡ take at to.old ++ offset_text offset }

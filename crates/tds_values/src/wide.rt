@@ -3,7 +3,7 @@ ghost use Rattle.std.specs.Prelude.{◌≡◌, ◌+◌, ◌-◌, ◌≤◌, ◌<
 ghost use Rattle.std.specs.List.{prefix_len};
 ghost use Rattle.tds_values.specs.ScalarText.{last_digits, decimal_text, is_zero};
 
-use crate::digits::{put_byte, put_tail};
+use crate::digits::{put_byte, put_bytes, put_tail};
 use crate::numbers::put_sign;
 use crate::text::{LONGEST_TEXT, TEXT_ROOM};
 
@@ -63,17 +63,6 @@ fn zeros(digits: &[u8], most: usize) -> usize
     n
 }
 
-// Some digits.
-fn put_digits(to: &mut [u8], at: usize, digits: &[u8]) -> usize
-    requires { at + length digits.now ≤ length to.old }
-    ensures end { result ≡ at + length digits.now }
-    ensures written { take result to.new ≡ take at to.old ++ digits.now }
-{
-    let end = at + digits.len();
-    to[at..end].copy_from_slice(digits);
-    end
-}
-
 // A decimal.
 #[inline(never)]
 pub(crate) fn put_wide_decimal(
@@ -92,10 +81,10 @@ pub(crate) fn put_wide_decimal(
     let point = DIGITS - scale as usize;
     let first = zeros(&digits, point - 1);
     let at = put_sign(to, at, negative, magnitude == 0);
-    let at = put_digits(to, at, &digits[first..point]);
+    let at = put_bytes(to, at, &digits[first..point]);
     if scale == 0 {
         return at;
     }
     let at = put_byte(to, at, b'.');
-    put_digits(to, at, &digits[point..])
+    put_bytes(to, at, &digits[point..])
 }
