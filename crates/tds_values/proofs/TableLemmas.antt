@@ -3,6 +3,9 @@ use Rattle.tds_values.proofs.Words.{◌≡◌, ℕ, ◌+◌, ◌*◌, ◌/◌, �
 use Rattle.tds_values.proofs.Words.{lower, FOUR_DIGITS, MINUTES, slice_index, lower_digits, suc, zero, List, [], ◌++◌, length, take, drop, codes, arith, add-zero, ◌∙◌, ap, take_all, take-append-le, zero-add, suc-add}
 use Rattle.std.proofs.Math.Seq.{drop-append-add}
 use Rattle.tds_values.proofs.Words.{last_digits}
+use Rattle.tds_values.proofs.Words.{append_assoc, sym, take-take, take-append-add, All, All-nil, bytes_low_first}
+use Rattle.std.proofs.lemmas.List.Elements.{All-append, All-cons}
+use Rattle.tds_values.proofs.WordLemmas.{bytes_written, digits_are_bytes, word_of}
 use Rattle.tds_values.proofs.TextLengths.{length-last_digits}
 use Rattle.tds_values.specs.ScalarText.{minutes_text}
 
@@ -38,12 +41,36 @@ pub four_at : (n k : ℕ) → n < 10000 → k ≡ 4 → take k (drop (4 * n) FOU
 four_at n k h e = rw (e, four_digits) (rw add-zero at (text_at (last_digits 4) 4 (length-last_digits 4) n 10000 0 h))
 
 -- and the text of a minute
-minutes : MINUTES ≡ joined_from (λ m. minutes_text m ++ codes ":00") 1440 0
+minutes : MINUTES ≡ joined_from (λ m. minutes_text m ++ codes ":" ++ last_digits 2 0) 1440 0
 unfolding joined_from
 minutes = refl
 
-pub minute_at : (m k : ℕ) → m < 1440 → k ≡ 8 → take k (drop (8 * m) MINUTES) ≡ minutes_text m ++ codes ":00"
-minute_at m k h e = rw (e, minutes) (rw add-zero at (text_at (λ m. minutes_text m ++ codes ":00") 8 (λ m. refl) m 1440 0 h))
+pub minute_at : (m k : ℕ) → m < 1440 → k ≡ 8 → take k (drop (8 * m) MINUTES) ≡ minutes_text m ++ codes ":" ++ last_digits 2 0
+minute_at m k h e = rw (e, minutes) (rw (add-zero m) at (text_at (λ m. minutes_text m ++ codes ":" ++ last_digits 2 0) 8 (λ m. refl) m 1440 0 h))
+
+colon : All (λ b. b < 256) (codes ":")
+colon = All-cons (λ b. b < 256) 58 [] (omega arith) (All-nil (λ b. b < 256))
+
+minute_written : (m : ℕ) → let text = minutes_text m ++ codes ":" ++ last_digits 2 0 in bytes_low_first 0 8 (word_of text) ≡ text
+minute_written m =
+    let P = λ (b : ℕ). b < 256 in
+    let two = λ (n : ℕ). digits_are_bytes 2 n in
+    let minutes = All-append P (codes ":") (last_digits 2 (m % 60)) colon (two (m % 60)) in
+    let zeros = All-append P (codes ":") (last_digits 2 0) colon (two 0) in
+    bytes_written (minutes_text m ++ codes ":" ++ last_digits 2 0) (All-append P (minutes_text m) (codes ":" ++ last_digits 2 0)
+    (All-append P (last_digits 2 (m / 60)) (codes ":" ++ last_digits 2 (m % 60)) (two (m / 60)) minutes) zeros)
+
+-- the first k of eight bytes that are written
+front : (xs new text : List ℕ) (at k : ℕ) → k ≤ 8 → length xs ≡ at → take (at + 8) new ≡ xs ++ text → take (at + k) new ≡ xs ++ take k text
+front xs new text at k h long e = cc (take-take (at + k) (at + 8) new (omega arith), take-append-add xs text k)
+
+pub minute_put : (xs new : List ℕ) (at w m : ℕ) → length xs ≡ at → w ≡ word_of (minutes_text m ++ codes ":" ++ last_digits 2 0)
+    → take (at + 8) new ≡ xs ++ bytes_low_first 0 8 w → (take (at + 5) new ≡ xs ++ minutes_text m) × (take (at + 6) new ≡ take (at + 5) new ++ codes ":")
+minute_put xs new at w m long is e =
+    let text = minutes_text m ++ codes ":" ++ last_digits 2 0 in
+    let whole : take (at + 8) new ≡ xs ++ text = e ∙ ap (λ w. xs ++ bytes_low_first 0 8 w) is ∙ ap (λ t. xs ++ t) (minute_written m) in
+    let five = front xs new text at 5 (omega arith) long whole in
+    (five, front xs new text at 6 (omega arith) long whole ∙ sym (append_assoc xs (minutes_text m) (codes ":")) ∙ ap (λ t. t ++ codes ":") (sym five))
 
 -- the two hexadecimal digits of a byte
 pub hex_at : (b : ℕ) → b < 256 → (slice_index lower_digits (b / 16) ≡ hex_digit lower (b / 16 % 16))

@@ -14,7 +14,7 @@ abbrev pub bytes_of : ℕ → ℕ → List ℕ
 bytes_of zero n = []
 bytes_of (suc k) n = n % 256 ∷ bytes_of k (n / 256)
 
-digits_are_bytes : (k n : ℕ) → All (λ b. b < 256) (last_digits k n)
+pub digits_are_bytes : (k n : ℕ) → All (λ b. b < 256) (last_digits k n)
 digits_are_bytes zero n = All-nil (λ b. b < 256)
 digits_are_bytes (suc k) n = All-push (λ b. b < 256) _ (48 + n % 10) (digits_are_bytes k (n / 10)) (omega arith)
 
@@ -53,3 +53,10 @@ low_bytes i (suc k) n = grind (arith, div-div-eq-div-mul, (low_bytes (suc i) k n
 -- the bytes of a whole number
 pub whole_word : (m w : ℕ) → bytes_low_first 0 m w ≡ bytes_of m w
 whole_word m w = let one : w / 256 ^ 0 ≡ w = omega arith in rw one at (low_bytes 0 m w)
+
+-- so a word of bytes is written as they are
+pub bytes_written : (xs : List ℕ) → All (λ b. b < 256) xs → bytes_low_first 0 (length xs) (word_of xs) ≡ xs
+bytes_written xs h = rw whole_word (bytes_of-word_of xs h)
+
+pub digits_written : (k n : ℕ) → bytes_low_first 0 k (word_of (last_digits k n)) ≡ last_digits k n
+digits_written k n = rw length-last_digits at (bytes_written (last_digits k n) (digits_are_bytes k n))

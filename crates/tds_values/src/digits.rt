@@ -28,16 +28,37 @@ pub(crate) fn put_minus(to: &mut [u8], at: usize, negative: bool) -> usize
     at + negative as usize
 }
 
-// Some bytes.
+// The two bytes of a number, the lowest first.
 #[inline(always)]
-pub(crate) fn put_bytes(to: &mut [u8], at: usize, bytes: &[u8]) -> usize
-    requires { at + length bytes.now ≤ length to.old }
-    ensures end { result ≡ at + length bytes.now }
-    ensures written { take result to.new ≡ take at to.old ++ bytes.now }
+fn put_quarter(to: &mut [u8], at: usize, word: u16) -> usize
+    requires { at + 2 ≤ length to.old }
+    ensures end { result ≡ at + 2 }
+    ensures written { take result to.new ≡ take at to.old ++ little_bytes 2 word }
 {
-    let end = at + bytes.len();
-    to[at..end].copy_from_slice(bytes);
-    end
+    LittleEndian::write_u16(&mut to[at..at + 2], word);
+    at + 2
+}
+
+// The four bytes of a number, the lowest first.
+#[inline(always)]
+fn put_half(to: &mut [u8], at: usize, word: u32) -> usize
+    requires { at + 4 ≤ length to.old }
+    ensures end { result ≡ at + 4 }
+    ensures written { take result to.new ≡ take at to.old ++ little_bytes 4 word }
+{
+    LittleEndian::write_u32(&mut to[at..at + 4], word);
+    at + 4
+}
+
+// The eight bytes of a number, the lowest first.
+#[inline(always)]
+pub(crate) fn put_word(to: &mut [u8], at: usize, word: u64) -> usize
+    requires { at + 8 ≤ length to.old }
+    ensures end { result ≡ at + 8 }
+    ensures written { take result to.new ≡ take at to.old ++ little_bytes 8 word }
+{
+    LittleEndian::write_u64(&mut to[at..at + 8], word);
+    at + 8
 }
 
 // The four digits of a number.
@@ -50,6 +71,15 @@ fn four_digits(n: u32) -> &'static [u8]
     &FOUR_DIGITS[from..from + 4]
 }
 
+// Four digits as one number, the first digit in its lowest byte.
+#[inline(always)]
+fn four(n: u32) -> u32
+    requires { n < 10000 }
+    ensures { result ≡ little_number 4 (last_digits 4 n) }
+{
+    LittleEndian::read_u32(four_digits(n))
+}
+
 // Two digits.
 #[inline(always)]
 pub(crate) fn put_two(to: &mut [u8], at: usize, n: u32) -> usize
@@ -58,7 +88,7 @@ pub(crate) fn put_two(to: &mut [u8], at: usize, n: u32) -> usize
     ensures end { result ≡ at + 2 }
     ensures written { take result to.new ≡ take at to.old ++ last_digits 2 n }
 {
-    put_bytes(to, at, &four_digits(n)[2..])
+    put_quarter(to, at, LittleEndian::read_u16(&four_digits(n)[2..]))
 }
 
 // Four digits.
@@ -69,16 +99,7 @@ pub(crate) fn put_four(to: &mut [u8], at: usize, n: u32) -> usize
     ensures end { result ≡ at + 4 }
     ensures written { take result to.new ≡ take at to.old ++ last_digits 4 n }
 {
-    put_bytes(to, at, four_digits(n))
-}
-
-// Four digits as one number, the first digit in its lowest byte.
-#[inline(always)]
-fn four(n: u32) -> u32
-    requires { n < 10000 }
-    ensures { result ≡ little_number 4 (last_digits 4 n) }
-{
-    LittleEndian::read_u32(four_digits(n))
+    put_half(to, at, four(n))
 }
 
 // Eight digits as one number, the first digit in its lowest byte.
@@ -90,18 +111,20 @@ fn word(n: u32) -> u64
     four(n / 10_000) as u64 + four(n % 10_000) as u64 * 0x1_0000_0000
 }
 
-// The eight bytes of a number, the lowest first.
+// The digits of eight that come after some zeros, or after digits that aren't wanted.
 #[inline(always)]
-fn put_word(to: &mut [u8], at: usize, word: u64) -> usize
-    requires { at + 8 ≤ length to.old }
-    ensures end { result ≡ at + 8 }
-    ensures written { take result to.new ≡ take at to.old ++ little_bytes 8 word }
+fn put_after(to: &mut [u8], at: usize, skipped: usize, n: u32) -> usize
+    requires room { at + 8 ≤ length to.old }
+    requires few { skipped ≤ 7 }
+    requires small { n < 100000000 }
+    ensures end { result ≡ at + (8 - skipped) }
+    ensures written { take result to.new ≡ take at to.old ++ last_digits (8 - skipped) n }
 {
-    LittleEndian::write_u64(&mut to[at..at + 8], word);
-    at + 8
+    put_word(to, at, word(n) >> (8 * skipped as u32));
+    at + (8 - skipped)
 }
 
-// The last k digits of eight: those before them are shifted out.
+// The last k digits of eight.
 #[inline(always)]
 pub(crate) fn put_tail(to: &mut [u8], at: usize, k: usize, n: u32) -> usize
     requires room { at + 8 ≤ length to.old }
@@ -111,22 +134,20 @@ pub(crate) fn put_tail(to: &mut [u8], at: usize, k: usize, n: u32) -> usize
     ensures end { result ≡ at + k }
     ensures written { take result to.new ≡ take at to.old ++ last_digits k n }
 {
-    put_word(to, at, word(n) >> (8 * (8 - k as u32)));
-    at + k
+    put_after(to, at, 8 - k, n)
 }
 
-// How many digits a number of at most eight has: of needless zeros the bytes are 0 once each loses 48, and one bit more
-// in the last byte keeps the last digit.
+// How many of eight digits are needless zeros: their bytes are 0 once each loses 48, and one bit more in the
+// last byte keeps the last digit.
 #[inline(always)]
-fn digits_of(n: u32) -> usize
+fn needless(n: u32) -> usize
     requires { n < 100000000 }
-    ensures some { 1 ≤ result }
-    ensures few { result ≤ 8 }
-    ensures fits { n < 10 ^ result }
-    ensures needed { (result ≡ 1) ⊎ (10 ^ (result - 1) ≤ n) }
+    ensures few { result ≤ 7 }
+    ensures fits { n < 10 ^ (8 - result) }
+    ensures needed { (result ≡ 7) ⊎ (10 ^ (7 - result) ≤ n) }
 {
     let values = word(n) - 0x2030_3030_3030_3030;
-    8 - values.trailing_zeros() as usize / 8
+    values.trailing_zeros() as usize / 8
 }
 
 // A number of at most eight digits.
@@ -137,7 +158,7 @@ fn put_short(to: &mut [u8], at: usize, n: u32) -> usize
     ensures end { result ≤ at + 8 }
     ensures written { take result to.new ≡ take at to.old ++ decimal n }
 {
-    put_tail(to, at, digits_of(n), n)
+    put_after(to, at, needless(n), n)
 }
 
 // A number of 32 bits that has more than eight digits.

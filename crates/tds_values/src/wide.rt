@@ -3,7 +3,7 @@ ghost use Rattle.std.specs.Prelude.{◌≡◌, ◌+◌, ◌-◌, ◌≤◌, ◌<
 ghost use Rattle.std.specs.List.{prefix_len};
 ghost use Rattle.tds_values.specs.ScalarText.{last_digits, decimal_text, is_zero};
 
-use crate::digits::{put_byte, put_bytes, put_tail};
+use crate::digits::{put_byte, put_tail};
 use crate::numbers::put_sign;
 use crate::text::{LONGEST_TEXT, TEXT_ROOM};
 
@@ -61,6 +61,18 @@ fn zeros(digits: &[u8], most: usize) -> usize
         n += 1;
     }
     n
+}
+
+// Some bytes.
+#[inline(always)]
+fn put_bytes(to: &mut [u8], at: usize, bytes: &[u8]) -> usize
+    requires { at + length bytes.now ≤ length to.old }
+    ensures end { result ≡ at + length bytes.now }
+    ensures written { take result to.new ≡ take at to.old ++ bytes.now }
+{
+    let end = at + bytes.len();
+    to[at..end].copy_from_slice(bytes);
+    end
 }
 
 // A decimal.

@@ -1,4 +1,4 @@
 use Rattle.tds_values.proofs.{Words.{◌-◌, arith}, DigitLemmas.decimal_last}
 
 pub returns-clause-written : Rattle.tds_values.proofs.digits.put_short.Goals.returns-clause-written
-returns-clause-written c = grind (arith, (decimal_last (c.digits_of.result - 1) c.args.n))
+returns-clause-written c = grind (arith, (decimal_last (7 - c.needless.result) c.args.n))

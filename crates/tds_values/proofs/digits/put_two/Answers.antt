@@ -1,4 +1,4 @@
-use Rattle.tds_values.proofs.Words.{arith, common_steps}
+use Rattle.tds_values.proofs.{Words.arith, WordLemmas.digits_written}
 
 pub returns-clause-written : Rattle.tds_values.proofs.digits.put_two.Goals.returns-clause-written
-returns-clause-written c = grind (arith, common_steps)
+returns-clause-written c = grind (arith, digits_written)

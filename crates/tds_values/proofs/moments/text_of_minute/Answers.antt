@@ -1,4 +1,0 @@
-use Rattle.tds_values.proofs.{Words.arith, TableLemmas.minute_at}
-
-pub returns : Rattle.tds_values.proofs.moments.text_of_minute.Goals.returns
-returns c = minute_at c.args.minutes _ c.requires (omega arith)
