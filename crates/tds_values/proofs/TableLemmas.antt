@@ -1,10 +1,11 @@
 -- The tables of digits.
-use Rattle.tds_values.proofs.Words.{◌≡◌, ℕ, ◌+◌, ◌*◌, ◌/◌, ◌%◌, ◌<◌, ◌≤◌, true, refl, get_or, ◌==◌, agree_below, agree_below_at, eqb-true, hex_digit}
+use Rattle.tds_values.proofs.Words.{◌≡◌, ℕ, ◌+◌, ◌*◌, ◌/◌, ◌%◌, ◌^◌, ◌<◌, ◌≤◌, true, refl, get_or, ◌==◌, agree_below, agree_below_at, eqb-true, hex_digit}
 use Rattle.tds_values.proofs.Words.{lower, FOUR_DIGITS, MINUTES, slice_index, lower_digits, suc, zero, List, [], ◌++◌, length, take, drop, codes, arith, add-zero, ◌∙◌, ap, take_all, take-append-le, zero-add, suc-add}
 use Rattle.std.proofs.Math.Seq.{drop-append-add}
 use Rattle.tds_values.proofs.Words.{last_digits}
 use Rattle.tds_values.proofs.Words.{append_assoc, sym, take-take, take-append-add, All, All-nil, bytes_low_first}
 use Rattle.std.proofs.lemmas.List.Elements.{All-append, All-cons}
+use Rattle.tds_values.specs.declared.numbers.TheConstants.{POWERS}
 use Rattle.tds_values.proofs.WordLemmas.{bytes_written, digits_are_bytes, word_of}
 use Rattle.tds_values.proofs.TextLengths.{length-last_digits}
 use Rattle.tds_values.specs.ScalarText.{minutes_text}
@@ -71,6 +72,9 @@ minute_put xs new at w m long is e =
     let whole : take (at + 8) new ≡ xs ++ text = e ∙ ap (λ w. xs ++ bytes_low_first 0 8 w) is ∙ ap (λ t. xs ++ t) (minute_written m) in
     let five = front xs new text at 5 (omega arith) long whole in
     (five, front xs new text at 6 (omega arith) long whole ∙ sym (append_assoc xs (minutes_text m) (codes ":")) ∙ ap (λ t. t ++ codes ":") (sym five))
+
+pub power_at : (scale : ℕ) → scale < 20 → get_or POWERS scale 0 ≡ 10 ^ scale
+power_at = each_below _ _ 20 refl
 
 -- the two hexadecimal digits of a byte
 pub hex_at : (b : ℕ) → b < 256 → (slice_index lower_digits (b / 16) ≡ hex_digit lower (b / 16 % 16))

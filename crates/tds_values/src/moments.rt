@@ -1,10 +1,11 @@
 // The texts of dates and times, written to a slice from a place on.
-ghost use Rattle.std.specs.Prelude.{◌≡◌, ◌+◌, ◌<◌, ◌≤◌, ◌++◌, codes, take, length, unsigned_abs};
+ghost use Rattle.std.specs.Prelude.{◌≡◌, ◌+◌, ◌<◌, ◌≤◌, ◌^◌, ◌++◌, codes, take, length, unsigned_abs};
 ghost use Rattle.tds_values.specs.ScalarText.{last_digits, date_text, seconds_text, minutes_text, fraction_text, ticks_text, offset_text, date_and_time};
 ghost use Rattle.tds_values.specs.TimeOfDay.{IsClockTime};
 ghost use Rattle.byteorder.specs.Endian.{little_number};
 
 use crate::digits::{put_byte, put_four, put_tail, put_two, put_word};
+use crate::numbers::put_fraction;
 use crate::ranges::{LARGEST_OFFSET, LAST_DAY, MINUTES_A_DAY, SECONDS_A_DAY, TICKS_A_DAY};
 use crate::tables::MINUTES;
 use byteorder::{ByteOrder, LittleEndian};
@@ -65,45 +66,32 @@ pub(crate) fn put_clock(to: &mut [u8], at: usize, seconds: u32) -> usize
     put_two(to, at + 1, seconds % 60)
 }
 
-// A point and the digits of a fraction of a second; nothing at scale 0.
-#[inline(always)]
-fn put_part(to: &mut [u8], at: usize, scale: u8, units: u64) -> usize
-    requires room { at + 9 ≤ length to.old }
-    requires scale { scale ≤ 7 }
-    ensures end { result ≤ at + 1 + scale }
-    ensures written { take result to.new ≡ take at to.old ++ fraction_text scale units }
-{
-    if scale == 0 {
-        return at;
-    }
-    let at = put_byte(to, at, b'.');
-    put_tail(to, at, scale as usize, (units % 100_000_000) as u32)
-}
-
 // The seconds since midnight and a fraction of one.
 #[inline(always)]
-pub(crate) fn put_time(to: &mut [u8], at: usize, seconds: u32, scale: u8, units: u64) -> usize
+pub(crate) fn put_time(to: &mut [u8], at: usize, seconds: u32, scale: u8, part: u64) -> usize
     requires room { at + 17 ≤ length to.old }
     requires time { IsClockTime seconds scale }
+    requires part { part < 10 ^ scale }
     ensures end { result ≤ at + 9 + scale }
-    ensures written { take result to.new ≡ take at to.old ++ (seconds_text seconds ++ fraction_text scale units) }
+    ensures written { take result to.new ≡ take at to.old ++ (seconds_text seconds ++ fraction_text scale part) }
 {
     let at = put_clock(to, at, seconds);
-    put_part(to, at, scale, units)
+    put_fraction(to, at, scale, part)
 }
 
 // A date and a time.
 #[inline(always)]
-pub(crate) fn put_moment(to: &mut [u8], day: u32, seconds: u32, scale: u8, units: u64) -> usize
+pub(crate) fn put_moment(to: &mut [u8], day: u32, seconds: u32, scale: u8, part: u64) -> usize
     requires room { 28 ≤ length to.old }
     requires date { day ≤ LAST_DAY }
     requires time { IsClockTime seconds scale }
+    requires part { part < 10 ^ scale }
     ensures end { result ≤ 20 + scale }
-    ensures written { take result to.new ≡ date_and_time day (seconds_text seconds ++ fraction_text scale units) }
+    ensures written { take result to.new ≡ date_and_time day (seconds_text seconds ++ fraction_text scale part) }
 {
     let at = put_date(to, 0, day);
     let at = put_byte(to, at, b' ');
-    put_time(to, at, seconds, scale, units)
+    put_time(to, at, seconds, scale, part)
 }
 
 // HH:MM:SS.mmm of a number of 1/300 seconds.
