@@ -1,6 +1,7 @@
 -- Digits as the bytes of one number.
 use Rattle.tds_values.proofs.Words.{add-suc, ◌≡◌, ℕ, zero, suc, ◌+◌, ◌*◌, ◌/◌, ◌%◌, ◌^◌, ◌<◌, List, [], ◌∷◌, ◌++◌, refl, arith, take, length}
 use Rattle.tds_values.proofs.Words.{pow-succ', div-div-eq-div-mul, bytes_low_first, All, All-head, All-nil, All-push, All-tail, last_digits}
+use Rattle.tds_values.proofs.Words.{pow-add, take-append-add, take-take}
 use Rattle.tds_values.proofs.DigitLemmas.{last_digits-add}
 use Rattle.tds_values.proofs.TextLengths.{length-last_digits}
 
@@ -60,3 +61,16 @@ bytes_written xs h = rw whole_word (bytes_of-word_of xs h)
 
 pub digits_written : (k n : ℕ) → bytes_low_first 0 k (word_of (last_digits k n)) ≡ last_digits k n
 digits_written k n = rw length-last_digits at (bytes_written (last_digits k n) (digits_are_bytes k n))
+
+eighth_power : (k : ℕ) → 2 ^ (8 * k) ≡ 256 ^ k
+eighth_power zero = refl
+eighth_power (suc k) = let e : 8 * suc k ≡ 8 + 8 * k = omega arith in rw (e, pow-add 2 8 (8 * k), eighth_power k, pow-succ' 256 k)
+
+-- of the bytes after `at`, shifted past the first j digits, the first k
+pub last_put : (xs new : List ℕ) (at j k m n : ℕ) → length xs ≡ at → m ≡ j + k
+    → take (at + m) new ≡ xs ++ bytes_low_first 0 m (word_of (last_digits m n) / 2 ^ (8 * j))
+    → take (at + k) new ≡ xs ++ last_digits k n
+last_put xs new at j k m n long em e =
+    let w = word_of (last_digits m n) / 256 ^ j in
+    let f = rw (whole_word, eighth_power) at e in
+    cc (take-take (at + k) (at + m) new (omega arith), take-append-add xs (bytes_of m w) k, take-bytes_of j k w, shifted_digits j k n)

@@ -6,9 +6,9 @@ ghost use Rattle.byteorder.specs.Endian.{little_bytes, little_number};
 use crate::tables::FOUR_DIGITS;
 use byteorder::{ByteOrder, LittleEndian};
 
-// One byte.
+/// Writes a byte at a place, and returns the place after it.
 #[inline(always)]
-pub(crate) fn put_byte(to: &mut [u8], at: usize, byte: u8) -> usize
+pub fn put_byte(to: &mut [u8], at: usize, byte: u8) -> usize
     requires { at < length to.old }
     ensures end { result ≡ at + 1 }
     ensures written { take result to.new ≡ take at to.old ++ byte ∷ [] }
@@ -150,6 +150,20 @@ fn needless(n: u32) -> usize
     values.trailing_zeros() as usize / 8
 }
 
+// A number of at most four digits.
+#[inline(always)]
+fn put_head(to: &mut [u8], at: usize, n: u32) -> usize
+    requires room { at + 4 ≤ length to.old }
+    requires small { n < 10000 }
+    ensures end { result ≤ at + 4 }
+    ensures written { take result to.new ≡ take at to.old ++ decimal n }
+{
+    let digits = four(n);
+    let skipped = (digits - 0x2030_3030).trailing_zeros() as usize / 8;
+    put_half(to, at, digits >> (8 * skipped as u32));
+    at + (4 - skipped)
+}
+
 // A number of at most eight digits.
 #[inline(always)]
 fn put_short(to: &mut [u8], at: usize, n: u32) -> usize
@@ -158,6 +172,9 @@ fn put_short(to: &mut [u8], at: usize, n: u32) -> usize
     ensures end { result ≤ at + 8 }
     ensures written { take result to.new ≡ take at to.old ++ decimal n }
 {
+    if n < 10_000 {
+        return put_head(to, at, n);
+    }
     put_after(to, at, needless(n), n)
 }
 

@@ -38,6 +38,7 @@ mod wide;
 mod write;
 
 pub use charset::Charset;
+pub use digits::put_byte;
 pub use kind::{Kind, Reach};
 pub use lanes::hex_lanes;
 pub use laws::{one_date, one_type_info, short_texts};

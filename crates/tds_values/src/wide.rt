@@ -63,15 +63,14 @@ fn zeros(digits: &[u8], most: usize) -> usize
     n
 }
 
-// Some bytes.
-#[inline(always)]
-fn put_bytes(to: &mut [u8], at: usize, bytes: &[u8]) -> usize
-    requires { at + length bytes.now ≤ length to.old }
-    ensures end { result ≡ at + length bytes.now }
-    ensures written { take result to.new ≡ take at to.old ++ bytes.now }
+// Some digits.
+fn put_digits(to: &mut [u8], at: usize, digits: &[u8]) -> usize
+    requires { at + length digits.now ≤ length to.old }
+    ensures end { result ≡ at + length digits.now }
+    ensures written { take result to.new ≡ take at to.old ++ digits.now }
 {
-    let end = at + bytes.len();
-    to[at..end].copy_from_slice(bytes);
+    let end = at + digits.len();
+    to[at..end].copy_from_slice(digits);
     end
 }
 
@@ -93,10 +92,10 @@ pub(crate) fn put_wide_decimal(
     let point = DIGITS - scale as usize;
     let first = zeros(&digits, point - 1);
     let at = put_sign(to, at, negative, magnitude == 0);
-    let at = put_bytes(to, at, &digits[first..point]);
+    let at = put_digits(to, at, &digits[first..point]);
     if scale == 0 {
         return at;
     }
     let at = put_byte(to, at, b'.');
-    put_bytes(to, at, &digits[point..])
+    put_digits(to, at, &digits[point..])
 }

@@ -19,7 +19,7 @@ returns-clause-end c =
       length-last_digits scale n,
       c.put_sign-at.ensures.end,
       c.put_byte-at.ensures.end,
-      c.put_bytes.ensures.end,
+      c.put_digits.ensures.end,
     )
 
 pub returns-clause-written : goal.returns-clause-written
