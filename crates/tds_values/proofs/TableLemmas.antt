@@ -3,7 +3,7 @@ use Rattle.tds_values.proofs.Words.{◌≡◌, ℕ, ◌+◌, ◌*◌, ◌/◌, �
 use Rattle.tds_values.proofs.Words.{lower, FOUR_DIGITS, MINUTES, slice_index, lower_digits, suc, zero, List, [], ◌++◌, length, take, drop, codes, arith, add-zero, ◌∙◌, ap, take_all, take-append-le, zero-add, suc-add}
 use Rattle.std.proofs.Math.Seq.{drop-append-add}
 use Rattle.tds_values.proofs.Words.{last_digits}
-use Rattle.tds_values.proofs.Words.{append_assoc, sym, take-take, take-append-add, All, All-nil, bytes_low_first}
+use Rattle.tds_values.proofs.Words.{All, All-nil, bytes_low_first}
 use Rattle.std.proofs.lemmas.List.Elements.{All-append, All-cons}
 use Rattle.tds_values.specs.declared.numbers.TheConstants.{POWERS}
 use Rattle.tds_values.proofs.WordLemmas.{bytes_written, digits_are_bytes, word_of}
@@ -52,7 +52,7 @@ minute_at m k h e = rw (e, minutes) (rw (add-zero m) at (text_at (λ m. minutes_
 colon : All (λ b. b < 256) (codes ":")
 colon = All-cons (λ b. b < 256) 58 [] (omega arith) (All-nil (λ b. b < 256))
 
-minute_written : (m : ℕ) → let text = minutes_text m ++ codes ":" ++ last_digits 2 0 in bytes_low_first 0 8 (word_of text) ≡ text
+pub minute_written : (m : ℕ) → let text = minutes_text m ++ codes ":" ++ last_digits 2 0 in bytes_low_first 0 8 (word_of text) ≡ text
 minute_written m =
     let P = λ (b : ℕ). b < 256 in
     let two = λ (n : ℕ). digits_are_bytes 2 n in
@@ -60,18 +60,6 @@ minute_written m =
     let zeros = All-append P (codes ":") (last_digits 2 0) colon (two 0) in
     bytes_written (minutes_text m ++ codes ":" ++ last_digits 2 0) (All-append P (minutes_text m) (codes ":" ++ last_digits 2 0)
     (All-append P (last_digits 2 (m / 60)) (codes ":" ++ last_digits 2 (m % 60)) (two (m / 60)) minutes) zeros)
-
--- the first k of eight bytes that are written
-front : (xs new text : List ℕ) (at k : ℕ) → k ≤ 8 → length xs ≡ at → take (at + 8) new ≡ xs ++ text → take (at + k) new ≡ xs ++ take k text
-front xs new text at k h long e = cc (take-take (at + k) (at + 8) new (omega arith), take-append-add xs text k)
-
-pub minute_put : (xs new : List ℕ) (at w m : ℕ) → length xs ≡ at → w ≡ word_of (minutes_text m ++ codes ":" ++ last_digits 2 0)
-    → take (at + 8) new ≡ xs ++ bytes_low_first 0 8 w → (take (at + 5) new ≡ xs ++ minutes_text m) × (take (at + 6) new ≡ take (at + 5) new ++ codes ":")
-minute_put xs new at w m long is e =
-    let text = minutes_text m ++ codes ":" ++ last_digits 2 0 in
-    let whole : take (at + 8) new ≡ xs ++ text = e ∙ ap (λ w. xs ++ bytes_low_first 0 8 w) is ∙ ap (λ t. xs ++ t) (minute_written m) in
-    let five = front xs new text at 5 (omega arith) long whole in
-    (five, front xs new text at 6 (omega arith) long whole ∙ sym (append_assoc xs (minutes_text m) (codes ":")) ∙ ap (λ t. t ++ codes ":") (sym five))
 
 pub power_at : (scale : ℕ) → scale < 20 → get_or POWERS scale 0 ≡ 10 ^ scale
 power_at = each_below _ _ 20 refl

@@ -41,6 +41,17 @@ fn minute(minutes: u32) -> u64
     LittleEndian::read_u64(&MINUTES[from..from + 8])
 }
 
+// HH:MM:00.
+#[inline(always)]
+pub(crate) fn put_minute(to: &mut [u8], at: usize, minutes: u32) -> usize
+    requires room { at + 8 ≤ length to.old }
+    requires day { minutes < MINUTES_A_DAY }
+    ensures end { result ≡ at + 8 }
+    ensures written { take result to.new ≡ take at to.old ++ (minutes_text minutes ++ codes ":" ++ last_digits 2 0) }
+{
+    put_word(to, at, minute(minutes))
+}
+
 // HH:MM, and a colon after it.
 #[inline(always)]
 fn put_minutes(to: &mut [u8], at: usize, minutes: u32) -> usize
@@ -50,13 +61,13 @@ fn put_minutes(to: &mut [u8], at: usize, minutes: u32) -> usize
     ensures written { take result to.new ≡ take at to.old ++ minutes_text minutes }
     ensures colon { take (result + 1) to.new ≡ take result to.new ++ codes ":" }
 {
-    put_word(to, at, minute(minutes));
+    put_minute(to, at, minutes);
     at + 5
 }
 
 // HH:MM:SS.
 #[inline(always)]
-pub(crate) fn put_clock(to: &mut [u8], at: usize, seconds: u32) -> usize
+fn put_clock(to: &mut [u8], at: usize, seconds: u32) -> usize
     requires room { at + 8 ≤ length to.old }
     requires day { seconds < SECONDS_A_DAY }
     ensures end { result ≡ at + 8 }
