@@ -279,7 +279,7 @@ fn write_decimal(most: u8, scale: u8, bytes: &[u8], to: &mut [u8]) -> Result<usi
     Ok(put_wide_magnitude(to, bytes[0] == 0, magnitude, scale))
 }
 
-// A value of any scalar kind.
+// A value of any scalar kind. Scale 7 of a time, which a column has if none is named, is a constant in what is inlined.
 #[inline(always)]
 fn write_any(kind: &Kind, bytes: &[u8], to: &mut [u8]) -> Result<usize, ValueFault>
     requires valid { IsTrue (kinds.is_valid kind.now) }
@@ -303,8 +303,11 @@ fn write_any(kind: &Kind, bytes: &[u8], to: &mut [u8]) -> Result<usize, ValueFau
         Kind::Guid => write_guid(bytes, to),
         Kind::Decimal { length, scale, .. } => write_decimal(length, scale, bytes, to),
         Kind::Date => write_date(bytes, to),
+        Kind::Time(7) => write_time(7, bytes, to),
         Kind::Time(scale) => write_time(scale, bytes, to),
+        Kind::DateTime2(7) => write_date_time2(7, bytes, to),
         Kind::DateTime2(scale) => write_date_time2(scale, bytes, to),
+        Kind::DateTimeOffset(7) => write_date_time_offset(7, bytes, to),
         Kind::DateTimeOffset(scale) => write_date_time_offset(scale, bytes, to),
         Kind::Binary(_) | Kind::Narrow(_) | Kind::Wide(_) => unreachable!(),
     }
