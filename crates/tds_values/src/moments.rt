@@ -14,7 +14,7 @@ use jiff_core::civil::Date;
 // How many days the first day of `jiff`, -9999-01-01, is before day 0.
 pub(crate) const DAYS_BEFORE_DAY_0: u32 = 3_652_425;
 
-// YYYY-MM-DD.
+// YYYY-MM-DD. The steps of the calendar stand once, behind a call.
 #[inline(never)]
 pub(crate) fn put_date(to: &mut [u8], at: usize, day: u32) -> usize
     requires room { at + 10 ≤ length to.old }

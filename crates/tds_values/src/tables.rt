@@ -1,4 +1,4 @@
-// Texts that are looked up.
+// Texts that are looked up: they take the place of divisions.
 
 // The four digits of each number below 10,000.
 pub(crate) static FOUR_DIGITS: [u8; 40_000] = *b"\
