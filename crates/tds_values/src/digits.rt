@@ -137,6 +137,20 @@ pub(crate) fn put_tail(to: &mut [u8], at: usize, k: usize, n: u32) -> usize
     put_after(to, at, 8 - k, n)
 }
 
+// The last k digits of four.
+#[inline(always)]
+pub(crate) fn put_end(to: &mut [u8], at: usize, k: usize, n: u32) -> usize
+    requires room { at + 4 ≤ length to.old }
+    requires few { k ≤ 4 }
+    requires some { 1 ≤ k }
+    requires small { n < 10000 }
+    ensures end { result ≡ at + k }
+    ensures written { take result to.new ≡ take at to.old ++ last_digits k n }
+{
+    put_half(to, at, four(n) >> (8 * (4 - k as u32)));
+    at + k
+}
+
 // How many of eight digits are needless zeros: their bytes are 0 once each loses 48, and one bit more in the
 // last byte keeps the last digit.
 #[inline(always)]

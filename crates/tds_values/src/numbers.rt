@@ -3,7 +3,7 @@ ghost use Rattle.std.specs.Prelude.{◌≡◌, ◌+◌, ◌<◌, ◌≤◌, ◌^
 ghost use Rattle.std.specs.Fmt.{signed_decimal};
 ghost use Rattle.tds_values.specs.ScalarText.{last_digits, fraction_text, minus_if, decimal_text};
 
-use crate::digits::{put_byte, put_minus, put_number, put_tail};
+use crate::digits::{put_byte, put_end, put_minus, put_number, put_tail};
 use crate::text::LONGEST_TEXT;
 
 // The last k digits of a number, if they are more than eight.
@@ -116,6 +116,9 @@ pub(crate) fn put_fraction(to: &mut [u8], at: usize, scale: u8, n: u64) -> usize
         return at;
     }
     let at = put_byte(to, at, b'.');
+    if scale <= 4 {
+        return put_end(to, at, scale as usize, n as u32);
+    }
     put_tail(to, at, scale as usize, n as u32)
 }
 
