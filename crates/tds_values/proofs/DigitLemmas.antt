@@ -1,7 +1,7 @@
 -- Decimal digits, some at a time.
 use Rattle.tds_values.proofs.Words.{add-suc, append-nil, ◌≡◌, ◌⊎◌, ℕ, zero, suc, ◌+◌, ◌-◌, ◌*◌, ◌/◌, ◌%◌, ◌^◌, ◌<◌, ◌≤◌, ◌++◌, refl, ap, arith, inl}
 use Rattle.tds_values.proofs.Words.{inr, decimal, append_assoc, decimal_digit, decimal_step_wide, one-le-pow, pow-succ', div-div-eq-div-mul, div-one}
-use Rattle.tds_values.proofs.Words.{div-add-mod, pow-add, last_digits}
+use Rattle.tds_values.proofs.Words.{div-add-mod, pow-add, last_digits, fraction_text}
 
 -- what lies above the last digits doesn't change them
 pub last_digits-above : (k q n : ℕ) → last_digits k (10 ^ k * q + n) ≡ last_digits k n
@@ -52,3 +52,7 @@ decimal_last (suc k) n (inr low) fits small =
 -- eight digits after the text of the rest
 pub decimal_eight : (n : ℕ) → 100000000 ≤ n → n < 10 ^ 64 → decimal n ≡ decimal (n / 100000000) ++ last_digits 8 (n % 100000000)
 decimal_eight n h small = rw (last_digits-mod 8 n) (decimal_split 8 n h small)
+
+-- a fraction depends on what the whole part leaves alone
+pub fraction_rest : (scale n : ℕ) → fraction_text scale (n % 10 ^ scale) ≡ fraction_text scale n
+fraction_rest scale n = rw (last_digits-mod scale n)

@@ -1,20 +1,64 @@
 -- The tables of digits.
-use Rattle.tds_values.proofs.Words.{◌≡◌, ℕ, ◌+◌, ◌*◌, ◌/◌, ◌%◌, ◌<◌, true, refl, get_or, ◌==◌, agree_below, agree_below_at, eqb-true, hex_digit}
-use Rattle.tds_values.proofs.Words.{lower, PAIRS, WORDS, slice_index, lower_digits}
+use Rattle.tds_values.proofs.Words.{◌≡◌, ℕ, zero, suc, ◌+◌, ◌*◌, ◌/◌, ◌%◌, ◌^◌, ◌<◌, ◌==◌, true, refl, ap, ◌∙◌, arith, List, [], ◌++◌, length, take, drop}
+use Rattle.tds_values.proofs.Words.{codes, get_or, agree_below, agree_below_at, eqb-true, hex_digit, lower, lower_digits, slice_index, add-zero, take_all}
+use Rattle.tds_values.proofs.Words.{take-append-le, last_digits, All, All-nil, bytes_low_first, FOUR_DIGITS, MINUTES}
+use Rattle.{std.proofs.{Math.Seq.drop-append-add, lemmas.List.Elements.{All-append, All-cons}}, tds_values.specs.ScalarText.minutes_text}
+use Rattle.tds_values.{proofs.TextLengths.length-last_digits, specs.declared.numbers.TheConstants.POWERS}
+use Rattle.tds_values.proofs.WordLemmas.{bytes_written, digits_are_bytes, word_of}
 
 -- functions agree below n that do so where they are computed
 pub each_below : (f g : ℕ → ℕ) (n : ℕ) → agree_below (λ k. f k == g k) (λ _. true) n ≡ true → (k : ℕ) → k < n → f k ≡ g k
 each_below f g n all k h = eqb-true (f k) (g k) (agree_below_at (λ k. f k == g k) (λ _. true) n k all h)
 
--- the two digits of a number, as bytes and as one number
-pub pair_at : (p : ℕ) → p < 100 → (get_or PAIRS (p * 2) 0 ≡ 48 + p / 10) × (get_or PAIRS (p * 2 + 1) 0 ≡ 48 + p % 10)
-pair_at p h = (
-  each_below (λ p. get_or PAIRS (p * 2) 0) (λ p. 48 + p / 10) 100 refl p h,
-  each_below (λ p. get_or PAIRS (p * 2 + 1) 0) (λ p. 48 + p % 10) 100 refl p h,
-)
+-- the texts of n numbers from m on, one after the other
+joined_from : (ℕ → List ℕ) → ℕ → ℕ → List ℕ
+joined_from text zero m = []
+joined_from text (suc n) m = text m ++ joined_from text n (suc m)
 
-pub word_at : (p : ℕ) → p < 100 → get_or WORDS p 0 ≡ 48 + p / 10 + 256 * (48 + p % 10)
-word_at = each_below _ _ 100 refl
+first : (w j : ℕ) (xs ys : List ℕ) → j ≡ 0 → length xs ≡ w → take w (drop j (xs ++ ys)) ≡ xs
+first w j xs ys e long = rw (e, take-append-le w xs ys (omega arith)) (take_all w xs (omega arith))
+
+-- of texts of w bytes each the one of a number
+text_at : (text : ℕ → List ℕ) (w : ℕ) → ((m : ℕ) → length (text m) ≡ w) → (k n m : ℕ) → k < n
+    → take w (drop (w * k) (joined_from text n m)) ≡ text (k + m)
+unfolding joined_from
+text_at text w long k zero m h = absurd (omega arith)
+text_at text w long zero (suc n) m h = first w (w * 0) (text m) (joined_from text n (suc m)) (omega arith) (long m) ∙ ap text (omega arith)
+text_at text w long (suc k) (suc n) m h =
+    let e : w * suc k ≡ length (text m) + w * k = omega (arith, long m) in
+    let same : suc k + m ≡ k + suc m = omega arith in
+    rw (e, drop-append-add (text m) (joined_from text n (suc m)) (w * k), same) (text_at text w long k n (suc m) (omega arith))
+
+-- the four digits of a number
+four_digits : FOUR_DIGITS ≡ joined_from (last_digits 4) 10000 0
+unfolding joined_from
+four_digits = refl
+
+pub four_at : (n k : ℕ) → n < 10000 → k ≡ 4 → take k (drop (4 * n) FOUR_DIGITS) ≡ last_digits 4 n
+four_at n k h e = rw (e, four_digits) (rw add-zero at (text_at (last_digits 4) 4 (length-last_digits 4) n 10000 0 h))
+
+-- and the text of a minute
+minutes : MINUTES ≡ joined_from (λ m. minutes_text m ++ codes ":" ++ last_digits 2 0) 1440 0
+unfolding joined_from
+minutes = refl
+
+pub minute_at : (m k : ℕ) → m < 1440 → k ≡ 8 → take k (drop (8 * m) MINUTES) ≡ minutes_text m ++ codes ":" ++ last_digits 2 0
+minute_at m k h e = rw (e, minutes) (rw (add-zero m) at (text_at (λ m. minutes_text m ++ codes ":" ++ last_digits 2 0) 8 (λ m. refl) m 1440 0 h))
+
+colon : All (λ b. b < 256) (codes ":")
+colon = All-cons (λ b. b < 256) 58 [] (omega arith) (All-nil (λ b. b < 256))
+
+pub minute_written : (m : ℕ) → let text = minutes_text m ++ codes ":" ++ last_digits 2 0 in bytes_low_first 0 8 (word_of text) ≡ text
+minute_written m =
+    let P = λ (b : ℕ). b < 256 in
+    let two = λ (n : ℕ). digits_are_bytes 2 n in
+    let minutes = All-append P (codes ":") (last_digits 2 (m % 60)) colon (two (m % 60)) in
+    let zeros = All-append P (codes ":") (last_digits 2 0) colon (two 0) in
+    bytes_written (minutes_text m ++ codes ":" ++ last_digits 2 0) (All-append P (minutes_text m) (codes ":" ++ last_digits 2 0)
+    (All-append P (last_digits 2 (m / 60)) (codes ":" ++ last_digits 2 (m % 60)) (two (m / 60)) minutes) zeros)
+
+pub power_at : (scale : ℕ) → scale < 20 → get_or POWERS scale 0 ≡ 10 ^ scale
+power_at = each_below _ _ 20 refl
 
 -- the two hexadecimal digits of a byte
 pub hex_at : (b : ℕ) → b < 256 → (slice_index lower_digits (b / 16) ≡ hex_digit lower (b / 16 % 16))

@@ -1,6 +1,7 @@
 -- Digits as the bytes of one number.
 use Rattle.tds_values.proofs.Words.{add-suc, ◌≡◌, ℕ, zero, suc, ◌+◌, ◌*◌, ◌/◌, ◌%◌, ◌^◌, ◌<◌, List, [], ◌∷◌, ◌++◌, refl, arith, take, length}
 use Rattle.tds_values.proofs.Words.{pow-succ', div-div-eq-div-mul, bytes_low_first, All, All-head, All-nil, All-push, All-tail, last_digits}
+use Rattle.tds_values.proofs.Words.{pow-add, take-append-add, take-take}
 use Rattle.tds_values.proofs.DigitLemmas.{last_digits-add}
 use Rattle.tds_values.proofs.TextLengths.{length-last_digits}
 
@@ -14,7 +15,7 @@ abbrev pub bytes_of : ℕ → ℕ → List ℕ
 bytes_of zero n = []
 bytes_of (suc k) n = n % 256 ∷ bytes_of k (n / 256)
 
-digits_are_bytes : (k n : ℕ) → All (λ b. b < 256) (last_digits k n)
+pub digits_are_bytes : (k n : ℕ) → All (λ b. b < 256) (last_digits k n)
 digits_are_bytes zero n = All-nil (λ b. b < 256)
 digits_are_bytes (suc k) n = All-push (λ b. b < 256) _ (48 + n % 10) (digits_are_bytes k (n / 10)) (omega arith)
 
@@ -53,3 +54,23 @@ low_bytes i (suc k) n = grind (arith, div-div-eq-div-mul, (low_bytes (suc i) k n
 -- the bytes of a whole number
 pub whole_word : (m w : ℕ) → bytes_low_first 0 m w ≡ bytes_of m w
 whole_word m w = let one : w / 256 ^ 0 ≡ w = omega arith in rw one at (low_bytes 0 m w)
+
+-- so a word of bytes is written as they are
+pub bytes_written : (xs : List ℕ) → All (λ b. b < 256) xs → bytes_low_first 0 (length xs) (word_of xs) ≡ xs
+bytes_written xs h = rw whole_word (bytes_of-word_of xs h)
+
+pub digits_written : (k n : ℕ) → bytes_low_first 0 k (word_of (last_digits k n)) ≡ last_digits k n
+digits_written k n = rw length-last_digits at (bytes_written (last_digits k n) (digits_are_bytes k n))
+
+eighth_power : (k : ℕ) → 2 ^ (8 * k) ≡ 256 ^ k
+eighth_power zero = refl
+eighth_power (suc k) = let e : 8 * suc k ≡ 8 + 8 * k = omega arith in rw (e, pow-add 2 8 (8 * k), eighth_power k, pow-succ' 256 k)
+
+-- of the bytes after `at`, shifted past the first j digits, the first k
+pub last_put : (xs new : List ℕ) (at j k m n : ℕ) → length xs ≡ at → m ≡ j + k
+    → take (at + m) new ≡ xs ++ bytes_low_first 0 m (word_of (last_digits m n) / 2 ^ (8 * j))
+    → take (at + k) new ≡ xs ++ last_digits k n
+last_put xs new at j k m n long em e =
+    let w = word_of (last_digits m n) / 256 ^ j in
+    let f = rw (whole_word, eighth_power) at e in
+    cc (take-take (at + k) (at + m) new (omega arith), take-append-add xs (bytes_of m w) k, take-bytes_of j k w, shifted_digits j k n)

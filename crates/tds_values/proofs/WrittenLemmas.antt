@@ -1,7 +1,9 @@
 -- What the bytes of a kind spell is written, or its fault answered.
 use Rattle.tds_values.proofs.Words.{Result, ◌≡◌, ℕ, ◌/◌, ◌%◌, ◌^◌, ◌≤◌, List, ◌++◌, nat_lt, ℤ, codes, Some, Ok, arith, one-le-pow, div_below, le-div}
 use Rattle.tds_values.proofs.Words.{IfOk, ScalarValue, text_of, seconds_text, fraction_text, date_and_time, offset_text, local_seconds, ValueFault}
-use Rattle.tds_values.proofs.Words.{is_time, IsText, IsWritten}
+use Rattle.tds_values.proofs.Words.{is_time, IsText, IsWritten, Kind, read_of}
+use Rattle.tds_values.proofs.Words.{ap, ◌∙◌}
+use Rattle.tds_values.proofs.DigitLemmas.{fraction_rest}
 use Rattle.tds_values.proofs.LocalLemmas.{units_of_seconds, text_of_seconds}
 use Rattle.tds_values.specs.declared.scalar.ScalarValue.TheVariants as values
 
@@ -18,7 +20,20 @@ pub local_spelt : (scale units day seconds l : ℕ) (offset : ℤ) → seconds �
 local_spelt scale units day seconds l offset es some =
     cc (text_of_seconds scale l units, units_of_seconds scale units day l offset (rw es at some))
 
+-- a local time and its offset, written one after the other
+pub local_joined : (day scale units part : ℕ) (time offset : List ℕ) {xs ys zs : List ℕ} → part ≡ units % 10 ^ scale
+    → xs ≡ date_and_time day (time ++ fraction_text scale part) → ys ≡ xs ++ codes " " → zs ≡ ys ++ offset
+    → zs ≡ date_and_time day (time ++ fraction_text scale units) ++ codes " " ++ offset
+local_joined day scale units part time offset e first second third =
+    let same = ap (fraction_text scale) e ∙ fraction_rest scale units in
+    third ∙ ap (λ y. y ++ offset) (second ∙ ap (λ x. x ++ codes " ") (first ∙ ap (λ f. date_and_time day (time ++ f)) same))
+
 -- what is answered, for a caller
 pub answered : (read : Result ScalarValue ValueFault) (answer : Result ℕ ValueFault) (new : List ℕ) → IsWritten read answer new
     → IfOk answer (λ n. (value : ScalarValue) × ((read ≡ Ok value) × IsText value n new))
 answered read answer new h = grind arith
+
+-- a kind that equals another is written as that is
+pub written_as : (kind other : Kind) (bytes new : List ℕ) (answer : Result ℕ ValueFault) → kind ≡ other → IsWritten (read_of other bytes) answer new
+    → IsWritten (read_of kind bytes) answer new
+written_as kind other bytes new answer e h = rw e h

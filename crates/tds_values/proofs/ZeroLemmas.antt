@@ -71,9 +71,6 @@ needless (suc k) n h =
     (λ more. first_set (suc k) n _ (low_bit 8 (8 * suc k) d v (le-div 1 n (10 ^ suc k) some (omega arith)) (omega arith)) h (inr more))
     (cases_lt n (10 ^ suc k)))
 
--- of eight digits in a word, as many are needless zeros as its bytes without 48 are 0
-pub zeros_of : (n w : ℕ) → n < 100000000 → w ≡ word_of (last_digits 8 n)
-    → let t = count_trailing_zeros 64 (w - 2319406791620833328) / 8 in (t ≤ 7) × ((n < 10 ^ (8 - t)) × ((t ≡ 7) ⊎ (10 ^ (7 - t) ≤ n)))
-zeros_of n w h e =
-    let values : w - 2319406791620833328 ≡ values_of 7 n = omega arith in
-    rw values (needless 7 n h)
+-- a number of k + 1 digits in a word has as many needless zeros as bytes are 0 without 48
+pub zeros_of : (k n w : ℕ) → n < 10 ^ suc k → w ≡ word_of (last_digits (suc k) n) → IsNeedless k n (count_trailing_zeros (8 * suc k) (w - offset_of k) / 8)
+zeros_of k n w h e = let values : w - offset_of k ≡ values_of k n = omega (arith, word_values k n) in rw values (needless k n h)

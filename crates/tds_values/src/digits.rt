@@ -1,29 +1,14 @@
 // Digits and other bytes, written to a slice from a place on. Each call returns the place after what it wrote.
-ghost use Rattle.std.specs.Prelude.{◌≡◌, ◌+◌, ◌-◌, ◌<◌, ◌≤◌, ◌^◌, ◌/◌, ◌*◌, ◌%◌, [], ◌∷◌, ◌++◌, ◌⊎◌, if◌then◌else◌, take, length, decimal};
+ghost use Rattle.std.specs.Prelude.{◌≡◌, ◌+◌, ◌-◌, ◌<◌, ◌≤◌, ◌^◌, ◌/◌, ◌*◌, ◌%◌, [], ◌∷◌, ◌++◌, ◌⊎◌, take, length, decimal};
 ghost use Rattle.tds_values.specs.ScalarText.{last_digits, minus_if};
 ghost use Rattle.byteorder.specs.Endian.{little_bytes, little_number};
 
+use crate::tables::FOUR_DIGITS;
 use byteorder::{ByteOrder, LittleEndian};
 
-// The two digits of each number below 100.
-static PAIRS: [u8; 200] =
-    *b"00010203040506070809101112131415161718192021222324252627282930313233343536373839404142434445464748495051525354555657585960616263646566676869707172737475767778798081828384858687888990919293949596979899";
-
-// The same as numbers of two bytes, the first digit in the low one.
-static WORDS: [u16; 100] = [
-    12336, 12592, 12848, 13104, 13360, 13616, 13872, 14128, 14384, 14640, 12337, 12593, 12849,
-    13105, 13361, 13617, 13873, 14129, 14385, 14641, 12338, 12594, 12850, 13106, 13362, 13618,
-    13874, 14130, 14386, 14642, 12339, 12595, 12851, 13107, 13363, 13619, 13875, 14131, 14387,
-    14643, 12340, 12596, 12852, 13108, 13364, 13620, 13876, 14132, 14388, 14644, 12341, 12597,
-    12853, 13109, 13365, 13621, 13877, 14133, 14389, 14645, 12342, 12598, 12854, 13110, 13366,
-    13622, 13878, 14134, 14390, 14646, 12343, 12599, 12855, 13111, 13367, 13623, 13879, 14135,
-    14391, 14647, 12344, 12600, 12856, 13112, 13368, 13624, 13880, 14136, 14392, 14648, 12345,
-    12601, 12857, 13113, 13369, 13625, 13881, 14137, 14393, 14649,
-];
-
-// One byte.
+/// Writes a byte at a place, and returns the place after it.
 #[inline(always)]
-pub(crate) fn put_byte(to: &mut [u8], at: usize, byte: u8) -> usize
+pub fn put_byte(to: &mut [u8], at: usize, byte: u8) -> usize
     requires { at < length to.old }
     ensures end { result ≡ at + 1 }
     ensures written { take result to.new ≡ take at to.old ++ byte ∷ [] }
@@ -32,25 +17,67 @@ pub(crate) fn put_byte(to: &mut [u8], at: usize, byte: u8) -> usize
     at + 1
 }
 
-// One byte, if it is kept: it is written in any case, and what comes next is written over it if it isn't.
-#[inline(always)]
-fn put_kept(to: &mut [u8], at: usize, byte: u8, kept: bool) -> usize
-    requires { at < length to.old }
-    ensures end { result ≤ at + 1 }
-    ensures written { take result to.new ≡ take at to.old ++ (if kept then byte ∷ [] else []) }
-{
-    to[at] = byte;
-    at + kept as usize
-}
-
-// The sign, if a number is negative.
+// The sign, if a number is negative: it is written in any case, and what comes next is written over it if it isn't.
 #[inline(always)]
 pub(crate) fn put_minus(to: &mut [u8], at: usize, negative: bool) -> usize
     requires { at < length to.old }
     ensures end { result ≤ at + 1 }
     ensures written { take result to.new ≡ take at to.old ++ minus_if negative }
 {
-    put_kept(to, at, b'-', negative)
+    to[at] = b'-';
+    at + negative as usize
+}
+
+// The two bytes of a number, the lowest first.
+#[inline(always)]
+fn put_quarter(to: &mut [u8], at: usize, word: u16) -> usize
+    requires { at + 2 ≤ length to.old }
+    ensures end { result ≡ at + 2 }
+    ensures written { take result to.new ≡ take at to.old ++ little_bytes 2 word }
+{
+    LittleEndian::write_u16(&mut to[at..at + 2], word);
+    at + 2
+}
+
+// The four bytes of a number, the lowest first.
+#[inline(always)]
+fn put_half(to: &mut [u8], at: usize, word: u32) -> usize
+    requires { at + 4 ≤ length to.old }
+    ensures end { result ≡ at + 4 }
+    ensures written { take result to.new ≡ take at to.old ++ little_bytes 4 word }
+{
+    LittleEndian::write_u32(&mut to[at..at + 4], word);
+    at + 4
+}
+
+// The eight bytes of a number, the lowest first.
+#[inline(always)]
+pub(crate) fn put_word(to: &mut [u8], at: usize, word: u64) -> usize
+    requires { at + 8 ≤ length to.old }
+    ensures end { result ≡ at + 8 }
+    ensures written { take result to.new ≡ take at to.old ++ little_bytes 8 word }
+{
+    LittleEndian::write_u64(&mut to[at..at + 8], word);
+    at + 8
+}
+
+// The four digits of a number.
+#[inline(always)]
+fn four_digits(n: u32) -> &'static [u8]
+    requires { n < 10000 }
+    ensures { result.now ≡ last_digits 4 n }
+{
+    let from = 4 * n as usize;
+    &FOUR_DIGITS[from..from + 4]
+}
+
+// Four digits as one number, the first digit in its lowest byte.
+#[inline(always)]
+fn four(n: u32) -> u32
+    requires { n < 10000 }
+    ensures { result ≡ little_number 4 (last_digits 4 n) }
+{
+    LittleEndian::read_u32(four_digits(n))
 }
 
 // Two digits.
@@ -61,47 +88,27 @@ pub(crate) fn put_two(to: &mut [u8], at: usize, n: u32) -> usize
     ensures end { result ≡ at + 2 }
     ensures written { take result to.new ≡ take at to.old ++ last_digits 2 n }
 {
-    LittleEndian::write_u16(&mut to[at..at + 2], WORDS[n as usize]);
-    at + 2
+    put_quarter(to, at, LittleEndian::read_u16(&four_digits(n)[2..]))
 }
 
-// Eight digits as four numbers of two digits, each in 16 bits, the first the lowest. Both halves are divided by 100
-// at once: a / 100 is a * 5243 / 2^19 for a < 10000. The last line is hundreds + (fours - hundreds * 100) * 2^16 in
-// fewer steps.
+// Four digits.
 #[inline(always)]
-#[tactic(auto, using(crate::proofs::PackedDigits::hundreds_of))]
-fn four_pairs(n: u32) -> u64
-    requires { n < 100000000 }
-    ensures { result ≡ n / 1000000 + 2 ^ 16 * (n / 10000 % 100) + 2 ^ 32 * (n / 100 % 100) + 2 ^ 48 * (n % 100) }
+pub(crate) fn put_four(to: &mut [u8], at: usize, n: u32) -> usize
+    requires room { at + 4 ≤ length to.old }
+    requires small { n < 10000 }
+    ensures end { result ≡ at + 4 }
+    ensures written { take result to.new ≡ take at to.old ++ last_digits 4 n }
 {
-    let fours = (n / 10_000) as u64 + (n % 10_000) as u64 * 0x1_0000_0000;
-    let hundreds = (fours * 5243 / 0x8_0000) & 0x0000_007F_0000_007F;
-    fours * 0x1_0000 - hundreds * (100 * 0x1_0000 - 1)
+    put_half(to, at, four(n))
 }
 
-// Eight digits as one number, the first digit in its lowest byte. All four pairs are divided by 10 at once:
-// b / 10 is b * 103 / 2^10 for b < 100. The last line is tens + (pairs - tens * 10) * 2^8 in fewer steps, and 48 in
-// each byte.
+// Eight digits as one number, the first digit in its lowest byte.
 #[inline(always)]
-#[tactic(auto, using(crate::proofs::PackedDigits::tens_of))]
 fn word(n: u32) -> u64
     requires { n < 100000000 }
     ensures { result ≡ little_number 8 (last_digits 8 n) }
 {
-    let pairs = four_pairs(n);
-    let tens = (pairs * 103 / 0x400) & 0x000F_000F_000F_000F;
-    pairs * 0x100 - tens * (10 * 0x100 - 1) + 0x3030_3030_3030_3030
-}
-
-// The eight bytes of a number, the lowest first.
-#[inline(always)]
-fn put_word(to: &mut [u8], at: usize, word: u64) -> usize
-    requires { at + 8 ≤ length to.old }
-    ensures end { result ≡ at + 8 }
-    ensures written { take result to.new ≡ take at to.old ++ little_bytes 8 word }
-{
-    LittleEndian::write_u64(&mut to[at..at + 8], word);
-    at + 8
+    four(n / 10_000) as u64 + four(n % 10_000) as u64 * 0x1_0000_0000
 }
 
 // The digits of eight that come after some zeros, or after digits that aren't wanted.
@@ -130,6 +137,20 @@ pub(crate) fn put_tail(to: &mut [u8], at: usize, k: usize, n: u32) -> usize
     put_after(to, at, 8 - k, n)
 }
 
+// The last k digits of four.
+#[inline(always)]
+pub(crate) fn put_end(to: &mut [u8], at: usize, k: usize, n: u32) -> usize
+    requires room { at + 4 ≤ length to.old }
+    requires few { k ≤ 4 }
+    requires some { 1 ≤ k }
+    requires small { n < 10000 }
+    ensures end { result ≡ at + k }
+    ensures written { take result to.new ≡ take at to.old ++ last_digits k n }
+{
+    put_half(to, at, four(n) >> (8 * (4 - k as u32)));
+    at + k
+}
+
 // How many of eight digits are needless zeros: their bytes are 0 once each loses 48, and one bit more in the
 // last byte keeps the last digit.
 #[inline(always)]
@@ -143,6 +164,20 @@ fn needless(n: u32) -> usize
     values.trailing_zeros() as usize / 8
 }
 
+// A number of at most four digits.
+#[inline(always)]
+fn put_head(to: &mut [u8], at: usize, n: u32) -> usize
+    requires room { at + 4 ≤ length to.old }
+    requires small { n < 10000 }
+    ensures end { result ≤ at + 4 }
+    ensures written { take result to.new ≡ take at to.old ++ decimal n }
+{
+    let digits = four(n);
+    let skipped = (digits - 0x2030_3030).trailing_zeros() as usize / 8;
+    put_half(to, at, digits >> (8 * skipped as u32));
+    at + (4 - skipped)
+}
+
 // A number of at most eight digits.
 #[inline(always)]
 fn put_short(to: &mut [u8], at: usize, n: u32) -> usize
@@ -151,31 +186,21 @@ fn put_short(to: &mut [u8], at: usize, n: u32) -> usize
     ensures end { result ≤ at + 8 }
     ensures written { take result to.new ≡ take at to.old ++ decimal n }
 {
+    if n < 10_000 {
+        return put_head(to, at, n);
+    }
     put_after(to, at, needless(n), n)
-}
-
-// A number below 100 without a needless zero.
-#[inline(always)]
-fn put_head(to: &mut [u8], at: usize, n: u32) -> usize
-    requires room { at + 2 ≤ length to.old }
-    requires small { n < 100 }
-    ensures end { result ≤ at + 2 }
-    ensures written { take result to.new ≡ take at to.old ++ decimal n }
-{
-    let k = n as usize * 2;
-    let at = put_kept(to, at, PAIRS[k], n >= 10);
-    put_byte(to, at, PAIRS[k + 1])
 }
 
 // A number of 32 bits that has more than eight digits.
 #[inline(always)]
 fn put_long(to: &mut [u8], at: usize, n: u32) -> usize
-    requires room { at + 10 ≤ length to.old }
+    requires room { at + 16 ≤ length to.old }
     requires large { 100000000 ≤ n }
-    ensures end { result ≤ at + 10 }
+    ensures end { result ≤ at + 16 }
     ensures written { take result to.new ≡ take at to.old ++ decimal n }
 {
-    let at = put_head(to, at, n / 100_000_000);
+    let at = put_short(to, at, n / 100_000_000);
     put_tail(to, at, 8, n % 100_000_000)
 }
 

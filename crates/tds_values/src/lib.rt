@@ -18,7 +18,8 @@
 //!
 //! `kind.rt` has the kinds, `scalar.rt` the values and what is refused, `write.rt` the text of each kind and
 //! `text.rt` that of each value. Below them are `numbers.rt`, `wide.rt` (decimals of up to 128 bits), `moments.rt`,
-//! `guid.rt`, `lanes.rt` and `digits.rt`. What a value and its text are is in `specs/Scalar` and `specs/ScalarText`.
+//! `guid.rt`, `lanes.rt`, `digits.rt`, and `tables.rt` with texts that are looked up. What a value and its text are is
+//! in `specs/Scalar` and `specs/ScalarText`.
 #![tactic(auto)]
 
 mod charset;
@@ -31,12 +32,14 @@ mod moments;
 mod numbers;
 mod ranges;
 mod scalar;
+mod tables;
 mod text;
 mod text_by_kit;
 mod wide;
 mod write;
 
 pub use charset::Charset;
+pub use digits::put_byte;
 pub use kind::{Kind, Reach};
 pub use lanes::hex_lanes;
 pub use laws::{one_date, one_type_info, short_texts};

@@ -1,17 +1,21 @@
 // The texts of dates and times, written to a slice from a place on.
-ghost use Rattle.std.specs.Prelude.{◌≡◌, ◌+◌, ◌<◌, ◌≤◌, ◌++◌, take, length, unsigned_abs};
-ghost use Rattle.tds_values.specs.ScalarText.{date_text, seconds_text, minutes_text, fraction_text, ticks_text, offset_text, date_and_time};
+ghost use Rattle.std.specs.Prelude.{◌≡◌, ◌+◌, ◌<◌, ◌≤◌, ◌^◌, ◌++◌, codes, take, length, unsigned_abs};
+ghost use Rattle.tds_values.specs.ScalarText.{last_digits, date_text, seconds_text, minutes_text, fraction_text, ticks_text, offset_text, date_and_time};
 ghost use Rattle.tds_values.specs.TimeOfDay.{IsClockTime};
+ghost use Rattle.byteorder.specs.Endian.{little_number};
 
-use crate::digits::{put_byte, put_tail, put_two};
+use crate::digits::{put_byte, put_four, put_tail, put_two, put_word};
+use crate::numbers::put_fraction;
 use crate::ranges::{LARGEST_OFFSET, LAST_DAY, MINUTES_A_DAY, SECONDS_A_DAY, TICKS_A_DAY};
+use crate::tables::MINUTES;
+use byteorder::{ByteOrder, LittleEndian};
 use jiff_core::civil::Date;
 
 // How many days the first day of `jiff`, -9999-01-01, is before day 0.
 pub(crate) const DAYS_BEFORE_DAY_0: u32 = 3_652_425;
 
-// YYYY-MM-DD.
-#[inline(always)]
+// YYYY-MM-DD. The steps of the calendar stand once, behind a call.
+#[inline(never)]
 pub(crate) fn put_date(to: &mut [u8], at: usize, day: u32) -> usize
     requires room { at + 10 ≤ length to.old }
     requires day { day ≤ LAST_DAY }
@@ -20,79 +24,85 @@ pub(crate) fn put_date(to: &mut [u8], at: usize, day: u32) -> usize
 {
     let date = Date::from_days_since_min(day + DAYS_BEFORE_DAY_0);
     let year = date.year.unsigned_abs() as u32;
-    let at = put_two(to, at, year / 100);
-    let at = put_two(to, at, year % 100);
+    let at = put_four(to, at, year);
     let at = put_byte(to, at, b'-');
     let at = put_two(to, at, date.month as u32);
     let at = put_byte(to, at, b'-');
     put_two(to, at, date.day as u32)
 }
 
-// HH:MM.
+// HH:MM:00 as one number, the first digit in its lowest byte.
+#[inline(always)]
+fn minute(minutes: u32) -> u64
+    requires { minutes < MINUTES_A_DAY }
+    ensures { result ≡ little_number 8 (minutes_text minutes ++ codes ":" ++ last_digits 2 0) }
+{
+    let from = 8 * minutes as usize;
+    LittleEndian::read_u64(&MINUTES[from..from + 8])
+}
+
+// HH:MM:00.
+#[inline(always)]
+pub(crate) fn put_minute(to: &mut [u8], at: usize, minutes: u32) -> usize
+    requires room { at + 8 ≤ length to.old }
+    requires day { minutes < MINUTES_A_DAY }
+    ensures end { result ≡ at + 8 }
+    ensures written { take result to.new ≡ take at to.old ++ (minutes_text minutes ++ codes ":" ++ last_digits 2 0) }
+{
+    put_word(to, at, minute(minutes))
+}
+
+// HH:MM, and a colon after it.
 #[inline(always)]
 fn put_minutes(to: &mut [u8], at: usize, minutes: u32) -> usize
-    requires room { at + 5 ≤ length to.old }
+    requires room { at + 8 ≤ length to.old }
     requires day { minutes < MINUTES_A_DAY }
     ensures end { result ≡ at + 5 }
     ensures written { take result to.new ≡ take at to.old ++ minutes_text minutes }
+    ensures colon { take (result + 1) to.new ≡ take result to.new ++ codes ":" }
 {
-    let at = put_two(to, at, minutes / 60);
-    let at = put_byte(to, at, b':');
-    put_two(to, at, minutes % 60)
+    put_minute(to, at, minutes);
+    at + 5
 }
 
 // HH:MM:SS.
 #[inline(always)]
-pub(crate) fn put_clock(to: &mut [u8], at: usize, seconds: u32) -> usize
+fn put_clock(to: &mut [u8], at: usize, seconds: u32) -> usize
     requires room { at + 8 ≤ length to.old }
     requires day { seconds < SECONDS_A_DAY }
     ensures end { result ≡ at + 8 }
     ensures written { take result to.new ≡ take at to.old ++ seconds_text seconds }
 {
     let at = put_minutes(to, at, seconds / 60);
-    let at = put_byte(to, at, b':');
-    put_two(to, at, seconds % 60)
-}
-
-// A point and the digits of a fraction of a second; nothing at scale 0.
-#[inline(always)]
-fn put_part(to: &mut [u8], at: usize, scale: u8, units: u64) -> usize
-    requires room { at + 9 ≤ length to.old }
-    requires scale { scale ≤ 7 }
-    ensures end { result ≤ at + 1 + scale }
-    ensures written { take result to.new ≡ take at to.old ++ fraction_text scale units }
-{
-    if scale == 0 {
-        return at;
-    }
-    let at = put_byte(to, at, b'.');
-    put_tail(to, at, scale as usize, (units % 100_000_000) as u32)
+    put_two(to, at + 1, seconds % 60)
 }
 
 // The seconds since midnight and a fraction of one.
 #[inline(always)]
-pub(crate) fn put_time(to: &mut [u8], at: usize, seconds: u32, scale: u8, units: u64) -> usize
+pub(crate) fn put_time(to: &mut [u8], at: usize, seconds: u32, scale: u8, part: u64) -> usize
     requires room { at + 17 ≤ length to.old }
     requires time { IsClockTime seconds scale }
+    requires part { part < 10 ^ scale }
     ensures end { result ≤ at + 9 + scale }
-    ensures written { take result to.new ≡ take at to.old ++ (seconds_text seconds ++ fraction_text scale units) }
+    ensures written { take result to.new ≡ take at to.old ++ (seconds_text seconds ++ fraction_text scale part) }
 {
     let at = put_clock(to, at, seconds);
-    put_part(to, at, scale, units)
+    put_fraction(to, at, scale, part)
 }
 
 // A date and a time.
 #[inline(always)]
-pub(crate) fn put_moment(to: &mut [u8], day: u32, seconds: u32, scale: u8, units: u64) -> usize
+pub(crate) fn put_moment(to: &mut [u8], day: u32, seconds: u32, scale: u8, part: u64) -> usize
     requires room { 28 ≤ length to.old }
     requires date { day ≤ LAST_DAY }
     requires time { IsClockTime seconds scale }
+    requires part { part < 10 ^ scale }
     ensures end { result ≤ 20 + scale }
-    ensures written { take result to.new ≡ date_and_time day (seconds_text seconds ++ fraction_text scale units) }
+    ensures written { take result to.new ≡ date_and_time day (seconds_text seconds ++ fraction_text scale part) }
 {
     let at = put_date(to, 0, day);
     let at = put_byte(to, at, b' ');
-    put_time(to, at, seconds, scale, units)
+    put_time(to, at, seconds, scale, part)
 }
 
 // HH:MM:SS.mmm of a number of 1/300 seconds.
@@ -111,7 +121,7 @@ pub(crate) fn put_ticks(to: &mut [u8], at: usize, ticks: u32) -> usize
 // +HH:MM or -HH:MM.
 #[inline(always)]
 pub(crate) fn put_offset(to: &mut [u8], at: usize, offset: i16) -> usize
-    requires room { at + 6 ≤ length to.old }
+    requires room { at + 9 ≤ length to.old }
     requires offset { unsigned_abs offset ≤ LARGEST_OFFSET }
     ensures end { result ≡ at + 6 }
     ensures written { take result to.new ≡ take at to.old ++ offset_text offset }

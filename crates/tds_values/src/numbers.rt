@@ -1,24 +1,21 @@
 // The texts of numbers, written to a slice from a place on.
-ghost use Rattle.std.specs.Prelude.{◌≡◌, ◌+◌, ◌<◌, ◌≤◌, ◌^◌, ◌/◌, ◌++◌, ◌&&◌, not, take, length, decimal};
+ghost use Rattle.std.specs.Prelude.{◌≡◌, ◌+◌, ◌<◌, ◌≤◌, ◌^◌, ◌/◌, ◌%◌, ◌++◌, ◌&&◌, not, take, length, decimal};
 ghost use Rattle.std.specs.Fmt.{signed_decimal};
 ghost use Rattle.tds_values.specs.ScalarText.{last_digits, fraction_text, minus_if, decimal_text};
 
-use crate::digits::{put_byte, put_minus, put_number, put_tail};
+use crate::digits::{put_byte, put_end, put_minus, put_number, put_tail};
 use crate::text::LONGEST_TEXT;
 
-// The last k digits of a number.
+// The last k digits of a number, if they are more than eight.
 #[inline(always)]
-pub(crate) fn put_last(to: &mut [u8], at: usize, k: usize, n: u64) -> usize
+fn put_last(to: &mut [u8], at: usize, k: usize, n: u64) -> usize
     requires room { at + 24 ≤ length to.old }
-    requires some { 1 ≤ k }
+    requires many { 8 < k }
     requires few { k ≤ 24 }
     ensures end { result ≡ at + k }
     ensures written { take result to.new ≡ take at to.old ++ last_digits k n }
 {
     let low = (n % 100_000_000) as u32;
-    if k <= 8 {
-        return put_tail(to, at, k, low);
-    }
     let middle = (n / 100_000_000 % 100_000_000) as u32;
     if k <= 16 {
         let at = put_tail(to, at, k - 8, middle);
@@ -41,9 +38,34 @@ pub(crate) fn put_integer(to: &mut [u8], at: usize, n: i64) -> usize
     put_number(to, at, size)
 }
 
+// How many units a whole one has, for each scale.
+static POWERS: [u64; 20] = [
+    1,
+    10,
+    100,
+    1000,
+    10_000,
+    100_000,
+    1_000_000,
+    10_000_000,
+    100_000_000,
+    1_000_000_000,
+    10_000_000_000,
+    100_000_000_000,
+    1_000_000_000_000,
+    10_000_000_000_000,
+    100_000_000_000_000,
+    1_000_000_000_000_000,
+    10_000_000_000_000_000,
+    100_000_000_000_000_000,
+    1_000_000_000_000_000_000,
+    10_000_000_000_000_000_000,
+];
+
 // The whole part of a number of units of a scale.
 #[inline(always)]
-fn whole(scale: u8, n: u64) -> u64
+pub(crate) fn whole(scale: u8, n: u64) -> u64
+    requires { scale ≤ 19 }
     ensures { result ≡ n / 10 ^ scale }
 {
     match scale {
@@ -66,21 +88,51 @@ fn whole(scale: u8, n: u64) -> u64
         16 => n / 10_000_000_000_000_000,
         17 => n / 100_000_000_000_000_000,
         18 => n / 1_000_000_000_000_000_000,
-        19 => n / 10_000_000_000_000_000_000,
-        _ => 0,
+        _ => n / 10_000_000_000_000_000_000,
     }
 }
 
-// A point and as many digits as the scale says.
+// The units that the whole part leaves.
+#[inline(always)]
+pub(crate) fn rest(scale: u8, n: u64, whole: u64) -> u64
+    requires scale { scale ≤ 19 }
+    requires whole { whole ≡ n / 10 ^ scale }
+    ensures units { result ≡ n % 10 ^ scale }
+    ensures small { result < 10 ^ scale }
+{
+    n - whole * POWERS[scale as usize]
+}
+
+// A point and as many digits as the scale says, of at most eight; nothing at scale 0.
 #[inline(always)]
 pub(crate) fn put_fraction(to: &mut [u8], at: usize, scale: u8, n: u64) -> usize
-    requires room { at + 25 ≤ length to.old }
-    requires scale { scale ≤ 24 }
+    requires room { at + 9 ≤ length to.old }
+    requires scale { scale ≤ 8 }
+    requires small { n < 10 ^ scale }
     ensures end { result ≤ at + 1 + scale }
     ensures written { take result to.new ≡ take at to.old ++ fraction_text scale n }
 {
     if scale == 0 {
         return at;
+    }
+    let at = put_byte(to, at, b'.');
+    if scale <= 4 {
+        return put_end(to, at, scale as usize, n as u32);
+    }
+    put_tail(to, at, scale as usize, n as u32)
+}
+
+// The same of at most 19 digits.
+#[inline(always)]
+fn put_long_fraction(to: &mut [u8], at: usize, scale: u8, n: u64) -> usize
+    requires room { at + 25 ≤ length to.old }
+    requires scale { scale ≤ 19 }
+    requires small { n < 10 ^ scale }
+    ensures end { result ≤ at + 1 + scale }
+    ensures written { take result to.new ≡ take at to.old ++ fraction_text scale n }
+{
+    if scale <= 8 {
+        return put_fraction(to, at, scale, n);
     }
     let at = put_byte(to, at, b'.');
     put_last(to, at, scale as usize, n)
@@ -106,11 +158,12 @@ pub(crate) fn put_decimal(
     scale: u8,
 ) -> usize
     requires room { at + 50 ≤ length to.old }
-    requires scale { scale ≤ 24 }
+    requires scale { scale ≤ 19 }
     ensures end { result ≤ at + LONGEST_TEXT }
     ensures written { take result to.new ≡ take at to.old ++ decimal_text negative magnitude scale }
 {
+    let whole = whole(scale, magnitude);
     let at = put_sign(to, at, negative, magnitude == 0);
-    let at = put_number(to, at, whole(scale, magnitude));
-    put_fraction(to, at, scale, magnitude)
+    let at = put_number(to, at, whole);
+    put_long_fraction(to, at, scale, rest(scale, magnitude, whole))
 }

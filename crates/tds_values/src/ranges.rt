@@ -4,6 +4,8 @@ ghost use Rattle.tds_values.specs.TimeOfDay.{is_time as is_time_of};
 ghost use Rattle.tds_values.specs.LocalTime.{local_seconds as local_seconds_of};
 ghost use Rattle.tds_values.specs.ScalarRange.{is_day_since_1900 as is_day_since_1900_of};
 
+use crate::numbers::whole;
+
 /// The day number of 9999-12-31.
 pub(crate) const LAST_DAY: u32 = 3_652_058;
 
@@ -31,16 +33,7 @@ pub(crate) fn seconds_in(scale: u8, units: u64) -> u64
     requires { scale ≤ 7 }
     ensures { result ≡ units / 10 ^ scale }
 {
-    match scale {
-        0 => units,
-        1 => units / 10,
-        2 => units / 100,
-        3 => units / 1000,
-        4 => units / 10_000,
-        5 => units / 100_000,
-        6 => units / 1_000_000,
-        _ => units / 10_000_000,
-    }
+    whole(scale, units)
 }
 
 // A number of units since midnight is a time of day.

@@ -1,12 +1,12 @@
 // The texts of values, written to the front of a slice.
-ghost use Rattle.std.specs.Prelude.{◌≡◌, ◌/◌, ◌%◌, ◌++◌, ◌<◌, ◌≤◌, IsTrue, codes, length, take, unsigned_abs};
+ghost use Rattle.std.specs.Prelude.{◌≡◌, ◌/◌, ◌%◌, ◌^◌, ◌++◌, ◌<◌, ◌≤◌, IsTrue, codes, length, take, unsigned_abs};
 ghost use Rattle.tds_values.specs.ScalarText.{date_and_time, seconds_text, fraction_text, offset_text};
 ghost use Rattle.tds_values.specs.ScalarRange.{is_in_range};
 ghost use Rattle.tds_values.specs.Written.{IsText};
 
 use crate::digits::put_byte;
-use crate::moments::{put_clock, put_date, put_moment, put_offset, put_ticks};
-use crate::numbers::put_decimal;
+use crate::moments::{put_date, put_minute, put_moment, put_offset, put_ticks};
+use crate::numbers::{put_decimal, rest};
 use crate::ranges::{
     DAY_OF_1900, LARGEST_OFFSET, MINUTES_A_DAY, SECONDS_A_DAY, SECONDS_OF_ALL_DAYS,
 };
@@ -35,7 +35,7 @@ pub(crate) fn put_magnitude(to: &mut [u8], negative: bool, magnitude: u64, scale
     requires scale { scale ≤ 38 }
     ensures { IsText (ScalarValue.Decimal negative magnitude scale) result to.new }
 {
-    if scale <= 24 {
+    if scale <= 19 {
         put_decimal(to, 0, negative, magnitude, scale)
     } else {
         put_wide_decimal(to, 0, negative, magnitude as u128, scale)
@@ -74,7 +74,7 @@ pub(crate) fn put_small_date_time(to: &mut [u8], days: u16, minutes: u16) -> usi
 {
     let at = put_date(to, 0, DAY_OF_1900 + days as u32);
     let at = put_byte(to, at, b' ');
-    put_clock(to, at, 60 * minutes as u32)
+    put_minute(to, at, minutes as u32)
 }
 
 // A datetime: days since 1900-01-01, and 1/300 seconds.
@@ -89,19 +89,28 @@ pub(crate) fn put_date_time(to: &mut [u8], days: i32, ticks: u32) -> usize
     put_ticks(to, at, ticks)
 }
 
-// A local time by its whole seconds since day 0 and the fraction of its units, and its offset.
+// A local time by its whole seconds since day 0 and what its units have beside those of UTC, and its offset.
 #[inline(always)]
-pub(crate) fn put_local(to: &mut [u8], local: u64, scale: u8, units: u64, offset: i16) -> usize
+pub(crate) fn put_local(
+    to: &mut [u8],
+    local: u64,
+    scale: u8,
+    units: u64,
+    seconds: u64,
+    offset: i16,
+) -> usize
     requires room { TEXT_ROOM ≤ length to.old }
     requires local { local < SECONDS_OF_ALL_DAYS }
     requires scale { scale ≤ 7 }
+    requires seconds { seconds ≡ units / 10 ^ scale }
     requires offset { unsigned_abs offset ≤ LARGEST_OFFSET }
     ensures end { result ≤ LONGEST_TEXT }
     ensures written { let time = seconds_text (local % SECONDS_A_DAY) ++ fraction_text scale units in
         take result to.new ≡ date_and_time (local / SECONDS_A_DAY) time ++ codes " " ++ offset_text offset }
 {
     let day = (local / SECONDS_A_DAY) as u32;
-    let at = put_moment(to, day, (local % SECONDS_A_DAY) as u32, scale, units);
+    let part = rest(scale, units, seconds);
+    let at = put_moment(to, day, (local % SECONDS_A_DAY) as u32, scale, part);
     let at = put_byte(to, at, b' ');
     put_offset(to, at, offset)
 }

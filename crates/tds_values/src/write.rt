@@ -1,18 +1,18 @@
 // The text of a value, written where it belongs, from the bytes that spell it.
-ghost use Rattle.std.specs.Prelude.{◌≡◌, ℕ, ◌+◌, ◌≤◌, ◌⊎◌, IsTrue, IfOk, IfErr, Some, Ok, Err, drop, length};
+ghost use Rattle.std.specs.Prelude.{◌≡◌, ℕ, ◌+◌, ◌-◌, ◌≤◌, ◌⊎◌, IsTrue, IfOk, IfErr, Some, None, Ok, Err, drop, length, if◌then◌else◌};
 ghost use Rattle.byteorder.specs.Endian.{little_number};
 ghost use Rattle.std.specs.Int.{cast_signed, w16};
 ghost use Rattle.tds_values.specs.Kind as kinds;
 ghost use Rattle.tds_values.specs.Kind.{is_decimal_length};
-ghost use Rattle.tds_values.specs.Scalar.{read_of, checked, decimal_of};
+ghost use Rattle.tds_values.specs.Scalar.{read_of, checked};
 ghost use Rattle.tds_values.specs.TimeOfDay.{time_length as time_length_of};
-ghost use Rattle.tds_values.specs.Written.{IsText, IsTextOf, IsWritten};
+ghost use Rattle.tds_values.specs.Written.{IsTextOf, IsWritten};
 ghost use Rattle.tds_values.specs.declared.scalar.ScalarValue.{ScalarValue};
 
 use crate::guid::put_guid;
 use crate::kind::{Kind, is_decimal_length, time_length};
 use crate::moments::{put_date, put_moment, put_time};
-use crate::numbers::put_integer;
+use crate::numbers::{put_integer, rest};
 use crate::ranges::{
     LARGEST_OFFSET, LAST_DAY, MINUTES_A_DAY, SECONDS_A_DAY, TICKS_A_DAY, is_day_since_1900,
     local_seconds, seconds_in,
@@ -107,7 +107,8 @@ fn write_time(scale: u8, bytes: &[u8], to: &mut [u8]) -> Result<usize, ValueFaul
     if seconds >= SECONDS_A_DAY {
         return Err(ValueFault::Value);
     }
-    Ok(put_time(to, 0, seconds as u32, scale, units))
+    let part = rest(scale, units, seconds);
+    Ok(put_time(to, 0, seconds as u32, scale, part))
 }
 
 // The day number in the three bytes from t on.
@@ -136,7 +137,8 @@ fn write_date_time2(scale: u8, bytes: &[u8], to: &mut [u8]) -> Result<usize, Val
     if seconds >= SECONDS_A_DAY || day > LAST_DAY {
         return Err(ValueFault::Value);
     }
-    Ok(put_moment(to, day, seconds as u32, scale, units))
+    let part = rest(scale, units, seconds);
+    Ok(put_moment(to, day, seconds as u32, scale, part))
 }
 
 // The offset in the two bytes from t on.
@@ -168,7 +170,7 @@ fn write_local(
     let Some(local) = local_seconds(seconds, day, offset) else {
         return Err(ValueFault::Value);
     };
-    Ok(put_local(to, local, scale, units, offset))
+    Ok(put_local(to, local, scale, units, seconds, offset))
 }
 
 // A datetimeoffset: a time of day and a date in UTC, and an offset.
@@ -246,29 +248,18 @@ fn write_guid(bytes: &[u8], to: &mut [u8]) -> Result<usize, ValueFault>
     Ok(put_guid(to, bytes))
 }
 
-// A decimal by its sign byte and its magnitude.
+// The magnitude of a decimal, which follows its sign, if it has 4, 8, 12 or 16 bytes.
 #[inline(always)]
-fn write_spelt(scale: u8, bytes: &[u8], to: &mut [u8]) -> usize
-    requires scale { scale ≤ 38 }
-    requires room { TEXT_ROOM ≤ length to.old }
-    requires length { IsTrue (is_decimal_length (length bytes.now)) }
-    ensures { IsText (decimal_of scale bytes.now) result to.new }
+fn magnitude_of(bytes: &[u8]) -> Option<u128>
+    ensures { let n = length bytes.now in
+        result ≡ (if is_decimal_length n then Some (little_number (n - 1) (drop 1 bytes.now)) else None) }
 {
-    let negative = bytes[0] == 0;
     match bytes.len() {
-        5 => put_magnitude(
-            to,
-            negative,
-            LittleEndian::read_u32(&bytes[1..]) as u64,
-            scale,
-        ),
-        9 => put_magnitude(to, negative, LittleEndian::read_u64(&bytes[1..]), scale),
-        n => put_wide_magnitude(
-            to,
-            negative,
-            LittleEndian::read_uint128(&bytes[1..], n - 1),
-            scale,
-        ),
+        5 => Some(LittleEndian::read_u32(&bytes[1..]) as u128),
+        9 => Some(LittleEndian::read_u64(&bytes[1..]) as u128),
+        13 => Some(LittleEndian::read_uint128(&bytes[1..], 12)),
+        17 => Some(LittleEndian::read_u128(&bytes[1..])),
+        _ => None,
     }
 }
 
@@ -279,14 +270,16 @@ fn write_decimal(most: u8, scale: u8, bytes: &[u8], to: &mut [u8]) -> Result<usi
     requires room { TEXT_ROOM ≤ length to.old }
     ensures { (precision : ℕ) → IsWritten (read_of (Kind.Decimal most precision scale) bytes.now) result to.new }
 {
-    let n = bytes.len();
-    if !is_decimal_length(n) || n > usize::from(most) {
+    if bytes.len() > usize::from(most) {
         return Err(ValueFault::Length);
     }
-    Ok(write_spelt(scale, bytes, to))
+    let Some(magnitude) = magnitude_of(bytes) else {
+        return Err(ValueFault::Length);
+    };
+    Ok(put_wide_magnitude(to, bytes[0] == 0, magnitude, scale))
 }
 
-// A value of any scalar kind.
+// A value of any scalar kind. Scale 7 of a time, which a column has if none is named, is a constant in what is inlined.
 #[inline(always)]
 fn write_any(kind: &Kind, bytes: &[u8], to: &mut [u8]) -> Result<usize, ValueFault>
     requires valid { IsTrue (kinds.is_valid kind.now) }
@@ -310,8 +303,11 @@ fn write_any(kind: &Kind, bytes: &[u8], to: &mut [u8]) -> Result<usize, ValueFau
         Kind::Guid => write_guid(bytes, to),
         Kind::Decimal { length, scale, .. } => write_decimal(length, scale, bytes, to),
         Kind::Date => write_date(bytes, to),
+        Kind::Time(7) => write_time(7, bytes, to),
         Kind::Time(scale) => write_time(scale, bytes, to),
+        Kind::DateTime2(7) => write_date_time2(7, bytes, to),
         Kind::DateTime2(scale) => write_date_time2(scale, bytes, to),
+        Kind::DateTimeOffset(7) => write_date_time_offset(7, bytes, to),
         Kind::DateTimeOffset(scale) => write_date_time_offset(scale, bytes, to),
         Kind::Binary(_) | Kind::Narrow(_) | Kind::Wide(_) => unreachable!(),
     }

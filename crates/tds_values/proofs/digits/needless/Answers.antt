@@ -2,10 +2,10 @@ use Rattle.tds_values.proofs.ZeroLemmas.{zeros_of}
 use Rattle.tds_values.proofs.digits.needless.Goals as goal
 
 pub returns-clause-few : goal.returns-clause-few
-returns-clause-few c = (zeros_of c.args.n _ c.requires c.word-values.ensures).0
+returns-clause-few c = (zeros_of 7 c.args.n _ c.requires c.word-values.ensures).0
 
 pub returns-clause-fits : goal.returns-clause-fits
-returns-clause-fits c = (zeros_of c.args.n _ c.requires c.word-values.ensures).1.0
+returns-clause-fits c = (zeros_of 7 c.args.n _ c.requires c.word-values.ensures).1.0
 
 pub returns-clause-needed : goal.returns-clause-needed
-returns-clause-needed c = (zeros_of c.args.n _ c.requires c.word-values.ensures).1.1
+returns-clause-needed c = (zeros_of 7 c.args.n _ c.requires c.word-values.ensures).1.1

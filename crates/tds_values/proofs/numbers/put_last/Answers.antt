@@ -1,9 +1,6 @@
 use Rattle.tds_values.proofs.{Words.{◌-◌, ◌/◌, arith, append_assoc}, DigitLemmas.{last_digits-below, last_digits_after}}
 use Rattle.tds_values.proofs.numbers.put_last.Goals as goal
 
-pub returns-then-k-le8-clause-written : goal.returns-then-k-le8-clause-written
-returns-then-k-le8-clause-written c = grind (arith, (last_digits-below c.args.k 8 c.args.n))
-
 pub returns-then-k-le16-clause-written : goal.returns-then-k-le16-clause-written
 returns-then-k-le16-clause-written c =
     grind (arith, append_assoc, (last_digits_after c.args.k 8 c.args.n), (last_digits-below (c.args.k - 8) 8 (c.args.n / 100000000)))

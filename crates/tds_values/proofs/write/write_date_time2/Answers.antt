@@ -1,8 +1,8 @@
-use Rattle.tds_values.proofs.{Words.arith, WrittenLemmas.time_by_seconds}
+use Rattle.tds_values.proofs.{Words.arith, DigitLemmas.fraction_rest, WrittenLemmas.time_by_seconds}
 use Rattle.tds_values.proofs.write.write_date_time2.Goals as goal
 
 pub returns-then-seconds-ge-SECONDS_A_DAY : goal.returns-then-seconds-ge-SECONDS_A_DAY
 returns-then-seconds-ge-SECONDS_A_DAY c = grind (arith, (time_by_seconds c.args.scale c.units_in-units.result))
 
 pub returns : goal.returns
-returns c = grind (arith, (time_by_seconds c.args.scale c.units_in-units.result))
+returns c = grind (arith, (fraction_rest c.args.scale c.units_in-units.result), (time_by_seconds c.args.scale c.units_in-units.result))
