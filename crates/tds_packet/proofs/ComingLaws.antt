@@ -1,13 +1,13 @@
 -- What comes of an input is the payload of the packets at its front.
-use Rattle.tds_packet.proofs.Words.{dec_le, flat_map-append, ◌≡◌, ◌⊎◌, ℕ, zero, suc, ◌+◌, ◌-◌, ◌<◌, ◌≤◌, Bool, true, false, List, [], ◌∷◌, ◌++◌}
-use Rattle.tds_packet.proofs.Words.{length, take, drop, refl, inl, inr, append_assoc, append-nil, arith, length-append, length-drop, take-append_seam}
-use Rattle.tds_packet.proofs.Words.{take-append-drop, length-take-le, drop-append_seam, Option, Some, None, ◌==◌, nat_lt, Fault, Wire, AreBytes}
-use Rattle.tds_packet.proofs.Words.{IsRefused, Longest, Spelt, Packet, packet_bytes, wire_of, payload_of, is_last, IsPacket, WirePlace, BeforeBody}
-use Rattle.tds_packet.proofs.Words.{WirePart, no_wire, header_length, packet_of, header_fault, wire, wire_size, wire_end, AreBefore, Coming}
-use Rattle.tds_packet.proofs.Words.{FrontPacket, before, WholePacket, packet_after_header, front_packet, after_packet, message, whole_message}
-use Rattle.tds_packet.proofs.Words.{IsFrontMessage}
-use Rattle.tds_packet.proofs.ElementLaws.{AreBytes-back, AreBytes-front, Spelt-append, Spelt-step, longest_cut, longest_refused}
-use Rattle.tds_packet.proofs.PacketLaws.{before_are_read, free_is_good, last_one, one_more, read_front}
+use Rattle.tds_packet.proofs.{
+  Words.{dec_le, flat_map-append, ◌≡◌, ◌⊎◌, ℕ, zero, suc, ◌+◌, ◌-◌, ◌<◌, ◌≤◌, Bool, true, false, List, [], ◌∷◌, ◌++◌, length, take, drop, refl, inl, inr},
+  Words.{append_assoc, append-nil, arith, length-append, length-drop, take-append_seam, take-append-drop, length-take-le, drop-append_seam, Option, Some, None},
+  Words.{◌==◌, nat_lt, Fault, Wire, AreBytes, IsRefused, Longest, Spelt, Packet, packet_bytes, wire_of, payload_of, is_last, IsPacket, WirePlace, BeforeBody},
+  Words.{WirePart, no_wire, header_length, packet_of, header_fault, wire, wire_size, wire_end, AreBefore, Coming, FrontPacket, before, WholePacket},
+  Words.{packet_after_header, front_packet, after_packet, message, whole_message, IsFrontMessage},
+  ElementLaws.{AreBytes-back, AreBytes-front, Spelt-append, Spelt-step, longest_cut, longest_refused},
+  PacketLaws.{before_are_read, free_is_good, last_one, one_more, read_front},
+}
 
 -- what comes after these packets, by the packet that follows them
 module _ (size limit : ℕ) (packets : List Packet) where

@@ -1,14 +1,14 @@
 -- The packets at the front of an input, and what is read of it.
-use Rattle.tds_packet.proofs.Words.{nil_from_length, common_steps, ◌≡◌, ◌∙◌, ◌⊎◌, inl, inr, ℕ, suc, zero, ◌+◌, ◌<◌, ◌≤◌, List, [], ◌∷◌, ◌++◌, length}
-use Rattle.tds_packet.proofs.Words.{take, Some, false, refl, sym, ap, arith, append-nil, append_assoc, length-append, take-append_seam}
-use Rattle.tds_packet.proofs.Words.{append_cancel_right, flat_map-append, one_more, Fault, InputEnded, MessageEnded, ReadFailed, Wire, Payload, Stop}
-use Rattle.tds_packet.proofs.Words.{AreBytes, Packet, packet_bytes, packet_length, is_last, header_length, wire_of, payload_of, AreBefore, AreMessage}
-use Rattle.tds_packet.proofs.Words.{IsPacket, WireFault, Coming, IsFrontMessage, Seen, Takes, Ends, IsBetween, IsOver, begun, WholePacket}
-use Rattle.tds_packet.proofs.Words.{after_packet, front_packet, message}
-use Rattle.tds_packet.proofs.ElementLaws.{AreBytes-front}
-use Rattle.tds_packet.proofs.PacketLaws.{good_header, header_of}
-use Rattle.tds_packet.proofs.ComingLaws.{front_message}
-use Rattle.tds_packet.proofs.Joins.{whole_packet}
+use Rattle.tds_packet.proofs.{
+  Words.{nil_from_length, common_steps, ◌≡◌, ◌∙◌, ◌⊎◌, inl, inr, ℕ, suc, zero, ◌+◌, ◌<◌, ◌≤◌, List, [], ◌∷◌, ◌++◌, length, take, Some, false, refl, sym, ap},
+  Words.{arith, append-nil, append_assoc, length-append, take-append_seam, append_cancel_right, flat_map-append, one_more, Fault, InputEnded, MessageEnded},
+  Words.{ReadFailed, Wire, Payload, Stop, AreBytes, Packet, packet_bytes, packet_length, is_last, header_length, wire_of, payload_of, AreBefore, AreMessage},
+  Words.{IsPacket, WireFault, Coming, IsFrontMessage, Seen, Takes, Ends, IsBetween, IsOver, begun, WholePacket, after_packet, front_packet, message},
+  ElementLaws.AreBytes-front,
+  PacketLaws.{good_header, header_of},
+  ComingLaws.front_message,
+  Joins.whole_packet,
+}
 
 -- whole packets at the front of an input, with the rest of it after them; none but the last is marked as the last
 pub record BeginsMessage (size limit : ℕ) (input rest payload : List ℕ) : Type 0 where

@@ -1,11 +1,12 @@
 -- What is still to come, along a payload's steps.
-use Rattle.tds_packet.proofs.Words.{PayloadOf, dec_le, common_steps, ◌≡◌, inl, inr, ℕ, suc, zero, ◌+◌, ◌-◌, ◌<◌, ◌≤◌, List, [], ◌++◌, length, take}
-use Rattle.tds_packet.proofs.Words.{Option, Some, None, Ok, Err, Bool, true, false, refl, sym, arith, append_assoc, length-append, length-drop}
-use Rattle.tds_packet.proofs.Words.{add-zero, nat_tests, take-append-drop, drop-drop, Consumes-nil, Consumes-trans, take-append-add, take-append-le}
-use Rattle.tds_packet.proofs.Words.{Fault, MessageEnded, Wire, Payload, Stop, Header, FrontPacket, WholePacket, Coming, before, front_packet}
-use Rattle.tds_packet.proofs.Words.{after_packet, message, coming_of, ReadsPacket, Seen, Takes, Needs, Ends, IsOver, IsNotOver, NeedsPacket, buffered}
-use Rattle.tds_packet.proofs.Words.{further, seen, device, length-take-le, drop_of_length-le}
-use Rattle.tds_packet.proofs.Joins.{Rises-after, Stays-none, Stays-trans}
+use Rattle.tds_packet.proofs.{
+  Words.{PayloadOf, dec_le, common_steps, ◌≡◌, inl, inr, ℕ, suc, zero, ◌+◌, ◌-◌, ◌<◌, ◌≤◌, List, [], ◌++◌, length, take, Option, Some, None, Ok, Err, Bool},
+  Words.{true, false, refl, sym, arith, append_assoc, length-append, length-drop, add-zero, nat_tests, take-append-drop, drop-drop, Consumes-nil},
+  Words.{Consumes-trans, take-append-add, take-append-le, Fault, MessageEnded, Wire, Payload, Stop, Header, FrontPacket, WholePacket, Coming, before},
+  Words.{front_packet, after_packet, message, coming_of, ReadsPacket, Seen, Takes, Needs, Ends, IsOver, IsNotOver, NeedsPacket, buffered, further, seen},
+  Words.{device, length-take-le, drop_of_length-le},
+  Joins.{Rises-after, Stays-none, Stays-trans},
+}
 
 rest_shorter : (room max wire : ℕ) (xs body rest : List ℕ) (last : Bool) (n : ℕ) → front_packet room max wire xs ≡ WholePacket body last n rest
     → length rest < length xs

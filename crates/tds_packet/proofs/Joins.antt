@@ -1,10 +1,11 @@
 -- The parts of a packet's read, joined.
-use Rattle.tds_packet.proofs.Words.{common_steps, ◌≡◌, ◌∙◌, ℕ, ◌+◌, ◌-◌, ◌^◌, ◌<◌, List, [], ◌++◌, length, take, drop, Option, Ok, Err, Bool, false}
-use Rattle.tds_packet.proofs.Words.{refl, ap, arith, length-append, length-take, append_assoc, drop-append_seam, take-append_seam, take-append-add}
-use Rattle.tds_packet.proofs.Words.{nat_tests, nat_lt, if◌then◌else◌, Consumes, Consumes-trans, dec_le, Device, one_more, Rises, Stays, Fault}
-use Rattle.tds_packet.proofs.Words.{InputEnded, ReadFailed, Header, header_fault, WholePacket, NoPacket, front_packet, packet_after_header, Faulted}
-use Rattle.tds_packet.proofs.Words.{ReadsPacket, header_of}
-use Rattle.tds_packet.proofs.Choices.{choose_true, test_lt}
+use Rattle.tds_packet.proofs.{
+  Words.{common_steps, ◌≡◌, ◌∙◌, ℕ, ◌+◌, ◌-◌, ◌^◌, ◌<◌, List, [], ◌++◌, length, take, drop, Option, Ok, Err, Bool, false, refl, ap, arith, length-append},
+  Words.{length-take, append_assoc, drop-append_seam, take-append_seam, take-append-add, nat_tests, nat_lt, if◌then◌else◌, Consumes, Consumes-trans, dec_le},
+  Words.{Device, one_more, Rises, Stays, Fault, InputEnded, ReadFailed, Header, header_fault, WholePacket, NoPacket, front_packet, packet_after_header},
+  Words.{Faulted, ReadsPacket, header_of},
+  Choices.{choose_true, test_lt},
+}
 
 pub Stays-none : (f : ℕ) → Stays f f []
 Stays-none f = (refl, λ lt. absurd (omega (arith, lt)))

@@ -1,7 +1,9 @@
 -- What is read inside a greater grammar.
-use Rattle.tds_packet.proofs.Words.{common_steps, ◌≡◌, inl, inr, ℕ, ◌<◌, List, [], ◌∷◌, ◌++◌, length, ap, arith, append_assoc, append-nil, concat}
-use Rattle.tds_packet.proofs.Words.{Fault, Stop, Grammar, IsNext, Leads, Spelt, Seen, Reads, StopsReading}
-use Rattle.tds_packet.proofs.ElementLaws.{Inside, Inside-Spelt, Spelt-append, Spelt-none, Spelt-one}
+use Rattle.tds_packet.proofs.{
+  Words.{common_steps, ◌≡◌, inl, inr, ℕ, ◌<◌, List, [], ◌∷◌, ◌++◌, length, ap, arith, append_assoc, append-nil, concat, Fault, Stop, Grammar, IsNext, Leads},
+  Words.{Spelt, Seen, Reads, StopsReading},
+  ElementLaws.{Inside, Inside-Spelt, Spelt-append, Spelt-none, Spelt-one},
+}
 
 -- a state with a next element has some bytes to come
 pub next_some : {S : Type 0} (g : Grammar S Fault) (s : S) (element : List ℕ) → IsNext g s element → 0 < g.size s

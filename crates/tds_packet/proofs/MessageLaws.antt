@@ -1,9 +1,11 @@
 -- An input begins with one message at most.
-use Rattle.tds_packet.proofs.Words.{◌≡◌, ℕ, ◌≤◌, List, [], ◌∷◌, ◌++◌, length, append-nil, arith, length-append, flat_map-append, Spelt, Packet}
-use Rattle.tds_packet.proofs.Words.{wire_of, AreMessage, Message, AfterLast, WirePart, no_wire, wire}
-use Rattle.tds_packet.proofs.Feeding.{Reading, feed_all}
-use Rattle.tds_packet.proofs.ElementLaws.{feed-Spelt, feed_all-append, feed_part}
-use Rattle.tds_packet.proofs.PacketLaws.{before_packet, one_is_read, packet_is_read}
+use Rattle.tds_packet.proofs.{
+  Words.{◌≡◌, ℕ, ◌≤◌, List, [], ◌∷◌, ◌++◌, length, append-nil, arith, length-append, flat_map-append, Spelt, Packet, wire_of, AreMessage, Message, AfterLast},
+  Words.{WirePart, no_wire, wire},
+  Feeding.{Reading, feed_all},
+  ElementLaws.{feed-Spelt, feed_all-append, feed_part},
+  PacketLaws.{before_packet, one_is_read, packet_is_read},
+}
 
 module _ (size limit : ℕ) where
   abbrev pub after_packets : List Packet → WirePart

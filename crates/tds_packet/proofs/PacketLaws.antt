@@ -1,12 +1,12 @@
 -- What the wire's grammar reads are the packets that the input begins with.
-use Rattle.tds_packet.proofs.Words.{wire_add, ◌≡◌, ℕ, ◌+◌, ◌-◌, ◌/◌, ◌%◌, ◌≤◌, true, false, List, [], ◌∷◌, ◌++◌, length, take, drop, refl, sym, ◌∙◌}
-use Rattle.tds_packet.proofs.Words.{ap, inl, inr, append_assoc, append-nil, arith, length-append, ◌⊎◌, take-append-drop, length-take-le}
-use Rattle.tds_packet.proofs.Words.{take-append_seam, None, ◌==◌, slice_index, if◌then◌else◌, nat_tests, flat_map-append, AreBytes, Spelt, IsNext}
-use Rattle.tds_packet.proofs.Words.{Longest, Packet, packet_length, packet_bytes, wire_of, is_last, IsPacket, AreBefore, AreMessage, IsNextPacket}
-use Rattle.tds_packet.proofs.Words.{Front, WirePlace, BeforeHeader, BeforeBody, AfterLast, WirePart, no_wire, header_length, packet_of, with_packet}
-use Rattle.tds_packet.proofs.Words.{header_fault, wire}
-use Rattle.tds_packet.proofs.ElementLaws.{Spelt-step, Spelt-append, Spelt-none, Spelt-induct, AreBytes-front, AreBytes-back, one_state}
-use Rattle.tds_packet.proofs.Choices.{choose, eq_true}
+use Rattle.tds_packet.proofs.{
+  Words.{wire_add, ◌≡◌, ℕ, ◌+◌, ◌-◌, ◌/◌, ◌%◌, ◌≤◌, true, false, List, [], ◌∷◌, ◌++◌, length, take, drop, refl, sym, ◌∙◌, ap, inl, inr, append_assoc},
+  Words.{append-nil, arith, length-append, ◌⊎◌, take-append-drop, length-take-le, take-append_seam, None, ◌==◌, slice_index, if◌then◌else◌, nat_tests},
+  Words.{flat_map-append, AreBytes, Spelt, IsNext, Longest, Packet, packet_length, packet_bytes, wire_of, is_last, IsPacket, AreBefore, AreMessage},
+  Words.{IsNextPacket, Front, WirePlace, BeforeHeader, BeforeBody, AfterLast, WirePart, no_wire, header_length, packet_of, with_packet, header_fault, wire},
+  ElementLaws.{Spelt-step, Spelt-append, Spelt-none, Spelt-induct, AreBytes-front, AreBytes-back, one_state},
+  Choices.{choose, eq_true},
+}
 
 pub one_more : (size : ℕ) (ps : List Packet) (p : Packet) → AreBefore size ps → IsPacket size p → is_last p ≡ false → AreBefore size (ps ++ p ∷ [])
 one_more size [] p h i l = (i, l, tt)

@@ -1,8 +1,9 @@
 -- A payload, as its calls leave it.
-use Rattle.tds_packet.proofs.Words.{coming_of, message, front_packet, PayloadOf, ◌≡◌, ℕ, ◌+◌, ◌<◌, ◌≤◌, List, ◌++◌, length, take, Option, None}
-use Rattle.tds_packet.proofs.Words.{Result, Ok, Err, MatchResult, arith, IfSome, length-drop, Stop, IsUsedUp, buffered, seen, further, IsBetween}
-use Rattle.tds_packet.proofs.Words.{Takes, [], append-nil, Ends}
-use Rattle.tds_packet.proofs.Futures.{Ends-after, Takes-more, Takes-trans, further_takes}
+use Rattle.tds_packet.proofs.{
+  Words.{coming_of, message, front_packet, PayloadOf, ◌≡◌, ℕ, ◌+◌, ◌<◌, ◌≤◌, List, ◌++◌, length, take, Option, None, Result, Ok, Err, MatchResult, arith},
+  Words.{IfSome, length-drop, Stop, IsUsedUp, buffered, seen, further, IsBetween, Takes, [], append-nil, Ends},
+  Futures.{Ends-after, Takes-more, Takes-trans, further_takes},
+}
 
 -- It has not stopped, so no packet is cut.
 pub between_of : {R : Type 0} (remaining : R → Option (List ℕ)) (p : PayloadOf R) → p.stopped ≡ None → IsBetween (seen remaining p)

@@ -1,14 +1,14 @@
 -- A payload on its way into packets of one size.
-use Rattle.tds_packet.proofs.Words.{common_steps, PayloadOf, ◌≡◌, ◌∙◌, inl, inr, ℕ, zero, suc, ◌+◌, ◌-◌, ◌*◌, ◌<◌, ◌≤◌, Bool, true, false, List, []}
-use Rattle.tds_packet.proofs.Words.{◌∷◌, ◌++◌, length, drop, Option, None, refl, ap, arith, append-nil, length-append, length-drop, take_all, le_refl}
-use Rattle.tds_packet.proofs.Words.{div-mul-add, flat_map-append, Appends-nil, Appends-trans, Appends-kept, drop-append_seam, suc-mul, Result, Ok}
-use Rattle.tds_packet.proofs.Words.{Err, IsTrue, ◌^◌, Keeps, take-append-le, drop-append-le, one_more, Counted, Recut, RecutStop, MessageEnded, Stays}
-use Rattle.tds_packet.proofs.Words.{Stop, Written, coming_of, Packet, packet_bytes, wire_of, buffered, seen, Cuts, Flushes, Gains, StopsInput}
-use Rattle.tds_packet.proofs.Words.{StopsOutput, WritesPacket, Gathers, cut_packet, first_packets, before_last, packets_before, Ends, IsBetween}
-use Rattle.tds_packet.proofs.Words.{IsNotOver, IsOver, Seen, Takes}
-use Rattle.tds_packet.proofs.Joins.{Stays-Rises, Stays-none, Stays-trans}
-use Rattle.tds_packet.proofs.PayloadLaws.{ends_there}
-use Rattle.tds_packet.proofs.Futures.{Ends-after, Takes-more, Takes-none, Takes-trans}
+use Rattle.tds_packet.proofs.{
+  Words.{common_steps, PayloadOf, ◌≡◌, ◌∙◌, inl, inr, ℕ, zero, suc, ◌+◌, ◌-◌, ◌*◌, ◌<◌, ◌≤◌, Bool, true, false, List, [], ◌∷◌, ◌++◌, length, drop, Option},
+  Words.{None, refl, ap, arith, append-nil, length-append, length-drop, take_all, le_refl, div-mul-add, flat_map-append, Appends-nil, Appends-trans},
+  Words.{Appends-kept, drop-append_seam, suc-mul, Result, Ok, Err, IsTrue, ◌^◌, Keeps, take-append-le, drop-append-le, one_more, Counted, Recut, RecutStop},
+  Words.{MessageEnded, Stays, Stop, Written, coming_of, Packet, packet_bytes, wire_of, buffered, seen, Cuts, Flushes, Gains, StopsInput, StopsOutput},
+  Words.{WritesPacket, Gathers, cut_packet, first_packets, before_last, packets_before, Ends, IsBetween, IsNotOver, IsOver, Seen, Takes},
+  Joins.{Stays-Rises, Stays-none, Stays-trans},
+  PayloadLaws.ends_there,
+  Futures.{Ends-after, Takes-more, Takes-none, Takes-trans},
+}
 
 -- what was gathered, and bytes after it
 pub joined : (a b c : Seen) (hs bs : List ℕ) (n : ℕ) → n ≤ length bs + 1 → Takes a b hs (length hs + 1) → Takes b c bs n

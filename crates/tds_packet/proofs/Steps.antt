@@ -1,9 +1,10 @@
 -- Calls that read by a grammar, one after another.
-use Rattle.tds_packet.proofs.Words.{◌≡◌, ◌∙◌, inl, inr, ℕ, ◌+◌, ◌<◌, List, [], ◌++◌, length, ap, arith, append_assoc, append-nil, length-append}
-use Rattle.tds_packet.proofs.Words.{Option, Some, Fault, MessageEnded, Payload, Stop, Grammar, IsNext, Seen, Takes, Ends, IsBetween, began_at, Reads}
-use Rattle.tds_packet.proofs.Words.{RefusesNext, StopsReading, IsCutStop}
-use Rattle.tds_packet.proofs.ElementLaws.{Spelt-none, Spelt-append, Spelt-one}
-use Rattle.tds_packet.proofs.Futures.{Takes-none, Takes-trans, Ends-after}
+use Rattle.tds_packet.proofs.{
+  Words.{◌≡◌, ◌∙◌, inl, inr, ℕ, ◌+◌, ◌<◌, List, [], ◌++◌, length, ap, arith, append_assoc, append-nil, length-append, Option, Some, Fault, MessageEnded},
+  Words.{Payload, Stop, Grammar, IsNext, Seen, Takes, Ends, IsBetween, began_at, Reads, RefusesNext, StopsReading, IsCutStop},
+  ElementLaws.{Spelt-none, Spelt-append, Spelt-one},
+  Futures.{Takes-none, Takes-trans, Ends-after},
+}
 
 -- bytes taken by two calls
 pub takes_both : (a b c : Seen) (xs ys : List ℕ) → Takes a b xs (length xs) → Takes b c ys (length ys) → Takes a c (xs ++ ys) (length (xs ++ ys))

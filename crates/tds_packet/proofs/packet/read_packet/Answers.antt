@@ -1,5 +1,5 @@
-use Rattle.tds_packet.proofs.{Words.{sym, rules, arith, device, ReadsPacket}, Joins.{fill_err, header_err, body_err, body_ok}, Passing.passed_on}
 use Rattle.tds_packet.proofs.packet.read_packet.Goals as goal
+use Rattle.tds_packet.proofs.{Words.{sym, rules, arith, device, ReadsPacket}, Joins.{fill_err, header_err, body_err, body_ok}, Passing.passed_on}
 
 pub returns-in_err-fill-clause-read : goal.returns-in_err-fill-clause-read
 returns-in_err-fill-clause-read g c =

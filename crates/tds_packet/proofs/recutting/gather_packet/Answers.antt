@@ -1,8 +1,9 @@
-use Rattle.tds_packet.proofs.Words.{◌≡◌, ◌∙◌, ◌+◌, ◌-◌, ◌++◌, false, true, length, take, min, rules, arith, length-take-le, common_steps, buffered}
-use Rattle.tds_packet.proofs.Words.{Gathers}
-use Rattle.tds_packet.proofs.Passing.{passed_on}
-use Rattle.tds_packet.proofs.Recuts.{gathered_err, gathered_more, gathered_ok}
 use Rattle.tds_packet.proofs.recutting.gather_packet.Goals as goal
+use Rattle.tds_packet.proofs.{
+  Words.{◌≡◌, ◌∙◌, ◌+◌, ◌-◌, ◌++◌, false, true, length, take, min, rules, arith, length-take-le, common_steps, buffered, Gathers},
+  Passing.passed_on,
+  Recuts.{gathered_err, gathered_more, gathered_ok},
+}
 
 pub returns-in_err-at_end-clause-body : goal.returns-in_err-at_end-clause-body
 returns-in_err-at_end-clause-body g c =

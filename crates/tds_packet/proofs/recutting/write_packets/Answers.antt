@@ -1,8 +1,9 @@
-use Rattle.tds_packet.proofs.Words.{cut_packet, ◌+◌, packet_bytes, common_steps, ◌≡◌, ◌∙◌, inr, inl, ◌-◌, true, false, drop, length, sym, ap, rules}
-use Rattle.tds_packet.proofs.Words.{arith, length-drop, seen, Cuts}
-use Rattle.tds_packet.proofs.Passing.{passed_on}
-use Rattle.tds_packet.proofs.Recuts.{cut_broken, cut_finished, cut_more, cut_none, cut_stopped}
 use Rattle.tds_packet.proofs.recutting.write_packets.Goals as goal
+use Rattle.tds_packet.proofs.{
+  Words.{cut_packet, ◌+◌, packet_bytes, common_steps, ◌≡◌, ◌∙◌, inr, inl, ◌-◌, true, false, drop, length, sym, ap, rules, arith, length-drop, seen, Cuts},
+  Passing.passed_on,
+  Recuts.{cut_broken, cut_finished, cut_more, cut_none, cut_stopped},
+}
 
 pub loop-to-init : goal.loop-to-init
 loop-to-init g c = grind (arith, common_steps, cut_none)

@@ -1,5 +1,5 @@
-use Rattle.{std.proofs.Common.{◌+◌, refl, rules}, tds_packet.proofs.Futures.{advance_ok, advance_err}}
 use Rattle.tds_packet.proofs.payload.Payload.advance.Goals as goal
+use Rattle.{std.proofs.Common.{◌+◌, refl, rules}, tds_packet.proofs.Futures.{advance_ok, advance_err}}
 
 pub returns-in-Ok-clause-gives : goal.returns-in-Ok-clause-gives
 returns-in-Ok-clause-gives g c =

@@ -1,6 +1,8 @@
-use Rattle.tds_packet.proofs.Words.{◌≡◌, ◌+◌, ◌-◌, ◌≤◌, length, take, subst, arith, rules, length-take-le, sym, take-put_mid, Takes, seen}
-use Rattle.tds_packet.proofs.PayloadLaws.{at_ok, at_err, between_of, ends_there, takes_piece}
 use Rattle.tds_packet.proofs.payload.Payload.fill.Goals as goal
+use Rattle.tds_packet.proofs.{
+  Words.{◌≡◌, ◌+◌, ◌-◌, ◌≤◌, length, take, subst, arith, rules, length-take-le, sym, take-put_mid, Takes, seen},
+  PayloadLaws.{at_ok, at_err, between_of, ends_there, takes_piece},
+}
 
 pub loop-at-preserved : goal.loop-at-preserved
 loop-at-preserved g c =

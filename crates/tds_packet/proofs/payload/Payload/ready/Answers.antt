@@ -1,8 +1,10 @@
-use Rattle.tds_packet.proofs.Words.{◌≡◌, ◌∙◌, [], length, drop, ap, rules, arith, le_refl, drop_of_length-le, seen}
-use Rattle.tds_packet.proofs.Futures.{stopped_ends, ended_ends, Takes-trans}
-use Rattle.tds_packet.proofs.PayloadLaws.{ends_there}
-use Rattle.tds_packet.proofs.Passing.{passed}
 use Rattle.tds_packet.proofs.payload.Payload.ready.Goals as goal
+use Rattle.tds_packet.proofs.{
+  Words.{◌≡◌, ◌∙◌, [], length, drop, ap, rules, arith, le_refl, drop_of_length-le, seen},
+  Futures.{stopped_ends, ended_ends, Takes-trans},
+  PayloadLaws.ends_there,
+  Passing.passed,
+}
 
 pub returns-in-Some-clause-gives : goal.returns-in-Some-clause-gives
 returns-in-Some-clause-gives g c = stopped_ends g.R.Read.remaining c.args.self.now _ c.in-Some.is
