@@ -1,5 +1,5 @@
-use Rattle.std.proofs.Common.{rules}
 use Rattle.tds_arguments.proofs.parsing.Given.recut_job.Goals as goal
+use Rattle.std.proofs.Common.{rules}
 
 pub returns-clause-range : goal.returns-clause-range
 returns-clause-range c = search rules
