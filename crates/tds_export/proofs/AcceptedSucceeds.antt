@@ -1,13 +1,13 @@
 -- What an export answers of an accepted response: it succeeds, but for a device that fails.
-use Rattle.tds_export.proofs.Words.{AfterLast, AreBefore, BeforeBody, BeforeHeader, Err, Fault, IsRefused, List, Longest, Message, Ok, Outcome}
-use Rattle.tds_export.proofs.Words.{Packet, Packets, Part, Payload, Place, Reading, Report, Response, Result, Run, Some, Spelt-induct, Stopped, Stops}
-use Rattle.tds_export.proofs.Words.{SucceedsIfAccepted, Text, Token, Told, Wire, WireFault, WirePart, WirePlace, [], after_last, after_tokens, ap}
-use Rattle.tds_export.proofs.Words.{append-nil, append_assoc, arith, before_are_read, before_packet, choose, drop, feed-Spelt, feed_all}
-use Rattle.tds_export.proofs.Words.{feed_all-append, flat_map-append, grammar, header_length, inl, inr, length, longest_cut, more, no_wire}
-use Rattle.tds_export.proofs.Words.{one_longest, one_message, payload_of, read, read_longest, read_to_end, refl, response_start, subst, sym, take}
-use Rattle.tds_export.proofs.Words.{take-append-drop, told, wire, wire_add, wire_end, wire_of, wire_size, with_packet, ℕ, ◌++◌, ◌+◌, ◌==◌, ◌∙◌, ◌∷◌}
-use Rattle.tds_export.proofs.Words.{◌≡◌, ◌≤◌, limits, IsAccepted, FailsToRead, FailsToWrite}
-use Rattle.tds_export.proofs.ResponseLaws.{one_accepted, refused_response, response_is_read}
+use Rattle.tds_export.proofs.{
+  Words.{AfterLast, AreBefore, BeforeBody, BeforeHeader, Err, Fault, IsRefused, List, Longest, Message, Ok, Outcome, Packet, Packets, Part, Payload, Place},
+  Words.{Reading, Report, Response, Result, Run, Some, Spelt-induct, Stopped, Stops, SucceedsIfAccepted, Text, Token, Told, Wire, WireFault, WirePart},
+  Words.{WirePlace, [], after_last, after_tokens, ap, append-nil, append_assoc, arith, before_are_read, before_packet, choose, drop, feed-Spelt, feed_all},
+  Words.{feed_all-append, flat_map-append, grammar, header_length, inl, inr, length, longest_cut, more, no_wire, one_longest, one_message, payload_of, read},
+  Words.{read_longest, read_to_end, refl, response_start, subst, sym, take, take-append-drop, told, wire, wire_add, wire_end, wire_of, wire_size, with_packet},
+  Words.{ℕ, ◌++◌, ◌+◌, ◌==◌, ◌∙◌, ◌∷◌, ◌≡◌, ◌≤◌, limits, IsAccepted, FailsToRead, FailsToWrite},
+  ResponseLaws.{one_accepted, refused_response, response_is_read},
+}
 
 -- ---- packets at the front of a message
 

@@ -1,13 +1,14 @@
 -- Tokens with a Length and a body, as they are read.
-use Rattle.tds_export.proofs.Words.{BadNotice, Bodied, Charset, Ends, EndsInto, IsBetween, List, Part, Payload, Progress, Reads, ReadsNotice, Seen}
-use Rattle.tds_export.proofs.Words.{Some, Space, Stop, StopsInNotice, StopsReading, Takes, TakesInto, Token, TokenBody, TokenLength, View, arith}
-use Rattle.tds_export.proofs.Words.{began_at, between, bodied, choose_false, cut_into, false, holds_notice, in_length, inl, inr, is_notice, length}
-use Rattle.tds_export.proofs.Words.{length-append, little, little_number, ne_eqb, part_fault, reads_one, refl, refused_at_once, refused_into}
-use Rattle.tds_export.proofs.Words.{response, stops_after, sym, take, takes_both, test_lt, true, with_token, ℕ, ◌++◌, ◌+◌, ◌<◌, ◌∙◌, ◌≡◌, ◌≤◌}
-use Rattle.tds_export.proofs.Cuts.{fill_cut, part_cut}
-use Rattle.tds_export.proofs.TokenSteps.{Begun, bare_reads, quietly, stops_quietly, ReadsQuiet, StopsQuiet}
-use Rattle.tds_export.proofs.TokenLaws.{bare_body, tracks_body}
-use Rattle.tds_export.proofs.ResponseLaws.{body_free, body_is_read, length_free}
+use Rattle.tds_export.proofs.{
+  Words.{BadNotice, Bodied, Charset, Ends, EndsInto, IsBetween, List, Part, Payload, Progress, Reads, ReadsNotice, Seen, Some, Space, Stop, StopsInNotice},
+  Words.{StopsReading, Takes, TakesInto, Token, TokenBody, TokenLength, View, arith, began_at, between, bodied, choose_false, cut_into, false, holds_notice},
+  Words.{in_length, inl, inr, is_notice, length, length-append, little, little_number, ne_eqb, part_fault, reads_one, refl, refused_at_once, refused_into},
+  Words.{response, stops_after, sym, take, takes_both, test_lt, true, with_token, ℕ, ◌++◌, ◌+◌, ◌<◌, ◌∙◌, ◌≡◌, ◌≤◌},
+  Cuts.{fill_cut, part_cut},
+  TokenSteps.{Begun, bare_reads, quietly, stops_quietly, ReadsQuiet, StopsQuiet},
+  TokenLaws.{bare_body, tracks_body},
+  ResponseLaws.{body_free, body_is_read, length_free},
+}
 
 -- before the body of a token
 abbrev pub in_body : Bodied → List Token → ℕ → Part

@@ -1,18 +1,17 @@
 -- What completes a cell and a row is read as their rest.
-use Rattle.tds_export.proofs.Words.{AreBytes, Binary, BitN, Bitmap, Bool, Cell, CellPart, ChunkData, ChunkLength, Column, Conversion, DataCell, Date}
-use Rattle.tds_export.proofs.Words.{DateTime2, DateTimeN, DateTimeOffset, Decimal, Guid, InCell, Inside-Spelt, IntN, IsNext, Kind, List, MoneyN}
-use Rattle.tds_export.proofs.Words.{Narrow, None, Null, Ok, Option, Result, RowPart, ScalarBytes, ScalarCell, ScalarLength, ScalarValue, Shape}
-use Rattle.tds_export.proofs.Words.{ShortData, ShortLength, Some, Spelt, Spelt-none, Time, Total, Utf8Text, ValueFault, WholeCell, WholeRow, Wide}
-use Rattle.tds_export.proofs.Words.{Windows1252, [], add-one, all_clear, and_parts, ap, append_assoc, arith, before, begins_open, begun, bit}
-use Rattle.tds_export.proofs.Words.{bitmap_length, cell, cell_add, cell_in_row, cell_start, checked, choose, choose_false, div-eq_of_lt, eq-eqb}
-use Rattle.tds_export.proofs.Words.{eq_false, eq_true, false, fixed_some, is_begun, is_decimal_length, is_fit, is_length_allowed, is_scalar, is_total}
-use Rattle.tds_export.proofs.Words.{is_valid, le_true, length, length-append, length-replicate, marked, nat_le, nat_tests, next_cell, one-le-pow}
-use Rattle.tds_export.proofs.Words.{or_cases, read_of, refl, rest_of_cell, rest_of_cells, rest_of_chunks, rest_of_row, row, row_add, shape}
-use Rattle.tds_export.proofs.Words.{slice_index, subst, suc, sym, terminator, test_le, test_lt, time_length, true, unit, unless_none, value_of}
-use Rattle.tds_export.proofs.Words.{value_part, with_cell, within_total, zero, zero_chunks, zeros, ℕ, ⊤, ◌%◌, ◌&&◌, ◌++◌, ◌+◌, ◌<◌, ◌∙◌, ◌∷◌, ◌≡◌}
-use Rattle.tds_export.proofs.Words.{◌≤◌}
-use Rattle.tds_export.proofs.Cuts.{spelt_both, spelt_one}
-use Rattle.tds_export.proofs.SomeBytes.{exactly, little_below, one_of_four, one_of_two}
+use Rattle.tds_export.proofs.{
+  Words.{AreBytes, Binary, BitN, Bitmap, Bool, Cell, CellPart, ChunkData, ChunkLength, Column, Conversion, DataCell, Date, DateTime2, DateTimeN},
+  Words.{DateTimeOffset, Decimal, Guid, InCell, Inside-Spelt, IntN, IsNext, Kind, List, MoneyN, Narrow, None, Null, Ok, Option, Result, RowPart, ScalarBytes},
+  Words.{ScalarCell, ScalarLength, ScalarValue, Shape, ShortData, ShortLength, Some, Spelt, Spelt-none, Time, Total, Utf8Text, ValueFault, WholeCell, WholeRow},
+  Words.{Wide, Windows1252, [], add-one, all_clear, and_parts, ap, append_assoc, arith, before, begins_open, begun, bit, bitmap_length, cell, cell_add},
+  Words.{cell_in_row, cell_start, checked, choose, choose_false, div-eq_of_lt, eq-eqb, eq_false, eq_true, false, fixed_some, is_begun, is_decimal_length},
+  Words.{is_fit, is_length_allowed, is_scalar, is_total, is_valid, le_true, length, length-append, length-replicate, marked, nat_le, nat_tests, next_cell},
+  Words.{one-le-pow, or_cases, read_of, refl, rest_of_cell, rest_of_cells, rest_of_chunks, rest_of_row, row, row_add, shape, slice_index, subst, suc, sym},
+  Words.{terminator, test_le, test_lt, time_length, true, unit, unless_none, value_of, value_part, with_cell, within_total, zero, zero_chunks, zeros, ℕ, ⊤},
+  Words.{◌%◌, ◌&&◌, ◌++◌, ◌+◌, ◌<◌, ◌∙◌, ◌∷◌, ◌≡◌, ◌≤◌},
+  Cuts.{spelt_both, spelt_one},
+  SomeBytes.{exactly, little_below, one_of_four, one_of_two},
+}
 
 -- the conversions that Windows-1252 names: none judges data before its end
 abbrev pub is_plain : Conversion → Bool

@@ -1,16 +1,16 @@
 -- What completes a description is read as its rest.
-use Rattle.tds_export.proofs.Words.{AreBytes, BadTypeInfo, BeforeCount, Column, ColumnHead, ColumnInfo, ColumnPlace, DescriptionPart, InColumn, Int4}
-use Rattle.tds_export.proofs.Words.{IsNext, Kind, List, NameCount, NameUnits, NoDescription, None, Some, SpellsColumn, SpellsColumns, Spelt}
-use Rattle.tds_export.proofs.Words.{Spelt-none, WholeDescription, [], add_described, ap, append_assoc, arith, bare_type, choose, choose_false}
-use Rattle.tds_export.proofs.Words.{choose_true, columns_are_read, description, eq_false, eq_true, fits_in, if◌then◌else◌, int_column, int_columns}
-use Rattle.tds_export.proofs.Words.{is_some, is_some_value, is_valid, known_type, least_info, length, length-append, length-replicate, more}
-use Rattle.tds_export.proofs.Words.{named_kind, nat_tests, ne_eqb, not_long, not_zero, refl, replicate, rest_length, rest_of_description, room_for}
-use Rattle.tds_export.proofs.Words.{suc, true, valid_of, with_column, with_kind, zero, zeros, ℕ, ◌*◌, ◌++◌, ◌+◌, ◌-◌, ◌<◌, ◌==◌, ◌∙◌, ◌∷◌, ◌≡◌, ◌≤◌}
-use Rattle.tds_export.proofs.Words.{⊤}
-use Rattle.tds_export.proofs.CompletedCells.{AreValid}
-use Rattle.tds_export.proofs.LeastTypes.{least_type}
-use Rattle.tds_export.proofs.ReturnLaws.{some_kind}
-use Rattle.tds_export.proofs.Cuts.{spelt_both, spelt_one}
+use Rattle.tds_export.proofs.{
+  Words.{AreBytes, BadTypeInfo, BeforeCount, Column, ColumnHead, ColumnInfo, ColumnPlace, DescriptionPart, InColumn, Int4, IsNext, Kind, List, NameCount},
+  Words.{NameUnits, NoDescription, None, Some, SpellsColumn, SpellsColumns, Spelt, Spelt-none, WholeDescription, [], add_described, ap, append_assoc, arith},
+  Words.{bare_type, choose, choose_false, choose_true, columns_are_read, description, eq_false, eq_true, fits_in, if◌then◌else◌, int_column, int_columns},
+  Words.{is_some, is_some_value, is_valid, known_type, least_info, length, length-append, length-replicate, more, named_kind, nat_tests, ne_eqb, not_long},
+  Words.{not_zero, refl, replicate, rest_length, rest_of_description, room_for, suc, true, valid_of, with_column, with_kind, zero, zeros, ℕ, ◌*◌, ◌++◌, ◌+◌},
+  Words.{◌-◌, ◌<◌, ◌==◌, ◌∙◌, ◌∷◌, ◌≡◌, ◌≤◌, ⊤},
+  CompletedCells.AreValid,
+  LeastTypes.least_type,
+  ReturnLaws.some_kind,
+  Cuts.{spelt_both, spelt_one},
+}
 
 -- what is known of the place in a column after these bytes, with so many columns to follow: the room is enough for what must still come
 abbrev pub PlaceReached : ℕ → List ℕ → ℕ → ColumnPlace → Type 0

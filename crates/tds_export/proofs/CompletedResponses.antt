@@ -1,24 +1,23 @@
 -- What completes a response is read as its rest, and is bytes.
-use Rattle.tds_export.proofs.Words.{ADone, APassed, AreBytes, Between, Bool, CanBeCompleted, CellPart, Column, Describing, DescriptionPart, Done}
-use Rattle.tds_export.proofs.Words.{Fields, InReturn, InReturnCell, InRow, IsNext, Kind, Lead, List, Metadata, None, Open, Option, Part, PassedOver}
-use Rattle.tds_export.proofs.Words.{ReturnHead, ReturnInfo, ReturnName, ReturnNameCount, ReturnOrdinal, ReturnPart, Returned, Row, RowPart, Some}
-use Rattle.tds_export.proofs.Words.{Spelt, Spelt-none, Token, TokenBody, TokenLength, WholeReturn, WholeRow, Windows1252, [], after_first}
-use Rattle.tds_export.proofs.Words.{after_tokens, arith, begun, bodied, cell_start, choose, common_steps, completion, described_after, done}
-use Rattle.tds_export.proofs.Words.{done_byte, eq_false, false, fields_length, fixed, holds_notice, int_column, int_columns, is_notice, length}
-use Rattle.tds_export.proofs.Words.{length-replicate, nat_tests, part_add, passed, refl, response, response_start, rest_of_cell, rest_of_cells}
-use Rattle.tds_export.proofs.Words.{rest_of_return, rest_of_return_head, rest_of_token, rest_of_value, start_of_row, suc, test_le, test_lt, true}
-use Rattle.tds_export.proofs.Words.{with_described, with_return, with_row, with_token, zero, zero_chunks, zeros, ℕ, ⊤, ◌++◌, ◌<◌, ◌∙◌, ◌∷◌, ◌≡◌, ◌≤◌}
-use Rattle.tds_export.proofs.SomeBytes.{AreBytes-append, AreBytes-replicate, bytes_induct}
-use Rattle.tds_export.proofs.CompletedDescriptions.{DescribedReached, IsOpenDescription, described_ends, described_keeps}
-use Rattle.tds_export.proofs.CompletedReturns.{ReturnReached, return_ends, return_keeps}
-use Rattle.tds_export.proofs.CompletedCells.{RowReached, AreValid, marked_valid, next_reached, row_ends, row_keeps}
-use Rattle.tds_export.proofs.LeastTypes.{least_type}
-use Rattle.tds_export.proofs.ResponseMeaning.{response_is_spelt}
-use Rattle.tds_export.proofs.Cuts.{spelt_both, spelt_one}
-use Rattle.tds_export.proofs.TokenLaws.{bare, bare_body, bare_fixed, is_bare, is_final-snoc}
-use Rattle.tds_export.proofs.ResponseLaws.{body_free, body_is_read, described_after-append, length_free, some_fields, description_agrees, row_agrees}
-use Rattle.tds_export.proofs.ResponseLaws.{return_agrees, part_at}
-use Rattle.tds_export.proofs.ReturnLaws.{spelt_inside}
+use Rattle.tds_export.proofs.{
+  Words.{ADone, APassed, AreBytes, Between, Bool, CanBeCompleted, CellPart, Column, Describing, DescriptionPart, Done, Fields, InReturn, InReturnCell, InRow},
+  Words.{IsNext, Kind, Lead, List, Metadata, None, Open, Option, Part, PassedOver, ReturnHead, ReturnInfo, ReturnName, ReturnNameCount, ReturnOrdinal},
+  Words.{ReturnPart, Returned, Row, RowPart, Some, Spelt, Spelt-none, Token, TokenBody, TokenLength, WholeReturn, WholeRow, Windows1252, [], after_first},
+  Words.{after_tokens, arith, begun, bodied, cell_start, choose, common_steps, completion, described_after, done, done_byte, eq_false, false, fields_length},
+  Words.{fixed, holds_notice, int_column, int_columns, is_notice, length, length-replicate, nat_tests, part_add, passed, refl, response, response_start},
+  Words.{rest_of_cell, rest_of_cells, rest_of_return, rest_of_return_head, rest_of_token, rest_of_value, start_of_row, suc, test_le, test_lt, true},
+  Words.{with_described, with_return, with_row, with_token, zero, zero_chunks, zeros, ℕ, ⊤, ◌++◌, ◌<◌, ◌∙◌, ◌∷◌, ◌≡◌, ◌≤◌},
+  SomeBytes.{AreBytes-append, AreBytes-replicate, bytes_induct},
+  CompletedDescriptions.{DescribedReached, IsOpenDescription, described_ends, described_keeps},
+  CompletedReturns.{ReturnReached, return_ends, return_keeps},
+  CompletedCells.{RowReached, AreValid, marked_valid, next_reached, row_ends, row_keeps},
+  LeastTypes.least_type,
+  ResponseMeaning.response_is_spelt,
+  Cuts.{spelt_both, spelt_one},
+  TokenLaws.{bare, bare_body, bare_fixed, is_bare, is_final-snoc},
+  ResponseLaws.{body_free, body_is_read, described_after-append, length_free, some_fields, description_agrees, row_agrees, return_agrees, part_at},
+  ReturnLaws.spelt_inside,
+}
 
 -- a row, and a return value, that isn't whole
 abbrev pub IsOpenRow : RowPart → Type 0

@@ -1,14 +1,15 @@
 -- What completes a return value is read as its rest.
-use Rattle.tds_export.proofs.Words.{AreBytes, BadTypeInfo, CellPart, Guid, InReturnCell, IsNext, Kind, List, None, Null, Option, ReturnHead}
-use Rattle.tds_export.proofs.Words.{ReturnInfo, ReturnName, ReturnNameCount, ReturnOrdinal, ReturnPart, ReturnValue, ScalarLength, Some, Spelt}
-use Rattle.tds_export.proofs.Words.{Spelt-none, WholeReturn, [], ap, arith, bare_type, begun, choose, eq_false, eq_true, if◌then◌else◌, is_some}
-use Rattle.tds_export.proofs.Words.{is_some_value, is_valid, least_info, length-replicate, more, named_kind, refl, rest_length, rest_of_cell}
-use Rattle.tds_export.proofs.Words.{rest_of_return, rest_of_return_head, rest_of_value, return_add, return_column, return_value, true, valid_of}
-use Rattle.tds_export.proofs.Words.{with_return_kind, with_value, zeros, ℕ, ◌++◌, ◌<◌, ◌∷◌, ◌≡◌, ⊤}
-use Rattle.tds_export.proofs.CompletedCells.{CellReached, cell_ends, cell_keeps, start_reached, IsOpenCell}
-use Rattle.tds_export.proofs.ReturnLaws.{accepted, some_kind, spelt_inside, value_agrees}
-use Rattle.tds_export.proofs.LeastTypes.{least_type}
-use Rattle.tds_export.proofs.Cuts.{spelt_both, spelt_one}
+use Rattle.tds_export.proofs.{
+  Words.{AreBytes, BadTypeInfo, CellPart, Guid, InReturnCell, IsNext, Kind, List, None, Null, Option, ReturnHead, ReturnInfo, ReturnName, ReturnNameCount},
+  Words.{ReturnOrdinal, ReturnPart, ReturnValue, ScalarLength, Some, Spelt, Spelt-none, WholeReturn, [], ap, arith, bare_type, begun, choose, eq_false},
+  Words.{eq_true, if◌then◌else◌, is_some, is_some_value, is_valid, least_info, length-replicate, more, named_kind, refl, rest_length, rest_of_cell},
+  Words.{rest_of_return, rest_of_return_head, rest_of_value, return_add, return_column, return_value, true, valid_of, with_return_kind, with_value, zeros, ℕ},
+  Words.{◌++◌, ◌<◌, ◌∷◌, ◌≡◌, ⊤},
+  CompletedCells.{CellReached, cell_ends, cell_keeps, start_reached, IsOpenCell},
+  ReturnLaws.{accepted, some_kind, spelt_inside, value_agrees},
+  LeastTypes.least_type,
+  Cuts.{spelt_both, spelt_one},
+}
 
 -- what is known of a part of a return value that bytes led to
 abbrev pub ReturnReached : ReturnPart → Type 0

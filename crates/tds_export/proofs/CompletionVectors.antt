@@ -1,10 +1,14 @@
 -- Payloads that stop, completed: each beginning of each is accepted.
-use Rattle.tds_export.proofs.Words.{Fault, List, None, Option, Part, Windows1252, [], chars, completion, date_of, digits, encode_utf8, encode_with}
-use Rattle.tds_export.proofs.Words.{fault_of, is_utf8, length, map, named_kind, read, refl, refused_kind, response, response_start, rest_length}
-use Rattle.tds_export.proofs.Words.{rest_of, state_of, take, utf16_chars, utf8_error_len, utf8_valid_len, ℕ, ◌++◌, ◌-◌, ◌∷◌, ◌≡◌}
-use Rattle.tds_export.proofs.Vectors.{beginnings}
-use Rattle.tds_packet.proofs.Feeding.{Progress}
-use Rattle.tds_values.proofs.HexTexts.{hex}
+use Rattle.{
+  tds_export.proofs.{
+    Words.{Fault, List, None, Option, Part, Windows1252, [], chars, completion, date_of, digits, encode_utf8, encode_with, fault_of, is_utf8, length, map},
+    Words.{named_kind, read, refl, refused_kind, response, response_start, rest_length, rest_of, state_of, take, utf16_chars, utf8_error_len, utf8_valid_len},
+    Words.{ℕ, ◌++◌, ◌-◌, ◌∷◌, ◌≡◌},
+    Vectors.beginnings,
+  },
+  tds_packet.proofs.Feeding.Progress,
+  tds_values.proofs.HexTexts.hex,
+}
 
 abbrev complete : ℕ → List ℕ → Progress Part Fault → Option Fault
 complete room payload p = fault_of (response Windows1252 room)

@@ -1,11 +1,12 @@
 -- ERROR and INFO in their response, and the text of the first error.
-use Rattle.tds_export.proofs.Words.{AnError, AnInfo, Bodied, Charset, Error, IsHolding, IsInBody, List, Option, Part, Progress, ReadsNotice}
-use Rattle.tds_export.proofs.Words.{ReadsTokens, Report, Seen, ServerError, Some, Space, Stop, StopsInNotice, Token, TracksBefore, [], after_tokens}
-use Rattle.tds_export.proofs.Words.{ap, appended, arith, characters, empty, first_error, how_many, in_length, inl, inr, is_error, length}
-use Rattle.tds_export.proofs.Words.{length-append, length-take, notice_of, option_map, refl, response, server_error, sym, text, text_so_far}
-use Rattle.tds_export.proofs.Words.{utf8_valid_len_le, whole_within, ℕ, ◌++◌, ◌+◌, ◌-◌, ◌<◌, ◌∙◌, ◌∷◌, ◌≡◌, ◌≤◌, View, ReadsNext}
-use Rattle.tds_export.proofs.TokenSteps.{Begun, bare_reads, quietly, stops_quietly, ReadsQuiet, StopsQuiet}
-use Rattle.tds_export.proofs.TokenLaws.{first_next, first_stays, no_errors, tracks_error, tracks_info}
+use Rattle.tds_export.proofs.{
+  Words.{AnError, AnInfo, Bodied, Charset, Error, IsHolding, IsInBody, List, Option, Part, Progress, ReadsNotice, ReadsTokens, Report, Seen, ServerError, Some},
+  Words.{Space, Stop, StopsInNotice, Token, TracksBefore, [], after_tokens, ap, appended, arith, characters, empty, first_error, how_many, in_length, inl, inr},
+  Words.{is_error, length, length-append, length-take, notice_of, option_map, refl, response, server_error, sym, text, text_so_far, utf8_valid_len_le},
+  Words.{whole_within, ℕ, ◌++◌, ◌+◌, ◌-◌, ◌<◌, ◌∙◌, ◌∷◌, ◌≡◌, ◌≤◌, View, ReadsNext},
+  TokenSteps.{Begun, bare_reads, quietly, stops_quietly, ReadsQuiet, StopsQuiet},
+  TokenLaws.{first_next, first_stays, no_errors, tracks_error, tracks_info},
+}
 
 -- a text as far as it fits stays within the room
 pub within_room : (s : Space) (text : List ℕ) → s.bytes ≡ [] → s.peak ≤ s.room

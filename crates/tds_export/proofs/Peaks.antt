@@ -1,14 +1,14 @@
 -- How much of a description was held in an export: no more than the span of one at the front of the input.
-use Rattle.tds_export.proofs.Words.{AreBefore, AreBytes, AreMessage, Bounded, Fault, Grammar, Held, IsBetween, List, Longest, Packet, Part}
-use Rattle.tds_export.proofs.Words.{ReadsWhole, Run, Seen, Some, Space, Spelt, Spelt-append, Spelt-induct, Spelt-one, Stop, StopsInWriting}
-use Rattle.tds_export.proofs.Words.{StopsReading, Takes, Told, WirePart, [], after_tokens, ap, append-nil, append_assoc, arith, before_are_read}
-use Rattle.tds_export.proofs.Words.{between, ends_front, feed-Spelt, feed_all, feed_all-append, flat_map-append, grammar, inl, inr, length}
-use Rattle.tds_export.proofs.Words.{length-append, message_is_read, more, no_wire, over_front, payload_of, read_front, response_start, some_longest}
-use Rattle.tds_export.proofs.Words.{span_so_far, sym, take, take-append-add, take-append_seam, takes_begins, told, wire, wire_of, ℕ, ◌++◌, ◌+◌, ◌-◌}
-use Rattle.tds_export.proofs.Words.{◌∙◌, ◌≡◌, ◌≤◌, ◌⊎◌, limits}
-use Rattle.tds_export.proofs.AcceptedSucceeds.{BeginsWith, begins_added}
-use Rattle.tds_export.proofs.ReadingGrows.{span_along}
-use Rattle.tds_export.proofs.PacketOutcomes.{start}
+use Rattle.tds_export.proofs.{
+  Words.{AreBefore, AreBytes, AreMessage, Bounded, Fault, Grammar, Held, IsBetween, List, Longest, Packet, Part, ReadsWhole, Run, Seen, Some, Space, Spelt},
+  Words.{Spelt-append, Spelt-induct, Spelt-one, Stop, StopsInWriting, StopsReading, Takes, Told, WirePart, [], after_tokens, ap, append-nil, append_assoc},
+  Words.{arith, before_are_read, between, ends_front, feed-Spelt, feed_all, feed_all-append, flat_map-append, grammar, inl, inr, length, length-append},
+  Words.{message_is_read, more, no_wire, over_front, payload_of, read_front, response_start, some_longest, span_so_far, sym, take, take-append-add},
+  Words.{take-append_seam, takes_begins, told, wire, wire_of, ℕ, ◌++◌, ◌+◌, ◌-◌, ◌∙◌, ◌≡◌, ◌≤◌, ◌⊎◌, limits},
+  AcceptedSucceeds.{BeginsWith, begins_added},
+  ReadingGrows.span_along,
+  PacketOutcomes.start,
+}
 
 -- a part of a response was read from whole packets at the front of an input
 pub record Reached (run : Run) (at : Part) : Type 0 where

@@ -1,15 +1,15 @@
 -- What is read grows by each element: the text so far, and the greatest span.
-use Rattle.tds_export.proofs.Words.{BeforeCount, Between, Charset, Column, Describing, DescriptionPart, Fields, Grows, InReturn, InRow, IsNext, Lead}
-use Rattle.tds_export.proofs.Words.{List, NoDescription, NoMetadata, None, Open, Option, Part, ReturnPart, Returned, RowPart, Some, Spelt}
-use Rattle.tds_export.proofs.Words.{Spelt-induct, Token, TokenBody, TokenLength, WholeDescription, WholeReturn, [], add_described, after_first}
-use Rattle.tds_export.proofs.Words.{append-nil, arith, bare_type, begun, bodied, choose, described_after, description, eq_true, false, fixed}
-use Rattle.tds_export.proofs.Words.{greatest_span, grows_all, grows_same, grows_trans, grows_under, is_some_value, known_type, length-append, little}
-use Rattle.tds_export.proofs.Words.{max, nbc_row_start, open_span, open_text, part_add, response, return_add, row, row_grows, row_so_far, row_start}
-use Rattle.tds_export.proofs.Words.{span, span_so_far, start_of_row, text, text_after, text_so_far, with_described, with_return, with_row, with_token}
-use Rattle.tds_export.proofs.Words.{ℕ, ◌++◌, ◌==◌, ◌∷◌, ◌≡◌, ◌≤◌, ⊤}
-use Rattle.tds_export.proofs.TokenLaws.{begun_after, greatest_span-append, text_after-snoc}
-use Rattle.tds_export.proofs.ReturnLaws.{some_kind}
-use Rattle.tds_export.proofs.ResponseLaws.{part_at}
+use Rattle.tds_export.proofs.{
+  Words.{BeforeCount, Between, Charset, Column, Describing, DescriptionPart, Fields, Grows, InReturn, InRow, IsNext, Lead, List, NoDescription, NoMetadata},
+  Words.{None, Open, Option, Part, ReturnPart, Returned, RowPart, Some, Spelt, Spelt-induct, Token, TokenBody, TokenLength, WholeDescription, WholeReturn, []},
+  Words.{add_described, after_first, append-nil, arith, bare_type, begun, bodied, choose, described_after, description, eq_true, false, fixed, greatest_span},
+  Words.{grows_all, grows_same, grows_trans, grows_under, is_some_value, known_type, length-append, little, max, nbc_row_start, open_span, open_text, part_add},
+  Words.{response, return_add, row, row_grows, row_so_far, row_start, span, span_so_far, start_of_row, text, text_after, text_so_far, with_described},
+  Words.{with_return, with_row, with_token, ℕ, ◌++◌, ◌==◌, ◌∷◌, ◌≡◌, ◌≤◌, ⊤},
+  TokenLaws.{begun_after, greatest_span-append, text_after-snoc},
+  ReturnLaws.some_kind,
+  ResponseLaws.part_at,
+}
 
 -- what a token byte other than that of a row begins
 abbrev pub IsFresh : Open → Type 0

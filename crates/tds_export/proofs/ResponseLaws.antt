@@ -1,18 +1,18 @@
 -- What a response's spelling is read as.
-use Rattle.tds_export.proofs.Words.{ADone, ADoneInProc, AMetadata, APassed, AReturn, ARow, AStatus, Accepted, AnError, AnInfo, AnNbcRow, BadNotice}
-use Rattle.tds_export.proofs.Words.{Bodied, Bool, Cell, Charset, Column, DescriptionPart, Done, DoneInProc, Error, Fault, Fixed, Info, IsFirst}
-use Rattle.tds_export.proofs.Words.{IsRefused, Lead, List, Longest, Metadata, NoMetadata, None, Notice, Open, Option, Packet, Part, PassedOver}
-use Rattle.tds_export.proofs.Words.{Response, ReturnPart, ReturnStatus, Returned, Row, RowPart, Some, SpellsBody, SpellsMore, SpellsNotice}
-use Rattle.tds_export.proofs.Words.{SpellsRowToken, SpellsToken, SpellsTokens, Spelt, Spelt-append, Spelt-none, Spelt-step, StartsToken, Token}
-use Rattle.tds_export.proofs.Words.{TokenBody, TokenLength, WithBody, WithFields, [], after_lead, ap, append-nil, append_assoc, arith, before, bodied}
-use Rattle.tds_export.proofs.Words.{choose_false, described_after, description, description_is_read, drop, false, fields_length, fixed, holds_notice}
-use Rattle.tds_export.proofs.Words.{if◌then◌else◌, inl, inr, is_notice, is_row_lead, lead, lead_of, length, little, more, nat_tests, nbc_row_is_read}
-use Rattle.tds_export.proofs.Words.{ne_eqb, not, one_message, one_state, part_fault, passed, refl, refused_for_good, response, response_start}
-use Rattle.tds_export.proofs.Words.{return_value, row, row_byte_fault, row_is_read, sym, take, take-add, true, with_described, with_return, with_row}
-use Rattle.tds_export.proofs.Words.{with_token, ℕ, ◌%◌, ◌&&◌, ◌++◌, ◌+◌, ◌/◌, ◌<◌, ◌∙◌, ◌∷◌, ◌≡◌, ◌≤◌, after_tokens, ⊤}
-use Rattle.tds_export.proofs.ReturnLaws.{Agrees, return_is_read, spelt_inside}
-use Rattle.tds_export.proofs.NoticeLaws.{notice_is_read}
-use Rattle.tds_export.proofs.Cuts.{spelt_both, spelt_one}
+use Rattle.tds_export.proofs.{
+  Words.{ADone, ADoneInProc, AMetadata, APassed, AReturn, ARow, AStatus, Accepted, AnError, AnInfo, AnNbcRow, BadNotice, Bodied, Bool, Cell, Charset, Column},
+  Words.{DescriptionPart, Done, DoneInProc, Error, Fault, Fixed, Info, IsFirst, IsRefused, Lead, List, Longest, Metadata, NoMetadata, None, Notice, Open},
+  Words.{Option, Packet, Part, PassedOver, Response, ReturnPart, ReturnStatus, Returned, Row, RowPart, Some, SpellsBody, SpellsMore, SpellsNotice},
+  Words.{SpellsRowToken, SpellsToken, SpellsTokens, Spelt, Spelt-append, Spelt-none, Spelt-step, StartsToken, Token, TokenBody, TokenLength, WithBody},
+  Words.{WithFields, [], after_lead, ap, append-nil, append_assoc, arith, before, bodied, choose_false, described_after, description, description_is_read},
+  Words.{drop, false, fields_length, fixed, holds_notice, if◌then◌else◌, inl, inr, is_notice, is_row_lead, lead, lead_of, length, little, more, nat_tests},
+  Words.{nbc_row_is_read, ne_eqb, not, one_message, one_state, part_fault, passed, refl, refused_for_good, response, response_start, return_value, row},
+  Words.{row_byte_fault, row_is_read, sym, take, take-add, true, with_described, with_return, with_row, with_token, ℕ, ◌%◌, ◌&&◌, ◌++◌, ◌+◌, ◌/◌, ◌<◌, ◌∙◌},
+  Words.{◌∷◌, ◌≡◌, ◌≤◌, after_tokens, ⊤},
+  ReturnLaws.{Agrees, return_is_read, spelt_inside},
+  NoticeLaws.notice_is_read,
+  Cuts.{spelt_both, spelt_one},
+}
 
 pub described_after-append : (before : Option (List Column)) (a b : List Token)
     → described_after before (a ++ b) ≡ described_after (described_after before a) b

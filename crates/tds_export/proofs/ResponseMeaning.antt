@@ -1,19 +1,19 @@
 -- What the bytes that lead to a part of a response spell.
-use Rattle.tds_export.proofs.Words.{AMetadata, APassed, AReturn, ARow, AnNbcRow, AreBytes, BadNotice, Between, Bodied, Bool, Cell, Charset, Column}
-use Rattle.tds_export.proofs.Words.{DescribedMeans, Describing, DescriptionPart, Fields, InReturn, InRow, IsFirst, IsNext, Lead, List, NoDescription}
-use Rattle.tds_export.proofs.Words.{None, Open, Option, Part, Response, ReturnPart, RowMeans, RowPart, Some, SpellsBody, SpellsNotice, SpellsRowToken}
-use Rattle.tds_export.proofs.Words.{SpellsToken, SpellsTokens, Spelt, Token, TokenBody, TokenLength, WholeDescription, WholeReturn, WholeRow}
-use Rattle.tds_export.proofs.Words.{WithBody, WithFields, [], add-one, after_first, after_lead, ap, append-nil, append_assoc, arith, bodied, choose}
-use Rattle.tds_export.proofs.Words.{described_after, described_step, drop, drop-cons, drop-drop, eq_true, false, fixed, holds_notice, if◌then◌else◌}
-use Rattle.tds_export.proofs.Words.{inl, inr, is_final, is_notice, is_row_lead, lead, lead_fault, lead_of, length, length-drop, length-take-le}
-use Rattle.tds_export.proofs.Words.{line_at, little, message, nat_lt, not, notice_of, one_byte, part_add, passed, procedure_at, refl, response}
-use Rattle.tds_export.proofs.Words.{response_start, row_byte_fault, row_start, row_start_means, row_step, server_at, slice_index, start_of_row, sym}
-use Rattle.tds_export.proofs.Words.{take, take-append-drop, true, two_bytes, with_described, with_return, with_row, with_token, ℕ, ◌%◌, ◌&&◌, ◌*◌}
-use Rattle.tds_export.proofs.Words.{◌++◌, ◌+◌, ◌/◌, ◌<◌, ◌∙◌, ◌∷◌, ◌≡◌, ◌≤◌, after_tokens}
-use Rattle.tds_export.proofs.ReturnLaws.{ReturnMeans, return_step}
-use Rattle.tds_export.proofs.ResponseLaws.{described_after-append, fixed_spelt, part_at, IsFree}
-use Rattle.tds_export.proofs.NoticeLaws.{parts_within}
-use Rattle.tds_export.proofs.SomeBytes.{bytes_induct}
+use Rattle.tds_export.proofs.{
+  Words.{AMetadata, APassed, AReturn, ARow, AnNbcRow, AreBytes, BadNotice, Between, Bodied, Bool, Cell, Charset, Column, DescribedMeans, Describing},
+  Words.{DescriptionPart, Fields, InReturn, InRow, IsFirst, IsNext, Lead, List, NoDescription, None, Open, Option, Part, Response, ReturnPart, RowMeans},
+  Words.{RowPart, Some, SpellsBody, SpellsNotice, SpellsRowToken, SpellsToken, SpellsTokens, Spelt, Token, TokenBody, TokenLength, WholeDescription},
+  Words.{WholeReturn, WholeRow, WithBody, WithFields, [], add-one, after_first, after_lead, ap, append-nil, append_assoc, arith, bodied, choose},
+  Words.{described_after, described_step, drop, drop-cons, drop-drop, eq_true, false, fixed, holds_notice, if◌then◌else◌, inl, inr, is_final, is_notice},
+  Words.{is_row_lead, lead, lead_fault, lead_of, length, length-drop, length-take-le, line_at, little, message, nat_lt, not, notice_of, one_byte, part_add},
+  Words.{passed, procedure_at, refl, response, response_start, row_byte_fault, row_start, row_start_means, row_step, server_at, slice_index, start_of_row, sym},
+  Words.{take, take-append-drop, true, two_bytes, with_described, with_return, with_row, with_token, ℕ, ◌%◌, ◌&&◌, ◌*◌, ◌++◌, ◌+◌, ◌/◌, ◌<◌, ◌∙◌, ◌∷◌, ◌≡◌},
+  Words.{◌≤◌, after_tokens},
+  ReturnLaws.{ReturnMeans, return_step},
+  ResponseLaws.{described_after-append, fixed_spelt, part_at, IsFree},
+  NoticeLaws.parts_within,
+  SomeBytes.bytes_induct,
+}
 
 -- so many of the bytes after the first n, and those after them
 piece : (body : List ℕ) (n k m : ℕ) {r : List ℕ} → n + k ≡ m → drop m body ≡ r → drop n body ≡ take k (drop n body) ++ r

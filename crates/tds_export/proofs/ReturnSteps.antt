@@ -1,17 +1,17 @@
 -- RETURNVALUE as it is read, and in its response.
-use Rattle.tds_export.proofs.Words.{Bool, Charset, Ends, Err, IfOk, IsHolding, Kind, KnownType, List, MatchResult, NoType, None, Ok, Option}
-use Rattle.tds_export.proofs.Words.{PassesCell, Progress, Reads, ReadsReturn, ReadsType, ReadsValue, Result, ReturnHead, ReturnInfo, ReturnName}
-use Rattle.tds_export.proofs.Words.{ReturnNameCount, ReturnOrdinal, ReturnPart, Seen, Space, Stop, StopsPassing, StopsReturn, StopsType, Takes, Token}
-use Rattle.tds_export.proofs.Words.{TypeHead, TypePart, TypeRest, [], after_tokens, arith, before_value, began_at, cell_start, choose_false}
-use Rattle.tds_export.proofs.Words.{if◌then◌else◌, in_return, kind_of, length, length-append, ne_eqb, reads_both, reads_one, refl, rest_length_of}
-use Rattle.tds_export.proofs.Words.{return_add, return_charset, return_fault, return_size, return_value, returned_type, shape, slice_index}
-use Rattle.tds_export.proofs.Words.{stops_after, stops_size, subst, sym, text_so_far, with_known, with_return, with_return_kind, with_return_units}
-use Rattle.tds_export.proofs.Words.{with_value, ℕ, ◌*◌, ◌+◌, ◌-◌, ◌<◌, ◌∷◌, ◌≡◌, View}
-use Rattle.tds_export.proofs.ReturnLaws.{Agrees, info_is_read, return_name_is_read, value_agrees, read_inside, stop_inside}
-use Rattle.tds_export.proofs.TokenSteps.{Begun, bare_reads, quietly, stops_quietly, ReadsQuiet, StopsQuiet}
-use Rattle.tds_export.proofs.Cuts.{part_cut}
-use Rattle.tds_export.proofs.ResponseLaws.{return_agrees}
-use Rattle.tds_export.proofs.TokenLaws.{tracks_returned}
+use Rattle.tds_export.proofs.{
+  Words.{Bool, Charset, Ends, Err, IfOk, IsHolding, Kind, KnownType, List, MatchResult, NoType, None, Ok, Option, PassesCell, Progress, Reads, ReadsReturn},
+  Words.{ReadsType, ReadsValue, Result, ReturnHead, ReturnInfo, ReturnName, ReturnNameCount, ReturnOrdinal, ReturnPart, Seen, Space, Stop, StopsPassing},
+  Words.{StopsReturn, StopsType, Takes, Token, TypeHead, TypePart, TypeRest, [], after_tokens, arith, before_value, began_at, cell_start, choose_false},
+  Words.{if◌then◌else◌, in_return, kind_of, length, length-append, ne_eqb, reads_both, reads_one, refl, rest_length_of, return_add, return_charset},
+  Words.{return_fault, return_size, return_value, returned_type, shape, slice_index, stops_after, stops_size, subst, sym, text_so_far, with_known, with_return},
+  Words.{with_return_kind, with_return_units, with_value, ℕ, ◌*◌, ◌+◌, ◌-◌, ◌<◌, ◌∷◌, ◌≡◌, View},
+  ReturnLaws.{Agrees, info_is_read, return_name_is_read, value_agrees, read_inside, stop_inside},
+  TokenSteps.{Begun, bare_reads, quietly, stops_quietly, ReadsQuiet, StopsQuiet},
+  Cuts.part_cut,
+  ResponseLaws.return_agrees,
+  TokenLaws.tracks_returned,
+}
 
 module _ {s t : ReturnPart} {a b c : Seen} {place middle : ℕ} (x : ReadsReturn s t a b place middle) where
   -- what stops a call stops one that began before it

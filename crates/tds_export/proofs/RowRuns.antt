@@ -1,16 +1,16 @@
 -- Rows of one token after one another, in their response.
-use Rattle.tds_export.proofs.Words.{Bool, Cell, Charset, Column, Held, IsDescribed, IsHolding, IsNext, List, None, Option, Part, Progress, ReadsRows}
-use Rattle.tds_export.proofs.Words.{RefusedToken, Row, RowPart, RowToken, RowsPart, RowsStop, Seen, Some, Space, Spelt, Stop, Streams, Token, Tracks}
-use Rattle.tds_export.proofs.Words.{TracksBefore, WholeRow, [], after_tokens, ap, append-nil, append_assoc, arith, before, columns_of, counted}
-use Rattle.tds_export.proofs.Words.{described_after, encoded_after, if◌then◌else◌, length, length-append, lines, map, map-append, next_inside}
-use Rattle.tds_export.proofs.Words.{next_some, refl, response, row, row_so_far, rows, rows_so_far, rows_start, subst, sym, text, text_so_far}
-use Rattle.tds_export.proofs.Words.{token_byte, token_start, true, with_row, ℕ, ◌++◌, ◌+◌, ◌==◌, ◌∙◌, ◌∷◌, ◌≡◌, View, ReadsNext, StopsIn}
-use Rattle.tds_export.proofs.Words.{Spelt-induct, Spelt-one, Spelt-none}
-use Rattle.tds_export.proofs.TokenSteps.{Begun, holds-snoc, quietly, row_stops, row_text, stops_further}
-use Rattle.tds_export.proofs.ResponseLaws.{described_after-append, row_agrees}
-use Rattle.tds_export.proofs.TokenLaws.{text_after-snoc, tracks_row, with_rows}
-use Rattle.tds_export.proofs.ReturnLaws.{inside}
-use Rattle.tds_export.proofs.Cuts.{spelt_both}
+use Rattle.tds_export.proofs.{
+  Words.{Bool, Cell, Charset, Column, Held, IsDescribed, IsHolding, IsNext, List, None, Option, Part, Progress, ReadsRows, RefusedToken, Row, RowPart},
+  Words.{RowToken, RowsPart, RowsStop, Seen, Some, Space, Spelt, Stop, Streams, Token, Tracks, TracksBefore, WholeRow, [], after_tokens, ap, append-nil},
+  Words.{append_assoc, arith, before, columns_of, counted, described_after, encoded_after, if◌then◌else◌, length, length-append, lines, map, map-append},
+  Words.{next_inside, next_some, refl, response, row, row_so_far, rows, rows_so_far, rows_start, subst, sym, text, text_so_far, token_byte, token_start, true},
+  Words.{with_row, ℕ, ◌++◌, ◌+◌, ◌==◌, ◌∙◌, ◌∷◌, ◌≡◌, View, ReadsNext, StopsIn, Spelt-induct, Spelt-one, Spelt-none},
+  TokenSteps.{Begun, holds-snoc, quietly, row_stops, row_text, stops_further},
+  ResponseLaws.{described_after-append, row_agrees},
+  TokenLaws.{text_after-snoc, tracks_row, with_rows},
+  ReturnLaws.inside,
+  Cuts.spelt_both,
+}
 
 -- a byte that is no other token's
 is_token_byte : (byte x : ℕ) → (if x == byte then None else Some (RefusedToken x)) ≡ None → x ≡ byte

@@ -1,17 +1,17 @@
 -- The text so far is no longer than 64 bytes for each byte read.
-use Rattle.tds_export.proofs.Words.{AreBytes, Bool, Cell, CellPart, Charset, ChunkData, ChunkLength, Column, Describing, DescriptionPart, InCell}
-use Rattle.tds_export.proofs.Words.{InColumn, InRow, IsNext, List, None, Null, Open, Option, Part, Result, ReturnPart, RowPart, ScalarBytes}
-use Rattle.tds_export.proofs.Words.{ScalarLength, ScalarValue, ShortData, ShortLength, Some, Spelt, Token, Total, Utf16Text, ValueFault, WholeCell}
-use Rattle.tds_export.proofs.Words.{WholeDescription, [], add_described, and_parts, ap, append-nil, arith, cell, cell_add, choose, codes, description}
-use Rattle.tds_export.proofs.Words.{end_fit, false, field, field_so_far, fit_begins, header_line, joined, last_fit, length, length-append, line}
-use Rattle.tds_export.proofs.Words.{line_end, little, map, map-append, marked, next_cell, open_field, open_text, part_add, refl, response}
-use Rattle.tds_export.proofs.Words.{response_start, row_so_far, row_start, start_quiet, suc, text, text_so_far, true, unless_none, value_part}
-use Rattle.tds_export.proofs.Words.{with_return, with_row, ℕ, ◌*◌, ◌++◌, ◌+◌, ◌∷◌, ◌≡◌, ◌≤◌, ⊤, name_field, slice_index, ◌==◌}
-use Rattle.tds_export.proofs.ReadingGrows.{IsFresh, lead_cases}
-use Rattle.tds_export.proofs.FieldLengths.{ReadShort, long_length, long_more, open_length, open_more, read_short}
-use Rattle.tds_export.proofs.TokenLaws.{bare, bare_body, bare_fixed, begun_after, text_after-snoc}
-use Rattle.tds_export.proofs.ResponseLaws.{part_at}
-use Rattle.tds_export.proofs.SomeBytes.{bytes_induct}
+use Rattle.tds_export.proofs.{
+  Words.{AreBytes, Bool, Cell, CellPart, Charset, ChunkData, ChunkLength, Column, Describing, DescriptionPart, InCell, InColumn, InRow, IsNext, List, None},
+  Words.{Null, Open, Option, Part, Result, ReturnPart, RowPart, ScalarBytes, ScalarLength, ScalarValue, ShortData, ShortLength, Some, Spelt, Token, Total},
+  Words.{Utf16Text, ValueFault, WholeCell, WholeDescription, [], add_described, and_parts, ap, append-nil, arith, cell, cell_add, choose, codes, description},
+  Words.{end_fit, false, field, field_so_far, fit_begins, header_line, joined, last_fit, length, length-append, line, line_end, little, map, map-append},
+  Words.{marked, next_cell, open_field, open_text, part_add, refl, response, response_start, row_so_far, row_start, start_quiet, suc, text, text_so_far, true},
+  Words.{unless_none, value_part, with_return, with_row, ℕ, ◌*◌, ◌++◌, ◌+◌, ◌∷◌, ◌≡◌, ◌≤◌, ⊤, name_field, slice_index, ◌==◌},
+  ReadingGrows.{IsFresh, lead_cases},
+  FieldLengths.{ReadShort, long_length, long_more, open_length, open_more, read_short},
+  TokenLaws.{bare, bare_body, bare_fixed, begun_after, text_after-snoc},
+  ResponseLaws.part_at,
+  SomeBytes.bytes_induct,
+}
 
 -- ---- fields
 

@@ -1,13 +1,13 @@
 -- Tokens by their first bytes.
-use Rattle.tds_export.proofs.Words.{Bool, Charset, Ends, Fault, Held, IsBetween, IsDescription, IsHolding, IsNext, IsOfKind, IsRefusedByte, IsUnder}
-use Rattle.tds_export.proofs.Words.{Lead, List, MessageEnded, Part, Payload, Progress, ReadsTokens, Seen, Some, Space, StepStops, Stop, StopsReading}
-use Rattle.tds_export.proofs.Words.{Streams, Takes, Token, TokenKind, [], after_tokens, ap, arith, begun, between, columns_of, cut_at_once}
-use Rattle.tds_export.proofs.Words.{description_shows, encoded_after, false, in_kind, in_lead, inl, inr, lead_fault, lead_of, length, length-append}
-use Rattle.tds_export.proofs.Words.{reads_one, refl, refused_at_once, response, row_byte_fault, sym, text_so_far, true, ℕ, ◌+◌, ◌-◌, ◌<◌, ◌^◌, ◌∙◌}
-use Rattle.tds_export.proofs.Words.{◌∷◌, ◌≡◌, ◌≤◌}
-use Rattle.tds_export.proofs.RowRuns.{columns_known, Describe}
-use Rattle.tds_export.proofs.ResponseLaws.{no_row}
-use Rattle.tds_export.proofs.TokenSteps.{same_text, start_text, stops_further, stops_quietly, streams_both}
+use Rattle.tds_export.proofs.{
+  Words.{Bool, Charset, Ends, Fault, Held, IsBetween, IsDescription, IsHolding, IsNext, IsOfKind, IsRefusedByte, IsUnder, Lead, List, MessageEnded, Part},
+  Words.{Payload, Progress, ReadsTokens, Seen, Some, Space, StepStops, Stop, StopsReading, Streams, Takes, Token, TokenKind, [], after_tokens, ap, arith},
+  Words.{begun, between, columns_of, cut_at_once, description_shows, encoded_after, false, in_kind, in_lead, inl, inr, lead_fault, lead_of, length},
+  Words.{length-append, reads_one, refl, refused_at_once, response, row_byte_fault, sym, text_so_far, true, ℕ, ◌+◌, ◌-◌, ◌<◌, ◌^◌, ◌∙◌, ◌∷◌, ◌≡◌, ◌≤◌},
+  RowRuns.{columns_known, Describe},
+  ResponseLaws.no_row,
+  TokenSteps.{same_text, start_text, stops_further, stops_quietly, streams_both},
+}
 
 -- a token byte that is accepted
 pub record BeginsToken (charset : Charset) (room : ℕ) (tokens : List Token) (byte : ℕ) (to : Part) : Type 0 where

@@ -1,11 +1,11 @@
 -- What one more token adds to a response.
-use Rattle.tds_export.proofs.Words.{APassed, Bodied, Bool, Cell, Column, Done, DoneInProc, Error, Fixed, Info, List, Metadata, NoMetadata, None}
-use Rattle.tds_export.proofs.Words.{Notice, Option, PassedOver, Progress, ReturnValue, Returned, Row, ServerError, Some, Token, Tracks, TracksBefore}
-use Rattle.tds_export.proofs.Words.{[], add_none, append_assoc, arith, before, begun, bodied, columns_of, described_after, encoded_after, false}
-use Rattle.tds_export.proofs.Words.{first_error, fixed, greatest_span, how_many, is_error, is_final, is_notice, is_set, max, more, nat_lt, option_map}
-use Rattle.tds_export.proofs.Words.{passed, refl, return_status_after, server_error, sym, test_lt, text_after, true, ℕ, ◌++◌, ◌+◌, ◌<◌, ◌∙◌, ◌∷◌, ◌≡◌}
-use Rattle.tds_export.proofs.Words.{Reflects}
-use Rattle.tds_export.proofs.ResponseLaws.{described_after-append}
+use Rattle.tds_export.proofs.{
+  Words.{APassed, Bodied, Bool, Cell, Column, Done, DoneInProc, Error, Fixed, Info, List, Metadata, NoMetadata, None, Notice, Option, PassedOver, Progress},
+  Words.{ReturnValue, Returned, Row, ServerError, Some, Token, Tracks, TracksBefore, [], add_none, append_assoc, arith, before, begun, bodied, columns_of},
+  Words.{described_after, encoded_after, false, first_error, fixed, greatest_span, how_many, is_error, is_final, is_notice, is_set, max, more, nat_lt},
+  Words.{option_map, passed, refl, return_status_after, server_error, sym, test_lt, text_after, true, ℕ, ◌++◌, ◌+◌, ◌<◌, ◌∙◌, ◌∷◌, ◌≡◌, Reflects},
+  ResponseLaws.described_after-append,
+}
 
 -- whether a set has begun after these tokens
 abbrev pub begun_after : Bool → List Token → Bool

@@ -1,20 +1,19 @@
 -- The tokens, as they are read and their text is put.
-use Rattle.tds_export.proofs.Words.{BeforeCount, Bool, Breaks, Charset, Column, Describes, DescriptionPart, Exporter, Fault, Fixed, Grammar, Held}
-use Rattle.tds_export.proofs.Words.{IsBetween, IsHolding, IsNext, IsNoted, IsRunning, LeavesRun, List, MatchResult, Metadata, NoDescription}
-use Rattle.tds_export.proofs.Words.{NoMetadata, Open, Option, Part, Progress, Puts, Puts-none, PutsText, Reads, ReadsNext, ReadsTokens, Report}
-use Rattle.tds_export.proofs.Words.{Result, RowPart, RowStops, Seen, Space, Spelt, Spelt-append, Spelt-none, StepRead, StepStops, Stop}
-use Rattle.tds_export.proofs.Words.{StopsDescribing, StopsIn, StopsInWriting, StopsReading, Streams, Takes, Token, Tracks, TracksBefore, View}
-use Rattle.tds_export.proofs.Words.{WholeDescription, WholeRow, [], after_tokens, ap, append-nil, arith, between, breaks_after, breaks_inside}
-use Rattle.tds_export.proofs.Words.{columns_of, described_size, description, description_bytes, description_of, encoded_after, false, fields_length}
-use Rattle.tds_export.proofs.Words.{fixed, greatest_span, header_line, in_done, in_done_in_proc, in_fields, in_metadata, in_row, inl, inr}
-use Rattle.tds_export.proofs.Words.{last_inside, length, max, nat_lt, nat_tests, next_some, one_state, open_span, puts_both, puts_inside, reads_one}
-use Rattle.tds_export.proofs.Words.{refl, response, row, row_so_far, slice_index, span, start_quiet, stops_after, stops_size, subst, sym, takes_both}
-use Rattle.tds_export.proofs.Words.{text, text_so_far, true, view_of, with_described, with_row, with_token, ℕ, ◌%◌, ◌++◌, ◌+◌, ◌-◌, ◌<◌, ◌==◌, ◌^◌}
-use Rattle.tds_export.proofs.Words.{◌∙◌, ◌∷◌, ◌≡◌, ◌≤◌}
-use Rattle.tds_export.proofs.TokenLaws.{bare, bare_fixed, begun_after, begun_where_sets, encoded_after-append, greatest_span-append, is_bare}
-use Rattle.tds_export.proofs.TokenLaws.{same_first, text_after-snoc, tracks_metadata, tracks_none, tracks_quiet}
-use Rattle.tds_export.proofs.ResponseLaws.{description_agrees, row_agrees, some_fields, part_at}
-use Rattle.tds_export.proofs.ReturnLaws.{inside, read_inside, stop_inside}
+use Rattle.tds_export.proofs.{
+  Words.{BeforeCount, Bool, Breaks, Charset, Column, Describes, DescriptionPart, Exporter, Fault, Fixed, Grammar, Held, IsBetween, IsHolding, IsNext, IsNoted},
+  Words.{IsRunning, LeavesRun, List, MatchResult, Metadata, NoDescription, NoMetadata, Open, Option, Part, Progress, Puts, Puts-none, PutsText, Reads},
+  Words.{ReadsNext, ReadsTokens, Report, Result, RowPart, RowStops, Seen, Space, Spelt, Spelt-append, Spelt-none, StepRead, StepStops, Stop, StopsDescribing},
+  Words.{StopsIn, StopsInWriting, StopsReading, Streams, Takes, Token, Tracks, TracksBefore, View, WholeDescription, WholeRow, [], after_tokens, ap},
+  Words.{append-nil, arith, between, breaks_after, breaks_inside, columns_of, described_size, description, description_bytes, description_of, encoded_after},
+  Words.{false, fields_length, fixed, greatest_span, header_line, in_done, in_done_in_proc, in_fields, in_metadata, in_row, inl, inr, last_inside, length, max},
+  Words.{nat_lt, nat_tests, next_some, one_state, open_span, puts_both, puts_inside, reads_one, refl, response, row, row_so_far, slice_index, span},
+  Words.{start_quiet, stops_after, stops_size, subst, sym, takes_both, text, text_so_far, true, view_of, with_described, with_row, with_token, ℕ, ◌%◌, ◌++◌},
+  Words.{◌+◌, ◌-◌, ◌<◌, ◌==◌, ◌^◌, ◌∙◌, ◌∷◌, ◌≡◌, ◌≤◌},
+  TokenLaws.{bare, bare_fixed, begun_after, begun_where_sets, encoded_after-append, greatest_span-append, is_bare, same_first, text_after-snoc},
+  TokenLaws.{tracks_metadata, tracks_none, tracks_quiet},
+  ResponseLaws.{description_agrees, row_agrees, some_fields, part_at},
+  ReturnLaws.{inside, read_inside, stop_inside},
+}
 
 -- A token has begun: what the tokens before it left is known, and the sink goes on.
 pub record Begun (tokens : List Token) (progress : Progress) (u : View) : Type 0 where

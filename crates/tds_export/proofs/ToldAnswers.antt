@@ -1,24 +1,23 @@
 -- What an export answers, where its reader and writer tell their bytes.
-use Rattle.tds_export.proofs.Words.{Adds, Adds-trans, AfterStop, Appends, AreBytes, AreBytes-back, AreBytes-front, Bool, Bounded, BreaksStreaming}
-use Rattle.tds_export.proofs.Words.{Charset, Comes, CompletesResponse, Consumes, Err, FailsToWrite, Fault, Given, Grammar, Held, IsHolding, IsReader}
-use Rattle.tds_export.proofs.Words.{IsWriter, List, Longest, Ok, Option, Packet, Packets, Part, Place, Puts, ReadsPart, ReadsWhole, Report, Reported}
-use Rattle.tds_export.proofs.Words.{Reports, Rose, Run, RunStops, Seen, Some, Space, Spelt, Spelt-one, Stop, Stopped, Stops, StopsAtEnd, StopsExport}
-use Rattle.tds_export.proofs.Words.{StopsInReading, StopsInText, StopsInWriting, Tells, Text, Tidied, Token, WriteFailed, [], after_tokens, ap}
-use Rattle.tds_export.proofs.Words.{append-nil, append_assoc, arith, begun_at, counted, drop, error_text, false, flat_map-append, fresh_at, grammar}
-use Rattle.tds_export.proofs.Words.{grammar_of, in_last, inl, inr, length, length-append, length-take-le, limits, longest_cut, more, no_further}
-use Rattle.tds_export.proofs.Words.{over_front, packet_bytes, payload_of, read, refl, response, response_start, rose, run_of, some_longest}
-use Rattle.tds_export.proofs.Words.{stopped_with, subst, sym, take, take-append-add, take-append-drop, take-append-le, take-append_seam, takes_begins}
-use Rattle.tds_export.proofs.Words.{text, text_put, text_so_far, true, waiting, wire_of, ℕ, ◌%◌, ◌*◌, ◌++◌, ◌+◌, ◌-◌, ◌/◌, ◌<◌, ◌∙◌, ◌∷◌, ◌≡◌, ◌≤◌}
-use Rattle.tds_export.proofs.Words.{IsAccepted, Keeps}
-use Rattle.tds_export.proofs.SomeBytes.{AreBytes-append}
-use Rattle.tds_export.proofs.Peaks.{bounded, further, reached_broken, reached_stopped, reached_whole, rest_leads}
-use Rattle.tds_export.proofs.TextBound.{bounded_along}
-use Rattle.tds_export.proofs.DeviceFaults.{no_failure}
-use Rattle.tds_export.proofs.AcceptedSucceeds.{outcome_succeeds}
-use Rattle.tds_export.proofs.ResponseMeaning.{response_is_spelt}
-use Rattle.tds_export.proofs.Cuts.{spelt_both}
-use Rattle.tds_export.proofs.ReadingGrows.{text_along}
-use Rattle.tds_export.proofs.PacketOutcomes.{ReaderSide, kept_at, reading_stops, start}
+use Rattle.tds_export.proofs.{
+  Words.{Adds, Adds-trans, AfterStop, Appends, AreBytes, AreBytes-back, AreBytes-front, Bool, Bounded, BreaksStreaming, Charset, Comes, CompletesResponse},
+  Words.{Consumes, Err, FailsToWrite, Fault, Given, Grammar, Held, IsHolding, IsReader, IsWriter, List, Longest, Ok, Option, Packet, Packets, Part, Place},
+  Words.{Puts, ReadsPart, ReadsWhole, Report, Reported, Reports, Rose, Run, RunStops, Seen, Some, Space, Spelt, Spelt-one, Stop, Stopped, Stops, StopsAtEnd},
+  Words.{StopsExport, StopsInReading, StopsInText, StopsInWriting, Tells, Text, Tidied, Token, WriteFailed, [], after_tokens, ap, append-nil, append_assoc},
+  Words.{arith, begun_at, counted, drop, error_text, false, flat_map-append, fresh_at, grammar, grammar_of, in_last, inl, inr, length, length-append},
+  Words.{length-take-le, limits, longest_cut, more, no_further, over_front, packet_bytes, payload_of, read, refl, response, response_start, rose, run_of},
+  Words.{some_longest, stopped_with, subst, sym, take, take-append-add, take-append-drop, take-append-le, take-append_seam, takes_begins, text, text_put},
+  Words.{text_so_far, true, waiting, wire_of, ℕ, ◌%◌, ◌*◌, ◌++◌, ◌+◌, ◌-◌, ◌/◌, ◌<◌, ◌∙◌, ◌∷◌, ◌≡◌, ◌≤◌, IsAccepted, Keeps},
+  SomeBytes.AreBytes-append,
+  Peaks.{bounded, further, reached_broken, reached_stopped, reached_whole, rest_leads},
+  TextBound.bounded_along,
+  DeviceFaults.no_failure,
+  AcceptedSucceeds.outcome_succeeds,
+  ResponseMeaning.response_is_spelt,
+  Cuts.spelt_both,
+  ReadingGrows.text_along,
+  PacketOutcomes.{ReaderSide, kept_at, reading_stops, start},
+}
 use native.Mathlib.Decide.{dec_le}
 
 -- ---- the text

@@ -1,13 +1,14 @@
 -- Worked payloads.
-use Rattle.tds_export.proofs.Words.{BadNotice, BadText, BadTypeInfo, BadValue, BadValueLength, Charset, DescriptionTooLong, EndWithoutDone, Fault}
-use Rattle.tds_export.proofs.Words.{Flt8, FltN, List, MessageEnded, NoColumns, None, OddText, Option, Part, PlpLength, RefusedColumn, RefusedToken}
-use Rattle.tds_export.proofs.Words.{RowWithoutColumns, Some, UnknownType, Utf8, Windows1252, [], chars, date_of, digits, encode_utf8, encode_with}
-use Rattle.tds_export.proofs.Words.{fault_of, how_many, is_return, is_utf8, length, map, named_kind, read, refl, refused_kind, replicate, response}
-use Rattle.tds_export.proofs.Words.{response_start, rest_length, rest_of, rows, state_of, text_so_far, utf16_chars, utf8_error_len, utf8_valid_len}
-use Rattle.tds_export.proofs.Words.{uuid_on_literals, ℕ, ◌++◌, ◌-◌, ◌∷◌, ◌≡◌}
-use Rattle.tds_packet.proofs.Feeding.{Progress}
-use Rattle.std.specs.Prelude.{codes}
-use Rattle.tds_values.proofs.HexTexts.{hex}
+use Rattle.{
+  tds_export.proofs.Words.{BadNotice, BadText, BadTypeInfo, BadValue, BadValueLength, Charset, DescriptionTooLong, EndWithoutDone, Fault, Flt8, FltN, List},
+  tds_export.proofs.Words.{MessageEnded, NoColumns, None, OddText, Option, Part, PlpLength, RefusedColumn, RefusedToken, RowWithoutColumns, Some, UnknownType},
+  tds_export.proofs.Words.{Utf8, Windows1252, [], chars, date_of, digits, encode_utf8, encode_with, fault_of, how_many, is_return, is_utf8, length, map},
+  tds_export.proofs.Words.{named_kind, read, refl, refused_kind, replicate, response, response_start, rest_length, rest_of, rows, state_of, text_so_far},
+  tds_export.proofs.Words.{utf16_chars, utf8_error_len, utf8_valid_len, uuid_on_literals, ℕ, ◌++◌, ◌-◌, ◌∷◌, ◌≡◌},
+  tds_packet.proofs.Feeding.Progress,
+  std.specs.Prelude.codes,
+  tds_values.proofs.HexTexts.hex,
+}
 
 -- how far a payload is read, its text so far, and its fault where the message ends there
 abbrev pub Answer : Type 0

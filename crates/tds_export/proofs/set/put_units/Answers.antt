@@ -1,5 +1,5 @@
-use Rattle.tds_export.proofs.{Words.{held, rules}, NameTexts.{end_breaks, end_puts, end_stopped, push_breaks, push_stopped}}
 use Rattle.tds_export.proofs.set.put_units.Goals as goal
+use Rattle.tds_export.proofs.{Words.{held, rules}, NameTexts.{end_breaks, end_puts, end_stopped, push_breaks, push_stopped}}
 
 pub stop_in-requires : goal.stop_in-requires
 stop_in-requires g c =

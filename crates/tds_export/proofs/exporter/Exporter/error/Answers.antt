@@ -1,8 +1,10 @@
-use Rattle.tds_export.proofs.Words.{AnError, Space, ap, appended, arith, characters, length, nat_tests, notice_of, passed, refl, rules, server_error}
-use Rattle.tds_export.proofs.Words.{subst, sym, whole_within, ◌-◌, ◌<◌, ◌∙◌, ◌≡◌, ◌≤◌}
-use Rattle.tds_export.proofs.NoticeSteps.{first_error_reads, later_error_reads, notice_stops, within_room}
-use Rattle.tds_export.proofs.TokenSteps.{step_read}
 use Rattle.tds_export.proofs.exporter.Exporter.error.Goals as goal
+use Rattle.tds_export.proofs.{
+  Words.{AnError, Space, ap, appended, arith, characters, length, nat_tests, notice_of, passed, refl, rules, server_error, subst, sym, whole_within, ◌-◌, ◌<◌},
+  Words.{◌∙◌, ◌≡◌, ◌≤◌},
+  NoticeSteps.{first_error_reads, later_error_reads, notice_stops, within_room},
+  TokenSteps.step_read,
+}
 
 pub returns-in_err-take_notice : goal.returns-in_err-take_notice
 returns-in_err-take_notice g c = step_read c.requires.running (search rules)

@@ -1,11 +1,12 @@
-use Rattle.tds_export.proofs.Words.{AStatus, List, Progress, ReturnStatus, Some, Token, Tracks, TracksBefore, [], ap, arith, cast_signed}
-use Rattle.tds_export.proofs.Words.{cast_unsigned, length, little, little_number, passed, refl, rules, signed, sym, w32, ℕ, ℤ, ◌++◌, ◌+◌, ◌∙◌, ◌∷◌}
-use Rattle.tds_export.proofs.Words.{◌≡◌}
-use Rattle.tds_export.proofs.Cuts.{fill_cut}
-use Rattle.tds_export.proofs.TokenSteps.{fixed_reads, stops_first, step_read}
-use Rattle.tds_export.proofs.NoticeLaws.{signed_is}
-use Rattle.tds_export.proofs.TokenLaws.{tracked}
 use Rattle.tds_export.proofs.exporter.Exporter.return_status.Goals as goal
+use Rattle.tds_export.proofs.{
+  Words.{AStatus, List, Progress, ReturnStatus, Some, Token, Tracks, TracksBefore, [], ap, arith, cast_signed, cast_unsigned, length, little, little_number},
+  Words.{passed, refl, rules, signed, sym, w32, ℕ, ℤ, ◌++◌, ◌+◌, ◌∙◌, ◌∷◌, ◌≡◌},
+  Cuts.fill_cut,
+  TokenSteps.{fixed_reads, stops_first, step_read},
+  NoticeLaws.signed_is,
+  TokenLaws.tracked,
+}
 
 tracks_status : (s : Progress) (ts : List Token) (n : ℕ) (status : ℤ) → status ≡ signed n → TracksBefore s ts
     → Tracks (record s { report = record s.report { return_status = Some status } }) (ts ++ ReturnStatus n ∷ [])
