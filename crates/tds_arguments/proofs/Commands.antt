@@ -3,10 +3,8 @@ use Rattle.std.proofs.{Common.{◌≡◌, ◌∙◌, ◌||◌, Bool, IfOk, Resul
 use Rattle.clap.specs.{
   Simple.{Shape, app_of_fields, on_top},
   Words.{AddsArg, AddsSubcommand, App, NarrowsTo, Rule, rule_of, with_rule, with_subcommand},
-  declared.builder.{
-    arg.Arg.Arg,
-    command.Command.{Command, TheViews.out-Command, TheOpen.Command-F},
-    value_parser.ValueParser.{ValueParser, TheVariants.Signed},
+  declared.{
+    builder.{arg.Arg.Arg, command.Command.{Command, TheViews.out-Command, TheOpen.Command-F}, value_parser.ValueParser.{ValueParser, TheVariants.Signed}},
   },
 }
 use Rattle.tds_arguments.specs.CommandLine.{GainsArgument, IsArgument, IsCommand, packet_sizes}

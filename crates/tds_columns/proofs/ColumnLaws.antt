@@ -1,9 +1,10 @@
 -- What a description's spelling is read as.
-use Rattle.tds_columns.proofs.Words.{too_long, add-zero, if◌then◌else◌, ◌≡◌, ℕ, ◌+◌, ◌-◌, ◌*◌, ◌/◌, ◌%◌, ◌<◌, ◌≤◌, List, [], ◌∷◌, ◌++◌, length, refl, ap}
-use Rattle.tds_columns.proofs.Words.{append_assoc, append-nil, arith, length-append, Some, None, ◌==◌, nat_tests, ne_eqb, get_or-append_seam, Kind, little}
-use Rattle.tds_columns.proofs.Words.{IsTypeInfo, rest_length, kind_of, rest_length_of, Spelt, Spelt-step, Spelt-append, Spelt-none, Column, SpellsColumn}
-use Rattle.tds_columns.proofs.Words.{SpellsColumns, SpellsDescription, ColumnHead, NameCount, DescriptionPart, BeforeCount, InColumn, WholeDescription}
-use Rattle.tds_columns.proofs.Words.{with_column, with_count, with_type, with_units, count_fault, description, choose_false, choose_true}
+use Rattle.tds_columns.proofs.{
+  Words.{too_long, add-zero, if◌then◌else◌, ◌≡◌, ℕ, ◌+◌, ◌-◌, ◌*◌, ◌/◌, ◌%◌, ◌<◌, ◌≤◌, List, [], ◌∷◌, ◌++◌, length, refl, ap, append_assoc, append-nil, arith},
+  Words.{length-append, Some, None, ◌==◌, nat_tests, ne_eqb, get_or-append_seam, Kind, little, IsTypeInfo, rest_length, kind_of, rest_length_of, Spelt},
+  Words.{Spelt-step, Spelt-append, Spelt-none, Column, SpellsColumn, SpellsColumns, SpellsDescription, ColumnHead, NameCount, DescriptionPart, BeforeCount},
+  Words.{InColumn, WholeDescription, with_column, with_count, with_type, with_units, count_fault, description, choose_false, choose_true},
+}
 
 pub fits_in : (room so_far least : ℕ) → so_far + least ≤ room → too_long room so_far least ≡ None
 fits_in room so_far least h = grind (arith, nat_tests)

@@ -1,6 +1,8 @@
 -- Elements that are read, and where the next one is cut, under any grammar.
-use Rattle.tds_export.proofs.Words.{Ends, Fault, Grammar, List, MessageEnded, None, Seen, Some, Spelt, Spelt-append, Spelt-step, Stop, StopsReading, arith}
-use Rattle.tds_export.proofs.Words.{began_at, began_is_cut, cut_at_once, length, length-take, take, ℕ, ◌++◌, ◌<◌, ◌≡◌}
+use Rattle.tds_export.proofs.{
+  Words.{Ends, Fault, Grammar, List, MessageEnded, None, Seen, Some, Spelt, Spelt-append, Spelt-step, Stop, StopsReading, arith, began_at, began_is_cut},
+  Words.{cut_at_once, length, length-take, take, ℕ, ◌++◌, ◌<◌, ◌≡◌},
+}
 
 module _ {S : Type 0} {g : Grammar S Fault} {s t : S} where
   -- one element

@@ -1,9 +1,10 @@
 -- Where an export stops with the fault of a device, the device's count of failures rose.
-use Rattle.tds_export.proofs.Words.{Bool, Charset, Coming, Ends, Fault, Given, Held, IsOfWire, IsOver, List, MessageEnded, None, Open, Option, Part, ReadFailed}
-use Rattle.tds_export.proofs.Words.{Report, Reports, Rose, RunStops, Seen, Some, Stop, Stopped, StopsExport, StopsReading, Takes, Token, WriteFailed, [], ap}
-use Rattle.tds_export.proofs.Words.{arith, before, begun, begun_at, fresh_at, front_packet, grammar_of, if◌then◌else◌, inl, inr, length, limits_of, message}
-use Rattle.tds_export.proofs.Words.{message_of_wire, one_more, part_end, part_fault, read, response, response_start, rose, subst, sym, true, whole_message, ℕ}
-use Rattle.tds_export.proofs.Words.{⊤, ◌++◌, ◌<◌, ◌∙◌, ◌∷◌, ◌≡◌, ◌⊎◌, FailsToRead, FailsToWrite}
+use Rattle.tds_export.proofs.{
+  Words.{Bool, Charset, Coming, Ends, Fault, Given, Held, IsOfWire, IsOver, List, MessageEnded, None, Open, Option, Part, ReadFailed, Report, Reports, Rose},
+  Words.{RunStops, Seen, Some, Stop, Stopped, StopsExport, StopsReading, Takes, Token, WriteFailed, [], ap, arith, before, begun, begun_at, fresh_at},
+  Words.{front_packet, grammar_of, if◌then◌else◌, inl, inr, length, limits_of, message, message_of_wire, one_more, part_end, part_fault, read, response},
+  Words.{response_start, rose, subst, sym, true, whole_message, ℕ, ⊤, ◌++◌, ◌<◌, ◌∙◌, ◌∷◌, ◌≡◌, ◌⊎◌, FailsToRead, FailsToWrite},
+}
 
 -- a fault that elements may have, or the end of a message
 abbrev pub IsOfPayload : Fault → Type 0

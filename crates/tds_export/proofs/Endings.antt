@@ -1,8 +1,9 @@
 -- How an export ends, from what its calls did.
-use Rattle.tds_export.proofs.Words.{common_steps, AreEmptied, Areas, Bool, CompletesResponse, FinishFails, Finishes, FinishesSink, Given, Held, IsNoted}
-use Rattle.tds_export.proofs.Words.{IsReader, IsTrue, IsWriter, List, MatchResult, Option, Report, Reports, Result, RunStops, Seen, Sink, Space, Stop, Stopped}
-use Rattle.tds_export.proofs.Words.{StopsExport, Tidied, [], arith, begun, false, fresh_at, held, is_intact, limits_of, nat_tests, response, response_start}
-use Rattle.tds_export.proofs.Words.{rose, stopped_with, true, ℕ, ◌≡◌}
+use Rattle.tds_export.proofs.{
+  Words.{common_steps, AreEmptied, Areas, Bool, CompletesResponse, FinishFails, Finishes, FinishesSink, Given, Held, IsNoted, IsReader, IsTrue, IsWriter, List},
+  Words.{MatchResult, Option, Report, Reports, Result, RunStops, Seen, Sink, Space, Stop, Stopped, StopsExport, Tidied, [], arith, begun, false, fresh_at},
+  Words.{held, is_intact, limits_of, nat_tests, response, response_start, rose, stopped_with, true, ℕ, ◌≡◌},
+}
 
 -- however the last delivery ended
 tidied : {U : Type 0} (h k : Held) (failed : Bool) (r : Result U Stop) → failed ≡ false

@@ -1,12 +1,12 @@
 -- The names of columns, put one after another.
 use Rattle.tds_csv.specs.Utf16 as utf16
-use Rattle.{
-  tds_export.proofs.Words.{Bool, Breaks, Breaks-after, Breaks-longer, Column, Completes, EndsBy, Err, Held, IsErrAnd, IsStopIn, IsStopped, IsWriting},
-  tds_export.proofs.Words.{JoinFault, List, Ok, Option, Pushes, Puts, Puts-trans, PutsPiece, PutsPiece-none, PutsPiece-passed, PutsPiece-trans, Result, Sink},
-  tds_export.proofs.Words.{Stop, TakesPiece, [], ap, append_assoc, arith, before, codes, emit, false, joined, joined_more, joins_utf16, map, map-append, more},
-  tds_export.proofs.Words.{name_field, not, refl, sym, text_if, true, ℕ, ⊤, ◌++◌, ◌∙◌, ◌∷◌, ◌≡◌},
-  tds_csv.specs.declared.joiners.JoinFault.TheVariants.Stopped,
+use Rattle.tds_export.proofs.{
+  Words.{Bool, Breaks, Breaks-after, Breaks-longer, Column, Completes, EndsBy, Err, Held, IsErrAnd, IsStopIn, IsStopped, IsWriting, JoinFault, List, Ok},
+  Words.{Option, Pushes, Puts, Puts-trans, PutsPiece, PutsPiece-none, PutsPiece-passed, PutsPiece-trans, Result, Sink, Stop, TakesPiece, [], ap, append_assoc},
+  Words.{arith, before, codes, emit, false, joined, joined_more, joins_utf16, map, map-append, more, name_field, not, refl, sym, text_if, true, ℕ, ⊤, ◌++◌},
+  Words.{◌∙◌, ◌∷◌, ◌≡◌},
 }
+use Rattle.tds_csv.specs.declared.joiners.JoinFault.TheVariants.{Stopped}
 
 -- what a push of any units may answer
 pub push_stopped : (fault : JoinFault) (old new : List ℕ) (before after : Held) (failed : Bool) (units : List ℕ)

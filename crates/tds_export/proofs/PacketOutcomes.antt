@@ -1,10 +1,11 @@
 -- How an export ended, by the packets of its input.
-use Rattle.tds_export.proofs.Words.{AreBytes, Describing, EndsInLast, EndsMessage, Fault, InLast, IsHolding, IsKept, IsRefused, List, Open, Packet, Part}
-use Rattle.tds_export.proofs.Words.{RefusesNext, Run, Seen, Some, Space, Spelt, Stop, StopsAfterPackets, StopsInPayload, StopsOnWire, Token, [], ap}
-use Rattle.tds_export.proofs.Words.{append_assoc, arith, begun, description_of, drop, drop-append_seam, grammar, in_last, inl, inr, length, length-append}
-use Rattle.tds_export.proofs.Words.{longest_cut, longest_refused, more, refl, response_start, subst, sym, take, take-append_seam, takes_begins, text}
-use Rattle.tds_export.proofs.Words.{text_so_far, wire_of, ℕ, ◌++◌, ◌<◌, ◌∙◌, ◌≡◌, limits, CutsNext, ends_front, Stops, wire_goes_on, Payload, StopsReading}
-use Rattle.tds_export.proofs.Words.{text_put, ◌+◌, Keeps}
+use Rattle.tds_export.proofs.{
+  Words.{AreBytes, Describing, EndsInLast, EndsMessage, Fault, InLast, IsHolding, IsKept, IsRefused, List, Open, Packet, Part, RefusesNext, Run, Seen, Some},
+  Words.{Space, Spelt, Stop, StopsAfterPackets, StopsInPayload, StopsOnWire, Token, [], ap, append_assoc, arith, begun, description_of, drop, drop-append_seam},
+  Words.{grammar, in_last, inl, inr, length, length-append, longest_cut, longest_refused, more, refl, response_start, subst, sym, take, take-append_seam},
+  Words.{takes_begins, text, text_so_far, wire_of, ℕ, ◌++◌, ◌<◌, ◌∙◌, ◌≡◌, limits, CutsNext, ends_front, Stops, wire_goes_on, Payload, StopsReading, text_put},
+  Words.{◌+◌, Keeps},
+}
 
 -- what the area holds at a part is kept, whatever follows
 pub kept_at : (area : Space) (tokens : List Token) (at : Open) (rest : List ℕ) → area.bytes ≡ description_of tokens at

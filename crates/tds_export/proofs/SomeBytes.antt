@@ -1,6 +1,8 @@
 -- Lists of bytes.
-use Rattle.tds_export.proofs.Words.{AreBytes, List, [], arith, drop, eq_true, inl, inr, little_from, or_cases, pow-suc, replicate, slice_index, suc, true, zero}
-use Rattle.tds_export.proofs.Words.{ℕ, ◌++◌, ◌<◌, ◌==◌, ◌^◌, ◌||◌, ◌∷◌, ◌≡◌, Fault, Grammar, IsNext, Spelt, Spelt-induct, AreBytes-front, AreBytes-back}
+use Rattle.tds_export.proofs.{
+  Words.{AreBytes, List, [], arith, drop, eq_true, inl, inr, little_from, or_cases, pow-suc, replicate, slice_index, suc, true, zero, ℕ, ◌++◌, ◌<◌, ◌==◌, ◌^◌},
+  Words.{◌||◌, ◌∷◌, ◌≡◌, Fault, Grammar, IsNext, Spelt, Spelt-induct, AreBytes-front, AreBytes-back},
+}
 
 -- each of some bytes is below 256
 pub byte_below : (xs : List ℕ) (i : ℕ) → AreBytes xs → slice_index xs i < 256

@@ -1,7 +1,9 @@
 -- Which faults the payload itself may have.
-use Rattle.tds_packet.proofs.Words.{PayloadOf, common_steps, arith, ◌≡◌, ◌∙◌, inl, inr, ℕ, zero, suc, ◌+◌, true, false, length, List, [], sym, Option, None, ⊤}
-use Rattle.tds_packet.proofs.Words.{one_more, Fault, MessageEnded, ReadFailed, WriteFailed, Wire, Payload, Stop, Coming, FrontPacket, NoPacket, before}
-use Rattle.tds_packet.proofs.Words.{stopped_at, after_packet, coming_of, front_packet, message, buffered, seen, Ends, Seen}
+use Rattle.tds_packet.proofs.{
+  Words.{PayloadOf, common_steps, arith, ◌≡◌, ◌∙◌, inl, inr, ℕ, zero, suc, ◌+◌, true, false, length, List, [], sym, Option, None, ⊤, one_more, Fault},
+  Words.{MessageEnded, ReadFailed, WriteFailed, Wire, Payload, Stop, Coming, FrontPacket, NoPacket, before, stopped_at, after_packet, coming_of, front_packet},
+  Words.{message, buffered, seen, Ends, Seen},
+}
 
 -- a fault that the wire or the end of a message may have
 abbrev pub IsOfWire : Fault → Type 0

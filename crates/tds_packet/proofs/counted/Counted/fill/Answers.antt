@@ -1,6 +1,8 @@
 use Rattle.tds_packet.proofs.counted.Counted.fill.Goals as goal
-use Rattle.tds_packet.proofs.Words.{◌≡◌, ℕ, List, ◌+◌, ◌-◌, ◌≤◌, ◌++◌, rules, arith, length, take, ap, ◌∙◌, subst, length-take-le, take-append-add}
-use Rattle.tds_packet.proofs.Words.{take-append-le, Consumes, Consumes-trans, Consumes-kept, put_mid, post_of, one_more}
+use Rattle.tds_packet.proofs.{
+  Words.{◌≡◌, ℕ, List, ◌+◌, ◌-◌, ◌≤◌, ◌++◌, rules, arith, length, take, ap, ◌∙◌, subst, length-take-le, take-append-add, take-append-le, Consumes},
+  Words.{Consumes-trans, Consumes-kept, put_mid, post_of, one_more},
+}
 
 -- the first bytes of a part that was written over
 take_put : (a k n : ℕ) (xs ys : List ℕ) → a ≤ length xs → n ≤ length ys → take a xs ++ take n ys ≡ take (a + n) (put_mid a k xs ys)

@@ -1,8 +1,6 @@
 use Rattle.tds_packet.proofs.payload.Payload.at_end.Goals as goal
-use Rattle.tds_packet.proofs.{
-  Words.{◌<◌, arith, drop, length, length-drop, refl, None, drop_of_length-le},
-  Futures.{over, not_over, stopped_ends},
-  PayloadLaws.between_of,
+use Rattle.tds_packet.{
+  proofs.{Words.{◌<◌, arith, drop, length, length-drop, refl, None, drop_of_length-le}, Futures.{over, not_over, stopped_ends}, PayloadLaws.between_of},
 }
 
 pub returns-in-Ok-clause-tells : goal.returns-in-Ok-clause-tells
