@@ -8,7 +8,7 @@ use Rattle.tds_export.proofs.{
   Words.{is_fit, is_length_allowed, is_scalar, is_total, is_valid, le_true, length, length-append, length-replicate, marked, nat_le, nat_tests, next_cell},
   Words.{one-le-pow, or_cases, read_of, refl, rest_of_cell, rest_of_cells, rest_of_chunks, rest_of_row, row, row_add, shape, slice_index, subst, suc, sym},
   Words.{terminator, test_le, test_lt, time_length, true, unit, unless_none, value_of, value_part, with_cell, within_total, zero, zero_chunks, zeros, ℕ, ⊤},
-  Words.{◌%◌, ◌&&◌, ◌++◌, ◌+◌, ◌<◌, ◌∙◌, ◌∷◌, ◌≡◌, ◌≤◌},
+  Words.{◌%◌, ◌&&◌, ◌++◌, ◌+◌, ◌<◌, ◌∙◌, ◌∷◌, ◌≡◌, ◌≤◌, is_ok},
   Cuts.{spelt_both, spelt_one},
   SomeBytes.{exactly, little_below, one_of_four, one_of_two},
 }
@@ -41,57 +41,49 @@ CellReached (ChunkData c total left content) = (is_plain c ≡ true) × HoldsTot
 CellReached (WholeCell x) = ⊤
 
 -- numbers up to 7
-below_eight : (P : ℕ → Type 0) → P 0 → P 1 → P 2 → P 3 → P 4 → P 5 → P 6 → P 7 → (s : ℕ) → s ≤ 7 → P s
-below_eight P a b c d e f g h s l = grind arith
+below_eight : (P : ℕ → Bool) → (P 0 && P 1 && P 2 && P 3 && P 4 && P 5 && P 6 && P 7) ≡ true → (s : ℕ) → s ≤ 7 → P s ≡ true
+below_eight P h s l = grind arith
 
 -- a value was read
 abbrev IsRead : Result ScalarValue ValueFault → Type 0
 IsRead r = (v : ScalarValue) × (r ≡ Ok v)
 
--- of a kind, so many zeros are a value
+value_there : (r : Result ScalarValue ValueFault) → is_ok r ≡ true → IsRead r
+value_there r h = grind arith
+
+-- whether so many zeros are a value of a kind
+abbrev are_read : Kind → ℕ → Bool
+are_read kind n = is_ok (read_of kind (zeros n))
+
+-- They are.
 abbrev ZerosAre : Kind → ℕ → Type 0
-ZerosAre kind n = IsRead (read_of kind (zeros n))
+ZerosAre kind n = are_read kind n ≡ true
 
 zero_decimal : (d p s n : ℕ) → is_valid (Decimal d p s) ≡ true → is_length_allowed (Decimal d p s) n ≡ true → ZerosAre (Decimal d p s) n
 zero_decimal d p s n valid allowed =
     let one = and_parts (is_decimal_length d && nat_le 1 p && nat_le p 38) (nat_le s p) valid in
     let small = test_le s 38 (omega (arith, le_true s p one.1, le_true p 38 (and_parts _ (nat_le p 38) one.0).1)) in
     let long : is_length_allowed (Decimal d p s) (length (zeros n)) ≡ true = simp (length-replicate, allowed) in
-    choose IsRead (is_length_allowed (Decimal d p s) (length (zeros n))) (checked (value_of (Decimal d p s) (zeros n))) _
-    (λ t. choose IsRead (nat_le s 38) (Ok _) _ (λ u. (_, refl)) (λ f. cc))
-    (λ f. cc)
+    rw (long, small) refl
 
 zeros_are_a_value : (kind : Kind) (n : ℕ) → is_valid kind ≡ true → is_scalar kind ≡ true → is_length_allowed kind n ≡ true → ZerosAre kind n
-zeros_are_a_value (IntN d) n v s h = exactly (ZerosAre (IntN d)) n d h (one_of_four (λ d. ZerosAre (IntN d) d) 1 2 4 8 d v (_, refl) (_, refl) (
-  _,
-  refl,
-) (_, refl))
-zeros_are_a_value BitN n v s h = exactly (ZerosAre BitN) n 1 h (_, refl)
-zeros_are_a_value (MoneyN d) n v s h = exactly (ZerosAre (MoneyN d)) n d h (one_of_two (λ d. ZerosAre (MoneyN d) d) 4 8 d v (_, refl) (_, refl))
-zeros_are_a_value (DateTimeN d) n v s h =
-    exactly (ZerosAre (DateTimeN d)) n d h (one_of_two (λ d. ZerosAre (DateTimeN d) d) 4 8 d v (_, refl) (_, refl))
-zeros_are_a_value Guid n v s h = exactly (ZerosAre Guid) n 16 h (_, refl)
+zeros_are_a_value (IntN d) n v s h = exactly (ZerosAre (IntN d)) n d h (one_of_four (λ d. ZerosAre (IntN d) d) 1 2 4 8 d v refl refl refl refl)
+zeros_are_a_value BitN n v s h = exactly (ZerosAre BitN) n 1 h refl
+zeros_are_a_value (MoneyN d) n v s h = exactly (ZerosAre (MoneyN d)) n d h (one_of_two (λ d. ZerosAre (MoneyN d) d) 4 8 d v refl refl)
+zeros_are_a_value (DateTimeN d) n v s h = exactly (ZerosAre (DateTimeN d)) n d h (one_of_two (λ d. ZerosAre (DateTimeN d) d) 4 8 d v refl refl)
+zeros_are_a_value Guid n v s h = exactly (ZerosAre Guid) n 16 h refl
 zeros_are_a_value (Decimal d p sc) n v s h = zero_decimal d p _ n v h
-zeros_are_a_value Date n v s h = exactly (ZerosAre Date) n 3 h (_, refl)
+zeros_are_a_value Date n v s h = exactly (ZerosAre Date) n 3 h refl
 zeros_are_a_value (Time sc) n v s h =
-    exactly (ZerosAre (Time sc)) n _ h (below_eight (λ sc. ZerosAre (Time sc) (time_length sc)) (_, refl) (_, refl) (_, refl) (_, refl) (_, refl) (
-      _,
-      refl,
-    ) (_, refl) (_, refl) _ (le_true _ 7 v))
+    exactly (ZerosAre (Time sc)) n _ h (below_eight (λ sc. are_read (Time sc) (time_length sc)) refl _ (le_true _ 7 v))
 zeros_are_a_value (DateTime2 sc) n v s h =
-    exactly (ZerosAre (DateTime2 sc)) n _ h (below_eight (λ sc. ZerosAre (DateTime2 sc) (time_length sc + 3)) (_, refl) (_, refl) (_, refl) (
-      _,
-      refl,
-    ) (_, refl) (_, refl) (_, refl) (_, refl) _ (le_true _ 7 v))
+    exactly (ZerosAre (DateTime2 sc)) n _ h (below_eight (λ sc. are_read (DateTime2 sc) (time_length sc + 3)) refl _ (le_true _ 7 v))
 zeros_are_a_value (DateTimeOffset sc) n v s h =
-    exactly (ZerosAre (DateTimeOffset sc)) n _ h (below_eight (λ sc. ZerosAre (DateTimeOffset sc) (time_length sc + 5)) (_, refl) (_, refl) (
-      _,
-      refl,
-    ) (_, refl) (_, refl) (_, refl) (_, refl) (_, refl) _ (le_true _ 7 v))
+    exactly (ZerosAre (DateTimeOffset sc)) n _ h (below_eight (λ sc. are_read (DateTimeOffset sc) (time_length sc + 5)) refl _ (le_true _ 7 v))
 zeros_are_a_value (Binary r) n v s h = cc
 zeros_are_a_value (Narrow r) n v s h = cc
 zeros_are_a_value (Wide r) n v s h = cc
-zeros_are_a_value kind n v s h = exactly (ZerosAre kind) n _ h (_, refl)
+zeros_are_a_value kind n v s h = exactly (ZerosAre kind) n _ h refl
 
 zeros_next : (n : ℕ) → 0 ∷ zeros (n + 1) ≡ zeros (suc n + 1)
 zeros_next n = cc (add-one n, add-one (suc n))
@@ -151,9 +143,9 @@ module _ (column : ℕ) where
   -- A part of a cell followed by what completes it is a whole cell.
   pub cell_ends : (p : CellPart) → CellReached p → (x : Cell) × Spelt (cell column) p (rest_of_cell p) (WholeCell x)
   cell_ends (ScalarBytes kind n) (some, valid, scalar, allowed) =
-      let v = zeros_are_a_value _ n valid scalar allowed in
+      let v = value_there _ (zeros_are_a_value _ n valid scalar allowed) in
       let l : length (zeros n) ≡ n = length-replicate n 0 in
-      (ScalarCell v.0, spelt_one (omega arith) l (cc) (cc))
+      (ScalarCell v.0, spelt_one (omega arith) l (cc v.1) (cc v.1))
   cell_ends (ScalarLength kind) h = (Null, spelt_one (omega arith) refl refl refl)
   cell_ends (ShortLength c) h = (Null, spelt_one (omega arith) refl refl refl)
   cell_ends (ShortData c left content) h = short_ends c _ _ h

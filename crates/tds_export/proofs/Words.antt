@@ -9,7 +9,7 @@ pub use Rattle.std.proofs.{
   lemmas.{List.{map-append, drop-drop, take-append-le}, Str.utf8_valid_len_le},
 }
 pub use Rattle.std.specs.{
-  Prelude.{◌==◌, Some, None, ◌&&◌, not, nat_lt, if◌then◌else◌, ◌||◌, nat_le, is_some, IsTrue, encode_utf8_all, ⊤, codes, ℤ, option_map, IfOk},
+  Prelude.{◌==◌, is_ok, Some, None, ◌&&◌, not, nat_lt, if◌then◌else◌, ◌||◌, nat_le, is_some, IsTrue, encode_utf8_all, ⊤, codes, ℤ, option_map, IfOk},
   Int.{cast_signed, w16, w32, w64, cast_unsigned},
   Io.KnownBytes.{Appends, Consumes},
   Result.IsErrAnd,
