@@ -33,7 +33,7 @@ module _ (charset : Charset) (room : ℕ) {n place middle : ℕ} {tokens : List 
   after_length {stop = stop} some stops =
       let to : (response charset room).add (in_length which tokens) element ≡ in_body which tokens n =
       rw (number_is l) (choose_false _ _ _ (ne_eqb n 0 (λ z. omega arith))) in
-      let one = reads_one _ _ a b element _ (record { some = omega arith; whole = l.two; free = length_free room n tokens _ _ long (number_is l) })
+      let one = reads_one _ _ a b element _ (record { some = omega arith; whole = l.two; free = length_free room tokens _ _ long (number_is l) })
       l.takes to in
       stops_after (response charset room) (in_length which tokens) (in_body which tokens n) a b c place (in_body which tokens n) stop one
       (rw l.at at stops)
@@ -43,7 +43,7 @@ module _ (charset : Charset) (room : ℕ) {n place middle : ℕ} {tokens : List 
       → Reads (response charset room) (in_length which tokens) a c (with_token tokens (bodied which body))
   body_reads body len takes holds = record {
     bytes = element ++ body;
-    spelt = body_is_read _ _ _ _ _ _ l.two (number_is l ∙ sym len) (length_free room n tokens _ _ long (number_is l)) (body_free _ body holds);
+    spelt = body_is_read _ _ _ _ l.two (number_is l ∙ sym len) (length_free room tokens _ _ long (number_is l)) (body_free _ body holds);
     takes = takes_both a b c _ _ l.takes (rw len takes);
   }
 
@@ -62,11 +62,11 @@ module _ (charset : Charset) {n middle : ℕ} {tokens : List Token} {which : Bod
       (tracks_body begun.tracks _ _ quiet))
 
   -- it was cut
-  pub quiet_stops : {own stop : Stop} (part : List ℕ) → length part < n → Ends b c part own → stop ≡ began_at middle own
+  pub quiet_stops : {own stop : Stop} {part : List ℕ} → length part < n → Ends b c part own → stop ≡ began_at middle own
       → StopsQuiet charset (in_length which tokens) u c stop
-  quiet_stops part fewer ends is =
+  quiet_stops fewer ends is =
       stops_quietly refl (record { bytes = begun.holds.bytes; peak = begun.holds.peak }) begun.delivered begun.going
-      (after_length _ _ l (no_notice _ quiet) (omega arith) (part_cut _ refl refl fewer ends is))
+      (after_length _ _ l (no_notice _ quiet) (omega arith) (part_cut refl refl fewer ends is))
 
 module _ (charset : Charset) (room : ℕ) {tokens : List Token} {which : Bodied} (notice : is_notice which ≡ true) where
   -- the Length is cut

@@ -111,34 +111,34 @@ module _ (column : ℕ) where
       (more.0, rw (← zeros_next left) (spelt_both one more.1))
 
   -- the rest of a chunk
-  chunk_ends : (c : Conversion) (total : Option ℕ) (left : ℕ) (content : List ℕ) → is_plain c ≡ true
+  chunk_ends : {c : Conversion} {total : Option ℕ} (left : ℕ) {content : List ℕ} → is_plain c ≡ true
       → Spelt (cell column) (ChunkData c total left content) (zeros (left + 1)) (ChunkLength c total (content ++ zeros (left + 1)))
-  chunk_ends c total zero content plain = spelt_one (omega arith) refl (rw (plain_begun c (content ++ 0 ∷ []) plain) refl) refl
-  chunk_ends c total (suc left) content plain =
+  chunk_ends {c} zero {content} plain = spelt_one (omega arith) refl (rw (plain_begun c (content ++ 0 ∷ []) plain) refl) refl
+  chunk_ends {c} {total} (suc left) {content} plain =
       let to : cell_add (ChunkData c total (suc left) content) (0 ∷ []) ≡ ChunkData c total left (content ++ 0 ∷ []) = grind (arith, nat_tests) in
       let one = spelt_one (omega arith) refl (rw (plain_begun c (content ++ 0 ∷ []) plain) refl) to in
-      rw (← zeros_next left, ← append_assoc content (0 ∷ []) (zeros (left + 1))) (spelt_both one (chunk_ends c total left (content ++ 0 ∷ []) plain))
+      rw (← zeros_next left, ← append_assoc content (0 ∷ []) (zeros (left + 1))) (spelt_both one (chunk_ends left plain))
 
   -- so many chunks of one zero byte, and the terminator
-  chunks_end : (c : Conversion) (total : Option ℕ) (n : ℕ) (content : List ℕ) → is_plain c ≡ true → is_total total (length content + n) ≡ true
+  chunks_end : {c : Conversion} {total : Option ℕ} (n : ℕ) {content : List ℕ} → is_plain c ≡ true → is_total total (length content + n) ≡ true
       → (length content + n) % unit c ≡ 0 → (x : Cell) × Spelt (cell column) (ChunkLength c total content) (zero_chunks n ++ terminator) (WholeCell x)
-  chunks_end c total zero content plain all even =
+  chunks_end {c} zero {content} plain all even =
       let same : length content + 0 ≡ length content = omega arith in
       let sum = ap (λ v. v % unit c) (sym same) ∙ even in
       (DataCell c content, spelt_one (omega arith) refl (rw (rw same at all, sum, plain_fit c content plain sum) refl) refl)
-  chunks_end c total (suc n) content plain all even =
+  chunks_end {c} {total} (suc n) {content} plain all even =
       let same : length content + suc n ≡ length (content ++ 0 ∷ []) + n = omega (arith, length-append content (0 ∷ [])) in
       let fits = within total _ (length content + 1) all (omega arith) in
       let one : Spelt (cell column) (ChunkLength c total content) (1 ∷ 0 ∷ 0 ∷ 0 ∷ []) (ChunkData c total 0 content) =
       spelt_one (omega arith) refl (rw fits refl) refl in
-      let more = chunks_end c total n (content ++ 0 ∷ []) plain (rw same at all) (rw same at even) in
-      (more.0, spelt_both (spelt_both one (chunk_ends c _ 0 _ plain)) more.1)
+      let more = chunks_end n plain (rw same at all) (rw same at even) in
+      (more.0, spelt_both (spelt_both one (chunk_ends 0 plain)) more.1)
 
   -- the rest of the chunks
-  length_ends : (c : Conversion) (total : Option ℕ) (content : List ℕ) → is_plain c ≡ true → HoldsTotal c total (length content) → (x : Cell)
+  length_ends : {c : Conversion} (total : Option ℕ) {content : List ℕ} → is_plain c ≡ true → HoldsTotal c total (length content) → (x : Cell)
       × Spelt (cell column) (ChunkLength c total content) (rest_of_chunks c total (length content)) (WholeCell x)
-  length_ends c None content plain h = chunks_end c _ _ _ plain refl (made_even c _)
-  length_ends c (Some t) content plain (le, even) = grind (arith, chunks_end, eq-eqb)
+  length_ends {c} None plain h = chunks_end _ plain refl (made_even c _)
+  length_ends (Some t) plain (le, even) = grind (arith, chunks_end, eq-eqb)
 
   -- A part of a cell followed by what completes it is a whole cell.
   pub cell_ends : (p : CellPart) → CellReached p → (x : Cell) × Spelt (cell column) p (rest_of_cell p) (WholeCell x)
@@ -150,26 +150,26 @@ module _ (column : ℕ) where
   cell_ends (ShortLength c) h = (Null, spelt_one (omega arith) refl refl refl)
   cell_ends (ShortData c left content) h = short_ends c _ _ h
   cell_ends (Total c) h = (Null, spelt_one (omega arith) refl refl refl)
-  cell_ends (ChunkLength c total content) (plain, h) = length_ends c _ _ plain h
+  cell_ends (ChunkLength c total content) (plain, h) = length_ends _ plain h
   cell_ends (ChunkData c total left content) (plain, h) =
       let l = length-append content (zeros (left + 1)) ∙ ap (λ v. length content + v) (length-replicate (left + 1) 0) in
-      let more = length_ends c _ _ plain (rw (← l) at h) in
-      (more.0, spelt_both (chunk_ends c _ _ _ plain) (rw (← l) more.1))
+      let more = length_ends _ plain (rw (← l) at h) in
+      (more.0, spelt_both (chunk_ends _ plain) (rw (← l) more.1))
   cell_ends (WholeCell x) h = (x, Spelt-none _ _)
 
   value_reached : (r : Result ScalarValue ValueFault) → CellReached (value_part r)
   value_reached r = grind arith
 
   -- Each element keeps what is known.
-  pub cell_keeps : (p : CellPart) (e : List ℕ) → AreBytes e → CellReached p → IsNext (cell column) p e → CellReached (cell_add p e)
-  cell_keeps (ScalarBytes kind m) e are h n = value_reached _
-  cell_keeps (ScalarLength kind) e are (valid, scalar) n = grind (arith, choose, eq_false, unless_none)
-  cell_keeps (ShortLength c) e are plain n = grind (arith, choose, eq_false, eq_true, unless_none)
-  cell_keeps (ShortData c left content) e are (plain, even) n = grind (arith, choose, eq_false, length-append)
-  cell_keeps (Total c) e are plain n = grind (arith, choose, eq_false, little_below, eq_true, le_true, or_cases, unless_none)
-  cell_keeps (ChunkLength c total content) e are (plain, h) n = grind (arith, choose, choose_false, eq_false, unless_none, le_true)
-  cell_keeps (ChunkData c total left content) e are (plain, h) n = grind (arith, choose, eq_false, eq_true, length-append)
-  cell_keeps (WholeCell x) e are h n = tt
+  pub cell_keeps : (p : CellPart) {e : List ℕ} → AreBytes e → CellReached p → IsNext (cell column) p e → CellReached (cell_add p e)
+  cell_keeps (ScalarBytes kind m) are h n = value_reached _
+  cell_keeps (ScalarLength kind) are (valid, scalar) n = grind (arith, choose, eq_false, unless_none)
+  cell_keeps (ShortLength c) are plain n = grind (arith, choose, eq_false, eq_true, unless_none)
+  cell_keeps (ShortData c left content) are (plain, even) n = grind (arith, choose, eq_false, length-append)
+  cell_keeps (Total c) are plain n = grind (arith, choose, eq_false, little_below, eq_true, le_true, or_cases, unless_none)
+  cell_keeps (ChunkLength c total content) are (plain, h) n = grind (arith, choose, choose_false, eq_false, unless_none, le_true)
+  cell_keeps (ChunkData c total left content) are (plain, h) n = grind (arith, choose, eq_false, eq_true, length-append)
+  cell_keeps (WholeCell x) are h n = tt
 
 -- A cell of a valid kind begins so.
 pub start_reached : (kind : Kind) → is_valid kind ≡ true → CellReached (cell_start kind (shape Windows1252 kind))
@@ -209,8 +209,8 @@ next_reached cells ((k, true) ∷ ks) (v, h) = next_reached (cells ++ Null ∷ [
 next_reached cells ((k, false) ∷ ks) (v, h) = (starts_open _ _, start_reached _ v, h)
 
 -- Each element keeps what is known.
-pub row_keeps : (p : RowPart) (e : List ℕ) → AreBytes e → RowReached p → IsNext (row Windows1252) p e → RowReached (row_add Windows1252 p e)
-row_keeps p e are h3 n = grind (arith, cell_keeps, marked_valid, next_reached)
+pub row_keeps : {p : RowPart} {e : List ℕ} → AreBytes e → RowReached p → IsNext (row Windows1252) p e → RowReached (row_add Windows1252 p e)
+row_keeps are h3 n = grind (arith, cell_keeps, marked_valid, next_reached)
 
 -- the cell that is read, and those to come
 part_ends : (before : List Cell) (part : CellPart) (ks : List (Column × Bool)) → CellReached part
@@ -229,9 +229,9 @@ cells_end before ((k, true) ∷ ks) (v, h) = cells_end (before ++ Null ∷ []) k
 cells_end before ((k, false) ∷ ks) (v, h) =
     rw (← begins_open Windows1252 before ks k.kind _) (part_ends before _ ks (start_reached k.kind v) (λ b. cells_end b ks h))
 
-stays_open : (cells : List Cell) (ks : List (Column × Bool)) (part : CellPart) → IsOpenCell part
+stays_open : {cells : List Cell} {ks : List (Column × Bool)} {part : CellPart} → IsOpenCell part
     → with_cell Windows1252 cells ks part ≡ InCell cells part ks
-stays_open cells ks part h = grind arith
+stays_open h = grind arith
 
 zero_at : (n i : ℕ) → slice_index (zeros n) i ≡ 0
 zero_at zero i = refl
@@ -256,5 +256,5 @@ row_ends (Bitmap columns) (some, h) =
     let clear = marked_clear _ _ 0 (clear_at n) in
     let more = cells_end _ _ (subst AreMarkedValid clear (marked_valid _ _ 0 h)) in
     (more.0, spelt_both (rw clear at one) more.1)
-row_ends (InCell cells part ks) (begun, h, m) = rw (← stays_open cells ks part begun) (part_ends _ _ _ h (λ b. cells_end b ks m))
+row_ends (InCell cells part ks) (begun, h, m) = rw (← stays_open begun) (part_ends _ _ _ h (λ b. cells_end b ks m))
 row_ends (WholeRow cells) h = (cells, Spelt-none _ _)

@@ -38,14 +38,14 @@ AreValid-append [] c h v = (v, tt)
 AreValid-append (d ∷ cs) c h v = (h.0, AreValid-append cs c h.1 v)
 
 module _ (room : ℕ) where
-  column_reached : (bytes : List ℕ) (count : ℕ) (cols : List Column) (c : Column) → length cols < count → AreValid cols → is_valid c.kind ≡ true
+  column_reached : (bytes : List ℕ) {count : ℕ} (cols : List Column) (c : Column) → length cols < count → AreValid cols → is_valid c.kind ≡ true
       → length bytes + 8 * (count - (length cols + 1)) ≤ room → DescribedReached room (with_column bytes count cols c)
-  column_reached bytes count cols c fewer valid v fits = grind (arith, AreValid-append, choose, eq_false, length-append)
+  column_reached bytes cols c fewer valid v fits = grind (arith, AreValid-append, choose, eq_false, length-append)
 
   -- Each element keeps what is known.
-  pub described_keeps : (d : DescriptionPart) (e : List ℕ) → AreBytes e → DescribedReached room d → IsNext (description room) d e
+  pub described_keeps : {d : DescriptionPart} {e : List ℕ} → AreBytes e → DescribedReached room d → IsNext (description room) d e
       → DescribedReached room (add_described d e)
-  described_keeps d e are h n = grind (
+  described_keeps are h n = grind (
     arith,
     choose,
     column_reached,
@@ -119,7 +119,7 @@ module _ (room : ℕ) where
   info_ends : (bytes : List ℕ) (count : ℕ) (cols : List Column) (byte : ℕ) (n : ℕ) → n ≡ count - (length cols + 1) → length cols < count
       → PlaceReached room bytes n (ColumnInfo byte) → Ends room (InColumn bytes count cols (ColumnInfo byte)) (least_info byte ++ (0 ∷ int_columns n))
   info_ends bytes count cols byte n is fewer (m, known, some, fits) =
-      let least = least_type _ m known in
+      let least = least_type known in
       let free = ap (λ o. (if is_some o then None else Some (BadTypeInfo (length cols)))) least.described in
       let to = ap (λ o. with_kind (bytes ++ least_info byte) count cols o) least.described in
       then_ends {e = least_info byte} (spelt_one (omega arith) (cc) free to)

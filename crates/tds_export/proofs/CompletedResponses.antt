@@ -69,7 +69,7 @@ AreBytes-return ReturnOrdinal h = AreBytes-append (zeros 3) rest_of_return_head 
 AreBytes-return ReturnNameCount h = AreBytes-append (zeros 1) rest_of_return_head (AreBytes-zeros 1) AreBytes-head
 AreBytes-return (ReturnName n) h = AreBytes-append _ _ (AreBytes-zeros n) AreBytes-head
 AreBytes-return (ReturnHead name) h = AreBytes-head
-AreBytes-return (ReturnInfo name byte) (n, known, some) = AreBytes-append _ _ (least_type _ n known).bytes (AreBytes-value _)
+AreBytes-return (ReturnInfo name byte) (n, known, some) = AreBytes-append _ _ (least_type known).bytes (AreBytes-value _)
 AreBytes-return (InReturnCell name kind part) h = AreBytes-cell part
 AreBytes-return (WholeReturn r) h = tt
 
@@ -111,7 +111,7 @@ module _ (room : ℕ) where
 
   bare_reached : (tokens : List Token) (t : Token) → is_bare t ≡ true → CurrentReached (described_after None tokens)
       → PartReached room (with_token tokens t)
-  bare_reached tokens t is h = token_reached tokens t (bare t is).columns h
+  bare_reached tokens t is h = token_reached tokens t (bare is).columns h
 
   described_reached : (tokens : List Token) (d : DescriptionPart) → CurrentReached (described_after None tokens) → DescribedReached room d
       → PartReached room (with_described tokens d)
@@ -135,19 +135,19 @@ module _ (room : ℕ) where
   lead_reached tokens begun h = grind (arith, marked_valid, next_reached, row_starts)
 
   -- Each element keeps what is known.
-  open_keeps : (tokens : List Token) (at : Open) (e : List ℕ) → AreBytes e → CurrentReached (described_after None tokens) → OpenReached room at
+  open_keeps : {tokens : List Token} (at : Open) {e : List ℕ} → AreBytes e → CurrentReached (described_after None tokens) → OpenReached room at
       → IsNext (response Windows1252 room) (part_at tokens at) e → PartReached room (part_add Windows1252 tokens at e)
-  open_keeps tokens Between e are h o n = lead_reached tokens _ h
-  open_keeps tokens (Describing d) e are h (begun, r) n = described_reached _ _ h (described_keeps _ d e are r (grind arith))
-  open_keeps tokens (InRow part) e are h (begun, r) n = row_reached _ _ h (row_keeps _ e are r (grind arith))
-  open_keeps tokens (InReturn part) e are h (begun, r) n = return_reached _ _ h (return_keeps _ e are r (grind arith))
-  open_keeps tokens (TokenLength b) e are h o n = grind (arith, bare_body, bare_reached, choose, eq_false, nat_tests)
-  open_keeps tokens (TokenBody b m) e are h o n = bare_reached tokens _ (bare_body b e) h
-  open_keeps tokens (Fields f) e are h o n = bare_reached tokens _ (bare_fixed f e) h
+  open_keeps {tokens} Between are h o n = lead_reached tokens _ h
+  open_keeps (Describing d) {e} are h (begun, r) n = described_reached _ _ h (described_keeps _ are r (grind arith))
+  open_keeps (InRow part) {e} are h (begun, r) n = row_reached _ _ h (row_keeps are r (grind arith))
+  open_keeps (InReturn part) {e} are h (begun, r) n = return_reached _ _ h (return_keeps _ are r (grind arith))
+  open_keeps (TokenLength b) are h o n = grind (arith, bare_body, bare_reached, choose, eq_false, nat_tests)
+  open_keeps {tokens} (TokenBody b m) {e} are h o n = bare_reached tokens _ (bare_body b e) h
+  open_keeps {tokens} (Fields f) {e} are h o n = bare_reached tokens _ (bare_fixed f e) h
 
-  part_reached : (bytes : List ℕ) (p : Part) → AreBytes bytes → Spelt (response Windows1252 room) response_start bytes p → PartReached room p
-  part_reached bytes p are h =
-      bytes_induct _ (λ q b. PartReached room q) (λ q b e r are n. open_keeps _ _ e are r.0 r.1 n) _ (tt, tt) _ p are h
+  part_reached : {bytes : List ℕ} {p : Part} → AreBytes bytes → Spelt (response Windows1252 room) response_start bytes p → PartReached room p
+  part_reached {p} are h =
+      bytes_induct (λ q b. PartReached room q) (λ q b e r are n. open_keeps _ are r.0 r.1 n) _ (tt, tt) _ p are h
 
   -- the rest of a token, up to its end
   abbrev Ends : List Token → Open → List ℕ → Type 0
@@ -175,11 +175,11 @@ module _ (room : ℕ) where
       let all = return_ends _ r in
       (tokens ++ Returned all.0 ∷ [], rw (← return_opens tokens part begun) (spelt_inside (return_agrees Windows1252 _ _) all.1))
   token_ends ten tokens (TokenLength (APassed passed)) o =
-      (tokens ++ PassedOver passed [] ∷ [], body_is_read Windows1252 _ _ _ (zeros 2) _ refl refl refl refl)
+      (tokens ++ PassedOver passed [] ∷ [], body_is_read Windows1252 _ (zeros 2) _ refl refl refl refl)
   token_ends ten tokens (TokenLength b) o =
-      let free = length_free room 14 tokens b (14 ∷ 0 ∷ []) (λ e. omega arith) refl in (
+      let free = length_free room tokens b (14 ∷ 0 ∷ []) (λ e. omega arith) refl in (
         tokens ++ bodied b (zeros 14) ∷ [],
-        body_is_read Windows1252 room tokens b (14 ∷ 0 ∷ []) (zeros 14) refl refl free
+        body_is_read Windows1252 room (14 ∷ 0 ∷ []) (zeros 14) refl refl free
             (body_free b (zeros 14) (λ e. zeros_hold 14 (omega arith))),
       )
   token_ends ten tokens (TokenBody b n) (some, long) =
@@ -198,10 +198,10 @@ module _ (room : ℕ) where
 -- Whatever has been read can be completed.
 pub can_be_completed : CanBeCompleted
 can_be_completed room part bytes ten are h =
-    let r = part_reached _ _ _ are h in
+    let r = part_reached _ are h in
     let end = token_ends _ ten _ _ r.1 in
     let all = spelt_both h (spelt_both end.1 (done_ends _ _)) in (
       end.0 ++ Done false ∷ [],
-      response_is_spelt _ _ _ _ (AreBytes-append _ _ are (AreBytes-completion _ part r.1)) (is_final-snoc end.0 (Done false))
+      response_is_spelt _ _ (AreBytes-append _ _ are (AreBytes-completion _ part r.1)) (is_final-snoc end.0 (Done false))
           all,
     )

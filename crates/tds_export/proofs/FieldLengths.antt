@@ -45,8 +45,7 @@ conversion_length c bytes = grind (arith, characters_length, chars_length, doubl
 
 -- nor is the fixed text longer
 emit_length : (c : Conversion) (bytes : List ℕ) → length (emit (conversion_rest c) (conversion_text c) bytes) ≤ 4 * length bytes
-emit_length c bytes = let n = length bytes - length (conversion_rest c bytes) in
-    omega (arith, conversion_length c (take n bytes), length-take n bytes)
+emit_length c bytes = grind (arith, conversion_length, length-take)
 
 -- a field that begins
 pub open_length : (c : Conversion) → length (open_field c []) ≤ 2
@@ -100,8 +99,7 @@ integer_fits n xs h = grind (arith, byte_below, choose, signed_fits)
 
 -- an amount of money fits
 money_fits : (n : ℕ) (xs : List ℕ) → unsigned_abs (money_of n xs) < 2 ^ 64
-money_fits n xs = choose (λ z. unsigned_abs z < 2 ^ 64) (n == 4) _ _ (λ q. (signed_fits (little_number 4 xs)).1)
-    (λ q. (signed_fits (little_number 4 xs * 2 ^ 32 + little_number 4 (drop 4 xs))).2)
+money_fits n xs = grind (arith, choose, unsigned_abs, signed_fits)
 
 -- a magnitude fits
 magnitude_fits : (n : ℕ) (xs : List ℕ) → AreBytes xs → is_decimal_length n ≡ true → little_number (n - 1) xs < 2 ^ 128

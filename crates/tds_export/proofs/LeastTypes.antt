@@ -60,6 +60,6 @@ found : (byte n : ℕ) (r : Option ℕ) (k : Option Kind) → holds r (least_inf
 found byte n r k h e d = grind (arith, and_parts, bytes_true, eq_true)
 
 -- After each type byte that is accepted its least rest describes a kind.
-pub least_type : (byte n : ℕ) → rest_length byte ≡ Some n → IsLeast byte n
+pub least_type : {byte n : ℕ} → rest_length byte ≡ Some n → IsLeast byte n
 unfolding has_least
-least_type byte n h = found _ n _ _ (one_below _ _ every_byte _ (beyond _ n h)) h refl
+least_type {n} h = found _ n _ _ (one_below _ _ every_byte _ (beyond _ n h)) h refl

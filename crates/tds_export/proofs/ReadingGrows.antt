@@ -64,8 +64,8 @@ with_return_grows tokens part = grows_same _
 
 module _ (room : ℕ) where
   -- each element of a description adds to its span
-  description_span : (d : DescriptionPart) (e : List ℕ) → IsNext (description room) d e → span d ≤ span (add_described d e)
-  description_span d e n = grind (arith, choose, is_some_value, known_type, length-append, some_kind, bare_type, eq_true)
+  description_span : {d : DescriptionPart} {e : List ℕ} → IsNext (description room) d e → span d ≤ span (add_described d e)
+  description_span n = grind (arith, choose, is_some_value, known_type, length-append, some_kind, bare_type, eq_true)
 
 module _ (charset : Charset) (room : ℕ) where
   -- each element adds to the text, by where it is read
@@ -85,18 +85,18 @@ module _ (charset : Charset) (room : ℕ) where
   part_grows tokens (Fields f) e n = token_grows tokens (fixed f e)
 
   -- each element adds to the span, by where it is read
-  part_span : (tokens : List Token) (at : Open) (e : List ℕ) → IsNext (response charset room) (part_at tokens at) e
+  part_span : {tokens : List Token} (at : Open) (e : List ℕ) → IsNext (response charset room) (part_at tokens at) e
       → max (greatest_span tokens) (open_span at) ≤ span_so_far (part_add charset tokens at e)
-  part_span tokens at e n = grind (arith, choose, description_span, lead_cases, greatest_span-append)
+  part_span at e n = grind (arith, choose, description_span, lead_cases, greatest_span-append)
 
   -- all elements between two states add to the text
-  pub text_along : (p q : Part) (bytes : List ℕ) → Spelt (response charset room) p bytes q → (more : List ℕ) × (text_so_far p ++ more ≡ text_so_far q)
-  text_along p q bytes s =
+  pub text_along : {p q : Part} {bytes : List ℕ} → Spelt (response charset room) p bytes q → (more : List ℕ) × (text_so_far p ++ more ≡ text_so_far q)
+  text_along {p} {q} s =
       let adds = λ (r : Part) (b e : List ℕ) (h : Grows (text_so_far p) (text_so_far r)) (n : IsNext _ r e).
       grows_trans _ _ _ h (part_grows _ _ e n) in
       Spelt-induct _ (λ r b. Grows (text_so_far p) (text_so_far r)) adds p (grows_same _) _ q s
 
   -- and to the span
   pub span_along : (p q : Part) (bytes : List ℕ) → Spelt (response charset room) p bytes q → span_so_far p ≤ span_so_far q
-  span_along p q bytes s = Spelt-induct _ (λ r b. span_so_far p ≤ span_so_far r) (λ r b e h n. omega (arith, part_span r.tokens r.at e n)) p
+  span_along p q bytes s = Spelt-induct _ (λ r b. span_so_far p ≤ span_so_far r) (λ r b e h n. omega (arith, part_span r.at e n)) p
       (omega arith) _ q s

@@ -48,16 +48,16 @@ module _ {a : Seen} (b : Seen) {place one : ℕ} (ordinal : List ℕ) (counted :
     front_read element single second at' = return_reads_after ordinal_read (return_read element (omega arith) (sym single) refl refl refl second at')
 
 -- the name is cut
-pub name_cut : (units : ℕ) {n place : ℕ} {a b : Seen} {own stop : Stop} (part : List ℕ) → n ≡ 2 * units → length part < n → Ends a b part own
+pub name_cut : (units : ℕ) {n place : ℕ} {a b : Seen} {own stop : Stop} {part : List ℕ} → n ≡ 2 * units → length part < n → Ends a b part own
     → stop ≡ began_at place own → StopsReturn (with_return_units units) a b place stop
-name_cut units {n = n} part is fewer ends stop_is =
+name_cut units {n = n} is fewer ends stop_is =
     let some : with_return_units units ≡ ReturnName n = rw is (choose_false _ _ _ (ne_eqb units 0 (λ q. omega arith))) in
-    rw some (record { at = ReturnName n; stops = part_cut _ refl refl fewer ends stop_is })
+    rw some (record { at = ReturnName n; stops = part_cut refl refl fewer ends stop_is })
 
 -- the name was read
-pub name_read : (units : ℕ) {n place place' : ℕ} {a b : Seen} (name : List ℕ) → n ≡ 2 * units → length name ≡ n → Takes a b name n
+pub name_read : (units : ℕ) {n place place' : ℕ} {a b : Seen} {name : List ℕ} → n ≡ 2 * units → length name ≡ n → Takes a b name n
     → place' ≡ place + n → ReadsReturn (with_return_units units) (ReturnHead name) a b place place'
-name_read units name is len takes at = record {
+name_read units {name} is len takes at = record {
   reads = record { bytes = name; spelt = return_name_is_read _ _ (cc); takes = rw len takes };
   place_is = rw len at;
 }
@@ -81,22 +81,22 @@ byte_read : (name : List ℕ) (byte : ℕ) (z : Bool)
 byte_read name byte z = grind (arith, known_kind)
 
 -- a type is read in its return value as by itself
-type_agrees : (name : List ℕ) (p : TypePart) → 0 < returned_type.size p → Agrees returned_type return_value (after_name name) p
-type_agrees name p h = grind (arith, byte_read, known_kind)
+type_agrees : {name : List ℕ} (p : TypePart) → 0 < returned_type.size p → Agrees returned_type return_value (after_name name) p
+type_agrees p h = grind (arith, byte_read, known_kind)
 
 -- whatever the answer is
-pub type_taken : (r : Result Kind Stop) (name head : List ℕ) (a b c : Seen) (place middle place' : ℕ) → length head ≡ 8 → Takes a b head 8
+pub type_taken : (r : Result Kind Stop) (name head : List ℕ) (a b c : Seen) (place : ℕ) {middle : ℕ} (place' : ℕ) → length head ≡ 8 → Takes a b head 8
     → middle ≡ place + 8 → IfOk r (λ kind. ReadsType (slice_index head 7) b c middle place' kind)
     → MatchResult r (λ kind. Reads returned_type TypeHead a c (KnownType kind)) (λ stop. StopsType a c (middle - 8) stop)
     → MatchResult r (λ kind. ReadsReturn (ReturnHead name) (before_value name kind) a c place place')
     (λ stop. StopsReturn (ReturnHead name) a c place stop)
-type_taken (Ok kind) name head a b c place middle place' eight takes at x y =
+type_taken (Ok kind) name head a b c place place' eight takes at x y =
     let known = rest_length_of _ _ _ x.info in
     return_reads_after (return_read _ (omega arith) refl (rw known refl) (rw known refl) eight takes at)
-    (record { reads = record { bytes = x.rest; spelt = info_is_read _ _ _ _ known x.info; takes = x.takes }; place_is = x.place_is })
-type_taken (Err stop) name head a b c place middle place' eight takes at x y =
+    (record { reads = record { bytes = x.rest; spelt = info_is_read _ _ _ known x.info; takes = x.takes }; place_is = x.place_is })
+type_taken (Err stop) name head a b c place place' eight takes at x y =
     let z = subst (λ n. StopsType a c n stop) (omega arith) y in
-    record { at = after_name name z.at; stops = stop_inside (type_agrees name) z.stops }
+    record { at = after_name name z.at; stops = stop_inside (type_agrees) z.stops }
 
 -- ---- the value
 
@@ -118,15 +118,15 @@ value_passed (Err stop) name kind {b = b} c {middle = middle} place' x y =
 -- ---- in its response
 
 -- a part of it has no text, and the area holds what it held
-open_return : (area : Space) (tokens : List Token) (p : ReturnPart) → 0 < return_size p → IsHolding area (after_tokens tokens)
+open_return : {area : Space} {tokens : List Token} (p : ReturnPart) → 0 < return_size p → IsHolding area (after_tokens tokens)
     → (text_so_far (in_return tokens) ≡ text_so_far (with_return tokens p)) × IsHolding area (with_return tokens p)
-open_return area tokens p some holds = grind arith
+open_return p some holds = grind arith
 
 module _ (charset : Charset) {tokens : List Token} {s : Progress} {u : View} {b : Seen} (begun : Begun tokens s u) where
   -- a return value stopped the call
   pub return_stops : {stop : Stop} → StopsReturn ReturnOrdinal u.seen b u.place stop → StopsQuiet charset (in_return tokens) u b stop
   return_stops x =
-      let there = open_return _ _ x.at (stops_size _ _ u.seen b _ _ _ x.stops) begun.holds in
+      let there = open_return x.at (stops_size _ _ u.seen b _ _ _ x.stops) begun.holds in
       stops_quietly there.0 there.1 begun.delivered begun.going
       (stop_inside (return_agrees charset u.area.room tokens) x.stops)
 

@@ -41,9 +41,9 @@ pub one_of_four : (P : ℕ → Type 0) (a b c d n : ℕ) → (n == a || n == b |
 one_of_four P a b c d n h pa pb pc pd = grind (arith, exactly, one_of_two, or_cases)
 
 -- what each element of bytes keeps holds at their end
-pub bytes_induct : {S : Type 0} (g : Grammar S Fault) (P : S → List ℕ → Type 0)
+pub bytes_induct : {S : Type 0} {g : Grammar S Fault} (P : S → List ℕ → Type 0)
     → ((s : S) (b e : List ℕ) → P s b → AreBytes e → IsNext g s e → P (g.add s e) (b ++ e)) → (s : S) → P s [] → (bytes : List ℕ) (t : S)
     → AreBytes bytes → Spelt g s bytes t → P t bytes
-bytes_induct g P step s begins bytes t are h =
+bytes_induct {g} P step s begins bytes t are h =
     Spelt-induct g (λ q b. AreBytes b → P q b) (λ q b e k n all. step q b e (k (AreBytes-front b e all)) (AreBytes-back b e all) n) s (λ all. begins)
     bytes t h are

@@ -16,18 +16,18 @@ pub record BeginsToken (charset : Charset) (room : ℕ) (tokens : List Token) (b
   pub text_is : text_so_far (after_tokens tokens) ≡ text_so_far to
 
 -- a description has columns
-some_columns : (bytes : List ℕ) → IsDescription bytes → 0 < length (columns_of bytes)
-some_columns bytes d = rw (description_shows _ _ _ d.2).0 d.2.some
+some_columns : {bytes : List ℕ} → IsDescription bytes → 0 < length (columns_of bytes)
+some_columns d = rw (description_shows _ _ _ d.2).0 d.2.some
 
-begins_lead : (charset : Charset) (room : ℕ) (tokens : List Token) (byte : ℕ) (described : Bool) (bytes : List ℕ) (begun : Lead)
+begins_lead : {charset : Charset} {room : ℕ} {tokens : List Token} {byte : ℕ} {described : Bool} {bytes : List ℕ} {begun : Lead}
     → lead_of byte ≡ Some begun → IsUnder described begun → bytes ≡ encoded_after [] tokens → (described ≡ true → IsDescription bytes)
     → Describe tokens described → BeginsToken charset room tokens byte (in_lead charset (columns_of bytes) begun tokens)
-begins_lead charset room tokens byte described bytes begun e under is d k = grind (arith, columns_known, no_row, some_columns, start_text)
+begins_lead e under is d k = grind (arith, columns_known, no_row, some_columns, start_text)
 
-pub begins_kind : (charset : Charset) (room : ℕ) (tokens : List Token) (byte : ℕ) (described : Bool) (bytes : List ℕ) (kind : TokenKind)
+pub begins_kind : {charset : Charset} {room : ℕ} {tokens : List Token} {byte : ℕ} {described : Bool} {bytes : List ℕ} (kind : TokenKind)
     → IsOfKind described byte kind → bytes ≡ encoded_after [] tokens → (described ≡ true → IsDescription bytes) → Describe tokens described
     → BeginsToken charset room tokens byte (in_kind charset (columns_of bytes) kind tokens)
-begins_kind charset room tokens byte described bytes kind h is d k = begins_lead _ _ _ _ _ _ _ h.0 h.1 is d k
+begins_kind kind h is d k = begins_lead h.0 h.1 is d k
 
 -- the first byte of a token is read, and nothing put for it
 abbrev first : {charset : Charset} {room byte : ℕ} {tokens : List Token} {to : Part} {a b : Seen} {h : Held} → BeginsToken charset room tokens byte to

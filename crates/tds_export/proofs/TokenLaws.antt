@@ -99,8 +99,8 @@ pub record IsBare (t : Token) : Type 0 where
   pub encoded : (before : List ℕ) → encoded_after before (t ∷ []) ≡ before
   pub columns : (before : Option (List Column)) → described_after before (t ∷ []) ≡ before
 
-pub bare : (t : Token) → is_bare t ≡ true → IsBare t
-bare t h = grind arith
+pub bare : {t : Token} → is_bare t ≡ true → IsBare t
+bare h = grind arith
 
 -- tokens with a body are so
 pub bare_body : (which : Bodied) (body : List ℕ) → is_bare (bodied which body) ≡ true
@@ -118,8 +118,8 @@ is_quiet (DoneInProc more) = true
 is_quiet t = false
 
 -- where a token begins, the tokens before it are known
-pub tracks_begun : (s : Progress) (ts : List Token) → Tracks s ts → TracksBefore (record s { is_final = false }) ts
-tracks_begun s ts k = record { report = k.report; described = k.described; final = refl }
+pub tracks_begun : {s : Progress} {ts : List Token} → Tracks s ts → TracksBefore (record s { is_final = false }) ts
+tracks_begun k = record { report = k.report; described = k.described; final = refl }
 
 -- with so many rows more
 abbrev pub with_rows : Progress → ℕ → Progress
@@ -129,29 +129,29 @@ with_rows s n = record s { report = record s.report { rows = s.report.rows + n }
 pub ruleset tracked = (described_after-append, encoded_after-append, how_many-snoc, is_final-snoc, same_first, status_after-append, uncounted)
 
 module _ {s : Progress} {ts : List Token} (k : Reflects s ts false) where
-  pub tracks_quiet : (t : Token) (final : Bool) → is_quiet t ≡ true → final ≡ is_final (t ∷ [])
+  pub tracks_quiet : (t : Token) {final : Bool} → is_quiet t ≡ true → final ≡ is_final (t ∷ [])
       → Tracks (record s { is_final = final }) (ts ++ t ∷ [])
-  tracks_quiet t final is e = grind (arith, tracked)
+  tracks_quiet t is e = grind (arith, tracked)
 
   pub tracks_body : (which : Bodied) (body : List ℕ) → is_notice which ≡ false → Tracks s (ts ++ bodied which body ∷ [])
-  tracks_body (APassed passed) body h = tracks_quiet _ _ refl k.final
+  tracks_body (APassed passed) body h = tracks_quiet _ refl k.final
   tracks_body which body h = cc
 
   pub tracks_none : Tracks (record s { described = false }) (ts ++ NoMetadata ∷ [])
   tracks_none = grind (arith, tracked)
 
-  pub tracks_metadata : (bytes : List ℕ) (columns : List Column) → columns_of bytes ≡ columns
+  pub tracks_metadata : (bytes : List ℕ) {columns : List Column} → columns_of bytes ≡ columns
       → Tracks (record s { report = record s.report { sets = s.report.sets + 1 }; described = true }) (ts ++ Metadata bytes columns ∷ [])
-  tracks_metadata bytes columns shown = grind (arith, tracked)
+  tracks_metadata bytes shown = grind (arith, tracked)
 
   pub tracks_row : (cells : List Cell) → Tracks (with_rows s 1) (ts ++ Row cells ∷ [])
   tracks_row cells = grind (arith, tracked)
 
   -- ---- ERROR and INFO
 
-  pub tracks_error : (n : Notice) (first : Option ServerError) → first ≡ option_map server_error (first_error (ts ++ Error n ∷ []))
+  pub tracks_error : (n : Notice) {first : Option ServerError} → first ≡ option_map server_error (first_error (ts ++ Error n ∷ []))
       → Tracks (record s { report = record s.report { errors = s.report.errors + 1; first_error = first } }) (ts ++ Error n ∷ [])
-  tracks_error n first e = grind (arith, tracked)
+  tracks_error n e = grind (arith, tracked)
 
   pub tracks_info : (n : Notice) → Tracks (record s { report = record s.report { infos = s.report.infos + 1 } }) (ts ++ Info n ∷ [])
   tracks_info n = grind (arith, tracked)

@@ -64,9 +64,9 @@ stops_quietly {s = s} {at = at} {h = h} same holds d going stops =
     inl (record { at = at; stops = stops; puts = same_text s at h same d; holds = holds }, going)
 
 -- a token that describes nothing leaves the area holding what it held
-pub holds-snoc : (area : Space) (tokens : List Token) (t : Token) → encoded_after (encoded_after [] tokens) (t ∷ []) ≡ encoded_after [] tokens
+pub holds-snoc : {area : Space} {tokens : List Token} (t : Token) → encoded_after (encoded_after [] tokens) (t ∷ []) ≡ encoded_after [] tokens
     → IsHolding area (after_tokens tokens) → IsHolding area (after_tokens (tokens ++ t ∷ []))
-holds-snoc area tokens t e h = grind (arith, encoded_after-append, greatest_span-append)
+holds-snoc t e h = grind (arith, encoded_after-append, greatest_span-append)
 
 module _ {tokens : List Token} {s : Progress} {u : View} (begun : Begun tokens s u) where
   -- the first element after the token byte stopped the call
@@ -91,7 +91,7 @@ module _ {tokens : List Token} {s : Progress} {u : View} (begun : Begun tokens s
       → Tracks progress (tokens ++ t ∷ [])
       → ReadsTokens g from tokens a b place place' u.held u.held progress u.area
   bare_reads {from = from} t r at none is tracks =
-      let so = bare t is in
+      let so = bare is in
       let same = text_after-snoc false tokens t ∙ ap (λ l. text tokens ++ l) (so.text (begun_after false tokens)) ∙ append-nil (text tokens) in
       record {
         more = t ∷ [];
@@ -104,15 +104,15 @@ module _ {tokens : List Token} {s : Progress} {u : View} (begun : Begun tokens s
         };
         place_is = at;
         tracks = tracks;
-        holds = holds-snoc _ _ t (so.encoded (encoded_after [] tokens)) begun.holds;
+        holds = holds-snoc t (so.encoded (encoded_after [] tokens)) begun.holds;
       }
 
 module _ (charset : Charset) {tokens : List Token} {s : Progress} {u : View} (begun : Begun tokens s u) (b : Seen) {place : ℕ} where
   -- a token with fields of a fixed length was read
-  pub fixed_reads : {progress : Progress} (which : Fixed) (fields : List ℕ) → place ≡ u.place + fields_length which
+  pub fixed_reads : {progress : Progress} {which : Fixed} (fields : List ℕ) → place ≡ u.place + fields_length which
       → length fields ≡ fields_length which → Takes u.seen b fields (fields_length which) → Tracks progress (tokens ++ fixed which fields ∷ [])
       → progress.report.errors ≡ s.report.errors → ReadsQuiet charset (in_fields which tokens) tokens u b place progress
-  fixed_reads which fields at len takes tracks same =
+  fixed_reads {which} fields at len takes tracks same =
       let next : IsNext (response charset u.area.room) (in_fields which tokens) fields =
       record { some = rw len (some_fields _); whole = len; free = refl } in
       quietly begun same (bare_reads begun (fixed which fields) (reads_one _ _ u.seen b _ _ next (rw len takes) refl) (rw len at) refl
@@ -121,13 +121,13 @@ module _ (charset : Charset) {tokens : List Token} {s : Progress} {u : View} (be
   -- a DONE or DONEPROC was read
   pub done_reads : (fields : List ℕ) → place ≡ u.place + length fields → length fields ≡ 12 → Takes u.seen b fields (length fields)
       → ReadsQuiet charset (in_done tokens) tokens u b place (record s { is_final = slice_index fields 0 % 2 == 0 })
-  done_reads fields at len takes = fixed_reads _ _ (rw len at at) len (rw len at takes)
-      (tracks_quiet begun.tracks _ _ refl (grind (arith, nat_tests))) refl
+  done_reads fields at len takes = fixed_reads _ (rw len at at) len (rw len at takes)
+      (tracks_quiet begun.tracks _ refl (grind (arith, nat_tests))) refl
 
   -- a DONEINPROC was read
   pub done_in_proc_reads : (fields : List ℕ) → place ≡ u.place + 12 → length fields ≡ 12 → Takes u.seen b fields 12
       → ReadsQuiet charset (in_done_in_proc tokens) tokens u b place s
-  done_in_proc_reads fields at len takes = fixed_reads _ _ at len takes (tracks_quiet begun.tracks _ _ refl begun.tracks.final) refl
+  done_in_proc_reads fields at len takes = fixed_reads _ at len takes (tracks_quiet begun.tracks _ refl begun.tracks.final) refl
 
 -- ---- ROW
 
@@ -146,9 +146,9 @@ abbrev row_front : (tokens : List Token) (part : RowPart) → text tokens ++ row
 row_front tokens part = simp row_text
 
 -- and while a row is read
-row_holds : (area : Space) (tokens : List Token) (part : RowPart) → IsHolding area (after_tokens tokens) → IsHolding area (with_row tokens part)
-row_holds area tokens (WholeRow cells) h = holds-snoc _ _ _ refl h
-row_holds area tokens part h = record { bytes = h.bytes; peak = h.peak }
+row_holds : {area : Space} {tokens : List Token} (part : RowPart) → IsHolding area (after_tokens tokens) → IsHolding area (with_row tokens part)
+row_holds (WholeRow cells) h = holds-snoc _ refl h
+row_holds part h = record { bytes = h.bytes; peak = h.peak }
 
 module _ (charset : Charset) (room : ℕ) {place : ℕ} {start : RowPart} {area : Space} {before after : Held} {a b : Seen} {failed : Bool} {stop : Stop}
     (tokens : List Token) where
@@ -164,7 +164,7 @@ module _ (charset : Charset) (room : ℕ) {place : ℕ} {start : RowPart} {area 
             stops = stop_inside agrees y.0;
             puts = puts_inside (row charset) _ (with_row tokens) (inside agrees) row_so_far text_so_far (text tokens) (row_front tokens) start x.at
                 before after y.1;
-            holds = row_holds area tokens x.at holds;
+            holds = row_holds {area = area} {tokens = tokens} x.at holds;
           },
           y.2,
         )
@@ -173,7 +173,7 @@ module _ (charset : Charset) (room : ℕ) {place : ℕ} {start : RowPart} {area 
             at = with_row tokens x.at;
             breaks = breaks_inside (row charset) _ (with_row tokens) (inside agrees) row_so_far text_so_far (text tokens) (row_front tokens) start a b
                 before after x.at stop y.0;
-            holds = rw ((inside agrees).add x.at y.0.element (next_some (row charset) x.at y.0.element y.0.next)) (row_holds area tokens _ holds);
+            holds = rw ((inside agrees).add x.at y.0.element (next_some (row charset) x.at y.0.element y.0.next)) (row_holds _ holds);
           },
           y.1,
         )
@@ -181,22 +181,22 @@ module _ (charset : Charset) (room : ℕ) {place : ℕ} {start : RowPart} {area 
 
 -- ---- COLMETADATA
 
-header_text : (progress : Progress) (tokens : List Token) (bytes : List ℕ) (columns : List Column) → TracksBefore progress tokens
+header_text : {progress : Progress} {tokens : List Token} (bytes : List ℕ) (columns : List Column) → TracksBefore progress tokens
     → text_so_far (in_metadata tokens) ++ (between (nat_lt 0 progress.report.sets) ++ header_line columns) ≡ text_so_far
     (after_tokens (tokens ++ Metadata bytes columns ∷ []))
-header_text progress tokens bytes columns tracks = grind (arith, append-nil, begun_after, begun_where_sets, text_after-snoc)
+header_text bytes columns tracks = grind (arith, append-nil, begun_after, begun_where_sets, text_after-snoc)
 
-metadata_holds : (area old_area : Space) (tokens : List Token) (columns : List Column) (peak : area.peak ≤ max old_area.peak (length area.bytes + 0))
+metadata_holds : {area old_area : Space} {tokens : List Token} (columns : List Column) (peak : area.peak ≤ max old_area.peak (length area.bytes + 0))
     → IsHolding old_area (after_tokens tokens) → IsHolding area (after_tokens (tokens ++ Metadata area.bytes columns ∷ []))
-metadata_holds area old_area tokens columns peak holds = grind (arith, encoded_after-append, greatest_span-append)
+metadata_holds columns peak holds = grind (arith, encoded_after-append, greatest_span-append)
 
 open_text_none : (tokens : List Token) (d : DescriptionPart) → 0 < described_size d
     → text_so_far (with_described tokens d) ≡ text_so_far (in_metadata tokens)
 open_text_none tokens d h = grind arith
 
-open_holds : (area : Space) (tokens : List Token) (k : ℕ) (d : DescriptionPart) → 0 < described_size d → area.bytes ≡ description_bytes d
+open_holds : {area : Space} (tokens : List Token) {k : ℕ} (d : DescriptionPart) → 0 < described_size d → area.bytes ≡ description_bytes d
     → area.peak ≤ max k (span d) → k ≤ max (greatest_span tokens) 0 → IsHolding area (with_described tokens d)
-open_holds area tokens k d h e p q = grind arith
+open_holds tokens d h e p q = grind arith
 
 some_bytes : (room : ℕ) (area bytes : List ℕ) (columns : List Column) → Spelt (description room) BeforeCount bytes (WholeDescription area columns)
     → 0 < length bytes
@@ -228,7 +228,7 @@ module _ (charset : Charset) {tokens : List Token} {s : Progress} {u : View} {ar
       → StopsIn charset (in_metadata tokens) u (record u { seen = b; area = area }) stop
   metadata_stops x =
       let some = stops_size _ _ u.seen b _ _ _ x.stops in
-      stops_quietly (simp open_text_none) (open_holds _ _ _ _ some x.kept x.bound begun.holds.peak) begun.delivered begun.going
+      stops_quietly (simp open_text_none) (open_holds _ _ some x.kept x.bound begun.holds.peak) begun.delivered begun.going
       (stop_inside (description_agrees charset u.area.room tokens) x.stops)
 
   module _ {columns : List Column} {place : ℕ} {after : Held} (shown : columns_of area.bytes ≡ columns)
@@ -243,10 +243,10 @@ module _ (charset : Charset) {tokens : List Token} {s : Progress} {u : View} {ar
         let put = rw shown at puts in
         quietly begun refl (record {
           more = Metadata area.bytes columns ∷ [];
-          streams = record { bytes = r.bytes; spelt = r.spelt; takes = r.takes; puts = (header, header_text s _ _ _ begun.tracks, put) };
+          streams = record { bytes = r.bytes; spelt = r.spelt; takes = r.takes; puts = (header, header_text _ _ begun.tracks, put) };
           place_is = x.place_is;
-          tracks = tracks_metadata begun.tracks _ _ shown;
-          holds = metadata_holds _ _ _ _ x.bound begun.holds;
+          tracks = tracks_metadata begun.tracks _ shown;
+          holds = metadata_holds _ x.bound begun.holds;
         })
 
     -- the description was read, and the writer failed at its header
@@ -271,18 +271,17 @@ module _ (charset : Charset) {tokens : List Token} {s : Progress} {u : View} {ar
             few = few;
             puts = same_text (in_metadata tokens) (with_described tokens l.at) u.held (sym open_text) begun.delivered;
             more = header;
-            text_is = ap (λ t. t ++ header) open_text ∙ header_text s _ _ _ begun.tracks ∙ ap text_so_far (sym l.to_is);
+            text_is = ap (λ t. t ++ header) open_text ∙ header_text _ _ begun.tracks ∙ ap text_so_far (sym l.to_is);
             breaks = rw shown at breaks;
           };
-          holds = rw l.to_is (metadata_holds _ _ _ _ x.bound begun.holds);
+          holds = rw l.to_is (metadata_holds _ x.bound begun.holds);
         }
 
 -- A token has begun where the run goes on.
 pub begun_in : {R W : Type 0} (remaining : R → Option (List ℕ)) (contents : W → Option (List ℕ)) {old : Exporter R W} {tokens : List Token}
     → IsRunning old → TracksBefore old.progress tokens → IsHolding old.description.now (after_tokens tokens) → IsNoted old.notice.now tokens
     → Begun tokens old.progress (view_of remaining contents old)
-begun_in remaining contents running tracks holds noted =
-    record { tracks = tracks; holds = holds; noted = noted; delivered = running.sink.ready.2; going = running.sink.writing }
+begun_in remaining contents running tracks holds noted = grind arith
 
 -- The token was read, or that stopped, whatever the tokens before it are.
 pub step_read : {R W U : Type 0} {remaining : R → Option (List ℕ)} {contents : W → Option (List ℕ)} {from : List Token

@@ -97,9 +97,7 @@ wire-more ps p = simp (flat_map-append, append-nil)
 parts : (m k : ℕ) (payload body : List ℕ) → length payload ≡ k * m → length body ≤ m → 0 < m → (0 < k → 0 < length body)
     → (before_last m (length (payload ++ body)) ≡ k) × (packets_before m (payload ++ body) ≡ first_packets m k payload)
     × (drop (k * m) (payload ++ body) ≡ body)
-parts m k payload body whole fits room some =
-    let number : before_last m (length (payload ++ body)) ≡ k = grind (arith, length-append, div-mul-add) in
-    (number, rw (number, first-more m k payload body (omega (arith, whole))), rw (← whole) (drop-append_seam payload body))
+parts m k payload body whole fits room some = grind (arith, length-append, div-mul-add, first-more, drop-append_seam)
 
 -- a full packet more is one of the first
 first_is : (m k n : ℕ) (payload body : List ℕ) → n ≡ suc k → length payload ≡ k * m → length body ≡ m
@@ -123,17 +121,7 @@ pub record Cutting {R W : Type 0} (remaining : R → Option (List ℕ)) (content
 pub cut_none : {R W : Type 0} (remaining : R → Option (List ℕ)) (contents : W → Option (List ℕ)) (m : ℕ) (s : PayloadOf R) (to : Counted W)
     → s.place ≡ 0 → Cutting remaining contents m (seen remaining s) s to to (record { packets = 0; bytes = 0 })
 unfolding first_packets
-cut_none remaining contents m s to e =
-    record {
-      payload = [];
-      takes = Takes-none (seen remaining s) 1;
-      whole = omega arith;
-      placed = e;
-      wrote = Appends-nil (contents to.device);
-      bytes_are = refl;
-      stays = Stays-none to.failures;
-      more = λ some. absurd (omega (arith, some));
-    }
+cut_none remaining contents m s to e = grind (arith, Takes-none, Appends-nil, Stays-none)
 
 module _ {R W : Type 0} {remaining : R → Option (List ℕ)} {contents : W → Option (List ℕ)} {a : Seen} {s t : PayloadOf R} {room : ℕ} {packet : List ℕ}
     {old mid : Counted W} {done : Written}

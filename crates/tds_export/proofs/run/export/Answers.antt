@@ -39,7 +39,7 @@ pub returns-in-Ok-clause-exports : goal.returns-in-Ok-clause-exports
 returns-in-Ok-clause-exports g c =
     record {
       gives = grind (arith, all_read g c);
-      tells = grind (arith, report_tells (reported g c) c.in-Ok.report (all_read g c));
+      tells = grind (arith, report_tells (all_read g c));
       failed_reads = tt;
       failed_writes = tt;
     }
@@ -70,9 +70,7 @@ read_so_far : (g : Over) (c : goal.After-to-in-Err-1 g) → StopsExport (stopped
 read_so_far g c =
     let emptied = rooms c.args.areas.now c.restart.new.self c.requires c.restart.ensures.emptied in
     let limit : c.max_wire-max_wire.result ≡ c.args.areas.now.limits.max_wire = search rules in
-    stops_export (stopped g c) (seen g.R.Read.remaining c.new-payload.result) (seen g.R.Read.remaining c.read_response.new.payload)
-    (held g.W.Write.contents c.new-sink.result) (held g.W.Write.contents c.read_response.new.sink) (held g.W.Write.contents c.stop_at.new.sink) _
-    _ _ _ _ _ _
+    stops_export
     c.new-payload.ensures.begun.begins emptied.0 limit c.new-sink.ensures.held emptied.1 c.new-payload.ensures.begun.place
     (record { left = refl; failures = refl }) (record { has = refl; waiting = refl; failures = refl }) c.in-Err.ensures.gives c.stop_at.ensures.tidied
     (λ failed. ap (held g.W.Write.contents) (c.stop_at.ensures.failed failed)) c.stop_at.ensures.stop
@@ -80,10 +78,10 @@ read_so_far g c =
 
 pub returns-in-Err-clause-exports : goal.returns-in-Err-clause-exports
 returns-in-Err-clause-exports g c =
-    let blame = blamed (stopped g c) c.stop_at.result (read_so_far g c) in
+    let blame = blamed (read_so_far g c) in
     record {
       gives = grind (arith, read_so_far g c);
-      tells = grind (arith, stop_tells (stopped g c) c.stop_at.result (read_so_far g c));
+      tells = grind (arith, stop_tells (read_so_far g c));
       failed_reads = λ e. let r = blame.0 e in grind (arith, r);
       failed_writes = λ e. let r = blame.1 e in grind (arith, r);
     }

@@ -4,7 +4,7 @@ use Rattle.tds_export.proofs.{Words.{passed, refl, rules}, TokenSteps.{done_in_p
 pub returns-in_err-pass : goal.returns-in_err-pass
 returns-in_err-pass g c = step_read c.requires.running (search rules) (λ tokens begun.
     let cut = c.in_err-pass.ensures.part c.requires.running.payload.going in
-    passed _ _ _ _ c.from_residual.ensures.1 (stops_first begun refl refl (part_cut cut.part refl refl cut.fewer cut.ends cut.stop_is)))
+    passed _ _ _ _ c.from_residual.ensures.1 (stops_first begun refl refl (part_cut refl refl cut.fewer cut.ends cut.stop_is)))
 
 pub returns : goal.returns
 returns g c = step_read c.requires.running (search rules) (λ tokens begun.

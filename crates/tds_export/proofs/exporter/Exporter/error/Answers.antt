@@ -22,7 +22,7 @@ returns g c =
     step_read c.requires.running (search (
       rules,
       subst (λ (s : Space). s.peak ≤ s.room) (sym c.utf16_into.ensures)
-          (within_room cleared (characters c.message_of.result.now) empty c.clear.ensures.peak),
+          (within_room (characters c.message_of.result.now) empty c.clear.ensures.peak),
     )) (λ tokens begun.
     let none : c.args.self.now.progress.report.errors ≡ 0 = grind (arith, nat_tests, c.if-self-gt1.false) in
     let body : c.bytes-body.result.now ≡ c.take_notice.new.token.bytes = c.bytes-body.ensures.value in

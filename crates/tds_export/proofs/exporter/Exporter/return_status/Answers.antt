@@ -8,9 +8,9 @@ use Rattle.tds_export.proofs.{
   TokenLaws.tracked,
 }
 
-tracks_status : (s : Progress) (ts : List Token) (n : ℕ) (status : ℤ) → status ≡ signed n → TracksBefore s ts
+tracks_status : {s : Progress} {ts : List Token} (n : ℕ) {status : ℤ} → status ≡ signed n → TracksBefore s ts
     → Tracks (record s { report = record s.report { return_status = Some status } }) (ts ++ ReturnStatus n ∷ [])
-tracks_status s ts n status e k = grind (arith, tracked)
+tracks_status n e k = grind (arith, tracked)
 
 pub returns-in_err-fill : goal.returns-in_err-fill
 returns-in_err-fill g c = step_read c.requires.running (search rules) (λ tokens begun.
@@ -26,5 +26,5 @@ returns g c = step_read c.requires.running (search rules) (λ tokens begun.
     let kept : status ≡ c.read_i32-status.result = search rules in
     let is : status ≡ signed (little fields) = kept ∙ c.read_i32-status.ensures ∙ signed_is (little_number 4 fields)
     ∙ ap (λ n. signed (little_number n fields)) (sym four) in
-    fixed_reads _ begun _ AStatus fields (c.in_ok-fill.ensures.place ∙ ap (λ n. c.args.self.now.payload.now.place + n) four) four
-    (rw four at c.in_ok-fill.ensures.all) (tracks_status c.args.self.now.progress tokens (little fields) status is begun.tracks) refl)
+    fixed_reads _ begun _ fields (c.in_ok-fill.ensures.place ∙ ap (λ n. c.args.self.now.payload.now.place + n) four) four
+    (rw four at c.in_ok-fill.ensures.all) (tracks_status (little fields) is begun.tracks) refl)

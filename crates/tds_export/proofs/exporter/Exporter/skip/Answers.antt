@@ -20,7 +20,7 @@ returns-in_err-pass-clause-gives g c = λ which quiet tokens tracks holds noted.
           ∙ c.read_u16-length.ensures;
       takes = c.in_ok-fill.ensures.all;
       at = c.in_ok-fill.ensures.place;
-    }) cut.part cut.fewer cut.ends cut.stop_is)
+    }) cut.fewer cut.ends cut.stop_is)
 
 pub returns-clause-gives : goal.returns-clause-gives
 returns-clause-gives g c = λ which quiet tokens tracks holds noted.
