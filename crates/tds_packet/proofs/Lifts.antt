@@ -23,7 +23,7 @@ module _ {S T : Type 0} (small : Grammar S Fault) (big : Grammar T Fault) (lift 
       → StopsReading small from a b place at stop → StopsReading big (lift from) a b place (lift at) stop
   stops_inside from a b place at stop end r = record {
     bytes = r.bytes;
-    spelt = Inside-Spelt small big lift is from r.bytes at r.spelt;
+    spelt = Inside-Spelt _ _ _ is _ _ at r.spelt;
     cause = elim r.cause [ inl x ↦ inl (grind (arith, is.size at, is.fault at x.0.element)) | inr x ↦ inr (grind (arith, is.size at)) ];
   }
 
@@ -53,5 +53,5 @@ module _ {S T : Type 0} (small : Grammar S Fault) (big : Grammar T Fault) (lift 
   last_inside from bytes to spelt some = rw spelt.joined at (elim spelt.elements as (λ es. concat es ≡ bytes → Leads small from es to
       → LastInside from (concat es) to) [
         | [] ↦ λ e leads. absurd (omega (arith, ap length e))
-        | ◌∷◌ e (es → _) ↦ λ _ leads. last_of _ _ _ e _ _ (Spelt-none small from) leads
+        | ◌∷◌ e (es → _) ↦ λ _ leads. last_of _ _ _ e _ _ (Spelt-none _ _) leads
       ] spelt.joined spelt.leads)

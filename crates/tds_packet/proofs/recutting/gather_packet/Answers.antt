@@ -21,7 +21,7 @@ returns-then-n-eq0-clause-body g c =
     search rules in
     let none : c.min-n.result ≡ 0 = search rules in
     let ready = c.in_ok-at_end.ensures.tells.ready more in
-    gathered_ok _ _ c.loop-payload.payload c.at_end.new.self _ _ inv.body c.in_ok-at_end.ensures.gives c.in_ok-at_end.ensures.payload.place false
+    gathered_ok _ _ _ _ _ _ inv.body c.in_ok-at_end.ensures.gives c.in_ok-at_end.ensures.payload.place
     c.in_ok-at_end.ensures.between (λ e. cc) (λ _. (
       omega (arith, inv.body.fits, room, up, none, ready),
       ready,
@@ -30,8 +30,8 @@ returns-then-n-eq0-clause-body g c =
 
 pub returns-clause-body : goal.returns-clause-body
 returns-clause-body g c =
-    gathered_ok _ _ c.loop-payload.payload c.at_end.new.self _ _ c.loop-payload.invariant.body c.in_ok-at_end.ensures.gives
-    c.in_ok-at_end.ensures.payload.place true c.in_ok-at_end.ensures.between (λ _. c.in_ok-at_end.ensures.tells.over (search rules)) (λ e. cc)
+    gathered_ok _ _ _ _ _ _ c.loop-payload.invariant.body c.in_ok-at_end.ensures.gives
+    c.in_ok-at_end.ensures.payload.place c.in_ok-at_end.ensures.between (λ _. c.in_ok-at_end.ensures.tells.over (search rules)) (λ e. cc)
 
 pub loop-payload-preserved : goal.loop-payload-preserved
 loop-payload-preserved g c =
@@ -50,6 +50,5 @@ loop-payload-preserved g c =
       going = search rules;
       same = search rules;
       room = room ∙ inv.room;
-      body = rw grown (gathered_more _ _ c.loop-payload.payload t _ packet inv.body c.in_ok-at_end.ensures.gives c.in_ok-at_end.ensures.payload.place
-          c.consume.new.self piece c.consume.ensures.gives (omega (arith, far, len)) (omega (arith, len, up, inv.body.fits, here)));
+      body = rw grown (gathered_more _ _ _ t _ _ inv.body c.in_ok-at_end.ensures.gives c.in_ok-at_end.ensures.payload.place _ c.consume.ensures.gives (omega (arith, far, len)) (omega (arith, len, up, inv.body.fits, here)));
     }

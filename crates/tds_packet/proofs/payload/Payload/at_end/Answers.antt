@@ -21,7 +21,7 @@ returns-in-MessageEnded-clause-tells g c =
     }
 
 pub returns-in-Some-clause-gives : goal.returns-in-Some-clause-gives
-returns-in-Some-clause-gives g c = stopped_ends g.R.Read.remaining c.args.self.now _ c.in-Some.is
+returns-in-Some-clause-gives g c = stopped_ends g.R.Read.remaining c.args.self.now c.in-Some.is
 
 pub returns-in-Ok-clause-between : goal.returns-in-Ok-clause-between
 returns-in-Ok-clause-between g c = between_of g.R.Read.remaining c.ready.new.self c.in-Ok.ensures.payload.answers.going
