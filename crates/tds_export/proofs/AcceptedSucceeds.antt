@@ -98,7 +98,7 @@ none_stops : (run : Run) (fault : Fault) (place : Place) → Stops run fault pla
     → (FailsToRead run.given → ⊥) → (FailsToWrite run.given → ⊥) → ⊥
 none_stops run fault (Payload place) x tokens packets a reads writes = elim x.first [
   | inl r ↦ (let b = read_begin x.stands a in
-      refused_accepted run b.0 (rw b.1 at a.response) x.leads r.0)
+      refused_accepted run _ (rw b.1 at a.response) x.leads r.0)
   | inr r ↦ (let same = one_message _ _ _ _ _ _ _ _ (record { spelt = refl; each = r.0; within = x.stands.within }) a.message (x.stands.begin
       ∙ a.begins) in
       ended_accepted run tokens (payload_of x.packets) place x.part fault (rw same a.response) x.leads r.2)

@@ -117,7 +117,7 @@ module _ (column : ℕ) where
   chunk_ends {c} {total} (suc left) {content} plain =
       let to : cell_add (ChunkData c total (suc left) content) (0 ∷ []) ≡ ChunkData c total left (content ++ 0 ∷ []) = grind (arith, nat_tests) in
       let one = spelt_one (omega arith) refl (rw (plain_begun c (content ++ 0 ∷ []) plain) refl) to in
-      rw (← zeros_next left, ← append_assoc content (0 ∷ []) (zeros (left + 1))) (spelt_both one (chunk_ends left plain))
+      rw (← zeros_next left, ← append_assoc content (0 ∷ []) (zeros (left + 1))) (spelt_both one (chunk_ends _ plain))
 
   -- so many chunks of one zero byte, and the terminator
   chunks_end : {c : Conversion} {total : Option ℕ} (n : ℕ) {content : List ℕ} → is_plain c ≡ true → is_total total (length content + n) ≡ true
@@ -256,5 +256,5 @@ row_ends (Bitmap columns) (some, h) =
     let clear = marked_clear _ _ 0 (clear_at n) in
     let more = cells_end _ _ (subst AreMarkedValid clear (marked_valid _ _ 0 h)) in
     (more.0, spelt_both (rw clear at one) more.1)
-row_ends (InCell cells part ks) (begun, h, m) = rw (← stays_open begun) (part_ends _ _ _ h (λ b. cells_end b ks m))
+row_ends (InCell cells part ks) (begun, h, m) = rw (← stays_open begun) (part_ends _ _ _ h (λ b. cells_end b _ m))
 row_ends (WholeRow cells) h = (cells, Spelt-none _ _)

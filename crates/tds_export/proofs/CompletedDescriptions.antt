@@ -5,10 +5,9 @@ use Rattle.tds_export.proofs.{
   Words.{bare_type, choose, choose_false, choose_true, columns_are_read, description, eq_false, eq_true, fits_in, if◌then◌else◌, int_column, int_columns},
   Words.{is_some, is_some_value, is_valid, known_type, least_info, length, length-append, length-replicate, more, named_kind, nat_tests, ne_eqb, not_long},
   Words.{not_zero, refl, replicate, rest_length, rest_of_description, room_for, suc, true, valid_of, with_column, with_kind, zero, zeros, ℕ, ◌*◌, ◌++◌, ◌+◌},
-  Words.{◌-◌, ◌<◌, ◌==◌, ◌∙◌, ◌∷◌, ◌≡◌, ◌≤◌, ⊤},
+  Words.{◌-◌, ◌<◌, ◌==◌, ◌∙◌, ◌∷◌, ◌≡◌, ◌≤◌, ⊤, some_kind},
   CompletedCells.AreValid,
   LeastTypes.least_type,
-  ReturnLaws.some_kind,
   Cuts.{spelt_both, spelt_one},
 }
 

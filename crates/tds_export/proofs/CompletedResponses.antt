@@ -179,7 +179,7 @@ module _ (room : ℕ) where
   token_ends ten tokens (TokenLength b) o =
       let free = length_free room tokens b (14 ∷ 0 ∷ []) (λ e. omega arith) refl in (
         tokens ++ bodied b (zeros 14) ∷ [],
-        body_is_read Windows1252 room (14 ∷ 0 ∷ []) (zeros 14) refl refl free
+        body_is_read Windows1252 _ (14 ∷ 0 ∷ []) (zeros 14) refl refl free
             (body_free b (zeros 14) (λ e. zeros_hold 14 (omega arith))),
       )
   token_ends ten tokens (TokenBody b n) (some, long) =

@@ -4,9 +4,9 @@ use Rattle.tds_export.proofs.{
   Words.{ReturnOrdinal, ReturnPart, ReturnValue, ScalarLength, Some, Spelt, Spelt-none, WholeReturn, [], ap, arith, bare_type, begun, choose, eq_false},
   Words.{eq_true, if◌then◌else◌, is_some, is_some_value, is_valid, least_info, length-replicate, more, named_kind, refl, rest_length, rest_of_cell},
   Words.{rest_of_return, rest_of_return_head, rest_of_value, return_add, return_column, return_value, true, valid_of, with_return_kind, with_value, zeros, ℕ},
-  Words.{◌++◌, ◌<◌, ◌∷◌, ◌≡◌, ⊤},
+  Words.{◌++◌, ◌<◌, ◌∷◌, ◌≡◌, ⊤, some_kind},
   CompletedCells.{CellReached, cell_ends, cell_keeps, start_reached, IsOpenCell},
-  ReturnLaws.{accepted, some_kind, spelt_inside, value_agrees},
+  ReturnLaws.{accepted, spelt_inside, value_agrees},
   LeastTypes.least_type,
   Cuts.{spelt_both, spelt_one},
 }
@@ -28,7 +28,7 @@ kind_reached name is v = rw is (value_reached _ _ _ (start_reached _ v))
 pub return_keeps : (p : ReturnPart) {e : List ℕ} → AreBytes e → ReturnReached p → IsNext return_value p e → ReturnReached (return_add p e)
 return_keeps ReturnNameCount are h n = grind (arith, choose, eq_false)
 return_keeps (ReturnHead name) are h n = grind (arith, accepted, bare_type, choose, eq_false, eq_true, kind_reached, valid_of)
-return_keeps (ReturnInfo name byte) {e} are h n = let k = is_some_value _ (some_kind _ n.free) in kind_reached _ k.1 (valid_of _ (byte ∷ e) k.1)
+return_keeps (ReturnInfo name byte) {e} are h n = let k = is_some_value _ (some_kind _ _ n.free) in kind_reached _ k.1 (valid_of _ (byte ∷ e) k.1)
 return_keeps (InReturnCell name kind part) {e} are (begun, h) n =
     value_reached _ _ _ (cell_keeps _ _ are h (record { some = n.some; whole = n.whole; free = n.free }))
 return_keeps p are h n = tt

@@ -32,7 +32,7 @@ module _ (charset : Charset) {tokens : List Token} {s : Progress} {u : View} {b 
     -- an INFO was read
     pub info_reads : ReadsNotice charset u.area.room tokens AnInfo u.seen b u.place place body
         → ReadsQuiet charset (in_length AnInfo tokens) tokens u b place (record s { report = record s.report { infos = s.report.infos + 1 } })
-    info_reads x = quietly begun refl (bare_reads begun _ x.reads x.place_is refl refl (tracks_info begun.tracks (notice_of body)))
+    info_reads x = quietly begun refl (bare_reads begun _ x.reads x.place_is refl refl (tracks_info begun.tracks _))
 
     abbrev error_reads : {first : Option ServerError} → first ≡ option_map server_error (first_error (tokens ++ Error (notice_of body) ∷ []))
         → ReadsNotice charset u.area.room tokens AnError u.seen b u.place place body

@@ -79,7 +79,7 @@ module _ (run : Run) {q : Seen} {part : Part} {bytes : List ℕ} (side : ReaderS
       packets = m.packets;
       part = part;
       stands = record { begin = m.begin; each = inl m.each; within = m.within };
-      leads = rw m.payload_is (longest_cut (grammar run) _ _ _ _ spelt short);
+      leads = rw m.payload_is (longest_cut _ _ _ _ _ spelt short);
       first = inr (m.each, (omega arith, rw (rest_of _ m.payload_is) short), end);
       written = text;
       kept = kept m.packets;
@@ -113,7 +113,7 @@ module _ (run : Run) {q : Seen} {part : Part} {bytes : List ℕ} (side : ReaderS
   cut_stops : {stop : Stop} → CutsNext (grammar run) (start run) q bytes 0 part stop → Stops run stop.fault stop.place
   cut_stops c = elim (ends_front _ _ _ _ _ q _ _ side.bytes side.left c.ends) [
     | inl m ↦ elim c.stop_is [
-      | inl e ↦ rw (e.1.2 ∙ ap (λ n. record { fault = e.1.0; place = Payload n }) (zero _)) (ended_in_payload c.part c.cut m e.1.1)
+      | inl e ↦ rw (e.1.2 ∙ ap (λ n. record { fault = e.1.0; place = Payload n }) (zero _)) (ended_in_payload _ c.cut m e.1.1)
       | inr e ↦ absurd (e.0 (cc))
     ]
     | inr x ↦ elim c.stop_is [
@@ -121,7 +121,7 @@ module _ (run : Run) {q : Seen} {part : Part} {bytes : List ℕ} (side : ReaderS
         | inl y ↦ (cc)
         | inr y ↦ wire_goes_on _ _ _ _ _ y.0 e.0
       ])
-      | inr e ↦ rw e.1 (subst (Stops run c.own.fault) (sym x.place) (stopped_on_wire c.part c.cut x))
+      | inr e ↦ rw e.1 (subst (Stops run c.own.fault) (sym x.place) (stopped_on_wire _ c.cut x))
     ]
   ]
 
@@ -130,6 +130,6 @@ pub reading_stops : {run : Run} {q : Seen} {at : Part} {stop : Stop} → ReaderS
     → StopsReading (grammar run) response_start (start run) q 0 at stop → IsHolding run.given.after.areas.description at
     → text_put run ≡ text_so_far at → Stops run stop.fault stop.place
 reading_stops {run} side s holds text = elim s.cause [
-  | inl r ↦ rw (r.1 ∙ ap Payload (zero _)) (refused_in_payload run side s.spelt holds text r.0)
-  | inr c ↦ cut_stops run side s.spelt holds text c
+  | inl r ↦ rw (r.1 ∙ ap Payload (zero _)) (refused_in_payload _ side s.spelt holds text r.0)
+  | inr c ↦ cut_stops _ side s.spelt holds text c
 ]

@@ -64,14 +64,14 @@ bounded run at are r peak =
     let b = front_begins size r.rest r.packets r.begin r.each r.within l.2 in
     let split = ap payload_of (sym b.1) ∙ flat_map-append _ r.packets b.0 ∙ ap (λ v. v ++ payload_of b.0) r.payload_is
     ∙ append_assoc r.bytes r.more (payload_of b.0) in
-    let longest = some_longest g response_start (payload_of front) in
-    let f = further g response_start at longest.1 r.bytes (r.more ++ payload_of b.0) longest.0 r.spelt (rw (← split) longest.2) in
-    let least = span_along run.given.charset (limits run).column_room at longest.1 f.0 f.1 in
+    let longest = some_longest g _ _ in
+    let f = further g _ at longest.1 r.bytes (r.more ++ payload_of b.0) longest.0 r.spelt (rw (← split) longest.2) in
+    let least = span_along _ _ at longest.1 f.0 f.1 in
     record {
       packets = front;
       place = longest.0;
       part = longest.1;
-      front = read_front size limit run.input l.0 l.1 are l.2;
+      front = read_front _ _ _ _ _ are l.2;
       leads = longest.2;
       description = omega arith;
     }

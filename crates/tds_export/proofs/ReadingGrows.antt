@@ -5,9 +5,8 @@ use Rattle.tds_export.proofs.{
   Words.{add_described, after_first, append-nil, arith, bare_type, begun, bodied, choose, described_after, description, eq_true, false, fixed, greatest_span},
   Words.{grows_all, grows_same, grows_trans, grows_under, is_some_value, known_type, length-append, little, max, nbc_row_start, open_span, open_text, part_add},
   Words.{response, return_add, row, row_grows, row_so_far, row_start, span, span_so_far, start_of_row, text, text_after, text_so_far, with_described},
-  Words.{with_return, with_row, with_token, ℕ, ◌++◌, ◌==◌, ◌∷◌, ◌≡◌, ◌≤◌, ⊤},
+  Words.{with_return, with_row, with_token, ℕ, ◌++◌, ◌==◌, ◌∷◌, ◌≡◌, ◌≤◌, ⊤, some_kind},
   TokenLaws.{begun_after, greatest_span-append, text_after-snoc},
-  ReturnLaws.some_kind,
   ResponseLaws.part_at,
 }
 
@@ -94,7 +93,7 @@ module _ (charset : Charset) (room : ℕ) where
   text_along {p} {q} s =
       let adds = λ (r : Part) (b e : List ℕ) (h : Grows (text_so_far p) (text_so_far r)) (n : IsNext _ r e).
       grows_trans _ _ _ h (part_grows _ _ e n) in
-      Spelt-induct _ (λ r b. Grows (text_so_far p) (text_so_far r)) adds p (grows_same _) _ q s
+      Spelt-induct _ _ adds p (grows_same _) _ q s
 
   -- and to the span
   pub span_along : (p q : Part) (bytes : List ℕ) → Spelt (response charset room) p bytes q → span_so_far p ≤ span_so_far q

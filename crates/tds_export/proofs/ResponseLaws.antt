@@ -17,9 +17,9 @@ use Rattle.tds_export.proofs.{
 pub described_after-append : (before : Option (List Column)) (a b : List Token)
     → described_after before (a ++ b) ≡ described_after (described_after before a) b
 described_after-append before [] b = refl
-described_after-append before (Metadata bytes columns ∷ a) b = described_after-append (Some columns) a b
-described_after-append before (NoMetadata ∷ a) b = described_after-append None a b
-described_after-append before (t ∷ a) b = described_after-append before a b
+described_after-append before (Metadata bytes columns ∷ a) b = described_after-append _ a b
+described_after-append before (NoMetadata ∷ a) b = described_after-append _ a b
+described_after-append before (t ∷ a) b = described_after-append _ a b
 
 -- what is described has columns
 abbrev HasColumns : Option (List Column) → Type 0
@@ -134,7 +134,7 @@ module _ (charset : Charset) (room : ℕ) where
       let read = spelt_inside (row_agrees tokens) (row_is_read _ _ _ _ h.1) in
       lead_then ARow h.0 (cc) (rw is read)
   row_token_is_read {tokens} (Some columns) cells {bytes} is some (rest, inr h) =
-      let read = spelt_inside (row_agrees tokens) (nbc_row_is_read _ _ _ _ (omega arith) h.1) in
+      let read = spelt_inside (row_agrees _) (nbc_row_is_read _ _ _ _ (omega arith) h.1) in
       lead_then AnNbcRow h.0 (cc) (rw is read)
 
   -- what spells a token is read as it

@@ -52,7 +52,7 @@ notice_spelt body h =
     let after : drop 6 body ≡ take 2 (drop 6 body)
     ++ (take (2 * u) (drop 8 body) ++ (s ∷ (take (2 * s) (drop (sa + 1) body)
     ++ (p ∷ (take (2 * p) (drop (pa + 1) body) ++ (take 4 (drop la body) ++ drop (la + 4) body)))))) =
-    piece body 6 2 8 refl (piece body 8 (2 * u) sa refl
+    piece body 6 2 8 refl (piece body 8 (2 * u) _ refl
     (counted_at body t.0 refl (counted_at body t.1 refl (piece body la 4 (la + 4) refl refl)))) in
     let all = sym (take-append-drop 4 body) ∙ ap (λ v. take 4 body ++ v)
     (byte_at body (omega (arith, t.0)) (byte_at body (omega (arith, t.0)) after)) in
@@ -65,7 +65,7 @@ notice_spelt body h =
       procedure = take (2 * p) (drop (pa + 1) body);
       last = take 4 (drop la body);
       ignored = drop (la + 4) body;
-      spelt = regroup (take 4 body) (slice_index body 4) (slice_index body 5) _ _ _ _ _ (drop (la + 4) body) all s_is p_is;
+      spelt = regroup _ _ _ _ _ _ _ _ _ all s_is p_is;
       number = (length-take-le 4 body (omega arith), refl);
       message = (long body 6 2 (omega arith), long body 8 (2 * u) (omega arith));
       servers = omega arith;
@@ -214,11 +214,11 @@ module _ (charset : Charset) (room : ℕ) where
       body_means (further e h (cc, (omega arith))) n.free
   part_step {tokens} (Fields f) b {e} bytes h n =
       let to : AfterLead tokens (WithFields f) (λ rest. rest ≡ e) (b ++ e) = further e h (cc) in
-      token_means (fixed f e) to (fixed_spelt _ _ _ f (to.first, cc, to.begins) n.whole)
+      token_means _ to (fixed_spelt _ _ _ f (to.first, cc, to.begins) n.whole)
 
   -- What is read as a part of a response is spelt so.
   part_is_spelt : {bytes : List ℕ} {p : Part} → AreBytes bytes → Spelt (response charset room) response_start bytes p → PartMeans p bytes
-  part_is_spelt {p} are h = bytes_induct PartMeans (λ q b e k are n. part_step _ b are k n) _ refl _ p are h
+  part_is_spelt {p} are h = bytes_induct _ (λ q b e k are n. part_step _ b are k n) _ refl _ p are h
 
   -- What is read between tokens, after a final one, is a response.
   pub response_is_spelt : {payload : List ℕ} {tokens : List Token} → AreBytes payload → is_final tokens ≡ true

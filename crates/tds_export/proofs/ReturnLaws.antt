@@ -6,7 +6,7 @@ use Rattle.tds_export.proofs.{
   Words.{choose_false, choose_true, eq_true, get_or-append_seam, if◌then◌else◌, is_some, is_some_value, kind_of, length, length-append, nat_tests, ne_eqb},
   Words.{one_byte, refl, rest_length, return_add, return_charset, return_column, return_value, shape, shape-HasBytes, split_last, start_means, sym, true},
   Words.{type_fault, with_return_kind, with_return_type, with_return_units, with_value, ℕ, ◌*◌, ◌++◌, ◌<◌, ◌∙◌, ◌∷◌, ◌≡◌, Reads, StopsReading, Seen, Stop},
-  Words.{reads_inside, stops_inside, stops_size},
+  Words.{reads_inside, stops_inside, stops_size, some_kind},
   Cuts.{spelt_both, spelt_one},
 }
 
@@ -34,7 +34,7 @@ module _ {S T : Type 0} {small : Grammar S Fault} {big : Grammar T Fault} {lift 
     -- and so is what stops it
     pub stop_inside : {a b : Seen} {place : ℕ} {stop : Stop} → StopsReading small s a b place t stop
         → StopsReading big (lift s) a b place (lift t) stop
-    stop_inside {a = a} {b = b} x = stops_inside _ _ lift inside _ a b _ _ _ (all _ (stops_size _ _ a b _ _ _ x)).end x
+    stop_inside {a = a} {b = b} x = stops_inside _ _ _ inside _ a b _ _ _ (all _ (stops_size _ _ a b _ _ _ x)).end x
 
 -- a value is read in its token as by itself
 pub value_agrees : (name : List ℕ) (kind : Kind) (p : CellPart) → 0 < (cell return_column).size p
@@ -63,8 +63,8 @@ info_is_read name byte (x ∷ xs) n k = grind (arith, Spelt-step, choose_false, 
 -- What spells a return value is read as it.
 pub return_is_read : {r : ReturnValue} {bytes : List ℕ} → SpellsReturnValue r bytes → Spelt return_value ReturnOrdinal bytes (WholeReturn r)
 return_is_read {r} h =
-    let info = byte_and_rest r.kind h.info h.type in
-    let type = spelt_both (head_is_read h.ignored info.byte h.seven info.whole)
+    let info = byte_and_rest _ _ h.type in
+    let type = spelt_both (head_is_read _ _ h.seven info.whole)
     (info_is_read r.name info.byte info.rest info.whole info.allowed) in
     let same = append_assoc h.ignored (info.byte ∷ []) info.rest ∙ ap (λ v. h.ignored ++ v) (sym info.spelt) in
     let value = spelt_inside (value_agrees r.name r.kind) (cell_is_read return_column r.kind _ r.value h.value (shape-HasBytes return_charset r.kind)
@@ -114,9 +114,6 @@ type_begins name byte n b front ignored spelt named seven known =
     value_begins _ _ k.1 spelt named seven k.1)
     (λ z. (front, ignored, spelt, named, seven, n, known))
 
-pub some_kind : (o : Option Kind) → (if is_some o then None else Some (BadTypeInfo return_column)) ≡ None → is_some o ≡ true
-some_kind o q = grind arith
-
 -- each element keeps the meaning
 pub return_step : (p : ReturnPart) (b e : List ℕ) → AreBytes e → ReturnMeans p b → IsNext return_value p e → ReturnMeans (return_add p e) (b ++ e)
 return_step ReturnOrdinal b e bytes h n = cc
@@ -127,7 +124,7 @@ return_step (ReturnHead name) b e bytes h n =
     let s = split_last 7 e n.whole in
     grind (arith, split_last, get_or-append_seam, accepted, ReturnMeans, type_begins)
 return_step (ReturnInfo name byte) b e bytes h n =
-    let k = is_some_value _ (some_kind _ n.free) in
+    let k = is_some_value _ (some_kind _ _ n.free) in
     value_begins _ _ k.1 (ap (λ v. v ++ e) h.2 ∙ append_assoc h.0 (h.1 ++ byte ∷ []) e
     ∙ ap (λ v. h.0 ++ v) (append_assoc h.1 (byte ∷ []) e)) h.3 h.4 k.1
 return_step (InReturnCell name kind part) b e bytes h n =

@@ -45,7 +45,7 @@ module _ {a : Seen} (b : Seen) {place one : ℕ} (ordinal : List ℕ) (counted :
     -- the ordinal and the count of the name's units were read
     pub front_read : {c : Seen} {two : ℕ} (element : List ℕ) → length element ≡ 1 → Takes b c element (length element) → two ≡ one + length element
         → ReadsReturn ReturnOrdinal (with_return_units (slice_index element 0)) a c place two
-    front_read element single second at' = return_reads_after ordinal_read (return_read element (omega arith) (sym single) refl refl refl second at')
+    front_read element single second at' = return_reads_after ordinal_read (return_read _ (omega arith) (sym single) refl refl refl second at')
 
 -- the name is cut
 pub name_cut : (units : ℕ) {n place : ℕ} {a b : Seen} {own stop : Stop} {part : List ℕ} → n ≡ 2 * units → length part < n → Ends a b part own
@@ -110,10 +110,10 @@ value_passed (Ok u) name kind {b = b} c place' x y =
     record {
       value = record { name = name; kind = kind; value = y.value };
       steps = return_reads_after x
-          (record { reads = read_inside (value_agrees name kind) y.steps.reads; place_is = y.steps.place_is });
+          (record { reads = read_inside (value_agrees _ _) y.steps.reads; place_is = y.steps.place_is });
     }
 value_passed (Err stop) name kind {b = b} c {middle = middle} place' x y =
-    return_stops_after x (record { at = with_value name kind y.at; stops = stop_inside (value_agrees name kind) y.stops })
+    return_stops_after x (record { at = with_value name kind y.at; stops = stop_inside (value_agrees _ _) y.stops })
 
 -- ---- in its response
 
@@ -126,13 +126,13 @@ module _ (charset : Charset) {tokens : List Token} {s : Progress} {u : View} {b 
   -- a return value stopped the call
   pub return_stops : {stop : Stop} → StopsReturn ReturnOrdinal u.seen b u.place stop → StopsQuiet charset (in_return tokens) u b stop
   return_stops x =
-      let there = open_return x.at (stops_size _ _ u.seen b _ _ _ x.stops) begun.holds in
+      let there = open_return _ (stops_size _ _ _ b _ _ _ x.stops) begun.holds in
       stops_quietly there.0 there.1 begun.delivered begun.going
-      (stop_inside (return_agrees charset u.area.room tokens) x.stops)
+      (stop_inside (return_agrees _ _ _) x.stops)
 
   -- a return value was read
   pub return_reads : {place : ℕ} → ReadsValue u.seen b u.place place
       → ReadsQuiet charset (in_return tokens) tokens u b place (record s { report = record s.report { return_values = s.report.return_values + 1 } })
   return_reads x =
-      let r = read_inside (return_agrees charset u.area.room tokens) x.steps.reads in
-      quietly begun refl (bare_reads begun _ r x.steps.place_is refl refl (tracks_returned begun.tracks x.value))
+      let r = read_inside (return_agrees _ _ _) x.steps.reads in
+      quietly begun refl (bare_reads begun _ r x.steps.place_is refl refl (tracks_returned begun.tracks _))

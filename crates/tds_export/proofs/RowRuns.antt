@@ -137,4 +137,4 @@ module _ (which : RowToken) (charset : Charset) {columns : List Column} {after :
       let x = rw shown at y in
       let known = columns_known tokens described begun.holds.bytes begun.tracks.described in
       stops_further (rows_stream _ _ _ _ _ known x.streams) {middle = u.place + length x.streams.bytes} refl
-      (row_stops charset u.area.room _ (rows_hold u.area tokens x.earlier begun.holds) x.stops)
+      (row_stops _ _ _ (rows_hold _ _ x.earlier begun.holds) x.stops)

@@ -19,7 +19,7 @@ little_below (suc n) i xs h = grind (arith, byte_below, pow-suc, (little_below n
 pub AreBytes-drop : (n : ℕ) (xs : List ℕ) → AreBytes xs → AreBytes (drop n xs)
 AreBytes-drop zero xs h = h
 AreBytes-drop (suc n) [] h = h
-AreBytes-drop (suc n) (x ∷ xs) h = AreBytes-drop n xs h.1
+AreBytes-drop (suc n) (x ∷ xs) h = AreBytes-drop n _ h.1
 
 pub AreBytes-append : (a b : List ℕ) → AreBytes a → AreBytes b → AreBytes (a ++ b)
 AreBytes-append [] b h k = k

@@ -72,7 +72,7 @@ refused charset room tokens a b place byte described fault k (inr x) t between =
       | inl e ↦ rw e (ap (row_byte_fault true) none ∙ ap Some (sym x.0))
       | inr e ↦ rw e (ap (row_byte_fault true) none ∙ ap Some (sym x.0))
     ] in
-    refused_at_once (response charset room) (after_tokens tokens) a b place (byte ∷ []) fault (omega arith) refl first t between
+    refused_at_once _ _ a b _ (byte ∷ []) fault (omega arith) refl first t between
 
 module _ (charset : Charset) (room : ℕ) {place : ℕ} {tokens : List Token} {a b : Seen} {h : Held} {area : Space} {failed : Bool}
     (d : h.delivered ≤ 2 ^ 64 - 1) (going : failed ≡ false) (holds : IsHolding area (after_tokens tokens)) where

@@ -66,14 +66,14 @@ same_first (u ∷ ts) us h = same_first ts us h
 pub status_after-append : (before : Option ℕ) (a b : List Token)
     → return_status_after before (a ++ b) ≡ return_status_after (return_status_after before a) b
 status_after-append before [] b = refl
-status_after-append before (NoMetadata ∷ a) b = status_after-append before a b
-status_after-append before (t ∷ a) b = status_after-append (return_status_after before (t ∷ [])) a b
+status_after-append before (NoMetadata ∷ a) b = status_after-append _ a b
+status_after-append before (t ∷ a) b = status_after-append _ a b
 
 pub encoded_after-append : (before : List ℕ) (a b : List Token) → encoded_after before (a ++ b) ≡ encoded_after (encoded_after before a) b
 encoded_after-append before [] b = refl
-encoded_after-append before (Metadata bytes columns ∷ a) b = encoded_after-append bytes a b
-encoded_after-append before (NoMetadata ∷ a) b = encoded_after-append [] a b
-encoded_after-append before (t ∷ a) b = encoded_after-append before a b
+encoded_after-append before (Metadata bytes columns ∷ a) b = encoded_after-append _ a b
+encoded_after-append before (NoMetadata ∷ a) b = encoded_after-append _ a b
+encoded_after-append before (t ∷ a) b = encoded_after-append _ a b
 
 pub greatest_span-append : (a b : List Token) → greatest_span (a ++ b) ≡ max (greatest_span a) (greatest_span b)
 greatest_span-append [] b = omega arith

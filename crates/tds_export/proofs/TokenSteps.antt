@@ -49,7 +49,7 @@ module _ {g : Grammar Part Fault} {s t : Part} {a b c : Seen} {h i k : Held} (x 
   pub stops_further : {place middle : ℕ} {area : Space} {failed : Bool} {stop : Stop} → middle ≡ place + length x.bytes
       → StepStops g t b c middle i k area failed stop → StepStops g s a c place h k area failed stop
   stops_further {place = place} {stop = stop} at (inl y) =
-      let stops = stops_after g s t a b c place y.0.at stop (record { bytes = x.bytes; spelt = x.spelt; takes = x.takes }) (rw at at y.0.stops) in
+      let stops = stops_after g s t a b c _ _ _ (record { bytes = x.bytes; spelt = x.spelt; takes = x.takes }) (rw at at y.0.stops) in
       inl (record { at = y.0.at; stops = stops; puts = puts_both text_so_far s t y.0.at h i k x.puts y.0.puts; holds = y.0.holds }, y.1)
   stops_further {stop = stop} at (inr y) = inr (
     record { at = y.0.at; breaks = breaks_after g _ s t a b c h i k _ _ x y.0.breaks; holds = y.0.holds },
@@ -115,7 +115,7 @@ module _ (charset : Charset) {tokens : List Token} {s : Progress} {u : View} (be
   fixed_reads {which} fields at len takes tracks same =
       let next : IsNext (response charset u.area.room) (in_fields which tokens) fields =
       record { some = rw len (some_fields _); whole = len; free = refl } in
-      quietly begun same (bare_reads begun (fixed which fields) (reads_one _ _ u.seen b _ _ next (rw len takes) refl) (rw len at) refl
+      quietly begun same (bare_reads begun _ (reads_one _ _ _ b _ _ next (rw len takes) refl) (rw len at) refl
       (bare_fixed _ _) tracks)
 
   -- a DONE or DONEPROC was read
@@ -156,14 +156,14 @@ module _ (charset : Charset) (room : ℕ) {place : ℕ} {start : RowPart} {area 
   pub row_stops : IsHolding area (after_tokens tokens) → RowStops charset start a b place before after failed stop
       → StepStops (response charset room) (with_row tokens start) a b place before after area failed stop
   row_stops holds x =
-      let agrees = row_agrees charset room tokens in
+      let agrees = row_agrees _ _ _ in
       elim x.cause [
         | inl y ↦ inl (
           record {
             at = with_row tokens x.at;
             stops = stop_inside agrees y.0;
-            puts = puts_inside (row charset) _ (with_row tokens) (inside agrees) row_so_far text_so_far (text tokens) (row_front tokens) start x.at
-                before after y.1;
+            puts = puts_inside _ _ _ (inside agrees) row_so_far text_so_far (text tokens) (row_front tokens) start x.at
+                _ _ y.1;
             holds = row_holds {area = area} {tokens = tokens} x.at holds;
           },
           y.2,
@@ -208,7 +208,7 @@ module _ (charset : Charset) {tokens : List Token} {s : Progress} {u : View} {ar
   pub none_reads : {place : ℕ} → Describes u.area.room BeforeCount u.seen b u.place place u.area.peak area NoDescription
       → ReadsNext charset (in_metadata tokens) tokens u (record u { seen = b; place = place; area = area }) (record s { described = false })
   none_reads x =
-      let r = read_inside (description_agrees charset _ tokens) x.reads in
+      let r = read_inside (description_agrees _ _ _) x.reads in
       quietly begun refl (record {
         more = NoMetadata ∷ [];
         streams = record {
@@ -227,9 +227,9 @@ module _ (charset : Charset) {tokens : List Token} {s : Progress} {u : View} {ar
   pub metadata_stops : {stop : Stop} → StopsDescribing u.area.room BeforeCount u.seen b u.place u.area.peak area stop
       → StopsIn charset (in_metadata tokens) u (record u { seen = b; area = area }) stop
   metadata_stops x =
-      let some = stops_size _ _ u.seen b _ _ _ x.stops in
+      let some = stops_size _ _ _ b _ _ _ x.stops in
       stops_quietly (simp open_text_none) (open_holds _ _ some x.kept x.bound begun.holds.peak) begun.delivered begun.going
-      (stop_inside (description_agrees charset u.area.room tokens) x.stops)
+      (stop_inside (description_agrees _ _ _) x.stops)
 
   module _ {columns : List Column} {place : ℕ} {after : Held} (shown : columns_of area.bytes ≡ columns)
       (x : Describes u.area.room BeforeCount u.seen b u.place place u.area.peak area (WholeDescription area.bytes columns)) where
@@ -238,7 +238,7 @@ module _ (charset : Charset) {tokens : List Token} {s : Progress} {u : View} {ar
         → ReadsNext charset (in_metadata tokens) tokens u (record u { seen = b; place = place; held = after; area = area })
         (record s { report = record s.report { sets = s.report.sets + 1 }; described = true })
     metadata_reads puts =
-        let r = read_inside (description_agrees charset _ tokens) x.reads in
+        let r = read_inside (description_agrees _ _ _) x.reads in
         let header = between _ ++ header_line columns in
         let put = rw shown at puts in
         quietly begun refl (record {
@@ -255,7 +255,7 @@ module _ (charset : Charset) {tokens : List Token} {s : Progress} {u : View} {ar
         → StopsInWriting (response charset u.area.room) (in_metadata tokens) u.seen b u.held after area stop
     metadata_breaks few between_b breaks =
         let header = between _ ++ header_line columns in
-        let l = last_inside _ _ _ (inside (description_agrees charset u.area.room tokens)) _ _ _ x.reads.spelt (some_bytes _ _ _ _ x.reads.spelt) in
+        let l = last_inside _ _ _ (inside (description_agrees _ _ _)) _ _ _ x.reads.spelt (some_bytes _ _ _ _ x.reads.spelt) in
         let open_text = open_text_none tokens l.at l.size in
         record {
           at = with_described tokens l.at;
@@ -269,7 +269,7 @@ module _ (charset : Charset) {tokens : List Token} {s : Progress} {u : View} {ar
             between = between_b;
             middle = u.held;
             few = few;
-            puts = same_text (in_metadata tokens) (with_described tokens l.at) u.held (sym open_text) begun.delivered;
+            puts = same_text (in_metadata tokens) (with_described tokens l.at) _ (sym open_text) begun.delivered;
             more = header;
             text_is = ap (λ t. t ++ header) open_text ∙ header_text _ _ begun.tracks ∙ ap text_so_far (sym l.to_is);
             breaks = rw shown at breaks;

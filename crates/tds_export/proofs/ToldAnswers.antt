@@ -130,7 +130,7 @@ broken {run} {q} at stop side writer x holds gained all =
       length-append (be ++ x.ahead) (q.future []).bytes,
       length-append be x.ahead,
     )) in
-    let early = some_longest g response_start (payload_of last.before) in
+    let early = some_longest g _ _ in
     let joined = ap payload_of (sym last.split) ∙ flat_map-append _ last.before (last.last ∷ []) in
     let fewer : early.0 < length be = omega arith in
     let front = sym (take-append-le early.0 (payload_of last.before) (payload_of (last.last ∷ [])) early.2.within)
@@ -163,7 +163,7 @@ broken {run} {q} at stop side writer x holds gained all =
       begins = text_more;
       needed = inr (last.before, last.last, early.0, early.1, last.split, early.2, chunks, omega arith);
       failed = subst (Rose run.given.before.writer.failures) (sym (cc) ∙ writer.failures) (rose _);
-      kept = (length be, to, comes, kept_at run.given.after.areas.description to.tokens to.at (drop (length be) payload) holds.bytes);
+      kept = (length be, to, comes, kept_at run.given.after.areas.description to.tokens _ (drop (length be) payload) holds.bytes);
     }
 
 -- ---- a run that read the whole response
@@ -182,7 +182,7 @@ whole_message_of : {run : Run} {q : Seen} {old new : Held} → ReaderSide run q
 whole_message_of {run} {q = q} side x =
     let size = (limits run).packet_size in
     let limit = (limits run).max_wire in
-    let m = over_front size limit run.given.before.reader.failures run.input run.left q x.bytes (length x.bytes + 1) side.bytes side.left x.takes
+    let m = over_front _ _ _ _ _ q _ _ side.bytes side.left x.takes
     x.over in
     grind (arith, over_front, payload_bytes, AreBytes-front, response_is_spelt, append-nil, longest_cut, kept_at)
 
@@ -256,7 +256,7 @@ module _ (given : Given) (input left : List ℕ) (q : Seen) (stop : Stop) (are :
       → StopTold given input left stop k
   in_text {k} {gained} writer has delivered stops is =
       let run = run_of given input left gained in
-      let written = exact run k.delivered delivered (fits run WriteFailed (Text (length gained)) are stops) in
+      let written = exact run _ delivered (fits run WriteFailed (Text (length gained)) are stops) in
       grind (arith, exact, fits)
 
   -- the writer broke
@@ -273,7 +273,7 @@ module _ (given : Given) (input left : List ℕ) (q : Seen) (stop : Stop) (are :
       → StopsAtEnd (grammar_of given) response_start began q (fresh_at given) k given.after.areas.description stop → StopTold given input left stop k
   stop_at_end k writer y =
       let p = whole_puts y.whole in
-      let d = sends _ [] _ writer p y.fails.1 in
+      let d = sends _ _ _ writer p y.fails.1 in
       let run = run_of given input left d.gained in
       let whole = whole_message_of (reader_side are ql reader) y.whole in
       let rises = subst (Rose given.before.writer.failures) (cc) (rose _) in
@@ -292,13 +292,13 @@ module _ (given : Given) (input left : List ℕ) (q : Seen) (stop : Stop) (are :
       → RunStops (grammar_of given) response_start began q 0 (fresh_at given) k given.after.areas.description failed stop
       → Bounded (run_of given input left gained)
   stop_bounded {gained} (inl (inl y)) = let run = run_of given input left gained in
-      bounded _ _ are (reached_stopped run q are ql y.0.stops) y.0.holds.peak
+      bounded _ _ are (reached_stopped _ q are ql y.0.stops) y.0.holds.peak
   stop_bounded {gained} (inl (inr y)) =
       let run = run_of given input left gained in
-      bounded _ _ are (reached_broken run q are ql y.0) y.0.holds.peak
+      bounded _ _ are (reached_broken _ q are ql y.0) y.0.holds.peak
   stop_bounded {gained} (inr y) =
       let run = run_of given input left gained in
-      bounded _ _ are (reached_whole run q are ql y.0.whole) y.0.whole.holds.peak
+      bounded _ _ are (reached_whole _ q are ql y.0.whole) y.0.whole.holds.peak
 
 -- what a run that stopped read
 stops_read : {g : Grammar Part Fault} {a q : Seen} {h k : Held} {area : Space} {failed : Bool} {stop : Stop}

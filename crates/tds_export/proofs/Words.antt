@@ -63,7 +63,7 @@ pub use Rattle.tds_packet.specs.{
 pub use Rattle.tds_columns.proofs.{
   ByteLemmas.{one_byte, two_bytes, split_last},
   ColumnLaws.{fits_in, columns_are_read, description_is_read, byte_and_rest},
-  ColumnMeaning.{not_long, not_zero, room_for, known_type, DescribedMeans, described_step},
+  ColumnMeaning.{not_long, not_zero, room_for, known_type, some_kind, DescribedMeans, described_step},
   ElementSteps.{cut_into, refused_into},
   ViewLaws.description_shows,
 }

@@ -12,6 +12,6 @@ returns c =
     let rest : take (length body - at) (drop at body) ≡ drop at body =
     take_all (length body - at) (drop at body) (omega (arith, length-drop at body)) in
     let kept : cast_signed w32 (cast_unsigned w32 c.read_i32-line.result) ≡ c.read_i32-line.result = search rules in
-    error_is c.args.body.now c.line_start.result c.requires.long c.line_start.ensures
-    (parts_within c.args.body.now c.requires.holds).2
+    error_is _ _ c.requires.long c.line_start.ensures
+    (parts_within _ c.requires.holds).2
     (number ∙ c.read_i32-number.ensures) (kept ∙ c.read_i32-line.ensures ∙ ap (λ l. cast_signed w32 (little_number 4 l)) rest)

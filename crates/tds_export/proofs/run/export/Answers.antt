@@ -28,10 +28,10 @@ reported g c = let at = moment g.R.Read.remaining g.W.Write.contents in record {
 
 all_read : (g : Over) (c : goal.In-Ok g) → Reports (reported g c) c.in-Ok.report
 all_read g c =
-    let emptied = rooms c.args.areas.now c.restart.new.self c.requires c.restart.ensures.emptied in
+    let emptied = rooms _ _ c.requires c.restart.ensures.emptied in
     let limit : c.max_wire-max_wire.result ≡ c.args.areas.now.limits.max_wire = search rules in
-    exports (reported g c) (seen g.R.Read.remaining c.new-payload.result) (seen g.R.Read.remaining c.read_response.new.payload)
-    (held g.W.Write.contents c.new-sink.result) (held g.W.Write.contents c.read_response.new.sink) _ _ _ c.in-Ok.report
+    exports _ _ _
+    _ _ _ _ _ _
     c.new-payload.ensures.begun.begins emptied.0 limit c.new-sink.ensures.held emptied.1
     (record { left = refl; failures = refl }) (record { has = refl; waiting = refl; failures = refl }) c.in-Ok.ensures.gives
 
@@ -45,7 +45,7 @@ returns-in-Ok-clause-exports g c =
     }
 
 pub returns-in-Ok-clause-no_failure : goal.returns-in-Ok-clause-no_failure
-returns-in-Ok-clause-no_failure g c = let none = no_failure (reported g c) c.in-Ok.report (all_read g c) in (grind (arith, none), grind (arith, none))
+returns-in-Ok-clause-no_failure g c = let none = no_failure _ _ (all_read g c) in (grind (arith, none), grind (arith, none))
 
 -- ---- the answer is a stop
 
@@ -68,7 +68,7 @@ stopped g c = let at = moment g.R.Read.remaining g.W.Write.contents in record {
 
 read_so_far : (g : Over) (c : goal.After-to-in-Err-1 g) → StopsExport (stopped g c) c.stop_at.result
 read_so_far g c =
-    let emptied = rooms c.args.areas.now c.restart.new.self c.requires c.restart.ensures.emptied in
+    let emptied = rooms _ _ c.requires c.restart.ensures.emptied in
     let limit : c.max_wire-max_wire.result ≡ c.args.areas.now.limits.max_wire = search rules in
     stops_export
     c.new-payload.ensures.begun.begins emptied.0 limit c.new-sink.ensures.held emptied.1 c.new-payload.ensures.begun.place

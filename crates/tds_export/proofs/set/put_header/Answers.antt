@@ -6,7 +6,7 @@ returns-in_err-put_between g c = passed_piece _ c.from_residual.ensures.1 c.in_e
 
 pub returns-in_err-put_names : goal.returns-in_err-put_names
 returns-in_err-put_names g c = then_puts c.in_ok-put_between.ensures
-    (passed_piece line_end c.from_residual-in_err-put_names.ensures.1 c.in_err-put_names.ensures)
+    (passed_piece _ c.from_residual-in_err-put_names.ensures.1 c.in_err-put_names.ensures)
 
 pub returns : goal.returns
 returns g c = then_puts c.in_ok-put_between.ensures (then_puts c.in_ok-put_names.ensures c.line_end.ensures)

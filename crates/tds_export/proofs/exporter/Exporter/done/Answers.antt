@@ -9,4 +9,4 @@ returns-in_err-fill g c = step_read c.requires.running (search rules) (λ tokens
 
 pub returns : goal.returns
 returns g c = step_read c.requires.running (search rules)
-    (λ tokens begun. done_reads _ begun _ c.fill.new.to c.in_ok-fill.ensures.place (search rules) c.in_ok-fill.ensures.all)
+    (λ tokens begun. done_reads _ begun _ _ c.in_ok-fill.ensures.place (search rules) c.in_ok-fill.ensures.all)

@@ -9,4 +9,4 @@ returns-in_err-pass g c = step_read c.requires.running (search rules) (λ tokens
 pub returns : goal.returns
 returns g c = step_read c.requires.running (search rules) (λ tokens begun.
     let all = c.in_ok-pass.ensures.all in
-    done_in_proc_reads _ begun _ all.bytes c.in_ok-pass.ensures.place all.counted all.takes)
+    done_in_proc_reads _ begun _ _ c.in_ok-pass.ensures.place all.counted all.takes)

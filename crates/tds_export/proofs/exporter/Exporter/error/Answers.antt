@@ -31,5 +31,5 @@ returns g c =
     let message : c.message_of.result.now ≡ (notice_of c.take_notice.new.token.bytes).message = c.message_of.ensures.value
     ∙ ap (λ l. (notice_of l).message) body in
     let put = c.utf16_into.ensures ∙ ap (λ l. appended cleared (whole_within (cleared.room - length cleared.bytes) (characters l))) message in
-    rw error (first_error_reads _ begun cleared none empty (ap (λ (s : Space). s.room) c.clear.ensures.value
+    rw error (first_error_reads _ begun _ none empty (ap (λ (s : Space). s.room) c.clear.ensures.value
     ∙ c.requires.running.notice) put (c.in_ok-take_notice.ensures.gives _ _ tokens AnError refl)))

@@ -32,5 +32,5 @@ returns-clause-gives g c = λ which quiet tokens tracks holds noted.
           ∙ c.read_u16-length.ensures;
       takes = c.in_ok-fill.ensures.all;
       at = c.in_ok-fill.ensures.place;
-    }) all.bytes all.counted all.takes
+    }) _ all.counted all.takes
     c.in_ok-pass.ensures.place

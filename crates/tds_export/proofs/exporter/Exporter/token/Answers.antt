@@ -17,7 +17,7 @@ pub returns-in_ok-body-in-Ok-clause-gives : goal.returns-in_ok-body-in-Ok-clause
 returns-in_ok-body-in-Ok-clause-gives g c = λ tokens tracks holds noted.
     let run = c.args.self.now in
     let read = rw c.in-Some.is at c.in_ok-byte.ensures.gives in
-    let begins = begins_kind c.in-Ok.kind
+    let begins = begins_kind _
     c.in-Ok.ensures holds.bytes c.requires.described tracks.described in
     let x = c.in_ok-body-in-Ok.ensures.reads tokens (tracks_begun tracks) holds noted in
     (reads_after_byte _ begins c.requires.sink.ready.2 read.takes read.place_is x.0, x.1)
@@ -26,7 +26,7 @@ pub returns-in_err-body-in-Ok-clause-gives : goal.returns-in_err-body-in-Ok-clau
 returns-in_err-body-in-Ok-clause-gives g c = λ tokens tracks holds noted.
     let run = c.args.self.now in
     let read = rw c.in-Some.is at c.in_ok-byte.ensures.gives in
-    let begins = begins_kind c.in-Ok.kind
+    let begins = begins_kind _
     c.in-Ok.ensures holds.bytes c.requires.described tracks.described in
     passed _ _ _ _ c.from_residual-in_err-body-in-Ok.ensures.1
     (stops_after_byte _ begins c.requires.sink.ready.2 read.takes read.place_is
