@@ -50,5 +50,6 @@ loop-payload-preserved g c =
       going = search rules;
       same = search rules;
       room = room ∙ inv.room;
-      body = rw grown (gathered_more _ _ _ t _ _ inv.body c.in_ok-at_end.ensures.gives c.in_ok-at_end.ensures.payload.place _ c.consume.ensures.gives (omega (arith, far, len)) (omega (arith, len, up, inv.body.fits, here)));
+      body = rw grown (gathered_more _ _ _ t _ _ inv.body c.in_ok-at_end.ensures.gives c.in_ok-at_end.ensures.payload.place _ c.consume.ensures.gives
+          (omega (arith, far, len)) (omega (arith, len, up, inv.body.fits, here)));
     }

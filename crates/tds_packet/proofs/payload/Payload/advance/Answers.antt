@@ -18,4 +18,5 @@ returns-in-Ok-clause-gives g c =
 pub returns-in-Err-clause-gives : goal.returns-in-Err-clause-gives
 returns-in-Err-clause-gives g c =
     let s = c.args.self.now in
-    advance_err g.R.Read.remaining s (record s { from = record s.from { now = c.read_packet.new.from } }) c.read_packet.new.packet.bytes c.requires c.in-Err.ensures.read
+    advance_err g.R.Read.remaining s (record s { from = record s.from { now = c.read_packet.new.from } }) c.read_packet.new.packet.bytes c.requires
+    c.in-Err.ensures.read

@@ -10,7 +10,8 @@ loop-passed-preserved g c =
     let k = at_ok _ _ _ _ c.in-Ok.is h.2 in
     let inv = c.loop-passed.invariant in
     let bytes = c.in-Ok.bytes.now in
-    let takes = takes_piece g.R.Read.remaining c.args.self.now c.loop-passed.self c.piece.follows.lender-at-none inv.passes.bytes bytes inv.passes.counted c.in-Ok.ensures.len.0 inv.passes.takes k.0 in
+    let takes = takes_piece g.R.Read.remaining c.args.self.now c.loop-passed.self c.piece.follows.lender-at-none inv.passes.bytes bytes
+    inv.passes.counted c.in-Ok.ensures.len.0 inv.passes.takes k.0 in
     record {
       sound = h.0;
       same = search rules;
