@@ -253,17 +253,37 @@ struct Reading {
     peak: usize,
 }
 
+// A ROW of three kinds, whole in its packet.
+const THREE_KINDS: Reading = Reading {
+    what: "no cell of a row that lies whole in its packet",
+    token: Token::Row,
+    columns: MIXED,
+    bytes: MIXED_ROW,
+    size: 4000,
+    answer: Ok(()),
+    text: MIXED_TEXT,
+    peak: 0,
+};
+
+// A NULL by its bit and a date, whole in their packet.
+const AFTER_A_BITMAP: Reading = Reading {
+    what: "no cell after a bitmap that lies whole in its packet",
+    token: Token::NbcRow,
+    columns: &[INT4, DATE],
+    bytes: &[0x01, 3, 0xDA, 0xB9, 0x37],
+    size: 4000,
+    answer: Ok(()),
+    text: b"NULL,9999-12-31\r\n",
+    peak: 0,
+};
+
 // The description of three kinds has 27 bytes and that of a date 10, and the date of three kinds begins 5 bytes after it.
 const READINGS: [Reading; 10] = [
     Reading {
         what: "each cell of a row by itself",
-        token: Token::Row,
-        columns: MIXED,
-        bytes: MIXED_ROW,
         size: 3,
-        answer: Ok(()),
-        text: MIXED_TEXT,
         peak: 4,
+        ..THREE_KINDS
     },
     Reading {
         what: "the longest cell",
@@ -275,16 +295,7 @@ const READINGS: [Reading; 10] = [
         text: NINES_TEXT,
         peak: 18,
     },
-    Reading {
-        what: "no cell of a row that lies whole in its packet",
-        token: Token::Row,
-        columns: MIXED,
-        bytes: MIXED_ROW,
-        size: 4000,
-        answer: Ok(()),
-        text: MIXED_TEXT,
-        peak: 0,
-    },
+    THREE_KINDS,
     Reading {
         what: "no long value",
         token: Token::Row,
@@ -311,22 +322,14 @@ const READINGS: [Reading; 10] = [
     Reading {
         what: "no cell of many rows that lies whole in its packet",
         token: Token::Rows,
-        columns: MIXED,
-        bytes: MIXED_ROW,
-        size: 4000,
-        answer: Ok(()),
-        text: MIXED_TEXT,
-        peak: 0,
+        ..THREE_KINDS
     },
     Reading {
         what: "a date across the end of a packet",
         token: Token::Rows,
-        columns: MIXED,
-        bytes: MIXED_ROW,
         size: 33,
-        answer: Ok(()),
-        text: MIXED_TEXT,
         peak: 4,
+        ..THREE_KINDS
     },
     Reading {
         what: "a date whose length isn't allowed",
@@ -341,25 +344,12 @@ const READINGS: [Reading; 10] = [
         text: b"",
         peak: 1,
     },
-    Reading {
-        what: "no cell after a bitmap that lies whole in its packet",
-        token: Token::NbcRow,
-        columns: &[INT4, DATE],
-        bytes: &[0x01, 3, 0xDA, 0xB9, 0x37],
-        size: 4000,
-        answer: Ok(()),
-        text: b"NULL,9999-12-31\r\n",
-        peak: 0,
-    },
+    AFTER_A_BITMAP,
     Reading {
         what: "a date after a bitmap, across the end of a packet",
-        token: Token::NbcRow,
-        columns: &[INT4, DATE],
-        bytes: &[0x01, 3, 0xDA, 0xB9, 0x37],
         size: 3,
-        answer: Ok(()),
-        text: b"NULL,9999-12-31\r\n",
         peak: 4,
+        ..AFTER_A_BITMAP
     },
 ];
 

@@ -119,178 +119,94 @@ fn check_kind(alloc: Global, what: &str, info: &[u8], kind: Kind) -> Result<(), 
 }
 
 // A type of the profile, the bytes of its type information, and its kind.
-struct Known {
-    what: &'static str,
-    info: &'static [u8],
-    kind: Kind,
-}
+struct Known(&'static str, &'static [u8], Kind);
 
 const KNOWN: [Known; 30] = [
-    Known {
-        what: "tinyint",
-        info: &[0x30],
-        kind: Kind::Int1,
-    },
-    Known {
-        what: "bit",
-        info: &[0x32],
-        kind: Kind::Bit,
-    },
-    Known {
-        what: "smallint",
-        info: &[0x34],
-        kind: Kind::Int2,
-    },
-    Known {
-        what: "int",
-        info: &[0x38],
-        kind: Kind::Int4,
-    },
-    Known {
-        what: "bigint",
-        info: &[0x7F],
-        kind: Kind::Int8,
-    },
-    Known {
-        what: "smalldatetime",
-        info: &[0x3A],
-        kind: Kind::DateTime4,
-    },
-    Known {
-        what: "datetime",
-        info: &[0x3D],
-        kind: Kind::DateTime8,
-    },
-    Known {
-        what: "smallmoney",
-        info: &[0x7A],
-        kind: Kind::Money4,
-    },
-    Known {
-        what: "money",
-        info: &[0x3C],
-        kind: Kind::Money8,
-    },
-    Known {
-        what: "date",
-        info: &[0x28],
-        kind: Kind::Date,
-    },
-    Known {
-        what: "uniqueidentifier",
-        info: &[0x24, 16],
-        kind: Kind::Guid,
-    },
-    Known {
-        what: "a nullable tinyint",
-        info: &[0x26, 1],
-        kind: Kind::IntN(1),
-    },
-    Known {
-        what: "a nullable bigint",
-        info: &[0x26, 8],
-        kind: Kind::IntN(8),
-    },
-    Known {
-        what: "a nullable bit",
-        info: &[0x68, 1],
-        kind: Kind::BitN,
-    },
-    Known {
-        what: "a nullable money",
-        info: &[0x6E, 8],
-        kind: Kind::MoneyN(8),
-    },
-    Known {
-        what: "a nullable smalldatetime",
-        info: &[0x6F, 4],
-        kind: Kind::DateTimeN(4),
-    },
-    Known {
-        what: "time(7)",
-        info: &[0x29, 7],
-        kind: Kind::Time(7),
-    },
-    Known {
-        what: "datetime2(3)",
-        info: &[0x2A, 3],
-        kind: Kind::DateTime2(3),
-    },
-    Known {
-        what: "datetimeoffset(0)",
-        info: &[0x2B, 0],
-        kind: Kind::DateTimeOffset(0),
-    },
-    Known {
-        what: "decimal(5, 2)",
-        info: &[0x6A, 5, 5, 2],
-        kind: Kind::Decimal {
+    Known("tinyint", &[0x30], Kind::Int1),
+    Known("bit", &[0x32], Kind::Bit),
+    Known("smallint", &[0x34], Kind::Int2),
+    Known("int", &[0x38], Kind::Int4),
+    Known("bigint", &[0x7F], Kind::Int8),
+    Known("smalldatetime", &[0x3A], Kind::DateTime4),
+    Known("datetime", &[0x3D], Kind::DateTime8),
+    Known("smallmoney", &[0x7A], Kind::Money4),
+    Known("money", &[0x3C], Kind::Money8),
+    Known("date", &[0x28], Kind::Date),
+    Known("uniqueidentifier", &[0x24, 16], Kind::Guid),
+    Known("a nullable tinyint", &[0x26, 1], Kind::IntN(1)),
+    Known("a nullable bigint", &[0x26, 8], Kind::IntN(8)),
+    Known("a nullable bit", &[0x68, 1], Kind::BitN),
+    Known("a nullable money", &[0x6E, 8], Kind::MoneyN(8)),
+    Known("a nullable smalldatetime", &[0x6F, 4], Kind::DateTimeN(4)),
+    Known("time(7)", &[0x29, 7], Kind::Time(7)),
+    Known("datetime2(3)", &[0x2A, 3], Kind::DateTime2(3)),
+    Known("datetimeoffset(0)", &[0x2B, 0], Kind::DateTimeOffset(0)),
+    Known(
+        "decimal(5, 2)",
+        &[0x6A, 5, 5, 2],
+        Kind::Decimal {
             length: 5,
             precision: 5,
             scale: 2,
         },
-    },
-    Known {
-        what: "numeric(38, 37)",
-        info: &[0x6C, 17, 38, 37],
-        kind: Kind::Decimal {
+    ),
+    Known(
+        "numeric(38, 37)",
+        &[0x6C, 17, 38, 37],
+        Kind::Decimal {
             length: 17,
             precision: 38,
             scale: 37,
         },
-    },
-    Known {
-        what: "varbinary(10)",
-        info: &[0xA5, 10, 0],
-        kind: Kind::Binary(Reach::Short),
-    },
-    Known {
-        what: "varbinary(max)",
-        info: &[0xA5, 0xFF, 0xFF],
-        kind: Kind::Binary(Reach::Chunked),
-    },
-    Known {
-        what: "the longest binary",
-        info: &[0xAD, 0xFE, 0xFF],
-        kind: Kind::Binary(Reach::Short),
-    },
-    Known {
-        what: "varchar(10)",
-        info: &[0xA7, 10, 0, 9, 4, 0xD0, 0, 0x34],
-        kind: Kind::Narrow(Reach::Short),
-    },
-    Known {
-        what: "varchar(max)",
-        info: &[0xA7, 0xFF, 0xFF, 9, 4, 0xD0, 0, 0x34],
-        kind: Kind::Narrow(Reach::Chunked),
-    },
-    Known {
-        what: "char(255)",
-        info: &[0xAF, 0xFF, 0, 9, 4, 0xD0, 0, 0x34],
-        kind: Kind::Narrow(Reach::Short),
-    },
-    Known {
-        what: "nvarchar(10)",
-        info: &[0xE7, 20, 0, 9, 4, 0xD0, 0, 0x34],
-        kind: Kind::Wide(Reach::Short),
-    },
-    Known {
-        what: "nvarchar(max)",
-        info: &[0xE7, 0xFF, 0xFF, 9, 4, 0xD0, 0, 0x34],
-        kind: Kind::Wide(Reach::Chunked),
-    },
-    Known {
-        what: "a long nchar",
-        info: &[0xEF, 0, 0xFF, 9, 4, 0xD0, 0, 0x34],
-        kind: Kind::Wide(Reach::Short),
-    },
+    ),
+    Known("varbinary(10)", &[0xA5, 10, 0], Kind::Binary(Reach::Short)),
+    Known(
+        "varbinary(max)",
+        &[0xA5, 0xFF, 0xFF],
+        Kind::Binary(Reach::Chunked),
+    ),
+    Known(
+        "the longest binary",
+        &[0xAD, 0xFE, 0xFF],
+        Kind::Binary(Reach::Short),
+    ),
+    Known(
+        "varchar(10)",
+        &[0xA7, 10, 0, 9, 4, 0xD0, 0, 0x34],
+        Kind::Narrow(Reach::Short),
+    ),
+    Known(
+        "varchar(max)",
+        &[0xA7, 0xFF, 0xFF, 9, 4, 0xD0, 0, 0x34],
+        Kind::Narrow(Reach::Chunked),
+    ),
+    Known(
+        "char(255)",
+        &[0xAF, 0xFF, 0, 9, 4, 0xD0, 0, 0x34],
+        Kind::Narrow(Reach::Short),
+    ),
+    Known(
+        "nvarchar(10)",
+        &[0xE7, 20, 0, 9, 4, 0xD0, 0, 0x34],
+        Kind::Wide(Reach::Short),
+    ),
+    Known(
+        "nvarchar(max)",
+        &[0xE7, 0xFF, 0xFF, 9, 4, 0xD0, 0, 0x34],
+        Kind::Wide(Reach::Chunked),
+    ),
+    Known(
+        "a long nchar",
+        &[0xEF, 0, 0xFF, 9, 4, 0xD0, 0, 0x34],
+        Kind::Wide(Reach::Short),
+    ),
 ];
 
 // Each type byte of the profile.
 #[test]
 fn types_are_known(rt: HostRuntime) -> Result<(), Fail> {
-    for row in &KNOWN {
-        check_kind(rt.alloc(), row.what, row.info, row.kind)?;
+    for Known(what, info, kind) in &KNOWN {
+        check_kind(rt.alloc(), what, info, *kind)?;
     }
     Ok(())
 }

@@ -1,14 +1,12 @@
 -- What the parser reads of a command that is built step by step.
-use Rattle.std.proofs.Common.{◌≡◌, ◌∙◌, ◌||◌, Bool, IfOk, Result, Some, ℤ, ap, ap₂, pos, true}
-use Rattle.std.proofs.lemmas.Result.{IfOk-at_ok, IfOk-weaker}
-use Rattle.clap.specs.Simple.{Shape, app_of_fields, on_top}
-use Rattle.clap.specs.Words.{AddsArg, AddsSubcommand, App, NarrowsTo, Rule, rule_of, with_rule, with_subcommand}
-use Rattle.clap.specs.declared.builder.arg.Arg.{Arg}
-use Rattle.clap.specs.declared.builder.command.Command.{Command}
-use Rattle.clap.specs.declared.builder.command.Command.TheViews.{out-Command}
-use Rattle.clap.specs.declared.builder.command.Command.TheOpen.{Command-F}
-use Rattle.clap.specs.declared.builder.value_parser.ValueParser.{ValueParser}
-use Rattle.clap.specs.declared.builder.value_parser.ValueParser.TheVariants.{Signed}
+use Rattle.std.proofs.{Common.{◌≡◌, ◌∙◌, ◌||◌, Bool, IfOk, Result, Some, ℤ, ap, ap₂, pos, true}, lemmas.Result.{IfOk-at_ok, IfOk-weaker}}
+use Rattle.clap.specs.{
+  Simple.{Shape, app_of_fields, on_top},
+  Words.{AddsArg, AddsSubcommand, App, NarrowsTo, Rule, rule_of, with_rule, with_subcommand},
+  declared.{
+    builder.{arg.Arg.Arg, command.Command.{Command, TheViews.out-Command, TheOpen.Command-F}, value_parser.ValueParser.{ValueParser, TheVariants.Signed}},
+  },
+}
 use Rattle.tds_arguments.specs.CommandLine.{GainsArgument, IsArgument, IsCommand, packet_sizes}
 
 pub with_argument : {app : App} {rule : Rule} (old new : Command) (a : Arg) → IsCommand app old → IsArgument rule a → AddsArg old a new

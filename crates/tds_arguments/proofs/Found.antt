@@ -1,21 +1,20 @@
 -- What the parser found, and the answer to it.
-use Rattle.std.proofs.Common.{◌≡◌, ◌∙◌, ◌||◌, Bool, List, [], ◌∷◌, true, false, not, true≢false, Result, Ok, Err, IfOk, IfErr, IsErrAnd, inl, inr}
-use Rattle.std.proofs.Common.{refl, sym, ap, codes}
-use Rattle.std.specs.List.{list_any}
-use Rattle.std.specs.Prelude.{◌⊎◌}
-use Rattle.clap.specs.Words.{App, FailsBy, IsAmong, Text, HasMatchesOf, fault_of, is_simple_and_free, kind_of, subcommand_rows_of}
-use Rattle.clap.specs.declared.error.Error.{Error}
-use Rattle.clap.specs.declared.error.kind.ErrorKind.{ErrorKind}
-use Rattle.clap.specs.declared.parser.matches.ArgMatches.{ArgMatches}
-use Rattle.clap.proofs.OnLiterals.{clap_on_literals}
-use Rattle.clap.proofs.WalkLemmas.{both}
-use Rattle.tds_arguments.specs.CommandLine.{Answers, IsProgram, Kept, MakesJob, program_app}
-use Rattle.tds_arguments.specs.Jobs.{IsInRange}
-use Rattle.tds_arguments.specs.declared.job.Job.{Job}
-use Rattle.tds_arguments.specs.declared.usage.Usage.{Usage}
-use Rattle.tds_arguments.specs.declared.usage.Usage.TheVariants.{Help, OutOfMemory, Refused}
-use Rattle.tds_arguments.specs.Usages.{IsRefusal, IsUsageAt, IsUsageOf, asks_for_help}
 use Rattle.clap.specs.declared.error.kind.ErrorKind.TheVariants as kind
+use Rattle.std.{
+  proofs.Common.{◌≡◌, ◌∙◌, ◌||◌, Bool, List, [], ◌∷◌, true, false, not, true≢false, Result, Ok, Err, IfOk, IfErr, IsErrAnd, inl, inr, refl, sym, ap, codes},
+  specs.{List.list_any, Prelude.◌⊎◌},
+}
+use Rattle.clap.specs.{
+  Words.{App, FailsBy, IsAmong, Text, HasMatchesOf, fault_of, is_simple_and_free, kind_of, subcommand_rows_of},
+  declared.{error.{Error.Error, kind.ErrorKind.ErrorKind}, parser.matches.ArgMatches.ArgMatches},
+}
+use Rattle.clap.proofs.{OnLiterals.clap_on_literals, WalkLemmas.both}
+use Rattle.tds_arguments.specs.{
+  CommandLine.{Answers, IsProgram, Kept, MakesJob, program_app},
+  Jobs.IsInRange,
+  declared.{job.Job.Job, usage.Usage.{Usage, TheVariants.{Help, OutOfMemory, Refused}}},
+  Usages.{IsRefusal, IsUsageAt, IsUsageOf, asks_for_help},
+}
 
 -- the command line is one of which the parser's matches and faults are known
 simple : (of_export of_check : Kept) → is_simple_and_free (program_app of_export of_check) ≡ true

@@ -1,9 +1,9 @@
 -- Numbers that are read from values.
-use Rattle.std.proofs.Common.{◌≢◌, ◌<◌, ◌^◌, ℕ, List, [], ◌∷◌, Option, Some, None, Result, Ok, Err, IfErr, arith, inl, inr, subst, slice_index}
-use Rattle.std.proofs.lemmas.Str.Parse.{numerals_by_value, parse_plain, tells_digits}
-use Rattle.std.specs.Char.{digit_value}
-use Rattle.std.specs.Str.Parse.{AllDigits, IsNumeral, ParsesUnsigned}
-use Rattle.tds_arguments.specs.Jobs.{IsDecimal, IsUnread}
+use Rattle.{
+  std.proofs.Common.{◌≢◌, ◌<◌, ◌^◌, ℕ, List, [], ◌∷◌, Option, Some, None, Result, Ok, Err, IfErr, arith, inl, inr, subst, slice_index},
+  std.{proofs.lemmas.Str.Parse.{numerals_by_value, parse_plain, tells_digits}, specs.{Char.digit_value, Str.Parse.{AllDigits, IsNumeral, ParsesUnsigned}}},
+  tds_arguments.specs.Jobs.{IsDecimal, IsUnread},
+}
 
 -- a numeral doesn't begin with a plus
 no_plus : (text : List ℕ) → IsNumeral 10 text → slice_index text 0 ≢ 43

@@ -1,10 +1,13 @@
 -- Command lines that were worked out by hand.
 use Rattle.std.proofs.Common.{◌≡◌, List, [], ◌∷◌, Option, Some, None, codes, map, option_map, refl}
-use Rattle.clap.specs.Words.{App, Text, fault_of, first_of, subcommand_of}
-use Rattle.clap.specs.declared.error.kind.ErrorKind.TheVariants.{InvalidValue, MissingRequiredArgument, MissingSubcommand, ValueValidation}
-use Rattle.clap.proofs.OnLiterals.{clap_on_literals}
-use Rattle.tds_arguments.proofs.Found.{some_names}
-use Rattle.tds_arguments.specs.CommandLine.{program_app}
+use Rattle.clap.{
+  specs.{
+    Words.{App, Text, fault_of, first_of, subcommand_of},
+    declared.error.kind.ErrorKind.TheVariants.{InvalidValue, MissingRequiredArgument, MissingSubcommand, ValueValidation},
+  },
+  proofs.OnLiterals.clap_on_literals,
+}
+use Rattle.tds_arguments.{proofs.Found.some_names, specs.CommandLine.program_app}
 
 abbrev app : App
 app = program_app some_names some_names

@@ -1,5 +1,5 @@
 -- The command line as its parser reads it: the commands, their options, and which arguments mean a job.
-use Rattle.std.specs.Prelude.{◌≡◌, ◌∷◌, ◌⊎◌, List, [], Option, Some, None, Result, Ok, MatchResult, codes, map, pos, true, false}
+use Rattle.std.specs.Prelude.{◌≡◌, ◌∷◌, ◌⊎◌, List, [], Option, Some, None, Result, Ok, IfErr, IfOk, MatchResult, codes, map, pos, true, false}
 use Rattle.std.specs.Borrow.{Bor}
 use Rattle.clap.specs.Words.{AddsArg, AddsSubcommand, App, Row, Rule, Text, app_of, fault_of, new_app, new_rule, rule_of, subcommand_of, with_rule}
 use Rattle.clap.specs.Words.{with_subcommand}
@@ -13,7 +13,7 @@ use Rattle.tds_arguments.specs.Jobs.{IsInRange, IsJobOf}
 use Rattle.tds_arguments.specs.declared.job.Job.{Job}
 use Rattle.tds_arguments.specs.declared.usage.Usage.{Usage}
 use Rattle.tds_arguments.specs.declared.usage.Usage.TheVariants.{OutOfMemory}
-use Rattle.tds_arguments.specs.Usages.{IsUsageAt}
+use Rattle.tds_arguments.specs.Usages.{IsRefusal, IsUsageAt}
 
 -- an option of this name, with one value that the parser takes
 abbrev pub option_rule : Text → ValueParser → Rule
@@ -122,6 +122,13 @@ IsProgram app = (of_export : Kept) × (of_check : Kept) × NamesCharsets of_expo
 abbrev pub MakesJob : Option (Text × List Row) → Job → Type 0
 MakesJob None job = ⊥
 MakesJob (Some found) job = IsJobOf found.0 found.1 job
+
+-- The answer is the job that is meant, each number in its range; or, where none is meant or there is no memory, what says so and is no help.
+pub record GivesJob (is_meant : Job → Type 0) (answer : Result Job Usage) : Type 0 where
+  pub range : IfOk answer IsInRange
+  pub job : IfOk answer is_meant
+  pub refusal : IfErr answer IsRefusal
+  pub err : IfErr answer (λ usage. (usage ≡ OutOfMemory) ⊎ ((job : Job) → IsInRange job → is_meant job → ⊥))
 
 -- The arguments fit the command line, and what they name makes this job, each number in its range.
 pub record Means (app : App) (arguments : List Text) (job : Job) : Type 0 where

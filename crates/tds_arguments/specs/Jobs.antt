@@ -94,7 +94,3 @@ IsJobOf command values (Check limits charset file) = (command ≡ codes "check")
     × HasLimits values limits.packet_size limits.column_room limits.max_wire × (charset ≡ charset_of values) × HasFile values file
 IsJobOf command values (Recut packet_size max_wire file) = (command ≡ codes "recut") × HasPacketSize values packet_size × HasMaxWire values max_wire
     × HasFile values file
-
--- No job in its ranges is that of the command with these values.
-abbrev pub IsNoJob : List ℕ → List Row → Type 0
-IsNoJob command values = (job : Job) → IsInRange job → IsJobOf command values job → ⊥

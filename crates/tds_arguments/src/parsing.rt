@@ -1,12 +1,11 @@
 // The arguments of a command line.
-ghost use Rattle.std.specs.Prelude.{◌≡◌, ◌⊎◌, IfErr, IfOk, codes, map, string_bytes};
+ghost use Rattle.std.specs.Prelude.{◌≡◌, IfErr, IfOk, codes, map, string_bytes};
 ghost use Rattle.clap.specs.Words.{first_of, kind_of, subcommand_rows_of};
 ghost use Rattle.tds_meter.specs.LimitFaults.{IsColumnRoom, IsMaxWire, IsPacketSize};
-ghost use Rattle.tds_arguments.specs.CommandLine.{Answers, MakesJob};
-ghost use Rattle.tds_arguments.specs.Jobs.{HasFile, HasLimits, IsInRange, IsJobOf, IsNoJob, IsReadAs};
+ghost use Rattle.tds_arguments.specs.CommandLine.{Answers, GivesJob, MakesJob};
+ghost use Rattle.tds_arguments.specs.Jobs.{HasFile, HasLimits, IsInRange, IsJobOf, IsReadAs};
 ghost use Rattle.tds_arguments.specs.Jobs.{IsUnlimited, IsUnread, charset_of, values_in};
 ghost use Rattle.tds_arguments.specs.Usages.{IsRefusal, IsUsageOf};
-ghost use Rattle.tds_arguments.specs.declared.usage.Usage.TheVariants as usage;
 
 use crate::job::Job;
 use crate::options::{
@@ -178,11 +177,7 @@ impl<'m, 'a> Given<'m, 'a> {
     // The job of `recut`.
     fn recut_job(&self) -> Result<Job, Usage>
         requires { self.now.command.now ≡ codes "recut" }
-        ensures range { IfOk result IsInRange }
-        ensures job { IfOk result (IsJobOf self.now.command.now (values_in self.now.matches.now)) }
-        ensures refusal { IfErr result IsRefusal }
-        ensures err { IfErr result (λ e. (e ≡ usage.OutOfMemory)
-            ⊎ IsNoJob self.now.command.now (values_in self.now.matches.now)) }
+        ensures { GivesJob (IsJobOf self.now.command.now (values_in self.now.matches.now)) result }
     {
         let packet_size = self.number(PACKET_SIZE)?;
         let max_wire = self.number(MAX_WIRE)?;
@@ -197,11 +192,7 @@ impl<'m, 'a> Given<'m, 'a> {
     // The job of `check`.
     fn check_job(&self) -> Result<Job, Usage>
         requires { self.now.command.now ≡ codes "check" }
-        ensures range { IfOk result IsInRange }
-        ensures job { IfOk result (IsJobOf self.now.command.now (values_in self.now.matches.now)) }
-        ensures refusal { IfErr result IsRefusal }
-        ensures err { IfErr result (λ e. (e ≡ usage.OutOfMemory)
-            ⊎ IsNoJob self.now.command.now (values_in self.now.matches.now)) }
+        ensures { GivesJob (IsJobOf self.now.command.now (values_in self.now.matches.now)) result }
     {
         Ok(Job::Check {
             limits: self.reading_limits()?,
@@ -213,11 +204,7 @@ impl<'m, 'a> Given<'m, 'a> {
     // The job of `export`.
     fn export_job(&self) -> Result<Job, Usage>
         requires { self.now.command.now ≡ codes "export" }
-        ensures range { IfOk result IsInRange }
-        ensures job { IfOk result (IsJobOf self.now.command.now (values_in self.now.matches.now)) }
-        ensures refusal { IfErr result IsRefusal }
-        ensures err { IfErr result (λ e. (e ≡ usage.OutOfMemory)
-            ⊎ IsNoJob self.now.command.now (values_in self.now.matches.now)) }
+        ensures { GivesJob (IsJobOf self.now.command.now (values_in self.now.matches.now)) result }
     {
         Ok(Job::Export {
             limits: self.reading_limits()?,
@@ -228,11 +215,7 @@ impl<'m, 'a> Given<'m, 'a> {
 
     // The job of the command, which is one of the three.
     fn job(&self) -> Result<Job, Usage>
-        ensures range { IfOk result IsInRange }
-        ensures job { IfOk result (IsJobOf self.now.command.now (values_in self.now.matches.now)) }
-        ensures refusal { IfErr result IsRefusal }
-        ensures err { IfErr result (λ e. (e ≡ usage.OutOfMemory)
-            ⊎ IsNoJob self.now.command.now (values_in self.now.matches.now)) }
+        ensures { GivesJob (IsJobOf self.now.command.now (values_in self.now.matches.now)) result }
     {
         if self.command == RECUT {
             self.recut_job()
@@ -260,11 +243,7 @@ fn without_command(alloc: Global) -> Usage
 
 // The job of the command that was found.
 fn found_job(alloc: Global, matches: &ArgMatches<'_>) -> Result<Job, Usage>
-    ensures range { IfOk result IsInRange }
-    ensures job { IfOk result (MakesJob (subcommand_rows_of matches.now)) }
-    ensures refusal { IfErr result IsRefusal }
-    ensures err { IfErr result (λ e. (e ≡ usage.OutOfMemory)
-        ⊎ ((job : Job) → IsInRange job → MakesJob (subcommand_rows_of matches.now) job → ⊥)) }
+    ensures { GivesJob (MakesJob (subcommand_rows_of matches.now)) result }
 {
     match matches.subcommand() {
         Some((command, matches)) => Given {

@@ -1,10 +1,10 @@
 -- What a description's spelling is read as.
-use Rattle.tds_columns.proofs.Words.{too_long, add-zero, if◌then◌else◌, ◌≡◌, ℕ, ◌+◌, ◌-◌, ◌*◌, ◌/◌, ◌%◌, ◌<◌, ◌≤◌, List, [], ◌∷◌, ◌++◌, length, refl}
-use Rattle.tds_columns.proofs.Words.{ap, append_assoc, append-nil, arith, length-append, Some, None, ◌==◌, nat_tests, ne_eqb, get_or-append_seam}
-use Rattle.tds_columns.proofs.Words.{Kind, little, IsTypeInfo, rest_length, kind_of, rest_length_of, Spelt, Spelt-step, Spelt-append, Spelt-none}
-use Rattle.tds_columns.proofs.Words.{Column, SpellsColumn, SpellsColumns, SpellsDescription, ColumnHead, NameCount, DescriptionPart, BeforeCount}
-use Rattle.tds_columns.proofs.Words.{InColumn, WholeDescription, with_column, with_count, with_type, with_units, count_fault, description}
-use Rattle.tds_columns.proofs.Words.{choose_false, choose_true}
+use Rattle.tds_columns.proofs.{
+  Words.{too_long, add-zero, if◌then◌else◌, ◌≡◌, ℕ, ◌+◌, ◌-◌, ◌*◌, ◌/◌, ◌%◌, ◌<◌, ◌≤◌, List, [], ◌∷◌, ◌++◌, length, refl, ap, append_assoc, append-nil, arith},
+  Words.{length-append, Some, None, ◌==◌, nat_tests, ne_eqb, get_or-append_seam, Kind, little, IsTypeInfo, rest_length, kind_of, rest_length_of, Spelt},
+  Words.{Spelt-step, Spelt-append, Spelt-none, Column, SpellsColumn, SpellsColumns, SpellsDescription, ColumnHead, NameCount, DescriptionPart, BeforeCount},
+  Words.{InColumn, WholeDescription, with_column, with_count, with_type, with_units, count_fault, description, choose_false, choose_true},
+}
 
 pub fits_in : (room so_far least : ℕ) → so_far + least ≤ room → too_long room so_far least ≡ None
 fits_in room so_far least h = grind (arith, nat_tests)

@@ -1,12 +1,12 @@
 -- What the bytes that lead to a part of a description spell.
-use Rattle.tds_columns.proofs.Words.{◌==◌, too_long, Option, Fault, first_of_two, is_some, BadTypeInfo, true, if◌then◌else◌, ◌≡◌, ◌≢◌, ℕ, ◌+◌, ◌*◌}
-use Rattle.tds_columns.proofs.Words.{◌/◌, ◌%◌, ◌<◌, ◌≤◌, List, [], ◌∷◌, ◌++◌, length, refl, sym, ◌∙◌, ap, append_assoc, append-nil, arith}
-use Rattle.tds_columns.proofs.Words.{length-append, length-take-le, Some, None, slice_index, nat_tests, ne_eqb, Kind, IsTypeInfo, rest_length}
-use Rattle.tds_columns.proofs.Words.{bare_type, AreBytes, IsNext, Column, SpellsColumn, SpellsColumns, SpellsDescription, ColumnPlace, ColumnHead}
-use Rattle.tds_columns.proofs.Words.{ColumnInfo, NameCount, NameUnits, DescriptionPart, BeforeCount, NoDescription, InColumn, WholeDescription}
-use Rattle.tds_columns.proofs.Words.{with_column, with_units, add_described, type_fault, count_fault, description, choose, choose_false, eq_true}
-use Rattle.tds_columns.proofs.Words.{eq_false, is_some_value}
-use Rattle.tds_columns.proofs.ByteLemmas.{last_of, two_bytes}
+use Rattle.tds_columns.proofs.{
+  Words.{◌==◌, too_long, Option, Fault, first_of_two, is_some, BadTypeInfo, true, if◌then◌else◌, ◌≡◌, ◌≢◌, ℕ, ◌+◌, ◌*◌, ◌/◌, ◌%◌, ◌<◌, ◌≤◌, List, [], ◌∷◌},
+  Words.{◌++◌, length, refl, sym, ◌∙◌, ap, append_assoc, append-nil, arith, length-append, length-take-le, Some, None, slice_index, nat_tests, ne_eqb, Kind},
+  Words.{IsTypeInfo, rest_length, bare_type, AreBytes, IsNext, Column, SpellsColumn, SpellsColumns, SpellsDescription, ColumnPlace, ColumnHead, ColumnInfo},
+  Words.{NameCount, NameUnits, DescriptionPart, BeforeCount, NoDescription, InColumn, WholeDescription, with_column, with_units, add_described, type_fault},
+  Words.{count_fault, description, choose, choose_false, eq_true, eq_false, is_some_value},
+  ByteLemmas.{last_of, two_bytes},
+}
 
 pub not_long : (room so_far least : ℕ) → too_long room so_far least ≡ None → so_far + least ≤ room
 not_long room so_far least h = grind (arith, nat_tests)

@@ -1,7 +1,8 @@
 -- An element that is read to the end of an area, under any grammar.
-use Rattle.tds_columns.proofs.Words.{◌≡◌, ◌∙◌, ℕ, ◌+◌, ◌-◌, ◌<◌, List, length, take, drop, max, sym, arith, length-append, Some, None, slice_index}
-use Rattle.tds_columns.proofs.Words.{common_steps, Space, appended, holding, Fault, MessageEnded, Payload, Stop, Grammar, Reads, StopsReading, Seen}
-use Rattle.tds_columns.proofs.Words.{began_is_cut, cut_at_once, reads_one, refused_at_once, TakesInto, EndsInto}
+use Rattle.tds_columns.proofs.{
+  Words.{◌≡◌, ◌∙◌, ℕ, ◌+◌, ◌-◌, ◌<◌, List, length, take, drop, max, sym, arith, length-append, Some, None, slice_index, common_steps, Space, appended, holding},
+  Words.{Fault, MessageEnded, Payload, Stop, Grammar, Reads, StopsReading, Seen, began_is_cut, cut_at_once, reads_one, refused_at_once, TakesInto, EndsInto},
+}
 
 module _ {S : Type 0} {g : Grammar S Fault} {s : S} {a b : Seen} {before after : Space} where
   -- it is read whole, without a fault

@@ -1,10 +1,11 @@
 -- What a description that was read spells.
-use Rattle.tds_columns.proofs.Words.{◌≡◌, ◌∙◌, inl, inr, ℕ, ◌<◌, List, [], ◌∷◌, length, refl, arith, little_number, bare_type, Space, Stop, AreBytes}
-use Rattle.tds_columns.proofs.Words.{Spelt, Seen, Takes, choose, eq_true, is_some_value, Spelt-induct, AreBytes-front, AreBytes-back, Column}
-use Rattle.tds_columns.proofs.Words.{DescriptionPart, BeforeCount, NoDescription, WholeDescription, SpellsDescription, description, description_bytes}
-use Rattle.tds_columns.proofs.Words.{described_size, TakesInto, Describes, GatherStops, StopsDescribing}
-use Rattle.tds_columns.proofs.ByteLemmas.{two_bytes}
-use Rattle.tds_columns.proofs.ColumnMeaning.{DescribedMeans, described_step}
+use Rattle.tds_columns.proofs.{
+  Words.{◌≡◌, ◌∙◌, inl, inr, ℕ, ◌<◌, List, [], ◌∷◌, length, refl, arith, little_number, bare_type, Space, Stop, AreBytes, Spelt, Seen, Takes, choose, eq_true},
+  Words.{is_some_value, Spelt-induct, AreBytes-front, AreBytes-back, Column, DescriptionPart, BeforeCount, NoDescription, WholeDescription, SpellsDescription},
+  Words.{description, description_bytes, described_size, TakesInto, Describes, GatherStops, StopsDescribing},
+  ByteLemmas.two_bytes,
+  ColumnMeaning.{DescribedMeans, described_step},
+}
 
 -- the bytes that are kept are those read
 abbrev pub Keeps : DescriptionPart → List ℕ → Type 0

@@ -1,11 +1,11 @@
 -- The elements of a description, as they are read into its area.
-use Rattle.tds_columns.proofs.Words.{BeforeCount, count_fault, with_count, holding, ◌≡◌, ◌≢◌, ◌∙◌, ℕ, ◌+◌, ◌<◌, ◌≤◌, List, [], length, take, refl}
-use Rattle.tds_columns.proofs.Words.{sym, ap, arith, le_refl, length-append, Some, None, Option, Result, Ok, Err, MatchResult, is_ok, if◌then◌else◌}
-use Rattle.tds_columns.proofs.Words.{little_number, little, Kind, bare_type, Space, Fault, MessageEnded, Payload, Stop, IsNext, Seen, choose, eq_true}
-use Rattle.tds_columns.proofs.Words.{is_some_value, reads_both, stops_after, Column, NameUnits, DescriptionPart, InColumn, add_described, description}
-use Rattle.tds_columns.proofs.Words.{description_bytes, described_end, described_fault, described_size, span, with_column, TakesInto, EndsInto}
-use Rattle.tds_columns.proofs.Words.{Describes, StopsDescribing}
-use Rattle.tds_columns.proofs.ElementSteps.{cut_into, reads_into, refused_into, shrunk}
+use Rattle.tds_columns.proofs.{
+  Words.{BeforeCount, count_fault, with_count, holding, ◌≡◌, ◌≢◌, ◌∙◌, ℕ, ◌+◌, ◌<◌, ◌≤◌, List, [], length, take, refl, sym, ap, arith, le_refl, length-append},
+  Words.{Some, None, Option, Result, Ok, Err, MatchResult, is_ok, if◌then◌else◌, little_number, little, Kind, bare_type, Space, Fault, MessageEnded, Payload},
+  Words.{Stop, IsNext, Seen, choose, eq_true, is_some_value, reads_both, stops_after, Column, NameUnits, DescriptionPart, InColumn, add_described, description},
+  Words.{description_bytes, described_end, described_fault, described_size, span, with_column, TakesInto, EndsInto, Describes, StopsDescribing},
+  ElementSteps.{cut_into, reads_into, refused_into, shrunk},
+}
 
 -- a state that something follows
 open_state : (s : DescriptionPart) (n : ℕ) → described_size s ≡ n → 0 < n → (described_end s ≡ Some MessageEnded)

@@ -1,9 +1,10 @@
 -- The type of a returned value, as it is read.
-use Rattle.tds_columns.proofs.Words.{◌≡◌, ◌≢◌, ℕ, ◌+◌, ◌-◌, ◌≤◌, List, [], ◌∷◌, length, arith, Some, None, ◌==◌, slice_index, ne_eqb, Kind}
-use Rattle.tds_columns.proofs.Words.{rest_length, kind_of, bare_type, nil_from_length, Space, Stop, Seen, Takes, Reads, StopsReading, choose}
-use Rattle.tds_columns.proofs.Words.{choose_false, eq_false, eq_true, Spelt-none, TakesInto, KnownType, StopsType, TypeHead, TypeRest, WereTaken}
-use Rattle.tds_columns.proofs.Words.{returned_type, with_known, with_type_byte, reads_both, reads_one, stops_after}
-use Rattle.tds_columns.proofs.ElementSteps.{reads_into}
+use Rattle.tds_columns.proofs.{
+  Words.{◌≡◌, ◌≢◌, ℕ, ◌+◌, ◌-◌, ◌≤◌, List, [], ◌∷◌, length, arith, Some, None, ◌==◌, slice_index, ne_eqb, Kind, rest_length, kind_of, bare_type},
+  Words.{nil_from_length, Space, Stop, Seen, Takes, Reads, StopsReading, choose, choose_false, eq_false, eq_true, Spelt-none, TakesInto, KnownType, StopsType},
+  Words.{TypeHead, TypeRest, WereTaken, returned_type, with_known, with_type_byte, reads_both, reads_one, stops_after},
+  ElementSteps.reads_into,
+}
 
 pub no_kind : (byte : ℕ) {rest : ℕ} (element : List ℕ) → rest_length byte ≡ Some rest → length element ≡ rest → kind_of (byte ∷ element) ≡ None
     → rest ≢ 0

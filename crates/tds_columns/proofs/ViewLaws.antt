@@ -1,11 +1,12 @@
 -- The columns of a description lie in its bytes as it is spelt.
-use Rattle.tds_columns.proofs.Words.{◌≡◌, ℕ, zero, suc, ◌+◌, ◌*◌, ◌-◌, ◌≤◌, true, List, [], ◌∷◌, ◌++◌, length, take, take_all, drop, drop-cons, refl}
-use Rattle.tds_columns.proofs.Words.{sym, ap, arith, append_assoc, length-append, length-drop, length-take-le, Some, slice_index, common_steps}
-use Rattle.tds_columns.proofs.Words.{nat_tests, get_or-append_seam, drop-append_seam, take-append_seam, little_number, Kind, is_valid, rest_length}
-use Rattle.tds_columns.proofs.Words.{kind_of, named_kind, rest_length_of, valid_of, and_from, and_parts, is_some_value, le_true, test_le, Column}
-use Rattle.tds_columns.proofs.Words.{SpellsColumn, SpellsColumns, SpellsDescription, are_columns, column_at, column_size, columns_in, columns_of}
-use Rattle.tds_columns.proofs.Words.{is_column, is_described, name_size, rest_size}
-use Rattle.tds_columns.proofs.ColumnLaws.{byte_and_rest}
+use Rattle.tds_columns.proofs.{
+  Words.{◌≡◌, ℕ, zero, suc, ◌+◌, ◌*◌, ◌-◌, ◌≤◌, true, List, [], ◌∷◌, ◌++◌, length, take, take_all, drop, drop-cons, refl, sym, ap, arith, append_assoc},
+  Words.{length-append, length-drop, length-take-le, Some, slice_index, common_steps, nat_tests, get_or-append_seam, drop-append_seam, take-append_seam},
+  Words.{little_number, Kind, is_valid, rest_length, kind_of, named_kind, rest_length_of, valid_of, and_from, and_parts, is_some_value, le_true, test_le},
+  Words.{Column, SpellsColumn, SpellsColumns, SpellsDescription, are_columns, column_at, column_size, columns_in, columns_of, is_column, is_described},
+  Words.{name_size, rest_size},
+  ColumnLaws.byte_and_rest,
+}
 
 -- ---- a column at the front
 

@@ -1,13 +1,14 @@
 -- Tokens with a Length and a body, as they are read.
-use Rattle.tds_export.proofs.Words.{BadNotice, Bodied, Charset, Ends, EndsInto, IsBetween, List, Part, Payload, Progress, Reads, ReadsNotice, Seen}
-use Rattle.tds_export.proofs.Words.{Some, Space, Stop, StopsInNotice, StopsReading, Takes, TakesInto, Token, TokenBody, TokenLength, View, arith}
-use Rattle.tds_export.proofs.Words.{began_at, between, bodied, choose_false, cut_into, false, holds_notice, in_length, inl, inr, is_notice, length}
-use Rattle.tds_export.proofs.Words.{length-append, little, little_number, ne_eqb, part_fault, reads_one, refl, refused_at_once, refused_into}
-use Rattle.tds_export.proofs.Words.{response, stops_after, sym, take, takes_both, test_lt, true, with_token, ℕ, ◌++◌, ◌+◌, ◌<◌, ◌∙◌, ◌≡◌, ◌≤◌}
-use Rattle.tds_export.proofs.Cuts.{fill_cut, part_cut}
-use Rattle.tds_export.proofs.TokenSteps.{Begun, bare_reads, quietly, stops_quietly, ReadsQuiet, StopsQuiet}
-use Rattle.tds_export.proofs.TokenLaws.{bare_body, tracks_body}
-use Rattle.tds_export.proofs.ResponseLaws.{body_free, body_is_read, length_free}
+use Rattle.tds_export.proofs.{
+  Words.{BadNotice, Bodied, Charset, Ends, EndsInto, IsBetween, List, Part, Payload, Progress, Reads, ReadsNotice, Seen, Some, Space, Stop, StopsInNotice},
+  Words.{StopsReading, Takes, TakesInto, Token, TokenBody, TokenLength, View, arith, began_at, between, bodied, choose_false, cut_into, false, holds_notice},
+  Words.{in_length, inl, inr, is_notice, length, length-append, little, little_number, ne_eqb, part_fault, reads_one, refl, refused_at_once, refused_into},
+  Words.{response, stops_after, sym, take, takes_both, test_lt, true, with_token, ℕ, ◌++◌, ◌+◌, ◌<◌, ◌∙◌, ◌≡◌, ◌≤◌},
+  Cuts.{fill_cut, part_cut},
+  TokenSteps.{Begun, bare_reads, quietly, stops_quietly, ReadsQuiet, StopsQuiet},
+  TokenLaws.{bare_body, tracks_body},
+  ResponseLaws.{body_free, body_is_read, length_free},
+}
 
 -- before the body of a token
 abbrev pub in_body : Bodied → List Token → ℕ → Part
@@ -32,9 +33,9 @@ module _ (charset : Charset) (room : ℕ) {n place middle : ℕ} {tokens : List 
   after_length {stop = stop} some stops =
       let to : (response charset room).add (in_length which tokens) element ≡ in_body which tokens n =
       rw (number_is l) (choose_false _ _ _ (ne_eqb n 0 (λ z. omega arith))) in
-      let one = reads_one _ _ a b element _ (record { some = omega arith; whole = l.two; free = length_free room n tokens _ _ long (number_is l) })
+      let one = reads_one _ _ a b _ _ (record { some = omega arith; whole = l.two; free = length_free room tokens _ _ long (number_is l) })
       l.takes to in
-      stops_after (response charset room) (in_length which tokens) (in_body which tokens n) a b c place (in_body which tokens n) stop one
+      stops_after _ _ _ a b c _ _ _ one
       (rw l.at at stops)
 
   -- the body was read
@@ -42,7 +43,7 @@ module _ (charset : Charset) (room : ℕ) {n place middle : ℕ} {tokens : List 
       → Reads (response charset room) (in_length which tokens) a c (with_token tokens (bodied which body))
   body_reads body len takes holds = record {
     bytes = element ++ body;
-    spelt = body_is_read _ _ _ _ _ _ l.two (number_is l ∙ sym len) (length_free room n tokens _ _ long (number_is l)) (body_free _ body holds);
+    spelt = body_is_read _ _ _ _ l.two (number_is l ∙ sym len) (length_free room tokens _ _ long (number_is l)) (body_free _ body holds);
     takes = takes_both a b c _ _ l.takes (rw len takes);
   }
 
@@ -57,15 +58,15 @@ module _ (charset : Charset) {n middle : ℕ} {tokens : List Token} {which : Bod
       → ReadsQuiet charset (in_length which tokens) tokens u c place s
   quiet_reads body len takes at =
       let r = body_reads _ _ l (no_notice _ quiet) _ len takes (no_notice _ quiet) in
-      quietly begun refl (bare_reads begun (bodied which body) r (omega (arith, length-append element body)) refl (bare_body _ _)
+      quietly begun refl (bare_reads begun _ r (omega (arith, length-append element body)) refl (bare_body _ _)
       (tracks_body begun.tracks _ _ quiet))
 
   -- it was cut
-  pub quiet_stops : {own stop : Stop} (part : List ℕ) → length part < n → Ends b c part own → stop ≡ began_at middle own
+  pub quiet_stops : {own stop : Stop} {part : List ℕ} → length part < n → Ends b c part own → stop ≡ began_at middle own
       → StopsQuiet charset (in_length which tokens) u c stop
-  quiet_stops part fewer ends is =
+  quiet_stops fewer ends is =
       stops_quietly refl (record { bytes = begun.holds.bytes; peak = begun.holds.peak }) begun.delivered begun.going
-      (after_length _ _ l (no_notice _ quiet) (omega arith) (part_cut _ refl refl fewer ends is))
+      (after_length _ _ l (no_notice _ quiet) (omega arith) (part_cut refl refl fewer ends is))
 
 module _ (charset : Charset) (room : ℕ) {tokens : List Token} {which : Bodied} (notice : is_notice which ≡ true) where
   -- the Length is cut

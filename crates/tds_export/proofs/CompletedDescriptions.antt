@@ -1,16 +1,15 @@
 -- What completes a description is read as its rest.
-use Rattle.tds_export.proofs.Words.{AreBytes, BadTypeInfo, BeforeCount, Column, ColumnHead, ColumnInfo, ColumnPlace, DescriptionPart, InColumn, Int4}
-use Rattle.tds_export.proofs.Words.{IsNext, Kind, List, NameCount, NameUnits, NoDescription, None, Some, SpellsColumn, SpellsColumns, Spelt}
-use Rattle.tds_export.proofs.Words.{Spelt-none, WholeDescription, [], add_described, ap, append_assoc, arith, bare_type, choose, choose_false}
-use Rattle.tds_export.proofs.Words.{choose_true, columns_are_read, description, eq_false, eq_true, fits_in, if◌then◌else◌, int_column, int_columns}
-use Rattle.tds_export.proofs.Words.{is_some, is_some_value, is_valid, known_type, least_info, length, length-append, length-replicate, more}
-use Rattle.tds_export.proofs.Words.{named_kind, nat_tests, ne_eqb, not_long, not_zero, refl, replicate, rest_length, rest_of_description, room_for}
-use Rattle.tds_export.proofs.Words.{suc, true, valid_of, with_column, with_kind, zero, zeros, ℕ, ◌*◌, ◌++◌, ◌+◌, ◌-◌, ◌<◌, ◌==◌, ◌∙◌, ◌∷◌, ◌≡◌, ◌≤◌}
-use Rattle.tds_export.proofs.Words.{⊤}
-use Rattle.tds_export.proofs.CompletedCells.{AreValid}
-use Rattle.tds_export.proofs.LeastTypes.{least_type}
-use Rattle.tds_export.proofs.ReturnLaws.{some_kind}
-use Rattle.tds_export.proofs.Cuts.{spelt_both, spelt_one}
+use Rattle.tds_export.proofs.{
+  Words.{AreBytes, BadTypeInfo, BeforeCount, Column, ColumnHead, ColumnInfo, ColumnPlace, DescriptionPart, InColumn, Int4, IsNext, Kind, List, NameCount},
+  Words.{NameUnits, NoDescription, None, Some, SpellsColumn, SpellsColumns, Spelt, Spelt-none, WholeDescription, [], add_described, ap, append_assoc, arith},
+  Words.{bare_type, choose, choose_false, choose_true, columns_are_read, description, eq_false, eq_true, fits_in, if◌then◌else◌, int_column, int_columns},
+  Words.{is_some, is_some_value, is_valid, known_type, least_info, length, length-append, length-replicate, more, named_kind, nat_tests, ne_eqb, not_long},
+  Words.{not_zero, refl, replicate, rest_length, rest_of_description, room_for, suc, true, valid_of, with_column, with_kind, zero, zeros, ℕ, ◌*◌, ◌++◌, ◌+◌},
+  Words.{◌-◌, ◌<◌, ◌==◌, ◌∙◌, ◌∷◌, ◌≡◌, ◌≤◌, ⊤, some_kind},
+  CompletedCells.AreValid,
+  LeastTypes.least_type,
+  Cuts.{spelt_both, spelt_one},
+}
 
 -- what is known of the place in a column after these bytes, with so many columns to follow: the room is enough for what must still come
 abbrev pub PlaceReached : ℕ → List ℕ → ℕ → ColumnPlace → Type 0
@@ -38,14 +37,14 @@ AreValid-append [] c h v = (v, tt)
 AreValid-append (d ∷ cs) c h v = (h.0, AreValid-append cs c h.1 v)
 
 module _ (room : ℕ) where
-  column_reached : (bytes : List ℕ) (count : ℕ) (cols : List Column) (c : Column) → length cols < count → AreValid cols → is_valid c.kind ≡ true
+  column_reached : (bytes : List ℕ) {count : ℕ} (cols : List Column) (c : Column) → length cols < count → AreValid cols → is_valid c.kind ≡ true
       → length bytes + 8 * (count - (length cols + 1)) ≤ room → DescribedReached room (with_column bytes count cols c)
-  column_reached bytes count cols c fewer valid v fits = grind (arith, AreValid-append, choose, eq_false, length-append)
+  column_reached bytes cols c fewer valid v fits = grind (arith, AreValid-append, choose, eq_false, length-append)
 
   -- Each element keeps what is known.
-  pub described_keeps : (d : DescriptionPart) (e : List ℕ) → AreBytes e → DescribedReached room d → IsNext (description room) d e
+  pub described_keeps : {d : DescriptionPart} {e : List ℕ} → AreBytes e → DescribedReached room d → IsNext (description room) d e
       → DescribedReached room (add_described d e)
-  described_keeps d e are h n = grind (
+  described_keeps are h n = grind (
     arith,
     choose,
     column_reached,
@@ -119,7 +118,7 @@ module _ (room : ℕ) where
   info_ends : (bytes : List ℕ) (count : ℕ) (cols : List Column) (byte : ℕ) (n : ℕ) → n ≡ count - (length cols + 1) → length cols < count
       → PlaceReached room bytes n (ColumnInfo byte) → Ends room (InColumn bytes count cols (ColumnInfo byte)) (least_info byte ++ (0 ∷ int_columns n))
   info_ends bytes count cols byte n is fewer (m, known, some, fits) =
-      let least = least_type _ m known in
+      let least = least_type known in
       let free = ap (λ o. (if is_some o then None else Some (BadTypeInfo (length cols)))) least.described in
       let to = ap (λ o. with_kind (bytes ++ least_info byte) count cols o) least.described in
       then_ends {e = least_info byte} (spelt_one (omega arith) (cc) free to)

@@ -1,24 +1,23 @@
 -- What completes a response is read as its rest, and is bytes.
-use Rattle.tds_export.proofs.Words.{ADone, APassed, AreBytes, Between, Bool, CanBeCompleted, CellPart, Column, Describing, DescriptionPart, Done}
-use Rattle.tds_export.proofs.Words.{Fields, InReturn, InReturnCell, InRow, IsNext, Kind, Lead, List, Metadata, None, Open, Option, Part, PassedOver}
-use Rattle.tds_export.proofs.Words.{ReturnHead, ReturnInfo, ReturnName, ReturnNameCount, ReturnOrdinal, ReturnPart, Returned, Row, RowPart, Some}
-use Rattle.tds_export.proofs.Words.{Spelt, Spelt-none, Token, TokenBody, TokenLength, WholeReturn, WholeRow, Windows1252, [], after_first}
-use Rattle.tds_export.proofs.Words.{after_tokens, arith, begun, bodied, cell_start, choose, common_steps, completion, described_after, done}
-use Rattle.tds_export.proofs.Words.{done_byte, eq_false, false, fields_length, fixed, holds_notice, int_column, int_columns, is_notice, length}
-use Rattle.tds_export.proofs.Words.{length-replicate, nat_tests, part_add, passed, refl, response, response_start, rest_of_cell, rest_of_cells}
-use Rattle.tds_export.proofs.Words.{rest_of_return, rest_of_return_head, rest_of_token, rest_of_value, start_of_row, suc, test_le, test_lt, true}
-use Rattle.tds_export.proofs.Words.{with_described, with_return, with_row, with_token, zero, zero_chunks, zeros, ℕ, ⊤, ◌++◌, ◌<◌, ◌∙◌, ◌∷◌, ◌≡◌, ◌≤◌}
-use Rattle.tds_export.proofs.SomeBytes.{AreBytes-append, AreBytes-replicate, bytes_induct}
-use Rattle.tds_export.proofs.CompletedDescriptions.{DescribedReached, IsOpenDescription, described_ends, described_keeps}
-use Rattle.tds_export.proofs.CompletedReturns.{ReturnReached, return_ends, return_keeps}
-use Rattle.tds_export.proofs.CompletedCells.{RowReached, AreValid, marked_valid, next_reached, row_ends, row_keeps}
-use Rattle.tds_export.proofs.LeastTypes.{least_type}
-use Rattle.tds_export.proofs.ResponseMeaning.{response_is_spelt}
-use Rattle.tds_export.proofs.Cuts.{spelt_both, spelt_one}
-use Rattle.tds_export.proofs.TokenLaws.{bare, bare_body, bare_fixed, is_bare, is_final-snoc}
-use Rattle.tds_export.proofs.ResponseLaws.{body_free, body_is_read, described_after-append, length_free, some_fields, description_agrees, row_agrees}
-use Rattle.tds_export.proofs.ResponseLaws.{return_agrees, part_at}
-use Rattle.tds_export.proofs.ReturnLaws.{spelt_inside}
+use Rattle.tds_export.proofs.{
+  Words.{ADone, APassed, AreBytes, Between, Bool, CanBeCompleted, CellPart, Column, Describing, DescriptionPart, Done, Fields, InReturn, InReturnCell, InRow},
+  Words.{IsNext, Kind, Lead, List, Metadata, None, Open, Option, Part, PassedOver, ReturnHead, ReturnInfo, ReturnName, ReturnNameCount, ReturnOrdinal},
+  Words.{ReturnPart, Returned, Row, RowPart, Some, Spelt, Spelt-none, Token, TokenBody, TokenLength, WholeReturn, WholeRow, Windows1252, [], after_first},
+  Words.{after_tokens, arith, begun, bodied, cell_start, choose, common_steps, completion, described_after, done, done_byte, eq_false, false, fields_length},
+  Words.{fixed, holds_notice, int_column, int_columns, is_notice, length, length-replicate, nat_tests, part_add, passed, refl, response, response_start},
+  Words.{rest_of_cell, rest_of_cells, rest_of_return, rest_of_return_head, rest_of_token, rest_of_value, start_of_row, suc, test_le, test_lt, true},
+  Words.{with_described, with_return, with_row, with_token, zero, zero_chunks, zeros, ℕ, ⊤, ◌++◌, ◌<◌, ◌∙◌, ◌∷◌, ◌≡◌, ◌≤◌},
+  SomeBytes.{AreBytes-append, AreBytes-replicate, bytes_induct},
+  CompletedDescriptions.{DescribedReached, IsOpenDescription, described_ends, described_keeps},
+  CompletedReturns.{ReturnReached, return_ends, return_keeps},
+  CompletedCells.{RowReached, AreValid, marked_valid, next_reached, row_ends, row_keeps},
+  LeastTypes.least_type,
+  ResponseMeaning.response_is_spelt,
+  Cuts.{spelt_both, spelt_one},
+  TokenLaws.{bare, bare_body, bare_fixed, is_bare, is_final-snoc},
+  ResponseLaws.{body_free, body_is_read, described_after-append, length_free, some_fields, description_agrees, row_agrees, return_agrees, part_at},
+  ReturnLaws.spelt_inside,
+}
 
 -- a row, and a return value, that isn't whole
 abbrev pub IsOpenRow : RowPart → Type 0
@@ -70,7 +69,7 @@ AreBytes-return ReturnOrdinal h = AreBytes-append (zeros 3) rest_of_return_head 
 AreBytes-return ReturnNameCount h = AreBytes-append (zeros 1) rest_of_return_head (AreBytes-zeros 1) AreBytes-head
 AreBytes-return (ReturnName n) h = AreBytes-append _ _ (AreBytes-zeros n) AreBytes-head
 AreBytes-return (ReturnHead name) h = AreBytes-head
-AreBytes-return (ReturnInfo name byte) (n, known, some) = AreBytes-append _ _ (least_type _ n known).bytes (AreBytes-value _)
+AreBytes-return (ReturnInfo name byte) (n, known, some) = AreBytes-append _ _ (least_type known).bytes (AreBytes-value _)
 AreBytes-return (InReturnCell name kind part) h = AreBytes-cell part
 AreBytes-return (WholeReturn r) h = tt
 
@@ -112,7 +111,7 @@ module _ (room : ℕ) where
 
   bare_reached : (tokens : List Token) (t : Token) → is_bare t ≡ true → CurrentReached (described_after None tokens)
       → PartReached room (with_token tokens t)
-  bare_reached tokens t is h = token_reached tokens t (bare t is).columns h
+  bare_reached tokens t is h = token_reached tokens t (bare is).columns h
 
   described_reached : (tokens : List Token) (d : DescriptionPart) → CurrentReached (described_after None tokens) → DescribedReached room d
       → PartReached room (with_described tokens d)
@@ -136,19 +135,19 @@ module _ (room : ℕ) where
   lead_reached tokens begun h = grind (arith, marked_valid, next_reached, row_starts)
 
   -- Each element keeps what is known.
-  open_keeps : (tokens : List Token) (at : Open) (e : List ℕ) → AreBytes e → CurrentReached (described_after None tokens) → OpenReached room at
+  open_keeps : {tokens : List Token} (at : Open) {e : List ℕ} → AreBytes e → CurrentReached (described_after None tokens) → OpenReached room at
       → IsNext (response Windows1252 room) (part_at tokens at) e → PartReached room (part_add Windows1252 tokens at e)
-  open_keeps tokens Between e are h o n = lead_reached tokens _ h
-  open_keeps tokens (Describing d) e are h (begun, r) n = described_reached _ _ h (described_keeps _ d e are r (grind arith))
-  open_keeps tokens (InRow part) e are h (begun, r) n = row_reached _ _ h (row_keeps _ e are r (grind arith))
-  open_keeps tokens (InReturn part) e are h (begun, r) n = return_reached _ _ h (return_keeps _ e are r (grind arith))
-  open_keeps tokens (TokenLength b) e are h o n = grind (arith, bare_body, bare_reached, choose, eq_false, nat_tests)
-  open_keeps tokens (TokenBody b m) e are h o n = bare_reached tokens _ (bare_body b e) h
-  open_keeps tokens (Fields f) e are h o n = bare_reached tokens _ (bare_fixed f e) h
+  open_keeps {tokens} Between are h o n = lead_reached tokens _ h
+  open_keeps (Describing d) {e} are h (begun, r) n = described_reached _ _ h (described_keeps _ are r (grind arith))
+  open_keeps (InRow part) {e} are h (begun, r) n = row_reached _ _ h (row_keeps are r (grind arith))
+  open_keeps (InReturn part) {e} are h (begun, r) n = return_reached _ _ h (return_keeps _ are r (grind arith))
+  open_keeps (TokenLength b) are h o n = grind (arith, bare_body, bare_reached, choose, eq_false, nat_tests)
+  open_keeps {tokens} (TokenBody b m) {e} are h o n = bare_reached tokens _ (bare_body b e) h
+  open_keeps {tokens} (Fields f) {e} are h o n = bare_reached tokens _ (bare_fixed f e) h
 
-  part_reached : (bytes : List ℕ) (p : Part) → AreBytes bytes → Spelt (response Windows1252 room) response_start bytes p → PartReached room p
-  part_reached bytes p are h =
-      bytes_induct _ (λ q b. PartReached room q) (λ q b e r are n. open_keeps _ _ e are r.0 r.1 n) _ (tt, tt) _ p are h
+  part_reached : {bytes : List ℕ} {p : Part} → AreBytes bytes → Spelt (response Windows1252 room) response_start bytes p → PartReached room p
+  part_reached {p} are h =
+      bytes_induct (λ q b. PartReached room q) (λ q b e r are n. open_keeps _ are r.0 r.1 n) _ (tt, tt) _ p are h
 
   -- the rest of a token, up to its end
   abbrev Ends : List Token → Open → List ℕ → Type 0
@@ -176,11 +175,11 @@ module _ (room : ℕ) where
       let all = return_ends _ r in
       (tokens ++ Returned all.0 ∷ [], rw (← return_opens tokens part begun) (spelt_inside (return_agrees Windows1252 _ _) all.1))
   token_ends ten tokens (TokenLength (APassed passed)) o =
-      (tokens ++ PassedOver passed [] ∷ [], body_is_read Windows1252 _ _ _ (zeros 2) _ refl refl refl refl)
+      (tokens ++ PassedOver passed [] ∷ [], body_is_read Windows1252 _ (zeros 2) _ refl refl refl refl)
   token_ends ten tokens (TokenLength b) o =
-      let free = length_free room 14 tokens b (14 ∷ 0 ∷ []) (λ e. omega arith) refl in (
+      let free = length_free room tokens b (14 ∷ 0 ∷ []) (λ e. omega arith) refl in (
         tokens ++ bodied b (zeros 14) ∷ [],
-        body_is_read Windows1252 room tokens b (14 ∷ 0 ∷ []) (zeros 14) refl refl free
+        body_is_read Windows1252 _ (14 ∷ 0 ∷ []) (zeros 14) refl refl free
             (body_free b (zeros 14) (λ e. zeros_hold 14 (omega arith))),
       )
   token_ends ten tokens (TokenBody b n) (some, long) =
@@ -199,10 +198,10 @@ module _ (room : ℕ) where
 -- Whatever has been read can be completed.
 pub can_be_completed : CanBeCompleted
 can_be_completed room part bytes ten are h =
-    let r = part_reached _ _ _ are h in
+    let r = part_reached _ are h in
     let end = token_ends _ ten _ _ r.1 in
     let all = spelt_both h (spelt_both end.1 (done_ends _ _)) in (
       end.0 ++ Done false ∷ [],
-      response_is_spelt _ _ _ _ (AreBytes-append _ _ are (AreBytes-completion _ part r.1)) (is_final-snoc end.0 (Done false))
+      response_is_spelt _ _ (AreBytes-append _ _ are (AreBytes-completion _ part r.1)) (is_final-snoc end.0 (Done false))
           all,
     )

@@ -1,9 +1,10 @@
 -- Where an export stops with the fault of a device, the device's count of failures rose.
-use Rattle.tds_export.proofs.Words.{Bool, Charset, Coming, Ends, Fault, Given, Held, IsOfWire, IsOver, List, MessageEnded, None, Open, Option, Part}
-use Rattle.tds_export.proofs.Words.{ReadFailed, Report, Reports, Rose, RunStops, Seen, Some, Stop, Stopped, StopsExport, StopsReading, Takes, Token}
-use Rattle.tds_export.proofs.Words.{WriteFailed, [], ap, arith, before, begun, begun_at, fresh_at, front_packet, grammar_of, if◌then◌else◌, inl, inr}
-use Rattle.tds_export.proofs.Words.{length, limits_of, message, message_of_wire, one_more, part_end, part_fault, read, response, response_start, rose}
-use Rattle.tds_export.proofs.Words.{subst, sym, true, whole_message, ℕ, ⊤, ◌++◌, ◌<◌, ◌∙◌, ◌∷◌, ◌≡◌, ◌⊎◌, FailsToRead, FailsToWrite}
+use Rattle.tds_export.proofs.{
+  Words.{Bool, Charset, Coming, Ends, Fault, Given, Held, IsOfWire, IsOver, List, MessageEnded, None, Open, Option, Part, ReadFailed, Report, Reports, Rose},
+  Words.{RunStops, Seen, Some, Stop, Stopped, StopsExport, StopsReading, Takes, Token, WriteFailed, [], ap, arith, before, begun, begun_at, fresh_at},
+  Words.{front_packet, grammar_of, if◌then◌else◌, inl, inr, length, limits_of, message, message_of_wire, one_more, part_end, part_fault, read, response},
+  Words.{response_start, rose, subst, sym, true, whole_message, ℕ, ⊤, ◌++◌, ◌<◌, ◌∙◌, ◌∷◌, ◌≡◌, ◌⊎◌, FailsToRead, FailsToWrite},
+}
 
 -- a fault that elements may have, or the end of a message
 abbrev pub IsOfPayload : Fault → Type 0
@@ -34,12 +35,12 @@ module _ (charset : Charset) (room : ℕ) where
 
 -- ---- a payload that has just begun
 
-ends_of_wire : (size limit failures : ℕ) (left : Option (List ℕ)) (b : Seen) (bytes : List ℕ) (own : Stop)
+ends_of_wire : (size limit : ℕ) {failures : ℕ} (left : Option (List ℕ)) (b : Seen) {bytes : List ℕ} {own : Stop}
     → Ends (begun size limit left failures) b bytes own → IsOfWire own.fault ⊎ ((own.fault ≡ ReadFailed) × (b.failures ≡ one_more failures))
-ends_of_wire size limit failures left b bytes own (inl x) =
+ends_of_wire size limit left b (inl x) =
     inl (rw (← ap (λ (c : Coming). c.stop.fault) (x.2 [])) (message_of_wire _ _ _ 0 0 _))
-ends_of_wire size limit failures left b bytes own (inr (inl x)) = inl (rw (← ap (λ (c : Coming). c.stop.fault) x.3) (message_of_wire _ _ _ 0 0 _))
-ends_of_wire size limit failures left b bytes own (inr (inr x)) = inr (x.2, x.4.0)
+ends_of_wire size limit left b (inr (inl x)) = inl (rw (← ap (λ (c : Coming). c.stop.fault) x.3) (message_of_wire _ _ _ 0 0 _))
+ends_of_wire size limit left b (inr (inr x)) = inr (x.2, x.4.0)
 
 -- what stops the reading of a response
 abbrev ReadingFault : ℕ → ℕ → Fault → Type 0
@@ -50,14 +51,14 @@ of_none : (P : Fault → Type 0) → (P WriteFailed → ⊥) → (P ReadFailed �
     → ReadingFault before after fault
 of_none P write read before after fault h = (λ e. write (rw e at h), λ e. absurd (read (rw e at h)))
 
-reading_fault : (charset : Charset) (room size limit failures : ℕ) (left : Option (List ℕ)) (b : Seen) (place : ℕ) (at : Part) (stop : Stop)
+reading_fault : (charset : Charset) (room size limit : ℕ) {failures : ℕ} {left : Option (List ℕ)} {b : Seen} {place : ℕ} (at : Part) (stop : Stop)
     → StopsReading (response charset room) response_start (begun size limit left failures) b place at stop
     → ReadingFault failures b.failures stop.fault
-reading_fault charset room size limit failures left b place at stop x = elim x.cause [
+reading_fault charset room size limit {b} at stop x = elim x.cause [
   | inl y ↦ of_none IsOfPayload (λ h. h) (λ h. h) _ _ _ (element_fault charset _ at y.0.element stop.fault y.0.first)
   | inr y ↦ elim y.stop_is [
     | inl z ↦ rw (ap (λ (s : Stop). s.fault) z.1.2) (of_none IsOfPayload (λ h. h) (λ h. h) _ _ _ (end_fault charset room at z.1.0 z.1.1))
-    | inr z ↦ rw (ap (λ (s : Stop). s.fault) z.1) (elim (ends_of_wire _ _ _ _ b _ _ y.ends) [
+    | inr z ↦ rw (ap (λ (s : Stop). s.fault) z.1) (elim (ends_of_wire _ _ _ b y.ends) [
       | inl w ↦ of_none IsOfWire (λ h. h) (λ h. h) _ _ _ w
       | inr w ↦ (λ e. (cc), λ e. w.1)
     ])
@@ -76,8 +77,8 @@ by_write : (given : Given) (stopped : Stopped) (stop : Stop) (middle after : Hel
     → Blamed given stopped
 by_write given stopped stop middle after is named start failed end = grind (arith, rose)
 
-pub blamed : (given : Given) (stopped : Stopped) → StopsExport given stopped → Blamed given stopped
-blamed given stopped x = go x.stops
+pub blamed : {given : Given} {stopped : Stopped} → StopsExport given stopped → Blamed given stopped
+blamed {given} {stopped} x = go x.stops
   where
     is : stopped.fault ≡ x.stop.fault
     is = cc
@@ -88,7 +89,7 @@ blamed given stopped x = go x.stops
     go : RunStops (grammar_of given) response_start (begun_at given) x.seen 0 (fresh_at given) x.middle given.after.areas.description x.failed x.stop
         → Blamed given stopped
     go (inl (inl y)) =
-        let r = reading_fault _ _ _ _ _ _ _ 0 _ _ y.0.stops in
+        let r = reading_fault _ _ _ _ _ _ y.0.stops in
         (λ e. subst (Rose given.before.reader.failures) (cc (r.1 (sym is ∙ e))) (rose _), λ e. absurd (r.0 (cc)))
     go (inl (inr y)) =
         let b = y.0.breaks.breaks in
@@ -100,22 +101,22 @@ blamed given stopped x = go x.stops
 -- ---- no device failed
 
 -- an input of no byte is over before the message is
-no_message : (size limit : ℕ) (c : Coming) → c.stop.fault ≡ MessageEnded → whole_message size limit [] ≡ c → ⊥
+no_message : (size limit : ℕ) {c : Coming} → c.stop.fault ≡ MessageEnded → whole_message size limit [] ≡ c → ⊥
 unfolding message front_packet
-no_message size limit c is e = let no = ap (λ (d : Coming). d.stop.fault) e ∙ is in cc
+no_message size limit is e = let no = ap (λ (d : Coming). d.stop.fault) e ∙ is in cc
 
 -- to read a whole message takes a byte
-some_read : (size limit failures : ℕ) (left : Option (List ℕ)) (q : Seen) (bytes : List ℕ) (n : ℕ)
+some_read : (size limit : ℕ) {failures : ℕ} (left : Option (List ℕ)) (q : Seen) (bytes : List ℕ) {n : ℕ}
     (t : Takes (begun size limit left failures) q bytes n) → IsOver q → 0 < length t.0
-some_read size limit failures left q bytes n t o = go t.0 t.1.1
+some_read size limit left q bytes t o = go t.0 t.1.1
   where
     go : (read : List ℕ) → ((zs : List ℕ) → whole_message size limit (read ++ zs) ≡ before bytes (q.future zs)) → 0 < length read
-    go [] f = absurd (no_message _ _ _ (cc (o.2 [])) (f []))
+    go [] f = absurd (no_message _ _ (cc (o.2 [])) (f []))
     go (x ∷ read) f = omega arith
 
 pub no_failure : (given : Given) (report : Report) → Reports given report → (FailsToRead given → ⊥) × (FailsToWrite given → ⊥)
 no_failure given report x =
     let t = x.completes.whole.takes in
-    let moved = some_read (limits_of given).packet_size (limits_of given).max_wire given.before.reader.failures given.before.reader.bytes x.seen
-    x.completes.whole.bytes _ t x.completes.whole.over in
+    let moved = some_read (limits_of given).packet_size (limits_of given).max_wire given.before.reader.bytes x.seen
+    x.completes.whole.bytes t x.completes.whole.over in
     grind (arith, some_read)

@@ -1,8 +1,9 @@
 -- How an export ends, from what its calls did.
-use Rattle.tds_export.proofs.Words.{common_steps, AreEmptied, Areas, Bool, CompletesResponse, FinishFails, Finishes, FinishesSink, Given, Held}
-use Rattle.tds_export.proofs.Words.{IsNoted, IsReader, IsTrue, IsWriter, List, MatchResult, Option, Report, Reports, Result, RunStops, Seen, Sink}
-use Rattle.tds_export.proofs.Words.{Space, Stop, Stopped, StopsExport, Tidied, [], arith, begun, false, fresh_at, held, is_intact, limits_of}
-use Rattle.tds_export.proofs.Words.{nat_tests, response, response_start, rose, stopped_with, true, ℕ, ◌≡◌}
+use Rattle.tds_export.proofs.{
+  Words.{common_steps, AreEmptied, Areas, Bool, CompletesResponse, FinishFails, Finishes, FinishesSink, Given, Held, IsNoted, IsReader, IsTrue, IsWriter, List},
+  Words.{MatchResult, Option, Report, Reports, Result, RunStops, Seen, Sink, Space, Stop, Stopped, StopsExport, Tidied, [], arith, begun, false, fresh_at},
+  Words.{held, is_intact, limits_of, nat_tests, response, response_start, rose, stopped_with, true, ℕ, ◌≡◌},
+}
 
 -- however the last delivery ended
 tidied : {U : Type 0} (h k : Held) (failed : Bool) (r : Result U Stop) → failed ≡ false
@@ -25,14 +26,14 @@ exports given a q h k size limit room report e1 e2 e3 e4 e5 reader writer x =
     let y = rw (e1, e2, e3, e4, e5) at x in
     record { seen = q; held = k; reader = reader; writer = writer; completes = y.0; notice = y.1 }
 
-pub stops_export : (given : Given) (a q : Seen) (h k l : Held) (size limit room place : ℕ) (failed : Bool) (stop : Stop) (stopped : Stopped)
+pub stops_export : {given : Given} {a q : Seen} {h k l : Held} {size limit room place : ℕ} {failed : Bool} {stop : Stop} {stopped : Stopped}
     → a ≡ begun size limit given.before.reader.bytes given.before.reader.failures → size ≡ (limits_of given).packet_size
     → limit ≡ (limits_of given).max_wire
     → h ≡ fresh_at given → room ≡ (limits_of given).column_room → place ≡ 0 → IsReader given q → IsWriter given l
     → RunStops (response given.charset room) response_start a q place h k given.after.areas.description failed stop → (failed ≡ false → Tidied k l)
     → (failed ≡ true → l ≡ k)
     → stopped ≡ stopped_with stop l → given.after.areas.notice.bytes ≡ [] → StopsExport given stopped
-stops_export given a q h k l size limit room place failed stop stopped e1 e2 e3 e4 e5 e6 reader writer x tidy same is none = grind (arith, tidied)
+stops_export e1 e2 e3 e4 e5 e6 reader writer x tidy same is none = grind (arith, tidied)
 
 -- ---- the rooms of areas that were intact and are emptied
 

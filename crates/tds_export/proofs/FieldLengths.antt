@@ -1,14 +1,14 @@
 -- How long the text of so many bytes is at most.
-use Rattle.tds_export.proofs.Words.{AreBytes, Conversion, Err, FitsWidths, HexDigits, Kind, List, None, Ok, Option, Result, ScalarValue, Some}
-use Rattle.tds_export.proofs.Words.{ValueFault, [], and_parts, arith, begun_by_test, cast_signed, checked, choose, conversion_rest, conversion_text}
-use Rattle.tds_export.proofs.Words.{datetime_of, doubled, doubled-append, doubled_byte, doubled_length, drop, emit, encode_utf8_all, fit_by_test}
-use Rattle.tds_export.proofs.Words.{integer_of, is_begun, is_decimal_length, is_fit, is_length_allowed, joins_by_name, length, length-append}
-use Rattle.tds_export.proofs.Words.{length-encode_with, length-map, length-take, length-text_of, little_number, long_field, money_of, nat_tests}
-use Rattle.tds_export.proofs.Words.{open_field, quote, read_of, take, text_of, true, unsigned_abs, utf16_chars, value_of, w16, w32, w64, ℕ, ◌*◌, ◌++◌}
-use Rattle.tds_export.proofs.Words.{◌+◌, ◌-◌, ◌<◌, ◌==◌, ◌^◌, ◌∷◌, ◌≡◌, ◌≤◌, ⊤}
-use Rattle.tds_export.proofs.SomeBytes.{AreBytes-drop, byte_below, little_below, one_of_four}
 use Rattle.tds_csv.specs.Utf16 as utf16
 use Rattle.tds_values.specs.declared.kind.Kind.TheVariants as kinds
+use Rattle.tds_export.proofs.{
+  Words.{AreBytes, Conversion, Err, FitsWidths, HexDigits, Kind, List, None, Ok, Option, Result, ScalarValue, Some, ValueFault, [], and_parts, arith},
+  Words.{begun_by_test, cast_signed, checked, choose, conversion_rest, conversion_text, datetime_of, doubled, doubled-append, doubled_byte, doubled_length},
+  Words.{drop, emit, encode_utf8_all, fit_by_test, integer_of, is_begun, is_decimal_length, is_fit, is_length_allowed, joins_by_name, length, length-append},
+  Words.{length-encode_with, length-map, length-take, length-text_of, little_number, long_field, money_of, nat_tests, open_field, quote, read_of, take},
+  Words.{text_of, true, unsigned_abs, utf16_chars, value_of, w16, w32, w64, ℕ, ◌*◌, ◌++◌, ◌+◌, ◌-◌, ◌<◌, ◌==◌, ◌^◌, ◌∷◌, ◌≡◌, ◌≤◌, ⊤},
+  SomeBytes.{AreBytes-drop, byte_below, little_below, one_of_four},
+}
 
 -- ---- the text of data
 
@@ -45,8 +45,7 @@ conversion_length c bytes = grind (arith, characters_length, chars_length, doubl
 
 -- nor is the fixed text longer
 emit_length : (c : Conversion) (bytes : List ℕ) → length (emit (conversion_rest c) (conversion_text c) bytes) ≤ 4 * length bytes
-emit_length c bytes = let n = length bytes - length (conversion_rest c bytes) in
-    omega (arith, conversion_length c (take n bytes), length-take n bytes)
+emit_length c bytes = grind (arith, conversion_length, length-take)
 
 -- a field that begins
 pub open_length : (c : Conversion) → length (open_field c []) ≤ 2
@@ -100,8 +99,7 @@ integer_fits n xs h = grind (arith, byte_below, choose, signed_fits)
 
 -- an amount of money fits
 money_fits : (n : ℕ) (xs : List ℕ) → unsigned_abs (money_of n xs) < 2 ^ 64
-money_fits n xs = choose (λ z. unsigned_abs z < 2 ^ 64) (n == 4) _ _ (λ q. (signed_fits (little_number 4 xs)).1)
-    (λ q. (signed_fits (little_number 4 xs * 2 ^ 32 + little_number 4 (drop 4 xs))).2)
+money_fits n xs = grind (arith, choose, unsigned_abs, signed_fits)
 
 -- a magnitude fits
 magnitude_fits : (n : ℕ) (xs : List ℕ) → AreBytes xs → is_decimal_length n ≡ true → little_number (n - 1) xs < 2 ^ 128

@@ -1,7 +1,8 @@
 -- The least TYPE_INFO of each type byte.
-use Rattle.tds_export.proofs.Words.{AreBytes, Bool, Kind, List, None, Option, Some, [], and_parts, arith, eq_false, eq_true, false, kind_of}
-use Rattle.tds_export.proofs.Words.{least_info, length, lt_true, named_kind, nat_lt, nat_tests, refl, rest_length, suc, true, zero, ℕ, ◌&&◌, ◌<◌}
-use Rattle.tds_export.proofs.Words.{◌==◌, ◌∷◌, ◌≡◌}
+use Rattle.tds_export.proofs.{
+  Words.{AreBytes, Bool, Kind, List, None, Option, Some, [], and_parts, arith, eq_false, eq_true, false, kind_of, least_info, length, lt_true, named_kind},
+  Words.{nat_lt, nat_tests, refl, rest_length, suc, true, zero, ℕ, ◌&&◌, ◌<◌, ◌==◌, ◌∷◌, ◌≡◌},
+}
 
 -- after this type byte the least rest is of so many bytes, and describes a kind
 pub record IsLeast (byte n : ℕ) : Type 0 where
@@ -59,6 +60,6 @@ found : (byte n : ℕ) (r : Option ℕ) (k : Option Kind) → holds r (least_inf
 found byte n r k h e d = grind (arith, and_parts, bytes_true, eq_true)
 
 -- After each type byte that is accepted its least rest describes a kind.
-pub least_type : (byte n : ℕ) → rest_length byte ≡ Some n → IsLeast byte n
+pub least_type : {byte n : ℕ} → rest_length byte ≡ Some n → IsLeast byte n
 unfolding has_least
-least_type byte n h = found _ n _ _ (one_below _ _ every_byte _ (beyond _ n h)) h refl
+least_type {n} h = found _ n _ _ (one_below _ _ every_byte _ (beyond _ n h)) h refl

@@ -1,5 +1,4 @@
 pub mod Words
-pub mod CompletionVectors
 pub mod NoticeLaws
 pub mod ResponseLaws
 pub mod ResponseMeaning

@@ -1,24 +1,25 @@
 -- The names of columns, put one after another.
-use Rattle.tds_export.proofs.Words.{Bool, Breaks, Breaks-after, Breaks-longer, Column, Completes, EndsBy, Err, Held, IsErrAnd, IsStopIn, IsStopped}
-use Rattle.tds_export.proofs.Words.{IsWriting, JoinFault, List, Ok, Option, Pushes, Puts, Puts-trans, PutsPiece, PutsPiece-none, PutsPiece-passed}
-use Rattle.tds_export.proofs.Words.{PutsPiece-trans, Result, Sink, Stop, TakesPiece, [], ap, append_assoc, arith, before, codes, emit, false, joined}
-use Rattle.tds_export.proofs.Words.{joined_more, joins_utf16, map, map-append, more, name_field, not, refl, sym, text_if, true, ℕ, ⊤, ◌++◌, ◌∙◌, ◌∷◌}
-use Rattle.tds_export.proofs.Words.{◌≡◌}
-use Rattle.tds_csv.specs.declared.joiners.JoinFault.TheVariants.{Stopped}
 use Rattle.tds_csv.specs.Utf16 as utf16
+use Rattle.tds_export.proofs.{
+  Words.{Bool, Breaks, Breaks-after, Breaks-longer, Column, Completes, EndsBy, Err, Held, IsErrAnd, IsStopIn, IsStopped, IsWriting, JoinFault, List, Ok},
+  Words.{Option, Pushes, Puts, Puts-trans, PutsPiece, PutsPiece-none, PutsPiece-passed, PutsPiece-trans, Result, Sink, Stop, TakesPiece, [], ap, append_assoc},
+  Words.{arith, before, codes, emit, false, joined, joined_more, joins_utf16, map, map-append, more, name_field, not, refl, sym, text_if, true, ℕ, ⊤, ◌++◌},
+  Words.{◌∙◌, ◌∷◌, ◌≡◌},
+}
+use Rattle.tds_csv.specs.declared.joiners.JoinFault.TheVariants.{Stopped}
 
 -- what a push of any units may answer
 pub push_stopped : (fault : JoinFault) (old new : List ℕ) (before after : Held) (failed : Bool) (units : List ℕ)
     → Pushes {U = ⊤} (λ _. ⊤) utf16.rest utf16.text old new before after failed units (Err fault) → IsStopped fault
 push_stopped fault old new before after failed units h = grind arith
 
-pub push_breaks : (fault : JoinFault) (stop : Stop) (old new : List ℕ) (before after : Held) (failed : Bool) (units : List ℕ) → old ≡ []
+pub push_breaks : (fault : JoinFault) {stop : Stop} {old : List ℕ} (new : List ℕ) (before after : Held) {failed : Bool} (units : List ℕ) → old ≡ []
     → failed ≡ false → utf16.IsFit units
     → Pushes {U = ⊤} (λ _. ⊤) utf16.rest utf16.text old new before after failed units (Err fault) → IsStopIn fault stop
     → Breaks before after (utf16.text units) stop
-push_breaks (Stopped s) stop old new before after failed units none going fit h is =
+push_breaks (Stopped s) new before after units none going fit h is =
     rw (joins_utf16.ends units fit, is) (Breaks-longer _ _ _ _ s (rw none at (h going)))
-push_breaks fault stop old new before after failed units none going fit h is = absurd is
+push_breaks fault new before after units none going fit h is = absurd is
 
 module _ {old kept : List ℕ} {before middle : Held} {units : List ℕ} (none : old ≡ []) (fit : utf16.IsFit units)
     (t : TakesPiece (λ _. ⊤) utf16.rest utf16.text old kept before middle units) where
@@ -34,12 +35,12 @@ module _ {old kept : List ℕ} {before middle : Held} {units : List ℕ} (none :
   emitted : Puts before middle (emit utf16.rest utf16.text units) × (kept ≡ utf16.rest units)
   emitted = (rw none at t.put, cc)
 
-  pub end_breaks : (fault : JoinFault) (stop : Stop) (new : List ℕ) (after : Held) (failed : Bool) → failed ≡ false
+  pub end_breaks : (fault : JoinFault) {stop : Stop} (new : List ℕ) (after : Held) {failed : Bool} → failed ≡ false
       → EndsBy {U = ⊤} 2 utf16.IsFit utf16.text kept new middle after failed (Err fault) → IsStopIn fault stop
       → Breaks before after (utf16.text units) stop
-  end_breaks (Stopped s) stop new after failed going h is =
+  end_breaks (Stopped s) new after going h is =
       rw (joins_utf16.ends units fit, is) (Breaks-after _ _ _ _ _ s emitted.0 (rw emitted.1 at (h going).1))
-  end_breaks fault stop new after failed going h is = absurd is
+  end_breaks fault new after going h is = absurd is
 
   pub end_puts : {new : List ℕ} {after : Held} → Completes utf16.IsFit utf16.text kept new middle after → Puts before after (utf16.text units)
   end_puts h = rw (joins_utf16.ends units fit) (Puts-trans _ _ _ _ _ emitted.0 (rw emitted.1 at h.put))
@@ -98,10 +99,10 @@ module _ {W : Type 0} {contents : W → Option (List ℕ)} {columns left rest : 
       (grows.0, cc (joined-snoc fields (name_field c), grows.1, all))
 
   -- the writer failed at the comma
-  pub comma_breaks : {d : Sink W} {stop : Stop} (r : Result (Unit {0}) Stop)
+  pub comma_breaks : {d : Sink W} {stop : Stop} {r : Result (Unit {0}) Stop}
       → PutsPiece {U = Unit {0}} contents b d (text_if (not first) (codes ",")) (Err stop) → IsErrAnd r (λ s. s ≡ stop)
       → PutsPiece contents a d (joined (map name_field columns)) r
-  comma_breaks r broke is_passed = rw (← begins.1, ← regroup _ mark (name_field c) begins.0)
+  comma_breaks broke is_passed = rw (← begins.1, ← regroup _ mark (name_field c) begins.0)
       (passed_piece _ is_passed (then_puts x.puts (rw x.first_is at broke)))
 
   module _ {d e : Sink W} (comma : PutsPiece contents b d (text_if (not first) (codes ",")) (Ok (tt {0}))) where
@@ -118,6 +119,6 @@ module _ {W : Type 0} {contents : W → Option (List ℕ)} {columns left rest : 
         }
 
     -- the writer failed at the name
-    pub name_breaks : {stop : Stop} (r : Result (Unit {0}) Stop) → PutsPiece {U = Unit {0}} contents d e (name_field c) (Err stop)
+    pub name_breaks : {stop : Stop} {r : Result (Unit {0}) Stop} → PutsPiece {U = Unit {0}} contents d e (name_field c) (Err stop)
         → IsErrAnd r (λ s. s ≡ stop) → PutsPiece contents a e (joined (map name_field columns)) r
-    name_breaks r broke is_passed = rw (← begins.1) (passed_piece _ is_passed (then_puts x.puts (then_puts (rw x.first_is at comma) broke)))
+    name_breaks broke is_passed = rw (← begins.1) (passed_piece _ is_passed (then_puts x.puts (then_puts (rw x.first_is at comma) broke)))

@@ -1,50 +1,44 @@
 -- ERROR and INFO in their response, and the text of the first error.
-use Rattle.tds_export.proofs.Words.{AnError, AnInfo, Bodied, Charset, Error, IsHolding, IsInBody, List, Option, Part, Progress, ReadsNotice}
-use Rattle.tds_export.proofs.Words.{ReadsTokens, Report, Seen, ServerError, Some, Space, Stop, StopsInNotice, Token, TracksBefore, [], after_tokens}
-use Rattle.tds_export.proofs.Words.{ap, appended, arith, characters, empty, first_error, how_many, in_length, inl, inr, is_error, length}
-use Rattle.tds_export.proofs.Words.{length-append, length-take, notice_of, option_map, refl, response, server_error, sym, text, text_so_far}
-use Rattle.tds_export.proofs.Words.{utf8_valid_len_le, whole_within, ℕ, ◌++◌, ◌+◌, ◌-◌, ◌<◌, ◌∙◌, ◌∷◌, ◌≡◌, ◌≤◌, View, ReadsNext}
-use Rattle.tds_export.proofs.TokenSteps.{Begun, bare_reads, quietly, stops_quietly, ReadsQuiet, StopsQuiet}
-use Rattle.tds_export.proofs.TokenLaws.{first_next, first_stays, no_errors, tracks_error, tracks_info}
+use Rattle.tds_export.proofs.{
+  Words.{AnError, AnInfo, Bodied, Charset, Error, IsHolding, IsInBody, List, Option, Part, Progress, ReadsNotice, ReadsTokens, Report, Seen, ServerError, Some},
+  Words.{Space, Stop, StopsInNotice, Token, TracksBefore, [], after_tokens, ap, appended, arith, characters, empty, first_error, how_many, in_length, inl, inr},
+  Words.{is_error, length, length-append, length-take, notice_of, option_map, refl, response, server_error, sym, text, text_so_far, utf8_valid_len_le},
+  Words.{whole_within, ℕ, ◌++◌, ◌+◌, ◌-◌, ◌<◌, ◌∙◌, ◌∷◌, ◌≡◌, ◌≤◌, View, ReadsNext},
+  TokenSteps.{Begun, bare_reads, quietly, stops_quietly, ReadsQuiet, StopsQuiet},
+  TokenLaws.{first_next, first_stays, no_errors, tracks_error, tracks_info},
+}
 
 -- a text as far as it fits stays within the room
-pub within_room : (s : Space) (text : List ℕ) → s.bytes ≡ [] → s.peak ≤ s.room
+pub within_room : {s : Space} (text : List ℕ) → s.bytes ≡ [] → s.peak ≤ s.room
     → (appended s (whole_within (s.room - length s.bytes) text)).peak ≤ s.room
-within_room s text empty peak = grind (arith, length-append, length-take, utf8_valid_len_le)
+within_room text empty peak = grind (arith, length-append, length-take, utf8_valid_len_le)
 
 -- before or after the Length no text is added, and the area holds what it held
-in_body_holds : (area : Space) (tokens : List Token) (which : Bodied) (at : Part) → IsHolding area (after_tokens tokens) → IsInBody tokens which at
+in_body_holds : {area : Space} {tokens : List Token} {which : Bodied} (at : Part) → IsHolding area (after_tokens tokens) → IsInBody tokens which at
     → (text_so_far (in_length which tokens) ≡ text_so_far at) × IsHolding area at
-in_body_holds area tokens which at holds h =
-    elim h [
-      | inl e ↦ rw e (refl, record { bytes = holds.bytes; peak = holds.peak })
-      | inr e ↦ rw e.1 (
-        refl,
-        record { bytes = holds.bytes; peak = holds.peak },
-      )
-    ]
+in_body_holds at holds h = grind arith
 
 -- the ERRORs so far are counted
-errors_are : (s : Progress) (tokens : List Token) → TracksBefore s tokens → s.report.errors ≡ how_many is_error tokens
-errors_are s tokens tracks = ap (λ (r : Report). r.errors) tracks.report
+errors_are : {s : Progress} {tokens : List Token} → TracksBefore s tokens → s.report.errors ≡ how_many is_error tokens
+errors_are tracks = ap (λ (r : Report). r.errors) tracks.report
 
 module _ (charset : Charset) {tokens : List Token} {s : Progress} {u : View} {b : Seen} (begun : Begun tokens s u) where
   -- a notice is cut or refused
   pub notice_stops : {which : Bodied} {stop : Stop} → StopsInNotice charset u.area.room tokens which u.seen b u.place stop
       → StopsQuiet charset (in_length which tokens) u b stop
-  notice_stops x = let there = in_body_holds _ _ _ _ begun.holds x.in_body in stops_quietly there.0 there.1 begun.delivered begun.going x.stops
+  notice_stops x = let there = in_body_holds _ begun.holds x.in_body in stops_quietly there.0 there.1 begun.delivered begun.going x.stops
 
   module _ {place : ℕ} {body : List ℕ} where
     -- an INFO was read
     pub info_reads : ReadsNotice charset u.area.room tokens AnInfo u.seen b u.place place body
         → ReadsQuiet charset (in_length AnInfo tokens) tokens u b place (record s { report = record s.report { infos = s.report.infos + 1 } })
-    info_reads x = quietly begun refl (bare_reads begun _ x.reads x.place_is refl refl (tracks_info begun.tracks (notice_of body)))
+    info_reads x = quietly begun refl (bare_reads begun _ x.reads x.place_is refl refl (tracks_info begun.tracks _))
 
-    abbrev error_reads : (first : Option ServerError) → first ≡ option_map server_error (first_error (tokens ++ Error (notice_of body) ∷ []))
+    abbrev error_reads : {first : Option ServerError} → first ≡ option_map server_error (first_error (tokens ++ Error (notice_of body) ∷ []))
         → ReadsNotice charset u.area.room tokens AnError u.seen b u.place place body
         → ReadsTokens (response charset u.area.room) (in_length AnError tokens) tokens u.seen b u.place place u.held u.held
         (record s { report = record s.report { errors = s.report.errors + 1; first_error = first } }) u.area
-    error_reads first is x = bare_reads begun (Error (notice_of body)) x.reads x.place_is refl refl (tracks_error begun.tracks _ _ is)
+    error_reads is x = bare_reads begun (Error (notice_of body)) x.reads x.place_is refl refl (tracks_error begun.tracks _ is)
 
     -- the first ERROR was read, and its message noted
     pub first_error_reads : (cleared : Space) {after : Space} → s.report.errors ≡ 0 → cleared.bytes ≡ [] → cleared.room ≡ 512
@@ -54,12 +48,12 @@ module _ (charset : Charset) {tokens : List Token} {s : Progress} {u : View} {b 
         (record s { report = record s.report { errors = s.report.errors + 1; first_error = Some (server_error (notice_of body)) } })
     first_error_reads cleared {after = after} none no_bytes room_is put x =
         let n = notice_of body in
-        let first = first_next tokens n (no_errors tokens (sym (errors_are s _ begun.tracks) ∙ none)) in
-        (error_reads _ (cc) x, cc)
+        let first = first_next tokens n (no_errors tokens (sym (errors_are {s = s} begun.tracks) ∙ none)) in
+        (error_reads (cc) x, cc)
 
     -- a later ERROR was read
     pub later_error_reads : 0 < s.report.errors → ReadsNotice charset u.area.room tokens AnError u.seen b u.place place body
         → ReadsQuiet charset (in_length AnError tokens) tokens u b place (record s { report = record s.report { errors = s.report.errors + 1 } })
     later_error_reads some x =
-        let first = first_stays tokens (Error (notice_of body) ∷ []) (rw (← errors_are s tokens begun.tracks) some) in
-        (error_reads _ (ap (λ (r : Report). r.first_error) begun.tracks.report ∙ ap (option_map server_error) (sym first)) x, cc)
+        let first = first_stays tokens (Error (notice_of body) ∷ []) (rw (← errors_are begun.tracks) some) in
+        (error_reads (ap (λ (r : Report). r.first_error) begun.tracks.report ∙ ap (option_map server_error) (sym first)) x, cc)

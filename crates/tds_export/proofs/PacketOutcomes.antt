@@ -1,10 +1,11 @@
 -- How an export ended, by the packets of its input.
-use Rattle.tds_export.proofs.Words.{AreBytes, Describing, EndsInLast, EndsMessage, Fault, InLast, IsHolding, IsKept, IsRefused, List, Open, Packet}
-use Rattle.tds_export.proofs.Words.{Part, RefusesNext, Run, Seen, Some, Space, Spelt, Stop, StopsAfterPackets, StopsInPayload, StopsOnWire, Token, []}
-use Rattle.tds_export.proofs.Words.{ap, append_assoc, arith, begun, description_of, drop, drop-append_seam, grammar, in_last, inl, inr, length}
-use Rattle.tds_export.proofs.Words.{length-append, longest_cut, longest_refused, more, refl, response_start, subst, sym, take, take-append_seam}
-use Rattle.tds_export.proofs.Words.{takes_begins, text, text_so_far, wire_of, ℕ, ◌++◌, ◌<◌, ◌∙◌, ◌≡◌, limits, CutsNext, ends_front, Stops}
-use Rattle.tds_export.proofs.Words.{wire_goes_on, Payload, StopsReading, text_put, ◌+◌, Keeps}
+use Rattle.tds_export.proofs.{
+  Words.{AreBytes, Describing, EndsInLast, EndsMessage, Fault, InLast, IsHolding, IsKept, IsRefused, List, Open, Packet, Part, RefusesNext, Run, Seen, Some},
+  Words.{Space, Spelt, Stop, StopsAfterPackets, StopsInPayload, StopsOnWire, Token, [], ap, append_assoc, arith, begun, description_of, drop, drop-append_seam},
+  Words.{grammar, in_last, inl, inr, length, length-append, longest_cut, longest_refused, more, refl, response_start, subst, sym, take, take-append_seam},
+  Words.{takes_begins, text, text_so_far, wire_of, ℕ, ◌++◌, ◌<◌, ◌∙◌, ◌≡◌, limits, CutsNext, ends_front, Stops, wire_goes_on, Payload, StopsReading, text_put},
+  Words.{◌+◌, Keeps},
+}
 
 -- what the area holds at a part is kept, whatever follows
 pub kept_at : (area : Space) (tokens : List Token) (at : Open) (rest : List ℕ) → area.bytes ≡ description_of tokens at
@@ -25,9 +26,9 @@ zero : (n : ℕ) → 0 + n ≡ n
 zero n = omega arith
 
 -- an element's end lies in the last of the packets that were needed for it
-ends_in_last : (run : Run) (part : Part) (packets : List Packet) (bytes element : List ℕ) → length element ≡ (grammar run).size part
+ends_in_last : {run : Run} {part : Part} {packets : List Packet} (bytes element : List ℕ) → length element ≡ (grammar run).size part
     → InLast (limits run).packet_size packets (length (bytes ++ element)) → EndsInLast run packets (length bytes) part
-ends_in_last run part packets bytes element whole l = grind (arith, length-append)
+ends_in_last bytes element whole l = grind (arith, length-append)
 
 -- a payload that begins with whole elements and one more
 split_payload : (bytes element more payload : List ℕ) → payload ≡ (bytes ++ element) ++ more → (payload ≡ bytes ++ (element ++ more))
@@ -35,8 +36,8 @@ split_payload : (bytes element more payload : List ℕ) → payload ≡ (bytes +
 split_payload bytes element more payload e = grind (arith, append_assoc, drop-append_seam, take-append_seam)
 
 -- the bytes after a state, where they hold no whole element
-rest_of : (bytes part payload : List ℕ) → payload ≡ bytes ++ part → drop (length bytes) payload ≡ part
-rest_of bytes part payload e = cc (drop-append_seam bytes part)
+rest_of : (bytes : List ℕ) {part payload : List ℕ} → payload ≡ bytes ++ part → drop (length bytes) payload ≡ part
+rest_of bytes {part} e = cc (drop-append_seam bytes part)
 
 module _ (run : Run) {q : Seen} {part : Part} {bytes : List ℕ} (side : ReaderSide run q) (spelt : Spelt (grammar run) response_start bytes part)
     (holds : IsHolding run.given.after.areas.description part) (text : text_put run ≡ text_so_far part) where
@@ -64,7 +65,7 @@ module _ (run : Run) {q : Seen} {part : Part} {bytes : List ℕ} (side : ReaderS
         part = part;
         stands = record { begin = b.begin; each = b.each; within = b.within };
         leads = rw s.0 (longest_refused g _ _ _ _ _ spelt refused);
-        first = inl (rw s.1 refused, ends_in_last _ _ _ _ e x.whole l);
+        first = inl (rw s.1 refused, ends_in_last _ e x.whole l);
         written = text;
         kept = kept b.packets;
       }
@@ -78,8 +79,8 @@ module _ (run : Run) {q : Seen} {part : Part} {bytes : List ℕ} (side : ReaderS
       packets = m.packets;
       part = part;
       stands = record { begin = m.begin; each = inl m.each; within = m.within };
-      leads = rw m.payload_is (longest_cut (grammar run) _ _ _ _ spelt short);
-      first = inr (m.each, (omega arith, rw (rest_of _ _ _ m.payload_is) short), end);
+      leads = rw m.payload_is (longest_cut _ _ _ _ _ spelt short);
+      first = inr (m.each, (omega arith, rw (rest_of _ m.payload_is) short), end);
       written = text;
       kept = kept m.packets;
     }
@@ -88,7 +89,7 @@ module _ (run : Run) {q : Seen} {part : Part} {bytes : List ℕ} (side : ReaderS
     stopped_on_wire : {stop : Stop} → (x : StopsAfterPackets (limits run).packet_size (limits run).max_wire run.input run.left (bytes ++ cut)
         run.given.before.reader.failures q.failures stop) → StopsOnWire run stop.fault (length (wire_of x.packets))
     stopped_on_wire x =
-        let rest = rest_of bytes cut _ x.payload_is in
+        let rest = rest_of bytes x.payload_is in
         record {
           packets = x.packets;
           rest = x.more;
@@ -112,7 +113,7 @@ module _ (run : Run) {q : Seen} {part : Part} {bytes : List ℕ} (side : ReaderS
   cut_stops : {stop : Stop} → CutsNext (grammar run) (start run) q bytes 0 part stop → Stops run stop.fault stop.place
   cut_stops c = elim (ends_front _ _ _ _ _ q _ _ side.bytes side.left c.ends) [
     | inl m ↦ elim c.stop_is [
-      | inl e ↦ rw (e.1.2 ∙ ap (λ n. record { fault = e.1.0; place = Payload n }) (zero _)) (ended_in_payload c.part c.cut m e.1.1)
+      | inl e ↦ rw (e.1.2 ∙ ap (λ n. record { fault = e.1.0; place = Payload n }) (zero _)) (ended_in_payload _ c.cut m e.1.1)
       | inr e ↦ absurd (e.0 (cc))
     ]
     | inr x ↦ elim c.stop_is [
@@ -120,15 +121,15 @@ module _ (run : Run) {q : Seen} {part : Part} {bytes : List ℕ} (side : ReaderS
         | inl y ↦ (cc)
         | inr y ↦ wire_goes_on _ _ _ _ _ y.0 e.0
       ])
-      | inr e ↦ rw e.1 (subst (Stops run c.own.fault) (sym x.place) (stopped_on_wire c.part c.cut x))
+      | inr e ↦ rw e.1 (subst (Stops run c.own.fault) (sym x.place) (stopped_on_wire _ c.cut x))
     ]
   ]
 
 -- how a run that read stops
-pub reading_stops : (run : Run) {q : Seen} {at : Part} {stop : Stop} → ReaderSide run q
+pub reading_stops : {run : Run} {q : Seen} {at : Part} {stop : Stop} → ReaderSide run q
     → StopsReading (grammar run) response_start (start run) q 0 at stop → IsHolding run.given.after.areas.description at
     → text_put run ≡ text_so_far at → Stops run stop.fault stop.place
-reading_stops run side s holds text = elim s.cause [
-  | inl r ↦ rw (r.1 ∙ ap Payload (zero _)) (refused_in_payload run side s.spelt holds text r.0)
-  | inr c ↦ cut_stops run side s.spelt holds text c
+reading_stops {run} side s holds text = elim s.cause [
+  | inl r ↦ rw (r.1 ∙ ap Payload (zero _)) (refused_in_payload _ side s.spelt holds text r.0)
+  | inr c ↦ cut_stops _ side s.spelt holds text c
 ]

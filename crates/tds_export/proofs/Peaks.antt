@@ -1,14 +1,14 @@
 -- How much of a description was held in an export: no more than the span of one at the front of the input.
-use Rattle.tds_export.proofs.Words.{AreBefore, AreBytes, AreMessage, Bounded, Fault, Grammar, Held, IsBetween, List, Longest, Packet, Part}
-use Rattle.tds_export.proofs.Words.{ReadsWhole, Run, Seen, Some, Space, Spelt, Spelt-append, Spelt-induct, Spelt-one, Stop, StopsInWriting}
-use Rattle.tds_export.proofs.Words.{StopsReading, Takes, Told, WirePart, [], after_tokens, ap, append-nil, append_assoc, arith, before_are_read}
-use Rattle.tds_export.proofs.Words.{between, ends_front, feed-Spelt, feed_all, feed_all-append, flat_map-append, grammar, inl, inr, length}
-use Rattle.tds_export.proofs.Words.{length-append, message_is_read, more, no_wire, over_front, payload_of, read_front, response_start, some_longest}
-use Rattle.tds_export.proofs.Words.{span_so_far, sym, take, take-append-add, take-append_seam, takes_begins, told, wire, wire_of, ℕ, ◌++◌, ◌+◌, ◌-◌}
-use Rattle.tds_export.proofs.Words.{◌∙◌, ◌≡◌, ◌≤◌, ◌⊎◌, limits}
-use Rattle.tds_export.proofs.AcceptedSucceeds.{BeginsWith, begins_added}
-use Rattle.tds_export.proofs.ReadingGrows.{span_along}
-use Rattle.tds_export.proofs.PacketOutcomes.{start}
+use Rattle.tds_export.proofs.{
+  Words.{AreBefore, AreBytes, AreMessage, Bounded, Fault, Grammar, Held, IsBetween, List, Longest, Packet, Part, ReadsWhole, Run, Seen, Some, Space, Spelt},
+  Words.{Spelt-append, Spelt-induct, Spelt-one, Stop, StopsInWriting, StopsReading, Takes, Told, WirePart, [], after_tokens, ap, append-nil, append_assoc},
+  Words.{arith, before_are_read, between, ends_front, feed-Spelt, feed_all, feed_all-append, flat_map-append, grammar, inl, inr, length, length-append},
+  Words.{message_is_read, more, no_wire, over_front, payload_of, read_front, response_start, some_longest, span_so_far, sym, take, take-append-add},
+  Words.{take-append_seam, takes_begins, told, wire, wire_of, ℕ, ◌++◌, ◌+◌, ◌-◌, ◌∙◌, ◌≡◌, ◌≤◌, ◌⊎◌, limits},
+  AcceptedSucceeds.{BeginsWith, begins_added},
+  ReadingGrows.span_along,
+  PacketOutcomes.start,
+}
 
 -- a part of a response was read from whole packets at the front of an input
 pub record Reached (run : Run) (at : Part) : Type 0 where
@@ -23,9 +23,9 @@ pub record Reached (run : Run) (at : Part) : Type 0 where
   pub payload_is : payload_of packets ≡ bytes ++ more
 
 -- what follows whole elements leads from where they lead
-pub rest_leads : {S : Type 0} (g : Grammar S Fault) (s t u : S) (a b : List ℕ) → Spelt g s a t → Spelt g s (a ++ b) u → Spelt g t b u
+pub rest_leads : {S : Type 0} {g : Grammar S Fault} {s t u : S} {a b : List ℕ} → Spelt g s a t → Spelt g s (a ++ b) u → Spelt g t b u
 unfolding Told
-rest_leads g s t u a b h k = grind (arith, append-nil, feed-Spelt, feed_all, feed_all-append, told)
+rest_leads h k = grind (arith, append-nil, feed-Spelt, feed_all, feed_all-append, told)
 
 -- what follows such bytes, up to the longest part
 pub further : {S : Type 0} (g : Grammar S Fault) (from to last : S) (bytes more : List ℕ) (place : ℕ) → Spelt g from bytes to
@@ -35,24 +35,24 @@ further g from to last bytes more place h l =
     let n = place - length bytes in
     let sum : length bytes + n ≡ place = omega arith in
     let split = ap (λ v. take v (bytes ++ more)) (sym sum) ∙ take-append-add bytes more n in
-    (take n more, rest_leads g _ _ _ _ _ h (rw split at l.spelt))
+    (take n more, rest_leads h (rw split at l.spelt))
 
 -- what is read of an input at most has the packets that are read of its front
-begins_of : (size limit : ℕ) (input rest : List ℕ) (packets : List Packet) (s w : WirePart) (taken : ℕ) → wire_of packets ++ rest ≡ input
+begins_of : (size limit : ℕ) {input : List ℕ} (rest : List ℕ) (packets : List Packet) {s w : WirePart} {taken : ℕ} → wire_of packets ++ rest ≡ input
     → Spelt (wire size limit) no_wire (wire_of packets) s → BeginsWith s.packets packets → Longest (wire size limit) no_wire input taken w
     → BeginsWith w.packets packets
-begins_of size limit input rest packets s w taken begin spelt begins l =
+begins_of size limit rest packets {s} {w} begin spelt begins l =
     let f = further _ _ s w _ _ _ spelt (rw (← begin) at l) in
-    Spelt-induct _ (λ v b. BeginsWith v.packets packets) (λ v b element h n. begins_added packets v.packets v.place element h) s begins _ w f.1
+    Spelt-induct _ (λ v b. BeginsWith v.packets packets) (λ v b element h n. begins_added packets v.place element h) s begins _ w f.1
 
 -- whole packets at the front of an input begin those that are read of it at most
-front_begins : (size limit : ℕ) (input rest : List ℕ) (packets : List Packet) (w : WirePart) (taken : ℕ) → wire_of packets ++ rest ≡ input
+front_begins : (size : ℕ) {limit : ℕ} {input : List ℕ} (rest : List ℕ) (packets : List Packet) {w : WirePart} {taken : ℕ} → wire_of packets ++ rest ≡ input
     → (AreMessage size packets ⊎ AreBefore size packets) → length (wire_of packets) ≤ limit → Longest (wire size limit) no_wire input taken w
     → BeginsWith w.packets packets
-front_begins size limit input rest packets w taken begin (inl each) within l =
-    begins_of _ _ _ _ _ _ w _ begin (message_is_read _ _ _ _ each within) ([], append-nil packets) l
-front_begins size limit input rest packets w taken begin (inr each) within l =
-    begins_of _ _ _ _ _ _ w _ begin (before_are_read _ _ _ _ each within) ([], append-nil packets) l
+front_begins size rest packets {w} begin (inl each) within l =
+    begins_of _ _ _ _ begin (message_is_read _ _ _ _ each within) ([], append-nil packets) l
+front_begins size rest packets {w} begin (inr each) within l =
+    begins_of _ _ _ _ begin (before_are_read _ _ _ _ each within) ([], append-nil packets) l
 
 pub bounded : (run : Run) (at : Part) → AreBytes run.input → Reached run at → run.given.after.areas.description.peak ≤ span_so_far at → Bounded run
 bounded run at are r peak =
@@ -61,17 +61,17 @@ bounded run at are r peak =
     let g = grammar run in
     let l = some_longest (wire size limit) no_wire run.input in
     let front = l.1.packets in
-    let b = front_begins size limit run.input r.rest r.packets l.1 l.0 r.begin r.each r.within l.2 in
+    let b = front_begins size r.rest r.packets r.begin r.each r.within l.2 in
     let split = ap payload_of (sym b.1) ∙ flat_map-append _ r.packets b.0 ∙ ap (λ v. v ++ payload_of b.0) r.payload_is
     ∙ append_assoc r.bytes r.more (payload_of b.0) in
-    let longest = some_longest g response_start (payload_of front) in
-    let f = further g response_start at longest.1 r.bytes (r.more ++ payload_of b.0) longest.0 r.spelt (rw (← split) longest.2) in
-    let least = span_along run.given.charset (limits run).column_room at longest.1 f.0 f.1 in
+    let longest = some_longest g _ _ in
+    let f = further g _ at longest.1 r.bytes (r.more ++ payload_of b.0) longest.0 r.spelt (rw (← split) longest.2) in
+    let least = span_along _ _ at longest.1 f.0 f.1 in
     record {
       packets = front;
       place = longest.0;
       part = longest.1;
-      front = read_front size limit run.input l.0 l.1 are l.2;
+      front = read_front _ _ _ _ _ are l.2;
       leads = longest.2;
       description = omega arith;
     }

@@ -1,15 +1,14 @@
 -- What is read grows by each element: the text so far, and the greatest span.
-use Rattle.tds_export.proofs.Words.{BeforeCount, Between, Charset, Column, Describing, DescriptionPart, Fields, Grows, InReturn, InRow, IsNext, Lead}
-use Rattle.tds_export.proofs.Words.{List, NoDescription, NoMetadata, None, Open, Option, Part, ReturnPart, Returned, RowPart, Some, Spelt}
-use Rattle.tds_export.proofs.Words.{Spelt-induct, Token, TokenBody, TokenLength, WholeDescription, WholeReturn, [], add_described, after_first}
-use Rattle.tds_export.proofs.Words.{append-nil, arith, bare_type, begun, bodied, choose, described_after, description, eq_true, false, fixed}
-use Rattle.tds_export.proofs.Words.{greatest_span, grows_all, grows_same, grows_trans, grows_under, is_some_value, known_type, length-append, little}
-use Rattle.tds_export.proofs.Words.{max, nbc_row_start, open_span, open_text, part_add, response, return_add, row, row_grows, row_so_far, row_start}
-use Rattle.tds_export.proofs.Words.{span, span_so_far, start_of_row, text, text_after, text_so_far, with_described, with_return, with_row, with_token}
-use Rattle.tds_export.proofs.Words.{ℕ, ◌++◌, ◌==◌, ◌∷◌, ◌≡◌, ◌≤◌, ⊤}
-use Rattle.tds_export.proofs.TokenLaws.{begun_after, greatest_span-append, text_after-snoc}
-use Rattle.tds_export.proofs.ReturnLaws.{some_kind}
-use Rattle.tds_export.proofs.ResponseLaws.{part_at}
+use Rattle.tds_export.proofs.{
+  Words.{BeforeCount, Between, Charset, Column, Describing, DescriptionPart, Fields, Grows, InReturn, InRow, IsNext, Lead, List, NoDescription, NoMetadata},
+  Words.{None, Open, Option, Part, ReturnPart, Returned, RowPart, Some, Spelt, Spelt-induct, Token, TokenBody, TokenLength, WholeDescription, WholeReturn, []},
+  Words.{add_described, after_first, append-nil, arith, bare_type, begun, bodied, choose, described_after, description, eq_true, false, fixed, greatest_span},
+  Words.{grows_all, grows_same, grows_trans, grows_under, is_some_value, known_type, length-append, little, max, nbc_row_start, open_span, open_text, part_add},
+  Words.{response, return_add, row, row_grows, row_so_far, row_start, span, span_so_far, start_of_row, text, text_after, text_so_far, with_described},
+  Words.{with_return, with_row, with_token, ℕ, ◌++◌, ◌==◌, ◌∷◌, ◌≡◌, ◌≤◌, ⊤, some_kind},
+  TokenLaws.{begun_after, greatest_span-append, text_after-snoc},
+  ResponseLaws.part_at,
+}
 
 -- what a token byte other than that of a row begins
 abbrev pub IsFresh : Open → Type 0
@@ -64,8 +63,8 @@ with_return_grows tokens part = grows_same _
 
 module _ (room : ℕ) where
   -- each element of a description adds to its span
-  description_span : (d : DescriptionPart) (e : List ℕ) → IsNext (description room) d e → span d ≤ span (add_described d e)
-  description_span d e n = grind (arith, choose, is_some_value, known_type, length-append, some_kind, bare_type, eq_true)
+  description_span : {d : DescriptionPart} {e : List ℕ} → IsNext (description room) d e → span d ≤ span (add_described d e)
+  description_span n = grind (arith, choose, is_some_value, known_type, length-append, some_kind, bare_type, eq_true)
 
 module _ (charset : Charset) (room : ℕ) where
   -- each element adds to the text, by where it is read
@@ -85,18 +84,18 @@ module _ (charset : Charset) (room : ℕ) where
   part_grows tokens (Fields f) e n = token_grows tokens (fixed f e)
 
   -- each element adds to the span, by where it is read
-  part_span : (tokens : List Token) (at : Open) (e : List ℕ) → IsNext (response charset room) (part_at tokens at) e
+  part_span : {tokens : List Token} (at : Open) (e : List ℕ) → IsNext (response charset room) (part_at tokens at) e
       → max (greatest_span tokens) (open_span at) ≤ span_so_far (part_add charset tokens at e)
-  part_span tokens at e n = grind (arith, choose, description_span, lead_cases, greatest_span-append)
+  part_span at e n = grind (arith, choose, description_span, lead_cases, greatest_span-append)
 
   -- all elements between two states add to the text
-  pub text_along : (p q : Part) (bytes : List ℕ) → Spelt (response charset room) p bytes q → (more : List ℕ) × (text_so_far p ++ more ≡ text_so_far q)
-  text_along p q bytes s =
+  pub text_along : {p q : Part} {bytes : List ℕ} → Spelt (response charset room) p bytes q → (more : List ℕ) × (text_so_far p ++ more ≡ text_so_far q)
+  text_along {p} {q} s =
       let adds = λ (r : Part) (b e : List ℕ) (h : Grows (text_so_far p) (text_so_far r)) (n : IsNext _ r e).
       grows_trans _ _ _ h (part_grows _ _ e n) in
-      Spelt-induct _ (λ r b. Grows (text_so_far p) (text_so_far r)) adds p (grows_same _) _ q s
+      Spelt-induct _ _ adds p (grows_same _) _ q s
 
   -- and to the span
   pub span_along : (p q : Part) (bytes : List ℕ) → Spelt (response charset room) p bytes q → span_so_far p ≤ span_so_far q
-  span_along p q bytes s = Spelt-induct _ (λ r b. span_so_far p ≤ span_so_far r) (λ r b e h n. omega (arith, part_span r.tokens r.at e n)) p
+  span_along p q bytes s = Spelt-induct _ (λ r b. span_so_far p ≤ span_so_far r) (λ r b e h n. omega (arith, part_span r.at e n)) p
       (omega arith) _ q s

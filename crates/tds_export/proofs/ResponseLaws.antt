@@ -1,25 +1,25 @@
 -- What a response's spelling is read as.
-use Rattle.tds_export.proofs.Words.{ADone, ADoneInProc, AMetadata, APassed, AReturn, ARow, AStatus, Accepted, AnError, AnInfo, AnNbcRow, BadNotice}
-use Rattle.tds_export.proofs.Words.{Bodied, Bool, Cell, Charset, Column, DescriptionPart, Done, DoneInProc, Error, Fault, Fixed, Info, IsFirst}
-use Rattle.tds_export.proofs.Words.{IsRefused, Lead, List, Longest, Metadata, NoMetadata, None, Notice, Open, Option, Packet, Part, PassedOver}
-use Rattle.tds_export.proofs.Words.{Response, ReturnPart, ReturnStatus, Returned, Row, RowPart, Some, SpellsBody, SpellsMore, SpellsNotice}
-use Rattle.tds_export.proofs.Words.{SpellsRowToken, SpellsToken, SpellsTokens, Spelt, Spelt-append, Spelt-none, Spelt-step, StartsToken, Token}
-use Rattle.tds_export.proofs.Words.{TokenBody, TokenLength, WithBody, WithFields, [], after_lead, ap, append-nil, append_assoc, arith, before, bodied}
-use Rattle.tds_export.proofs.Words.{choose_false, described_after, description, description_is_read, drop, false, fields_length, fixed, holds_notice}
-use Rattle.tds_export.proofs.Words.{if◌then◌else◌, inl, inr, is_notice, is_row_lead, lead, lead_of, length, little, more, nat_tests, nbc_row_is_read}
-use Rattle.tds_export.proofs.Words.{ne_eqb, not, one_message, one_state, part_fault, passed, refl, refused_for_good, response, response_start}
-use Rattle.tds_export.proofs.Words.{return_value, row, row_byte_fault, row_is_read, sym, take, take-add, true, with_described, with_return, with_row}
-use Rattle.tds_export.proofs.Words.{with_token, ℕ, ◌%◌, ◌&&◌, ◌++◌, ◌+◌, ◌/◌, ◌<◌, ◌∙◌, ◌∷◌, ◌≡◌, ◌≤◌, after_tokens, ⊤}
-use Rattle.tds_export.proofs.ReturnLaws.{Agrees, return_is_read, spelt_inside}
-use Rattle.tds_export.proofs.NoticeLaws.{notice_is_read}
-use Rattle.tds_export.proofs.Cuts.{spelt_both, spelt_one}
+use Rattle.tds_export.proofs.{
+  Words.{ADone, ADoneInProc, AMetadata, APassed, AReturn, ARow, AStatus, Accepted, AnError, AnInfo, AnNbcRow, BadNotice, Bodied, Bool, Cell, Charset, Column},
+  Words.{DescriptionPart, Done, DoneInProc, Error, Fault, Fixed, Info, IsFirst, IsRefused, Lead, List, Longest, Metadata, NoMetadata, None, Notice, Open},
+  Words.{Option, Packet, Part, PassedOver, Response, ReturnPart, ReturnStatus, Returned, Row, RowPart, Some, SpellsBody, SpellsMore, SpellsNotice},
+  Words.{SpellsRowToken, SpellsToken, SpellsTokens, Spelt, Spelt-append, Spelt-none, Spelt-step, StartsToken, Token, TokenBody, TokenLength, WithBody},
+  Words.{WithFields, [], after_lead, ap, append-nil, append_assoc, arith, before, bodied, choose_false, described_after, description, description_is_read},
+  Words.{drop, false, fields_length, fixed, holds_notice, if◌then◌else◌, inl, inr, is_notice, is_row_lead, lead, lead_of, length, little, more, nat_tests},
+  Words.{nbc_row_is_read, ne_eqb, not, one_message, one_state, part_fault, passed, refl, refused_for_good, response, response_start, return_value, row},
+  Words.{row_byte_fault, row_is_read, sym, take, take-add, true, with_described, with_return, with_row, with_token, ℕ, ◌%◌, ◌&&◌, ◌++◌, ◌+◌, ◌/◌, ◌<◌, ◌∙◌},
+  Words.{◌∷◌, ◌≡◌, ◌≤◌, after_tokens, ⊤},
+  ReturnLaws.{Agrees, return_is_read, spelt_inside},
+  NoticeLaws.notice_is_read,
+  Cuts.{spelt_both, spelt_one},
+}
 
 pub described_after-append : (before : Option (List Column)) (a b : List Token)
     → described_after before (a ++ b) ≡ described_after (described_after before a) b
 described_after-append before [] b = refl
-described_after-append before (Metadata bytes columns ∷ a) b = described_after-append (Some columns) a b
-described_after-append before (NoMetadata ∷ a) b = described_after-append None a b
-described_after-append before (t ∷ a) b = described_after-append before a b
+described_after-append before (Metadata bytes columns ∷ a) b = described_after-append _ a b
+described_after-append before (NoMetadata ∷ a) b = described_after-append _ a b
+described_after-append before (t ∷ a) b = described_after-append _ a b
 
 -- what is described has columns
 abbrev HasColumns : Option (List Column) → Type 0
@@ -31,21 +31,21 @@ pub some_fields : (f : Fixed) → 0 < fields_length f
 some_fields f = grind arith
 
 -- the first byte of a token begins it
-first_leads : (lead : Lead) (byte : ℕ) → IsFirst lead byte → lead_of byte ≡ Some lead
-first_leads lead byte first = grind arith
+first_leads : {lead : Lead} (byte : ℕ) → IsFirst lead byte → lead_of byte ≡ Some lead
+first_leads byte first = grind arith
 
 -- the fields of a DONE say whether more follows
-more_is : (m : Bool) (fields : List ℕ) → SpellsMore m fields → more fields ≡ m
-more_is m fields h = grind (arith, nat_tests)
+more_is : {m : Bool} (fields : List ℕ) → SpellsMore m fields → more fields ≡ m
+more_is fields h = grind (arith, nat_tests)
 
 -- a byte that begins no row is free
 pub no_row : (current : Option (List Column)) → row_byte_fault false current ≡ None
 no_row current = grind arith
 
 -- no fault of a notice's Length, where it is long enough
-pub length_free : (room n : ℕ) (tokens : List Token) (which : Bodied) (element : List ℕ) → (is_notice which ≡ true → 14 ≤ n) → little element ≡ n
+pub length_free : (room : ℕ) {n : ℕ} (tokens : List Token) (which : Bodied) (element : List ℕ) → (is_notice which ≡ true → 14 ≤ n) → little element ≡ n
     → part_fault room tokens (TokenLength which) element ≡ None
-length_free room n tokens which element long number = grind (arith, nat_tests)
+length_free room tokens which element long number = grind (arith, nat_tests)
 
 -- a body has no fault
 abbrev pub IsFree : Bodied → List ℕ → Type 0
@@ -79,87 +79,87 @@ module _ (charset : Charset) (room : ℕ) where
   Leads = Spelt (response charset room)
 
   -- the first byte of a token, and what follows it
-  lead_then : (tokens : List Token) (lead : Lead) (rest bytes : List ℕ) (to : Part) → StartsToken lead rest bytes
+  lead_then : {tokens : List Token} (lead : Lead) {rest bytes : List ℕ} {to : Part} → StartsToken lead rest bytes
       → row_byte_fault (is_row_lead lead) (described_after None tokens) ≡ None → Leads (after_lead charset tokens lead) rest to
       → Leads (after_tokens tokens) bytes to
-  lead_then tokens lead rest bytes to (first, is, begins) free h =
-      let begun = first_leads _ _ begins in
+  lead_then {tokens} lead (first, is, begins) free h =
+      let begun = first_leads _ begins in
       let one : Leads (after_tokens tokens) (first ∷ []) (after_lead charset tokens lead) = spelt_one (omega arith) refl (cc) (cc) in
       rw is (spelt_both one h)
 
   -- so are a Length and the body after it
-  pub body_is_read : (tokens : List Token) (b : Bodied) (element body : List ℕ) → length element ≡ 2 → little element ≡ length body
+  pub body_is_read : {tokens : List Token} {b : Bodied} (element body : List ℕ) → length element ≡ 2 → little element ≡ length body
       → part_fault room tokens (TokenLength b) element ≡ None → IsFree b body
       → Leads (part_at tokens (TokenLength b)) (element ++ body) (with_token tokens (bodied b body))
-  body_is_read tokens b element [] two is f g = grind (arith, Spelt-step, append-nil)
-  body_is_read tokens b element (x ∷ xs) two is f g =
+  body_is_read element [] two is f g = grind (arith, Spelt-step, append-nil)
+  body_is_read {tokens} {b} element (x ∷ xs) two is f g =
       let n = length (x ∷ xs) in
       let to : (response charset room).add (part_at tokens (TokenLength b)) element ≡ part_at tokens (TokenBody b n) =
       rw is (choose_false _ _ _ (ne_eqb n 0 (λ q. omega arith))) in
       spelt_both (spelt_one (omega arith) two f to) (spelt_one (omega arith) refl g refl)
 
   -- the same by what spells a body
-  spelt_body : (tokens : List Token) (b : Bodied) (body bytes : List ℕ) → (is_notice b ≡ true → 14 ≤ length body)
+  spelt_body : {tokens : List Token} {b : Bodied} {body bytes : List ℕ} → (is_notice b ≡ true → 14 ≤ length body)
       → (is_notice b ≡ true → holds_notice body ≡ true) → SpellsBody body bytes
       → Leads (part_at tokens (TokenLength b)) bytes (with_token tokens (bodied b body))
-  spelt_body tokens b body bytes long holds h =
+  spelt_body {tokens} {b} {body} long holds h =
       let n = length body in
       let two : little (n % 256 ∷ n / 256 ∷ []) ≡ n = omega arith in
-      rw h.0 (body_is_read _ b (n % 256 ∷ n / 256 ∷ []) _ refl two (length_free room n tokens b (n % 256 ∷ n / 256 ∷ []) long two)
+      rw h.0 (body_is_read (n % 256 ∷ n / 256 ∷ []) _ refl two (length_free room tokens b (n % 256 ∷ n / 256 ∷ []) long two)
       (body_free b body holds))
 
   -- so is a notice
-  notice_token_is_read : (tokens : List Token) (b : Bodied) (n : Notice) (t : Token) (body rest bytes : List ℕ) → StartsToken (WithBody b) rest bytes
+  notice_token_is_read : {tokens : List Token} (b : Bodied) {n : Notice} {t : Token} {body rest bytes : List ℕ} → StartsToken (WithBody b) rest bytes
       → SpellsBody body rest → SpellsNotice n body → bodied b body ≡ t → Leads (after_tokens tokens) bytes (with_token tokens t)
-  notice_token_is_read tokens b n t body rest bytes begins s h is =
-      let r = notice_is_read n _ h in
-      lead_then _ (WithBody b) _ _ _ begins (no_row (described_after None tokens)) (rw (← is) (spelt_body _ b _ _ (λ e. r.0) (λ e. r.1) s))
+  notice_token_is_read {tokens} b {n} begins s h is =
+      let r = notice_is_read h in
+      lead_then (WithBody b) begins (no_row (described_after None tokens)) (rw (← is) (spelt_body (λ e. r.0) (λ e. r.1) s))
 
   -- a token with fields of a fixed length
-  fixed_is_read : (tokens : List Token) (f : Fixed) (t : Token) (fields bytes : List ℕ) → StartsToken (WithFields f) fields bytes
+  fixed_is_read : {tokens : List Token} (f : Fixed) {t : Token} {fields bytes : List ℕ} → StartsToken (WithFields f) fields bytes
       → length fields ≡ fields_length f → fixed f fields ≡ t → Leads (after_tokens tokens) bytes (with_token tokens t)
-  fixed_is_read tokens f t fields bytes begins long is =
-      lead_then _ (WithFields f) _ _ _ begins (no_row (described_after None tokens)) (Spelt-step _ _ _ _ (rw long (some_fields f)) long refl (cc))
+  fixed_is_read {tokens} f begins long is =
+      lead_then (WithFields f) begins (no_row (described_after None tokens)) (Spelt-step _ _ _ _ (rw long (some_fields f)) long refl (cc))
 
   -- which its fields spell
-  pub fixed_spelt : (current : Option (List Column)) (f : Fixed) (fields bytes : List ℕ) → StartsToken (WithFields f) fields bytes
+  pub fixed_spelt : (current : Option (List Column)) (f : Fixed) {fields bytes : List ℕ} → StartsToken (WithFields f) fields bytes
       → length fields ≡ fields_length f → SpellsToken charset room current (fixed f fields) bytes
-  fixed_spelt current f fields bytes begins long = grind (arith, nat_tests)
+  fixed_spelt current f begins long = grind (arith, nat_tests)
 
-  row_token_is_read : (tokens : List Token) (current : Option (List Column)) (cells : List Cell) (bytes : List ℕ)
+  row_token_is_read : {tokens : List Token} (current : Option (List Column)) (cells : List Cell) {bytes : List ℕ}
       → described_after None tokens ≡ current → HasColumns current → SpellsRowToken charset current cells bytes
       → Leads (after_tokens tokens) bytes (with_token tokens (Row cells))
-  row_token_is_read tokens None cells bytes is some h = absurd h
-  row_token_is_read tokens (Some columns) cells bytes is some (rest, inl h) =
+  row_token_is_read None cells is some h = absurd h
+  row_token_is_read {tokens} (Some columns) cells {bytes} is some (rest, inl h) =
       let read = spelt_inside (row_agrees tokens) (row_is_read _ _ _ _ h.1) in
-      lead_then tokens ARow rest bytes (with_token tokens (Row cells)) h.0 (cc) (rw is read)
-  row_token_is_read tokens (Some columns) cells bytes is some (rest, inr h) =
-      let read = spelt_inside (row_agrees tokens) (nbc_row_is_read _ _ _ _ (omega arith) h.1) in
-      lead_then tokens AnNbcRow rest bytes (with_token tokens (Row cells)) h.0 (cc) (rw is read)
+      lead_then ARow h.0 (cc) (rw is read)
+  row_token_is_read {tokens} (Some columns) cells {bytes} is some (rest, inr h) =
+      let read = spelt_inside (row_agrees _) (nbc_row_is_read _ _ _ _ (omega arith) h.1) in
+      lead_then AnNbcRow h.0 (cc) (rw is read)
 
   -- what spells a token is read as it
-  token_is_read : (tokens : List Token) (t : Token) (bytes : List ℕ) → HasColumns (described_after None tokens)
+  token_is_read : {tokens : List Token} (t : Token) {bytes : List ℕ} → HasColumns (described_after None tokens)
       → SpellsToken charset room (described_after None tokens) t bytes → Leads (after_tokens tokens) bytes (with_token tokens t)
-  token_is_read tokens (Metadata encoded columns) bytes some h =
-      lead_then _ AMetadata _ _ _ h.0 (no_row (described_after None tokens))
+  token_is_read {tokens} (Metadata encoded columns) some h =
+      lead_then AMetadata h.0 (no_row (described_after None tokens))
       (spelt_inside (description_agrees _) (description_is_read _ _ _ h.1))
-  token_is_read tokens NoMetadata bytes some h =
-      lead_then _ AMetadata _ _ _ h (no_row (described_after None tokens))
+  token_is_read {tokens} NoMetadata some h =
+      lead_then AMetadata h (no_row (described_after None tokens))
       (Spelt-step _ _ _ _ (omega arith) refl refl refl)
-  token_is_read tokens (Row cells) bytes some h = row_token_is_read _ _ _ _ refl some h
-  token_is_read tokens (PassedOver passed body) bytes some (rest, begins, s) =
-      lead_then _ (WithBody (APassed passed)) _ _ _ begins (no_row (described_after None tokens))
-      (spelt_body tokens (APassed passed) body rest (λ e. cc) (λ e. cc) s)
-  token_is_read tokens (Error n) bytes some (rest, body, begins, s, h) =
-      notice_token_is_read _ AnError n _ _ _ _ begins s h (ap Error (notice_is_read n _ h).2)
-  token_is_read tokens (Info n) bytes some (rest, body, begins, s, h) =
-      notice_token_is_read _ AnInfo n _ _ _ _ begins s h (ap Info (notice_is_read n _ h).2)
-  token_is_read tokens (Returned r) bytes some (rest, begins, h) =
-      lead_then _ AReturn _ _ _ begins (no_row (described_after None tokens))
-      (spelt_inside (return_agrees _) (return_is_read r _ h))
-  token_is_read tokens (Done m) bytes some h = fixed_is_read _ ADone _ _ _ h.1 h.2 (ap Done (more_is m _ h.3))
-  token_is_read tokens (DoneInProc m) bytes some h = fixed_is_read _ ADoneInProc _ _ _ h.1 h.2 (ap DoneInProc (more_is m _ h.3))
-  token_is_read tokens (ReturnStatus n) bytes some h = fixed_is_read _ AStatus _ _ _ h.1 h.2 (cc)
+  token_is_read (Row cells) some h = row_token_is_read _ _ refl some h
+  token_is_read {tokens} (PassedOver passed body) some (rest, begins, s) =
+      lead_then (WithBody (APassed passed)) begins (no_row (described_after None tokens))
+      (spelt_body (λ e. cc) (λ e. cc) s)
+  token_is_read (Error n) some (rest, body, begins, s, h) =
+      notice_token_is_read AnError begins s h (ap Error (notice_is_read h).2)
+  token_is_read (Info n) some (rest, body, begins, s, h) =
+      notice_token_is_read AnInfo begins s h (ap Info (notice_is_read h).2)
+  token_is_read {tokens} (Returned r) some (rest, begins, h) =
+      lead_then AReturn begins (no_row (described_after None tokens))
+      (spelt_inside (return_agrees _) (return_is_read h))
+  token_is_read (Done m) some h = fixed_is_read ADone h.1 h.2 (ap Done (more_is _ h.3))
+  token_is_read (DoneInProc m) some h = fixed_is_read ADoneInProc h.1 h.2 (ap DoneInProc (more_is _ h.3))
+  token_is_read (ReturnStatus n) some h = fixed_is_read AStatus h.1 h.2 (cc)
 
   next_HasColumns : (current : Option (List Column)) (t : Token) (bytes : List ℕ) → HasColumns current → SpellsToken charset room current t bytes
       → HasColumns (described_after current (t ∷ []))
@@ -169,20 +169,20 @@ module _ (charset : Charset) (room : ℕ) where
       → HasColumns current → SpellsTokens charset room current ts bytes → Leads (after_tokens before) bytes (after_tokens (before ++ ts))
   tokens_are_read before current [] bytes is some h = grind (arith, Spelt-none, append-nil)
   tokens_are_read before current (t ∷ ts) bytes is some h =
-      let one : Leads (after_tokens before) h.0 (with_token before t) = token_is_read _ t _ (rw is some) (rw is h.3) in
+      let one : Leads (after_tokens before) h.0 (with_token before t) = token_is_read t (rw is some) (rw is h.3) in
       let now : described_after None (before ++ t ∷ []) ≡ described_after current (t ∷ []) = cc (described_after-append None before (t ∷ [])) in
       let rest = tokens_are_read (before ++ t ∷ []) (described_after current (t ∷ [])) ts h.1 now (next_HasColumns _ t _ some h.3) h.4 in
       grind (arith, token_is_read, HasColumns, next_HasColumns, Spelt-append, append_assoc)
 
   -- What spells a response is read as its tokens, all of it.
-  pub response_is_read : (tokens : List Token) (payload : List ℕ) → Response charset room tokens payload
+  pub response_is_read : {tokens : List Token} {payload : List ℕ} → Response charset room tokens payload
       → Leads response_start payload (after_tokens tokens)
-  response_is_read tokens payload h = tokens_are_read _ _ _ _ refl tt h.spelt
+  response_is_read h = tokens_are_read _ _ _ _ refl tt h.spelt
 
   -- No payload spells the tokens of two responses.
   pub one_response : (a b : List Token) (payload : List ℕ) → Response charset room a payload → Response charset room b payload → a ≡ b
   one_response a b payload h k =
-      let e = one_state _ _ _ _ _ (response_is_read a _ h) (response_is_read b _ k) in
+      let e = one_state _ _ _ _ _ (response_is_read h) (response_is_read k) in
       ap (λ p. p.tokens) e
 
   -- No response begins with an element that is refused.
@@ -192,7 +192,7 @@ module _ (charset : Charset) (room : ℕ) where
   refused_response payload more' place part f tokens l r h =
       let e = take-add place ((response charset room).size part) payload in
       refused_for_good _ _ _ _ _ f _ _ l.spelt r
-      (rw e at (response_is_read _ _ h))
+      (rw e at (response_is_read h))
 
   -- No input begins with two accepted responses.
   pub one_accepted : (size limit : ℕ) (a b : List Token) (p q : List Packet) (input : List ℕ) → Accepted charset size room limit a p input

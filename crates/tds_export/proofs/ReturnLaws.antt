@@ -1,14 +1,14 @@
 -- What a return value's spelling is read as, and what the bytes that lead to a part of it spell.
-use Rattle.tds_export.proofs.Words.{AreBytes, BadTypeInfo, CellMeans, CellPart, Fault, Grammar, InReturnCell, Inside, Inside-Spelt, IsNext}
-use Rattle.tds_export.proofs.Words.{IsTypeInfo, Kind, List, None, Option, ReturnHead, ReturnInfo, ReturnName, ReturnNameCount, ReturnOrdinal}
-use Rattle.tds_export.proofs.Words.{ReturnPart, ReturnValue, Some, SpellsReturnName, SpellsReturnValue, Spelt, Spelt-none, Spelt-step, WholeReturn}
-use Rattle.tds_export.proofs.Words.{[], ap, append-nil, append_assoc, arith, bare_type, byte_and_rest, cell, cell_is_read, cell_step, choose}
-use Rattle.tds_export.proofs.Words.{choose_false, choose_true, eq_true, get_or-append_seam, if◌then◌else◌, is_some, is_some_value, kind_of, length}
-use Rattle.tds_export.proofs.Words.{length-append, nat_tests, ne_eqb, one_byte, refl, rest_length, return_add, return_charset, return_column}
-use Rattle.tds_export.proofs.Words.{return_value, shape, shape-HasBytes, split_last, start_means, sym, true, type_fault, with_return_kind}
-use Rattle.tds_export.proofs.Words.{with_return_type, with_return_units, with_value, ℕ, ◌*◌, ◌++◌, ◌<◌, ◌∙◌, ◌∷◌, ◌≡◌, Reads, StopsReading, Seen}
-use Rattle.tds_export.proofs.Words.{Stop, reads_inside, stops_inside, stops_size}
-use Rattle.tds_export.proofs.Cuts.{spelt_both, spelt_one}
+use Rattle.tds_export.proofs.{
+  Words.{AreBytes, BadTypeInfo, CellMeans, CellPart, Fault, Grammar, InReturnCell, Inside, Inside-Spelt, IsNext, IsTypeInfo, Kind, List, None, Option},
+  Words.{ReturnHead, ReturnInfo, ReturnName, ReturnNameCount, ReturnOrdinal, ReturnPart, ReturnValue, Some, SpellsReturnName, SpellsReturnValue, Spelt},
+  Words.{Spelt-none, Spelt-step, WholeReturn, [], ap, append-nil, append_assoc, arith, bare_type, byte_and_rest, cell, cell_is_read, cell_step, choose},
+  Words.{choose_false, choose_true, eq_true, get_or-append_seam, if◌then◌else◌, is_some, is_some_value, kind_of, length, length-append, nat_tests, ne_eqb},
+  Words.{one_byte, refl, rest_length, return_add, return_charset, return_column, return_value, shape, shape-HasBytes, split_last, start_means, sym, true},
+  Words.{type_fault, with_return_kind, with_return_type, with_return_units, with_value, ℕ, ◌*◌, ◌++◌, ◌<◌, ◌∙◌, ◌∷◌, ◌≡◌, Reads, StopsReading, Seen, Stop},
+  Words.{reads_inside, stops_inside, stops_size, some_kind},
+  Cuts.{spelt_both, spelt_one},
+}
 
 -- a state of a small grammar stands in a big one: the next element is the same there, and so is the fault of an end
 pub record Agrees {S T : Type 0} (small : Grammar S Fault) (big : Grammar T Fault) (lift : S → T) (s : S) : Type 0 where
@@ -34,7 +34,7 @@ module _ {S T : Type 0} {small : Grammar S Fault} {big : Grammar T Fault} {lift 
     -- and so is what stops it
     pub stop_inside : {a b : Seen} {place : ℕ} {stop : Stop} → StopsReading small s a b place t stop
         → StopsReading big (lift s) a b place (lift t) stop
-    stop_inside {a = a} {b = b} x = stops_inside _ _ lift inside _ a b _ _ _ (all _ (stops_size _ _ a b _ _ _ x)).end x
+    stop_inside {a = a} {b = b} x = stops_inside _ _ _ inside _ a b _ _ _ (all _ (stops_size _ _ a b _ _ _ x)).end x
 
 -- a value is read in its token as by itself
 pub value_agrees : (name : List ℕ) (kind : Kind) (p : CellPart) → 0 < (cell return_column).size p
@@ -45,31 +45,31 @@ pub return_name_is_read : (units : ℕ) (name : List ℕ) → length name ≡ 2 
 return_name_is_read units [] l = grind (arith, Spelt-none, choose_true, nat_tests)
 return_name_is_read units (x ∷ xs) l = grind (arith, Spelt-step, choose_false, ne_eqb)
 
-front_is_read : (name front : List ℕ) → SpellsReturnName name front → Spelt return_value ReturnOrdinal front (ReturnHead name)
-front_is_read name front h =
+front_is_read : {name front : List ℕ} → SpellsReturnName name front → Spelt return_value ReturnOrdinal front (ReturnHead name)
+front_is_read h =
     let next : Spelt return_value ReturnNameCount (h.units ∷ []) (with_return_units h.units) = spelt_one (omega arith) refl refl refl in
     let one = spelt_one (omega arith) h.two refl refl in
     rw h.spelt (spelt_both one (spelt_both next (return_name_is_read _ _ h.counted)))
 
-head_is_read : (name ignored : List ℕ) (byte n : ℕ) → length ignored ≡ 7 → rest_length byte ≡ Some n
+head_is_read : {name : List ℕ} (ignored : List ℕ) (byte : ℕ) {n : ℕ} → length ignored ≡ 7 → rest_length byte ≡ Some n
     → Spelt return_value (ReturnHead name) (ignored ++ byte ∷ []) (with_return_type name byte n)
-head_is_read name ignored byte n seven known = grind (arith, Spelt-step, get_or-append_seam, length-append)
+head_is_read ignored byte seven known = grind (arith, Spelt-step, get_or-append_seam, length-append)
 
-pub info_is_read : (name : List ℕ) (byte : ℕ) (rest : List ℕ) (kind : Kind) → rest_length byte ≡ Some (length rest)
+pub info_is_read : (name : List ℕ) (byte : ℕ) (rest : List ℕ) {kind : Kind} → rest_length byte ≡ Some (length rest)
     → kind_of (byte ∷ rest) ≡ Some kind → Spelt return_value (with_return_type name byte (length rest)) rest (with_return_kind name (Some kind))
-info_is_read name byte [] kind n k = rw k (Spelt-none _ _)
-info_is_read name byte (x ∷ xs) kind n k = grind (arith, Spelt-step, choose_false, ne_eqb)
+info_is_read name byte [] n k = rw k (Spelt-none _ _)
+info_is_read name byte (x ∷ xs) n k = grind (arith, Spelt-step, choose_false, ne_eqb)
 
 -- What spells a return value is read as it.
-pub return_is_read : (r : ReturnValue) (bytes : List ℕ) → SpellsReturnValue r bytes → Spelt return_value ReturnOrdinal bytes (WholeReturn r)
-return_is_read r bytes h =
-    let info = byte_and_rest r.kind h.info h.type in
-    let type = spelt_both (head_is_read r.name h.ignored info.byte (length info.rest) h.seven info.whole)
-    (info_is_read r.name info.byte info.rest r.kind info.whole info.allowed) in
+pub return_is_read : {r : ReturnValue} {bytes : List ℕ} → SpellsReturnValue r bytes → Spelt return_value ReturnOrdinal bytes (WholeReturn r)
+return_is_read {r} h =
+    let info = byte_and_rest _ _ h.type in
+    let type = spelt_both (head_is_read _ _ h.seven info.whole)
+    (info_is_read r.name info.byte info.rest info.whole info.allowed) in
     let same = append_assoc h.ignored (info.byte ∷ []) info.rest ∙ ap (λ v. h.ignored ++ v) (sym info.spelt) in
     let value = spelt_inside (value_agrees r.name r.kind) (cell_is_read return_column r.kind _ r.value h.value (shape-HasBytes return_charset r.kind)
     h.cell) in
-    rw h.spelt (spelt_both (front_is_read r.name h.front h.named) (spelt_both (rw same at type) value))
+    rw h.spelt (spelt_both (front_is_read h.named) (spelt_both (rw same at type) value))
 
 -- the bytes up to the value's, and what is read of it
 pub record ValueMeans (name : List ℕ) (kind : Kind) (part : CellPart) (b : List ℕ) : Type 0 where
@@ -94,13 +94,13 @@ ReturnMeans (ReturnInfo name byte) b = (front : List ℕ) × (ignored : List ℕ
 ReturnMeans (InReturnCell name kind part) b = ValueMeans name kind part b
 ReturnMeans (WholeReturn r) b = SpellsReturnValue r b
 
-with_value_means : (name : List ℕ) (kind : Kind) (part : CellPart) (b : List ℕ) → ValueMeans name kind part b
+with_value_means : {name : List ℕ} {kind : Kind} {part : CellPart} {b : List ℕ} → ValueMeans name kind part b
     → ReturnMeans (with_value name kind part) b
-with_value_means name kind part b h = grind arith
+with_value_means h = grind arith
 
-value_begins : (name : List ℕ) (o : Option Kind) (kind : Kind) (b front ignored info : List ℕ) → o ≡ Some kind → b ≡ front ++ (ignored ++ info)
+value_begins : {name : List ℕ} {o : Option Kind} {kind : Kind} {b front : List ℕ} (ignored info : List ℕ) → o ≡ Some kind → b ≡ front ++ (ignored ++ info)
     → SpellsReturnName name front → length ignored ≡ 7 → IsTypeInfo kind info → ReturnMeans (with_return_kind name o) b
-value_begins name o kind b front ignored info is spelt named seven type = grind (arith, append-nil, start_means, with_value_means)
+value_begins ignored info is spelt named seven type = grind (arith, append-nil, start_means, with_value_means)
 
 pub accepted : (byte : ℕ) (o : Option ℕ) → type_fault return_column byte o ≡ None → (n : ℕ) × (o ≡ Some n)
 accepted byte o h = grind arith
@@ -111,11 +111,8 @@ type_begins name byte n b front ignored spelt named seven known =
     choose (λ p. ReturnMeans p b) _ _ _
     (λ z.
     let k = bare_type _ (rw (eq_true n 0 z) at known) in
-    value_begins _ _ _ b _ _ _ k.1 spelt named seven k.1)
+    value_begins _ _ k.1 spelt named seven k.1)
     (λ z. (front, ignored, spelt, named, seven, n, known))
-
-pub some_kind : (o : Option Kind) → (if is_some o then None else Some (BadTypeInfo return_column)) ≡ None → is_some o ≡ true
-some_kind o q = grind arith
 
 -- each element keeps the meaning
 pub return_step : (p : ReturnPart) (b e : List ℕ) → AreBytes e → ReturnMeans p b → IsNext return_value p e → ReturnMeans (return_add p e) (b ++ e)
@@ -127,11 +124,11 @@ return_step (ReturnHead name) b e bytes h n =
     let s = split_last 7 e n.whole in
     grind (arith, split_last, get_or-append_seam, accepted, ReturnMeans, type_begins)
 return_step (ReturnInfo name byte) b e bytes h n =
-    let k = is_some_value _ (some_kind _ n.free) in
-    value_begins _ _ _ _ _ _ _ k.1 (ap (λ v. v ++ e) h.2 ∙ append_assoc h.0 (h.1 ++ byte ∷ []) e
+    let k = is_some_value _ (some_kind _ _ n.free) in
+    value_begins _ _ k.1 (ap (λ v. v ++ e) h.2 ∙ append_assoc h.0 (h.1 ++ byte ∷ []) e
     ∙ ap (λ v. h.0 ++ v) (append_assoc h.1 (byte ∷ []) e)) h.3 h.4 k.1
 return_step (InReturnCell name kind part) b e bytes h n =
-    with_value_means _ _ _ _ (record {
+    with_value_means (record {
       front = h.front;
       ignored = h.ignored;
       info = h.info;

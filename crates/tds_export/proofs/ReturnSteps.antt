@@ -1,17 +1,17 @@
 -- RETURNVALUE as it is read, and in its response.
-use Rattle.tds_export.proofs.Words.{Bool, Charset, Ends, Err, IfOk, IsHolding, Kind, KnownType, List, MatchResult, NoType, None, Ok, Option}
-use Rattle.tds_export.proofs.Words.{PassesCell, Progress, Reads, ReadsReturn, ReadsType, ReadsValue, Result, ReturnHead, ReturnInfo, ReturnName}
-use Rattle.tds_export.proofs.Words.{ReturnNameCount, ReturnOrdinal, ReturnPart, Seen, Space, Stop, StopsPassing, StopsReturn, StopsType, Takes, Token}
-use Rattle.tds_export.proofs.Words.{TypeHead, TypePart, TypeRest, [], after_tokens, arith, before_value, began_at, cell_start, choose_false}
-use Rattle.tds_export.proofs.Words.{if◌then◌else◌, in_return, kind_of, length, length-append, ne_eqb, reads_both, reads_one, refl, rest_length_of}
-use Rattle.tds_export.proofs.Words.{return_add, return_charset, return_fault, return_size, return_value, returned_type, shape, slice_index}
-use Rattle.tds_export.proofs.Words.{stops_after, stops_size, subst, sym, text_so_far, with_known, with_return, with_return_kind, with_return_units}
-use Rattle.tds_export.proofs.Words.{with_value, ℕ, ◌*◌, ◌+◌, ◌-◌, ◌<◌, ◌∷◌, ◌≡◌, View}
-use Rattle.tds_export.proofs.ReturnLaws.{Agrees, info_is_read, return_name_is_read, value_agrees, read_inside, stop_inside}
-use Rattle.tds_export.proofs.TokenSteps.{Begun, bare_reads, quietly, stops_quietly, ReadsQuiet, StopsQuiet}
-use Rattle.tds_export.proofs.Cuts.{part_cut}
-use Rattle.tds_export.proofs.ResponseLaws.{return_agrees}
-use Rattle.tds_export.proofs.TokenLaws.{tracks_returned}
+use Rattle.tds_export.proofs.{
+  Words.{Bool, Charset, Ends, Err, IfOk, IsHolding, Kind, KnownType, List, MatchResult, NoType, None, Ok, Option, PassesCell, Progress, Reads, ReadsReturn},
+  Words.{ReadsType, ReadsValue, Result, ReturnHead, ReturnInfo, ReturnName, ReturnNameCount, ReturnOrdinal, ReturnPart, Seen, Space, Stop, StopsPassing},
+  Words.{StopsReturn, StopsType, Takes, Token, TypeHead, TypePart, TypeRest, [], after_tokens, arith, before_value, began_at, cell_start, choose_false},
+  Words.{if◌then◌else◌, in_return, kind_of, length, length-append, ne_eqb, reads_both, reads_one, refl, rest_length_of, return_add, return_charset},
+  Words.{return_fault, return_size, return_value, returned_type, shape, slice_index, stops_after, stops_size, subst, sym, text_so_far, with_known, with_return},
+  Words.{with_return_kind, with_return_units, with_value, ℕ, ◌*◌, ◌+◌, ◌-◌, ◌<◌, ◌∷◌, ◌≡◌, View},
+  ReturnLaws.{Agrees, info_is_read, return_name_is_read, value_agrees, read_inside, stop_inside},
+  TokenSteps.{Begun, bare_reads, quietly, stops_quietly, ReadsQuiet, StopsQuiet},
+  Cuts.part_cut,
+  ResponseLaws.return_agrees,
+  TokenLaws.tracks_returned,
+}
 
 module _ {s t : ReturnPart} {a b c : Seen} {place middle : ℕ} (x : ReadsReturn s t a b place middle) where
   -- what stops a call stops one that began before it
@@ -45,19 +45,19 @@ module _ {a : Seen} (b : Seen) {place one : ℕ} (ordinal : List ℕ) (counted :
     -- the ordinal and the count of the name's units were read
     pub front_read : {c : Seen} {two : ℕ} (element : List ℕ) → length element ≡ 1 → Takes b c element (length element) → two ≡ one + length element
         → ReadsReturn ReturnOrdinal (with_return_units (slice_index element 0)) a c place two
-    front_read element single second at' = return_reads_after ordinal_read (return_read element (omega arith) (sym single) refl refl refl second at')
+    front_read element single second at' = return_reads_after ordinal_read (return_read _ (omega arith) (sym single) refl refl refl second at')
 
 -- the name is cut
-pub name_cut : (units : ℕ) {n place : ℕ} {a b : Seen} {own stop : Stop} (part : List ℕ) → n ≡ 2 * units → length part < n → Ends a b part own
+pub name_cut : (units : ℕ) {n place : ℕ} {a b : Seen} {own stop : Stop} {part : List ℕ} → n ≡ 2 * units → length part < n → Ends a b part own
     → stop ≡ began_at place own → StopsReturn (with_return_units units) a b place stop
-name_cut units {n = n} part is fewer ends stop_is =
+name_cut units {n = n} is fewer ends stop_is =
     let some : with_return_units units ≡ ReturnName n = rw is (choose_false _ _ _ (ne_eqb units 0 (λ q. omega arith))) in
-    rw some (record { at = ReturnName n; stops = part_cut _ refl refl fewer ends stop_is })
+    rw some (record { at = ReturnName n; stops = part_cut refl refl fewer ends stop_is })
 
 -- the name was read
-pub name_read : (units : ℕ) {n place place' : ℕ} {a b : Seen} (name : List ℕ) → n ≡ 2 * units → length name ≡ n → Takes a b name n
+pub name_read : (units : ℕ) {n place place' : ℕ} {a b : Seen} {name : List ℕ} → n ≡ 2 * units → length name ≡ n → Takes a b name n
     → place' ≡ place + n → ReadsReturn (with_return_units units) (ReturnHead name) a b place place'
-name_read units name is len takes at = record {
+name_read units {name} is len takes at = record {
   reads = record { bytes = name; spelt = return_name_is_read _ _ (cc); takes = rw len takes };
   place_is = rw len at;
 }
@@ -81,22 +81,22 @@ byte_read : (name : List ℕ) (byte : ℕ) (z : Bool)
 byte_read name byte z = grind (arith, known_kind)
 
 -- a type is read in its return value as by itself
-type_agrees : (name : List ℕ) (p : TypePart) → 0 < returned_type.size p → Agrees returned_type return_value (after_name name) p
-type_agrees name p h = grind (arith, byte_read, known_kind)
+type_agrees : {name : List ℕ} (p : TypePart) → 0 < returned_type.size p → Agrees returned_type return_value (after_name name) p
+type_agrees p h = grind (arith, byte_read, known_kind)
 
 -- whatever the answer is
-pub type_taken : (r : Result Kind Stop) (name head : List ℕ) (a b c : Seen) (place middle place' : ℕ) → length head ≡ 8 → Takes a b head 8
+pub type_taken : (r : Result Kind Stop) (name head : List ℕ) (a b c : Seen) (place : ℕ) {middle : ℕ} (place' : ℕ) → length head ≡ 8 → Takes a b head 8
     → middle ≡ place + 8 → IfOk r (λ kind. ReadsType (slice_index head 7) b c middle place' kind)
     → MatchResult r (λ kind. Reads returned_type TypeHead a c (KnownType kind)) (λ stop. StopsType a c (middle - 8) stop)
     → MatchResult r (λ kind. ReadsReturn (ReturnHead name) (before_value name kind) a c place place')
     (λ stop. StopsReturn (ReturnHead name) a c place stop)
-type_taken (Ok kind) name head a b c place middle place' eight takes at x y =
+type_taken (Ok kind) name head a b c place place' eight takes at x y =
     let known = rest_length_of _ _ _ x.info in
     return_reads_after (return_read _ (omega arith) refl (rw known refl) (rw known refl) eight takes at)
-    (record { reads = record { bytes = x.rest; spelt = info_is_read _ _ _ _ known x.info; takes = x.takes }; place_is = x.place_is })
-type_taken (Err stop) name head a b c place middle place' eight takes at x y =
+    (record { reads = record { bytes = x.rest; spelt = info_is_read _ _ _ known x.info; takes = x.takes }; place_is = x.place_is })
+type_taken (Err stop) name head a b c place place' eight takes at x y =
     let z = subst (λ n. StopsType a c n stop) (omega arith) y in
-    record { at = after_name name z.at; stops = stop_inside (type_agrees name) z.stops }
+    record { at = after_name name z.at; stops = stop_inside (type_agrees) z.stops }
 
 -- ---- the value
 
@@ -110,29 +110,29 @@ value_passed (Ok u) name kind {b = b} c place' x y =
     record {
       value = record { name = name; kind = kind; value = y.value };
       steps = return_reads_after x
-          (record { reads = read_inside (value_agrees name kind) y.steps.reads; place_is = y.steps.place_is });
+          (record { reads = read_inside (value_agrees _ _) y.steps.reads; place_is = y.steps.place_is });
     }
 value_passed (Err stop) name kind {b = b} c {middle = middle} place' x y =
-    return_stops_after x (record { at = with_value name kind y.at; stops = stop_inside (value_agrees name kind) y.stops })
+    return_stops_after x (record { at = with_value name kind y.at; stops = stop_inside (value_agrees _ _) y.stops })
 
 -- ---- in its response
 
 -- a part of it has no text, and the area holds what it held
-open_return : (area : Space) (tokens : List Token) (p : ReturnPart) → 0 < return_size p → IsHolding area (after_tokens tokens)
+open_return : {area : Space} {tokens : List Token} (p : ReturnPart) → 0 < return_size p → IsHolding area (after_tokens tokens)
     → (text_so_far (in_return tokens) ≡ text_so_far (with_return tokens p)) × IsHolding area (with_return tokens p)
-open_return area tokens p some holds = grind arith
+open_return p some holds = grind arith
 
 module _ (charset : Charset) {tokens : List Token} {s : Progress} {u : View} {b : Seen} (begun : Begun tokens s u) where
   -- a return value stopped the call
   pub return_stops : {stop : Stop} → StopsReturn ReturnOrdinal u.seen b u.place stop → StopsQuiet charset (in_return tokens) u b stop
   return_stops x =
-      let there = open_return _ _ x.at (stops_size _ _ u.seen b _ _ _ x.stops) begun.holds in
+      let there = open_return _ (stops_size _ _ _ b _ _ _ x.stops) begun.holds in
       stops_quietly there.0 there.1 begun.delivered begun.going
-      (stop_inside (return_agrees charset u.area.room tokens) x.stops)
+      (stop_inside (return_agrees _ _ _) x.stops)
 
   -- a return value was read
   pub return_reads : {place : ℕ} → ReadsValue u.seen b u.place place
       → ReadsQuiet charset (in_return tokens) tokens u b place (record s { report = record s.report { return_values = s.report.return_values + 1 } })
   return_reads x =
-      let r = read_inside (return_agrees charset u.area.room tokens) x.steps.reads in
-      quietly begun refl (bare_reads begun _ r x.steps.place_is refl refl (tracks_returned begun.tracks x.value))
+      let r = read_inside (return_agrees _ _ _) x.steps.reads in
+      quietly begun refl (bare_reads begun _ r x.steps.place_is refl refl (tracks_returned begun.tracks _))

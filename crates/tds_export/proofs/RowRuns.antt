@@ -1,25 +1,25 @@
 -- Rows of one token after one another, in their response.
-use Rattle.tds_export.proofs.Words.{Bool, Cell, Charset, Column, Held, IsDescribed, IsHolding, IsNext, List, None, Option, Part, Progress, ReadsRows}
-use Rattle.tds_export.proofs.Words.{RefusedToken, Row, RowPart, RowToken, RowsPart, RowsStop, Seen, Some, Space, Spelt, Stop, Streams, Token, Tracks}
-use Rattle.tds_export.proofs.Words.{TracksBefore, WholeRow, [], after_tokens, ap, append-nil, append_assoc, arith, before, columns_of, counted}
-use Rattle.tds_export.proofs.Words.{described_after, encoded_after, if◌then◌else◌, length, length-append, lines, map, map-append, next_inside}
-use Rattle.tds_export.proofs.Words.{next_some, refl, response, row, row_so_far, rows, rows_so_far, rows_start, subst, sym, text, text_so_far}
-use Rattle.tds_export.proofs.Words.{token_byte, token_start, true, with_row, ℕ, ◌++◌, ◌+◌, ◌==◌, ◌∙◌, ◌∷◌, ◌≡◌, View, ReadsNext, StopsIn}
-use Rattle.tds_export.proofs.Words.{Spelt-induct, Spelt-one, Spelt-none}
-use Rattle.tds_export.proofs.TokenSteps.{Begun, holds-snoc, quietly, row_stops, row_text, stops_further}
-use Rattle.tds_export.proofs.ResponseLaws.{described_after-append, row_agrees}
-use Rattle.tds_export.proofs.TokenLaws.{text_after-snoc, tracks_row, with_rows}
-use Rattle.tds_export.proofs.ReturnLaws.{inside}
-use Rattle.tds_export.proofs.Cuts.{spelt_both}
+use Rattle.tds_export.proofs.{
+  Words.{Bool, Cell, Charset, Column, Held, IsDescribed, IsHolding, IsNext, List, None, Option, Part, Progress, ReadsRows, RefusedToken, Row, RowPart},
+  Words.{RowToken, RowsPart, RowsStop, Seen, Some, Space, Spelt, Stop, Streams, Token, Tracks, TracksBefore, WholeRow, [], after_tokens, ap, append-nil},
+  Words.{append_assoc, arith, before, columns_of, counted, described_after, encoded_after, if◌then◌else◌, length, length-append, lines, map, map-append},
+  Words.{next_inside, next_some, refl, response, row, row_so_far, rows, rows_so_far, rows_start, subst, sym, text, text_so_far, token_byte, token_start, true},
+  Words.{with_row, ℕ, ◌++◌, ◌+◌, ◌==◌, ◌∙◌, ◌∷◌, ◌≡◌, View, ReadsNext, StopsIn, Spelt-induct, Spelt-one, Spelt-none},
+  TokenSteps.{Begun, holds-snoc, quietly, row_stops, row_text, stops_further},
+  ResponseLaws.{described_after-append, row_agrees},
+  TokenLaws.{text_after-snoc, tracks_row, with_rows},
+  ReturnLaws.inside,
+  Cuts.spelt_both,
+}
 
 -- a byte that is no other token's
-is_token_byte : (byte x : ℕ) → (if x == byte then None else Some (RefusedToken x)) ≡ None → x ≡ byte
-is_token_byte byte x h = search (arith, h)
+is_token_byte : {byte x : ℕ} → (if x == byte then None else Some (RefusedToken x)) ≡ None → x ≡ byte
+is_token_byte h = search (arith, h)
 
 -- rows describe no columns
-rows_describe : (before : Option (List Column)) (rs : List (List Cell)) → described_after before (map Row rs) ≡ before
-rows_describe before [] = refl
-rows_describe before (r ∷ rs) = rows_describe before rs
+rows_describe : {before : Option (List Column)} (rs : List (List Cell)) → described_after before (map Row rs) ≡ before
+rows_describe [] = refl
+rows_describe {before} (r ∷ rs) = rows_describe rs
 
 -- the lines of rows
 rows_text : (tokens : List Token) (rs : List (List Cell)) → text (tokens ++ map Row rs) ≡ text tokens ++ lines rs
@@ -48,13 +48,13 @@ module _ (which : RowToken) (charset : Charset) (room : ℕ) (all : List Column)
         × ((response charset room).add (with_row ts at) e ≡ with_row ts ((row charset).add at e))
     row_next ts at e n = grind (arith, next_inside, next_some, inside, row_agrees)
 
-    element_next : (before : List (List Cell)) (p : RowPart) (e : List ℕ) → IsNext (rows which charset all) (record { before = before; at = p }) e
+    element_next : {before : List (List Cell)} (p : RowPart) (e : List ℕ) → IsNext (rows which charset all) (record { before = before; at = p }) e
         → Steps (record { before = before; at = p }) e ((rows which charset all).add (record { before = before; at = p }) e)
-    element_next before (WholeRow cells) [] n = absurd (let s = n.some in omega arith)
-    element_next before (WholeRow cells) (x ∷ []) n =
-        rw (is_token_byte _ x n.free) (token_next _ _)
-    element_next before (WholeRow cells) (x ∷ y ∷ r) n = absurd (let w = n.whole in omega arith)
-    element_next before p e n = row_next _ p e (grind arith)
+    element_next (WholeRow cells) [] n = absurd (let s = n.some in omega arith)
+    element_next (WholeRow cells) (x ∷ []) n =
+        rw (is_token_byte n.free) (token_next _ _)
+    element_next (WholeRow cells) (x ∷ y ∷ r) n = absurd (let w = n.whole in omega arith)
+    element_next p e n = row_next _ p e (grind arith)
 
     -- what is read of rows from their start on and put, is read of the response and put
     abbrev rows_stream : {t : RowsPart} {a b : Seen} {h j : Held}
@@ -66,7 +66,7 @@ module _ (which : RowToken) (charset : Charset) (room : ℕ) (all : List Column)
         let same = ap (λ l. l ++ x.puts.0) (ap text_so_far (sym begins) ∙ in_rows_text s) ∙ append_assoc (text tokens) (rows_so_far s) x.puts.0
         ∙ ap (λ l. text tokens ++ l) x.puts.1 ∙ sym (in_rows_text t) in
         let spelt = Spelt-induct _ (λ p b. Spelt (response charset room) (in_rows s) b (in_rows p))
-        (λ p b e k n. (let y = element_next p.before p.at e n in spelt_both k (rw y.1 at (Spelt-one _ _ e y.0)))) s (Spelt-none _ _) _ t x.spelt
+        (λ p b e k n. (let y = element_next p.at e n in spelt_both k (rw y.1 at (Spelt-one _ _ e y.0)))) s (Spelt-none _ _) _ t x.spelt
         in
         record { bytes = x.bytes; spelt = rw begins at spelt; takes = x.takes; puts = (x.puts.0, same, x.puts.2) }
 
@@ -82,9 +82,9 @@ tracks_rows s tokens r (q ∷ qs) k =
     (tracks_rows (with_rows s 1) (tokens ++ Row r ∷ []) q qs (grind arith)))
 
 -- the same, the last row named
-tracks_all : (s : Progress) (tokens : List Token) (earlier : List (List Cell)) (last : List Cell) (count : ℕ) → count ≡ length earlier + 1
+tracks_all : {s : Progress} {tokens : List Token} (earlier : List (List Cell)) (last : List Cell) {count : ℕ} → count ≡ length earlier + 1
     → TracksBefore s tokens → Tracks (with_rows s count) (tokens ++ map Row (earlier ++ last ∷ []))
-tracks_all s tokens earlier last count counted k =
+tracks_all {s} {tokens} earlier last counted k =
     rw (length-append earlier (last ∷ []) ∙ sym counted) at (go earlier)
   where
     go : (earlier : List (List Cell)) → Tracks (with_rows s (length (earlier ++ last ∷ []))) (tokens ++ map Row (earlier ++ last ∷ []))
@@ -96,7 +96,7 @@ rows_hold : (area : Space) (tokens : List Token) (rs : List (List Cell)) → IsH
     → IsHolding area (after_tokens (tokens ++ map Row rs))
 rows_hold area tokens [] h = rw (append-nil tokens) h
 rows_hold area tokens (r ∷ rs) h = rw (append_assoc tokens (Row r ∷ []) (map Row rs)) at
-    (rows_hold area (tokens ++ Row r ∷ []) rs (holds-snoc _ _ _ refl h))
+    (rows_hold area (tokens ++ Row r ∷ []) rs (holds-snoc _ refl h))
 
 -- ---- what the call that reads them gives
 
@@ -105,9 +105,9 @@ abbrev pub Describe : List Token → Bool → Type 0
 Describe tokens described = IsDescribed described (encoded_after [] tokens) (described_after None tokens)
 
 -- the columns that the area describes are the current ones
-pub columns_known : (tokens : List Token) (described : Bool) (bytes : List ℕ) → described ≡ true → bytes ≡ encoded_after [] tokens
+pub columns_known : (tokens : List Token) {described : Bool} {bytes : List ℕ} → described ≡ true → bytes ≡ encoded_after [] tokens
     → Describe tokens described → described_after None tokens ≡ Some (columns_of bytes)
-columns_known tokens described bytes d is k = subst (Describe tokens) d k ∙ ap (λ l. Some (columns_of l)) (sym is)
+columns_known tokens d is k = subst (Describe tokens) d k ∙ ap (λ l. Some (columns_of l)) (sym is)
 
 module _ (which : RowToken) (charset : Charset) {columns : List Column} {after : Held} {tokens : List Token} {u : View} {b : Seen} {s : Progress}
     (described : s.described ≡ true) (shown : columns ≡ columns_of u.area.bytes) (begun : Begun tokens s u) where
@@ -117,7 +117,7 @@ module _ (which : RowToken) (charset : Charset) {columns : List Column} {after :
       (record u { seen = b; place = place; held = after }) (with_rows s count)
   rows_read y =
       let x = rw shown at y in
-      let known = columns_known tokens _ _ described begun.holds.bytes begun.tracks.described in
+      let known = columns_known tokens described begun.holds.bytes begun.tracks.described in
       let there = rows_stream _ _ _ _ _ known x.streams in
       let end = ap after_tokens (append_assoc tokens (map Row x.earlier) (Row x.last ∷ [])
       ∙ ap (λ l. tokens ++ l) (sym (map-append Row x.earlier (x.last ∷ [])))) in
@@ -125,7 +125,7 @@ module _ (which : RowToken) (charset : Charset) {columns : List Column} {after :
         more = map Row (x.earlier ++ x.last ∷ []);
         streams = record { bytes = x.streams.bytes; spelt = rw (← end) there.spelt; takes = x.streams.takes; puts = grind arith };
         place_is = x.place_is;
-        tracks = tracks_all s _ x.earlier x.last _ x.counted begun.tracks;
+        tracks = tracks_all x.earlier x.last x.counted begun.tracks;
         holds = rows_hold _ _ (x.earlier ++ x.last ∷ []) begun.holds;
       })
 
@@ -135,6 +135,6 @@ module _ (which : RowToken) (charset : Charset) {columns : List Column} {after :
       (record u { seen = b; held = after; failed = failed }) stop
   rows_stop y =
       let x = rw shown at y in
-      let known = columns_known tokens _ _ described begun.holds.bytes begun.tracks.described in
+      let known = columns_known tokens described begun.holds.bytes begun.tracks.described in
       stops_further (rows_stream _ _ _ _ _ known x.streams) {middle = u.place + length x.streams.bytes} refl
-      (row_stops charset u.area.room _ (rows_hold u.area tokens x.earlier begun.holds) x.stops)
+      (row_stops _ _ _ (rows_hold _ _ x.earlier begun.holds) x.stops)

@@ -1,10 +1,11 @@
 -- The tokens of a response, one after another.
-use Rattle.tds_export.proofs.Words.{Bool, Charset, CompletesResponse, Consumes-nil, EndWithoutDone, Ends-after, FinishFails, Finishes, Held}
-use Rattle.tds_export.proofs.Words.{IsHolding, IsNoted, IsOver, List, Payload, Progress, Puts-none, ReadsWhole, Report, Seen, Space, Spelt-none}
-use Rattle.tds_export.proofs.Words.{Stays-none, StepStops, Stop, StopsAtEnd, Streams, Takes, Takes-none, Takes-trans, Token, Tracks, [], after_tokens}
-use Rattle.tds_export.proofs.Words.{ap, append-nil, arith, cut_at_once, empty, false, inl, length, length-append, refl, response, response_start}
-use Rattle.tds_export.proofs.Words.{subst, sym, text_so_far, true, ℕ, ◌++◌, ◌+◌, ◌-◌, ◌^◌, ◌∙◌, ◌≡◌, ◌≤◌, View, ReadsNext}
-use Rattle.tds_export.proofs.TokenSteps.{stops_further, stops_quietly, streams_both}
+use Rattle.tds_export.proofs.{
+  Words.{Bool, Charset, CompletesResponse, Consumes-nil, EndWithoutDone, Ends-after, FinishFails, Finishes, Held, IsHolding, IsNoted, IsOver, List, Payload},
+  Words.{Progress, Puts-none, ReadsWhole, Report, Seen, Space, Spelt-none, Stays-none, StepStops, Stop, StopsAtEnd, Streams, Takes, Takes-none, Takes-trans},
+  Words.{Token, Tracks, [], after_tokens, ap, append-nil, arith, cut_at_once, empty, false, inl, length, length-append, refl, response, response_start, subst},
+  Words.{sym, text_so_far, true, ℕ, ◌++◌, ◌+◌, ◌-◌, ◌^◌, ◌∙◌, ◌≡◌, ◌≤◌, View, ReadsNext},
+  TokenSteps.{stops_further, stops_quietly, streams_both},
+}
 
 -- whole tokens were read and their text put
 pub record Runs (charset : Charset) (u v : View) (progress : Progress) : Type 0 where

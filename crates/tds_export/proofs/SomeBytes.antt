@@ -1,7 +1,8 @@
 -- Lists of bytes.
-use Rattle.tds_export.proofs.Words.{AreBytes, List, [], arith, drop, eq_true, inl, inr, little_from, or_cases, pow-suc, replicate, slice_index, suc}
-use Rattle.tds_export.proofs.Words.{true, zero, ℕ, ◌++◌, ◌<◌, ◌==◌, ◌^◌, ◌||◌, ◌∷◌, ◌≡◌, Fault, Grammar, IsNext, Spelt, Spelt-induct, AreBytes-front}
-use Rattle.tds_export.proofs.Words.{AreBytes-back}
+use Rattle.tds_export.proofs.{
+  Words.{AreBytes, List, [], arith, drop, eq_true, inl, inr, little_from, or_cases, pow-suc, replicate, slice_index, suc, true, zero, ℕ, ◌++◌, ◌<◌, ◌==◌, ◌^◌},
+  Words.{◌||◌, ◌∷◌, ◌≡◌, Fault, Grammar, IsNext, Spelt, Spelt-induct, AreBytes-front, AreBytes-back},
+}
 
 -- each of some bytes is below 256
 pub byte_below : (xs : List ℕ) (i : ℕ) → AreBytes xs → slice_index xs i < 256
@@ -18,7 +19,7 @@ little_below (suc n) i xs h = grind (arith, byte_below, pow-suc, (little_below n
 pub AreBytes-drop : (n : ℕ) (xs : List ℕ) → AreBytes xs → AreBytes (drop n xs)
 AreBytes-drop zero xs h = h
 AreBytes-drop (suc n) [] h = h
-AreBytes-drop (suc n) (x ∷ xs) h = AreBytes-drop n xs h.1
+AreBytes-drop (suc n) (x ∷ xs) h = AreBytes-drop n _ h.1
 
 pub AreBytes-append : (a b : List ℕ) → AreBytes a → AreBytes b → AreBytes (a ++ b)
 AreBytes-append [] b h k = k
@@ -40,9 +41,9 @@ pub one_of_four : (P : ℕ → Type 0) (a b c d n : ℕ) → (n == a || n == b |
 one_of_four P a b c d n h pa pb pc pd = grind (arith, exactly, one_of_two, or_cases)
 
 -- what each element of bytes keeps holds at their end
-pub bytes_induct : {S : Type 0} (g : Grammar S Fault) (P : S → List ℕ → Type 0)
+pub bytes_induct : {S : Type 0} {g : Grammar S Fault} (P : S → List ℕ → Type 0)
     → ((s : S) (b e : List ℕ) → P s b → AreBytes e → IsNext g s e → P (g.add s e) (b ++ e)) → (s : S) → P s [] → (bytes : List ℕ) (t : S)
     → AreBytes bytes → Spelt g s bytes t → P t bytes
-bytes_induct g P step s begins bytes t are h =
+bytes_induct {g} P step s begins bytes t are h =
     Spelt-induct g (λ q b. AreBytes b → P q b) (λ q b e k n all. step q b e (k (AreBytes-front b e all)) (AreBytes-back b e all) n) s (λ all. begins)
     bytes t h are

@@ -1,17 +1,17 @@
 -- The text so far is no longer than 64 bytes for each byte read.
-use Rattle.tds_export.proofs.Words.{AreBytes, Bool, Cell, CellPart, Charset, ChunkData, ChunkLength, Column, Describing, DescriptionPart, InCell}
-use Rattle.tds_export.proofs.Words.{InColumn, InRow, IsNext, List, None, Null, Open, Option, Part, Result, ReturnPart, RowPart, ScalarBytes}
-use Rattle.tds_export.proofs.Words.{ScalarLength, ScalarValue, ShortData, ShortLength, Some, Spelt, Token, Total, Utf16Text, ValueFault, WholeCell}
-use Rattle.tds_export.proofs.Words.{WholeDescription, [], add_described, and_parts, ap, append-nil, arith, cell, cell_add, choose, codes, description}
-use Rattle.tds_export.proofs.Words.{end_fit, false, field, field_so_far, fit_begins, header_line, joined, last_fit, length, length-append, line}
-use Rattle.tds_export.proofs.Words.{line_end, little, map, map-append, marked, next_cell, open_field, open_text, part_add, refl, response}
-use Rattle.tds_export.proofs.Words.{response_start, row_so_far, row_start, start_quiet, suc, text, text_so_far, true, unless_none, value_part}
-use Rattle.tds_export.proofs.Words.{with_return, with_row, ℕ, ◌*◌, ◌++◌, ◌+◌, ◌∷◌, ◌≡◌, ◌≤◌, ⊤, name_field, slice_index, ◌==◌}
-use Rattle.tds_export.proofs.ReadingGrows.{IsFresh, lead_cases}
-use Rattle.tds_export.proofs.FieldLengths.{ReadShort, long_length, long_more, open_length, open_more, read_short}
-use Rattle.tds_export.proofs.TokenLaws.{bare, bare_body, bare_fixed, begun_after, text_after-snoc}
-use Rattle.tds_export.proofs.ResponseLaws.{part_at}
-use Rattle.tds_export.proofs.SomeBytes.{bytes_induct}
+use Rattle.tds_export.proofs.{
+  Words.{AreBytes, Bool, Cell, CellPart, Charset, ChunkData, ChunkLength, Column, Describing, DescriptionPart, InCell, InColumn, InRow, IsNext, List, None},
+  Words.{Null, Open, Option, Part, Result, ReturnPart, RowPart, ScalarBytes, ScalarLength, ScalarValue, ShortData, ShortLength, Some, Spelt, Token, Total},
+  Words.{Utf16Text, ValueFault, WholeCell, WholeDescription, [], add_described, and_parts, ap, append-nil, arith, cell, cell_add, choose, codes, description},
+  Words.{end_fit, false, field, field_so_far, fit_begins, header_line, joined, last_fit, length, length-append, line, line_end, little, map, map-append},
+  Words.{marked, next_cell, open_field, open_text, part_add, refl, response, response_start, row_so_far, row_start, start_quiet, suc, text, text_so_far, true},
+  Words.{unless_none, value_part, with_return, with_row, ℕ, ◌*◌, ◌++◌, ◌+◌, ◌∷◌, ◌≡◌, ◌≤◌, ⊤, name_field, slice_index, ◌==◌},
+  ReadingGrows.{IsFresh, lead_cases},
+  FieldLengths.{ReadShort, long_length, long_more, open_length, open_more, read_short},
+  TokenLaws.{bare, bare_body, bare_fixed, begun_after, text_after-snoc},
+  ResponseLaws.part_at,
+  SomeBytes.bytes_induct,
+}
 
 -- ---- fields
 
@@ -65,20 +65,20 @@ value_more r h = grind arith
 
 module _ (column : ℕ) where
   -- each element of a cell adds no more
-  cell_more : (p : CellPart) (e : List ℕ) → AreBytes e → IsNext (cell column) p e → FieldMore (field_so_far p) (field_so_far (cell_add p e))
-  cell_more (ScalarBytes k i) e bytes n = value_more _ (read_short k e bytes)
-  cell_more (ScalarLength k) e bytes n = choose (λ p. FieldMore None (field_so_far p)) (slice_index e 0 == 0) (WholeCell Null) _ (λ z. omega arith)
+  cell_more : (p : CellPart) {e : List ℕ} → AreBytes e → IsNext (cell column) p e → FieldMore (field_so_far p) (field_so_far (cell_add p e))
+  cell_more (ScalarBytes k i) {e} bytes n = value_more _ (read_short k e bytes)
+  cell_more (ScalarLength k) {e} bytes n = choose (λ p. FieldMore None (field_so_far p)) (slice_index e 0 == 0) (WholeCell Null) _ (λ z. omega arith)
       (λ z. tt)
-  cell_more (ShortLength c) e bytes n = grind (arith, choose, long_length, open_length)
-  cell_more (Total c) e bytes n = grind (arith, choose, open_length)
-  cell_more (WholeCell x) e bytes n = omega arith
-  cell_more (ShortData c left content) e bytes n = grind (arith, and_parts, choose, last_fit, long_more, open_more, unless_none)
-  cell_more (ChunkLength c total content) e bytes n =
+  cell_more (ShortLength c) bytes n = grind (arith, choose, long_length, open_length)
+  cell_more (Total c) bytes n = grind (arith, choose, open_length)
+  cell_more (WholeCell x) bytes n = omega arith
+  cell_more (ShortData c left content) bytes n = grind (arith, and_parts, choose, last_fit, long_more, open_more, unless_none)
+  cell_more (ChunkLength c total content) {e} bytes n =
       choose (λ p. FieldMore (Some (open_field c content)) (field_so_far p)) _ _ _
       (λ z. let fit = end_fit column c total content (little e) n.free z in let end = long_more c content fit
       (fit_begins c content [] (rw (append-nil content) fit)) in omega arith)
       (λ z. omega arith)
-  cell_more (ChunkData c total left content) e bytes n = grind (arith, choose, open_more, unless_none)
+  cell_more (ChunkData c total left content) bytes n = grind (arith, choose, open_more, unless_none)
 
 -- ---- a row, whose cells to come that are NULL by their bit are paid by the bitmap
 
@@ -98,13 +98,13 @@ abbrev row_length : RowPart → ℕ
 row_length part = length (row_so_far part) + row_pending part
 
 -- one more column
-one_null : (c : Column) (b : Bool) (ks : List (Column × Bool)) (n : ℕ) → how_many_null ks ≤ n → how_many_null ((c, b) ∷ ks) ≤ suc n
-one_null c b ks n h = grind arith
+one_null : (c : Column) (b : Bool) (ks : List (Column × Bool)) {n : ℕ} → how_many_null ks ≤ n → how_many_null ((c, b) ∷ ks) ≤ suc n
+one_null c b ks h = grind arith
 
 -- no more of them than columns
 null_most : (columns : List Column) (nulls : ℕ → Bool) (k : ℕ) → how_many_null (marked columns nulls k) ≤ length columns
 null_most [] nulls k = omega arith
-null_most (c ∷ columns) nulls k = one_null c (nulls k) _ _ (null_most columns nulls (k + 1))
+null_most (c ∷ columns) nulls k = one_null c (nulls k) _ (null_most columns nulls (k + 1))
 
 -- none without a bitmap
 none_null : (columns : List Column) (k : ℕ) → how_many_null (marked columns (λ i. false) k) ≡ 0
@@ -144,9 +144,9 @@ header_more columns c =
 
 module _ (room : ℕ) where
   -- each element of a description pays for what it adds
-  described_more : (d : DescriptionPart) (e : List ℕ) → IsNext (description room) d e
+  described_more : {d : DescriptionPart} {e : List ℕ} → IsNext (description room) d e
       → described_pending (add_described d e) ≤ described_pending d + 64 * length e
-  described_more d e n = grind (arith, choose, header_more)
+  described_more n = grind (arith, choose, header_more)
 
 -- ---- a response
 
@@ -178,9 +178,9 @@ module _ (charset : Charset) (room : ℕ) where
   fresh_grown tokens n at h = grind (arith, length-append, part_at)
 
   -- each element of bytes pays for what it adds
-  part_grown : (tokens : List Token) (at : Open) (e : List ℕ) → AreBytes e → IsNext (response charset room) (part_at tokens at) e
+  part_grown : {tokens : List Token} (at : Open) (e : List ℕ) → AreBytes e → IsNext (response charset room) (part_at tokens at) e
       → grown (part_add charset tokens at e) ≤ length (text tokens) + length (open_text at) + pending at + 64 * length e
-  part_grown tokens at e bytes n = grind (
+  part_grown at e bytes n = grind (
     arith,
     bare_body,
     bare_fixed,
@@ -208,11 +208,11 @@ module _ (charset : Charset) (room : ℕ) where
   -- each element pays for what it adds
   grown_more : (p : Part) (e : List ℕ) → AreBytes e → IsNext (response charset room) p e
       → grown ((response charset room).add p e) ≤ grown p + 64 * length e
-  grown_more p e bytes n = omega (arith, part_grown p.tokens p.at e bytes n, length-append (text p.tokens) (open_text p.at))
+  grown_more p e bytes n = omega (arith, part_grown p.at e bytes n, length-append (text p.tokens) (open_text p.at))
 
   -- so do all elements between two states
-  grown_along : (p q : Part) (bytes : List ℕ) → AreBytes bytes → Spelt (response charset room) p bytes q → grown q ≤ grown p + 64 * length bytes
-  grown_along p q bytes are h = bytes_induct _ (λ r b. grown r ≤ grown p + 64 * length b) (λ r b e k are n. omega (
+  grown_along : {p q : Part} {bytes : List ℕ} → AreBytes bytes → Spelt (response charset room) p bytes q → grown q ≤ grown p + 64 * length bytes
+  grown_along {p} {q} are h = bytes_induct (λ r b. grown r ≤ grown p + 64 * length b) (λ r b e k are n. omega (
     arith,
     grown_more r e are n,
     length-append b e,
@@ -221,4 +221,4 @@ module _ (charset : Charset) (room : ℕ) where
   -- the text so far is at most 64 times as long as all that is read
   pub bounded_along : (q : Part) (bytes : List ℕ) → AreBytes bytes → Spelt (response charset room) response_start bytes q
       → length (text_so_far q) ≤ 64 * length bytes
-  bounded_along q bytes are h = omega (arith, grown_along response_start q bytes are h)
+  bounded_along q bytes are h = omega (arith, grown_along are h)

@@ -1,13 +1,13 @@
 -- Tokens by their first bytes.
-use Rattle.tds_export.proofs.Words.{Bool, Charset, Ends, Fault, Held, IsBetween, IsDescription, IsHolding, IsNext, IsOfKind, IsRefusedByte, IsUnder}
-use Rattle.tds_export.proofs.Words.{Lead, List, MessageEnded, Part, Payload, Progress, ReadsTokens, Seen, Some, Space, StepStops, Stop, StopsReading}
-use Rattle.tds_export.proofs.Words.{Streams, Takes, Token, TokenKind, [], after_tokens, ap, arith, begun, between, columns_of, cut_at_once}
-use Rattle.tds_export.proofs.Words.{description_shows, encoded_after, false, in_kind, in_lead, inl, inr, lead_fault, lead_of, length, length-append}
-use Rattle.tds_export.proofs.Words.{reads_one, refl, refused_at_once, response, row_byte_fault, sym, text_so_far, true, ℕ, ◌+◌, ◌-◌, ◌<◌, ◌^◌, ◌∙◌}
-use Rattle.tds_export.proofs.Words.{◌∷◌, ◌≡◌, ◌≤◌}
-use Rattle.tds_export.proofs.RowRuns.{columns_known, Describe}
-use Rattle.tds_export.proofs.ResponseLaws.{no_row}
-use Rattle.tds_export.proofs.TokenSteps.{same_text, start_text, stops_further, stops_quietly, streams_both}
+use Rattle.tds_export.proofs.{
+  Words.{Bool, Charset, Ends, Fault, Held, IsBetween, IsDescription, IsHolding, IsNext, IsOfKind, IsRefusedByte, IsUnder, Lead, List, MessageEnded, Part},
+  Words.{Payload, Progress, ReadsTokens, Seen, Some, Space, StepStops, Stop, StopsReading, Streams, Takes, Token, TokenKind, [], after_tokens, ap, arith},
+  Words.{begun, between, columns_of, cut_at_once, description_shows, encoded_after, false, in_kind, in_lead, inl, inr, lead_fault, lead_of, length},
+  Words.{length-append, reads_one, refl, refused_at_once, response, row_byte_fault, sym, text_so_far, true, ℕ, ◌+◌, ◌-◌, ◌<◌, ◌^◌, ◌∙◌, ◌∷◌, ◌≡◌, ◌≤◌},
+  RowRuns.{columns_known, Describe},
+  ResponseLaws.no_row,
+  TokenSteps.{same_text, start_text, stops_further, stops_quietly, streams_both},
+}
 
 -- a token byte that is accepted
 pub record BeginsToken (charset : Charset) (room : ℕ) (tokens : List Token) (byte : ℕ) (to : Part) : Type 0 where
@@ -16,18 +16,18 @@ pub record BeginsToken (charset : Charset) (room : ℕ) (tokens : List Token) (b
   pub text_is : text_so_far (after_tokens tokens) ≡ text_so_far to
 
 -- a description has columns
-some_columns : (bytes : List ℕ) → IsDescription bytes → 0 < length (columns_of bytes)
-some_columns bytes d = rw (description_shows _ _ _ d.2).0 d.2.some
+some_columns : {bytes : List ℕ} → IsDescription bytes → 0 < length (columns_of bytes)
+some_columns d = rw (description_shows _ _ _ d.2).0 d.2.some
 
-begins_lead : (charset : Charset) (room : ℕ) (tokens : List Token) (byte : ℕ) (described : Bool) (bytes : List ℕ) (begun : Lead)
+begins_lead : {charset : Charset} {room : ℕ} {tokens : List Token} {byte : ℕ} {described : Bool} {bytes : List ℕ} {begun : Lead}
     → lead_of byte ≡ Some begun → IsUnder described begun → bytes ≡ encoded_after [] tokens → (described ≡ true → IsDescription bytes)
     → Describe tokens described → BeginsToken charset room tokens byte (in_lead charset (columns_of bytes) begun tokens)
-begins_lead charset room tokens byte described bytes begun e under is d k = grind (arith, columns_known, no_row, some_columns, start_text)
+begins_lead e under is d k = grind (arith, columns_known, no_row, some_columns, start_text)
 
-pub begins_kind : (charset : Charset) (room : ℕ) (tokens : List Token) (byte : ℕ) (described : Bool) (bytes : List ℕ) (kind : TokenKind)
+pub begins_kind : {charset : Charset} {room : ℕ} {tokens : List Token} {byte : ℕ} {described : Bool} {bytes : List ℕ} (kind : TokenKind)
     → IsOfKind described byte kind → bytes ≡ encoded_after [] tokens → (described ≡ true → IsDescription bytes) → Describe tokens described
     → BeginsToken charset room tokens byte (in_kind charset (columns_of bytes) kind tokens)
-begins_kind charset room tokens byte described bytes kind h is d k = begins_lead _ _ _ _ _ _ _ h.0 h.1 is d k
+begins_kind kind h is d k = begins_lead h.0 h.1 is d k
 
 -- the first byte of a token is read, and nothing put for it
 abbrev first : {charset : Charset} {room byte : ℕ} {tokens : List Token} {to : Part} {a b : Seen} {h : Held} → BeginsToken charset room tokens byte to
@@ -72,7 +72,7 @@ refused charset room tokens a b place byte described fault k (inr x) t between =
       | inl e ↦ rw e (ap (row_byte_fault true) none ∙ ap Some (sym x.0))
       | inr e ↦ rw e (ap (row_byte_fault true) none ∙ ap Some (sym x.0))
     ] in
-    refused_at_once (response charset room) (after_tokens tokens) a b place (byte ∷ []) fault (omega arith) refl first t between
+    refused_at_once _ _ a b _ (byte ∷ []) fault (omega arith) refl first t between
 
 module _ (charset : Charset) (room : ℕ) {place : ℕ} {tokens : List Token} {a b : Seen} {h : Held} {area : Space} {failed : Bool}
     (d : h.delivered ≤ 2 ^ 64 - 1) (going : failed ≡ false) (holds : IsHolding area (after_tokens tokens)) where

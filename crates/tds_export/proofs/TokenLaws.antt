@@ -1,11 +1,11 @@
 -- What one more token adds to a response.
-use Rattle.tds_export.proofs.Words.{APassed, Bodied, Bool, Cell, Column, Done, DoneInProc, Error, Fixed, Info, List, Metadata, NoMetadata, None}
-use Rattle.tds_export.proofs.Words.{Notice, Option, PassedOver, Progress, ReturnValue, Returned, Row, ServerError, Some, Token, Tracks, TracksBefore}
-use Rattle.tds_export.proofs.Words.{[], add_none, append_assoc, arith, before, begun, bodied, columns_of, described_after, encoded_after, false}
-use Rattle.tds_export.proofs.Words.{first_error, fixed, greatest_span, how_many, is_error, is_final, is_notice, is_set, max, more, nat_lt, option_map}
-use Rattle.tds_export.proofs.Words.{passed, refl, return_status_after, server_error, sym, test_lt, text_after, true, ℕ, ◌++◌, ◌+◌, ◌<◌, ◌∙◌, ◌∷◌, ◌≡◌}
-use Rattle.tds_export.proofs.Words.{Reflects}
-use Rattle.tds_export.proofs.ResponseLaws.{described_after-append}
+use Rattle.tds_export.proofs.{
+  Words.{APassed, Bodied, Bool, Cell, Column, Done, DoneInProc, Error, Fixed, Info, List, Metadata, NoMetadata, None, Notice, Option, PassedOver, Progress},
+  Words.{ReturnValue, Returned, Row, ServerError, Some, Token, Tracks, TracksBefore, [], add_none, append_assoc, arith, before, begun, bodied, columns_of},
+  Words.{described_after, encoded_after, false, first_error, fixed, greatest_span, how_many, is_error, is_final, is_notice, is_set, max, more, nat_lt},
+  Words.{option_map, passed, refl, return_status_after, server_error, sym, test_lt, text_after, true, ℕ, ◌++◌, ◌+◌, ◌<◌, ◌∙◌, ◌∷◌, ◌≡◌, Reflects},
+  ResponseLaws.described_after-append,
+}
 
 -- whether a set has begun after these tokens
 abbrev pub begun_after : Bool → List Token → Bool
@@ -66,14 +66,14 @@ same_first (u ∷ ts) us h = same_first ts us h
 pub status_after-append : (before : Option ℕ) (a b : List Token)
     → return_status_after before (a ++ b) ≡ return_status_after (return_status_after before a) b
 status_after-append before [] b = refl
-status_after-append before (NoMetadata ∷ a) b = status_after-append before a b
-status_after-append before (t ∷ a) b = status_after-append (return_status_after before (t ∷ [])) a b
+status_after-append before (NoMetadata ∷ a) b = status_after-append _ a b
+status_after-append before (t ∷ a) b = status_after-append _ a b
 
 pub encoded_after-append : (before : List ℕ) (a b : List Token) → encoded_after before (a ++ b) ≡ encoded_after (encoded_after before a) b
 encoded_after-append before [] b = refl
-encoded_after-append before (Metadata bytes columns ∷ a) b = encoded_after-append bytes a b
-encoded_after-append before (NoMetadata ∷ a) b = encoded_after-append [] a b
-encoded_after-append before (t ∷ a) b = encoded_after-append before a b
+encoded_after-append before (Metadata bytes columns ∷ a) b = encoded_after-append _ a b
+encoded_after-append before (NoMetadata ∷ a) b = encoded_after-append _ a b
+encoded_after-append before (t ∷ a) b = encoded_after-append _ a b
 
 pub greatest_span-append : (a b : List Token) → greatest_span (a ++ b) ≡ max (greatest_span a) (greatest_span b)
 greatest_span-append [] b = omega arith
@@ -99,8 +99,8 @@ pub record IsBare (t : Token) : Type 0 where
   pub encoded : (before : List ℕ) → encoded_after before (t ∷ []) ≡ before
   pub columns : (before : Option (List Column)) → described_after before (t ∷ []) ≡ before
 
-pub bare : (t : Token) → is_bare t ≡ true → IsBare t
-bare t h = grind arith
+pub bare : {t : Token} → is_bare t ≡ true → IsBare t
+bare h = grind arith
 
 -- tokens with a body are so
 pub bare_body : (which : Bodied) (body : List ℕ) → is_bare (bodied which body) ≡ true
@@ -118,8 +118,8 @@ is_quiet (DoneInProc more) = true
 is_quiet t = false
 
 -- where a token begins, the tokens before it are known
-pub tracks_begun : (s : Progress) (ts : List Token) → Tracks s ts → TracksBefore (record s { is_final = false }) ts
-tracks_begun s ts k = record { report = k.report; described = k.described; final = refl }
+pub tracks_begun : {s : Progress} {ts : List Token} → Tracks s ts → TracksBefore (record s { is_final = false }) ts
+tracks_begun k = record { report = k.report; described = k.described; final = refl }
 
 -- with so many rows more
 abbrev pub with_rows : Progress → ℕ → Progress
@@ -129,29 +129,29 @@ with_rows s n = record s { report = record s.report { rows = s.report.rows + n }
 pub ruleset tracked = (described_after-append, encoded_after-append, how_many-snoc, is_final-snoc, same_first, status_after-append, uncounted)
 
 module _ {s : Progress} {ts : List Token} (k : Reflects s ts false) where
-  pub tracks_quiet : (t : Token) (final : Bool) → is_quiet t ≡ true → final ≡ is_final (t ∷ [])
+  pub tracks_quiet : (t : Token) {final : Bool} → is_quiet t ≡ true → final ≡ is_final (t ∷ [])
       → Tracks (record s { is_final = final }) (ts ++ t ∷ [])
-  tracks_quiet t final is e = grind (arith, tracked)
+  tracks_quiet t is e = grind (arith, tracked)
 
   pub tracks_body : (which : Bodied) (body : List ℕ) → is_notice which ≡ false → Tracks s (ts ++ bodied which body ∷ [])
-  tracks_body (APassed passed) body h = tracks_quiet _ _ refl k.final
+  tracks_body (APassed passed) body h = tracks_quiet _ refl k.final
   tracks_body which body h = cc
 
   pub tracks_none : Tracks (record s { described = false }) (ts ++ NoMetadata ∷ [])
   tracks_none = grind (arith, tracked)
 
-  pub tracks_metadata : (bytes : List ℕ) (columns : List Column) → columns_of bytes ≡ columns
+  pub tracks_metadata : (bytes : List ℕ) {columns : List Column} → columns_of bytes ≡ columns
       → Tracks (record s { report = record s.report { sets = s.report.sets + 1 }; described = true }) (ts ++ Metadata bytes columns ∷ [])
-  tracks_metadata bytes columns shown = grind (arith, tracked)
+  tracks_metadata bytes shown = grind (arith, tracked)
 
   pub tracks_row : (cells : List Cell) → Tracks (with_rows s 1) (ts ++ Row cells ∷ [])
   tracks_row cells = grind (arith, tracked)
 
   -- ---- ERROR and INFO
 
-  pub tracks_error : (n : Notice) (first : Option ServerError) → first ≡ option_map server_error (first_error (ts ++ Error n ∷ []))
+  pub tracks_error : (n : Notice) {first : Option ServerError} → first ≡ option_map server_error (first_error (ts ++ Error n ∷ []))
       → Tracks (record s { report = record s.report { errors = s.report.errors + 1; first_error = first } }) (ts ++ Error n ∷ [])
-  tracks_error n first e = grind (arith, tracked)
+  tracks_error n e = grind (arith, tracked)
 
   pub tracks_info : (n : Notice) → Tracks (record s { report = record s.report { infos = s.report.infos + 1 } }) (ts ++ Info n ∷ [])
   tracks_info n = grind (arith, tracked)

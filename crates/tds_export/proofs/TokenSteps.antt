@@ -1,20 +1,19 @@
 -- The tokens, as they are read and their text is put.
-use Rattle.tds_export.proofs.Words.{BeforeCount, Bool, Breaks, Charset, Column, Describes, DescriptionPart, Exporter, Fault, Fixed, Grammar, Held}
-use Rattle.tds_export.proofs.Words.{IsBetween, IsHolding, IsNext, IsNoted, IsRunning, LeavesRun, List, MatchResult, Metadata, NoDescription}
-use Rattle.tds_export.proofs.Words.{NoMetadata, Open, Option, Part, Progress, Puts, Puts-none, PutsText, Reads, ReadsNext, ReadsTokens, Report}
-use Rattle.tds_export.proofs.Words.{Result, RowPart, RowStops, Seen, Space, Spelt, Spelt-append, Spelt-none, StepRead, StepStops, Stop}
-use Rattle.tds_export.proofs.Words.{StopsDescribing, StopsIn, StopsInWriting, StopsReading, Streams, Takes, Token, Tracks, TracksBefore, View}
-use Rattle.tds_export.proofs.Words.{WholeDescription, WholeRow, [], after_tokens, ap, append-nil, arith, between, breaks_after, breaks_inside}
-use Rattle.tds_export.proofs.Words.{columns_of, described_size, description, description_bytes, description_of, encoded_after, false, fields_length}
-use Rattle.tds_export.proofs.Words.{fixed, greatest_span, header_line, in_done, in_done_in_proc, in_fields, in_metadata, in_row, inl, inr}
-use Rattle.tds_export.proofs.Words.{last_inside, length, max, nat_lt, nat_tests, next_some, one_state, open_span, puts_both, puts_inside, reads_one}
-use Rattle.tds_export.proofs.Words.{refl, response, row, row_so_far, slice_index, span, start_quiet, stops_after, stops_size, subst, sym, takes_both}
-use Rattle.tds_export.proofs.Words.{text, text_so_far, true, view_of, with_described, with_row, with_token, ℕ, ◌%◌, ◌++◌, ◌+◌, ◌-◌, ◌<◌, ◌==◌, ◌^◌}
-use Rattle.tds_export.proofs.Words.{◌∙◌, ◌∷◌, ◌≡◌, ◌≤◌}
-use Rattle.tds_export.proofs.TokenLaws.{bare, bare_fixed, begun_after, begun_where_sets, encoded_after-append, greatest_span-append, is_bare}
-use Rattle.tds_export.proofs.TokenLaws.{same_first, text_after-snoc, tracks_metadata, tracks_none, tracks_quiet}
-use Rattle.tds_export.proofs.ResponseLaws.{description_agrees, row_agrees, some_fields, part_at}
-use Rattle.tds_export.proofs.ReturnLaws.{inside, read_inside, stop_inside}
+use Rattle.tds_export.proofs.{
+  Words.{BeforeCount, Bool, Breaks, Charset, Column, Describes, DescriptionPart, Exporter, Fault, Fixed, Grammar, Held, IsBetween, IsHolding, IsNext, IsNoted},
+  Words.{IsRunning, LeavesRun, List, MatchResult, Metadata, NoDescription, NoMetadata, Open, Option, Part, Progress, Puts, Puts-none, PutsText, Reads},
+  Words.{ReadsNext, ReadsTokens, Report, Result, RowPart, RowStops, Seen, Space, Spelt, Spelt-append, Spelt-none, StepRead, StepStops, Stop, StopsDescribing},
+  Words.{StopsIn, StopsInWriting, StopsReading, Streams, Takes, Token, Tracks, TracksBefore, View, WholeDescription, WholeRow, [], after_tokens, ap},
+  Words.{append-nil, arith, between, breaks_after, breaks_inside, columns_of, described_size, description, description_bytes, description_of, encoded_after},
+  Words.{false, fields_length, fixed, greatest_span, header_line, in_done, in_done_in_proc, in_fields, in_metadata, in_row, inl, inr, last_inside, length, max},
+  Words.{nat_lt, nat_tests, next_some, one_state, open_span, puts_both, puts_inside, reads_one, refl, response, row, row_so_far, slice_index, span},
+  Words.{start_quiet, stops_after, stops_size, subst, sym, takes_both, text, text_so_far, true, view_of, with_described, with_row, with_token, ℕ, ◌%◌, ◌++◌},
+  Words.{◌+◌, ◌-◌, ◌<◌, ◌==◌, ◌^◌, ◌∙◌, ◌∷◌, ◌≡◌, ◌≤◌},
+  TokenLaws.{bare, bare_fixed, begun_after, begun_where_sets, encoded_after-append, greatest_span-append, is_bare, same_first, text_after-snoc},
+  TokenLaws.{tracks_metadata, tracks_none, tracks_quiet},
+  ResponseLaws.{description_agrees, row_agrees, some_fields, part_at},
+  ReturnLaws.{inside, read_inside, stop_inside},
+}
 
 -- A token has begun: what the tokens before it left is known, and the sink goes on.
 pub record Begun (tokens : List Token) (progress : Progress) (u : View) : Type 0 where
@@ -50,7 +49,7 @@ module _ {g : Grammar Part Fault} {s t : Part} {a b c : Seen} {h i k : Held} (x 
   pub stops_further : {place middle : ℕ} {area : Space} {failed : Bool} {stop : Stop} → middle ≡ place + length x.bytes
       → StepStops g t b c middle i k area failed stop → StepStops g s a c place h k area failed stop
   stops_further {place = place} {stop = stop} at (inl y) =
-      let stops = stops_after g s t a b c place y.0.at stop (record { bytes = x.bytes; spelt = x.spelt; takes = x.takes }) (rw at at y.0.stops) in
+      let stops = stops_after g s t a b c _ _ _ (record { bytes = x.bytes; spelt = x.spelt; takes = x.takes }) (rw at at y.0.stops) in
       inl (record { at = y.0.at; stops = stops; puts = puts_both text_so_far s t y.0.at h i k x.puts y.0.puts; holds = y.0.holds }, y.1)
   stops_further {stop = stop} at (inr y) = inr (
     record { at = y.0.at; breaks = breaks_after g _ s t a b c h i k _ _ x y.0.breaks; holds = y.0.holds },
@@ -65,9 +64,9 @@ stops_quietly {s = s} {at = at} {h = h} same holds d going stops =
     inl (record { at = at; stops = stops; puts = same_text s at h same d; holds = holds }, going)
 
 -- a token that describes nothing leaves the area holding what it held
-pub holds-snoc : (area : Space) (tokens : List Token) (t : Token) → encoded_after (encoded_after [] tokens) (t ∷ []) ≡ encoded_after [] tokens
+pub holds-snoc : {area : Space} {tokens : List Token} (t : Token) → encoded_after (encoded_after [] tokens) (t ∷ []) ≡ encoded_after [] tokens
     → IsHolding area (after_tokens tokens) → IsHolding area (after_tokens (tokens ++ t ∷ []))
-holds-snoc area tokens t e h = grind (arith, encoded_after-append, greatest_span-append)
+holds-snoc t e h = grind (arith, encoded_after-append, greatest_span-append)
 
 module _ {tokens : List Token} {s : Progress} {u : View} (begun : Begun tokens s u) where
   -- the first element after the token byte stopped the call
@@ -92,7 +91,7 @@ module _ {tokens : List Token} {s : Progress} {u : View} (begun : Begun tokens s
       → Tracks progress (tokens ++ t ∷ [])
       → ReadsTokens g from tokens a b place place' u.held u.held progress u.area
   bare_reads {from = from} t r at none is tracks =
-      let so = bare t is in
+      let so = bare is in
       let same = text_after-snoc false tokens t ∙ ap (λ l. text tokens ++ l) (so.text (begun_after false tokens)) ∙ append-nil (text tokens) in
       record {
         more = t ∷ [];
@@ -105,30 +104,30 @@ module _ {tokens : List Token} {s : Progress} {u : View} (begun : Begun tokens s
         };
         place_is = at;
         tracks = tracks;
-        holds = holds-snoc _ _ t (so.encoded (encoded_after [] tokens)) begun.holds;
+        holds = holds-snoc t (so.encoded (encoded_after [] tokens)) begun.holds;
       }
 
 module _ (charset : Charset) {tokens : List Token} {s : Progress} {u : View} (begun : Begun tokens s u) (b : Seen) {place : ℕ} where
   -- a token with fields of a fixed length was read
-  pub fixed_reads : {progress : Progress} (which : Fixed) (fields : List ℕ) → place ≡ u.place + fields_length which
+  pub fixed_reads : {progress : Progress} {which : Fixed} (fields : List ℕ) → place ≡ u.place + fields_length which
       → length fields ≡ fields_length which → Takes u.seen b fields (fields_length which) → Tracks progress (tokens ++ fixed which fields ∷ [])
       → progress.report.errors ≡ s.report.errors → ReadsQuiet charset (in_fields which tokens) tokens u b place progress
-  fixed_reads which fields at len takes tracks same =
+  fixed_reads {which} fields at len takes tracks same =
       let next : IsNext (response charset u.area.room) (in_fields which tokens) fields =
       record { some = rw len (some_fields _); whole = len; free = refl } in
-      quietly begun same (bare_reads begun (fixed which fields) (reads_one _ _ u.seen b _ _ next (rw len takes) refl) (rw len at) refl
+      quietly begun same (bare_reads begun _ (reads_one _ _ _ b _ _ next (rw len takes) refl) (rw len at) refl
       (bare_fixed _ _) tracks)
 
   -- a DONE or DONEPROC was read
   pub done_reads : (fields : List ℕ) → place ≡ u.place + length fields → length fields ≡ 12 → Takes u.seen b fields (length fields)
       → ReadsQuiet charset (in_done tokens) tokens u b place (record s { is_final = slice_index fields 0 % 2 == 0 })
-  done_reads fields at len takes = fixed_reads _ _ (rw len at at) len (rw len at takes)
-      (tracks_quiet begun.tracks _ _ refl (grind (arith, nat_tests))) refl
+  done_reads fields at len takes = fixed_reads _ (rw len at at) len (rw len at takes)
+      (tracks_quiet begun.tracks _ refl (grind (arith, nat_tests))) refl
 
   -- a DONEINPROC was read
   pub done_in_proc_reads : (fields : List ℕ) → place ≡ u.place + 12 → length fields ≡ 12 → Takes u.seen b fields 12
       → ReadsQuiet charset (in_done_in_proc tokens) tokens u b place s
-  done_in_proc_reads fields at len takes = fixed_reads _ _ at len takes (tracks_quiet begun.tracks _ _ refl begun.tracks.final) refl
+  done_in_proc_reads fields at len takes = fixed_reads _ at len takes (tracks_quiet begun.tracks _ refl begun.tracks.final) refl
 
 -- ---- ROW
 
@@ -147,9 +146,9 @@ abbrev row_front : (tokens : List Token) (part : RowPart) → text tokens ++ row
 row_front tokens part = simp row_text
 
 -- and while a row is read
-row_holds : (area : Space) (tokens : List Token) (part : RowPart) → IsHolding area (after_tokens tokens) → IsHolding area (with_row tokens part)
-row_holds area tokens (WholeRow cells) h = holds-snoc _ _ _ refl h
-row_holds area tokens part h = record { bytes = h.bytes; peak = h.peak }
+row_holds : {area : Space} {tokens : List Token} (part : RowPart) → IsHolding area (after_tokens tokens) → IsHolding area (with_row tokens part)
+row_holds (WholeRow cells) h = holds-snoc _ refl h
+row_holds part h = record { bytes = h.bytes; peak = h.peak }
 
 module _ (charset : Charset) (room : ℕ) {place : ℕ} {start : RowPart} {area : Space} {before after : Held} {a b : Seen} {failed : Bool} {stop : Stop}
     (tokens : List Token) where
@@ -157,15 +156,15 @@ module _ (charset : Charset) (room : ℕ) {place : ℕ} {start : RowPart} {area 
   pub row_stops : IsHolding area (after_tokens tokens) → RowStops charset start a b place before after failed stop
       → StepStops (response charset room) (with_row tokens start) a b place before after area failed stop
   row_stops holds x =
-      let agrees = row_agrees charset room tokens in
+      let agrees = row_agrees _ _ _ in
       elim x.cause [
         | inl y ↦ inl (
           record {
             at = with_row tokens x.at;
             stops = stop_inside agrees y.0;
-            puts = puts_inside (row charset) _ (with_row tokens) (inside agrees) row_so_far text_so_far (text tokens) (row_front tokens) start x.at
-                before after y.1;
-            holds = row_holds area tokens x.at holds;
+            puts = puts_inside _ _ _ (inside agrees) row_so_far text_so_far (text tokens) (row_front tokens) start x.at
+                _ _ y.1;
+            holds = row_holds {area = area} {tokens = tokens} x.at holds;
           },
           y.2,
         )
@@ -174,7 +173,7 @@ module _ (charset : Charset) (room : ℕ) {place : ℕ} {start : RowPart} {area 
             at = with_row tokens x.at;
             breaks = breaks_inside (row charset) _ (with_row tokens) (inside agrees) row_so_far text_so_far (text tokens) (row_front tokens) start a b
                 before after x.at stop y.0;
-            holds = rw ((inside agrees).add x.at y.0.element (next_some (row charset) x.at y.0.element y.0.next)) (row_holds area tokens _ holds);
+            holds = rw ((inside agrees).add x.at y.0.element (next_some (row charset) x.at y.0.element y.0.next)) (row_holds _ holds);
           },
           y.1,
         )
@@ -182,22 +181,22 @@ module _ (charset : Charset) (room : ℕ) {place : ℕ} {start : RowPart} {area 
 
 -- ---- COLMETADATA
 
-header_text : (progress : Progress) (tokens : List Token) (bytes : List ℕ) (columns : List Column) → TracksBefore progress tokens
+header_text : {progress : Progress} {tokens : List Token} (bytes : List ℕ) (columns : List Column) → TracksBefore progress tokens
     → text_so_far (in_metadata tokens) ++ (between (nat_lt 0 progress.report.sets) ++ header_line columns) ≡ text_so_far
     (after_tokens (tokens ++ Metadata bytes columns ∷ []))
-header_text progress tokens bytes columns tracks = grind (arith, append-nil, begun_after, begun_where_sets, text_after-snoc)
+header_text bytes columns tracks = grind (arith, append-nil, begun_after, begun_where_sets, text_after-snoc)
 
-metadata_holds : (area old_area : Space) (tokens : List Token) (columns : List Column) (peak : area.peak ≤ max old_area.peak (length area.bytes + 0))
+metadata_holds : {area old_area : Space} {tokens : List Token} (columns : List Column) (peak : area.peak ≤ max old_area.peak (length area.bytes + 0))
     → IsHolding old_area (after_tokens tokens) → IsHolding area (after_tokens (tokens ++ Metadata area.bytes columns ∷ []))
-metadata_holds area old_area tokens columns peak holds = grind (arith, encoded_after-append, greatest_span-append)
+metadata_holds columns peak holds = grind (arith, encoded_after-append, greatest_span-append)
 
 open_text_none : (tokens : List Token) (d : DescriptionPart) → 0 < described_size d
     → text_so_far (with_described tokens d) ≡ text_so_far (in_metadata tokens)
 open_text_none tokens d h = grind arith
 
-open_holds : (area : Space) (tokens : List Token) (k : ℕ) (d : DescriptionPart) → 0 < described_size d → area.bytes ≡ description_bytes d
+open_holds : {area : Space} (tokens : List Token) {k : ℕ} (d : DescriptionPart) → 0 < described_size d → area.bytes ≡ description_bytes d
     → area.peak ≤ max k (span d) → k ≤ max (greatest_span tokens) 0 → IsHolding area (with_described tokens d)
-open_holds area tokens k d h e p q = grind arith
+open_holds tokens d h e p q = grind arith
 
 some_bytes : (room : ℕ) (area bytes : List ℕ) (columns : List Column) → Spelt (description room) BeforeCount bytes (WholeDescription area columns)
     → 0 < length bytes
@@ -209,7 +208,7 @@ module _ (charset : Charset) {tokens : List Token} {s : Progress} {u : View} {ar
   pub none_reads : {place : ℕ} → Describes u.area.room BeforeCount u.seen b u.place place u.area.peak area NoDescription
       → ReadsNext charset (in_metadata tokens) tokens u (record u { seen = b; place = place; area = area }) (record s { described = false })
   none_reads x =
-      let r = read_inside (description_agrees charset _ tokens) x.reads in
+      let r = read_inside (description_agrees _ _ _) x.reads in
       quietly begun refl (record {
         more = NoMetadata ∷ [];
         streams = record {
@@ -228,9 +227,9 @@ module _ (charset : Charset) {tokens : List Token} {s : Progress} {u : View} {ar
   pub metadata_stops : {stop : Stop} → StopsDescribing u.area.room BeforeCount u.seen b u.place u.area.peak area stop
       → StopsIn charset (in_metadata tokens) u (record u { seen = b; area = area }) stop
   metadata_stops x =
-      let some = stops_size _ _ u.seen b _ _ _ x.stops in
-      stops_quietly (simp open_text_none) (open_holds _ _ _ _ some x.kept x.bound begun.holds.peak) begun.delivered begun.going
-      (stop_inside (description_agrees charset u.area.room tokens) x.stops)
+      let some = stops_size _ _ _ b _ _ _ x.stops in
+      stops_quietly (simp open_text_none) (open_holds _ _ some x.kept x.bound begun.holds.peak) begun.delivered begun.going
+      (stop_inside (description_agrees _ _ _) x.stops)
 
   module _ {columns : List Column} {place : ℕ} {after : Held} (shown : columns_of area.bytes ≡ columns)
       (x : Describes u.area.room BeforeCount u.seen b u.place place u.area.peak area (WholeDescription area.bytes columns)) where
@@ -239,15 +238,15 @@ module _ (charset : Charset) {tokens : List Token} {s : Progress} {u : View} {ar
         → ReadsNext charset (in_metadata tokens) tokens u (record u { seen = b; place = place; held = after; area = area })
         (record s { report = record s.report { sets = s.report.sets + 1 }; described = true })
     metadata_reads puts =
-        let r = read_inside (description_agrees charset _ tokens) x.reads in
+        let r = read_inside (description_agrees _ _ _) x.reads in
         let header = between _ ++ header_line columns in
         let put = rw shown at puts in
         quietly begun refl (record {
           more = Metadata area.bytes columns ∷ [];
-          streams = record { bytes = r.bytes; spelt = r.spelt; takes = r.takes; puts = (header, header_text s _ _ _ begun.tracks, put) };
+          streams = record { bytes = r.bytes; spelt = r.spelt; takes = r.takes; puts = (header, header_text _ _ begun.tracks, put) };
           place_is = x.place_is;
-          tracks = tracks_metadata begun.tracks _ _ shown;
-          holds = metadata_holds _ _ _ _ x.bound begun.holds;
+          tracks = tracks_metadata begun.tracks _ shown;
+          holds = metadata_holds _ x.bound begun.holds;
         })
 
     -- the description was read, and the writer failed at its header
@@ -256,7 +255,7 @@ module _ (charset : Charset) {tokens : List Token} {s : Progress} {u : View} {ar
         → StopsInWriting (response charset u.area.room) (in_metadata tokens) u.seen b u.held after area stop
     metadata_breaks few between_b breaks =
         let header = between _ ++ header_line columns in
-        let l = last_inside _ _ _ (inside (description_agrees charset u.area.room tokens)) _ _ _ x.reads.spelt (some_bytes _ _ _ _ x.reads.spelt) in
+        let l = last_inside _ _ _ (inside (description_agrees _ _ _)) _ _ _ x.reads.spelt (some_bytes _ _ _ _ x.reads.spelt) in
         let open_text = open_text_none tokens l.at l.size in
         record {
           at = with_described tokens l.at;
@@ -270,20 +269,19 @@ module _ (charset : Charset) {tokens : List Token} {s : Progress} {u : View} {ar
             between = between_b;
             middle = u.held;
             few = few;
-            puts = same_text (in_metadata tokens) (with_described tokens l.at) u.held (sym open_text) begun.delivered;
+            puts = same_text (in_metadata tokens) (with_described tokens l.at) _ (sym open_text) begun.delivered;
             more = header;
-            text_is = ap (λ t. t ++ header) open_text ∙ header_text s _ _ _ begun.tracks ∙ ap text_so_far (sym l.to_is);
+            text_is = ap (λ t. t ++ header) open_text ∙ header_text _ _ begun.tracks ∙ ap text_so_far (sym l.to_is);
             breaks = rw shown at breaks;
           };
-          holds = rw l.to_is (metadata_holds _ _ _ _ x.bound begun.holds);
+          holds = rw l.to_is (metadata_holds _ x.bound begun.holds);
         }
 
 -- A token has begun where the run goes on.
 pub begun_in : {R W : Type 0} (remaining : R → Option (List ℕ)) (contents : W → Option (List ℕ)) {old : Exporter R W} {tokens : List Token}
     → IsRunning old → TracksBefore old.progress tokens → IsHolding old.description.now (after_tokens tokens) → IsNoted old.notice.now tokens
     → Begun tokens old.progress (view_of remaining contents old)
-begun_in remaining contents running tracks holds noted =
-    record { tracks = tracks; holds = holds; noted = noted; delivered = running.sink.ready.2; going = running.sink.writing }
+begun_in remaining contents running tracks holds noted = grind arith
 
 -- The token was read, or that stopped, whatever the tokens before it are.
 pub step_read : {R W U : Type 0} {remaining : R → Option (List ℕ)} {contents : W → Option (List ℕ)} {from : List Token

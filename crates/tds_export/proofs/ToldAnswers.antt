@@ -1,30 +1,29 @@
 -- What an export answers, where its reader and writer tell their bytes.
-use Rattle.tds_export.proofs.Words.{Adds, Adds-trans, AfterStop, Appends, AreBytes, AreBytes-back, AreBytes-front, Bool, Bounded, BreaksStreaming}
-use Rattle.tds_export.proofs.Words.{Charset, Comes, CompletesResponse, Consumes, Err, FailsToWrite, Fault, Given, Grammar, Held, IsHolding, IsReader}
-use Rattle.tds_export.proofs.Words.{IsWriter, List, Longest, Ok, Option, Packet, Packets, Part, Place, Puts, ReadsPart, ReadsWhole, Report, Reported}
-use Rattle.tds_export.proofs.Words.{Reports, Rose, Run, RunStops, Seen, Some, Space, Spelt, Spelt-one, Stop, Stopped, Stops, StopsAtEnd, StopsExport}
-use Rattle.tds_export.proofs.Words.{StopsInReading, StopsInText, StopsInWriting, Tells, Text, Tidied, Token, WriteFailed, [], after_tokens, ap}
-use Rattle.tds_export.proofs.Words.{append-nil, append_assoc, arith, begun_at, counted, drop, error_text, false, flat_map-append, fresh_at, grammar}
-use Rattle.tds_export.proofs.Words.{grammar_of, in_last, inl, inr, length, length-append, length-take-le, limits, longest_cut, more, no_further}
-use Rattle.tds_export.proofs.Words.{over_front, packet_bytes, payload_of, read, refl, response, response_start, rose, run_of, some_longest}
-use Rattle.tds_export.proofs.Words.{stopped_with, subst, sym, take, take-append-add, take-append-drop, take-append-le, take-append_seam, takes_begins}
-use Rattle.tds_export.proofs.Words.{text, text_put, text_so_far, true, waiting, wire_of, ℕ, ◌%◌, ◌*◌, ◌++◌, ◌+◌, ◌-◌, ◌/◌, ◌<◌, ◌∙◌, ◌∷◌, ◌≡◌, ◌≤◌}
-use Rattle.tds_export.proofs.Words.{IsAccepted, Keeps}
-use Rattle.tds_export.proofs.SomeBytes.{AreBytes-append}
-use Rattle.tds_export.proofs.Peaks.{bounded, further, reached_broken, reached_stopped, reached_whole, rest_leads}
-use Rattle.tds_export.proofs.TextBound.{bounded_along}
-use Rattle.tds_export.proofs.DeviceFaults.{no_failure}
-use Rattle.tds_export.proofs.AcceptedSucceeds.{outcome_succeeds}
-use Rattle.tds_export.proofs.ResponseMeaning.{response_is_spelt}
-use Rattle.tds_export.proofs.Cuts.{spelt_both}
-use Rattle.tds_export.proofs.ReadingGrows.{text_along}
-use Rattle.tds_export.proofs.PacketOutcomes.{ReaderSide, kept_at, reading_stops, start}
+use Rattle.tds_export.proofs.{
+  Words.{Adds, Adds-trans, AfterStop, Appends, AreBytes, AreBytes-back, AreBytes-front, Bool, Bounded, BreaksStreaming, Charset, Comes, CompletesResponse},
+  Words.{Consumes, Err, FailsToWrite, Fault, Given, Grammar, Held, IsHolding, IsReader, IsWriter, List, Longest, Ok, Option, Packet, Packets, Part, Place},
+  Words.{Puts, ReadsPart, ReadsWhole, Report, Reported, Reports, Rose, Run, RunStops, Seen, Some, Space, Spelt, Spelt-one, Stop, Stopped, Stops, StopsAtEnd},
+  Words.{StopsExport, StopsInReading, StopsInText, StopsInWriting, Tells, Text, Tidied, Token, WriteFailed, [], after_tokens, ap, append-nil, append_assoc},
+  Words.{arith, begun_at, counted, drop, error_text, false, flat_map-append, fresh_at, grammar, grammar_of, in_last, inl, inr, length, length-append},
+  Words.{length-take-le, limits, longest_cut, more, no_further, over_front, packet_bytes, payload_of, read, refl, response, response_start, rose, run_of},
+  Words.{some_longest, stopped_with, subst, sym, take, take-append-add, take-append-drop, take-append-le, take-append_seam, takes_begins, text, text_put},
+  Words.{text_so_far, true, waiting, wire_of, ℕ, ◌%◌, ◌*◌, ◌++◌, ◌+◌, ◌-◌, ◌/◌, ◌<◌, ◌∙◌, ◌∷◌, ◌≡◌, ◌≤◌, IsAccepted, Keeps},
+  SomeBytes.AreBytes-append,
+  Peaks.{bounded, further, reached_broken, reached_stopped, reached_whole, rest_leads},
+  TextBound.bounded_along,
+  DeviceFaults.no_failure,
+  AcceptedSucceeds.outcome_succeeds,
+  ResponseMeaning.response_is_spelt,
+  Cuts.spelt_both,
+  ReadingGrows.text_along,
+  PacketOutcomes.{ReaderSide, kept_at, reading_stops, start},
+}
 use native.Mathlib.Decide.{dec_le}
 
 -- ---- the text
 
-known_left : (input read : List ℕ) (new : Option (List ℕ)) → Consumes (Some input) new read → (left : List ℕ) × (new ≡ Some left)
-known_left input read new c = grind arith
+known_left : (input read : List ℕ) {new : Option (List ℕ)} → Consumes (Some input) new read → (left : List ℕ) × (new ≡ Some left)
+known_left input read c = grind arith
 
 -- the writer gained the first bytes of a text, and the others wait
 record Delivers (given : Given) (l : Held) (text : List ℕ) : Type 0 where
@@ -33,9 +32,9 @@ record Delivers (given : Given) (l : Held) (text : List ℕ) : Type 0 where
   all : gained ++ given.after.areas.output.bytes ≡ text
   delivered : l.delivered ≡ counted 0 (length gained)
 
-abbrev sends : (given : Given) (middle l : Held) (put piece sent : List ℕ) → IsWriter given l → Puts (fresh_at given) middle put
+abbrev sends : {given : Given} (middle : Held) {l : Held} {put : List ℕ} (piece sent : List ℕ) → IsWriter given l → Puts (fresh_at given) middle put
     → Adds middle l sent piece → Delivers given l (put ++ piece)
-sends given middle l put piece sent writer p a =
+sends {given} middle {l} {put} piece sent writer p a =
     let adds = Adds-trans (fresh_at given) middle l p.0 sent put piece p.2 a in
     record {
       gained = p.0 ++ sent;
@@ -83,9 +82,9 @@ exact run delivered e few = omega (arith, length-append run.gained (waiting run)
 -- ---- a run that stopped in writing
 
 -- the longest part of a payload that begins with these bytes has their text, and more of it
-longest_text : (charset : Charset) (room : ℕ) (bytes more : List ℕ) (p q : Part) (place : ℕ) → Spelt (response charset room) response_start bytes p
+longest_text : (charset : Charset) (room : ℕ) {bytes : List ℕ} (more : List ℕ) {p q : Part} {place : ℕ} → Spelt (response charset room) response_start bytes p
     → Longest (response charset room) response_start (bytes ++ more) place q → (rest : List ℕ) × (text_so_far p ++ rest ≡ text_so_far q)
-longest_text charset room bytes more p q place h l = let f = further _ _ p q _ _ _ h l in text_along _ _ p q _ f.1
+longest_text charset room more {p} {q} h l = let f = further _ _ p q _ _ _ h l in text_along _ _ f.1
 
 -- a part that fewer bytes lead to has no more text than that before the last element
 earlier_text : (charset : Charset) (room : ℕ) (bytes element : List ℕ) (p q : Part) (place : ℕ) → Spelt (response charset room) response_start bytes p
@@ -94,7 +93,7 @@ earlier_text : (charset : Charset) (room : ℕ) (bytes element : List ℕ) (p q 
 earlier_text charset room bytes element p q place h whole less k = elim (dec_le place (length bytes)) [
   | yes below ↦
       (let front = take-append-le place bytes element below in
-      let rest = text_along _ _ q p _ (rest_leads _ _ q p _ _ (rw front at k) (rw (← take-append-drop place bytes) at h)) in
+      let rest = text_along _ _ (rest_leads (rw front at k) (rw (← take-append-drop place bytes) at h)) in
       omega (arith, ap length rest.1, length-append (text_so_far q) rest.0))
   | no above ↦
       (let n = place - length bytes in
@@ -106,12 +105,12 @@ earlier_text charset room bytes element p q place h whole less k = elim (dec_le 
 ]
 
 -- the writer broke: the last packet read was needed to fill the block
-broken : (run : Run) (q : Seen) (k : Held) (at : Part) (stop : Stop) → ReaderSide run q → IsWriter run.given k
+broken : {run : Run} {q : Seen} {k : Held} (at : Part) (stop : Stop) → ReaderSide run q → IsWriter run.given k
     → (x : BreaksStreaming (grammar run) text_so_far response_start (start run) q (fresh_at run.given) k at stop)
     → IsHolding run.given.after.areas.description ((grammar run).add at x.element)
     → run.gained ≡ (subst (Puts (fresh_at run.given) x.middle) x.puts.1 x.puts.2).0 ++ x.breaks.0
     → text_put run ≡ text_so_far at ++ take x.breaks.2 x.more → StopsInText run WriteFailed (length run.gained)
-broken run q k at stop side writer x holds gained all =
+broken {run} {q} at stop side writer x holds gained all =
     let g = grammar run in
     let f = run.given.before.reader.failures in
     let be = x.bytes ++ x.element in
@@ -124,14 +123,14 @@ broken run q k at stop side writer x holds gained all =
     let payload = payload_of b.packets in
     let payload_is = b.payload_is ∙ append_assoc be x.ahead (q.future []).bytes in
     let longest = some_longest g _ _ in
-    let beyond = longest_text _ _ _ _ _ _ _ spelt (subst (λ v. Longest g response_start v longest.0 longest.1) payload_is longest.2) in
+    let beyond = longest_text _ _ _ spelt (subst (λ v. Longest g response_start v longest.0 longest.1) payload_is longest.2) in
     let some : 0 < length be = omega (arith, length-append x.bytes x.element) in
     let last = in_last _ _ f _ _ _ q _ _ side.left x.takes b (omega (
       arith,
       length-append (be ++ x.ahead) (q.future []).bytes,
       length-append be x.ahead,
     )) in
-    let early = some_longest g response_start (payload_of last.before) in
+    let early = some_longest g _ _ in
     let joined = ap payload_of (sym last.split) ∙ flat_map-append _ last.before (last.last ∷ []) in
     let fewer : early.0 < length be = omega arith in
     let front = sym (take-append-le early.0 (payload_of last.before) (payload_of (last.last ∷ [])) early.2.within)
@@ -164,7 +163,7 @@ broken run q k at stop side writer x holds gained all =
       begins = text_more;
       needed = inr (last.before, last.last, early.0, early.1, last.split, early.2, chunks, omega arith);
       failed = subst (Rose run.given.before.writer.failures) (sym (cc) ∙ writer.failures) (rose _);
-      kept = (length be, to, comes, kept_at run.given.after.areas.description to.tokens to.at (drop (length be) payload) holds.bytes);
+      kept = (length be, to, comes, kept_at run.given.after.areas.description to.tokens _ (drop (length be) payload) holds.bytes);
     }
 
 -- ---- a run that read the whole response
@@ -178,12 +177,12 @@ record WholeMessage (run : Run) (tokens : List Token) : Type 0 where
   spelt : Spelt (grammar run) response_start (payload_of packets) (after_tokens tokens)
   kept : Keeps run packets (length (payload_of packets)) (after_tokens tokens)
 
-whole_message_of : (run : Run) {q : Seen} {old new : Held} → ReaderSide run q
+whole_message_of : {run : Run} {q : Seen} {old new : Held} → ReaderSide run q
     → (x : ReadsWhole (grammar run) response_start (start run) q old new run.given.after.areas.description) → WholeMessage run x.tokens
-whole_message_of run {q = q} side x =
+whole_message_of {run} {q = q} side x =
     let size = (limits run).packet_size in
     let limit = (limits run).max_wire in
-    let m = over_front size limit run.given.before.reader.failures run.input run.left q x.bytes (length x.bytes + 1) side.bytes side.left x.takes
+    let m = over_front _ _ _ _ _ q _ _ side.bytes side.left x.takes
     x.over in
     grind (arith, over_front, payload_bytes, AreBytes-front, response_is_spelt, append-nil, longest_cut, kept_at)
 
@@ -195,20 +194,20 @@ take_payload : (l : List ℕ) → take (length l) l ≡ l
 take_payload l = cc (append-nil l, take-append_seam l [])
 
 -- the last delivery failed
-failed_at_end : (run : Run) (tokens : List Token) → WholeMessage run tokens → text_put run ≡ text tokens → FailsToWrite run.given
+failed_at_end : {run : Run} {tokens : List Token} → WholeMessage run tokens → text_put run ≡ text tokens → FailsToWrite run.given
     → StopsInText run WriteFailed (length run.gained)
-failed_at_end run tokens w same fails = grind (arith, append-nil, take_payload, text_after_tokens)
+failed_at_end w same fails = grind (arith, append-nil, take_payload, text_after_tokens)
 
 -- ---- what an export answers
 
 -- the payload of a reader that told its bytes begins with them
-begins_run : (given : Given) (input : List ℕ) → given.before.reader.bytes ≡ Some input → begun_at given ≡ start (run_of given input [] [])
-begins_run given input e = cc
+begins_run : (given : Given) {input : List ℕ} → given.before.reader.bytes ≡ Some input → begun_at given ≡ start (run_of given input [] [])
+begins_run given e = cc
 
 -- where its reader stands
-reader_side : (given : Given) (input left gained : List ℕ) (q : Seen) → AreBytes input → q.left ≡ Some left → IsReader given q
+reader_side : {given : Given} {input left gained : List ℕ} {q : Seen} → AreBytes input → q.left ≡ Some left → IsReader given q
     → ReaderSide (run_of given input left gained) q
-reader_side given input left gained q are ql reader = record { bytes = are; left = ql; failures = reader.failures }
+reader_side {left} are ql reader = record { bytes = are; left = ql; failures = reader.failures }
 
 -- all of the text was put, where the whole response was read
 whole_puts : {g : Grammar Part Fault} {a q : Seen} {h k : Held} {area : Space} → (x : ReadsWhole g response_start a q h k area)
@@ -227,15 +226,15 @@ module _ (given : Given) (input left : List ℕ) (q : Seen) (stop : Stop) (are :
   began = start (run_of given input left [])
 
   -- the payload stopped
-  stop_reading : (middle l : Held) → IsWriter given l
+  stop_reading : {middle l : Held} → IsWriter given l
       → StopsInReading (grammar_of given) response_start began q 0 (fresh_at given) middle given.after.areas.description stop → Tidied middle l
       → StopTold given input left stop l
-  stop_reading middle l writer y t =
+  stop_reading {l} writer y t =
       let p = rw y.puts.1 at y.puts.2 in
-      let d = sends _ _ l _ _ _ writer p t.1 in
+      let d = sends _ _ _ writer p t.1 in
       let run = run_of given input left d.gained in
-      let side = reader_side _ _ _ _ q are ql reader in
-      let stops = reading_stops run side y.stops y.holds (d.all ∙ append-nil (text_so_far y.at)) in (
+      let side = reader_side are ql reader in
+      let stops = reading_stops side y.stops y.holds (d.all ∙ append-nil (text_so_far y.at)) in (
         d.gained,
         d.has,
         record {
@@ -251,13 +250,13 @@ module _ (given : Given) (input left : List ℕ) (q : Seen) (stop : Stop) (are :
       )
 
   -- the writer failed
-  in_text : (k : Held) (gained : List ℕ) → IsWriter given k → Appends given.before.writer.bytes given.after.writer.bytes gained
+  in_text : {k : Held} {gained : List ℕ} → IsWriter given k → Appends given.before.writer.bytes given.after.writer.bytes gained
       → k.delivered ≡ counted 0 (length gained)
       → StopsInText (run_of given input left gained) WriteFailed (length gained) → stop ≡ record { fault = WriteFailed; place = Text k.delivered }
       → StopTold given input left stop k
-  in_text k gained writer has delivered stops is =
+  in_text {k} {gained} writer has delivered stops is =
       let run = run_of given input left gained in
-      let written = exact run k.delivered delivered (fits run WriteFailed (Text (length gained)) are stops) in
+      let written = exact run _ delivered (fits run WriteFailed (Text (length gained)) are stops) in
       grind (arith, exact, fits)
 
   -- the writer broke
@@ -266,70 +265,70 @@ module _ (given : Given) (input left : List ℕ) (q : Seen) (stop : Stop) (are :
       → StopTold given input left stop k
   stop_writing k writer y =
       let x = y.breaks in
-      let d = sends _ _ k _ _ _ writer (rw x.puts.1 at x.puts.2) x.breaks.3 in
-      in_text k _ writer d.has d.delivered (broken _ q k _ _ (reader_side _ _ _ _ q are ql reader) writer x y.holds refl d.all) x.breaks.8
+      let d = sends _ _ _ writer (rw x.puts.1 at x.puts.2) x.breaks.3 in
+      in_text writer d.has d.delivered (broken _ _ (reader_side are ql reader) writer x y.holds refl d.all) x.breaks.8
 
   -- the last delivery failed
   stop_at_end : (k : Held) → IsWriter given k
       → StopsAtEnd (grammar_of given) response_start began q (fresh_at given) k given.after.areas.description stop → StopTold given input left stop k
   stop_at_end k writer y =
       let p = whole_puts y.whole in
-      let d = sends _ _ k _ [] _ writer p y.fails.1 in
+      let d = sends _ _ _ writer p y.fails.1 in
       let run = run_of given input left d.gained in
-      let whole = whole_message_of run (reader_side given input left d.gained q are ql reader) y.whole in
+      let whole = whole_message_of (reader_side are ql reader) y.whole in
       let rises = subst (Rose given.before.writer.failures) (cc) (rose _) in
-      in_text k _ writer d.has d.delivered (failed_at_end _ y.whole.tokens whole (simp (d.all, append-nil)) rises) y.fails.2
+      in_text writer d.has d.delivered (failed_at_end whole (simp (d.all, append-nil)) rises) y.fails.2
 
   -- each of these
-  stopped_of : (k l : Held) (failed : Bool) → IsWriter given l
+  stopped_of : {k l : Held} {failed : Bool} → IsWriter given l
       → RunStops (grammar_of given) response_start began q 0 (fresh_at given) k given.after.areas.description failed stop
       → (failed ≡ false → Tidied k l) → (failed ≡ true → l ≡ k) → StopTold given input left stop l
-  stopped_of k l failed writer (inl (inl y)) tidy same = stop_reading k l writer y.0 (tidy y.1)
-  stopped_of k l failed writer (inl (inr y)) tidy same = rw (same y.1) (stop_writing k (subst (IsWriter given) (same y.1) writer) y.0)
-  stopped_of k l failed writer (inr y) tidy same = rw (same y.1) (stop_at_end k (subst (IsWriter given) (same y.1) writer) y.0)
+  stopped_of {k} {l} writer (inl (inl y)) tidy same = stop_reading writer y.0 (tidy y.1)
+  stopped_of {k} writer (inl (inr y)) tidy same = rw (same y.1) (stop_writing k (subst (IsWriter given) (same y.1) writer) y.0)
+  stopped_of {k} writer (inr y) tidy same = rw (same y.1) (stop_at_end k (subst (IsWriter given) (same y.1) writer) y.0)
 
   -- the bound on its descriptions
-  stop_bounded : (gained : List ℕ) (k : Held) (failed : Bool)
+  stop_bounded : {gained : List ℕ} {k : Held} {failed : Bool}
       → RunStops (grammar_of given) response_start began q 0 (fresh_at given) k given.after.areas.description failed stop
       → Bounded (run_of given input left gained)
-  stop_bounded gained k failed (inl (inl y)) = let run = run_of given input left gained in
-      bounded _ _ are (reached_stopped run q are ql y.0.stops) y.0.holds.peak
-  stop_bounded gained k failed (inl (inr y)) =
+  stop_bounded {gained} (inl (inl y)) = let run = run_of given input left gained in
+      bounded _ _ are (reached_stopped _ q are ql y.0.stops) y.0.holds.peak
+  stop_bounded {gained} (inl (inr y)) =
       let run = run_of given input left gained in
-      bounded _ _ are (reached_broken run q are ql y.0) y.0.holds.peak
-  stop_bounded gained k failed (inr y) =
+      bounded _ _ are (reached_broken _ q are ql y.0) y.0.holds.peak
+  stop_bounded {gained} (inr y) =
       let run = run_of given input left gained in
-      bounded _ _ are (reached_whole run q are ql y.0.whole) y.0.whole.holds.peak
+      bounded _ _ are (reached_whole _ q are ql y.0.whole) y.0.whole.holds.peak
 
 -- what a run that stopped read
-stops_read : (g : Grammar Part Fault) (a q : Seen) (h k : Held) (area : Space) (failed : Bool) (stop : Stop)
+stops_read : {g : Grammar Part Fault} {a q : Seen} {h k : Held} {area : Space} {failed : Bool} {stop : Stop}
     → RunStops g response_start a q 0 h k area failed stop → (read : List ℕ) × Consumes a.left q.left read
-stops_read g a q h k area failed stop h8 = grind arith
+stops_read h8 = grind arith
 
-pub stop_tells : (given : Given) (stopped : Stopped) → StopsExport given stopped → Tells given (Err stopped)
+pub stop_tells : {given : Given} {stopped : Stopped} → StopsExport given stopped → Tells given (Err stopped)
 unfolding Tells
-stop_tells given stopped x = λ input are e.
-    let stops = rw (begins_run given input e) at x.stops in
-    let read = stops_read _ _ _ _ _ _ _ _ stops in
-    let left = known_left _ _ _ read.1 in
-    let all = stopped_of _ _ _ _ _ are left.1 x.reader x.notice _ _ _ x.writer stops x.tidied x.same in
-    let most = stop_bounded _ _ _ _ _ are left.1 x.reader x.notice _ _ _ stops in
+stop_tells {given} x = λ input are e.
+    let stops = rw (begins_run given e) at x.stops in
+    let read = stops_read stops in
+    let left = known_left _ _ read.1 in
+    let all = stopped_of _ _ _ _ _ are left.1 x.reader x.notice x.writer stops x.tidied x.same in
+    let most = stop_bounded _ _ _ _ _ are left.1 x.reader x.notice stops in
     let outcome = rw (← x.stopped_is) at all.2 in
-    (left.0, all.0, cc, all.1, record { outcome = outcome; bounded = most }, outcome_succeeds _ _ outcome)
+    (left.0, all.0, cc, all.1, record { outcome = outcome; bounded = most }, outcome_succeeds _ outcome)
 
-pub report_tells : (given : Given) (report : Report) → Reports given report → Tells given (Ok report)
+pub report_tells : {given : Given} {report : Report} → Reports given report → Tells given (Ok report)
 unfolding Tells
-report_tells given report x = λ input are e.
+report_tells {given} {report} x = λ input are e.
     let area = given.after.areas.description in
     let z = subst (λ (a : Seen). (c : CompletesResponse (grammar_of given) response_start a x.seen (fresh_at given) x.held report area)
-    × (given.after.areas.notice.bytes ≡ error_text c.whole.tokens)) (begins_run given input e) (x.completes, x.notice) in
+    × (given.after.areas.notice.bytes ≡ error_text c.whole.tokens)) (begins_run given e) (x.completes, x.notice) in
     let y = z.0 in
     let tokens = y.whole.tokens in
-    let left = known_left input y.whole.takes.0 x.seen.left y.whole.takes.1.0 in
+    let left = known_left input y.whole.takes.0 y.whole.takes.1.0 in
     let p = whole_puts y.whole in
-    let d = sends given y.middle x.held (text tokens) [] y.finishes.0 x.writer p y.finishes.1 in
+    let d = sends y.middle [] y.finishes.0 x.writer p y.finishes.1 in
     let run = run_of given input left.0 d.gained in
-    let whole = whole_message_of run (reader_side given input left.0 d.gained x.seen are left.1 x.reader) y.whole in
+    let whole = whole_message_of (reader_side are left.1 x.reader) y.whole in
     let empty = sym x.writer.waiting ∙ y.finishes.2 in
     let same = d.all ∙ append-nil (text tokens) in
     let gained = sym (append-nil run.gained) ∙ ap (λ w. run.gained ++ w) (sym empty) ∙ same in
@@ -350,4 +349,4 @@ report_tells given report x = λ input are e.
       no_failure = no_failure given report x;
     } in
     let most = bounded run (after_tokens tokens) are (reached_whole run x.seen are left.1 y.whole) y.whole.holds.peak in
-    (left.0, d.gained, cc, d.has, record { outcome = outcome; bounded = most }, outcome_succeeds run (Ok report) outcome)
+    (left.0, d.gained, cc, d.has, record { outcome = outcome; bounded = most }, outcome_succeeds (Ok report) outcome)

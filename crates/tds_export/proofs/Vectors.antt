@@ -1,13 +1,17 @@
 -- Worked payloads.
-use Rattle.tds_export.proofs.Words.{BadNotice, BadText, BadTypeInfo, BadValue, BadValueLength, Charset, DescriptionTooLong, EndWithoutDone, Fault}
-use Rattle.tds_export.proofs.Words.{Flt8, FltN, List, MessageEnded, NoColumns, None, OddText, Option, Part, PlpLength, RefusedColumn, RefusedToken}
-use Rattle.tds_export.proofs.Words.{RowWithoutColumns, Some, UnknownType, Utf8, Windows1252, [], chars, date_of, digits, encode_utf8, encode_with}
-use Rattle.tds_export.proofs.Words.{fault_of, how_many, is_return, is_utf8, length, map, named_kind, read, refl, refused_kind, replicate, response}
-use Rattle.tds_export.proofs.Words.{response_start, rest_length, rest_of, rows, state_of, text_so_far, utf16_chars, utf8_error_len, utf8_valid_len}
-use Rattle.tds_export.proofs.Words.{uuid_on_literals, ℕ, ◌++◌, ◌-◌, ◌∷◌, ◌≡◌}
-use Rattle.tds_packet.proofs.Feeding.{Progress}
-use Rattle.std.specs.Prelude.{codes}
-use Rattle.tds_values.proofs.HexTexts.{hex}
+use Prim.Native.String.{String}
+use Rattle.{
+  tds_export.proofs.{
+    Words.{completion, take, BadNotice, BadText, BadTypeInfo, BadValue, BadValueLength, Charset, DescriptionTooLong, EndWithoutDone, Fault, Flt8, FltN, List},
+    Words.{MessageEnded, NoColumns, None, OddText, Option, Part, PlpLength, RefusedColumn, RefusedToken, RowWithoutColumns, Some, UnknownType, Utf8},
+    Words.{Windows1252, [], chars, date_of, digits, encode_utf8, encode_with, fault_of, how_many, is_return, is_utf8, length, map, named_kind, read, refl},
+    Words.{refused_kind, replicate, response, response_start, rest_length, rest_of, rows, state_of, text_so_far, utf16_chars, utf8_error_len, utf8_valid_len},
+    Words.{uuid_on_literals, ℕ, ◌++◌, ◌-◌, ◌∷◌, ◌≡◌},
+  },
+  tds_packet.proofs.Feeding.Progress,
+  std.specs.{Prelude.codes, List.concat},
+  tds_values.proofs.HexTexts.hex,
+}
 
 -- how far a payload is read, its text so far, and its fault where the message ends there
 abbrev pub Answer : Type 0
@@ -28,44 +32,55 @@ abbrev pub beginnings : List ℕ → List (List ℕ)
 beginnings [] = [] ∷ []
 beginnings (x ∷ xs) = [] ∷ map (λ front. x ∷ front) (beginnings xs)
 
+-- a DONE after which nothing follows
+abbrev a_done : List ℕ
+a_done = hex "FD 00 00 00 00 00 00 00 00 00 00 00 00"
+
+-- what begins with a description of one column, its type byte and what follows given
+abbrev column : String → List ℕ
+column bytes = hex "81 01 00 00 00 00 00 00 00" ++ hex bytes
+
+-- a return value named p, its type byte and what follows given
+abbrev returned : String → List ℕ
+returned bytes = hex "AC 01 00 02 40 00 70 00 01 00 00 00 00 00 00" ++ hex bytes
+
+-- a description of nine columns of a type without names
+abbrev nine : String → List ℕ
+nine info = hex "81 09 00" ++ concat (replicate 9 (hex "00 00 00 00 00 00" ++ hex info ++ hex "00"))
+
 -- an int column and a row
 abbrev one_column : List ℕ
-one_column = hex "81 01 00 00 00 00 00 00 00 38 01 61 00 D1 2A 00 00 00 FD 10 00 C1 00 01 00 00 00 00 00 00 00"
+one_column = column "38 01 61 00 D1 2A 00 00 00 FD 10 00 C1 00 01 00 00 00 00 00 00 00"
 
 -- two int columns, and nine without names
 abbrev two_columns : List ℕ
-two_columns = hex "81 02 00 00 00 00 00 00 00 38 01 61 00 00 00 00 00 00 00 38 01 62 00 FD 00 00 00 00 00 00 00 00 00 00 00 00"
+two_columns = hex "81 02 00 00 00 00 00 00 00 38 01 61 00 00 00 00 00 00 00 38 01 62 00" ++ a_done
 
 abbrev nine_columns : List ℕ
 nine_columns =
-    (hex "81 09 00 00 00 00 00 00 00 38 00 00 00 00 00 00 00 38 00 00 00 00 00 00 00 38 00 00 00 00 00 00"
-    ++ hex "00 38 00 00 00 00 00 00 00 38 00 00 00 00 00 00 00 38 00 00 00 00 00 00 00 38 00 00 00 00 00 00"
-    ++ hex "00 38 00 00 00 00 00 00 00 38 00 FD 00 00 00 00 00 00 00 00 00 00 00 00")
+    nine "38" ++ a_done
 
 -- responses
 whole_responses : HaveAnswers Windows1252 1048576 (
     (one_column, (31, codes "\"a\"\r\n42\r\n", None)) ∷
     -- a DONE alone
-    (hex "FD 00 00 00 00 00 00 00 00 00 00 00 00", (13, [], None)) ∷
+    (a_done, (13, [], None)) ∷
     -- a character in three chunks
     (
-      (hex "81 01 00 00 00 00 00 00 00 E7 FF FF 09 04 D0 00 34 01 74 00 D1 04 00 00 00 00 00 00 00 01 00 00"
-          ++ hex "00 3D 02 00 00 00 D8 00 01 00 00 00 DE 00 00 00 00 FD 00 00 00 00 00 00 00 00 00 00 00 00"),
+      (column "E7 FF FF 09 04 D0 00 34 01 74 00 D1 04 00 00 00 00 00 00 00 01 00 00"
+          ++ hex "00 3D 02 00 00 00 D8 00 01 00 00 00 DE 00 00 00 00" ++ a_done),
       (62, hex "22 74 22 0D 0A 22 F0 9F 98 80 22 0D 0A", None),
     ) ∷
     -- one NULL by its bit and one by its length
-    (
-      hex "81 02 00 00 00 00 00 00 00 38 01 61 00 00 00 00 00 00 00 26 04 01 62 00 D2 01 00 FD 00 00 00 00 00 00 00 00 00 00 00 00",
-      (40, codes "\"a\",\"b\"\r\nNULL,NULL\r\n", None),
-    ) ∷
+    (hex "81 02 00 00 00 00 00 00 00 38 01 61 00 00 00 00 00 00 00 26 04 01 62 00 D2 01 00" ++ a_done, (40, codes "\"a\",\"b\"\r\nNULL,NULL\r\n", None)) ∷
     -- padding bits are ignored
     (
-      hex "81 02 00 00 00 00 00 00 00 38 01 61 00 00 00 00 00 00 00 26 04 01 62 00 D2 FC 2A 00 00 00 00 FD 00 00 00 00 00 00 00 00 00 00 00 00",
+      hex "81 02 00 00 00 00 00 00 00 38 01 61 00 00 00 00 00 00 00 26 04 01 62 00 D2 FC 2A 00 00 00 00" ++ a_done,
       (44, codes "\"a\",\"b\"\r\n42,NULL\r\n", None),
     ) ∷
     -- two sets, an INFO and an ERROR
     (
-      (hex "81 01 00 00 00 00 00 00 00 38 01 61 00 D1 01 00 00 00 AB 10 00 45 16 00 00 02 00 01 00 78 00 00"
+      (column "38 01 61 00 D1 01 00 00 00 AB 10 00 45 16 00 00 02 00 01 00 78 00 00"
           ++ hex "00 01 00 00 00 D1 02 00 00 00 FD 01 00 00 00 00 00 00 00 00 00 00 00 AA 12 00 D0 00 00 00 01 10"
           ++ hex "02 00 6E 00 6F 00 00 00 01 00 00 00 81 01 00 00 00 00 00 00 00 38 01 62 00 D1 03 00 00 00 FD 02"
           ++ hex "00 00 00 00 00 00 00 00 00 00 00"),
@@ -92,36 +107,27 @@ stopped_responses : HaveAnswers Windows1252 1048576 (
     -- a DONE after which more follows
     (hex "FD 01 00 00 00 00 00 00 00 00 00 00 00", (13, [], Some EndWithoutDone)) ∷
     -- a whole number of three bytes
-    (hex "81 01 00 00 00 00 00 00 00 26 03", (10, [], Some (BadTypeInfo 0))) ∷
+    (column "26 03", (10, [], Some (BadTypeInfo 0))) ∷
     -- an unknown type byte
-    (hex "81 01 00 00 00 00 00 00 00 1F", (3, [], Some (UnknownType 0 0x1F))) ∷
+    (column "1F", (3, [], Some (UnknownType 0 0x1F))) ∷
     -- a floating-point type byte
-    (hex "81 01 00 00 00 00 00 00 00 6D", (3, [], Some (RefusedColumn 0 FltN))) ∷
+    (column "6D", (3, [], Some (RefusedColumn 0 FltN))) ∷
     -- a date after the last one
-    (hex "81 01 00 00 00 00 00 00 00 28 01 64 00 D1 03 DB B9 37", (15, codes "\"d\"\r\n", Some (BadValue 0))) ∷
+    (column "28 01 64 00 D1 03 DB B9 37", (15, codes "\"d\"\r\n", Some (BadValue 0))) ∷
     -- a date of four bytes
-    (hex "81 01 00 00 00 00 00 00 00 28 01 64 00 D1 04 00", (14, codes "\"d\"\r\n", Some (BadValueLength 0))) ∷
+    (column "28 01 64 00 D1 04 00", (14, codes "\"d\"\r\n", Some (BadValueLength 0))) ∷
     -- the message ends after the second chunk
-    (
-      hex "81 01 00 00 00 00 00 00 00 E7 FF FF 09 04 D0 00 34 01 74 00 D1 04 00 00 00 00 00 00 00 01 00 00 00 3D 02 00 00 00 D8 00",
-      (40, codes "\"t\"\r\n\"", Some MessageEnded),
-    ) ∷
+    (column "E7 FF FF 09 04 D0 00 34 01 74 00 D1 04 00 00 00 00 00 00 00 01 00 00 00 3D 02 00 00 00 D8 00", (40, codes "\"t\"\r\n\"", Some MessageEnded)) ∷
     -- an odd sum at the terminator
-    (
-      hex "81 01 00 00 00 00 00 00 00 E7 FF FF 09 04 D0 00 34 01 74 00 D1 FE FF FF FF FF FF FF FF 01 00 00 00 41 00 00 00 00",
-      (34, codes "\"t\"\r\n\"", Some (OddText 0)),
-    ) ∷
+    (column "E7 FF FF 09 04 D0 00 34 01 74 00 D1 FE FF FF FF FF FF FF FF 01 00 00 00 41 00 00 00 00", (34, codes "\"t\"\r\n\"", Some (OddText 0))) ∷
     -- an odd total
-    (hex "81 01 00 00 00 00 00 00 00 E7 FF FF 09 04 D0 00 34 01 74 00 D1 03 00 00 00 00 00 00 00", (21, codes "\"t\"\r\n", Some (OddText 0))) ∷
+    (column "E7 FF FF 09 04 D0 00 34 01 74 00 D1 03 00 00 00 00 00 00 00", (21, codes "\"t\"\r\n", Some (OddText 0))) ∷
     -- a chunk that passes the total
-    (hex "81 01 00 00 00 00 00 00 00 A5 FF FF 01 62 00 D1 03 00 00 00 00 00 00 00 04 00 00 00", (24, codes "\"b\"\r\n0x", Some (PlpLength 0))) ∷
+    (column "A5 FF FF 01 62 00 D1 03 00 00 00 00 00 00 00 04 00 00 00", (24, codes "\"b\"\r\n0x", Some (PlpLength 0))) ∷
     -- a terminator before the total is reached
-    (
-      hex "81 01 00 00 00 00 00 00 00 A5 FF FF 01 62 00 D1 04 00 00 00 00 00 00 00 03 00 00 00 01 02 03 00 00 00 00",
-      (31, codes "\"b\"\r\n0x010203", Some (PlpLength 0)),
-    ) ∷
+    (column "A5 FF FF 01 62 00 D1 04 00 00 00 00 00 00 00 03 00 00 00 01 02 03 00 00 00 00", (31, codes "\"b\"\r\n0x010203", Some (PlpLength 0))) ∷
     -- a total that no chunks reach
-    (hex "81 01 00 00 00 00 00 00 00 A5 FF FF 01 62 00 D1 FD FF FF FF FF FF FF FF 00 00 00 00", (24, codes "\"b\"\r\n0x", Some (PlpLength 0))) ∷
+    (column "A5 FF FF 01 62 00 D1 FD FF FF FF FF FF FF FF 00 00 00 00", (24, codes "\"b\"\r\n0x", Some (PlpLength 0))) ∷
     [])
 unfolding digits date_of utf16_chars encode_utf8 utf8_valid_len utf8_error_len is_utf8 chars encode_with rest_length named_kind refused_kind
 stopped_responses = refl
@@ -172,72 +178,48 @@ first_bytes = refl
 -- values in rows and return values
 values : HaveAnswers Windows1252 1048576 (
     -- a decimal
-    (
-      hex "81 01 00 00 00 00 00 00 00 6A 05 05 02 01 64 00 D1 05 01 39 30 00 00 FD 00 00 00 00 00 00 00 00 00 00 00 00",
-      (36, codes "\"d\"\r\n123.45\r\n", None),
-    ) ∷
+    (column "6A 05 05 02 01 64 00 D1 05 01 39 30 00 00" ++ a_done, (36, codes "\"d\"\r\n123.45\r\n", None)) ∷
     -- one tick more than a day has
-    (hex "81 01 00 00 00 00 00 00 00 3D 01 64 00 D1 00 00 00 00 00 82 8B 01", (14, codes "\"d\"\r\n", Some (BadValue 0))) ∷
+    (column "3D 01 64 00 D1 00 00 00 00 00 82 8B 01", (14, codes "\"d\"\r\n", Some (BadValue 0))) ∷
     -- two bytes as digits
-    (
-      hex "81 01 00 00 00 00 00 00 00 A5 0A 00 01 64 00 D1 02 00 0A FF FD 00 00 00 00 00 00 00 00 00 00 00 00",
-      (33, codes "\"d\"\r\n0x0aff\r\n", None),
-    ) ∷
+    (column "A5 0A 00 01 64 00 D1 02 00 0A FF" ++ a_done, (33, codes "\"d\"\r\n0x0aff\r\n", None)) ∷
     -- no bytes
-    (hex "81 01 00 00 00 00 00 00 00 A5 0A 00 01 64 00 D1 00 00 FD 00 00 00 00 00 00 00 00 00 00 00 00", (31, codes "\"d\"\r\n0x\r\n", None)) ∷
+    (column "A5 0A 00 01 64 00 D1 00 00" ++ a_done, (31, codes "\"d\"\r\n0x\r\n", None)) ∷
     -- NULL
-    (hex "81 01 00 00 00 00 00 00 00 A5 0A 00 01 64 00 D1 FF FF FD 00 00 00 00 00 00 00 00 00 00 00 00", (31, codes "\"d\"\r\nNULL\r\n", None)) ∷
+    (column "A5 0A 00 01 64 00 D1 FF FF" ++ a_done, (31, codes "\"d\"\r\nNULL\r\n", None)) ∷
     -- the euro sign, a quote and an accent
-    (
-      hex "81 01 00 00 00 00 00 00 00 A7 0A 00 09 04 D0 00 34 01 64 00 D1 03 00 80 22 E9 FD 00 00 00 00 00 00 00 00 00 00 00 00",
-      (39, hex "22 64 22 0D 0A 22 E2 82 AC 22 22 C3 A9 22 0D 0A", None),
-    ) ∷
+    (column "A7 0A 00 09 04 D0 00 34 01 64 00 D1 03 00 80 22 E9" ++ a_done, (39, hex "22 64 22 0D 0A 22 E2 82 AC 22 22 C3 A9 22 0D 0A", None)) ∷
     -- no text
-    (
-      hex "81 01 00 00 00 00 00 00 00 A7 0A 00 09 04 D0 00 34 01 64 00 D1 00 00 FD 00 00 00 00 00 00 00 00 00 00 00 00",
-      (36, codes "\"d\"\r\n\"\"\r\n", None),
-    ) ∷
+    (column "A7 0A 00 09 04 D0 00 34 01 64 00 D1 00 00" ++ a_done, (36, codes "\"d\"\r\n\"\"\r\n", None)) ∷
     -- NULL
-    (
-      hex "81 01 00 00 00 00 00 00 00 A7 0A 00 09 04 D0 00 34 01 64 00 D1 FF FF FD 00 00 00 00 00 00 00 00 00 00 00 00",
-      (36, codes "\"d\"\r\nNULL\r\n", None),
-    ) ∷
+    (column "A7 0A 00 09 04 D0 00 34 01 64 00 D1 FF FF" ++ a_done, (36, codes "\"d\"\r\nNULL\r\n", None)) ∷
     -- units without partners
-    (
-      hex "81 01 00 00 00 00 00 00 00 E7 14 00 09 04 D0 00 34 01 64 00 D1 06 00 00 D8 41 00 00 DC FD 00 00 00 00 00 00 00 00 00 00 00 00",
-      (42, hex "22 64 22 0D 0A 22 EF BF BD 41 EF BF BD 22 0D 0A", None),
-    ) ∷
+    (column "E7 14 00 09 04 D0 00 34 01 64 00 D1 06 00 00 D8 41 00 00 DC" ++ a_done, (42, hex "22 64 22 0D 0A 22 EF BF BD 41 EF BF BD 22 0D 0A", None)) ∷
     -- nine columns, NULL by their bits
     (
-      (hex "81 09 00 00 00 00 00 00 00 26 04 00 00 00 00 00 00 00 26 04 00 00 00 00 00 00 00 26 04 00 00 00"
-          ++ hex "00 00 00 00 26 04 00 00 00 00 00 00 00 26 04 00 00 00 00 00 00 00 26 04 00 00 00 00 00 00 00 26"
-          ++ hex "04 00 00 00 00 00 00 00 26 04 00 00 00 00 00 00 00 26 04 00 D2 FF 01 FD 00 00 00 00 00 00 00 00"
-          ++ hex "00 00 00 00"),
+      nine "26 04" ++ hex "D2 FF 01" ++ a_done,
       (100, codes "\"\",\"\",\"\",\"\",\"\",\"\",\"\",\"\",\"\"\r\nNULL,NULL,NULL,NULL,NULL,NULL,NULL,NULL,NULL\r\n", None),
     ) ∷
     -- nine columns, NULL by their bits
     (
-      (hex "81 09 00 00 00 00 00 00 00 26 04 00 00 00 00 00 00 00 26 04 00 00 00 00 00 00 00 26 04 00 00 00"
-          ++ hex "00 00 00 00 26 04 00 00 00 00 00 00 00 26 04 00 00 00 00 00 00 00 26 04 00 00 00 00 00 00 00 26"
-          ++ hex "04 00 00 00 00 00 00 00 26 04 00 00 00 00 00 00 00 26 04 00 D2 FF FF FD 00 00 00 00 00 00 00 00"
-          ++ hex "00 00 00 00"),
+      nine "26 04" ++ hex "D2 FF FF" ++ a_done,
       (100, codes "\"\",\"\",\"\",\"\",\"\",\"\",\"\",\"\",\"\"\r\nNULL,NULL,NULL,NULL,NULL,NULL,NULL,NULL,NULL\r\n", None),
     ) ∷
     -- ---- return values, which have no text
     -- a return value: no text
-    (hex "AC 01 00 02 40 00 70 00 01 00 00 00 00 00 00 26 04 04 07 00 00 00 FD 00 00 00 00 00 00 00 00 00 00 00 00", (35, [], None)) ∷
+    (returned "26 04 04 07 00 00 00" ++ a_done, (35, [], None)) ∷
     -- a floating-point type
-    (hex "AC 01 00 02 40 00 70 00 01 00 00 00 00 00 00 3E 04 04 07 00 00 00", (8, [], Some (RefusedColumn 65535 Flt8))) ∷
+    (returned "3E 04 04 07 00 00 00", (8, [], Some (RefusedColumn 65535 Flt8))) ∷
     -- an unknown type
-    (hex "AC 01 00 02 40 00 70 00 01 00 00 00 00 00 00 1F 04 04 07 00 00 00", (8, [], Some (UnknownType 65535 31))) ∷
+    (returned "1F 04 04 07 00 00 00", (8, [], Some (UnknownType 65535 31))) ∷
     -- a described length of three
-    (hex "AC 01 00 02 40 00 70 00 01 00 00 00 00 00 00 26 03 04 07 00 00 00", (16, [], Some (BadTypeInfo 65535))) ∷
+    (returned "26 03 04 07 00 00 00", (16, [], Some (BadTypeInfo 65535))) ∷
     -- a value of two bytes
-    (hex "AC 01 00 02 40 00 70 00 01 00 00 00 00 00 00 26 04 02 07 00 00 00", (17, [], Some (BadValueLength 65535))) ∷
+    (returned "26 04 02 07 00 00 00", (17, [], Some (BadValueLength 65535))) ∷
     -- the message ends in the value
-    (hex "AC 01 00 02 40 00 70 00 01 00 00 00 00 00 00 26 04 04 07 00", (18, [], Some MessageEnded)) ∷
+    (returned "26 04 04 07 00", (18, [], Some MessageEnded)) ∷
     -- a fixed type and no name
-    (hex "AC 00 00 00 00 00 00 00 00 00 00 38 2A 00 00 00 FD 00 00 00 00 00 00 00 00 00 00 00 00", (29, [], None)) ∷
+    (hex "AC 00 00 00 00 00 00 00 00 00 00 38 2A 00 00 00" ++ a_done, (29, [], None)) ∷
     [])
 unfolding digits date_of utf16_chars encode_utf8 utf8_valid_len utf8_error_len is_utf8 chars encode_with rest_length named_kind refused_kind
     uuid_on_literals
@@ -246,34 +228,25 @@ values = refl
 -- text in UTF-8
 utf8 : HaveAnswers Utf8 1048576 (
     -- three characters
-    (
-      hex "81 01 00 00 00 00 00 00 00 A7 0A 00 09 04 D0 00 34 01 74 00 D1 07 00 C3 A9 22 F0 9F 98 80 FD 00 00 00 00 00 00 00 00 00 00 00 00",
-      (43, hex "22 74 22 0D 0A 22 C3 A9 22 22 F0 9F 98 80 22 0D 0A", None),
-    ) ∷
+    (column "A7 0A 00 09 04 D0 00 34 01 74 00 D1 07 00 C3 A9 22 F0 9F 98 80" ++ a_done, (43, hex "22 74 22 0D 0A 22 C3 A9 22 22 F0 9F 98 80 22 0D 0A", None)) ∷
     -- a surrogate
-    (hex "81 01 00 00 00 00 00 00 00 A7 0A 00 09 04 D0 00 34 01 74 00 D1 03 00 41 ED A0", (25, codes "\"t\"\r\n\"A", Some (BadText 0))) ∷
+    (column "A7 0A 00 09 04 D0 00 34 01 74 00 D1 03 00 41 ED A0", (25, codes "\"t\"\r\n\"A", Some (BadText 0))) ∷
     -- a character that isn't whole
-    (hex "81 01 00 00 00 00 00 00 00 A7 0A 00 09 04 D0 00 34 01 74 00 D1 01 00 C3", (23, codes "\"t\"\r\n\"", Some (BadText 0))) ∷
+    (column "A7 0A 00 09 04 D0 00 34 01 74 00 D1 01 00 C3", (23, codes "\"t\"\r\n\"", Some (BadText 0))) ∷
     -- a byte that begins none
-    (hex "81 01 00 00 00 00 00 00 00 A7 0A 00 09 04 D0 00 34 01 74 00 D1 02 00 C0 80", (23, codes "\"t\"\r\n\"", Some (BadText 0))) ∷
+    (column "A7 0A 00 09 04 D0 00 34 01 74 00 D1 02 00 C0 80", (23, codes "\"t\"\r\n\"", Some (BadText 0))) ∷
     -- a character in two chunks
     (
-      (hex "81 01 00 00 00 00 00 00 00 A7 FF FF 09 04 D0 00 34 01 74 00 D1 FE FF FF FF FF FF FF FF 01 00 00"
-          ++ hex "00 C3 01 00 00 00 A9 00 00 00 00 FD 00 00 00 00 00 00 00 00 00 00 00 00"),
+      (column "A7 FF FF 09 04 D0 00 34 01 74 00 D1 FE FF FF FF FF FF FF FF 01 00 00"
+          ++ hex "00 C3 01 00 00 00 A9 00 00 00 00" ++ a_done),
       (56, hex "22 74 22 0D 0A 22 C3 A9 22 0D 0A", None),
     ) ∷
     -- a chunked value that ends within one
-    (
-      hex "81 01 00 00 00 00 00 00 00 A7 FF FF 09 04 D0 00 34 01 74 00 D1 FE FF FF FF FF FF FF FF 01 00 00 00 C3 00 00 00 00",
-      (34, codes "\"t\"\r\n\"", Some (BadText 0)),
-    ) ∷
+    (column "A7 FF FF 09 04 D0 00 34 01 74 00 D1 FE FF FF FF FF FF FF FF 01 00 00 00 C3 00 00 00 00", (34, codes "\"t\"\r\n\"", Some (BadText 0))) ∷
     -- a chunk with a byte that begins none
-    (
-      hex "81 01 00 00 00 00 00 00 00 A7 FF FF 09 04 D0 00 34 01 74 00 D1 FE FF FF FF FF FF FF FF 01 00 00 00 C0",
-      (33, codes "\"t\"\r\n\"", Some (BadText 0)),
-    ) ∷
+    (column "A7 FF FF 09 04 D0 00 34 01 74 00 D1 FE FF FF FF FF FF FF FF 01 00 00 00 C0", (33, codes "\"t\"\r\n\"", Some (BadText 0))) ∷
     -- bytes that are no UTF-8, passed over
-    (hex "AC 00 00 00 00 00 00 00 00 00 00 A7 0A 00 09 04 D0 00 34 02 00 C0 80 FD 00 00 00 00 00 00 00 00 00 00 00 00", (36, [], None)) ∷
+    (hex "AC 00 00 00 00 00 00 00 00 00 00 A7 0A 00 09 04 D0 00 34 02 00 C0 80" ++ a_done, (36, [], None)) ∷
     [])
 unfolding digits date_of utf16_chars encode_utf8 utf8_valid_len utf8_error_len is_utf8 chars encode_with rest_length named_kind refused_kind
     uuid_on_literals
@@ -282,7 +255,43 @@ utf8 = refl
 -- a return value is counted
 returned_once : how_many is_return ((state_of
     (read (response Windows1252 1048576) response_start
-    (hex "AC 01 00 02 40 00 70 00 01 00 00 00 00 00 00 26 04 04 07 00 00 00 FD 00 00 00 00 00 00 00 00 00 00 00 00"))).tokens) ≡ 1
+    (returned "26 04 04 07 00 00 00" ++ a_done))).tokens) ≡ 1
 unfolding digits date_of utf16_chars encode_utf8 utf8_valid_len utf8_error_len is_utf8 chars encode_with rest_length named_kind refused_kind
     uuid_on_literals
 returned_once = refl
+
+-- ---- payloads that stop, completed
+
+abbrev complete : ℕ → List ℕ → Progress Part Fault → Option Fault
+complete room payload p = fault_of (response Windows1252 room)
+    (read (response Windows1252 room) response_start (take (length payload - length (rest_of p)) payload ++ completion (state_of p)))
+
+abbrev completed : ℕ → List ℕ → Option Fault
+completed room payload = complete room payload (read (response Windows1252 room) response_start payload)
+
+-- Each beginning of each payload is accepted once it is completed.
+abbrev AreCompleted : List (List ℕ) → Type 0
+AreCompleted payloads = map (λ payload. map (completed 1048576) (beginnings payload)) payloads ≡ map
+    (λ payload. map (λ front. None) (beginnings payload)) payloads
+
+-- payloads that stop
+all_completed : AreCompleted (
+    -- a row of whole numbers
+    column "38 01 61 00 D1 2A 00 00 00 FD 10 00 C1 00 01 00 00 00 00 00 00" ∷
+    -- chunks of text of a known total
+    column "E7 FF FF 09 04 D0 00 34 01 74 00 D1 04 00 00 00 00 00 00 00 01 00 00 00 3D 02 00 00 00 D8 00 01 00 00 00 DE 00 00 00 00" ∷
+    -- chunks of text of an unknown total
+    column "E7 FF FF 09 04 D0 00 34 01 74 00 D1 FE FF FF FF FF FF FF FF 01 00 00 00 3D 00 00 00 00" ∷
+    -- an INFO after a row
+    column "38 01 61 00 D1 01 00 00 00 AB 10 00 45 16 00 00 02 00 01 00 78" ∷
+    -- a decimal, and an NBCROW
+    hex "81 02 00 00 00 00 00 00 00 6A 05 05 02 01 61 00 00 00 00 00 00 00 26 04 00 D2" ∷
+    -- a text in one piece
+    column "E7 14 00 09 04 D0 00 34 00 D1 06 00 00 D8" ∷
+    -- a return value
+    returned "26 04 04 07 00 00 00" ∷
+    -- a return value in chunks
+    hex "AC 00 00 00 00 00 00 00 00 00 00 A7 FF FF 09 04 D0 00 34 03 00 00 00 00 00 00 00 01 00 00 00 C0" ∷
+    [])
+unfolding digits date_of utf16_chars encode_utf8 utf8_valid_len utf8_error_len is_utf8 chars encode_with rest_length named_kind refused_kind
+all_completed = refl

@@ -1,12 +1,10 @@
 -- A list over whose end others are written, seen through its front.
-use Rattle.std.proofs.Common.{◌≡◌, ◌+◌, ◌≤◌, ◌++◌, ℕ, zero, suc, List, [], ◌∷◌, length, take, drop, max, refl, sym, arith, append-nil, length-append}
-use Rattle.std.proofs.Common.{length-drop, length-take-le}
-use Rattle.std.proofs.lemmas.List.{take-append-le, take-take, take_all}
-use Rattle.std.proofs.Math.ListN.{drop_of_length-le}
-use Rattle.std.proofs.Math.Seq.{take-add, take-append_seam}
-use Rattle.std.specs.List.{refill}
-use Rattle.tds_meter.specs.Space.{Space, appended}
-use Rattle.tds_meter.specs.Lent.{overwritten, with_tail}
+use Rattle.{
+  std.proofs.Common.{◌≡◌, ◌+◌, ◌≤◌, ◌++◌, ℕ, zero, suc, List, [], ◌∷◌, length, take, drop, max, refl, sym, arith, append-nil, length-append, length-drop},
+  std.proofs.{Common.length-take-le, lemmas.List.{take-append-le, take-take, take_all}, Math.{ListN.drop_of_length-le, Seq.{take-add, take-append_seam}}},
+  std.specs.List.refill,
+  tds_meter.specs.{Space.{Space, appended}, Lent.{overwritten, with_tail}},
+}
 
 front_of_mid : (m : ℕ) (w ys : List ℕ) → take m (w ++ drop (length w) ys) ≡ take m (w ++ drop (length w) (take m ys))
 front_of_mid m [] ys = sym (take-take m m ys (omega arith))

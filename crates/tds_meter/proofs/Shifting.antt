@@ -1,9 +1,9 @@
 -- A list whose first items are taken away in place.
-use Rattle.std.proofs.Common.{◌≡◌, ◌∙◌, ◌-◌, ◌+◌, ◌≤◌, ℕ, List, length, take, drop, ap, sym, arith, zero-add, length-drop}
-use Rattle.std.proofs.lemmas.List.{drop-take}
-use Rattle.std.proofs.lemmas.List.Edits.{take-paste}
-use Rattle.std.specs.List.{copy_within}
-use Rattle.tds_meter.specs.Space.{Space, holding}
+use Rattle.{
+  std.proofs.{Common.{◌≡◌, ◌∙◌, ◌-◌, ◌+◌, ◌≤◌, ℕ, List, length, take, drop, ap, sym, arith, zero-add, length-drop}, lemmas.List.{drop-take, Edits.take-paste}},
+  std.specs.List.copy_within,
+  tds_meter.specs.Space.{Space, holding},
+}
 
 -- what stood after the first n of a front stands at the start
 shifted : (n len : ℕ) (old new : List ℕ) → n ≤ len → len ≤ length old → new ≡ copy_within old n len 0 → take (len - n) new ≡ drop n (take len old)

@@ -1,14 +1,13 @@
 -- The packets at the front of an input, and what is read of it.
-use Rattle.tds_packet.proofs.Words.{nil_from_length, common_steps, ◌≡◌, ◌∙◌, ◌⊎◌, inl, inr, ℕ, suc, zero, ◌+◌, ◌<◌, ◌≤◌, List, [], ◌∷◌, ◌++◌, length}
-use Rattle.tds_packet.proofs.Words.{take, Some, false, refl, sym, ap, arith, append-nil, append_assoc, length-append, take-append_seam}
-use Rattle.tds_packet.proofs.Words.{append_cancel_right, flat_map-append, one_more, Fault, InputEnded, MessageEnded, ReadFailed, Wire, Payload, Stop}
-use Rattle.tds_packet.proofs.Words.{AreBytes, Packet, packet_bytes, packet_length, is_last, header_length, wire_of, payload_of, AreBefore, AreMessage}
-use Rattle.tds_packet.proofs.Words.{IsPacket, WireFault, Coming, IsFrontMessage, Seen, Takes, Ends, IsBetween, IsOver, begun, WholePacket}
-use Rattle.tds_packet.proofs.Words.{after_packet, front_packet, message}
-use Rattle.tds_packet.proofs.ElementLaws.{AreBytes-front}
-use Rattle.tds_packet.proofs.PacketLaws.{good_header, header_of}
-use Rattle.tds_packet.proofs.ComingLaws.{front_message}
-use Rattle.tds_packet.proofs.Joins.{whole_packet}
+use Rattle.tds_packet.proofs.{
+  Words.{nil_from_length, common_steps, ◌≡◌, ◌∙◌, ◌⊎◌, inl, inr, ℕ, suc, zero, ◌+◌, ◌<◌, ◌≤◌, List, [], ◌∷◌, ◌++◌, length, take, Some, false, refl, sym, ap},
+  Words.{arith, append-nil, append_assoc, length-append, take-append_seam, append_cancel_right, flat_map-append, one_more, Fault, InputEnded, MessageEnded},
+  Words.{ReadFailed, Wire, Payload, Stop, AreBytes, Packet, packet_bytes, packet_length, is_last, header_length, wire_of, payload_of, AreBefore, AreMessage},
+  Words.{IsPacket, WireFault, Coming, IsFrontMessage, Seen, Takes, Ends, IsBetween, IsOver, begun, WholePacket, after_packet, front_packet, message},
+  ElementLaws.AreBytes-front,
+  PacketLaws.{good_header, header_of, front_message},
+  Joins.whole_packet,
+}
 
 -- whole packets at the front of an input, with the rest of it after them; none but the last is marked as the last
 pub record BeginsMessage (size limit : ℕ) (input rest payload : List ℕ) : Type 0 where
@@ -24,11 +23,11 @@ pub wire_goes_on : (size limit : ℕ) (input : List ℕ) (packets : List Packet)
 wire_goes_on size limit input packets fault w e = grind (arith, common_steps)
 
 -- an input that begins with nothing but packets
-all_packets : (size limit : ℕ) (read rest payload : List ℕ) (place : ℕ) (c : Coming) → IsFrontMessage size limit read c → c.bytes ≡ payload
+all_packets : {size limit : ℕ} {read rest payload : List ℕ} {place : ℕ} {c : Coming} → IsFrontMessage size limit read c → c.bytes ≡ payload
     → c.rest ≡ []
     → ((c.stop.fault ≡ MessageEnded) ⊎ (c.stop ≡ record { fault = InputEnded; place = Wire place })) → place ≡ length read
     → BeginsMessage size limit (read ++ rest) rest payload
-all_packets size limit read rest payload place c m b r s p = grind (arith, append-nil, length-append, nil_from_length)
+all_packets m b r s p = grind (arith, append-nil, length-append, nil_from_length)
 
 -- what was taken, right after a packet, came of whole packets at the front of the input
 pub takes_begins : (size limit f : ℕ) (input rest : List ℕ) (q : Seen) (bytes : List ℕ) (n : ℕ) → AreBytes input → q.left ≡ Some rest
@@ -36,8 +35,8 @@ pub takes_begins : (size limit f : ℕ) (input rest : List ℕ) (q : Seen) (byte
     → BeginsMessage size limit input rest (bytes ++ (q.future []).bytes)
 takes_begins size limit f input rest q bytes n are left t b =
     let split = rw left at t.1.0 in
-    rw split (all_packets _ _ _ _ _ _ _ (rw (rw append-nil at (t.1.1 [])) at
-    (front_message size limit t.0 (AreBytes-front t.0 rest (rw split at are)))) refl b.0 b.1 (omega arith))
+    rw split (all_packets (rw (rw append-nil at (t.1.1 [])) at
+    (front_message size limit t.0 (AreBytes-front _ _ (rw split at are)))) refl b.0 b.1 (omega arith))
 
 -- a read failed after these packets, all that what was read has whole, and the header after them wasn't refused
 pub record FailsAfterPackets (size limit : ℕ) (input rest : List ℕ) (packets : List Packet) : Type 0 where
@@ -91,18 +90,18 @@ pub record InLast (size : ℕ) (packets : List Packet) (n : ℕ) : Type 0 where
   pub earlier : length (payload_of before) < n
 
 -- packets as the last of them and those before it
-split_last : (size : ℕ) (packets : List Packet) → AreMessage size packets ⊎ AreBefore size packets → 0 < length packets → (before : List Packet)
+split_last : {size : ℕ} (packets : List Packet) → AreMessage size packets ⊎ AreBefore size packets → 0 < length packets → (before : List Packet)
     × (last : Packet) × (before ++ last ∷ [] ≡ packets) × AreBefore size before
-split_last size [] each some = absurd (omega (arith, some))
-split_last size (p ∷ []) each some = ([], p, refl, tt)
-split_last size (p ∷ q ∷ ps) each some =
-    let r = split_last size (q ∷ ps) (elim each [ inl x ↦ inl x.2 | inr x ↦ inr x.2 ]) (omega arith) in
+split_last [] each some = absurd (omega (arith, some))
+split_last (p ∷ []) each some = ([], p, refl, tt)
+split_last {size} (p ∷ q ∷ ps) each some =
+    let r = split_last (q ∷ ps) (elim each [ inl x ↦ inl x.2 | inr x ↦ inr x.2 ]) (omega arith) in
     (p ∷ r.0, r.1, ap (λ l. p ∷ l) r.2, elim each [ inl x ↦ (x.0, x.1, r.3) | inr x ↦ (x.0, x.1, r.3) ])
 
 -- what comes of a packet before the last, and of more after it
-front_whole : (size limit from : ℕ) (p : Packet) (more : List ℕ) → IsPacket size p → is_last p ≡ false → from + packet_length p ≤ limit
+front_whole : {size limit : ℕ} (from : ℕ) {p : Packet} {more : List ℕ} → IsPacket size p → is_last p ≡ false → from + packet_length p ≤ limit
     → front_packet size limit from (packet_bytes p ++ more) ≡ WholePacket p.body false (packet_length p) more
-front_whole size limit from p more each last within =
+front_whole {size} {limit} from {p} {more} each last within =
     let size_is : header_length (header_of p) ≡ packet_length p = omega arith in
     let front = whole_packet size limit from (header_of p) (record { length = header_length (header_of p); last = is_last p }) (omega arith)
     (rw good_header) p.body more (omega arith) in
@@ -116,8 +115,8 @@ message_before size limit zero from place packets each within less = absurd (ome
 message_before size limit (suc n) from place [] each within less = refl
 message_before size limit (suc n) from place (p ∷ ps) each within less =
     let long : length (wire_of (p ∷ ps)) ≡ packet_length p + length (wire_of ps) = simp length-append (omega arith) in
-    ap (λ f. (after_packet (message size limit n) from place f).bytes) (front_whole size limit from p _ each.0 each.1 (omega arith))
-    ∙ ap (λ l. p.body ++ l) (message_before size limit n (from + packet_length p) (place + length p.body) ps each.2 (omega arith) (omega arith))
+    ap (λ f. (after_packet (message size limit n) from place f).bytes) (front_whole _ each.0 each.1 (omega arith))
+    ∙ ap (λ l. p.body ++ l) (message_before _ _ n _ _ _ each.2 (omega arith) (omega arith))
 
 -- the packets read were needed for n bytes of the payload
 pub in_last : (size limit f n : ℕ) (input rest : List ℕ) (q : Seen) (bytes payload : List ℕ) → q.left ≡ Some rest
@@ -126,7 +125,7 @@ pub in_last : (size limit f n : ℕ) (input rest : List ℕ) (q : Seen) (bytes p
 in_last size limit f n input rest q bytes payload left t p some =
     let filled = λ (ps : List Packet). elim ps as (λ ps. payload_of ps ≡ payload
     → 0 < length ps) [ [] ↦ λ e. absurd (omega (arith, ap length e)) | ◌∷◌ x _ ↦ λ _. omega arith ] in
-    let l = split_last size _ p.each (filled _ p.payload_is) in
+    let l = split_last _ p.each (filled _ p.payload_is) in
     let split = rw left at t.1.0 in
     let wires = ap wire_of (sym l.2) ∙ simp (flat_map-append, append-nil) in
     let read = append_cancel_right t.0 (wire_of l.0 ++ packet_bytes l.1) rest (sym split ∙ sym p.begin ∙ ap (λ w. w ++ rest) wires) in

@@ -1,44 +1,45 @@
 -- What is still to come, along a payload's steps.
-use Rattle.tds_packet.proofs.Words.{PayloadOf, dec_le, common_steps, ◌≡◌, inl, inr, ℕ, suc, zero, ◌+◌, ◌-◌, ◌<◌, ◌≤◌, List, [], ◌++◌, length, take}
-use Rattle.tds_packet.proofs.Words.{Option, Some, None, Ok, Err, Bool, true, false, refl, sym, arith, append_assoc, length-append, length-drop}
-use Rattle.tds_packet.proofs.Words.{add-zero, nat_tests, take-append-drop, drop-drop, Consumes-nil, Consumes-trans, take-append-add, take-append-le}
-use Rattle.tds_packet.proofs.Words.{Fault, MessageEnded, Wire, Payload, Stop, Header, FrontPacket, WholePacket, Coming, before, front_packet}
-use Rattle.tds_packet.proofs.Words.{after_packet, message, coming_of, ReadsPacket, Seen, Takes, Needs, Ends, IsOver, IsNotOver, NeedsPacket, buffered}
-use Rattle.tds_packet.proofs.Words.{further, seen, device, length-take-le, drop_of_length-le}
-use Rattle.tds_packet.proofs.Joins.{Rises-after, Stays-none, Stays-trans}
+use Rattle.tds_packet.proofs.{
+  Words.{PayloadOf, dec_le, common_steps, ◌≡◌, inl, inr, ℕ, suc, zero, ◌+◌, ◌-◌, ◌<◌, ◌≤◌, List, [], ◌++◌, length, take, Option, Some, None, Ok, Err, Bool},
+  Words.{true, false, refl, sym, arith, append_assoc, length-append, length-drop, add-zero, nat_tests, take-append-drop, drop-drop, Consumes-nil},
+  Words.{Consumes-trans, take-append-add, take-append-le, Fault, MessageEnded, Wire, Payload, Stop, Header, FrontPacket, WholePacket, Coming, before},
+  Words.{front_packet, after_packet, message, coming_of, ReadsPacket, Seen, Takes, Needs, Ends, IsOver, IsNotOver, NeedsPacket, buffered, further, seen},
+  Words.{device, length-take-le, drop_of_length-le},
+  Joins.{Rises-after, Stays-none, Stays-trans},
+}
 
-rest_shorter : (room max wire : ℕ) (xs body rest : List ℕ) (last : Bool) (n : ℕ) → front_packet room max wire xs ≡ WholePacket body last n rest
+rest_shorter : (room max wire : ℕ) (xs : List ℕ) {body rest : List ℕ} {last : Bool} {n : ℕ} → front_packet room max wire xs ≡ WholePacket body last n rest
     → length rest < length xs
 unfolding front_packet
-rest_shorter room max wire xs body rest last n e = grind (arith, nat_tests, length-drop)
+rest_shorter room max wire xs e = grind (arith, nat_tests, length-drop)
 
-same_after : (F G : ℕ → ℕ → List ℕ → Coming) (wire place : ℕ) (p : FrontPacket)
+same_after : (F G : ℕ → ℕ → List ℕ → Coming) (wire place : ℕ) {p : FrontPacket}
     → ((body rest : List ℕ) (n : ℕ) → p ≡ WholePacket body false n rest
     → F (wire + n) (place + length body) rest ≡ G (wire + n) (place + length body) rest) → after_packet F wire place p ≡ after_packet G wire place p
-same_after F G wire place p same = grind arith
+same_after F G wire place same = grind arith
 
 message-fuel : (room max n m wire place : ℕ) (xs : List ℕ) → length xs < n → length xs < m
     → message room max n wire place xs ≡ message room max m wire place xs
 unfolding message
 message-fuel room max zero m wire place xs h k = absurd (omega arith)
 message-fuel room max (suc n) zero wire place xs h k = absurd (omega arith)
-message-fuel room max (suc n) (suc m) wire place xs h k = same_after (message room max n) (message room max m) wire place _
-    (λ body rest l e. (let lt = rest_shorter room max wire xs body rest false l e in message-fuel room max n m (wire + l) (place + length body) rest
+message-fuel room max (suc n) (suc m) wire place xs h k = same_after (message room max n) (message room max m) wire place
+    (λ body rest l e. (let lt = rest_shorter room max wire xs e in message-fuel room max n m (wire + l) (place + length body) rest
     (omega arith) (omega arith)))
 
 module _ {R : Type 0} (remaining : R → Option (List ℕ)) (p q : PayloadOf R) (body : List ℕ) (needs : NeedsPacket p) where
-  pub advance_ok : (h : Header) → q.packet.now.room ≡ p.packet.now.room → q.max_wire ≡ p.max_wire → q.wire ≡ p.wire + h.length → q.place ≡ p.place
+  pub advance_ok : {h : Header} → q.packet.now.room ≡ p.packet.now.room → q.max_wire ≡ p.max_wire → q.wire ≡ p.wire + h.length → q.place ≡ p.place
       → q.last ≡ h.last → q.stopped ≡ p.stopped → buffered q ≡ body
       → ReadsPacket p.packet.now.room p.max_wire p.wire (device remaining p.from.now) (device remaining q.from.now) body (Ok h)
       → Takes (seen remaining p) (seen remaining q) [] 1
   unfolding coming_of message
-  advance_ok h er em ew ep el es eb reads = grind (arith, rest_shorter, message-fuel, drop_of_length-le)
+  advance_ok er em ew ep el es eb reads = grind (arith, rest_shorter, message-fuel, drop_of_length-le)
 
-  pub advance_err : (e : Fault) → ReadsPacket p.packet.now.room p.max_wire p.wire (device remaining p.from.now) (device remaining q.from.now) body
+  pub advance_err : {e : Fault} → ReadsPacket p.packet.now.room p.max_wire p.wire (device remaining p.from.now) (device remaining q.from.now) body
       (Err e)
       → Ends (seen remaining p) (seen remaining q) [] (record { fault = e; place = Wire p.wire })
   unfolding coming_of message
-  advance_err e reads = grind (arith, drop_of_length-le)
+  advance_err reads = grind (arith, drop_of_length-le)
 
 hand : (room max wire place : ℕ) (last : Bool) (hs bs xs : List ℕ)
     → coming_of room max wire place last None (hs ++ bs) xs ≡ before hs (coming_of room max wire (place + length hs) last None bs xs)
@@ -58,9 +59,9 @@ Takes-none a n = grind (arith, common_steps, Consumes-nil, add-zero, Stays-none)
 pub Takes-more : (a b : Seen) (hs : List ℕ) (n m : ℕ) → n ≤ m → Takes a b hs n → Takes a b hs m
 Takes-more a b hs n m le p = grind (arith, common_steps)
 
-needs_joined : (a b : Seen) (r s hs : List ℕ) (n m j : ℕ) → n ≤ length hs + m → Needs a r n → Needs b s m
+needs_joined : (a b : Seen) (r s hs : List ℕ) {n m j : ℕ} → n ≤ length hs + m → Needs a r n → Needs b s m
     → ((zs : List ℕ) → a.future (r ++ zs) ≡ before hs (b.future zs)) → j < length (r ++ s) → length (a.future (take j (r ++ s))).bytes < length hs + m
-needs_joined a b r s hs n m j le p q f lt = elim (dec_le (length r) j) [
+needs_joined a b r s hs {j} le p q f lt = elim (dec_le (length r) j) [
   | yes many ↦ (let all : length r + (j - length r) ≡ j = omega arith in rw (
     ← all,
     take-append-add,
@@ -74,12 +75,12 @@ pub Takes-trans : (a b c : Seen) (hs bs : List ℕ) (n m : ℕ) → n ≤ length
     → Takes a c (hs ++ bs) (length hs + m)
 Takes-trans a b c hs bs n m le p q =
     let follows : (zs : List ℕ) → a.future _ ≡ before (hs ++ bs) (c.future zs) = λ zs. rw (append_assoc, p.1.1, q.1.1, append_assoc) in
-    let needs = λ (j : ℕ) (lt : j < length _). needs_joined a b _ _ _ n m j le p.3 q.3 p.1.1 lt in (
+    let needs = λ (j : ℕ) (lt : j < length _). needs_joined a b _ _ _ le p.3 q.3 p.1.1 lt in (
       p.0 ++ q.0,
       (Consumes-trans a.left b.left c.left p.0 q.0 p.1.0 q.1.0, follows),
       omega (arith, length-append p.0 q.0),
       needs,
-      Stays-trans _ _ _ p.0 q.0 p.4 q.4,
+      Stays-trans _ _ _ _ _ p.4 q.4,
     )
 
 pub Ends-after : (a b c : Seen) (hs bs : List ℕ) (n : ℕ) (e : Stop) → Takes a b hs n → Ends b c bs e → Ends a c (hs ++ bs) e
@@ -87,15 +88,15 @@ Ends-after a b c hs bs n e p (inl y) = inl (
   p.0 ++ y.0,
   Consumes-trans a.left b.left c.left p.0 y.0 p.1.0 y.1,
   (λ zs. rw (append_assoc, p.1.1, y.2)),
-  Stays-trans _ _ c.failures p.0 y.0 p.4 y.3,
+  Stays-trans _ _ _ _ _ p.4 y.3,
 )
 Ends-after a b c hs bs n e p (inr (inl y)) = grind (arith, common_steps, Consumes-trans)
 Ends-after a b c hs bs n e p (inr (inr y)) = grind (arith, common_steps, Rises-after)
 
 module _ {R : Type 0} (remaining : R → Option (List ℕ)) (p : PayloadOf R) where
-  pub stopped_ends : (s : Stop) → p.stopped ≡ Some s → Ends (seen remaining p) (seen remaining p) [] s
+  pub stopped_ends : {s : Stop} → p.stopped ≡ Some s → Ends (seen remaining p) (seen remaining p) [] s
   unfolding coming_of
-  stopped_ends s e = inl ([], Consumes-nil _, λ zs. rw e, Stays-none _)
+  stopped_ends e = inl ([], Consumes-nil _, λ zs. rw e, Stays-none _)
 
   -- the last packet is used up
   pub over : p.last ≡ true → p.stopped ≡ None → buffered p ≡ [] → IsOver (seen remaining p)

@@ -1,10 +1,11 @@
 -- The parts of a packet's read, joined.
-use Rattle.tds_packet.proofs.Words.{common_steps, ◌≡◌, ◌∙◌, ℕ, ◌+◌, ◌-◌, ◌^◌, ◌<◌, List, [], ◌++◌, length, take, drop, Option, Ok, Err, Bool, false}
-use Rattle.tds_packet.proofs.Words.{refl, ap, arith, length-append, length-take, append_assoc, drop-append_seam, take-append_seam, take-append-add}
-use Rattle.tds_packet.proofs.Words.{nat_tests, nat_lt, if◌then◌else◌, Consumes, Consumes-trans, dec_le, Device, one_more, Rises, Stays, Fault}
-use Rattle.tds_packet.proofs.Words.{InputEnded, ReadFailed, Header, header_fault, WholePacket, NoPacket, front_packet, packet_after_header, Faulted}
-use Rattle.tds_packet.proofs.Words.{ReadsPacket, header_of}
-use Rattle.tds_packet.proofs.Choices.{choose_true, test_lt}
+use Rattle.tds_packet.proofs.{
+  Words.{common_steps, ◌≡◌, ◌∙◌, ℕ, ◌+◌, ◌-◌, ◌^◌, ◌<◌, List, [], ◌++◌, length, take, drop, Option, Ok, Err, Bool, false, refl, ap, arith, length-append},
+  Words.{length-take, append_assoc, drop-append_seam, take-append_seam, take-append-add, nat_tests, nat_lt, if◌then◌else◌, Consumes, Consumes-trans, dec_le},
+  Words.{Device, one_more, Rises, Stays, Fault, InputEnded, ReadFailed, Header, header_fault, WholePacket, NoPacket, front_packet, packet_after_header},
+  Words.{Faulted, ReadsPacket, header_of},
+  Choices.{choose_true, test_lt},
+}
 
 pub Stays-none : (f : ℕ) → Stays f f []
 Stays-none f = (refl, λ lt. absurd (omega (arith, lt)))
@@ -13,12 +14,12 @@ pub Stays-trans : (f g h : ℕ) (r s : List ℕ) → Stays f g r → Stays g h s
 Stays-trans f g h r s p q = grind (arith, common_steps, length-append)
 
 -- bytes moved before a call that failed, and in it
-pub Rises-after : (f g : ℕ) (r s : List ℕ) → Stays f g r → (0 < length s → g < 2 ^ 64 - 1) → 0 < length (r ++ s) → f < 2 ^ 64 - 1
-Rises-after f g r s p q some = grind (arith, length-append r s, p.0, p.1, q)
+pub Rises-after : {f g : ℕ} (r s : List ℕ) → Stays f g r → (0 < length s → g < 2 ^ 64 - 1) → 0 < length (r ++ s) → f < 2 ^ 64 - 1
+Rises-after r s p q some = grind (arith, length-append r s, p.0, p.1, q)
 
 -- bytes that a device took before a call that failed, and in it
 pub Stays-Rises : {f g h : ℕ} (r s : List ℕ) → Stays f g r → Rises g h s → Rises f h (r ++ s)
-Stays-Rises r s p q = (q.0 ∙ ap one_more p.0, Rises-after _ _ r s p q.1)
+Stays-Rises r s p q = (q.0 ∙ ap one_more p.0, Rises-after r s p q.1)
 
 -- an input of fewer than eight bytes
 short_input : (size limit wire : ℕ) (xs : List ℕ) → length xs < 8 → front_packet size limit wire xs ≡ NoPacket InputEnded []
@@ -26,18 +27,18 @@ unfolding front_packet
 short_input size limit wire xs h = rw (test_lt (length xs) 8 h)
 
 -- the header is the first eight bytes
-after_header : (size limit wire : ℕ) (hdr ys : List ℕ) (o : Option Fault) → length hdr ≡ 8 → header_fault size limit wire hdr ≡ o
+after_header : (size limit wire : ℕ) (hdr ys : List ℕ) {o : Option Fault} → length hdr ≡ 8 → header_fault size limit wire hdr ≡ o
     → front_packet size limit wire (hdr ++ ys) ≡ packet_after_header hdr ys o
 unfolding front_packet
-after_header size limit wire hdr ys o e f =
+after_header size limit wire hdr ys e f =
     let long : nat_lt (length hdr + length ys) 8 ≡ false = grind (arith, nat_tests) in
     rw (length-append, long, ← e, take-append_seam, drop-append_seam, e, f)
 
 -- a body that is whole, and one that is cut
-whole_at : (last : Bool) (len : ℕ) (bs ys : List ℕ) (n : ℕ) → n ≡ length bs
+whole_at : {last : Bool} {len : ℕ} {bs ys : List ℕ} {n : ℕ} → n ≡ length bs
     → (if nat_lt (length (bs ++ ys)) n then NoPacket InputEnded [] else WholePacket (take n (bs ++ ys)) last len (drop n (bs ++ ys))) ≡ WholePacket bs
     last len ys
-whole_at last len bs ys n e = grind (arith, length-append, take-append_seam, drop-append_seam)
+whole_at e = grind (arith, length-append, take-append_seam, drop-append_seam)
 
 module _ (size limit wire : ℕ) (hdr : List ℕ) (h : Header) (eight : length hdr ≡ 8) (good : header_of size limit wire hdr ≡ Ok h) where
   -- a packet whose header says so
@@ -69,23 +70,23 @@ pub record ReadsHeader (size limit wire : ℕ) (old mid : Device) (h : Header) :
   pub good : header_of size limit wire bytes ≡ Ok h
 
 module _ (size limit wire : ℕ) (old new : Device) where
-  pub fill_err : (hdr body : List ℕ) (e : Fault) → length hdr ≡ 8 → Faulted old new (length hdr) e → ReadsPacket size limit wire old new body (Err e)
-  fill_err hdr body e len h = grind (arith, short_input)
+  pub fill_err : (hdr body : List ℕ) {e : Fault} → length hdr ≡ 8 → Faulted old new (length hdr) e → ReadsPacket size limit wire old new body (Err e)
+  fill_err hdr body len h = grind (arith, short_input)
 
-  pub header_err : (hdr body : List ℕ) (e : Fault) → length hdr ≡ 8 → Consumes old.bytes new.bytes hdr → Stays old.failures new.failures hdr
+  pub header_err : (hdr body : List ℕ) {e : Fault} → length hdr ≡ 8 → Consumes old.bytes new.bytes hdr → Stays old.failures new.failures hdr
       → header_of size limit wire hdr ≡ Err e → ReadsPacket size limit wire old new body (Err e)
-  header_err hdr body e len h same bad = grind (arith, after_header)
+  header_err hdr body len h same bad = grind (arith, after_header)
 
   pub body_err : (mid : Device) (h : Header) (body : List ℕ) (e : Fault) → ReadsHeader size limit wire old mid h → length body + 8 ≡ h.length
       → Faulted mid new (length body) e → ReadsPacket size limit wire old new body (Err e)
   body_err mid h body InputEnded x fits r =
-      let cut_short = ended_body size limit wire x.bytes h x.eight x.good r.0.0.0 (omega arith) in
+      let cut_short = ended_body _ _ _ x.bytes h x.eight x.good r.0.0.0 (omega arith) in
       grind (arith, Consumes-trans)
   body_err mid h body ReadFailed x fits r =
       let cut_short = ended_body size limit wire x.bytes h x.eight x.good r.0 (omega arith) in
       grind (arith, Consumes-trans)
   body_err mid h body e x fits r = absurd r
 
-  pub body_ok : (mid : Device) (h : Header) (body : List ℕ) → ReadsHeader size limit wire old mid h → length body + 8 ≡ h.length
+  pub body_ok : {mid : Device} {h : Header} {body : List ℕ} → ReadsHeader size limit wire old mid h → length body + 8 ≡ h.length
       → Consumes mid.bytes new.bytes body → Stays mid.failures new.failures body → ReadsPacket size limit wire old new body (Ok h)
-  body_ok mid h body x fits r last = grind (arith, append_assoc, whole_packet, Consumes-trans, cut, length-append)
+  body_ok x fits r last = grind (arith, append_assoc, whole_packet, Consumes-trans, cut, length-append)

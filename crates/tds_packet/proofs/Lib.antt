@@ -1,5 +1,4 @@
 pub mod Choices
-pub mod ComingLaws
 pub mod MessageLaws
 pub mod Feeding
 pub mod ElementLaws

@@ -1,7 +1,9 @@
 -- What is read inside a greater grammar.
-use Rattle.tds_packet.proofs.Words.{common_steps, ◌≡◌, inl, inr, ℕ, ◌<◌, List, [], ◌∷◌, ◌++◌, length, ap, arith, append_assoc, append-nil, concat}
-use Rattle.tds_packet.proofs.Words.{Fault, Stop, Grammar, IsNext, Leads, Spelt, Seen, Reads, StopsReading}
-use Rattle.tds_packet.proofs.ElementLaws.{Inside, Inside-Spelt, Spelt-append, Spelt-none, Spelt-one}
+use Rattle.tds_packet.proofs.{
+  Words.{common_steps, ◌≡◌, inl, inr, ℕ, ◌<◌, List, [], ◌∷◌, ◌++◌, length, ap, arith, append_assoc, append-nil, concat, Fault, Stop, Grammar, IsNext, Leads},
+  Words.{Spelt, Seen, Reads, StopsReading},
+  ElementLaws.{Inside, Inside-Spelt, Spelt-append, Spelt-none, Spelt-one},
+}
 
 -- a state with a next element has some bytes to come
 pub next_some : {S : Type 0} (g : Grammar S Fault) (s : S) (element : List ℕ) → IsNext g s element → 0 < g.size s
@@ -21,7 +23,7 @@ module _ {S T : Type 0} (small : Grammar S Fault) (big : Grammar T Fault) (lift 
       → StopsReading small from a b place at stop → StopsReading big (lift from) a b place (lift at) stop
   stops_inside from a b place at stop end r = record {
     bytes = r.bytes;
-    spelt = Inside-Spelt small big lift is from r.bytes at r.spelt;
+    spelt = Inside-Spelt _ _ _ is _ _ at r.spelt;
     cause = elim r.cause [ inl x ↦ inl (grind (arith, is.size at, is.fault at x.0.element)) | inr x ↦ inr (grind (arith, is.size at)) ];
   }
 
@@ -51,5 +53,5 @@ module _ {S T : Type 0} (small : Grammar S Fault) (big : Grammar T Fault) (lift 
   last_inside from bytes to spelt some = rw spelt.joined at (elim spelt.elements as (λ es. concat es ≡ bytes → Leads small from es to
       → LastInside from (concat es) to) [
         | [] ↦ λ e leads. absurd (omega (arith, ap length e))
-        | ◌∷◌ e (es → _) ↦ λ _ leads. last_of _ _ _ e _ _ (Spelt-none small from) leads
+        | ◌∷◌ e (es → _) ↦ λ _ leads. last_of _ _ _ e _ _ (Spelt-none _ _) leads
       ] spelt.joined spelt.leads)

@@ -1,9 +1,11 @@
 -- An input begins with one message at most.
-use Rattle.tds_packet.proofs.Words.{◌≡◌, ℕ, ◌≤◌, List, [], ◌∷◌, ◌++◌, length, append-nil, arith, length-append, flat_map-append, Spelt, Packet}
-use Rattle.tds_packet.proofs.Words.{wire_of, AreMessage, Message, AfterLast, WirePart, no_wire, wire}
-use Rattle.tds_packet.proofs.Feeding.{Reading, feed_all}
-use Rattle.tds_packet.proofs.ElementLaws.{feed-Spelt, feed_all-append, feed_part}
-use Rattle.tds_packet.proofs.PacketLaws.{before_packet, one_is_read, packet_is_read}
+use Rattle.tds_packet.proofs.{
+  Words.{◌≡◌, ℕ, ◌≤◌, List, [], ◌∷◌, ◌++◌, length, append-nil, arith, length-append, flat_map-append, Spelt, Packet, wire_of, AreMessage, Message, AfterLast},
+  Words.{WirePart, no_wire, wire},
+  Feeding.{Reading, feed_all},
+  ElementLaws.{feed-Spelt, feed_all-append, feed_part},
+  PacketLaws.{before_packet, one_is_read, packet_is_read},
+}
 
 module _ (size limit : ℕ) where
   abbrev pub after_packets : List Packet → WirePart
@@ -15,7 +17,7 @@ module _ (size limit : ℕ) where
   message_is_read done [] h f = absurd h
   message_is_read done (p ∷ []) h f = rw append-nil
       (rw h.1 at (packet_is_read size limit done p h.0 (omega (arith, simp (flat_map-append, append-nil, length-append) at f, h.0.id))))
-  message_is_read done (p ∷ q ∷ packets) h f = one_is_read size limit done p (q ∷ packets) AfterLast (h.0, h.1) f (message_is_read _ _ h.2)
+  message_is_read done (p ∷ q ∷ packets) h f = one_is_read _ _ _ (h.0, h.1) f (message_is_read _ _ h.2)
 
   -- and nothing after it
   pub read_to_end : (packets : List Packet) (w more : List ℕ) → Message size limit packets w

@@ -1,21 +1,23 @@
--- What the wire's grammar reads are the packets that the input begins with.
-use Rattle.tds_packet.proofs.Words.{wire_add, ◌≡◌, ℕ, ◌+◌, ◌-◌, ◌/◌, ◌%◌, ◌≤◌, true, false, List, [], ◌∷◌, ◌++◌, length, take, drop, refl, sym, ◌∙◌}
-use Rattle.tds_packet.proofs.Words.{ap, inl, inr, append_assoc, append-nil, arith, length-append, ◌⊎◌, take-append-drop, length-take-le}
-use Rattle.tds_packet.proofs.Words.{take-append_seam, None, ◌==◌, slice_index, if◌then◌else◌, nat_tests, flat_map-append, AreBytes, Spelt, IsNext}
-use Rattle.tds_packet.proofs.Words.{Longest, Packet, packet_length, packet_bytes, wire_of, is_last, IsPacket, AreBefore, AreMessage, IsNextPacket}
-use Rattle.tds_packet.proofs.Words.{Front, WirePlace, BeforeHeader, BeforeBody, AfterLast, WirePart, no_wire, header_length, packet_of, with_packet}
-use Rattle.tds_packet.proofs.Words.{header_fault, wire}
-use Rattle.tds_packet.proofs.ElementLaws.{Spelt-step, Spelt-append, Spelt-none, Spelt-induct, AreBytes-front, AreBytes-back, one_state}
-use Rattle.tds_packet.proofs.Choices.{choose, eq_true}
+-- What the wire's grammar reads are the packets that the input begins with, and what comes of them their payload.
+use Rattle.tds_packet.proofs.{
+  Words.{wire_add, ◌≡◌, ℕ, ◌+◌, ◌-◌, ◌/◌, ◌%◌, ◌≤◌, true, false, List, [], ◌∷◌, ◌++◌, length, take, drop, refl, sym, ◌∙◌, ap, inl, inr, append_assoc},
+  Words.{append-nil, arith, length-append, ◌⊎◌, take-append-drop, length-take-le, take-append_seam, None, ◌==◌, slice_index, if◌then◌else◌, nat_tests},
+  Words.{flat_map-append, AreBytes, Spelt, IsNext, Longest, Packet, packet_length, packet_bytes, wire_of, is_last, IsPacket, AreBefore, AreMessage},
+  Words.{IsNextPacket, Front, WirePlace, BeforeHeader, BeforeBody, AfterLast, WirePart, no_wire, header_length, packet_of, with_packet, header_fault, wire},
+  Words.{dec_le, zero, suc, ◌<◌, Bool, length-drop, drop-append_seam, Option, Some, nat_lt, Fault, Wire, IsRefused, payload_of, wire_size, wire_end, Coming},
+  Words.{FrontPacket, before, WholePacket, packet_after_header, front_packet, after_packet, message, whole_message, IsFrontMessage},
+  ElementLaws.{Spelt-step, Spelt-append, Spelt-none, Spelt-induct, AreBytes-front, AreBytes-back, one_state, longest_cut, longest_refused},
+  Choices.{choose, eq_true},
+}
 
 pub one_more : (size : ℕ) (ps : List Packet) (p : Packet) → AreBefore size ps → IsPacket size p → is_last p ≡ false → AreBefore size (ps ++ p ∷ [])
 one_more size [] p h i l = (i, l, tt)
 one_more size (q ∷ ps) p h i l = (h.0, h.1, one_more size ps p h.2 i l)
 
-pub last_one : (size : ℕ) (ps : List Packet) (p : Packet) → AreBefore size ps → IsPacket size p → is_last p ≡ true → AreMessage size (ps ++ p ∷ [])
-last_one size [] p h i l = (i, l)
-last_one size (q ∷ []) p h i l = (h.0, h.1, (i, l))
-last_one size (q ∷ r ∷ ps) p h i l = (h.0, h.1, last_one size (r ∷ ps) p h.2 i l)
+pub last_one : {size : ℕ} (ps : List Packet) {p : Packet} → AreBefore size ps → IsPacket size p → is_last p ≡ true → AreMessage size (ps ++ p ∷ [])
+last_one [] h i l = (i, l)
+last_one (q ∷ []) h i l = (h.0, h.1, (i, l))
+last_one {size} (q ∷ r ∷ ps) {p} h i l = (h.0, h.1, last_one (r ∷ ps) h.2 i l)
 
 -- a header that has no fault
 pub record Good (size limit : ℕ) (packets : List Packet) (header : List ℕ) : Type 0 where
@@ -37,37 +39,37 @@ WireMeans size limit packets (BeforeBody header) b = (b ≡ wire_of packets ++ h
 WireMeans size limit packets AfterLast b = (b ≡ wire_of packets) × AreMessage size packets × (length b ≤ limit)
 
 module _ (size limit : ℕ) where
-  with_means : (packets : List Packet) (header body : List ℕ) → AreBefore size packets → Good size limit packets header
+  with_means : {packets : List Packet} {header : List ℕ} (body : List ℕ) → AreBefore size packets → Good size limit packets header
       → length body ≡ header_length header - 8 → let w = with_packet packets (packet_of header body) in
       WireMeans size limit w.packets w.place (wire_of packets ++ (header ++ body))
-  with_means packets header body before good l = grind (arith, append-nil, flat_map-append, length-append, last_one, one_more)
+  with_means body before good l = grind (arith, append-nil, flat_map-append, length-append, last_one, one_more)
 
-  wire_step : (packets : List Packet) (place : WirePlace) (b e : List ℕ) → AreBytes e → WireMeans size limit packets place b
+  wire_step : {packets : List Packet} (place : WirePlace) (b : List ℕ) {e : List ℕ} → AreBytes e → WireMeans size limit packets place b
       → IsNext (wire size limit) (record { packets = packets; place = place }) e → let w = wire_add packets place e in
       WireMeans size limit w.packets w.place (b ++ e)
-  wire_step packets AfterLast b e bytes h n = absurd (omega arith)
-  wire_step packets BeforeHeader b e bytes h n =
-      let good : Good size limit packets e = free_is_good size limit packets e n.whole bytes n.free in
+  wire_step AfterLast b bytes h n = absurd (omega arith)
+  wire_step {packets} BeforeHeader b {e} bytes h n =
+      let good : Good size limit packets e = free_is_good _ _ packets e n.whole bytes n.free in
       choose (λ w. WireMeans size limit w.packets w.place (b ++ e)) (header_length e == 8) (with_packet packets _)
       (record { packets = packets; place = BeforeBody e })
       (λ z. (let eight : header_length e ≡ 8 = eq_true (header_length e) 8 z in rw h.0
-      (rw append-nil at (with_means packets e [] h.1 good (omega arith))))) (λ z. (rw h.0 refl, h.1, good))
-  wire_step packets (BeforeBody header) b e bytes h n = grind (arith, append_assoc, with_means)
+      (rw append-nil at (with_means [] h.1 good (omega arith))))) (λ z. (rw h.0 refl, h.1, good))
+  wire_step (BeforeBody header) b bytes h n = grind (arith, append_assoc, with_means)
 
   -- what is read of a wire are the packets that it begins with
   pub wire_is_spelt : (bytes : List ℕ) (w : WirePart) → AreBytes bytes → Spelt (wire size limit) no_wire bytes w
       → WireMeans size limit w.packets w.place bytes
   wire_is_spelt bytes w are h = Spelt-induct _ (λ q b. AreBytes b → WireMeans size limit q.packets q.place b)
-      (λ q b e k n t. wire_step _ _ b e (AreBytes-back b e t) (k (AreBytes-front b e t)) n) no_wire (λ t. (refl, tt, omega arith)) bytes w h are
+      (λ q b e k n t. wire_step _ b (AreBytes-back b e t) (k (AreBytes-front b e t)) n) no_wire (λ t. (refl, tt, omega arith)) bytes w h are
 
 -- the header of a packet
 abbrev pub header_of : Packet → List ℕ
 header_of p = 4 ∷ p.status ∷ packet_length p / 256 ∷ packet_length p % 256 ∷ p.id
 
 module _ (size limit : ℕ) where
-  pub good_header : (before : ℕ) (p : Packet) → IsPacket size p → before + packet_length p ≤ limit
+  pub good_header : (before : ℕ) {p : Packet} → IsPacket size p → before + packet_length p ≤ limit
       → header_fault size limit before (header_of p) ≡ None
-  good_header before p i f = grind (arith, nat_tests)
+  good_header before i f = grind (arith, nat_tests)
 
   abbrev pub before_packet : List Packet → WirePart
   before_packet packets = record { packets = packets; place = BeforeHeader }
@@ -78,7 +80,7 @@ module _ (size limit : ℕ) where
   packet_is_read packets p i f =
       let g = wire size limit in
       let eight : length (header_of p) ≡ 8 = omega arith in
-      let good = good_header _ p i f in
+      let good = good_header _ i f in
       elim p.body as (λ b. p.body ≡ b → Spelt g (before_packet packets) (header_of p ++ b)
       (with_packet packets (record { status = p.status; id = p.id; body = b }))) [
         | [] ↦ λ e. (let size_is : (header_length (header_of p) == 8) ≡ true = grind arith in rw append-nil
@@ -88,17 +90,17 @@ module _ (size limit : ℕ) where
             let n : packet_length p ≡ 8 + length (x ∷ xs) = rw e in
             let off : (header_length (header_of p) == 8) ≡ false = grind (arith, nat_tests) in
             Spelt-append g _ (header_of p) inside (x ∷ xs) _ (Spelt-step g _ (header_of p) inside (omega arith) eight good (rw off))
-            (Spelt-step g inside _ _ (omega arith) (omega arith) refl refl))
+            (Spelt-step g _ _ _ (omega arith) (omega arith) refl refl))
       ] refl
 
   -- a packet before the last is read, and what follows it
-  pub one_is_read : (done : List Packet) (p : Packet) (packets : List Packet) (place : WirePlace) → IsPacket size p × (is_last p ≡ false)
+  pub one_is_read : {done : List Packet} {p : Packet} (packets : List Packet) {place : WirePlace} → IsPacket size p × (is_last p ≡ false)
       → length (wire_of (done ++ p ∷ packets)) ≤ limit
       → (length (wire_of ((done ++ p ∷ []) ++ packets)) ≤ limit
       → Spelt (wire size limit) (before_packet (done ++ p ∷ [])) (wire_of packets)
       (record { packets = (done ++ p ∷ []) ++ packets; place = place }))
       → Spelt (wire size limit) (before_packet done) (wire_of (p ∷ packets)) (record { packets = done ++ p ∷ packets; place = place })
-  one_is_read done p packets place h f more =
+  one_is_read {done} {p} packets h f more =
       let long : length (wire_of (done ++ p ∷ packets)) ≡ length (wire_of done) + (packet_length p + length (wire_of packets)) =
       simp (flat_map-append, length-append) (omega arith) in
       Spelt-append _ _ _ _ _ _ (rw h.1 at (packet_is_read done p h.0 (omega arith))) (rw append_assoc at (more (rw append_assoc f)))
@@ -107,14 +109,14 @@ module _ (size limit : ℕ) where
   pub before_are_read : (done packets : List Packet) → AreBefore size packets → length (wire_of (done ++ packets)) ≤ limit
       → Spelt (wire size limit) (before_packet done) (wire_of packets) (before_packet (done ++ packets))
   before_are_read done [] h f = rw append-nil (Spelt-none _ _)
-  before_are_read done (p ∷ packets) h f = one_is_read _ p _ _ (h.0, h.1) f (before_are_read _ _ h.2)
+  before_are_read done (p ∷ packets) h f = one_is_read _ (h.0, h.1) f (before_are_read _ _ h.2)
 
   -- the packet that follows would be read too
-  no_next : (input : List ℕ) (taken : ℕ) (packets : List Packet) (place : WirePlace) (header : List ℕ)
+  no_next : {input : List ℕ} {taken : ℕ} {packets : List Packet} {place : WirePlace} {header : List ℕ}
       → Longest (wire size limit) no_wire input taken (record { packets = packets; place = place }) → AreBefore size packets
       → take taken input ≡ wire_of packets ++ header
       → (header ≡ []) ⊎ ((length header ≡ 8) × (place ≡ BeforeBody header)) → (next : Packet) → IsNextPacket size limit input packets next → ⊥
-  no_next input taken packets place header l before is cause next f =
+  no_next {input} {taken} {packets} {place} {header} l before is cause next f =
       let all = wire_of packets ++ packet_bytes next in
       let front : take (length all) input ≡ all = rw f.spelt (take-append_seam all f.more) in
       let long = length-append (wire_of packets) (packet_bytes next) in
@@ -136,12 +138,114 @@ module _ (size limit : ℕ) where
       go BeforeHeader l k = grind (
         arith,
         take-append-drop taken input,
-        no_next input taken w.packets BeforeHeader [] l k.1 (k.0 ∙ sym (append-nil _)) (inl refl),
+        no_next l k.1 (k.0 ∙ sym (append-nil _)) (inl refl),
       )
       go (BeforeBody header) l k = grind (
         arith,
         append_assoc,
         take-append-drop taken input,
-        no_next input taken w.packets (BeforeBody header) header l k.1 k.0 (inr (k.2.eight, refl)),
+        no_next l k.1 k.0 (inr (k.2.eight, refl)),
       )
       go _ l k = grind (arith, take-append-drop taken input)
+
+-- ---- what comes of an input
+
+-- what comes after these packets, by the packet that follows them
+module _ (size limit : ℕ) (packets : List Packet) where
+  abbrev at : WirePlace → WirePart
+  at place = record { packets = packets; place = place }
+
+  -- the wire stops after these packets and the bytes before an element that is refused or cut
+  stops_at : (front rest : List ℕ) (place : WirePlace) (fault : Fault) (c : Coming) → AreBytes (front ++ rest) → AreBefore size packets
+      → Spelt (wire size limit) no_wire front (at place)
+      → IsRefused (wire size limit) (at place) rest fault ⊎ ((length rest < wire_size place) × (wire_end place ≡ Some fault))
+      → c.bytes ≡ payload_of packets → c.stop ≡ record { fault = fault; place = Wire (length (wire_of packets)) }
+      → IsFrontMessage size limit (front ++ rest) c
+  stops_at front rest place fault c are each spelt cause bytes stop =
+      let g = wire size limit in
+      let longest : Longest g no_wire (front ++ rest) _ (at place) =
+      elim cause [ inl x ↦ longest_refused g _ _ _ _ _ spelt x | inr x ↦ longest_cut g _ _ _ _ spelt x.0 ] in
+      let front_is = read_front _ _ _ _ _ are longest in
+      grind (arith, drop-append_seam)
+
+  -- what comes after these packets is the message at the front, by the packet that follows them
+  abbrev Gives : ℕ → List ℕ → FrontPacket → Type 0
+  Gives n input p = IsFrontMessage size limit input
+      (before (payload_of packets) (after_packet (message size limit n) (length (wire_of packets)) (length (payload_of packets)) p))
+
+-- with this much fuel, what comes after any packets before the last is the message at the front
+abbrev Comes : ℕ → ℕ → ℕ → Type 0
+Comes size limit n = (packets : List Packet) (rest : List ℕ) → AreBytes (wire_of packets ++ rest) → AreBefore size packets
+    → length (wire_of packets) ≤ limit → length rest < n
+    → IsFrontMessage size limit (wire_of packets ++ rest)
+    (before (payload_of packets) (message size limit n (length (wire_of packets)) (length (payload_of packets)) rest))
+
+module _ (size limit n : ℕ) (packets : List Packet) (each : AreBefore size packets) (within : length (wire_of packets) ≤ limit) where
+  -- a packet is whole
+  whole_gives : (p : Packet) (wired more : List ℕ) (last : Bool) (count : ℕ) → Comes size limit n → AreBytes (wire_of packets ++ (wired ++ more))
+      → (packet_bytes p ≡ wired) × IsPacket size p → length wired ≡ count
+      → length (wire_of packets) + count ≤ limit → length more < n → is_last p ≡ last
+      → Gives size limit packets n (wire_of packets ++ (wired ++ more)) (WholePacket p.body last count more)
+  whole_gives p wired more last count comes are fits long limited less is =
+      let joined : wire_of (packets ++ p ∷ []) ≡ wire_of packets ++ wired = simp (flat_map-append, append-nil, fits.0) in
+      let bodies : payload_of (packets ++ p ∷ []) ≡ payload_of packets ++ p.body = simp (flat_map-append, append-nil) in
+      elim last as (λ t. is_last p ≡ t → Gives _ _ _ n _ (WholePacket p.body t count more)) [
+        | true ↦ λ e. (let all = last_one _ each fits.1 e in grind (arith, append-nil, append_assoc, length-append))
+        | false ↦ λ e. simp (
+          joined,
+          bodies,
+          length-append,
+          append_assoc,
+          long,
+        ) at (comes (packets ++ p ∷ []) more (rw (joined, append_assoc) are) (one_more _ _ p each fits.1 e)
+            (rw (joined, length-append, long) limited) less)
+      ] is
+
+  -- a header is whole
+  header_gives : (header rest : List ℕ) (o : Option Fault) → Comes size limit n → AreBytes (wire_of packets ++ (header ++ rest)) → length header ≡ 8
+      → length rest < n → header_fault size limit (length (wire_of packets)) header ≡ o
+      → Gives size limit packets n (wire_of packets ++ (header ++ rest)) (packet_after_header header rest o)
+  header_gives header rest (Some fault) comes are eight less is =
+      let first : take 8 (header ++ rest) ≡ header = rw (← eight) (take-append_seam header rest) in
+      stops_at _ _ _ _ _ _ _ _ are each (before_are_read _ _ _ _ each within)
+      (inl (record { some = omega arith; whole = omega (arith, length-append header rest); first = rw first is })) (append-nil _) refl
+  header_gives header rest None comes are eight less free =
+      let m = header_length header - 8 in
+      let good = free_is_good _ _ _ _ eight (AreBytes-front _ rest (AreBytes-back _ (header ++ rest) are)) free in
+      elim (dec_le m (length rest)) [
+        | yes enough ↦
+            (let test : nat_lt (length rest) m ≡ false = grind arith in
+            let body = length-take-le m rest enough in
+            let again : (packet_bytes (packet_of header (take m rest)) ≡ header ++ take m rest) × IsPacket size (packet_of header (take m rest)) =
+            grind arith in
+            let all : (header ++ take m rest) ++ drop m rest ≡ header ++ rest = rw (append_assoc, take-append-drop) in
+            rw (test, ← all) (whole_gives _ (header ++ take m rest) _ _ _ comes (rw all are) again
+            (omega (arith, length-append header (take m rest))) good.within (omega (arith, length-drop m rest)) refl))
+        | no short ↦
+            (let test : nat_lt (length rest) m ≡ true = grind arith in
+            let off : (header_length header == 8) ≡ false = grind arith in
+            let inside = Spelt-step _ _ header (at size limit packets (BeforeBody header)) (omega arith) eight free (rw off) in
+            let read = Spelt-append _ _ _ _ _ _ (before_are_read size limit [] packets each within) inside in
+            rw (test, ← append_assoc) (stops_at size limit packets _ rest _ _ _ (rw append_assoc are) each read (inr (omega arith, refl))
+            (append-nil _) refl))
+      ]
+
+-- what comes after any packets before the last is the message at the front
+comes_front : {size limit : ℕ} (n : ℕ) → Comes size limit n
+unfolding message front_packet
+comes_front zero packets rest are each within less = absurd (omega arith)
+comes_front {size} {limit} (suc n) packets rest are each within less = elim (dec_le 8 (length rest)) [
+  | yes long ↦
+      (let test : nat_lt (length rest) 8 ≡ false = grind arith in
+      let all = take-append-drop 8 rest in
+      rw test (rw all at (header_gives size limit n packets each within _ (drop 8 rest) _ (comes_front n) (rw all are)
+      (length-take-le 8 rest long) (omega (arith, length-drop 8 rest)) refl)))
+  | no short ↦
+      (let test : nat_lt (length rest) 8 ≡ true = grind arith in
+      rw test (stops_at size limit _ _ _ _ _ _ are each (before_are_read _ _ _ _ each within) (inr (omega arith, refl))
+      (append-nil _) refl))
+]
+
+-- What comes of an input is the message at its front.
+pub front_message : (size limit : ℕ) (input : List ℕ) → AreBytes input → IsFrontMessage size limit input (whole_message size limit input)
+front_message size limit input are = comes_front _ [] input are tt (omega arith) (omega arith)

@@ -1,7 +1,9 @@
 -- Where a payload stops that hands out nothing.
-use Rattle.tds_packet.proofs.Words.{PayloadOf, ◌≡◌, ◌∙◌, ℕ, ◌+◌, List, [], length, Option, None, inl, inr, sym, ap, arith, length-append, add-zero}
-use Rattle.tds_packet.proofs.Words.{MessageEnded, Payload, Stop, seen, Ends, Seen, began_at}
-use Rattle.tds_packet.proofs.WireFaults.{seen_keeps}
+use Rattle.tds_packet.proofs.{
+  Words.{PayloadOf, ◌≡◌, ◌∙◌, ℕ, ◌+◌, List, [], length, Option, None, inl, inr, sym, ap, arith, length-append, add-zero, MessageEnded, Payload, Stop, seen},
+  Words.{Ends, Seen, began_at},
+  WireFaults.seen_keeps,
+}
 
 -- where a payload stops that had not, and hands out nothing, the message ends at its place if it does
 pub stops_here : {R : Type 0} (remaining : R → Option (List ℕ)) (p : PayloadOf R) (new : Seen) (stop : Stop) → p.stopped ≡ None

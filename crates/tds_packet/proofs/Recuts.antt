@@ -1,21 +1,21 @@
 -- A payload on its way into packets of one size.
-use Rattle.tds_packet.proofs.Words.{common_steps, PayloadOf, ◌≡◌, ◌∙◌, inl, inr, ℕ, zero, suc, ◌+◌, ◌-◌, ◌*◌, ◌<◌, ◌≤◌, Bool, true, false, List, []}
-use Rattle.tds_packet.proofs.Words.{◌∷◌, ◌++◌, length, drop, Option, None, refl, ap, arith, append-nil, length-append, length-drop, take_all, le_refl}
-use Rattle.tds_packet.proofs.Words.{div-mul-add, flat_map-append, Appends-nil, Appends-trans, Appends-kept, drop-append_seam, suc-mul, Result, Ok}
-use Rattle.tds_packet.proofs.Words.{Err, IsTrue, ◌^◌, Keeps, take-append-le, drop-append-le, one_more, Counted, Recut, RecutStop, MessageEnded, Stays}
-use Rattle.tds_packet.proofs.Words.{Stop, Written, coming_of, Packet, packet_bytes, wire_of, buffered, seen, Cuts, Flushes, Gains, StopsInput}
-use Rattle.tds_packet.proofs.Words.{StopsOutput, WritesPacket, Gathers, cut_packet, first_packets, before_last, packets_before, Ends, IsBetween}
-use Rattle.tds_packet.proofs.Words.{IsNotOver, IsOver, Seen, Takes}
-use Rattle.tds_packet.proofs.Joins.{Stays-Rises, Stays-none, Stays-trans}
-use Rattle.tds_packet.proofs.PayloadLaws.{ends_there}
-use Rattle.tds_packet.proofs.Futures.{Ends-after, Takes-more, Takes-none, Takes-trans}
+use Rattle.tds_packet.proofs.{
+  Words.{common_steps, PayloadOf, ◌≡◌, ◌∙◌, inl, inr, ℕ, zero, suc, ◌+◌, ◌-◌, ◌*◌, ◌<◌, ◌≤◌, Bool, true, false, List, [], ◌∷◌, ◌++◌, length, drop, Option},
+  Words.{None, refl, ap, arith, append-nil, length-append, length-drop, take_all, le_refl, div-mul-add, flat_map-append, Appends-nil, Appends-trans},
+  Words.{Appends-kept, drop-append_seam, suc-mul, Result, Ok, Err, IsTrue, ◌^◌, Keeps, take-append-le, drop-append-le, one_more, Counted, Recut, RecutStop},
+  Words.{MessageEnded, Stays, Stop, Written, coming_of, Packet, packet_bytes, wire_of, buffered, seen, Cuts, Flushes, Gains, StopsInput, StopsOutput},
+  Words.{WritesPacket, Gathers, cut_packet, first_packets, before_last, packets_before, Ends, IsBetween, IsNotOver, IsOver, Seen, Takes},
+  Joins.{Stays-Rises, Stays-none, Stays-trans},
+  PayloadLaws.ends_there,
+  Futures.{Ends-after, Takes-more, Takes-none, Takes-trans},
+}
 
 -- what was gathered, and bytes after it
 pub joined : (a b c : Seen) (hs bs : List ℕ) (n : ℕ) → n ≤ length bs + 1 → Takes a b hs (length hs + 1) → Takes b c bs n
     → Takes a c (hs ++ bs) (length (hs ++ bs) + 1)
 joined a b c hs bs n le p q =
-    Takes-more a c (hs ++ bs) (length hs + (length bs + 1)) (length (hs ++ bs) + 1) (omega (arith, length-append hs bs))
-    (Takes-trans a b c hs bs (length hs + 1) (length bs + 1) (omega arith) p (Takes-more b c bs n (length bs + 1) le q))
+    Takes-more a c _ _ _ (omega (arith, length-append hs bs))
+    (Takes-trans a b c _ _ _ _ (omega arith) p (Takes-more b c _ n _ le q))
 
 -- So many bytes were taken after those of a header.
 pub record Gathering {R : Type 0} (remaining : R → Option (List ℕ)) (o s : PayloadOf R) (room : ℕ) (packet : List ℕ) : Type 0 where
@@ -36,7 +36,7 @@ module _ {R : Type 0} (remaining : R → Option (List ℕ)) (o s t : PayloadOf R
     gathered_err stop ends goes_on = record {
       header = x.header;
       fits = x.fits;
-      gives = ends_there remaining o s t (drop 8 packet) _ stop x.takes ends;
+      gives = ends_there remaining o s t x.takes ends;
       over = tt;
       full = tt;
       between = tt;
@@ -46,15 +46,15 @@ module _ {R : Type 0} (remaining : R → Option (List ℕ)) (o s t : PayloadOf R
 
     module _ (q : Takes (seen remaining s) (seen remaining t) [] 1) (stays : t.place ≡ s.place) where
       -- the packet is full, or no byte is left
-      pub gathered_ok : (last : Bool) → IsBetween (seen remaining t) → (IsTrue last → IsOver (seen remaining t))
+      pub gathered_ok : {last : Bool} → IsBetween (seen remaining t) → (IsTrue last → IsOver (seen remaining t))
           → (last ≡ false → (length packet ≡ room) × (0 < length (buffered t)) × IsNotOver (seen remaining t))
           → Gathers remaining o t room packet (Ok last)
-      gathered_ok last between over full = grind (arith, common_steps, asked)
+      gathered_ok between over full = grind (arith, common_steps, asked)
 
       -- bytes that lay ready were taken
-      pub gathered_more : (d : PayloadOf R) (piece : List ℕ) → Takes (seen remaining t) (seen remaining d) piece 0 → d.place ≡ t.place + length piece
+      pub gathered_more : {d : PayloadOf R} (piece : List ℕ) → Takes (seen remaining t) (seen remaining d) piece 0 → d.place ≡ t.place + length piece
           → length packet + length piece ≤ room → Gathering remaining o d room (packet ++ piece)
-      gathered_more d piece r further fits =
+      gathered_more {d} piece r further fits =
           let split = drop-append-le 8 packet piece x.header in
           let takes = joined (seen remaining o) (seen remaining t) (seen remaining d) (drop 8 packet) piece 0 (omega arith) (asked q) r in
           grind (arith, length-append)
@@ -65,12 +65,12 @@ unfolding coming_of
 ready_first remaining p input e = grind (arith, length-append)
 
 -- a body holds what lay ready
-some_ready : {R : Type 0} (remaining : R → Option (List ℕ)) (s t : PayloadOf R) (room : ℕ) (packet : List ℕ) (r : Result Bool Stop)
+some_ready : {R : Type 0} (remaining : R → Option (List ℕ)) {s t : PayloadOf R} {room : ℕ} {packet : List ℕ} (r : Result Bool Stop)
     → Gathers remaining s t room packet r → s.stopped ≡ None → 8 < room → 0 < length (buffered s) → 0 < length (drop 8 packet)
-some_ready remaining s t room packet (Ok true) made going large some =
+some_ready remaining {s} (Ok true) made going large some =
     omega (arith, some, rw (made.gives.1.1 [], (made.over refl).2 [], append-nil) at (ready_first remaining s (made.gives.0 ++ []) going))
-some_ready remaining s t room packet (Ok false) made going large some = omega (arith, (made.full refl).0, length-drop 8 packet, large)
-some_ready remaining s t room packet (Err stop) made going large some = elim made.gives [
+some_ready remaining {packet} (Ok false) made going large some = omega (arith, (made.full refl).0, length-drop 8 packet, large)
+some_ready remaining {s} (Err stop) made going large some = elim made.gives [
   | inl x ↦ omega (arith, some, rw (x.2 []) at (ready_first remaining s (x.0 ++ []) going))
   | inr (inl x) ↦ omega (arith, some, rw x.3 at (ready_first remaining s x.0 going))
   | inr (inr x) ↦ omega (arith, some, rw x.3 at (ready_first remaining s x.0 going))
@@ -97,9 +97,7 @@ wire-more ps p = simp (flat_map-append, append-nil)
 parts : (m k : ℕ) (payload body : List ℕ) → length payload ≡ k * m → length body ≤ m → 0 < m → (0 < k → 0 < length body)
     → (before_last m (length (payload ++ body)) ≡ k) × (packets_before m (payload ++ body) ≡ first_packets m k payload)
     × (drop (k * m) (payload ++ body) ≡ body)
-parts m k payload body whole fits room some =
-    let number : before_last m (length (payload ++ body)) ≡ k = grind (arith, length-append, div-mul-add) in
-    (number, rw (number, first-more m k payload body (omega (arith, whole))), rw (← whole) (drop-append_seam payload body))
+parts m k payload body whole fits room some = grind (arith, length-append, div-mul-add, first-more, drop-append_seam)
 
 -- a full packet more is one of the first
 first_is : (m k n : ℕ) (payload body : List ℕ) → n ≡ suc k → length payload ≡ k * m → length body ≡ m
@@ -120,20 +118,10 @@ pub record Cutting {R W : Type 0} (remaining : R → Option (List ℕ)) (content
   pub more : 0 < done.packets → 0 < length (buffered s)
 
 -- nothing was cut
-pub cut_none : {R W : Type 0} (remaining : R → Option (List ℕ)) (contents : W → Option (List ℕ)) (m : ℕ) (s : PayloadOf R) (to : Counted W)
+pub cut_none : {R W : Type 0} (remaining : R → Option (List ℕ)) (contents : W → Option (List ℕ)) {m : ℕ} {s : PayloadOf R} {to : Counted W}
     → s.place ≡ 0 → Cutting remaining contents m (seen remaining s) s to to (record { packets = 0; bytes = 0 })
 unfolding first_packets
-cut_none remaining contents m s to e =
-    record {
-      payload = [];
-      takes = Takes-none (seen remaining s) 1;
-      whole = omega arith;
-      placed = e;
-      wrote = Appends-nil (contents to.device);
-      bytes_are = refl;
-      stays = Stays-none to.failures;
-      more = λ some. absurd (omega (arith, some));
-    }
+cut_none remaining contents e = grind (arith, Takes-none, Appends-nil, Stays-none)
 
 module _ {R W : Type 0} {remaining : R → Option (List ℕ)} {contents : W → Option (List ℕ)} {a : Seen} {s t : PayloadOf R} {room : ℕ} {packet : List ℕ}
     {old mid : Counted W} {done : Written}
@@ -142,7 +130,7 @@ module _ {R W : Type 0} {remaining : R → Option (List ℕ)} {contents : W → 
       (before_last (room - 8) (length all) ≡ done.packets) × (packets_before (room - 8) all ≡ first_packets (room - 8) done.packets x.payload)
       × (drop (done.packets * (room - 8)) all ≡ drop 8 packet)
   next_parts {r = r} made = parts _ _ _ _ x.whole (omega (arith, made.fits, length-drop 8 packet)) (omega (arith, large))
-      (λ h. some_ready _ s t _ _ r made going large (x.more h))
+      (λ h. some_ready _ r made going large (x.more h))
 
   next_takes : {last : Bool} → Gathers remaining s t room packet (Ok last)
       → Takes a (seen remaining t) (x.payload ++ drop 8 packet) (length (x.payload ++ drop 8 packet) + 1)
@@ -153,12 +141,12 @@ module _ {R W : Type 0} {remaining : R → Option (List ℕ)} {contents : W → 
   next_full made e = grind (arith, common_steps, length-append, suc-mul)
 
   -- a full packet was written
-  pub cut_more : {new : Counted W} {last : Bool} (more : Written) → last ≡ false → Gathers remaining s t room packet (Ok last)
+  pub cut_more : {new : Counted W} {last : Bool} {more : Written} → last ≡ false → Gathers remaining s t room packet (Ok last)
       → WritesPacket contents mid new done (packet_bytes (cut_packet done.packets false (drop 8 packet))) (Ok more)
       → Cutting remaining contents (room - 8) a t old new more
-  cut_more {new = new} more test made writes =
+  cut_more {new = new} test made writes =
       let full : length (drop 8 packet) ≡ room - 8 = omega (arith, length-drop 8 packet, (made.full test).0) in
-      let firsts = ap wire_of (first_is (room - 8) done.packets (done.packets + 1) x.payload (drop 8 packet) (omega arith) x.whole full)
+      let firsts = ap wire_of (first_is _ _ (done.packets + 1) x.payload (drop 8 packet) (omega arith) x.whole full)
       ∙ wire-more (first_packets (room - 8) done.packets x.payload) (cut_packet done.packets false (drop 8 packet)) in
       let takes = next_takes made in
       let whole = next_full made test in
@@ -168,10 +156,10 @@ module _ {R W : Type 0} {remaining : R → Option (List ℕ)} {contents : W → 
       grind (arith, length-append)
 
   -- a packet, or the flush after the last one, failed
-  pub cut_broken : {new : Counted W} {last : Bool} (is : Bool) (stop : RecutStop) → last ≡ is → Gathers remaining s t room packet (Ok last)
+  pub cut_broken : {new : Counted W} {last : Bool} {is : Bool} {stop : RecutStop} → last ≡ is → Gathers remaining s t room packet (Ok last)
       → WritesPacket contents mid new done (packet_bytes (cut_packet done.packets is (drop 8 packet))) (Err stop)
       → StopsOutput contents (room - 8) a (seen remaining t) old new stop
-  cut_broken {new = new} is stop test made writes =
+  cut_broken {new = new} {is} test made writes =
       let p = next_parts made in
       record {
         payload = x.payload ++ drop 8 packet;
@@ -185,24 +173,24 @@ module _ {R W : Type 0} {remaining : R → Option (List ℕ)} {contents : W → 
         split = rw (p.0, p.2) writes.2;
         wrote = rw p.1 (Appends-trans (contents old.device) (contents mid.device) (contents new.device) _ writes.0 x.wrote writes.3);
         stop_is = rw (p.1, length-append, ← x.bytes_are) writes.4;
-        failures = rw p.1 (Stays-Rises _ writes.0 x.stays writes.5);
+        failures = rw p.1 (Stays-Rises _ _ x.stays writes.5);
       }
 
   -- all was written, and the writer flushed
-  pub cut_finished : {last : Bool} (new sent : Counted W) (all : Written) (total : ℕ) (r : Result Recut RecutStop) → last ≡ true
+  pub cut_finished : {last : Bool} (new sent : Counted W) {all : Written} {total : ℕ} (r : Result Recut RecutStop) → last ≡ true
       → Gathers remaining s t room packet (Ok last) → total ≡ t.place
       → WritesPacket contents mid sent done (packet_bytes (cut_packet done.packets true (drop 8 packet))) (Ok all)
       → Flushes contents sent new all total r → Cuts contents (room - 8) a (seen remaining t) old new r
-  cut_finished new sent all total (Ok answer) test made et writes flushes =
+  cut_finished new sent (Ok answer) test made et writes flushes =
       let p = next_parts made in
       let takes = next_takes made in
       let both = Appends-trans (contents old.device) (contents mid.device) (contents sent.device) _ _ x.wrote writes.0 in
       let wrote = Appends-kept (contents old.device) (contents sent.device) (contents new.device) _ both flushes.0 in
       grind (arith, length-append, first-length, wire-more)
-  cut_finished new sent all total (Err stop) test made et writes flushes =
+  cut_finished new sent (Err stop) test made et writes flushes =
       let bytes = packet_bytes (cut_packet done.packets true (drop 8 packet)) in
       let wrote = Appends-kept (contents mid.device) (contents sent.device) (contents new.device) bytes writes.0 flushes.0 in
-      inr (cut_broken _ _ test made (
+      inr (cut_broken test made (
         bytes,
         [],
         append-nil bytes,
@@ -212,12 +200,12 @@ module _ {R W : Type 0} {remaining : R → Option (List ℕ)} {contents : W → 
       ))
 
   -- the input stopped, and the writer was flushed
-  pub cut_stopped : {new : Counted W} {stop : Stop} (flushed : Bool) → Gathers remaining s t room packet (Err stop)
+  pub cut_stopped : {new : Counted W} {stop : Stop} {flushed : Bool} → Gathers remaining s t room packet (Err stop)
       → Keeps (contents mid.device) (contents new.device)
       → (IsTrue flushed → (new.failures ≡ mid.failures) × (mid.failures < 2 ^ 64 - 1)) → (flushed ≡ false → new.failures ≡ one_more mid.failures)
       → StopsInput contents (room - 8) a (seen remaining t) old new (record { stop = stop; written = done.bytes; unwritten = 0 })
-  cut_stopped {new = new} {stop = stop} flushed made keeps ok counted =
+  cut_stopped {new = new} {stop = stop} made keeps ok counted =
       let p = next_parts made in
-      let ends = Ends-after a (seen remaining s) (seen remaining t) x.payload (drop 8 packet) _ stop x.takes made.gives in
+      let ends = Ends-after a _ (seen remaining t) x.payload (drop 8 packet) _ stop x.takes made.gives in
       let wrote = Appends-kept (contents old.device) (contents mid.device) (contents new.device) _ x.wrote keeps in
       grind (arith, length-append)

@@ -1,18 +1,19 @@
 -- Calls that read by a grammar, one after another.
-use Rattle.tds_packet.proofs.Words.{◌≡◌, ◌∙◌, inl, inr, ℕ, ◌+◌, ◌<◌, List, [], ◌++◌, length, ap, arith, append_assoc, append-nil, length-append}
-use Rattle.tds_packet.proofs.Words.{Option, Some, Fault, MessageEnded, Payload, Stop, Grammar, IsNext, Seen, Takes, Ends, IsBetween, began_at, Reads}
-use Rattle.tds_packet.proofs.Words.{RefusesNext, StopsReading, IsCutStop}
-use Rattle.tds_packet.proofs.ElementLaws.{Spelt-none, Spelt-append, Spelt-one}
-use Rattle.tds_packet.proofs.Futures.{Takes-none, Takes-trans, Ends-after}
+use Rattle.tds_packet.proofs.{
+  Words.{◌≡◌, ◌∙◌, inl, inr, ℕ, ◌+◌, ◌<◌, List, [], ◌++◌, length, ap, arith, append_assoc, append-nil, length-append, Option, Some, Fault, MessageEnded},
+  Words.{Payload, Stop, Grammar, IsNext, Seen, Takes, Ends, IsBetween, began_at, Reads, RefusesNext, StopsReading, IsCutStop},
+  ElementLaws.{Spelt-none, Spelt-append, Spelt-one},
+  Futures.{Takes-none, Takes-trans, Ends-after},
+}
 
 -- bytes taken by two calls
 pub takes_both : (a b c : Seen) (xs ys : List ℕ) → Takes a b xs (length xs) → Takes b c ys (length ys) → Takes a c (xs ++ ys) (length (xs ++ ys))
-takes_both a b c xs ys p q = rw length-append (Takes-trans a b c xs ys (length xs) (length ys) (omega arith) p q)
+takes_both a b c xs ys p q = rw length-append (Takes-trans a b c _ _ _ _ (omega arith) p q)
 
 -- bytes taken by two calls, of which the second handed out more than it needed
 pub takes_ahead : (a b c : Seen) (xs ys ahead : List ℕ) → Takes a b xs (length xs) → Takes b c (ys ++ ahead) (length ys)
     → Takes a c ((xs ++ ys) ++ ahead) (length (xs ++ ys))
-takes_ahead a b c xs ys ahead p q = rw (append_assoc, length-append) (Takes-trans a b c xs (ys ++ ahead) (length xs) (length ys) (omega arith) p q)
+takes_ahead a b c xs ys ahead p q = rw (append_assoc, length-append) (Takes-trans a b c _ _ _ _ (omega arith) p q)
 
 -- no bytes more
 pub add_none : (n : ℕ) → n + 0 ≡ n
@@ -47,7 +48,7 @@ module _ {S : Type 0} (g : Grammar S Fault) where
       let placed : (place + length p.bytes) + length q.bytes ≡ place + length _ = omega (arith, length-append p.bytes q.bytes) in
       record {
         bytes = p.bytes ++ q.bytes;
-        spelt = Spelt-append g s p.bytes t q.bytes at p.spelt q.spelt;
+        spelt = Spelt-append g s _ t _ at p.spelt q.spelt;
         cause = elim q.cause [
           | inl x ↦
               (let r = x.0 in
@@ -68,7 +69,7 @@ module _ {S : Type 0} (g : Grammar S Fault) where
             part = x.part;
             cut = x.cut;
             own = x.own;
-            ends = rw append_assoc (Ends-after a b c p.bytes _ _ x.own p.takes x.ends);
+            ends = rw append_assoc (Ends-after a b c _ _ _ _ p.takes x.ends);
             stop_is = rw placed at x.stop_is;
           })
         ];

@@ -1,7 +1,9 @@
 -- Which faults the payload itself may have.
-use Rattle.tds_packet.proofs.Words.{PayloadOf, common_steps, arith, ◌≡◌, ◌∙◌, inl, inr, ℕ, zero, suc, ◌+◌, true, false, length, List, [], sym, Option}
-use Rattle.tds_packet.proofs.Words.{None, ⊤, one_more, Fault, MessageEnded, ReadFailed, WriteFailed, Wire, Payload, Stop, Coming, FrontPacket}
-use Rattle.tds_packet.proofs.Words.{NoPacket, before, stopped_at, after_packet, coming_of, front_packet, message, buffered, seen, Ends, Seen}
+use Rattle.tds_packet.proofs.{
+  Words.{PayloadOf, common_steps, arith, ◌≡◌, ◌∙◌, inl, inr, ℕ, zero, suc, ◌+◌, true, false, length, List, [], sym, Option, None, ⊤, one_more, Fault},
+  Words.{MessageEnded, ReadFailed, WriteFailed, Wire, Payload, Stop, Coming, FrontPacket, NoPacket, before, stopped_at, after_packet, coming_of, front_packet},
+  Words.{message, buffered, seen, Ends, Seen},
+}
 
 -- a fault that the wire or the end of a message may have
 abbrev pub IsOfWire : Fault → Type 0
@@ -20,16 +22,16 @@ module _ (P : ℕ → Coming → Type 0) (ended : (place : ℕ) (rest : List ℕ
     (faulty : (wire place : ℕ) (fault : Fault) (rest : List ℕ) → IsOfWire fault × (fault ≡ MessageEnded → ⊥)
     → P place (stopped_at fault (Wire wire) rest))
     (more : (place : ℕ) (body : List ℕ) (c : Coming) → P (place + length body) c → P place (before body c)) where
-  packet_keeps : (next : ℕ → ℕ → List ℕ → Coming) (wire place : ℕ) (p : FrontPacket)
+  packet_keeps : (next : ℕ → ℕ → List ℕ → Coming) (wire : ℕ) {place : ℕ} {p : FrontPacket}
       → ((rest : List ℕ) (fault : Fault) → p ≡ NoPacket fault rest → IsOfWire fault × (fault ≡ MessageEnded → ⊥))
       → ((w q : ℕ) (l : List ℕ) → P q (next w q l)) → P place (after_packet next wire place p)
-  packet_keeps next wire place p h k = grind (arith, common_steps)
+  packet_keeps next wire h k = grind (arith, common_steps)
 
   message_keeps : (size limit fuel wire place : ℕ) (input : List ℕ) → P place (message size limit fuel wire place input)
   unfolding message
   message_keeps size limit zero wire place input = faulty wire place _ input (tt, λ e. cc)
   message_keeps size limit (suc fuel) wire place input =
-      packet_keeps _ wire place _ (front_faults size limit wire input) (message_keeps size limit fuel)
+      packet_keeps _ wire (front_faults size limit wire input) (message_keeps size limit fuel)
 
   -- so it does of what comes of a payload that has not stopped
   pub seen_keeps : {R : Type 0} (remaining : R → Option (List ℕ)) (p : PayloadOf R) (input : List ℕ) → p.stopped ≡ None
@@ -38,7 +40,7 @@ module _ (P : ℕ → Coming → Type 0) (ended : (place : ℕ) (rest : List ℕ
   seen_keeps remaining p input going = rw going
       (elim p.last as (λ last. P p.place (coming_of p.packet.now.room p.max_wire p.wire p.place last None (buffered p) input)) [
         | true ↦ more p.place _ _ (ended _ input)
-        | false ↦ more p.place _ _ (message_keeps _ _ _ p.wire _ input)
+        | false ↦ more p.place _ _ (message_keeps _ _ _ _ _ _)
       ])
 
 -- what comes of an input stops with such a fault

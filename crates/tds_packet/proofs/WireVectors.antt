@@ -1,6 +1,8 @@
 -- Worked wires: the payload that each has to give, the bytes of its whole packets, and the fault that ends it.
-use Rattle.tds_packet.proofs.Words.{◌≡◌, ℕ, ◌-◌, ◌/◌, ◌%◌, List, [], ◌∷◌, ◌++◌, map, take, refl, Fault, InputEnded, MessageEnded, WrongPacketType}
-use Rattle.tds_packet.proofs.Words.{BadPacketLength, ResponseTooLong, Wire, Payload, Stop, message, front_packet, whole_message}
+use Rattle.tds_packet.proofs.{
+  Words.{◌≡◌, ℕ, ◌-◌, ◌/◌, ◌%◌, List, [], ◌∷◌, ◌++◌, map, take, refl, Fault, InputEnded, MessageEnded, WrongPacketType, BadPacketLength, ResponseTooLong, Wire},
+  Words.{Payload, Stop, message, front_packet, whole_message},
+}
 
 -- the payload of the worked wires
 abbrev payload : List ℕ

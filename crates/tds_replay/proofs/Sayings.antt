@@ -1,13 +1,10 @@
 -- Texts that are written to the notes one after the other.
-use Rattle.std.proofs.Common.{◌≡◌, ◌≢◌, ◌∙◌, ℕ, List, [], ◌∷◌, ◌++◌, Option, Result, Ok, Err, refl, append_assoc, append-nil}
-use Rattle.std.proofs.KnownBytes.{Appends-nil, Appends-trans}
-use Rattle.std.proofs.lemmas.Bool.{ne_eqb}
-use Rattle.std.specs.Prelude.{codes, decimal}
-use Rattle.std.specs.List.{concat}
-use Rattle.tds_packet.specs.declared.counted.Counted.{Counted}
-use Rattle.tds_replay.specs.declared.pieces.Unsaid.{Unsaid}
-use Rattle.tds_replay.specs.Lines.{values_line}
-use Rattle.tds_replay.specs.Saying.{Says, WritesText}
+use Rattle.{
+  std.proofs.{Common.{◌≡◌, ◌≢◌, ◌∙◌, ℕ, List, [], ◌∷◌, ◌++◌, Option, Result, Ok, Err, refl, append_assoc, append-nil}, KnownBytes.{Appends-nil, Appends-trans}},
+  std.{proofs.lemmas.Bool.ne_eqb, specs.{Prelude.{codes, decimal}, List.concat}},
+  tds_packet.specs.declared.counted.Counted.Counted,
+  tds_replay.specs.{declared.pieces.Unsaid.Unsaid, Lines.values_line, Saying.{Says, WritesText}},
+}
 
 -- a text was written, and then another, or not
 pub says_then : {N U : Type 0} (contents : N → Option (List ℕ)) (old mid new : Counted N) (a b : List ℕ) → WritesText contents old mid a

@@ -73,46 +73,35 @@ a46af5ff00000000 Value",
     (Kind::DateTime2(3), "00000000000000 0001-01-01 00:00:00.000"),
 ];
 
+// The ends of one byte, and each number of digits.
+const BYTES: &str = "00 0
+09 9
+0a 10
+63 99
+64 100
+80 128
+ff 255";
+
+// Those of two.
+const TWO_BYTES: &str = "0080 -32768
+0180 -32767
+ffff -1
+0000 0
+0100 1
+ff7f 32767";
+
+// Bits: zero is 0, and any other byte 1.
+const BITS: &str = "00 0
+01 1
+02 1
+ff 1";
+
 // The ends of each width of whole number, each number of digits, and bits.
 pub(crate) const INTEGERS: [(Kind, &str); 10] = [
-    (
-        Kind::Int1,
-        "00 0
-09 9
-0a 10
-63 99
-64 100
-80 128
-ff 255",
-    ),
-    (
-        Kind::IntN(1),
-        "00 0
-09 9
-0a 10
-63 99
-64 100
-80 128
-ff 255",
-    ),
-    (
-        Kind::Int2,
-        "0080 -32768
-0180 -32767
-ffff -1
-0000 0
-0100 1
-ff7f 32767",
-    ),
-    (
-        Kind::IntN(2),
-        "0080 -32768
-0180 -32767
-ffff -1
-0000 0
-0100 1
-ff7f 32767",
-    ),
+    (Kind::Int1, BYTES),
+    (Kind::IntN(1), BYTES),
+    (Kind::Int2, TWO_BYTES),
+    (Kind::IntN(2), TWO_BYTES),
     (
         Kind::Int4,
         "00000080 -2147483648
@@ -187,74 +176,39 @@ ffffffffffffffff -1
 0100000000000000 1
 ffffffffffffff7f 9223372036854775807",
     ),
-    (
-        Kind::Bit,
-        "00 0
-01 1
-02 1
-ff 1",
-    ),
-    (
-        Kind::BitN,
-        "00 0
-01 1
-02 1
-ff 1",
-    ),
+    (Kind::Bit, BITS),
+    (Kind::BitN, BITS),
 ];
+
+// The ends of money of eight bytes, and the numbers round zero and round one.
+const EIGHT_BYTES_OF_MONEY: &str = "0000008000000000 -922337203685477.5808
+0000008001000000 -922337203685477.5807
+fffffffff0d8ffff -1.0000
+fffffffff1d8ffff -0.9999
+ffffffffffffffff -0.0001
+0000000000000000 0.0000
+0000000001000000 0.0001
+000000000f270000 0.9999
+0000000010270000 1.0000
+00000000ffffffff 429496.7295
+0100000000000000 429496.7296
+ffffff7fffffffff 922337203685477.5807";
+
+// Those of money of four.
+const FOUR_BYTES_OF_MONEY: &str = "00000080 -214748.3648
+f0d8ffff -1.0000
+ffffffff -0.0001
+00000000 0.0000
+01000000 0.0001
+10270000 1.0000
+ffffff7f 214748.3647";
 
 // The ends of both moneys, and the numbers round zero and round one.
 pub(crate) const MONEY: [(Kind, &str); 4] = [
-    (
-        Kind::Money8,
-        "0000008000000000 -922337203685477.5808
-0000008001000000 -922337203685477.5807
-fffffffff0d8ffff -1.0000
-fffffffff1d8ffff -0.9999
-ffffffffffffffff -0.0001
-0000000000000000 0.0000
-0000000001000000 0.0001
-000000000f270000 0.9999
-0000000010270000 1.0000
-00000000ffffffff 429496.7295
-0100000000000000 429496.7296
-ffffff7fffffffff 922337203685477.5807",
-    ),
-    (
-        Kind::MoneyN(8),
-        "0000008000000000 -922337203685477.5808
-0000008001000000 -922337203685477.5807
-fffffffff0d8ffff -1.0000
-fffffffff1d8ffff -0.9999
-ffffffffffffffff -0.0001
-0000000000000000 0.0000
-0000000001000000 0.0001
-000000000f270000 0.9999
-0000000010270000 1.0000
-00000000ffffffff 429496.7295
-0100000000000000 429496.7296
-ffffff7fffffffff 922337203685477.5807",
-    ),
-    (
-        Kind::Money4,
-        "00000080 -214748.3648
-f0d8ffff -1.0000
-ffffffff -0.0001
-00000000 0.0000
-01000000 0.0001
-10270000 1.0000
-ffffff7f 214748.3647",
-    ),
-    (
-        Kind::MoneyN(4),
-        "00000080 -214748.3648
-f0d8ffff -1.0000
-ffffffff -0.0001
-00000000 0.0000
-01000000 0.0001
-10270000 1.0000
-ffffff7f 214748.3647",
-    ),
+    (Kind::Money8, EIGHT_BYTES_OF_MONEY),
+    (Kind::MoneyN(8), EIGHT_BYTES_OF_MONEY),
+    (Kind::Money4, FOUR_BYTES_OF_MONEY),
+    (Kind::MoneyN(4), FOUR_BYTES_OF_MONEY),
 ];
 
 // GUIDs, whose first three numbers have their low byte first.

@@ -1,7 +1,8 @@
-use Rattle.std.proofs.lemmas.Result.{IfOk-weaker}
-use Rattle.clap.specs.Words.{App, new_app, with_rule}
-use Rattle.tds_arguments.specs.CommandLine.{column_room_rule, max_wire_rule, packet_size_rule}
-use Rattle.tds_arguments.proofs.Commands.{argument_then, with_argument}
+use Rattle.{
+  std.proofs.lemmas.Result.IfOk-weaker,
+  clap.specs.Words.{App, new_app, with_rule},
+  tds_arguments.{specs.CommandLine.{column_room_rule, max_wire_rule, packet_size_rule}, proofs.Commands.{argument_then, with_argument}},
+}
 
 pub returns : Rattle.tds_arguments.proofs.options.limited.Goals.returns
 returns c =

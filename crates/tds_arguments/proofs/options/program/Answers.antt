@@ -1,6 +1,7 @@
-use Rattle.std.proofs.lemmas.Result.{IfOk-at_ok, IfOk-weaker}
-use Rattle.tds_arguments.specs.CommandLine.{HasReading, IsCommand, recut_app}
-use Rattle.tds_arguments.proofs.Commands.{with_command}
+use Rattle.{
+  std.proofs.lemmas.Result.{IfOk-at_ok, IfOk-weaker},
+  tds_arguments.{specs.CommandLine.{HasReading, IsCommand, recut_app}, proofs.Commands.with_command},
+}
 
 pub returns : Rattle.tds_arguments.proofs.options.program.Goals.returns
 returns c =

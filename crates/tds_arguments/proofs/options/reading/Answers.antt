@@ -1,7 +1,8 @@
-use Rattle.std.proofs.lemmas.Result.{IfOk-weaker}
-use Rattle.clap.specs.Words.{App, with_rule}
-use Rattle.tds_arguments.specs.CommandLine.{charset_rule, file_rule, limited_app}
-use Rattle.tds_arguments.proofs.Commands.{argument_then}
+use Rattle.{
+  std.proofs.lemmas.Result.IfOk-weaker,
+  clap.specs.Words.{App, with_rule},
+  tds_arguments.{specs.CommandLine.{charset_rule, file_rule, limited_app}, proofs.Commands.argument_then},
+}
 
 pub returns : Rattle.tds_arguments.proofs.options.reading.Goals.returns
 returns c =

@@ -1,8 +1,8 @@
-use Rattle.std.proofs.Common.{codes}
-use Rattle.std.proofs.lemmas.Result.{IfOk-weaker}
-use Rattle.clap.specs.Words.{App, new_app, with_rule}
-use Rattle.tds_arguments.specs.CommandLine.{file_rule, max_wire_rule, new_packet_size_rule}
-use Rattle.tds_arguments.proofs.Commands.{argument_then, required, with_argument}
+use Rattle.{
+  std.proofs.{Common.codes, lemmas.Result.IfOk-weaker},
+  clap.specs.Words.{App, new_app, with_rule},
+  tds_arguments.{specs.CommandLine.{file_rule, max_wire_rule, new_packet_size_rule}, proofs.Commands.{argument_then, required, with_argument}},
+}
 
 pub returns : Rattle.tds_arguments.proofs.options.recut.Goals.returns
 returns c =

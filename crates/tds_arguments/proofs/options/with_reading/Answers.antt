@@ -1,7 +1,7 @@
-use Rattle.std.proofs.Common.{codes}
-use Rattle.std.proofs.lemmas.Result.{IfOk-at_ok, IfOk-weaker}
-use Rattle.tds_arguments.specs.CommandLine.{GainsCommand, IsCommand, IsReading, bare_app}
-use Rattle.tds_arguments.proofs.Commands.{with_command}
+use Rattle.{
+  std.proofs.{Common.codes, lemmas.Result.{IfOk-at_ok, IfOk-weaker}},
+  tds_arguments.{specs.CommandLine.{GainsCommand, IsCommand, IsReading, bare_app}, proofs.Commands.with_command},
+}
 
 pub returns : Rattle.tds_arguments.proofs.options.with_reading.Goals.returns
 returns c =

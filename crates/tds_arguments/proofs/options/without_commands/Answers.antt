@@ -1,8 +1,8 @@
-use Rattle.std.proofs.Common.{Some, codes, refl, true}
-use Rattle.std.proofs.lemmas.Result.{IfOk-weaker}
-use Rattle.clap.specs.Words.{new_app}
-use Rattle.tds_arguments.specs.CommandLine.{IsCommand, bare_app}
-use Rattle.tds_arguments.proofs.Commands.{set, told}
+use Rattle.{
+  std.proofs.{Common.{Some, codes, refl, true}, lemmas.Result.IfOk-weaker},
+  clap.specs.Words.new_app,
+  tds_arguments.{specs.CommandLine.{IsCommand, bare_app}, proofs.Commands.{set, told}},
+}
 
 pub returns : Rattle.tds_arguments.proofs.options.without_commands.Goals.returns
 returns c =

@@ -1,5 +1,5 @@
-use Rattle.{std.proofs.Common.{map, string_bytes}, clap.specs.Words.app_of, tds_arguments.proofs.Found.{found, is_known, refused, without_memory}}
 use Rattle.tds_arguments.proofs.parsing.parse.Goals as goal
+use Rattle.{std.proofs.Common.{map, string_bytes}, clap.specs.Words.app_of, tds_arguments.proofs.Found.{found, is_known, refused, without_memory}}
 
 pub returns-in_err-program-clause-answers : goal.returns-in_err-program-clause-answers
 returns-in_err-program-clause-answers c = without_memory (map string_bytes c.args.arguments.now) c.from_residual.result c.from_residual.ensures.1

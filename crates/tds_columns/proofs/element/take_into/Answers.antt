@@ -1,5 +1,5 @@
-use Rattle.tds_columns.proofs.{Words.{◌∙◌, take, arith, length-take-le, grown}, ElementSteps.shrunk}
 use Rattle.tds_columns.proofs.element.take_into.Goals as goal
+use Rattle.tds_columns.proofs.{Words.{◌∙◌, take, arith, length-take-le, grown}, ElementSteps.shrunk}
 
 pub returns-in-Ok-clause-gives : goal.returns-in-Ok-clause-gives
 returns-in-Ok-clause-gives g c =

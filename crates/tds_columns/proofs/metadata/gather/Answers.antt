@@ -1,5 +1,5 @@
-use Rattle.tds_columns.proofs.{Words.{rules, passed}, GatherSteps.{describes_both, stops_describing_after}, GatherMeaning.{gather_stops, gathers}}
 use Rattle.tds_columns.proofs.metadata.gather.Goals as goal
+use Rattle.tds_columns.proofs.{Words.{rules, passed}, GatherSteps.{describes_both, stops_describing_after}, GatherMeaning.{gather_stops, gathers}}
 
 pub returns-in_default-clause-gives : goal.returns-in_default-clause-gives
 returns-in_default-clause-gives g c = rw (c.in_default.is, c.clear.ensures.value) at c.in_ok-count.ensures.gives

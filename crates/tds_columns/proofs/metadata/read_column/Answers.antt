@@ -1,5 +1,5 @@
-use Rattle.tds_columns.proofs.{GatherSteps.part_after, Words.passed}
 use Rattle.tds_columns.proofs.metadata.read_column.Goals as goal
+use Rattle.tds_columns.proofs.{GatherSteps.part_after, Words.passed}
 
 pub returns-in_err-read_type-clause-gives : goal.returns-in_err-read_type-clause-gives
 returns-in_err-read_type-clause-gives g c =

@@ -1,8 +1,9 @@
-use Rattle.tds_columns.proofs.Words.{◌≡◌, ◌∙◌, [], ◌∷◌, ◌++◌, length, refl, arith, rules, le_refl, length-append, ◌==◌, nat_tests, choose_true}
-use Rattle.tds_columns.proofs.Words.{passed, reads_none}
-use Rattle.tds_columns.proofs.ColumnLaws.{at_column}
-use Rattle.tds_columns.proofs.GatherSteps.{describes_both, stops_describing_after}
 use Rattle.tds_columns.proofs.metadata.read_columns.Goals as goal
+use Rattle.tds_columns.proofs.{
+  Words.{◌≡◌, ◌∙◌, [], ◌∷◌, ◌++◌, length, refl, arith, rules, le_refl, length-append, ◌==◌, nat_tests, choose_true, passed, reads_none},
+  ColumnLaws.at_column,
+  GatherSteps.{describes_both, stops_describing_after},
+}
 
 pub columns-init : goal.columns-init
 columns-init g c = record {

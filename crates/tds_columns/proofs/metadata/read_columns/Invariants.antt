@@ -1,5 +1,6 @@
-use Rattle.tds_columns.proofs.Words.{◌≡◌, ◌-◌, ◌+◌, ◌*◌, ◌≤◌, List, [], length, IsOnSame, IsGoing, seen, Column, ColumnHead, InColumn, Describes}
-use Rattle.tds_columns.proofs.ColumnLaws.{after_columns}
+use Rattle.tds_columns.{
+  proofs.{Words.{◌≡◌, ◌-◌, ◌+◌, ◌*◌, ◌≤◌, List, [], length, IsOnSame, IsGoing, seen, Column, ColumnHead, InColumn, Describes}, ColumnLaws.after_columns},
+}
 
 abbrev pub invariant-columns : Rattle.tds_columns.proofs.metadata.read_columns.Given.invariant-columns
 invariant-columns g l = record {

@@ -1,10 +1,11 @@
-use Rattle.tds_columns.proofs.Words.{sym, little_number, ◌≡◌, ◌∙◌, refl, ap, arith, rules, length, Some, None, ne_eqb, count_fault, choose_false}
-use Rattle.tds_columns.proofs.Words.{passed}
-use Rattle.tds_columns.proofs.ColumnMeaning.{not_zero, room_for}
-use Rattle.tds_columns.proofs.ElementSteps.{length_into}
-use Rattle.tds_columns.proofs.GatherSteps.{count_read, count_refused, description_cut}
-use Rattle.tds_columns.proofs.GatherMeaning.{gathers_none}
 use Rattle.tds_columns.proofs.metadata.read_count.Goals as goal
+use Rattle.tds_columns.proofs.{
+  Words.{sym, little_number, ◌≡◌, ◌∙◌, refl, ap, arith, rules, length, Some, None, ne_eqb, count_fault, choose_false, passed},
+  ColumnMeaning.{not_zero, room_for},
+  ElementSteps.length_into,
+  GatherSteps.{count_read, count_refused, description_cut},
+  GatherMeaning.gathers_none,
+}
 
 pub returns-in_err-take_into-clause-gives : goal.returns-in_err-take_into-clause-gives
 returns-in_err-take_into-clause-gives g c =

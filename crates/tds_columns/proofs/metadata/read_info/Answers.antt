@@ -1,7 +1,9 @@
-use Rattle.tds_columns.proofs.Words.{◌≡◌, ◌∙◌, ◌∷◌, refl, sym, Some, None, kind_of, passed}
-use Rattle.tds_columns.proofs.ElementSteps.{element_at}
-use Rattle.tds_columns.proofs.GatherSteps.{description_cut, description_read, description_refused}
 use Rattle.tds_columns.proofs.metadata.read_info.Goals as goal
+use Rattle.tds_columns.proofs.{
+  Words.{◌≡◌, ◌∙◌, ◌∷◌, refl, sym, Some, None, kind_of, passed},
+  ElementSteps.element_at,
+  GatherSteps.{description_cut, description_read, description_refused},
+}
 
 pub returns-in_err-take_into-clause-gives : goal.returns-in_err-take_into-clause-gives
 returns-in_err-take_into-clause-gives g c =

@@ -1,8 +1,10 @@
-use Rattle.tds_columns.proofs.Words.{add-zero, ◌+◌, ◌*◌, Seen, Space, TakesInto, List, Column, ℕ, length, get_or, ◌-◌, too_long, ◌≡◌, ◌∙◌, []}
-use Rattle.tds_columns.proofs.Words.{slice_index, refl, sym, arith, ne_eqb, nat_tests, choose_false, passed}
-use Rattle.tds_columns.proofs.ElementSteps.{byte_at, length_into}
-use Rattle.tds_columns.proofs.GatherSteps.{column_bytes, description_cut, description_read, description_refused, name_after}
 use Rattle.tds_columns.proofs.metadata.read_name.Goals as goal
+use Rattle.tds_columns.proofs.{
+  Words.{add-zero, ◌+◌, ◌*◌, Seen, Space, TakesInto, List, Column, ℕ, length, get_or, ◌-◌, too_long, ◌≡◌, ◌∙◌, [], slice_index, refl, sym, arith, ne_eqb},
+  Words.{nat_tests, choose_false, passed},
+  ElementSteps.{byte_at, length_into},
+  GatherSteps.{column_bytes, description_cut, description_read, description_refused, name_after},
+}
 
 pub returns-in_err-take_into-clause-gives : goal.returns-in_err-take_into-clause-gives
 returns-in_err-take_into-clause-gives g c =

@@ -1,8 +1,10 @@
-use Rattle.tds_columns.proofs.Words.{◌≡◌, ◌∙◌, ◌+◌, ◌*◌, ◌≤◌, ◌++◌, ℕ, slice_index, refl, List, arith, Some, None, unwrap_or, ne_eqb, nat_tests}
-use Rattle.tds_columns.proofs.Words.{rest_length, Kind, bare_type, Column, InColumn, NameCount, head_fault, with_type, choose_false, passed}
-use Rattle.tds_columns.proofs.ElementSteps.{byte_at}
-use Rattle.tds_columns.proofs.GatherSteps.{description_cut, description_read, description_refused, part_after}
 use Rattle.tds_columns.proofs.metadata.read_type.Goals as goal
+use Rattle.tds_columns.proofs.{
+  Words.{◌≡◌, ◌∙◌, ◌+◌, ◌*◌, ◌≤◌, ◌++◌, ℕ, slice_index, refl, List, arith, Some, None, unwrap_or, ne_eqb, nat_tests, rest_length, Kind, bare_type, Column},
+  Words.{InColumn, NameCount, head_fault, with_type, choose_false, passed},
+  ElementSteps.byte_at,
+  GatherSteps.{description_cut, description_read, description_refused, part_after},
+}
 
 -- nothing follows this type byte
 bare : (bytes after : List ℕ) (count : ℕ) (columns : List Column) (byte rest : ℕ) → rest_length byte ≡ Some rest → rest ≡ 0 → after ≡ bytes

@@ -1,8 +1,9 @@
-use Rattle.tds_columns.proofs.Words.{◌≡◌, ◌∙◌, ◌∷◌, refl, sym, rules, arith, slice_index, None, kind_of, passed, refused_at_once, TypeHead}
-use Rattle.tds_columns.proofs.Words.{returned_type}
-use Rattle.tds_columns.proofs.ElementSteps.{shrunk, cut_into, element_at, refused_into}
-use Rattle.tds_columns.proofs.TypeSteps.{no_kind, stops_after_steps, type_whole}
 use Rattle.tds_columns.proofs.returned.read_type_info.Goals as goal
+use Rattle.tds_columns.proofs.{
+  Words.{◌≡◌, ◌∙◌, ◌∷◌, refl, sym, rules, arith, slice_index, None, kind_of, passed, refused_at_once, TypeHead, returned_type},
+  ElementSteps.{shrunk, cut_into, element_at, refused_into},
+  TypeSteps.{no_kind, stops_after_steps, type_whole},
+}
 
 pub returns-in-Err-clause-gives : goal.returns-in-Err-clause-gives
 returns-in-Err-clause-gives g c = λ before taken.

@@ -1,7 +1,9 @@
-use Rattle.tds_columns.proofs.Words.{◌≡◌, ◌+◌, ◌*◌, ◌-◌, ◌%◌, ℕ, List, length, take, drop, get_or, slice_index, true, sym, ap, arith, length-drop}
-use Rattle.tds_columns.proofs.Words.{length-take-le, Some, Kind, is_valid, named_kind, rest_length, Column, column_at, name_size, rest_size}
-use Rattle.tds_columns.proofs.ViewLaws.{all_after, Lies, lies}
 use Rattle.tds_columns.proofs.walk.column_at.Goals as goal
+use Rattle.tds_columns.proofs.{
+  Words.{◌≡◌, ◌+◌, ◌*◌, ◌-◌, ◌%◌, ℕ, List, length, take, drop, get_or, slice_index, true, sym, ap, arith, length-drop, length-take-le, Some, Kind, is_valid},
+  Words.{named_kind, rest_length, Column, column_at, name_size, rest_size},
+  ViewLaws.{all_after, Lies, lies},
+}
 
 pub kind_at-kind-requires : goal.kind_at-kind-requires
 kind_at-kind-requires c =

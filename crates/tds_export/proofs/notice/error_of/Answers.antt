@@ -1,7 +1,8 @@
-use Rattle.tds_export.proofs.Words.{ap, arith, cast_signed, cast_unsigned, drop, length, length-drop, little_number, rules, take, take_all, w32, ◌-◌}
-use Rattle.tds_export.proofs.Words.{◌∙◌, ◌≡◌}
-use Rattle.tds_export.proofs.NoticeLaws.{error_is, parts_within}
 use Rattle.tds_export.proofs.notice.error_of.Goals as goal
+use Rattle.tds_export.proofs.{
+  Words.{ap, arith, cast_signed, cast_unsigned, drop, length, length-drop, little_number, rules, take, take_all, w32, ◌-◌, ◌∙◌, ◌≡◌},
+  NoticeLaws.{error_is, parts_within},
+}
 
 pub returns : goal.returns
 returns c =
@@ -11,7 +12,6 @@ returns c =
     let rest : take (length body - at) (drop at body) ≡ drop at body =
     take_all (length body - at) (drop at body) (omega (arith, length-drop at body)) in
     let kept : cast_signed w32 (cast_unsigned w32 c.read_i32-line.result) ≡ c.read_i32-line.result = search rules in
-    error_is c.args.body.now (cast_signed w32 (cast_unsigned w32 c.read_i32-number.result))
-    (cast_signed w32 (cast_unsigned w32 c.read_i32-line.result)) c.line_start.result c.requires.long c.line_start.ensures
-    (parts_within c.args.body.now c.requires.holds).2
+    error_is _ _ c.requires.long c.line_start.ensures
+    (parts_within _ c.requires.holds).2
     (number ∙ c.read_i32-number.ensures) (kept ∙ c.read_i32-line.ensures ∙ ap (λ l. cast_signed w32 (little_number 4 l)) rest)

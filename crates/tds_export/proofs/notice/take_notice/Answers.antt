@@ -1,22 +1,23 @@
-use Rattle.tds_export.proofs.Words.{arith, false, holds_notice, passed, refl, rules, true, ◌∙◌, ◌≡◌}
-use Rattle.tds_export.proofs.Bodies.{body_cut, body_refused, body_taken, length_cut, length_refused}
 use Rattle.tds_export.proofs.notice.take_notice.Goals as goal
+use Rattle.tds_export.{
+  proofs.{Words.{arith, false, holds_notice, passed, refl, rules, true, ◌∙◌, ◌≡◌}, Bodies.{body_cut, body_refused, body_taken, length_cut, length_refused}},
+}
 
 pub returns-in_err-fill-clause-gives : goal.returns-in_err-fill-clause-gives
 returns-in_err-fill-clause-gives g c = λ charset room tokens which notice. passed _ _ _ _ c.from_residual.ensures.1
-    (length_cut charset room notice (search rules) (c.in_err-fill.ensures.part c.requires.going.going))
+    (length_cut _ _ notice (search rules) (c.in_err-fill.ensures.part c.requires.going.going))
 
 pub returns-then-length-lt-LEAST_NOTICE-clause-gives : goal.returns-then-length-lt-LEAST_NOTICE-clause-gives
 returns-then-length-lt-LEAST_NOTICE-clause-gives g c = λ charset room tokens which notice.
     rw (c.in_payload.ensures, c.place-place.ensures)
-    (length_refused charset room notice (record
+    (length_refused _ _ notice (record
     { two = search rules; is = c.read_u16-length.ensures; takes = c.in_ok-fill.ensures.all; at = c.in_ok-fill.ensures.place })
     c.if-length-lt-LEAST_NOTICE.true c.in_ok-fill.ensures.between)
 
 pub returns-in_err-take_into-clause-gives : goal.returns-in_err-take_into-clause-gives
 returns-in_err-take_into-clause-gives g c = λ charset room tokens which notice.
     passed _ _ _ _ c.from_residual-in_err-take_into.ensures.1
-    (body_cut charset room notice (record {
+    (body_cut _ _ notice (record {
       two = search rules;
       is = c.from.ensures
           ∙ c.read_u16-length.ensures;
@@ -33,7 +34,7 @@ returns-then-not-lengths_fit-clause-gives g c = λ charset room tokens which not
     rw (
       c.in_payload-then-not-lengths_fit.ensures,
       c.place-place-2.ensures,
-    ) (body_refused charset room notice (record {
+    ) (body_refused _ _ notice (record {
       two = search rules;
       is = c.from.ensures
           ∙ c.read_u16-length.ensures;
@@ -47,7 +48,7 @@ returns-clause-gives g c = λ charset room tokens which notice.
     let t = c.in_ok-take_into.ensures.gives in
     let is : c.take_into.new.area.bytes ≡ t.element = rw (t.stands, c.clear.ensures.value) refl in
     let holds : holds_notice c.take_into.new.area.bytes ≡ true = search rules in
-    rw is (body_taken charset room notice (record {
+    rw is (body_taken _ _ notice (record {
       two = search rules;
       is = c.from.ensures
           ∙ c.read_u16-length.ensures;

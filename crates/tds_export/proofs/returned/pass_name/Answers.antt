@@ -1,12 +1,14 @@
-use Rattle.tds_export.proofs.Words.{ReturnNameCount, ReturnOrdinal, ap, passed, refl, rules, seen, slice_index, ◌*◌}
-use Rattle.tds_export.proofs.Cuts.{fill_cut, part_cut}
-use Rattle.tds_export.proofs.ReturnSteps.{front_read, name_cut, name_read, ordinal_read, return_reads_after, return_stops_after}
 use Rattle.tds_export.proofs.returned.pass_name.Goals as goal
+use Rattle.tds_export.proofs.{
+  Words.{ReturnNameCount, ReturnOrdinal, ap, passed, refl, rules, seen, slice_index, ◌*◌},
+  Cuts.{fill_cut, part_cut},
+  ReturnSteps.{front_read, name_cut, name_read, ordinal_read, return_reads_after, return_stops_after},
+}
 
 pub returns-in_err-pass-clause-gives : goal.returns-in_err-pass-clause-gives
 returns-in_err-pass-clause-gives g c =
     let cut = c.in_err-pass.ensures.part c.requires.going in
-    passed _ _ _ _ c.from_residual.ensures.1 (record { at = ReturnOrdinal; stops = part_cut cut.part refl refl cut.fewer cut.ends cut.stop_is })
+    passed _ _ _ _ c.from_residual.ensures.1 (record { at = ReturnOrdinal; stops = part_cut refl refl cut.fewer cut.ends cut.stop_is })
 
 pub returns-in_err-fill-clause-gives : goal.returns-in_err-fill-clause-gives
 returns-in_err-fill-clause-gives g c =
@@ -19,20 +21,20 @@ returns-in_err-fill-clause-gives g c =
 pub returns-in_err-pass-2-clause-gives : goal.returns-in_err-pass-2-clause-gives
 returns-in_err-pass-2-clause-gives g c =
     let ordinal = c.in_ok-pass.ensures.all in
-    let front = front_read (seen g.R.Read.remaining c.pass.new.self) ordinal.bytes ordinal.counted ordinal.takes c.in_ok-pass.ensures.place
-    c.fill.new.to (search rules) c.in_ok-fill.ensures.all c.in_ok-fill.ensures.place in
+    let front = front_read _ _ ordinal.counted ordinal.takes c.in_ok-pass.ensures.place
+    _ (search rules) c.in_ok-fill.ensures.all c.in_ok-fill.ensures.place in
     let cut = c.in_err-pass-2.ensures.part c.in_ok-fill.ensures.payload.going in
     passed _ _ _ _ c.from_residual-in_err-pass-2.ensures.1
-    (return_stops_after front (name_cut (slice_index c.fill.new.to 0) cut.part (ap (λ n. 2 * n) c.from.ensures) cut.fewer cut.ends cut.stop_is))
+    (return_stops_after front (name_cut _ (ap (λ n. 2 * n) c.from.ensures) cut.fewer cut.ends cut.stop_is))
 
 pub returns-clause-gives : goal.returns-clause-gives
 returns-clause-gives g c =
     let ordinal = c.in_ok-pass.ensures.all in
     let name = c.in_ok-pass-2.ensures.all in
-    let front = front_read (seen g.R.Read.remaining c.pass.new.self) ordinal.bytes ordinal.counted ordinal.takes c.in_ok-pass.ensures.place
-    c.fill.new.to (search rules) c.in_ok-fill.ensures.all c.in_ok-fill.ensures.place in
+    let front = front_read _ _ ordinal.counted ordinal.takes c.in_ok-pass.ensures.place
+    _ (search rules) c.in_ok-fill.ensures.all c.in_ok-fill.ensures.place in
     record {
       name = name.bytes;
-      steps = return_reads_after front (name_read (slice_index c.fill.new.to 0) name.bytes (ap (λ n. 2 * n) c.from.ensures)
+      steps = return_reads_after front (name_read _ (ap (λ n. 2 * n) c.from.ensures)
           name.counted name.takes c.in_ok-pass-2.ensures.place);
     }

@@ -1,5 +1,5 @@
-use Rattle.tds_export.proofs.{Words.passed, ReturnSteps.{return_reads_after, return_stops_after, value_passed}}
 use Rattle.tds_export.proofs.returned.pass_return.Goals as goal
+use Rattle.tds_export.proofs.{Words.passed, ReturnSteps.{return_reads_after, return_stops_after, value_passed}}
 
 pub returns-in_err-kind-clause-gives : goal.returns-in_err-kind-clause-gives
 returns-in_err-kind-clause-gives g c =
@@ -9,5 +9,5 @@ returns-in_err-kind-clause-gives g c =
 pub returns-clause-gives : goal.returns-clause-gives
 returns-clause-gives g c =
     let x = c.in_ok-pass_name.ensures.gives in
-    value_passed c.pass_over.result x.name c.in_ok-kind.kind _ _ (return_reads_after x.steps (c.in_ok-kind.ensures.gives x.name))
+    value_passed _ _ _ _ _ (return_reads_after x.steps (c.in_ok-kind.ensures.gives x.name))
     (c.pass_over.ensures.cell c.in_ok-kind.ensures.leaves.payload.going)

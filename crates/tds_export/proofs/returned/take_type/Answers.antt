@@ -1,5 +1,5 @@
-use Rattle.tds_export.proofs.{Words.{ReturnHead, Takes, ap, cut_into, length, passed, refl, seen, subst, sym, ◌∙◌, ◌≡◌}, ReturnSteps.type_taken}
 use Rattle.tds_export.proofs.returned.take_type.Goals as goal
+use Rattle.tds_export.proofs.{Words.{ReturnHead, Takes, ap, cut_into, length, passed, refl, seen, subst, sym, ◌∙◌, ◌≡◌}, ReturnSteps.type_taken}
 
 pub returns-in_err-take_into-clause-gives : goal.returns-in_err-take_into-clause-gives
 returns-in_err-take_into-clause-gives g c =
@@ -12,5 +12,5 @@ returns-clause-gives g c = λ name.
     let is : c.take_into.new.area.bytes ≡ t.element = rw (t.stands, c.clear.ensures.value) refl in
     let takes = subst (λ l. Takes (seen g.R.Read.remaining c.args.payload.now) (seen g.R.Read.remaining c.take_into.new.payload) l 8) (sym is) t.takes
     in
-    type_taken c.read_type_info.result name c.take_into.new.area.bytes _ _ _ _ _ _ (ap length is ∙ t.whole) takes c.in_ok-take_into.ensures.place
+    type_taken _ _ _ _ _ _ _ _ (ap length is ∙ t.whole) takes c.in_ok-take_into.ensures.place
     c.read_type_info.ensures.kind (c.read_type_info.ensures.gives (seen g.R.Read.remaining c.args.payload.now) (takes, t.between))

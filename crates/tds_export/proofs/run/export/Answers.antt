@@ -1,9 +1,11 @@
-use Rattle.tds_export.proofs.Words.{Given, Reports, Space, StopsExport, ap, arith, held, moment, refl, rules, seen, ◌≡◌}
-use Rattle.tds_export.proofs.DeviceFaults.{blamed, no_failure}
-use Rattle.tds_export.proofs.Endings.{exports, rooms, stops_export}
-use Rattle.tds_export.proofs.ToldAnswers.{report_tells, stop_tells}
-use Rattle.tds_export.proofs.run.export.Given.{Over}
 use Rattle.tds_export.proofs.run.export.Goals as goal
+use Rattle.tds_export.proofs.{
+  Words.{Given, Reports, Space, StopsExport, ap, arith, held, moment, refl, rules, seen, ◌≡◌},
+  DeviceFaults.{blamed, no_failure},
+  Endings.{exports, rooms, stops_export},
+  ToldAnswers.{report_tells, stop_tells},
+  run.export.Given.Over,
+}
 
 -- ---- the answer is a report
 
@@ -26,10 +28,10 @@ reported g c = let at = moment g.R.Read.remaining g.W.Write.contents in record {
 
 all_read : (g : Over) (c : goal.In-Ok g) → Reports (reported g c) c.in-Ok.report
 all_read g c =
-    let emptied = rooms c.args.areas.now c.restart.new.self c.requires c.restart.ensures.emptied in
+    let emptied = rooms _ _ c.requires c.restart.ensures.emptied in
     let limit : c.max_wire-max_wire.result ≡ c.args.areas.now.limits.max_wire = search rules in
-    exports (reported g c) (seen g.R.Read.remaining c.new-payload.result) (seen g.R.Read.remaining c.read_response.new.payload)
-    (held g.W.Write.contents c.new-sink.result) (held g.W.Write.contents c.read_response.new.sink) _ _ _ c.in-Ok.report
+    exports _ _ _
+    _ _ _ _ _ _
     c.new-payload.ensures.begun.begins emptied.0 limit c.new-sink.ensures.held emptied.1
     (record { left = refl; failures = refl }) (record { has = refl; waiting = refl; failures = refl }) c.in-Ok.ensures.gives
 
@@ -37,13 +39,13 @@ pub returns-in-Ok-clause-exports : goal.returns-in-Ok-clause-exports
 returns-in-Ok-clause-exports g c =
     record {
       gives = grind (arith, all_read g c);
-      tells = grind (arith, report_tells (reported g c) c.in-Ok.report (all_read g c));
+      tells = grind (arith, report_tells (all_read g c));
       failed_reads = tt;
       failed_writes = tt;
     }
 
 pub returns-in-Ok-clause-no_failure : goal.returns-in-Ok-clause-no_failure
-returns-in-Ok-clause-no_failure g c = let none = no_failure (reported g c) c.in-Ok.report (all_read g c) in (grind (arith, none), grind (arith, none))
+returns-in-Ok-clause-no_failure g c = let none = no_failure _ _ (all_read g c) in (grind (arith, none), grind (arith, none))
 
 -- ---- the answer is a stop
 
@@ -66,11 +68,9 @@ stopped g c = let at = moment g.R.Read.remaining g.W.Write.contents in record {
 
 read_so_far : (g : Over) (c : goal.After-to-in-Err-1 g) → StopsExport (stopped g c) c.stop_at.result
 read_so_far g c =
-    let emptied = rooms c.args.areas.now c.restart.new.self c.requires c.restart.ensures.emptied in
+    let emptied = rooms _ _ c.requires c.restart.ensures.emptied in
     let limit : c.max_wire-max_wire.result ≡ c.args.areas.now.limits.max_wire = search rules in
-    stops_export (stopped g c) (seen g.R.Read.remaining c.new-payload.result) (seen g.R.Read.remaining c.read_response.new.payload)
-    (held g.W.Write.contents c.new-sink.result) (held g.W.Write.contents c.read_response.new.sink) (held g.W.Write.contents c.stop_at.new.sink) _
-    _ _ _ _ _ _
+    stops_export
     c.new-payload.ensures.begun.begins emptied.0 limit c.new-sink.ensures.held emptied.1 c.new-payload.ensures.begun.place
     (record { left = refl; failures = refl }) (record { has = refl; waiting = refl; failures = refl }) c.in-Err.ensures.gives c.stop_at.ensures.tidied
     (λ failed. ap (held g.W.Write.contents) (c.stop_at.ensures.failed failed)) c.stop_at.ensures.stop
@@ -78,10 +78,10 @@ read_so_far g c =
 
 pub returns-in-Err-clause-exports : goal.returns-in-Err-clause-exports
 returns-in-Err-clause-exports g c =
-    let blame = blamed (stopped g c) c.stop_at.result (read_so_far g c) in
+    let blame = blamed (read_so_far g c) in
     record {
       gives = grind (arith, read_so_far g c);
-      tells = grind (arith, stop_tells (stopped g c) c.stop_at.result (read_so_far g c));
+      tells = grind (arith, stop_tells (read_so_far g c));
       failed_reads = λ e. let r = blame.0 e in grind (arith, r);
       failed_writes = λ e. let r = blame.1 e in grind (arith, r);
     }

@@ -1,5 +1,5 @@
-use Rattle.tds_export.proofs.NameTexts.{passed_piece, then_puts}
 use Rattle.tds_export.proofs.set.put_name.Goals as goal
+use Rattle.tds_export.proofs.NameTexts.{passed_piece, then_puts}
 
 pub returns-in_err-open_quoted : goal.returns-in_err-open_quoted
 returns-in_err-open_quoted g c = passed_piece _ c.from_residual.ensures.1 c.in_err-open_quoted.ensures

@@ -1,23 +1,23 @@
-use Rattle.tds_export.proofs.{Words.{held, rules}, NameTexts.{end_breaks, end_puts, end_stopped, push_breaks, push_stopped}}
 use Rattle.tds_export.proofs.set.put_units.Goals as goal
+use Rattle.tds_export.proofs.{Words.{held, rules}, NameTexts.{end_breaks, end_puts, end_stopped, push_breaks, push_stopped}}
 
 pub stop_in-requires : goal.stop_in-requires
 stop_in-requires g c =
-    push_stopped c.in-Err.fault c.new-joiner.result.kept c.push.new.self.kept (held g.W.Write.contents c.args.sink.now)
-    (held g.W.Write.contents c.push.new.sink) c.args.sink.now.failed c.args.units.now c.in-Err.ensures.gives
+    push_stopped _ c.new-joiner.result.kept c.push.new.self.kept (held g.W.Write.contents c.args.sink.now)
+    (held g.W.Write.contents c.push.new.sink) _ c.args.units.now c.in-Err.ensures.gives
 
 pub returns-in-Err : goal.returns-in-Err
 returns-in-Err g c = search (
   rules,
-  push_breaks c.in-Err.fault c.stop_in.result c.new-joiner.result.kept c.push.new.self.kept (held g.W.Write.contents c.args.sink.now)
-      (held g.W.Write.contents c.push.new.sink) c.args.sink.now.failed c.args.units.now
+  push_breaks c.in-Err.fault c.push.new.self.kept (held g.W.Write.contents c.args.sink.now)
+      (held g.W.Write.contents c.push.new.sink) c.args.units.now
       c.new-joiner.ensures.withheld c.requires.writing.writing c.requires.even c.in-Err.ensures.gives c.stop_in.ensures,
 )
 
 pub stop_in-requires-in-Err-end : goal.stop_in-requires-in-Err-end
 stop_in-requires-in-Err-end g c =
-    end_stopped c.new-joiner.ensures.withheld c.requires.even c.in_default.ensures.gives c.in-Err-end.fault c.end.new.self.kept
-    (held g.W.Write.contents c.end.new.sink) c.push.new.sink.failed c.in-Err-end.ensures.gives
+    end_stopped c.new-joiner.ensures.withheld c.requires.even c.in_default.ensures.gives _ _
+    _ _ c.in-Err-end.ensures.gives
 
 pub returns-in-Ok : goal.returns-in-Ok
 returns-in-Ok g c = search (
@@ -28,7 +28,7 @@ returns-in-Ok g c = search (
 pub returns-in-Err-end : goal.returns-in-Err-end
 returns-in-Err-end g c = search (
   rules,
-  end_breaks c.new-joiner.ensures.withheld c.requires.even c.in_default.ensures.gives c.in-Err-end.fault c.stop_in-in-Err-end.result
-      c.end.new.self.kept (held g.W.Write.contents c.end.new.sink) c.push.new.sink.failed c.in_default.ensures.failed c.in-Err-end.ensures.gives
+  end_breaks c.new-joiner.ensures.withheld c.requires.even c.in_default.ensures.gives c.in-Err-end.fault
+      c.end.new.self.kept (held g.W.Write.contents c.end.new.sink) c.in_default.ensures.failed c.in-Err-end.ensures.gives
       c.stop_in-in-Err-end.ensures,
 )

@@ -1,6 +1,7 @@
-use Rattle.tds_export.proofs.Words.{common_steps, List, Takes, Takes-more, Takes-trans, [], arith, buffered, length, passed, refl, seen, slice_index}
-use Rattle.tds_export.proofs.Words.{take, ℕ, ◌<◌, ◌∷◌, ◌≡◌}
 use Rattle.tds_export.proofs.tokens.next_byte.Goals as goal
+use Rattle.tds_export.{
+  proofs.Words.{common_steps, List, Takes, Takes-more, Takes-trans, [], arith, buffered, length, passed, refl, seen, slice_index, take, ℕ, ◌<◌, ◌∷◌, ◌≡◌},
+}
 
 -- the first byte of those that lie ready
 first : (front : List ℕ) → 0 < length front → take 1 front ≡ slice_index front 0 ∷ []

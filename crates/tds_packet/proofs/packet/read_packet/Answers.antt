@@ -1,17 +1,17 @@
-use Rattle.tds_packet.proofs.{Words.{sym, rules, arith, device, ReadsPacket}, Joins.{fill_err, header_err, body_err, body_ok}, Passing.passed_on}
 use Rattle.tds_packet.proofs.packet.read_packet.Goals as goal
+use Rattle.tds_packet.proofs.{Words.{sym, rules, arith, device, ReadsPacket}, Joins.{fill_err, header_err, body_err, body_ok}, Passing.passed_on}
 
 pub returns-in_err-fill-clause-read : goal.returns-in_err-fill-clause-read
 returns-in_err-fill-clause-read g c =
     passed_on _ _ (ReadsPacket c.args.packet.now.room c.args.max_wire c.args.wire (device g.R.Read.remaining c.args.from.now)
     (device g.R.Read.remaining c.fill.new.from) c.args.packet.now.bytes) c.from_residual.ensures.1
-    (fill_err _ _ _ _ _ c.fill.new.to c.args.packet.now.bytes _ (search rules) c.in_err-fill.ensures.read)
+    (fill_err _ _ _ _ _ c.fill.new.to c.args.packet.now.bytes (search rules) c.in_err-fill.ensures.read)
 
 pub returns-in_err-head-clause-read : goal.returns-in_err-head-clause-read
 returns-in_err-head-clause-read g c =
     passed_on _ _ (ReadsPacket c.args.packet.now.room c.args.max_wire c.args.wire (device g.R.Read.remaining c.args.from.now)
     (device g.R.Read.remaining c.fill.new.from) c.args.packet.now.bytes) c.from_residual-in_err-head.ensures.1
-    (header_err _ _ _ _ _ c.fill.new.to c.args.packet.now.bytes _ (search rules) c.in_ok-fill.ensures.read.0 c.in_ok-fill.ensures.read.1
+    (header_err _ _ _ _ _ c.fill.new.to c.args.packet.now.bytes (search rules) c.in_ok-fill.ensures.read.0 c.in_ok-fill.ensures.read.1
     (rw (← c.room-room.ensures) (sym c.in_err-head.ensures.value)))
 
 pub returns-in_err-read_body-clause-read : goal.returns-in_err-read_body-clause-read
@@ -31,7 +31,7 @@ returns-in_err-read_body-clause-read g c =
 
 pub returns-clause-read : goal.returns-clause-read
 returns-clause-read g c =
-    body_ok _ _ _ _ _ (device g.R.Read.remaining c.fill.new.from) c.in_ok-head.head _
+    body_ok _ _ _ _ _
     (record {
       bytes = c.fill.new.to;
       eight = search rules;

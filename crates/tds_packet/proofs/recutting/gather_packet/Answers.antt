@@ -1,8 +1,9 @@
-use Rattle.tds_packet.proofs.Words.{◌≡◌, ◌∙◌, ◌+◌, ◌-◌, ◌++◌, false, true, length, take, min, rules, arith, length-take-le, common_steps, buffered}
-use Rattle.tds_packet.proofs.Words.{Gathers}
-use Rattle.tds_packet.proofs.Passing.{passed_on}
-use Rattle.tds_packet.proofs.Recuts.{gathered_err, gathered_more, gathered_ok}
 use Rattle.tds_packet.proofs.recutting.gather_packet.Goals as goal
+use Rattle.tds_packet.proofs.{
+  Words.{◌≡◌, ◌∙◌, ◌+◌, ◌-◌, ◌++◌, false, true, length, take, min, rules, arith, length-take-le, common_steps, buffered, Gathers},
+  Passing.passed_on,
+  Recuts.{gathered_err, gathered_more, gathered_ok},
+}
 
 pub returns-in_err-at_end-clause-body : goal.returns-in_err-at_end-clause-body
 returns-in_err-at_end-clause-body g c =
@@ -20,7 +21,7 @@ returns-then-n-eq0-clause-body g c =
     search rules in
     let none : c.min-n.result ≡ 0 = search rules in
     let ready = c.in_ok-at_end.ensures.tells.ready more in
-    gathered_ok _ _ c.loop-payload.payload c.at_end.new.self _ _ inv.body c.in_ok-at_end.ensures.gives c.in_ok-at_end.ensures.payload.place false
+    gathered_ok _ _ _ _ _ _ inv.body c.in_ok-at_end.ensures.gives c.in_ok-at_end.ensures.payload.place
     c.in_ok-at_end.ensures.between (λ e. cc) (λ _. (
       omega (arith, inv.body.fits, room, up, none, ready),
       ready,
@@ -29,8 +30,8 @@ returns-then-n-eq0-clause-body g c =
 
 pub returns-clause-body : goal.returns-clause-body
 returns-clause-body g c =
-    gathered_ok _ _ c.loop-payload.payload c.at_end.new.self _ _ c.loop-payload.invariant.body c.in_ok-at_end.ensures.gives
-    c.in_ok-at_end.ensures.payload.place true c.in_ok-at_end.ensures.between (λ _. c.in_ok-at_end.ensures.tells.over (search rules)) (λ e. cc)
+    gathered_ok _ _ _ _ _ _ c.loop-payload.invariant.body c.in_ok-at_end.ensures.gives
+    c.in_ok-at_end.ensures.payload.place c.in_ok-at_end.ensures.between (λ _. c.in_ok-at_end.ensures.tells.over (search rules)) (λ e. cc)
 
 pub loop-payload-preserved : goal.loop-payload-preserved
 loop-payload-preserved g c =
@@ -49,6 +50,6 @@ loop-payload-preserved g c =
       going = search rules;
       same = search rules;
       room = room ∙ inv.room;
-      body = rw grown (gathered_more _ _ c.loop-payload.payload t _ packet inv.body c.in_ok-at_end.ensures.gives c.in_ok-at_end.ensures.payload.place
-          c.consume.new.self piece c.consume.ensures.gives (omega (arith, far, len)) (omega (arith, len, up, inv.body.fits, here)));
+      body = rw grown (gathered_more _ _ _ t _ _ inv.body c.in_ok-at_end.ensures.gives c.in_ok-at_end.ensures.payload.place _ c.consume.ensures.gives
+          (omega (arith, far, len)) (omega (arith, len, up, inv.body.fits, here)));
     }

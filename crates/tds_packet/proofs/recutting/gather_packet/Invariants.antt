@@ -1,5 +1,5 @@
-use Rattle.tds_packet.proofs.{Words.{◌≡◌, ◌-◌, length, IsGoing, IsOnSame}, Recuts.Gathering}
 use Rattle.tds_packet.proofs.recutting.gather_packet.Given as goal
+use Rattle.tds_packet.proofs.{Words.{◌≡◌, ◌-◌, length, IsGoing, IsOnSame}, Recuts.Gathering}
 
 abbrev pub invariant-loop-payload : goal.invariant-loop-payload
 invariant-loop-payload g l = record {

@@ -1,6 +1,7 @@
-use Rattle.tds_packet.proofs.Words.{◌≡◌, length, take, drop, ap, subst, rules, arith, length-drop, length-take-le, take-append-drop, Appends, Rises}
-use Rattle.tds_packet.proofs.Words.{packet_bytes, cut_packet}
 use Rattle.tds_packet.proofs.recutting.write_packet.Goals as goal
+use Rattle.tds_packet.{
+  proofs.Words.{◌≡◌, length, take, drop, ap, subst, rules, arith, length-drop, length-take-le, take-append-drop, Appends, Rises, packet_bytes, cut_packet},
+}
 
 pub returns-in-Err-clause-writes : goal.returns-in-Err-clause-writes
 returns-in-Err-clause-writes g c =

@@ -1,8 +1,9 @@
-use Rattle.tds_packet.proofs.Words.{cut_packet, ◌+◌, packet_bytes, common_steps, ◌≡◌, ◌∙◌, inr, inl, ◌-◌, true, false, drop, length, sym, ap, rules}
-use Rattle.tds_packet.proofs.Words.{arith, length-drop, seen, Cuts}
-use Rattle.tds_packet.proofs.Passing.{passed_on}
-use Rattle.tds_packet.proofs.Recuts.{cut_broken, cut_finished, cut_more, cut_none, cut_stopped}
 use Rattle.tds_packet.proofs.recutting.write_packets.Goals as goal
+use Rattle.tds_packet.proofs.{
+  Words.{cut_packet, ◌+◌, packet_bytes, common_steps, ◌≡◌, ◌∙◌, inr, inl, ◌-◌, true, false, drop, length, sym, ap, rules, arith, length-drop, seen, Cuts},
+  Passing.passed_on,
+  Recuts.{cut_broken, cut_finished, cut_more, cut_none, cut_stopped},
+}
 
 pub loop-to-init : goal.loop-to-init
 loop-to-init g c = grind (arith, common_steps, cut_none)
@@ -10,8 +11,7 @@ loop-to-init g c = grind (arith, common_steps, cut_none)
 pub returns-in-Ok-true-clause-cuts : goal.returns-in-Ok-true-clause-cuts
 returns-in-Ok-true-clause-cuts g c =
     let inv = c.loop-to.invariant in
-    rw (sym inv.room) (cut_finished inv.cutting inv.going.going (omega (arith, inv.room, c.requires.room)) c.finish.new.to c.write_packet.new.to
-    c.in_ok-all-in-Ok-true.all c.place.result c.finish.result c.in-Ok-true.field-0-test
+    rw (sym inv.room) (cut_finished inv.cutting inv.going.going (omega (arith, inv.room, c.requires.room)) _ _ _ c.in-Ok-true.field-0-test
     c.in-Ok-true.ensures.body c.place.ensures c.in_ok-all-in-Ok-true.ensures.writes c.finish.ensures)
 
 pub returns-in_err-all-in-Ok-true-clause-cuts : goal.returns-in_err-all-in-Ok-true-clause-cuts
@@ -19,7 +19,7 @@ returns-in_err-all-in-Ok-true-clause-cuts g c =
     let inv = c.loop-to.invariant in
     rw (sym inv.room) (passed_on _ _ (Cuts g.W.Write.contents (c.loop-to.output.room - 8) (seen g.R.Read.remaining c.args.payload.now)
     (seen g.R.Read.remaining c.gather_packet.new.payload) c.args.to.now c.write_packet.new.to) c.from_residual.ensures.1
-    (inr (cut_broken inv.cutting inv.going.going (omega (arith, inv.room, c.requires.room)) true _ c.in-Ok-true.field-0-test c.in-Ok-true.ensures.body
+    (inr (cut_broken inv.cutting inv.going.going (omega (arith, inv.room, c.requires.room)) c.in-Ok-true.field-0-test c.in-Ok-true.ensures.body
     c.in_err-all-in-Ok-true.ensures.writes)))
 
 pub returns-in_err-done-in-Ok-false-clause-cuts : goal.returns-in_err-done-in-Ok-false-clause-cuts
@@ -28,13 +28,13 @@ returns-in_err-done-in-Ok-false-clause-cuts g c =
     rw (sym inv.room) (passed_on _ _ (Cuts g.W.Write.contents (c.loop-to.output.room - 8) (seen g.R.Read.remaining c.args.payload.now)
     (seen g.R.Read.remaining c.gather_packet.new.payload) c.args.to.now c.write_packet-in-Ok-false.new.to)
     c.from_residual-in_err-done-in-Ok-false.ensures.1
-    (inr (cut_broken inv.cutting inv.going.going (omega (arith, inv.room, c.requires.room)) false _ c.in-Ok-false.field-0-test
+    (inr (cut_broken inv.cutting inv.going.going (omega (arith, inv.room, c.requires.room)) c.in-Ok-false.field-0-test
     c.in-Ok-false.ensures.body c.in_err-done-in-Ok-false.ensures.writes)))
 
 pub returns-in-Err-clause-cuts : goal.returns-in-Err-clause-cuts
 returns-in-Err-clause-cuts g c =
     let inv = c.loop-to.invariant in
-    rw (sym inv.room) (inl (cut_stopped inv.cutting inv.going.going (omega (arith, inv.room, c.requires.room)) c.flush.result c.in-Err.ensures.body
+    rw (sym inv.room) (inl (cut_stopped inv.cutting inv.going.going (omega (arith, inv.room, c.requires.room)) c.in-Err.ensures.body
     c.flush.ensures.bytes c.flush.ensures.ok c.flush.ensures.counted))
 
 pub loop-to-preserved : goal.loop-to-preserved
@@ -53,6 +53,6 @@ loop-to-preserved g c =
       room = same ∙ inv.room;
       few = omega (arith, ap (λ w. w.packets) writes.1, inv.few, made.place, len, inv.room, c.requires.room);
       short = omega (arith, ap (λ w. w.bytes) writes.1, size, inv.short, made.place, len, inv.room, c.requires.room);
-      cutting = rw same (cut_more inv.cutting inv.going.going (omega (arith, inv.room, c.requires.room)) c.in_ok-done-in-Ok-false.done
+      cutting = rw same (cut_more inv.cutting inv.going.going (omega (arith, inv.room, c.requires.room))
           c.in-Ok-false.field-0-test made writes);
     }

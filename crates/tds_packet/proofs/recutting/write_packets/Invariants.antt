@@ -1,5 +1,5 @@
-use Rattle.tds_packet.proofs.{Words.{◌≡◌, ◌-◌, ◌*◌, ◌≤◌, IsGoing, IsOnSame, seen}, Recuts.Cutting}
 use Rattle.tds_packet.proofs.recutting.write_packets.Given as goal
+use Rattle.tds_packet.proofs.{Words.{◌≡◌, ◌-◌, ◌*◌, ◌≤◌, IsGoing, IsOnSame, seen}, Recuts.Cutting}
 
 abbrev pub invariant-loop-to : goal.invariant-loop-to
 invariant-loop-to g l = record {

@@ -1,5 +1,5 @@
-use Rattle.{std.proofs.{Common.{ap, rules, SFits, w32}, lemmas.Int.to_z-of_z}, tds_replay.{specs.Lines.error_line, proofs.Sayings.nothing_said}}
 use Rattle.tds_replay.proofs.lines.say_error.Goals as goal
+use Rattle.{std.proofs.{Common.{ap, rules, SFits, w32}, lemmas.Int.to_z-of_z}, tds_replay.{specs.Lines.error_line, proofs.Sayings.nothing_said}}
 
 pub returns-in_default : goal.returns-in_default
 unfolding error_line

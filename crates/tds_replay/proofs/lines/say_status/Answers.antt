@@ -1,5 +1,5 @@
-use Rattle.{std.proofs.{Common.{rules, ap, SFits, w32}, lemmas.Int.to_z-of_z}, tds_replay.{specs.Lines.status_line, proofs.Sayings.nothing_said}}
 use Rattle.tds_replay.proofs.lines.say_status.Goals as goal
+use Rattle.{std.proofs.{Common.{rules, ap, SFits, w32}, lemmas.Int.to_z-of_z}, tds_replay.{specs.Lines.status_line, proofs.Sayings.nothing_said}}
 
 pub returns-in_default : goal.returns-in_default
 unfolding status_line

@@ -1,8 +1,7 @@
-use Rattle.std.proofs.Common.{List, ℕ, [], ◌∷◌, codes}
-use Rattle.std.specs.Prelude.{decimal}
-use Rattle.std.specs.List.{concat}
-use Rattle.tds_replay.specs.Lines.{fault_fields, stop_line}
-use Rattle.tds_replay.proofs.Sayings.{four_first, says_as, says_then}
+use Rattle.{
+  std.{proofs.Common.{List, ℕ, [], ◌∷◌, codes}, specs.{Prelude.decimal, List.concat}},
+  tds_replay.{specs.Lines.{fault_fields, stop_line}, proofs.Sayings.{four_first, says_as, says_then}},
+}
 
 pub returns : Rattle.tds_replay.proofs.lines.say_stop.Goals.returns
 unfolding stop_line

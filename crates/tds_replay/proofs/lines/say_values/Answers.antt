@@ -1,5 +1,5 @@
-use Rattle.{std.proofs.Common.sym, tds_replay.proofs.Sayings.{nothing_said, no_values, says_as, some_values}}
 use Rattle.tds_replay.proofs.lines.say_values.Goals as goal
+use Rattle.{std.proofs.Common.sym, tds_replay.proofs.Sayings.{nothing_said, no_values, says_as, some_values}}
 
 pub returns-then-values-eq0 : goal.returns-then-values-eq0
 returns-then-values-eq0 g c = nothing_said g.W.Write.contents c.args.notes.now _ (no_values c.args.values c.if-values-eq0.true)

@@ -1,5 +1,5 @@
-use Rattle.{std.{proofs.Common.{◌≡◌, true, false, codes, rules}, specs.Str.bytes_eq}, clap.proofs.WalkLemmas.first_value-rows}
 use Rattle.tds_arguments.proofs.parsing.Given.charset.Goals as goal
+use Rattle.{std.{proofs.Common.{◌≡◌, true, false, codes, rules}, specs.Str.bytes_eq}, clap.proofs.WalkLemmas.first_value-rows}
 
 pub returns-in-Some : goal.returns-in-Some
 returns-in-Some c =

@@ -1,4 +1,4 @@
 use Rattle.std.proofs.Common.{rules}
 
-pub returns-clause-job : Rattle.tds_arguments.proofs.parsing.Given.check_job.Goals.returns-clause-job
-returns-clause-job c = search rules
+pub returns : Rattle.tds_arguments.proofs.parsing.Given.check_job.Goals.returns
+returns c = search rules

@@ -1,5 +1,5 @@
-use Rattle.{std.proofs.Common.{◌∙◌, ℕ, List, Some, ap, codes}, clap.{specs.Words.found_of, proofs.WalkLemmas.first_value-rows}}
 use Rattle.tds_arguments.proofs.parsing.Given.file.Goals as goal
+use Rattle.{std.proofs.Common.{◌∙◌, ℕ, List, Some, ap, codes}, clap.{specs.Words.found_of, proofs.WalkLemmas.first_value-rows}}
 
 pub returns-in_ok-from_str-in-Some : goal.returns-in_ok-from_str-in-Some
 returns-in_ok-from_str-in-Some c =

@@ -1,7 +1,8 @@
-use Rattle.std.proofs.Common.{◌≡◌, ◌≢◌, ◌==◌, true, false, arith, inl, inr, slice_index}
-use Rattle.std.proofs.lemmas.Bool.Decides.{nat_tests}
-use Rattle.clap.proofs.WalkLemmas.{first_value-rows}
 use Rattle.tds_arguments.proofs.parsing.Given.number.Goals as goal
+use Rattle.{
+  std.proofs.{Common.{◌≡◌, ◌≢◌, ◌==◌, true, false, arith, inl, inr, slice_index}, lemmas.Bool.Decides.nat_tests},
+  clap.proofs.WalkLemmas.first_value-rows,
+}
 
 pub returns-in_default-clause-err : goal.returns-in_default-clause-err
 returns-in_default-clause-err g c =

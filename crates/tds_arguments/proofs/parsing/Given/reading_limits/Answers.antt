@@ -1,7 +1,5 @@
-use Rattle.std.proofs.Common.{arith}
-use Rattle.std.specs.Str.Parse.{ExplainsUnsignedError, HasUnsignedDigitsIfOk}
-use Rattle.tds_arguments.proofs.Numbers.{if_err, unread_decimal}
 use Rattle.tds_arguments.proofs.parsing.Given.reading_limits.Goals as goal
+use Rattle.{std.{proofs.Common.arith, specs.Str.Parse.{ExplainsUnsignedError, HasUnsignedDigitsIfOk}}, tds_arguments.proofs.Numbers.{if_err, unread_decimal}}
 
 pub returns-in_err-packet_size-clause-err : goal.returns-in_err-packet_size-clause-err
 returns-in_err-packet_size-clause-err c =

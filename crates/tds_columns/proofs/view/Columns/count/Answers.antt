@@ -1,5 +1,5 @@
-use Rattle.tds_columns.proofs.{Words.◌∙◌, ViewLaws.{description_shows, length_columns}}
 use Rattle.tds_columns.proofs.view.Columns.count.Goals as goal
+use Rattle.tds_columns.proofs.{Words.◌∙◌, ViewLaws.{description_shows, length_columns}}
 
 pub returns-clause-value : goal.returns-clause-value
 returns-clause-value c = rw length_columns c.read_u16.ensures

@@ -1,6 +1,5 @@
-use Rattle.tds_columns.proofs.Words.{◌≡◌, ◌≢◌, ◌-◌, ℕ, List, true, drop, arith, and_parts, are_columns, column_size}
-use Rattle.tds_columns.proofs.ViewLaws.{all_after, length_columns}
 use Rattle.tds_columns.proofs.walk.WalkIterator.next.Goals as goal
+use Rattle.tds_columns.proofs.{Words.{◌≡◌, ◌≢◌, ◌-◌, ℕ, List, true, drop, arith, and_parts, are_columns, column_size}, ViewLaws.{all_after, length_columns}}
 
 -- the columns after the first
 others : (n : ℕ) (bytes : List ℕ) → n ≢ 0 → are_columns n bytes ≡ true → are_columns (n - 1) (drop (column_size bytes) bytes) ≡ true

@@ -1,8 +1,10 @@
-use Rattle.tds_export.proofs.Words.{AnError, Space, ap, appended, arith, characters, length, nat_tests, notice_of, passed, refl, rules, server_error}
-use Rattle.tds_export.proofs.Words.{subst, sym, whole_within, ◌-◌, ◌<◌, ◌∙◌, ◌≡◌, ◌≤◌}
-use Rattle.tds_export.proofs.NoticeSteps.{first_error_reads, later_error_reads, notice_stops, within_room}
-use Rattle.tds_export.proofs.TokenSteps.{step_read}
 use Rattle.tds_export.proofs.exporter.Exporter.error.Goals as goal
+use Rattle.tds_export.proofs.{
+  Words.{AnError, Space, ap, appended, arith, characters, length, nat_tests, notice_of, passed, refl, rules, server_error, subst, sym, whole_within, ◌-◌, ◌<◌},
+  Words.{◌∙◌, ◌≡◌, ◌≤◌},
+  NoticeSteps.{first_error_reads, later_error_reads, notice_stops, within_room},
+  TokenSteps.step_read,
+}
 
 pub returns-in_err-take_notice : goal.returns-in_err-take_notice
 returns-in_err-take_notice g c = step_read c.requires.running (search rules)
@@ -20,7 +22,7 @@ returns g c =
     step_read c.requires.running (search (
       rules,
       subst (λ (s : Space). s.peak ≤ s.room) (sym c.utf16_into.ensures)
-          (within_room cleared (characters c.message_of.result.now) empty c.clear.ensures.peak),
+          (within_room (characters c.message_of.result.now) empty c.clear.ensures.peak),
     )) (λ tokens begun.
     let none : c.args.self.now.progress.report.errors ≡ 0 = grind (arith, nat_tests, c.if-self-gt1.false) in
     let body : c.bytes-body.result.now ≡ c.take_notice.new.token.bytes = c.bytes-body.ensures.value in
@@ -29,5 +31,5 @@ returns g c =
     let message : c.message_of.result.now ≡ (notice_of c.take_notice.new.token.bytes).message = c.message_of.ensures.value
     ∙ ap (λ l. (notice_of l).message) body in
     let put = c.utf16_into.ensures ∙ ap (λ l. appended cleared (whole_within (cleared.room - length cleared.bytes) (characters l))) message in
-    rw error (first_error_reads _ begun cleared none empty (ap (λ (s : Space). s.room) c.clear.ensures.value
+    rw error (first_error_reads _ begun _ none empty (ap (λ (s : Space). s.room) c.clear.ensures.value
     ∙ c.requires.running.notice) put (c.in_ok-take_notice.ensures.gives _ _ tokens AnError refl)))

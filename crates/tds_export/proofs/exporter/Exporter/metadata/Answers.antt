@@ -1,6 +1,8 @@
-use Rattle.tds_export.proofs.Words.{IsDescription, between_of, description_shows, inr, passed, rules, subst, sym}
-use Rattle.tds_export.proofs.TokenSteps.{metadata_breaks, metadata_reads, metadata_stops, none_reads, step_read}
 use Rattle.tds_export.proofs.exporter.Exporter.metadata.Goals as goal
+use Rattle.tds_export.proofs.{
+  Words.{IsDescription, between_of, description_shows, inr, passed, rules, subst, sym},
+  TokenSteps.{metadata_breaks, metadata_reads, metadata_stops, none_reads, step_read},
+}
 
 pub returns-in-NoMetadata : goal.returns-in-NoMetadata
 returns-in-NoMetadata g c = step_read c.requires.running (search rules) (λ tokens begun.
@@ -23,7 +25,7 @@ returns-in_err-put_header g c = step_read c.requires.running (search rules) (λ 
     let gives = rw c.in_default.is at c.in_ok-gather.ensures.gives in
     let breaks = rw (c.view-columns.ensures, c.bytes.ensures.value) at (c.in_err-put_header.ensures.gives sink.writing) in
     let between = between_of g.R.Read.remaining c.gather.new.payload c.in_ok-gather.ensures.payload.going in
-    let shows = description_shows c.args.self.now.description.now.room gives.0 c.gather.new.area.bytes gives.4 in
+    let shows = description_shows _ _ _ gives.4 in
     passed _ _ _ _ c.from_residual-in_err-put_header.ensures.1
     (inr (metadata_breaks _ begun shows.0 gives.2 (sink.ready.1 sink.writing) between breaks, c.in_err-put_header.ensures.failed)))
 
@@ -31,5 +33,5 @@ pub returns : goal.returns
 returns g c = step_read c.requires.running (search rules) (λ tokens begun.
     let gives = rw c.in_default.is at c.in_ok-gather.ensures.gives in
     let puts = rw (c.view-columns.ensures, c.bytes.ensures.value) at c.in_ok-put_header.ensures.gives in
-    let shows = description_shows c.args.self.now.description.now.room gives.0 c.gather.new.area.bytes gives.4 in
+    let shows = description_shows _ _ _ gives.4 in
     metadata_reads _ begun shows.0 gives.2 puts)

@@ -1,12 +1,12 @@
-use Rattle.tds_export.proofs.{Words.{PlainRow, ap, columns_of, passed, rules, ◌∙◌}, RowRuns.{rows_read, rows_stop}, TokenSteps.step_read}
 use Rattle.tds_export.proofs.exporter.Exporter.rows.Goals as goal
+use Rattle.tds_export.proofs.{Words.{PlainRow, ap, columns_of, passed, rules, ◌∙◌}, RowRuns.{rows_read, rows_stop}, TokenSteps.step_read}
 
 pub returns-in_err-count : goal.returns-in_err-count
 returns-in_err-count g c = step_read c.requires.begun.running (search rules)
     (λ tokens begun. passed _ _ _ _ c.from_residual.ensures.1
-    (rows_stop PlainRow _ c.requires.described (ap columns_of (c.view-columns.ensures ∙ c.bytes.ensures.value)) begun c.in_err-count.ensures.rows))
+    (rows_stop _ _ c.requires.described (ap columns_of (c.view-columns.ensures ∙ c.bytes.ensures.value)) begun c.in_err-count.ensures.rows))
 
 pub returns : goal.returns
 returns g c = step_read c.requires.begun.running (search rules)
-    (λ tokens begun. rows_read PlainRow _ c.requires.described (ap columns_of (c.view-columns.ensures ∙ c.bytes.ensures.value)) begun
+    (λ tokens begun. rows_read _ _ c.requires.described (ap columns_of (c.view-columns.ensures ∙ c.bytes.ensures.value)) begun
     c.in_ok-count.ensures.rows)

@@ -1,6 +1,5 @@
-use Rattle.tds_export.proofs.Words.{IsNoted, IsOnSame, IsOnSameRun, IsOnSameSink, IsRunning, Tracks, [], empty, ◌-◌, ◌≡◌, ◌≤◌, view_of}
-use Rattle.tds_export.proofs.RunSteps.{Runs}
 use Rattle.tds_export.proofs.exporter.Exporter.run.Given as goal
+use Rattle.tds_export.proofs.{Words.{IsNoted, IsOnSame, IsOnSameRun, IsOnSameSink, IsRunning, Tracks, [], empty, ◌-◌, ◌≡◌, ◌≤◌, view_of}, RunSteps.Runs}
 
 abbrev pub invariant-tokens : goal.invariant-tokens
 invariant-tokens g l = record {

@@ -1,8 +1,7 @@
-use Rattle.tds_export.proofs.Words.{length, passed, refl, rules, ◌∙◌, ◌≡◌}
-use Rattle.tds_export.proofs.TokenSteps.{begun_in, stops_first}
-use Rattle.tds_export.proofs.Cuts.{fill_cut}
-use Rattle.tds_export.proofs.Bodies.{quiet_reads, quiet_stops}
 use Rattle.tds_export.proofs.exporter.Exporter.skip.Goals as goal
+use Rattle.{
+  tds_export.proofs.{Words.{length, passed, refl, rules, ◌∙◌, ◌≡◌}, TokenSteps.{begun_in, stops_first}, Cuts.fill_cut, Bodies.{quiet_reads, quiet_stops}},
+}
 
 pub returns-in_err-fill-clause-gives : goal.returns-in_err-fill-clause-gives
 returns-in_err-fill-clause-gives g c = λ which quiet tokens tracks holds noted.
@@ -21,7 +20,7 @@ returns-in_err-pass-clause-gives g c = λ which quiet tokens tracks holds noted.
           ∙ c.read_u16-length.ensures;
       takes = c.in_ok-fill.ensures.all;
       at = c.in_ok-fill.ensures.place;
-    }) cut.part cut.fewer cut.ends cut.stop_is)
+    }) cut.fewer cut.ends cut.stop_is)
 
 pub returns-clause-gives : goal.returns-clause-gives
 returns-clause-gives g c = λ which quiet tokens tracks holds noted.
@@ -33,5 +32,5 @@ returns-clause-gives g c = λ which quiet tokens tracks holds noted.
           ∙ c.read_u16-length.ensures;
       takes = c.in_ok-fill.ensures.all;
       at = c.in_ok-fill.ensures.place;
-    }) all.bytes all.counted all.takes
+    }) _ all.counted all.takes
     c.in_ok-pass.ensures.place

@@ -1,7 +1,9 @@
-use Rattle.tds_export.proofs.Words.{Payload, StepStops, after_tokens, arith, held, passed, response, seen, subst, ◌-◌, ◌≡◌}
-use Rattle.tds_export.proofs.TokenBytes.{begins_kind, reads_after_byte, stops_after_byte, stops_at_byte, stops_between}
-use Rattle.tds_export.proofs.TokenLaws.{tracks_begun}
 use Rattle.tds_export.proofs.exporter.Exporter.token.Goals as goal
+use Rattle.tds_export.proofs.{
+  Words.{Payload, StepStops, after_tokens, arith, held, passed, response, seen, subst, ◌-◌, ◌≡◌},
+  TokenBytes.{begins_kind, reads_after_byte, stops_after_byte, stops_at_byte, stops_between},
+  TokenLaws.tracks_begun,
+}
 
 pub returns-in_err-byte-clause-gives : goal.returns-in_err-byte-clause-gives
 returns-in_err-byte-clause-gives g c = λ tokens tracks holds noted.
@@ -15,20 +17,20 @@ pub returns-in_ok-body-in-Ok-clause-gives : goal.returns-in_ok-body-in-Ok-clause
 returns-in_ok-body-in-Ok-clause-gives g c = λ tokens tracks holds noted.
     let run = c.args.self.now in
     let read = rw c.in-Some.is at c.in_ok-byte.ensures.gives in
-    let begins = begins_kind run.charset run.description.now.room tokens c.in-Some.byte run.progress.described run.description.now.bytes c.in-Ok.kind
+    let begins = begins_kind _
     c.in-Ok.ensures holds.bytes c.requires.described tracks.described in
-    let x = c.in_ok-body-in-Ok.ensures.reads tokens (tracks_begun run.progress tokens tracks) holds noted in
+    let x = c.in_ok-body-in-Ok.ensures.reads tokens (tracks_begun tracks) holds noted in
     (reads_after_byte _ begins c.requires.sink.ready.2 read.takes read.place_is x.0, x.1)
 
 pub returns-in_err-body-in-Ok-clause-gives : goal.returns-in_err-body-in-Ok-clause-gives
 returns-in_err-body-in-Ok-clause-gives g c = λ tokens tracks holds noted.
     let run = c.args.self.now in
     let read = rw c.in-Some.is at c.in_ok-byte.ensures.gives in
-    let begins = begins_kind run.charset run.description.now.room tokens c.in-Some.byte run.progress.described run.description.now.bytes c.in-Ok.kind
+    let begins = begins_kind _
     c.in-Ok.ensures holds.bytes c.requires.described tracks.described in
     passed _ _ _ _ c.from_residual-in_err-body-in-Ok.ensures.1
     (stops_after_byte _ begins c.requires.sink.ready.2 read.takes read.place_is
-    (c.in_err-body-in-Ok.ensures.reads tokens (tracks_begun run.progress tokens tracks) holds noted))
+    (c.in_err-body-in-Ok.ensures.reads tokens (tracks_begun tracks) holds noted))
 
 -- ---- a byte that begins no token
 

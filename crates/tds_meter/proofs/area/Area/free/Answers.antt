@@ -1,5 +1,5 @@
-use Rattle.std.proofs.Common.{rules}
 use Rattle.tds_meter.proofs.area.Area.free.Goals as goal
+use Rattle.std.proofs.Common.{rules}
 
 pub returns-clause-value : goal.returns-clause-value
 returns-clause-value c = search rules

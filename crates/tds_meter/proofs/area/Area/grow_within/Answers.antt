@@ -1,7 +1,7 @@
-use Rattle.std.proofs.Common.{◌≡◌, ◌∙◌, ◌+◌, ◌≤◌, length, take, drop, refl, sym, ap, arith, vec_len, length-drop, length-take-le}
-use Rattle.tds_meter.specs.Space.{Space, appended}
-use Rattle.tds_meter.specs.Lent.{with_tail}
-use Rattle.tds_meter.proofs.Overwriting.{grows}
+use Rattle.{
+  std.proofs.Common.{◌≡◌, ◌∙◌, ◌+◌, ◌≤◌, length, take, drop, refl, sym, ap, arith, vec_len, length-drop, length-take-le},
+  tds_meter.{specs.{Space.{Space, appended}, Lent.with_tail}, proofs.Overwriting.grows},
+}
 
 -- what is lent lies in the store after the front
 pub returns : Rattle.tds_meter.proofs.area.Area.grow_within.Goals.returns

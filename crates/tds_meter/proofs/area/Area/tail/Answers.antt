@@ -1,9 +1,8 @@
-use Rattle.std.proofs.Common.{◌≡◌, ◌∙◌, ◌+◌, ◌-◌, ◌++◌, ◌≤◌, ℕ, List, length, take, drop, refl, sym, ap, arith, vec_len, length-take-le}
-use Rattle.std.proofs.lemmas.List.{drop-take}
-use Rattle.std.specs.List.{refill}
-use Rattle.tds_meter.specs.Space.{Space}
-use Rattle.tds_meter.specs.Lent.{with_tail}
-use Rattle.tds_meter.proofs.Overwriting.{front-refill}
+use Rattle.{
+  std.proofs.{Common.{◌≡◌, ◌∙◌, ◌+◌, ◌-◌, ◌++◌, ◌≤◌, ℕ, List, length, take, drop, refl, sym, ap, arith, vec_len, length-take-le}, lemmas.List.drop-take},
+  std.specs.List.refill,
+  tds_meter.{specs.{Space.Space, Lent.with_tail}, proofs.Overwriting.front-refill},
+}
 
 -- what is lent lies in the front of the store
 pub returns : Rattle.tds_meter.proofs.area.Area.tail.Goals.returns

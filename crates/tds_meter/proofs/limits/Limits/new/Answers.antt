@@ -1,5 +1,5 @@
-use Rattle.std.proofs.Common.{rules}
 use Rattle.tds_meter.proofs.limits.Limits.new.Goals as goal
+use Rattle.std.proofs.Common.{rules}
 
 pub invariant_of-result : goal.invariant_of-result
 invariant_of-result c = search rules

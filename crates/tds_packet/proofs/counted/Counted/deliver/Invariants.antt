@@ -1,5 +1,5 @@
-use Rattle.tds_packet.proofs.Words.{◌-◌, ◌≤◌, length, take, Appends, Stays}
 use Rattle.tds_packet.proofs.counted.Counted.deliver.Given as goal
+use Rattle.tds_packet.proofs.Words.{◌-◌, ◌≤◌, length, take, Appends, Stays}
 
 abbrev pub invariant-loop-taken : goal.invariant-loop-taken
 invariant-loop-taken g l = record {

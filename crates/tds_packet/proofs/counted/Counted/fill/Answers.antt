@@ -1,10 +1,12 @@
-use Rattle.tds_packet.proofs.Words.{◌≡◌, ℕ, List, ◌+◌, ◌-◌, ◌≤◌, ◌++◌, rules, arith, length, take, ap, ◌∙◌, subst, length-take-le, take-append-add}
-use Rattle.tds_packet.proofs.Words.{take-append-le, Consumes, Consumes-trans, Consumes-kept, put_mid, post_of, one_more}
 use Rattle.tds_packet.proofs.counted.Counted.fill.Goals as goal
+use Rattle.tds_packet.proofs.{
+  Words.{◌≡◌, ℕ, List, ◌+◌, ◌-◌, ◌≤◌, ◌++◌, rules, arith, length, take, ap, ◌∙◌, subst, length-take-le, take-append-add, take-append-le, Consumes},
+  Words.{Consumes-trans, Consumes-kept, put_mid, post_of, one_more},
+}
 
 -- the first bytes of a part that was written over
-take_put : (a k n : ℕ) (xs ys : List ℕ) → a ≤ length xs → n ≤ length ys → take a xs ++ take n ys ≡ take (a + n) (put_mid a k xs ys)
-take_put a k n xs ys within fits = grind (arith, post_of, length-take-le, take-append-add, take-append-le)
+take_put : {a : ℕ} (k : ℕ) {n : ℕ} (xs ys : List ℕ) → a ≤ length xs → n ≤ length ys → take a xs ++ take n ys ≡ take (a + n) (put_mid a k xs ys)
+take_put k xs ys within fits = grind (arith, post_of, length-take-le, take-append-add, take-append-le)
 
 pub loop-at-preserved : goal.loop-at-preserved
 loop-at-preserved g c =
@@ -14,7 +16,7 @@ loop-at-preserved g c =
       same = search rules;
       within = search rules;
       stays = (c.in-Ok.ensures.counts.0 ∙ inv.stays.0, λ _. omega (arith, c.in-Ok.ensures.counts.1, inv.stays.0));
-      read = subst (Consumes _ _) (take_put c.loop-at.at (length c.loop-at.to - c.loop-at.at) c.in-Ok.n c.loop-at.to c.read.new.to inv.within bound)
+      read = subst (Consumes _ _) (take_put _ _ _ inv.within bound)
           (Consumes-trans _ _ _ _ _ inv.read c.in-Ok.ensures.ok);
     }
 

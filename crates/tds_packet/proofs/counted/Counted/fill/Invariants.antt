@@ -1,5 +1,5 @@
-use Rattle.tds_packet.proofs.Words.{◌≡◌, ◌-◌, ◌≤◌, length, take, Consumes, Stays}
 use Rattle.tds_packet.proofs.counted.Counted.fill.Given as goal
+use Rattle.tds_packet.proofs.Words.{◌≡◌, ◌-◌, ◌≤◌, length, take, Consumes, Stays}
 
 abbrev pub invariant-loop-at : goal.invariant-loop-at
 invariant-loop-at g l = record {

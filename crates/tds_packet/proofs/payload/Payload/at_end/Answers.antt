@@ -1,7 +1,7 @@
-use Rattle.tds_packet.proofs.Words.{◌<◌, arith, drop, length, length-drop, refl, None, drop_of_length-le}
-use Rattle.tds_packet.proofs.Futures.{over, not_over, stopped_ends}
-use Rattle.tds_packet.proofs.PayloadLaws.{between_of}
 use Rattle.tds_packet.proofs.payload.Payload.at_end.Goals as goal
+use Rattle.tds_packet.{
+  proofs.{Words.{◌<◌, arith, drop, length, length-drop, refl, None, drop_of_length-le}, Futures.{over, not_over, stopped_ends}, PayloadLaws.between_of},
+}
 
 pub returns-in-Ok-clause-tells : goal.returns-in-Ok-clause-tells
 returns-in-Ok-clause-tells g c =
@@ -21,7 +21,7 @@ returns-in-MessageEnded-clause-tells g c =
     }
 
 pub returns-in-Some-clause-gives : goal.returns-in-Some-clause-gives
-returns-in-Some-clause-gives g c = stopped_ends g.R.Read.remaining c.args.self.now _ c.in-Some.is
+returns-in-Some-clause-gives g c = stopped_ends g.R.Read.remaining c.args.self.now c.in-Some.is
 
 pub returns-in-Ok-clause-between : goal.returns-in-Ok-clause-between
 returns-in-Ok-clause-between g c = between_of g.R.Read.remaining c.ready.new.self c.in-Ok.ensures.payload.answers.going

@@ -1,6 +1,8 @@
-use Rattle.tds_packet.proofs.Words.{◌≡◌, ◌+◌, ◌-◌, ◌≤◌, length, take, subst, arith, rules, length-take-le, sym, take-put_mid, Takes, seen}
-use Rattle.tds_packet.proofs.PayloadLaws.{at_ok, at_err, between_of, ends_there, takes_piece}
 use Rattle.tds_packet.proofs.payload.Payload.fill.Goals as goal
+use Rattle.tds_packet.proofs.{
+  Words.{◌≡◌, ◌+◌, ◌-◌, ◌≤◌, length, take, subst, arith, rules, length-take-le, sym, take-put_mid, Takes, seen},
+  PayloadLaws.{at_ok, at_err, between_of, ends_there, takes_piece},
+}
 
 pub loop-at-preserved : goal.loop-at-preserved
 loop-at-preserved g c =
@@ -21,7 +23,7 @@ loop-at-preserved g c =
       place = omega (arith, k.2, inv.place);
       going = k.3;
       takes = rw all (subst (λ l. Takes (seen g.R.Read.remaining c.args.self.now) (seen g.R.Read.remaining s) l (c.loop-at.at + length bytes)) done
-          (takes_piece g.R.Read.remaining c.args.self.now c.loop-at.self s (take c.loop-at.at c.loop-at.to) bytes c.loop-at.at
+          (takes_piece g.R.Read.remaining c.args.self.now c.loop-at.self s (take c.loop-at.at c.loop-at.to) bytes
           (length-take-le c.loop-at.at c.loop-at.to inv.within) c.in-Ok.ensures.len.0 inv.takes k.0));
     }
 
@@ -34,7 +36,7 @@ returns-in-Err-clause-part g c = λ _.
       c.loop-at.at,
       c.in-Err.stop,
       search rules,
-      rw (left, count) (ends_there g.R.Read.remaining c.args.self.now c.loop-at.self s (take c.loop-at.at c.loop-at.to) c.loop-at.at c.in-Err.stop
+      rw (left, count) (ends_there g.R.Read.remaining c.args.self.now c.loop-at.self s
           c.loop-at.invariant.takes k.0),
       search rules,
     )

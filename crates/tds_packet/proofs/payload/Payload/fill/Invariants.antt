@@ -1,5 +1,5 @@
-use Rattle.tds_packet.proofs.Words.{◌≡◌, ◌+◌, ◌-◌, ◌≤◌, length, take, None, Takes, seen, IsSound, IsOnSame}
 use Rattle.tds_packet.proofs.payload.Payload.fill.Given as goal
+use Rattle.tds_packet.proofs.Words.{◌≡◌, ◌+◌, ◌-◌, ◌≤◌, length, take, None, Takes, seen, IsSound, IsOnSame}
 
 abbrev pub invariant-loop-at : goal.invariant-loop-at
 invariant-loop-at g l = record {

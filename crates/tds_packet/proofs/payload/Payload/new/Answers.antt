@@ -1,5 +1,5 @@
-use Rattle.tds_packet.proofs.{Words.{coming_of, false, None, refl, rules}, PayloadLaws.between_of}
 use Rattle.tds_packet.proofs.payload.Payload.new.Goals as goal
+use Rattle.tds_packet.proofs.{Words.{coming_of, false, None, refl, rules}, PayloadLaws.between_of}
 
 pub returns-clause-begun : goal.returns-clause-begun
 unfolding coming_of

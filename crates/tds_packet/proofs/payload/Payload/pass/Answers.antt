@@ -1,6 +1,8 @@
-use Rattle.std.proofs.Common.{◌≡◌, ◌∙◌, ◌++◌, ◌+◌, length, ap, arith, rules, length-append}
-use Rattle.tds_packet.proofs.PayloadLaws.{at_ok, at_err, between_of, ends_there, takes_piece}
 use Rattle.tds_packet.proofs.payload.Payload.pass.Goals as goal
+use Rattle.{
+  std.proofs.Common.{◌≡◌, ◌∙◌, ◌++◌, ◌+◌, length, ap, arith, rules, length-append},
+  tds_packet.proofs.PayloadLaws.{at_ok, at_err, between_of, ends_there, takes_piece},
+}
 
 pub loop-passed-preserved : goal.loop-passed-preserved
 loop-passed-preserved g c =
@@ -9,7 +11,7 @@ loop-passed-preserved g c =
     let inv = c.loop-passed.invariant in
     let bytes = c.in-Ok.bytes.now in
     let takes = takes_piece g.R.Read.remaining c.args.self.now c.loop-passed.self c.piece.follows.lender-at-none inv.passes.bytes bytes
-    c.loop-passed.passed inv.passes.counted c.in-Ok.ensures.len.0 inv.passes.takes k.0 in
+    inv.passes.counted c.in-Ok.ensures.len.0 inv.passes.takes k.0 in
     record {
       sound = h.0;
       same = search rules;
@@ -36,7 +38,7 @@ returns-in-Err-clause-part g c = λ _.
       part = before.bytes;
       own = c.in-Err.stop;
       fewer = omega (arith, before.counted, c.loop-passed-test.true);
-      ends = rw (left, count) (ends_there g.R.Read.remaining c.args.self.now c.loop-passed.self s before.bytes c.loop-passed.passed c.in-Err.stop
+      ends = rw (left, count) (ends_there g.R.Read.remaining c.args.self.now c.loop-passed.self s
           before.takes k.0);
       stop_is = search rules;
     }

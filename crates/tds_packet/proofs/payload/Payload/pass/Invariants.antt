@@ -1,5 +1,5 @@
-use Rattle.tds_packet.proofs.Words.{◌≡◌, ◌+◌, ◌-◌, ◌≤◌, None, IsSound, IsOnSame, PassesOver}
 use Rattle.tds_packet.proofs.payload.Payload.pass.Given as goal
+use Rattle.tds_packet.proofs.Words.{◌≡◌, ◌+◌, ◌-◌, ◌≤◌, None, IsSound, IsOnSame, PassesOver}
 
 abbrev pub invariant-loop-passed : goal.invariant-loop-passed
 invariant-loop-passed g l = record {

@@ -1,8 +1,9 @@
-use Rattle.tds_packet.proofs.Words.{◌≡◌, [], ◌+◌, ◌-◌, ◌≤◌, length, take, min, refl, arith, rules, length-take-le, length-drop, le_refl, seen}
-use Rattle.tds_packet.proofs.Words.{buffered, further}
-use Rattle.tds_packet.proofs.Futures.{Takes-trans, further_takes}
-use Rattle.tds_packet.proofs.PayloadLaws.{between_of, not_again}
 use Rattle.tds_packet.proofs.payload.Payload.piece.Goals as goal
+use Rattle.tds_packet.proofs.{
+  Words.{◌≡◌, [], ◌+◌, ◌-◌, ◌≤◌, length, take, min, refl, arith, rules, length-take-le, length-drop, le_refl, seen, buffered, further},
+  Futures.{Takes-trans, further_takes},
+  PayloadLaws.{between_of, not_again},
+}
 
 pub returns : goal.returns
 returns g c =

@@ -1,5 +1,5 @@
-use Rattle.tds_packet.proofs.Words.{◌≡◌, ◌-◌, ◌<◌, [], None, length, Takes, seen, IsSound, IsOnSame}
 use Rattle.tds_packet.proofs.payload.Payload.ready.Given as goal
+use Rattle.tds_packet.proofs.Words.{◌≡◌, ◌-◌, ◌<◌, [], None, length, Takes, seen, IsSound, IsOnSame}
 
 abbrev pub invariant-loop-self : goal.invariant-loop-self
 invariant-loop-self g l = record {

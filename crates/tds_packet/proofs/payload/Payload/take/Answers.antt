@@ -1,5 +1,5 @@
-use Rattle.{std.proofs.Common.{◌≡◌, ◌<◌, [], ◌∷◌, length, take, drop, get_or, arith, drop-cons, length-drop}, tds_packet.proofs.Futures.further_takes}
 use Rattle.tds_packet.proofs.payload.Payload.take.Goals as goal
+use Rattle.{std.proofs.Common.{◌≡◌, ◌<◌, [], ◌∷◌, length, take, drop, get_or, arith, drop-cons, length-drop}, tds_packet.proofs.Futures.further_takes}
 
 pub returns-clause-gives : goal.returns-clause-gives
 returns-clause-gives g c =
