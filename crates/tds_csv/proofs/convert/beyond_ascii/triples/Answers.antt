@@ -1,5 +1,6 @@
 use Rattle.tds_csv.proofs.Words.{◌∙◌, arith, nat_tests, map-id, sym, zip2_of_maps, splat_is_map, Each2-splat, Each1-all}
-use Rattle.tds_csv.proofs.WideLanes.{same_map, three_each, lead, others}
+use Rattle.tds_csv.proofs.LaneMasks.{same_map}
+use Rattle.tds_csv.proofs.WideLanes.{three_each, lead, others}
 use Rattle.tds_csv.proofs.convert.beyond_ascii.triples.Goals as goal
 
 pub nonzero_div-lead : goal.nonzero_div-lead
