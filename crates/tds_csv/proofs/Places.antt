@@ -42,14 +42,21 @@ tested row begins h =
     let both = and_parts (nat_eq (length row) 16) (all_below 16 row) all.0 in
     record { long = grind (arith, nat_tests, both.0); small = each_below 16 row both.1; is = (bytes_eq-Decides _ _).0 all.1 }
 
-pub pair_row : (mask : ℕ) → mask < 256 → IsRow (get_or PAIRS mask []) (placed 2 0 (zip2 pair_places (bits 8 mask) (bits 8 mask)))
+pub pair_row : (mask : ℕ) → mask < 256 → IsRow (get_or PAIRS mask []) (placed 2 0 (zip2 pair_places (bits 8 mask) (bits 8 0)))
 pair_row mask small =
-    tested _ _ (agree_below_at (λ i. is_row (get_or PAIRS i []) (placed 2 0 (zip2 pair_places (bits 8 i) (bits 8 i)))) (λ _. true) 256 mask refl small)
+    tested _ _ (agree_below_at (λ i. is_row (get_or PAIRS i []) (placed 2 0 (zip2 pair_places (bits 8 i) (bits 8 0)))) (λ _. true) 256 mask refl small)
 
-pub quad_row : (i : ℕ) → i < 256 → IsRow (get_or QUADS i []) (placed 4 0 (zip2 quad_places (bits 4 (i % 16)) (bits 4 (i / 16))))
-quad_row i small =
+quad_at : (i : ℕ) → i < 256 → IsRow (get_or QUADS i []) (placed 4 0 (zip2 quad_places (bits 4 (i % 16)) (bits 4 (i / 16))))
+quad_at i small =
     tested _ _ (agree_below_at (λ i. is_row (get_or QUADS i []) (placed 4 0 (zip2 quad_places (bits 4 (i % 16)) (bits 4 (i / 16))))) (λ _. true) 256 i
     refl small)
+
+pub quad_row : (wide long : ℕ) → wide < 16 → long < 16
+    → IsRow (get_or QUADS (wide + 16 * long) []) (placed 4 0 (zip2 quad_places (bits 4 wide) (bits 4 long)))
+quad_row wide long small small' =
+    let low : (wide + 16 * long) % 16 ≡ wide = omega arith in
+    let high : (wide + 16 * long) / 16 ≡ long = omega arith in
+    rw (low, high) at (quad_at (wide + 16 * long) (omega arith))
 
 -- how many bits are set in two masks of four
 pub ones_of_two : (wide long : ℕ) → wide < 16 → long < 16 → (count_ones (wide + 16 * long) ≡ count_ones wide + count_ones long)

@@ -9,7 +9,7 @@ use Rattle.tds_csv.proofs.Characters.{of_one, of_two, of_three, doubled_characte
 use Rattle.tds_csv.proofs.Encoding.{front_written}
 use Rattle.tds_csv.proofs.Gathering.{bits, gathered_text, placed, row_begins, same_texts}
 use lib.Lanes.{zip2}
-use Rattle.tds_csv.proofs.LaneMasks.{first_lanes, last_lanes, mask_small, none_of_first, none_set}
+use Rattle.tds_csv.proofs.LaneMasks.{first_lanes, first_mask, last_lanes, mask_small, none_of_first, none_set}
 use Rattle.tds_csv.proofs.Leading.{Leads-none, Leads-trans}
 use Rattle.tds_csv.proofs.Places.{IsRow, ones_of_two, pair_places, pair_row, quad_places, quad_row}
 use Rattle.tds_csv.proofs.Utf16Steps.{next_one, lone_other}
@@ -22,7 +22,7 @@ use Rattle.std.specs.List.{count_by}
 use Rattle.std.specs.Prelude.{count_ones, flat_map}
 
 -- the bytes of a unit's text, at the places for it
-pub pair_text : (u : ℕ) → is_long u ≡ false → map (λ k. get_or (pair_bytes u) k 0) (pair_places (is_wide u) (is_wide u)) ≡ unit_text u
+pub pair_text : (u : ℕ) → is_long u ≡ false → map (λ k. get_or (pair_bytes u) k 0) (pair_places (is_wide u) (is_long u)) ≡ unit_text u
 pair_text u h = grind (arith, nat_tests, of_one, of_two, doubled_character)
 
 pub quad_text : (u : ℕ) → u < 65536 → map (λ k. get_or (quad_bytes u) k 0) (quad_places (is_wide u) (is_long u)) ≡ unit_text u
@@ -46,10 +46,6 @@ units_size (u ∷ us) small = let one = unit_size u small.0 in let more = units_
 pub text_size : (us : List ℕ) {wide long : ℕ} → Each1 (λ u. u < 65536) us → wide ≡ mask_l (map is_wide us) → long ≡ mask_l (map is_long us)
     → length (units_text us) ≡ length us + (count_ones wide + count_ones long)
 text_size us small wide_is long_is = rw (wide_is, long_is, ones-mask_l is_wide us, ones-mask_l is_long us) (units_size us small)
-
--- a row that begins with places, begins with the first of them
-row_is : {row begins : List ℕ} (front rest : List ℕ) → IsRow row begins → begins ≡ front ++ rest → row ≡ front ++ (rest ++ drop (length begins) row)
-row_is {row} {begins} front rest r is = r.is ∙ ap (λ l. l ++ drop (length begins) row) is ∙ append_assoc front rest _
 
 in_pair : (wide long : Bool) → Each1 (λ k. k < 2) (pair_places wide long)
 in_pair true long = (omega arith, (omega arith, tt))
@@ -78,44 +74,44 @@ each_left P (suc n) (u ∷ us) each = each_left P n us each.1
 pub split_lanes : (lane : ℕ → List ℕ) (n : ℕ) (us : List ℕ) → flat_map lane us ≡ flat_map lane (take n us) ++ flat_map lane (drop n us)
 split_lanes lane n us = sym (ap (flat_map lane) (take-append-drop n us)) ∙ flat_map-append lane (take n us) (drop n us)
 
--- the text of short characters is gathered from the bytes of eight
+-- the text of units is gathered from their bytes by a row for their masks
+row_taken : (width m : ℕ) (lane : ℕ → List ℕ) (f : Bool → Bool → List ℕ) → ((u : ℕ) → length (lane u) ≡ width)
+    → ((u : ℕ) → Each1 (λ k. k < length (lane u)) (f (is_wide u) (is_long u))) → (us more : List ℕ) {row xs : List ℕ} {wide long : ℕ}
+    → IsRow row (placed width 0 (zip2 f (bits m wide) (bits m long))) → length us ≤ m → xs ≡ flat_map lane us ++ more
+    → wide ≡ mask_l (map is_wide us) → long ≡ mask_l (map is_long us) → Each1 (λ u. u < 65536) us
+    → flat_map (λ u. map (λ k. get_or (lane u) k 0) (f (is_wide u) (is_long u))) us ≡ units_text us
+    → take (length us + (count_ones wide + count_ones long)) (map (λ j. get_or xs j 0) row) ≡ units_text us
+row_taken width m lane f same inside us more {row} {wide = wide} {long = long} is_row few is wide_is long_is range texts =
+    let places = λ (u : ℕ). f (is_wide u) (is_long u) in
+    let begins = row_begins f width 0 m (map is_wide us) (map is_long us) (omega (arith, length-map us is_wide)) (length-map us is_long
+    ∙ sym (length-map us is_wide)) in
+    let each = zip2-map f is_wide is_long us in
+    let row_is : placed width 0 (zip2 f (bits m wide) (bits m long)) ≡ placed width 0 (map places us) ++ begins.0 =
+    rw (wide_is, long_is, begins.1, each) refl in
+    let rest = drop (length (placed width 0 (zip2 f (bits m wide) (bits m long)))) row in
+    let whole = is_row.is ∙ ap (λ l. l ++ rest) row_is ∙ append_assoc (placed width 0 (map places us)) begins.0 rest in
+    rw (← text_size us range wide_is long_is) (gathered_text width lane places same inside unit_text us more (begins.0 ++ rest) whole is texts)
+
+-- that of short characters from the bytes of eight
 pub pairs_taken : (us : List ℕ) (n : ℕ) {xs : List ℕ} {wide : ℕ} → length us ≡ 8 → n ≤ 8 → Each1 (Fits w16) us → xs ≡ flat_map pair_bytes us
     → wide ≡ mask_l (map is_wide (take n us)) → Each1 (λ u. is_long u ≡ false) (take n us)
     → take (n + count_ones wide) (map (λ j. get_or xs j 0) (get_or PAIRS wide [])) ≡ units_text (take n us)
-pairs_taken us n {wide = wide} long few fits bytes is short =
+pairs_taken us n {wide = wide} eight few fits bytes is short =
     let vs = take n us in
     let counted : length vs ≡ n = length-take-le n us (omega arith) in
-    let masked = length-map vs is_wide in
-    let small : wide < 256 = rw is (mask_small 8 (map is_wide vs) (omega arith)) in
-    let begins = row_begins pair_places 2 0 8 (map is_wide vs) (map is_wide vs) (omega arith) refl in
-    let each = zip2-map pair_places is_wide is_wide vs in
-    let places = λ (u : ℕ). pair_places (is_wide u) (is_wide u) in
-    let all : placed 2 0 (zip2 pair_places (bits 8 wide) (bits 8 wide)) ≡ placed 2 0 (map places vs) ++ begins.0 = rw (is, begins.1, each) refl in
-    let row = row_is (placed 2 0 (map places vs)) begins.0 (pair_row wide small) all in
-    let size = text_size vs (unit_range vs (each_taken (Fits w16) n us fits)) is (sym (none_set is_long vs short)) in
-    let whole : n + count_ones wide ≡ length (units_text vs) = omega (arith, size, ones-mask_l is_long []) in
-    rw whole (gathered_text 2 pair_bytes places (λ u. refl)
-    (λ u. in_pair (is_wide u) (is_wide u)) unit_text vs (flat_map pair_bytes (drop n us)) (begins.0 ++ drop (length (placed 2 0 (zip2 pair_places (bits 8 wide) (bits 8 wide)))) (get_or PAIRS wide [])) row (bytes ∙ split_lanes pair_bytes n us) (same_texts pair_text vs short))
+    let row = pair_row wide (first_mask is_wide us n eight few is).0 in
+    let size : length vs + (count_ones wide + count_ones 0) ≡ n + count_ones wide = omega (arith, counted, ones-mask_l is_long []) in
+    rw size at (row_taken 2 8 pair_bytes pair_places (λ u. refl) (λ u. in_pair (is_wide u) (is_long u)) vs (flat_map pair_bytes (drop n us)) row
+    (omega (arith, counted)) (bytes ∙ split_lanes pair_bytes n us) is (sym (none_set is_long vs short)) (unit_range vs (each_taken (Fits w16) n us fits))
+    (same_texts pair_text vs short))
 
 -- and that of any from the bytes of four
 pub quads_taken : (us more : List ℕ) {xs : List ℕ} {wide long : ℕ} → length us ≤ 4 → wide < 16 → long < 16 → xs ≡ flat_map quad_bytes us ++ more
     → wide ≡ mask_l (map is_wide us) → long ≡ mask_l (map is_long us) → Each1 (λ u. u < 65536) us
     → take (length us + count_ones (wide + 16 * long)) (map (λ j. get_or xs j 0) (get_or QUADS (wide + 16 * long) [])) ≡ units_text us
-quads_taken us more {xs} {wide} {long} few small small' is wide_is long_is range =
-    let index = wide + 16 * long in
-    let low : index % 16 ≡ wide = omega arith in
-    let high : index / 16 ≡ long = omega arith in
-    let begins = row_begins quad_places 4 0 4 (map is_wide us) (map is_long us) (omega (arith, length-map us is_wide)) (length-map us is_long
-    ∙ sym (length-map us is_wide)) in
-    let each = zip2-map quad_places is_wide is_long us in
-    let places = λ (u : ℕ). quad_places (is_wide u) (is_long u) in
-    let all : placed 4 0 (zip2 quad_places (bits 4 (index % 16)) (bits 4 (index / 16))) ≡ placed 4 0 (map places us) ++ begins.0 =
-    rw (low, high, wide_is, long_is, begins.1, each) refl in
-    let row = row_is (placed 4 0 (map places us)) begins.0 (quad_row index (omega arith)) all in
-    let size = text_size us range wide_is long_is in
-    let ones = ones_of_two wide long small small' in
-    let whole : length us + count_ones index ≡ length (units_text us) = omega (arith, size, ones.0) in
-    rw whole (gathered_text 4 quad_bytes places (λ u. refl) (λ u. in_quad (is_wide u) (is_long u)) unit_text us more (begins.0 ++ drop (length (placed 4 0 (zip2 quad_places (bits 4 (index % 16)) (bits 4 (index / 16))))) (get_or QUADS index [])) row is (same_texts quad_text us range))
+quads_taken us more {wide = wide} {long = long} few small small' is wide_is long_is range =
+    rw (← (ones_of_two wide long small small').0) at (row_taken 4 4 quad_bytes quad_places (λ u. refl) (λ u. in_quad (is_wide u) (is_long u)) us more
+    (quad_row wide long small small') few is wide_is long_is range (same_texts quad_text us range))
 
 -- what was written of at most four characters
 pub some_added : (us : List ℕ) {old new xs : List ℕ} {at end m wide long : ℕ} (n : ℕ) → n ≤ 4 → m ≡ n → length us ≡ 8 → Each1 (Fits w16) us

@@ -3,7 +3,7 @@ ghost use Rattle.std.specs.Prelude.{◌≡◌, ◌<◌, [], get_or};
 
 // For eight units of two bytes each, by the mask of those whose text has two: the places of the bytes of their texts, and
 // then zeros. A text of one byte is the first of its unit's.
-const PAIRS: [[u8; 16]; 256] = [
+static PAIRS: [[u8; 16]; 256] = [
     [0, 2, 4, 6, 8, 10, 12, 14, 0, 0, 0, 0, 0, 0, 0, 0],
     [0, 1, 2, 4, 6, 8, 10, 12, 14, 0, 0, 0, 0, 0, 0, 0],
     [0, 2, 3, 4, 6, 8, 10, 12, 14, 0, 0, 0, 0, 0, 0, 0],
@@ -265,7 +265,7 @@ const PAIRS: [[u8; 16]; 256] = [
 // For four units of four bytes each, by the mask of those whose text has more than one, and 16 times the mask of those
 // whose text has three: the places of the bytes of their texts, and then zeros. A text of one byte is the first of its
 // unit's, one of two is the last and the second, and one of three is the last three, the second at the end.
-const QUADS: [[u8; 16]; 256] = [
+static QUADS: [[u8; 16]; 256] = [
     [0, 4, 8, 12, 0, 0, 0, 0, 0, 0, 0, 0, 0, 0, 0, 0],
     [3, 1, 4, 8, 12, 0, 0, 0, 0, 0, 0, 0, 0, 0, 0, 0],
     [0, 7, 5, 8, 12, 0, 0, 0, 0, 0, 0, 0, 0, 0, 0, 0],

@@ -1,13 +1,11 @@
-use Rattle.tds_csv.proofs.Words.{arith, ◌+◌, ◌*◌}
+use Rattle.tds_csv.proofs.Words.{arith}
 use Rattle.tds_csv.proofs.LaneMasks.{few_ones}
 use Rattle.tds_csv.proofs.{Places.{ones_of_two, quad_row}, WideText.quads_taken}
 use Rattle.tds_csv.specs.Wide.{is_long, is_wide}
 use Rattle.tds_csv.proofs.convert.beyond_ascii.put_quads.Goals as goal
 
 pub gathered-requires-clause-places : goal.gathered-requires-clause-places
-gathered-requires-clause-places c =
-    let index = c.args.wide + 16 * c.args.long in
-    rw c.quad_places.ensures (quad_row index (omega (arith, c.requires.wide, c.requires.long))).small
+gathered-requires-clause-places c = rw c.quad_places.ensures (quad_row c.args.wide c.args.long c.requires.wide c.requires.long).small
 
 pub put_bytes-requires-clause-within : goal.put_bytes-requires-clause-within
 put_bytes-requires-clause-within c = omega (arith, (ones_of_two c.args.wide c.args.long c.requires.wide c.requires.long).1)
