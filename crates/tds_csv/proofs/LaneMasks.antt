@@ -1,10 +1,10 @@
 -- Masks of lanes that pass a test.
 use Rattle.tds_csv.proofs.Words.{◌≡◌, ◌∙◌, ℕ, ◌+◌, ◌*◌, ◌/◌, ◌%◌, ◌^◌, ◌<◌, ◌≤◌, Bool, true, false, cond, zero, suc, List, [], ◌∷◌, ◌++◌, map, length}
 use Rattle.tds_csv.proofs.Words.{take, drop, refl, sym, ap, ap₂, arith, nat_tests, length-map, map-map, mask_l, mask_l-mod, top, Each1, Fits, w16, take-map}
-use Rattle.tds_csv.proofs.Words.{length-take-le, take_all, first_set, first_set_mask_l, prefix_len, prefix_len-le-length, not}
+use Rattle.tds_csv.proofs.Words.{length-take, length-take-le, take_all, first_set, first_set_mask_l, prefix_len, prefix_len-le-length, not}
 use Rattle.std.proofs.Math.Nat.{add-mul-mod_self_left, mod-eq_of_lt, mul_assoc, pow-succ'}
 use Rattle.std.proofs.lemmas.Nat.{pow_pos}
-use Rattle.std.proofs.lemmas.Simd.{mask_l-lt, ones-mask_l}
+use Rattle.std.proofs.lemmas.Simd.{ones-mask_l}
 use Rattle.std.specs.Prelude.{count_ones}
 use Rattle.std.proofs.lemmas.List.Sums.{count_by-le-length}
 use Rattle.std.proofs.lemmas.List.{drop-map}
@@ -21,37 +21,33 @@ mask_of q f us long fits lanes same =
     let stops = λ (u : ℕ). top 15 (f u) in
     rw (lanes, map-map (top 15) f us) (mask_l-mod (map stops us) 64 (omega (arith, length-map us stops)) ∙ ap mask_l (same_map same us fits))
 
--- a mask has the bits of its first lanes, and then the others
-mask_parts : (n : ℕ) (ms : List Bool) → n ≤ length ms → mask_l ms ≡ mask_l (take n ms) + 2 ^ n * mask_l (drop n ms)
-mask_parts zero ms within = omega arith
-mask_parts (suc n) [] within = absurd (omega arith)
-mask_parts (suc n) (m ∷ ms) within =
-    let rest = mask_l (drop n ms) in
-    let twice : 2 ^ suc n * rest ≡ 2 * (2 ^ n * rest) = rw (pow-succ' 2 n) (mul_assoc 2 (2 ^ n) rest) in
-    omega (arith, twice, mask_parts n ms (omega arith))
-
-mask_first : (n : ℕ) (ms : List Bool) → n ≤ length ms → mask_l (take n ms) < 2 ^ n
-mask_first n ms within = rw (length-take-le n ms within) at (mask_l-lt (take n ms))
-
--- the lowest bits of a mask are those of the first lanes
-pub first_lanes : (q : ℕ → Bool) (n : ℕ) (us : List ℕ) {mask : ℕ} → n ≤ length us → mask ≡ mask_l (map q us)
-    → mask % 2 ^ n ≡ mask_l (map q (take n us))
-first_lanes q n us within is =
-    let all : n ≤ length (map q us) = omega (arith, length-map us q) in
-    rw (is, mask_parts n (map q us) all, add-mul-mod_self_left (mask_l (take n (map q us))) (2 ^ n) (mask_l (drop n (map q us))), ← take-map q n us)
-    (mod-eq_of_lt (mask_first n (map q us) all))
-
--- and those above, the others
-pub last_lanes : (q : ℕ → Bool) (us : List ℕ) {mask : ℕ} → 4 ≤ length us → mask ≡ mask_l (map q us) → mask / 16 ≡ mask_l (map q (drop 4 us))
-last_lanes q us within is =
-    let all : 4 ≤ length (map q us) = omega (arith, length-map us q) in
-    rw (is, ← drop-map q 4 us) (omega (arith, mask_parts 4 (map q us) all, mask_first 4 (map q us) all))
-
 -- so many lanes have a small mask
 pub mask_small : (k : ℕ) (ms : List Bool) → length ms ≤ k → mask_l ms < 2 ^ k
 mask_small k [] few = pow_pos k
 mask_small zero (m ∷ ms) few = absurd (omega arith)
 mask_small (suc k) (m ∷ ms) few = let more = mask_small k ms (omega arith) in grind arith
+
+-- a mask has the bits of its first lanes, and then the others
+mask_parts : (n : ℕ) (ms : List Bool) → mask_l ms ≡ mask_l (take n ms) + 2 ^ n * mask_l (drop n ms)
+mask_parts zero ms = omega arith
+mask_parts (suc n) [] = omega arith
+mask_parts (suc n) (m ∷ ms) =
+    let rest = mask_l (drop n ms) in
+    let twice : 2 ^ suc n * rest ≡ 2 * (2 ^ n * rest) = rw (pow-succ' 2 n) (mul_assoc 2 (2 ^ n) rest) in
+    omega (arith, twice, mask_parts n ms)
+
+mask_first : (n : ℕ) (ms : List Bool) → mask_l (take n ms) < 2 ^ n
+mask_first n ms = mask_small n (take n ms) (omega (arith, length-take n ms))
+
+-- the lowest bits of a mask are those of the first lanes
+pub first_lanes : (q : ℕ → Bool) (n : ℕ) (us : List ℕ) {mask : ℕ} → mask ≡ mask_l (map q us) → mask % 2 ^ n ≡ mask_l (map q (take n us))
+first_lanes q n us is =
+    let ms = map q us in
+    rw (is, mask_parts n ms, add-mul-mod_self_left (mask_l (take n ms)) (2 ^ n) (mask_l (drop n ms)), ← take-map q n us) (mod-eq_of_lt (mask_first n ms))
+
+-- and those above, the others
+pub last_lanes : (q : ℕ → Bool) (us : List ℕ) {mask : ℕ} → mask ≡ mask_l (map q us) → mask / 16 ≡ mask_l (map q (drop 4 us))
+last_lanes q us is = rw (is, ← drop-map q 4 us) (omega (arith, mask_parts 4 (map q us), mask_first 4 (map q us)))
 
 -- and few bits
 pub few_ones : (q : ℕ → Bool) (us : List ℕ) {mask : ℕ} → mask ≡ mask_l (map q us) → count_ones mask ≤ length us
@@ -94,9 +90,9 @@ all_of_eight q us n long few is full =
     (eight, rw (take_all n us (omega (arith, eight, long))) at all.0)
 
 -- none of the first passes, if their mask is empty
-pub none_of_first : (q : ℕ → Bool) (us : List ℕ) (n : ℕ) {mask low : ℕ} → n ≤ length us → mask ≡ mask_l (map q us) → low ≡ mask % 2 ^ n → low ≡ 0
+pub none_of_first : (q : ℕ → Bool) (us : List ℕ) (n : ℕ) {mask low : ℕ} → mask ≡ mask_l (map q us) → low ≡ mask % 2 ^ n → low ≡ 0
     → Each1 (λ u. q u ≡ false) (take n us)
-none_of_first q us n within is lowest none = none_passes q (take n us) (sym (first_lanes q n us within is) ∙ sym lowest ∙ none)
+none_of_first q us n is lowest none = none_passes q (take n us) (sym (first_lanes q n us is) ∙ sym lowest ∙ none)
 
 -- at most eight lanes come before the first that passes
 pub first_few : (q : ℕ → Bool) (us : List ℕ) {mask : ℕ} → length us ≡ 8 → mask ≡ mask_l (map q us) → first_set mask 8 ≤ 8

@@ -113,52 +113,35 @@ quads_taken us more {wide = wide} {long = long} few small small' is wide_is long
     rw (← (ones_of_two wide long small small').0) at (row_taken 4 4 quad_bytes quad_places (λ u. refl) (λ u. in_quad (is_wide u) (is_long u)) us more
     (quad_row wide long small small') few is wide_is long_is range (same_texts quad_text us range))
 
--- what was written of at most four characters
-pub some_added : (us : List ℕ) {old new xs : List ℕ} {at end m wide long : ℕ} (n : ℕ) → n ≤ 4 → m ≡ n → length us ≡ 8 → Each1 (Fits w16) us
-    → wide ≡ mask_l (map is_wide (take n us)) → long ≡ mask_l (map is_long (take n us)) → xs ≡ flat_map quad_bytes (take 4 us)
-    → AddsQuads old new at end m xs (wide % 16) (long % 16) → (take end new ≡ take at old ++ units_text (take n us)) × (end ≤ at + 3 * n)
-some_added us {wide = wide} {long = long} n few same long_us fits wide_is long_is is adds =
-    let counted = length-take-le n us (omega arith) in
-    let low : wide < 16 = rw wide_is (mask_small 4 (map is_wide (take n us)) (omega (arith, length-map (take n us) is_wide))) in
-    let high : long < 16 = rw long_is (mask_small 4 (map is_long (take n us)) (omega (arith, length-map (take n us) is_long))) in
-    let wide_same : wide % 16 ≡ wide = omega arith in
-    let long_same : long % 16 ≡ long = omega arith in
-    let bytes = rw (take-take n 4 us few) at (split_lanes quad_bytes n (take 4 us)) in
-    rw same at (adds.adds (take n us) (flat_map quad_bytes (drop n (take 4 us))) (counted ∙ sym same) (is ∙ bytes) (wide_same ∙ wide_is)
-    (long_same ∙ long_is) (unit_range (take n us) (each_taken (Fits w16) n us fits)))
+take_both : (n m : ℕ) (us : List ℕ) → take n (take m us) ≡ take m (take n us)
+take_both zero zero us = refl
+take_both zero (suc m) us = refl
+take_both (suc n) zero us = refl
+take_both (suc n) (suc m) [] = refl
+take_both (suc n) (suc m) (u ∷ us) = ap (λ vs. u ∷ vs) (take_both n m us)
 
--- and of more: of four, and then of the others
-pub four_added : (us : List ℕ) {old new xs : List ℕ} {at end m wide long : ℕ} (n : ℕ) → 4 ≤ n → n ≤ 8 → m ≡ 4 → length us ≡ 8 → Each1 (Fits w16) us
+-- what was written of the first four of so many characters
+pub first_added : (us : List ℕ) (n : ℕ) {old new xs : List ℕ} {at end m wide long : ℕ} → Each1 (Fits w16) us
     → wide ≡ mask_l (map is_wide (take n us)) → long ≡ mask_l (map is_long (take n us)) → xs ≡ flat_map quad_bytes (take 4 us)
-    → AddsQuads old new at end m xs (wide % 16) (long % 16) → (take end new ≡ take at old ++ units_text (take 4 us)) × (end ≤ at + 12)
-four_added us n many few same long_us fits wide_is long_is is adds =
-    let counted = length-take-le n us (omega arith) in
-    let four = length-take-le 4 us (omega arith) in
-    let wide_same = rw (take-take 4 n us many) at (first_lanes is_wide 4 (take n us) (omega arith) wide_is) in
-    let long_same = rw (take-take 4 n us many) at (first_lanes is_long 4 (take n us) (omega arith) long_is) in
-    rw same at (adds.adds (take 4 us) [] (four ∙ sym same) (is ∙ sym (append-nil _)) wide_same long_same
-    (unit_range (take 4 us) (each_taken (Fits w16) 4 us fits)))
+    → AddsQuads old new at end m xs (wide % 16) (long % 16) → length (take 4 (take n us)) ≡ m
+    → (take end new ≡ take at old ++ units_text (take 4 (take n us))) × (end ≤ at + 3 * m)
+first_added us n fits wide_is long_is is adds counted =
+    let vs = take n us in
+    let bytes = rw (take_both n 4 us) at (split_lanes quad_bytes n (take 4 us)) in
+    adds.adds (take 4 vs) (flat_map quad_bytes (drop n (take 4 us))) counted (is ∙ bytes) (first_lanes is_wide 4 vs wide_is)
+    (first_lanes is_long 4 vs long_is) (each_taken _ 4 vs (each_taken _ n us (unit_range us fits)))
 
-pub more_added : (us : List ℕ) {old middle new xs ys : List ℕ} {at at' end m wide long : ℕ} (n : ℕ) → 4 ≤ n → n ≤ 8 → m ≡ 4 → length us ≡ 8 → Each1 (Fits w16) us
-    → wide ≡ mask_l (map is_wide (take n us)) → long ≡ mask_l (map is_long (take n us)) → xs ≡ flat_map quad_bytes (take 4 us)
-    → ys ≡ flat_map quad_bytes (drop 4 us) → AddsQuads old middle at at' m xs (wide % 16) (long % 16)
-    → AddsQuads middle new at' end (n - 4) ys (wide / 16) (long / 16)
-    → (take end new ≡ take at old ++ units_text (take n us)) × (end ≤ at + 3 * n)
-more_added us {old = old} {at = at} n many few same long_us fits wide_is long_is is others adds adds' =
-    let vs = drop 4 us in
-    let first = four_added us n many few same long_us fits wide_is long_is is adds in
-    let counted = length-take-le n us (omega arith) in
+-- and of the others
+pub others_added : (us : List ℕ) (n : ℕ) {old new xs : List ℕ} {at end wide long : ℕ} → Each1 (Fits w16) us → length us ≡ 8 → 4 ≤ n → n ≤ 8
+    → wide ≡ mask_l (map is_wide (take n us)) → long ≡ mask_l (map is_long (take n us)) → xs ≡ flat_map quad_bytes (drop 4 us)
+    → AddsQuads old new at end (n - 4) xs (wide / 16) (long / 16)
+    → (take end new ≡ take at old ++ units_text (drop 4 (take n us))) × (end ≤ at + 3 * (n - 4))
+others_added us n fits eight many few wide_is long_is is adds =
+    let vs = take n us in
     let all : 4 + (n - 4) ≡ n = omega arith in
-    let left = rw all at (drop-take 4 (n - 4) us) in
-    let wide_same = rw left at (last_lanes is_wide (take n us) (omega arith) wide_is) in
-    let long_same = rw left at (last_lanes is_long (take n us) (omega arith) long_is) in
-    let more = adds'.adds (take (n - 4) vs) (flat_map quad_bytes (drop (n - 4) vs)) (length-take-le (n - 4) vs (omega (arith, length-drop 4 us)))
-    (others ∙ split_lanes quad_bytes (n - 4) vs) wide_same long_same
-    (unit_range (take (n - 4) vs) (each_taken (Fits w16) (n - 4) vs (each_left (Fits w16) 4 us fits))) in
-    let text = rw all at (ap units_text (take-add 4 (n - 4) us) ∙ flat_map-append unit_text (take 4 us) (take (n - 4) vs)) in (
-      more.0 ∙ ap (λ l. l ++ units_text (take (n - 4) vs)) first.0 ∙ append_assoc (take at old) _ _ ∙ ap (λ l. take at old ++ l) (sym text),
-      omega (arith, more.1, first.1),
-    )
+    let bytes = rw (← drop-take 4 (n - 4) us, all) at (split_lanes quad_bytes (n - 4) (drop 4 us)) in
+    adds.adds (drop 4 vs) (flat_map quad_bytes (drop (n - 4) (drop 4 us))) (omega (arith, length-drop 4 vs, length-take-le n us (omega (arith, eight))))
+    (is ∙ bytes) (last_lanes is_wide vs wide_is) (last_lanes is_long vs long_is) (each_left _ 4 vs (each_taken _ n us (unit_range us fits)))
 
 -- long characters have three bytes each
 pub long_texts : (us : List ℕ) → Each1 (λ u. u < 65536) us → Each1 (λ u. is_long u ≡ true) us → triples us ≡ units_text us
@@ -203,7 +186,7 @@ pub plain_added : (ys old new : List ℕ) {us low : List ℕ} {wide mask at : �
     → mask ≡ mask_l (map is_wide us) → wide ≡ mask % 2 ^ n → wide ≡ 0 → low ≡ evens ys → take (at + 8) new ≡ take at old ++ take 8 low
     → (take (at + n) new ≡ take at old ++ units_text (take n (units ys))) × Each1 (λ u. is_half u ≡ false) (take n (units ys))
 plain_added ys old new {us} {low} {at = at} n long few within is masked lowest none low_is written =
-    let plain = rw is at (none_of_first is_wide us n (omega (arith, eight_units ys long is)) masked lowest none) in
+    let plain = rw is at (none_of_first is_wide us n masked lowest none) in
     let text = rw (take-take n 8 low few, low_is) at (front_written old new (take 8 low) at n 8 few within written) in
     (text ∙ ap (λ l. take at old ++ l) (plain_texts n ys plain), Each1-weaker _ _ (λ u h. no_half u (not_long u h)) _ plain)
 

@@ -38,9 +38,9 @@ fn pairs(units: u16x8) -> u8x16
     let lead = units / u16x8::splat(64) + u16x8::splat(0xC0);
     let trail = units % u16x8::splat(64) + u16x8::splat(0x80);
     let two = lead + trail * u16x8::splat(256);
-    let one = units.simd_lt(u16x8::splat(0x80)).select(units, two);
+    let text = units.simd_ge(u16x8::splat(0x80)).select(two, units);
     let quotes = units.simd_eq(u16x8::splat(0x22));
-    quotes.select(u16x8::splat(0x2222), one).to_le_bytes()
+    quotes.select(u16x8::splat(0x2222), text).to_le_bytes()
 }
 
 // The bytes of eight characters, four each: of the first four, and of the others.

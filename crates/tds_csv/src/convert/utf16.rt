@@ -141,7 +141,11 @@ fn convert_eights(bytes: &[u8], from: usize, to: &mut [u8], start: usize) -> Con
 {
     let mut at = from;
     let mut made = start;
-    while bytes.len() - at >= LANES {
+    if bytes.len() - from < LANES {
+        return Converted { used: at, made };
+    }
+    let last = bytes.len() - LANES;
+    while at <= last {
         let lanes = u8x16::from_slice(&bytes[at..]);
         let Some(end) = put_units(to, made, lanes, UNITS) else {
             break;

@@ -23,9 +23,8 @@ returns-then-long-eq-EVERY-clause-written c =
     rw (take_all c.args.n c.args.units (omega (arith, eight.0, c.fits-units.0))) c.put_triples.ensures
 
 pub returns-then-long-eq-EVERY-clause-single : goal.returns-then-long-eq-EVERY-clause-single
-returns-then-long-eq-EVERY-clause-single c = none_of_first is_half c.args.units c.args.n (omega (arith, c.fits-units.0, c.requires.most))
-    c.surrogate_units.ensures c.lowest.ensures c.if-lowest-ne0.false
+returns-then-long-eq-EVERY-clause-single c = none_of_first is_half c.args.units c.args.n c.surrogate_units.ensures c.lowest.ensures c.if-lowest-ne0.false
 
 pub returns-clause-single : goal.returns-clause-single
-returns-clause-single c = none_of_first is_half c.args.units c.args.n (omega (arith, c.fits-units.0, c.requires.most)) c.surrogate_units.ensures
+returns-clause-single c = none_of_first is_half c.args.units c.args.n c.surrogate_units.ensures
     c.lowest.ensures c.if-lowest-ne0.false

@@ -1,15 +1,25 @@
-use Rattle.tds_csv.proofs.Words.{arith}
-use Rattle.tds_csv.proofs.{LaneMasks.first_mask, WideText.{four_added, more_added, some_added}}
-use Rattle.tds_csv.specs.Wide.{is_long, is_wide}
+use Rattle.tds_csv.proofs.Words.{append_assoc, arith, drop, length-take, length-take-le, take, take_all}
+use Rattle.tds_csv.proofs.{LaneMasks.first_mask, WideText.{first_added, others_added, split_lanes}}
+use Rattle.tds_csv.specs.Wide.{is_long, is_wide, unit_text, units_text}
 use Rattle.tds_csv.proofs.convert.beyond_ascii.put_mixed.Goals as goal
 
 pub returns-then-n-le-HALF-clause-most : goal.returns-then-n-le-HALF-clause-most
-returns-then-n-le-HALF-clause-most c = (some_added c.args.units c.args.n c.if-n-le-HALF.true (omega arith) c.fits-units.0 c.fits-units.1 c.requires.wide
-    c.requires.long c.quads.ensures.first c.put_quads-middle.ensures).1
+returns-then-n-le-HALF-clause-most c =
+    let us = c.args.units in
+    let n = c.args.n in
+    let counted = length-take-le n us (omega (arith, c.fits-units.0)) in
+    let first = first_added us n c.fits-units.1 c.requires.wide c.requires.long c.quads.ensures.first c.put_quads-middle.ensures
+    (omega (arith, length-take 4 (take n us), counted)) in
+    omega (arith, first.1)
 
 pub returns-then-n-le-HALF-clause-written : goal.returns-then-n-le-HALF-clause-written
-returns-then-n-le-HALF-clause-written c = (some_added c.args.units c.args.n c.if-n-le-HALF.true (omega arith) c.fits-units.0 c.fits-units.1 c.requires.wide
-    c.requires.long c.quads.ensures.first c.put_quads-middle.ensures).0
+returns-then-n-le-HALF-clause-written c =
+    let us = c.args.units in
+    let n = c.args.n in
+    let counted = length-take-le n us (omega (arith, c.fits-units.0)) in
+    let first = first_added us n c.fits-units.1 c.requires.wide c.requires.long c.quads.ensures.first c.put_quads-middle.ensures
+    (omega (arith, length-take 4 (take n us), counted)) in
+    rw (take_all 4 (take n us) (omega (arith, counted))) at first.0
 
 pub put_quads-requires-clause-wide : goal.put_quads-requires-clause-wide
 put_quads-requires-clause-wide c =
@@ -21,14 +31,32 @@ put_quads-requires-clause-long c =
 
 pub put_quads-requires-clause-room : goal.put_quads-requires-clause-room
 put_quads-requires-clause-room c =
-    let four = four_added c.args.units c.args.n (omega arith) c.requires.most (omega arith) c.fits-units.0 c.fits-units.1 c.requires.wide c.requires.long
-    c.quads.ensures.first c.put_quads-middle.ensures in
-    omega (arith, four.1)
+    let us = c.args.units in
+    let n = c.args.n in
+    let counted = length-take-le n us (omega (arith, c.fits-units.0)) in
+    let first = first_added us n c.fits-units.1 c.requires.wide c.requires.long c.quads.ensures.first c.put_quads-middle.ensures
+    (omega (arith, length-take 4 (take n us), counted)) in
+    omega (arith, first.1)
 
 pub returns-clause-most : goal.returns-clause-most
-returns-clause-most c = (more_added c.args.units c.args.n (omega arith) c.requires.most (omega arith) c.fits-units.0 c.fits-units.1 c.requires.wide c.requires.long
-    c.quads.ensures.first c.quads.ensures.second c.put_quads-middle.ensures c.put_quads.ensures).1
+returns-clause-most c =
+    let us = c.args.units in
+    let n = c.args.n in
+    let counted = length-take-le n us (omega (arith, c.fits-units.0)) in
+    let first = first_added us n c.fits-units.1 c.requires.wide c.requires.long c.quads.ensures.first c.put_quads-middle.ensures
+    (omega (arith, length-take 4 (take n us), counted)) in
+    let others = others_added us n c.fits-units.1 c.fits-units.0 (omega arith) c.requires.most c.requires.wide c.requires.long c.quads.ensures.second
+    c.put_quads.ensures in
+    omega (arith, first.1, others.1)
 
 pub returns-clause-written : goal.returns-clause-written
-returns-clause-written c = (more_added c.args.units c.args.n (omega arith) c.requires.most (omega arith) c.fits-units.0 c.fits-units.1 c.requires.wide
-    c.requires.long c.quads.ensures.first c.quads.ensures.second c.put_quads-middle.ensures c.put_quads.ensures).0
+returns-clause-written c =
+    let us = c.args.units in
+    let n = c.args.n in
+    let counted = length-take-le n us (omega (arith, c.fits-units.0)) in
+    let first = first_added us n c.fits-units.1 c.requires.wide c.requires.long c.quads.ensures.first c.put_quads-middle.ensures
+    (omega (arith, length-take 4 (take n us), counted)) in
+    let others = others_added us n c.fits-units.1 c.fits-units.0 (omega arith) c.requires.most c.requires.wide c.requires.long c.quads.ensures.second
+    c.put_quads.ensures in
+    let all = append_assoc (take c.args.at c.args.to.now) (units_text (take 4 (take n us))) (units_text (drop 4 (take n us))) in
+    cc (others.0, first.0, all, split_lanes unit_text 4 (take n us))

@@ -1,6 +1,6 @@
 use Rattle.tds_csv.proofs.Words.{arith, ◌∙◌}
 use Rattle.tds_csv.proofs.LaneMasks.{first_lanes, none_of_first}
-use Rattle.tds_csv.proofs.WideText.{eight_units, no_half, plain_added}
+use Rattle.tds_csv.proofs.WideText.{no_half, plain_added}
 use Rattle.tds_csv.specs.Wide.{is_long, is_wide}
 use Rattle.std.proofs.lemmas.Simd.{Each1-weaker}
 use Rattle.tds_csv.proofs.convert.beyond_ascii.put_units.Goals as goal
@@ -15,28 +15,23 @@ returns-then-wide-eq0-clause-single c = (plain_added c.args.lanes _ _ c.args.n c
 
 pub put_pairs-requires-clause-wide : goal.put_pairs-requires-clause-wide
 put_pairs-requires-clause-wide c =
-    let eight = eight_units c.args.lanes c.fits-lanes.0 c.units_of-units.ensures in
-    c.lowest-wide.ensures ∙ first_lanes is_wide c.args.n c.units_of-units.result (omega (arith, eight, c.requires.most)) c.wide_units.ensures
+    c.lowest-wide.ensures ∙ first_lanes is_wide c.args.n c.units_of-units.result c.wide_units.ensures
 
 pub put_pairs-requires-clause-short : goal.put_pairs-requires-clause-short
 put_pairs-requires-clause-short c =
-    let eight = eight_units c.args.lanes c.fits-lanes.0 c.units_of-units.ensures in
-    none_of_first is_long c.units_of-units.result c.args.n (omega (arith, eight, c.requires.most)) c.long_units.ensures c.lowest-long.ensures
+    none_of_first is_long c.units_of-units.result c.args.n c.long_units.ensures c.lowest-long.ensures
     c.if-long-eq0.true
 
 pub returns-then-long-eq0-clause-single : goal.returns-then-long-eq0-clause-single
 returns-then-long-eq0-clause-single c =
-    let eight = eight_units c.args.lanes c.fits-lanes.0 c.units_of-units.ensures in
-    let short = none_of_first is_long c.units_of-units.result c.args.n (omega (arith, eight, c.requires.most)) c.long_units.ensures
+    let short = none_of_first is_long c.units_of-units.result c.args.n c.long_units.ensures
     c.lowest-long.ensures c.if-long-eq0.true in
     Each1-weaker _ _ no_half _ (rw c.units_of-units.ensures at short)
 
 pub put_long-requires-clause-wide : goal.put_long-requires-clause-wide
 put_long-requires-clause-wide c =
-    let eight = eight_units c.args.lanes c.fits-lanes.0 c.units_of-units.ensures in
-    c.lowest-wide.ensures ∙ first_lanes is_wide c.args.n c.units_of-units.result (omega (arith, eight, c.requires.most)) c.wide_units.ensures
+    c.lowest-wide.ensures ∙ first_lanes is_wide c.args.n c.units_of-units.result c.wide_units.ensures
 
 pub put_long-requires-clause-long : goal.put_long-requires-clause-long
 put_long-requires-clause-long c =
-    let eight = eight_units c.args.lanes c.fits-lanes.0 c.units_of-units.ensures in
-    c.lowest-long.ensures ∙ first_lanes is_long c.args.n c.units_of-units.result (omega (arith, eight, c.requires.most)) c.long_units.ensures
+    c.lowest-long.ensures ∙ first_lanes is_long c.args.n c.units_of-units.result c.long_units.ensures
