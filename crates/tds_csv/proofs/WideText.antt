@@ -3,13 +3,13 @@ use Rattle.tds_csv.proofs.Words.{common_steps, ◌-◌, take-take, evens, length
 use Rattle.tds_csv.proofs.Words.{Fits, Leads, List, [], ap, append_assoc, arith, cond, drop, encode_utf8, length-append, length-map, mask_l, or_parts}
 use Rattle.tds_csv.proofs.Words.{false, get_or, is_high_surrogate, is_low_surrogate, length, map, nat_tests, flat_map-append}
 use Rattle.tds_csv.proofs.Words.{suc, sym, take, take-append-drop, true, w16, zero, ℕ, ◌%◌, ◌*◌, ◌++◌, ◌+◌, ◌/◌, ◌<◌}
-use Rattle.tds_csv.proofs.Words.{◌∙◌, ◌∷◌, ◌≡◌, ◌≤◌, append-nil, drop-take, length-drop, take-add, ◌^◌}
+use Rattle.tds_csv.proofs.Words.{◌∙◌, ◌∷◌, ◌≡◌, ◌≤◌, append-nil, drop-take, length-drop, take_all, take-add, ◌^◌}
 use Rattle.tds_csv.proofs.Masks.{alike}
 use Rattle.tds_csv.proofs.Characters.{of_one, of_two, of_three, doubled_character}
 use Rattle.tds_csv.proofs.Encoding.{front_written}
 use Rattle.tds_csv.proofs.Gathering.{bits, gathered_text, placed, row_begins, same_texts}
 use lib.Lanes.{zip2}
-use Rattle.tds_csv.proofs.LaneMasks.{first_lanes, first_mask, last_lanes, mask_small, none_of_first, none_set}
+use Rattle.tds_csv.proofs.LaneMasks.{first_lanes, first_mask, last_lanes, mask_small, none_of_first, none_passes, none_set}
 use Rattle.tds_csv.proofs.Leading.{Leads-none, Leads-trans}
 use Rattle.tds_csv.proofs.Places.{IsRow, ones_of_two, pair_places, pair_row, quad_places, quad_row}
 use Rattle.tds_csv.proofs.Utf16Steps.{next_one, lone_other}
@@ -205,6 +205,10 @@ leads_front (suc k) (low ∷ high ∷ ys) more few each =
     rw (← two) (Leads-trans (leads_unit low high (take (2 * k) ys ++ more) each.0) (leads_front k ys more (omega arith) each.1))
 leads_front k ys more few each = absurd (omega arith)
 
+-- all the bytes are a source of their own
+pub lies_itself : (bytes : List ℕ) → LiesIn bytes bytes
+lies_itself bytes = grind (arith, common_steps)
+
 -- so many units of a source that begins with the bytes were converted after what was before
 pub units_more : {bytes source old new : List ℕ} {at made after : ℕ} (n : ℕ) → LiesIn bytes source → at + 16 ≤ length source → n ≤ 8
     → Each1 (λ u. is_half u ≡ false) (take n (units (chunk at 16 source))) → at + 2 * n ≤ length bytes → after ≤ made + 3 * n
@@ -217,6 +221,12 @@ units_more {bytes} {source} {at = at} n lies room few single within small writte
     let next = rw (← same, take-append-drop, drop-drop (2 * n) at bytes) at (leads_front n ys (drop (2 * n) (drop at bytes)) (omega arith) single) in
     record { within = within; room = omega arith; leads = rw written (Leads-trans before.leads next) }
 
--- all the bytes are a source of their own
-pub lies_itself : (bytes : List ℕ) → LiesIn bytes bytes
-lies_itself bytes = grind (arith, common_steps)
+-- so were eight units of the bytes
+pub eight_more : {bytes us old new : List ℕ} {at made after mask : ℕ} → at + 16 ≤ length bytes → us ≡ units (chunk at 16 bytes)
+    → mask ≡ mask_l (map is_half us) → mask ≡ 0 → after ≤ made + 24 → take after new ≡ take made old ++ units_text us → Converts bytes old at made
+    → Converts bytes new (at + 16) after
+eight_more {bytes} {us} {at = at} room is masked none small written before =
+    let ys = chunk at 16 bytes in
+    let all : take 8 us ≡ us = take_all 8 us (omega (arith, eight_units ys (length-chunk at 16 bytes room) is)) in
+    let single = none_passes is_half us (sym masked ∙ none) in
+    units_more 8 (lies_itself bytes) room (omega arith) (rw (← is, all) single) room small (rw (← is, all) written) before

@@ -143,10 +143,25 @@ fn put_triples(to: &mut [u8], at: usize, units: u16x8)
     put_bytes(to, at + 12, high, 12);
 }
 
-// Writes the text of the first `n` of eight characters, some of them long, and returns its end. Writes none if one of
-// them is a surrogate.
+// Writes the text of eight characters, with the mask of the long ones.
 #[inline(always)]
-fn put_long(to: &mut [u8], at: usize, units: u16x8, wide: u64, long: u64, n: usize) -> Option<usize>
+pub(crate) fn put_longs(to: &mut [u8], at: usize, units: u16x8, long: u64) -> usize
+    requires long { long ≡ mask_l (map is_long units) }
+    requires room { at + 3 * UNITS + LANES ≤ length to.old }
+    ensures most { result ≤ at + 3 * UNITS }
+    ensures written { take result to.new ≡ take at to.old ++ units_text units }
+{
+    if long == EVERY {
+        put_triples(to, at, units);
+        return at + 3 * UNITS;
+    }
+    put_mixed(to, at, units, wide_units(units), long, UNITS)
+}
+
+// Writes the text of the first `n` of eight characters, some of them long, and returns its end. Writes none if one of
+// them is a surrogate or all of the eight are long.
+#[inline(always)]
+fn put_few(to: &mut [u8], at: usize, units: u16x8, wide: u64, long: u64, n: usize) -> Option<usize>
     requires most { n ≤ UNITS }
     requires wide { wide ≡ mask_l (map is_wide (take n units)) }
     requires long { long ≡ mask_l (map is_long (take n units)) }
@@ -156,17 +171,14 @@ fn put_long(to: &mut [u8], at: usize, units: u16x8, wide: u64, long: u64, n: usi
     ensures single { IfSome result (λ _. Each1 (λ u. is_half u ≡ false) (take n units)) }
     ensures none { IfNone result (to.new ≡ to.old) }
 {
-    if lowest(surrogate_units(units), n) != 0 {
+    if long == EVERY || lowest(surrogate_units(units), n) != 0 {
         return None;
-    }
-    if long == EVERY {
-        put_triples(to, at, units);
-        return Some(at + 3 * UNITS);
     }
     Some(put_mixed(to, at, units, wide, long, n))
 }
 
-// Writes the text of the first `n` of eight units, and returns its end. Writes none if one of them is a surrogate.
+// Writes the text of the first `n` of eight units, and returns its end. Writes none if one of them is a surrogate or all of
+// the eight are long.
 #[inline(always)]
 pub(crate) fn put_units(to: &mut [u8], at: usize, lanes: u8x16, n: usize) -> Option<usize>
     requires most { n ≤ UNITS }
@@ -186,5 +198,5 @@ pub(crate) fn put_units(to: &mut [u8], at: usize, lanes: u8x16, n: usize) -> Opt
     if long == 0 {
         return Some(put_pairs(to, at, units, wide, n));
     }
-    put_long(to, at, units, wide, long, n)
+    put_few(to, at, units, wide, long, n)
 }

@@ -28,10 +28,10 @@ returns-then-long-eq0-clause-single c =
     c.lowest-long.ensures c.if-long-eq0.true in
     Each1-weaker _ _ no_half _ (rw c.units_of-units.ensures at short)
 
-pub put_long-requires-clause-wide : goal.put_long-requires-clause-wide
-put_long-requires-clause-wide c =
+pub put_few-requires-clause-wide : goal.put_few-requires-clause-wide
+put_few-requires-clause-wide c =
     c.lowest-wide.ensures ∙ first_lanes is_wide c.args.n c.units_of-units.result c.wide_units.ensures
 
-pub put_long-requires-clause-long : goal.put_long-requires-clause-long
-put_long-requires-clause-long c =
+pub put_few-requires-clause-long : goal.put_few-requires-clause-long
+put_few-requires-clause-long c =
     c.lowest-long.ensures ∙ first_lanes is_long c.args.n c.units_of-units.result c.long_units.ensures
