@@ -1,6 +1,6 @@
 -- Masks of lanes that pass a test.
-use Rattle.tds_csv.proofs.Words.{◌≡◌, ◌∙◌, ℕ, ◌+◌, ◌*◌, ◌/◌, ◌%◌, ◌^◌, ◌<◌, ◌≤◌, Bool, true, false, cond, zero, suc, List, [], ◌∷◌, ◌++◌, map, length}
-use Rattle.tds_csv.proofs.Words.{take, drop, refl, sym, ap, ap₂, arith, nat_tests, length-map, map-map, mask_l, mask_l-mod, top, Each1, Fits, w16, take-map}
+use Rattle.tds_csv.proofs.Words.{◌≡◌, ◌∙◌, ℕ, ◌+◌, ◌*◌, ◌/◌, ◌%◌, ◌^◌, ◌<◌, ◌≤◌, Bool, true, false, zero, suc, List, [], ◌∷◌, map, length}
+use Rattle.tds_csv.proofs.Words.{take, drop, refl, sym, ap, ap₂, arith, length-map, map-map, mask_l, mask_l-mod, top, Each1, Fits, w16, take-map}
 use Rattle.tds_csv.proofs.Words.{length-take, length-take-le, take_all, first_set, first_set_mask_l, prefix_len, prefix_len-le-length, not}
 use Rattle.std.proofs.Math.Nat.{add-mul-mod_self_left, mod-eq_of_lt, mul_assoc, pow-succ'}
 use Rattle.std.proofs.lemmas.Nat.{pow_pos}

@@ -1,7 +1,7 @@
 -- What the tables of places have.
-use Rattle.tds_csv.proofs.Words.{◌≡◌, ◌∙◌, ℕ, ◌+◌, ◌*◌, ◌/◌, ◌%◌, ◌^◌, ◌<◌, ◌≤◌, Bool, true, false, cond, zero, suc, List, [], ◌∷◌, ◌++◌, map, length, take}
-use Rattle.tds_csv.proofs.Words.{drop, refl, sym, ap, ap₂, arith, nat_tests, get_or, mask_l, Each1, agree_below_at, nat_eq, nat_lt, ◌&&◌, and_parts}
-use Rattle.tds_csv.proofs.Gathering.{placed, bits, row_begins}
+use Rattle.tds_csv.proofs.Words.{◌≡◌, ℕ, ◌+◌, ◌*◌, ◌/◌, ◌%◌, ◌^◌, ◌<◌, ◌≤◌, Bool, true, cond, List, [], ◌∷◌, ◌++◌, length}
+use Rattle.tds_csv.proofs.Words.{drop, refl, arith, nat_tests, get_or, Each1, agree_below_at, nat_eq, nat_lt, ◌&&◌, and_parts}
+use Rattle.tds_csv.proofs.Gathering.{placed, bits}
 use Rattle.tds_csv.specs.declared.convert.places.TheConstants.{PAIRS, QUADS}
 use Rattle.std.proofs.lemmas.Slice.Eq.{bytes_eq-Decides}
 use Rattle.std.specs.Prelude.{count_ones}

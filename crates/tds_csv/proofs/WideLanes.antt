@@ -1,6 +1,6 @@
 -- Units that are looked at eight at a time, lane by lane.
-use Rattle.tds_csv.proofs.Words.{common_steps, drop, take, get_or, ◌++◌, ◌≡◌, ◌∙◌, ◌+◌, ◌*◌, ◌/◌, ◌%◌, ◌^◌, ◌<◌, ℕ, Bool, zero, suc, List}
-use Rattle.tds_csv.proofs.Words.{[], ◌∷◌, map, length, refl, ap, ap₂, arith, nat_tests, Fits, w8, w16, Each1, map-map, top, sel_l, length-map, cond, eqb, leb}
+use Rattle.tds_csv.proofs.Words.{common_steps, drop, take, get_or, ◌++◌, ◌≡◌, ◌∙◌, ◌+◌, ◌*◌, ◌/◌, ◌%◌, ◌<◌, ℕ, Bool, zero, suc, List}
+use Rattle.tds_csv.proofs.Words.{[], ◌∷◌, map, length, refl, ap, arith, nat_tests, Fits, w8, w16, Each1, map-map, top, sel_l, length-map, cond, eqb, leb}
 use Rattle.tds_csv.specs.Utf16.{units}
 use Rattle.tds_csv.specs.Wide.{high_quad, low_and_high, low_quad, pair, pair_bytes, quad_bytes, triples}
 use Rattle.std.specs.Prelude.{flat_map}

@@ -1,15 +1,15 @@
 -- The text of units that are characters of at most three bytes.
 use Rattle.tds_csv.proofs.Words.{common_steps, ◌-◌, take-take, evens, length-chunk, refl, LiesIn, chunk, drop-drop, Bool, Each1, length-take-le}
-use Rattle.tds_csv.proofs.Words.{Fits, Leads, List, [], ap, append_assoc, arith, cond, drop, encode_utf8, length-append, length-map, mask_l, or_parts}
+use Rattle.tds_csv.proofs.Words.{Fits, Leads, List, [], ap, append_assoc, arith, cond, drop, length-append, length-map, mask_l, or_parts}
 use Rattle.tds_csv.proofs.Words.{false, get_or, is_high_surrogate, is_low_surrogate, length, map, nat_tests, flat_map-append}
 use Rattle.tds_csv.proofs.Words.{suc, sym, take, take-append-drop, true, w16, zero, ℕ, ◌%◌, ◌*◌, ◌++◌, ◌+◌, ◌/◌, ◌<◌}
-use Rattle.tds_csv.proofs.Words.{◌∙◌, ◌∷◌, ◌≡◌, ◌≤◌, append-nil, drop-take, length-drop, take_all, take-add, ◌^◌}
+use Rattle.tds_csv.proofs.Words.{◌∙◌, ◌∷◌, ◌≡◌, ◌≤◌, drop-take, length-drop, take_all, ◌^◌}
 use Rattle.tds_csv.proofs.Masks.{alike}
 use Rattle.tds_csv.proofs.Characters.{of_one, of_two, of_three, doubled_character}
 use Rattle.tds_csv.proofs.Encoding.{front_written}
 use Rattle.tds_csv.proofs.Gathering.{bits, gathered_text, placed, row_begins, same_texts}
 use lib.Lanes.{zip2}
-use Rattle.tds_csv.proofs.LaneMasks.{first_lanes, first_mask, last_lanes, mask_small, none_of_first, none_passes, none_set}
+use Rattle.tds_csv.proofs.LaneMasks.{first_lanes, first_mask, last_lanes, none_of_first, none_passes, none_set}
 use Rattle.tds_csv.proofs.Leading.{Leads-none, Leads-trans}
 use Rattle.tds_csv.proofs.Places.{IsRow, ones_of_two, pair_places, pair_row, quad_places, quad_row}
 use Rattle.tds_csv.proofs.Utf16Steps.{next_one, lone_other}

@@ -46,8 +46,7 @@ fn pairs(units: u16x8) -> u8x16
 // The bytes of eight characters, four each: of the first four, and of the others.
 #[inline(always)]
 fn quads(units: u16x8) -> (u8x16, u8x16)
-    ensures first { result.0 ≡ flat_map quad_bytes (take HALF units) }
-    ensures second { result.1 ≡ flat_map quad_bytes (drop HALF units) }
+    ensures { (result.0 ≡ flat_map quad_bytes (take HALF units)) × (result.1 ≡ flat_map quad_bytes (drop HALF units)) }
 {
     let quotes = units.simd_eq(u16x8::splat(0x22));
     let long = units.simd_ge(u16x8::splat(0x800));
@@ -66,8 +65,7 @@ fn quads(units: u16x8) -> (u8x16, u8x16)
 // The bytes of eight long characters: of the first four and of the others, each with four bytes more.
 #[inline(always)]
 fn triples(units: u16x8) -> (u8x16, u8x16)
-    ensures first { take 12 result.0 ≡ take 12 (triples units) }
-    ensures second { take 12 result.1 ≡ take 12 (drop 12 (triples units)) }
+    ensures { (take 12 result.0 ≡ take 12 (triples units)) × (take 12 result.1 ≡ take 12 (drop 12 (triples units))) }
 {
     let lead = units / u16x8::splat(4096) + u16x8::splat(0xE0);
     let middle = units / u16x8::splat(64) % u16x8::splat(64) + u16x8::splat(0x80);

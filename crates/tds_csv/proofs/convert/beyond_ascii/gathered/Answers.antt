@@ -1,5 +1,4 @@
 use Rattle.tds_csv.proofs.{Words.{refl, arith, w8, SwzOk-from_below}, Gathering.looked_up}
-use Rattle.tds_csv.proofs.WideText.{pairs_taken}
 use Rattle.tds_csv.proofs.convert.beyond_ascii.gathered.Goals as goal
 
 pub swizzle : goal.swizzle

@@ -1,6 +1,6 @@
-use Rattle.tds_csv.proofs.Words.{arith, take_all, ◌∙◌, ap, map, mask_l, sym, ◌≡◌, take}
+use Rattle.tds_csv.proofs.Words.{arith, take_all}
 use Rattle.tds_csv.proofs.LaneMasks.{all_pass}
-use Rattle.tds_csv.specs.Wide.{is_long, is_wide}
+use Rattle.tds_csv.specs.Wide.{is_long}
 use Rattle.tds_csv.proofs.convert.beyond_ascii.put_longs.Goals as goal
 
 pub put_triples-requires-clause-long : goal.put_triples-requires-clause-long

@@ -8,7 +8,7 @@ returns-then-n-le-HALF-clause-most c =
     let us = c.args.units in
     let n = c.args.n in
     let counted = length-take-le n us (omega (arith, c.fits-units.0)) in
-    let first = first_added us n c.fits-units.1 c.requires.wide c.requires.long c.quads.ensures.first c.put_quads-middle.ensures
+    let first = first_added us n c.fits-units.1 c.requires.wide c.requires.long c.quads.ensures.0 c.put_quads-middle.ensures
     (omega (arith, length-take 4 (take n us), counted)) in
     omega (arith, first.1)
 
@@ -17,7 +17,7 @@ returns-then-n-le-HALF-clause-written c =
     let us = c.args.units in
     let n = c.args.n in
     let counted = length-take-le n us (omega (arith, c.fits-units.0)) in
-    let first = first_added us n c.fits-units.1 c.requires.wide c.requires.long c.quads.ensures.first c.put_quads-middle.ensures
+    let first = first_added us n c.fits-units.1 c.requires.wide c.requires.long c.quads.ensures.0 c.put_quads-middle.ensures
     (omega (arith, length-take 4 (take n us), counted)) in
     rw (take_all 4 (take n us) (omega (arith, counted))) at first.0
 
@@ -34,7 +34,7 @@ put_quads-requires-clause-room c =
     let us = c.args.units in
     let n = c.args.n in
     let counted = length-take-le n us (omega (arith, c.fits-units.0)) in
-    let first = first_added us n c.fits-units.1 c.requires.wide c.requires.long c.quads.ensures.first c.put_quads-middle.ensures
+    let first = first_added us n c.fits-units.1 c.requires.wide c.requires.long c.quads.ensures.0 c.put_quads-middle.ensures
     (omega (arith, length-take 4 (take n us), counted)) in
     omega (arith, first.1)
 
@@ -43,9 +43,9 @@ returns-clause-most c =
     let us = c.args.units in
     let n = c.args.n in
     let counted = length-take-le n us (omega (arith, c.fits-units.0)) in
-    let first = first_added us n c.fits-units.1 c.requires.wide c.requires.long c.quads.ensures.first c.put_quads-middle.ensures
+    let first = first_added us n c.fits-units.1 c.requires.wide c.requires.long c.quads.ensures.0 c.put_quads-middle.ensures
     (omega (arith, length-take 4 (take n us), counted)) in
-    let others = others_added us n c.fits-units.1 c.fits-units.0 (omega arith) c.requires.most c.requires.wide c.requires.long c.quads.ensures.second
+    let others = others_added us n c.fits-units.1 c.fits-units.0 (omega arith) c.requires.most c.requires.wide c.requires.long c.quads.ensures.1
     c.put_quads.ensures in
     omega (arith, first.1, others.1)
 
@@ -54,9 +54,9 @@ returns-clause-written c =
     let us = c.args.units in
     let n = c.args.n in
     let counted = length-take-le n us (omega (arith, c.fits-units.0)) in
-    let first = first_added us n c.fits-units.1 c.requires.wide c.requires.long c.quads.ensures.first c.put_quads-middle.ensures
+    let first = first_added us n c.fits-units.1 c.requires.wide c.requires.long c.quads.ensures.0 c.put_quads-middle.ensures
     (omega (arith, length-take 4 (take n us), counted)) in
-    let others = others_added us n c.fits-units.1 c.fits-units.0 (omega arith) c.requires.most c.requires.wide c.requires.long c.quads.ensures.second
+    let others = others_added us n c.fits-units.1 c.fits-units.0 (omega arith) c.requires.most c.requires.wide c.requires.long c.quads.ensures.1
     c.put_quads.ensures in
     let all = append_assoc (take c.args.at c.args.to.now) (units_text (take 4 (take n us))) (units_text (drop 4 (take n us))) in
     cc (others.0, first.0, all, split_lanes unit_text 4 (take n us))
