@@ -24,19 +24,19 @@ one_lane front lane more [] each = refl
 one_lane front lane more (k ∷ ks) each = ap₂ (λ x xs. x ∷ xs) (get_or-append-add front (lane ++ more) k 0
     ∙ get_or_append_left lane more 0 k each.0) (one_lane front lane more ks each.1)
 
-module _ (width : ℕ) (lane places : ℕ → List ℕ) (wide : (u : ℕ) → length (lane u) ≡ width) (inside : (u : ℕ) → Each1 (λ k. k < length (lane u)) (places u)) where
+module _ (size : ℕ) (lane places : ℕ → List ℕ) (wide : (u : ℕ) → length (lane u) ≡ size) (inside : (u : ℕ) → Each1 (λ k. k < length (lane u)) (places u)) where
   -- the bytes of lanes after others
-  lanes_from : (front us more : List ℕ) → map (λ j. get_or (front ++ (flat_map lane us ++ more)) j 0) (placed width (length front) (map places us))
+  lanes_from : (front us more : List ℕ) → map (λ j. get_or (front ++ (flat_map lane us ++ more)) j 0) (placed size (length front) (map places us))
       ≡ flat_map (λ u. map (λ k. get_or (lane u) k 0) (places u)) us
   lanes_from front [] more = refl
   lanes_from front (u ∷ us) more =
       let later = flat_map lane us ++ more in
-      let there : length (front ++ lane u) ≡ length front + width = length-append front (lane u) ∙ ap (λ n. length front + n) (wide u) in
+      let there : length (front ++ lane u) ≡ length front + size = length-append front (lane u) ∙ ap (λ n. length front + n) (wide u) in
       let rest = rw (append_assoc front (lane u) later, there) at (lanes_from (front ++ lane u) us more) in
       rw (append_assoc (lane u) (flat_map lane us) more, map-append) (ap₂ (λ xs ys. xs ++ ys) (one_lane front (lane u) later (places u) (inside u)) rest)
 
   -- those of the first lanes, by a row of a table that begins with their places
-  pub gathered_text : (text : ℕ → List ℕ) {row xs : List ℕ} (us more rest : List ℕ) → row ≡ placed width 0 (map places us) ++ rest
+  pub gathered_text : (text : ℕ → List ℕ) {row xs : List ℕ} (us more rest : List ℕ) → row ≡ placed size 0 (map places us) ++ rest
       → xs ≡ flat_map lane us ++ more → flat_map (λ u. map (λ k. get_or (lane u) k 0) (places u)) us ≡ flat_map text us
       → take (length (flat_map text us)) (map (λ j. get_or xs j 0) row) ≡ flat_map text us
   gathered_text text us more rest row_is xs_is same =
