@@ -70,17 +70,24 @@ pub none_set : (q : ℕ → Bool) (us : List ℕ) → Each1 (λ u. q u ≡ false
 none_set q [] each = refl
 none_set q (u ∷ us) each = rw (each.0, none_set q us each.1) refl
 
--- if all of the lanes pass, all pass a weaker test
-pub all_pass : (p q : ℕ → Bool) → ((u : ℕ) → p u ≡ true → q u ≡ true) → (n : ℕ) (us : List ℕ) → length us ≤ n → mask_l (map p us) + 1 ≡ 2 ^ n
-    → mask_l (map q us) + 1 ≡ 2 ^ n
-all_pass p q weaker zero [] few is = refl
-all_pass p q weaker zero (u ∷ us) few is = absurd (omega arith)
-all_pass p q weaker (suc n) [] few is = absurd (omega (arith, pow_pos n, is))
-all_pass p q weaker (suc n) (u ∷ us) few is =
-    let here : p u ≡ true = grind (arith, pow_pos n) in
-    let there = weaker u here in
-    let more = all_pass p q weaker n us (omega arith) (grind (arith, here)) in
-    grind (arith, there, more)
+-- all of them pass
+pub all_pass : (q : ℕ → Bool) (n : ℕ) (us : List ℕ) → length us ≤ n → mask_l (map q us) + 1 ≡ 2 ^ n → Each1 (λ u. q u ≡ true) us × (length us ≡ n)
+all_pass q zero [] few is = (tt, refl)
+all_pass q zero (u ∷ us) few is = absurd (omega arith)
+all_pass q (suc n) [] few is = absurd (omega (arith, pow_pos n, is))
+all_pass q (suc n) (u ∷ us) few is =
+    let here : q u ≡ true = grind (arith, pow_pos n) in
+    let more = all_pass q n us (omega arith) (grind (arith, here)) in
+    ((here, more.0), ap suc more.1)
+
+-- of eight lanes all pass, if the mask of the first is full
+pub all_of_eight : (q : ℕ → Bool) (us : List ℕ) (n : ℕ) {mask : ℕ} → length us ≡ 8 → n ≤ 8 → mask ≡ mask_l (map q (take n us)) → mask ≡ 255
+    → (n ≡ 8) × Each1 (λ u. q u ≡ true) us
+all_of_eight q us n long few is full =
+    let counted = length-take-le n us (omega (arith, long)) in
+    let all = all_pass q 8 (take n us) (omega (arith, counted)) (omega (arith, is, full)) in
+    let eight : n ≡ 8 = omega (arith, counted, all.1) in
+    (eight, rw (take_all n us (omega (arith, eight, long))) at all.0)
 
 -- none of the first passes, if their mask is empty
 pub none_of_first : (q : ℕ → Bool) (us : List ℕ) (n : ℕ) {mask low : ℕ} → mask ≡ mask_l (map q us) → low ≡ mask % 2 ^ n → low ≡ 0

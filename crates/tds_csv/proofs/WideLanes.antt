@@ -2,7 +2,7 @@
 use Rattle.tds_csv.proofs.Words.{common_steps, drop, take, get_or, ◌++◌, ◌≡◌, ◌∙◌, ◌+◌, ◌*◌, ◌/◌, ◌%◌, ◌<◌, ℕ, Bool, zero, suc, List}
 use Rattle.tds_csv.proofs.Words.{[], ◌∷◌, map, length, refl, ap, arith, nat_tests, Fits, w8, w16, Each1, map-map, top, sel_l, length-map, cond, eqb, leb}
 use Rattle.tds_csv.specs.Utf16.{units}
-use Rattle.tds_csv.specs.Wide.{high_quad, low_and_high, low_quad, pair, pair_bytes, quad_bytes}
+use Rattle.tds_csv.specs.Wide.{high_quad, low_and_high, low_quad, pair, pair_bytes, quad_bytes, triples}
 use Rattle.std.specs.Prelude.{flat_map}
 use Rattle.std.specs.Simd.Lanes.{number_l}
 use lib.Lanes.{digits_l}
@@ -23,6 +23,13 @@ units_of_bytes zero [] long fits = refl
 units_of_bytes (suc n) (low ∷ high ∷ xs) long fits = let more = units_of_bytes n xs (omega arith) fits.1.1 in
     grind (arith, fits.0.fits, fits.1.0.fits)
 units_of_bytes n xs long fits = absurd (omega arith)
+
+-- the first byte of a long character, and the two others as a number, low byte first
+abbrev pub lead : ℕ → ℕ
+lead u = 224 + u / 4096
+
+abbrev pub others : ℕ → ℕ
+others u = (128 + u / 64 % 64) + (128 + u % 64) * 256
 
 -- the two bytes of each number
 abbrev bytes_of : List ℕ → List ℕ
@@ -53,12 +60,41 @@ pub pair_lanes : (us : List ℕ) {z : List ℕ} → length us ≡ 8 → Each1 (F
     → digits_l 256 16 (number_l 65536 z) ≡ flat_map pair_bytes us
 pair_lanes us long fits is = rw is (bytes_of_pairs 8 (map pair us) (length-map us pair ∙ long) (each_fits us fits) ∙ bytes_of_map pair us)
 
+-- of each four bytes the first, the third and the fourth, and then the second
+abbrev pub woven : List ℕ → List ℕ
+woven bs = map (λ k. get_or (bs ++ bs) k 0) (0 ∷ 2 ∷ 3 ∷ 4 ∷ 6 ∷ 7 ∷ 8 ∷ 10 ∷ 11 ∷ 12 ∷ 14 ∷ 15 ∷ 1 ∷ 5 ∷ 9 ∷ 13 ∷ [])
+
+split : (u : ℕ) → u < 65536 → (lead u % 256 ≡ 224 + u / 4096) × (others u % 256 ≡ 128 + u / 64 % 64) × (others u / 256 % 256 ≡ 128 + u % 64)
+    × (lead u < 65536) × (others u < 65536)
+split u small = grind arith
+
+-- the bytes of four of them
+abbrev four : ℕ → ℕ → ℕ → ℕ → List ℕ
+four a b c d = lead a ∷ others a ∷ lead b ∷ others b ∷ lead c ∷ others c ∷ lead d ∷ others d ∷ []
+
+four_each : (a b c d : ℕ) → a < 65536 → b < 65536 → c < 65536 → d < 65536
+    → take 12 (woven (digits_l 256 16 (number_l 65536 (four a b c d)))) ≡ triples (a ∷ b ∷ c ∷ d ∷ [])
+four_each a b c d sa sb sc sd =
+    let fa = split a sa in
+    let fb = split b sb in
+    let fc = split c sc in
+    let fd = split d sd in
+    let all = bytes_of_pairs 8 (four a b c d) refl (fa.3, (fa.4, (fb.3, (fb.4, (fc.3, (fc.4, (fd.3, (fd.4, tt)))))))) in
+    ap (λ bs. take 12 (woven bs)) all ∙ (cc)
+
 -- eight of them, each lane beside the other
 abbrev pub beside_first : List ℕ → List ℕ → List ℕ
 beside_first ls os = map (λ k. get_or (ls ++ os) k 0) (0 ∷ 8 ∷ 1 ∷ 9 ∷ 2 ∷ 10 ∷ 3 ∷ 11 ∷ [])
 
 abbrev pub beside_second : List ℕ → List ℕ → List ℕ
 beside_second ls os = map (λ k. get_or (ls ++ os) k 0) (4 ∷ 12 ∷ 5 ∷ 13 ∷ 6 ∷ 14 ∷ 7 ∷ 15 ∷ [])
+
+pub three_each : (us ls os : List ℕ) → length us ≡ 8 → Each1 (Fits w16) us → ls ≡ map lead us → os ≡ map others us
+    → (take 12 (woven (digits_l 256 16 (number_l 65536 (beside_first ls os)))) ≡ take 12 (triples us))
+    × (take 12 (woven (digits_l 256 16 (number_l 65536 (beside_second ls os)))) ≡ take 12 (drop 12 (triples us)))
+three_each (a ∷ b ∷ c ∷ d ∷ e ∷ f ∷ g ∷ h ∷ []) ls os long (fa, (fb, (fc, (fd, (fe, (ff, (fg, (fh, _)))))))) is_lead is_others =
+    rw (is_lead, is_others) (four_each a b c d fa.fits fb.fits fc.fits fd.fits, four_each e f g h fe.fits ff.fits fg.fits fh.fits)
+three_each us ls os long fits is_lead is_others = absurd (omega arith)
 
 -- the bytes of four characters, four each
 quad_each : (a b c d : ℕ) → a < 65536 → b < 65536 → c < 65536 → d < 65536

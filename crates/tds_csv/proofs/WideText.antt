@@ -15,7 +15,7 @@ use Rattle.tds_csv.proofs.Places.{IsRow, ones_of_two, pair_places, pair_row, qua
 use Rattle.tds_csv.proofs.Utf16Steps.{next_one, lone_other}
 use Rattle.tds_csv.specs.Utf16.{units, rest, text}
 use Rattle.tds_csv.specs.Utf16Next.{Converts}
-use Rattle.tds_csv.specs.Wide.{AddsQuads, is_half, is_long, is_wide, pair_bytes, quad_bytes, unit_text, units_text}
+use Rattle.tds_csv.specs.Wide.{AddsQuads, is_half, is_long, is_wide, pair_bytes, quad_bytes, triples, unit_text, units_text}
 use Rattle.tds_csv.specs.declared.convert.places.TheConstants.{PAIRS, QUADS}
 use Rattle.std.proofs.lemmas.Simd.{Each1-weaker, below_from_Fits, ones-mask_l, zip2-map}
 use Rattle.std.specs.List.{count_by}
@@ -30,6 +30,9 @@ quad_text u small = grind (arith, nat_tests, of_one, of_two, of_three, doubled_c
 
 plain_text : (u : ℕ) → is_wide u ≡ false → unit_text u ≡ u ∷ []
 plain_text u h = grind (arith, nat_tests, of_one, doubled_character)
+
+long_text : (u : ℕ) → u < 65536 → is_long u ≡ true → unit_text u ≡ (224 + u / 4096) ∷ (128 + u / 64 % 64) ∷ (128 + u % 64) ∷ []
+long_text u small h = grind (arith, nat_tests, of_three, doubled_character)
 
 -- how long the text of units is
 unit_size : (u : ℕ) → u < 65536 → length (unit_text u) ≡ 1 + (cond (is_wide u) 1 0 + cond (is_long u) 1 0)
@@ -139,6 +142,20 @@ others_added us n fits eight many few wide_is long_is is adds =
     let bytes = rw (← drop-take 4 (n - 4) us, all) at (split_lanes quad_bytes (n - 4) (drop 4 us)) in
     adds.adds (drop 4 vs) (flat_map quad_bytes (drop (n - 4) (drop 4 us))) (omega (arith, length-drop 4 vs, length-take-le n us (omega (arith, eight))))
     (is ∙ bytes) (last_lanes is_wide vs wide_is) (last_lanes is_long vs long_is) (each_left _ 4 vs (each_taken _ n us (unit_range us fits)))
+
+-- long characters have three bytes each
+pub long_texts : (us : List ℕ) → Each1 (λ u. u < 65536) us → Each1 (λ u. is_long u ≡ true) us → triples us ≡ units_text us
+long_texts [] small each = refl
+long_texts (u ∷ us) small each = rw (long_text u small.0 each.0, long_texts us small.1 each.1) refl
+
+triples_whole : (us : List ℕ) → length us ≡ 8 → take 12 (triples us) ++ take 12 (drop 12 (triples us)) ≡ triples us
+triples_whole (a ∷ b ∷ c ∷ d ∷ e ∷ f ∷ g ∷ h ∷ []) long = refl
+triples_whole us long = absurd (omega arith)
+
+-- the text of eight is in two halves
+pub both_halves : (us low high : List ℕ) → length us ≡ 8 → Each1 (Fits w16) us → Each1 (λ u. is_long u ≡ true) us
+    → take 12 low ≡ take 12 (triples us) → take 12 high ≡ take 12 (drop 12 (triples us)) → take 12 low ++ take 12 high ≡ units_text us
+both_halves us low high eight fits long is_low is_high = rw (is_low, is_high) (triples_whole us eight ∙ long_texts us (unit_range us fits) long)
 
 -- the low bytes of characters of ASCII are their text
 pub plain_texts : (n : ℕ) (ys : List ℕ) → Each1 (λ u. is_wide u ≡ false) (take n (units ys)) → take n (evens ys) ≡ units_text (take n (units ys))

@@ -57,3 +57,8 @@ pub record AddsQuads (old new : List ℕ) (from to n : ℕ) (quads : List ℕ) (
   pub adds : (units more : List ℕ) → length units ≡ n → quads ≡ flat_map quad_bytes units ++ more → wide ≡ mask_l (map is_wide units)
       → long ≡ mask_l (map is_long units) → Each1 (λ u. u < 65536) units
       → (take to new ≡ take from old ++ units_text units) × (to ≤ from + 3 * n)
+
+-- the bytes of long characters
+abbrev pub triples : List ℕ → List ℕ
+triples [] = []
+triples (unit ∷ units) = (224 + unit / 4096) ∷ (128 + unit / 64 % 64) ∷ (128 + unit % 64) ∷ triples units

@@ -3,7 +3,7 @@ ghost use Rattle.std.specs.Prelude.{◌≡◌, ◌+◌, ◌*◌, ◌<◌, ◌≤
 ghost use Rattle.std.specs.Simd.Lanes.{Each1};
 ghost use lib.Lanes.{mask_l};
 ghost use Rattle.tds_csv.specs.Utf16 as utf16;
-ghost use Rattle.tds_csv.specs.Wide.{AddsQuads, is_half, is_long, is_wide, pair_bytes, quad_bytes, units_text};
+ghost use Rattle.tds_csv.specs.Wide.{AddsQuads, is_half, is_long, is_wide, pair_bytes, quad_bytes, triples, units_text};
 
 use crate::convert::encode::{put_bytes, put_lanes};
 use crate::convert::lanes::LANES;
@@ -62,6 +62,25 @@ fn quads(units: u16x8) -> (u8x16, u8x16)
     (first.to_le_bytes(), second.to_le_bytes())
 }
 
+// The bytes of eight long characters: of the first four and of the others, each with four bytes more.
+#[inline(always)]
+fn triples(units: u16x8) -> (u8x16, u8x16)
+    ensures { (take 12 result.0 ≡ take 12 (triples units)) × (take 12 result.1 ≡ take 12 (drop 12 (triples units))) }
+{
+    let lead = units / u16x8::splat(4096) + u16x8::splat(0xE0);
+    let middle = units / u16x8::splat(64) % u16x8::splat(64) + u16x8::splat(0x80);
+    let trail = units % u16x8::splat(64) + u16x8::splat(0x80);
+    let (first, second) = lead.interleave(middle + trail * u16x8::splat(256));
+    (
+        first
+            .to_le_bytes()
+            .swizzle([0, 2, 3, 4, 6, 7, 8, 10, 11, 12, 14, 15, 1, 5, 9, 13]),
+        second
+            .to_le_bytes()
+            .swizzle([0, 2, 3, 4, 6, 7, 8, 10, 11, 12, 14, 15, 1, 5, 9, 13]),
+    )
+}
+
 // Writes the text of the first `n` of eight short characters; the mask says which of them are wide.
 #[inline(always)]
 fn put_pairs(to: &mut [u8], at: usize, units: u16x8, wide: u64, n: usize) -> usize
@@ -110,6 +129,18 @@ fn put_mixed(to: &mut [u8], at: usize, units: u16x8, wide: u64, long: u64, n: us
     put_quads(to, middle, second, wide / 16, long / 16, n - HALF)
 }
 
+// Writes the text of eight long characters.
+#[inline(always)]
+fn put_triples(to: &mut [u8], at: usize, units: u16x8)
+    requires long { Each1 (λ u. is_long u ≡ true) units }
+    requires room { at + 3 * UNITS + LANES ≤ length to.old }
+    ensures { take (at + 3 * UNITS) to.new ≡ take at to.old ++ units_text units }
+{
+    let (low, high) = triples(units);
+    put_bytes(to, at, low, 12);
+    put_bytes(to, at + 12, high, 12);
+}
+
 // Writes the text of eight characters, with the mask of the long ones.
 #[inline(always)]
 pub(crate) fn put_longs(to: &mut [u8], at: usize, units: u16x8, long: u64) -> usize
@@ -119,7 +150,8 @@ pub(crate) fn put_longs(to: &mut [u8], at: usize, units: u16x8, long: u64) -> us
     ensures written { take result to.new ≡ take at to.old ++ units_text units }
 {
     if long == EVERY {
-        return put_mixed(to, at, units, EVERY, EVERY, UNITS);
+        put_triples(to, at, units);
+        return at + 3 * UNITS;
     }
     put_mixed(to, at, units, wide_units(units), long, UNITS)
 }

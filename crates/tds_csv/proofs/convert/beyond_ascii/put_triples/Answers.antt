@@ -1,0 +1,9 @@
+use Rattle.tds_csv.proofs.Words.{append_assoc, arith, refl, ◌≡◌, ◌+◌}
+use Rattle.tds_csv.proofs.WideText.{both_halves}
+use Rattle.tds_csv.proofs.convert.beyond_ascii.put_triples.Goals as goal
+
+pub returns : goal.returns
+returns c =
+    let text = both_halves c.args.units _ _ c.fits-units.0 c.fits-units.1 c.requires.long c.triples.ensures.0 c.triples.ensures.1 in
+    let end : c.args.at + 12 + 12 ≡ c.args.at + 24 = omega arith in
+    rw (← end, c.put_bytes-2.ensures, c.put_bytes.ensures, append_assoc, text) refl
