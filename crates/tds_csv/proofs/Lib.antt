@@ -28,6 +28,9 @@ pub mod Utf16Laws
 pub mod Utf16Ends
 pub mod SingleLaws
 pub mod JoiningLemmas
+pub mod LaneMasks
+pub mod Gathering
+pub mod Places
 pub mod WideLanes
 pub mod WideText
 pub mod Words

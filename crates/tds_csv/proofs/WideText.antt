@@ -1,138 +1,232 @@
 -- The text of units that are characters of at most three bytes.
-use Rattle.tds_csv.proofs.Words.{common_steps, ◌-◌, take-add, take-take, is_plain, evens, length-chunk, refl, LiesIn, chunk, drop-drop, Bool, Each1}
-use Rattle.tds_csv.proofs.Words.{Fits, Leads, List, [], ap, append-nil, append_assoc, arith, cond, doubled, drop, encode_utf8, encode_utf8_all}
-use Rattle.tds_csv.proofs.Words.{encodes-append, false, get_or, get_or-map, is_high_surrogate, is_low_surrogate, length, map, nat_tests, prefix_len}
-use Rattle.tds_csv.proofs.Words.{prefix_len-le-length, suc, sym, take, take-append-drop, take_more, true, w16, zero, ℕ, ◌%◌, ◌*◌, ◌++◌, ◌+◌, ◌/◌, ◌<◌}
-use Rattle.tds_csv.proofs.Words.{◌∙◌, ◌∷◌, ◌≡◌, ◌≤◌}
-use Rattle.tds_csv.proofs.Encoding.{front_written}
-use Rattle.tds_csv.proofs.Singles.{some_itself}
+use Rattle.tds_csv.proofs.Words.{common_steps, ◌-◌, take-take, evens, length-chunk, refl, LiesIn, chunk, drop-drop, Bool, Each1, length-take-le}
+use Rattle.tds_csv.proofs.Words.{Fits, Leads, List, [], ap, append_assoc, arith, cond, drop, length-append, length-map, mask_l, or_parts}
+use Rattle.tds_csv.proofs.Words.{false, get_or, is_high_surrogate, is_low_surrogate, length, map, nat_tests, flat_map-append}
+use Rattle.tds_csv.proofs.Words.{suc, sym, take, take-append-drop, true, w16, zero, ℕ, ◌%◌, ◌*◌, ◌++◌, ◌+◌, ◌/◌, ◌<◌}
+use Rattle.tds_csv.proofs.Words.{◌∙◌, ◌∷◌, ◌≡◌, ◌≤◌, drop-take, length-drop, take_all, ◌^◌}
 use Rattle.tds_csv.proofs.Masks.{alike}
 use Rattle.tds_csv.proofs.Characters.{of_one, of_two, of_three, doubled_character}
+use Rattle.tds_csv.proofs.Encoding.{front_written}
+use Rattle.tds_csv.proofs.Gathering.{bits, gathered_text, placed, row_begins, same_texts}
+use lib.Lanes.{zip2}
+use Rattle.tds_csv.proofs.LaneMasks.{first_lanes, first_mask, last_lanes, none_of_first, none_passes, none_set}
 use Rattle.tds_csv.proofs.Leading.{Leads-none, Leads-trans}
+use Rattle.tds_csv.proofs.Places.{IsRow, ones_of_two, pair_places, pair_row, quad_places, quad_row}
 use Rattle.tds_csv.proofs.Utf16Steps.{next_one, lone_other}
 use Rattle.tds_csv.specs.Utf16.{units, rest, text}
 use Rattle.tds_csv.specs.Utf16Next.{Converts}
-use Rattle.tds_csv.specs.Wide.{is_short, is_long, pair, size, triples}
+use Rattle.tds_csv.specs.Wide.{AddsQuads, is_half, is_long, is_wide, pair_bytes, quad_bytes, triples, unit_text, units_text}
+use Rattle.tds_csv.specs.declared.convert.places.TheConstants.{PAIRS, QUADS}
+use Rattle.std.proofs.lemmas.Simd.{Each1-weaker, below_from_Fits, ones-mask_l, zip2-map}
+use Rattle.std.specs.List.{count_by}
+use Rattle.std.specs.Prelude.{count_ones, flat_map}
 
--- a character of its own that isn't a quote
-pub record IsSingle (u : ℕ) : Type 0 where
-  pub no_high : is_high_surrogate u ≡ false
-  pub no_low : is_low_surrogate u ≡ false
-  pub unquoted : doubled (encode_utf8 u) ≡ encode_utf8 u
+-- the bytes of a unit's text, at the places for it
+pub pair_text : (u : ℕ) → is_long u ≡ false → map (λ k. get_or (pair_bytes u) k 0) (pair_places (is_wide u) (is_long u)) ≡ unit_text u
+pair_text u h = grind (arith, nat_tests, of_one, of_two, doubled_character)
 
-pub short_single : (u : ℕ) → is_short u ≡ true → IsSingle u
-short_single u h = grind (arith, nat_tests, doubled_character)
+pub quad_text : (u : ℕ) → u < 65536 → map (λ k. get_or (quad_bytes u) k 0) (quad_places (is_wide u) (is_long u)) ≡ unit_text u
+quad_text u small = grind (arith, nat_tests, of_one, of_two, of_three, doubled_character)
 
-pub long_single : (u : ℕ) → is_long u ≡ true → IsSingle u
-long_single u h = grind (arith, nat_tests, doubled_character)
+plain_text : (u : ℕ) → is_wide u ≡ false → unit_text u ≡ u ∷ []
+plain_text u h = grind (arith, nat_tests, of_one, doubled_character)
 
-pub plain_single : (u : ℕ) → is_plain u ≡ true → IsSingle u
-plain_single u h = grind (arith, nat_tests, doubled_character)
+long_text : (u : ℕ) → u < 65536 → is_long u ≡ true → unit_text u ≡ (224 + u / 4096) ∷ (128 + u / 64 % 64) ∷ (128 + u % 64) ∷ []
+long_text u small h = grind (arith, nat_tests, of_three, doubled_character)
 
--- the bytes of a short character
-pub short_bytes : (u : ℕ) → is_short u ≡ true → take (size u) (pair u % 256 ∷ pair u / 256 ∷ []) ≡ encode_utf8 u
-short_bytes u h = grind (arith, nat_tests, of_one, of_two)
+-- how long the text of units is
+unit_size : (u : ℕ) → u < 65536 → length (unit_text u) ≡ 1 + (cond (is_wide u) 1 0 + cond (is_long u) 1 0)
+unit_size u small = grind (arith, nat_tests, of_one, of_two, of_three, doubled_character)
 
--- a lane of units
-pub lane_at : (f : ℕ → ℕ) (us : List ℕ) {lanes : List ℕ} {i : ℕ} → lanes ≡ map f us → length us ≡ 8 → i < 8 → get_or lanes i 0 ≡ f (get_or us i 0)
-lane_at f us {i = i} is long within = rw is (get_or-map f us i 0 0 (omega arith))
+units_size : (us : List ℕ) → Each1 (λ u. u < 65536) us → length (units_text us) ≡ length us + (count_by is_wide us + count_by is_long us)
+units_size [] small = refl
+units_size (u ∷ us) small = let one = unit_size u small.0 in let more = units_size us small.1 in
+    length-append (unit_text u) (units_text us) ∙ grind (arith, common_steps, one, more)
 
--- a short character has one byte or two
-pub sized : (u : ℕ) → (1 ≤ size u) × (size u ≤ 2)
-sized u = grind (arith, nat_tests)
+pub text_size : (us : List ℕ) {wide long : ℕ} → Each1 (λ u. u < 65536) us → wide ≡ mask_l (map is_wide us) → long ≡ mask_l (map is_long us)
+    → length (units_text us) ≡ length us + (count_ones wide + count_ones long)
+text_size us small wide_is long_is = rw (wide_is, long_is, ones-mask_l is_wide us, ones-mask_l is_long us) (units_size us small)
 
-pub sized_at : (us : List ℕ) {lanes : List ℕ} {i : ℕ} → lanes ≡ map size us → length us ≡ 8 → i < 8 → (1 ≤ get_or lanes i 0) × (get_or lanes i 0 ≤ 2)
-sized_at us {i = i} is long within = rw (lane_at size us is long within) (sized (get_or us i 0))
+in_pair : (wide long : Bool) → Each1 (λ k. k < 2) (pair_places wide long)
+in_pair true long = (omega arith, (omega arith, tt))
+in_pair false long = (omega arith, tt)
 
--- the text of the first units, and of one more
-pub one_more : (front : List ℕ) {old new more : List ℕ} (us : List ℕ) (i : ℕ) → length us ≡ 8 → i < 8 → old ≡ front ++ encode_utf8_all (take i us)
-    → new ≡ old ++ more → more ≡ encode_utf8 (get_or us i 0) → new ≡ front ++ encode_utf8_all (take (i + 1) us)
-one_more front us i long within before after is = grind (arith, common_steps, encode_utf8_all, take_more, encodes-append, append-nil, append_assoc)
+in_quad : (wide long : Bool) → Each1 (λ k. k < 4) (quad_places wide long)
+in_quad wide true = (omega arith, (omega arith, (omega arith, tt)))
+in_quad true false = (omega arith, (omega arith, tt))
+in_quad false false = (omega arith, tt)
 
-first_holds : {b : Bool} {k n : ℕ} → suc k ≤ cond b (1 + n) 0 → (b ≡ true) × (k ≤ n)
-first_holds h = grind arith
+-- units are numbers of 16 bits
+pub unit_range : (us : List ℕ) → Each1 (Fits w16) us → Each1 (λ u. u < 65536) us
+unit_range us fits = below_from_Fits w16 us fits
 
--- characters of ASCII stand for themselves
-pub plain_text : (n : ℕ) (us : List ℕ) → n ≤ prefix_len is_plain us → encode_utf8_all (take n us) ≡ take n us
-plain_text n us few = some_itself encode_utf8_all encodes-append is_plain refl (λ u h. grind (arith, nat_tests, of_one, append-nil)) n us few
+each_taken : (P : ℕ → Type 0) (n : ℕ) (us : List ℕ) → Each1 P us → Each1 P (take n us)
+each_taken P zero us each = tt
+each_taken P (suc n) [] each = tt
+each_taken P (suc n) (u ∷ us) each = (each.0, each_taken P n us each.1)
+
+each_left : (P : ℕ → Type 0) (n : ℕ) (us : List ℕ) → Each1 P us → Each1 P (drop n us)
+each_left P zero us each = each
+each_left P (suc n) [] each = tt
+each_left P (suc n) (u ∷ us) each = each_left P n us each.1
+
+-- the first and the other units
+pub split_lanes : (lane : ℕ → List ℕ) (n : ℕ) (us : List ℕ) → flat_map lane us ≡ flat_map lane (take n us) ++ flat_map lane (drop n us)
+split_lanes lane n us = sym (ap (flat_map lane) (take-append-drop n us)) ∙ flat_map-append lane (take n us) (drop n us)
+
+-- the text of units is gathered from their bytes by a row for their masks
+row_taken : (width m : ℕ) (lane : ℕ → List ℕ) (f : Bool → Bool → List ℕ) → ((u : ℕ) → length (lane u) ≡ width)
+    → ((u : ℕ) → Each1 (λ k. k < length (lane u)) (f (is_wide u) (is_long u))) → (us more : List ℕ) {row xs : List ℕ} {wide long : ℕ}
+    → IsRow row (placed width 0 (zip2 f (bits m wide) (bits m long))) → length us ≤ m → xs ≡ flat_map lane us ++ more
+    → wide ≡ mask_l (map is_wide us) → long ≡ mask_l (map is_long us) → Each1 (λ u. u < 65536) us
+    → flat_map (λ u. map (λ k. get_or (lane u) k 0) (f (is_wide u) (is_long u))) us ≡ units_text us
+    → take (length us + (count_ones wide + count_ones long)) (map (λ j. get_or xs j 0) row) ≡ units_text us
+row_taken width m lane f same inside us more {row} {wide = wide} {long = long} is_row few is wide_is long_is range texts =
+    let places = λ (u : ℕ). f (is_wide u) (is_long u) in
+    let begins = row_begins f width 0 m (map is_wide us) (map is_long us) (omega (arith, length-map us is_wide)) (length-map us is_long
+    ∙ sym (length-map us is_wide)) in
+    let each = zip2-map f is_wide is_long us in
+    let row_is : placed width 0 (zip2 f (bits m wide) (bits m long)) ≡ placed width 0 (map places us) ++ begins.0 =
+    rw (wide_is, long_is, begins.1, each) refl in
+    let rest = drop (length (placed width 0 (zip2 f (bits m wide) (bits m long)))) row in
+    let whole = is_row.is ∙ ap (λ l. l ++ rest) row_is ∙ append_assoc (placed width 0 (map places us)) begins.0 rest in
+    rw (← text_size us range wide_is long_is) (gathered_text width lane places same inside unit_text us more (begins.0 ++ rest) whole is texts)
+
+-- that of short characters from the bytes of eight
+pub pairs_taken : (us : List ℕ) (n : ℕ) {xs : List ℕ} {wide : ℕ} → length us ≡ 8 → n ≤ 8 → Each1 (Fits w16) us → xs ≡ flat_map pair_bytes us
+    → wide ≡ mask_l (map is_wide (take n us)) → Each1 (λ u. is_long u ≡ false) (take n us)
+    → take (n + count_ones wide) (map (λ j. get_or xs j 0) (get_or PAIRS wide [])) ≡ units_text (take n us)
+pairs_taken us n {wide = wide} eight few fits bytes is short =
+    let vs = take n us in
+    let counted : length vs ≡ n = length-take-le n us (omega arith) in
+    let row = pair_row wide (first_mask is_wide us n eight few is).0 in
+    let size : length vs + (count_ones wide + count_ones 0) ≡ n + count_ones wide = omega (arith, counted, ones-mask_l is_long []) in
+    rw size at (row_taken 2 8 pair_bytes pair_places (λ u. refl) (λ u. in_pair (is_wide u) (is_long u)) vs (flat_map pair_bytes (drop n us)) row
+    (omega (arith, counted)) (bytes ∙ split_lanes pair_bytes n us) is (sym (none_set is_long vs short)) (unit_range vs (each_taken (Fits w16) n us fits))
+    (same_texts pair_text vs short))
+
+-- and that of any from the bytes of four
+pub quads_taken : (us more : List ℕ) {xs : List ℕ} {wide long : ℕ} → length us ≤ 4 → wide < 16 → long < 16 → xs ≡ flat_map quad_bytes us ++ more
+    → wide ≡ mask_l (map is_wide us) → long ≡ mask_l (map is_long us) → Each1 (λ u. u < 65536) us
+    → take (length us + count_ones (wide + 16 * long)) (map (λ j. get_or xs j 0) (get_or QUADS (wide + 16 * long) [])) ≡ units_text us
+quads_taken us more {wide = wide} {long = long} few small small' is wide_is long_is range =
+    rw (← (ones_of_two wide long small small').0) at (row_taken 4 4 quad_bytes quad_places (λ u. refl) (λ u. in_quad (is_wide u) (is_long u)) us more
+    (quad_row wide long small small') few is wide_is long_is range (same_texts quad_text us range))
+
+take_both : (n m : ℕ) (us : List ℕ) → take n (take m us) ≡ take m (take n us)
+take_both zero zero us = refl
+take_both zero (suc m) us = refl
+take_both (suc n) zero us = refl
+take_both (suc n) (suc m) [] = refl
+take_both (suc n) (suc m) (u ∷ us) = ap (λ vs. u ∷ vs) (take_both n m us)
+
+-- what was written of the first four of so many characters
+pub first_added : (us : List ℕ) (n : ℕ) {old new xs : List ℕ} {at end m wide long : ℕ} → Each1 (Fits w16) us
+    → wide ≡ mask_l (map is_wide (take n us)) → long ≡ mask_l (map is_long (take n us)) → xs ≡ flat_map quad_bytes (take 4 us)
+    → AddsQuads old new at end m xs (wide % 16) (long % 16) → length (take 4 (take n us)) ≡ m
+    → (take end new ≡ take at old ++ units_text (take 4 (take n us))) × (end ≤ at + 3 * m)
+first_added us n fits wide_is long_is is adds counted =
+    let vs = take n us in
+    let bytes = rw (take_both n 4 us) at (split_lanes quad_bytes n (take 4 us)) in
+    adds.adds (take 4 vs) (flat_map quad_bytes (drop n (take 4 us))) counted (is ∙ bytes) (first_lanes is_wide 4 vs wide_is)
+    (first_lanes is_long 4 vs long_is) (each_taken _ 4 vs (each_taken _ n us (unit_range us fits)))
+
+-- and of the others
+pub others_added : (us : List ℕ) (n : ℕ) {old new xs : List ℕ} {at end wide long : ℕ} → Each1 (Fits w16) us → length us ≡ 8 → 4 ≤ n → n ≤ 8
+    → wide ≡ mask_l (map is_wide (take n us)) → long ≡ mask_l (map is_long (take n us)) → xs ≡ flat_map quad_bytes (drop 4 us)
+    → AddsQuads old new at end (n - 4) xs (wide / 16) (long / 16)
+    → (take end new ≡ take at old ++ units_text (drop 4 (take n us))) × (end ≤ at + 3 * (n - 4))
+others_added us n fits eight many few wide_is long_is is adds =
+    let vs = take n us in
+    let all : 4 + (n - 4) ≡ n = omega arith in
+    let bytes = rw (← drop-take 4 (n - 4) us, all) at (split_lanes quad_bytes (n - 4) (drop 4 us)) in
+    adds.adds (drop 4 vs) (flat_map quad_bytes (drop (n - 4) (drop 4 us))) (omega (arith, length-drop 4 vs, length-take-le n us (omega (arith, eight))))
+    (is ∙ bytes) (last_lanes is_wide vs wide_is) (last_lanes is_long vs long_is) (each_left _ 4 vs (each_taken _ n us (unit_range us fits)))
 
 -- long characters have three bytes each
-pub long_text : (n : ℕ) (us : List ℕ) → n ≤ prefix_len is_long us → Each1 (Fits w16) us → take (3 * n) (triples us) ≡ encode_utf8_all (take n us)
-long_text zero us few fits = refl
-long_text (suc n) (u ∷ us) few fits =
-    let h = first_holds few in
-    let three : suc (suc (suc (3 * n))) ≡ 3 * suc n = omega arith in
-    rw (← three) (grind (arith, nat_tests, of_three, fits.0.fits, h.0, long_text n us h.1 fits.1))
-long_text n us few fits = absurd (omega arith)
+pub long_texts : (us : List ℕ) → Each1 (λ u. u < 65536) us → Each1 (λ u. is_long u ≡ true) us → triples us ≡ units_text us
+long_texts [] small each = refl
+long_texts (u ∷ us) small each = rw (long_text u small.0 each.0, long_texts us small.1 each.1) refl
 
--- fewer bytes of two lists that begin alike
-same_front : (k n : ℕ) (xs ys : List ℕ) → k ≤ n → take n xs ≡ take n ys → take k xs ≡ take k ys
-same_front k n xs ys few e = sym (take-take k n xs few) ∙ ap (take k) e ∙ take-take k n ys few
+triples_whole : (us : List ℕ) → length us ≡ 8 → take 12 (triples us) ++ take 12 (drop 12 (triples us)) ≡ triples us
+triples_whole (a ∷ b ∷ c ∷ d ∷ e ∷ f ∷ g ∷ h ∷ []) long = refl
+triples_whole us long = absurd (omega arith)
 
--- at most four long characters are in the first half
-pub low_half : (n : ℕ) (us low : List ℕ) → Each1 (Fits w16) us → n ≤ prefix_len is_long us → n ≤ 4 → take 12 low ≡ take 12 (triples us)
-    → take (3 * n) low ≡ encode_utf8_all (take n us)
-low_half n us low fits few half is = same_front (3 * n) 12 _ _ (omega arith) is ∙ long_text n us few fits
+-- the text of eight is in two halves
+pub both_halves : (us low high : List ℕ) → length us ≡ 8 → Each1 (Fits w16) us → Each1 (λ u. is_long u ≡ true) us
+    → take 12 low ≡ take 12 (triples us) → take 12 high ≡ take 12 (drop 12 (triples us)) → take 12 low ++ take 12 high ≡ units_text us
+both_halves us low high eight fits long is_low is_high = rw (is_low, is_high) (triples_whole us eight ∙ long_texts us (unit_range us fits) long)
 
--- and more are in both
-pub both_halves : (n : ℕ) (us low high : List ℕ) → length us ≡ 8 → Each1 (Fits w16) us → n ≤ prefix_len is_long us → 4 ≤ n
-    → take 12 low ≡ take 12 (triples us) → take 12 high ≡ take 12 (drop 12 (triples us))
-    → take 12 low ++ take (3 * (n - 4)) high ≡ encode_utf8_all (take n us)
-both_halves n us low high long fits few half is_low is_high =
-    let back = same_front (3 * (n - 4)) 12 _ _ (omega (arith, prefix_len-le-length is_long us)) is_high in
-    let all : 12 + 3 * (n - 4) ≡ 3 * n = omega arith in
-    rw (is_low, back, ← take-add 12 (3 * (n - 4)) (triples us), all) (long_text n us few fits)
+-- the low bytes of characters of ASCII are their text
+pub plain_texts : (n : ℕ) (ys : List ℕ) → Each1 (λ u. is_wide u ≡ false) (take n (units ys)) → take n (evens ys) ≡ units_text (take n (units ys))
+plain_texts zero ys each = refl
+plain_texts n [] each = grind arith
+plain_texts n (low ∷ []) each = grind arith
+plain_texts (suc n) (low ∷ high ∷ ys) each = grind (arith, nat_tests, plain_text (low + 256 * high) each.0, plain_texts n ys each.1)
 
--- the low bytes of characters of ASCII are their units
-pub low_units : (n : ℕ) (ys : List ℕ) → n ≤ prefix_len is_plain (units ys) → take n (evens ys) ≡ take n (units ys)
-low_units zero ys few = refl
-low_units (suc n) (low ∷ high ∷ ys) few =
-    grind (arith, nat_tests, low_units n ys (first_holds few).1)
-low_units n ys few = absurd (omega arith)
+-- a surrogate is long, and so it is wide
+pub no_half : (u : ℕ) → is_long u ≡ false → is_half u ≡ false
+no_half u h = grind (arith, nat_tests)
 
-length-units : (xs : List ℕ) → length (units xs) ≡ length xs / 2
+pub not_long : (u : ℕ) → is_wide u ≡ false → is_long u ≡ false
+not_long u h = grind (arith, nat_tests)
+
+-- two bytes are a unit
+pub length-units : (xs : List ℕ) → length (units xs) ≡ length xs / 2
 length-units [] = grind arith
 length-units (low ∷ []) = grind arith
 length-units (low ∷ high ∷ xs) = let more = length-units xs in grind arith
 
-module _ (q : ℕ → Bool) (single : (u : ℕ) → q u ≡ true → IsSingle u) where
-  leads_single : (low high : ℕ) (more : List ℕ) → q (low + 256 * high) ≡ true
-      → Leads rest text (low ∷ high ∷ more) more (encode_utf8 (low + 256 * high))
-  leads_single low high more h = grind (arith, common_steps, next_one, lone_other)
+-- so 16 bytes are eight
+pub eight_units : (ys : List ℕ) {us : List ℕ} → length ys ≡ 16 → us ≡ units ys → length us ≡ 8
+eight_units ys long is = omega (arith, ap length is, length-units ys)
 
-  -- so many of the units lead on
-  leads_front : (k : ℕ) (ys more : List ℕ) → k ≤ prefix_len q (units ys)
-      → Leads rest text (take (2 * k) ys ++ more) more (encode_utf8_all (take k (units ys)))
-  leads_front zero ys more h = Leads-none
-  leads_front (suc k) (low ∷ high ∷ ys) more h =
-      let two : suc (suc (2 * k)) ≡ 2 * suc k = omega arith in
-      let x = first_holds h in
-      rw (← two) (Leads-trans (leads_single low high (take (2 * k) ys ++ more) x.0) (leads_front k ys more x.1))
-  leads_front k ys more h = absurd (omega arith)
+-- the first of eight are characters of ASCII, and were written
+pub plain_added : (ys old new : List ℕ) {us low : List ℕ} {wide mask at : ℕ} (n : ℕ) → length ys ≡ 16 → n ≤ 8 → at ≤ length old → us ≡ units ys
+    → mask ≡ mask_l (map is_wide us) → wide ≡ mask % 2 ^ n → wide ≡ 0 → low ≡ evens ys → take (at + 8) new ≡ take at old ++ take 8 low
+    → (take (at + n) new ≡ take at old ++ units_text (take n (units ys))) × Each1 (λ u. is_half u ≡ false) (take n (units ys))
+plain_added ys old new {us} {low} {at = at} n long few within is masked lowest none low_is written =
+    let plain = rw is at (none_of_first is_wide us n masked lowest none) in
+    let text = rw (take-take n 8 low few, low_is) at (front_written old new (take 8 low) at n 8 few within written) in
+    (text ∙ ap (λ l. take at old ++ l) (plain_texts n ys plain), Each1-weaker _ _ (λ u h. no_half u (not_long u h)) _ plain)
 
-  -- so many units of a source that begins with the bytes were converted after what was before
-  pub units_more : {bytes source us old new : List ℕ} {at made after : ℕ} (n : ℕ) → LiesIn bytes source → at + 16 ≤ length source
-      → us ≡ units (chunk at 16 source) → n ≤ prefix_len q us → at + 2 * n ≤ length bytes → after ≤ made + 3 * n
-      → take after new ≡ take made old ++ encode_utf8_all (take n us) → Converts bytes old at made → Converts bytes new (at + 2 * n) after
-  units_more {bytes} {source} {us} {at = at} n lies room is few within small written before =
-      let ys = chunk at 16 source in
-      let eight : length us ≡ 8 = omega (arith, ap length is, length-units ys, length-chunk at 16 source room) in
-      let same = alike bytes source at (2 * n) lies (omega (arith, prefix_len-le-length q us)) within in
-      let next = rw (← same, take-append-drop, drop-drop (2 * n) at bytes, ← is) at (leads_front n ys (drop (2 * n) (drop at bytes)) (rw is at few))
-      in
-      record { within = within; room = omega arith; leads = rw written (Leads-trans before.leads next) }
+leads_unit : (low high : ℕ) (more : List ℕ) → is_half (low + 256 * high) ≡ false → Leads rest text (low ∷ high ∷ more) more (unit_text (low + 256 * high))
+leads_unit low high more h =
+    let none = or_parts (is_high_surrogate (low + 256 * high)) (is_low_surrogate (low + 256 * high)) h in
+    let next = next_one low high more (low + 256 * high) none.0 (lone_other (low + 256 * high) none.0 none.1) in
+    record { emits = next.emits; keeps = next.keeps }
+
+-- so many of the units lead on
+leads_front : (k : ℕ) (ys more : List ℕ) → k ≤ length (units ys) → Each1 (λ u. is_half u ≡ false) (take k (units ys))
+    → Leads rest text (take (2 * k) ys ++ more) more (units_text (take k (units ys)))
+leads_front zero ys more few each = Leads-none
+leads_front (suc k) (low ∷ high ∷ ys) more few each =
+    let two : suc (suc (2 * k)) ≡ 2 * suc k = omega arith in
+    rw (← two) (Leads-trans (leads_unit low high (take (2 * k) ys ++ more) each.0) (leads_front k ys more (omega arith) each.1))
+leads_front k ys more few each = absurd (omega arith)
 
 -- all the bytes are a source of their own
 pub lies_itself : (bytes : List ℕ) → LiesIn bytes bytes
 lies_itself bytes = grind (arith, common_steps)
 
--- and so many characters of ASCII
-pub plain_more : {bytes source old new : List ℕ} {at made : ℕ} (n : ℕ) → LiesIn bytes source → at + 16 ≤ length source
-    → n ≤ prefix_len is_plain (units (chunk at 16 source)) → n ≤ 8 → at + 2 * n ≤ length bytes → 3 * length bytes + 32 ≤ 2 * length old
-    → take (made + 8) new ≡ take made old ++ take 8 (evens (chunk at 16 source)) → Converts bytes old at made
-    → Converts bytes new (at + 2 * n) (made + n)
-plain_more {source = source} {old = old} {new = new} {at = at} {made = made} n lies room few most within long written before =
+-- so many units of a source that begins with the bytes were converted after what was before
+pub units_more : {bytes source old new : List ℕ} {at made after : ℕ} (n : ℕ) → LiesIn bytes source → at + 16 ≤ length source → n ≤ 8
+    → Each1 (λ u. is_half u ≡ false) (take n (units (chunk at 16 source))) → at + 2 * n ≤ length bytes → after ≤ made + 3 * n
+    → take after new ≡ take made old ++ units_text (take n (units (chunk at 16 source))) → Converts bytes old at made
+    → Converts bytes new (at + 2 * n) after
+units_more {bytes} {source} {at = at} n lies room few single within small written before =
     let ys = chunk at 16 source in
-    let low = take-take n 8 (evens ys) most ∙ low_units n ys few ∙ sym (plain_text n (units ys) few) in
-    units_more is_plain plain_single n lies room refl few within (omega arith)
-    (rw (← low) (front_written old new _ made n 8 most (omega arith) written)) before
+    let eight : length (units ys) ≡ 8 = omega (arith, length-units ys, length-chunk at 16 source room) in
+    let same = alike bytes source at (2 * n) lies (omega arith) within in
+    let next = rw (← same, take-append-drop, drop-drop (2 * n) at bytes) at (leads_front n ys (drop (2 * n) (drop at bytes)) (omega arith) single) in
+    record { within = within; room = omega arith; leads = rw written (Leads-trans before.leads next) }
+
+-- so were eight units of the bytes
+pub eight_more : {bytes us old new : List ℕ} {at made after mask : ℕ} → at + 16 ≤ length bytes → us ≡ units (chunk at 16 bytes)
+    → mask ≡ mask_l (map is_half us) → mask ≡ 0 → after ≤ made + 24 → take after new ≡ take made old ++ units_text us → Converts bytes old at made
+    → Converts bytes new (at + 16) after
+eight_more {bytes} {us} {at = at} room is masked none small written before =
+    let ys = chunk at 16 bytes in
+    let all : take 8 us ≡ us = take_all 8 us (omega (arith, eight_units ys (length-chunk at 16 bytes room) is)) in
+    let single = none_passes is_half us (sym masked ∙ none) in
+    units_more 8 (lies_itself bytes) room (omega arith) (rw (← is, all) single) room small (rw (← is, all) written) before

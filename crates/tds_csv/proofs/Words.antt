@@ -13,7 +13,7 @@ pub use Rattle.std.proofs.lemmas.Bool.{or_parts, cases_lt, cases_eq, agree_below
 pub use Rattle.std.proofs.lemmas.Bool.Decides.{nat_tests}
 pub use Rattle.std.proofs.lemmas.Grind.{flat_map-append, common_steps}
 pub use Rattle.std.proofs.lemmas.List.{take-append-le, nil_from_length, map-id, take-append-drop, take-take, take_at, drop-append-le, drop-take}
-pub use Rattle.std.proofs.lemmas.List.{length-map, append_cancel_left, map-append, take_more, drop_more, drop_at, get_or-drop, get_or-map}
+pub use Rattle.std.proofs.lemmas.List.{length-map, append_cancel_left, map-append, take_more, drop_more, drop_at, get_or-drop, get_or-map, take-map}
 pub use Rattle.std.proofs.lemmas.List.Sums.{prefix_len_passes, prefix_len-le-length}
 pub use Rattle.std.proofs.lemmas.Result.{err_from_is_err_and}
 pub use Rattle.std.proofs.lemmas.Simd.{put_chunk_is, swz_l, map-map, mask_l-mod, length-chunk, chunk-fits, first_set_mask_l, zip2_of_maps}

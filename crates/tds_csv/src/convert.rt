@@ -7,6 +7,7 @@ pub(crate) mod encode;
 pub(crate) mod lanes;
 pub(crate) mod lanes_hex;
 pub(crate) mod lanes_utf16;
+pub(crate) mod places;
 pub(crate) mod run;
 pub(crate) mod utf16;
 pub(crate) mod utf8;

@@ -1,41 +1,71 @@
-// Characters beyond ASCII in UTF-16, eight units at a time.
-ghost use Rattle.std.specs.Prelude.{◌≡◌, ◌+◌, ◌*◌, ◌/◌, ◌%◌, ◌<◌, ◌≤◌, ◌++◌, [], ◌∷◌, length, take, drop, map, encode_utf8_all};
-ghost use Rattle.std.specs.List.{prefix_len};
-ghost use Rattle.tds_csv.specs.Utf16Next.{Converts, ConvertsIn};
-ghost use Rattle.tds_csv.specs.Wide.{is_long, is_short, pair, size, triples};
+// Characters in UTF-16 that are one unit, eight at a time.
+ghost use Rattle.std.specs.Prelude.{◌≡◌, ◌+◌, ◌*◌, ◌<◌, ◌≤◌, ◌++◌, length, take, drop, map, get_or, flat_map, false, true, IfSome, IfNone};
+ghost use Rattle.std.specs.Simd.Lanes.{Each1};
+ghost use lib.Lanes.{mask_l};
+ghost use Rattle.tds_csv.specs.Utf16 as utf16;
+ghost use Rattle.tds_csv.specs.Wide.{AddsQuads, is_half, is_long, is_wide, pair_bytes, quad_bytes, triples, units_text};
 
-use crate::convert::encode::put_bytes;
+use crate::convert::encode::{put_bytes, put_lanes};
 use crate::convert::lanes::LANES;
-use crate::convert::lanes_utf16::{UNITS, long_units, units_at, units_below};
-use crate::convert::utf16::{Converted, convert_one};
+use crate::convert::lanes_utf16::{
+    UNITS, long_units, low_bytes, lowest, surrogate_units, units_of, wide_units,
+};
+use crate::convert::places::{pair_places, quad_places};
+use crate::convert::utf16::Converted;
 use std::simd::prelude::*;
 
-// The bytes of short characters, each in two bytes.
+// How many units are written at a time whose text may have three bytes each.
+const HALF: usize = 4;
+
+// The mask of all of eight units.
+const EVERY: u64 = 0xFF;
+
+// The lanes at places.
 #[inline(always)]
-fn pairs(units: u16x8) -> [u16; UNITS]
-    ensures { result ≡ map pair units }
+fn gathered(lanes: u8x16, places: [u8; 16]) -> u8x16
+    requires lanes { length lanes ≡ LANES }
+    requires places { Each1 (λ k. k < LANES) places }
+    ensures { result ≡ map (λ k. get_or lanes k 0) places }
+{
+    lanes.swizzle_dyn(u8x16::from_array(places))
+}
+
+// The bytes of eight short characters, two each.
+#[inline(always)]
+fn pairs(units: u16x8) -> u8x16
+    ensures { result ≡ flat_map pair_bytes units }
 {
     let lead = units / u16x8::splat(64) + u16x8::splat(0xC0);
     let trail = units % u16x8::splat(64) + u16x8::splat(0x80);
     let two = lead + trail * u16x8::splat(256);
-    let ascii = units.simd_lt(u16x8::splat(0x80));
-    ascii.select(units, two).to_array()
+    let text = units.simd_ge(u16x8::splat(0x80)).select(two, units);
+    let quotes = units.simd_eq(u16x8::splat(0x22));
+    quotes.select(u16x8::splat(0x2222), text).to_le_bytes()
 }
 
-// How many of the two bytes each character has.
+// The bytes of eight characters, four each: of the first four, and of the others.
 #[inline(always)]
-fn sizes(units: u16x8) -> [u16; UNITS]
-    ensures { result ≡ map size units }
+fn quads(units: u16x8) -> (u8x16, u8x16)
+    ensures { (result.0 ≡ flat_map quad_bytes (take HALF units)) × (result.1 ≡ flat_map quad_bytes (drop HALF units)) }
 {
-    let ascii = units.simd_lt(u16x8::splat(0x80));
-    ascii.select(u16x8::splat(1), u16x8::splat(2)).to_array()
+    let quotes = units.simd_eq(u16x8::splat(0x22));
+    let long = units.simd_ge(u16x8::splat(0x800));
+    let trail = units % u16x8::splat(64) + u16x8::splat(0x80);
+    let low = units % u16x8::splat(256) + trail * u16x8::splat(256);
+    let mark = long.select(u16x8::splat(0x80E0), u16x8::splat(0xC0E0));
+    let middle = units / u16x8::splat(64) % u16x8::splat(64) * u16x8::splat(256);
+    let high = units / u16x8::splat(4096) + middle + mark;
+    let both = u16x8::splat(0x2222);
+    let (first, second) = quotes
+        .select(both, low)
+        .interleave(quotes.select(both, high));
+    (first.to_le_bytes(), second.to_le_bytes())
 }
 
 // The bytes of eight long characters: of the first four and of the others, each with four bytes more.
 #[inline(always)]
 fn triples(units: u16x8) -> (u8x16, u8x16)
-    ensures first { take 12 result.0 ≡ take 12 (triples units) }
-    ensures second { take 12 result.1 ≡ take 12 (drop 12 (triples units)) }
+    ensures { (take 12 result.0 ≡ take 12 (triples units)) × (take 12 result.1 ≡ take 12 (drop 12 (triples units))) }
 {
     let lead = units / u16x8::splat(4096) + u16x8::splat(0xE0);
     let middle = units / u16x8::splat(64) % u16x8::splat(64) + u16x8::splat(0x80);
@@ -51,123 +81,120 @@ fn triples(units: u16x8) -> (u8x16, u8x16)
     )
 }
 
-// Writes the first `size` bytes of a pair.
+// Writes the text of the first `n` of eight short characters; the mask says which of them are wide.
 #[inline(always)]
-fn put_pair(to: &mut [u8], at: usize, pair: u16, size: u16) -> usize
-    requires some { 1 ≤ size }
-    requires most { size ≤ 2 }
-    requires room { at + 2 ≤ length to.old }
-    ensures end { result ≡ at + size }
-    ensures written { take result to.new ≡ take at to.old ++ take size (pair % 256 ∷ pair / 256 ∷ []) }
-{
-    to[at] = (pair % 256) as u8;
-    to[at + 1] = (pair / 256) as u8;
-    at + usize::from(size)
-}
-
-// Writes the first `n` of eight short characters.
-#[inline(always)]
-fn put_pairs(to: &mut [u8], from: usize, units: u16x8, n: usize) -> usize
-    requires short { n ≤ prefix_len is_short units }
-    requires room { from + LANES ≤ length to.old }
-    ensures most { result ≤ from + 2 * n }
-    ensures written { take result to.new ≡ take from to.old ++ encode_utf8_all (take n units) }
-{
-    let pairs = pairs(units);
-    let sizes = sizes(units);
-    let mut made = from;
-    for i in 0..n {
-        made = put_pair(to, made, pairs[i], sizes[i]);
-    }
-    made
-}
-
-// Writes the first `n` of eight long characters.
-#[inline(always)]
-fn put_triples(to: &mut [u8], at: usize, units: u16x8, n: usize)
-    requires long { n ≤ prefix_len is_long units }
+fn put_pairs(to: &mut [u8], at: usize, units: u16x8, wide: u64, n: usize) -> usize
+    requires most { n ≤ UNITS }
+    requires wide { wide ≡ mask_l (map is_wide (take n units)) }
+    requires short { Each1 (λ u. is_long u ≡ false) (take n units) }
     requires room { at + LANES ≤ length to.old }
-    requires more { 4 < n → at + 12 + LANES ≤ length to.old }
-    ensures { take (at + 3 * n) to.new ≡ take at to.old ++ encode_utf8_all (take n units) }
+    ensures most { result ≤ at + 2 * n }
+    ensures written { take result to.new ≡ take at to.old ++ units_text (take n units) }
+{
+    let size = n + wide.count_ones() as usize;
+    put_bytes(to, at, gathered(pairs(units), pair_places(wide)), size);
+    at + size
+}
+
+// Writes the text of the first `n` of four characters whose bytes are these, with masks of the wide and the long ones.
+#[inline(always)]
+fn put_quads(to: &mut [u8], at: usize, quads: u8x16, wide: u64, long: u64, n: usize) -> usize
+    requires most { n ≤ HALF }
+    requires wide { wide < 16 }
+    requires long { long < 16 }
+    requires room { at + LANES ≤ length to.old }
+    ensures { AddsQuads to.old to.new at result n quads wide long }
+{
+    let index = (wide + 16 * long) as usize;
+    let size = n + index.count_ones() as usize;
+    put_bytes(to, at, gathered(quads, quad_places(index)), size);
+    at + size
+}
+
+// Writes the text of the first `n` of eight characters, with masks of the wide and the long ones.
+#[inline(always)]
+fn put_mixed(to: &mut [u8], at: usize, units: u16x8, wide: u64, long: u64, n: usize) -> usize
+    requires most { n ≤ UNITS }
+    requires wide { wide ≡ mask_l (map is_wide (take n units)) }
+    requires long { long ≡ mask_l (map is_long (take n units)) }
+    requires room { at + 3 * n + LANES ≤ length to.old }
+    ensures most { result ≤ at + 3 * n }
+    ensures written { take result to.new ≡ take at to.old ++ units_text (take n units) }
+{
+    let (first, second) = quads(units);
+    let middle = put_quads(to, at, first, wide % 16, long % 16, n.min(HALF));
+    if n <= HALF {
+        return middle;
+    }
+    put_quads(to, middle, second, wide / 16, long / 16, n - HALF)
+}
+
+// Writes the text of eight long characters.
+#[inline(always)]
+fn put_triples(to: &mut [u8], at: usize, units: u16x8)
+    requires long { Each1 (λ u. is_long u ≡ true) units }
+    requires room { at + 3 * UNITS + LANES ≤ length to.old }
+    ensures { take (at + 3 * UNITS) to.new ≡ take at to.old ++ units_text units }
 {
     let (low, high) = triples(units);
-    if n <= 4 {
-        put_bytes(to, at, low, 3 * n);
-        return;
-    }
     put_bytes(to, at, low, 12);
-    put_bytes(to, at + 12, high, 3 * (n - 4));
+    put_bytes(to, at + 12, high, 12);
 }
 
-// Goes on with the text by eight units, up to two that are no short characters: one is taken by itself. What
-// comes after the bytes in the source may be looked at.
-#[inline(never)]
-pub(crate) fn convert_short(
-    bytes: &[u8],
-    source: &[u8],
-    from: usize,
-    to: &mut [u8],
-    start: usize,
-) -> Converted
-    requires { ConvertsIn bytes.now source.now to.old from start }
-    ensures more { from ≤ result.used }
-    ensures after { Converts bytes.now to.new result.used result.made }
+// Writes the text of eight characters, with the mask of the long ones.
+#[inline(always)]
+pub(crate) fn put_longs(to: &mut [u8], at: usize, units: u16x8, long: u64) -> usize
+    requires long { long ≡ mask_l (map is_long units) }
+    requires room { at + 3 * UNITS + LANES ≤ length to.old }
+    ensures most { result ≤ at + 3 * UNITS }
+    ensures written { take result to.new ≡ take at to.old ++ units_text units }
 {
-    let mut at = from;
-    let mut made = start;
-    while source.len() - at >= LANES {
-        let units = units_at(source, at);
-        let n = units_below(units, 0x800).min((bytes.len() - at) / 2);
-        if n == UNITS {
-            made = put_pairs(to, made, units, UNITS);
-            at += 2 * UNITS;
-            continue;
-        }
-        made = put_pairs(to, made, units, n);
-        at += 2 * n;
-        if n == 0 {
-            break;
-        }
-        let one = convert_one(bytes, at, to, made);
-        at = one.used;
-        made = one.made;
+    if long == EVERY {
+        put_triples(to, at, units);
+        return at + 3 * UNITS;
     }
-    Converted { used: at, made }
+    put_mixed(to, at, units, wide_units(units), long, UNITS)
 }
 
-// Goes on with the text by eight units, up to two that are no long characters: one is taken by itself.
-#[inline(never)]
-pub(crate) fn convert_long(
-    bytes: &[u8],
-    source: &[u8],
-    from: usize,
-    to: &mut [u8],
-    start: usize,
-) -> Converted
-    requires { ConvertsIn bytes.now source.now to.old from start }
-    ensures more { from ≤ result.used }
-    ensures after { Converts bytes.now to.new result.used result.made }
+// Writes the text of the first `n` of eight characters, some of them long, and returns its end. Writes none if one of
+// them is a surrogate or all of the eight are long.
+#[inline(always)]
+fn put_few(to: &mut [u8], at: usize, units: u16x8, wide: u64, long: u64, n: usize) -> Option<usize>
+    requires most { n ≤ UNITS }
+    requires wide { wide ≡ mask_l (map is_wide (take n units)) }
+    requires long { long ≡ mask_l (map is_long (take n units)) }
+    requires room { at + 3 * n + LANES ≤ length to.old }
+    ensures most { IfSome result (λ end. end ≤ at + 3 * n) }
+    ensures written { IfSome result (λ end. take end to.new ≡ take at to.old ++ units_text (take n units)) }
+    ensures single { IfSome result (λ _. Each1 (λ u. is_half u ≡ false) (take n units)) }
+    ensures none { IfNone result (to.new ≡ to.old) }
 {
-    let mut at = from;
-    let mut made = start;
-    while source.len() - at >= LANES {
-        let units = units_at(source, at);
-        let n = long_units(units).min((bytes.len() - at) / 2);
-        if n == UNITS {
-            put_triples(to, made, units, UNITS);
-            made += 3 * UNITS;
-            at += 2 * UNITS;
-            continue;
-        }
-        put_triples(to, made, units, n);
-        made += 3 * n;
-        at += 2 * n;
-        if n == 0 {
-            break;
-        }
-        let one = convert_one(bytes, at, to, made);
-        at = one.used;
-        made = one.made;
+    if long == EVERY || lowest(surrogate_units(units), n) != 0 {
+        return None;
     }
-    Converted { used: at, made }
+    Some(put_mixed(to, at, units, wide, long, n))
+}
+
+// Writes the text of the first `n` of eight units, and returns its end. Writes none if one of them is a surrogate or all of
+// the eight are long.
+#[inline(always)]
+pub(crate) fn put_units(to: &mut [u8], at: usize, lanes: u8x16, n: usize) -> Option<usize>
+    requires most { n ≤ UNITS }
+    requires room { at + 3 * n + LANES ≤ length to.old }
+    ensures most { IfSome result (λ end. end ≤ at + 3 * n) }
+    ensures written { IfSome result (λ end. take end to.new ≡ take at to.old ++ units_text (take n (utf16.units lanes))) }
+    ensures single { IfSome result (λ _. Each1 (λ u. is_half u ≡ false) (take n (utf16.units lanes))) }
+    ensures none { IfNone result (to.new ≡ to.old) }
+{
+    let units = units_of(lanes);
+    let wide = lowest(wide_units(units), n);
+    if wide == 0 {
+        put_lanes(to, at, low_bytes(lanes), UNITS);
+        return Some(at + n);
+    }
+    let long = lowest(long_units(units), n);
+    if long == 0 {
+        return Some(put_pairs(to, at, units, wide, n));
+    }
+    put_few(to, at, units, wide, long, n)
 }

@@ -19,7 +19,18 @@ fn put_digits(bytes: &[u8], at: usize, to: &mut [u8])
     second.copy_to_slice(&mut to[2 * at + LANES..]);
 }
 
-// Writes the digits of bytes to a slice, as long as 32 of them are left, and returns of how many.
+// Writes the digits of the next 32 bytes.
+#[inline(always)]
+fn put_wide_digits(bytes: &[u8], at: usize, to: &mut [u8])
+    requires bytes { at + WIDE ≤ length bytes.now }
+    requires room { 2 * at + 2 * WIDE ≤ length to.old }
+    ensures { take (2 * at + 2 * WIDE) to.new ≡ take (2 * at) to.old ++ encode_lower (chunk at WIDE bytes.now) }
+{
+    put_digits(bytes, at, to);
+    put_digits(bytes, at + LANES, to);
+}
+
+// Writes the digits of bytes to a slice, as long as 64 of them are left, and returns of how many.
 #[inline(always)]
 fn encode_wide(bytes: &[u8], to: &mut [u8]) -> usize
     requires { length to.old ≡ 2 * length bytes.now }
@@ -27,10 +38,10 @@ fn encode_wide(bytes: &[u8], to: &mut [u8]) -> usize
     ensures digits { take (2 * result) to.new ≡ encode_lower (take result bytes.now) }
 {
     let mut at = 0;
-    while bytes.len() - at >= WIDE {
-        put_digits(bytes, at, to);
-        put_digits(bytes, at + LANES, to);
-        at += WIDE;
+    while bytes.len() - at >= 2 * WIDE {
+        put_wide_digits(bytes, at, to);
+        put_wide_digits(bytes, at + WIDE, to);
+        at += 2 * WIDE;
     }
     at
 }

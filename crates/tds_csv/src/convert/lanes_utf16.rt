@@ -1,13 +1,10 @@
 // Units of UTF-16, eight at a time.
-ghost use Rattle.std.specs.Prelude.{◌≡◌, ◌+◌, ◌≤◌, ◌++◌, length, take};
-ghost use Rattle.std.specs.List.{prefix_len};
-ghost use Rattle.std.specs.Simd.Lanes.{chunk};
-ghost use Rattle.tds_csv.specs.Plain.{evens, is_below, is_plain};
+ghost use Rattle.std.specs.Prelude.{◌≡◌, ◌^◌, ◌%◌, ◌≤◌, map};
+ghost use lib.Lanes.{mask_l};
+ghost use Rattle.tds_csv.specs.Plain.{evens};
 ghost use Rattle.tds_csv.specs.Utf16 as utf16;
-ghost use Rattle.tds_csv.specs.Wide.{is_long};
+ghost use Rattle.tds_csv.specs.Wide.{is_long, is_half, is_wide};
 
-use crate::convert::encode::put_lanes;
-use crate::convert::lanes::{LANES, first_set};
 use std::simd::prelude::*;
 
 /// How many units are looked at together.
@@ -15,59 +12,51 @@ pub(crate) const UNITS: usize = 8;
 
 // Eight units, low byte first.
 #[inline(always)]
-fn units_of(bytes: u8x16) -> u16x8
+pub(crate) fn units_of(bytes: u8x16) -> u16x8
     ensures { result ≡ utf16.units bytes }
 {
     u16x8::from_le_bytes(bytes)
 }
 
-// The next eight units.
-#[inline(always)]
-pub(crate) fn units_at(source: &[u8], at: usize) -> u16x8
-    requires { at + LANES ≤ length source.now }
-    ensures { result ≡ utf16.units (chunk at LANES source.now) }
-{
-    units_of(u8x16::from_slice(&source[at..]))
-}
-
 // The low bytes of eight units.
 #[inline(always)]
-fn low_bytes(bytes: u8x16) -> u8x8
+pub(crate) fn low_bytes(bytes: u8x16) -> u8x8
     ensures { result ≡ evens bytes }
 {
     bytes.swizzle([0, 2, 4, 6, 8, 10, 12, 14])
 }
 
-// How many of eight units, from the first, are below a limit and no quotes.
+// Which of eight units have a text of more than one byte, the first by the lowest bit.
 #[inline(always)]
-pub(crate) fn units_below(units: u16x8, limit: u16) -> usize
-    ensures { result ≡ prefix_len (is_below limit) units }
+pub(crate) fn wide_units(units: u16x8) -> u64
+    ensures { result ≡ mask_l (map is_wide units) }
 {
-    let stops = units.simd_ge(u16x8::splat(limit)) | units.simd_eq(u16x8::splat(0x22));
-    first_set(stops.to_bitmask(), UNITS)
+    let wide = units.simd_ge(u16x8::splat(0x80)) | units.simd_eq(u16x8::splat(0x22));
+    wide.to_bitmask()
 }
 
-// How many of eight units, from the first, are characters of three bytes.
+// Which of eight units have a text of three bytes, or are surrogates, the first by the lowest bit.
 #[inline(always)]
-pub(crate) fn long_units(units: u16x8) -> usize
-    ensures { result ≡ prefix_len is_long units }
+pub(crate) fn long_units(units: u16x8) -> u64
+    ensures { result ≡ mask_l (map is_long units) }
 {
-    let surrogates = (units - u16x8::splat(0xD800)).simd_lt(u16x8::splat(0x800));
-    let stops = units.simd_lt(u16x8::splat(0x800)) | surrogates;
-    first_set(stops.to_bitmask(), UNITS)
+    units.simd_ge(u16x8::splat(0x800)).to_bitmask()
 }
 
-// Writes the next eight units as characters of ASCII. Returns how many of them, from the first, are such and no quotes.
+// Which of eight units are surrogates, the first by the lowest bit.
 #[inline(always)]
-pub(crate) fn put_plain(source: &[u8], at: usize, to: &mut [u8], made: usize) -> usize
-    requires units { at + LANES ≤ length source.now }
-    requires room { made + UNITS ≤ length to.old }
-    ensures most { result ≤ UNITS }
-    ensures plain { result ≡ prefix_len is_plain (utf16.units (chunk at LANES source.now)) }
-    ensures written { let low = evens (chunk at LANES source.now) in
-        take (made + UNITS) to.new ≡ take made to.old ++ take UNITS low }
+pub(crate) fn surrogate_units(units: u16x8) -> u64
+    ensures { result ≡ mask_l (map is_half units) }
 {
-    let lanes = u8x16::from_slice(&source[at..]);
-    put_lanes(to, made, low_bytes(lanes), UNITS);
-    units_below(units_of(lanes), 0x80)
+    let from_first = units - u16x8::splat(0xD800);
+    from_first.simd_lt(u16x8::splat(0x800)).to_bitmask()
+}
+
+// The bits of the first `n` lanes.
+#[inline(always)]
+pub(crate) fn lowest(mask: u64, n: usize) -> u64
+    requires { n ≤ UNITS }
+    ensures { result ≡ mask % 2 ^ n }
+{
+    mask % (1 << n)
 }

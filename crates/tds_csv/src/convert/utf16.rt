@@ -7,10 +7,11 @@ ghost use Rattle.tds_csv.specs.Plain.{LiesIn};
 ghost use Rattle.tds_csv.specs.Utf16 as utf16;
 ghost use Rattle.tds_csv.specs.Utf16Next.{Converts, ConvertsIn, IsCharacter, IsNext, LeavesRest};
 
-use crate::convert::beyond_ascii::{convert_long, convert_short};
+use crate::convert::beyond_ascii::{put_longs, put_units};
 use crate::convert::encode::put_quoted;
-use crate::convert::lanes::LANES;
-use crate::convert::lanes_utf16::{UNITS, put_plain};
+use crate::convert::lanes::{LANES, first_set};
+use crate::convert::lanes_utf16::{UNITS, long_units, surrogate_units, units_of};
+use std::simd::prelude::*;
 
 // A character, and how many bytes it takes.
 #[derive(Clone, Copy)]
@@ -130,75 +131,124 @@ pub(crate) fn convert_one(bytes: &[u8], from: usize, to: &mut [u8], start: usize
     }
 }
 
-// Goes on with the text by eight units, up to the first eight of which the first is a quote or isn't of ASCII; such
-// a character among others is taken by itself. What comes after the bytes in the source may be looked at.
+// Goes on with the text by eight units, as long as so many are left, none of them is a surrogate and not all are long.
 #[inline(always)]
-fn convert_plain(bytes: &[u8], source: &[u8], from: usize, to: &mut [u8], start: usize) -> Converted
-    requires { ConvertsIn bytes.now source.now to.old from start }
+fn convert_eights(bytes: &[u8], from: usize, to: &mut [u8], start: usize) -> Converted
+    requires long { 3 * length bytes.now + 2 * LANES ≤ 2 * length to.old }
+    requires before { Converts bytes.now to.old from start }
     ensures more { from ≤ result.used }
     ensures after { Converts bytes.now to.new result.used result.made }
 {
     let mut at = from;
     let mut made = start;
-    while bytes.len() - at >= LANES {
-        let n = put_plain(bytes, at, to, made);
-        if n == UNITS {
-            at += 2 * UNITS;
-            made += UNITS;
-            continue;
-        }
-        if n == 0 {
-            return Converted {
-                used: at + 2 * n,
-                made: made + n,
-            };
-        }
-        let one = convert_one(bytes, at + 2 * n, to, made + n);
-        at = one.used;
-        made = one.made;
-    }
-    if source.len() - at < LANES {
+    if bytes.len() - from < LANES {
         return Converted { used: at, made };
     }
-    let n = put_plain(source, at, to, made).min((bytes.len() - at) / 2);
-    Converted {
-        used: at + 2 * n,
-        made: made + n,
+    let last = bytes.len() - LANES;
+    while at <= last {
+        let lanes = u8x16::from_slice(&bytes[at..]);
+        let Some(end) = put_units(to, made, lanes, UNITS) else {
+            break;
+        };
+        at += LANES;
+        made = end;
     }
+    Converted { used: at, made }
 }
 
-// Whether the next two units are beyond ASCII.
+// Goes on with the text by eight units, as long as so many are left, none of them is a surrogate and one is long.
 #[inline(always)]
-fn is_run(bytes: &[u8], at: usize) -> bool
-    requires { at ≤ length bytes.now }
-    ensures { IsTrue result → at + 4 ≤ length bytes.now }
-{
-    bytes.len() - at >= 4 && unit(bytes, at) >= 0x80 && unit(bytes, at + 2) >= 0x80
-}
-
-// Goes on with the text, by eight units if the next two are beyond ASCII.
-#[inline(always)]
-fn convert_next(bytes: &[u8], source: &[u8], from: usize, to: &mut [u8], start: usize) -> Converted
-    requires { ConvertsIn bytes.now source.now to.old from start }
+fn convert_longs(bytes: &[u8], from: usize, to: &mut [u8], start: usize) -> Converted
+    requires long { 3 * length bytes.now + 2 * LANES ≤ 2 * length to.old }
+    requires before { Converts bytes.now to.old from start }
     ensures more { from ≤ result.used }
-    ensures held { result.used ≡ from → utf16.rest (drop from bytes.now) ≡ drop from bytes.now }
     ensures after { Converts bytes.now to.new result.used result.made }
 {
-    if !is_run(bytes, from) {
-        return convert_one(bytes, from, to, start);
+    let mut at = from;
+    let mut made = start;
+    if bytes.len() - from < LANES {
+        return Converted { used: at, made };
     }
-    let done = if unit(bytes, from) < 0x800 {
-        convert_short(bytes, source, from, to, start)
-    } else {
-        convert_long(bytes, source, from, to, start)
-    };
-    if done.used > from {
-        return done;
+    let last = bytes.len() - LANES;
+    while at <= last {
+        let units = units_of(u8x16::from_slice(&bytes[at..]));
+        let long = long_units(units);
+        if long == 0 || surrogate_units(units) != 0 {
+            break;
+        }
+        made = put_longs(to, made, units, long);
+        at += LANES;
     }
-    convert_one(bytes, from, to, done.made)
+    Converted { used: at, made }
 }
 
-// Goes on with the text of the characters that are fixed, after a run of ASCII.
+// Goes on with the text by at most `most` of the next eight units, if none of these is a surrogate. What comes after the bytes
+// in the source may be looked at.
+#[inline(always)]
+fn convert_some(
+    bytes: &[u8],
+    source: &[u8],
+    from: usize,
+    to: &mut [u8],
+    start: usize,
+    most: usize,
+) -> Converted
+    requires most { most ≤ UNITS }
+    requires before { ConvertsIn bytes.now source.now to.old from start }
+    ensures more { from ≤ result.used }
+    ensures after { Converts bytes.now to.new result.used result.made }
+{
+    let n = ((bytes.len() - from) / 2).min(most);
+    let nothing = Converted {
+        used: from,
+        made: start,
+    };
+    if n == 0 || source.len() - from < LANES {
+        return nothing;
+    }
+    let Some(made) = put_units(to, start, u8x16::from_slice(&source[from..]), n) else {
+        return nothing;
+    };
+    Converted {
+        used: from + 2 * n,
+        made,
+    }
+}
+
+// Goes on with the text up to the next surrogate.
+#[inline(always)]
+fn convert_run(bytes: &[u8], source: &[u8], from: usize, to: &mut [u8], start: usize) -> Converted
+    requires { ConvertsIn bytes.now source.now to.old from start }
+    ensures more { from ≤ result.used }
+    ensures after { Converts bytes.now to.new result.used result.made }
+{
+    let mut run = Converted {
+        used: from,
+        made: start,
+    };
+    loop {
+        let eights = convert_eights(bytes, run.used, to, run.made);
+        let done = convert_longs(bytes, eights.used, to, eights.made);
+        if done.used == eights.used {
+            return convert_some(bytes, source, done.used, to, done.made, UNITS);
+        }
+        run = done;
+    }
+}
+
+// How many of the next eight units come before the first surrogate among them.
+fn units_before(source: &[u8], at: usize) -> usize
+    requires { at ≤ length source.now }
+    ensures { result ≤ UNITS }
+{
+    if source.len() - at < LANES {
+        return 0;
+    }
+    let units = units_of(u8x16::from_slice(&source[at..]));
+    first_set(surrogate_units(units), UNITS)
+}
+
+// Goes on with the text of the characters that are fixed, with surrogates.
 #[inline(never)]
 fn convert_from(bytes: &[u8], source: &[u8], after: Converted, to: &mut [u8]) -> Converted
     requires { ConvertsIn bytes.now source.now to.old after.used after.made }
@@ -206,16 +256,15 @@ fn convert_from(bytes: &[u8], source: &[u8], after: Converted, to: &mut [u8]) ->
     ensures used { LeavesRest bytes.now 0 result.used }
     ensures short { 2 * result.made ≤ 3 * result.used }
 {
-    let mut plain = after;
+    let mut run = after;
     loop {
-        let done = convert_next(bytes, source, plain.used, to, plain.made);
-        if done.used == plain.used {
-            return done;
+        let most = units_before(source, run.used);
+        let done = convert_some(bytes, source, run.used, to, run.made, most);
+        let next = convert_one(bytes, done.used, to, done.made);
+        if next.used == done.used {
+            return next;
         }
-        plain = convert_plain(bytes, source, done.used, to, done.made);
-        if plain.used == bytes.len() {
-            return plain;
-        }
+        run = convert_run(bytes, source, next.used, to, next.made);
     }
 }
 
@@ -228,11 +277,11 @@ pub(crate) fn convert(bytes: &[u8], source: &[u8], to: &mut [u8]) -> Converted
     ensures text { take result.made to.new ≡ emit utf16.rest utf16.text bytes.now }
     ensures used { LeavesRest bytes.now 0 result.used }
 {
-    let plain = convert_plain(bytes, source, 0, to, 0);
-    if plain.used == bytes.len() {
-        return plain;
+    let run = convert_run(bytes, source, 0, to, 0);
+    if run.used == bytes.len() {
+        return run;
     }
-    convert_from(bytes, source, plain, to)
+    convert_from(bytes, source, run, to)
 }
 
 // Writes the text of whole data, and returns its length. A high surrogate at the end has no partner.

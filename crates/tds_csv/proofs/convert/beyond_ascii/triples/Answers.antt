@@ -1,5 +1,6 @@
 use Rattle.tds_csv.proofs.Words.{◌∙◌, arith, nat_tests, map-id, sym, zip2_of_maps, splat_is_map, Each2-splat, Each1-all}
-use Rattle.tds_csv.proofs.WideLanes.{same_map, three_each, lead, others}
+use Rattle.tds_csv.proofs.LaneMasks.{same_map}
+use Rattle.tds_csv.proofs.WideLanes.{three_each, lead, others}
 use Rattle.tds_csv.proofs.convert.beyond_ascii.triples.Goals as goal
 
 pub nonzero_div-lead : goal.nonzero_div-lead
@@ -14,8 +15,8 @@ nonzero_rem-middle c = Each2-splat _ _ 8 64 (Each1-all _ (λ x. omega arith) _)
 pub nonzero_rem-trail : goal.nonzero_rem-trail
 nonzero_rem-trail c = Each2-splat _ _ 8 64 (Each1-all _ (λ x. omega arith) _)
 
-pub returns-clause-first : goal.returns-clause-first
-returns-clause-first c =
+pub returns : goal.returns
+returns c =
     let us = c.args.units in
     let n = c.fits-units.0 in
     let id = sym (map-id us) in
@@ -25,19 +26,5 @@ returns-clause-first c =
     let middle = zip2_of_maps _ _ _ us (zip2_of_maps _ _ _ us (zip2_of_maps _ _ _ us id parts) parts) high in
     let trail = zip2_of_maps _ _ _ us (zip2_of_maps _ _ _ us id parts) high in
     let rest = zip2_of_maps _ _ _ us middle (zip2_of_maps _ _ _ us trail (splat_is_map us 8 256 n)) in
-    (three_each us _ _ n c.fits-units.1 (first ∙ same_map {g = lead} (λ u small. grind (arith, nat_tests)) us c.fits-units.1) (rest
-    ∙ same_map {g = others} (λ u small. grind (arith, nat_tests)) us c.fits-units.1)).0
-
-pub returns-clause-second : goal.returns-clause-second
-returns-clause-second c =
-    let us = c.args.units in
-    let n = c.fits-units.0 in
-    let id = sym (map-id us) in
-    let parts = splat_is_map us 8 64 n in
-    let high = splat_is_map us 8 128 n in
-    let first = zip2_of_maps _ _ _ us (zip2_of_maps _ _ _ us id (splat_is_map us 8 4096 n)) (splat_is_map us 8 224 n) in
-    let middle = zip2_of_maps _ _ _ us (zip2_of_maps _ _ _ us (zip2_of_maps _ _ _ us id parts) parts) high in
-    let trail = zip2_of_maps _ _ _ us (zip2_of_maps _ _ _ us id parts) high in
-    let rest = zip2_of_maps _ _ _ us middle (zip2_of_maps _ _ _ us trail (splat_is_map us 8 256 n)) in
-    (three_each us _ _ n c.fits-units.1 (first ∙ same_map {g = lead} (λ u small. grind (arith, nat_tests)) us c.fits-units.1) (rest
-    ∙ same_map {g = others} (λ u small. grind (arith, nat_tests)) us c.fits-units.1)).1
+    three_each us _ _ n c.fits-units.1 (first ∙ same_map {g = lead} (λ u small. grind (arith, nat_tests)) us c.fits-units.1) (rest
+    ∙ same_map {g = others} (λ u small. grind (arith, nat_tests)) us c.fits-units.1)

@@ -6,22 +6,22 @@ use Rattle.tds_csv.proofs.convert.lanes_hex.encode_wide.Goals as goal
 pub loop-at-init : goal.loop-at-init
 loop-at-init c = grind (arith, common_steps, hex-nil)
 
--- the digits of twice 16 bytes were written
+-- the digits of twice 32 bytes were written
 two_steps : (bytes first second third : List ℕ) (at : ℕ) → take (2 * at) first ≡ encode_lower (take at bytes)
-    → take (2 * at + 32) second ≡ take (2 * at) first ++ encode_lower (chunk at 16 bytes)
-    → take (2 * (at + 16) + 32) third ≡ take (2 * (at + 16)) second ++ encode_lower (chunk (at + 16) 16 bytes)
-    → take (2 * (at + 32)) third ≡ encode_lower (take (at + 32) bytes)
+    → take (2 * at + 64) second ≡ take (2 * at) first ++ encode_lower (chunk at 32 bytes)
+    → take (2 * (at + 32) + 64) third ≡ take (2 * (at + 32)) second ++ encode_lower (chunk (at + 32) 32 bytes)
+    → take (2 * (at + 64)) third ≡ encode_lower (take (at + 64) bytes)
 two_steps bytes first second third at before one two =
-    let half : 2 * at + 32 ≡ 2 * (at + 16) = omega arith in
-    let all : 2 * (at + 16) + 32 ≡ 2 * (at + 32) = omega arith in
-    let end : at + 16 + 16 ≡ at + 32 = omega arith in
-    let more = text_taken encode_lower (hex-append lower_digits) bytes at 16 one before in
-    rw end at (rw all at (text_taken encode_lower (hex-append lower_digits) bytes (at + 16) 16 two (rw half at more)))
+    let half : 2 * at + 64 ≡ 2 * (at + 32) = omega arith in
+    let all : 2 * (at + 32) + 64 ≡ 2 * (at + 64) = omega arith in
+    let end : at + 32 + 32 ≡ at + 64 = omega arith in
+    let more = text_taken encode_lower (hex-append lower_digits) bytes at 32 one before in
+    rw end at (rw all at (text_taken encode_lower (hex-append lower_digits) bytes (at + 32) 32 two (rw half at more)))
 
 pub loop-at-preserved : goal.loop-at-preserved
 loop-at-preserved c = record {
   within = omega arith;
   room = search rules;
   digits = two_steps c.args.bytes.now _ _ _ c.loop-at.at
-      c.loop-at.invariant.digits c.put_digits.ensures c.put_digits-in-loop-at.ensures;
+      c.loop-at.invariant.digits c.put_wide_digits.ensures c.put_wide_digits-in-loop-at.ensures;
 }

@@ -1,11 +1,10 @@
-use Rattle.tds_csv.{proofs.{Words.{◌∙◌, arith, nat_tests, map-id, sym, zip2_of_maps, splat_is_map}, WideLanes.units_before}, specs.Wide.is_long}
+use Rattle.tds_csv.proofs.Words.{◌≡◌, map, replicate, ℕ, cond, leb, arith, nat_tests, map-id, sym, zip2_of_maps, splat_is_map}
+use Rattle.tds_csv.{proofs.LaneMasks.mask_of, specs.Wide.is_long}
 
 pub returns : Rattle.tds_csv.proofs.convert.lanes_utf16.long_units.Goals.returns
 returns c =
     let us = c.args.units in
     let long = c.fits-units.0 in
-    let id = sym (map-id us) in
-    c.first_set.ensures ∙ units_before is_long _ us long c.fits-units.1
-    (zip2_of_maps _ _ _ us (zip2_of_maps _ _ _ us id (splat_is_map us 8 2048 long))
-    (zip2_of_maps _ _ _ us (zip2_of_maps _ _ _ us id (splat_is_map us 8 55296 long)) (splat_is_map us 8 2048 long)))
-    (λ u small. grind (arith, nat_tests))
+    let edge : replicate {A = ℕ} 8 2048 ≡ map (λ u. 2048) us = splat_is_map us 8 2048 long in
+    mask_of is_long (λ u. cond (leb 2048 u) 65535 0) us long c.fits-units.1
+    (zip2_of_maps (λ a b. cond (leb a b) 65535 0) _ _ us edge (sym (map-id us))) (λ u small. grind (arith, nat_tests))

@@ -2,8 +2,8 @@ use Rattle.tds_csv.{proofs.Words.{◌+◌, ◌≤◌, ◌*◌, ◌-◌, length},
 use Rattle.tds_csv.proofs.convert.utf16.convert_from.Given as goal
 
 -- the text so far is that of the bytes so far
-abbrev pub invariant-loop-plain : goal.invariant-loop-plain
-invariant-loop-plain l = record { long : 3 * length l.bytes + 32 ≤ 2 * length l.to; now : Converts l.bytes l.to l.plain.used l.plain.made }
+abbrev pub invariant-loop-next : goal.invariant-loop-next
+invariant-loop-next l = record { long : 3 * length l.bytes + 32 ≤ 2 * length l.to; now : Converts l.bytes l.to l.run.used l.run.made }
 
-abbrev pub decreases-loop-plain : goal.decreases-loop-plain
-decreases-loop-plain l = length l.bytes - l.plain.used
+abbrev pub decreases-loop-next : goal.decreases-loop-next
+decreases-loop-next l = length l.bytes - l.run.used

@@ -1,0 +1,101 @@
+-- Masks of lanes that pass a test.
+use Rattle.tds_csv.proofs.Words.{◌≡◌, ◌∙◌, ℕ, ◌+◌, ◌*◌, ◌/◌, ◌%◌, ◌^◌, ◌<◌, ◌≤◌, Bool, true, false, zero, suc, List, [], ◌∷◌, map, length}
+use Rattle.tds_csv.proofs.Words.{take, drop, refl, sym, ap, ap₂, arith, length-map, map-map, mask_l, mask_l-mod, top, Each1, Fits, w16, take-map}
+use Rattle.tds_csv.proofs.Words.{length-take, length-take-le, take_all, first_set, first_set_mask_l, prefix_len, prefix_len-le-length, not}
+use Rattle.std.proofs.Math.Nat.{add-mul-mod_self_left, mod-eq_of_lt, mul_assoc, pow-succ'}
+use Rattle.std.proofs.lemmas.Nat.{pow_pos}
+use Rattle.std.proofs.lemmas.Simd.{ones-mask_l}
+use Rattle.std.specs.Prelude.{count_ones}
+use Rattle.std.proofs.lemmas.List.Sums.{count_by-le-length}
+use Rattle.std.proofs.lemmas.List.{drop-map}
+
+-- two functions that are the same on units
+pub same_map : {A : Type 0} {f g : ℕ → A} → ((u : ℕ) → u < 65536 → f u ≡ g u) → (us : List ℕ) → Each1 (Fits w16) us → map f us ≡ map g us
+same_map same [] fits = refl
+same_map same (u ∷ us) fits = ap₂ (λ x xs. x ∷ xs) (same u fits.0.fits) (same_map same us fits.1)
+
+-- the mask of lanes whose top bit is set just where a test holds
+pub mask_of : (q : ℕ → Bool) (f : ℕ → ℕ) (us : List ℕ) {z : List ℕ} → length us ≡ 8 → Each1 (Fits w16) us → z ≡ map f us
+    → ((u : ℕ) → u < 65536 → top 15 (f u) ≡ q u) → mask_l (map (top 15) z) % 2 ^ 64 ≡ mask_l (map q us)
+mask_of q f us long fits lanes same =
+    let stops = λ (u : ℕ). top 15 (f u) in
+    rw (lanes, map-map (top 15) f us) (mask_l-mod (map stops us) 64 (omega (arith, length-map us stops)) ∙ ap mask_l (same_map same us fits))
+
+-- so many lanes have a small mask
+pub mask_small : (k : ℕ) (ms : List Bool) → length ms ≤ k → mask_l ms < 2 ^ k
+mask_small k [] few = pow_pos k
+mask_small zero (m ∷ ms) few = absurd (omega arith)
+mask_small (suc k) (m ∷ ms) few = let more = mask_small k ms (omega arith) in grind arith
+
+-- a mask has the bits of its first lanes, and then the others
+mask_parts : (n : ℕ) (ms : List Bool) → mask_l ms ≡ mask_l (take n ms) + 2 ^ n * mask_l (drop n ms)
+mask_parts zero ms = omega arith
+mask_parts (suc n) [] = omega arith
+mask_parts (suc n) (m ∷ ms) =
+    let rest = mask_l (drop n ms) in
+    let twice : 2 ^ suc n * rest ≡ 2 * (2 ^ n * rest) = rw (pow-succ' 2 n) (mul_assoc 2 (2 ^ n) rest) in
+    omega (arith, twice, mask_parts n ms)
+
+mask_first : (n : ℕ) (ms : List Bool) → mask_l (take n ms) < 2 ^ n
+mask_first n ms = mask_small n (take n ms) (omega (arith, length-take n ms))
+
+-- the lowest bits of a mask are those of the first lanes
+pub first_lanes : (q : ℕ → Bool) (n : ℕ) (us : List ℕ) {mask : ℕ} → mask ≡ mask_l (map q us) → mask % 2 ^ n ≡ mask_l (map q (take n us))
+first_lanes q n us is =
+    let ms = map q us in
+    rw (is, mask_parts n ms, add-mul-mod_self_left (mask_l (take n ms)) (2 ^ n) (mask_l (drop n ms)), ← take-map q n us) (mod-eq_of_lt (mask_first n ms))
+
+-- and those above, the others
+pub last_lanes : (q : ℕ → Bool) (us : List ℕ) {mask : ℕ} → mask ≡ mask_l (map q us) → mask / 16 ≡ mask_l (map q (drop 4 us))
+last_lanes q us is = rw (is, ← drop-map q 4 us) (omega (arith, mask_parts 4 (map q us), mask_first 4 (map q us)))
+
+-- and few bits
+pub few_ones : (q : ℕ → Bool) (us : List ℕ) {mask : ℕ} → mask ≡ mask_l (map q us) → count_ones mask ≤ length us
+few_ones q us is = rw (is, ones-mask_l q us) (count_by-le-length q us)
+
+-- so the mask of the first of eight lanes
+pub first_mask : (q : ℕ → Bool) (us : List ℕ) (n : ℕ) {mask : ℕ} → length us ≡ 8 → n ≤ 8 → mask ≡ mask_l (map q (take n us))
+    → (mask < 256) × (count_ones mask ≤ n)
+first_mask q us n long few is =
+    let counted = length-take-le n us (omega (arith, long)) in
+    (rw is (mask_small 8 (map q (take n us)) (omega (arith, counted, length-map (take n us) q))), rw counted at (few_ones q (take n us) is))
+
+-- none of the lanes of a mask passes
+pub none_passes : (q : ℕ → Bool) (us : List ℕ) → mask_l (map q us) ≡ 0 → Each1 (λ u. q u ≡ false) us
+none_passes q [] is = tt
+none_passes q (u ∷ us) is = let here : q u ≡ false = grind arith in (here, none_passes q us (omega (arith, is)))
+
+-- a mask of lanes of which none passes
+pub none_set : (q : ℕ → Bool) (us : List ℕ) → Each1 (λ u. q u ≡ false) us → mask_l (map q us) ≡ 0
+none_set q [] each = refl
+none_set q (u ∷ us) each = rw (each.0, none_set q us each.1) refl
+
+-- all of them pass
+pub all_pass : (q : ℕ → Bool) (n : ℕ) (us : List ℕ) → length us ≤ n → mask_l (map q us) + 1 ≡ 2 ^ n → Each1 (λ u. q u ≡ true) us × (length us ≡ n)
+all_pass q zero [] few is = (tt, refl)
+all_pass q zero (u ∷ us) few is = absurd (omega arith)
+all_pass q (suc n) [] few is = absurd (omega (arith, pow_pos n, is))
+all_pass q (suc n) (u ∷ us) few is =
+    let here : q u ≡ true = grind (arith, pow_pos n) in
+    let more = all_pass q n us (omega arith) (grind (arith, here)) in
+    ((here, more.0), ap suc more.1)
+
+-- of eight lanes all pass, if the mask of the first is full
+pub all_of_eight : (q : ℕ → Bool) (us : List ℕ) (n : ℕ) {mask : ℕ} → length us ≡ 8 → n ≤ 8 → mask ≡ mask_l (map q (take n us)) → mask ≡ 255
+    → (n ≡ 8) × Each1 (λ u. q u ≡ true) us
+all_of_eight q us n long few is full =
+    let counted = length-take-le n us (omega (arith, long)) in
+    let all = all_pass q 8 (take n us) (omega (arith, counted)) (omega (arith, is, full)) in
+    let eight : n ≡ 8 = omega (arith, counted, all.1) in
+    (eight, rw (take_all n us (omega (arith, eight, long))) at all.0)
+
+-- none of the first passes, if their mask is empty
+pub none_of_first : (q : ℕ → Bool) (us : List ℕ) (n : ℕ) {mask low : ℕ} → mask ≡ mask_l (map q us) → low ≡ mask % 2 ^ n → low ≡ 0
+    → Each1 (λ u. q u ≡ false) (take n us)
+none_of_first q us n is lowest none = none_passes q (take n us) (sym (first_lanes q n us is) ∙ sym lowest ∙ none)
+
+-- at most eight lanes come before the first that passes
+pub first_few : (q : ℕ → Bool) (us : List ℕ) {mask : ℕ} → length us ≡ 8 → mask ≡ mask_l (map q us) → first_set mask 8 ≤ 8
+first_few q us long is =
+    let before : first_set (mask_l (map q us)) 8 ≡ prefix_len (λ u. not (q u)) us = first_set_mask_l q us 8 long (omega arith) in
+    rw (is, before) (omega (arith, prefix_len-le-length (λ u. not (q u)) us))

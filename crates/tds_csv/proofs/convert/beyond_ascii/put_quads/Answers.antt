@@ -1,0 +1,27 @@
+use Rattle.tds_csv.proofs.Words.{arith}
+use Rattle.tds_csv.proofs.LaneMasks.{few_ones}
+use Rattle.tds_csv.proofs.{Places.{ones_of_two, quad_row}, WideText.quads_taken}
+use Rattle.tds_csv.specs.Wide.{is_long, is_wide}
+use Rattle.tds_csv.proofs.convert.beyond_ascii.put_quads.Goals as goal
+
+pub gathered-requires-clause-places : goal.gathered-requires-clause-places
+gathered-requires-clause-places c = rw c.quad_places.ensures (quad_row c.args.wide c.args.long c.requires.wide c.requires.long).small
+
+pub put_bytes-requires-clause-within : goal.put_bytes-requires-clause-within
+put_bytes-requires-clause-within c = omega (arith, (ones_of_two c.args.wide c.args.long c.requires.wide c.requires.long).1)
+
+pub returns : goal.returns
+returns c = record {
+  adds = λ units more long is wide_is long_is range.
+      let ones = ones_of_two c.args.wide c.args.long c.requires.wide c.requires.long in
+      let text = rw long at (quads_taken units more (omega (arith, long)) c.requires.wide c.requires.long is wide_is long_is range) in (
+        cc (c.put_bytes.ensures, c.gathered.ensures, c.quad_places.ensures, text),
+        omega (
+          arith,
+          long,
+          ones.0,
+          few_ones is_wide units wide_is,
+          few_ones is_long units long_is,
+        ),
+      );
+}
