@@ -1,16 +1,17 @@
 -- The text of data that is still open, by the name of its conversion.
-use Rattle.tds_csv.proofs.Words.{◌≡◌, inl, inr, ℕ, ◌+◌, ◌-◌, ◌<◌, ◌≤◌, ◌%◌, true, false, List, [], ◌∷◌, ◌++◌, length, take, Option, Some, None, refl}
-use Rattle.tds_csv.proofs.Words.{ap, arith, append_assoc, append-nil, length-append, IsUtf8, cases_lt, take-append-le, take_all, is_utf8-from_IsUtf8}
-use Rattle.tds_csv.proofs.Words.{utf8_valid_len_le, take-append-add, utf8_error_len, utf8_valid_len, emit, StopsAt, Conversion, HexDigits, Utf16Text}
-use Rattle.tds_csv.proofs.Words.{Windows1252Text, Utf8Text, BeginsData, conversion_rest, conversion_text, is_fit, is_quoted, long_field, open_field}
-use Rattle.tds_csv.proofs.Words.{closing}
-use Rattle.tds_csv.proofs.ConversionLaws.{fit_by_test, joins_by_name}
-use Rattle.tds_csv.proofs.Utf8Pushing.{after_kept}
-use Rattle.tds_csv.proofs.Utf8Stops.{stops_at}
-use Rattle.tds_csv.proofs.Utf8Test.{none_begins}
 use Rattle.tds_csv.specs.Utf8 as utf8
 use Rattle.tds_csv.proofs.Utf16Laws as utf16_laws
 use Rattle.tds_csv.proofs.Utf8Laws as utf8_laws
+use Rattle.tds_csv.proofs.{
+  Words.{◌≡◌, inl, inr, ℕ, ◌+◌, ◌-◌, ◌<◌, ◌≤◌, ◌%◌, true, false, List, [], ◌∷◌, ◌++◌, length, take, Option, Some, None, refl, ap, arith, append_assoc},
+  Words.{append-nil, length-append, IsUtf8, cases_lt, take-append-le, take_all, is_utf8-from_IsUtf8, utf8_valid_len_le, take-append-add, utf8_error_len},
+  Words.{utf8_valid_len, emit, StopsAt, Conversion, HexDigits, Utf16Text, Windows1252Text, Utf8Text, BeginsData, conversion_rest, conversion_text, is_fit},
+  Words.{is_quoted, long_field, open_field, closing},
+  ConversionLaws.{fit_by_test, joins_by_name},
+  Utf8Pushing.after_kept,
+  Utf8Stops.stops_at,
+  Utf8Test.none_begins,
+}
 
 -- The first bytes of the piece, so many, may follow the old ones, and the text that is fixed then is that which the whole piece fixes.
 pub record BegunFront (c : Conversion) (old piece : List ℕ) : Type 0 where

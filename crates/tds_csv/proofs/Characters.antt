@@ -1,6 +1,8 @@
 -- The bytes of a character in UTF-8, alone and with a quote doubled.
-use Rattle.tds_csv.proofs.Words.{◌≡◌, ◌≢◌, ℕ, ◌+◌, ◌/◌, ◌%◌, ◌<◌, ◌≤◌, [], ◌∷◌, length, arith, nat_tests, cases_lt, cases_eq, doubled}
-use Rattle.std.specs.Char.{encode_utf8}
+use Rattle.{
+  tds_csv.proofs.Words.{◌≡◌, ◌≢◌, ℕ, ◌+◌, ◌/◌, ◌%◌, ◌<◌, ◌≤◌, [], ◌∷◌, length, arith, nat_tests, cases_lt, cases_eq, doubled},
+  std.specs.Char.encode_utf8,
+}
 
 pub of_one : (c : ℕ) → c < 128 → encode_utf8 c ≡ c ∷ []
 unfolding encode_utf8

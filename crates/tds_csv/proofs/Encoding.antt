@@ -1,7 +1,8 @@
 -- Bytes that were written to a place, one after the other or many at once.
-use Rattle.tds_csv.proofs.Words.{◌≡◌, ◌+◌, ◌≤◌, ◌∷◌, ◌++◌, [], ℕ, List, length, take, append_assoc, arith, length-take-le, take-append-add, take-take}
-use Rattle.tds_csv.proofs.Words.{encode_utf8, doubled}
-use Rattle.tds_csv.proofs.Characters.{doubled_character}
+use Rattle.tds_csv.proofs.{
+  Words.{◌≡◌, ◌+◌, ◌≤◌, ◌∷◌, ◌++◌, [], ℕ, List, length, take, append_assoc, arith, length-take-le, take-append-add, take-take, encode_utf8, doubled},
+  Characters.doubled_character,
+}
 
 -- two bytes
 pub two_more : (t u v : List ℕ) (a b : ℕ) → u ≡ t ++ a ∷ [] → v ≡ u ++ b ∷ [] → v ≡ t ++ a ∷ b ∷ []

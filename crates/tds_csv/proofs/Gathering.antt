@@ -1,10 +1,9 @@
 -- Bytes that are gathered from lanes by the places of a table.
-use Rattle.tds_csv.proofs.Words.{◌≡◌, ◌∙◌, ℕ, ◌+◌, ◌*◌, ◌/◌, ◌%◌, ◌<◌, ◌≤◌, Bool, true, false, cond, zero, suc, List, [], ◌∷◌, ◌++◌, map, length, take}
-use Rattle.tds_csv.proofs.Words.{refl, ap, ap₂, arith, nat_tests, get_or, mask_l, Each1, append_assoc, length-append, map-append, nat_eq}
-use Rattle.tds_csv.proofs.Words.{w8, swz_l}
-use Rattle.std.proofs.Math.Seq.{take-append_seam}
-use Rattle.std.proofs.lemmas.List.{get_or-append-add, get_or_append_left}
-use Rattle.std.specs.Prelude.{flat_map}
+use Rattle.tds_csv.proofs.{
+  Words.{◌≡◌, ◌∙◌, ℕ, ◌+◌, ◌*◌, ◌/◌, ◌%◌, ◌<◌, ◌≤◌, Bool, true, false, cond, zero, suc, List, [], ◌∷◌, ◌++◌, map, length, take, refl, ap, ap₂, arith},
+  Words.{nat_tests, get_or, mask_l, Each1, append_assoc, length-append, map-append, nat_eq, w8, swz_l},
+}
+use Rattle.std.{proofs.{Math.Seq.take-append_seam, lemmas.List.{get_or-append-add, get_or_append_left}}, specs.Prelude.flat_map}
 use lib.Lanes.{zip2}
 
 -- lanes at places

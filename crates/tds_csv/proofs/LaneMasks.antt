@@ -1,13 +1,12 @@
 -- Masks of lanes that pass a test.
-use Rattle.tds_csv.proofs.Words.{◌≡◌, ◌∙◌, ℕ, ◌+◌, ◌*◌, ◌/◌, ◌%◌, ◌^◌, ◌<◌, ◌≤◌, Bool, true, false, zero, suc, List, [], ◌∷◌, map, length}
-use Rattle.tds_csv.proofs.Words.{take, drop, refl, sym, ap, ap₂, arith, length-map, map-map, mask_l, mask_l-mod, top, Each1, Fits, w16, take-map}
-use Rattle.tds_csv.proofs.Words.{length-take, length-take-le, take_all, first_set, first_set_mask_l, prefix_len, prefix_len-le-length, not}
-use Rattle.std.proofs.Math.Nat.{add-mul-mod_self_left, mod-eq_of_lt, mul_assoc, pow-succ'}
-use Rattle.std.proofs.lemmas.Nat.{pow_pos}
-use Rattle.std.proofs.lemmas.Simd.{ones-mask_l}
-use Rattle.std.specs.Prelude.{count_ones}
-use Rattle.std.proofs.lemmas.List.Sums.{count_by-le-length}
-use Rattle.std.proofs.lemmas.List.{drop-map}
+use Rattle.tds_csv.proofs.{Words.{◌≡◌, ◌∙◌, ℕ, ◌+◌, ◌*◌, ◌/◌, ◌%◌, ◌^◌, ◌<◌, ◌≤◌, Bool, true, false, zero, suc, List, [], ◌∷◌, map, length, take, drop, refl, sym, ap, ap₂, arith}, Words.{length-map, map-map, mask_l, mask_l-mod, top, Each1, Fits, w16, take-map, length-take, length-take-le, first_set, first_set_mask_l}, Words.{prefix_len, prefix_len-le-length, not}}
+use Rattle.std.{
+  proofs.{
+    Math.Nat.{add-mul-mod_self_left, mod-eq_of_lt, mul_assoc, pow-succ'},
+    lemmas.{Nat.pow_pos, Simd.ones-mask_l, List.{Sums.count_by-le-length, drop-map}},
+  },
+  specs.Prelude.count_ones,
+}
 
 -- two functions that are the same on units
 pub same_map : {A : Type 0} {f g : ℕ → A} → ((u : ℕ) → u < 65536 → f u ≡ g u) → (us : List ℕ) → Each1 (Fits w16) us → map f us ≡ map g us
@@ -79,15 +78,6 @@ all_pass q (suc n) (u ∷ us) few is =
     let here : q u ≡ true = grind (arith, pow_pos n) in
     let more = all_pass q n us (omega arith) (grind (arith, here)) in
     ((here, more.0), ap suc more.1)
-
--- of eight lanes all pass, if the mask of the first is full
-pub all_of_eight : (q : ℕ → Bool) (us : List ℕ) (n : ℕ) {mask : ℕ} → length us ≡ 8 → n ≤ 8 → mask ≡ mask_l (map q (take n us)) → mask ≡ 255
-    → (n ≡ 8) × Each1 (λ u. q u ≡ true) us
-all_of_eight q us n long few is full =
-    let counted = length-take-le n us (omega (arith, long)) in
-    let all = all_pass q 8 (take n us) (omega (arith, counted)) (omega (arith, is, full)) in
-    let eight : n ≡ 8 = omega (arith, counted, all.1) in
-    (eight, rw (take_all n us (omega (arith, eight, long))) at all.0)
 
 -- none of the first passes, if their mask is empty
 pub none_of_first : (q : ℕ → Bool) (us : List ℕ) (n : ℕ) {mask low : ℕ} → mask ≡ mask_l (map q us) → low ≡ mask % 2 ^ n → low ≡ 0

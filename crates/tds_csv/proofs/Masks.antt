@@ -1,7 +1,9 @@
 -- From the mask of one load to the bytes before the first that stops.
-use Rattle.tds_csv.proofs.Words.{◌≡◌, ℕ, ◌+◌, ◌%◌, ◌^◌, ◌≤◌, Bool, true, not, cond, ◌-◌, List, [], ◌∷◌, map, length, take, drop, get_or, Fits, w8}
-use Rattle.tds_csv.proofs.Words.{refl, ap₂, ◌∙◌, arith, agree_below, agree_below_at, map-map, mask_l-mod, length-chunk, chunk-fits, first_set_mask_l}
-use Rattle.tds_csv.proofs.Words.{drop-take, length-map, take-take, prefix_len, prefix_len-le-length, Each1, chunk, mask_l, top, LiesIn, first_set}
+use Rattle.tds_csv.proofs.{
+  Words.{◌≡◌, ℕ, ◌+◌, ◌%◌, ◌^◌, ◌≤◌, Bool, true, not, cond, ◌-◌, List, [], ◌∷◌, map, length, take, drop, get_or, Fits, w8, refl, ap₂, ◌∙◌, arith, agree_below},
+  Words.{agree_below_at, map-map, mask_l-mod, length-chunk, chunk-fits, first_set_mask_l, drop-take, length-map, take-take, prefix_len, prefix_len-le-length},
+  Words.{Each1, chunk, mask_l, top, LiesIn, first_set},
+}
 
 -- two tests that are the same on what lists hold
 pub same_prefix : (P : ℕ → Type 0) {p q : ℕ → Bool} → ((x : ℕ) → P x → p x ≡ q x) → (xs : List ℕ) → Each1 P xs → prefix_len p xs ≡ prefix_len q xs

@@ -1,12 +1,10 @@
 -- What the tables of places have.
-use Rattle.tds_csv.proofs.Words.{◌≡◌, ℕ, ◌+◌, ◌*◌, ◌/◌, ◌%◌, ◌^◌, ◌<◌, ◌≤◌, Bool, true, cond, List, [], ◌∷◌, ◌++◌, length}
-use Rattle.tds_csv.proofs.Words.{drop, refl, arith, nat_tests, get_or, Each1, agree_below_at, nat_eq, nat_lt, ◌&&◌, and_parts}
-use Rattle.tds_csv.proofs.Gathering.{placed, bits}
-use Rattle.tds_csv.specs.declared.convert.places.TheConstants.{PAIRS, QUADS}
-use Rattle.std.proofs.lemmas.Slice.Eq.{bytes_eq-Decides}
-use Rattle.std.specs.Prelude.{count_ones}
-use Rattle.std.proofs.lemmas.Nat.{ones_cat, ones-le}
-use Rattle.std.specs.Str.{bytes_eq}
+use Rattle.tds_csv.{
+  proofs.Words.{◌≡◌, ℕ, ◌+◌, ◌*◌, ◌/◌, ◌%◌, ◌^◌, ◌<◌, ◌≤◌, Bool, true, cond, List, [], ◌∷◌, ◌++◌, length, drop, refl, arith, nat_tests, get_or, Each1},
+  proofs.{Words.{agree_below_at, nat_eq, nat_lt, ◌&&◌, and_parts}, Gathering.{placed, bits}},
+  specs.declared.convert.places.TheConstants.{PAIRS, QUADS},
+}
+use Rattle.std.{proofs.lemmas.{Slice.Eq.bytes_eq-Decides, Nat.{ones_cat, ones-le}}, specs.{Prelude.count_ones, Str.bytes_eq}}
 use lib.Lanes.{zip2}
 
 -- where the bytes of a text are in a unit's two: a text of two bytes, or of one

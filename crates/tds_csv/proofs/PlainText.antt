@@ -1,16 +1,12 @@
 -- Bytes of Windows-1252 that stand for themselves.
-use Rattle.tds_csv.proofs.Words.{◌++◌, length, ◌+◌, ◌-◌, ◌/◌, ◌%◌, ◌<◌, get_or, agree_below_at, ◌≡◌, ◌∙◌, ◌≤◌, ◌∷◌, [], ℕ, List, true, refl, sym, ap}
-use Rattle.tds_csv.proofs.Words.{take, drop, arith, encode_utf8_all, prefix_len, nat_tests, append-nil, chunk, is_plain}
-use Rattle.tds_csv.proofs.Encoding.{front_written}
-use Rattle.tds_csv.proofs.SingleLaws.{windows_1252-append}
-use Rattle.tds_csv.proofs.Characters.{of_one, doubled_character}
-use Rattle.tds_csv.proofs.Singles.{some_itself, lanes_itself}
-use Rattle.tds_csv.specs.declared.convert.windows_1252.TheConstants.{UPPER}
-use Rattle.std.proofs.Common.{nat_le}
-use Rattle.std.proofs.lemmas.Slice.Eq.{bytes_eq-Decides}
-use Rattle.std.specs.Char.{encode_utf8}
-use Rattle.std.specs.Str.{bytes_eq}
 use Rattle.tds_csv.specs.Windows1252 as windows_1252
+use Rattle.tds_csv.{
+  proofs.Words.{◌++◌, length, ◌+◌, ◌-◌, ◌/◌, ◌%◌, ◌<◌, get_or, agree_below_at, ◌≡◌, ◌∙◌, ◌≤◌, ◌∷◌, [], ℕ, List, true, refl, sym, ap, take, drop, arith},
+  proofs.{Words.{encode_utf8_all, prefix_len, nat_tests, append-nil, chunk, is_plain}, Encoding.front_written, SingleLaws.windows_1252-append},
+  proofs.{Characters.{of_one, doubled_character}, Singles.{some_itself, lanes_itself}},
+  specs.declared.convert.windows_1252.TheConstants.UPPER,
+}
+use Rattle.std.{proofs.{Common.nat_le, lemmas.Slice.Eq.bytes_eq-Decides}, specs.{Char.encode_utf8, Str.bytes_eq}}
 
 -- the bytes of a number, from the lowest on, as many as the highest says
 abbrev pub bytes_of : ℕ → List ℕ

@@ -1,7 +1,8 @@
 -- Pushes and ends of a joiner, by what they put.
-use Rattle.tds_csv.proofs.Words.{common_steps, arith, ◌≡◌, Bool, true, false, ℕ, List, [], ◌++◌, Option, Result, Ok, Err, refl, if◌then◌else◌}
-use Rattle.tds_csv.proofs.Words.{IsErrAnd, err_from_is_err_and, Stop, JoinFault, Stopped, Sink, emit, EndsPieces, PushesPiece, PutsPiece, BadText}
-use Rattle.tds_csv.proofs.Words.{TakesUpTo, held}
+use Rattle.tds_csv.proofs.{
+  Words.{common_steps, arith, ◌≡◌, Bool, true, false, ℕ, List, [], ◌++◌, Option, Result, Ok, Err, refl, if◌then◌else◌, IsErrAnd, err_from_is_err_and, Stop},
+  Words.{JoinFault, Stopped, Sink, emit, EndsPieces, PushesPiece, PutsPiece, BadText, TakesUpTo, held},
+}
 
 -- what `check` answers where no write failed
 pub passes : {T E : Type 0} (failed : Bool) (t u : T) (e : E) → Ok t ≡ (if failed then Err e else Ok u) → failed ≡ false

@@ -1,7 +1,8 @@
 -- Calls that put texts, one after another.
-use Rattle.tds_csv.proofs.Words.{common_steps, arith, ◌≡◌, ℕ, List, [], ◌++◌, Option, Result, Ok, Err, IsErrAnd, err_from_is_err_and, Stop, Sink}
-use Rattle.tds_csv.proofs.Words.{IsWriting, PutsPiece, held}
-use Rattle.tds_csv.proofs.Sinks.{Breaks-after, Breaks-longer, Puts-none, Puts-trans}
+use Rattle.tds_csv.proofs.{
+  Words.{common_steps, arith, ◌≡◌, ℕ, List, [], ◌++◌, Option, Result, Ok, Err, IsErrAnd, err_from_is_err_and, Stop, Sink, IsWriting, PutsPiece, held},
+  Sinks.{Breaks-after, Breaks-longer, Puts-none, Puts-trans},
+}
 
 -- nothing is put
 pub PutsPiece-none : {W U : Type 0} (contents : W → Option (List ℕ)) (a : Sink W) (u : U) → IsWriting a → PutsPiece contents a a [] (Ok u)

@@ -1,6 +1,7 @@
 -- A field between quotes, as it is written to a slice.
-use Rattle.tds_csv.proofs.Words.{◌≡◌, ℕ, ◌+◌, ◌≤◌, List, [], ◌∷◌, ◌++◌, length, take, refl, arith, slice_set, take-append-le, take-append-add, quote}
-use Rattle.tds_csv.proofs.Words.{quoted_field}
+use Rattle.{
+  tds_csv.proofs.Words.{◌≡◌, ℕ, ◌+◌, ◌≤◌, List, [], ◌∷◌, ◌++◌, length, take, refl, arith, slice_set, take-append-le, take-append-add, quote, quoted_field},
+}
 
 opened : (to : List ℕ) → 1 ≤ length to → take 1 (slice_set to 0 quote) ≡ quote ∷ []
 opened [] h = absurd (omega arith)

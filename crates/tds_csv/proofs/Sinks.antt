@@ -1,8 +1,10 @@
 -- What was put into a sink, call after call.
 use Rattle.tds_packet.proofs.Joins.{Stays-Rises, Stays-none, Stays-trans}
-use Rattle.tds_csv.proofs.Words.{◌≡◌, Bool, false, ℕ, ◌+◌, ◌-◌, ◌^◌, ◌<◌, ◌≤◌, List, [], ◌++◌, length, Result, OnErr, MatchResult, refl, arith}
-use Rattle.tds_csv.proofs.Words.{append-nil, append_assoc, length-append, le_refl, take_all, take-append-add, take-append-le, Appends-nil}
-use Rattle.tds_csv.proofs.Words.{Appends-trans, counted, Stop, Held, Adds, Puts, Breaks, Sends, FinishFails, take}
+use Rattle.tds_csv.proofs.{
+  Words.{◌≡◌, Bool, false, ℕ, ◌+◌, ◌-◌, ◌^◌, ◌<◌, ◌≤◌, List, [], ◌++◌, length, Result, OnErr, MatchResult, refl, arith, append-nil, append_assoc},
+  Words.{length-append, le_refl, take_all, take-append-add, take-append-le, Appends-nil, Appends-trans, counted, Stop, Held, Adds, Puts, Breaks, Sends},
+  Words.{FinishFails, take},
+}
 
 pub counted-none : (n : ℕ) → n ≤ 2 ^ 64 - 1 → n ≡ counted n 0
 counted-none n h = omega arith

@@ -1,8 +1,10 @@
 -- A text that is put in one call could have been put in two.
-use Rattle.tds_csv.proofs.Words.{◌≡◌, ◌∙◌, ◌⊎◌, inl, inr, ℕ, ◌+◌, ◌-◌, ◌*◌, ◌^◌, ◌<◌, ◌≤◌, List, ◌++◌, length, take, drop, refl, sym, ap, subst}
-use Rattle.tds_csv.proofs.Words.{arith, append_assoc, length-append, length-drop, ◌/◌, length-take-le, take-append-drop, take-append-le}
-use Rattle.tds_csv.proofs.Words.{drop-append-le, take-append-add, Appends, append_known, dec_le, counted, one_more, Stop, Held, Adds, Puts, Breaks}
-use Rattle.tds_csv.proofs.Sinks.{counted-twice}
+use Rattle.tds_csv.proofs.{
+  Words.{◌≡◌, ◌∙◌, ◌⊎◌, inl, inr, ℕ, ◌+◌, ◌-◌, ◌*◌, ◌^◌, ◌<◌, ◌≤◌, List, ◌++◌, length, take, drop, refl, sym, ap, subst, arith, append_assoc, length-append},
+  Words.{length-drop, ◌/◌, length-take-le, take-append-drop, take-append-le, drop-append-le, take-append-add, Appends, append_known, dec_le, counted, one_more},
+  Words.{Stop, Held, Adds, Puts, Breaks},
+  Sinks.counted-twice,
+}
 
 -- what waits and a piece is what is delivered and then waits
 total_of : (a b : Held) (p r sent : List ℕ) → Adds a b sent (p ++ r) → length (a.waiting ++ p) + length r ≡ length sent + length b.waiting

@@ -1,7 +1,9 @@
 -- Bytes without a quote.
-use Rattle.tds_csv.proofs.Words.{◌≡◌, ◌≤◌, ℕ, List, refl, take, drop, arith, prefix_len, nat_tests, chunk, doubled, is_unquoted}
-use Rattle.tds_csv.proofs.JoiningLemmas.{doubled-append}
-use Rattle.tds_csv.proofs.Singles.{lanes_itself}
+use Rattle.tds_csv.proofs.{
+  Words.{◌≡◌, ◌≤◌, ℕ, List, refl, take, drop, arith, prefix_len, nat_tests, chunk, doubled, is_unquoted},
+  JoiningLemmas.doubled-append,
+  Singles.lanes_itself,
+}
 
 -- those that were found among the next `w`
 pub unquoted_lanes : (w : ℕ) (bytes : List ℕ) (at n : ℕ) → n ≤ w → n ≡ prefix_len is_unquoted (chunk at w bytes)

@@ -1,10 +1,9 @@
 -- Where a conversion of UTF-16 has come to what is withheld.
-use Rattle.tds_csv.proofs.Words.{common_steps, ◌≡◌, ◌∙◌, ◌++◌, ℕ, List, take, drop, length, sym, ap, arith, length-drop, append-nil, emit}
-use Rattle.tds_csv.proofs.Leading.{emit_held}
-use Rattle.tds_csv.proofs.Utf16Laws.{short}
-use Rattle.tds_csv.proofs.Utf16Steps.{text_nil, nil_of_length}
-use Rattle.tds_csv.specs.Utf16Next.{Converts, LeavesRest}
-use Rattle.tds_csv.specs.Utf16.{rest, text}
+use Rattle.tds_csv.{
+  proofs.{Words.{common_steps, ◌≡◌, ◌∙◌, ◌++◌, ℕ, List, take, drop, length, sym, ap, arith, length-drop, append-nil, emit}, Leading.emit_held, Utf16Laws.short},
+  proofs.Utf16Steps.{text_nil, nil_of_length},
+  specs.{Utf16Next.{Converts, LeavesRest}, Utf16.{rest, text}},
+}
 
 -- The text so far is that of all that is fixed.
 pub record Ended (bytes to : List ℕ) (used made : ℕ) : Type 0 where

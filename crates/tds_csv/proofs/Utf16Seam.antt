@@ -1,12 +1,10 @@
 -- Withheld bytes of text in UTF-16, with the first ones of a piece.
-use Rattle.tds_csv.proofs.Words.{common_steps, ◌≡◌, ◌-◌, ◌<◌, ◌≤◌, ℕ, Option, Ok, List, [], ◌∷◌, ◌++◌, length, take, drop, arith, length-append}
-use Rattle.tds_csv.proofs.Words.{length-take-le, ap, Leads, emit, Sink, IsWriting, PutsPiece}
-use Rattle.tds_csv.proofs.Utf16Laws.{joins_utf16}
-use Rattle.tds_csv.proofs.Leading.{Leads-none, Leads-seam, Leads-seam-front}
-use Rattle.tds_csv.proofs.Puttings.{PutsPiece-none}
-use Rattle.tds_csv.proofs.Utf16Steps.{text_nil}
-use Rattle.tds_csv.specs.Utf16.{rest, text}
-use Rattle.tds_csv.specs.Utf16Next.{LeavesRest, seam}
+use Rattle.tds_csv.{
+  proofs.Words.{common_steps, ◌≡◌, ◌-◌, ◌<◌, ◌≤◌, ℕ, Option, Ok, List, [], ◌∷◌, ◌++◌, length, take, drop, arith, length-append, length-take-le, ap, Leads},
+  proofs.{Words.{emit, Sink, IsWriting, PutsPiece}, Utf16Laws.joins_utf16, Leading.{Leads-none, Leads-seam, Leads-seam-front}, Puttings.PutsPiece-none},
+  proofs.Utf16Steps.text_nil,
+  specs.{Utf16.{rest, text}, Utf16Next.{LeavesRest, seam}},
+}
 
 -- where the text goes on after that of the seam
 abbrev pub after : List ℕ → List ℕ → List ℕ

@@ -1,12 +1,12 @@
 -- One character after the other of text in UTF-16.
-use Rattle.tds_csv.proofs.Words.{common_steps, ◌⊎◌, inl, ◌≡◌, ◌&&◌, ◌||◌, or-false, ◌+◌, ◌*◌, ◌<◌, ◌≤◌, ◌%◌, ℕ, true, false, List, [], ◌∷◌, ◌++◌}
-use Rattle.tds_csv.proofs.Words.{length, map, drop, get_or, refl, ap, arith, encode_utf8_all, unwrap_or, drop_more, and_right, nat_tests, encode_utf8}
-use Rattle.tds_csv.proofs.Words.{utf16_lossy_chars, is_high_surrogate, is_low_surrogate, surrogate_pair_char, lone_unit_char, emit, doubled}
-use Rattle.tds_csv.proofs.Words.{nil_from_length}
-use Rattle.tds_csv.proofs.Utf16Laws.{starts_low, chars-apart, front, front_step, rest_step, emit-front, short}
-use Rattle.tds_csv.proofs.JoiningLemmas.{doubled-append}
-use Rattle.tds_csv.specs.Utf16.{units, is_high, characters, rest, text}
-use Rattle.tds_csv.specs.Utf16Next.{IsNext}
+use Rattle.tds_csv.proofs.{
+  Words.{common_steps, ◌⊎◌, inl, ◌≡◌, ◌&&◌, ◌||◌, or-false, ◌+◌, ◌*◌, ◌<◌, ◌≤◌, ◌%◌, ℕ, true, false, List, [], ◌∷◌, ◌++◌, length, map, drop, get_or, refl, ap},
+  Words.{arith, encode_utf8_all, unwrap_or, drop_more, and_right, nat_tests, encode_utf8, utf16_lossy_chars, is_high_surrogate, is_low_surrogate},
+  Words.{surrogate_pair_char, lone_unit_char, emit, doubled, nil_from_length},
+  Utf16Laws.{starts_low, chars-apart, front, front_step, rest_step, emit-front, short},
+  JoiningLemmas.doubled-append,
+}
+use Rattle.tds_csv.specs.{Utf16.{units, is_high, characters, rest, text}, Utf16Next.IsNext}
 use Rattle.std.specs.Char.Utf16.{utf16_chars}
 
 pub text_nil : text [] ≡ []

@@ -1,11 +1,12 @@
 -- The laws of UTF-8 in pieces.
-use Rattle.tds_csv.proofs.Words.{◌≡◌, ℕ, zero, suc, ◌+◌, ◌-◌, ◌≤◌, ◌<◌, true, false, cond, List, [], ◌∷◌, ◌++◌, length, take, refl, sym, ap, ◌∙◌}
-use Rattle.tds_csv.proofs.Words.{arith, IsUtf8, encode_utf8, encode_utf8_all, append_assoc, length-append, length-drop, take_at, drop_at}
-use Rattle.tds_csv.proofs.Words.{length-take-le, take-append-drop, take-append-le, IsUtf8-append, IsUtf8-nil, IsUtf8-drop, IsUtf8-encode}
-use Rattle.tds_csv.proofs.Words.{IsCharBoundary-from_take, is_utf8-from_IsUtf8, IsUtf8-from_is_utf8, utf8_valid_len_le, length-encode}
-use Rattle.tds_csv.proofs.Words.{len_utf8_bounds, and_parts, cases_lt, is_utf8, all_scalars, scalar, valid_len_up_to, JoinsPieces, emit}
-use Rattle.tds_csv.proofs.Words.{drop-append-add, inl, inr, nil_from_length, take-append-add, ◌⊎◌}
-use Rattle.tds_csv.proofs.JoiningLemmas.{doubled-append, settled_front}
+use Rattle.tds_csv.proofs.{
+  Words.{◌≡◌, ℕ, zero, suc, ◌+◌, ◌-◌, ◌≤◌, ◌<◌, true, false, cond, List, [], ◌∷◌, ◌++◌, length, take, refl, sym, ap, ◌∙◌, arith, IsUtf8, encode_utf8},
+  Words.{encode_utf8_all, append_assoc, length-append, length-drop, take_at, drop_at, length-take-le, take-append-drop, take-append-le, IsUtf8-append},
+  Words.{IsUtf8-nil, IsUtf8-drop, IsUtf8-encode, IsCharBoundary-from_take, is_utf8-from_IsUtf8, IsUtf8-from_is_utf8, utf8_valid_len_le, length-encode},
+  Words.{len_utf8_bounds, and_parts, cases_lt, is_utf8, all_scalars, scalar, valid_len_up_to, JoinsPieces, emit, drop-append-add, inl, inr, nil_from_length},
+  Words.{take-append-add, ◌⊎◌},
+  JoiningLemmas.{doubled-append, settled_front},
+}
 use Rattle.tds_csv.specs.Utf8.{IsFit, Begins, rest, text}
 use Rattle.std.specs.Str.Lossy.{utf8_valid_len}
 

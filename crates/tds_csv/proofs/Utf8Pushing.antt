@@ -1,11 +1,12 @@
 -- Pieces of text in UTF-8, one after the other.
-use Rattle.tds_csv.proofs.Words.{common_steps, ◌≡◌, ◌∙◌, ◌↔◌, ℕ, ◌+◌, ◌-◌, ◌<◌, ◌≤◌, List, [], ◌++◌, length, take, drop, inl, inr, Option, Result, Ok}
-use Rattle.tds_csv.proofs.Words.{Err, refl, sym, ap, arith, append_assoc, append-nil, length-append, length-drop, length-take-le, cases_lt}
-use Rattle.tds_csv.proofs.Words.{take-append-drop, take-take, take-append-le, drop-append-le, take_all, drop-append-add, take-append-add}
-use Rattle.tds_csv.proofs.Words.{utf8_valid_len, utf8_valid_len_le, emit, IsErrAnd, err_from_is_err_and, JoinFault, Stopped, Odd, BadText, Sink}
-use Rattle.tds_csv.proofs.Words.{Pushes, PushesPiece, TakesPiece, TakesUpTo, Held, held, IsScan, StopsAt}
-use Rattle.tds_csv.proofs.Utf8Laws.{joins_utf8, emits, rest-append}
-use Rattle.tds_csv.proofs.Sinks.{Puts-trans, Breaks-after, Breaks-longer}
+use Rattle.tds_csv.proofs.{
+  Words.{common_steps, ◌≡◌, ◌∙◌, ◌↔◌, ℕ, ◌+◌, ◌-◌, ◌<◌, ◌≤◌, List, [], ◌++◌, length, take, drop, inl, inr, Option, Result, Ok, Err, refl, sym, ap, arith},
+  Words.{append_assoc, append-nil, length-append, length-drop, length-take-le, cases_lt, take-append-drop, take-take, take-append-le, drop-append-le, take_all},
+  Words.{drop-append-add, take-append-add, utf8_valid_len, utf8_valid_len_le, emit, IsErrAnd, err_from_is_err_and, JoinFault, Stopped, Odd, BadText, Sink},
+  Words.{Pushes, PushesPiece, TakesPiece, TakesUpTo, Held, held, IsScan, StopsAt},
+  Utf8Laws.{joins_utf8, emits, rest-append},
+  Sinks.{Puts-trans, Breaks-after, Breaks-longer},
+}
 use Rattle.tds_csv.specs.Utf8.{Begins, rest, text}
 
 -- the answer of a push, by where its piece begins in another one

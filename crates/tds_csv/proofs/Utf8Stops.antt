@@ -1,11 +1,12 @@
 -- The first byte with which bytes stop beginning a text, from what std says of them.
-use Rattle.tds_csv.proofs.Words.{common_steps, get_or-drop, ◌≡◌, ◌∙◌, ℕ, ◌+◌, ◌<◌, ◌≤◌, Bool, true, false, cond, nat_lt, nat_eq, List, [], ◌∷◌, ◌++◌}
-use Rattle.tds_csv.proofs.Words.{length, get_or, take, drop, Some, None, sym, ap, arith, length-drop, length-take-le, nat_tests, drop_of_length-le}
-use Rattle.tds_csv.proofs.Words.{utf8_valid_len-IsUtf8, is_in_range, utf8_valid_len, second_byte_min, second_byte_max, utf8_valid_len_le, take-take}
-use Rattle.tds_csv.proofs.Words.{StopsAt, IsUtf8-nil, refl}
-use Rattle.tds_csv.proofs.JoiningLemmas.{settled_front}
-use Rattle.tds_csv.proofs.Utf8Laws.{front, front_is, front-rest, take-front, rest-append, emit-front, NoText, no_text, valid_len_is}
-use Rattle.tds_csv.proofs.Utf8Test.{begins_none, none_begins}
+use Rattle.tds_csv.proofs.{
+  Words.{common_steps, get_or-drop, ◌≡◌, ◌∙◌, ℕ, ◌+◌, ◌<◌, ◌≤◌, Bool, true, false, cond, nat_lt, nat_eq, List, [], ◌∷◌, ◌++◌, length, get_or, take, drop, Some},
+  Words.{None, sym, ap, arith, length-drop, length-take-le, nat_tests, drop_of_length-le, utf8_valid_len-IsUtf8, is_in_range, utf8_valid_len, second_byte_min},
+  Words.{second_byte_max, utf8_valid_len_le, take-take, StopsAt, IsUtf8-nil, refl},
+  JoiningLemmas.settled_front,
+  Utf8Laws.{front, front_is, front-rest, take-front, rest-append, emit-front, NoText, no_text, valid_len_is},
+  Utf8Test.{begins_none, none_begins},
+}
 use Rattle.tds_csv.specs.Utf8.{rest}
 use Rattle.std.specs.Str.Lossy.{utf8_error_len}
 

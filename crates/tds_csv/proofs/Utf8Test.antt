@@ -1,9 +1,10 @@
 -- Whether bytes begin a text: std's test of what follows the last whole character.
-use Rattle.tds_csv.proofs.Words.{◌≡◌, ℕ, ◌+◌, ◌*◌, ◌≤◌, ◌<◌, inl, inr, ⊎_elim, List, [], ◌∷◌, ◌++◌, length, None, refl, sym, ap, arith, IsUtf8}
-use Rattle.tds_csv.proofs.Words.{encode_utf8, len_utf8, second_byte_min, second_byte_max, cases_lt, nat_tests, length-encode, Scalar, Follows, Shape}
-use Rattle.tds_csv.proofs.Words.{of1, of2, of3, of4, shape, IsUtf8-append, IsUtf8-nil, scalar_cases, of_two, of_three, of_four}
-use Rattle.tds_csv.proofs.Utf8Laws.{front, front_is, regrouped, begun_rest, NoText, no_text}
-use Rattle.tds_csv.specs.Utf8.{Begins, rest}
+use Rattle.tds_csv.{
+  proofs.Words.{◌≡◌, ℕ, ◌+◌, ◌*◌, ◌≤◌, ◌<◌, inl, inr, ⊎_elim, List, [], ◌∷◌, ◌++◌, length, None, refl, sym, ap, arith, IsUtf8, encode_utf8, len_utf8},
+  proofs.Words.{second_byte_min, second_byte_max, cases_lt, nat_tests, length-encode, Scalar, Follows, Shape, of1, of2, of3, of4, shape, IsUtf8-append},
+  proofs.{Words.{IsUtf8-nil, scalar_cases, of_two, of_three, of_four}, Utf8Laws.{front, front_is, regrouped, begun_rest, NoText, no_text}},
+  specs.Utf8.{Begins, rest},
+}
 use Rattle.std.specs.Str.Lossy.{utf8_error_len}
 
 -- the first two bytes of a character of four

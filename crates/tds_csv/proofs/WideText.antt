@@ -1,25 +1,26 @@
 -- The text of units that are characters of at most three bytes.
-use Rattle.tds_csv.proofs.Words.{common_steps, ◌-◌, take-take, evens, length-chunk, refl, LiesIn, chunk, drop-drop, Bool, Each1, length-take-le}
-use Rattle.tds_csv.proofs.Words.{Fits, Leads, List, [], ap, append_assoc, arith, cond, drop, length-append, length-map, mask_l, or_parts}
-use Rattle.tds_csv.proofs.Words.{false, get_or, is_high_surrogate, is_low_surrogate, length, map, nat_tests, flat_map-append}
-use Rattle.tds_csv.proofs.Words.{suc, sym, take, take-append-drop, true, w16, zero, ℕ, ◌%◌, ◌*◌, ◌++◌, ◌+◌, ◌/◌, ◌<◌}
-use Rattle.tds_csv.proofs.Words.{◌∙◌, ◌∷◌, ◌≡◌, ◌≤◌, drop-take, length-drop, take_all, ◌^◌}
-use Rattle.tds_csv.proofs.Masks.{alike}
-use Rattle.tds_csv.proofs.Characters.{of_one, of_two, of_three, doubled_character}
-use Rattle.tds_csv.proofs.Encoding.{front_written}
-use Rattle.tds_csv.proofs.Gathering.{bits, gathered_text, placed, row_begins, same_texts}
+use Rattle.tds_csv.proofs.{
+  Words.{common_steps, ◌-◌, take-take, evens, length-chunk, refl, LiesIn, chunk, drop-drop, Bool, Each1, length-take-le, Fits, Leads, List, [], ap},
+  Words.{append_assoc, arith, cond, drop, length-append, length-map, mask_l, or_parts, false, get_or, is_high_surrogate, is_low_surrogate, length, map},
+  Words.{nat_tests, flat_map-append, suc, sym, take, take-append-drop, true, w16, zero, ℕ, ◌%◌, ◌*◌, ◌++◌, ◌+◌, ◌/◌, ◌<◌, ◌∙◌, ◌∷◌, ◌≡◌, ◌≤◌, drop-take},
+  Words.{length-drop, take_all, ◌^◌},
+  Masks.alike,
+  Characters.{of_one, of_two, of_three, doubled_character},
+  Encoding.front_written,
+  Gathering.{bits, gathered_text, placed, row_begins, same_texts},
+  LaneMasks.{first_lanes, first_mask, last_lanes, none_of_first, none_passes, none_set},
+  Leading.{Leads-none, Leads-trans},
+  Places.{IsRow, ones_of_two, pair_places, pair_row, quad_places, quad_row},
+  Utf16Steps.{next_one, lone_other},
+}
+use Rattle.tds_csv.specs.{
+  Utf16.{units, rest, text},
+  Utf16Next.Converts,
+  Wide.{AddsQuads, is_half, is_long, is_wide, pair_bytes, quad_bytes, triples, unit_text, units_text},
+  declared.convert.places.TheConstants.{PAIRS, QUADS},
+}
+use Rattle.std.{proofs.lemmas.Simd.{Each1-weaker, below_from_Fits, ones-mask_l, zip2-map}, specs.{List.count_by, Prelude.{count_ones, flat_map}}}
 use lib.Lanes.{zip2}
-use Rattle.tds_csv.proofs.LaneMasks.{first_lanes, first_mask, last_lanes, none_of_first, none_passes, none_set}
-use Rattle.tds_csv.proofs.Leading.{Leads-none, Leads-trans}
-use Rattle.tds_csv.proofs.Places.{IsRow, ones_of_two, pair_places, pair_row, quad_places, quad_row}
-use Rattle.tds_csv.proofs.Utf16Steps.{next_one, lone_other}
-use Rattle.tds_csv.specs.Utf16.{units, rest, text}
-use Rattle.tds_csv.specs.Utf16Next.{Converts}
-use Rattle.tds_csv.specs.Wide.{AddsQuads, is_half, is_long, is_wide, pair_bytes, quad_bytes, triples, unit_text, units_text}
-use Rattle.tds_csv.specs.declared.convert.places.TheConstants.{PAIRS, QUADS}
-use Rattle.std.proofs.lemmas.Simd.{Each1-weaker, below_from_Fits, ones-mask_l, zip2-map}
-use Rattle.std.specs.List.{count_by}
-use Rattle.std.specs.Prelude.{count_ones, flat_map}
 
 -- the bytes of a unit's text, at the places for it
 pub pair_text : (u : ℕ) → is_long u ≡ false → map (λ k. get_or (pair_bytes u) k 0) (pair_places (is_wide u) (is_long u)) ≡ unit_text u

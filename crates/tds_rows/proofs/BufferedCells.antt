@@ -1,13 +1,14 @@
 -- Cells whose bytes lie together, and the room that a sink lends for their text.
-use Rattle.tds_rows.proofs.Words.{common_steps, ◌≡◌, ◌≢◌, ◌∙◌, ℕ, ◌+◌, ◌-◌, ◌<◌, ◌≤◌, Bool, true, false, List, [], ◌++◌, length, take, drop, Result}
-use Rattle.tds_rows.proofs.Words.{Ok, Err, MatchResult, inr, refl, sym, ap, arith, ◌∷◌, length-take-le, length-drop, None, Some, Option, ◌||◌, is_ok}
-use Rattle.tds_rows.proofs.Words.{slice_index, ne_eqb, Kind, IntN, ScalarValue, fixed_length, is_length_allowed, is_scalar, read_of, BadValueLength}
-use Rattle.tds_rows.proofs.Words.{Stop, Seen, Takes, IsBetween, choose_false, Spelt-none, Spelt-one, null_field, in_line, overwritten, Sink, Held}
-use Rattle.tds_rows.proofs.Words.{IsWriting, Puts, PutsPiece, held, spare_before, spare_written, Charset, CellPart, Null, ScalarBytes, ScalarCell}
-use Rattle.tds_rows.proofs.Words.{ScalarLength, cell, cell_start, shape, unless, value_part, IsScalarLeft, IsValueText, length_after, start_after}
-use Rattle.tds_rows.proofs.Words.{value_length, value_start, WritesCell, take-add, IsInt4}
-use Rattle.tds_rows.proofs.CellSteps.{fixed_some, scalar_shape}
-use Rattle.tds_rows.proofs.RowSteps.{ReadsCell, at_once_breaks, at_once_streams, PutsCell, StopsCell}
+use Rattle.tds_rows.proofs.{
+  Words.{common_steps, ◌≡◌, ◌≢◌, ◌∙◌, ℕ, ◌+◌, ◌-◌, ◌<◌, ◌≤◌, Bool, true, false, List, [], ◌++◌, length, take, drop, Result, Ok, Err, MatchResult, inr, refl},
+  Words.{sym, ap, arith, ◌∷◌, length-take-le, length-drop, None, Some, Option, ◌||◌, is_ok, slice_index, ne_eqb, Kind, IntN, ScalarValue, fixed_length},
+  Words.{is_length_allowed, is_scalar, read_of, BadValueLength, Stop, Seen, Takes, IsBetween, choose_false, Spelt-none, Spelt-one, null_field, in_line},
+  Words.{overwritten, Sink, Held, IsWriting, Puts, PutsPiece, held, spare_before, spare_written, Charset, CellPart, Null, ScalarBytes, ScalarCell},
+  Words.{ScalarLength, cell, cell_start, shape, unless, value_part, IsScalarLeft, IsValueText, length_after, start_after, value_length, value_start},
+  Words.{WritesCell, take-add, IsInt4},
+  CellSteps.{fixed_some, scalar_shape},
+  RowSteps.{ReadsCell, at_once_breaks, at_once_streams, PutsCell, StopsCell},
+}
 
 -- a value that is read has a length that is allowed
 read_allowed : (kind : Kind) (bytes : List ℕ) (value : ScalarValue) → read_of kind bytes ≡ Ok value → is_length_allowed kind (length bytes) ≡ true
@@ -95,6 +96,10 @@ module _ (charset : Charset) (kind : Kind) (column : ℕ) (last : Bool) (bytes t
 pub int4_reads : (kind : Kind) (bytes : List ℕ) → IsInt4 kind → length bytes ≡ 4 → (is_scalar kind ≡ true)
     × (read_of kind bytes ≡ read_of (IntN 4) bytes)
 int4_reads kind bytes number four = grind (arith, common_steps)
+
+-- its kinds are scalar ones
+pub int4_scalar : (kind : Kind) → IsInt4 kind → is_scalar kind ≡ true
+int4_scalar kind number = grind (arith, common_steps)
 
 -- one that may be NULL comes after its length
 pub int4_start : {kind : Kind} {n : ℕ} → IsInt4 kind → kind ≡ IntN n → (bytes : List ℕ) → (is_scalar kind ≡ true)

@@ -1,12 +1,12 @@
 -- What the bytes that lead to a part of a cell spell.
-use Rattle.tds_rows.proofs.Words.{common_steps, ◌≡◌, ℕ, ◌+◌, ◌/◌, ◌%◌, ◌^◌, ◌<◌, Bool, true, List, [], ◌∷◌, ◌++◌, length, replicate, refl, sym, ◌∙◌}
-use Rattle.tds_rows.proofs.Words.{ap, append_assoc, append-nil, arith, length-append, Result, Ok, Option, Some, None, ◌==◌, ◌&&◌, ◌||◌, nat_lt, is_ok}
-use Rattle.tds_rows.proofs.Words.{if◌then◌else◌, concat, concat-append, Kind, Short, Chunked, ScalarValue, ValueFault, little, is_length_allowed}
-use Rattle.tds_rows.proofs.Words.{read_of, Conversion, is_fit, is_begun, no_data_is_fit, AreBytes, Spelt, IsNext, Spelt-induct, AreBytes-front}
-use Rattle.tds_rows.proofs.Words.{AreBytes-back, Fault, PlpLength, Cell, ScalarCell, Shape, FixedShape, CountedShape, LongShape, SpellsChunk}
-use Rattle.tds_rows.proofs.Words.{SpellsChunks, SpellsCell, CellPart, ScalarBytes, ScalarLength, ShortLength, ShortData, Total, ChunkLength}
-use Rattle.tds_rows.proofs.Words.{ChunkData, WholeCell, cell_start, cell_add, cell, unless, within_total, end_of_chunks, chunk_fault, value_part}
-use Rattle.tds_rows.proofs.Words.{known_total, null_total, choose, eq_true, eq_false, one_byte, two_bytes}
+use Rattle.tds_rows.proofs.{
+  Words.{common_steps, ◌≡◌, ℕ, ◌+◌, ◌/◌, ◌%◌, ◌^◌, ◌<◌, Bool, true, List, [], ◌∷◌, ◌++◌, length, replicate, refl, sym, ◌∙◌, ap, append_assoc, append-nil},
+  Words.{arith, length-append, Result, Ok, Option, Some, None, ◌==◌, ◌&&◌, ◌||◌, nat_lt, is_ok, if◌then◌else◌, concat, concat-append, Kind, Short, Chunked},
+  Words.{ScalarValue, ValueFault, little, is_length_allowed, read_of, Conversion, is_fit, is_begun, no_data_is_fit, AreBytes, Spelt, IsNext, Spelt-induct},
+  Words.{AreBytes-front, AreBytes-back, Fault, PlpLength, Cell, ScalarCell, Shape, FixedShape, CountedShape, LongShape, SpellsChunk, SpellsChunks, SpellsCell},
+  Words.{CellPart, ScalarBytes, ScalarLength, ShortLength, ShortData, Total, ChunkLength, ChunkData, WholeCell, cell_start, cell_add, cell, unless},
+  Words.{within_total, end_of_chunks, chunk_fault, value_part, known_total, null_total, choose, eq_true, eq_false, one_byte, two_bytes},
+}
 
 -- a test that gave no fault passed
 pub unless_none : (b : Bool) (f : Fault) → unless b f ≡ None → b ≡ true

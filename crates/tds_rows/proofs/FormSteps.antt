@@ -1,13 +1,15 @@
 -- Runs over cells by their forms, a cell after those that were written.
-use Rattle.tds_rows.proofs.Words.{common_steps, ◌≡◌, ◌≢◌, ◌∙◌, ℕ, zero, suc, ◌+◌, ◌-◌, ◌<◌, ◌≤◌, Bool, false, List, [], ◌∷◌, ◌++◌, length, take, drop}
-use Rattle.tds_rows.proofs.Words.{get_or, refl, ◌*◌, sym, ap, arith, append-nil, append_assoc, length-append, ◌==◌, ◌&&◌, map, slice_set, drop_more}
-use Rattle.tds_rows.proofs.Words.{length-map, length-take-le, take-append-le, take_all, take_more_set, get_or_default, length-drop, length-take}
-use Rattle.tds_rows.proofs.Words.{take-take, drop-drop, Kind, eq_false, eq_true, Column, all_after, after_comma, end_after, in_line, Charset, Form}
-use Rattle.tds_rows.proofs.Words.{IsLeft, WritesField, WritesKind, is_last_column, whole_size, AreNext, FieldsWritten, FirstUsed, FirstWritten}
-use Rattle.tds_rows.proofs.Words.{FormsRun, RunsForms, WritesFields, subst, WritesForms, WritesColumn, WritesMarked, nat_tests, true}
-use Rattle.tds_rows.proofs.LineTexts.{after_some_column, after_append}
-use Rattle.tds_rows.proofs.RunSteps.{made_more, used_more, whole_some}
-use Rattle.tds_rows.proofs.TableSteps.{known_kind, last_one}
+use Rattle.tds_rows.specs.FormRuns.{NumbersWithin}
+use Rattle.tds_rows.proofs.{
+  Words.{common_steps, ◌≡◌, ◌≢◌, ◌∙◌, ℕ, zero, suc, ◌+◌, ◌-◌, ◌<◌, ◌≤◌, Bool, false, List, [], ◌∷◌, ◌++◌, length, take, drop, get_or, refl, ◌*◌, sym, ap},
+  Words.{arith, append-nil, append_assoc, length-append, ◌==◌, ◌&&◌, map, slice_set, drop_more, length-map, length-take-le, take-append-le, take_all},
+  Words.{take_more_set, get_or_default, length-drop, length-take, take-take, drop-drop, Kind, eq_false, eq_true, Column, all_after, after_comma, end_after},
+  Words.{in_line, Charset, Form, IsLeft, WritesField, WritesKind, is_last_column, whole_size, AreNext, FieldsWritten, FirstUsed, FirstWritten, FormsRun},
+  Words.{RunsForms, WritesFields, subst, WritesForms, WritesColumn, WritesMarked, nat_tests, true},
+  LineTexts.{after_some_column, after_append},
+  RunSteps.{made_more, used_more, whole_some},
+  TableSteps.{known_kind, last_one},
+}
 
 not_last : (rest : List Column) → 0 < length rest → false ≡ is_last_column rest
 not_last rest some = grind arith
@@ -113,11 +115,6 @@ before_comma made column to fields some within is =
     ∙ take-append-le (made - 1) fields (44 ∷ []) (omega (arith, counted)) ∙ take_all (made - 1) fields (omega (arith, counted))
 
 module _ (charset : Charset) (forms : List Form) (column : ℕ) (bytes : List ℕ) where
-  -- before the first cell
-  pub fields_none : (start : ℕ) (to : List ℕ) → ((text : List ℕ) → take start to ++ text ≡ after_comma column text)
-      → FieldsWritten charset forms column bytes to (record { cells = 0; used = 0; made = start })
-  fields_none start to x = grind (arith, common_steps, append-nil)
-
   -- one cell more
   pub fields_more : (to text rest : List ℕ) (k used u now made m : ℕ) (d : Form) → now ≡ used + u → made ≤ length to → m < length text
       → k < length forms → WritesField charset (get_or forms k d).kind (take u (take (length bytes - used) (drop used bytes))) (take m text)
@@ -184,18 +181,6 @@ pub record FieldsAt (forms : List Form) (bytes : List ℕ) (room cells used made
   pub further : 0 < cells → (0 < made) × (made < room)
   pub one : cells ≡ 1 → FirstUsed forms bytes used
 
--- before the first cell
-pub fields_begin : (forms : List Form) (bytes : List ℕ) (room made : ℕ) → made ≤ 1 → 1 ≤ room → FieldsAt forms bytes room 0 0 made
-fields_begin forms bytes room made few some = record {
-  few = omega arith;
-  taken = omega arith;
-  fits = omega arith;
-  begun = λ _. (refl, few);
-  some = λ never. absurd (omega (arith, never));
-  further = λ never. absurd (omega (arith, never));
-  one = λ never. absurd (omega (arith, never));
-}
-
 -- one cell more, and the comma after it
 pub fields_step : {forms : List Form} {bytes : List ℕ} {room more_room cells used now made : ℕ} (u m : ℕ) (d : Form)
     → FieldsAt forms bytes room cells used made → now ≡ used + u → more_room ≡ room → cells < length forms → u ≤ length bytes - used → made + m + 2 ≤ room
@@ -249,3 +234,9 @@ room_step n k made m room more same some few within = omega arith
 pub left_less : (charset : Charset) (kind : Kind) (bytes : List ℕ) (fewer room : ℕ) → fewer ≤ room → IsLeft charset kind bytes room
     → IsLeft charset kind bytes fewer
 left_less charset kind bytes fewer room less h6 = grind (arith, common_steps)
+
+-- ---- rows of numbers
+
+-- too few bytes or too little room is so by other names too
+pub numbers_few : {n m a b r s : ℕ} → n ≡ m → a ≡ b → r ≡ s → (NumbersWithin m b s → ⊥) → NumbersWithin n a r → ⊥
+numbers_few count bytes room few x = few (rw (count, bytes, room) at x)

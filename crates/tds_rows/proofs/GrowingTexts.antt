@@ -1,11 +1,12 @@
 -- What a text that grows is, and what the cells and rows that are read add to it.
-use Rattle.tds_rows.proofs.Words.{common_steps, ◌≡◌, ℕ, Bool, true, false, List, [], ◌∷◌, ◌++◌, refl, sym, ◌∙◌, ap, append_assoc, append-nil, arith}
-use Rattle.tds_rows.proofs.Words.{Option, Some, None, ◌==◌, ◌||◌, nat_lt, map, codes, map-append, joined, null_field, Conversion, closing}
-use Rattle.tds_rows.proofs.Words.{conversion_rest, conversion_text, is_fit, is_begun, is_quoted, long_field, open_field, open_closes, open_grows}
-use Rattle.tds_rows.proofs.Words.{begun_by_test, IsNext, or_cases, choose, eq_true, lt_true, Column, Charset, Cell, Null, field, shape, CellPart}
-use Rattle.tds_rows.proofs.Words.{ShortData, ChunkLength, ChunkData, WholeCell, cell_start, cell_add, cell, field_so_far, chunk_fault, RowPart}
-use Rattle.tds_rows.proofs.Words.{Bitmap, InCell, WholeRow, next_cell, with_cell, row_add, row, with_field, row_so_far}
-use Rattle.tds_rows.proofs.CellMeaning.{guard_none, unless_none}
+use Rattle.tds_rows.proofs.{
+  Words.{common_steps, ◌≡◌, ℕ, Bool, true, false, List, [], ◌∷◌, ◌++◌, refl, sym, ◌∙◌, ap, append_assoc, append-nil, arith, Option, Some, None, ◌==◌, ◌||◌},
+  Words.{nat_lt, map, codes, map-append, joined, null_field, Conversion, closing, conversion_rest, conversion_text, is_fit, is_begun, is_quoted, long_field},
+  Words.{open_field, open_closes, open_grows, begun_by_test, IsNext, or_cases, choose, eq_true, lt_true, Column, Charset, Cell, Null, field, shape, CellPart},
+  Words.{ShortData, ChunkLength, ChunkData, WholeCell, cell_start, cell_add, cell, field_so_far, chunk_fault, RowPart, Bitmap, InCell, WholeRow, next_cell},
+  Words.{with_cell, row_add, row, with_field, row_so_far},
+  CellMeaning.{guard_none, unless_none},
+}
 
 -- the second text begins with the first
 abbrev pub Grows : List ℕ → List ℕ → Type 0

@@ -1,14 +1,14 @@
 -- What joiners do with the pieces of some content, in the words of their conversion.
-use Rattle.tds_rows.proofs.Words.{common_steps, ◌≡◌, ◌∙◌, ℕ, ◌+◌, ◌-◌, ◌^◌, ◌<◌, ◌≤◌, Bool, false, List, [], ◌∷◌, ◌++◌, length, take, drop, inl, inr}
-use Rattle.tds_rows.proofs.Words.{refl, sym, ap, subst, arith, append_assoc, append-nil, length-append, Result, Ok, Err, get_or, Option}
-use Rattle.tds_rows.proofs.Words.{append_cancel_left, length-take-le, take-append-drop, drop_more, take_more, BadText, Stop, Seen, Takes, IsBetween}
-use Rattle.tds_rows.proofs.Words.{Takes-more, Takes-none, takes_both, BeginsData, Conversion, IsFit, Suits, closing, conversion_rest, conversion_text}
-use Rattle.tds_rows.proofs.Words.{emit, JoinFault, Odd, Stopped, Completes, EndsBy, LeavesPart, Pushes, TakesPiece, TakesUpTo, is_stopped, end_after}
-use Rattle.tds_rows.proofs.Words.{Sink, Breaks, Held, Puts, PutsPiece, held, begun_front, joins_by_name, Breaks-after, Breaks-longer, Puts-none}
-use Rattle.tds_rows.proofs.Words.{Puts-trans, BreaksData, EndPut, FillsData, RefusesData, StopsData, StopsEnding, StopsFilling, TakesData, added_text}
-use Rattle.tds_rows.proofs.Words.{join_stop, Payload}
-use Rattle.tds_rows.proofs.Paths.{At}
 use Rattle.tds_csv.specs.declared.joiners.JoinFault.TheVariants as join_faults
+use Rattle.tds_rows.proofs.{
+  Words.{common_steps, ◌≡◌, ◌∙◌, ℕ, ◌+◌, ◌-◌, ◌^◌, ◌<◌, ◌≤◌, Bool, false, List, [], ◌∷◌, ◌++◌, length, take, drop, inl, inr, refl, sym, ap, subst, arith},
+  Words.{append_assoc, append-nil, length-append, Result, Ok, Err, get_or, Option, append_cancel_left, length-take-le, take-append-drop, drop_more, take_more},
+  Words.{BadText, Stop, Seen, Takes, IsBetween, Takes-more, Takes-none, takes_both, BeginsData, Conversion, IsFit, Suits, closing, conversion_rest},
+  Words.{conversion_text, emit, JoinFault, Odd, Stopped, Completes, EndsBy, LeavesPart, Pushes, TakesPiece, TakesUpTo, is_stopped, end_after, Sink, Breaks},
+  Words.{Held, Puts, PutsPiece, held, begun_front, joins_by_name, Breaks-after, Breaks-longer, Puts-none, Puts-trans, BreaksData, EndPut, FillsData},
+  Words.{RefusesData, StopsData, StopsEnding, StopsFilling, TakesData, added_text, join_stop, Payload},
+  Paths.At,
+}
 
 module _ {fit begins : List ℕ → Type 0} {rest text : List ℕ → List ℕ} {size : ℕ} {quoted : Bool} {c : Conversion}
     (suits : Suits fit begins rest text size quoted c) where

@@ -1,9 +1,10 @@
 -- Cells by how their values are laid out.
-use Rattle.tds_rows.proofs.Words.{common_steps, false≢true, slice_index, ◌≤◌, ◌&&◌, sym, take, drop, length-drop, length-take-le, is_int4, AreInt4}
-use Rattle.tds_rows.proofs.Words.{IsInt4, ◌≡◌, ℕ, ◌<◌, Bool, true, false, List, length, replicate, get_or, refl, arith, ◌==◌, slice_set}
-use Rattle.tds_rows.proofs.Words.{get_or-set_at, get_or-replicate, get_or-set_other, length-replicate, length-set, Kind, Reach, is_scalar, eq_false}
-use Rattle.tds_rows.proofs.Words.{eq_true, Content, Conversion, Charset, Form, Layout, LongShape, shape, value_length, value_start, whole_size, Each}
-use Rattle.tds_rows.proofs.Words.{HasValueAt, IsLaidOut, short_size}
+use Rattle.tds_rows.proofs.{
+  Words.{common_steps, false≢true, slice_index, ◌≤◌, ◌&&◌, sym, take, drop, length-drop, length-take-le, is_int4, AreInt4, IsInt4, ◌≡◌, ℕ, ◌<◌, Bool, true},
+  Words.{false, List, length, replicate, get_or, refl, arith, ◌==◌, slice_set, get_or-set_at, get_or-replicate, get_or-set_other, length-replicate, length-set},
+  Words.{Kind, Reach, is_scalar, eq_false, eq_true, Content, Conversion, Charset, Form, Layout, LongShape, shape, value_length, value_start, whole_size, Each},
+  Words.{HasValueAt, IsLaidOut, short_size},
+}
 use Rattle.tds_rows.specs.declared.cell.layout.Layout.TheVariants.{Counted, Fixed, Short as ShortLayout}
 
 -- the same form many times

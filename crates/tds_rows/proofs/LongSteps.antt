@@ -1,18 +1,18 @@
 -- Long values, in the grammar of a cell: the text of its parts, and the pieces of its content.
-use Rattle.tds_rows.proofs.Words.{StopsField, common_steps, ◌≡◌, ◌∙◌, ◌⊎◌, inl, inr, ℕ, suc, ◌+◌, ◌-◌, ◌^◌, ◌<◌, ◌≤◌, Bool, true, false, List, []}
-use Rattle.tds_rows.proofs.Words.{◌∷◌, ◌++◌, length, refl, sym, ap, subst, arith, append_assoc, append-nil, length-append, Option, Some, None, ◌&&◌}
-use Rattle.tds_rows.proofs.Words.{◌||◌, nat_lt, and_from, cases_lt, ne_eqb, or_left, or_right, append_cancel_left, BadText, MessageEnded, Stop, Spelt}
-use Rattle.tds_rows.proofs.Words.{Seen, Takes, IsBetween, choose_false, test_lt, Spelt-append, Spelt-step, Takes-more, began_is_cut, cut_at_once}
-use Rattle.tds_rows.proofs.Words.{BeginsData, Conversion, conversion_rest, conversion_text, is_begun, is_fit, is_quoted, closing, long_field}
-use Rattle.tds_rows.proofs.Words.{open_field, emit, after_comma, end_after, in_line, Breaks, Held, Puts, open_grows, open_closes, unfit_adds_none}
-use Rattle.tds_rows.proofs.Words.{begun_by_test, joins_by_name, breaks_somewhere, Breaks-after, Breaks-longer, Puts-none, Puts-trans, CellPart}
-use Rattle.tds_rows.proofs.Words.{ShortData, cell, cell_add, cell_end, cell_fault, cell_size, field_so_far, unless, cell_so_far, BreaksData, CutsData}
-use Rattle.tds_rows.proofs.Words.{EndsData, FillsData, RefusesData, StopsData, StopsFilling, added_text, ending, nil_of_length, Payload}
-use Rattle.tds_rows.proofs.Paths.{At, Path, path_both, path_stops}
-use Rattle.tds_rows.proofs.RowSteps.{line_grows, opened_text}
-use Rattle.tds_rows.proofs.LineTexts.{after_append}
-use Rattle.tds_rows.proofs.CellLaws.{unless_true}
-use Rattle.tds_rows.proofs.Numbers.{chunk_left, short_left}
+use Rattle.tds_rows.proofs.{
+  Words.{StopsField, common_steps, ◌≡◌, ◌∙◌, ◌⊎◌, inl, inr, ℕ, suc, ◌+◌, ◌-◌, ◌^◌, ◌<◌, ◌≤◌, Bool, true, false, List, [], ◌∷◌, ◌++◌, length, refl, sym, ap},
+  Words.{subst, arith, append_assoc, append-nil, length-append, Option, Some, None, ◌&&◌, ◌||◌, nat_lt, and_from, cases_lt, ne_eqb, or_left, or_right},
+  Words.{append_cancel_left, BadText, MessageEnded, Stop, Spelt, Seen, Takes, IsBetween, choose_false, test_lt, Spelt-append, Spelt-step, Takes-more},
+  Words.{began_is_cut, cut_at_once, BeginsData, Conversion, conversion_rest, conversion_text, is_begun, is_fit, is_quoted, closing, long_field, open_field},
+  Words.{emit, after_comma, end_after, in_line, Breaks, Held, Puts, open_grows, open_closes, unfit_adds_none, begun_by_test, joins_by_name, breaks_somewhere},
+  Words.{Breaks-after, Breaks-longer, Puts-none, Puts-trans, CellPart, ShortData, cell, cell_add, cell_end, cell_fault, cell_size, field_so_far, unless},
+  Words.{cell_so_far, BreaksData, CutsData, EndsData, FillsData, RefusesData, StopsData, StopsFilling, added_text, ending, nil_of_length, Payload},
+  Paths.{At, Path, path_both, path_stops},
+  RowSteps.{line_grows, opened_text},
+  LineTexts.after_append,
+  CellLaws.unless_true,
+  Numbers.{chunk_left, short_left},
+}
 
 -- ---- content, byte by byte
 

@@ -1,15 +1,15 @@
 -- Long values, element after element: their lengths, the content between, and the end.
-use Rattle.tds_rows.proofs.Words.{common_steps, ◌≡◌, ◌∙◌, inl, inr, ℕ, zero, suc, ◌-◌, ◌^◌, ◌<◌, ◌≤◌, Bool, true, false, List, [], ◌∷◌, ◌++◌, length}
-use Rattle.tds_rows.proofs.Words.{sym, ap, arith, append-nil, Result, Ok, Err, MatchResult, Option, drop-nil, take-nil, Stop, StopsReading, Seen}
-use Rattle.tds_rows.proofs.Words.{Spelt-one, Spelt-none, BeginsData, Conversion, HexDigits, IsFit, Utf16Text, Utf8Text, Windows1252Text}
-use Rattle.tds_rows.proofs.Words.{conversion_rest, conversion_text, is_quoted, open_field, emit, after_comma, binary_mark, in_line, null_field, quote}
-use Rattle.tds_rows.proofs.Words.{Sink, Breaks, Held, IsWriting, Puts, PutsPiece, held, begun_by_test, fit_begins, fit_by_test, no_data_is_fit}
-use Rattle.tds_rows.proofs.Words.{hex-nil, Breaks-after, Puts-none, Puts-trans, Breaks-longer, text_nil, Cell, CellPart, Null, ShortLength, WholeCell}
-use Rattle.tds_rows.proofs.Words.{cell, PutsField, StopsField, cell_so_far, EndsData, StopsEnding, ending, opening, ◌≢◌, ◌+◌, refl, length-append}
-use Rattle.tds_rows.proofs.Words.{None, unit, ChunkLength, ReadsNumber, chunk_length_fault}
-use Rattle.tds_rows.proofs.LongSteps.{ending_text, ends_break, ends_path, ends_refused, short_holds, short_refused, text_at, chunk_holds}
-use Rattle.tds_rows.proofs.Numbers.{Next, short_left, chunk_end, chunk_start, chunk_unfit, chunk_left}
-use Rattle.tds_rows.proofs.Paths.{At, Path, path_both, path_of, streams_of, path_none, path_stops}
+use Rattle.tds_rows.proofs.{
+  Words.{common_steps, ◌≡◌, ◌∙◌, inl, inr, ℕ, zero, suc, ◌-◌, ◌^◌, ◌<◌, ◌≤◌, Bool, true, false, List, [], ◌∷◌, ◌++◌, length, sym, ap, arith, append-nil},
+  Words.{Result, Ok, Err, MatchResult, Option, drop-nil, take-nil, Stop, StopsReading, Seen, Spelt-one, Spelt-none, BeginsData, Conversion, HexDigits, IsFit},
+  Words.{Utf16Text, Utf8Text, Windows1252Text, conversion_rest, conversion_text, is_quoted, open_field, emit, after_comma, binary_mark, in_line, null_field},
+  Words.{quote, Sink, Breaks, Held, IsWriting, Puts, PutsPiece, held, begun_by_test, fit_begins, fit_by_test, no_data_is_fit, hex-nil, Breaks-after, Puts-none},
+  Words.{Puts-trans, Breaks-longer, text_nil, Cell, CellPart, Null, ShortLength, WholeCell, cell, PutsField, StopsField, cell_so_far, EndsData, StopsEnding},
+  Words.{ending, opening, ◌≢◌, ◌+◌, refl, length-append, None, unit, ChunkLength, ReadsNumber, chunk_length_fault},
+  LongSteps.{ending_text, ends_break, ends_path, ends_refused, short_holds, short_refused, text_at, chunk_holds},
+  Numbers.{Next, short_left, chunk_end, chunk_start, chunk_unfit, chunk_left},
+  Paths.{At, Path, path_both, path_of, streams_of, path_none, path_stops},
+}
 
 -- ---- no content
 

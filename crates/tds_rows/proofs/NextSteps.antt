@@ -1,17 +1,5 @@
 -- The next cells of a row, those of a run or one, NULL or not, and rows one after another.
-use Rattle.tds_rows.proofs.Words.{after_cells, common_steps, arith, ◌≡◌, ◌+◌, ℕ, Bool, true, false, List, ◌∷◌, drop, refl, sym, Err, Ok, Result, Option, ◌==◌}
-use Rattle.tds_rows.proofs.Words.{Kind, Stop, seen, between_of, Column, held, Rows, Ahead, is_last_column, MarkedPut, CellRead, IsInRow, KindRead}
-use Rattle.tds_rows.proofs.Words.{LeavesRows, NextRead, StaysInRow, RowStops, RowPart, marked, IsAhead, IsNextKind, Knows, TakesColumn, ◌∙◌, zero}
-use Rattle.tds_rows.proofs.Words.{suc, ◌-◌, ◌^◌, ◌≤◌, ◌<◌, [], ◌++◌, length, ap, subst, append_assoc, append-nil, add-zero, length-append}
-use Rattle.tds_rows.proofs.Words.{Consumes-nil, Coming, before, IsBetween, Seen, Takes, Takes-more, Stays-none, takes_both, Held, Puts, nears_put}
-use Rattle.tds_rows.proofs.Words.{Puts_split, Charset, Table, PutsMarked, WritesColumn, WritesMarked, WritesNext, Inside, Puts-none, RowsRun, Cell}
-use Rattle.tds_rows.proofs.Words.{PlainRow, RowToken, WholeRow, next_cell, row, row_so_far, token_byte, token_start, ReadsRow, ReadsRows, RowsStop}
-use Rattle.tds_rows.proofs.Words.{RowsPart, RowsPut, RunsRows, Writes, lines, rows, rows_so_far, rows_start}
-use Rattle.tds_rows.proofs.NullSteps.{NearsCells, all_put, cell_nears, cell_stops, null_breaks, null_nears, cell_path, marked_stops}
-use Rattle.tds_rows.proofs.RowSteps.{ends, ends_marked, coming, nulls_ahead, PutsAt, StopsAt}
-use Rattle.tds_rows.proofs.Paths.{At, here, Path, path_both, path_map, path_none, path_of, streams_of, writes_inside}
-use Rattle.tds_rows.proofs.TableSteps.{last_one, next_column}
-use Rattle.tds_rows.proofs.RunSteps.{rows_after, whole_puts, lines-append, row_among, row_token}
+use Rattle.tds_rows.proofs.{Words.{after_cells, common_steps, arith, ◌≡◌, ◌+◌, ℕ, Bool, true, false, List, ◌∷◌, drop, refl, sym, Err, Ok, Result, Option, ◌==◌, Kind, Stop, seen}, Words.{between_of, Column, held, Rows, Ahead, is_last_column, MarkedPut, CellRead, IsInRow, KindRead, LeavesRows, NextRead, StaysInRow, RowStops, RowPart}, Words.{marked, IsAhead, IsNextKind, Knows, TakesColumn, ◌∙◌, zero, suc, ◌-◌, ◌^◌, ◌≤◌, ◌<◌, [], ◌++◌, length, ap, subst, append_assoc, append-nil, add-zero}, Words.{length-append, Consumes-nil, Coming, before, IsBetween, Seen, Takes, Takes-more, Stays-none, takes_both, Held, Puts, nears_put, Puts_split, Charset}, Words.{Table, PutsMarked, WritesColumn, WritesMarked, WritesNext, Puts-none, RowsRun, Cell, PlainRow, RowToken, WholeRow, next_cell, row, row_so_far}, Words.{token_byte, token_start, ReadsRow, ReadsRows, RowsStop, RowsPut, RunsRows, rows, rows_so_far, rows_start}, NullSteps.{NearsCells, all_put, cell_nears, cell_stops, null_breaks, null_nears, cell_path, marked_stops}, RowSteps.{ends, ends_marked, coming, nulls_ahead, PutsAt, StopsAt}, Paths.{At, here, Path, path_both, path_map, path_none, path_of, streams_of}, TableSteps.{last_one, next_column}, RunSteps.{rows_after, whole_puts, row_among, row_token}}
 
 -- text that doesn't fill the block waits
 pub all_waits : (h j : Held) (text : List ℕ) → Puts h j text → length h.waiting + length text < 4096
@@ -145,10 +133,6 @@ stays_after x y = grind arith
 -- where a call after some steps leaves it
 pub leaves_after : {R W U : Type 0} {a b c : Rows R W} {result : Result U Stop} → StaysInRow a b → LeavesRows b c result → LeavesRows a c result
 leaves_after x y = grind arith
-
--- what is said of a payload and a sink is said of those that they are
-said_of : {A B : Type 0} (P : A → B → Type 0) (a a' : A) (b b' : B) → a ≡ a' → b ≡ b' → P a b → P a' b'
-said_of P a a' b b' first second x = grind (arith, common_steps)
 
 -- ---- the next cell
 

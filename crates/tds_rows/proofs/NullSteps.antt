@@ -1,16 +1,15 @@
 -- Rows with NULLs by their bit, column after column, as they are read and their text is put.
-use Rattle.tds_rows.proofs.Words.{append-nil, common_steps, ◌≡◌, ◌∙◌, inl, inr, ℕ, ◌+◌, ◌-◌, ◌^◌, ◌<◌, ◌≤◌, Bool, true, false, List, [], ◌∷◌, ◌++◌}
-use Rattle.tds_rows.proofs.Words.{length, refl, sym, ap, arith, length-append, map, Fault, Stop, Grammar, IsNext, Ends, IsBetween, Seen, Takes}
-use Rattle.tds_rows.proofs.Words.{began_at, Inside-Spelt, next_inside, next_some, stops_inside, began_is_cut, cut_at_once, Column, in_line, joined}
-use Rattle.tds_rows.proofs.Words.{null_field, Breaks, Held, Puts, BreaksStreaming, StopsStreaming, Nears, added_between, last_read, nears_after}
-use Rattle.tds_rows.proofs.Words.{nears_breaks, nears_from, nears_inside, nears_put, tail_after, Breaks-longer, Puts-none, Charset, Cell, CellPart}
-use Rattle.tds_rows.proofs.Words.{Null, WholeCell, cell, cell_add, cell_size, cell_start, field, shape, cell_so_far, Bitmap, InCell, RowPart, bit}
-use Rattle.tds_rows.proofs.Words.{bitmap_length, marked, nbc_row_start, next_cell, row, row_so_far, row_start, with_cell, stops_size, ReadsRow}
-use Rattle.tds_rows.proofs.Words.{RowStops, Writes, nears_done}
-use Rattle.tds_rows.proofs.RowSteps.{begun_text, coming, ends, line_grows, nulls_ahead, nulls_text, part_text, rest_of, PutsAt, StopsAt, cell_some}
-use Rattle.tds_rows.proofs.RowSteps.{same_end, StopsCell}
-use Rattle.tds_rows.proofs.RowLaws.{begins_open, cell_in_row}
-use Rattle.tds_rows.proofs.Paths.{At, Path, path_both, path_map, path_none, path_of, path_stops, streams_of, writes_inside}
+use Rattle.tds_rows.proofs.{
+  Words.{append-nil, common_steps, ◌≡◌, ◌∙◌, inl, inr, ℕ, ◌+◌, ◌-◌, ◌^◌, ◌<◌, ◌≤◌, Bool, true, false, List, [], ◌∷◌, ◌++◌, length, refl, sym, ap, arith},
+  Words.{length-append, map, Fault, Stop, Grammar, IsNext, Ends, IsBetween, Seen, Takes, began_at, Inside-Spelt, next_inside, next_some, stops_inside},
+  Words.{began_is_cut, cut_at_once, Column, in_line, joined, null_field, Breaks, Held, Puts, BreaksStreaming, StopsStreaming, Nears, added_between, last_read},
+  Words.{nears_after, nears_breaks, nears_from, nears_inside, nears_put, tail_after, Breaks-longer, Puts-none, Charset, Cell, CellPart, Null, WholeCell, cell},
+  Words.{cell_add, cell_size, cell_start, field, shape, cell_so_far, Bitmap, InCell, RowPart, bit, bitmap_length, marked, nbc_row_start, next_cell, row},
+  Words.{row_so_far, row_start, with_cell, stops_size, ReadsRow, RowStops, Writes, nears_done},
+  RowSteps.{begun_text, coming, ends, line_grows, nulls_ahead, nulls_text, part_text, rest_of, PutsAt, StopsAt, cell_some, same_end, StopsCell},
+  RowLaws.{begins_open, cell_in_row},
+  Paths.{At, Path, path_both, path_map, path_none, path_of, path_stops, streams_of, writes_inside},
+}
 
 -- ---- a cell in its row, with the NULLs after it
 

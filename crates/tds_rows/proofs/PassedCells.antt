@@ -1,17 +1,17 @@
 -- The value of a RETURNVALUE, as it is passed over.
-use Rattle.tds_rows.proofs.Words.{HexDigits, Utf16Text, Windows1252Text, ◌≢◌, Some, None, eq_true, ReadsNumber, chunk_length_fault, short_fault}
-use Rattle.tds_rows.proofs.Words.{short_length, reads_one, ◌≡◌, ◌∙◌, inr, ℕ, ◌+◌, ◌-◌, ◌%◌, ◌<◌, ◌≤◌, Bool, true, List, [], ◌++◌, length, refl, sym}
-use Rattle.tds_rows.proofs.Words.{ap, subst, arith, append-nil, length-append, Option, is_ok, Kind, is_scalar, read_of, Stop, Spelt, Seen, Takes}
-use Rattle.tds_rows.proofs.Words.{IsBetween, began_at, Ends-after, Takes-none, Takes-trans, add_none, began_is_cut, reads_both, reads_none}
-use Rattle.tds_rows.proofs.Words.{stops_after, BeginsData, Conversion, Charset, Cell, CellPart, ChunkLength, DataCell, ShortLength, WholeCell}
-use Rattle.tds_rows.proofs.Words.{cell_start, shape, GathersCell, StallsCell, scalar_size, value_bytes, value_length, value_start, WritesCell}
-use Rattle.tds_rows.proofs.Words.{return_column, AnyData, CutsPassing, IsGoodValue, PassesCell, PassesData, StepsOver, StopsPassing, return_cell}
-use Rattle.tds_rows.proofs.Words.{begun_by_test, take_all, zero}
-use Rattle.tds_rows.proofs.BufferedCells.{null_cell, value_cell}
-use Rattle.tds_rows.proofs.RunSteps.{whole_of}
-use Rattle.tds_rows.proofs.LongSteps.{HoldsContent, content_spelt, chunk_holds, short_holds}
-use Rattle.tds_rows.proofs.CellMeaning.{is_ok_value}
-use Rattle.tds_rows.proofs.Numbers.{Next, chunk_end, chunk_start, chunk_left, short_left}
+use Rattle.tds_rows.proofs.{
+  Words.{HexDigits, Utf16Text, Windows1252Text, ◌≢◌, Some, None, eq_true, ReadsNumber, chunk_length_fault, short_fault, short_length, reads_one, ◌≡◌, ◌∙◌, inr},
+  Words.{ℕ, ◌+◌, ◌-◌, ◌%◌, ◌<◌, ◌≤◌, Bool, true, List, [], ◌++◌, length, refl, sym, ap, subst, arith, append-nil, length-append, Option, is_ok, Kind},
+  Words.{is_scalar, read_of, Stop, Spelt, Seen, Takes, IsBetween, began_at, Ends-after, Takes-none, Takes-trans, add_none, began_is_cut, reads_both},
+  Words.{reads_none, stops_after, BeginsData, Conversion, Charset, Cell, CellPart, ChunkLength, DataCell, ShortLength, WholeCell, cell_start, shape},
+  Words.{GathersCell, StallsCell, scalar_size, value_bytes, value_length, value_start, WritesCell, return_column, AnyData, CutsPassing, IsGoodValue},
+  Words.{PassesCell, PassesData, StepsOver, StopsPassing, return_cell, begun_by_test, take_all, zero},
+  BufferedCells.{null_cell, value_cell},
+  RunSteps.whole_of,
+  LongSteps.{HoldsContent, content_spelt, chunk_holds, short_holds},
+  CellMeaning.is_ok_value,
+  Numbers.{Next, chunk_end, chunk_start, chunk_left, short_left},
+}
 
 -- ---- elements
 

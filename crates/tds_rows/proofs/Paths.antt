@@ -1,8 +1,9 @@
 -- What bytes make by a grammar, and how a call that reads them and puts what they make goes from place to place.
-use Rattle.tds_rows.proofs.Words.{common_steps, ◌≡◌, ℕ, ◌+◌, ◌-◌, ◌^◌, ◌≤◌, Bool, List, [], ◌++◌, length, arith, append_assoc, append-nil}
-use Rattle.tds_rows.proofs.Words.{length-append, Fault, Stop, Grammar, Seen, Takes, Inside, Inside-Spelt, Spelt-append, Spelt-none, Takes-none}
-use Rattle.tds_rows.proofs.Words.{takes_both, Option, seen, Sink, Held, Puts, held, StopsStreaming, Streams, Puts-none, Puts-trans, added_inside}
-use Rattle.tds_rows.proofs.Words.{streaming_after, Rows, Writes}
+use Rattle.tds_rows.proofs.{
+  Words.{common_steps, ◌≡◌, ℕ, ◌+◌, ◌-◌, ◌^◌, ◌≤◌, Bool, List, [], ◌++◌, length, arith, append_assoc, append-nil, length-append, Fault, Stop, Grammar, Seen},
+  Words.{Takes, Inside, Inside-Spelt, Spelt-append, Spelt-none, Takes-none, takes_both, Option, seen, Sink, Held, Puts, held, StopsStreaming, Streams},
+  Words.{Puts-none, Puts-trans, added_inside, streaming_after, Rows, Writes},
+}
 use Rattle.tds_packet.specs.declared.payload.Payload.{Payload}
 
 -- where a reading stands: what the payload is seen to give, how many of its bytes were read, and what the sink holds

@@ -1,14 +1,15 @@
 -- The cells of a row, as they are read one after another and their text is put.
-use Rattle.tds_rows.proofs.Words.{common_steps, PutsField, StopsField, shape, ◌≡◌, ◌∙◌, ℕ, ◌+◌, ◌^◌, ◌-◌, ◌<◌, ◌≤◌, Bool, false, List, [], ◌∷◌, ◌++◌}
-use Rattle.tds_rows.proofs.Words.{length, sym, ap, arith, append-nil, length-append, None, map, length-map, map-append, Kind, Stop, IsNext, Leads}
-use Rattle.tds_rows.proofs.Words.{Spelt, concat, IsBetween, Seen, Takes, Spelt-append, Spelt-one, Column, joined, after_comma, in_line, Breaks, Held}
-use Rattle.tds_rows.proofs.Words.{Puts, BreaksStreaming, PutsText, Streams, Puts-none, Charset, Cell, CellPart, Shape, WholeCell, cell, cell_add}
-use Rattle.tds_rows.proofs.Words.{cell_end, cell_size, cell_start, field, field_so_far, row, with_cell, StallsCell, cell_so_far, true, refl}
-use Rattle.tds_rows.proofs.Words.{append_assoc, Option, Some, next_some, end_after, null_field, ChunkData, ChunkLength, Null, ShortData}
-use Rattle.tds_rows.proofs.Words.{is_last_column, opened, RowPart, marked, next_cell, row_so_far}
-use Rattle.tds_rows.proofs.Paths.{At}
-use Rattle.tds_rows.proofs.LineTexts.{joined_snoc}
-use Rattle.tds_rows.proofs.GrowingTexts.{Grows, OptionGrows, cell_grows, grows_all, grows_same, grows_trans, grows_under}
+use Rattle.tds_rows.proofs.{
+  Words.{common_steps, PutsField, StopsField, shape, ◌≡◌, ◌∙◌, ℕ, ◌+◌, ◌^◌, ◌-◌, ◌<◌, ◌≤◌, Bool, false, List, [], ◌∷◌, ◌++◌, length, sym, ap, arith},
+  Words.{append-nil, length-append, None, map, length-map, map-append, Kind, Stop, IsNext, Leads, Spelt, concat, IsBetween, Seen, Takes, Spelt-append},
+  Words.{Spelt-one, Column, joined, after_comma, in_line, Breaks, Held, Puts, BreaksStreaming, PutsText, Streams, Puts-none, Charset, Cell, CellPart, Shape},
+  Words.{WholeCell, cell, cell_add, cell_end, cell_size, cell_start, field, field_so_far, row, with_cell, StallsCell, cell_so_far, true, refl, append_assoc},
+  Words.{Option, Some, next_some, end_after, null_field, ChunkData, ChunkLength, Null, ShortData, is_last_column, opened, RowPart, marked, next_cell},
+  Words.row_so_far,
+  Paths.At,
+  LineTexts.joined_snoc,
+  GrowingTexts.{Grows, OptionGrows, cell_grows, grows_all, grows_same, grows_trans, grows_under},
+}
 
 -- A cell was read, of those whose text comes with the last element alone, and this is its text in its line.
 pub record ReadsCell (from : CellPart) (column : ℕ) (last : Bool) (old new : Seen) (place place' : ℕ) (text : List ℕ) : Type 0 where

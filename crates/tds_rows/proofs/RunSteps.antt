@@ -1,17 +1,18 @@
 -- The cells of a run, as they are written one after another.
-use Rattle.tds_rows.proofs.Words.{RowsPart, common_steps, false, zero, suc, add-zero, ◌≡◌, ◌∙◌, ℕ, ◌+◌, ◌-◌, ◌≤◌, ◌<◌, Bool, List, [], ◌∷◌, ◌++◌, length, take}
-use Rattle.tds_rows.proofs.Words.{drop, get_or, refl, sym, ap, subst, arith, append_assoc, append-nil, length-append, Result, Ok, Err, MatchResult}
-use Rattle.tds_rows.proofs.Words.{true, length-take, length-take-le, take-append-le, take_all, take_more, take-append-add, take-add, Stop, map}
-use Rattle.tds_rows.proofs.Words.{Option, Seen, Takes, joined, line, Sink, Breaks, Held, IsWriting, Puts, PutsPiece, held, Inside, Spelt-append}
-use Rattle.tds_rows.proofs.Words.{Spelt-one, Column, all_after, Charset, Cell, CellPart, Shape, WholeCell, cell, cell_start, field, shape, NbcRow}
-use Rattle.tds_rows.proofs.Words.{PlainRow, RowPart, RowToken, WholeRow, next_cell, row, row_so_far, token_byte, token_start, with_field, IsLeft}
-use Rattle.tds_rows.proofs.Words.{IsScalarLeft, WritesKind, cell_so_far, is_last_column, scalar_size, whole_size, WritesCell, WritesWhole, is_scalar}
-use Rattle.tds_rows.proofs.Words.{Writes, WritesRows, after_cells, lines, rows, rows_so_far, Kind, WritesColumn, WritesMarked}
-use Rattle.tds_rows.proofs.CellSteps.{fixed_some}
-use Rattle.tds_rows.proofs.NullSteps.{row_cell}
-use Rattle.tds_rows.proofs.RowSteps.{coming, ends_marked, none_ahead, quiet_text, start_quiet, PutsCell, StopsCell}
-use Rattle.tds_rows.proofs.Paths.{At, writes_both, writes_inside, writes_none}
-use Rattle.tds_rows.proofs.TableSteps.{next_column}
+use Rattle.tds_rows.proofs.{
+  Words.{RowsPart, common_steps, false, zero, suc, add-zero, ◌≡◌, ◌∙◌, ℕ, ◌+◌, ◌-◌, ◌≤◌, ◌<◌, Bool, List, [], ◌∷◌, ◌++◌, length, take, drop, get_or, refl, sym},
+  Words.{ap, subst, arith, append_assoc, append-nil, length-append, Result, Ok, Err, MatchResult, true, length-take, length-take-le, take-append-le, take_all},
+  Words.{take_more, take-append-add, take-add, Stop, map, Option, Seen, Takes, joined, line, Sink, Breaks, Held, IsWriting, Puts, PutsPiece, held, Inside},
+  Words.{Spelt-append, Spelt-one, Column, all_after, Charset, Cell, CellPart, Shape, WholeCell, cell, cell_start, field, shape, NbcRow, PlainRow, RowPart},
+  Words.{RowToken, WholeRow, next_cell, row, row_so_far, token_byte, token_start, with_field, IsLeft, IsScalarLeft, WritesKind, cell_so_far, is_last_column},
+  Words.{scalar_size, whole_size, WritesCell, WritesWhole, is_scalar, Writes, WritesRows, after_cells, lines, rows, rows_so_far, Kind, WritesColumn},
+  Words.WritesMarked,
+  CellSteps.fixed_some,
+  NullSteps.row_cell,
+  RowSteps.{coming, ends_marked, none_ahead, quiet_text, start_quiet, PutsCell, StopsCell},
+  Paths.{At, writes_both, writes_inside, writes_none},
+  TableSteps.next_column,
+}
 
 -- ---- cells of a row
 

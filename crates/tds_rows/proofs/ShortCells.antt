@@ -1,8 +1,10 @@
 -- Cells of short values whose bytes lie together.
-use Rattle.tds_rows.proofs.Words.{◌≡◌, ◌≢◌, ◌∙◌, ℕ, ◌+◌, ◌/◌, ◌%◌, ◌<◌, ◌≤◌, Bool, true, List, [], ◌∷◌, ◌++◌, length, take, drop, refl, ap, arith}
-use Rattle.tds_rows.proofs.Words.{length-drop, length-take-le, slice_index, Kind, Short, Conversion, is_fit, long_field, in_line, null_field}
-use Rattle.tds_rows.proofs.Words.{DataCell, LongShape, Null, ShortLength, SpellsShort, stated_length, WritesWhole, take-add}
-use Rattle.tds_rows.proofs.CellLaws.{cell_is_read}
+use Rattle.tds_rows.proofs.{
+  Words.{◌≡◌, ◌≢◌, ◌∙◌, ℕ, ◌+◌, ◌/◌, ◌%◌, ◌<◌, ◌≤◌, Bool, true, List, [], ◌∷◌, ◌++◌, length, take, drop, refl, ap, arith, length-drop, length-take-le},
+  Words.{slice_index, Kind, Short, Conversion, is_fit, long_field, in_line, null_field, DataCell, LongShape, Null, ShortLength, SpellsShort, stated_length},
+  Words.{WritesWhole, take-add},
+  CellLaws.cell_is_read,
+}
 
 module _ (column : ℕ) (kind : Kind) (c : Conversion) (last : Bool) (bytes text : List ℕ) (within : 2 ≤ length bytes) (low : slice_index bytes 0 < 256)
     (high : slice_index bytes 1 < 256) where

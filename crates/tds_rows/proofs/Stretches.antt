@@ -1,8 +1,10 @@
 -- Runs over the cells of a row: before the first, one alone, one run after another, and one over columns that aren't NULL by their bit.
-use Rattle.tds_rows.proofs.Words.{inl, inr, ◌≡◌, ◌∙◌, ℕ, zero, suc, ◌+◌, ◌-◌, ◌≤◌, ◌<◌, Bool, false, List, [], ◌++◌, length, take, drop, refl, sym}
-use Rattle.tds_rows.proofs.Words.{ap, subst, arith, append_assoc, append-nil, add-zero, Column, Charset, Ahead, Table, is_last_column, EndsLeft}
-use Rattle.tds_rows.proofs.Words.{RunsMarked, WritesColumn, WritesMarked, WritesNext, RunEnds, TakesColumn, Kind}
-use Rattle.tds_rows.proofs.RunSteps.{made_more, used_more}
+use Rattle.tds_rows.proofs.{
+  Words.{inl, inr, ◌≡◌, ◌∙◌, ℕ, zero, suc, ◌+◌, ◌-◌, ◌≤◌, ◌<◌, Bool, false, List, [], ◌++◌, length, take, drop, refl, sym, ap, subst, arith, append_assoc},
+  Words.{append-nil, add-zero, Column, Charset, Ahead, Table, is_last_column, EndsLeft, RunsMarked, WritesColumn, WritesMarked, WritesNext, RunEnds},
+  Words.{TakesColumn, Kind},
+  RunSteps.{made_more, used_more},
+}
 
 -- no column is NULL by its bit
 abbrev pub none_null : ℕ → Bool

@@ -1,16 +1,16 @@
 -- A call that reads what comes whole stops only where a device fails.
-use Rattle.tds_rows.proofs.Words.{◌≡◌, ◌∙◌, inl, inr, ℕ, ◌+◌, ◌<◌, Bool, List, [], ◌∷◌, ◌++◌, length, take, refl, sym, ap, subst, arith, append_assoc}
-use Rattle.tds_rows.proofs.Words.{append-nil, length-append, Result, Ok, Err, MatchResult, seen, held, Option, Some, None, if◌then◌else◌}
-use Rattle.tds_rows.proofs.Words.{take-append_seam, nat_tests, Consumes, Rose, one_more, Fault, RefusedToken, Stop, before, Grammar, IsRefused}
-use Rattle.tds_rows.proofs.Words.{Longest, Spelt, CutsNext, RefusesNext, StopsReading, Ends, Seen, Inside-Spelt, Spelt-append, longest_at}
-use Rattle.tds_rows.proofs.Words.{longest_cut, longest_refused, no_further, one_longest, stops_inside, stops_after, Column, Sink, Conversion, Held}
-use Rattle.tds_rows.proofs.Words.{StopsStreaming, stops_size, Kind, Reach, Short, Chunked, Charset, Cell, LongShape, SpellsCell, WholeCell, cell}
-use Rattle.tds_rows.proofs.Words.{cell_start, long_start, return_charset, shape, CellPassed, RowsRead, RowsStop, RowPart, RowToken, SpellsRowAs}
-use Rattle.tds_rows.proofs.Words.{WholeRow, row, token_byte, token_start, RowsPart, rows, BeginNoRow, Brings, ReadsOn, SpellsRows, SucceedsOn}
-use Rattle.tds_rows.proofs.Words.{length-take-le}
-use Rattle.tds_rows.proofs.CellLaws.{cell_is_read}
-use Rattle.tds_rows.proofs.RowLaws.{nbc_row_is_read, row_is_read, shape-HasBytes}
-use Rattle.tds_rows.proofs.RunSteps.{row_token, row_among_rows}
+use Rattle.tds_rows.proofs.{
+  Words.{◌≡◌, ◌∙◌, inl, inr, ℕ, ◌+◌, ◌<◌, Bool, List, [], ◌∷◌, ◌++◌, length, take, refl, sym, ap, subst, arith, append_assoc, append-nil, length-append},
+  Words.{Result, Ok, Err, MatchResult, seen, held, Option, Some, None, if◌then◌else◌, take-append_seam, nat_tests, Consumes, Rose, one_more, Fault},
+  Words.{RefusedToken, Stop, before, Grammar, IsRefused, Longest, Spelt, CutsNext, RefusesNext, StopsReading, Ends, Seen, Inside-Spelt, Spelt-append},
+  Words.{longest_at, longest_cut, longest_refused, no_further, one_longest, stops_inside, stops_after, Column, Sink, Conversion, Held, StopsStreaming},
+  Words.{stops_size, Kind, Reach, Short, Chunked, Charset, Cell, LongShape, SpellsCell, WholeCell, cell, cell_start, long_start, return_charset, shape},
+  Words.{CellPassed, RowsRead, RowsStop, RowPart, RowToken, SpellsRowAs, WholeRow, row, token_byte, token_start, RowsPart, rows, BeginNoRow, Brings, ReadsOn},
+  Words.{SpellsRows, SucceedsOn, length-take-le},
+  CellLaws.cell_is_read,
+  RowLaws.{nbc_row_is_read, row_is_read, shape-HasBytes},
+  RunSteps.{row_token, row_among_rows},
+}
 use Rattle.tds_packet.specs.declared.payload.Payload.{Payload}
 
 -- a call that fails raises the count

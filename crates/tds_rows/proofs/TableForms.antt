@@ -1,9 +1,10 @@
 -- The forms of the next columns of a row, as a table gives them.
-use Rattle.tds_rows.proofs.Words.{common_steps, ◌≡◌, ◌∙◌, inl, inr, ℕ, ◌+◌, ◌<◌, ◌≤◌, Bool, false, List, ◌∷◌, length, take, drop, get_or, refl, sym}
-use Rattle.tds_rows.proofs.Words.{ap, arith, ◌⊎◌, ◌==◌, map, drop-map, drop-take, drop_more, length-take-le, take-map, length-drop, take-take, Column}
-use Rattle.tds_rows.proofs.Words.{Form, CELL_ROOM, FormsRun, Ahead, Table, IsLeft, FirstLeft, FormsWritten, AreLaidOut, RunsMarked, AreAhead, IsAhead}
-use Rattle.tds_rows.proofs.Words.{Knows, NextColumn, kinds, nat_tests}
-use Rattle.tds_rows.proofs.FormSteps.{some_first}
+use Rattle.tds_rows.proofs.{
+  Words.{common_steps, ◌≡◌, ◌∙◌, inl, inr, ℕ, ◌+◌, ◌<◌, ◌≤◌, Bool, false, List, ◌∷◌, length, take, drop, get_or, refl, sym, ap, arith, ◌⊎◌, ◌==◌, map},
+  Words.{drop-map, drop-take, drop_more, length-take-le, take-map, length-drop, take-take, Column, Form, CELL_ROOM, FormsRun, Ahead, Table, IsLeft, FirstLeft},
+  Words.{FormsWritten, AreLaidOut, RunsMarked, AreAhead, IsAhead, Knows, NextColumn, kinds, nat_tests},
+  FormSteps.some_first,
+}
 
 -- those that a table knows, from a place in a row on
 pub known_ahead : (table : Table) (at : Ahead) (end : ℕ) (n : ℕ) → AreLaidOut table.charset table.forms → table.known ≤ length table.forms → 0 < n

@@ -1,10 +1,11 @@
 -- A table of columns, column by column.
-use Rattle.tds_rows.proofs.Words.{common_steps, ◌≡◌, ◌⊎◌, ◌∙◌, ℕ, true, false, ◌+◌, ◌≤◌, ◌<◌, List, [], ◌∷◌, length, take, drop, get_or, refl, sym}
-use Rattle.tds_rows.proofs.Words.{ap, arith, map, slice_set, ◌==◌, Option, is_last_column, eq-eqb, ne_eqb, drop_all, drop_more, get_or-map}
-use Rattle.tds_rows.proofs.Words.{get_or-take, map-append, take_more, take_more_set, length-drop, length-take, drop-drop, Kind, Int4, Column}
-use Rattle.tds_rows.proofs.Words.{YieldsFirstBy, eq_false, eq_true, Walk, column_value, columns_left, Ahead, Form, Table, IsAhead, Knows, NextColumn}
-use Rattle.tds_rows.proofs.Words.{TakesColumn, kinds}
 use Rattle.tds_columns.specs.declared.walk.Column as walks
+use Rattle.tds_rows.proofs.{
+  Words.{common_steps, ◌≡◌, ◌⊎◌, ◌∙◌, ℕ, true, false, ◌+◌, ◌≤◌, ◌<◌, List, [], ◌∷◌, length, take, drop, get_or, refl, sym, ap, arith, map, slice_set, ◌==◌},
+  Words.{Option, is_last_column, eq-eqb, ne_eqb, drop_all, drop_more, get_or-map, get_or-take, map-append, take_more, take_more_set, length-drop, length-take},
+  Words.{drop-drop, Kind, Int4, Column, YieldsFirstBy, eq_false, eq_true, Walk, column_value, columns_left, Ahead, Form, Table, IsAhead, Knows, NextColumn},
+  Words.{TakesColumn, kinds},
+}
 
 -- what is ahead begins with the next column
 pub next_column : (columns : List Column) (k : ℕ) (c : Column) (rest : List Column) → drop k columns ≡ c ∷ rest → (k < length columns)

@@ -1,16 +1,16 @@
 -- What a run over cells by their forms does, whose columns follow one another in a row.
-use Rattle.std.specs.Prelude.{◌≡◌, ◌==◌, ◌⊎◌, ◌+◌, ◌<◌, ◌≤◌, ◌*◌, ◌&&◌, ◌∷◌, ◌++◌, ℕ, zero, suc, Bool, false, List, [], length, map, take, drop, get_or}
+use Rattle.std.specs.Prelude.{◌≡◌, ◌==◌, ◌⊎◌, ◌+◌, ◌<◌, ◌≤◌, ◌*◌, ◌&&◌, ◌∷◌, ◌++◌, ℕ, zero, suc, Bool, false, true, List, [], length, map, take, drop, get_or}
 use Rattle.tds_columns.specs.Description.{Column}
 use Rattle.tds_csv.specs.Quoting.{after_comma}
 use Rattle.tds_values.specs.declared.charset.Charset.{Charset}
 use Rattle.tds_rows.specs.declared.cell.layout.Form.{Form}
 use Rattle.tds_rows.specs.declared.cell.whole.TheConstants.{CELL_ROOM}
 use Rattle.tds_rows.specs.declared.run.forms.FormsRun.{FormsRun}
-use Rattle.tds_rows.specs.CellSteps.{IsLeft, WritesField, whole_size}
+use Rattle.tds_rows.specs.CellSteps.{IsLeft, IsScalarLeft, WritesField, whole_size}
 use Rattle.tds_rows.specs.Forms.{AreInt4}
 use Rattle.tds_rows.specs.MarkedRuns.{WritesMarked}
 use Rattle.tds_rows.specs.Runs.{WritesOne}
-use Rattle.tds_rows.specs.Tables.{kinds}
+use Rattle.tds_rows.specs.Tables.{BeginsRow, kinds}
 
 -- The forms are those of the next columns, which are the row's last if the forms end it.
 pub record AreNext (forms : List Form) (ends : Bool) (columns : List Column) : Type 0 where
@@ -79,3 +79,27 @@ pub record RunsForms (charset : Charset) (forms : List Form) (column : ℕ) (las
   pub ends : run.cells ≡ 0 → FirstLeft charset forms bytes room
   pub one : run.cells ≡ 1 → FirstWritten charset forms column last bytes text run
   pub cells : FormsWritten charset forms column last bytes text run
+
+-- After the cells of a run the next one is refused, which is of a scalar kind.
+abbrev pub IsRefusedAfter : List Form → List ℕ → FormsRun → Type 0
+IsRefusedAfter forms bytes run = (form : Form) → IsScalarLeft (get_or forms run.cells form).kind (drop run.used bytes)
+
+-- Some first cells of a row are at the front of these bytes, and after them one is refused.
+pub record RefusesRow (forms : List Form) (bytes : List ℕ) : Type 0 where
+  pub run : FormsRun
+  pub few : run.cells < length forms
+  pub fields : (charset : Charset) → (text : List ℕ) × WritesForms charset forms 0 run.cells (take run.used bytes) text
+  pub next : IsRefusedAfter forms bytes run
+
+-- A whole row is at the front of these bytes, and no ROW follows it.
+pub record IsLastRow (forms : List Form) (bytes : List ℕ) : Type 0 where
+  pub run : FormsRun
+  pub whole : run.cells ≡ length forms
+  pub room : ℕ
+  pub text : List ℕ
+  pub row : (charset : Charset) → RunsForms charset forms 0 true bytes room text run
+  pub last : BeginsRow (drop run.used bytes) → ⊥
+
+-- A run over rows of numbers ended: bytes or room are too few for any row, or the next row has a cell that is refused or is the last.
+abbrev pub NumbersEnd : List Form → List ℕ → ℕ → Type 0
+NumbersEnd forms bytes room = (NumbersWithin (length forms) (length bytes) room → ⊥) ⊎ (RefusesRow forms bytes ⊎ IsLastRow forms bytes)

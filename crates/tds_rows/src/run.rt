@@ -1,6 +1,7 @@
 // A run of cells: as many as are whole in the packet and have room, over the ends of rows.
-ghost use Rattle.std.specs.Prelude.{true, ◌≡◌, ◌+◌, ◌-◌, ◌<◌, ◌≤◌, Bool, drop, length, IfSome};
+ghost use Rattle.std.specs.Prelude.{true, ◌≡◌, ◌+◌, ◌-◌, ◌<◌, ◌≤◌, Bool, drop, length, take, IfSome};
 ghost use Rattle.tds_rows.specs.declared.cell.whole.TheConstants.{CELL_ROOM};
+ghost use Rattle.tds_rows.specs.FormRuns.{NumbersEnd};
 ghost use Rattle.tds_rows.specs.Layouts.{IsLaidOut};
 ghost use Rattle.tds_rows.specs.Runs.{AloneWritten, CellsWritten, RowsRan, RunEnds, StaysWithin};
 ghost use Rattle.tds_rows.specs.Tables.{AreAhead, KnowsAll};
@@ -169,6 +170,8 @@ fn run_numbers<'a>(table: &Table<'a>, from: Ahead<'a>, bytes: &[u8], to: &mut [u
     requires numbers { table.now.only_numbers ≡ true }
     requires first { from.column ≡ 0 }
     ensures ahead { result.ahead ≡ from.entry }
+    ensures ends { let row = take table.now.known table.now.forms in
+        NumbersEnd row (drop result.used bytes.now) (length to.old - result.made) }
     ensures rows { RowsRan table.now from.entry bytes.now to.new result }
 {
     let row = (&*table).row();
@@ -195,24 +198,39 @@ fn run_numbers<'a>(table: &Table<'a>, from: Ahead<'a>, bytes: &[u8], to: &mut [u
     }
 }
 
-// Writes rows as `run_numbers` does, if the place is before a row of whole numbers of four bytes.
+// Writes rows as `run_numbers` does, if `NUMBERS` says that all values are whole numbers of four bytes, and the place is
+// before a row.
 #[inline(always)]
-fn run_whole<'a>(table: &Table<'a>, from: Ahead<'a>, bytes: &[u8], to: &mut [u8]) -> RowsRun<'a>
-    requires { KnowsAll table.now }
+fn run_whole<'a, const NUMBERS: bool>(
+    table: &Table<'a>,
+    from: Ahead<'a>,
+    bytes: &[u8],
+    to: &mut [u8],
+) -> RowsRun<'a>
+    requires known { KnowsAll table.now }
+    requires numbers { NUMBERS ≡ true → table.now.only_numbers ≡ true }
     ensures ahead { result.ahead ≡ from.entry }
+    ensures ends { NUMBERS ≡ true → from.entry.column ≡ 0 → let row = take table.now.known table.now.forms in
+        NumbersEnd row (drop result.used bytes.now) (length to.old - result.made) }
     ensures rows { RowsRan table.now from.entry bytes.now to.new result }
 {
-    if table.only_numbers && from.column == 0 {
+    if NUMBERS && from.column == 0 {
         return run_numbers(table, from, bytes, to);
     }
     RowsRun::none(from)
 }
 
 // Writes cell after cell of rows whose columns the table all knows, as far as they are whole in these bytes, aren't in
-// chunks and have room, over the ends of rows.
+// chunks and have room, over the ends of rows. `NUMBERS` says that all their values are whole numbers of four bytes.
 #[inline(never)]
-fn run_known<'a>(table: &Table<'a>, from: Ahead<'a>, bytes: &[u8], to: &mut [u8]) -> RowsRun<'a>
-    requires { KnowsAll table.now }
+fn run_known<'a, const NUMBERS: bool>(
+    table: &Table<'a>,
+    from: Ahead<'a>,
+    bytes: &[u8],
+    to: &mut [u8],
+) -> RowsRun<'a>
+    requires known { KnowsAll table.now }
+    requires numbers { NUMBERS ≡ true → table.now.only_numbers ≡ true }
     ensures ends { RunEnds table.now result.ahead (drop result.used bytes.now) (length to.old - result.made) }
     ensures rows { RowsRan table.now from.entry bytes.now to.new result }
 {
@@ -221,7 +239,7 @@ fn run_known<'a>(table: &Table<'a>, from: Ahead<'a>, bytes: &[u8], to: &mut [u8]
     let mut rows = 0;
     let mut ahead = from;
     loop {
-        let whole = run_whole(table, ahead, &bytes[used..], &mut to[made..]);
+        let whole = run_whole::<NUMBERS>(table, ahead, &bytes[used..], &mut to[made..]);
         used += whole.used;
         made += whole.made;
         rows += whole.rows;
@@ -307,8 +325,11 @@ pub(crate) fn run_rows<'a>(
     ensures ends { RunEnds table.now result.ahead (drop result.used bytes.now) (length to.old - result.made) }
     ensures rows { RowsRan table.now from.entry bytes.now to.new result }
 {
-    if table.knows_all() {
-        return run_known(table, from, bytes, to);
+    if !table.knows_all() {
+        return run_partly_known(table, from, bytes, to);
     }
-    run_partly_known(table, from, bytes, to)
+    if table.only_numbers {
+        return run_known::<true>(table, from, bytes, to);
+    }
+    run_known::<false>(table, from, bytes, to)
 }

@@ -1,7 +1,8 @@
 -- Decimal digits, some at a time.
-use Rattle.tds_values.proofs.Words.{add-suc, append-nil, ◌≡◌, ◌⊎◌, ℕ, zero, suc, ◌+◌, ◌-◌, ◌*◌, ◌/◌, ◌%◌, ◌^◌, ◌<◌, ◌≤◌, ◌++◌, refl, ap, arith, inl}
-use Rattle.tds_values.proofs.Words.{inr, decimal, append_assoc, decimal_digit, decimal_step_wide, one-le-pow, pow-succ', div-div-eq-div-mul, div-one}
-use Rattle.tds_values.proofs.Words.{div-add-mod, pow-add, last_digits, fraction_text}
+use Rattle.tds_values.proofs.{
+  Words.{add-suc, append-nil, ◌≡◌, ◌⊎◌, ℕ, zero, suc, ◌+◌, ◌-◌, ◌*◌, ◌/◌, ◌%◌, ◌^◌, ◌<◌, ◌≤◌, ◌++◌, refl, ap, arith, inl, inr, decimal, append_assoc},
+  Words.{decimal_digit, decimal_step_wide, one-le-pow, pow-succ', div-div-eq-div-mul, div-one, div-add-mod, pow-add, last_digits, fraction_text},
+}
 
 -- what lies above the last digits doesn't change them
 pub last_digits-above : (k q n : ℕ) → last_digits k (10 ^ k * q + n) ≡ last_digits k n

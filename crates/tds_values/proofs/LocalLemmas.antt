@@ -1,8 +1,9 @@
 -- Local times by their whole seconds.
-use Rattle.tds_values.proofs.Words.{◌≡◌, ℕ, ◌+◌, ◌*◌, ◌/◌, ◌%◌, ◌^◌, ◌<◌, ◌++◌, ℤ, unsigned_abs, Some, ap, arith, is_some, one-le-pow, div-add-mod}
-use Rattle.tds_values.proofs.Words.{mul-le, div-mul-add, mod-mul-add, mod_below, local_units, is_local, local_seconds, fraction_text, seconds_text}
-use Rattle.tds_values.proofs.Words.{local_text, date_and_time}
-use Rattle.tds_values.proofs.DigitLemmas.{last_digits-above, last_digits-mod}
+use Rattle.tds_values.proofs.{
+  Words.{◌≡◌, ℕ, ◌+◌, ◌*◌, ◌/◌, ◌%◌, ◌^◌, ◌<◌, ◌++◌, ℤ, unsigned_abs, Some, ap, arith, is_some, one-le-pow, div-add-mod, mul-le, div-mul-add, mod-mul-add},
+  Words.{mod_below, local_units, is_local, local_seconds, fraction_text, seconds_text, local_text, date_and_time},
+  DigitLemmas.{last_digits-above, last_digits-mod},
+}
 
 more : (p x t f : ℕ) → f < p → t < x → t * p + f < x * p
 more p x t f h less = omega (arith, mul-le (t + 1) p x p (omega arith) (omega arith))

@@ -1,10 +1,11 @@
 -- The tables of digits.
-use Rattle.tds_values.proofs.Words.{◌≡◌, ℕ, zero, suc, ◌+◌, ◌*◌, ◌/◌, ◌%◌, ◌^◌, ◌<◌, ◌==◌, true, refl, ap, ◌∙◌, arith, List, [], ◌++◌, length, take, drop}
-use Rattle.tds_values.proofs.Words.{codes, get_or, agree_below, agree_below_at, eqb-true, hex_digit, lower, lower_digits, slice_index, add-zero, take_all}
-use Rattle.tds_values.proofs.Words.{take-append-le, last_digits, All, All-nil, bytes_low_first, FOUR_DIGITS, MINUTES}
-use Rattle.{std.proofs.{Math.Seq.drop-append-add, lemmas.List.Elements.{All-append, All-cons}}, tds_values.specs.ScalarText.minutes_text}
-use Rattle.tds_values.{proofs.TextLengths.length-last_digits, specs.declared.numbers.TheConstants.POWERS}
-use Rattle.tds_values.proofs.WordLemmas.{bytes_written, digits_are_bytes, word_of}
+use Rattle.tds_values.{
+  proofs.Words.{◌≡◌, ℕ, zero, suc, ◌+◌, ◌*◌, ◌/◌, ◌%◌, ◌^◌, ◌<◌, ◌==◌, true, refl, ap, ◌∙◌, arith, List, [], ◌++◌, length, take, drop, codes, get_or},
+  proofs.Words.{agree_below, agree_below_at, eqb-true, hex_digit, lower, lower_digits, slice_index, add-zero, take_all, take-append-le, last_digits, All},
+  proofs.{Words.{All-nil, bytes_low_first, FOUR_DIGITS, MINUTES}, TextLengths.length-last_digits, WordLemmas.{bytes_written, digits_are_bytes, word_of}},
+  specs.{ScalarText.minutes_text, declared.numbers.TheConstants.POWERS},
+}
+use Rattle.std.proofs.{Math.Seq.drop-append-add, lemmas.List.Elements.{All-append, All-cons}}
 
 -- functions agree below n that do so where they are computed
 pub each_below : (f g : ℕ → ℕ) (n : ℕ) → agree_below (λ k. f k == g k) (λ _. true) n ≡ true → (k : ℕ) → k < n → f k ≡ g k

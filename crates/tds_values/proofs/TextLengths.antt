@@ -1,8 +1,9 @@
 -- No text has more than 41 bytes.
-use Rattle.tds_values.proofs.Words.{length-append, ◌≡◌, ℕ, zero, suc, ◌+◌, ◌-◌, ◌/◌, ◌^◌, ◌<◌, ◌≤◌, refl, arith, ℤ, length, unsigned_abs, decimal}
-use Rattle.tds_values.proofs.Words.{IsTrue, signed_decimal, nat_tests, pow-add, div_below, length-decimal-le, length-decimal-le_wide, by_index_length}
-use Rattle.tds_values.proofs.Words.{ScalarValue, is_in_range, last_digits, text_of, FitsWidths}
 use Rattle.tds_values.specs.declared.scalar.ScalarValue.TheVariants as values
+use Rattle.tds_values.proofs.{
+  Words.{length-append, ◌≡◌, ℕ, zero, suc, ◌+◌, ◌-◌, ◌/◌, ◌^◌, ◌<◌, ◌≤◌, refl, arith, ℤ, length, unsigned_abs, decimal, IsTrue, signed_decimal, nat_tests},
+  Words.{pow-add, div_below, length-decimal-le, length-decimal-le_wide, by_index_length, ScalarValue, is_in_range, last_digits, text_of, FitsWidths},
+}
 
 pub length-last_digits : (k n : ℕ) → length (last_digits k n) ≡ k
 length-last_digits zero n = refl

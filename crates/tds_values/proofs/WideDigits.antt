@@ -1,14 +1,11 @@
 -- Forty digits of a number, and its text in them.
-use Rattle.tds_values.proofs.Words.{◌≡◌, inl, inr, ℕ, zero, suc, ◌+◌, ◌-◌, ◌/◌, ◌%◌, ◌^◌, ◌<◌, ◌≤◌, List, [], ◌∷◌, ◌++◌, take, drop, length, get_or}
-use Rattle.tds_values.proofs.Words.{refl, sym, ap, ◌∙◌, arith, false, append_assoc, cases_lt, ⊎_elim, decimal, nat_tests, div-eq_of_lt, le-div}
-use Rattle.tds_values.proofs.Words.{div_below, drop-take, take-take, one-le-pow, pow-add, cond}
-use Rattle.tds_values.proofs.DigitLemmas.{decimal_last, last_digits-add, last_digits-mod}
-use Rattle.tds_values.proofs.TextLengths.{length-last_digits}
-use Rattle.tds_values.specs.ScalarText.{last_digits, is_zero}
-use Rattle.std.proofs.Common.{take_all}
-use Rattle.std.proofs.Math.Seq.{drop-append-add}
-use Rattle.std.proofs.lemmas.List.{take-append-le}
-use Rattle.std.specs.List.{prefix_len}
+use Rattle.tds_values.{
+  proofs.Words.{◌≡◌, inl, inr, ℕ, zero, suc, ◌+◌, ◌-◌, ◌/◌, ◌%◌, ◌^◌, ◌<◌, ◌≤◌, List, [], ◌∷◌, ◌++◌, take, drop, length, get_or, refl, sym, ap, ◌∙◌, arith},
+  proofs.Words.{false, append_assoc, cases_lt, ⊎_elim, decimal, nat_tests, div-eq_of_lt, le-div, div_below, drop-take, take-take, one-le-pow, pow-add, cond},
+  proofs.{DigitLemmas.{decimal_last, last_digits-add, last_digits-mod}, TextLengths.length-last_digits},
+  specs.ScalarText.{last_digits, is_zero},
+}
+use Rattle.std.{proofs.{Common.take_all, Math.Seq.drop-append-add, lemmas.List.take-append-le}, specs.List.prefix_len}
 
 -- eight more digits after some
 eight_more : (k n : ℕ) {m g : ℕ} (t : List ℕ) {x y : List ℕ} → m ≡ n / 10 ^ 8 → g ≡ n % 10 ^ 8 → x ≡ t ++ last_digits k m → y ≡ x ++ last_digits 8 g

@@ -1,9 +1,10 @@
 -- Digits as the bytes of one number.
-use Rattle.tds_values.proofs.Words.{add-suc, ◌≡◌, ℕ, zero, suc, ◌+◌, ◌*◌, ◌/◌, ◌%◌, ◌^◌, ◌<◌, List, [], ◌∷◌, ◌++◌, refl, arith, take, length}
-use Rattle.tds_values.proofs.Words.{pow-succ', div-div-eq-div-mul, bytes_low_first, All, All-head, All-nil, All-push, All-tail, last_digits}
-use Rattle.tds_values.proofs.Words.{pow-add, take-append-add, take-take}
-use Rattle.tds_values.proofs.DigitLemmas.{last_digits-add}
-use Rattle.tds_values.proofs.TextLengths.{length-last_digits}
+use Rattle.tds_values.proofs.{
+  Words.{add-suc, ◌≡◌, ℕ, zero, suc, ◌+◌, ◌*◌, ◌/◌, ◌%◌, ◌^◌, ◌<◌, List, [], ◌∷◌, ◌++◌, refl, arith, take, length, pow-succ', div-div-eq-div-mul},
+  Words.{bytes_low_first, All, All-head, All-nil, All-push, All-tail, last_digits, pow-add, take-append-add, take-take},
+  DigitLemmas.last_digits-add,
+  TextLengths.length-last_digits,
+}
 
 -- the number whose bytes these are, the first the lowest
 abbrev pub word_of : List ℕ → ℕ

@@ -1,11 +1,11 @@
 -- What the bytes of a kind spell is written, or its fault answered.
-use Rattle.tds_values.proofs.Words.{Result, ◌≡◌, ℕ, ◌/◌, ◌%◌, ◌^◌, ◌≤◌, List, ◌++◌, nat_lt, ℤ, codes, Some, Ok, arith, one-le-pow, div_below, le-div}
-use Rattle.tds_values.proofs.Words.{IfOk, ScalarValue, text_of, seconds_text, fraction_text, date_and_time, offset_text, local_seconds, ValueFault}
-use Rattle.tds_values.proofs.Words.{is_time, IsText, IsWritten, Kind, read_of}
-use Rattle.tds_values.proofs.Words.{ap, ◌∙◌}
-use Rattle.tds_values.proofs.DigitLemmas.{fraction_rest}
-use Rattle.tds_values.proofs.LocalLemmas.{units_of_seconds, text_of_seconds}
 use Rattle.tds_values.specs.declared.scalar.ScalarValue.TheVariants as values
+use Rattle.tds_values.proofs.{
+  Words.{Result, ◌≡◌, ℕ, ◌/◌, ◌%◌, ◌^◌, ◌≤◌, List, ◌++◌, nat_lt, ℤ, codes, Some, Ok, arith, one-le-pow, div_below, le-div, IfOk, ScalarValue, text_of},
+  Words.{seconds_text, fraction_text, date_and_time, offset_text, local_seconds, ValueFault, is_time, IsText, IsWritten, Kind, read_of, ap, ◌∙◌},
+  DigitLemmas.fraction_rest,
+  LocalLemmas.{units_of_seconds, text_of_seconds},
+}
 
 -- whole seconds tell whether they lie in a day
 pub time_by_seconds : (scale units : ℕ) → scale ≤ 7 → nat_lt (units / 10 ^ scale) 86400 ≡ is_time scale units

@@ -1,8 +1,10 @@
 -- The zeros before a number's digits, counted as the zero bits of one number.
-use Rattle.tds_values.proofs.Words.{suc-add, add-zero, zero-add, ◌≡◌, ◌⊎◌, inl, inr, ℕ, zero, suc, ◌+◌, ◌-◌, ◌*◌, ◌/◌, ◌%◌, ◌^◌, ◌<◌, ◌≤◌, refl, ap}
-use Rattle.tds_values.proofs.Words.{arith, ⊎_elim, pow-succ', one-le-pow, div-eq_of_lt, div_below, le-div, cases_lt, under, last_digits}
-use Rattle.tds_values.proofs.DigitLemmas.{last_digits-add}
-use Rattle.tds_values.proofs.WordLemmas.{word_of}
+use Rattle.tds_values.proofs.{
+  Words.{suc-add, add-zero, zero-add, ◌≡◌, ◌⊎◌, inl, inr, ℕ, zero, suc, ◌+◌, ◌-◌, ◌*◌, ◌/◌, ◌%◌, ◌^◌, ◌<◌, ◌≤◌, refl, ap, arith, ⊎_elim, pow-succ', one-le-pow},
+  Words.{div-eq_of_lt, div_below, le-div, cases_lt, under, last_digits},
+  DigitLemmas.last_digits-add,
+  WordLemmas.word_of,
+}
 use lib.Count.{count_trailing_zeros}
 
 -- the values of the last k + 1 digits as the bytes of a number, the first the lowest, and a bit more in the last

@@ -1,7 +1,7 @@
 // A run over cells by their forms, whose columns follow one another in a row.
-ghost use Rattle.std.specs.Prelude.{◌≡◌, ◌==◌, ◌&&◌, ◌<◌, ◌≤◌, length, true, IfSome};
+ghost use Rattle.std.specs.Prelude.{◌≡◌, ◌==◌, ◌&&◌, ◌<◌, ◌≤◌, ◌↔◌, length, true, None, IfSome, IsTrue};
 ghost use Rattle.tds_values.specs.declared.charset.Charset.{Charset};
-ghost use Rattle.tds_rows.specs.FormRuns.{AreNumbers, FirstLeft, IsWithin, NumbersWithin, RunsForms, WritesFields};
+ghost use Rattle.tds_rows.specs.FormRuns.{AreNumbers, FirstLeft, IsRefusedAfter, IsWithin, NumbersWithin, RefusesRow, RunsForms, WritesFields};
 ghost use Rattle.tds_rows.specs.Forms.{AreInt4, AreLaidOut};
 
 use crate::cell::layout::Form;
@@ -68,7 +68,7 @@ fn write_fields(
 #[inline(always)]
 pub(crate) fn are_within(forms: &[Form], bytes: &[u8], to: &[u8]) -> bool
     requires { length forms.now ≤ 65535 }
-    ensures { result ≡ true → NumbersWithin (length forms.now) (length bytes.now) (length to.now) }
+    ensures { IsTrue result ↔ NumbersWithin (length forms.now) (length bytes.now) (length to.now) }
 {
     INT4_CELL * forms.len() <= bytes.len() && NUMBER_ROOM * forms.len() + CELL_ROOM <= to.len()
 }
@@ -79,7 +79,7 @@ pub(crate) fn are_within(forms: &[Form], bytes: &[u8], to: &[u8]) -> bool
 fn write_numbers(forms: &[Form], column: u16, bytes: &[u8], to: &mut [u8]) -> FormsRun
     requires numbers { AreInt4 forms.now }
     requires within { NumbersWithin (length forms.now) (length bytes.now) (length to.old) }
-    ensures ends { (charset : Charset) → result.cells ≡ 0 → FirstLeft charset forms.now bytes.now (length to.old) }
+    ensures ends { result.cells < length forms.now → IsRefusedAfter forms.now bytes.now result }
     ensures fields { (charset : Charset) → WritesFields charset forms.now column bytes.now to.new result }
 {
     let mut cells = 0;
@@ -137,6 +137,7 @@ pub(crate) fn run_forms(
 pub(crate) fn run_row(forms: &[Form], bytes: &[u8], to: &mut [u8]) -> Option<FormsRun>
     requires some { 0 < length forms.now }
     requires numbers { AreNumbers forms.now (length bytes.now) (length to.old) }
+    ensures refused { result ≡ None → RefusesRow forms.now bytes.now }
     ensures row { (charset : Charset) → IfSome result
         (λ run. RunsForms charset forms.now 0 true bytes.now (length to.old) to.new run) }
     ensures whole { IfSome result (λ run. run.cells ≡ length forms.now) }

@@ -1,5 +1,5 @@
-use Rattle.tds_rows.proofs.Words.{◌-◌, ◌≤◌, AreClear, bit}
 use Rattle.tds_rows.proofs.nbc.clear_end.Given as goal
+use Rattle.tds_rows.proofs.Words.{◌-◌, ◌≤◌, AreClear, bit}
 
 abbrev pub invariant-loop-at : goal.invariant-loop-at
 invariant-loop-at l = record { least : l.fn.from ≤ l.at; most : l.at ≤ l.fn.count; clear : AreClear (bit l.fn.bitmap) l.fn.from l.at }

@@ -1,5 +1,5 @@
-use Rattle.tds_rows.proofs.Words.{common_steps, arith}
 use Rattle.tds_rows.proofs.nbc.is_null.Goals as goal
+use Rattle.tds_rows.proofs.Words.{common_steps, arith}
 
 pub returns : goal.returns
 returns c = grind (arith, common_steps)

@@ -1,10 +1,11 @@
-use Rattle.tds_rows.proofs.Words.{add-zero, inl, ℕ, ◌≡◌, ◌∙◌, ◌-◌, ◌<◌, ◌≤◌, Bool, [], ◌∷◌, refl, sym, ap, length, take, drop, subst, arith, rules}
-use Rattle.tds_rows.proofs.Words.{true, length-take, length-drop, all_after, in_line, null_field, is_last_column, bit}
-use Rattle.tds_rows.proofs.nbc.run_nulls.Goals.{else-loop-to-test, then-loop-to-test+else-ahead-count}
-use Rattle.tds_rows.proofs.nbc.run_nulls.Goals.{then-loop-to-test+then-ahead-count+else-end-ahead+then-cells-eq0}
-use Rattle.tds_rows.proofs.Stretches.{ends_clear, runs_clear, runs_column, runs_more}
-use Rattle.tds_rows.proofs.TableSteps.{last_one, next_any, none_next, takes}
 use Rattle.tds_rows.proofs.nbc.run_nulls.Goals as goal
+use Rattle.tds_rows.proofs.{
+  Words.{add-zero, inl, ℕ, ◌≡◌, ◌∙◌, ◌-◌, ◌<◌, ◌≤◌, Bool, [], ◌∷◌, refl, sym, ap, length, take, drop, subst, arith, rules, true, length-take, length-drop},
+  Words.{all_after, in_line, null_field, is_last_column, bit},
+  nbc.run_nulls.Goals.{else-loop-to-test, then-loop-to-test+else-ahead-count, then-loop-to-test+then-ahead-count+else-end-ahead+then-cells-eq0},
+  Stretches.{ends_clear, runs_clear, runs_column, runs_more},
+  TableSteps.{last_one, next_any, none_next, takes},
+}
 
 -- a column that is NULL by its bit
 pub loop-to-preserved-then-end-ahead : goal.loop-to-preserved-then-end-ahead

@@ -1,5 +1,5 @@
-use Rattle.tds_rows.proofs.Words.{◌-◌, ◌≤◌, List, length, take, Column, AreClear, RunsMarked, bit, IsAhead, Knows}
 use Rattle.tds_rows.proofs.nbc.run_nulls.Given as goal
+use Rattle.tds_rows.proofs.Words.{◌-◌, ◌≤◌, List, length, take, Column, AreClear, RunsMarked, bit, IsAhead, Knows}
 
 abbrev pub invariant-loop-to : goal.invariant-loop-to
 invariant-loop-to l = record {

@@ -1,23 +1,25 @@
-use Rattle.tds_rows.proofs.Words.{[], ◌∷◌, rules, arith, sym, ap, ◌≡◌, ◌∙◌, ◌+◌, ◌-◌, length, take, drop, eq-eqb, length-take, length-drop, all_after}
-use Rattle.tds_rows.proofs.run.run_known.Goals.{in_default+then-not-row_follows, in-Some+then-run-eq0}
-use borrow.Rule.Slice.PartMut.{post_of, put_mid, same_len_mid}
-use Rattle.tds_rows.proofs.RunSteps.{made_same}
-use Rattle.tds_rows.proofs.TableForms.{first_left, forms_between}
-use Rattle.tds_rows.proofs.TableRuns.{row_begun, rows_begin, rows_further, rows_kept, rows_more}
-use Rattle.tds_rows.proofs.TableSteps.{none_next}
 use Rattle.tds_rows.proofs.run.run_known.Goals as goal
+use Rattle.tds_rows.proofs.{
+  Words.{[], ◌∷◌, rules, arith, sym, ap, ◌≡◌, ◌∙◌, ◌+◌, ◌-◌, length, take, drop, eq-eqb, length-take, length-drop, all_after},
+  run.run_known.Goals.{in_default+then-not-row_follows, in-Some+then-run-eq0},
+  RunSteps.made_same,
+  TableForms.{first_left, forms_between},
+  TableRuns.{row_begun, rows_begin, rows_further, rows_kept, rows_more},
+  TableSteps.none_next,
+}
+use borrow.Rule.Slice.PartMut.{post_of, put_mid, same_len_mid}
 
 pub loop-forms-init : goal.loop-forms-init
-loop-forms-init c = rows_begin
+loop-forms-init g c = rows_begin
 
 pub loop-forms-preserved-in_default : goal.loop-forms-preserved-in_default
-loop-forms-preserved-in_default c =
+loop-forms-preserved-in_default g c =
     let whole = c.run_whole-whole in
-    row_begun c.requires.1 c.in_default.ensures.ahead (c.row_follows.ensures.begins (search rules), c.rewind.ensures.first)
+    row_begun c.requires.known.1 c.in_default.ensures.ahead (c.row_follows.ensures.begins (search rules), c.rewind.ensures.first)
     c.rewind.ensures.ahead (rows_further whole.new.to _ whole.ensures.ahead c.loop-forms.invariant whole.ensures.rows)
 
 pub loop-forms-preserved : goal.loop-forms-preserved
-loop-forms-preserved c =
+loop-forms-preserved g c =
     let whole = c.run_whole-whole in
     let run = c.run_forms-run in
     let some = run.ensures.within.some (omega (arith, c.if-run-eq0.false)) in
@@ -27,7 +29,7 @@ loop-forms-preserved c =
     (rows_further whole.new.to _ whole.ensures.ahead c.loop-forms.invariant whole.ensures.rows)
 
 pub returns-clause-ends : goal.returns-clause-ends
-returns-clause-ends c = λ columns column left knows ahead step.
+returns-clause-ends g c = λ columns column left knows ahead step.
     let l = c.loop-forms in
     let whole = c.run_whole-whole in
     let bytes = c.args.bytes.now in
@@ -46,7 +48,7 @@ returns-clause-ends c = λ columns column left knows ahead step.
     ]
 
 pub returns-clause-rows : goal.returns-clause-rows
-returns-clause-rows c =
+returns-clause-rows g c =
     let l = c.loop-forms in
     let whole = c.run_whole-whole in
     let made = l.made + whole.result.made in

@@ -1,10 +1,6 @@
-use Rattle.tds_rows.proofs.Words.{ℕ, subst, length-take, length-drop, FormsWritten, refl, inr, true, arith, rules, sym, ◌∙◌, ◌≡◌, ◌+◌, ◌-◌, ◌≤◌, length, take, drop, eq-eqb, Ahead, Column, IsAhead, Knows}
-use Rattle.tds_rows.proofs.run.run_numbers.Goals.{else-loop-row-test, then-loop-row-test+in_default, then-loop-row-test+in-Some+then-not-row_follows}
-use Rattle.tds_rows.proofs.RunSteps.{made_same}
-use Rattle.tds_rows.proofs.TableForms.{forms_between, known_ahead}
-use Rattle.tds_rows.proofs.TableRuns.{row_begun, rows_begin, rows_kept, rows_more}
-use Rattle.tds_rows.proofs.TableSteps.{after_known}
 use Rattle.tds_rows.proofs.run.run_numbers.Goals as goal
+use Rattle.tds_rows.specs.FormRuns.{IsLastRow}
+use Rattle.tds_rows.proofs.{Words.{false≢true, inl, ap, all_after, drop-drop, BeginsRow, ℕ, subst, length-take, length-drop, FormsWritten, refl, inr, true, arith, rules, sym, ◌≡◌}, Words.{◌+◌, ◌-◌, length, take, drop, eq-eqb, Ahead}, run.run_numbers.Goals.{else-loop-row-test, then-loop-row-test+in_default, then-loop-row-test+in-Some+then-not-row_follows}, FormSteps.numbers_few, RunSteps.made_same, TableForms.{forms_between, known_ahead}, TableRuns.{row_begun, rows_begin, rows_kept, rows_more}, TableSteps.after_known}
 
 pub loop-row-init : goal.loop-row-init
 loop-row-init c = record { same = refl; ran = rows_begin }
@@ -53,4 +49,29 @@ returns-clause-rows c =
       | then-loop-row-test+in_default w ↦ rw w.to-is (rows_kept _ (search (arith, rules)) (made_same _ _ _ l.invariant.ran.made) l.invariant.ran)
       | then-loop-row-test+in-Some+then-not-row_follows w ↦
           rw w.to-is (rows_kept _ (search (arith, rules)) (made_same _ _ _ l.invariant.ran.made) l.invariant.ran)
+    ]
+
+pub returns-clause-ends : goal.returns-clause-ends
+returns-clause-ends c =
+    let l = c.loop-row in
+    let bytes = c.args.bytes.now in
+    let row = c.row-row.ensures.row in
+    let room : length c.args.to.now - l.made ≡ length (take (length l.to - l.made) (drop l.made l.to)) =
+    omega (arith, l.invariant.same, length-take (length l.to - l.made) (drop l.made l.to), length-drop l.made l.to) in
+    elim c.loop-row-test.branch [
+      | else-loop-row-test w ↦ inl (numbers_few (ap length (sym row)) (ap length (sym (all_after bytes l.used))) room
+          (λ x. false≢true (w.loop-row-test.ensures.1 x)))
+      | then-loop-row-test+in_default w ↦ inr (inl (rw (row, all_after bytes l.used) at (w.in_default.ensures.refused refl)))
+      | then-loop-row-test+in-Some+then-not-row_follows w ↦ (let run = w.in-Some.run' in
+          let last : BeginsRow (drop run.used (drop l.used bytes)) → ⊥ =
+          rw (all_after bytes (l.used + run.used), sym (drop-drop run.used l.used bytes)) at (w.row_follows.ensures.other w.if-not-row_follows.true) in
+          let alone : IsLastRow c.row-row.result.now (drop l.used bytes) = record {
+            run = run;
+            whole = w.in-Some.ensures.whole;
+            room = length (take (length l.to - l.made) (drop l.made l.to));
+            text = w.run_row.new.to;
+            row = λ charset. rw (all_after bytes l.used) at (w.in-Some.ensures.row charset);
+            last = last;
+          } in
+          inr (inr (rw row at alone)))
     ]

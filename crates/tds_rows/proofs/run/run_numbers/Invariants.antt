@@ -1,5 +1,5 @@
-use Rattle.tds_rows.proofs.Words.{◌≡◌, ◌-◌, length, RowsRan}
 use Rattle.tds_rows.proofs.run.run_numbers.Given as goal
+use Rattle.tds_rows.proofs.Words.{◌≡◌, ◌-◌, length, RowsRan}
 
 abbrev pub invariant-loop-row : goal.invariant-loop-row
 invariant-loop-row l = record {

@@ -1,8 +1,10 @@
-use Rattle.tds_rows.proofs.Words.{[], ◌∷◌, rules, arith, sym, ap, ◌≡◌, ◌∙◌, ◌-◌, length, take, drop, length-take, length-drop, all_after}
-use Rattle.tds_rows.proofs.run.run_partly_known.Goals.{then-is_end+then-not-row_follows, else-is_end+then-cells-eq0}
-use Rattle.tds_rows.proofs.TableRuns.{row_begun, rows_begin, rows_more}
-use Rattle.tds_rows.proofs.TableSteps.{all_before, at_end, not_end}
 use Rattle.tds_rows.proofs.run.run_partly_known.Goals as goal
+use Rattle.tds_rows.proofs.{
+  Words.{[], ◌∷◌, rules, arith, sym, ap, ◌≡◌, ◌∙◌, ◌-◌, length, take, drop, length-take, length-drop, all_after},
+  run.run_partly_known.Goals.{then-is_end+then-not-row_follows, else-is_end+then-cells-eq0},
+  TableRuns.{row_begun, rows_begin, rows_more},
+  TableSteps.{all_before, at_end, not_end},
+}
 
 pub loop-ahead-init : goal.loop-ahead-init
 loop-ahead-init c = rows_begin

@@ -1,5 +1,5 @@
-use Rattle.tds_rows.proofs.TableRuns.{rows_begin}
 use Rattle.tds_rows.proofs.run.run_whole.Goals as goal
+use Rattle.tds_rows.proofs.TableRuns.{rows_begin}
 
 pub returns-clause-rows : goal.returns-clause-rows
-returns-clause-rows c = rw c.none.ensures rows_begin
+returns-clause-rows g c = rw c.none.ensures rows_begin

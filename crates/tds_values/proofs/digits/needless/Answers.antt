@@ -1,5 +1,5 @@
-use Rattle.tds_values.proofs.ZeroLemmas.{zeros_of}
 use Rattle.tds_values.proofs.digits.needless.Goals as goal
+use Rattle.tds_values.proofs.ZeroLemmas.{zeros_of}
 
 pub returns-clause-few : goal.returns-clause-few
 returns-clause-few c = (zeros_of 7 c.args.n _ c.requires c.word-values.ensures).0

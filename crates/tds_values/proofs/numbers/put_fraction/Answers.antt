@@ -1,5 +1,5 @@
-use Rattle.tds_values.proofs.Words.{◌≤◌, arith, pow-le-pow_right}
 use Rattle.tds_values.proofs.numbers.put_fraction.Goals as goal
+use Rattle.tds_values.proofs.Words.{◌≤◌, arith, pow-le-pow_right}
 
 pub put_end-requires-clause-small : goal.put_end-requires-clause-small
 put_end-requires-clause-small c = let four : c.args.scale ≤ 4 = omega arith in let power = pow-le-pow_right {n = 10} (omega arith) four in grind arith

@@ -1,5 +1,5 @@
-use Rattle.tds_values.proofs.Words.{rules}
 use Rattle.tds_values.proofs.scalar.read_scalar.Goals as goal
+use Rattle.tds_values.proofs.Words.{rules}
 
 pub returns-then-bytes-gt17 : goal.returns-then-bytes-gt17
 returns-then-bytes-gt17 c = search rules

@@ -1,7 +1,5 @@
-use Rattle.tds_values.proofs.Words.{length, ap, arith, common_steps}
-use Rattle.tds_values.proofs.TextLengths.{length-whole, length-last_digits}
-use Rattle.tds_values.proofs.WideDigits.{fraction_part, whole_part}
 use Rattle.tds_values.proofs.wide.put_wide_decimal.Goals as goal
+use Rattle.tds_values.proofs.{Words.{length, ap, arith, common_steps}, TextLengths.{length-whole, length-last_digits}, WideDigits.{fraction_part, whole_part}}
 
 pub returns-then-scale-eq0-clause-written : goal.returns-then-scale-eq0-clause-written
 returns-then-scale-eq0-clause-written c = grind (arith, common_steps, whole_part)

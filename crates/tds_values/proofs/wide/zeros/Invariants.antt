@@ -1,5 +1,5 @@
-use Rattle.{tds_values.{proofs.Words.{◌≡◌, ◌+◌, ◌-◌, ◌≤◌, take, drop}, specs.ScalarText.is_zero}, std.specs.List.prefix_len}
 use Rattle.tds_values.proofs.wide.zeros.Given as goal
+use Rattle.{tds_values.{proofs.Words.{◌≡◌, ◌+◌, ◌-◌, ◌≤◌, take, drop}, specs.ScalarText.is_zero}, std.specs.List.prefix_len}
 
 -- so many are zeros
 abbrev pub invariant-loop-n : goal.invariant-loop-n

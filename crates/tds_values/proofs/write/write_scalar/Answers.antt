@@ -1,5 +1,5 @@
-use Rattle.tds_values.proofs.Words.{arith}
 use Rattle.tds_values.proofs.write.write_scalar.Goals as goal
+use Rattle.tds_values.proofs.Words.{arith}
 
 pub returns-clause-written : goal.returns-clause-written
 returns-clause-written c = grind arith

@@ -1,7 +1,12 @@
-use Rattle.tds_csv.proofs.Words.{append_assoc, arith, drop, length-take, length-take-le, take, take_all}
-use Rattle.tds_csv.proofs.{LaneMasks.first_mask, WideText.{first_added, others_added, split_lanes}}
-use Rattle.tds_csv.specs.Wide.{is_long, is_wide, unit_text, units_text}
 use Rattle.tds_csv.proofs.convert.beyond_ascii.put_mixed.Goals as goal
+use Rattle.tds_csv.{
+  proofs.{
+    Words.{append_assoc, arith, drop, length-take, length-take-le, take, take_all},
+    LaneMasks.first_mask,
+    WideText.{first_added, others_added, split_lanes},
+  },
+  specs.Wide.{is_long, is_wide, unit_text, units_text},
+}
 
 pub returns-then-n-le-HALF-clause-most : goal.returns-then-n-le-HALF-clause-most
 returns-then-n-le-HALF-clause-most c =

@@ -1,6 +1,5 @@
-use Rattle.tds_csv.proofs.Words.{append_assoc, arith, refl, ◌≡◌, ◌+◌}
-use Rattle.tds_csv.proofs.WideText.{both_halves}
 use Rattle.tds_csv.proofs.convert.beyond_ascii.put_triples.Goals as goal
+use Rattle.tds_csv.proofs.{Words.{append_assoc, arith, refl, ◌≡◌, ◌+◌}, WideText.both_halves}
 
 pub returns : goal.returns
 returns c =

@@ -1,9 +1,8 @@
-use Rattle.tds_csv.proofs.Words.{arith, ◌∙◌}
-use Rattle.tds_csv.proofs.LaneMasks.{first_lanes, none_of_first}
-use Rattle.tds_csv.proofs.WideText.{no_half, plain_added}
-use Rattle.tds_csv.specs.Wide.{is_long, is_wide}
-use Rattle.std.proofs.lemmas.Simd.{Each1-weaker}
 use Rattle.tds_csv.proofs.convert.beyond_ascii.put_units.Goals as goal
+use Rattle.{
+  tds_csv.{proofs.{Words.{arith, ◌∙◌}, LaneMasks.{first_lanes, none_of_first}, WideText.{no_half, plain_added}}, specs.Wide.{is_long, is_wide}},
+  std.proofs.lemmas.Simd.Each1-weaker,
+}
 
 pub returns-then-wide-eq0-clause-written : goal.returns-then-wide-eq0-clause-written
 returns-then-wide-eq0-clause-written c = (plain_added c.args.lanes _ _ c.args.n c.fits-lanes.0 c.requires.most (omega (arith, c.requires.room))

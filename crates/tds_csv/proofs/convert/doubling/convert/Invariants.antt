@@ -1,5 +1,5 @@
-use Rattle.tds_csv.proofs.Words.{◌≡◌, ◌*◌, ◌-◌, ◌≤◌, ◌+◌, length, take, doubled}
 use Rattle.tds_csv.proofs.convert.doubling.convert.Given as goal
+use Rattle.tds_csv.proofs.Words.{◌≡◌, ◌*◌, ◌-◌, ◌≤◌, ◌+◌, length, take, doubled}
 
 -- the text so far is that of the bytes so far
 abbrev pub invariant-loop-at : goal.invariant-loop-at

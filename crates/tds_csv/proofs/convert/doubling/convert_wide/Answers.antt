@@ -1,5 +1,5 @@
-use Rattle.tds_csv.proofs.{Words.{take_more, common_steps, arith, rules, doubled}, JoiningLemmas.doubled-append, Singles.text_taken}
 use Rattle.tds_csv.proofs.convert.doubling.convert_wide.Goals as goal
+use Rattle.tds_csv.proofs.{Words.{take_more, common_steps, arith, rules, doubled}, JoiningLemmas.doubled-append, Singles.text_taken}
 
 pub loop-at-preserved : goal.loop-at-preserved
 loop-at-preserved c =

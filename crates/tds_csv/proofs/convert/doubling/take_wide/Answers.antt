@@ -1,7 +1,5 @@
-use Rattle.tds_csv.proofs.Words.{◌∙◌, ◌≡◌, ◌++◌, ◌≤◌, ap, take, arith, chunk, prefix_len, length-chunk, is_unquoted}
-use Rattle.tds_csv.proofs.Masks.{run_most}
-use Rattle.tds_csv.proofs.Unquoted.{unquoted_lanes}
 use Rattle.tds_csv.proofs.convert.doubling.take_wide.Goals as goal
+use Rattle.tds_csv.proofs.{Words.{◌∙◌, ◌≡◌, ◌++◌, ◌≤◌, ap, take, arith, chunk, prefix_len, length-chunk, is_unquoted}, Masks.run_most, Unquoted.unquoted_lanes}
 
 pub put_wide_bytes-requires-clause-lanes : goal.put_wide_bytes-requires-clause-lanes
 put_wide_bytes-requires-clause-lanes c = length-chunk c.args.at 32 c.args.bytes.now c.requires.wide

@@ -1,9 +1,11 @@
-use Rattle.tds_csv.proofs.Words.{rules, ◌+◌, ◌≡◌, ◌*◌, ◌-◌, ◌≤◌, ℕ, List, length, take, drop, arith, length-drop, take-append-drop, append-nil}
-use Rattle.tds_csv.proofs.Words.{take_all, put_mid, post_of, encode_lower, lower_digits, refl}
-use Rattle.tds_csv.proofs.Utf16Steps.{nil_of_length}
-use Rattle.tds_csv.proofs.SingleLaws.{hex-append}
-use Rattle.tds_csv.proofs.Singles.{text_taken}
 use Rattle.tds_csv.proofs.convert.lanes_hex.encode.Goals as goal
+use Rattle.tds_csv.proofs.{
+  Words.{rules, ◌+◌, ◌≡◌, ◌*◌, ◌-◌, ◌≤◌, ℕ, List, length, take, drop, arith, length-drop, take-append-drop, append-nil, take_all, put_mid, post_of},
+  Words.{encode_lower, lower_digits, refl},
+  Utf16Steps.nil_of_length,
+  SingleLaws.hex-append,
+  Singles.text_taken,
+}
 
 pub loop-at-preserved : goal.loop-at-preserved
 loop-at-preserved c =

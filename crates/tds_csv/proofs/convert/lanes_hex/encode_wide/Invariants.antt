@@ -1,5 +1,5 @@
-use Rattle.tds_csv.proofs.Words.{◌≡◌, ◌*◌, ◌-◌, ◌≤◌, length, take, encode_lower}
 use Rattle.tds_csv.proofs.convert.lanes_hex.encode_wide.Given as goal
+use Rattle.tds_csv.proofs.Words.{◌≡◌, ◌*◌, ◌-◌, ◌≤◌, length, take, encode_lower}
 
 -- the digits of the bytes so far stand there
 abbrev pub invariant-loop-at : goal.invariant-loop-at

@@ -1,5 +1,5 @@
-use Rattle.tds_csv.proofs.{Words.{◌∙◌, ◌++◌, ◌%◌, drop, ap, arith, length-drop, drop-drop, encode_utf8}, Utf16Steps.spells_held}
 use Rattle.tds_csv.specs.Utf16 as utf16
+use Rattle.tds_csv.proofs.{Words.{◌∙◌, ◌++◌, ◌%◌, drop, ap, arith, length-drop, drop-drop, encode_utf8}, Utf16Steps.spells_held}
 
 pub returns-in-None-clause-spells : Rattle.tds_csv.proofs.convert.utf16.character_at.Goals.returns-in-None-clause-spells
 returns-in-None-clause-spells c =

@@ -1,5 +1,5 @@
-use Rattle.tds_csv.proofs.{Words.{arith, rules}, WideText.{lies_itself, units_more}}
 use Rattle.tds_csv.proofs.convert.utf16.convert_eights.Goals as goal
+use Rattle.tds_csv.proofs.{Words.{arith, rules}, WideText.{lies_itself, units_more}}
 
 pub loop-at-preserved : goal.loop-at-preserved
 loop-at-preserved c =

@@ -1,5 +1,5 @@
-use Rattle.tds_csv.proofs.{Words.{arith, rules}, WideText.eight_more}
 use Rattle.tds_csv.proofs.convert.utf16.convert_longs.Goals as goal
+use Rattle.tds_csv.proofs.{Words.{arith, rules}, WideText.eight_more}
 
 pub loop-at-preserved : goal.loop-at-preserved
 loop-at-preserved c =

@@ -1,5 +1,5 @@
-use Rattle.tds_csv.proofs.{Words.{arith}, WideText.units_more}
 use Rattle.tds_csv.proofs.convert.utf16.convert_some.Goals as goal
+use Rattle.tds_csv.proofs.{Words.arith, WideText.units_more}
 
 pub returns-clause-after : goal.returns-clause-after
 returns-clause-after c =

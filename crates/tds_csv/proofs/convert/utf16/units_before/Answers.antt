@@ -1,7 +1,5 @@
-use Rattle.tds_csv.proofs.Words.{arith, length-chunk}
-use Rattle.tds_csv.proofs.{LaneMasks.first_few, WideText.eight_units}
-use Rattle.tds_csv.specs.Wide.{is_half}
 use Rattle.tds_csv.proofs.convert.utf16.units_before.Goals as goal
+use Rattle.tds_csv.{proofs.{Words.{arith, length-chunk}, LaneMasks.first_few, WideText.eight_units}, specs.Wide.is_half}
 
 pub returns : goal.returns
 returns c =

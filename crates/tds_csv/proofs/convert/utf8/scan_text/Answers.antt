@@ -1,8 +1,10 @@
-use Rattle.tds_csv.proofs.Words.{length-drop, common_steps, ◌∙◌, drop, sym, ap, arith, utf8_valid_len-IsUtf8, utf8_error_len}
-use Rattle.tds_csv.proofs.Utf8Pushing.{is_scan}
-use Rattle.tds_csv.proofs.Utf8Test.{none_begins}
-use Rattle.tds_csv.proofs.Utf8Stops.{stops_at}
 use Rattle.tds_csv.proofs.convert.utf8.scan_text.Goals as goal
+use Rattle.tds_csv.proofs.{
+  Words.{length-drop, common_steps, ◌∙◌, drop, sym, ap, arith, utf8_valid_len-IsUtf8, utf8_error_len},
+  Utf8Pushing.is_scan,
+  Utf8Test.none_begins,
+  Utf8Stops.stops_at,
+}
 
 pub returns-in-Ok-clause-text : goal.returns-in-Ok-clause-text
 returns-in-Ok-clause-text c = grind (arith, common_steps, length-drop, utf8_valid_len-IsUtf8)

@@ -1,6 +1,6 @@
-use Rattle.tds_csv.proofs.{Words.{arith, rules}, SingleLaws.windows_1252-append, Singles.text_taken}
 use Rattle.tds_csv.specs.Windows1252 as windows_1252
 use Rattle.tds_csv.proofs.convert.windows_1252.convert.Goals as goal
+use Rattle.tds_csv.proofs.{Words.{arith, rules}, SingleLaws.windows_1252-append, Singles.text_taken}
 
 pub convert_by_hand-made-requires-clause-before : goal.convert_by_hand-made-requires-clause-before
 convert_by_hand-made-requires-clause-before c =

@@ -1,6 +1,6 @@
-use Rattle.tds_csv.proofs.Words.{◌≡◌, ◌+◌, ◌*◌, ◌-◌, ◌≤◌, length, take}
 use Rattle.tds_csv.specs.Windows1252 as windows_1252
 use Rattle.tds_csv.proofs.convert.windows_1252.convert.Given as goal
+use Rattle.tds_csv.proofs.Words.{◌≡◌, ◌+◌, ◌*◌, ◌-◌, ◌≤◌, length, take}
 
 -- the text so far is that of the bytes so far
 abbrev pub invariant-loop-at : goal.invariant-loop-at

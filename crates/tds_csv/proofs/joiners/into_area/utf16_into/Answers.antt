@@ -1,7 +1,9 @@
-use Rattle.tds_csv.proofs.Words.{◌≡◌, ◌∙◌, [], drop, arith, common_steps, length-drop, encode_utf8}
-use Rattle.tds_csv.proofs.Cuts.{added_more, stays_cut, stays_whole}
-use Rattle.tds_csv.proofs.Utf16Steps.{characters_nil, nil_of_length}
 use Rattle.tds_csv.proofs.joiners.into_area.utf16_into.Goals as goal
+use Rattle.tds_csv.proofs.{
+  Words.{◌≡◌, ◌∙◌, [], drop, arith, common_steps, length-drop, encode_utf8},
+  Cuts.{added_more, stays_cut, stays_whole},
+  Utf16Steps.{characters_nil, nil_of_length},
+}
 
 pub returns-in-Err : goal.returns-in-Err
 returns-in-Err c =

@@ -1,5 +1,5 @@
-use Rattle.tds_csv.proofs.{Words.{arith, common_steps, Err, take, ℕ, PutsPiece}, Singles.puts_less}
 use Rattle.tds_csv.proofs.joiners.parts.put_part.Goals as goal
+use Rattle.tds_csv.proofs.{Words.{arith, common_steps, Err, take, ℕ, PutsPiece}, Singles.puts_less}
 
 pub returns-in-Err-clause-puts : goal.returns-in-Err-clause-puts
 returns-in-Err-clause-puts g c =

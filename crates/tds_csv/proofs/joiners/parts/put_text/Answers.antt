@@ -1,5 +1,5 @@
-use Rattle.tds_csv.proofs.{Words.{arith, rules, length}, Singles.{puts_break, puts_more, puts_some}}
 use Rattle.tds_csv.proofs.joiners.parts.put_text.Goals as goal
+use Rattle.tds_csv.proofs.{Words.{arith, rules, length}, Singles.{puts_break, puts_more, puts_some}}
 
 pub returns-in_err-put_chunk : goal.returns-in_err-put_chunk
 returns-in_err-put_chunk g c =

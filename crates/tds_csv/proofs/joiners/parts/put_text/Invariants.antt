@@ -1,5 +1,5 @@
-use Rattle.tds_csv.proofs.Words.{◌-◌, ◌≤◌, Ok, length, take, PutsPiece}
 use Rattle.tds_csv.proofs.joiners.parts.put_text.Given as goal
+use Rattle.tds_csv.proofs.Words.{◌-◌, ◌≤◌, Ok, length, take, PutsPiece}
 
 -- the text of the bytes so far was put
 abbrev pub invariant-loop-taken : goal.invariant-loop-taken

@@ -1,5 +1,5 @@
-use Rattle.tds_csv.proofs.Spares.{kept_breaks, kept_puts}
 use Rattle.tds_csv.proofs.joiners.utf16.put_chunk.Goals as goal
+use Rattle.tds_csv.proofs.Spares.{kept_breaks, kept_puts}
 
 pub returns-in-Err-clause-puts : goal.returns-in-Err-clause-puts
 returns-in-Err-clause-puts g c =

@@ -1,6 +1,6 @@
-use Rattle.tds_csv.proofs.Words.{◌-◌, ◌≤◌, ℕ, List, Ok, length, drop, Leads, PutsPiece}
 use Rattle.tds_csv.specs.Utf16 as utf16
 use Rattle.tds_csv.proofs.joiners.utf16.put_from.Given as goal
+use Rattle.tds_csv.proofs.Words.{◌-◌, ◌≤◌, ℕ, List, Ok, length, drop, Leads, PutsPiece}
 
 -- the text so far was put
 abbrev pub invariant-loop-at : goal.invariant-loop-at

@@ -1,5 +1,4 @@
-use Rattle.tds_csv.proofs.Words.{◌≡◌, ◌∙◌, ◌+◌, ◌++◌, length, take, drop, ap, arith, rules, length-take-le, take-add, Space, held_before}
-use Rattle.tds_csv.proofs.Sinks.{block}
+use Rattle.tds_csv.proofs.{Words.{◌≡◌, ◌∙◌, ◌+◌, ◌++◌, length, take, drop, ap, arith, rules, length-take-le, take-add, Space, held_before}, Sinks.block}
 
 pub returns : Rattle.tds_csv.proofs.sink.Sink.keep.Goals.returns
 returns g c =

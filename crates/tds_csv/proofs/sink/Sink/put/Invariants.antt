@@ -1,5 +1,5 @@
-use Rattle.tds_csv.proofs.Words.{◌-◌, ◌≤◌, Ok, length, take, PutsPiece}
 use Rattle.tds_csv.proofs.sink.Sink.put.Given as goal
+use Rattle.tds_csv.proofs.Words.{◌-◌, ◌≤◌, Ok, length, take, PutsPiece}
 
 abbrev pub invariant-loop-taken : goal.invariant-loop-taken
 invariant-loop-taken g l = record {

@@ -1,5 +1,5 @@
-use Rattle.tds_rows.proofs.CellSteps.{fixed_taken}
 use Rattle.tds_rows.proofs.cell.gathered.gather_fixed.Goals as goal
+use Rattle.tds_rows.proofs.CellSteps.{fixed_taken}
 
 pub returns-clause-cell : goal.returns-clause-cell
 returns-clause-cell g c =

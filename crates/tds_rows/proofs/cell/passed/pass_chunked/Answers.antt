@@ -1,7 +1,7 @@
-use Rattle.tds_rows.proofs.Words.{sym, MatchResult-weaker, passed}
-use Rattle.tds_rows.proofs.PassedCells.{cell_after, stops_after_steps, steps_of}
-use Rattle.tds_rows.proofs.Numbers.{total_none, total_start, total_stops}
 use Rattle.tds_rows.proofs.cell.passed.pass_chunked.Goals as goal
+use Rattle.tds_rows.{
+  proofs.{Words.{sym, MatchResult-weaker, passed}, PassedCells.{cell_after, stops_after_steps, steps_of}, Numbers.{total_none, total_start, total_stops}},
+}
 
 pub returns-in_err-total-clause-cell : goal.returns-in_err-total-clause-cell
 returns-in_err-total-clause-cell g c = λ conversion any.

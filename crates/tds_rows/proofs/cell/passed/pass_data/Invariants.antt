@@ -1,5 +1,5 @@
-use Rattle.tds_rows.proofs.Words.{◌-◌, ◌≤◌, IsGoing, IsOnSame, seen, PassesData}
 use Rattle.tds_rows.proofs.cell.passed.pass_data.Given as goal
+use Rattle.tds_rows.proofs.Words.{◌-◌, ◌≤◌, IsGoing, IsOnSame, seen, PassesData}
 
 abbrev pub invariant-loop-left : goal.invariant-loop-left
 invariant-loop-left g l = record {

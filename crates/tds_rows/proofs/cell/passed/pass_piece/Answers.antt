@@ -1,5 +1,5 @@
-use Rattle.tds_rows.proofs.Words.{take, arith, rules, buffered, seen, Takes-more, length-take-le}
 use Rattle.tds_rows.proofs.cell.passed.pass_piece.Goals as goal
+use Rattle.tds_rows.proofs.Words.{take, arith, rules, buffered, seen, Takes-more, length-take-le}
 
 pub returns-clause-piece : goal.returns-clause-piece
 returns-clause-piece g c =

@@ -1,7 +1,9 @@
-use Rattle.tds_rows.proofs.Words.{◌≡◌, ◌%◌, sym, MatchResult-weaker, passed}
-use Rattle.tds_rows.proofs.PassedCells.{short_cuts, short_passes, short_even, steps_of}
-use Rattle.tds_rows.proofs.Numbers.{short_none, short_start, short_stops}
 use Rattle.tds_rows.proofs.cell.passed.pass_short.Goals as goal
+use Rattle.tds_rows.proofs.{
+  Words.{◌≡◌, ◌%◌, sym, MatchResult-weaker, passed},
+  PassedCells.{short_cuts, short_passes, short_even, steps_of},
+  Numbers.{short_none, short_start, short_stops},
+}
 
 pub returns-in_err-n-clause-cell : goal.returns-in_err-n-clause-cell
 returns-in_err-n-clause-cell g c = λ conversion any.

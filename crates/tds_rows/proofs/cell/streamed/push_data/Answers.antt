@@ -1,5 +1,5 @@
-use Rattle.tds_rows.proofs.{Words.{◌∙◌, arith, refl, rules, passed, between_of}, JoinedPieces.{filled_more, filled_none, filled_stops}}
 use Rattle.tds_rows.proofs.cell.streamed.push_data.Goals as goal
+use Rattle.tds_rows.proofs.{Words.{◌∙◌, arith, refl, rules, passed, between_of}, JoinedPieces.{filled_more, filled_none, filled_stops}}
 
 pub loop-left-init : goal.loop-left-init
 loop-left-init g c = record {

@@ -1,8 +1,9 @@
-use Rattle.tds_rows.proofs.Words.{◌≡◌, ◌<◌, ◌+◌, List, ℕ, BeginsData, Conversion, Suits, conversion_rest, IsOnSameSink, IsWriting, IsGoing, IsOnSame}
-use Rattle.tds_rows.proofs.Words.{failures_of}
-use Rattle.tds_rows.proofs.JoinedPieces.{Filled}
-use Rattle.tds_rows.proofs.Paths.{at_of}
 use Rattle.tds_rows.proofs.cell.streamed.push_data.Given as goal
+use Rattle.tds_rows.proofs.{
+  Words.{◌≡◌, ◌<◌, ◌+◌, List, ℕ, BeginsData, Conversion, Suits, conversion_rest, IsOnSameSink, IsWriting, IsGoing, IsOnSame, failures_of},
+  JoinedPieces.Filled,
+  Paths.at_of,
+}
 
 abbrev pub invariant-loop-left : goal.invariant-loop-left
 invariant-loop-left g l = record {

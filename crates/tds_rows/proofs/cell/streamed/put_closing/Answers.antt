@@ -1,5 +1,5 @@
-use Rattle.tds_rows.proofs.Words.{sym, PutsPiece-trans}
 use Rattle.tds_rows.proofs.cell.streamed.put_closing.Goals as goal
+use Rattle.tds_rows.proofs.Words.{sym, PutsPiece-trans}
 
 pub returns : goal.returns
 returns g c = rw (c.if-not-quoted.false, sym c.write_line_end-made.ensures.text)

@@ -1,5 +1,5 @@
-use Rattle.tds_rows.proofs.JoinedPieces.{end_puts, end_stops, end_whole}
 use Rattle.tds_rows.proofs.cell.streamed.put_end.Goals as goal
+use Rattle.tds_rows.proofs.JoinedPieces.{end_puts, end_stops, end_whole}
 
 pub returns-in-Ok-clause-end : goal.returns-in-Ok-clause-end
 returns-in-Ok-clause-end g c = λ conversion content suits is begun.

@@ -1,5 +1,5 @@
-use Rattle.tds_rows.proofs.Words.{true, false, sym, PutsPiece-trans, opening}
 use Rattle.tds_rows.proofs.cell.streamed.put_opening.Goals as goal
+use Rattle.tds_rows.proofs.Words.{true, false, sym, PutsPiece-trans, opening}
 
 pub returns-then-quoted : goal.returns-then-quoted
 returns-then-quoted g c = rw (c.if-quoted.true, sym (c.write_comma-made.ensures.text (opening true)))

@@ -1,8 +1,10 @@
-use Rattle.tds_rows.proofs.Words.{◌∙◌, [], append-nil, refl, passed, MatchResult-weaker, total_fault}
-use Rattle.tds_rows.proofs.Numbers.{length_blames, read_stops, total_blames, total_none, total_start, total_stops}
-use Rattle.tds_rows.proofs.LongValues.{total_text, field_puts, next_breaks, next_path, null_puts, reading_stops}
-use Rattle.tds_rows.proofs.Paths.{path_stops}
 use Rattle.tds_rows.proofs.cell.streamed.stream_chunked.Goals as goal
+use Rattle.tds_rows.proofs.{
+  Words.{◌∙◌, [], append-nil, refl, passed, MatchResult-weaker, total_fault},
+  Numbers.{length_blames, read_stops, total_blames, total_none, total_start, total_stops},
+  LongValues.{total_text, field_puts, next_breaks, next_path, null_puts, reading_stops},
+  Paths.path_stops,
+}
 
 pub returns-in_err-total-clause-field : goal.returns-in_err-total-clause-field
 returns-in_err-total-clause-field g c = λ conversion suits.

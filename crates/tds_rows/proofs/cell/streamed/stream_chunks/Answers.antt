@@ -1,9 +1,11 @@
-use Rattle.tds_rows.proofs.Words.{◌≡◌, ◌∙◌, arith, refl, rules, sym, MatchResult-weaker, passed, chunk_length_fault}
-use Rattle.tds_rows.proofs.LongValues.{chunk_path, chunks_end_stops, chunks_whole, streamed_more, streamed_none, reading_stops, rest_none}
-use Rattle.tds_rows.proofs.LongSteps.{chunk_holds, filling_stops}
-use Rattle.tds_rows.proofs.Numbers.{chunk_stops, chunk_blames, length_blames, read_stops, same_failures, stops_after}
-use Rattle.tds_rows.proofs.Paths.{path_stops}
 use Rattle.tds_rows.proofs.cell.streamed.stream_chunks.Goals as goal
+use Rattle.tds_rows.proofs.{
+  Words.{◌≡◌, ◌∙◌, arith, refl, rules, sym, MatchResult-weaker, passed, chunk_length_fault},
+  LongValues.{chunk_path, chunks_end_stops, chunks_whole, streamed_more, streamed_none, reading_stops, rest_none},
+  LongSteps.{chunk_holds, filling_stops},
+  Numbers.{chunk_stops, chunk_blames, length_blames, read_stops, same_failures, stops_after},
+  Paths.path_stops,
+}
 
 pub loop-n-init : goal.loop-n-init
 loop-n-init g c = record {

@@ -1,7 +1,5 @@
-use Rattle.tds_rows.proofs.Words.{◌≡◌, ◌-◌, ◌≤◌, Conversion, Suits, IsOnSameSink, IsWriting, IsGoing, IsOnSame, failures_of}
-use Rattle.tds_rows.proofs.LongValues.{Streamed}
-use Rattle.tds_rows.proofs.Paths.{at_of}
 use Rattle.tds_rows.proofs.cell.streamed.stream_chunks.Given as goal
+use Rattle.tds_rows.proofs.{Words.{◌≡◌, ◌-◌, ◌≤◌, Conversion, Suits, IsOnSameSink, IsWriting, IsGoing, IsOnSame, failures_of}, LongValues.Streamed, Paths.at_of}
 
 abbrev pub invariant-loop-n : goal.invariant-loop-n
 invariant-loop-n g l = record {

@@ -1,5 +1,5 @@
-use Rattle.tds_rows.proofs.{Words.{false, refl, cell, cell_so_far}, Successes.{streaming_succeeds, long_is_read}}
 use Rattle.tds_rows.proofs.cell.streamed.stream_value.Goals as goal
+use Rattle.tds_rows.proofs.{Words.{false, refl, cell, cell_so_far}, Successes.{streaming_succeeds, long_is_read}}
 
 pub returns-clause-succeeds : goal.returns-clause-succeeds
 returns-clause-succeeds g c = λ going writing conversion suits kind value bytes more spelt.

@@ -1,10 +1,11 @@
-use Rattle.tds_rows.proofs.Words.{inl, ◌≡◌, ◌∙◌, ◌+◌, ◌-◌, ℕ, take, drop, sym, ap, subst, arith, rules, is_ok, in_line, cell_start, shape, HasValueAt}
-use Rattle.tds_rows.proofs.Words.{IsValueText, WritesCell}
-use Rattle.tds_rows.proofs.BufferedCells.{null_cell, refused_left, value_cell}
-use Rattle.tds_rows.proofs.LaidOut.{counted_there, fixed_there, value_there}
-use Rattle.tds_rows.proofs.RunSteps.{writes_scalar}
-use Rattle.tds_rows.proofs.cell.whole.write_cell.Goals.{in-Fixed, in-Counted+else-is_empty}
 use Rattle.tds_rows.proofs.cell.whole.write_cell.Goals as goal
+use Rattle.tds_rows.proofs.{
+  Words.{inl, ◌≡◌, ◌∙◌, ◌+◌, ◌-◌, ℕ, take, drop, sym, ap, subst, arith, rules, is_ok, in_line, cell_start, shape, HasValueAt, IsValueText, WritesCell},
+  BufferedCells.{null_cell, refused_left, value_cell},
+  LaidOut.{counted_there, fixed_there, value_there},
+  RunSteps.writes_scalar,
+  cell.whole.write_cell.Goals.{in-Fixed, in-Counted+else-is_empty},
+}
 
 pub returns-then-n-eq0-clause-field : goal.returns-then-n-eq0-clause-field
 returns-then-n-eq0-clause-field c = λ column last.

@@ -1,8 +1,9 @@
-use Rattle.tds_rows.proofs.Words.{Ok, answered, ◌≡◌, ◌∙◌, ◌+◌, ◌-◌, take, drop, length, sym, ap, arith, length-drop, length-take-le, in_line}
-use Rattle.tds_rows.proofs.Words.{IsValueText}
-use Rattle.tds_rows.proofs.BufferedCells.{int4_reads, value_cell}
-use Rattle.tds_rows.proofs.RunSteps.{writes_scalar}
 use Rattle.tds_rows.proofs.cell.whole.write_int4_at.Goals as goal
+use Rattle.tds_rows.proofs.{
+  Words.{Ok, answered, ◌≡◌, ◌∙◌, ◌+◌, ◌-◌, take, drop, length, sym, ap, arith, length-drop, length-take-le, in_line, IsValueText},
+  BufferedCells.{int4_reads, value_cell},
+  RunSteps.writes_scalar,
+}
 
 pub returns-clause-field : goal.returns-clause-field
 returns-clause-field c = λ charset column last.

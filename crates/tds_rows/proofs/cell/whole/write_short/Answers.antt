@@ -1,7 +1,8 @@
-use Rattle.tds_rows.proofs.Words.{◌≡◌, ◌∙◌, ◌-◌, length, take, drop, sym, ap, arith, rules, true, take_rest, Wide, Short, is_fit, long_field}
-use Rattle.tds_rows.proofs.Words.{conversion_of, in_line, stated_length}
-use Rattle.tds_rows.proofs.ShortCells.{short_null, short_value}
 use Rattle.tds_rows.proofs.cell.whole.write_short.Goals as goal
+use Rattle.tds_rows.proofs.{
+  Words.{◌≡◌, ◌∙◌, ◌-◌, length, take, drop, sym, ap, arith, rules, true, take_rest, Wide, Short, is_fit, long_field, conversion_of, in_line, stated_length},
+  ShortCells.{short_null, short_value},
+}
 
 pub returns-then-n-clause-field : goal.returns-then-n-clause-field
 returns-then-n-clause-field c = λ column last.

@@ -1,8 +1,9 @@
-use Rattle.tds_rows.proofs.Words.{ℕ, ◌<◌, List, length, refl, sym, arith, rules, ◌∙◌, ◌≡◌, ap, ◌++◌, passed, passed_on, Space, LeavesRows}
-use Rattle.tds_rows.proofs.Words.{bitmap_length}
-use Rattle.tds_rows.proofs.NextSteps.{next_nears, next_stops, run_near, leaves_after, stays_after, stays_on}
-use Rattle.tds_rows.proofs.NullSteps.{all_put, bitmap_cut, bitmap_nears, row_ends}
 use Rattle.tds_rows.proofs.rows.Rows.nbc_row.Goals as goal
+use Rattle.tds_rows.proofs.{
+  Words.{ℕ, ◌<◌, List, length, refl, sym, arith, rules, ◌∙◌, ◌≡◌, ap, ◌++◌, passed, passed_on, Space, LeavesRows, bitmap_length},
+  NextSteps.{next_nears, next_stops, run_near, leaves_after, stays_after, stays_on},
+  NullSteps.{all_put, bitmap_cut, bitmap_nears, row_ends},
+}
 
 pub returns-in_err-take_into-clause-row : goal.returns-in_err-take_into-clause-row
 returns-in_err-take_into-clause-row g c = λ columns known.

@@ -1,7 +1,5 @@
-use Rattle.tds_rows.proofs.Words.{◌*◌, ◌≤◌, ◌-◌, List, length, Column, StaysInRow, bit, nbc_row_start, Knows, KnowsSome}
-use Rattle.tds_rows.proofs.NextSteps.{NearsHere}
-use Rattle.tds_rows.proofs.Paths.{here}
 use Rattle.tds_rows.proofs.rows.Rows.nbc_row.Given as goal
+use Rattle.tds_rows.proofs.{Words.{◌*◌, ◌≤◌, ◌-◌, List, length, Column, StaysInRow, bit, nbc_row_start, Knows, KnowsSome}, NextSteps.NearsHere, Paths.here}
 
 abbrev pub invariant-loop-form : goal.invariant-loop-form
 invariant-loop-form g l = record {

@@ -1,7 +1,5 @@
-use Rattle.tds_rows.proofs.Words.{◌≡◌, ◌+◌, ◌-◌, ◌≤◌, List, Column, StaysInRow, NbcRow, nbc_row_start, Knows, KnowsSome}
-use Rattle.tds_rows.proofs.NextSteps.{RowsAt}
-use Rattle.tds_rows.proofs.Paths.{here}
 use Rattle.tds_rows.proofs.rows.Rows.nbc_rows.Given as goal
+use Rattle.tds_rows.proofs.{Words.{◌≡◌, ◌+◌, ◌-◌, ◌≤◌, List, Column, StaysInRow, NbcRow, nbc_row_start, Knows, KnowsSome}, NextSteps.RowsAt, Paths.here}
 
 abbrev pub invariant-loop-ended : goal.invariant-loop-ended
 invariant-loop-ended g l = record {

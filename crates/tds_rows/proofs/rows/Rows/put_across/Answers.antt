@@ -1,8 +1,9 @@
-use Rattle.tds_rows.proofs.Words.{◌≡◌, ap, ◌+◌, ◌≤◌, length, take, arith, rules, length-take, buffered, seen, Takes-more}
-use Rattle.tds_rows.proofs.Words.{passed}
-use Rattle.tds_rows.proofs.Paths.{at_of, here}
-use Rattle.tds_rows.proofs.TableRuns.{marked_in_rows, run_breaks, runs_rows}
 use Rattle.tds_rows.proofs.rows.Rows.put_across.Goals as goal
+use Rattle.tds_rows.proofs.{
+  Words.{◌≡◌, ap, ◌+◌, ◌≤◌, length, take, arith, rules, length-take, buffered, seen, Takes-more, passed},
+  Paths.{at_of, here},
+  TableRuns.{marked_in_rows, run_breaks, runs_rows},
+}
 
 pub returns-in_err-put-clause-run : goal.returns-in_err-put-clause-run
 returns-in_err-put-clause-run g c =

@@ -1,5 +1,5 @@
-use Rattle.tds_rows.proofs.{Words.{◌≡◌, ◌∙◌, ap, sym, long_start, cell_start, shape, shape_of_layout, conversion_of, Chunked}, TableSteps.last_one}
 use Rattle.tds_rows.proofs.rows.Rows.put_cell.Goals as goal
+use Rattle.tds_rows.proofs.{Words.{◌≡◌, ◌∙◌, ap, sym, long_start, cell_start, shape, shape_of_layout, conversion_of, Chunked}, TableSteps.last_one}
 
 -- a value in chunks is that of its kind
 pub returns-in-Chunked-clause-cell : goal.returns-in-Chunked-clause-cell

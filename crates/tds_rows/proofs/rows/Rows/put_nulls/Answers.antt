@@ -1,7 +1,9 @@
-use Rattle.tds_rows.proofs.Words.{◌≡◌, ◌∙◌, ap, sym, drop, ◌-◌, ◌+◌, ◌≤◌, length, take, arith, rules, length-take, drop-drop, buffered, held}
-use Rattle.tds_rows.proofs.BufferedCells.{kept_text}
-use Rattle.tds_rows.proofs.NextSteps.{all_waits}
 use Rattle.tds_rows.proofs.rows.Rows.put_nulls.Goals as goal
+use Rattle.tds_rows.proofs.{
+  Words.{◌≡◌, ◌∙◌, ap, sym, drop, ◌-◌, ◌+◌, ◌≤◌, length, take, arith, rules, length-take, drop-drop, buffered, held},
+  BufferedCells.kept_text,
+  NextSteps.all_waits,
+}
 
 pub returns-clause-ends : goal.returns-clause-ends
 returns-clause-ends g c =

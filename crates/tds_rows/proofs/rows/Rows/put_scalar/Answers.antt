@@ -1,7 +1,9 @@
-use Rattle.tds_rows.proofs.Words.{◌≡◌, ◌∙◌, ◌+◌, ◌<◌, ◌≤◌, ap, length, sym, take, arith, rules, length-take, buffered, seen, Takes-more}
-use Rattle.tds_rows.proofs.RunSteps.{put_whole}
-use Rattle.tds_rows.proofs.TableSteps.{last_one}
 use Rattle.tds_rows.proofs.rows.Rows.put_scalar.Goals as goal
+use Rattle.tds_rows.proofs.{
+  Words.{◌≡◌, ◌∙◌, ◌+◌, ◌<◌, ◌≤◌, ap, length, sym, take, arith, rules, length-take, buffered, seen, Takes-more},
+  RunSteps.put_whole,
+  TableSteps.last_one,
+}
 
 pub returns-in-Some-clause-cell : goal.returns-in-Some-clause-cell
 returns-in-Some-clause-cell g c = λ last next.

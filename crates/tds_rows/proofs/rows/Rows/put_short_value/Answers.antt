@@ -1,8 +1,10 @@
-use Rattle.tds_rows.proofs.Words.{◌≡◌, ◌∙◌, ◌+◌, ◌<◌, ◌≤◌, ap, length, sym, take, arith, rules, length-take, buffered, seen, Takes-more, long_start}
-use Rattle.tds_rows.proofs.Words.{cell_start, shape, shape_of_layout, conversion_of, Short}
-use Rattle.tds_rows.proofs.RunSteps.{put_whole}
-use Rattle.tds_rows.proofs.TableSteps.{last_one}
 use Rattle.tds_rows.proofs.rows.Rows.put_short_value.Goals as goal
+use Rattle.tds_rows.proofs.{
+  Words.{◌≡◌, ◌∙◌, ◌+◌, ◌<◌, ◌≤◌, ap, length, sym, take, arith, rules, length-take, buffered, seen, Takes-more, long_start, cell_start, shape, shape_of_layout},
+  Words.{conversion_of, Short},
+  RunSteps.put_whole,
+  TableSteps.last_one,
+}
 
 pub returns-in-Some-clause-cell : goal.returns-in-Some-clause-cell
 returns-in-Some-clause-cell g c = λ last next.

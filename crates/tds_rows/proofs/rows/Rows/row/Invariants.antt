@@ -1,5 +1,5 @@
-use Rattle.tds_rows.proofs.{Words.{◌-◌, List, drop, Column, row_start, StaysInRow, IsAhead, Knows}, NullSteps.Reads, RowSteps.coming, Paths.here}
 use Rattle.tds_rows.proofs.rows.Rows.row.Given as goal
+use Rattle.tds_rows.proofs.{Words.{◌-◌, List, drop, Column, row_start, StaysInRow, IsAhead, Knows}, NullSteps.Reads, RowSteps.coming, Paths.here}
 
 abbrev pub invariant-loop-form : goal.invariant-loop-form
 invariant-loop-form g l = record {

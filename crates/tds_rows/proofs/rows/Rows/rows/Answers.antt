@@ -1,10 +1,11 @@
-use Rattle.tds_rows.proofs.Words.{◌∙◌, ◌+◌, ◌<◌, [], Err, List, Ok, drop, false, refl, sym, ap, arith, passed, Column, PlainRow, Knows}
-use Rattle.tds_rows.proofs.rows.Rows.rows.Given.{Over}
-use Rattle.tds_rows.proofs.NextSteps.{RowsHere, rowing_cell, rowing_breaks, rowing_stop, rows_first, rows_ran, rows_token, rows_whole, cell_read, stays, stays_after}
-use Rattle.tds_rows.proofs.NextSteps.{stays_on}
-use Rattle.tds_rows.proofs.RowSteps.{none_ahead, cell_some}
-use Rattle.tds_rows.proofs.Paths.{here}
 use Rattle.tds_rows.proofs.rows.Rows.rows.Goals as goal
+use Rattle.tds_rows.proofs.{
+  Words.{◌∙◌, ◌+◌, ◌<◌, [], Err, List, Ok, drop, false, refl, sym, ap, arith, passed, Column, PlainRow, Knows},
+  rows.Rows.rows.Given.Over,
+  NextSteps.{RowsHere, rowing_cell, rowing_breaks, rowing_stop, rows_first, rows_ran, rows_token, rows_whole, cell_read, stays, stays_after, stays_on},
+  RowSteps.{none_ahead, cell_some},
+  Paths.here,
+}
 
 pub loop-run-init : goal.loop-run-init
 loop-run-init g c =

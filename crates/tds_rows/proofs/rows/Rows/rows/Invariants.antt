@@ -1,5 +1,5 @@
-use Rattle.tds_rows.proofs.{Words.{◌+◌, ◌-◌, ◌≤◌, List, Column, StaysInRow, Knows, KnowsSome}, NextSteps.RowsHere, Paths.here}
 use Rattle.tds_rows.proofs.rows.Rows.rows.Given as goal
+use Rattle.tds_rows.proofs.{Words.{◌+◌, ◌-◌, ◌≤◌, List, Column, StaysInRow, Knows, KnowsSome}, NextSteps.RowsHere, Paths.here}
 
 abbrev pub invariant-loop-run : goal.invariant-loop-run
 invariant-loop-run g l = record {

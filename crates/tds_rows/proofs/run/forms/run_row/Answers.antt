@@ -1,7 +1,5 @@
-use Rattle.tds_values.specs.declared.charset.Charset.TheVariants.{Windows1252}
-use Rattle.tds_rows.proofs.Words.{◌<◌, ◌∙◌, ◌-◌, ◌++◌, ◌≡◌, ap, sym, take, length, arith, rules, eq-eqb, end_after}
-use Rattle.tds_rows.proofs.FormSteps.{fields_run}
 use Rattle.tds_rows.proofs.run.forms.run_row.Goals as goal
+use Rattle.{tds_values.specs.declared.charset.Charset.TheVariants.Windows1252, tds_rows.proofs.{Words.{◌∙◌, ◌-◌, ◌++◌, ◌≡◌, ap, sym, take, length, arith, rules, eq-eqb, end_after}, FormSteps.fields_run}}
 
 pub overflow_sub-run : goal.overflow_sub-run
 overflow_sub-run c =
@@ -28,3 +26,13 @@ returns-clause-row c = λ charset.
 
 pub returns-clause-within : goal.returns-clause-within
 returns-clause-within c = (returns-clause-row c Windows1252).within
+
+pub returns-then-run-forms-clause-refused : goal.returns-then-run-forms-clause-refused
+returns-then-run-forms-clause-refused c = λ _.
+    let run = c.write_numbers-run in
+    record {
+      run = run.result;
+      few = c.if-run-forms.true;
+      fields = λ charset. let x = (run.ensures.fields charset).fields in (x.0, x.1);
+      next = run.ensures.ends c.if-run-forms.true;
+    }

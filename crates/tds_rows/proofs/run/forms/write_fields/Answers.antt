@@ -1,6 +1,5 @@
-use Rattle.tds_rows.proofs.Words.{◌≡◌, ◌∙◌, ◌-◌, ◌+◌, ◌≤◌, ℕ, length, drop, get_or, all_after, ap, subst, sym, arith, rules, FieldsWritten}
-use Rattle.tds_rows.proofs.FormSteps.{FieldsAt, fields_more, fields_step, left_after}
 use Rattle.tds_rows.proofs.run.forms.write_fields.Goals as goal
+use Rattle.tds_rows.proofs.{Words.{◌≡◌, ◌∙◌, ◌-◌, ℕ, length, drop, get_or, all_after, ap, sym, arith, rules}, FormSteps.{fields_more, fields_step, left_after}}
 
 pub loop-cells-preserved : goal.loop-cells-preserved
 loop-cells-preserved c =

@@ -1,8 +1,6 @@
-use Rattle.tds_rows.proofs.Words.{inr, ◌≡◌, ◌∙◌, ◌+◌, ◌-◌, ◌≤◌, ℕ, List, length, take, drop, get_or, refl, ap, arith, rules}
-use Rattle.tds_rows.proofs.Words.{length-take, length-drop, all_after, Form}
-use Rattle.tds_rows.proofs.FormSteps.{bytes_step, fields_more, fields_step, left_less, room_step}
-use Rattle.tds_rows.proofs.RunSteps.{made_same}
 use Rattle.tds_rows.proofs.run.forms.write_numbers.Goals as goal
+use Rattle.tds_rows.proofs.{Words.{◌≡◌, ◌∙◌, ◌+◌, ◌-◌, length, take, drop, get_or, get_or_default, refl, arith, rules, all_after}, BufferedCells.int4_scalar, FormSteps.{bytes_step, fields_more, fields_step, room_step}, RunSteps.{made_same, scalar_left}}
+use Rattle.tds_values.specs.declared.charset.Charset.TheVariants.{Windows1252}
 
 pub loop-cells-preserved : goal.loop-cells-preserved
 loop-cells-preserved c =
@@ -22,19 +20,16 @@ loop-cells-preserved c =
     }
 
 pub returns-in_default-clause-ends : goal.returns-in_default-clause-ends
-returns-in_default-clause-ends c = λ charset none form others are.
+returns-in_default-clause-ends c = λ few form.
     let l = c.loop-cells in
-    let d = c.index-forms-cells.result in
+    let forms = c.args.forms.now in
     let bytes = c.args.bytes.now in
-    let begun = l.invariant.at.begun none in
-    let there : d ≡ get_or c.args.forms.now l.cells d = search (arith, rules) in
-    let form_is : d ≡ form = there ∙ ap (λ (n : ℕ). get_or c.args.forms.now n d) none ∙ ap (λ (f : List Form). get_or f 0 d) are in
-    let bytes_are : take (length bytes - l.used) (drop l.used bytes) ≡ bytes =
-    all_after bytes l.used ∙ ap (λ (n : ℕ). drop n bytes) begun.0 in
-    let lent = take (length l.to - l.made) (drop l.made l.to) in
-    let room : length c.args.to.now ≤ length lent + 1 =
-    omega (arith, begun.1, l.auto.to, length-take (length l.to - l.made) (drop l.made l.to), length-drop l.made l.to) in
-    inr (left_less _ _ _ _ _ room (rw bytes_are at (rw form_is at (c.in_default.ensures.field charset))))
+    let d = c.index-forms-cells.result in
+    let is : d ≡ get_or forms l.cells d = search (arith, rules) in
+    let there = is ∙ get_or_default forms l.cells d form c.loop-cells-test.true in
+    let number = int4_scalar _ (c.requires.numbers l.cells form c.loop-cells-test.true) in
+    scalar_left Windows1252 (get_or forms l.cells form).kind (drop l.used bytes) (length (take (length l.to - l.made) (drop l.made l.to)) + 1) number
+    (rw (all_after bytes l.used) at (rw there at (c.in_default.ensures.field Windows1252)))
 
 pub returns-in_default-clause-fields : goal.returns-in_default-clause-fields
 returns-in_default-clause-fields c = λ charset.

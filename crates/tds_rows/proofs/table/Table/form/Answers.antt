@@ -1,5 +1,5 @@
-use Rattle.tds_rows.proofs.{Words.{refl, arith, rules}, TableSteps.next_known}
 use Rattle.tds_rows.proofs.table.Table.form.Goals as goal
+use Rattle.tds_rows.proofs.{Words.{refl, arith, rules}, TableSteps.next_known}
 
 pub returns-then-at-self : goal.returns-then-at-self
 returns-then-at-self c = record {

@@ -1,5 +1,5 @@
-use Rattle.tds_rows.proofs.{Words.{arith, rules}, TableForms.known_ahead}
 use Rattle.tds_rows.proofs.table.Table.forms.Goals as goal
+use Rattle.tds_rows.proofs.{Words.{arith, rules}, TableForms.known_ahead}
 
 pub returns : goal.returns
 returns c =

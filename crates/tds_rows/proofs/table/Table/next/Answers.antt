@@ -1,5 +1,5 @@
-use Rattle.tds_rows.proofs.TableSteps.{takes}
 use Rattle.tds_rows.proofs.table.Table.next.Goals as goal
+use Rattle.tds_rows.proofs.TableSteps.{takes}
 
 pub returns-clause-taken : goal.returns-clause-taken
 returns-clause-taken c = λ columns knows ahead.

@@ -1,7 +1,9 @@
-use Rattle.tds_rows.proofs.Words.{◌∙◌, ap, sym, arith, rules, is_int4, IsInt4, IsLaidOut, column_value, columns_left, columns_of}
-use Rattle.tds_rows.proofs.LaidOut.{each_all, each_set, int4_set}
-use Rattle.tds_rows.proofs.TableSteps.{first_more, next_column}
 use Rattle.tds_rows.proofs.table.Table.of.Goals as goal
+use Rattle.tds_rows.proofs.{
+  Words.{◌∙◌, ap, sym, arith, rules, is_int4, IsInt4, IsLaidOut, column_value, columns_left, columns_of},
+  LaidOut.{each_all, each_set, int4_set},
+  TableSteps.{first_more, next_column},
+}
 
 pub loop-known-init : goal.loop-known-init
 loop-known-init c = record {

@@ -1,5 +1,5 @@
-use Rattle.tds_rows.proofs.Words.{◌≡◌, ◌-◌, ◌≤◌, length, take, drop, map, columns_of, columns_left, AreInt4, AreLaidOut, kinds, true}
 use Rattle.tds_rows.proofs.table.Table.of.Given as goal
+use Rattle.tds_rows.proofs.Words.{◌≡◌, ◌-◌, ◌≤◌, length, take, drop, map, columns_of, columns_left, AreInt4, AreLaidOut, kinds, true}
 
 abbrev pub invariant-loop-known : goal.invariant-loop-known
 invariant-loop-known l = record {

@@ -1,5 +1,5 @@
-use Rattle.tds_rows.proofs.{Words.{arith, rules}, LaidOut.int4_part}
 use Rattle.tds_rows.proofs.table.Table.row.Goals as goal
+use Rattle.tds_rows.proofs.{Words.{arith, rules}, LaidOut.int4_part}
 
 pub returns-clause-numbers : goal.returns-clause-numbers
 returns-clause-numbers c = λ only.

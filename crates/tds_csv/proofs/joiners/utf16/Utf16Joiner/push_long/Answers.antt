@@ -1,8 +1,10 @@
-use Rattle.tds_csv.proofs.Words.{common_steps, refl, arith, length-drop, take_all}
-use Rattle.tds_csv.proofs.Leading.{puts_part, puts_whole}
-use Rattle.tds_csv.proofs.Pushings.{pushes_stopped, pushes_taken}
-use Rattle.tds_csv.proofs.Utf16Seam.{Leads-after}
 use Rattle.tds_csv.proofs.joiners.utf16.Utf16Joiner.push_long.Goals as goal
+use Rattle.tds_csv.proofs.{
+  Words.{common_steps, refl, arith, length-drop, take_all},
+  Leading.{puts_part, puts_whole},
+  Pushings.{pushes_stopped, pushes_taken},
+  Utf16Seam.Leads-after,
+}
 
 pub returns-in_err-from : goal.returns-in_err-from
 returns-in_err-from g c = pushes_stopped c.requires.writing.writing tt refl

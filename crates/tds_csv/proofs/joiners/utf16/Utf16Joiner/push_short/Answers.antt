@@ -1,8 +1,8 @@
-use Rattle.tds_csv.proofs.Words.{◌≡◌, ◌∙◌, ◌++◌, sym, ap, arith, common_steps, emit}
-use Rattle.tds_csv.proofs.Pushings.{pushes_stopped, pushes_taken}
-use Rattle.tds_csv.proofs.Utf16Seam.{kept_after}
-use Rattle.tds_csv.specs.Utf16.{rest, text}
 use Rattle.tds_csv.proofs.joiners.utf16.Utf16Joiner.push_short.Goals as goal
+use Rattle.tds_csv.{
+  proofs.{Words.{◌≡◌, ◌∙◌, ◌++◌, sym, ap, arith, common_steps, emit}, Pushings.{pushes_stopped, pushes_taken}, Utf16Seam.kept_after},
+  specs.Utf16.{rest, text},
+}
 
 pub returns-in_err-used : goal.returns-in_err-used
 returns-in_err-used g c = pushes_stopped c.requires.writing.writing tt (grind (arith, common_steps)) c.in_err-used.ensures.puts

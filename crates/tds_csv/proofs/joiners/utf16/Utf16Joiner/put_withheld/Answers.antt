@@ -1,7 +1,7 @@
-use Rattle.tds_csv.proofs.Words.{◌≡◌, ◌∙◌, ◌++◌, [], take, sym, arith, rules, common_steps}
-use Rattle.tds_csv.proofs.Utf16Seam.{none_put, none_leads, some_leads}
-use Rattle.tds_csv.proofs.Utf16Steps.{nil_of_length}
 use Rattle.tds_csv.proofs.joiners.utf16.Utf16Joiner.put_withheld.Goals as goal
+use Rattle.{
+  tds_csv.proofs.{Words.{◌≡◌, ◌∙◌, ◌++◌, [], take, sym, arith, rules, common_steps}, Utf16Seam.{none_put, none_leads, some_leads}, Utf16Steps.nil_of_length},
+}
 
 pub returns-then-is_empty-clause-puts : goal.returns-then-is_empty-clause-puts
 returns-then-is_empty-clause-puts g c =

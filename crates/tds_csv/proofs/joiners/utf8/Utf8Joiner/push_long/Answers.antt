@@ -1,5 +1,5 @@
-use Rattle.tds_csv.proofs.Utf8Pushing.{pushes_long, pushes_passed}
 use Rattle.tds_csv.proofs.joiners.utf8.Utf8Joiner.push_long.Goals as goal
+use Rattle.tds_csv.proofs.Utf8Pushing.{pushes_long, pushes_passed}
 
 pub returns-in_err-push_short : goal.returns-in_err-push_short
 returns-in_err-push_short g c = pushes_passed c.requires.long c.from_residual.ensures.1 c.in_err-push_short.ensures

@@ -1,8 +1,9 @@
-use Rattle.tds_csv.proofs.Words.{◌≡◌, ◌∙◌, ◌-◌, [], length, take, drop, refl, arith, rules, length-drop, take_all, TakesUpTo, held}
-use Rattle.tds_csv.proofs.Pushings.{pushes_taken, pushes_up_to}
-use Rattle.tds_csv.proofs.Utf8Pushing.{rest_begins}
-use Rattle.tds_csv.specs.Utf8.{Begins, rest, text}
 use Rattle.tds_csv.proofs.joiners.utf8.Utf8Joiner.take_text.Goals as goal
+use Rattle.tds_csv.{
+  proofs.{Words.{◌≡◌, ◌∙◌, ◌-◌, [], length, take, drop, refl, arith, rules, length-drop, take_all, TakesUpTo, held}, Pushings.{pushes_taken, pushes_up_to}},
+  proofs.Utf8Pushing.rest_begins,
+  specs.Utf8.{Begins, rest, text},
+}
 
 pub returns-then-scan-bytes : goal.returns-then-scan-bytes
 returns-then-scan-bytes g c =
