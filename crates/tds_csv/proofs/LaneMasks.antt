@@ -1,5 +1,9 @@
 -- Masks of lanes that pass a test.
-use Rattle.tds_csv.proofs.{Words.{◌≡◌, ◌∙◌, ℕ, ◌+◌, ◌*◌, ◌/◌, ◌%◌, ◌^◌, ◌<◌, ◌≤◌, Bool, true, false, zero, suc, List, [], ◌∷◌, map, length, take, drop, refl, sym, ap, ap₂, arith}, Words.{length-map, map-map, mask_l, mask_l-mod, top, Each1, Fits, w16, take-map, length-take, length-take-le, first_set, first_set_mask_l}, Words.{prefix_len, prefix_len-le-length, not}}
+use Rattle.tds_csv.proofs.{
+  Words.{◌≡◌, ◌∙◌, ℕ, ◌+◌, ◌*◌, ◌/◌, ◌%◌, ◌^◌, ◌<◌, ◌≤◌, Bool, true, false, zero, suc, List, [], ◌∷◌, map, length, take, drop, refl, sym, ap, ap₂, arith},
+  Words.{length-map, map-map, mask_l, mask_l-mod, top, Each1, Fits, w16, take-map, length-take, length-take-le, first_set, first_set_mask_l, prefix_len},
+  Words.{prefix_len-le-length, not},
+}
 use Rattle.std.{
   proofs.{
     Math.Nat.{add-mul-mod_self_left, mod-eq_of_lt, mul_assoc, pow-succ'},

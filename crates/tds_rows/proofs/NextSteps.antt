@@ -1,5 +1,17 @@
 -- The next cells of a row, those of a run or one, NULL or not, and rows one after another.
-use Rattle.tds_rows.proofs.{Words.{after_cells, common_steps, arith, ◌≡◌, ◌+◌, ℕ, Bool, true, false, List, ◌∷◌, drop, refl, sym, Err, Ok, Result, Option, ◌==◌, Kind, Stop, seen}, Words.{between_of, Column, held, Rows, Ahead, is_last_column, MarkedPut, CellRead, IsInRow, KindRead, LeavesRows, NextRead, StaysInRow, RowStops, RowPart}, Words.{marked, IsAhead, IsNextKind, Knows, TakesColumn, ◌∙◌, zero, suc, ◌-◌, ◌^◌, ◌≤◌, ◌<◌, [], ◌++◌, length, ap, subst, append_assoc, append-nil, add-zero}, Words.{length-append, Consumes-nil, Coming, before, IsBetween, Seen, Takes, Takes-more, Stays-none, takes_both, Held, Puts, nears_put, Puts_split, Charset}, Words.{Table, PutsMarked, WritesColumn, WritesMarked, WritesNext, Puts-none, RowsRun, Cell, PlainRow, RowToken, WholeRow, next_cell, row, row_so_far}, Words.{token_byte, token_start, ReadsRow, ReadsRows, RowsStop, RowsPut, RunsRows, rows, rows_so_far, rows_start}, NullSteps.{NearsCells, all_put, cell_nears, cell_stops, null_breaks, null_nears, cell_path, marked_stops}, RowSteps.{ends, ends_marked, coming, nulls_ahead, PutsAt, StopsAt}, Paths.{At, here, Path, path_both, path_map, path_none, path_of, streams_of}, TableSteps.{last_one, next_column}, RunSteps.{rows_after, whole_puts, row_among, row_token}}
+use Rattle.tds_rows.proofs.{
+  Words.{after_cells, common_steps, arith, ◌≡◌, ◌+◌, ℕ, Bool, true, false, List, ◌∷◌, drop, refl, sym, Err, Ok, Result, Option, ◌==◌, Kind, Stop, seen},
+  Words.{between_of, Column, held, Rows, Ahead, is_last_column, MarkedPut, CellRead, IsInRow, KindRead, LeavesRows, NextRead, StaysInRow, RowStops, RowPart},
+  Words.{marked, IsAhead, IsNextKind, Knows, TakesColumn, ◌∙◌, zero, suc, ◌-◌, ◌^◌, ◌≤◌, ◌<◌, [], ◌++◌, length, ap, subst, append_assoc, append-nil, add-zero},
+  Words.{length-append, Consumes-nil, Coming, before, IsBetween, Seen, Takes, Takes-more, Stays-none, takes_both, Held, Puts, nears_put, Puts_split, Charset},
+  Words.{Table, PutsMarked, WritesColumn, WritesMarked, WritesNext, Puts-none, RowsRun, Cell, PlainRow, RowToken, WholeRow, next_cell, row, row_so_far},
+  Words.{token_byte, token_start, ReadsRow, ReadsRows, RowsStop, RowsPut, RunsRows, rows, rows_so_far, rows_start},
+  NullSteps.{NearsCells, all_put, cell_nears, cell_stops, null_breaks, null_nears, cell_path, marked_stops},
+  RowSteps.{ends, ends_marked, coming, nulls_ahead, PutsAt, StopsAt},
+  Paths.{At, here, Path, path_both, path_map, path_none, path_of, streams_of},
+  TableSteps.{last_one, next_column},
+  RunSteps.{rows_after, whole_puts, row_among, row_token},
+}
 
 -- text that doesn't fill the block waits
 pub all_waits : (h j : Held) (text : List ℕ) → Puts h j text → length h.waiting + length text < 4096

@@ -1,5 +1,14 @@
 -- Runs of cells over the columns that a table knows: more cells after those that were written.
-use Rattle.tds_rows.proofs.{Words.{arith, true, false, [], ◌∷◌, ◌≡◌, ◌∙◌, ap, all_after, drop_more, refl, BeginsRow, ℕ, ◌+◌, ◌-◌, ◌<◌, ◌≤◌, List, ◌++◌, length, length-append}, Words.{length-drop, length-take, length-take-le, take, drop, get_or, sym, Column, Charset, Ahead, CellRun, CellsWritten, RowsRan, RowsRun, Table, Cell}, Words.{WritesRows, IsAhead, Knows, RunsMarked, ◌^◌, inr, append-nil, Bool, Breaks, Held, IsBetween, Puts, RowStops, RunsRows, Seen, Stop, Takes, Takes-more}, Words.{after_cells, breaks_somewhere, row, row_so_far}, GrowingTexts.row_grows, Paths.At, TableSteps.none_next, RunSteps.{made_more, marked_cells, marked_writes, rows_both, rows_none, rows_onward, used_more}}
+use Rattle.tds_rows.proofs.{
+  Words.{arith, true, false, [], ◌∷◌, ◌≡◌, ◌∙◌, ap, all_after, drop_more, refl, BeginsRow, ℕ, ◌+◌, ◌-◌, ◌<◌, ◌≤◌, List, ◌++◌, length, length-append},
+  Words.{length-drop, length-take, length-take-le, take, drop, get_or, sym, Column, Charset, Ahead, CellRun, CellsWritten, RowsRan, RowsRun, Table, Cell},
+  Words.{WritesRows, IsAhead, Knows, RunsMarked, ◌^◌, inr, append-nil, Bool, Breaks, Held, IsBetween, Puts, RowStops, RunsRows, Seen, Stop, Takes, Takes-more},
+  Words.{after_cells, breaks_somewhere, row, row_so_far},
+  GrowingTexts.row_grows,
+  Paths.At,
+  TableSteps.none_next,
+  RunSteps.{made_more, marked_cells, marked_writes, rows_both, rows_none, rows_onward, used_more},
+}
 
 -- Between two places of rows, over the ends of so many, these bytes are their cells, and this is their text.
 abbrev pub RowsBetween : Table → List Column → Ahead → Ahead → ℕ → List ℕ → List ℕ → Type 0

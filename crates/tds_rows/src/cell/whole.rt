@@ -68,7 +68,7 @@ fn write_short(content: Content, bytes: &[u8], to: &mut [u8]) -> Option<Written>
 }
 
 /// Writes the field of the cell at the front of these bytes. `None` if it isn't whole, is refused or in chunks, or
-//// if there isn't the room that the text of a short value may need. Two bytes of room are left after it.
+/// if there isn't the room that the text of a short value may need. Two bytes of room are left after it.
 #[inline(always)]
 pub(crate) fn write_cell(
     form: &Form,

@@ -1,6 +1,15 @@
 use Rattle.tds_rows.proofs.run.run_numbers.Goals as goal
 use Rattle.tds_rows.specs.FormRuns.{IsLastRow}
-use Rattle.tds_rows.proofs.{Words.{false≢true, inl, ap, all_after, drop-drop, BeginsRow, ℕ, subst, length-take, length-drop, FormsWritten, refl, inr, true, arith, rules, sym, ◌≡◌}, Words.{◌+◌, ◌-◌, length, take, drop, eq-eqb, Ahead}, run.run_numbers.Goals.{else-loop-row-test, then-loop-row-test+in_default, then-loop-row-test+in-Some+then-not-row_follows}, FormSteps.numbers_few, RunSteps.made_same, TableForms.{forms_between, known_ahead}, TableRuns.{row_begun, rows_begin, rows_kept, rows_more}, TableSteps.after_known}
+use Rattle.tds_rows.proofs.{
+  Words.{false≢true, inl, ap, all_after, drop-drop, BeginsRow, ℕ, subst, length-take, length-drop, FormsWritten, refl, inr, true, arith, rules, sym, ◌≡◌, ◌+◌},
+  Words.{◌-◌, length, take, drop, eq-eqb, Ahead},
+  run.run_numbers.Goals.{else-loop-row-test, then-loop-row-test+in_default, then-loop-row-test+in-Some+then-not-row_follows},
+  FormSteps.numbers_few,
+  RunSteps.made_same,
+  TableForms.{forms_between, known_ahead},
+  TableRuns.{row_begun, rows_begin, rows_kept, rows_more},
+  TableSteps.after_known,
+}
 
 pub loop-row-init : goal.loop-row-init
 loop-row-init c = record { same = refl; ran = rows_begin }
@@ -15,7 +24,8 @@ loop-row-preserved c =
     let end : Ahead = record from { column = table.count } in
     let known = c.requires.known in
     let counted : run.cells ≡ table.count = search (arith, rules) in
-    let forms = known_ahead table from table.count table.known table.laid (search (arith, rules)) (omega (arith, known)) (omega (arith, known, c.requires.first)) (omega (arith, known, c.requires.first)) table.few in
+    let forms = known_ahead table from table.count table.known table.laid (search (arith, rules)) (omega (arith, known))
+    (omega (arith, known, c.requires.first)) (omega (arith, known, c.requires.first)) table.few in
     let rest = take (length c.args.bytes.now - c.loop-row.used) (drop c.loop-row.used c.args.bytes.now) in
     let wrote = subst (λ (n : ℕ). FormsWritten table.charset (take table.known (drop n table.forms)) n true rest text run)
     (sym c.requires.first) (rw c.row-row.ensures.row at (row.row table.charset).cells) in

@@ -10,7 +10,8 @@ pub loop-ahead-init : goal.loop-ahead-init
 loop-ahead-init c = rows_begin
 
 pub loop-ahead-preserved-then-is_end : goal.loop-ahead-preserved-then-is_end
-loop-ahead-preserved-then-is_end c = row_begun c.requires.some (all_before _ _ (sym c.if-is_end.true ∙ c.is_end.ensures)) (c.row_follows.ensures.begins (search rules), c.start-ahead.ensures.first)
+loop-ahead-preserved-then-is_end c = row_begun c.requires.some (all_before _ _ (sym c.if-is_end.true ∙ c.is_end.ensures))
+    (c.row_follows.ensures.begins (search rules), c.start-ahead.ensures.first)
     (λ columns knows is. c.start-ahead.ensures.ahead columns knows) c.loop-ahead.invariant
 
 pub loop-ahead-preserved : goal.loop-ahead-preserved

@@ -1,5 +1,10 @@
 use Rattle.tds_rows.proofs.run.forms.write_numbers.Goals as goal
-use Rattle.tds_rows.proofs.{Words.{◌≡◌, ◌∙◌, ◌+◌, ◌-◌, length, take, drop, get_or, get_or_default, refl, arith, rules, all_after}, BufferedCells.int4_scalar, FormSteps.{bytes_step, fields_more, fields_step, room_step}, RunSteps.{made_same, scalar_left}}
+use Rattle.tds_rows.proofs.{
+  Words.{◌≡◌, ◌∙◌, ◌+◌, ◌-◌, length, take, drop, get_or, get_or_default, refl, arith, rules, all_after},
+  BufferedCells.int4_scalar,
+  FormSteps.{bytes_step, fields_more, fields_step, room_step},
+  RunSteps.{made_same, scalar_left},
+}
 use Rattle.tds_values.specs.declared.charset.Charset.TheVariants.{Windows1252}
 
 pub loop-cells-preserved : goal.loop-cells-preserved
@@ -11,7 +16,8 @@ loop-cells-preserved c =
     let form_is : form ≡ get_or forms l.cells form = search (arith, rules) in
     let whole = rw form_is at c.in-Some.ensures.whole in
     record {
-      at = fields_step written.used written.made form l.invariant.at refl (search (arith, rules)) c.loop-cells-test.true (search (arith, rules)) (search (arith, rules)) whole;
+      at = fields_step written.used written.made form l.invariant.at refl (search (arith, rules)) c.loop-cells-test.true
+          (search (arith, rules)) (search (arith, rules)) whole;
       whole = bytes_step _ _ _ _ _ c.loop-cells-test.true c.in-Some.ensures.most.0 l.invariant.whole;
       fits = room_step _ _ _ _ _ _ (search (arith, rules)) c.loop-cells-test.true c.in-Some.ensures.most.1 l.invariant.fits;
       writes = λ charset. fields_more charset forms c.args.column c.args.bytes.now l.to c.write_int4_cell.new.to _ l.cells _ written.used _ l.made
