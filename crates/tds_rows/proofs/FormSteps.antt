@@ -223,9 +223,9 @@ fields_run {charset = charset} {forms = forms} {column = column} {ends = ends} {
 pub bytes_step : (n k used u size : ℕ) → k < n → u ≤ 5 → used + 5 * (n - k) ≤ size → used + u + 5 * (n - (k + 1)) ≤ size
 bytes_step n k used u size some few within = omega arith
 
--- its field, of at most 25, and the comma after it leave room for those of the others
-pub room_step : (n k made m room more : ℕ) → more ≡ room → k < n → m ≤ 25 → made + 26 * (n - k) + 65 ≤ room
-    → made + m + 1 + 26 * (n - (k + 1)) + 65 ≤ more
+-- its field, of at most 11, and the comma after it leave room for those of the others
+pub room_step : (n k made m room more : ℕ) → more ≡ room → k < n → m ≤ 11 → made + 12 * (n - k) + 25 ≤ room
+    → made + m + 1 + 12 * (n - (k + 1)) + 25 ≤ more
 room_step n k made m room more same some few within = omega arith
 
 -- ---- a cell that is left

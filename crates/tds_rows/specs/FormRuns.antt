@@ -60,7 +60,7 @@ pub record WritesFields (charset : Charset) (forms : List Form) (column : ℕ) (
 -- So many cells of whole numbers of four bytes are there with all their bytes, and with room for their fields and the end of the line.
 pub record NumbersWithin (cells bytes room : ℕ) : Type 0 where
   pub whole : 5 * cells ≤ bytes
-  pub fits : 26 * cells + CELL_ROOM ≤ room
+  pub fits : 12 * cells + 25 < room
 
 -- The values of these forms' kinds are whole numbers of four bytes, which are there with their bytes and room.
 pub record AreNumbers (forms : List Form) (bytes room : ℕ) : Type 0 where

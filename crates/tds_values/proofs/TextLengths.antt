@@ -1,7 +1,7 @@
 -- No text has more than 41 bytes.
 use Rattle.tds_values.specs.declared.scalar.ScalarValue.TheVariants as values
 use Rattle.tds_values.proofs.{
-  Words.{length-append, ◌≡◌, ℕ, zero, suc, ◌+◌, ◌-◌, ◌/◌, ◌^◌, ◌<◌, ◌≤◌, refl, arith, ℤ, length, unsigned_abs, decimal, IsTrue, signed_decimal, nat_tests},
+  Words.{ap, length-append, length-take-le, List, take, ◌≡◌, ℕ, zero, suc, ◌+◌, ◌-◌, ◌/◌, ◌^◌, ◌<◌, ◌≤◌, refl, arith, ℤ, length, unsigned_abs, decimal, IsTrue, signed_decimal, nat_tests},
   Words.{pow-add, div_below, length-decimal-le, length-decimal-le_wide, by_index_length, ScalarValue, is_in_range, last_digits, text_of, FitsWidths},
 }
 
@@ -17,6 +17,12 @@ length-whole m scale fits small =
 
 length-integer : (n : ℤ) → unsigned_abs n < 2 ^ 64 → length (signed_decimal n) ≤ 41
 length-integer n h = grind (arith, (length-decimal-le 20))
+
+-- the front of a list is that of a whole number of four bytes
+pub length-int4 : (made : ℕ) (to : List ℕ) (n : ℤ) → take made to ≡ signed_decimal n → made ≤ length to → unsigned_abs n ≤ 2 ^ 31 → made ≤ 11
+length-int4 made to n is within small =
+    let few : length (signed_decimal n) ≤ 11 = grind (arith, (length-decimal-le 10)) in
+    omega (arith, few, length-take-le made to, ap length is)
 
 pub length-text_of : (value : ScalarValue) → IsTrue (is_in_range value) → FitsWidths value → length (text_of value) ≤ 41
 length-text_of (values.Money amount) h fits = grind (arith, (length-whole (unsigned_abs amount) 4), length-append)

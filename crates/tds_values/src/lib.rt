@@ -46,4 +46,4 @@ pub use laws::{one_date, one_type_info, short_texts};
 pub use scalar::{Scalar, ScalarValue, ValueFault, read_scalar};
 pub use text::{LONGEST_TEXT, TEXT_ROOM};
 pub use text_by_kit::{ScalarText, scalar_text, text_room};
-pub use write::{INTEGER_ROOM, write_int4, write_scalar};
+pub use write::{INTEGER_ROOM, LONGEST_INT4, write_int4, write_scalar};

@@ -330,13 +330,16 @@ pub fn write_scalar(kind: &Kind, bytes: &[u8], to: &mut [u8]) -> Result<usize, V
 /// How much room [`write_int4`] needs for a text, in bytes: it writes some bytes after the text too.
 pub const INTEGER_ROOM: usize = 25;
 
+/// How many bytes the text of a whole number in four bytes has at most.
+pub const LONGEST_INT4: usize = 11;
+
 /// Writes the text of a whole number in four bytes, as [`write_scalar`] does of [`Kind::IntN`] with 4.
 #[inline(always)]
 pub fn write_int4(bytes: &[u8], to: &mut [u8]) -> usize
     requires length { length bytes.now ≡ 4 }
     requires room { INTEGER_ROOM ≤ length to.old }
-    ensures most { result ≤ INTEGER_ROOM }
+    ensures most { result ≤ 11 }
     ensures text { IsWritten (read_of (Kind.IntN 4) bytes.now) (Ok result) to.new }
 {
-    put_integer(to, 0, integer_of(4, bytes))
+    put_integer(to, 0, i64::from(LittleEndian::read_i32(bytes)))
 }

@@ -14,7 +14,7 @@ use byteorder::{ByteOrder, LittleEndian};
 use std::io::Write;
 use tds_csv::{Content, NULL_ROOM, Sink, field_room, write_field, write_null};
 use tds_packet::Stop;
-use tds_values::{Charset, INTEGER_ROOM, Kind, write_int4, write_scalar};
+use tds_values::{Charset, INTEGER_ROOM, Kind, LONGEST_INT4, write_int4, write_scalar};
 
 // How many bytes a cell has, and how many its text in its line.
 #[derive(Clone, Copy)]
@@ -114,16 +114,19 @@ const INT4_SIZE: usize = 4;
 /// How many bytes its cell has at most, with a length before it.
 pub(crate) const INT4_CELL: usize = 5;
 
-/// How much room its field wants with the comma after it, in bytes.
-pub(crate) const NUMBER_ROOM: usize = INTEGER_ROOM + 1;
+/// How many bytes its field has at most with the comma after it.
+pub(crate) const NUMBER_FIELD: usize = LONGEST_INT4 + 1;
+
+/// How much room its field wants, in bytes: some bytes after it are written too.
+pub(crate) const NUMBER_ROOM: usize = INTEGER_ROOM;
 
 // Writes the field of a cell whose value is a whole number of four bytes, so far after its front.
 #[inline(always)]
 fn write_int4_at(kind: &Kind, start: usize, bytes: &[u8], to: &mut [u8]) -> Written
     requires there { HasInt4 kind.now start bytes.now }
-    requires room { VALUE_ROOM ≤ length to.old }
+    requires room { NUMBER_ROOM ≤ length to.old }
     ensures used { result.used ≡ start + 4 }
-    ensures made { result.made ≤ 25 }
+    ensures made { result.made ≤ 11 }
     ensures whole { result.used ≡ whole_size kind.now bytes.now }
     ensures field { (charset : Charset) →
         WritesField charset kind.now (take result.used bytes.now) (take result.made to.new) }
@@ -139,8 +142,8 @@ fn write_int4_at(kind: &Kind, start: usize, bytes: &[u8], to: &mut [u8]) -> Writ
 pub(crate) fn write_int4_cell(form: &Form, bytes: &[u8], to: &mut [u8]) -> Option<Written>
     requires number { IsInt4 form.now.kind }
     requires within { 5 ≤ length bytes.now }
-    requires room { VALUE_ROOM ≤ length to.old }
-    ensures most { IfSome result (λ written. (written.used ≤ 5) × (written.made ≤ 25)) }
+    requires room { NUMBER_ROOM ≤ length to.old }
+    ensures most { IfSome result (λ written. (written.used ≤ 5) × (written.made ≤ 11)) }
     ensures whole { IfSome result (λ written. written.used ≡ whole_size form.now.kind bytes.now) }
     ensures field { (charset : Charset) → CellWritten charset form.now.kind bytes.now (length to.old + 1) to.new result }
 {

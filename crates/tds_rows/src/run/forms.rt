@@ -6,7 +6,7 @@ ghost use Rattle.tds_rows.specs.Forms.{AreInt4, AreLaidOut};
 
 use crate::cell::layout::Form;
 use crate::cell::whole::{
-    CELL_ROOM, INT4_CELL, NUMBER_ROOM, VALUE_ROOM, write_cell, write_int4_cell,
+    CELL_ROOM, INT4_CELL, NUMBER_FIELD, NUMBER_ROOM, VALUE_ROOM, write_cell, write_int4_cell,
 };
 use tds_csv::{COMMA, write_comma, write_line_end};
 use tds_values::Charset;
@@ -70,7 +70,7 @@ pub(crate) fn are_within(forms: &[Form], bytes: &[u8], to: &[u8]) -> bool
     requires { length forms.now ≤ 65535 }
     ensures { IsTrue result ↔ NumbersWithin (length forms.now) (length bytes.now) (length to.now) }
 {
-    INT4_CELL * forms.len() <= bytes.len() && NUMBER_ROOM * forms.len() + CELL_ROOM <= to.len()
+    INT4_CELL * forms.len() <= bytes.len() && NUMBER_FIELD * forms.len() + NUMBER_ROOM < to.len()
 }
 
 // Writes the fields of the next cells as `write_fields` does, whose values are whole numbers of four bytes, and which

@@ -5,7 +5,7 @@ abbrev pub invariant-loop-cells : goal.invariant-loop-cells
 invariant-loop-cells l = record {
   at : FieldsAt l.forms l.bytes (length l.to) l.cells l.used l.made;
   whole : l.used + 5 * (length l.forms - l.cells) ≤ length l.bytes;
-  fits : l.made + 26 * (length l.forms - l.cells) + 65 ≤ length l.to;
+  fits : l.made + 12 * (length l.forms - l.cells) + 25 ≤ length l.to;
   writes : (charset : Charset) → FieldsWritten charset l.forms l.column l.bytes l.to (record { cells = l.cells; used = l.used; made = l.made });
 }
 
