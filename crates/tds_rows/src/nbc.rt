@@ -44,11 +44,16 @@ fn clear_end(bitmap: &[u8], from: u16, known: u16, count: u16) -> u16
     requires clear { AreClear (bit bitmap.now) from known }
     ensures { EndsClear (bit bitmap.now) from count result }
 {
-    let mut at = from.max(known);
-    while at < count && !is_null(bitmap, at) {
-        at += 1;
+    let mut at = from.max(known) as usize;
+    while at < count as usize {
+        let bits = bitmap[at / 8] >> (at % 8) as u32;
+        if bits != 0 {
+            at += bits.trailing_zeros() as usize;
+            return (count as usize).min(at) as u16;
+        }
+        at = at / 8 * 8 + 8;
     }
-    at
+    count
 }
 
 // Writes cell after cell of an NBCROW, as far as they are NULL by their bit or whole in these bytes, aren't in
