@@ -7,7 +7,8 @@ ghost use Rattle.tds_columns.specs.View.{columns_of};
 ghost use Rattle.tds_csv.specs.Sinks.{IsReady, IsWriting, LeavesSink};
 ghost use Rattle.tds_packet.specs.Payloads.{IsGoing, IsSound, LeavesPayload, buffered};
 ghost use Rattle.tds_packet.specs.Reads.{KeepsRoom};
-ghost use Rattle.tds_rows.specs.RowReading.{AwaitsBitmap, IsInRow, LeavesRows, NextRead, RowRead, StaysInRow};
+ghost use Rattle.tds_rows.specs.RowReading.{AwaitsBitmap, IsAtCell, IsInMarkedRow, IsInRow, LeavesRows, NextRead, RowRead, StaysInRow};
+ghost use Rattle.tds_rows.specs.RowRuns.{MarkedRead};
 ghost use Rattle.tds_rows.specs.RowSteps.{RowPut, RowsRead, StopsAgain};
 ghost use Rattle.tds_rows.specs.Cells.{Cell};
 ghost use Rattle.tds_rows.specs.CellSteps.{LeavesSmall, longest_cell};
@@ -17,7 +18,7 @@ ghost use Rattle.tds_rows.specs.Tables.{Knows, KnowsSome};
 
 use crate::cell::layout::Form;
 use crate::cell::whole::{CELL_ROOM, put_null};
-use crate::rows::Rows;
+use crate::rows::{BLOCK_END, Rows, SHORT_TEXT};
 use crate::run::{CellRun, run_cells};
 use crate::table::{Ahead, Table};
 use std::io::{Read, Write};
@@ -111,11 +112,10 @@ fn bitmap_size(columns: u16) -> usize
 
 impl<'r, 't, 'p, 's, 'c, R: Read, W: Write> Rows<'r, 't, 'p, 's, 'c, R, W> {
     // Takes the next cells of an NBCROW, as many as are NULL by their bit or whole in the packet, aren't in
-    // chunks and have room, puts their text where it waits, and returns the place after them. It reads nothing and
-    // delivers nothing.
-    fn put_nulls(&mut self, from: Ahead<'c>, bitmap: &[u8]) -> Ahead<'c>
-        requires in_row { IsInRow self.old }
-        requires bitmap { self.old.table.now.count ≤ 8 * length bitmap.now }
+    // chunks and have room in the block, puts their text where it waits, and returns the place after them. It reads
+    // nothing and delivers nothing.
+    fn put_nulls_within(&mut self, from: Ahead<'c>, bitmap: &[u8]) -> Ahead<'c>
+        requires { IsInMarkedRow self.old bitmap.now }
         ensures stays { StaysInRow self.old self.new }
         ensures ends { EndsLeft self.old.table.now (bit bitmap.now) result (buffered self.new.payload.now)
             (room_left self.new.sink.now) }
@@ -136,11 +136,33 @@ impl<'r, 't, 'p, 's, 'c, R: Read, W: Write> Rows<'r, 't, 'p, 's, 'c, R, W> {
         run.ahead
     }
 
+    // Takes the next cells of an NBCROW, as many as are NULL by their bit or whole in the packet, aren't in chunks and
+    // have room in a small text, puts that text over the end of the block, and returns the place after them.
+    fn put_nulls_across(&mut self, from: Ahead<'c>, bitmap: &[u8]) -> Result<Ahead<'c>, Stop>
+        requires { IsInMarkedRow self.old bitmap.now }
+        ensures { MarkedRead R.remaining W.contents (bit bitmap.now) from.entry self.old self.new result }
+    {
+        let mut text = [0u8; SHORT_TEXT];
+        let bytes = self.payload.buffered();
+        let run = run_nulls(self.table, from, bitmap, bytes, &mut text);
+        self.put_made(run, &text)
+    }
+
+    // Takes the next cells of an NBCROW, as many as are NULL by their bit or whole in the packet, aren't in chunks and
+    // have room, puts their text, and returns the place after them.
+    fn put_nulls(&mut self, from: Ahead<'c>, bitmap: &[u8]) -> Result<Ahead<'c>, Stop>
+        requires { IsInMarkedRow self.old bitmap.now }
+        ensures { MarkedRead R.remaining W.contents (bit bitmap.now) from.entry self.old self.new result }
+    {
+        if self.sink.room() <= BLOCK_END {
+            return self.put_nulls_across(from, bitmap);
+        }
+        Ok(self.put_nulls_within(from, bitmap))
+    }
+
     // Puts the next cell: NULL, or the cell that it reads.
     fn put_next(&mut self, at: Ahead<'c>, form: &Form, null: bool) -> Result<(), Stop>
-        requires in_row { IsInRow self.old }
-        requires within { at.column < self.old.table.now.count }
-        requires laid { IsLaidOut self.old.table.now.charset form.now.kind form.now.layout }
+        requires { IsAtCell self.old at form.now }
         ensures leaves { LeavesRows self.old self.new result }
         ensures cell { NextRead R.remaining W.contents at.entry form.now.kind null self.old self.new result }
     {
@@ -163,7 +185,7 @@ impl<'r, 't, 'p, 's, 'c, R: Read, W: Write> Rows<'r, 't, 'p, 's, 'c, R, W> {
         take_into(self.payload, bitmap, bitmap_size(self.table.count()))?;
         let mut ahead = self.table.start();
         loop {
-            let at = self.put_nulls(ahead, bitmap.bytes());
+            let at = self.put_nulls(ahead, bitmap.bytes())?;
             let Some((form, after)) = self.table.next(at) else {
                 return Ok(());
             };

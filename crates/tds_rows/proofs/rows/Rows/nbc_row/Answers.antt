@@ -1,7 +1,7 @@
 use Rattle.tds_rows.proofs.rows.Rows.nbc_row.Goals as goal
 use Rattle.tds_rows.proofs.{
   Words.{ℕ, ◌<◌, List, length, refl, sym, arith, rules, ◌∙◌, ◌≡◌, ap, ◌++◌, passed, passed_on, Space, LeavesRows, bitmap_length},
-  NextSteps.{next_nears, next_stops, run_near, leaves_after, stays_after, stays_on},
+  NextSteps.{next_nears, next_stops, run_near, run_stops, leaves_after, stays_after, stays_on},
   NullSteps.{all_put, bitmap_cut, bitmap_nears, row_ends},
 }
 
@@ -13,8 +13,8 @@ returns-in_err-take_into-clause-row g c = λ columns known.
     (bitmap_cut _ x.part x.own (omega (arith, x.fewer, c.bitmap_size.ensures.value, c.count.ensures, known.counted)) x.ends x.stop_is
     sink.ready.2))
 
-pub loop-form-init : goal.loop-form-init
-loop-form-init g c =
+pub loop-at-init : goal.loop-at-init
+loop-at-init g c =
     let old = c.args.self.now in
     let sink = c.requires.in_row.sink in
     let x = c.in_ok-take_into.ensures.gives in
@@ -44,31 +44,55 @@ loop-form-init g c =
           (c.start-ahead.ensures.ahead columns knows, rw (c.start-ahead.ensures.first, bytes) near);
     }
 
+pub returns-in_err-at-clause-row : goal.returns-in_err-at-clause-row
+returns-in_err-at-clause-row g c = λ columns known.
+    let l = c.loop-at in
+    let knows = rw (sym l.invariant.stays.same.3) at known in
+    let near = l.invariant.reads columns knows in
+    let stops = run_stops g.R.Read.remaining g.W.Write.contents columns _ _ _ c.put_nulls.new.self l.invariant.stays.in_row
+    (rw c.bytes.ensures.value at (c.in_err-at.ensures.cells columns knows near.0)) near in
+    passed _ _ _ _ c.from_residual-in_err-at.ensures.1 (rw l.invariant.stays.same.3 at stops)
+
+pub returns-in_err-at-clause-leaves : goal.returns-in_err-at-clause-leaves
+returns-in_err-at-clause-leaves g c =
+    passed_on _ _ (λ r. LeavesRows c.args.self.now c.put_nulls.new.self r) c.from_residual-in_err-at.ensures.1
+    (leaves_after c.loop-at.invariant.stays c.in_err-at.ensures.leaves)
+
+pub put_next-requires : goal.put_next-requires
+put_next-requires g c =
+    let kept = stays_after c.loop-at.invariant.stays.in_row c.in_ok-at.ensures.leaves in
+    record {
+      in_row = kept.in_row;
+      within = omega (arith, c.in-Some.ensures.further, c.in-Some.ensures.within);
+      laid = c.in-Some.ensures.laid;
+    }
+
 pub returns-in_err-put_next-clause-row : goal.returns-in_err-put_next-clause-row
 returns-in_err-put_next-clause-row g c = λ columns known.
-    let l = c.loop-form in
-    let run = c.put_nulls-at in
-    let kept = run.ensures.stays in
+    let l = c.loop-at in
+    let run = c.in_ok-at.ensures in
+    let kept = stays_after c.loop-at.invariant.stays.in_row run.leaves in
     let knows = rw (sym l.invariant.stays.same.3) at known in
     let there = rw (sym kept.same.3) at knows in
     let near = run_near g.R.Read.remaining g.W.Write.contents columns _ _ _ l.invariant.stays.in_row kept knows
-    (rw c.bytes.ensures.value at run.ensures.cells) (l.invariant.reads columns knows) in
+    (rw c.bytes.ensures.value at run.cells) (l.invariant.reads columns knows) in
     let taken = c.in-Some.ensures.taken columns there near.0 in
-    let is = rw c.bytes-in-loop-form.ensures.value at (sym c.is_null-null.ensures) in
-    let stops = next_stops g.R.Read.remaining g.W.Write.contents run.new.self c.put_next.new.self _ there taken _ _ kept.in_row near _ _ _ is
+    let is = rw c.bytes-in-loop-at.ensures.value at (sym c.is_null-null.ensures) in
+    let stops = next_stops g.R.Read.remaining g.W.Write.contents c.put_nulls.new.self c.put_next.new.self _ there taken _ _ kept.in_row near _ _ _ is
     c.in_err-put_next.ensures.cell in
     passed _ _ _ _ c.from_residual-in_err-put_next.ensures.1 (rw (kept.same.3 ∙ l.invariant.stays.same.3) at stops)
 
 pub returns-in_err-put_next-clause-leaves : goal.returns-in_err-put_next-clause-leaves
 returns-in_err-put_next-clause-leaves g c =
     passed_on _ _ (λ r. LeavesRows c.args.self.now c.put_next.new.self r) c.from_residual-in_err-put_next.ensures.1
-    (leaves_after (stays_on c.loop-form.invariant.stays c.put_nulls-at.ensures.stays) c.in_err-put_next.ensures.leaves)
+    (leaves_after (stays_on c.loop-at.invariant.stays (stays_after c.loop-at.invariant.stays.in_row c.in_ok-at.ensures.leaves))
+    c.in_err-put_next.ensures.leaves)
 
-pub loop-form-preserved : goal.loop-form-preserved
-loop-form-preserved g c =
-    let l = c.loop-form in
-    let run = c.put_nulls-at in
-    let kept = run.ensures.stays in
+pub loop-at-preserved : goal.loop-at-preserved
+loop-at-preserved g c =
+    let l = c.loop-at in
+    let run = c.in_ok-at.ensures in
+    let kept = stays_after c.loop-at.invariant.stays.in_row run.leaves in
     let done = c.in_ok-put_next.ensures in
     let same = done.leaves.same.3 ∙ kept.same.3 in
     record {
@@ -79,20 +103,20 @@ loop-form-preserved g c =
           let there = rw done.leaves.same.3 at known in
           let knows = rw kept.same.3 at there in
           let near = run_near g.R.Read.remaining g.W.Write.contents columns _ _ _ l.invariant.stays.in_row kept knows
-          (rw c.bytes.ensures.value at run.ensures.cells) (l.invariant.reads columns knows) in
+          (rw c.bytes.ensures.value at run.cells) (l.invariant.reads columns knows) in
           let taken = c.in-Some.ensures.taken columns there near.0 in
-          let is = rw c.bytes-in-loop-form.ensures.value at (sym c.is_null-null.ensures) in
-          next_nears g.R.Read.remaining g.W.Write.contents run.new.self c.put_next.new.self _ there taken _ _ kept.in_row near _ _ is done.leaves
+          let is = rw c.bytes-in-loop-at.ensures.value at (sym c.is_null-null.ensures) in
+          next_nears g.R.Read.remaining g.W.Write.contents c.put_nulls.new.self c.put_next.new.self _ there taken _ _ kept.in_row near _ _ is done.leaves
           done.cell;
     }
 
 pub returns-in_default-clause-row : goal.returns-in_default-clause-row
 returns-in_default-clause-row g c = λ columns known.
-    let l = c.loop-form in
-    let run = c.put_nulls-at in
-    let kept = run.ensures.stays in
+    let l = c.loop-at in
+    let run = c.in_ok-at.ensures in
+    let kept = stays_after c.loop-at.invariant.stays.in_row run.leaves in
     let knows = rw (sym l.invariant.stays.same.3) at known in
     let near = run_near g.R.Read.remaining g.W.Write.contents columns _ _ _ l.invariant.stays.in_row kept knows
-    (rw c.bytes.ensures.value at run.ensures.cells) (l.invariant.reads columns knows) in
+    (rw c.bytes.ensures.value at run.cells) (l.invariant.reads columns knows) in
     let none = c.in_default.ensures.taken columns (rw (sym kept.same.3) at knows) near.0 in
     rw (kept.same.3 ∙ l.invariant.stays.same.3) at (row_ends (all_put refl kept.in_row.sink.ready.2 (rw none at near.1)))
