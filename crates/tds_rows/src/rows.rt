@@ -138,6 +138,7 @@ impl<'r, 't, 'p, 's, 'c, R: Read, W: Write> Rows<'r, 't, 'p, 's, 'c, R, W> {
 
     /// Passes over the bytes of a run within a row, and puts its text, which may go over the end of the block. Returns the
     /// place after it.
+    #[inline(always)]
     pub(crate) fn put_made(&mut self, run: CellRun<'c>, text: &[u8]) -> Result<Ahead<'c>, Stop>
         requires in_row { IsInRow self.old }
         requires used { run.used ≤ length (buffered self.old.payload.now) }
