@@ -1,5 +1,5 @@
 // A row with a bitmap of the columns that are NULL, and such rows after one another (MS-TDS, NBCROW).
-ghost use Rattle.std.specs.Prelude.{◌≡◌, ◌-◌, ◌*◌, ◌<◌, ◌≤◌, drop, length, if◌then◌else◌, is_ok, ℕ, ◌+◌, ◌++◌, List, None, false, IfOk};
+ghost use Rattle.std.specs.Prelude.{◌≡◌, ◌-◌, true, ◌*◌, ◌<◌, ◌≤◌, drop, length, if◌then◌else◌, is_ok, ℕ, ◌+◌, ◌++◌, List, None, false, IfOk};
 ghost use Rattle.tds_rows.specs.MarkedRuns.{AreClear, EndsClear, EndsLeft, MarkedWritten, MarkedPut, room_left};
 ghost use Rattle.tds_rows.specs.Rows.{bit, NbcRow, SpellsNbcRow, bitmap_length, longest_bitmap, nbc_row_start};
 ghost use Rattle.tds_columns.specs.Description.{Column};
@@ -20,7 +20,7 @@ ghost use Rattle.tds_rows.specs.Tables.{Knows, KnowsSome};
 use crate::cell::layout::Form;
 use crate::cell::whole::{CELL_ROOM, put_null};
 use crate::rows::{BLOCK_END, Rows, SHORT_TEXT};
-use crate::run::{CellRun, run_cells};
+use crate::run::{CellRun, run_stretch};
 use crate::table::{Ahead, Table};
 use std::io::{Read, Write};
 use tds_columns::{Columns, take_into};
@@ -58,16 +58,16 @@ fn clear_end(bitmap: &[u8], from: u16, known: u16, count: u16) -> u16
     count
 }
 
-// Writes cell after cell of an NBCROW, as far as they are NULL by their bit or whole in these bytes, aren't in
-// chunks, and have room. NULLs are written here.
+// Writes cell after cell of an NBCROW as `run_nulls` does. `KNOWN` says that the table knows all columns.
 #[inline(never)]
-pub(crate) fn run_nulls<'a>(
+fn run_marked<'a, const KNOWN: bool>(
     table: &Table<'a>,
     from: Ahead<'a>,
     bitmap: &[u8],
     bytes: &[u8],
     to: &mut [u8],
 ) -> CellRun<'a>
+    requires known { KNOWN ≡ true → table.now.known ≡ table.now.count }
     requires bitmap { table.now.count ≤ 8 * length bitmap.now }
     ensures used { result.used ≤ length bytes.now }
     ensures made { result.made ≤ length to.old }
@@ -86,7 +86,8 @@ pub(crate) fn run_nulls<'a>(
             table.step(&mut ahead, 1);
             continue;
         }
-        let cells = run_cells(table, ahead, end, &bytes[used..], &mut to[made..]);
+        let (rest, room) = (&bytes[used..], &mut to[made..]);
+        let cells = run_stretch::<KNOWN>(table, ahead, end, rest, room);
         if cells.used == 0 {
             break;
         }
@@ -95,6 +96,29 @@ pub(crate) fn run_nulls<'a>(
         ahead = cells.ahead;
     }
     CellRun { used, made, ahead }
+}
+
+// Writes cell after cell of an NBCROW, as far as they are NULL by their bit or whole in these bytes, aren't in
+// chunks, and have room. NULLs are written here.
+#[inline(always)]
+fn run_nulls<'a>(
+    table: &Table<'a>,
+    from: Ahead<'a>,
+    bitmap: &[u8],
+    bytes: &[u8],
+    to: &mut [u8],
+) -> CellRun<'a>
+    requires bitmap { table.now.count ≤ 8 * length bitmap.now }
+    ensures used { result.used ≤ length bytes.now }
+    ensures made { result.made ≤ length to.old }
+    ensures ends { EndsLeft table.now (bit bitmap.now) result.ahead (drop result.used bytes.now)
+        (length to.old - result.made) }
+    ensures cells { MarkedWritten table.now (bit bitmap.now) from.entry bytes.now to.new result }
+{
+    if table.knows_all() {
+        return run_marked::<true>(table, from, bitmap, bytes, to);
+    }
+    run_marked::<false>(table, from, bitmap, bytes, to)
 }
 
 /// The token byte of an NBCROW (MS-TDS, NBCROW).
