@@ -6,11 +6,13 @@ use Rattle.tds_rows.proofs.{
   Words.{length-append, Consumes-nil, Coming, before, IsBetween, Seen, Takes, Takes-more, Stays-none, takes_both, Held, Puts, nears_put, Puts_split, Charset},
   Words.{Table, PutsMarked, WritesColumn, WritesMarked, WritesNext, Puts-none, RowsRun, Cell, PlainRow, RowToken, WholeRow, next_cell, row, row_so_far},
   Words.{token_byte, token_start, ReadsRow, ReadsRows, RowsStop, RowsPut, RunsRows, rows, rows_so_far, rows_start},
+  Words.{BreaksMarked, Breaks, Breaks_split, inl, inr, Takes-none},
   NullSteps.{NearsCells, all_put, cell_nears, cell_stops, null_breaks, null_nears, cell_path, marked_stops},
   RowSteps.{ends, ends_marked, coming, nulls_ahead, PutsAt, StopsAt},
   Paths.{At, here, Path, path_both, path_map, path_none, path_of, streams_of},
   TableSteps.{last_one, next_column},
-  RunSteps.{rows_after, whole_puts, row_among, row_token},
+  RunSteps.{fills_no_block, rows_after, whole_breaks, whole_puts, row_among, row_token},
+  TableRuns.run_breaks,
 }
 
 -- text that doesn't fill the block waits
@@ -29,23 +31,30 @@ pub record Passes (p q : At) (bytes text : List ℕ) : Type 0 where
   pub delivered : p.held.delivered ≤ 2 ^ 64 - 1
   pub place_is : q.place ≡ p.place + length bytes
 
+-- what was handed out, in two parts
+takes_apart : (a c : Seen) (x y : List ℕ) → Takes a c (x ++ y) 0 → (b : Seen) × Takes a b x 0 × Takes b c y 0 × (IsBetween c → IsBetween b)
+takes_apart a c x y takes =
+    let f : Coming → List ℕ → Coming = λ c l. record { bytes = l; stop = c.stop; rest = c.rest } in (
+      record { left = c.left; future = λ zs. before y _; wire = c.wire; failures = c.failures },
+      (
+        takes.0,
+        (takes.1.0, λ zs. takes.1.1 zs ∙ ap (f (c.future zs)) (append_assoc x y (c.future zs).bytes)),
+        takes.2,
+        takes.3,
+        takes.4,
+      ),
+      ([], (Consumes-nil _, λ zs. refl), sym (add-zero _), (λ j lt. absurd (omega arith)), Stays-none _),
+      λ between. between,
+    )
+
 -- in two parts
 passes_apart : (p q : At) (a b m n : List ℕ) → Passes p q (a ++ b) (m ++ n) → (t : At) × Passes p t a m × Passes t q b n
 passes_apart p q a b m n x =
-    let seen : Seen = record { left = q.seen.left; future = λ zs. before b _; wire = q.seen.wire; failures = q.seen.failures } in
-    let f : Coming → List ℕ → Coming = λ c l. record { bytes = l; stop = c.stop; rest = c.rest } in
-    let h = Puts_split _ _ m n x.few x.puts in
-    let first : Takes p.seen seen a 0 = (
-      x.takes.0,
-      (x.takes.1.0, λ zs. x.takes.1.1 zs ∙ ap (f (q.seen.future zs)) (append_assoc a b (q.seen.future zs).bytes)),
-      x.takes.2,
-      x.takes.3,
-      x.takes.4,
-    ) in
-    let then : Takes seen q.seen b 0 = ([], (Consumes-nil _, λ zs. refl), sym (add-zero _), (λ j lt. absurd (omega arith)), Stays-none _) in (
-      record { seen = seen; place = p.place + length a; held = h.0 },
-      record { takes = first; between = x.between; puts = h.2; few = h.1; delivered = x.delivered; place_is = refl },
-      record { takes = then; between = x.between; puts = h.3; few = x.few; delivered = h.4; place_is = omega (arith, length-append a b) },
+    let t = takes_apart p.seen q.seen a b x.takes in
+    let h = Puts_split _ _ m n x.few x.puts in (
+      record { seen = t.0; place = p.place + length a; held = h.0 },
+      record { takes = t.1; between = t.3 x.between; puts = h.2; few = h.1; delivered = x.delivered; place_is = refl },
+      record { takes = t.2; between = x.between; puts = h.3; few = x.few; delivered = h.4; place_is = omega (arith, length-append a b) },
     )
 
 module _ {charset : Charset} {start : RowPart} {left : List (Column × Bool)} {p q : At} {column : ℕ} where
@@ -120,6 +129,36 @@ module _ (charset : Charset) (start : RowPart) (columns : List Column) (nulls : 
       let z : Near ((from + n) + 1) r = column_nears _ _ r _ _ w.7 t.2 (marked_nears _ n q _ _ _ w.6 t.1 x) in
       subst (λ (k : ℕ). Near k r) (omega arith) z
 
+  -- a write of the text of a column failed, after more was read
+  column_breaks : (at : ℕ) (q : At) (d : Seen) (j : Held) (stop : Stop) (bytes rest text : List ℕ) → WritesColumn charset columns nulls at bytes text
+      → Takes q.seen d (bytes ++ rest) 0 → IsBetween d → length q.held.waiting < 4096 → q.held.delivered ≤ 2 ^ 64 - 1 → Breaks q.held j text stop
+      → Near at q → RowStops charset start p.seen d p.place p.held j true stop
+  column_breaks at q d j stop bytes rest text w takes between few delivered breaks x = go _ w.writes (rw w.next at x)
+    where
+      go : (null : Bool) → WritesNext charset null w.column.kind at (is_last_column w.left) bytes text
+          → NearsCells charset start ((w.column, null) ∷ marked w.left nulls (at + 1)) p q at → RowStops charset start p.seen d p.place p.held j true stop
+      go true v z = null_breaks rest (rw v.0 at takes) between z (rw (v.1, ends_marked w.left nulls (at + 1)) at breaks)
+      go false v z = cell_stops (all_put refl delivered z)
+          (rw (ends_marked w.left nulls (at + 1)) at (whole_breaks {a = q.seen} {b = d} {place = q.place} {h = q.held} {j = j} {stop = stop} charset _ at (is_last_column w.left) rest v takes between few delivered breaks refl))
+
+  -- a write of the text of so many columns failed
+  marked_breaks : (from n : ℕ) (q : At) (d : Seen) (j : Held) (stop : Stop) (bytes rest text : List ℕ)
+      → WritesMarked charset columns nulls from n bytes text → Takes q.seen d (bytes ++ rest) 0 → IsBetween d → length q.held.waiting < 4096
+      → q.held.delivered ≤ 2 ^ 64 - 1 → Breaks q.held j text stop → Near from q → RowStops charset start p.seen d p.place p.held j true stop
+  marked_breaks from zero q d j stop bytes rest text w takes between few delivered breaks x =
+      absurd (fills_no_block q.held j text stop (omega (arith, few, ap length w.1)) breaks)
+  marked_breaks from (suc n) q d j stop bytes rest text (front, back, first, more, joined, text_is, before, last) takes between few delivered breaks x =
+      let read = rw (joined, append_assoc front back rest) at takes in
+      elim (Breaks_split q.held j first more stop (rw text_is at breaks)) [
+        | inl broken ↦ marked_breaks from n q d j stop front (back ++ rest) first before read between few delivered broken x
+        | inr m ↦
+            let t = takes_apart q.seen d front (back ++ rest) read in
+            let there : At = record { seen = t.0; place = q.place + length front; held = m.0 } in
+            let near = marked_nears from n q there front first before
+            (record { takes = t.1; between = t.3 between; puts = m.2; few = m.1; delivered = delivered; place_is = refl }) x in
+            column_breaks (from + n) there d j stop back rest more last t.2 between m.1 m.4 m.3 near
+      ]
+
 -- as many columns more as a run took
 run_nears : {table : Table} {columns : List Column} {nulls : ℕ → Bool} {from to : Ahead} {start : RowPart} {p q r : At}
     → PutsMarked table columns nulls from to q.seen r.seen q.place r.place q.held r.held → IsBetween r.seen → length r.held.waiting < 4096
@@ -142,8 +181,9 @@ stays_on x y = grind arith
 pub stays_after : {R W U : Type 0} {a b : Rows R W} {u : U} → IsInRow a → LeavesRows a b (Ok u) → StaysInRow a b
 stays_after x y = grind arith
 
--- where a call after some steps leaves it
-pub leaves_after : {R W U : Type 0} {a b c : Rows R W} {result : Result U Stop} → StaysInRow a b → LeavesRows b c result → LeavesRows a c result
+-- where a call that stops after some steps leaves it
+pub leaves_after : {R W U V : Type 0} {a b c : Rows R W} {stop : Stop} → StaysInRow a b → LeavesRows {U = U} b c (Err stop)
+    → LeavesRows {U = V} a c (Err stop)
 leaves_after x y = grind arith
 
 -- ---- the next cell
@@ -167,6 +207,16 @@ module _ {R W : Type 0} (remaining : R → Option (List ℕ)) (contents : W → 
         run_nears put (between_of remaining new.payload.now kept.in_row.payload.going) (sink.ready.1 sink.writing)
             x.sink.ready.2 near.1,
       )
+
+  -- a write of their text failed
+  pub run_stops : {old : Rows R W} (new : Rows R W) {from : Ahead} {failed : Bool} {stop : Stop} → IsInRow old
+      → BreaksMarked old.table.now columns nulls from (seen remaining old.payload.now) (seen remaining new.payload.now) (held contents old.sink.now)
+      (held contents new.sink.now) failed stop → NearsHere old from
+      → RowStops old.table.now.charset start p.seen (seen remaining new.payload.now) p.place p.held (held contents new.sink.now) failed stop
+  run_stops {old = old} new {from = from} {stop = stop} x y near =
+      let sink = x.sink in
+      rw y.failed_is (marked_breaks _ start columns nulls p _ y.runs.count (here remaining contents old) _ _ stop y.bytes [] y.text y.runs.writes
+      (rw append-nil y.takes) y.between (sink.ready.1 sink.writing) sink.ready.2 y.breaks near.1)
 
 module _ {R W : Type 0} (remaining : R → Option (List ℕ)) (contents : W → Option (List ℕ)) (old new : Rows R W) {columns : List Column} (nulls : ℕ
     → Bool) {at after : Ahead} {kind : Kind} (knows : Knows old.table.now columns)
@@ -192,7 +242,7 @@ module _ {R W : Type 0} (remaining : R → Option (List ℕ)) (contents : W → 
         kind = taken.kind;
         last = refl;
       } in
-      rw (taken.kind, ends_marked _ nulls (at.column + 1)) at (x _ next)
+      rw (taken.kind, ends_marked _ nulls (at.column + 1)) at (x.cell _ next)
 
   module _ (start : RowPart) (p : At) (in_row : IsInRow old) (before : NearsHere remaining contents columns nulls start p old at) where
     left_here : (null : Bool) → nulls at.column ≡ null
@@ -217,7 +267,8 @@ module _ {R W : Type 0} (remaining : R → Option (List ℕ)) (contents : W → 
         → NextRead {U = U} remaining contents at kind null old new (Err stop)
         → RowStops old.table.now.charset start p.seen (seen remaining new.payload.now) p.place p.held (held contents new.sink.now) new.sink.now.failed
         stop
-    next_stops U stop true is y = rw (y.0, y.1.failed) (null_breaks (left_here _ is) (rw last_is at (y.1.gives in_row.sink.writing)))
+    next_stops U stop true is y = rw (y.0, y.1.failed) (null_breaks [] (Takes-none _ 0) (between_of remaining old.payload.now in_row.payload.going) (left_here _ is)
+        (rw last_is at (y.1.gives in_row.sink.writing)))
     next_stops U stop false is y = cell_stops (all_put refl in_row.sink.ready.2 (left_here _ is)) (cell_read {U = U} (Err stop) before.0 y)
 
 -- ---- rows, one after another
@@ -319,7 +370,7 @@ module _ {charset : Charset} {all : List Column} {p q : At} {column count : ℕ}
       }
 
   -- a run whose write failed
-  pub rowing_breaks : (left : List Column) {d : Seen} {j : Held} {failed : Bool} {stop : Stop} → Rowing charset all (coming left column) p q column count
+  rowing_breaks : (left : List Column) {d : Seen} {j : Held} {failed : Bool} {stop : Stop} → Rowing charset all (coming left column) p q column count
       → ((cells : List Cell) → length cells ≡ column
       → RowStops charset (after_cells charset cells left) q.seen d q.place q.held j failed stop)
       → RowsStop PlainRow charset all p.seen d p.place p.held j failed stop
@@ -353,3 +404,13 @@ rows_ran {columns = columns} {old = old} remaining contents run kept knows put x
     let ran = put columns knows x.0 in
     let there = rowing_run x.1 (λ cells is. ran.1 old.table.now.charset cells refl is) in
     rw kept.same.3 (ran.0, there)
+
+-- a write of its text failed
+pub rows_broke : {R W : Type 0} {columns : List Column} {p : At} {old : Rows R W} {from : Ahead} {count : ℕ} {failed : Bool} {stop : Stop}
+    (remaining : R → Option (List ℕ)) (contents : W → Option (List ℕ)) (new : Rows R W) → IsInRow old
+    → BreaksMarked old.table.now columns (λ k. false) from (seen remaining old.payload.now) (seen remaining new.payload.now) (held contents old.sink.now)
+    (held contents new.sink.now) failed stop → RowsHere remaining contents columns p old from count
+    → RowsStop PlainRow old.table.now.charset columns p.seen (seen remaining new.payload.now) p.place p.held (held contents new.sink.now) failed stop
+rows_broke remaining contents new in_row y x =
+    let sink = in_row.sink in
+    rowing_breaks _ x.1 (λ cells is. run_breaks cells y is (sink.ready.1 sink.writing) sink.ready.2)

@@ -6,6 +6,7 @@ use Rattle.tds_rows.proofs.{
   Words.{nears_after, nears_breaks, nears_from, nears_inside, nears_put, tail_after, Breaks-longer, Puts-none, Charset, Cell, CellPart, Null, WholeCell, cell},
   Words.{cell_add, cell_size, cell_start, field, shape, cell_so_far, Bitmap, InCell, RowPart, bit, bitmap_length, marked, nbc_row_start, next_cell, row},
   Words.{row_so_far, row_start, with_cell, stops_size, ReadsRow, RowStops, Writes, nears_done},
+  Words.{Takes-trans, add-zero},
   RowSteps.{begun_text, coming, ends, line_grows, nulls_ahead, nulls_text, part_text, rest_of, PutsAt, StopsAt, cell_some, same_end, StopsCell},
   RowLaws.{begins_open, cell_in_row},
   Paths.{At, Path, path_both, path_map, path_none, path_of, path_stops, streams_of, writes_inside},
@@ -155,12 +156,37 @@ module _ {charset : Charset} {start : RowPart} {c : Column} {ks : List (Column �
     place_is = x.place_is;
   }
 
-  -- a write of it failed
-  pub null_breaks : {j : Held} {stop : Stop} → NearsCells charset start ((c, true) ∷ ks) p q column
-      → Breaks q.held j (in_line column (ends ks) null_field) stop → RowStops charset start p.seen q.seen p.place p.held j true stop
-  null_breaks x breaks =
-      let broken = nears_breaks _ _ _ _ _ _ _ _ _ _ _ _ _ x.nears refl breaks in
-      record { at = broken.0; cause = inr (broken.1, refl) }
+  -- a write of it failed, after more was read
+  pub null_breaks : {d : Seen} {j : Held} {stop : Stop} (rest : List ℕ) → Takes q.seen d rest 0 → IsBetween d
+      → NearsCells charset start ((c, true) ∷ ks) p q column → Breaks q.held j (in_line column (ends ks) null_field) stop
+      → RowStops charset start p.seen d p.place p.held j true stop
+  null_breaks {d = d} rest takes between x breaks =
+      let n = x.nears in
+      let read = n.bytes ++ n.element in
+      let broken = nears_breaks _ _ _ _ _ _ _ _ _ _ _ _ _ n refl breaks in
+      let y = broken.1 in
+      let both = Takes-trans p.seen q.seen d read rest (length read) 0 (omega arith) n.takes takes in
+      record {
+        at = broken.0;
+        cause = inr (
+          record {
+            bytes = n.bytes;
+            element = n.element;
+            ahead = rest;
+            spelt = y.spelt;
+            next = y.next;
+            takes = rw add-zero at both;
+            between = between;
+            middle = y.middle;
+            few = y.few;
+            puts = y.puts;
+            more = y.more;
+            text_is = y.text_is;
+            breaks = y.breaks;
+          },
+          refl,
+        );
+      }
 
   -- a cell was read and its text put, and no NULL by its bit is after it
   pub cell_reads : {r : At} → nulls_ahead (column + 1) ks ≡ [] → Reads charset start ((c, false) ∷ ks) p q column

@@ -6,10 +6,10 @@ use Rattle.tds_rows.proofs.{
   Words.{Spelt-append, Spelt-one, Column, all_after, Charset, Cell, CellPart, Shape, WholeCell, cell, cell_start, field, shape, NbcRow, PlainRow, RowPart},
   Words.{RowToken, WholeRow, next_cell, row, row_so_far, token_byte, token_start, with_field, IsLeft, IsScalarLeft, WritesKind, cell_so_far, is_last_column},
   Words.{scalar_size, whole_size, WritesCell, WritesWhole, is_scalar, Writes, WritesRows, after_cells, lines, rows, rows_so_far, Kind, WritesColumn},
-  Words.WritesMarked,
+  Words.{WritesMarked, ◌^◌, inr, breaks_somewhere, IsBetween, Takes-more},
   CellSteps.fixed_some,
   NullSteps.row_cell,
-  RowSteps.{coming, ends_marked, none_ahead, quiet_text, start_quiet, PutsCell, StopsCell},
+  RowSteps.{coming, ends_marked, line_grows, none_ahead, quiet_text, start_quiet, PutsCell, StopsCell},
   Paths.{At, writes_both, writes_inside, writes_none},
   TableSteps.next_column,
 }
@@ -62,7 +62,7 @@ whole_some kind bytes = grind (arith, common_steps, fixed_some)
 -- ---- a run between a payload and a sink
 
 -- what doesn't fill a block isn't delivered, so no write of it fails
-fills_no_block : (h j : Held) (piece : List ℕ) (stop : Stop) → length h.waiting + length piece < 4096 → Breaks h j piece stop → ⊥
+pub fills_no_block : (h j : Held) (piece : List ℕ) (stop : Stop) → length h.waiting + length piece < 4096 → Breaks h j piece stop → ⊥
 fills_no_block h j piece stop few (sent, blocks, n, adds, most, least, less, whole, is, risen) =
     let both : length h.waiting + length (take n piece) ≡ length sent + length j.waiting = sym (length-append h.waiting (take n piece))
     ∙ ap length adds.1 ∙ length-append sent j.waiting in
@@ -209,7 +209,7 @@ rows_both {charset = charset} {all = all} x y = record {
   writes = writes_both x.writes (rw append-nil at (rows_after charset all x.before y.writes));
 }
 
--- ---- a cell that lies whole, and whose text fills no block
+-- ---- a cell that lies whole
 
 -- its bytes were passed over and its text put, so it was read
 pub whole_puts : (charset : Charset) (kind : Kind) (column : ℕ) (last : Bool) (p q : At) (bytes text : List ℕ)
@@ -224,15 +224,25 @@ whole_puts charset kind column last p q bytes text x takes at puts =
       place_is = at;
     }
 
--- a put of it can't stop
+-- its bytes and more were passed over, and a write of its text failed
+pub whole_breaks : {bytes text : List ℕ} {a b : Seen} {place : ℕ} {h j : Held} {failed : Bool} {stop : Stop} (charset : Charset) (kind : Kind) (column
+    : ℕ) (last : Bool) (rest : List ℕ) → WritesWhole (cell_start kind (shape charset kind)) column last bytes text
+    → Takes a b (bytes ++ rest) 0 → IsBetween b → length h.waiting < 4096 → h.delivered ≤ 2 ^ 64 - 1 → Breaks h j text stop → failed ≡ true
+    → StopsCell charset kind column last a b place h j failed stop
+whole_breaks {bytes = bytes} {a = a} {b = b} {h = h} {j = j} {stop = stop} charset kind column last rest x takes between few delivered breaks failed =
+    let writes = cell_writes _ _ x in
+    let broken = breaks_somewhere (cell column) (cell_so_far column last) (line_grows column last) _ a b h j stop between _ bytes rest _ writes.spelt
+    (Takes-more a b (bytes ++ rest) 0 1 (omega arith) takes) few delivered writes.text_is breaks in
+    record { at = broken.0; cause = inr (broken.1, failed) }
+
+-- it was put at once
 pub put_whole : {W U : Type 0} {column place' : ℕ} {last : Bool} {bytes text : List ℕ} (r : Result U Stop) (charset : Charset) (kind : Kind)
-    (a b : Seen) (place : ℕ) (contents : W → Option (List ℕ)) (old new : Sink W) → IsWriting old
-    → WritesWhole (cell_start kind (shape charset kind)) column last bytes text → Takes a b bytes (length bytes) → place' ≡ place + length bytes
-    → length old.output.now.bytes + length text < 4096 → PutsPiece contents old new text r
+    (a b : Seen) (place : ℕ) (contents : W → Option (List ℕ)) (old new : Sink W) → IsWriting old → IsBetween b
+    → WritesWhole (cell_start kind (shape charset kind)) column last bytes text → Takes a b bytes 0 → place' ≡ place + length bytes
+    → PutsPiece contents old new text r
     → MatchResult r (λ _. PutsCell charset kind column last a b place place' (held contents old) (held contents new))
     (λ stop. StopsCell charset kind column last a b place (held contents old) (held contents new) new.failed stop)
-put_whole {column = column} {place' = place'} {last = last} {bytes = bytes} {text = text} (Ok u) charset kind a b place contents old new going x
-    takes at few puts =
-    whole_puts _ _ _ _ _ _ _ _ x takes at puts.gives
-put_whole {text = text} (Err stop) charset kind a b place contents old new going x takes at few puts =
-    absurd (fills_no_block _ _ _ _ few (puts.gives going.writing))
+put_whole {bytes = bytes} (Ok u) charset kind a b place contents old new going between x takes at puts =
+    whole_puts _ _ _ _ _ _ _ _ x (Takes-more a b bytes 0 _ (omega arith) takes) at puts.gives
+put_whole {bytes = bytes} (Err stop) charset kind a b place contents old new going between x takes at puts =
+    whole_breaks _ _ _ _ [] x (rw append-nil takes) between (going.ready.1 going.writing) going.ready.2 (puts.gives going.writing) puts.failed

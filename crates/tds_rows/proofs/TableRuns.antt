@@ -3,7 +3,7 @@ use Rattle.tds_rows.proofs.{
   Words.{arith, true, false, [], ◌∷◌, ◌≡◌, ◌∙◌, ap, all_after, drop_more, refl, BeginsRow, ℕ, ◌+◌, ◌-◌, ◌<◌, ◌≤◌, List, ◌++◌, length, length-append},
   Words.{length-drop, length-take, length-take-le, take, drop, get_or, sym, Column, Charset, Ahead, CellRun, CellsWritten, RowsRan, RowsRun, Table, Cell},
   Words.{WritesRows, IsAhead, Knows, RunsMarked, ◌^◌, inr, append-nil, Bool, Breaks, Held, IsBetween, Puts, RowStops, RunsRows, Seen, Stop, Takes, Takes-more},
-  Words.{after_cells, breaks_somewhere, row, row_so_far},
+  Words.{after_cells, breaks_somewhere, row, row_so_far, BreaksMarked, PutsMarked},
   GrowingTexts.row_grows,
   Paths.At,
   TableSteps.none_next,
@@ -108,16 +108,25 @@ runs_rows {bytes = bytes} {made = made} x takes puts at = record {
   place_is = at;
 }
 
+-- the cells of a run within a row were read and put
+pub marked_rows : {table : Table} {columns : List Column} {from to : Ahead} {p q : At}
+    → PutsMarked table columns (λ k. false) from to p.seen q.seen p.place q.place p.held q.held
+    → IsAhead table columns to × ((charset : Charset) (cells : List Cell) → table.charset ≡ charset → length cells ≡ from.column
+    → RunsRows charset columns cells (drop from.column columns) (drop to.column columns) to.column 0 p.seen q.seen p.place q.place p.held q.held)
+marked_rows {p = p} {q = q} x =
+    let ran = marked_in_rows x.runs in
+    (ran.0, λ charset cells set is. runs_rows (ran.1 charset cells set is) (Takes-more p.seen q.seen x.bytes 0 _ (omega arith) x.takes) x.puts x.place_is)
+
 -- a write of their text failed, in the row that the run began in
-pub run_breaks : {table : Table} {columns : List Column} {from to : Ahead} {bytes text : List ℕ} {a b : Seen} {h j : Held} {place : ℕ} {failed : Bool}
-    {stop : Stop} (cells : List Cell) → RunsMarked table columns (λ k. false) from to bytes text → length cells ≡ from.column
-    → Takes a b bytes 0 → IsBetween b → length h.waiting < 4096 → h.delivered ≤ 2 ^ 64 - 1 → Breaks h j text stop → failed ≡ true
+pub run_breaks : {table : Table} {columns : List Column} {from : Ahead} {a b : Seen} {h j : Held} {place : ℕ} {failed : Bool}
+    {stop : Stop} (cells : List Cell) → BreaksMarked table columns (λ k. false) from a b h j failed stop → length cells ≡ from.column
+    → length h.waiting < 4096 → h.delivered ≤ 2 ^ 64 - 1
     → RowStops table.charset (after_cells table.charset cells (drop from.column columns)) a b place h j failed stop
-run_breaks {table = table} {bytes = bytes} {a = a} {b = b} {h = h} {j = j} {stop = stop} cells y counted takes between few delivered breaks failed =
-    let x = marked_cells {charset = table.charset} {cells = cells} y.count bytes _ counted y.writes in
-    let broken = breaks_somewhere (row table.charset) row_so_far (row_grows table.charset) _ a b h j stop between _ bytes [] _ x.writes.spelt
-    (rw append-nil (Takes-more a b bytes 0 1 (omega arith) takes)) few delivered x.writes.text_is breaks in
-    record { at = broken.0; cause = inr (broken.1, failed) }
+run_breaks {table = table} {a = a} {b = b} {h = h} {j = j} {stop = stop} cells y counted few delivered =
+    let x = marked_cells {charset = table.charset} {cells = cells} y.runs.count y.bytes _ counted y.runs.writes in
+    let broken = breaks_somewhere (row table.charset) row_so_far (row_grows table.charset) _ a b h j stop y.between _ y.bytes [] _ x.writes.spelt
+    (rw append-nil (Takes-more a b y.bytes 0 1 (omega arith) y.takes)) few delivered x.writes.text_is y.breaks in
+    record { at = broken.0; cause = inr (broken.1, y.failed_is) }
 
 -- what stands after what was made may be another
 pub rows_kept : {table : Table} {from : Ahead} {bytes to : List ℕ} {run : RowsRun} (new : List ℕ) → length new ≡ length to

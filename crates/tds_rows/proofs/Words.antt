@@ -29,7 +29,7 @@ pub use Rattle.tds_csv.proofs.{
   SingleLaws.hex-nil,
   Sinks.{Puts-trans, Breaks-after, Breaks-longer, Puts-none},
   Spares.{spare_before, spare_written},
-  Splits.Puts_split,
+  Splits.{Breaks_split, Puts_split},
   Streams.{stops_size, added_inside, streaming_after},
   Utf16Steps.{nil_of_length, text_nil},
 }
@@ -80,7 +80,7 @@ pub use Rattle.tds_rows.specs.{
   Layouts.{HasValueAt, shape_of_layout, IsLaidOut},
   LongCells.{RefusesNumber, EndsData, added_text, StopsFilling, StopsEnding, total_of, chunk_length_fault, EndPut, RefusesData, StopsData, ReadsNumber},
   LongCells.{short_length, CutsNumber, total_fault, ending, BreaksData, short_fault, join_stop, opening, FillsData, CutsData, TakesData},
-  MarkedRuns.{WritesColumn, EndsLeft, MarkedPut, AreClear, PutsMarked, WritesMarked, RunsMarked, WritesNext},
+  MarkedRuns.{BreaksMarked, WritesColumn, EndsLeft, MarkedPut, AreClear, PutsMarked, WritesMarked, RunsMarked, WritesNext},
   PassedCells.{CellPassed, StepsOver, StopsPassing, IsGoodValue, CutsPassing, return_cell, PassesData, PassesCell, AnyData},
   RowReading.{CellRead, KindRead, LeavesRows, IsInRow, StaysInRow, NextRead},
   RowSteps.{ReadsRow, ReadsRows, RowsRead, RowStops, RowsStop},

@@ -1,5 +1,5 @@
 -- The reading of rows as the contracts of its steps see it.
-use Rattle.std.specs.Prelude.{◌≡◌, ◌==◌, ◌+◌, ◌≤◌, ℕ, Bool, true, false, List, [], ◌∷◌, Option, Result}
+use Rattle.std.specs.Prelude.{◌≡◌, ◌==◌, ◌+◌, ◌*◌, ◌<◌, ◌≤◌, ℕ, Bool, true, false, List, [], ◌∷◌, length, Option, Result}
 use Rattle.tds_values.specs.declared.kind.Kind.{Kind}
 use Rattle.tds_packet.specs.declared.fault.Stop.{Stop}
 use Rattle.tds_packet.specs.declared.payload.Payload.{Payload}
@@ -9,6 +9,8 @@ use Rattle.tds_csv.specs.Quoting.{in_line, null_field}
 use Rattle.tds_csv.specs.Sinks.{IsOnSameSink, IsWriting, LeavesSink, PutsPiece}
 use Rattle.tds_rows.specs.declared.rows.Rows.{Rows}
 use Rattle.tds_rows.specs.declared.table.Ahead.{Ahead}
+use Rattle.tds_rows.specs.declared.cell.layout.Form.{Form}
+use Rattle.tds_rows.specs.Layouts.{IsLaidOut}
 use Rattle.tds_rows.specs.Cells.{CellPart}
 use Rattle.tds_meter.specs.Space.{Space}
 use Rattle.tds_rows.specs.CellSteps.{CellPut, FieldPut, LeavesSmall, longest_cell}
@@ -22,6 +24,17 @@ pub record IsInRow {R W : Type 0} (rows : Rows R W) : Type 0 where
   pub payload : IsGoing rows.payload.now
   pub sink : IsWriting rows.sink.now
   pub room : longest_cell ≤ rows.small.now.room
+
+-- A row is being read, and its next cell is of this form.
+pub record IsAtCell {R W : Type 0} (rows : Rows R W) (at : Ahead) (form : Form) : Type 0 where
+  pub in_row : IsInRow rows
+  pub within : at.column < rows.table.now.count
+  pub laid : IsLaidOut rows.table.now.charset form.kind form.layout
+
+-- A row is being read whose bitmap is these bytes.
+pub record IsInMarkedRow {R W : Type 0} (rows : Rows R W) (bitmap : List ℕ) : Type 0 where
+  pub in_row : IsInRow rows
+  pub whole : rows.table.now.count ≤ 8 * length bitmap
 
 -- Two readings are on the same payload, sink and area, by the same table.
 abbrev pub IsOnSameRows : {R W : Type 0} → Rows R W → Rows R W → Type 0
@@ -56,9 +69,10 @@ KindRead remaining contents column last kind old new result =
     CellPut remaining contents old.table.now.charset kind column last old.payload.now new.payload.now old.sink.now new.sink.now result
 
 -- The next cell, of this kind, was read and its text put, or the call stopped.
-abbrev pub CellRead : {R W U : Type 0} → (R → Option (List ℕ)) → (W → Option (List ℕ)) → Ahead → Kind → Rows R W → Rows R W → Result U Stop → Type 0
-CellRead remaining contents at kind old new result = (last : Bool) → IsNextKind old.table.now at kind last
-    → KindRead remaining contents at.column last kind old new result
+pub record CellRead {R W U : Type 0} (remaining : R → Option (List ℕ)) (contents : W → Option (List ℕ)) (at : Ahead) (kind : Kind) (old new : Rows R W)
+    (result : Result U Stop) : Type 0 where
+  pub leaves : LeavesRows old new result
+  pub cell : (last : Bool) → IsNextKind old.table.now at kind last → KindRead remaining contents at.column last kind old new result
 
 -- The next cell was put, NULL or, of this kind, as it was read, or the call stopped.
 abbrev pub NextRead : {R W U : Type 0} → (R → Option (List ℕ)) → (W → Option (List ℕ)) → Ahead → Kind → Bool → Rows R W → Rows R W → Result U Stop

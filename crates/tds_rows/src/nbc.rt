@@ -1,13 +1,15 @@
 // A row with a bitmap of the columns that are NULL, and such rows after one another (MS-TDS, NBCROW).
-ghost use Rattle.std.specs.Prelude.{◌≡◌, ◌-◌, ◌*◌, ◌<◌, ◌≤◌, drop, length, ℕ, ◌+◌, ◌++◌, List, None, false, IfOk};
+ghost use Rattle.std.specs.Prelude.{◌≡◌, ◌-◌, true, ◌*◌, ◌<◌, ◌≤◌, drop, length, if◌then◌else◌, is_ok, ℕ, ◌+◌, ◌++◌, List, None, false, IfOk};
 ghost use Rattle.tds_rows.specs.MarkedRuns.{AreClear, EndsClear, EndsLeft, MarkedWritten, MarkedPut, room_left};
 ghost use Rattle.tds_rows.specs.Rows.{bit, NbcRow, SpellsNbcRow, bitmap_length, longest_bitmap, nbc_row_start};
 ghost use Rattle.tds_columns.specs.Description.{Column};
+ghost use Rattle.tds_columns.specs.Elements.{ElementRead, LeavesArea};
 ghost use Rattle.tds_columns.specs.View.{columns_of};
 ghost use Rattle.tds_csv.specs.Sinks.{IsReady, IsWriting, LeavesSink};
 ghost use Rattle.tds_packet.specs.Payloads.{IsGoing, IsSound, LeavesPayload, buffered};
 ghost use Rattle.tds_packet.specs.Reads.{KeepsRoom};
-ghost use Rattle.tds_rows.specs.RowReading.{AwaitsBitmap, IsInRow, LeavesRows, NextRead, RowRead, StaysInRow};
+ghost use Rattle.tds_rows.specs.RowReading.{AwaitsBitmap, IsAtCell, IsInMarkedRow, IsInRow, LeavesRows, NextRead, RowRead, StaysInRow};
+ghost use Rattle.tds_rows.specs.RowRuns.{MarkedRead};
 ghost use Rattle.tds_rows.specs.RowSteps.{RowPut, RowsRead, StopsAgain};
 ghost use Rattle.tds_rows.specs.Cells.{Cell};
 ghost use Rattle.tds_rows.specs.CellSteps.{LeavesSmall, longest_cell};
@@ -17,8 +19,8 @@ ghost use Rattle.tds_rows.specs.Tables.{Knows, KnowsSome};
 
 use crate::cell::layout::Form;
 use crate::cell::whole::{CELL_ROOM, put_null};
-use crate::rows::Rows;
-use crate::run::{CellRun, run_cells};
+use crate::rows::{BLOCK_END, Rows, SHORT_TEXT};
+use crate::run::{CellRun, run_stretch};
 use crate::table::{Ahead, Table};
 use std::io::{Read, Write};
 use tds_columns::{Columns, take_into};
@@ -44,23 +46,28 @@ fn clear_end(bitmap: &[u8], from: u16, known: u16, count: u16) -> u16
     requires clear { AreClear (bit bitmap.now) from known }
     ensures { EndsClear (bit bitmap.now) from count result }
 {
-    let mut at = from.max(known);
-    while at < count && !is_null(bitmap, at) {
-        at += 1;
+    let mut at = from.max(known) as usize;
+    while at < count as usize {
+        let bits = bitmap[at / 8] >> (at % 8) as u32;
+        if bits != 0 {
+            at += bits.trailing_zeros() as usize;
+            return (count as usize).min(at) as u16;
+        }
+        at = at / 8 * 8 + 8;
     }
-    at
+    count
 }
 
-// Writes cell after cell of an NBCROW, as far as they are NULL by their bit or whole in these bytes, aren't in
-// chunks, and have room. NULLs are written here.
+// Writes cell after cell of an NBCROW as `run_nulls` does. `KNOWN` says that the table knows all columns.
 #[inline(never)]
-pub(crate) fn run_nulls<'a>(
+fn run_marked<'a, const KNOWN: bool>(
     table: &Table<'a>,
     from: Ahead<'a>,
     bitmap: &[u8],
     bytes: &[u8],
     to: &mut [u8],
 ) -> CellRun<'a>
+    requires known { KNOWN ≡ true → table.now.known ≡ table.now.count }
     requires bitmap { table.now.count ≤ 8 * length bitmap.now }
     ensures used { result.used ≤ length bytes.now }
     ensures made { result.made ≤ length to.old }
@@ -79,7 +86,8 @@ pub(crate) fn run_nulls<'a>(
             table.step(&mut ahead, 1);
             continue;
         }
-        let cells = run_cells(table, ahead, end, &bytes[used..], &mut to[made..]);
+        let (rest, room) = (&bytes[used..], &mut to[made..]);
+        let cells = run_stretch::<KNOWN>(table, ahead, end, rest, room);
         if cells.used == 0 {
             break;
         }
@@ -88,6 +96,29 @@ pub(crate) fn run_nulls<'a>(
         ahead = cells.ahead;
     }
     CellRun { used, made, ahead }
+}
+
+// Writes cell after cell of an NBCROW, as far as they are NULL by their bit or whole in these bytes, aren't in
+// chunks, and have room. NULLs are written here.
+#[inline(always)]
+fn run_nulls<'a>(
+    table: &Table<'a>,
+    from: Ahead<'a>,
+    bitmap: &[u8],
+    bytes: &[u8],
+    to: &mut [u8],
+) -> CellRun<'a>
+    requires bitmap { table.now.count ≤ 8 * length bitmap.now }
+    ensures used { result.used ≤ length bytes.now }
+    ensures made { result.made ≤ length to.old }
+    ensures ends { EndsLeft table.now (bit bitmap.now) result.ahead (drop result.used bytes.now)
+        (length to.old - result.made) }
+    ensures cells { MarkedWritten table.now (bit bitmap.now) from.entry bytes.now to.new result }
+{
+    if table.knows_all() {
+        return run_marked::<true>(table, from, bitmap, bytes, to);
+    }
+    run_marked::<false>(table, from, bitmap, bytes, to)
 }
 
 /// The token byte of an NBCROW (MS-TDS, NBCROW).
@@ -104,13 +135,33 @@ fn bitmap_size(columns: u16) -> usize
     (columns as usize + 7) / 8
 }
 
+// Reads a bitmap of `n` bytes to the end of an area that has room for it: at once, if it is whole in the packet.
+#[inline(always)]
+fn read_bitmap<R: Read>(payload: &mut Payload<R>, bitmap: &mut Area, n: usize) -> Result<(), Stop>
+    requires going { IsGoing payload.old }
+    requires fits { length bitmap.old.bytes + n ≤ bitmap.old.room }
+    ensures payload { LeavesPayload payload.old payload.new result }
+    ensures place { payload.new.place ≡ (if is_ok result then payload.old.place + n else payload.old.place) }
+    ensures area { LeavesArea bitmap.old bitmap.new n result }
+    ensures gives { ElementRead R.remaining payload.old payload.new bitmap.old bitmap.new n result }
+{
+    let bytes = payload.buffered();
+    if bytes.len() < n {
+        return take_into(payload, bitmap, n);
+    }
+    let Ok(()) = bitmap.append(&bytes[..n]) else {
+        unreachable!()
+    };
+    payload.consume(n);
+    Ok(())
+}
+
 impl<'r, 't, 'p, 's, 'c, R: Read, W: Write> Rows<'r, 't, 'p, 's, 'c, R, W> {
     // Takes the next cells of an NBCROW, as many as are NULL by their bit or whole in the packet, aren't in
-    // chunks and have room, puts their text where it waits, and returns the place after them. It reads nothing and
-    // delivers nothing.
-    fn put_nulls(&mut self, from: Ahead<'c>, bitmap: &[u8]) -> Ahead<'c>
-        requires in_row { IsInRow self.old }
-        requires bitmap { self.old.table.now.count ≤ 8 * length bitmap.now }
+    // chunks and have room in the block, puts their text where it waits, and returns the place after them. It reads
+    // nothing and delivers nothing.
+    fn put_nulls_within(&mut self, from: Ahead<'c>, bitmap: &[u8]) -> Ahead<'c>
+        requires { IsInMarkedRow self.old bitmap.now }
         ensures stays { StaysInRow self.old self.new }
         ensures ends { EndsLeft self.old.table.now (bit bitmap.now) result (buffered self.new.payload.now)
             (room_left self.new.sink.now) }
@@ -131,11 +182,33 @@ impl<'r, 't, 'p, 's, 'c, R: Read, W: Write> Rows<'r, 't, 'p, 's, 'c, R, W> {
         run.ahead
     }
 
+    // Takes the next cells of an NBCROW, as many as are NULL by their bit or whole in the packet, aren't in chunks and
+    // have room in a small text, puts that text over the end of the block, and returns the place after them.
+    fn put_nulls_across(&mut self, from: Ahead<'c>, bitmap: &[u8]) -> Result<Ahead<'c>, Stop>
+        requires { IsInMarkedRow self.old bitmap.now }
+        ensures { MarkedRead R.remaining W.contents (bit bitmap.now) from.entry self.old self.new result }
+    {
+        let mut text = [0u8; SHORT_TEXT];
+        let bytes = self.payload.buffered();
+        let run = run_nulls(self.table, from, bitmap, bytes, &mut text);
+        self.put_made(run, &text)
+    }
+
+    // Takes the next cells of an NBCROW, as many as are NULL by their bit or whole in the packet, aren't in chunks and
+    // have room, puts their text, and returns the place after them.
+    fn put_nulls(&mut self, from: Ahead<'c>, bitmap: &[u8]) -> Result<Ahead<'c>, Stop>
+        requires { IsInMarkedRow self.old bitmap.now }
+        ensures { MarkedRead R.remaining W.contents (bit bitmap.now) from.entry self.old self.new result }
+    {
+        if self.sink.room() <= BLOCK_END {
+            return self.put_nulls_across(from, bitmap);
+        }
+        Ok(self.put_nulls_within(from, bitmap))
+    }
+
     // Puts the next cell: NULL, or the cell that it reads.
     fn put_next(&mut self, at: Ahead<'c>, form: &Form, null: bool) -> Result<(), Stop>
-        requires in_row { IsInRow self.old }
-        requires within { at.column < self.old.table.now.count }
-        requires laid { IsLaidOut self.old.table.now.charset form.now.kind form.now.layout }
+        requires { IsAtCell self.old at form.now }
         ensures leaves { LeavesRows self.old self.new result }
         ensures cell { NextRead R.remaining W.contents at.entry form.now.kind null self.old self.new result }
     {
@@ -155,10 +228,10 @@ impl<'r, 't, 'p, 's, 'c, R: Read, W: Write> Rows<'r, 't, 'p, 's, 'c, R, W> {
         ensures row { (columns : List Column) → Knows self.old.table.now columns →
             RowRead R.remaining W.contents (nbc_row_start columns) self.old self.new result }
     {
-        take_into(self.payload, bitmap, bitmap_size(self.table.count()))?;
+        read_bitmap(self.payload, bitmap, bitmap_size(self.table.count()))?;
         let mut ahead = self.table.start();
         loop {
-            let at = self.put_nulls(ahead, bitmap.bytes());
+            let at = self.put_nulls(ahead, bitmap.bytes())?;
             let Some((form, after)) = self.table.next(at) else {
                 return Ok(());
             };

@@ -1,9 +1,9 @@
 // The reading of rows, one or several after one another (MS-TDS, ROW).
-ghost use Rattle.std.specs.Prelude.{◌≡◌, ◌==◌, ◌+◌, ◌<◌, ◌≤◌, ◌++◌, ℕ, List, length, None, false, IfOk, IfSome, IsTrue};
+ghost use Rattle.std.specs.Prelude.{◌≡◌, ◌+◌, ◌<◌, ◌≤◌, ◌++◌, ℕ, Bool, List, length, None, false, IfOk, IsTrue};
 ghost use Rattle.tds_csv.specs.Fields.{conversion_of};
 ghost use Rattle.tds_rows.specs.Cells.{long_start, Cell};
 ghost use Rattle.tds_rows.specs.Layouts.{IsLaidOut};
-ghost use Rattle.tds_rows.specs.RowReading.{CellRead, ContentRead, IsInRow, LeavesRows, StaysInRow, TokenTaken, RowRead};
+ghost use Rattle.tds_rows.specs.RowReading.{CellRead, ContentRead, IsAtCell, IsInRow, LeavesRows, StaysInRow, TokenTaken, RowRead};
 ghost use Rattle.tds_rows.specs.Rows.{RowToken, token_byte, PlainRow, SpellsRow, row_start};
 ghost use Rattle.tds_columns.specs.Description.{Column};
 ghost use Rattle.tds_columns.specs.View.{columns_of};
@@ -11,9 +11,9 @@ ghost use Rattle.tds_csv.specs.Sinks.{IsReady, IsWriting, LeavesSink};
 ghost use Rattle.tds_packet.specs.Payloads.{IsGoing, IsSound, LeavesPayload, buffered};
 ghost use Rattle.tds_rows.specs.CellSteps.{LeavesSmall, longest_cell};
 ghost use Rattle.tds_rows.specs.RowSteps.{RowPut, RowsRead, StopsAgain};
-ghost use Rattle.tds_rows.specs.Runs.{RowsPut, WritesOne};
-ghost use Rattle.tds_rows.specs.RowRuns.{IsFurther, PassesBy, RunRead};
-ghost use Rattle.tds_rows.specs.declared.cell.layout.Layout.TheVariants as layouts;
+ghost use Rattle.tds_rows.specs.Runs.{RowsPut};
+ghost use Rattle.tds_rows.specs.MarkedRuns.{MarkedWritten};
+ghost use Rattle.tds_rows.specs.RowRuns.{IsFurther, MarkedRead, RunRead};
 ghost use Rattle.tds_rows.specs.Successes.{BeginNoRow, SpellsRows, SucceedsOn};
 ghost use Rattle.tds_rows.specs.Tables.{Knows, KnowsSome};
 ghost use Rattle.tds_values.specs.Kind as kinds;
@@ -21,8 +21,8 @@ ghost use Rattle.tds_values.specs.Kind as kinds;
 use crate::cell::gathered::{gather_scalar, length_size};
 use crate::cell::layout::{Form, Layout};
 use crate::cell::streamed::stream_long;
-use crate::cell::whole::{CELL_ROOM, Written};
-use crate::run::{RowsRun, run_cells, run_rows, write_alone};
+use crate::cell::whole::CELL_ROOM;
+use crate::run::{CellRun, RowsRun, run_cells, run_rows, write_alone};
 use crate::table::{Ahead, ROW, Table};
 use std::io::{Read, Write};
 use tds_columns::Columns;
@@ -33,11 +33,11 @@ use tds_meter::Area;
 use tds_packet::{Fault, Payload, Stop};
 use tds_values::{Charset, Reach};
 
-/// The room for the text of a short value that no run took.
-const SHORT_TEXT: usize = 256;
+/// The room for the text of a run that may go over the end of a block, or of a cell that no run took.
+pub(crate) const SHORT_TEXT: usize = 256;
 
 /// The room in a block in which no run is begun, since its cells may want more: it goes on with a small text.
-const BLOCK_END: usize = 128;
+pub(crate) const BLOCK_END: usize = 128;
 
 /// The reading of rows: the payload, the sink, the area in which a cell is gathered, and the table of the columns.
 #[derive(Drop)]
@@ -65,15 +65,12 @@ impl<'r, 't, 'p, 's, 'c, R: Read, W: Write> Rows<'r, 't, 'p, 's, 'c, R, W> {
         true
     }
 
-    // Reads the next cell of a scalar kind, and puts its text: one across the end of a packet or of a block of
-    // text, or one that stops the row. Its bytes are gathered in the small area, where it is judged.
+    // Reads the next cell of a scalar kind, and puts its text: one across the end of a packet, or one that stops the
+    // row. Its bytes are gathered in the small area, where it is judged.
     fn put_gathered(&mut self, at: Ahead<'c>, form: &Form) -> Result<(), Stop>
-        requires in_row { IsInRow self.old }
-        requires within { at.column < self.old.table.now.count }
+        requires next { IsAtCell self.old at form.now }
         requires scalar { IsTrue (kinds.is_scalar form.now.kind) }
-        requires laid { IsLaidOut self.old.table.now.charset form.now.kind form.now.layout }
-        ensures leaves { LeavesRows self.old self.new result }
-        ensures cell { CellRead R.remaining W.contents at.entry form.now.kind self.old self.new result }
+        ensures { CellRead R.remaining W.contents at.entry form.now.kind self.old self.new result }
     {
         let place = self.payload.place();
         gather_scalar(self.payload, &form.kind, at.column, self.small)?;
@@ -118,79 +115,42 @@ impl<'r, 't, 'p, 's, 'c, R: Read, W: Write> Rows<'r, 't, 'p, 's, 'c, R, W> {
         }
     }
 
-    // Writes the text of the next cell if it is whole in the packet and its text doesn't fill the block. Takes nothing
-    // of it and puts nothing.
-    fn write_whole(&self, at: Ahead<'c>, form: &Form, text: &mut [u8]) -> Option<Written>
-        requires in_row { IsInRow self.now }
-        requires within { at.column < self.now.table.now.count }
-        requires laid { IsLaidOut self.now.table.now.charset form.now.kind form.now.layout }
-        requires room { CELL_ROOM ≤ length text.old }
-        ensures used { IfSome result (λ cell. cell.used ≤ length (buffered self.now.payload.now)) }
-        ensures made { IfSome result (λ cell. cell.made ≤ length text.old) }
-        ensures waits { IfSome result (λ cell. length self.now.sink.now.output.now.bytes + cell.made < 4096) }
-        ensures cell { IfSome result (λ cell. WritesOne self.now.table.now.charset form.now.kind at.entry.column
-            (at.entry.column + 1 == self.now.table.now.count) (buffered self.now.payload.now) text.new cell.used cell.made) }
-    {
-        let (charset, column, last) = (self.table.charset, at.column, self.table.is_last(at));
-        let cell = write_alone(form, charset, column, last, self.payload.buffered(), text)?;
-        if cell.made < self.sink.room() {
-            return Some(cell);
-        }
-        None
-    }
-
-    // Reads the next cell, of a scalar kind, and puts its text: at once, if it is whole in the packet and its text
-    // doesn't fill the block.
-    fn put_scalar(&mut self, at: Ahead<'c>, form: &Form) -> Result<(), Stop>
-        requires in_row { IsInRow self.old }
-        requires within { at.column < self.old.table.now.count }
-        requires scalar { IsTrue (kinds.is_scalar form.now.kind) }
-        requires laid { IsLaidOut self.old.table.now.charset form.now.kind form.now.layout }
-        ensures leaves { LeavesRows self.old self.new result }
-        ensures cell { CellRead R.remaining W.contents at.entry form.now.kind self.old self.new result }
-    {
-        let mut text = [0u8; CELL_ROOM];
-        if let Some(cell) = self.write_whole(at, form, &mut text) {
-            self.payload.consume(cell.used);
-            return self.sink.put(&text[..cell.made]);
-        }
-        self.put_gathered(at, form)
-    }
-
-    // Reads the next cell, a short value of this content, and puts its field: at once, if it is whole in the packet and
-    // its text doesn't fill the block.
-    fn put_short_value(&mut self, at: Ahead<'c>, form: &Form, content: Content) -> Result<(), Stop>
-        requires in_row { IsInRow self.old }
-        requires within { at.column < self.old.table.now.count }
-        requires short { form.now.layout ≡ layouts.Short content }
-        requires laid { IsLaidOut self.old.table.now.charset form.now.kind form.now.layout }
-        ensures leaves { LeavesRows self.old self.new result }
-        ensures cell { CellRead R.remaining W.contents at.entry form.now.kind self.old self.new result }
-    {
-        let mut text = [0u8; SHORT_TEXT];
-        if let Some(cell) = self.write_whole(at, form, &mut text) {
-            self.payload.consume(cell.used);
-            return self.sink.put(&text[..cell.made]);
-        }
-        self.put_joined(content, Reach::Short, at.column, self.table.is_last(at))
-    }
-
-    /// Reads the next cell, whatever its kind, and puts its text.
+    /// Reads the next cell, whatever its kind, and puts its text: at once, if it is whole in the packet, isn't in chunks and
+    /// has room in a small text.
     #[inline(never)]
     pub(crate) fn put_cell(&mut self, at: Ahead<'c>, form: &Form) -> Result<(), Stop>
-        requires in_row { IsInRow self.old }
-        requires within { at.column < self.old.table.now.count }
-        requires laid { IsLaidOut self.old.table.now.charset form.now.kind form.now.layout }
-        ensures leaves { LeavesRows self.old self.new result }
-        ensures cell { CellRead R.remaining W.contents at.entry form.now.kind self.old self.new result }
+        requires { IsAtCell self.old at form.now }
+        ensures { CellRead R.remaining W.contents at.entry form.now.kind self.old self.new result }
     {
-        match form.layout {
-            Layout::Fixed(_) | Layout::Counted => self.put_scalar(at, form),
-            Layout::Short(content) => self.put_short_value(at, form, content),
-            Layout::Chunked(content) => {
-                self.put_joined(content, Reach::Chunked, at.column, self.table.is_last(at))
-            }
+        let (charset, column, last) = (self.table.charset, at.column, self.table.is_last(at));
+        let mut text = [0u8; SHORT_TEXT];
+        let bytes = self.payload.buffered();
+        if let Some(cell) = write_alone(form, charset, column, last, bytes, &mut text) {
+            self.payload.consume(cell.used);
+            return self.sink.put(&text[..cell.made]);
         }
+        match form.layout {
+            Layout::Fixed(_) | Layout::Counted => self.put_gathered(at, form),
+            Layout::Short(content) => self.put_joined(content, Reach::Short, column, last),
+            Layout::Chunked(content) => self.put_joined(content, Reach::Chunked, column, last),
+        }
+    }
+
+    /// Passes over the bytes of a run within a row, and puts its text, which may go over the end of the block. Returns the
+    /// place after it.
+    #[inline(always)]
+    pub(crate) fn put_made(&mut self, run: CellRun<'c>, text: &[u8]) -> Result<Ahead<'c>, Stop>
+        requires in_row { IsInRow self.old }
+        requires used { run.used ≤ length (buffered self.old.payload.now) }
+        requires made { run.made ≤ length text.now }
+        ensures place { IfOk result (λ _. self.new.payload.now.place ≡ self.old.payload.now.place + run.entry.used) }
+        ensures run { (nulls : ℕ → Bool) (from : Ahead) →
+            MarkedWritten self.old.table.now nulls from (buffered self.old.payload.now) text.now run.entry →
+            MarkedRead R.remaining W.contents nulls from self.old self.new result }
+    {
+        self.payload.consume(run.used);
+        self.sink.put(&text[..run.made])?;
+        Ok(run.ahead)
     }
 }
 
@@ -223,20 +183,17 @@ impl<'r, 't, 'p, 's, 'c, R: Read, W: Write> Rows<'r, 't, 'p, 's, 'c, R, W> {
     // text, and puts that text over the end of the block.
     fn put_across(&mut self, from: Ahead<'c>) -> Result<RowsRun<'c>, Stop>
         requires { IsInRow self.old }
-        ensures leaves { LeavesRows self.old self.new result }
-        ensures place { PassesBy self.old.payload.now.place self.new.payload.now.place result }
-        ensures run { RunRead R.remaining W.contents from.entry self.old self.new result }
+        ensures { RunRead R.remaining W.contents from.entry self.old self.new result }
     {
         let mut text = [0u8; SHORT_TEXT];
         let end = self.table.count();
         let run = run_cells(self.table, from, end, self.payload.buffered(), &mut text);
-        self.payload.consume(run.used);
-        self.sink.put(&text[..run.made])?;
+        let ahead = self.put_made(run, &text)?;
         Ok(RowsRun {
             used: run.used,
             made: run.made,
             rows: 0,
-            ahead: run.ahead,
+            ahead,
         })
     }
 
@@ -244,9 +201,7 @@ impl<'r, 't, 'p, 's, 'c, R: Read, W: Write> Rows<'r, 't, 'p, 's, 'c, R, W> {
     fn put_run(&mut self, from: Ahead<'c>) -> Result<RowsRun<'c>, Stop>
         requires in_row { IsInRow self.old }
         requires some { 0 < self.old.table.now.count }
-        ensures leaves { LeavesRows self.old self.new result }
-        ensures place { PassesBy self.old.payload.now.place self.new.payload.now.place result }
-        ensures run { RunRead R.remaining W.contents from.entry self.old self.new result }
+        ensures { RunRead R.remaining W.contents from.entry self.old self.new result }
     {
         if self.sink.room() <= BLOCK_END {
             return self.put_across(from);

@@ -134,6 +134,31 @@ pub(crate) fn run_cells<'a>(
     }
 }
 
+// Writes cells as `run_cells` does. `KNOWN` says that the table knows all columns.
+#[inline(always)]
+pub(crate) fn run_stretch<'a, const KNOWN: bool>(
+    table: &Table<'a>,
+    from: Ahead<'a>,
+    end: u16,
+    bytes: &[u8],
+    to: &mut [u8],
+) -> CellRun<'a>
+    requires known { KNOWN ≡ true → table.now.known ≡ table.now.count }
+    requires within { end ≤ table.now.count }
+    ensures within { StaysWithin from.entry end (length bytes.now) (length to.old) result }
+    ensures ends { result.used ≡ 0 → from.entry.column < end →
+        RunEnds table.now from.entry bytes.now (length to.old) }
+    ensures cells { CellsWritten table.now from.entry bytes.now to.new result }
+{
+    if !KNOWN {
+        return run_cells(table, from, end, bytes, to);
+    }
+    let Some(forms) = (&*table).forms(from, end) else {
+        return CellRun::none(from);
+    };
+    run_along(table, from, end, forms, bytes, to)
+}
+
 /// Writes only the cell of a form. `None` if it isn't whole in these bytes, is refused or in chunks, or if there isn't
 /// the room that the text of a short value may need.
 #[inline(never)]

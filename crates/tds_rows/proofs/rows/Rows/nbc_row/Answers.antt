@@ -1,34 +1,34 @@
 use Rattle.tds_rows.proofs.rows.Rows.nbc_row.Goals as goal
 use Rattle.tds_rows.proofs.{
   Words.{ℕ, ◌<◌, List, length, refl, sym, arith, rules, ◌∙◌, ◌≡◌, ap, ◌++◌, passed, passed_on, Space, LeavesRows, bitmap_length},
-  NextSteps.{next_nears, next_stops, run_near, leaves_after, stays_after, stays_on},
+  NextSteps.{next_nears, next_stops, run_near, run_stops, leaves_after, stays_after, stays_on},
   NullSteps.{all_put, bitmap_cut, bitmap_nears, row_ends},
 }
 
-pub returns-in_err-take_into-clause-row : goal.returns-in_err-take_into-clause-row
-returns-in_err-take_into-clause-row g c = λ columns known.
+pub returns-in_err-read_bitmap-clause-row : goal.returns-in_err-read_bitmap-clause-row
+returns-in_err-read_bitmap-clause-row g c = λ columns known.
     let sink = c.requires.in_row.sink in
-    let x = c.in_err-take_into.ensures.gives c.requires.in_row.payload.going in
+    let x = c.in_err-read_bitmap.ensures.gives c.requires.in_row.payload.going in
     passed _ _ _ _ c.from_residual.ensures.1 (rw sink.writing
     (bitmap_cut _ x.part x.own (omega (arith, x.fewer, c.bitmap_size.ensures.value, c.count.ensures, known.counted)) x.ends x.stop_is
     sink.ready.2))
 
-pub loop-form-init : goal.loop-form-init
-loop-form-init g c =
+pub loop-at-init : goal.loop-at-init
+loop-at-init g c =
     let old = c.args.self.now in
     let sink = c.requires.in_row.sink in
-    let x = c.in_ok-take_into.ensures.gives in
-    let bytes : c.take_into.new.area.bytes ≡ x.element = ap (λ (s : Space). s.bytes) x.stands
+    let x = c.in_ok-read_bitmap.ensures.gives in
+    let bytes : c.read_bitmap.new.bitmap.bytes ≡ x.element = ap (λ (s : Space). s.bytes) x.stands
     ∙ ap (λ (l : List ℕ). l ++ x.element) c.requires.awaits.empty in
     record {
       stays = record {
         in_row = record {
-          payload = record { sound = c.in_ok-take_into.ensures.payload.sound; going = c.in_ok-take_into.ensures.payload.going };
+          payload = record { sound = c.in_ok-read_bitmap.ensures.payload.sound; going = c.in_ok-read_bitmap.ensures.payload.going };
           sink = sink;
           room = c.requires.in_row.room;
         };
         same = (refl, refl, refl, refl);
-        payload = c.in_ok-take_into.ensures.payload.same;
+        payload = c.in_ok-read_bitmap.ensures.payload.same;
         sink = (refl, refl, refl);
         small = record { room = refl; bound = omega arith };
       };
@@ -40,35 +40,59 @@ loop-form-init g c =
           let some : 0 < length columns = omega (arith, c.requires.knows.2, knows.counted) in
           let taken = rw (sym x.whole) at x.takes in
           let near = bitmap_nears columns x.element some whole taken x.between (sink.ready.1 sink.writing) sink.ready.2
-          (omega (arith, x.whole, c.in_ok-take_into.ensures.place)) in
+          (omega (arith, x.whole, c.in_ok-read_bitmap.ensures.place)) in
           (c.start-ahead.ensures.ahead columns knows, rw (c.start-ahead.ensures.first, bytes) near);
+    }
+
+pub returns-in_err-at-clause-row : goal.returns-in_err-at-clause-row
+returns-in_err-at-clause-row g c = λ columns known.
+    let l = c.loop-at in
+    let knows = rw (sym l.invariant.stays.same.3) at known in
+    let near = l.invariant.reads columns knows in
+    let stops = run_stops g.R.Read.remaining g.W.Write.contents columns _ _ _ c.put_nulls.new.self l.invariant.stays.in_row
+    (rw c.bytes.ensures.value at (c.in_err-at.ensures.cells columns knows near.0)) near in
+    passed _ _ _ _ c.from_residual-in_err-at.ensures.1 (rw l.invariant.stays.same.3 at stops)
+
+pub returns-in_err-at-clause-leaves : goal.returns-in_err-at-clause-leaves
+returns-in_err-at-clause-leaves g c =
+    passed_on _ _ (λ r. LeavesRows c.args.self.now c.put_nulls.new.self r) c.from_residual-in_err-at.ensures.1
+    (leaves_after c.loop-at.invariant.stays c.in_err-at.ensures.leaves)
+
+pub put_next-requires : goal.put_next-requires
+put_next-requires g c =
+    let kept = stays_after c.loop-at.invariant.stays.in_row c.in_ok-at.ensures.leaves in
+    record {
+      in_row = kept.in_row;
+      within = omega (arith, c.in-Some.ensures.further, c.in-Some.ensures.within);
+      laid = c.in-Some.ensures.laid;
     }
 
 pub returns-in_err-put_next-clause-row : goal.returns-in_err-put_next-clause-row
 returns-in_err-put_next-clause-row g c = λ columns known.
-    let l = c.loop-form in
-    let run = c.put_nulls-at in
-    let kept = run.ensures.stays in
+    let l = c.loop-at in
+    let run = c.in_ok-at.ensures in
+    let kept = stays_after c.loop-at.invariant.stays.in_row run.leaves in
     let knows = rw (sym l.invariant.stays.same.3) at known in
     let there = rw (sym kept.same.3) at knows in
     let near = run_near g.R.Read.remaining g.W.Write.contents columns _ _ _ l.invariant.stays.in_row kept knows
-    (rw c.bytes.ensures.value at run.ensures.cells) (l.invariant.reads columns knows) in
+    (rw c.bytes.ensures.value at run.cells) (l.invariant.reads columns knows) in
     let taken = c.in-Some.ensures.taken columns there near.0 in
-    let is = rw c.bytes-in-loop-form.ensures.value at (sym c.is_null-null.ensures) in
-    let stops = next_stops g.R.Read.remaining g.W.Write.contents run.new.self c.put_next.new.self _ there taken _ _ kept.in_row near _ _ _ is
+    let is = rw c.bytes-in-loop-at.ensures.value at (sym c.is_null-null.ensures) in
+    let stops = next_stops g.R.Read.remaining g.W.Write.contents c.put_nulls.new.self c.put_next.new.self _ there taken _ _ kept.in_row near _ _ _ is
     c.in_err-put_next.ensures.cell in
     passed _ _ _ _ c.from_residual-in_err-put_next.ensures.1 (rw (kept.same.3 ∙ l.invariant.stays.same.3) at stops)
 
 pub returns-in_err-put_next-clause-leaves : goal.returns-in_err-put_next-clause-leaves
 returns-in_err-put_next-clause-leaves g c =
     passed_on _ _ (λ r. LeavesRows c.args.self.now c.put_next.new.self r) c.from_residual-in_err-put_next.ensures.1
-    (leaves_after (stays_on c.loop-form.invariant.stays c.put_nulls-at.ensures.stays) c.in_err-put_next.ensures.leaves)
+    (leaves_after (stays_on c.loop-at.invariant.stays (stays_after c.loop-at.invariant.stays.in_row c.in_ok-at.ensures.leaves))
+    c.in_err-put_next.ensures.leaves)
 
-pub loop-form-preserved : goal.loop-form-preserved
-loop-form-preserved g c =
-    let l = c.loop-form in
-    let run = c.put_nulls-at in
-    let kept = run.ensures.stays in
+pub loop-at-preserved : goal.loop-at-preserved
+loop-at-preserved g c =
+    let l = c.loop-at in
+    let run = c.in_ok-at.ensures in
+    let kept = stays_after c.loop-at.invariant.stays.in_row run.leaves in
     let done = c.in_ok-put_next.ensures in
     let same = done.leaves.same.3 ∙ kept.same.3 in
     record {
@@ -79,20 +103,20 @@ loop-form-preserved g c =
           let there = rw done.leaves.same.3 at known in
           let knows = rw kept.same.3 at there in
           let near = run_near g.R.Read.remaining g.W.Write.contents columns _ _ _ l.invariant.stays.in_row kept knows
-          (rw c.bytes.ensures.value at run.ensures.cells) (l.invariant.reads columns knows) in
+          (rw c.bytes.ensures.value at run.cells) (l.invariant.reads columns knows) in
           let taken = c.in-Some.ensures.taken columns there near.0 in
-          let is = rw c.bytes-in-loop-form.ensures.value at (sym c.is_null-null.ensures) in
-          next_nears g.R.Read.remaining g.W.Write.contents run.new.self c.put_next.new.self _ there taken _ _ kept.in_row near _ _ is done.leaves
+          let is = rw c.bytes-in-loop-at.ensures.value at (sym c.is_null-null.ensures) in
+          next_nears g.R.Read.remaining g.W.Write.contents c.put_nulls.new.self c.put_next.new.self _ there taken _ _ kept.in_row near _ _ is done.leaves
           done.cell;
     }
 
 pub returns-in_default-clause-row : goal.returns-in_default-clause-row
 returns-in_default-clause-row g c = λ columns known.
-    let l = c.loop-form in
-    let run = c.put_nulls-at in
-    let kept = run.ensures.stays in
+    let l = c.loop-at in
+    let run = c.in_ok-at.ensures in
+    let kept = stays_after c.loop-at.invariant.stays.in_row run.leaves in
     let knows = rw (sym l.invariant.stays.same.3) at known in
     let near = run_near g.R.Read.remaining g.W.Write.contents columns _ _ _ l.invariant.stays.in_row kept knows
-    (rw c.bytes.ensures.value at run.ensures.cells) (l.invariant.reads columns knows) in
+    (rw c.bytes.ensures.value at run.cells) (l.invariant.reads columns knows) in
     let none = c.in_default.ensures.taken columns (rw (sym kept.same.3) at knows) near.0 in
     rw (kept.same.3 ∙ l.invariant.stays.same.3) at (row_ends (all_put refl kept.in_row.sink.ready.2 (rw none at near.1)))

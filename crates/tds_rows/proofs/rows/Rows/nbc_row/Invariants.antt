@@ -1,8 +1,8 @@
 use Rattle.tds_rows.proofs.rows.Rows.nbc_row.Given as goal
 use Rattle.tds_rows.proofs.{Words.{◌*◌, ◌≤◌, ◌-◌, List, length, Column, StaysInRow, bit, nbc_row_start, Knows, KnowsSome}, NextSteps.NearsHere, Paths.here}
 
-abbrev pub invariant-loop-form : goal.invariant-loop-form
-invariant-loop-form g l = record {
+abbrev pub invariant-loop-at : goal.invariant-loop-at
+invariant-loop-at g l = record {
   stays : StaysInRow l.fn.self l.self;
   knows : KnowsSome l.self.table.now;
   fits : l.self.table.now.count ≤ 8 * length l.bitmap.bytes;
@@ -11,5 +11,5 @@ invariant-loop-form g l = record {
       (here g.R.Read.remaining g.W.Write.contents l.fn.self) l.self l.ahead;
 }
 
-abbrev pub decreases-loop-form : goal.decreases-loop-form
-decreases-loop-form g l = l.self.table.now.count - l.ahead.column
+abbrev pub decreases-loop-at : goal.decreases-loop-at
+decreases-loop-at g l = l.self.table.now.count - l.ahead.column

@@ -1,11 +1,46 @@
 use Rattle.tds_rows.proofs.rows.Rows.put_cell.Goals as goal
-use Rattle.tds_rows.proofs.{Words.{◌≡◌, ◌∙◌, ap, sym, long_start, cell_start, shape, shape_of_layout, conversion_of, Chunked}, TableSteps.last_one}
+use Rattle.tds_rows.proofs.{
+  Words.{◌≡◌, ◌∙◌, ◌+◌, ◌≤◌, ap, length, sym, take, arith, rules, length-take, buffered, long_start, cell_start, shape, shape_of_layout, conversion_of},
+  Words.{Chunked, Short},
+  RunSteps.put_whole,
+  TableSteps.last_one,
+}
 
--- a value in chunks is that of its kind
-pub returns-in-Chunked-clause-cell : goal.returns-in-Chunked-clause-cell
-returns-in-Chunked-clause-cell g c = λ last next.
-    let kind = c.args.form.now.kind in
-    let end = c.is_last.ensures ∙ last_one _ _ _ _ _ next.knows.counted next.next ∙ sym next.last in
-    let start : long_start (conversion_of c.in-Chunked.content) Chunked ≡ cell_start kind (shape c.args.self.now.table.now.charset kind) =
-    sym (ap (cell_start kind) (c.requires.laid ∙ ap shape_of_layout c.in-Chunked.is)) in
-    rw start at (rw end at c.put_joined.ensures.field)
+pub returns-in-Some : goal.returns-in-Some
+returns-in-Some g c =
+    let old = c.args.self.now in
+    let n = c.in-Some.cell.used in
+    let lies : n ≤ length (buffered old.payload.now) = search (arith, rules) in
+    let at : c.consume.new.self.place ≡ old.payload.now.place + length (take n (buffered old.payload.now)) =
+    omega (arith, lies, ap (λ p. p.place) c.consume.ensures.rest, length-take n (buffered old.payload.now)) in
+    record {
+      leaves = search (arith, rules);
+      cell = λ last next.
+          let end = c.is_last-last.ensures ∙ last_one _ _ _ _ _ next.knows.counted next.next ∙ sym next.last in
+          let alone = rw (end, c.buffered-bytes.ensures) at c.in-Some.ensures.cell in
+          put_whole c.put.result _ _ _ _ _ g.W.Write.contents old.sink.now c.put.new.self c.requires.in_row.sink
+          (c.consume.ensures.between c.requires.in_row.payload.going) alone.writes.whole c.consume.ensures.gives at c.put.ensures;
+    }
+
+-- a long value is that of its kind
+pub returns-in-Short : goal.returns-in-Short
+returns-in-Short g c = record {
+  leaves = c.put_joined.ensures.leaves;
+  cell = λ last next.
+      let kind = c.args.form.now.kind in
+      let end = c.is_last-last.ensures ∙ last_one _ _ _ _ _ next.knows.counted next.next ∙ sym next.last in
+      let start : long_start (conversion_of c.in-Short.content) Short ≡ cell_start kind (shape c.args.self.now.table.now.charset kind) =
+      sym (ap (cell_start kind) (c.requires.laid ∙ ap shape_of_layout c.in-Short.is)) in
+      rw start at (rw end at c.put_joined.ensures.field);
+}
+
+pub returns-in-Chunked : goal.returns-in-Chunked
+returns-in-Chunked g c = record {
+  leaves = c.put_joined-in-Chunked.ensures.leaves;
+  cell = λ last next.
+      let kind = c.args.form.now.kind in
+      let end = c.is_last-last.ensures ∙ last_one _ _ _ _ _ next.knows.counted next.next ∙ sym next.last in
+      let start : long_start (conversion_of c.in-Chunked.content) Chunked ≡ cell_start kind (shape c.args.self.now.table.now.charset kind) =
+      sym (ap (cell_start kind) (c.requires.laid ∙ ap shape_of_layout c.in-Chunked.is)) in
+      rw start at (rw end at c.put_joined-in-Chunked.ensures.field);
+}

@@ -22,7 +22,7 @@ returns-in_err-put_cell-clause-row g c = λ columns known.
     let reads = l.invariant.reads columns knows in
     let taken = c.in-Some.ensures.taken columns knows reads.0 in
     let y = cell_read g.R.Read.remaining g.W.Write.contents l.self c.put_cell.new.self (λ k. false) knows taken {U = Unit {0}} (Err _) reads.0
-    c.in_err-put_cell.ensures.cell in
+    c.in_err-put_cell.ensures in
     passed _ _ _ _ c.from_residual.ensures.1 (rw l.invariant.stays.same.3 at (cell_stops (rw taken.next at reads.1) y))
 
 pub loop-form-preserved : goal.loop-form-preserved
@@ -35,7 +35,7 @@ loop-form-preserved g c =
           let reads = l.invariant.reads columns knows in
           let taken = c.in-Some.ensures.taken columns knows reads.0 in
           let y = cell_read g.R.Read.remaining g.W.Write.contents l.self c.put_cell.new.self (λ k. false) knows taken {U = Unit {0}} (Ok tt) reads.0
-          done.cell in
+          done in
           (taken.ahead, rw (sym taken.further) at (cell_reads (none_ahead (drop c.in-Some.after.column columns) _) (rw taken.next at reads.1) y)));
     }
 

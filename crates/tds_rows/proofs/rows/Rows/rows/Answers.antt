@@ -2,7 +2,7 @@ use Rattle.tds_rows.proofs.rows.Rows.rows.Goals as goal
 use Rattle.tds_rows.proofs.{
   Words.{◌∙◌, ◌+◌, ◌<◌, [], Err, List, Ok, drop, false, refl, sym, ap, arith, passed, Column, PlainRow, Knows},
   rows.Rows.rows.Given.Over,
-  NextSteps.{RowsHere, rowing_cell, rowing_breaks, rowing_stop, rows_first, rows_ran, rows_token, rows_whole, cell_read, stays, stays_after, stays_on},
+  NextSteps.{RowsHere, rowing_cell, rows_broke, rowing_stop, rows_first, rows_ran, rows_token, rows_whole, cell_read, stays, stays_after, stays_on},
   RowSteps.{none_ahead, cell_some},
   Paths.here,
 }
@@ -24,7 +24,7 @@ returns-in_err-run-clause-rows g c = λ columns known.
     let l = c.loop-run in
     let knows = rw (sym l.invariant.stays.same.3) at known in
     let reads = l.invariant.reads columns knows in
-    let stops = rowing_breaks _ reads.1 (λ cells is. c.in_err-run.ensures.run columns knows reads.0 cells is) in
+    let stops = rows_broke g.R.Read.remaining g.W.Write.contents c.put_run.new.self l.invariant.stays.in_row (c.in_err-run.ensures.cells columns knows reads.0) reads in
     passed _ _ _ _ c.from_residual.ensures.1 (rw l.invariant.stays.same.3 at stops)
 
 pub loop-run-preserved-then-run-gt0 : goal.loop-run-preserved-then-run-gt0
@@ -36,7 +36,7 @@ loop-run-preserved-then-run-gt0 g c =
       knows = rw (sym kept.same.3) at l.invariant.knows;
       few = omega (arith, l.invariant.few, c.in_ok-run.ensures.place);
       reads = rw kept.same.3 (λ columns knows.
-          rw kept.same.3 at (rows_ran g.R.Read.remaining g.W.Write.contents c.in_ok-run.run' kept knows c.in_ok-run.ensures.run
+          rw kept.same.3 at (rows_ran g.R.Read.remaining g.W.Write.contents c.in_ok-run.run' kept knows c.in_ok-run.ensures.cells
           (l.invariant.reads columns knows)));
     }
 
@@ -45,7 +45,7 @@ returns-then-not-take_token-clause-rows g c = λ columns known.
     let l = c.loop-run in
     let kept = stays_after l.invariant.stays.in_row c.in_ok-run.ensures.leaves in
     let knows = rw (sym l.invariant.stays.same.3) at known in
-    let x = rows_ran g.R.Read.remaining g.W.Write.contents c.in_ok-run.run' kept knows c.in_ok-run.ensures.run
+    let x = rows_ran g.R.Read.remaining g.W.Write.contents c.in_ok-run.run' kept knows c.in_ok-run.ensures.cells
     (l.invariant.reads columns knows) in
     let none = c.in_default.ensures.taken columns (rw (sym kept.same.3) at knows) x.0 in
     let there = rw (kept.same.3 ∙ l.invariant.stays.same.3) at (rows_whole (rw none at x.1).rows) in
@@ -64,11 +64,11 @@ returns-in_err-put_cell-clause-rows g c = λ columns known.
     let kept = stays_after l.invariant.stays.in_row c.in_ok-run.ensures.leaves in
     let knows = rw (sym l.invariant.stays.same.3) at known in
     let there = rw (sym kept.same.3) at knows in
-    let x = rows_ran g.R.Read.remaining g.W.Write.contents c.in_ok-run.run' kept knows c.in_ok-run.ensures.run
+    let x = rows_ran g.R.Read.remaining g.W.Write.contents c.in_ok-run.run' kept knows c.in_ok-run.ensures.cells
     (l.invariant.reads columns knows) in
     let taken = c.in-Some.ensures.taken columns there x.0 in
     let y = cell_read g.R.Read.remaining g.W.Write.contents c.put_run.new.self c.put_cell.new.self (λ k. false) there taken {U = Unit {0}} (Err _)
-    x.0 c.in_err-put_cell.ensures.cell in
+    x.0 c.in_err-put_cell.ensures in
     passed _ _ _ _ c.from_residual-in_err-put_cell.ensures.1 (rw (kept.same.3 ∙ l.invariant.stays.same.3) at (rowing_stop (rw taken.next at x.1) y))
 
 -- where a run and then a cell were read
@@ -81,11 +81,11 @@ step g c columns knows =
     let kept = stays_after l.invariant.stays.in_row c.in_ok-run.ensures.leaves in
     let done = c.in_ok-put_cell.ensures in
     let there = rw (sym kept.same.3) at knows in
-    let x = rows_ran g.R.Read.remaining g.W.Write.contents c.in_ok-run.run' kept knows c.in_ok-run.ensures.run
+    let x = rows_ran g.R.Read.remaining g.W.Write.contents c.in_ok-run.run' kept knows c.in_ok-run.ensures.cells
     (l.invariant.reads columns knows) in
     let taken = c.in-Some.ensures.taken columns there x.0 in
     let y = cell_read g.R.Read.remaining g.W.Write.contents c.put_run.new.self c.put_cell.new.self (λ k. false) there taken {U = Unit {0}} (Ok tt)
-    x.0 done.cell in (
+    x.0 done in (
       cell_some _ _ y,
       rw done.leaves.same.3 (
         taken.ahead,
@@ -120,7 +120,7 @@ loop-run-preserved-in_default g c =
       knows = rw (sym same) at l.invariant.knows;
       few = omega (arith, l.invariant.few, c.in_ok-run.ensures.place, taken.1);
       reads = rw same (λ columns knows.
-          let x = rows_ran g.R.Read.remaining g.W.Write.contents c.in_ok-run.run' kept knows c.in_ok-run.ensures.run
+          let x = rows_ran g.R.Read.remaining g.W.Write.contents c.in_ok-run.run' kept knows c.in_ok-run.ensures.cells
           (l.invariant.reads columns knows) in
           let none = c.in_default.ensures.taken columns (rw (sym kept.same.3) at knows) x.0 in
           let whole = rw kept.same.3 at (rows_whole (rw none at x.1).rows) in

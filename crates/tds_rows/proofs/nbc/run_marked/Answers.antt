@@ -1,15 +1,15 @@
-use Rattle.tds_rows.proofs.nbc.run_nulls.Goals as goal
+use Rattle.tds_rows.proofs.nbc.run_marked.Goals as goal
 use Rattle.tds_rows.proofs.{
   Words.{add-zero, inl, ℕ, ◌≡◌, ◌∙◌, ◌-◌, ◌<◌, ◌≤◌, Bool, [], ◌∷◌, refl, sym, ap, length, take, drop, subst, arith, rules, true, length-take, length-drop},
   Words.{all_after, in_line, null_field, is_last_column, bit},
-  nbc.run_nulls.Goals.{else-loop-to-test, then-loop-to-test+else-ahead-count, then-loop-to-test+then-ahead-count+else-end-ahead+then-cells-eq0},
+  nbc.run_marked.Goals.{else-loop-to-test, then-loop-to-test+else-ahead-count, then-loop-to-test+then-ahead-count+else-end-ahead+then-cells-eq0},
   Stretches.{ends_clear, runs_clear, runs_column, runs_more},
   TableSteps.{last_one, next_any, none_next, takes},
 }
 
 -- a column that is NULL by its bit
 pub loop-to-preserved-then-end-ahead : goal.loop-to-preserved-then-end-ahead
-loop-to-preserved-then-end-ahead c =
+loop-to-preserved-then-end-ahead g c =
     let l = c.loop-to in
     let bits = bit c.args.bitmap.now in
     let end = c.clear_end-end in
@@ -38,10 +38,10 @@ loop-to-preserved-then-end-ahead c =
 
 -- a run over columns that aren't
 pub loop-to-preserved : goal.loop-to-preserved
-loop-to-preserved c =
+loop-to-preserved g c =
     let l = c.loop-to in
     let end = c.clear_end-end in
-    let ran = c.run_cells-cells in
+    let ran = c.run_stretch-cells in
     let cells = ran.result in
     let further : l.ahead.column < cells.ahead.column = ran.ensures.within.further (omega (arith, c.if-cells-eq0.false)) in
     let within : cells.ahead.column ≤ end.result = ran.ensures.within.before end.ensures.least in
@@ -58,7 +58,7 @@ loop-to-preserved c =
     }
 
 pub returns-clause-ends : goal.returns-clause-ends
-returns-clause-ends c = λ columns column left knows ahead step.
+returns-clause-ends g c = λ columns column left knows ahead step.
     let l = c.loop-to in
     let bytes = c.args.bytes.now in
     let bits = bit c.args.bitmap.now in
@@ -71,6 +71,6 @@ returns-clause-ends c = λ columns column left knows ahead step.
           let room : length lent ≡ length c.args.to.now - l.made =
           omega (arith, l.auto.to, length-take (length l.to - l.made) (drop l.made l.to), length-drop l.made l.to) in
           let before : l.ahead.column < w.clear_end-end.result = omega (arith, w.clear_end-end.ensures.least, w.if-end-ahead.false) in
-          let run = rw room at (rw (all_after bytes l.used) at (w.run_cells-cells.ensures.ends w.if-cells-eq0.true before)) in
+          let run = rw room at (rw (all_after bytes l.used) at (w.run_stretch-cells.ensures.ends w.if-cells-eq0.true before)) in
           ends_clear _ bits _ _ _ (w.clear_end-end.ensures.clear l.ahead.column (omega arith) before) run columns column left knows ahead step)
     ]

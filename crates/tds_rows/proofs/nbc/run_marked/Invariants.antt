@@ -1,8 +1,8 @@
-use Rattle.tds_rows.proofs.nbc.run_nulls.Given as goal
+use Rattle.tds_rows.proofs.nbc.run_marked.Given as goal
 use Rattle.tds_rows.proofs.Words.{◌-◌, ◌≤◌, List, length, take, Column, AreClear, RunsMarked, bit, IsAhead, Knows}
 
 abbrev pub invariant-loop-to : goal.invariant-loop-to
-invariant-loop-to l = record {
+invariant-loop-to g l = record {
   used : l.used ≤ length l.fn.bytes;
   made : l.made ≤ length l.to;
   most : l.end ≤ l.fn.table.count;
@@ -12,4 +12,4 @@ invariant-loop-to l = record {
 }
 
 abbrev pub decreases-loop-to : goal.decreases-loop-to
-decreases-loop-to l = l.fn.table.count - l.ahead.column
+decreases-loop-to g l = l.fn.table.count - l.ahead.column

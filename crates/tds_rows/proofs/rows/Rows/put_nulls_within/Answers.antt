@@ -1,4 +1,4 @@
-use Rattle.tds_rows.proofs.rows.Rows.put_nulls.Goals as goal
+use Rattle.tds_rows.proofs.rows.Rows.put_nulls_within.Goals as goal
 use Rattle.tds_rows.proofs.{
   Words.{◌≡◌, ◌∙◌, ap, sym, drop, ◌-◌, ◌+◌, ◌≤◌, length, take, arith, rules, length-take, drop-drop, buffered, held},
   BufferedCells.kept_text,

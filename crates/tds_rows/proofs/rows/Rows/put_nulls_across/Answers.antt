@@ -1,0 +1,4 @@
+use Rattle.tds_rows.proofs.rows.Rows.put_nulls_across.Goals as goal
+
+pub returns : goal.returns
+returns g c = c.put_made.ensures.run _ _ (rw c.buffered-bytes.ensures at c.run_nulls-run.ensures.cells)
