@@ -2,8 +2,8 @@
 use Rattle.tds_values.{
   proofs.Words.{◌≡◌, ℕ, zero, suc, ◌+◌, ◌*◌, ◌/◌, ◌%◌, ◌^◌, ◌<◌, ◌==◌, true, refl, ap, ◌∙◌, arith, List, [], ◌++◌, length, take, drop, codes, get_or},
   proofs.Words.{agree_below, agree_below_at, eqb-true, hex_digit, lower, lower_digits, slice_index, add-zero, take_all, take-append-le, last_digits, All},
-  proofs.{Words.{All-nil, bytes_low_first, FOUR_DIGITS, MINUTES}, TextLengths.length-last_digits, WordLemmas.{bytes_written, digits_are_bytes, word_of}},
-  specs.{ScalarText.minutes_text, declared.numbers.TheConstants.POWERS},
+  proofs.{Words.{All-nil, bytes_low_first, DAYS, FOUR_DIGITS, MINUTES}, TextLengths.length-last_digits, WordLemmas.{bytes_written, digits_are_bytes, word_of}},
+  specs.{Calendar.date_from_march, ScalarText.{day_text, minutes_text}, declared.numbers.TheConstants.POWERS},
 }
 use Rattle.std.proofs.{Math.Seq.drop-append-add, lemmas.List.Elements.{All-append, All-cons}}
 
@@ -45,6 +45,14 @@ minutes = refl
 
 pub minute_at : (m k : ℕ) → m < 1440 → k ≡ 8 → take k (drop (8 * m) MINUTES) ≡ minutes_text m ++ codes ":" ++ last_digits 2 0
 minute_at m k h e = rw (e, minutes) (rw (add-zero m) at (text_at (λ m. minutes_text m ++ codes ":" ++ last_digits 2 0) 8 (λ m. refl) m 1440 0 h))
+
+-- and that of a day after a 1 March
+days : DAYS ≡ joined_from (λ d. day_text (date_from_march 0 d) ++ codes "  ") 366 0
+unfolding joined_from
+days = refl
+
+pub day_at : (d k : ℕ) → d < 366 → k ≡ 8 → take k (drop (8 * d) DAYS) ≡ day_text (date_from_march 0 d) ++ codes "  "
+day_at d k h e = rw (e, days) (rw (add-zero d) at (text_at (λ d. day_text (date_from_march 0 d) ++ codes "  ") 8 (λ d. refl) d 366 0 h))
 
 colon : All (λ b. b < 256) (codes ":")
 colon = All-cons (λ b. b < 256) 58 [] (omega arith) (All-nil (λ b. b < 256))
