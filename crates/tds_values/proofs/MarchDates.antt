@@ -1,12 +1,11 @@
 -- Dates by years that begin on 1 March.
 use Rattle.tds_values.{
-  proofs.Words.{[], ◌∷◌, ◌≡◌, ℕ, zero, suc, ◌+◌, ◌-◌, ◌*◌, ◌/◌, ◌%◌, ◌<◌, ◌≤◌, ◌==◌, Bool, true, false, nat_lt, refl, arith, sum, take, get_or, if◌then◌else◌, nat_tests},
-  proofs.Words.{IsDateOf, is_leap_year, date_of, last_digits, List, ◌++◌, length, codes, ap, ◌∙◌, sym, append_assoc, take-take, take-append-add, length-take-le, bytes_low_first, All, All-nil},
-  proofs.WordLemmas.{bytes_written, digits_are_bytes, word_of},
+  proofs.Words.{◌≡◌, ℕ, ◌+◌, ◌-◌, ◌*◌, ◌/◌, ◌%◌, ◌<◌, ◌≤◌, Bool, true, false, nat_lt, refl, arith, sum, take, get_or, if◌then◌else◌, nat_tests},
+  proofs.Words.{IsDateOf, is_leap_year, date_of, last_digits, List, ◌++◌, length, codes, ap, ◌∙◌, sym, append_assoc, take-take, take-append-add},
+  proofs.Words.{length-take-le},
   proofs.{CalendarLemmas.only_date, JiffDates.lengths, TableLemmas.each_below},
   specs.{Calendar.{CivilDate, date_from_march, from_march}, ScalarText.{day_text, date_text}},
 }
-use Rattle.std.proofs.lemmas.List.Elements.{All-append, All-cons}
 
 abbrev month : ℕ → ℕ
 month d = (from_march d).0 - 1
@@ -80,23 +79,16 @@ date_by_march n y d year h few e =
     let same : year ≡ (date_of n).year = e ∙ ap (λ c. y + c) (sym (carry d few)) ∙ ap (λ x. x.year) h in
     cc (same, ap (λ x. x.month) h, ap (λ x. x.day) h)
 
--- the bytes of its end, and a space after it
-pub day_written : (date : CivilDate) → bytes_low_first 0 8 (word_of (day_text date ++ codes "  ")) ≡ day_text date ++ codes "  "
-day_written date =
-    let P = λ (b : ℕ). b < 256 in
-    let spaces = All-cons P 32 (32 ∷ []) (omega arith) (All-cons P 32 [] (omega arith) (All-nil P)) in
-    let day = All-append P (last_digits 2 date.day) (codes "  ") (digits_are_bytes 2 date.day) spaces in
-    let dash = All-cons P 45 (last_digits 2 date.day ++ codes "  ") (omega arith) day in
-    let both = All-append P (last_digits 2 date.month) (45 ∷ last_digits 2 date.day ++ codes "  ") (digits_are_bytes 2 date.month) dash in
-    bytes_written (day_text date ++ codes "  ") (All-cons P 45 (last_digits 2 date.month ++ 45 ∷ last_digits 2 date.day ++ codes "  ") (omega arith) both)
-
-pub spaced : (at r : ℕ) (date : CivilDate) (old new bytes : List ℕ) → at ≤ length old → r ≡ at + 8 → take r new ≡ take at old ++ bytes
+-- its end, and a space after it
+pub spaced : (at r : ℕ) (date : CivilDate) (old new bytes : List ℕ) → at ≤ length old → r ≡ at + length bytes → take r new ≡ take at old ++ bytes
     → bytes ≡ day_text date ++ codes "  "
     → (take (at + 6) new ≡ take at old ++ day_text date) × (take (at + 6 + 1) new ≡ take (at + 6) new ++ codes " ")
 spaced at r date old new bytes long end e is =
     let t = take at old in
+    let eight : r ≡ at + 8 = rw is at end in
     let size : length t ≡ at = length-take-le at old long in
     let cut : (k : ℕ) → k ≤ 8 → take (at + k) new ≡ t ++ take k (day_text date ++ codes "  ") = λ k h.
-    cc (end, e, is, size, take-take (at + k) (at + 8) new (omega arith), take-append-add t (day_text date ++ codes "  ") k) in
+    cc (eight, e, is, size, take-take (at + k) (at + 8) new (omega arith), take-append-add t (day_text date ++ codes "  ") k) in
     let seven : at + 6 + 1 ≡ at + 7 = omega arith in
-    (cut 6 (omega arith), ap (λ k. take k new) seven ∙ cut 7 (omega arith) ∙ sym (append_assoc t (day_text date) (codes " ")) ∙ ap (λ x. x ++ codes " ") (sym (cut 6 (omega arith))))
+    let six = cut 6 (omega arith) in
+    (six, ap (λ k. take k new) seven ∙ cut 7 (omega arith) ∙ sym (append_assoc t (day_text date) (codes " ")) ∙ ap (λ x. x ++ codes " ") (sym six))

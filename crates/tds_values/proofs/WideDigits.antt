@@ -1,12 +1,15 @@
 -- Forty digits of a number, and its text in them.
 use Rattle.tds_values.{
   proofs.Words.{◌≡◌, inl, inr, ℕ, zero, suc, ◌+◌, ◌-◌, ◌/◌, ◌%◌, ◌^◌, ◌<◌, ◌≤◌, List, [], ◌∷◌, ◌++◌, take, drop, length, get_or, refl, sym, ap, ◌∙◌, arith},
-  proofs.Words.{Bool, ◌==◌, false, append_assoc, cases_lt, ⊎_elim, decimal, nat_tests, div-eq_of_lt, le-div, div_below, drop-take, take-take, one-le-pow, pow-add, cond},
+  proofs.Words.{Bool, ◌==◌, false, append_assoc, cases_lt, ⊎_elim, decimal, nat_tests, div-eq_of_lt, le-div, div_below, drop-take, take-take, one-le-pow},
+  proofs.Words.{pow-add, cond},
   proofs.{DigitLemmas.{decimal_last, last_digits-add, last_digits-mod}, TextLengths.length-last_digits},
-  proofs.Joining.joined,
   specs.ScalarText.{last_digits, is_zero, minus_if, decimal_text, fraction_text},
 }
-use Rattle.std.{proofs.{Common.take_all, Math.Seq.{drop-append-add, take-append-add}, lemmas.{List.{length-drop, length-take-le, take-append-le}, Slice.take-put_mid}}, specs.List.prefix_len}
+use Rattle.std.{
+  proofs.{Common.take_all, Math.Seq.{drop-append-add, take-append-add}, lemmas.{List.{length-drop, length-take-le, take-append-le}, Slice.take-put_mid}},
+  specs.List.prefix_len,
+}
 use Rattle.std.specs.Prelude.{◌&&◌, not}
 use borrow.Rule.Slice.PartMut.{put_mid}
 
@@ -67,7 +70,11 @@ whole_part n scale ds first fits small is few zeros =
     let e : suc k + scale ≡ 40 = omega arith in
     let long = length-last_digits (suc k) w in
     let front : take (suc k) ds ≡ last_digits (suc k) w =
-    rw (← take-take (suc k) 40 ds (omega arith), is ∙ split n scale k e, take-append-le (suc k) (last_digits (suc k) w) (last_digits scale n) (omega arith))
+    rw (
+      ← take-take (suc k) 40 ds (omega arith),
+      is ∙ split n scale k e,
+      take-append-le (suc k) (last_digits (suc k) w) (last_digits scale n) (omega arith),
+    )
     (take_all (suc k) (last_digits (suc k) w) (omega arith)) in
     let some = rw front at (take-take k (suc k) ds (omega arith)) in
     let point : first + (40 - scale - first) ≡ suc k = omega arith in
@@ -92,7 +99,8 @@ of_block at from m n k to digits piece room within few is =
     let long : length piece ≡ m = rw is (length-take-le m (drop from digits) (omega (arith, length-drop from digits))) in
     let all = take-put_mid at k to piece (at + m) (omega arith) room in
     let size = length-take-le at to room in
-    cc (take-take (at + n) (at + m) (put_mid at k to piece) (omega arith), all, size, take-append-add (take at to) piece n, is, take-take n m (drop from digits) few)
+    let last = take-take n m (drop from digits) few in
+    cc (take-take (at + n) (at + m) (put_mid at k to piece) (omega arith), all, size, take-append-add (take at to) piece n, is, last)
 
 -- a sign, the digits before the point and what comes after them
 pub decimal_joined : (negative : Bool) (m scale : ℕ) (t x y z whole fraction : List ℕ) → x ≡ t ++ minus_if (negative && not (m == 0)) → y ≡ x ++ whole

@@ -3,13 +3,11 @@ ghost use Rattle.std.specs.Prelude.{◌≡◌, ◌+◌, ◌/◌, ◌<◌, ◌≤
 ghost use Rattle.tds_values.specs.Calendar.{date_from_march, date_of};
 ghost use Rattle.tds_values.specs.ScalarText.{last_digits, date_text, day_text, seconds_text, minutes_text, fraction_text, ticks_text, offset_text, date_and_time};
 ghost use Rattle.tds_values.specs.TimeOfDay.{IsClockTime};
-ghost use Rattle.byteorder.specs.Endian.{little_bytes, little_number};
 
-use crate::digits::{put_byte, put_end, put_four, put_two, put_word};
+use crate::digits::{put_byte, put_end, put_four, put_piece, put_two};
 use crate::numbers::put_fraction;
 use crate::ranges::{LARGEST_OFFSET, LAST_DAY, MINUTES_A_DAY, SECONDS_A_DAY, TICKS_A_DAY};
 use crate::tables::{DAYS, MINUTES};
-use byteorder::{ByteOrder, LittleEndian};
 
 // How many days lie between 0000-03-01 and day 0.
 const DAYS_BEFORE_DAY_0: u32 = 306;
@@ -31,14 +29,14 @@ fn march_year(day: u32) -> (u32, u32)
     )
 }
 
-// -MM-DD and two spaces as one number, the first byte the lowest, so many days after a 1 March.
+// -MM-DD and two spaces, so many days after a 1 March.
 #[inline(always)]
-fn day_after_march(days: u32) -> u64
+fn day_after_march(days: u32) -> &'static [u8]
     requires { days < 366 }
-    ensures { little_bytes 8 result ≡ day_text (date_from_march 0 days) ++ codes "  " }
+    ensures { result.now ≡ day_text (date_from_march 0 days) ++ codes "  " }
 {
     let from = 8 * days as usize;
-    LittleEndian::read_u64(&DAYS[from..from + 8])
+    &DAYS[from..from + 8]
 }
 
 // -MM-DD, so many days after a 1 March, and a space after it.
@@ -50,12 +48,12 @@ fn put_day(to: &mut [u8], at: usize, days: u32) -> usize
     ensures written { take result to.new ≡ take at to.old ++ day_text (date_from_march 0 days) }
     ensures space { take (result + 1) to.new ≡ take result to.new ++ codes " " }
 {
-    put_word(to, at, day_after_march(days));
+    put_piece(to, at, day_after_march(days));
     at + 6
 }
 
-// YYYY-MM-DD, and a space after it. The steps of the calendar stand once, behind a call.
-#[inline(never)]
+// YYYY-MM-DD, and a space after it.
+#[inline(always)]
 pub(crate) fn put_date(to: &mut [u8], at: usize, day: u32) -> usize
     requires room { at + 12 ≤ length to.old }
     requires day { day ≤ LAST_DAY }
@@ -68,14 +66,14 @@ pub(crate) fn put_date(to: &mut [u8], at: usize, day: u32) -> usize
     put_day(to, at, days)
 }
 
-// HH:MM:00 as one number, the first digit in its lowest byte.
+// HH:MM:00.
 #[inline(always)]
-fn minute(minutes: u32) -> u64
+fn minute(minutes: u32) -> &'static [u8]
     requires { minutes < MINUTES_A_DAY }
-    ensures { result ≡ little_number 8 (minutes_text minutes ++ codes ":" ++ last_digits 2 0) }
+    ensures { result.now ≡ minutes_text minutes ++ codes ":" ++ last_digits 2 0 }
 {
     let from = 8 * minutes as usize;
-    LittleEndian::read_u64(&MINUTES[from..from + 8])
+    &MINUTES[from..from + 8]
 }
 
 // HH:MM:00.
@@ -86,7 +84,7 @@ pub(crate) fn put_minute(to: &mut [u8], at: usize, minutes: u32) -> usize
     ensures end { result ≡ at + 8 }
     ensures written { take result to.new ≡ take at to.old ++ (minutes_text minutes ++ codes ":" ++ last_digits 2 0) }
 {
-    put_word(to, at, minute(minutes))
+    put_piece(to, at, minute(minutes))
 }
 
 // HH:MM, and a colon after it.

@@ -1,6 +1,10 @@
 use Rattle.tds_values.proofs.wide.put_wide_decimal.Goals as goal
 use Rattle.std.proofs.lemmas.List.{length-drop}
-use Rattle.tds_values.proofs.{Words.{◌≡◌, ◌++◌, [], List, ℕ, take, decimal, ◌/◌, ◌^◌, ◌-◌, drop, length, ap, sym, refl, arith, append-nil, length-take-le}, TextLengths.{length-whole}, WideDigits.{decimal_joined, fraction_part, whole_part}}
+use Rattle.tds_values.proofs.{
+  Words.{take, ◌-◌, drop, length, ap, sym, arith, append-nil, length-take-le},
+  TextLengths.{length-whole},
+  WideDigits.{decimal_joined, fraction_part, whole_part},
+}
 
 pub returns-then-scale-eq0-clause-written : goal.returns-then-scale-eq0-clause-written
 returns-then-scale-eq0-clause-written c =
