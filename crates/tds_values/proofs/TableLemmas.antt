@@ -1,11 +1,11 @@
 -- The tables of digits.
 use Rattle.tds_values.{
   proofs.Words.{◌≡◌, ℕ, zero, suc, ◌+◌, ◌*◌, ◌/◌, ◌%◌, ◌^◌, ◌<◌, ◌==◌, true, refl, ap, ◌∙◌, arith, List, [], ◌++◌, length, take, drop, codes, get_or},
-  proofs.Words.{agree_below, agree_below_at, eqb-true, hex_digit, lower, lower_digits, slice_index, add-zero, take_all, take-append-le, last_digits, All},
-  proofs.{Words.{All-nil, bytes_low_first, FOUR_DIGITS, MINUTES}, TextLengths.length-last_digits, WordLemmas.{bytes_written, digits_are_bytes, word_of}},
-  specs.{ScalarText.minutes_text, declared.numbers.TheConstants.POWERS},
+  proofs.Words.{agree_below, agree_below_at, eqb-true, hex_digit, lower, lower_digits, slice_index, add-zero, take_all, take-append-le, last_digits},
+  proofs.{Words.{DAYS, FOUR_DIGITS, MINUTES}, TextLengths.length-last_digits},
+  specs.{Calendar.date_from_march, ScalarText.{day_text, minutes_text}, declared.numbers.TheConstants.POWERS},
 }
-use Rattle.std.proofs.{Math.Seq.drop-append-add, lemmas.List.Elements.{All-append, All-cons}}
+use Rattle.std.proofs.{Math.Seq.drop-append-add}
 
 -- functions agree below n that do so where they are computed
 pub each_below : (f g : ℕ → ℕ) (n : ℕ) → agree_below (λ k. f k == g k) (λ _. true) n ≡ true → (k : ℕ) → k < n → f k ≡ g k
@@ -46,17 +46,13 @@ minutes = refl
 pub minute_at : (m k : ℕ) → m < 1440 → k ≡ 8 → take k (drop (8 * m) MINUTES) ≡ minutes_text m ++ codes ":" ++ last_digits 2 0
 minute_at m k h e = rw (e, minutes) (rw (add-zero m) at (text_at (λ m. minutes_text m ++ codes ":" ++ last_digits 2 0) 8 (λ m. refl) m 1440 0 h))
 
-colon : All (λ b. b < 256) (codes ":")
-colon = All-cons (λ b. b < 256) 58 [] (omega arith) (All-nil (λ b. b < 256))
+-- and that of a day after a 1 March
+days : DAYS ≡ joined_from (λ d. day_text (date_from_march 0 d) ++ codes "  ") 366 0
+unfolding joined_from
+days = refl
 
-pub minute_written : (m : ℕ) → let text = minutes_text m ++ codes ":" ++ last_digits 2 0 in bytes_low_first 0 8 (word_of text) ≡ text
-minute_written m =
-    let P = λ (b : ℕ). b < 256 in
-    let two = λ (n : ℕ). digits_are_bytes 2 n in
-    let minutes = All-append P (codes ":") (last_digits 2 (m % 60)) colon (two (m % 60)) in
-    let zeros = All-append P (codes ":") (last_digits 2 0) colon (two 0) in
-    bytes_written (minutes_text m ++ codes ":" ++ last_digits 2 0) (All-append P (minutes_text m) (codes ":" ++ last_digits 2 0)
-    (All-append P (last_digits 2 (m / 60)) (codes ":" ++ last_digits 2 (m % 60)) (two (m / 60)) minutes) zeros)
+pub day_at : (d k : ℕ) → d < 366 → k ≡ 8 → take k (drop (8 * d) DAYS) ≡ day_text (date_from_march 0 d) ++ codes "  "
+day_at d k h e = rw (e, days) (rw (add-zero d) at (text_at (λ d. day_text (date_from_march 0 d) ++ codes "  ") 8 (λ d. refl) d 366 0 h))
 
 pub power_at : (scale : ℕ) → scale < 20 → get_or POWERS scale 0 ≡ 10 ^ scale
 power_at = each_below _ _ 20 refl

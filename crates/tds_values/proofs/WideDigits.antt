@@ -1,11 +1,17 @@
 -- Forty digits of a number, and its text in them.
 use Rattle.tds_values.{
   proofs.Words.{◌≡◌, inl, inr, ℕ, zero, suc, ◌+◌, ◌-◌, ◌/◌, ◌%◌, ◌^◌, ◌<◌, ◌≤◌, List, [], ◌∷◌, ◌++◌, take, drop, length, get_or, refl, sym, ap, ◌∙◌, arith},
-  proofs.Words.{false, append_assoc, cases_lt, ⊎_elim, decimal, nat_tests, div-eq_of_lt, le-div, div_below, drop-take, take-take, one-le-pow, pow-add, cond},
+  proofs.Words.{Bool, ◌==◌, false, append_assoc, cases_lt, ⊎_elim, decimal, nat_tests, div-eq_of_lt, le-div, div_below, drop-take, take-take, one-le-pow},
+  proofs.Words.{pow-add, cond},
   proofs.{DigitLemmas.{decimal_last, last_digits-add, last_digits-mod}, TextLengths.length-last_digits},
-  specs.ScalarText.{last_digits, is_zero},
+  specs.ScalarText.{last_digits, is_zero, minus_if, decimal_text, fraction_text},
 }
-use Rattle.std.{proofs.{Common.take_all, Math.Seq.drop-append-add, lemmas.List.take-append-le}, specs.List.prefix_len}
+use Rattle.std.{
+  proofs.{Common.take_all, Math.Seq.{drop-append-add, take-append-add}, lemmas.{List.{length-drop, length-take-le, take-append-le}, Slice.take-put_mid}},
+  specs.List.prefix_len,
+}
+use Rattle.std.specs.Prelude.{◌&&◌, not}
+use borrow.Rule.Slice.PartMut.{put_mid}
 
 -- eight more digits after some
 eight_more : (k n : ℕ) {m g : ℕ} (t : List ℕ) {x y : List ℕ} → m ≡ n / 10 ^ 8 → g ≡ n % 10 ^ 8 → x ≡ t ++ last_digits k m → y ≡ x ++ last_digits 8 g
@@ -56,15 +62,19 @@ whole_fits n scale k fits e =
     (div_below n _ (10 ^ suc k) (one-le-pow scale 10 (omega arith)) (omega arith), omega arith)
 
 -- the text before the point
-pub whole_part : (n scale : ℕ) {ds : List ℕ} {first : ℕ} → n < 2 ^ 128 → scale ≤ 38 → ds ≡ last_digits 40 n → first ≤ 40 - scale - 1
+pub whole_part : (n scale : ℕ) (ds : List ℕ) (first : ℕ) → n < 2 ^ 128 → scale ≤ 38 → take 40 ds ≡ last_digits 40 n → first ≤ 40 - scale - 1
     → first ≡ prefix_len is_zero (take (40 - scale - 1) ds) → take (40 - scale - first) (drop first ds) ≡ decimal (n / 10 ^ scale)
-whole_part n scale {ds} {first} fits small is few zeros =
+whole_part n scale ds first fits small is few zeros =
     let k = 40 - scale - 1 in
     let w = n / 10 ^ scale in
     let e : suc k + scale ≡ 40 = omega arith in
     let long = length-last_digits (suc k) w in
     let front : take (suc k) ds ≡ last_digits (suc k) w =
-    rw (is ∙ split n scale k e, take-append-le (suc k) (last_digits (suc k) w) (last_digits scale n) (omega arith))
+    rw (
+      ← take-take (suc k) 40 ds (omega arith),
+      is ∙ split n scale k e,
+      take-append-le (suc k) (last_digits (suc k) w) (last_digits scale n) (omega arith),
+    )
     (take_all (suc k) (last_digits (suc k) w) (omega arith)) in
     let some = rw front at (take-take k (suc k) ds (omega arith)) in
     let point : first + (40 - scale - first) ≡ suc k = omega arith in
@@ -72,10 +82,27 @@ whole_part n scale {ds} {first} fits small is few zeros =
     rw (← drop-take first (40 - scale - first) ds, point, front, zeros, ← some) (after_zeros k w bounds.0 bounds.1)
 
 -- and the digits after it
-pub fraction_part : (n scale : ℕ) {ds : List ℕ} → scale ≤ 38 → ds ≡ last_digits 40 n → drop (40 - scale) ds ≡ last_digits scale n
-fraction_part n scale {ds} small is =
+pub fraction_part : (n scale : ℕ) (ds : List ℕ) → scale ≤ 38 → take 40 ds ≡ last_digits 40 n → take scale (drop (40 - scale) ds) ≡ last_digits scale n
+fraction_part n scale ds small is =
     let k = 40 - scale - 1 in
     let e : suc k + scale ≡ 40 = omega arith in
+    let all : 40 - scale + scale ≡ 40 = omega arith in
     let same : 40 - scale ≡ length (last_digits (suc k) (n / 10 ^ scale)) + 0 = omega (arith, length-last_digits (suc k) (n / 10 ^ scale)) in
-    ap (drop (40 - scale)) (is ∙ split n scale k e) ∙ ap (λ j. drop j (last_digits (suc k) (n / 10 ^ scale) ++ last_digits scale n)) same
-    ∙ drop-append-add (last_digits (suc k) (n / 10 ^ scale)) (last_digits scale n) 0
+    rw (← drop-take (40 - scale) scale ds, all) (ap (drop (40 - scale)) (is ∙ split n scale k e)
+    ∙ ap (λ j. drop j (last_digits (suc k) (n / 10 ^ scale) ++ last_digits scale n)) same
+    ∙ drop-append-add (last_digits (suc k) (n / 10 ^ scale)) (last_digits scale n) 0)
+
+-- the first of a block of m bytes
+pub of_block : (at from m n k : ℕ) (to digits piece : List ℕ) → at ≤ length to → from + m ≤ length digits → n ≤ m → piece ≡ take m (drop from digits)
+    → take (at + n) (put_mid at k to piece) ≡ take at to ++ take n (drop from digits)
+of_block at from m n k to digits piece room within few is =
+    let long : length piece ≡ m = rw is (length-take-le m (drop from digits) (omega (arith, length-drop from digits))) in
+    let all = take-put_mid at k to piece (at + m) (omega arith) room in
+    let size = length-take-le at to room in
+    let last = take-take n m (drop from digits) few in
+    cc (take-take (at + n) (at + m) (put_mid at k to piece) (omega arith), all, size, take-append-add (take at to) piece n, is, last)
+
+-- a sign, the digits before the point and what comes after them
+pub decimal_joined : (negative : Bool) (m scale : ℕ) (t x y z whole fraction : List ℕ) → x ≡ t ++ minus_if (negative && not (m == 0)) → y ≡ x ++ whole
+    → whole ≡ decimal (m / 10 ^ scale) → z ≡ y ++ fraction → fraction ≡ fraction_text scale m → z ≡ t ++ decimal_text negative m scale
+decimal_joined negative m scale t x y z whole fraction ex ey ew ez ef = rw (ez, ey, ex, ew, ef) (simp append_assoc)

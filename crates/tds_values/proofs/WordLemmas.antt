@@ -56,13 +56,6 @@ low_bytes i (suc k) n = grind (arith, div-div-eq-div-mul, (low_bytes (suc i) k n
 pub whole_word : (m w : ℕ) → bytes_low_first 0 m w ≡ bytes_of m w
 whole_word m w = let one : w / 256 ^ 0 ≡ w = omega arith in rw one at (low_bytes 0 m w)
 
--- so a word of bytes is written as they are
-pub bytes_written : (xs : List ℕ) → All (λ b. b < 256) xs → bytes_low_first 0 (length xs) (word_of xs) ≡ xs
-bytes_written xs h = rw whole_word (bytes_of-word_of xs h)
-
-pub digits_written : (k n : ℕ) → bytes_low_first 0 k (word_of (last_digits k n)) ≡ last_digits k n
-digits_written k n = rw length-last_digits at (bytes_written (last_digits k n) (digits_are_bytes k n))
-
 eighth_power : (k : ℕ) → 2 ^ (8 * k) ≡ 256 ^ k
 eighth_power zero = refl
 eighth_power (suc k) = let e : 8 * suc k ≡ 8 + 8 * k = omega arith in rw (e, pow-add 2 8 (8 * k), eighth_power k, pow-succ' 256 k)

@@ -32,7 +32,7 @@ pub use Rattle.tds_values.specs.{
   TimeOfDay.is_time,
   TypeInfo.{IsTypeInfo, kind_of},
   Written.{IsText, IsWritten},
-  declared.{tables.TheConstants.{FOUR_DIGITS, MINUTES}, kind.{Kind.Kind, Reach.TheVariants.{Chunked, Short}}, scalar.ScalarValue.ScalarValue},
+  declared.{tables.TheConstants.{DAYS, FOUR_DIGITS, MINUTES}, kind.{Kind.Kind, Reach.TheVariants.{Chunked, Short}}, scalar.ScalarValue.ScalarValue},
   declared.scalar.ValueFault.ValueFault,
 }
 pub use Rattle.uuid.{proofs.TextLemmas.by_index_length, specs.{Parts.swap_fields, Text.{hex_digit, lower}}}

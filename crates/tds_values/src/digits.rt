@@ -1,7 +1,7 @@
 // Digits and other bytes, written to a slice from a place on. Each call returns the place after what it wrote.
 ghost use Rattle.std.specs.Prelude.{◌≡◌, ◌+◌, ◌-◌, ◌<◌, ◌≤◌, ◌^◌, ◌/◌, ◌*◌, ◌%◌, [], ◌∷◌, ◌++◌, ◌⊎◌, take, length, decimal};
 ghost use Rattle.tds_values.specs.ScalarText.{last_digits, minus_if};
-ghost use Rattle.byteorder.specs.Endian.{little_bytes, little_number};
+ghost use Rattle.byteorder.specs.Endian.{little_number};
 
 use crate::tables::FOUR_DIGITS;
 use byteorder::{ByteOrder, LittleEndian};
@@ -28,37 +28,16 @@ pub(crate) fn put_minus(to: &mut [u8], at: usize, negative: bool) -> usize
     at + negative as usize
 }
 
-// The two bytes of a number, the lowest first.
+// Some bytes.
 #[inline(always)]
-fn put_quarter(to: &mut [u8], at: usize, word: u16) -> usize
-    requires { at + 2 ≤ length to.old }
-    ensures end { result ≡ at + 2 }
-    ensures written { take result to.new ≡ take at to.old ++ little_bytes 2 word }
+pub(crate) fn put_piece(to: &mut [u8], at: usize, piece: &[u8]) -> usize
+    requires { at + length piece.now ≤ length to.old }
+    ensures end { result ≡ at + length piece.now }
+    ensures written { take result to.new ≡ take at to.old ++ piece.now }
 {
-    LittleEndian::write_u16(&mut to[at..at + 2], word);
-    at + 2
-}
-
-// The four bytes of a number, the lowest first.
-#[inline(always)]
-fn put_half(to: &mut [u8], at: usize, word: u32) -> usize
-    requires { at + 4 ≤ length to.old }
-    ensures end { result ≡ at + 4 }
-    ensures written { take result to.new ≡ take at to.old ++ little_bytes 4 word }
-{
-    LittleEndian::write_u32(&mut to[at..at + 4], word);
-    at + 4
-}
-
-// The eight bytes of a number, the lowest first.
-#[inline(always)]
-pub(crate) fn put_word(to: &mut [u8], at: usize, word: u64) -> usize
-    requires { at + 8 ≤ length to.old }
-    ensures end { result ≡ at + 8 }
-    ensures written { take result to.new ≡ take at to.old ++ little_bytes 8 word }
-{
-    LittleEndian::write_u64(&mut to[at..at + 8], word);
-    at + 8
+    let end = at + piece.len();
+    to[at..end].copy_from_slice(piece);
+    end
 }
 
 // The four digits of a number.
@@ -88,7 +67,7 @@ pub(crate) fn put_two(to: &mut [u8], at: usize, n: u32) -> usize
     ensures end { result ≡ at + 2 }
     ensures written { take result to.new ≡ take at to.old ++ last_digits 2 n }
 {
-    put_quarter(to, at, LittleEndian::read_u16(&four_digits(n)[2..]))
+    put_piece(to, at, &four_digits(n)[2..])
 }
 
 // Four digits.
@@ -99,7 +78,7 @@ pub(crate) fn put_four(to: &mut [u8], at: usize, n: u32) -> usize
     ensures end { result ≡ at + 4 }
     ensures written { take result to.new ≡ take at to.old ++ last_digits 4 n }
 {
-    put_half(to, at, four(n))
+    put_piece(to, at, four_digits(n))
 }
 
 // Eight digits as one number, the first digit in its lowest byte.
@@ -120,7 +99,8 @@ fn put_after(to: &mut [u8], at: usize, skipped: usize, n: u32) -> usize
     ensures end { result ≡ at + (8 - skipped) }
     ensures written { take result to.new ≡ take at to.old ++ last_digits (8 - skipped) n }
 {
-    put_word(to, at, word(n) >> (8 * skipped as u32));
+    let digits = word(n) >> (8 * skipped as u32);
+    put_piece(to, at, &digits.to_le_bytes());
     at + (8 - skipped)
 }
 
@@ -147,7 +127,8 @@ pub(crate) fn put_end(to: &mut [u8], at: usize, k: usize, n: u32) -> usize
     ensures end { result ≡ at + k }
     ensures written { take result to.new ≡ take at to.old ++ last_digits k n }
 {
-    put_half(to, at, four(n) >> (8 * (4 - k as u32)));
+    let digits = four(n) >> (8 * (4 - k as u32));
+    put_piece(to, at, &digits.to_le_bytes());
     at + k
 }
 
@@ -174,7 +155,7 @@ fn put_head(to: &mut [u8], at: usize, n: u32) -> usize
 {
     let digits = four(n);
     let skipped = (digits - 0x2030_3030).trailing_zeros() as usize / 8;
-    put_half(to, at, digits >> (8 * skipped as u32));
+    put_piece(to, at, &(digits >> (8 * skipped as u32)).to_le_bytes());
     at + (4 - skipped)
 }
 

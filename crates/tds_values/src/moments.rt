@@ -1,44 +1,79 @@
 // The texts of dates and times, written to a slice from a place on.
-ghost use Rattle.std.specs.Prelude.{◌≡◌, ◌+◌, ◌<◌, ◌≤◌, ◌^◌, ◌++◌, codes, take, length, unsigned_abs};
-ghost use Rattle.tds_values.specs.ScalarText.{last_digits, date_text, seconds_text, minutes_text, fraction_text, ticks_text, offset_text, date_and_time};
+ghost use Rattle.std.specs.Prelude.{◌≡◌, ◌+◌, ◌/◌, ◌<◌, ◌≤◌, ◌^◌, ◌++◌, codes, take, length, unsigned_abs};
+ghost use Rattle.tds_values.specs.Calendar.{date_from_march, date_of};
+ghost use Rattle.tds_values.specs.ScalarText.{last_digits, date_text, day_text, seconds_text, minutes_text, fraction_text, ticks_text, offset_text, date_and_time};
 ghost use Rattle.tds_values.specs.TimeOfDay.{IsClockTime};
-ghost use Rattle.byteorder.specs.Endian.{little_number};
 
-use crate::digits::{put_byte, put_four, put_tail, put_two, put_word};
+use crate::digits::{put_byte, put_end, put_four, put_piece, put_two};
 use crate::numbers::put_fraction;
 use crate::ranges::{LARGEST_OFFSET, LAST_DAY, MINUTES_A_DAY, SECONDS_A_DAY, TICKS_A_DAY};
-use crate::tables::MINUTES;
-use byteorder::{ByteOrder, LittleEndian};
-use jiff_core::civil::Date;
+use crate::tables::{DAYS, MINUTES};
 
-// How many days the first day of `jiff`, -9999-01-01, is before day 0.
-pub(crate) const DAYS_BEFORE_DAY_0: u32 = 3_652_425;
+// How many days lie between 0000-03-01 and day 0.
+const DAYS_BEFORE_DAY_0: u32 = 306;
 
-// YYYY-MM-DD. The steps of the calendar stand once, behind a call.
-#[inline(never)]
+// The year of a day and how many of the year's days came before it, if years begin on 1 March.
+#[inline(always)]
+fn march_year(day: u32) -> (u32, u32)
+    requires { day ≤ LAST_DAY }
+    ensures date { date_from_march result.0 result.1 ≡ date_of day }
+    ensures days { result.1 < 366 }
+    ensures year { result.0 + result.1 / 306 < 10000 }
+{
+    let scaled = 4 * (day + DAYS_BEFORE_DAY_0) + 3;
+    let century = scaled / 146_097;
+    let in_century = scaled % 146_097 / 4 * 4 + 3;
+    (
+        100 * century + in_century / 1461,
+        in_century % 1461 / 4,
+    )
+}
+
+// -MM-DD and two spaces, so many days after a 1 March.
+#[inline(always)]
+fn day_after_march(days: u32) -> &'static [u8]
+    requires { days < 366 }
+    ensures { result.now ≡ day_text (date_from_march 0 days) ++ codes "  " }
+{
+    let from = 8 * days as usize;
+    &DAYS[from..from + 8]
+}
+
+// -MM-DD, so many days after a 1 March, and a space after it.
+#[inline(always)]
+fn put_day(to: &mut [u8], at: usize, days: u32) -> usize
+    requires room { at + 8 ≤ length to.old }
+    requires days { days < 366 }
+    ensures end { result ≡ at + 6 }
+    ensures written { take result to.new ≡ take at to.old ++ day_text (date_from_march 0 days) }
+    ensures space { take (result + 1) to.new ≡ take result to.new ++ codes " " }
+{
+    put_piece(to, at, day_after_march(days));
+    at + 6
+}
+
+// YYYY-MM-DD, and a space after it.
+#[inline(always)]
 pub(crate) fn put_date(to: &mut [u8], at: usize, day: u32) -> usize
-    requires room { at + 10 ≤ length to.old }
+    requires room { at + 12 ≤ length to.old }
     requires day { day ≤ LAST_DAY }
     ensures end { result ≡ at + 10 }
     ensures written { take result to.new ≡ take at to.old ++ date_text day }
+    ensures space { take (result + 1) to.new ≡ take result to.new ++ codes " " }
 {
-    let date = Date::from_days_since_min(day + DAYS_BEFORE_DAY_0);
-    let year = date.year.unsigned_abs() as u32;
-    let at = put_four(to, at, year);
-    let at = put_byte(to, at, b'-');
-    let at = put_two(to, at, date.month as u32);
-    let at = put_byte(to, at, b'-');
-    put_two(to, at, date.day as u32)
+    let (year, days) = march_year(day);
+    let at = put_four(to, at, year + u32::from(days >= DAYS_BEFORE_DAY_0));
+    put_day(to, at, days)
 }
 
-// HH:MM:00 as one number, the first digit in its lowest byte.
+// HH:MM:00.
 #[inline(always)]
-fn minute(minutes: u32) -> u64
+fn minute(minutes: u32) -> &'static [u8]
     requires { minutes < MINUTES_A_DAY }
-    ensures { result ≡ little_number 8 (minutes_text minutes ++ codes ":" ++ last_digits 2 0) }
+    ensures { result.now ≡ minutes_text minutes ++ codes ":" ++ last_digits 2 0 }
 {
     let from = 8 * minutes as usize;
-    LittleEndian::read_u64(&MINUTES[from..from + 8])
+    &MINUTES[from..from + 8]
 }
 
 // HH:MM:00.
@@ -49,7 +84,7 @@ pub(crate) fn put_minute(to: &mut [u8], at: usize, minutes: u32) -> usize
     ensures end { result ≡ at + 8 }
     ensures written { take result to.new ≡ take at to.old ++ (minutes_text minutes ++ codes ":" ++ last_digits 2 0) }
 {
-    put_word(to, at, minute(minutes))
+    put_piece(to, at, minute(minutes))
 }
 
 // HH:MM, and a colon after it.
@@ -101,21 +136,20 @@ pub(crate) fn put_moment(to: &mut [u8], day: u32, seconds: u32, scale: u8, part:
     ensures written { take result to.new ≡ date_and_time day (seconds_text seconds ++ fraction_text scale part) }
 {
     let at = put_date(to, 0, day);
-    let at = put_byte(to, at, b' ');
-    put_time(to, at, seconds, scale, part)
+    put_time(to, at + 1, seconds, scale, part)
 }
 
 // HH:MM:SS.mmm of a number of 1/300 seconds.
 #[inline(always)]
 pub(crate) fn put_ticks(to: &mut [u8], at: usize, ticks: u32) -> usize
-    requires room { at + 17 ≤ length to.old }
+    requires room { at + 13 ≤ length to.old }
     requires day { ticks < TICKS_A_DAY }
     ensures end { result ≡ at + 12 }
     ensures written { take result to.new ≡ take at to.old ++ ticks_text ticks }
 {
     let at = put_clock(to, at, ticks / 300);
     let at = put_byte(to, at, b'.');
-    put_tail(to, at, 3, (10 * (ticks % 300) + 1) / 3)
+    put_end(to, at, 3, (10 * (ticks % 300) + 1) / 3)
 }
 
 // +HH:MM or -HH:MM.

@@ -73,8 +73,7 @@ pub(crate) fn put_small_date_time(to: &mut [u8], days: u16, minutes: u16) -> usi
     ensures { IsText (ScalarValue.SmallDateTime days minutes) result to.new }
 {
     let at = put_date(to, 0, DAY_OF_1900 + days as u32);
-    let at = put_byte(to, at, b' ');
-    put_minute(to, at, minutes as u32)
+    put_minute(to, at + 1, minutes as u32)
 }
 
 // A datetime: days since 1900-01-01, and 1/300 seconds.
@@ -85,8 +84,7 @@ pub(crate) fn put_date_time(to: &mut [u8], days: i32, ticks: u32) -> usize
     ensures { IsText (ScalarValue.DateTime days ticks) result to.new }
 {
     let at = put_date(to, 0, (DAY_OF_1900 as i32 + days) as u32);
-    let at = put_byte(to, at, b' ');
-    put_ticks(to, at, ticks)
+    put_ticks(to, at + 1, ticks)
 }
 
 // A local time by its whole seconds since day 0 and what its units have beside those of UTC, and its offset.

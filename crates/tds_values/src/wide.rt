@@ -1,5 +1,5 @@
 // The texts of decimals of up to 128 bits.
-ghost use Rattle.std.specs.Prelude.{◌≡◌, ◌+◌, ◌-◌, ◌≤◌, ◌<◌, ◌/◌, ◌%◌, ◌^◌, ◌++◌, [], ◌∷◌, take, length};
+ghost use Rattle.std.specs.Prelude.{◌≡◌, ◌+◌, ◌-◌, ◌≤◌, ◌<◌, ◌/◌, ◌%◌, ◌^◌, ◌++◌, [], ◌∷◌, codes, take, drop, length};
 ghost use Rattle.std.specs.List.{prefix_len};
 ghost use Rattle.tds_values.specs.ScalarText.{last_digits, decimal_text, is_zero};
 
@@ -15,6 +15,7 @@ const GROUP: u64 = 100_000_000;
 
 // The digits of a number in groups of eight, the highest first. Each half of 32 bits is known in such groups, as
 // 2^32 is 42 and 94,967,296, so no division is wider than 64 bits.
+#[inline(always)]
 fn groups(n: u128) -> [u32; 5]
     ensures { result ≡ n / 10 ^ 32 ∷ n / 10 ^ 24 % 10 ^ 8 ∷ n / 10 ^ 16 % 10 ^ 8 ∷ n / 10 ^ 8 % 10 ^ 8 ∷ n % 10 ^ 8 ∷ [] }
 {
@@ -35,12 +36,13 @@ fn groups(n: u128) -> [u32; 5]
     ]
 }
 
-// The last forty digits of a number.
-fn digits(n: u128) -> [u8; DIGITS]
-    ensures { result ≡ last_digits 40 n }
+// The last forty digits of a number, and as many bytes more.
+#[inline(always)]
+fn digits(n: u128) -> [u8; 2 * DIGITS]
+    ensures { take 40 result ≡ last_digits 40 n }
 {
     let groups = groups(n);
-    let mut digits = [0; DIGITS];
+    let mut digits = [0; 2 * DIGITS];
     let to = &mut digits[..];
     let at = put_tail(to, 0, 8, groups[0]);
     let at = put_tail(to, at, 8, groups[1]);
@@ -63,15 +65,44 @@ fn zeros(digits: &[u8], most: usize) -> usize
     n
 }
 
-// Some digits.
-fn put_digits(to: &mut [u8], at: usize, digits: &[u8]) -> usize
-    requires { at + length digits.now ≤ length to.old }
-    ensures end { result ≡ at + length digits.now }
-    ensures written { take result to.new ≡ take at to.old ++ digits.now }
+// Some digits, as a block of `N` bytes, of which the last are written over or aren't wanted.
+#[inline(always)]
+fn put_digits<const N: usize>(
+    to: &mut [u8],
+    at: usize,
+    digits: &[u8],
+    from: usize,
+    n: usize,
+) -> usize
+    requires room { at + N ≤ length to.old }
+    requires digits { from + N ≤ length digits.now }
+    requires few { n ≤ N }
+    ensures end { result ≡ at + n }
+    ensures written { take result to.new ≡ take at to.old ++ take n (drop from digits.now) }
 {
-    let end = at + digits.len();
-    to[at..end].copy_from_slice(digits);
-    end
+    to[at..at + N].copy_from_slice(&digits[from..from + N]);
+    at + n
+}
+
+// A point, and of forty digits the last.
+#[inline(always)]
+fn put_after_point(to: &mut [u8], at: usize, digits: &[u8], scale: usize) -> usize
+    requires room { at + 16 < length to.old }
+    requires wide { 16 < scale → at + scale + 16 < length to.old }
+    requires digits { length digits.now ≡ 80 }
+    requires scale { scale ≤ 38 }
+    ensures end { result ≡ at + 1 + scale }
+    ensures written { take result to.new ≡ take at to.old ++ (codes "." ++ take scale (drop (40 - scale) digits.now)) }
+{
+    let at = put_byte(to, at, b'.');
+    let point = DIGITS - scale;
+    if scale <= 16 {
+        return put_digits::<16>(to, at, digits, point, scale);
+    }
+    if scale <= 32 {
+        return put_digits::<32>(to, at, digits, point, scale);
+    }
+    put_digits::<DIGITS>(to, at, digits, point, scale)
 }
 
 // A decimal.
@@ -92,10 +123,9 @@ pub(crate) fn put_wide_decimal(
     let point = DIGITS - scale as usize;
     let first = zeros(&digits, point - 1);
     let at = put_sign(to, at, negative, magnitude == 0);
-    let at = put_digits(to, at, &digits[first..point]);
+    let at = put_digits::<DIGITS>(to, at, &digits, first, point - first);
     if scale == 0 {
         return at;
     }
-    let at = put_byte(to, at, b'.');
-    put_digits(to, at, &digits[point..])
+    put_after_point(to, at, &digits, scale as usize)
 }

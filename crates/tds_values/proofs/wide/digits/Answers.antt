@@ -1,7 +1,7 @@
-use Rattle.{tds_values.proofs.{Words.{◌∙◌, arith, sym}, WideDigits.forty}, std.proofs.Common.take_all}
+use Rattle.tds_values.proofs.{Words.{◌∙◌, ap, arith, take, ◌≡◌}, WideDigits.forty}
 
 pub returns : Rattle.tds_values.proofs.wide.digits.Goals.returns
 returns c =
-    let whole = take_all c.put_tail.result c.put_tail.new.to (omega arith) in
-    sym whole ∙ forty c.args.n c.groups-groups.ensures c.put_tail-at.ensures.written c.put_tail-at-2.ensures.written c.put_tail-at-3.ensures.written
-    c.put_tail-at-4.ensures.written c.put_tail.ensures.written
+    let end : 40 ≡ c.put_tail.result = omega arith in
+    ap (λ k. take k c.put_tail.new.to) end ∙ forty c.args.n c.groups-groups.ensures c.put_tail-at.ensures.written c.put_tail-at-2.ensures.written
+    c.put_tail-at-3.ensures.written c.put_tail-at-4.ensures.written c.put_tail.ensures.written

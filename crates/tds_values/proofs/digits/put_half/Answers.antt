@@ -1,4 +1,0 @@
-use Rattle.tds_values.proofs.Words.{common_steps, arith}
-
-pub returns-clause-written : Rattle.tds_values.proofs.digits.put_half.Goals.returns-clause-written
-returns-clause-written c = grind (arith, common_steps)
