@@ -1,5 +1,4 @@
 use Rattle.tds_rows.proofs.run.run_cells.Goals as goal
-use Rattle.tds_rows.proofs.Words.{◌≡◌, arith, rules}
 
 pub returns-in-Some-clause-ends : goal.returns-in-Some-clause-ends
 returns-in-Some-clause-ends g c = λ none some. c.run_along.ensures.ends none
