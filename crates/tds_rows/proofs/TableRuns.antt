@@ -1,8 +1,8 @@
 -- Runs of cells over the columns that a table knows: more cells after those that were written.
 use Rattle.tds_rows.proofs.{
-  Words.{arith, true, false, [], ◌∷◌, ◌≡◌, ◌∙◌, ap, all_after, drop_more, refl, BeginsRow, ℕ, ◌+◌, ◌-◌, ◌<◌, ◌≤◌, List, ◌++◌, length, length-append},
+  Words.{arith, false, [], ◌∷◌, ◌≡◌, ◌∙◌, ap, all_after, drop_more, refl, BeginsRow, ℕ, ◌+◌, ◌-◌, ◌<◌, ◌≤◌, List, ◌++◌, length, length-append},
   Words.{length-drop, length-take, length-take-le, take, drop, get_or, sym, Column, Charset, Ahead, CellRun, CellsWritten, RowsRan, RowsRun, Table, Cell},
-  Words.{WritesRows, IsAhead, Knows, RunsMarked, ◌^◌, inr, append-nil, Bool, Breaks, Held, IsBetween, Puts, RowStops, RunsRows, Seen, Stop, Takes, Takes-more},
+  Words.{WritesRows, IsAhead, Knows, RunsMarked, ◌^◌, inr, append-nil, Bool, Held, Puts, RowStops, RunsRows, Seen, Stop, Takes, Takes-more},
   Words.{after_cells, breaks_somewhere, row, row_so_far, BreaksMarked, PutsMarked},
   GrowingTexts.row_grows,
   Paths.At,

@@ -17,13 +17,18 @@ use Rattle.tds_rows.specs.CellSteps.{CellPut, FieldPut, LeavesSmall, longest_cel
 use Rattle.tds_rows.specs.Rows.{RowPart, RowToken, longest_bitmap, token_byte}
 use Rattle.tds_rows.specs.RowSteps.{RowPut}
 use Rattle.tds_rows.specs.Successes.{BeginNoRow}
-use Rattle.tds_rows.specs.Tables.{IsNextKind}
+use Rattle.tds_rows.specs.Tables.{IsNextKind, KnowsSome}
 
 -- A row is being read: payload and sink go on, and the small area has room for a cell.
 pub record IsInRow {R W : Type 0} (rows : Rows R W) : Type 0 where
   pub payload : IsGoing rows.payload.now
   pub sink : IsWriting rows.sink.now
   pub room : longest_cell ≤ rows.small.now.room
+
+-- A row of some columns is being read.
+pub record IsInSomeRow {R W : Type 0} (rows : Rows R W) : Type 0 where
+  pub in_row : IsInRow rows
+  pub knows : KnowsSome rows.table.now
 
 -- A row is being read, and its next cell is of this form.
 pub record IsAtCell {R W : Type 0} (rows : Rows R W) (at : Ahead) (form : Form) : Type 0 where
@@ -97,3 +102,7 @@ RowRead remaining contents start old new result =
 abbrev pub TokenTaken : {R : Type 0} → (R → Option (List ℕ)) → RowToken → Payload R → Payload R → Bool → Type 0
 TokenTaken remaining token old new true = Takes (seen remaining old) (seen remaining new) (token_byte token ∷ []) 1 × (new.place ≡ old.place + 1)
 TokenTaken remaining token old new false = (new ≡ old) × BeginNoRow token (buffered new)
+
+-- Rows were read, as many as there are up to here and no more than bytes were taken but one, and none is next in the packet.
+abbrev pub EndsRows : {R : Type 0} → RowToken → Payload R → Payload R → ℕ → Type 0
+EndsRows token old new count = (old.place + count ≤ new.place + 1) × BeginNoRow token (buffered new)

@@ -8,19 +8,19 @@ ghost use Rattle.tds_columns.specs.View.{columns_of};
 ghost use Rattle.tds_csv.specs.Sinks.{IsReady, IsWriting, LeavesSink};
 ghost use Rattle.tds_packet.specs.Payloads.{IsGoing, IsSound, LeavesPayload, buffered};
 ghost use Rattle.tds_packet.specs.Reads.{KeepsRoom};
-ghost use Rattle.tds_rows.specs.RowReading.{AwaitsBitmap, IsAtCell, IsInMarkedRow, IsInRow, LeavesRows, NextRead, RowRead, StaysInRow};
+ghost use Rattle.tds_rows.specs.RowReading.{AwaitsBitmap, IsAtCell, EndsRows, IsInMarkedRow, IsInSomeRow, LeavesRows, NextRead, RowRead, StaysInRow};
 ghost use Rattle.tds_rows.specs.RowRuns.{MarkedRead};
 ghost use Rattle.tds_rows.specs.RowSteps.{RowPut, RowsRead, StopsAgain};
 ghost use Rattle.tds_rows.specs.Cells.{Cell};
 ghost use Rattle.tds_rows.specs.CellSteps.{LeavesSmall, longest_cell};
 ghost use Rattle.tds_rows.specs.Layouts.{IsLaidOut};
 ghost use Rattle.tds_rows.specs.Successes.{BeginNoRow, SpellsRows, SucceedsOn};
-ghost use Rattle.tds_rows.specs.Tables.{Knows, KnowsSome};
+ghost use Rattle.tds_rows.specs.Tables.{Knows};
 
 use crate::cell::layout::Form;
 use crate::cell::whole::{CELL_ROOM, put_null};
 use crate::rows::{BLOCK_END, Rows, SHORT_TEXT};
-use crate::run::{CellRun, run_stretch};
+use crate::run::{CellRun, run_cells};
 use crate::table::{Ahead, Table};
 use std::io::{Read, Write};
 use tds_columns::{Columns, take_into};
@@ -87,7 +87,7 @@ fn run_marked<'a, const KNOWN: bool>(
             continue;
         }
         let (rest, room) = (&bytes[used..], &mut to[made..]);
-        let cells = run_stretch::<KNOWN>(table, ahead, end, rest, room);
+        let cells = run_cells::<KNOWN>(table, ahead, end, rest, room);
         if cells.used == 0 {
             break;
         }
@@ -220,8 +220,7 @@ impl<'r, 't, 'p, 's, 'c, R: Read, W: Write> Rows<'r, 't, 'p, 's, 'c, R, W> {
 
     // Reads an NBCROW after its token byte, its bitmap into an empty area, and puts its line.
     fn nbc_row(&mut self, bitmap: &mut Area) -> Result<(), Stop>
-        requires in_row { IsInRow self.old }
-        requires knows { KnowsSome self.old.table.now }
+        requires some { IsInSomeRow self.old }
         requires awaits { AwaitsBitmap bitmap.old }
         ensures leaves { LeavesRows self.old self.new result }
         ensures bitmap { KeepsRoom bitmap.old bitmap.new }
@@ -244,13 +243,11 @@ impl<'r, 't, 'p, 's, 'c, R: Read, W: Write> Rows<'r, 't, 'p, 's, 'c, R, W> {
     // Reads an NBCROW and those that follow it in its packet, each with only its bitmap in the area, and puts
     // their lines. Returns how many they are.
     fn nbc_rows(&mut self, bitmap: &mut Area) -> Result<u64, Stop>
-        requires in_row { IsInRow self.old }
-        requires knows { KnowsSome self.old.table.now }
+        requires some { IsInSomeRow self.old }
         requires room { longest_bitmap ≤ bitmap.old.room }
         ensures leaves { LeavesRows self.old self.new result }
         ensures bitmap { KeepsRoom bitmap.old bitmap.new }
-        ensures few { IfOk result (λ count. self.old.payload.now.place + count ≤ self.new.payload.now.place + 1) }
-        ensures all { IfOk result (λ _. BeginNoRow NbcRow (buffered self.new.payload.now)) }
+        ensures ends { IfOk result (λ count. EndsRows NbcRow self.old.payload.now self.new.payload.now count) }
         ensures rows { (columns : List Column) → Knows self.old.table.now columns →
             RowsRead R.remaining W.contents NbcRow self.old.table.now.charset columns
             self.old.payload.now self.new.payload.now self.old.sink.now self.new.sink.now result }

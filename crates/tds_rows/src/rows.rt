@@ -3,7 +3,7 @@ ghost use Rattle.std.specs.Prelude.{◌≡◌, ◌+◌, ◌<◌, ◌≤◌, ◌+
 ghost use Rattle.tds_csv.specs.Fields.{conversion_of};
 ghost use Rattle.tds_rows.specs.Cells.{long_start, Cell};
 ghost use Rattle.tds_rows.specs.Layouts.{IsLaidOut};
-ghost use Rattle.tds_rows.specs.RowReading.{CellRead, ContentRead, IsAtCell, IsInRow, LeavesRows, StaysInRow, TokenTaken, RowRead};
+ghost use Rattle.tds_rows.specs.RowReading.{CellRead, ContentRead, EndsRows, IsAtCell, IsInRow, IsInSomeRow, LeavesRows, StaysInRow, TokenTaken, RowRead};
 ghost use Rattle.tds_rows.specs.Rows.{RowToken, token_byte, PlainRow, SpellsRow, row_start};
 ghost use Rattle.tds_columns.specs.Description.{Column};
 ghost use Rattle.tds_columns.specs.View.{columns_of};
@@ -15,7 +15,7 @@ ghost use Rattle.tds_rows.specs.Runs.{RowsPut};
 ghost use Rattle.tds_rows.specs.MarkedRuns.{MarkedWritten};
 ghost use Rattle.tds_rows.specs.RowRuns.{IsFurther, MarkedRead, RunRead};
 ghost use Rattle.tds_rows.specs.Successes.{BeginNoRow, SpellsRows, SucceedsOn};
-ghost use Rattle.tds_rows.specs.Tables.{Knows, KnowsSome};
+ghost use Rattle.tds_rows.specs.Tables.{Knows};
 ghost use Rattle.tds_values.specs.Kind as kinds;
 
 use crate::cell::gathered::{gather_scalar, length_size};
@@ -187,7 +187,7 @@ impl<'r, 't, 'p, 's, 'c, R: Read, W: Write> Rows<'r, 't, 'p, 's, 'c, R, W> {
     {
         let mut text = [0u8; SHORT_TEXT];
         let end = self.table.count();
-        let run = run_cells(self.table, from, end, self.payload.buffered(), &mut text);
+        let run = run_cells::<false>(self.table, from, end, self.payload.buffered(), &mut text);
         let ahead = self.put_made(run, &text)?;
         Ok(RowsRun {
             used: run.used,
@@ -226,11 +226,9 @@ impl<'r, 't, 'p, 's, 'c, R: Read, W: Write> Rows<'r, 't, 'p, 's, 'c, R, W> {
 
     // Reads a row and those that follow it in its packet, and puts their lines. Returns how many they are.
     fn rows(&mut self) -> Result<u64, Stop>
-        requires in_row { IsInRow self.old }
-        requires knows { KnowsSome self.old.table.now }
+        requires { IsInSomeRow self.old }
         ensures leaves { LeavesRows self.old self.new result }
-        ensures few { IfOk result (λ count. self.old.payload.now.place + count ≤ self.new.payload.now.place + 1) }
-        ensures all { IfOk result (λ _. BeginNoRow PlainRow (buffered self.new.payload.now)) }
+        ensures ends { IfOk result (λ count. EndsRows PlainRow self.old.payload.now self.new.payload.now count) }
         ensures rows { (columns : List Column) → Knows self.old.table.now columns →
             RowsRead R.remaining W.contents PlainRow self.old.table.now.charset columns
             self.old.payload.now self.new.payload.now self.old.sink.now self.new.sink.now result }

@@ -110,33 +110,9 @@ fn run_unknown<'a>(
 }
 
 // Writes cell after cell of a row, as far as they are whole in these bytes, aren't in chunks and have room, up to the
-// column at which it ends.
+// column at which it ends. `KNOWN` says that the table knows all columns.
 #[inline(always)]
-pub(crate) fn run_cells<'a>(
-    table: &Table<'a>,
-    from: Ahead<'a>,
-    end: u16,
-    bytes: &[u8],
-    to: &mut [u8],
-) -> CellRun<'a>
-    requires { end ≤ table.now.count }
-    ensures within { StaysWithin from.entry end (length bytes.now) (length to.old) result }
-    ensures ends { result.used ≡ 0 → from.entry.column < end →
-        RunEnds table.now from.entry bytes.now (length to.old) }
-    ensures cells { CellsWritten table.now from.entry bytes.now to.new result }
-{
-    if from.column >= end {
-        return CellRun::none(from);
-    }
-    match (&*table).forms(from, end) {
-        Some(forms) => run_along(table, from, end, forms, bytes, to),
-        None => run_unknown(table, from, end, bytes, to),
-    }
-}
-
-// Writes cells as `run_cells` does. `KNOWN` says that the table knows all columns.
-#[inline(always)]
-pub(crate) fn run_stretch<'a, const KNOWN: bool>(
+pub(crate) fn run_cells<'a, const KNOWN: bool>(
     table: &Table<'a>,
     from: Ahead<'a>,
     end: u16,
@@ -150,13 +126,13 @@ pub(crate) fn run_stretch<'a, const KNOWN: bool>(
         RunEnds table.now from.entry bytes.now (length to.old) }
     ensures cells { CellsWritten table.now from.entry bytes.now to.new result }
 {
-    if !KNOWN {
-        return run_cells(table, from, end, bytes, to);
+    if let Some(forms) = (&*table).forms(from, end) {
+        return run_along(table, from, end, forms, bytes, to);
     }
-    let Some(forms) = (&*table).forms(from, end) else {
+    if KNOWN || from.column >= end {
         return CellRun::none(from);
-    };
-    run_along(table, from, end, forms, bytes, to)
+    }
+    run_unknown(table, from, end, bytes, to)
 }
 
 /// Writes only the cell of a form. `None` if it isn't whole in these bytes, is refused or in chunks, or if there isn't
@@ -320,7 +296,13 @@ fn run_partly_known<'a>(
             ahead = table.start();
             continue;
         }
-        let cells = run_cells(table, ahead, table.count(), &bytes[used..], &mut to[made..]);
+        let cells = run_cells::<false>(
+            table,
+            ahead,
+            table.count(),
+            &bytes[used..],
+            &mut to[made..],
+        );
         if cells.used == 0 {
             break;
         }

@@ -41,7 +41,7 @@ pub loop-to-preserved : goal.loop-to-preserved
 loop-to-preserved g c =
     let l = c.loop-to in
     let end = c.clear_end-end in
-    let ran = c.run_stretch-cells in
+    let ran = c.run_cells-cells in
     let cells = ran.result in
     let further : l.ahead.column < cells.ahead.column = ran.ensures.within.further (omega (arith, c.if-cells-eq0.false)) in
     let within : cells.ahead.column ≤ end.result = ran.ensures.within.before end.ensures.least in
@@ -71,6 +71,6 @@ returns-clause-ends g c = λ columns column left knows ahead step.
           let room : length lent ≡ length c.args.to.now - l.made =
           omega (arith, l.auto.to, length-take (length l.to - l.made) (drop l.made l.to), length-drop l.made l.to) in
           let before : l.ahead.column < w.clear_end-end.result = omega (arith, w.clear_end-end.ensures.least, w.if-end-ahead.false) in
-          let run = rw room at (rw (all_after bytes l.used) at (w.run_stretch-cells.ensures.ends w.if-cells-eq0.true before)) in
+          let run = rw room at (rw (all_after bytes l.used) at (w.run_cells-cells.ensures.ends w.if-cells-eq0.true before)) in
           ends_clear _ bits _ _ _ (w.clear_end-end.ensures.clear l.ahead.column (omega arith) before) run columns column left knows ahead step)
     ]

@@ -7,8 +7,8 @@ use Rattle.tds_rows.proofs.{
 
 pub returns-in_err-read_bitmap-clause-row : goal.returns-in_err-read_bitmap-clause-row
 returns-in_err-read_bitmap-clause-row g c = λ columns known.
-    let sink = c.requires.in_row.sink in
-    let x = c.in_err-read_bitmap.ensures.gives c.requires.in_row.payload.going in
+    let sink = c.requires.some.in_row.sink in
+    let x = c.in_err-read_bitmap.ensures.gives c.requires.some.in_row.payload.going in
     passed _ _ _ _ c.from_residual.ensures.1 (rw sink.writing
     (bitmap_cut _ x.part x.own (omega (arith, x.fewer, c.bitmap_size.ensures.value, c.count.ensures, known.counted)) x.ends x.stop_is
     sink.ready.2))
@@ -16,7 +16,7 @@ returns-in_err-read_bitmap-clause-row g c = λ columns known.
 pub loop-at-init : goal.loop-at-init
 loop-at-init g c =
     let old = c.args.self.now in
-    let sink = c.requires.in_row.sink in
+    let sink = c.requires.some.in_row.sink in
     let x = c.in_ok-read_bitmap.ensures.gives in
     let bytes : c.read_bitmap.new.bitmap.bytes ≡ x.element = ap (λ (s : Space). s.bytes) x.stands
     ∙ ap (λ (l : List ℕ). l ++ x.element) c.requires.awaits.empty in
@@ -25,19 +25,19 @@ loop-at-init g c =
         in_row = record {
           payload = record { sound = c.in_ok-read_bitmap.ensures.payload.sound; going = c.in_ok-read_bitmap.ensures.payload.going };
           sink = sink;
-          room = c.requires.in_row.room;
+          room = c.requires.some.in_row.room;
         };
         same = (refl, refl, refl, refl);
         payload = c.in_ok-read_bitmap.ensures.payload.same;
         sink = (refl, refl, refl);
         small = record { room = refl; bound = omega arith };
       };
-      knows = c.requires.knows;
+      knows = c.requires.some.knows;
       fits = omega (arith, ap length bytes, x.whole, c.bitmap_size.ensures.value, c.count.ensures);
       reads = λ columns knows.
           let whole : length x.element ≡ bitmap_length (length columns) = x.whole ∙ c.bitmap_size.ensures.value
           ∙ ap bitmap_length (c.count.ensures ∙ knows.counted) in
-          let some : 0 < length columns = omega (arith, c.requires.knows.2, knows.counted) in
+          let some : 0 < length columns = omega (arith, c.requires.some.knows.2, knows.counted) in
           let taken = rw (sym x.whole) at x.takes in
           let near = bitmap_nears columns x.element some whole taken x.between (sink.ready.1 sink.writing) sink.ready.2
           (omega (arith, x.whole, c.in_ok-read_bitmap.ensures.place)) in

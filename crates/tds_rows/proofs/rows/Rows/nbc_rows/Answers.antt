@@ -5,12 +5,12 @@ use Rattle.tds_rows.{
 
 pub loop-ended-init : goal.loop-ended-init
 loop-ended-init g c = record {
-  stays = stays c.requires.in_row;
-  knows = c.requires.knows;
+  stays = stays c.requires.some.in_row;
+  knows = c.requires.some.knows;
   room = refl;
   few = omega arith;
   reads = λ columns knows.
-      rows_first c.requires.in_row.sink.ready.2;
+      rows_first c.requires.some.in_row.sink.ready.2;
 }
 
 pub returns-in_err-nbc_row-clause-rows : goal.returns-in_err-nbc_row-clause-rows
@@ -28,19 +28,14 @@ returns-then-not-take_token-clause-rows g c = λ columns known.
     let there = rw l.invariant.stays.same.3 at read in
     rw (sym (c.if-not-take_token.ensures.token NbcRow refl).0, sym c.take_token.ensures.sink) at there
 
-pub returns-then-not-take_token-clause-few : goal.returns-then-not-take_token-clause-few
-returns-then-not-take_token-clause-few g c =
+pub returns-then-not-take_token-clause-ends : goal.returns-then-not-take_token-clause-ends
+returns-then-not-take_token-clause-ends g c =
     let l = c.loop-ended in
     let known = l.invariant.knows in
-    omega (
-      arith,
-      l.invariant.few,
-      (c.in_ok-nbc_row.ensures.row known.0 known.1).place_is,
-      ap (λ p. p.place) (c.if-not-take_token.ensures.token NbcRow refl).0,
+    let none = c.if-not-take_token.ensures.token NbcRow refl in (
+      omega (arith, l.invariant.few, (c.in_ok-nbc_row.ensures.row known.0 known.1).place_is, ap (λ p. p.place) none.0),
+      none.1,
     )
-
-pub returns-then-not-take_token-clause-all : goal.returns-then-not-take_token-clause-all
-returns-then-not-take_token-clause-all g c = (c.if-not-take_token.ensures.token NbcRow refl).1
 
 pub loop-ended-preserved : goal.loop-ended-preserved
 loop-ended-preserved g c =

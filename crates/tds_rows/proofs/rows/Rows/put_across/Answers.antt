@@ -1,5 +1,5 @@
 use Rattle.tds_rows.proofs.rows.Rows.put_across.Goals as goal
-use Rattle.tds_rows.proofs.{Words.{arith, rules, passed, false}, Paths.{at_of, here}, TableRuns.marked_rows}
+use Rattle.tds_rows.proofs.{Words.{arith, rules, passed, false}, Paths.here, TableRuns.marked_rows}
 
 pub returns-in_err-ahead : goal.returns-in_err-ahead
 returns-in_err-ahead g c =

@@ -51,12 +51,10 @@ returns-then-not-take_token-clause-rows g c = λ columns known.
     let there = rw (kept.same.3 ∙ l.invariant.stays.same.3) at (rows_whole (rw none at x.1).rows) in
     rw (sym (c.if-not-take_token.ensures.token PlainRow refl).0, sym c.take_token.ensures.sink) at there
 
-pub returns-then-not-take_token-clause-few : goal.returns-then-not-take_token-clause-few
-returns-then-not-take_token-clause-few g c =
-    omega (arith, c.loop-run.invariant.few, c.in_ok-run.ensures.place, ap (λ p. p.place) (c.if-not-take_token.ensures.token PlainRow refl).0)
-
-pub returns-then-not-take_token-clause-all : goal.returns-then-not-take_token-clause-all
-returns-then-not-take_token-clause-all g c = (c.if-not-take_token.ensures.token PlainRow refl).1
+pub returns-then-not-take_token-clause-ends : goal.returns-then-not-take_token-clause-ends
+returns-then-not-take_token-clause-ends g c =
+    let none = c.if-not-take_token.ensures.token PlainRow refl in
+    (omega (arith, c.loop-run.invariant.few, c.in_ok-run.ensures.place, ap (λ p. p.place) none.0), none.1)
 
 pub returns-in_err-put_cell-clause-rows : goal.returns-in_err-put_cell-clause-rows
 returns-in_err-put_cell-clause-rows g c = λ columns known.
