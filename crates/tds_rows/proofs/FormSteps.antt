@@ -1,7 +1,8 @@
 -- Runs over cells by their forms, a cell after those that were written.
-use Rattle.tds_rows.specs.FormRuns.{NumbersWithin}
+use Rattle.tds_rows.specs.FormRuns.{IsLatest, NumbersWithin}
+use Rattle.tds_rows.specs.declared.run.forms.Latest.{Latest}
 use Rattle.tds_rows.proofs.{
-  Words.{common_steps, ◌≡◌, ◌≢◌, ◌∙◌, ℕ, zero, suc, ◌+◌, ◌-◌, ◌<◌, ◌≤◌, Bool, false, List, [], ◌∷◌, ◌++◌, length, take, drop, get_or, refl, ◌*◌, sym, ap},
+  Words.{◌⊎◌, common_steps, ◌≡◌, ◌≢◌, ◌∙◌, ℕ, zero, suc, ◌+◌, ◌-◌, ◌<◌, ◌≤◌, Bool, false, List, [], ◌∷◌, ◌++◌, length, take, drop, get_or, refl, ◌*◌, sym, ap},
   Words.{arith, append-nil, append_assoc, length-append, ◌==◌, ◌&&◌, map, slice_set, drop_more, length-map, length-take-le, take-append-le, take_all},
   Words.{take_more_set, get_or_default, length-drop, length-take, take-take, drop-drop, Kind, eq_false, eq_true, Column, all_after, after_comma, end_after},
   Words.{in_line, Charset, Form, IsLeft, WritesField, WritesKind, is_last_column, whole_size, AreNext, FieldsWritten, FirstUsed, FirstWritten, FormsRun},
@@ -237,6 +238,7 @@ left_less charset kind bytes fewer room less h6 = grind (arith, common_steps)
 
 -- ---- rows of numbers
 
--- too few bytes or too little room is so by other names too
-pub numbers_few : {n m a b r s : ℕ} → n ≡ m → a ≡ b → r ≡ s → (NumbersWithin m b s → ⊥) → NumbersWithin n a r → ⊥
-numbers_few count bytes room few x = few (rw (count, bytes, room) at x)
+-- a row of some numbers that begins later lacks bytes or room
+pub too_late : {cells n bytes room b r used made : ℕ} {latest : Latest} → IsLatest cells bytes room latest → 0 < cells → n ≡ cells → b ≡ bytes - used
+    → r ≡ room - made → (latest.used < used) ⊎ (latest.made < made) → NumbersWithin n b r → ⊥
+too_late is some count left free late x = grind arith

@@ -6,6 +6,7 @@ use Rattle.tds_values.specs.declared.charset.Charset.{Charset}
 use Rattle.tds_rows.specs.declared.cell.layout.Form.{Form}
 use Rattle.tds_rows.specs.declared.cell.whole.TheConstants.{CELL_ROOM}
 use Rattle.tds_rows.specs.declared.run.forms.FormsRun.{FormsRun}
+use Rattle.tds_rows.specs.declared.run.forms.Latest.{Latest}
 use Rattle.tds_rows.specs.CellSteps.{IsLeft, IsScalarLeft, WritesField, whole_size}
 use Rattle.tds_rows.specs.Forms.{AreInt4}
 use Rattle.tds_rows.specs.MarkedRuns.{WritesMarked}
@@ -61,6 +62,11 @@ pub record WritesFields (charset : Charset) (forms : List Form) (column : ℕ) (
 pub record NumbersWithin (cells bytes room : ℕ) : Type 0 where
   pub whole : 5 * cells ≤ bytes
   pub fits : 12 * cells + 25 < room
+
+-- A row of so many numbers that begins no later has all its bytes and room.
+pub record IsLatest (cells bytes room : ℕ) (latest : Latest) : Type 0 where
+  pub used : latest.used + 5 * cells ≡ bytes
+  pub made : latest.made + 12 * cells + 26 ≡ room
 
 -- The values of these forms' kinds are whole numbers of four bytes, which are there with their bytes and room.
 pub record AreNumbers (forms : List Form) (bytes room : ℕ) : Type 0 where

@@ -8,7 +8,7 @@ ghost use Rattle.tds_rows.specs.Tables.{AreAhead, KnowsAll};
 
 use crate::cell::layout::Form;
 use crate::cell::whole::{CELL_ROOM, Written};
-use crate::run::forms::{are_within, run_forms, run_row};
+use crate::run::forms::{latest_row, run_forms, run_row};
 use crate::table::{Ahead, Table};
 use tds_values::Charset;
 
@@ -176,10 +176,13 @@ fn run_numbers<'a>(table: &Table<'a>, from: Ahead<'a>, bytes: &[u8], to: &mut [u
     ensures rows { RowsRan table.now from.entry bytes.now to.new result }
 {
     let row = (&*table).row();
+    let Some(latest) = latest_row(row, bytes, to) else {
+        return RowsRun::none(from);
+    };
     let mut used = 0;
     let mut made = 0;
     let mut rows = 0;
-    while are_within(row, &bytes[used..], &to[made..]) {
+    while used <= latest.used && made <= latest.made {
         let Some(run) = run_row(row, &bytes[used..], &mut to[made..]) else {
             break;
         };

@@ -1,7 +1,7 @@
 // A run over cells by their forms, whose columns follow one another in a row.
-ghost use Rattle.std.specs.Prelude.{◌≡◌, ◌==◌, ◌&&◌, ◌<◌, ◌≤◌, ◌↔◌, length, true, None, IfSome, IsTrue};
+ghost use Rattle.std.specs.Prelude.{◌≡◌, ◌==◌, ◌&&◌, ◌<◌, ◌≤◌, length, true, None, IfSome, MatchOption};
 ghost use Rattle.tds_values.specs.declared.charset.Charset.{Charset};
-ghost use Rattle.tds_rows.specs.FormRuns.{AreNumbers, FirstLeft, IsRefusedAfter, IsWithin, NumbersWithin, RefusesRow, RunsForms, WritesFields};
+ghost use Rattle.tds_rows.specs.FormRuns.{AreNumbers, FirstLeft, IsLatest, IsRefusedAfter, IsWithin, NumbersWithin, RefusesRow, RunsForms, WritesFields};
 ghost use Rattle.tds_rows.specs.Forms.{AreInt4, AreLaidOut};
 
 use crate::cell::layout::Form;
@@ -64,13 +64,32 @@ fn write_fields(
     }
 }
 
-/// Whether there are bytes and room for any cells of these forms, whose values are whole numbers of four bytes.
+/// Where a row of whole numbers of four bytes begins at the latest: in the bytes, and in the room.
+#[derive(Clone, Copy)]
+pub(crate) struct Latest {
+    pub(crate) used: usize,
+    pub(crate) made: usize,
+}
+
+/// Where a row of these forms, whose values are whole numbers of four bytes, begins at the latest if there are to be
+/// bytes and room for any cells. `None` if there aren't at the front.
 #[inline(always)]
-pub(crate) fn are_within(forms: &[Form], bytes: &[u8], to: &[u8]) -> bool
+pub(crate) fn latest_row(forms: &[Form], bytes: &[u8], to: &[u8]) -> Option<Latest>
     requires { length forms.now ≤ 65535 }
-    ensures { IsTrue result ↔ NumbersWithin (length forms.now) (length bytes.now) (length to.now) }
+    ensures { MatchOption result (NumbersWithin (length forms.now) (length bytes.now) (length to.now) → ⊥)
+        (λ latest. IsLatest (length forms.now) (length bytes.now) (length to.now) latest) }
 {
-    INT4_CELL * forms.len() <= bytes.len() && NUMBER_FIELD * forms.len() + NUMBER_ROOM < to.len()
+    let (size, room) = (
+        INT4_CELL * forms.len(),
+        NUMBER_FIELD * forms.len() + NUMBER_ROOM,
+    );
+    if size > bytes.len() || room >= to.len() {
+        return None;
+    }
+    Some(Latest {
+        used: bytes.len() - size,
+        made: to.len() - 1 - room,
+    })
 }
 
 // Writes the fields of the next cells as `write_fields` does, whose values are whole numbers of four bytes, and which
