@@ -180,11 +180,14 @@ impl<'r, 't, 'p, 's, 'c, R: Read, W: Write> Rows<'r, 't, 'p, 's, 'c, R, W> {
     }
 
     // Reads the next cells of the row, as many as are whole in the packet, aren't in chunks and have room in a small
-    // text, and puts that text over the end of the block.
+    // text, and puts that text over the end of the block. Does nothing at the row's end.
     fn put_across(&mut self, from: Ahead<'c>) -> Result<RowsRun<'c>, Stop>
         requires { IsInRow self.old }
         ensures { RunRead R.remaining W.contents from.entry self.old self.new result }
     {
+        if self.table.is_end(from) {
+            return Ok(RowsRun::none(from));
+        }
         let mut text = [0u8; SHORT_TEXT];
         let end = self.table.count();
         let run = run_cells::<false>(self.table, from, end, self.payload.buffered(), &mut text);

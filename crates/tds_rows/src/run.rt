@@ -32,8 +32,8 @@ pub(crate) struct RowsRun<'a> {
 }
 
 impl<'a> RowsRun<'a> {
-    // A run that took nothing.
-    fn none(at: Ahead<'a>) -> RowsRun<'a>
+    /// A run that took nothing.
+    pub(crate) fn none(at: Ahead<'a>) -> RowsRun<'a>
         ensures { result ≡ record { used = 0; made = 0; rows = 0; ahead = at.entry } }
     {
         RowsRun {

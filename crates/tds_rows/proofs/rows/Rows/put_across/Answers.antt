@@ -1,5 +1,9 @@
 use Rattle.tds_rows.proofs.rows.Rows.put_across.Goals as goal
-use Rattle.tds_rows.proofs.{Words.{arith, rules, passed, false}, Paths.here, TableRuns.marked_rows}
+use Rattle.tds_rows.proofs.{
+  Words.{[], add-zero, arith, false, passed, Puts-none, rules, sym, Takes-none},
+  Paths.here,
+  TableRuns.{marked_rows, rows_begin, runs_rows},
+}
 
 pub returns-in_err-ahead : goal.returns-in_err-ahead
 returns-in_err-ahead g c =
@@ -19,3 +23,19 @@ returns g c =
       cells = λ columns knows ahead. marked_rows {p = here g.R.Read.remaining g.W.Write.contents c.args.self.now}
           {q = here g.R.Read.remaining g.W.Write.contents c.put_made.new.self} (read.cells columns knows ahead);
     }
+
+pub returns-then-is_end : goal.returns-then-is_end
+returns-then-is_end g c =
+    let rows = c.args.self.now in
+    let at = here g.R.Read.remaining g.W.Write.contents rows in
+    let begin = rows_begin {bytes = []} {to = []} in
+    rw c.none.ensures (record {
+      leaves = search (arith, rules);
+      place = (sym (add-zero _), omega arith);
+      cells = λ columns knows ahead.
+          let ran = begin.writes columns knows ahead in (
+            ran.0,
+            λ charset cells set is. runs_rows {p = at} {q = at} (ran.1 charset cells set is) (Takes-none at.seen 0)
+                (Puts-none at.held c.requires.sink.ready.2) (sym (add-zero _)),
+          );
+    })
