@@ -74,6 +74,12 @@ abbrev pub MarkedWritten : Table → (ℕ → Bool) → Ahead → List ℕ → L
 MarkedWritten table nulls from bytes text run = (columns : List Column) → Knows table columns → IsAhead table columns from →
     RunsMarked table columns nulls from run.ahead (take run.used bytes) (take run.made text)
 
+-- A run used and made no more than there is, and ended where no more could be taken.
+pub record EndsMarked (table : Table) (nulls : ℕ → Bool) (bytes : List ℕ) (room : ℕ) (run : CellRun) : Type 0 where
+  pub used : run.used ≤ length bytes
+  pub made : run.made ≤ room
+  pub left : EndsLeft table nulls run.ahead (drop run.used bytes) (room - run.made)
+
 -- The cells between two places were read, without a packet, and their text put.
 pub record PutsMarked (table : Table) (columns : List Column) (nulls : ℕ → Bool) (from to : Ahead) (old new : Seen) (place place' : ℕ)
     (before after : Held) : Type 0 where

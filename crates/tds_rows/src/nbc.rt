@@ -1,6 +1,6 @@
 // A row with a bitmap of the columns that are NULL, and such rows after one another (MS-TDS, NBCROW).
-ghost use Rattle.std.specs.Prelude.{◌≡◌, ◌-◌, true, ◌*◌, ◌<◌, ◌≤◌, drop, length, if◌then◌else◌, is_ok, ℕ, ◌+◌, ◌++◌, List, None, false, IfOk};
-ghost use Rattle.tds_rows.specs.MarkedRuns.{AreClear, EndsClear, EndsLeft, MarkedWritten, MarkedPut, room_left};
+ghost use Rattle.std.specs.Prelude.{◌≡◌, true, ◌*◌, ◌<◌, ◌≤◌, length, if◌then◌else◌, is_ok, ℕ, ◌+◌, ◌++◌, List, None, false, IfOk};
+ghost use Rattle.tds_rows.specs.MarkedRuns.{AreClear, EndsClear, EndsLeft, EndsMarked, MarkedPut, MarkedWritten, room_left};
 ghost use Rattle.tds_rows.specs.Rows.{bit, NbcRow, SpellsNbcRow, bitmap_length, longest_bitmap, nbc_row_start};
 ghost use Rattle.tds_columns.specs.Description.{Column};
 ghost use Rattle.tds_columns.specs.Elements.{ElementRead, LeavesArea};
@@ -69,10 +69,7 @@ fn run_marked<'a, const KNOWN: bool>(
 ) -> CellRun<'a>
     requires known { KNOWN ≡ true → table.now.known ≡ table.now.count }
     requires bitmap { table.now.count ≤ 8 * length bitmap.now }
-    ensures used { result.used ≤ length bytes.now }
-    ensures made { result.made ≤ length to.old }
-    ensures ends { EndsLeft table.now (bit bitmap.now) result.ahead (drop result.used bytes.now)
-        (length to.old - result.made) }
+    ensures ends { EndsMarked table.now (bit bitmap.now) bytes.now (length to.old) result }
     ensures cells { MarkedWritten table.now (bit bitmap.now) from.entry bytes.now to.new result }
 {
     let mut used = 0;
@@ -109,10 +106,7 @@ fn run_nulls<'a>(
     to: &mut [u8],
 ) -> CellRun<'a>
     requires bitmap { table.now.count ≤ 8 * length bitmap.now }
-    ensures used { result.used ≤ length bytes.now }
-    ensures made { result.made ≤ length to.old }
-    ensures ends { EndsLeft table.now (bit bitmap.now) result.ahead (drop result.used bytes.now)
-        (length to.old - result.made) }
+    ensures ends { EndsMarked table.now (bit bitmap.now) bytes.now (length to.old) result }
     ensures cells { MarkedWritten table.now (bit bitmap.now) from.entry bytes.now to.new result }
 {
     if table.knows_all() {

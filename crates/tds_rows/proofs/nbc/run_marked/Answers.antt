@@ -58,19 +58,22 @@ loop-to-preserved g c =
     }
 
 pub returns-clause-ends : goal.returns-clause-ends
-returns-clause-ends g c = λ columns column left knows ahead step.
+returns-clause-ends g c =
     let l = c.loop-to in
-    let bytes = c.args.bytes.now in
-    let bits = bit c.args.bitmap.now in
-    elim c.loop-to-test.branch [
-      | else-loop-to-test w ↦ inl (omega (arith, w.loop-to-test.false, l.auto.to))
-      | then-loop-to-test+else-ahead-count w ↦ absurd
-          (let none = none_next _ _ _ knows.counted (omega (arith, w.count.ensures, w.if-ahead-count.false)) in let e : column ∷ left ≡ [] = sym step
-          ∙ none in omega (arith, ap length e))
-      | then-loop-to-test+then-ahead-count+else-end-ahead+then-cells-eq0 w ↦ (let lent = take (length l.to - l.made) (drop l.made l.to) in
-          let room : length lent ≡ length c.args.to.now - l.made =
-          omega (arith, l.auto.to, length-take (length l.to - l.made) (drop l.made l.to), length-drop l.made l.to) in
-          let before : l.ahead.column < w.clear_end-end.result = omega (arith, w.clear_end-end.ensures.least, w.if-end-ahead.false) in
-          let run = rw room at (rw (all_after bytes l.used) at (w.run_cells-cells.ensures.ends w.if-cells-eq0.true before)) in
-          ends_clear _ bits _ _ _ (w.clear_end-end.ensures.clear l.ahead.column (omega arith) before) run columns column left knows ahead step)
-    ]
+    record {
+      used = l.invariant.used;
+      made = omega (arith, l.invariant.made, l.auto.to);
+      left = λ columns column left knows ahead step. elim c.loop-to-test.branch [
+        | else-loop-to-test w ↦ inl (omega (arith, w.loop-to-test.false, l.auto.to))
+        | then-loop-to-test+else-ahead-count w ↦ absurd
+            (let none = none_next _ _ _ knows.counted (omega (arith, w.count.ensures, w.if-ahead-count.false)) in
+            let e : column ∷ left ≡ [] = sym step ∙ none in omega (arith, ap length e))
+        | then-loop-to-test+then-ahead-count+else-end-ahead+then-cells-eq0 w ↦ (let lent = take (length l.to - l.made) (drop l.made l.to) in
+            let room : length lent ≡ length c.args.to.now - l.made =
+            omega (arith, l.auto.to, length-take (length l.to - l.made) (drop l.made l.to), length-drop l.made l.to) in
+            let end = w.clear_end-end.ensures in
+            let before : l.ahead.column < w.clear_end-end.result = omega (arith, end.least, w.if-end-ahead.false) in
+            let run = rw room at (rw (all_after c.args.bytes.now l.used) at (w.run_cells-cells.ensures.ends w.if-cells-eq0.true before)) in
+            ends_clear _ (bit c.args.bitmap.now) _ _ _ (end.clear l.ahead.column (omega arith) before) run columns column left knows ahead step)
+      ];
+    }

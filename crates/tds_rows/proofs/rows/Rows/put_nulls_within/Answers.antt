@@ -17,12 +17,12 @@ returns-clause-ends g c =
     let puts = kept_text h j lent written c.waiting-waiting.result whole c.waiting-waiting.ensures run.made c.commit.ensures.gives in
     let block : length lent + length h.waiting ≡ 4095 =
     omega (arith, c.spare.ensures.value, c.room-room.ensures, c.requires.in_row.sink.ready.1 c.requires.in_row.sink.writing) in
-    let text : length (take run.made written) ≡ run.made = omega (arith, whole, c.run_nulls-run.ensures.made, length-take run.made written) in
-    let waits = all_waits h j (take run.made written) puts (omega (arith, block, text, c.run_nulls-run.ensures.made)) in
-    let room : length lent - run.made ≡ 4095 - length j.waiting = omega (arith, block, text, waits, c.run_nulls-run.ensures.made) in
+    let text : length (take run.made written) ≡ run.made = omega (arith, whole, c.run_nulls-run.ensures.ends.made, length-take run.made written) in
+    let waits = all_waits h j (take run.made written) puts (omega (arith, block, text, c.run_nulls-run.ensures.ends.made)) in
+    let room : length lent - run.made ≡ 4095 - length j.waiting = omega (arith, block, text, waits, c.run_nulls-run.ensures.ends.made) in
     let rest : drop run.used (buffered old) ≡ buffered c.consume.new.self = drop-drop run.used old.at old.packet.now.bytes
     ∙ ap buffered (sym c.consume.ensures.rest) in
-    rw room at (rw rest at (rw c.buffered.ensures at c.run_nulls-run.ensures.ends))
+    rw room at (rw rest at (rw c.buffered.ensures at c.run_nulls-run.ensures.ends.left))
 
 pub returns-clause-cells : goal.returns-clause-cells
 returns-clause-cells g c = λ columns knows ahead.
