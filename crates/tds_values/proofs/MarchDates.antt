@@ -75,9 +75,7 @@ march_date n =
 -- the text of a date by its year's first March
 pub date_by_march : (n y d year : ℕ) → date_from_march y d ≡ date_of n → d < 366 → year ≡ y + next_year d
     → last_digits 4 year ++ day_text (date_from_march 0 d) ≡ date_text n
-date_by_march n y d year h few e =
-    let same : year ≡ (date_of n).year = e ∙ ap (λ c. y + c) (sym (carry d few)) ∙ ap (λ x. x.year) h in
-    cc (same, ap (λ x. x.month) h, ap (λ x. x.day) h)
+date_by_march n y d year h few e = grind (arith, carry)
 
 -- its end, and a space after it
 pub spaced : (at r : ℕ) (date : CivilDate) (old new bytes : List ℕ) → at ≤ length old → r ≡ at + 8 → take r new ≡ take at old ++ bytes
