@@ -3,7 +3,7 @@
 --     begins bytes   bytes that are fit may begin so
 --     rest bytes     those at the end whose text depends on what follows
 --     text bytes     the text of fit bytes
-use Rattle.std.specs.Prelude.{◌≡◌, ℕ, ◌-◌, ◌≤◌, List, ◌++◌, length, take}
+use Rattle.std.specs.Prelude.{◌≡◌, ℕ, ◌-◌, ◌*◌, ◌<◌, ◌≤◌, List, [], ◌++◌, length, take}
 
 -- the bytes without their rest
 abbrev pub settled : (List ℕ → List ℕ) → List ℕ → List ℕ
@@ -38,3 +38,20 @@ pub record JoinsPieces (fit begins : List ℕ → Type 0) (rest text : List ℕ 
 pub record Leads (rest text : List ℕ → List ℕ) (bytes others out : List ℕ) : Type 0 where
   pub emits : emit rest text bytes ≡ out ++ emit rest text others
   pub keeps : rest bytes ≡ rest others
+
+-- each byte has a text of its own, so texts are joined as the bytes are
+pub record IsBytewise (text : List ℕ → List ℕ) : Type 0 where
+  pub appends : (a b : List ℕ) → text (a ++ b) ≡ text a ++ text b
+  pub empty : text [] ≡ []
+
+-- the text of the bytes is at the front of a room, in at most three bytes for each
+pub record HasText (text : List ℕ → List ℕ) (bytes to : List ℕ) (made : ℕ) : Type 0 where
+  pub short : made ≤ 3 * length bytes
+  pub written : take made to ≡ text bytes
+
+-- the text of one or more of the first bytes is at the front of a room
+pub record HasPart (text : List ℕ → List ℕ) (bytes to : List ℕ) (used made : ℕ) : Type 0 where
+  pub some : 0 < used
+  pub within : used ≤ length bytes
+  pub fits : made ≤ length to
+  pub written : take made to ≡ text (take used bytes)

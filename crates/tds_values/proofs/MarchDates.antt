@@ -75,20 +75,17 @@ march_date n =
 -- the text of a date by its year's first March
 pub date_by_march : (n y d year : ℕ) → date_from_march y d ≡ date_of n → d < 366 → year ≡ y + next_year d
     → last_digits 4 year ++ day_text (date_from_march 0 d) ≡ date_text n
-date_by_march n y d year h few e =
-    let same : year ≡ (date_of n).year = e ∙ ap (λ c. y + c) (sym (carry d few)) ∙ ap (λ x. x.year) h in
-    cc (same, ap (λ x. x.month) h, ap (λ x. x.day) h)
+date_by_march n y d year h few e = grind (arith, carry)
 
 -- its end, and a space after it
-pub spaced : (at r : ℕ) (date : CivilDate) (old new bytes : List ℕ) → at ≤ length old → r ≡ at + length bytes → take r new ≡ take at old ++ bytes
+pub spaced : (at r : ℕ) (date : CivilDate) (old new bytes : List ℕ) → at ≤ length old → r ≡ at + 8 → take r new ≡ take at old ++ bytes
     → bytes ≡ day_text date ++ codes "  "
     → (take (at + 6) new ≡ take at old ++ day_text date) × (take (at + 6 + 1) new ≡ take (at + 6) new ++ codes " ")
 spaced at r date old new bytes long end e is =
     let t = take at old in
-    let eight : r ≡ at + 8 = rw is at end in
     let size : length t ≡ at = length-take-le at old long in
     let cut : (k : ℕ) → k ≤ 8 → take (at + k) new ≡ t ++ take k (day_text date ++ codes "  ") = λ k h.
-    cc (eight, e, is, size, take-take (at + k) (at + 8) new (omega arith), take-append-add t (day_text date ++ codes "  ") k) in
+    cc (end, e, is, size, take-take (at + k) (at + 8) new (omega arith), take-append-add t (day_text date ++ codes "  ") k) in
     let seven : at + 6 + 1 ≡ at + 7 = omega arith in
     let six = cut 6 (omega arith) in
     (six, ap (λ k. take k new) seven ∙ cut 7 (omega arith) ∙ sym (append_assoc t (day_text date) (codes " ")) ∙ ap (λ x. x ++ codes " ") (sym six))

@@ -60,7 +60,4 @@ power_at = each_below _ _ 20 refl
 -- the two hexadecimal digits of a byte
 pub hex_at : (b : ℕ) → b < 256 → (slice_index lower_digits (b / 16) ≡ hex_digit lower (b / 16 % 16))
     × (slice_index lower_digits (b % 16) ≡ hex_digit lower (b % 16))
-hex_at b h = (
-  each_below (λ b. slice_index lower_digits (b / 16)) (λ b. hex_digit lower (b / 16 % 16)) 256 refl b h,
-  each_below (λ b. slice_index lower_digits (b % 16)) (λ b. hex_digit lower (b % 16)) 256 refl b h,
-)
+hex_at b h = grind (arith, each_below)

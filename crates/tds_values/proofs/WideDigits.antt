@@ -10,6 +10,7 @@ use Rattle.std.{
   proofs.{Common.take_all, Math.Seq.{drop-append-add, take-append-add}, lemmas.{List.{length-drop, length-take-le, take-append-le}, Slice.take-put_mid}},
   specs.List.prefix_len,
 }
+use Rattle.std.proofs.lemmas.Grind.{common_steps}
 use Rattle.std.specs.Prelude.{◌&&◌, not}
 use borrow.Rule.Slice.PartMut.{put_mid}
 
@@ -96,11 +97,7 @@ fraction_part n scale ds small is =
 pub of_block : (at from m n k : ℕ) (to digits piece : List ℕ) → at ≤ length to → from + m ≤ length digits → n ≤ m → piece ≡ take m (drop from digits)
     → take (at + n) (put_mid at k to piece) ≡ take at to ++ take n (drop from digits)
 of_block at from m n k to digits piece room within few is =
-    let long : length piece ≡ m = rw is (length-take-le m (drop from digits) (omega (arith, length-drop from digits))) in
-    let all = take-put_mid at k to piece (at + m) (omega arith) room in
-    let size = length-take-le at to room in
-    let last = take-take n m (drop from digits) few in
-    cc (take-take (at + n) (at + m) (put_mid at k to piece) (omega arith), all, size, take-append-add (take at to) piece n, is, last)
+    grind (arith, common_steps, length-take-le, length-drop, take-put_mid, take-take, take-append-add)
 
 -- a sign, the digits before the point and what comes after them
 pub decimal_joined : (negative : Bool) (m scale : ℕ) (t x y z whole fraction : List ℕ) → x ≡ t ++ minus_if (negative && not (m == 0)) → y ≡ x ++ whole

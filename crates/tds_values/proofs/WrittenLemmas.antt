@@ -2,7 +2,7 @@
 use Rattle.tds_values.specs.declared.scalar.ScalarValue.TheVariants as values
 use Rattle.tds_values.proofs.{
   Words.{Result, ◌≡◌, ℕ, ◌/◌, ◌%◌, ◌^◌, ◌≤◌, List, ◌++◌, nat_lt, ℤ, codes, Some, Ok, arith, one-le-pow, div_below, le-div, IfOk, ScalarValue, text_of},
-  Words.{seconds_text, fraction_text, date_and_time, offset_text, local_seconds, ValueFault, is_time, IsText, IsWritten, Kind, read_of, ap, ◌∙◌},
+  Words.{seconds_text, fraction_text, date_and_time, offset_text, local_seconds, ValueFault, is_time, IsText, IsWritten, Kind, read_of},
   DigitLemmas.fraction_rest,
   LocalLemmas.{units_of_seconds, text_of_seconds},
 }
@@ -24,9 +24,7 @@ local_spelt scale units day seconds l offset es some =
 pub local_joined : (day scale units part : ℕ) (time offset : List ℕ) {xs ys zs : List ℕ} → part ≡ units % 10 ^ scale
     → xs ≡ date_and_time day (time ++ fraction_text scale part) → ys ≡ xs ++ codes " " → zs ≡ ys ++ offset
     → zs ≡ date_and_time day (time ++ fraction_text scale units) ++ codes " " ++ offset
-local_joined day scale units part time offset e first second third =
-    let same = ap (fraction_text scale) e ∙ fraction_rest scale units in
-    third ∙ ap (λ y. y ++ offset) (second ∙ ap (λ x. x ++ codes " ") (first ∙ ap (λ f. date_and_time day (time ++ f)) same))
+local_joined day scale units part time offset e first second third = grind (arith, fraction_rest)
 
 -- what is answered, for a caller
 pub answered : (read : Result ScalarValue ValueFault) (answer : Result ℕ ValueFault) (new : List ℕ) → IsWritten read answer new

@@ -28,16 +28,18 @@ pub(crate) fn put_minus(to: &mut [u8], at: usize, negative: bool) -> usize
     at + negative as usize
 }
 
-// Some bytes.
+// Some bytes, `N` of them, which are read before the first is written.
 #[inline(always)]
-pub(crate) fn put_piece(to: &mut [u8], at: usize, piece: &[u8]) -> usize
-    requires { at + length piece.now ≤ length to.old }
-    ensures end { result ≡ at + length piece.now }
+pub(crate) fn put_piece<const N: usize>(to: &mut [u8], at: usize, piece: &[u8]) -> usize
+    requires length { length piece.now ≡ N }
+    requires room { at + N ≤ length to.old }
+    ensures end { result ≡ at + N }
     ensures written { take result to.new ≡ take at to.old ++ piece.now }
 {
-    let end = at + piece.len();
-    to[at..end].copy_from_slice(piece);
-    end
+    let mut block = [0; N];
+    block[..].copy_from_slice(piece);
+    to[at..at + N].copy_from_slice(&block);
+    at + N
 }
 
 // The four digits of a number.
@@ -67,7 +69,7 @@ pub(crate) fn put_two(to: &mut [u8], at: usize, n: u32) -> usize
     ensures end { result ≡ at + 2 }
     ensures written { take result to.new ≡ take at to.old ++ last_digits 2 n }
 {
-    put_piece(to, at, &four_digits(n)[2..])
+    put_piece::<2>(to, at, &four_digits(n)[2..])
 }
 
 // Four digits.
@@ -78,7 +80,7 @@ pub(crate) fn put_four(to: &mut [u8], at: usize, n: u32) -> usize
     ensures end { result ≡ at + 4 }
     ensures written { take result to.new ≡ take at to.old ++ last_digits 4 n }
 {
-    put_piece(to, at, four_digits(n))
+    put_piece::<4>(to, at, four_digits(n))
 }
 
 // Eight digits as one number, the first digit in its lowest byte.
@@ -100,7 +102,7 @@ fn put_after(to: &mut [u8], at: usize, skipped: usize, n: u32) -> usize
     ensures written { take result to.new ≡ take at to.old ++ last_digits (8 - skipped) n }
 {
     let digits = word(n) >> (8 * skipped as u32);
-    put_piece(to, at, &digits.to_le_bytes());
+    put_piece::<8>(to, at, &digits.to_le_bytes());
     at + (8 - skipped)
 }
 
@@ -128,7 +130,7 @@ pub(crate) fn put_end(to: &mut [u8], at: usize, k: usize, n: u32) -> usize
     ensures written { take result to.new ≡ take at to.old ++ last_digits k n }
 {
     let digits = four(n) >> (8 * (4 - k as u32));
-    put_piece(to, at, &digits.to_le_bytes());
+    put_piece::<4>(to, at, &digits.to_le_bytes());
     at + k
 }
 
@@ -155,7 +157,7 @@ fn put_head(to: &mut [u8], at: usize, n: u32) -> usize
 {
     let digits = four(n);
     let skipped = (digits - 0x2030_3030).trailing_zeros() as usize / 8;
-    put_piece(to, at, &(digits >> (8 * skipped as u32)).to_le_bytes());
+    put_piece::<4>(to, at, &(digits >> (8 * skipped as u32)).to_le_bytes());
     at + (4 - skipped)
 }
 

@@ -48,12 +48,12 @@ fn put_day(to: &mut [u8], at: usize, days: u32) -> usize
     ensures written { take result to.new ≡ take at to.old ++ day_text (date_from_march 0 days) }
     ensures space { take (result + 1) to.new ≡ take result to.new ++ codes " " }
 {
-    put_piece(to, at, day_after_march(days));
+    put_piece::<8>(to, at, day_after_march(days));
     at + 6
 }
 
-// YYYY-MM-DD, and a space after it.
-#[inline(always)]
+// YYYY-MM-DD, and a space after it. The steps of the calendar stand once, behind a call.
+#[inline(never)]
 pub(crate) fn put_date(to: &mut [u8], at: usize, day: u32) -> usize
     requires room { at + 12 ≤ length to.old }
     requires day { day ≤ LAST_DAY }
@@ -84,7 +84,7 @@ pub(crate) fn put_minute(to: &mut [u8], at: usize, minutes: u32) -> usize
     ensures end { result ≡ at + 8 }
     ensures written { take result to.new ≡ take at to.old ++ (minutes_text minutes ++ codes ":" ++ last_digits 2 0) }
 {
-    put_piece(to, at, minute(minutes))
+    put_piece::<8>(to, at, minute(minutes))
 }
 
 // HH:MM, and a colon after it.

@@ -1,8 +1,7 @@
 // The texts of values, written to the front of a slice.
-ghost use Rattle.std.specs.Prelude.{◌≡◌, ◌/◌, ◌%◌, ◌^◌, ◌++◌, ◌<◌, ◌≤◌, IsTrue, codes, length, take, unsigned_abs};
-ghost use Rattle.tds_values.specs.ScalarText.{date_and_time, seconds_text, fraction_text, offset_text};
+ghost use Rattle.std.specs.Prelude.{◌≡◌, ◌/◌, ◌^◌, ◌<◌, ◌≤◌, IsTrue, length, unsigned_abs};
 ghost use Rattle.tds_values.specs.ScalarRange.{is_in_range};
-ghost use Rattle.tds_values.specs.Written.{IsText};
+ghost use Rattle.tds_values.specs.Written.{IsLocalText, IsText};
 
 use crate::digits::put_byte;
 use crate::moments::{put_date, put_minute, put_moment, put_offset, put_ticks};
@@ -102,9 +101,7 @@ pub(crate) fn put_local(
     requires scale { scale ≤ 7 }
     requires seconds { seconds ≡ units / 10 ^ scale }
     requires offset { unsigned_abs offset ≤ LARGEST_OFFSET }
-    ensures end { result ≤ LONGEST_TEXT }
-    ensures written { let time = seconds_text (local % SECONDS_A_DAY) ++ fraction_text scale units in
-        take result to.new ≡ date_and_time (local / SECONDS_A_DAY) time ++ codes " " ++ offset_text offset }
+    ensures { IsLocalText local scale units offset result to.new }
 {
     let day = (local / SECONDS_A_DAY) as u32;
     let part = rest(scale, units, seconds);

@@ -5,7 +5,7 @@ ghost use lib.Lanes.{mask_l};
 ghost use Rattle.tds_csv.specs.Utf16 as utf16;
 ghost use Rattle.tds_csv.specs.Wide.{AddsQuads, is_half, is_long, is_wide, pair_bytes, quad_bytes, triples, units_text};
 
-use crate::convert::encode::{put_bytes, put_lanes};
+use crate::convert::encode::put_lanes;
 use crate::convert::lanes::LANES;
 use crate::convert::lanes_utf16::{
     UNITS, long_units, low_bytes, lowest, surrogate_units, units_of, wide_units,
@@ -92,7 +92,7 @@ fn put_pairs(to: &mut [u8], at: usize, units: u16x8, wide: u64, n: usize) -> usi
     ensures written { take result to.new ≡ take at to.old ++ units_text (take n units) }
 {
     let size = n + wide.count_ones() as usize;
-    put_bytes(to, at, gathered(pairs(units), pair_places(wide)), size);
+    put_lanes(to, at, gathered(pairs(units), pair_places(wide)), size);
     at + size
 }
 
@@ -107,7 +107,7 @@ fn put_quads(to: &mut [u8], at: usize, quads: u8x16, wide: u64, long: u64, n: us
 {
     let index = (wide + 16 * long) as usize;
     let size = n + index.count_ones() as usize;
-    put_bytes(to, at, gathered(quads, quad_places(index)), size);
+    put_lanes(to, at, gathered(quads, quad_places(index)), size);
     at + size
 }
 
@@ -137,8 +137,8 @@ fn put_triples(to: &mut [u8], at: usize, units: u16x8)
     ensures { take (at + 3 * UNITS) to.new ≡ take at to.old ++ units_text units }
 {
     let (low, high) = triples(units);
-    put_bytes(to, at, low, 12);
-    put_bytes(to, at + 12, high, 12);
+    put_lanes(to, at, low, 12);
+    put_lanes(to, at + 12, high, 12);
 }
 
 // Writes the text of eight characters, with the mask of the long ones.

@@ -3,8 +3,8 @@ ghost use Rattle.std.specs.Prelude.{◌≡◌, ◌+◌, ◌<◌, ◌*◌, ◌≤
 ghost use Rattle.tds_csv.specs.Quoting.{doubled};
 
 use crate::convert::PART;
-use crate::convert::encode::{put_bytes, put_doubled, put_wide_bytes};
-use crate::convert::lanes::{LANES, WIDE, first_set, unquoted_run, wide_quotes};
+use crate::convert::encode::{put_doubled, put_lanes, take_before};
+use crate::convert::lanes::{LANES, WIDE, unquoted_run, wide_quotes};
 use crate::convert::utf16::Converted;
 use std::simd::prelude::*;
 
@@ -24,7 +24,7 @@ fn take_unquoted(bytes: &[u8], at: usize, to: &mut [u8], made: usize) -> usize
         return 0;
     }
     let n = unquoted_run(bytes, at);
-    put_bytes(to, made, u8x16::from_slice(&bytes[at..]), n);
+    put_lanes(to, made, u8x16::from_slice(&bytes[at..]), n);
     n
 }
 
@@ -37,15 +37,7 @@ fn take_wide(bytes: &[u8], at: usize, to: &mut [u8], made: usize) -> usize
     ensures taken { let run = take result (drop at bytes.now) in
         take (made + result) to.new ≡ take made to.old ++ doubled run }
 {
-    let stops = wide_quotes(bytes, at);
-    let lanes = u8x32::from_slice(&bytes[at..]);
-    if stops == 0 {
-        put_wide_bytes(to, made, lanes, WIDE);
-        return WIDE;
-    }
-    let n = first_set(stops, WIDE);
-    put_wide_bytes(to, made, lanes, n);
-    n
+    take_before(bytes, at, wide_quotes(bytes, at), to, made)
 }
 
 // Writes the bytes with their quotes doubled, as long as 32 of them are left and there is room for more.

@@ -2,22 +2,13 @@
 // what it wrote.
 ghost use Rattle.std.specs.Prelude.{◌≡◌, ◌+◌, ◌<◌, ◌≤◌, [], ◌∷◌, ◌++◌, length, take};
 ghost use Rattle.std.specs.Char.{encode_utf8};
+ghost use Rattle.std.specs.Simd.Lanes.{chunk};
+ghost use Rattle.tds_csv.specs.Plain.{first_set};
 ghost use Rattle.tds_csv.specs.Quoting.{doubled};
 
-use crate::convert::lanes::{LANES, WIDE};
-use crate::convert::lanes_utf16::UNITS;
+use crate::convert::lanes::{WIDE, first_set};
 use std::simd::prelude::*;
-
-// Writes a byte.
-#[inline(always)]
-pub(crate) fn put_byte(to: &mut [u8], at: usize, byte: u8) -> usize
-    requires { at < length to.old }
-    ensures end { result ≡ at + 1 }
-    ensures written { take result to.new ≡ take at to.old ++ byte ∷ [] }
-{
-    to[at] = byte;
-    at + 1
-}
+use tds_values::put_byte;
 
 // Writes a character beyond ASCII in two bytes.
 #[inline(always)]
@@ -126,38 +117,39 @@ pub(crate) fn put_doubled(to: &mut [u8], at: usize, byte: u8) -> usize
     end + (byte == 0x22) as usize
 }
 
-// Writes the first `n` of eight bytes.
+// Writes the first `n` of `N` bytes.
 #[inline(always)]
 #[tactic(auto, using(tds_values::proofs::LaneLemmas::taken_put))]
-pub(crate) fn put_lanes(to: &mut [u8], at: usize, lanes: u8x8, n: usize)
-    requires lanes { length lanes ≡ UNITS }
-    requires within { n ≤ UNITS }
-    requires room { at + UNITS ≤ length to.old }
-    ensures { take (at + n) to.new ≡ take at to.old ++ take n lanes }
+pub(crate) fn put_lanes<const N: usize>(to: &mut [u8], at: usize, lanes: Simd<u8, N>, n: usize)
+    requires lanes { length lanes ≡ N }
+    requires within { n ≤ N }
+    requires room { at + N ≤ length to.old }
+    ensures { take (at + n) to.new ≡ take at to.old ++ take n lanes.entry }
 {
     lanes.copy_to_slice(&mut to[at..]);
 }
 
-// Writes the first `n` of sixteen bytes.
+// Writes the next bytes before the first of these stops, at most 32, to a place, and returns how many.
 #[inline(always)]
-#[tactic(auto, using(tds_values::proofs::LaneLemmas::taken_put))]
-pub(crate) fn put_bytes(to: &mut [u8], at: usize, lanes: u8x16, n: usize)
-    requires lanes { length lanes ≡ LANES }
-    requires within { n ≤ LANES }
-    requires room { at + LANES ≤ length to.old }
-    ensures { take (at + n) to.new ≡ take at to.old ++ take n lanes }
+pub(crate) fn take_before(
+    bytes: &[u8],
+    at: usize,
+    stops: u64,
+    to: &mut [u8],
+    made: usize,
+) -> usize
+    requires wide { at + WIDE ≤ length bytes.now }
+    requires stops { first_set stops WIDE ≤ WIDE }
+    requires room { made + WIDE ≤ length to.old }
+    ensures first { result ≡ first_set stops WIDE }
+    ensures taken { take (made + result) to.new ≡ take made to.old ++ take result (chunk at WIDE bytes.now) }
 {
-    lanes.copy_to_slice(&mut to[at..]);
-}
-
-// Writes the first `n` of thirty-two bytes.
-#[inline(always)]
-#[tactic(auto, using(tds_values::proofs::LaneLemmas::taken_put))]
-pub(crate) fn put_wide_bytes(to: &mut [u8], at: usize, lanes: u8x32, n: usize)
-    requires lanes { length lanes ≡ WIDE }
-    requires within { n ≤ WIDE }
-    requires room { at + WIDE ≤ length to.old }
-    ensures { take (at + n) to.new ≡ take at to.old ++ take n lanes }
-{
-    lanes.copy_to_slice(&mut to[at..]);
+    let lanes = u8x32::from_slice(&bytes[at..]);
+    if stops == 0 {
+        put_lanes(to, made, lanes, WIDE);
+        return WIDE;
+    }
+    let n = first_set(stops, WIDE);
+    put_lanes(to, made, lanes, n);
+    n
 }

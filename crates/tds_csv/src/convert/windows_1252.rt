@@ -4,10 +4,11 @@ ghost use Rattle.tds_csv.specs.Plain.{LiesIn};
 ghost use Rattle.tds_csv.specs.Windows1252 as windows_1252;
 
 use crate::convert::PART;
-use crate::convert::encode::{put_byte, put_bytes, put_doubled, put_wide_bytes};
-use crate::convert::lanes::{BY_HAND, LANES, WIDE, first_set, plain_run, wide_stops};
+use crate::convert::encode::{put_doubled, put_lanes, take_before};
+use crate::convert::lanes::{BY_HAND, LANES, WIDE, plain_run, wide_stops};
 use crate::convert::utf16::Converted;
 use std::simd::prelude::*;
+use tds_values::put_byte;
 
 // The characters of the bytes 80 to FF in UTF-8, the first byte the lowest, with their number in the highest.
 const UPPER: [u32; 128] = [
@@ -84,7 +85,7 @@ fn take_plain(bytes: &[u8], source: &[u8], at: usize, to: &mut [u8], made: usize
         return 0;
     }
     let n = plain_run(source, at).min(bytes.len() - at);
-    put_bytes(to, made, u8x16::from_slice(&source[at..]), n);
+    put_lanes(to, made, u8x16::from_slice(&source[at..]), n);
     n
 }
 
@@ -97,15 +98,7 @@ fn take_wide(bytes: &[u8], at: usize, to: &mut [u8], made: usize) -> usize
     ensures taken { let run = take result (drop at bytes.now) in
         take (made + result) to.new ≡ take made to.old ++ windows_1252.text run }
 {
-    let stops = wide_stops(bytes, at);
-    let lanes = u8x32::from_slice(&bytes[at..]);
-    if stops == 0 {
-        put_wide_bytes(to, made, lanes, WIDE);
-        return WIDE;
-    }
-    let n = first_set(stops, WIDE);
-    put_wide_bytes(to, made, lanes, n);
-    n
+    take_before(bytes, at, wide_stops(bytes, at), to, made)
 }
 
 // Where the bytes end that are taken one by one, after `taken` bytes that were taken together.

@@ -1,5 +1,6 @@
 // Conversions in which each byte has a text of its own, put part by part.
-ghost use Rattle.std.specs.Prelude.{IfOk, MatchResult, ◌≡◌, ◌+◌, ◌-◌, ◌*◌, ◌<◌, ◌≤◌, ◌++◌, [], ℕ, List, length, take};
+ghost use Rattle.std.specs.Prelude.{IfOk, MatchResult, ◌≡◌, ◌+◌, ◌-◌, ◌*◌, ◌<◌, ◌≤◌, List, ℕ, length, take};
+ghost use Rattle.tds_csv.specs.Joining.{HasPart, HasText, IsBytewise};
 ghost use Rattle.tds_csv.specs.Plain.{LiesIn};
 ghost use Rattle.tds_csv.specs.Sinks.{IsWriting, PutsPiece};
 
@@ -22,22 +23,17 @@ pub(crate) trait Bytewise {
     fn convert(bytes: &[u8], source: &[u8], to: &mut [u8]) -> usize
         requires source { LiesIn bytes.now source.now }
         requires room { 3 * length bytes.now + LANES ≤ length to.old }
-        ensures short { result ≤ 3 * length bytes.now }
-        ensures text { take result to.new ≡ text bytes.now };
+        ensures { HasText text bytes.now to.new result };
 
     /// Writes the text of the first bytes, as far as there is room, and says how many those are.
     fn convert_part(bytes: &[u8], to: &mut [u8]) -> Converted
         requires wide { WIDE ≤ length bytes.now }
         requires room { PART ≤ length to.old }
-        ensures within { result.used ≤ length bytes.now }
-        ensures some { 0 < result.used }
-        ensures fits { result.made ≤ length to.new }
-        ensures text { take result.made to.new ≡ text (take result.used bytes.now) };
+        ensures { HasPart text bytes.now to.new result.used result.made };
 
-    /// Does nothing: its clauses are the laws of the text.
+    /// Does nothing: its clause is the law of the text.
     fn laws()
-        ensures appends { (a b : List ℕ) → text (a ++ b) ≡ text a ++ text b }
-        ensures empty { text [] ≡ [] };
+        ensures { IsBytewise text };
 }
 
 // Puts the text of a chunk.

@@ -1,5 +1,6 @@
 use Rattle.tds_csv.proofs.convert.beyond_ascii.put_pairs.Goals as goal
-use Rattle.tds_csv.{proofs.{Words.arith, LaneMasks.first_mask, Places.pair_row, WideText.pairs_taken}, specs.Wide.is_wide}
+use Rattle.tds_csv.{proofs.{Words.{◌≡◌, ◌+◌, ◌≤◌, arith, rules, length}, LaneMasks.first_mask, Places.pair_row, WideText.pairs_taken}, specs.Wide.is_wide}
+use lib.Count.{ones}
 
 pub pair_places-requires : goal.pair_places-requires
 pair_places-requires c = (first_mask is_wide c.args.units c.args.n c.fits-units.0 c.requires.most c.requires.wide).0
@@ -9,10 +10,13 @@ gathered-requires-clause-places c =
     let mask = first_mask is_wide c.args.units c.args.n c.fits-units.0 c.requires.most c.requires.wide in
     rw c.pair_places.ensures (pair_row c.args.wide mask.0).small
 
-pub put_bytes-requires-clause-within : goal.put_bytes-requires-clause-within
-put_bytes-requires-clause-within c =
+pub put_lanes-requires : goal.put_lanes-requires
+put_lanes-requires c =
     let mask = first_mask is_wide c.args.units c.args.n c.fits-units.0 c.requires.most c.requires.wide in
-    omega (arith, mask.1)
+    let size : length c.gathered.result ≡ 16 = search rules in
+    let few : c.args.n + ones c.args.wide ≤ 16 = omega (arith, mask.1) in
+    let space : c.args.at + 16 ≤ length c.args.to.now = omega arith in
+    (omega arith, (size, (few, space)))
 
 pub returns-clause-most : goal.returns-clause-most
 returns-clause-most c =
@@ -22,4 +26,4 @@ returns-clause-most c =
 pub returns-clause-written : goal.returns-clause-written
 returns-clause-written c =
     let text = pairs_taken c.args.units c.args.n c.fits-units.0 c.requires.most c.fits-units.1 c.pairs.ensures c.requires.wide c.requires.short in
-    cc (c.put_bytes.ensures, c.gathered.ensures, c.pair_places.ensures, text)
+    cc (c.put_lanes.ensures, c.gathered.ensures, c.pair_places.ensures, text)

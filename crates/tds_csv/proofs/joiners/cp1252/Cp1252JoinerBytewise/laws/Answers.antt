@@ -1,4 +1,5 @@
 use Rattle.tds_csv.proofs.SingleLaws.{windows_1252-append}
+use Rattle.tds_csv.proofs.Words.{refl}
 
-pub returns-clause-appends : Rattle.tds_csv.proofs.joiners.cp1252.Cp1252JoinerBytewise.laws.Goals.returns-clause-appends
-returns-clause-appends c = windows_1252-append
+pub returns : Rattle.tds_csv.proofs.joiners.cp1252.Cp1252JoinerBytewise.laws.Goals.returns
+returns c = record { appends = windows_1252-append; empty = refl }
