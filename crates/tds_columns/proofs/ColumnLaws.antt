@@ -7,7 +7,7 @@ use Rattle.tds_columns.proofs.{
 }
 
 pub fits_in : (room so_far least : ℕ) → so_far + least ≤ room → too_long room so_far least ≡ None
-fits_in room so_far least h = grind (arith, nat_tests)
+fits_in room so_far least h = grind arith
 
 -- the bytes of a TYPE_INFO: its type byte and the rest
 pub record ByteAndRest (kind : Kind) (info : List ℕ) : Type 0 where
@@ -26,7 +26,7 @@ length-SpellsColumn c bytes h = rw h.spelt (simp length-append (omega (arith, h.
 -- a column takes at least 8 bytes
 least-SpellsColumns : (cs : List Column) (bytes : List ℕ) → SpellsColumns cs bytes → 8 * length cs ≤ length bytes
 least-SpellsColumns [] bytes h = omega arith
-least-SpellsColumns (c ∷ cs) bytes h = grind (arith, byte_and_rest, length-SpellsColumn, length-append, (least-SpellsColumns cs h.1 h.4))
+least-SpellsColumns (c ∷ cs) bytes h = grind (arith, byte_and_rest, length-append, (least-SpellsColumns cs h.1 h.4))
 
 -- a description after the last of these columns
 abbrev pub after_columns : List ℕ → ℕ → List Column → DescriptionPart
@@ -35,12 +35,12 @@ after_columns bytes count columns = if length columns == count then WholeDescrip
 -- a further column comes
 pub at_column : (bytes : List ℕ) (count : ℕ) (columns : List Column) → length columns < count
     → after_columns bytes count columns ≡ InColumn bytes count columns ColumnHead
-at_column bytes count columns more = choose_false _ _ _ (ne_eqb (length columns) count (λ e. omega (arith, e, more)))
+at_column bytes count columns more = choose_false _ _ _ (ne_eqb _ count (λ e. omega (arith, e, more)))
 
 -- a Count of columns that fit
 count_free : (room n : ℕ) (bytes : List ℕ) → 0 < n → n < 65535 → 2 + 8 * n ≤ room → (count_fault room n ≡ None)
     × (with_count bytes n ≡ after_columns bytes n [])
-count_free room n bytes some most fits = grind (arith, ne_eqb, nat_tests, at_column)
+count_free room n bytes some most fits = grind arith
 
 module _ (room : ℕ) where
   module _ (b : List ℕ) (count : ℕ) (cols : List Column) where
@@ -78,8 +78,8 @@ module _ (room : ℕ) where
       let l2 : length ((b ++ head) ++ type.rest) ≡ length b + (7 + length type.rest) = simp length-append (omega (arith, h.six)) in
       let one = head_is_read b count cols h.ignored type.byte _ h.six type.whole (omega (arith, l, li, fits)) in
       let two = info_is_read (b ++ head) count cols type.byte type.rest c.kind type.whole type.allowed in
-      let three = units_are_read ((b ++ head) ++ type.rest) count cols c.kind h.units (omega (arith, l, li, l2, h.counted, fits)) in
-      let four = name_is_read (((b ++ head) ++ type.rest) ++ h.units ∷ []) count cols c.kind h.units c.name h.counted in
+      let three = units_are_read _ count cols c.kind h.units (omega (arith, l, li, l2, h.counted, fits)) in
+      let four = name_is_read _ count cols c.kind h.units c.name h.counted in
       let all = simp append_assoc at (Spelt-append (description room) _ _ _ _ _ one
       (Spelt-append (description room) _ _ _ _ _ two (Spelt-append (description room) _ _ _ _ _ three four))) in
       rw (h.spelt, type.spelt) (simp append_assoc all)

@@ -17,7 +17,7 @@ not_zero room c q = grind (arith, eq_false)
 
 -- and unless it is that of no metadata the room has the least bytes of its columns
 pub room_for : (room c : ℕ) → c ≢ 0xFFFF → count_fault room c ≡ None → 2 + 8 * c ≤ room
-room_for room c other q = grind (arith, choose_false, ne_eqb, not_long, not_zero)
+room_for room c other q = grind (arith, not_long)
 
 -- a type byte that is accepted
 pub known_type : (i byte : ℕ) (o : Option ℕ) (y : Option Fault) → first_of_two (type_fault i byte o) y ≡ None → (n : ℕ) × (o ≡ Some n)

@@ -10,11 +10,11 @@ columns-init g c = record {
   going = c.requires.going;
   same = search rules;
   room = search rules;
-  fits = omega (arith, c.requires.fits);
+  fits = omega arith;
   reads = (
     [],
     refl,
-    rw (at_column c.args.area.now.bytes c.args.count [] c.requires.some)
+    rw (at_column _ c.args.count [] c.requires.some)
         (record { reads = reads_none _ _ _; place_is = omega arith; kept = refl; bound = omega arith; further = le_refl _ }),
   );
 }

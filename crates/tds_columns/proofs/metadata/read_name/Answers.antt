@@ -51,5 +51,4 @@ returns-clause-gives g c = λ columns kind number.
 
 pub returns-clause-fits : goal.returns-clause-fits
 returns-clause-fits g c =
-    let free = sym c.too_long.ensures ∙ c.in_default.is in
-    grind (arith, length_into, nat_tests)
+    grind (arith, length_into)

@@ -14,7 +14,7 @@ bare bytes after count columns byte rest known zero same = grind (arith, bare_ty
 -- a head that is accepted
 no_fault : (room so_far byte rest index left : ℕ) → rest_length byte ≡ Some rest → (so_far + rest) + 1 + 8 * left ≤ room
     → head_fault room so_far byte index left ≡ None
-no_fault room so_far byte rest index left known fits = grind (arith, nat_tests)
+no_fault room so_far byte rest index left known fits = grind arith
 
 pub returns-in_err-take_into-clause-gives : goal.returns-in_err-take_into-clause-gives
 returns-in_err-take_into-clause-gives g c =

@@ -2,4 +2,4 @@ use Rattle.{std.proofs.{Common.arith, lemmas.Grind.common_steps}, tds_values.spe
 
 pub returns-in-36 : Rattle.tds_columns.proofs.type_info.is_named.Goals.returns-in-36
 unfolding rest_length named_kind
-returns-in-36 c = grind (arith, common_steps, c.in-36.is)
+returns-in-36 c = grind arith
