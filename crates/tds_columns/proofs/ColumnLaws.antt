@@ -18,15 +18,15 @@ pub record ByteAndRest (kind : Kind) (info : List ℕ) : Type 0 where
   pub allowed : kind_of (byte ∷ rest) ≡ Some kind
 
 pub byte_and_rest : (kind : Kind) (info : List ℕ) → IsTypeInfo kind info → ByteAndRest kind info
-byte_and_rest kind info h = grind (arith, rest_length_of)
+byte_and_rest kind info h = grind arith
 
 length-SpellsColumn : (c : Column) (bytes : List ℕ) (h : SpellsColumn c bytes) → length bytes ≡ (6 + length h.info) + (1 + length c.name)
-length-SpellsColumn c bytes h = rw h.spelt (simp length-append (omega (arith, h.six)))
+length-SpellsColumn c bytes h = rw h.spelt (simp length-append (omega arith))
 
 -- a column takes at least 8 bytes
 least-SpellsColumns : (cs : List Column) (bytes : List ℕ) → SpellsColumns cs bytes → 8 * length cs ≤ length bytes
 least-SpellsColumns [] bytes h = omega arith
-least-SpellsColumns (c ∷ cs) bytes h = grind (arith, byte_and_rest, length-append, (least-SpellsColumns cs h.1 h.4))
+least-SpellsColumns (c ∷ cs) bytes h = grind (arith, length-append, (least-SpellsColumns cs h.1 h.4))
 
 -- a description after the last of these columns
 abbrev pub after_columns : List ℕ → ℕ → List Column → DescriptionPart
@@ -35,7 +35,7 @@ after_columns bytes count columns = if length columns == count then WholeDescrip
 -- a further column comes
 pub at_column : (bytes : List ℕ) (count : ℕ) (columns : List Column) → length columns < count
     → after_columns bytes count columns ≡ InColumn bytes count columns ColumnHead
-at_column bytes count columns more = choose_false _ _ _ (ne_eqb _ count (λ e. omega (arith, e, more)))
+at_column bytes count columns more = choose_false _ _ _ (ne_eqb _ count (λ e. omega arith))
 
 -- a Count of columns that fit
 count_free : (room n : ℕ) (bytes : List ℕ) → 0 < n → n < 65535 → 2 + 8 * n ≤ room → (count_fault room n ≡ None)
@@ -49,21 +49,21 @@ module _ (room : ℕ) where
         → ((length b + 7) + ((n + 1) + 8 * (count - (length cols + 1)))) ≤ room
         → Spelt (description room) (InColumn b count cols ColumnHead) (ignored ++ byte ∷ [])
         (with_type (b ++ (ignored ++ byte ∷ [])) count cols byte n)
-    head_is_read ignored byte n six rest fits = grind (arith, Spelt-step, nat_tests, get_or-append_seam, length-append)
+    head_is_read ignored byte n six rest fits = grind (arith, Spelt-step, get_or-append_seam, length-append)
 
     info_is_read : (byte : ℕ) (rest : List ℕ) (kind : Kind) → rest_length byte ≡ Some (length rest) → kind_of (byte ∷ rest) ≡ Some kind
         → Spelt (description room) (with_type b count cols byte (length rest)) rest (InColumn (b ++ rest) count cols (NameCount kind))
     info_is_read byte [] kind n k = grind (arith, Spelt-none, append-nil)
-    info_is_read byte (x ∷ xs) kind n k = grind (arith, Spelt-step, choose_false, ne_eqb)
+    info_is_read byte (x ∷ xs) kind n k = grind (arith, Spelt-step, choose_false)
 
     units_are_read : (kind : Kind) (units : ℕ) → (length b + 1) + (2 * units + 8 * (count - (length cols + 1))) ≤ room
         → Spelt (description room) (InColumn b count cols (NameCount kind)) (units ∷ []) (with_units (b ++ units ∷ []) count cols kind units)
-    units_are_read kind units fits = grind (arith, Spelt-step, nat_tests)
+    units_are_read kind units fits = grind (arith, Spelt-step)
 
     name_is_read : (kind : Kind) (units : ℕ) (name : List ℕ) → length name ≡ 2 * units
         → Spelt (description room) (with_units b count cols kind units) name
         (with_column (b ++ name) count cols (record { kind = kind; name = name }))
-    name_is_read kind units [] l = grind (arith, Spelt-none, append-nil, choose_true, nat_tests)
+    name_is_read kind units [] l = grind (arith, Spelt-none, append-nil, choose_true)
     name_is_read kind units (x ∷ xs) l = grind (arith, Spelt-step, choose_false, ne_eqb)
 
   -- what spells a column is read as it

@@ -14,7 +14,7 @@ Keeps d b = description_bytes d ≡ b
 
 module _ (room : ℕ) where
   pub kept_bytes : (d : DescriptionPart) (bytes : List ℕ) → Spelt (description room) BeforeCount bytes d → Keeps d bytes
-  kept_bytes d bytes h = Spelt-induct (description room) Keeps (λ d b e h n. grind (arith, bare_type, choose, eq_true, is_some_value)) BeforeCount
+  kept_bytes d bytes h = Spelt-induct (description room) Keeps (λ d b e h n. grind (arith, bare_type, eq_true)) BeforeCount
       refl bytes d h
 
   -- what is read has its meaning

@@ -32,7 +32,7 @@ returns-then-size-eq0-clause-gives g c = λ columns kind number.
     let t = c.in_ok-take_into.ensures.gives in
     let w = judged t columns c.args.count number c.bytes.ensures.value c.len-start.ensures.value (c.room.ensures
     ∙ c.in_ok-take_into.ensures.area.room) c.from-size.ensures c.from-later.ensures in
-    let zero : slice_index t.element 0 ≡ 0 = omega (arith, w.0, c.if-size-eq0.true) in (
+    let zero : slice_index t.element 0 ≡ 0 = omega arith in (
       record { kind = kind; name = [] },
       description_read t (omega arith) refl (w.1 ∙ sym c.too_long.ensures ∙ c.in_default.is) (rw (t.stands, zero))
           c.in_ok-take_into.ensures.place refl refl (column_bytes _ _ _ _),

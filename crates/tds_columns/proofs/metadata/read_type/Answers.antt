@@ -31,12 +31,11 @@ returns-in-Err-clause-gives g c = λ columns number.
 pub returns-then-rest-eq0-clause-gives : goal.returns-then-rest-eq0-clause-gives
 returns-then-rest-eq0-clause-gives g c = λ columns number.
     let t = c.in_ok-take_into.ensures.gives in
-    let byte = byte_at t 6 c.bytes.ensures.value c.len-start.ensures.value in
-    let known = rw byte at c.in-Ok.ensures.0 in
+    let known = rw (byte_at t 6 c.bytes.ensures.value c.len-start.ensures.value) at c.in-Ok.ensures.0 in
     let kind = bare (c.args.area.now.bytes ++ t.element) c.take_into.new.area.bytes c.args.count columns (slice_index t.element 6) c.in-Ok.rest known
     c.if-rest-eq0.true (rw t.stands) in (
       kind.0,
-      description_read t (omega arith) refl (no_fault _ _ _ c.in-Ok.rest _ _ known (rw number (omega (arith, c.in-Ok.ensures.1)))) kind.1
+      description_read t (omega arith) refl (no_fault _ _ _ c.in-Ok.rest _ _ known (rw number (omega arith))) kind.1
           c.in_ok-take_into.ensures.place refl refl refl,
     )
 

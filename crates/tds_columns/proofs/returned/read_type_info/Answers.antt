@@ -20,7 +20,7 @@ returns-in_err-take_into-clause-gives g c = λ before taken.
     let known = rw c.bytes.ensures.value at c.in-Ok.ensures.gives in
     let e = c.in_err-take_into.ensures.gives c.requires.going.going in
     passed _ _ _ _ c.from_residual.ensures.1 (stops_after_steps c.args.small.now.bytes taken c.requires.head.eight c.in-Ok.rest known
-    (λ z. omega (arith, z, e.fewer)) c.requires.head.place (cut_into e (rw known) refl))
+    (λ z. omega arith) c.requires.head.place (cut_into e (rw known) refl))
 
 pub returns-in-Some-clause-kind : goal.returns-in-Some-clause-kind
 returns-in-Some-clause-kind g c =
@@ -43,7 +43,7 @@ pub returns-in-None-clause-area : goal.returns-in-None-clause-area
 returns-in-None-clause-area g c =
     let t = c.in_ok-take_into.ensures.gives in
     let kept = shrunk _ t.element t.stands t.whole (sym c.requires.head.eight) c.truncate.ensures in
-    record { room = search rules; bound = omega (arith, kept.1, c.requires.head.eight, c.in-Ok.ensures.bound); kept = kept.0 }
+    record { room = search rules; bound = omega (arith, c.in-Ok.ensures.bound); kept = kept.0 }
 
 pub returns-in-None-clause-gives : goal.returns-in-None-clause-gives
 returns-in-None-clause-gives g c = λ before taken.
