@@ -1,7 +1,7 @@
 -- What a description's spelling is read as.
 use Rattle.tds_columns.proofs.{
   Words.{too_long, add-zero, if◌then◌else◌, ◌≡◌, ℕ, ◌+◌, ◌-◌, ◌*◌, ◌/◌, ◌%◌, ◌<◌, ◌≤◌, List, [], ◌∷◌, ◌++◌, length, refl, ap, append_assoc, append-nil, arith},
-  Words.{length-append, Some, None, ◌==◌, nat_tests, ne_eqb, get_or-append_seam, Kind, little, IsTypeInfo, rest_length, kind_of, rest_length_of, Spelt},
+  Words.{length-append, Some, None, ◌==◌, nat_tests, ne_eqb, get_or-append_seam, Kind, little, IsTypeInfo, rest_length, kind_of, Spelt},
   Words.{Spelt-step, Spelt-append, Spelt-none, Column, SpellsColumn, SpellsColumns, SpellsDescription, ColumnHead, NameCount, DescriptionPart, BeforeCount},
   Words.{InColumn, WholeDescription, with_column, with_count, with_type, with_units, count_fault, description, choose_false, choose_true},
 }

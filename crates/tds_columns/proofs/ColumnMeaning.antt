@@ -1,10 +1,10 @@
 -- What the bytes that lead to a part of a description spell.
 use Rattle.tds_columns.proofs.{
   Words.{◌==◌, too_long, Option, Fault, first_of_two, is_some, BadTypeInfo, true, if◌then◌else◌, ◌≡◌, ◌≢◌, ℕ, ◌+◌, ◌*◌, ◌/◌, ◌%◌, ◌<◌, ◌≤◌, List, [], ◌∷◌},
-  Words.{◌++◌, length, refl, sym, ◌∙◌, ap, append_assoc, append-nil, arith, length-append, length-take-le, Some, None, slice_index, nat_tests, ne_eqb, Kind},
+  Words.{◌++◌, length, refl, sym, ◌∙◌, ap, append_assoc, append-nil, arith, length-append, Some, None, slice_index, nat_tests, Kind},
   Words.{IsTypeInfo, rest_length, bare_type, AreBytes, IsNext, Column, SpellsColumn, SpellsColumns, SpellsDescription, ColumnPlace, ColumnHead, ColumnInfo},
   Words.{NameCount, NameUnits, DescriptionPart, BeforeCount, NoDescription, InColumn, WholeDescription, with_column, with_units, add_described, type_fault},
-  Words.{count_fault, description, choose, choose_false, eq_true, eq_false, is_some_value},
+  Words.{count_fault, description, choose, eq_true, eq_false, is_some_value},
   ByteLemmas.{last_of, two_bytes},
 }
 

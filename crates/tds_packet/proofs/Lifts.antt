@@ -1,6 +1,6 @@
 -- What is read inside a greater grammar.
 use Rattle.tds_packet.proofs.{
-  Words.{common_steps, ◌≡◌, inl, inr, ℕ, ◌<◌, List, [], ◌∷◌, ◌++◌, length, ap, arith, append_assoc, append-nil, concat, Fault, Stop, Grammar, IsNext, Leads},
+  Words.{◌≡◌, inl, inr, ℕ, ◌<◌, List, [], ◌∷◌, ◌++◌, length, ap, arith, append_assoc, append-nil, concat, Fault, Stop, Grammar, IsNext, Leads},
   Words.{Spelt, Seen, Reads, StopsReading},
   ElementLaws.{Inside, Inside-Spelt, Spelt-append, Spelt-none, Spelt-one},
 }

@@ -1,13 +1,13 @@
 -- A payload on its way into packets of one size.
 use Rattle.tds_packet.proofs.{
   Words.{common_steps, PayloadOf, ◌≡◌, ◌∙◌, inl, inr, ℕ, zero, suc, ◌+◌, ◌-◌, ◌*◌, ◌<◌, ◌≤◌, Bool, true, false, List, [], ◌∷◌, ◌++◌, length, drop, Option},
-  Words.{None, refl, ap, arith, append-nil, length-append, length-drop, take_all, le_refl, div-mul-add, flat_map-append, Appends-nil, Appends-trans},
+  Words.{None, refl, ap, arith, append-nil, length-append, length-drop, take_all, le_refl, flat_map-append, Appends-nil, Appends-trans},
   Words.{Appends-kept, drop-append_seam, suc-mul, Result, Ok, Err, IsTrue, ◌^◌, Keeps, take-append-le, drop-append-le, one_more, Counted, Recut, RecutStop},
   Words.{MessageEnded, Stays, Stop, Written, coming_of, Packet, packet_bytes, wire_of, buffered, seen, Cuts, Flushes, Gains, StopsInput, StopsOutput},
   Words.{WritesPacket, Gathers, cut_packet, first_packets, before_last, packets_before, Ends, IsBetween, IsNotOver, IsOver, Seen, Takes},
-  Joins.{Stays-Rises, Stays-none, Stays-trans},
+  Joins.{Stays-Rises, Stays-trans},
   PayloadLaws.ends_there,
-  Futures.{Ends-after, Takes-more, Takes-none, Takes-trans},
+  Futures.{Ends-after, Takes-more, Takes-trans},
 }
 
 -- what was gathered, and bytes after it

@@ -1,6 +1,6 @@
 use Rattle.tds_columns.proofs.metadata.read_columns.Goals as goal
 use Rattle.tds_columns.proofs.{
-  Words.{◌≡◌, ◌∙◌, [], ◌∷◌, ◌++◌, length, refl, arith, rules, le_refl, length-append, ◌==◌, nat_tests, choose_true, passed, reads_none},
+  Words.{◌≡◌, ◌∙◌, [], ◌∷◌, ◌++◌, length, refl, arith, rules, le_refl, length-append, ◌==◌, choose_true, passed, reads_none},
   ColumnLaws.at_column,
   GatherSteps.{describes_both, stops_describing_after},
 }

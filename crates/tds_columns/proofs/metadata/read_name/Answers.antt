@@ -1,7 +1,7 @@
 use Rattle.tds_columns.proofs.metadata.read_name.Goals as goal
 use Rattle.tds_columns.proofs.{
   Words.{add-zero, ◌+◌, ◌*◌, Seen, Space, TakesInto, List, Column, ℕ, length, get_or, ◌-◌, too_long, ◌≡◌, ◌∙◌, [], slice_index, refl, sym, arith, ne_eqb},
-  Words.{nat_tests, choose_false, passed},
+  Words.{choose_false, passed},
   ElementSteps.{byte_at, length_into},
   GatherSteps.{column_bytes, description_cut, description_read, description_refused, name_after},
 }

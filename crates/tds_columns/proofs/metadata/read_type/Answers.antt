@@ -1,6 +1,6 @@
 use Rattle.tds_columns.proofs.metadata.read_type.Goals as goal
 use Rattle.tds_columns.proofs.{
-  Words.{◌≡◌, ◌∙◌, ◌+◌, ◌*◌, ◌≤◌, ◌++◌, ℕ, slice_index, refl, List, arith, Some, None, unwrap_or, ne_eqb, nat_tests, rest_length, Kind, bare_type, Column},
+  Words.{◌≡◌, ◌∙◌, ◌+◌, ◌*◌, ◌≤◌, ◌++◌, ℕ, slice_index, refl, List, arith, Some, None, unwrap_or, ne_eqb, rest_length, Kind, bare_type, Column},
   Words.{InColumn, NameCount, head_fault, with_type, choose_false, passed},
   ElementSteps.byte_at,
   GatherSteps.{description_cut, description_read, description_refused, part_after},

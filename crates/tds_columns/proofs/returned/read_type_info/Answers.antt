@@ -1,6 +1,6 @@
 use Rattle.tds_columns.proofs.returned.read_type_info.Goals as goal
 use Rattle.tds_columns.proofs.{
-  Words.{◌≡◌, ◌∙◌, ◌∷◌, refl, sym, rules, arith, slice_index, None, kind_of, passed, refused_at_once, TypeHead, returned_type},
+  Words.{◌≡◌, ◌∙◌, ◌∷◌, refl, sym, rules, arith, slice_index, None, kind_of, passed, refused_at_once, TypeHead},
   ElementSteps.{shrunk, cut_into, element_at, refused_into},
   TypeSteps.{no_kind, stops_after_steps, type_whole},
 }

@@ -1,4 +1,4 @@
-use Rattle.{std.proofs.{Common.arith, lemmas.Grind.common_steps}, tds_values.specs.TypeInfo.{named_kind, rest_length}}
+use Rattle.{std.proofs.{Common.arith}, tds_values.specs.TypeInfo.{named_kind, rest_length}}
 
 pub returns-in-36 : Rattle.tds_columns.proofs.type_info.is_named.Goals.returns-in-36
 unfolding rest_length named_kind

@@ -1,5 +1,5 @@
 use Rattle.tds_columns.proofs.view.Columns.walk.Goals as goal
-use Rattle.tds_columns.proofs.{Words.{◌∙◌, arith, drop, little_number, and_parts}, ViewLaws.{all_after, description_shows, length_columns}}
+use Rattle.tds_columns.proofs.{Words.{◌∙◌, arith, drop, and_parts}, ViewLaws.{all_after, description_shows, length_columns}}
 
 pub invariant_of-result : goal.invariant_of-result
 invariant_of-result c =

@@ -1,7 +1,7 @@
 use Rattle.tds_packet.proofs.counted.Counted.fill.Goals as goal
 use Rattle.tds_packet.proofs.{
   Words.{◌≡◌, ℕ, List, ◌+◌, ◌-◌, ◌≤◌, ◌++◌, rules, arith, length, take, ap, ◌∙◌, subst, length-take-le, take-append-add, take-append-le, Consumes},
-  Words.{Consumes-trans, Consumes-kept, put_mid, post_of, one_more},
+  Words.{Consumes-trans, Consumes-kept, put_mid, one_more},
 }
 
 -- the first bytes of a part that was written over
