@@ -59,9 +59,7 @@ few_ones q us is = rw (is, ones-mask_l q us) (count_by-le-length q us)
 -- so the mask of the first of eight lanes
 pub first_mask : (q : ℕ → Bool) (us : List ℕ) (n : ℕ) {mask : ℕ} → length us ≡ 8 → n ≤ 8 → mask ≡ mask_l (map q (take n us))
     → (mask < 256) × (count_ones mask ≤ n)
-first_mask q us n long few is =
-    let counted = length-take-le n us (omega (arith, long)) in
-    (rw is (mask_small 8 (map q (take n us)) (omega (arith, counted, length-map (take n us) q))), rw counted at (few_ones q (take n us) is))
+first_mask q us n long few is = grind (arith, length-take-le, mask_small, length-map, few_ones)
 
 -- none of the lanes of a mask passes
 pub none_passes : (q : ℕ → Bool) (us : List ℕ) → mask_l (map q us) ≡ 0 → Each1 (λ u. q u ≡ false) us

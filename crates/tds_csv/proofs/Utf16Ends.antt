@@ -22,6 +22,4 @@ ends_held {bytes} {to} {used} {made} before held =
 
 -- nothing comes after this place
 pub ends_there : {bytes to : List ℕ} {used made : ℕ} → Converts bytes to used made → used ≡ length bytes → Ended bytes to used made
-ends_there {bytes} {used = used} before all =
-    let none = nil_of_length (drop used bytes) (omega (arith, length-drop used bytes)) in
-    ends_held before (ap rest none ∙ sym none)
+ends_there before all = grind (arith, nil_of_length, length-drop, ends_held)

@@ -2,7 +2,7 @@
 use Rattle.tds_csv.proofs.{
   Words.{common_steps, ◌≡◌, ◌∙◌, ◌↔◌, ℕ, ◌+◌, ◌-◌, ◌<◌, ◌≤◌, List, [], ◌++◌, length, take, drop, inl, inr, Option, Result, Ok, Err, refl, sym, ap, arith},
   Words.{append_assoc, append-nil, length-append, length-drop, length-take-le, cases_lt, take-append-drop, take-take, take-append-le, drop-append-le, take_all},
-  Words.{drop-append-add, take-append-add, utf8_valid_len, utf8_valid_len_le, emit, IsErrAnd, err_from_is_err_and, JoinFault, Stopped, Odd, BadText, Sink},
+  Words.{drop-append-add, take-append-add, emit, IsErrAnd, err_from_is_err_and, JoinFault, Stopped, Odd, BadText, Sink},
   Words.{Pushes, PushesPiece, TakesPiece, TakesUpTo, Held, held, IsScan, StopsAt},
   Utf8Laws.{joins_utf8, emits, rest-append},
   Sinks.{Puts-trans, Breaks-after, Breaks-longer},
@@ -67,21 +67,7 @@ rest_begins bytes is begun = rw (is, ← append-nil (rest bytes)) (joins_utf8.in
 -- what is withheld, and the rest of a piece whose first bytes were taken
 kept_tail : (kept part more mid : List ℕ) (at : ℕ) → mid ≡ rest (kept ++ part) → at + length mid ≡ length part
     → take (length (part ++ more) - at) (drop at (part ++ more)) ≡ mid ++ more
-kept_tail kept part more mid at is e =
-    let whole : utf8_valid_len (kept ++ part) ≡ length kept + at =
-    omega (
-      arith,
-      ap length is,
-      length-drop (utf8_valid_len (kept ++ part)) (kept ++ part),
-      length-append kept part,
-      utf8_valid_len_le (kept ++ part),
-    ) in
-    let ends = sym (is ∙ ap (λ n. drop n (kept ++ part)) whole ∙ drop-append-add kept part at) in
-    rw (
-      take_all (length (part ++ more) - at) (drop at (part ++ more)) (omega (arith, length-drop at (part ++ more))),
-      drop-append-le at part more (omega arith),
-      ends,
-    ) refl
+kept_tail kept part more mid at is e = grind (arith, length-drop, length-append, drop-append-add, take_all, drop-append-le)
 
 module _ {kept mid new : List ℕ} {a b d : Held} {part : List ℕ} (x : TakesPiece Begins rest text kept mid a b part) where
   -- a part of a piece was taken, and then the next bytes

@@ -9,8 +9,8 @@ use crate::numbers::put_fraction;
 use crate::ranges::{LARGEST_OFFSET, LAST_DAY, MINUTES_A_DAY, SECONDS_A_DAY, TICKS_A_DAY};
 use crate::tables::{DAYS, MINUTES};
 
-// How many days lie between 0000-03-01 and day 0.
-const DAYS_BEFORE_DAY_0: u32 = 306;
+// How many days lie between 1 March and the next 1 January, and so between 0000-03-01 and day 0.
+const MARCH_TO_JANUARY: u32 = 306;
 
 // The year of a day and how many of the year's days came before it, if years begin on 1 March.
 #[inline(always)]
@@ -20,13 +20,10 @@ fn march_year(day: u32) -> (u32, u32)
     ensures days { result.1 < 366 }
     ensures year { result.0 + result.1 / 306 < 10000 }
 {
-    let scaled = 4 * (day + DAYS_BEFORE_DAY_0) + 3;
+    let scaled = 4 * (day + MARCH_TO_JANUARY) + 3;
     let century = scaled / 146_097;
     let in_century = scaled % 146_097 / 4 * 4 + 3;
-    (
-        100 * century + in_century / 1461,
-        in_century % 1461 / 4,
-    )
+    (100 * century + in_century / 1461, in_century % 1461 / 4)
 }
 
 // -MM-DD and two spaces, so many days after a 1 March.
@@ -62,7 +59,7 @@ pub(crate) fn put_date(to: &mut [u8], at: usize, day: u32) -> usize
     ensures space { take (result + 1) to.new ≡ take result to.new ++ codes " " }
 {
     let (year, days) = march_year(day);
-    let at = put_four(to, at, year + u32::from(days >= DAYS_BEFORE_DAY_0));
+    let at = put_four(to, at, year + u32::from(days >= MARCH_TO_JANUARY));
     put_day(to, at, days)
 }
 

@@ -131,13 +131,7 @@ pub(crate) fn put_lanes<const N: usize>(to: &mut [u8], at: usize, lanes: Simd<u8
 
 // Writes the next bytes before the first of these stops, at most 32, to a place, and returns how many.
 #[inline(always)]
-pub(crate) fn take_before(
-    bytes: &[u8],
-    at: usize,
-    stops: u64,
-    to: &mut [u8],
-    made: usize,
-) -> usize
+pub(crate) fn take_before(bytes: &[u8], at: usize, stops: u64, to: &mut [u8], made: usize) -> usize
     requires wide { at + WIDE ≤ length bytes.now }
     requires stops { first_set stops WIDE ≤ WIDE }
     requires room { made + WIDE ≤ length to.old }

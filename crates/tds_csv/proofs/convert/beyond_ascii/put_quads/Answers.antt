@@ -1,5 +1,8 @@
 use Rattle.tds_csv.proofs.convert.beyond_ascii.put_quads.Goals as goal
-use Rattle.tds_csv.{proofs.{Words.{◌≡◌, ◌+◌, ◌*◌, ◌≤◌, arith, rules, length}, LaneMasks.few_ones, Places.{ones_of_two, quad_row}, WideText.quads_taken}, specs.Wide.{is_long, is_wide}}
+use Rattle.tds_csv.{
+  proofs.{Words.{◌≡◌, ◌+◌, ◌*◌, ◌≤◌, arith, rules, length}, LaneMasks.few_ones, Places.{ones_of_two, quad_row}, WideText.quads_taken},
+  specs.Wide.{is_long, is_wide},
+}
 use lib.Count.{ones}
 
 pub gathered-requires-clause-places : goal.gathered-requires-clause-places
