@@ -12,7 +12,8 @@ use tds_columns::{Columns, Described, gather, read_type_info, take_into};
 use tds_meter::Area;
 use tds_packet::rig::{RepeatingReader, ScriptedReader};
 use tds_packet::{Counted, Fault, Payload, Place, Stop};
-use tds_values::{Kind, Reach};
+use tds_values::Kind;
+use tds_values::Reach::{Chunked, Short};
 
 // A room that most descriptions fit.
 const ROOM: usize = 1024;
@@ -91,21 +92,30 @@ fn read_returned<R: Read>(payload: &mut Payload<R>, small: &mut Area) -> Result<
     read_type_info(payload, small)
 }
 
-// Two columns of this type information, and a returned value of it.
-fn check_kind(alloc: Global, what: &str, info: &[u8], kind: Kind) -> Result<(), Fail> {
+// Two columns of this type information, which may end with a collation, and a returned value of it.
+fn check_kind<'a>(
+    alloc: Global,
+    what: &str,
+    info: &'a [u8],
+    collation: &'a [u8],
+    kind: Kind,
+) -> Result<(), Fail> {
     let head: &[u8] = &[0; 6];
     let name: &[u8] = &[1, 0x61, 0];
     let pieces = [
         &[2, 0],
         head,
         info,
+        collation,
         name,
         head,
         info,
+        collation,
         name,
         &[1],
         head,
         info,
+        collation,
     ];
     let wire = wire_of(alloc, &pieces)?;
     let mut from = Counted::new(ScriptedReader::new(&wire, 5));
@@ -121,7 +131,20 @@ fn check_kind(alloc: Global, what: &str, info: &[u8], kind: Kind) -> Result<(), 
 // A type of the profile, the bytes of its type information, and its kind.
 struct Known(&'static str, &'static [u8], Kind);
 
-const KNOWN: [Known; 30] = [
+const DECIMAL_5_2: Kind = Kind::Decimal {
+    length: 5,
+    precision: 5,
+    scale: 2,
+};
+
+const NUMERIC_38_37: Kind = Kind::Decimal {
+    length: 17,
+    precision: 38,
+    scale: 37,
+};
+
+// Types without a collation.
+const KNOWN: [Known; 24] = [
     Known("tinyint", &[0x30], Kind::Int1),
     Known("bit", &[0x32], Kind::Bit),
     Known("smallint", &[0x34], Kind::Int2),
@@ -141,77 +164,43 @@ const KNOWN: [Known; 30] = [
     Known("time(7)", &[0x29, 7], Kind::Time(7)),
     Known("datetime2(3)", &[0x2A, 3], Kind::DateTime2(3)),
     Known("datetimeoffset(0)", &[0x2B, 0], Kind::DateTimeOffset(0)),
-    Known(
-        "decimal(5, 2)",
-        &[0x6A, 5, 5, 2],
-        Kind::Decimal {
-            length: 5,
-            precision: 5,
-            scale: 2,
-        },
-    ),
-    Known(
-        "numeric(38, 37)",
-        &[0x6C, 17, 38, 37],
-        Kind::Decimal {
-            length: 17,
-            precision: 38,
-            scale: 37,
-        },
-    ),
-    Known("varbinary(10)", &[0xA5, 10, 0], Kind::Binary(Reach::Short)),
-    Known(
-        "varbinary(max)",
-        &[0xA5, 0xFF, 0xFF],
-        Kind::Binary(Reach::Chunked),
-    ),
+    Known("decimal(5, 2)", &[0x6A, 5, 5, 2], DECIMAL_5_2),
+    Known("numeric(38, 37)", &[0x6C, 17, 38, 37], NUMERIC_38_37),
+    Known("varbinary(10)", &[0xA5, 10, 0], Kind::Binary(Short)),
+    Known("varbinary(max)", &[0xA5, 0xFF, 0xFF], Kind::Binary(Chunked)),
     Known(
         "the longest binary",
         &[0xAD, 0xFE, 0xFF],
-        Kind::Binary(Reach::Short),
-    ),
-    Known(
-        "varchar(10)",
-        &[0xA7, 10, 0, 9, 4, 0xD0, 0, 0x34],
-        Kind::Narrow(Reach::Short),
-    ),
-    Known(
-        "varchar(max)",
-        &[0xA7, 0xFF, 0xFF, 9, 4, 0xD0, 0, 0x34],
-        Kind::Narrow(Reach::Chunked),
-    ),
-    Known(
-        "char(255)",
-        &[0xAF, 0xFF, 0, 9, 4, 0xD0, 0, 0x34],
-        Kind::Narrow(Reach::Short),
-    ),
-    Known(
-        "nvarchar(10)",
-        &[0xE7, 20, 0, 9, 4, 0xD0, 0, 0x34],
-        Kind::Wide(Reach::Short),
-    ),
-    Known(
-        "nvarchar(max)",
-        &[0xE7, 0xFF, 0xFF, 9, 4, 0xD0, 0, 0x34],
-        Kind::Wide(Reach::Chunked),
-    ),
-    Known(
-        "a long nchar",
-        &[0xEF, 0, 0xFF, 9, 4, 0xD0, 0, 0x34],
-        Kind::Wide(Reach::Short),
+        Kind::Binary(Short),
     ),
 ];
+
+// Types of text, whose type information ends with a collation.
+const KNOWN_TEXTS: [Known; 6] = [
+    Known("varchar(10)", &[0xA7, 10, 0], Kind::Narrow(Short)),
+    Known("varchar(max)", &[0xA7, 0xFF, 0xFF], Kind::Narrow(Chunked)),
+    Known("char(255)", &[0xAF, 0xFF, 0], Kind::Narrow(Short)),
+    Known("nvarchar(10)", &[0xE7, 20, 0], Kind::Wide(Short)),
+    Known("nvarchar(max)", &[0xE7, 0xFF, 0xFF], Kind::Wide(Chunked)),
+    Known("a long nchar", &[0xEF, 0, 0xFF], Kind::Wide(Short)),
+];
+
+const COLLATION: &[u8] = &[9, 4, 0xD0, 0, 0x34];
 
 // Each type byte of the profile.
 #[test]
 fn types_are_known(rt: HostRuntime) -> Result<(), Fail> {
     for Known(what, info, kind) in &KNOWN {
-        check_kind(rt.alloc(), what, info, *kind)?;
+        check_kind(rt.alloc(), what, info, &[], *kind)?;
+    }
+    for Known(what, info, kind) in &KNOWN_TEXTS {
+        check_kind(rt.alloc(), what, info, COLLATION, *kind)?;
     }
     Ok(())
 }
 
 // What comes of a description in a room, and how many bytes of it the area keeps.
+#[derive(Drop)]
 struct Roomed {
     what: &'static str,
     payload: &'static [u8],
@@ -220,51 +209,51 @@ struct Roomed {
     kept: usize,
 }
 
+// A description of so many ints, in the room that it needs.
+const fn fits(what: &'static str, payload: &'static [u8], columns: u16) -> Roomed {
+    Roomed {
+        what,
+        payload,
+        room: payload.len(),
+        answer: Ok((columns, columns as usize)),
+        kept: payload.len(),
+    }
+}
+
+// A description that is refused at a place: the bytes before it are kept.
+const fn refused(
+    what: &'static str,
+    payload: &'static [u8],
+    room: usize,
+    fault: Fault,
+    place: usize,
+) -> Roomed {
+    Roomed {
+        what,
+        payload,
+        room,
+        answer: Err((fault, place as u64)),
+        kept: place,
+    }
+}
+
 // Rooms below the least that the limits allow among them.
-const ROOMED: [Roomed; 6] = [
-    Roomed {
-        what: "an int",
-        payload: ONE_INT,
-        room: 12,
-        answer: Ok((1, 1)),
-        kept: 12,
-    },
-    Roomed {
-        what: "a name",
-        payload: ONE_INT,
-        room: 11,
-        answer: Err((Fault::DescriptionTooLong, 9)),
-        kept: 9,
-    },
-    Roomed {
-        what: "a Count",
-        payload: ONE_INT,
-        room: 9,
-        answer: Err((Fault::DescriptionTooLong, 0)),
-        kept: 0,
-    },
-    Roomed {
-        what: "two ints",
-        payload: TWO_INTS,
-        room: 22,
-        answer: Ok((2, 2)),
-        kept: 22,
-    },
-    Roomed {
-        what: "no columns",
-        payload: &[0, 0],
-        room: 2,
-        answer: Err((Fault::NoColumns, 0)),
-        kept: 0,
-    },
-    Roomed {
-        what: "no metadata",
-        payload: &[0xFF, 0xFF],
-        room: 2,
-        answer: Ok((0, 0)),
-        kept: 0,
-    },
-];
+fn rooms() -> [Roomed; 6] {
+    [
+        fits("an int", ONE_INT, 1),
+        fits("two ints", TWO_INTS, 2),
+        refused("a name", ONE_INT, 11, Fault::DescriptionTooLong, 9),
+        refused("a Count", ONE_INT, 9, Fault::DescriptionTooLong, 0),
+        refused("no columns", &[0, 0], 2, Fault::NoColumns, 0),
+        Roomed {
+            what: "no metadata",
+            payload: &[0xFF, 0xFF],
+            room: 2,
+            answer: Ok((0, 0)),
+            kept: 0,
+        },
+    ]
+}
 
 fn check_room(alloc: Global, row: &Roomed) -> Result<(), Fail> {
     let wire = wire_of(alloc, &[row.payload])?;
@@ -290,7 +279,7 @@ fn check_room(alloc: Global, row: &Roomed) -> Result<(), Fail> {
 
 #[test]
 fn rooms_are_kept(rt: HostRuntime) -> Result<(), Fail> {
-    for row in &ROOMED {
+    for row in &rooms() {
         check_room(rt.alloc(), row)?;
     }
     Ok(())

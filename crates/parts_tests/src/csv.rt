@@ -144,29 +144,18 @@ fn the_first_bad_byte_is_told(rt: HostRuntime) -> Result<(), Fail> {
     same("an odd byte", &came, &(Err(JoinFault::Odd), true))
 }
 
-fn put_numbers<W: Write>(sink: &mut Sink<'_, W>) -> Result<(), Stop>
+// Puts NULL, a number and binary data as one line, and text as another.
+fn put_two_lines<W: Write>(sink: &mut Sink<'_, W>) -> Result<(), Stop>
     requires { IsReady sink.old }
     ensures { IsReady sink.new }
 {
     sink.null()?;
     sink.comma()?;
     sink.plain(b"-12.50")?;
-    sink.comma()
-}
-
-fn put_binary<W: Write>(sink: &mut Sink<'_, W>) -> Result<(), Stop>
-    requires { IsReady sink.old }
-    ensures { IsReady sink.new }
-{
+    sink.comma()?;
     sink.open_binary()?;
     sink.put(b"0aff")?;
-    sink.line_end()
-}
-
-fn put_text<W: Write>(sink: &mut Sink<'_, W>) -> Result<(), Stop>
-    requires { IsReady sink.old }
-    ensures { IsReady sink.new }
-{
+    sink.line_end()?;
     sink.open_quoted()?;
     sink.put(b"a")?;
     sink.close_quoted()?;
@@ -178,9 +167,7 @@ fn the_fields_of_two_lines(rt: HostRuntime) -> Result<(), Fail> {
     let mut area = Area::new(rt.alloc(), 4096)?;
     let mut to = make_writer(Failing::Never);
     let mut sink = Sink::new(&mut to, &mut area);
-    put_numbers(&mut sink)?;
-    put_binary(&mut sink)?;
-    put_text(&mut sink)?;
+    put_two_lines(&mut sink)?;
     let waiting = sink.waiting();
     sink.finish()?;
     assert!(rt; (waiting, sink.delivered()) == (25, 25));

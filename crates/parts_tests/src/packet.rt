@@ -212,20 +212,27 @@ fn deliver(most: usize, failing: Failing) -> Delivery {
     }
 }
 
-// A delivery of `writes` writes that takes all, or the bytes of the error, before a flush that doesn't fail.
-const fn delivered_in(answer: Result<(), usize>, writes: usize) -> Delivery {
-    let (taken, failures) = match answer {
-        Ok(()) => (9, 0),
-        Err(taken) => (taken, 1),
-    };
+// A delivery of so many writes that takes all, and then a flush.
+const fn whole_in(writes: usize) -> Delivery {
     Delivery {
-        answer,
-        failures,
+        answer: Ok(()),
+        failures: 0,
         writes,
-        taken: Some(taken),
+        taken: Some(9),
         flushed: true,
-        failures_then: failures,
+        failures_then: 0,
         flushes: 1,
+    }
+}
+
+// A delivery that fails in its last write, once so many bytes are taken, and then a flush.
+const fn cut_after(taken: usize, writes: usize) -> Delivery {
+    Delivery {
+        answer: Err(taken),
+        failures: 1,
+        taken: Some(taken),
+        failures_then: 1,
+        ..whole_in(writes)
     }
 }
 
@@ -234,39 +241,24 @@ const fn unflushed() -> Delivery {
     Delivery {
         flushed: false,
         failures_then: 1,
-        ..delivered_in(Ok(()), 3)
+        ..whole_in(3)
     }
 }
 
 #[test]
 fn bytes_are_delivered(rt: HostRuntime) {
     for (what, most, failing, want) in [
-        ("a byte a write", 1, Failing::Never, delivered_in(Ok(()), 9)),
-        ("four a write", 4, Failing::Never, delivered_in(Ok(()), 3)),
-        (
-            "a late error",
-            2,
-            Failing::AfterBytes(5),
-            delivered_in(Err(5), 4),
-        ),
+        ("a byte a write", 1, Failing::Never, whole_in(9)),
+        ("four a write", 4, Failing::Never, whole_in(3)),
+        ("a late error", 2, Failing::AfterBytes(5), cut_after(5, 4)),
         (
             "a late zero",
             2,
             Failing::ZeroAfterBytes(5),
-            delivered_in(Err(5), 4),
+            cut_after(5, 4),
         ),
-        (
-            "an early error",
-            4,
-            Failing::AfterBytes(0),
-            delivered_in(Err(0), 1),
-        ),
-        (
-            "the second write",
-            4,
-            Failing::AtWrite(1),
-            delivered_in(Err(4), 2),
-        ),
+        ("an early error", 4, Failing::AfterBytes(0), cut_after(0, 1)),
+        ("the second write", 4, Failing::AtWrite(1), cut_after(4, 2)),
         ("the flush", 4, Failing::InFlush, unflushed()),
     ] {
         expect(&rt, what, deliver(most, failing) == want);

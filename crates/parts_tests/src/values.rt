@@ -1,7 +1,9 @@
 // Values of each kind with the texts that they have.
 use crate::checks::{expect, expect_at};
+use std::alloc::Global;
 use std::process::Abort;
 use std::simd::prelude::*;
+use std::test::Fail;
 use tds_values::{
     Kind, Reach, TEXT_ROOM, ValueFault, hex_lanes, read_scalar, scalar_text, write_scalar,
 };
@@ -48,27 +50,41 @@ fn name_of(fault: ValueFault) -> &'static str {
 }
 
 // Checks the text that a value has, and the text that is written into a slice.
-fn check(rt: &impl Abort, kind: &Kind, hex: &str, want: &str) {
+fn check_bytes(rt: &impl Abort, kind: &Kind, what: &str, bytes: &[u8], want: &str) {
     assert!(rt; kind.is_valid());
     assert!(rt; kind.is_scalar());
-    let (bytes, n) = bytes_of(rt, hex);
-    assert!(rt; n <= 32);
-    let bytes = &bytes[..n];
     match read_scalar(kind, bytes) {
-        Ok(value) => expect_of(rt, kind, hex, shown(scalar_text(&value).as_slice()) == want),
-        Err(fault) => expect_of(rt, kind, hex, name_of(fault) == want),
+        Ok(value) => expect_of(
+            rt,
+            kind,
+            what,
+            shown(scalar_text(&value).as_slice()) == want,
+        ),
+        Err(fault) => expect_of(rt, kind, what, name_of(fault) == want),
     }
     let mut room = [0xEE; TEXT_ROOM];
     match write_scalar(kind, bytes, &mut room) {
-        Ok(length) => expect_of(rt, kind, hex, shown(&room[..length]) == want),
-        Err(fault) => expect_of(rt, kind, hex, name_of(fault) == want),
+        Ok(length) => expect_of(rt, kind, what, shown(&room[..length]) == want),
+        Err(fault) => expect_of(rt, kind, what, name_of(fault) == want),
     }
+}
+
+// The same of bytes in hexadecimal digits.
+fn check(rt: &impl Abort, kind: &Kind, hex: &str, want: &str) {
+    let (bytes, n) = bytes_of(rt, hex);
+    assert!(rt; n <= 32);
+    check_bytes(rt, kind, hex, &bytes[..n], want);
+}
+
+// A line's first word, and the words after it.
+fn words_of<'a>(rt: &impl Abort, line: &'a str) -> (&'a str, &'a str) {
+    line.split_once(' ').expect(rt, line)
 }
 
 // Checks each line: the bytes in hexadecimal digits, a space, and the text.
 fn check_lines(rt: &impl Abort, kind: &Kind, lines: &str) {
     for line in lines.lines() {
-        let (hex, want) = line.split_once(' ').expect(rt, line);
+        let (hex, want) = words_of(rt, line);
         check(rt, kind, hex, want);
     }
 }
@@ -93,8 +109,7 @@ fn check_decimals(rt: &impl Abort, table: &[(u8, u8, &str)]) {
 #[test]
 fn numbers_have_their_texts(rt: HostRuntime) {
     check_all(&rt, &numbers::WORKED);
-    check_all(&rt, &numbers::INTEGERS);
-    check_all(&rt, &numbers::MONEY);
+    check_all(&rt, &numbers::NUMBERS);
     check_all(&rt, &numbers::GUIDS);
     check_decimals(&rt, &decimals::LENGTHS);
     check_decimals(&rt, &decimals::SCALES);
@@ -115,14 +130,113 @@ fn sixteen_bytes_have_their_digits(rt: HostRuntime) {
     );
 }
 
+// A time of day by itself, after each of the days, and in local time.
+fn check_time(
+    rt: &impl Abort,
+    alloc: Global,
+    scale: u8,
+    hex: &str,
+    want: &str,
+) -> Result<(), Fail> {
+    check(rt, &Kind::Time(scale), hex, want);
+    for (day, date) in &dates::DAYS {
+        let wanted = format!(in alloc; "{date} {want}")?;
+        check(
+            rt,
+            &Kind::DateTime2(scale),
+            &format!(in alloc; "{hex}{day}")?,
+            &wanted,
+        );
+    }
+    for (minute, offset, local, shift) in &dates::LOCAL_MINUTES {
+        if let Some(rest) = want.strip_prefix(*minute) {
+            let wanted = format!(in alloc; "{local}{rest} {shift}")?;
+            let bytes = format!(in alloc; "{hex}42240b{offset}")?;
+            check(rt, &Kind::DateTimeOffset(scale), &bytes, &wanted);
+        }
+    }
+    Ok(())
+}
+
+// No time of day, which no day and no offset makes one.
+fn check_no_time(rt: &impl Abort, alloc: Global, scale: u8, hex: &str) -> Result<(), Fail> {
+    check(rt, &Kind::Time(scale), hex, "Value");
+    let bytes = format!(in alloc; "{hex}000000")?;
+    check(rt, &Kind::DateTime2(scale), &bytes, "Value");
+    let bytes = format!(in alloc; "{hex}0500000000")?;
+    check(rt, &Kind::DateTimeOffset(scale), &bytes, "Value");
+    Ok(())
+}
+
 #[test]
-fn moments_have_their_texts(rt: HostRuntime) {
+fn times_have_their_texts(rt: HostRuntime) -> Result<(), Fail> {
+    for line in dates::TIMES.lines() {
+        let (scale, rest) = words_of(&rt, line);
+        let (hex, want) = words_of(&rt, rest);
+        let scale = scale.parse().expect(&rt, line);
+        if want == "Value" {
+            check_no_time(&rt, rt.alloc(), scale, hex)?;
+        } else {
+            check_time(&rt, rt.alloc(), scale, hex, want)?;
+        }
+    }
+    Ok(())
+}
+
+// The second of a line at a finer scale, whose times have so many bytes and whose seconds so many units: its first unit, or
+// its last with a nine for each digit.
+fn check_second(
+    rt: &impl Abort,
+    alloc: Global,
+    line: &str,
+    (scale, length, units): (u8, usize, u64),
+    is_last: bool,
+) -> Result<(), Fail> {
+    assert!(rt; length <= 8);
+    let (hex, want) = words_of(rt, line);
+    let (bytes, _) = bytes_of(rt, hex);
+    let second = u64::from(u32::from_le_bytes([bytes[0], bytes[1], bytes[2], 0]));
+    let (more, digit) = if is_last {
+        (units.saturating_sub(1), "9")
+    } else {
+        (0, "0")
+    };
+    let unit = second
+        .saturating_mul(units)
+        .saturating_add(more)
+        .to_le_bytes();
+    let mut value = [0; 32];
+    value[..length].copy_from_slice(&unit[..length]);
+    value[length..length + 5].copy_from_slice(&bytes[3..8]);
+    let value = &value[..length + 5];
+    let kind = Kind::DateTimeOffset(scale);
+    let Some((local, shift)) = want.rsplit_once(' ') else {
+        check_bytes(rt, &kind, line, value, want);
+        return Ok(());
+    };
+    let digits = digit.repeat(alloc, usize::from(scale))?;
+    let wanted = format!(in alloc; "{local}.{digits} {shift}")?;
+    check_bytes(rt, &kind, line, value, &wanted);
+    Ok(())
+}
+
+// Each second at a whole scale, and at two finer ones.
+fn check_seconds(rt: &impl Abort, alloc: Global, lines: &str, is_last: bool) -> Result<(), Fail> {
+    check_lines(rt, &Kind::DateTimeOffset(0), lines);
+    for line in lines.lines() {
+        check_second(rt, alloc, line, (3, 4, 1_000), is_last)?;
+        check_second(rt, alloc, line, (7, 5, 10_000_000), is_last)?;
+    }
+    Ok(())
+}
+
+#[test]
+fn moments_have_their_texts(rt: HostRuntime) -> Result<(), Fail> {
     check_all(&rt, &dates::DATES);
-    check_all(&rt, &dates::TIMES);
-    check_all(&rt, &dates::DATE_TIMES);
-    check_all(&rt, &dates::OFFSET_TIMES);
     check_all(&rt, &dates::OFFSETS);
     check_all(&rt, &dates::OLD_DATE_TIMES);
+    check_seconds(&rt, rt.alloc(), dates::SECONDS_BEGIN, false)?;
+    check_seconds(&rt, rt.alloc(), dates::SECONDS_END, true)
 }
 
 // Whether a list of numbers with spaces between them has `n`.

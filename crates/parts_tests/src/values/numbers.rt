@@ -90,40 +90,17 @@ ffff -1
 0100 1
 ff7f 32767";
 
-// Bits: zero is 0, and any other byte 1.
-const BITS: &str = "00 0
-01 1
-02 1
-ff 1";
-
-// The ends of each width of whole number, each number of digits, and bits.
-pub(crate) const INTEGERS: [(Kind, &str); 10] = [
-    (Kind::Int1, BYTES),
-    (Kind::IntN(1), BYTES),
-    (Kind::Int2, TWO_BYTES),
-    (Kind::IntN(2), TWO_BYTES),
-    (
-        Kind::Int4,
-        "00000080 -2147483648
+// Those of four.
+const FOUR_BYTES: &str = "00000080 -2147483648
 01000080 -2147483647
 ffffffff -1
 00000000 0
 01000000 1
 ffffff7f 2147483647
-006cca88 -2000000000",
-    ),
-    (
-        Kind::IntN(4),
-        "00000080 -2147483648
-01000080 -2147483647
-ffffffff -1
-00000000 0
-01000000 1
-ffffff7f 2147483647",
-    ),
-    (
-        Kind::Int8,
-        "0000000000000080 -9223372036854775808
+006cca88 -2000000000";
+
+// Those of eight.
+const EIGHT_BYTES: &str = "0000000000000080 -9223372036854775808
 0100000000000080 -9223372036854775807
 ffffffffffffffff -1
 0000000000000000 0
@@ -165,20 +142,13 @@ ffff895d78456301 99999999999999999
 00008a5d78456301 100000000000000000
 ffff63a7b3b6e00d 999999999999999999
 000064a7b3b6e00d 1000000000000000000
-eb7e16820befddee -1234567890123456789",
-    ),
-    (
-        Kind::IntN(8),
-        "0000000000000080 -9223372036854775808
-0100000000000080 -9223372036854775807
-ffffffffffffffff -1
-0000000000000000 0
-0100000000000000 1
-ffffffffffffff7f 9223372036854775807",
-    ),
-    (Kind::Bit, BITS),
-    (Kind::BitN, BITS),
-];
+eb7e16820befddee -1234567890123456789";
+
+// Bits: zero is 0, and any other byte 1.
+const BITS: &str = "00 0
+01 1
+02 1
+ff 1";
 
 // The ends of money of eight bytes, and the numbers round zero and round one.
 const EIGHT_BYTES_OF_MONEY: &str = "0000008000000000 -922337203685477.5808
@@ -203,8 +173,19 @@ ffffffff -0.0001
 10270000 1.0000
 ffffff7f 214748.3647";
 
-// The ends of both moneys, and the numbers round zero and round one.
-pub(crate) const MONEY: [(Kind, &str); 4] = [
+// The ends of each width of whole number, each number of digits, and bits; and the ends of both moneys, and the numbers
+// round zero and round one.
+pub(crate) const NUMBERS: [(Kind, &str); 14] = [
+    (Kind::Int1, BYTES),
+    (Kind::IntN(1), BYTES),
+    (Kind::Int2, TWO_BYTES),
+    (Kind::IntN(2), TWO_BYTES),
+    (Kind::Int4, FOUR_BYTES),
+    (Kind::IntN(4), FOUR_BYTES),
+    (Kind::Int8, EIGHT_BYTES),
+    (Kind::IntN(8), EIGHT_BYTES),
+    (Kind::Bit, BITS),
+    (Kind::BitN, BITS),
     (Kind::Money8, EIGHT_BYTES_OF_MONEY),
     (Kind::MoneyN(8), EIGHT_BYTES_OF_MONEY),
     (Kind::Money4, FOUR_BYTES_OF_MONEY),
