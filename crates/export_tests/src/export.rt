@@ -5,6 +5,7 @@ ghost use Rattle.tds_meter.specs.Rooms.{is_intact};
 
 use crate::checks::same;
 use std::alloc::{AllocError, Global};
+use std::io::Read;
 use std::test::Fail;
 use tds_export::*;
 use tds_meter::{Areas, Limits};
@@ -121,8 +122,21 @@ fn front(bytes: &[u8], n: usize) -> &[u8] {
     &bytes[..n.min(bytes.len())]
 }
 
-// What came of an input under a character set, where this text is expected. Nothing comes of areas
-// that were exchanged.
+// The answer of an export. Nothing comes of areas that were exchanged.
+fn answer_of<R: Read>(
+    areas: &mut Areas,
+    from: &mut Counted<R>,
+    to: &mut Counted<ScriptedWriter>,
+    charset: Charset,
+) -> Option<Result<Report, Stopped>> {
+    if areas.intact() {
+        Some(export(areas, from, to, charset))
+    } else {
+        None
+    }
+}
+
+// What came of an input under a character set, where this text is expected.
 fn run(
     areas: &mut Areas,
     from: ScriptedReader<'_>,
@@ -130,12 +144,9 @@ fn run(
     charset: Charset,
     text: &[u8],
 ) -> Option<Outcome> {
-    if !areas.intact() {
-        return None;
-    }
     let mut from = Counted::new(from);
     let mut to = Counted::new(to);
-    let answer = export(areas, &mut from, &mut to, charset);
+    let answer = answer_of(areas, &mut from, &mut to, charset)?;
     Some(Outcome {
         answer,
         text: front_of(to.device().kept(), text),
@@ -160,12 +171,9 @@ fn run_repeated(
     to: ScriptedWriter,
     text: &[u8],
 ) -> Option<Repeated> {
-    if !areas.intact() {
-        return None;
-    }
     let mut from = Counted::new(from);
     let mut to = Counted::new(to);
-    let answer = export(areas, &mut from, &mut to, Charset::Windows1252);
+    let answer = answer_of(areas, &mut from, &mut to, Charset::Windows1252)?;
     Some(Repeated {
         answer,
         taken: to.device().taken(),

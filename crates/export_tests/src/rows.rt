@@ -67,6 +67,8 @@ struct Outcome {
     text: Option<usize>,
     // how many bytes after the description were handed out
     place: u64,
+    // the most bytes that the small area had
+    peak: usize,
 }
 
 // Puts a column of a type, without a name.
@@ -169,21 +171,6 @@ fn run(
     to: ScriptedWriter,
     wanted: &[u8],
 ) -> Result<Outcome, Fail> {
-    let (outcome, _) = run_metered(alloc, token, columns, bytes, size, waiting, to, wanted)?;
-    Ok(outcome)
-}
-
-// The same, and the most bytes that the small area had.
-fn run_metered(
-    alloc: Global,
-    token: Token,
-    columns: &[&[u8]],
-    bytes: &[u8],
-    size: usize,
-    waiting: usize,
-    to: ScriptedWriter,
-    wanted: &[u8],
-) -> Result<(Outcome, usize), Fail> {
     let payload = payload_of(alloc, columns, bytes)?;
     let start = (payload.len() - bytes.len().min(payload.len())) as u64;
     let wire = in_packets(alloc, &payload, size)?;
@@ -211,12 +198,12 @@ fn run_metered(
     );
     let place = payload.place().saturating_sub(start);
     let _ = sink.finish();
-    let outcome = Outcome {
+    Ok(Outcome {
         answer,
         text: length_after(to.device().kept(), wanted),
         place,
-    };
-    Ok((outcome, small.peak()))
+        peak: small.peak(),
+    })
 }
 
 fn usual_writer() -> ScriptedWriter {
@@ -353,8 +340,8 @@ const READINGS: [Reading; 10] = [
     },
 ];
 
-fn read(alloc: Global, reading: &Reading) -> Result<(Outcome, usize), Fail> {
-    run_metered(
+fn read(alloc: Global, reading: &Reading) -> Result<Outcome, Fail> {
+    run(
         alloc,
         reading.token,
         reading.columns,
@@ -369,8 +356,8 @@ fn read(alloc: Global, reading: &Reading) -> Result<(Outcome, usize), Fail> {
 #[test]
 fn rows_are_read_in_little_room(rt: HostRuntime) -> Result<(), Fail> {
     for reading in &READINGS {
-        let (out, peak) = read(rt.alloc(), reading)?;
-        let came = (out.answer, out.text, peak);
+        let out = read(rt.alloc(), reading)?;
+        let came = (out.answer, out.text, out.peak);
         let want = (reading.answer, Some(reading.text.len()), reading.peak);
         expect(&rt, reading.what, came == want);
     }

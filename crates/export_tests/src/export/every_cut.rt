@@ -3,176 +3,105 @@
 use super::*;
 use crate::checks::same;
 
-// Its bytes, and the text that it adds once it is whole.
+// Bytes of a response, and the text that they add once the last of them is read.
 struct Element(&'static [u8], &'static [u8]);
 
 // Every token: a set of four columns with a ROW and an NBCROW, what has no text, and a set of one
 // column.
-const EVERY_TOKEN: [Element; 71] = [
+const EVERY_TOKEN: [Element; 29] = [
     // COLMETADATA: int a, varchar(10) c, nvarchar(max) w, and an int after a length without a name
-    Element(b"\x81", b""),
-    Element(b"\x04\0", b""),
-    Element(b"\0\0\0\0\0\0\x38", b""),
-    Element(b"\x01", b""),
-    Element(b"a\0", b""),
-    Element(b"\0\0\0\0\0\0\xA7", b""),
-    Element(b"\x0A\0\x09\x04\xD0\0\x34", b""),
-    Element(b"\x01", b""),
-    Element(b"c\0", b""),
-    Element(b"\0\0\0\0\0\0\xE7", b""),
-    Element(b"\xFF\xFF\x09\x04\xD0\0\x34", b""),
-    Element(b"\x01", b""),
-    Element(b"w\0", b""),
-    Element(b"\0\0\0\0\0\0\x26", b""),
-    Element(b"\x04", b""),
-    Element(b"\0", b"\"a\",\"c\",\"w\",\"\"\r\n"),
+    Element(b"\x81\x04\0", b""),
+    Element(b"\0\0\0\0\0\0\x38\x01a\0", b""),
+    Element(b"\0\0\0\0\0\0\xA7\x0A\0\x09\x04\xD0\0\x34\x01c\0", b""),
+    Element(b"\0\0\0\0\0\0\xE7\xFF\xFF\x09\x04\xD0\0\x34\x01w\0", b""),
+    Element(b"\0\0\0\0\0\0\x26\x04\0", b"\"a\",\"c\",\"w\",\"\"\r\n"),
     // ROW: 42; three characters, one of them a quote; one of two units in two chunks; NULL
-    Element(b"\xD1", b""),
-    Element(b"\x2A\0\0\0", b"42"),
+    Element(b"\xD1\x2A\0\0\0", b"42"),
     Element(b"\x03\0", b",\""),
     Element(b"A", b"A"),
     Element(b"\"", b"\"\""),
     Element(b"\xE9", b"\xC3\xA9\""),
     Element(b"\xFE\xFF\xFF\xFF\xFF\xFF\xFF\xFF", b",\""),
-    Element(b"\x01\0\0\0", b""),
-    Element(b"\x3D", b""),
-    Element(b"\x03\0\0\0", b""),
-    Element(b"\xD8", b""),
-    Element(b"\0", b""),
-    Element(b"\xDE", b"\xF0\x9F\x98\x80"),
+    Element(b"\x01\0\0\0\x3D", b""),
+    Element(b"\x03\0\0\0\xD8\0\xDE", b"\xF0\x9F\x98\x80"),
     Element(b"\0\0\0\0", b"\""),
     Element(b"\0", b",NULL\r\n"),
     // NBCROW: the first and the third are NULL by their bits; no characters; -1
-    Element(b"\xD2", b""),
-    Element(b"\x05", b"NULL"),
+    Element(b"\xD2\x05", b"NULL"),
     Element(b"\0\0", b",\"\",NULL"),
-    Element(b"\x04", b""),
-    Element(b"\xFF\xFF\xFF\xFF", b",-1\r\n"),
+    Element(b"\x04\xFF\xFF\xFF\xFF", b",-1\r\n"),
     // ORDER, ENVCHANGE
-    Element(b"\xA9", b""),
-    Element(b"\x02\0", b""),
-    Element(b"\x01\0", b""),
-    Element(b"\xE3", b""),
-    Element(b"\x03\0", b""),
-    Element(b"\x04\x01\x02", b""),
+    Element(b"\xA9\x02\0\x01\0", b""),
+    Element(b"\xE3\x03\0\x04\x01\x02", b""),
     // ERROR 208 of state 1, class 16 and line 1, with the message no; INFO with the message x
-    Element(b"\xAA", b""),
-    Element(b"\x12\0", b""),
-    Element(b"\xD0\0\0\0\x01\x10\x02\0n\0o\0\0\0\x01\0\0\0", b""),
-    Element(b"\xAB", b""),
-    Element(b"\x10\0", b""),
-    Element(b"\x45\x16\0\0\x02\0\x01\0x\0\0\0\x01\0\0\0", b""),
+    Element(
+        b"\xAA\x12\0\xD0\0\0\0\x01\x10\x02\0n\0o\0\0\0\x01\0\0\0",
+        b"",
+    ),
+    Element(b"\xAB\x10\0\x45\x16\0\0\x02\0\x01\0x\0\0\0\x01\0\0\0", b""),
     // RETURNVALUE: the int 7 under the name @p
-    Element(b"\xAC", b""),
-    Element(b"\x01\0", b""),
-    Element(b"\x02", b""),
-    Element(b"@\0p\0", b""),
-    Element(b"\x01\0\0\0\0\0\0\x26", b""),
-    Element(b"\x04", b""),
-    Element(b"\x04", b""),
-    Element(b"\x07\0\0\0", b""),
+    Element(
+        b"\xAC\x01\0\x02@\0p\0\x01\0\0\0\0\0\0\x26\x04\x04\x07\0\0\0",
+        b"",
+    ),
     // RETURNSTATUS -1, DONEINPROC, DONEPROC with more to come
-    Element(b"\x79", b""),
-    Element(b"\xFF\xFF\xFF\xFF", b""),
-    Element(b"\xFF", b""),
-    Element(b"\0\0\0\0\0\0\0\0\0\0\0\0", b""),
-    Element(b"\xFE", b""),
-    Element(b"\x01\0\0\0\0\0\0\0\0\0\0\0", b""),
+    Element(b"\x79\xFF\xFF\xFF\xFF", b""),
+    Element(b"\xFF\0\0\0\0\0\0\0\0\0\0\0\0", b""),
+    Element(b"\xFE\x01\0\0\0\0\0\0\0\0\0\0\0", b""),
     // COLMETADATA: tinyint b
-    Element(b"\x81", b""),
-    Element(b"\x01\0", b""),
-    Element(b"\0\0\0\0\0\0\x30", b""),
-    Element(b"\x01", b""),
-    Element(b"b\0", b"\r\n\"b\"\r\n"),
+    Element(b"\x81\x01\0\0\0\0\0\0\0\x30\x01b\0", b"\r\n\"b\"\r\n"),
     // ROW: 7; DONE
-    Element(b"\xD1", b""),
-    Element(b"\x07", b"7\r\n"),
-    Element(b"\xFD", b""),
-    Element(b"\0\0\0\0\0\0\0\0\0\0\0\0", b""),
+    Element(b"\xD1\x07", b"7\r\n"),
+    Element(b"\xFD\0\0\0\0\0\0\0\0\0\0\0\0", b""),
 ];
 
 // A ROW of varchar(10), whose second character has two bytes in UTF-8.
-const NARROW: [Element; 13] = [
-    Element(b"\x81", b""),
-    Element(b"\x01\0", b""),
-    Element(b"\0\0\0\0\0\0\xA7", b""),
-    Element(b"\x0A\0\x09\x04\xD0\0\x34", b""),
-    Element(b"\x01", b""),
-    Element(b"t\0", b"\"t\"\r\n"),
-    Element(b"\xD1", b""),
-    Element(b"\x03\0", b"\""),
+const NARROW: [Element; 5] = [
+    Element(
+        b"\x81\x01\0\0\0\0\0\0\0\xA7\x0A\0\x09\x04\xD0\0\x34\x01t\0",
+        b"\"t\"\r\n",
+    ),
+    Element(b"\xD1\x03\0", b"\""),
     Element(b"A", b"A"),
-    Element(b"\xC3", b""),
-    Element(b"\xA9", b"\xC3\xA9\"\r\n"),
-    Element(b"\xFD", b""),
-    Element(b"\0\0\0\0\0\0\0\0\0\0\0\0", b""),
+    Element(b"\xC3\xA9", b"\xC3\xA9\"\r\n"),
+    Element(b"\xFD\0\0\0\0\0\0\0\0\0\0\0\0", b""),
 ];
 
 // A ROW of int a.
-const ONE_INT: [Element; 9] = [
-    Element(b"\x81", b""),
-    Element(b"\x01\0", b""),
-    Element(b"\0\0\0\0\x08\0\x38", b""),
-    Element(b"\x01", b""),
-    Element(b"a\0", b"\"a\"\r\n"),
-    Element(b"\xD1", b""),
-    Element(b"\x2A\0\0\0", b"42\r\n"),
-    Element(b"\xFD", b""),
-    Element(b"\x10\0\xC1\0\x01\0\0\0\0\0\0\0", b""),
+const ONE_INT: [Element; 3] = [
+    Element(b"\x81\x01\0\0\0\0\0\x08\0\x38\x01a\0", b"\"a\"\r\n"),
+    Element(b"\xD1\x2A\0\0\0", b"42\r\n"),
+    Element(b"\xFD\x10\0\xC1\0\x01\0\0\0\0\0\0\0", b""),
 ];
 
 // A ROW of money a, the greatest debt.
-const MONEY: [Element; 9] = [
-    Element(b"\x81", b""),
-    Element(b"\x01\0", b""),
-    Element(b"\0\0\0\0\0\0\x3C", b""),
-    Element(b"\x01", b""),
-    Element(b"a\0", b"\"a\"\r\n"),
-    Element(b"\xD1", b""),
-    Element(b"\0\0\0\x80\0\0\0\0", b"-922337203685477.5808\r\n"),
-    Element(b"\xFD", b""),
-    Element(b"\0\0\0\0\0\0\0\0\0\0\0\0", b""),
+const MONEY: [Element; 3] = [
+    Element(b"\x81\x01\0\0\0\0\0\0\0\x3C\x01a\0", b"\"a\"\r\n"),
+    Element(b"\xD1\0\0\0\x80\0\0\0\0", b"-922337203685477.5808\r\n"),
+    Element(b"\xFD\0\0\0\0\0\0\0\0\0\0\0\0", b""),
 ];
 
 // An NBCROW of int a and of an int b after a length, which is NULL by its length.
-const PAIR: [Element; 15] = [
-    Element(b"\x81", b""),
-    Element(b"\x02\0", b""),
-    Element(b"\0\0\0\0\0\0\x38", b""),
-    Element(b"\x01", b""),
-    Element(b"a\0", b""),
-    Element(b"\0\0\0\0\0\0\x26", b""),
-    Element(b"\x04", b""),
-    Element(b"\x01", b""),
-    Element(b"b\0", b"\"a\",\"b\"\r\n"),
-    Element(b"\xD2", b""),
-    Element(b"\0", b""),
-    Element(b"\x2A\0\0\0", b"42"),
+const PAIR: [Element; 5] = [
+    Element(b"\x81\x02\0\0\0\0\0\0\0\x38\x01a\0", b""),
+    Element(b"\0\0\0\0\0\0\x26\x04\x01b\0", b"\"a\",\"b\"\r\n"),
+    Element(b"\xD2\0\x2A\0\0\0", b"42"),
     Element(b"\0", b",NULL\r\n"),
-    Element(b"\xFD", b""),
-    Element(b"\0\0\0\0\0\0\0\0\0\0\0\0", b""),
+    Element(b"\xFD\0\0\0\0\0\0\0\0\0\0\0\0", b""),
 ];
 
 // A ROW of nvarchar(max) t: a character of two units whose four bytes lie in three chunks.
-const FACE: [Element; 18] = [
-    Element(b"\x81", b""),
-    Element(b"\x01\0", b""),
-    Element(b"\0\0\0\0\0\0\xE7", b""),
-    Element(b"\xFF\xFF\x09\x04\xD0\0\x34", b""),
-    Element(b"\x01", b""),
-    Element(b"t\0", b"\"t\"\r\n"),
-    Element(b"\xD1", b""),
-    Element(b"\x04\0\0\0\0\0\0\0", b"\""),
-    Element(b"\x01\0\0\0", b""),
-    Element(b"\x3D", b""),
-    Element(b"\x02\0\0\0", b""),
-    Element(b"\xD8", b""),
-    Element(b"\0", b""),
-    Element(b"\x01\0\0\0", b""),
-    Element(b"\xDE", b"\xF0\x9F\x98\x80"),
+const FACE: [Element; 7] = [
+    Element(
+        b"\x81\x01\0\0\0\0\0\0\0\xE7\xFF\xFF\x09\x04\xD0\0\x34\x01t\0",
+        b"\"t\"\r\n",
+    ),
+    Element(b"\xD1\x04\0\0\0\0\0\0\0", b"\""),
+    Element(b"\x01\0\0\0\x3D", b""),
+    Element(b"\x02\0\0\0\xD8\0", b""),
+    Element(b"\x01\0\0\0\xDE", b"\xF0\x9F\x98\x80"),
     Element(b"\0\0\0\0", b"\"\r\n"),
-    Element(b"\xFD", b""),
-    Element(b"\0\0\0\0\0\0\0\0\0\0\0\0", b""),
+    Element(b"\xFD\0\0\0\0\0\0\0\0\0\0\0\0", b""),
 ];
 
 // The elements of each response, and its character set. They come by a call, so that no proof reads the tables.

@@ -6,16 +6,13 @@ use super::*;
 use crate::checks::same;
 use tds_meter::OutOfMemory;
 
-// Nine columns whose values have a length, with empty names, an NBCROW of nine NULLs and a DONE, in one packet.
-const NINE: &[u8] = &[
-    0x04, 0x01, 0x00, 0x6C, 0x00, 0x00, 0x01, 0x00, 0x81, 0x09, 0x00, 0x00, 0x00, 0x00, 0x00, 0x00,
-    0x00, 0x26, 0x04, 0x00, 0x00, 0x00, 0x00, 0x00, 0x00, 0x00, 0x26, 0x04, 0x00, 0x00, 0x00, 0x00,
-    0x00, 0x00, 0x00, 0x26, 0x04, 0x00, 0x00, 0x00, 0x00, 0x00, 0x00, 0x00, 0x26, 0x04, 0x00, 0x00,
-    0x00, 0x00, 0x00, 0x00, 0x00, 0x26, 0x04, 0x00, 0x00, 0x00, 0x00, 0x00, 0x00, 0x00, 0x26, 0x04,
-    0x00, 0x00, 0x00, 0x00, 0x00, 0x00, 0x00, 0x26, 0x04, 0x00, 0x00, 0x00, 0x00, 0x00, 0x00, 0x00,
-    0x26, 0x04, 0x00, 0x00, 0x00, 0x00, 0x00, 0x00, 0x00, 0x26, 0x04, 0x00, 0xD2, 0xFF, 0x01, 0xFD,
-    0x00, 0x00, 0x00, 0x00, 0x00, 0x00, 0x00, 0x00, 0x00, 0x00, 0x00, 0x00,
-];
+// The Count of nine columns in the packet's front, a column whose values have a length, with an empty name, and the packet's
+// end: an NBCROW of nine NULLs and a DONE.
+const NINE: &[u8] = &[0x04, 0x01, 0x00, 0x6C, 0x00, 0x00, 0x01, 0x00, 0x81, 9, 0];
+
+const LENGTHY: &[u8] = &[0, 0, 0, 0, 0, 0, 0x26, 0x04, 0];
+
+const NULLS: &[u8] = &[0xD2, 0xFF, 0x01, 0xFD, 0, 0, 0, 0, 0, 0, 0, 0, 0, 0, 0, 0];
 
 const NINE_TEXT: &[u8] =
     b"\"\",\"\",\"\",\"\",\"\",\"\",\"\",\"\",\"\"\r\nNULL,NULL,NULL,NULL,NULL,NULL,NULL,NULL,NULL\r\n";
@@ -59,11 +56,12 @@ const NOT_FOUND: ServerError = ServerError {
     line: 1,
 };
 
-// A response in two slices, its sets, rows and text, the message of its error, which comes with an INFO, and how many bytes
-// the description has in the end.
+// A response in a first slice, one that comes so many times and a last one, its sets, rows and text, the message of its
+// error, which comes with an INFO, and how many bytes the description has in the end.
 struct Worked {
     what: &'static str,
     first: &'static [u8],
+    repeated: (&'static [u8], u64),
     last: &'static [u8],
     sets: u64,
     rows: u64,
@@ -76,6 +74,7 @@ const WORKED: [Worked; 4] = [
     Worked {
         what: "one row",
         first: &WIRE,
+        repeated: (NOTHING, 0),
         last: NOTHING,
         sets: 1,
         rows: 1,
@@ -86,7 +85,8 @@ const WORKED: [Worked; 4] = [
     Worked {
         what: "nine NULLs",
         first: NINE,
-        last: NOTHING,
+        repeated: (LENGTHY, 9),
+        last: NULLS,
         sets: 1,
         rows: 1,
         text: NINE_TEXT,
@@ -96,6 +96,7 @@ const WORKED: [Worked; 4] = [
     Worked {
         what: "a value in chunks",
         first: CHUNKS,
+        repeated: (NOTHING, 0),
         last: LAST_CHUNK,
         sets: 1,
         rows: 1,
@@ -106,6 +107,7 @@ const WORKED: [Worked; 4] = [
     Worked {
         what: "an INFO and an ERROR",
         first: HEADER,
+        repeated: (NOTHING, 0),
         last: INFO_AND_ERROR,
         sets: 2,
         rows: 3,
@@ -117,7 +119,8 @@ const WORKED: [Worked; 4] = [
 
 // The devices are over arrays, so nothing is allocated here.
 fn check_worked(areas: &mut Areas, row: &Worked) -> Result<(), Fail> {
-    let from = RepeatingReader::new(row.first, NOTHING, 0, row.last);
+    let (unit, times) = row.repeated;
+    let from = RepeatingReader::new(row.first, unit, times, row.last);
     let to = ScriptedWriter::new(4096, Failing::Never);
     let came = run_repeated(areas, from, to, row.text);
     let plain = report(row.sets, row.rows, row.text.len() as u64);

@@ -1,15 +1,10 @@
 // Rows with a bitmap of the columns that are NULL, and where reading them stops.
-ghost use Rattle.std.specs.Prelude.{◌≡◌, ◌≤◌, IfOk};
-ghost use Rattle.tds_csv.specs.Sinks.{IsReady, IsWriting};
-ghost use Rattle.tds_packet.specs.Payloads.{IsGoing};
-
 use super::{
     Good, INT4, INT4_N, NINE, NINE_TEXT, Outcome, Token, describe, described, in_packets,
     payload_of, usual_writer,
 };
 use crate::checks::expect_at;
 use std::alloc::{AllocError, Global};
-use std::io::{Read, Write};
 use std::test::Fail;
 use tds_columns::Columns;
 use tds_csv::Sink;
@@ -90,14 +85,11 @@ fn write_row(alloc: Global, case: &Good, size: usize) -> Result<Outcome, Fail> {
 #[test]
 fn nbc_rows_are_written(rt: HostRuntime) -> Result<(), Fail> {
     for case in &ROWS {
-        let want = Outcome {
-            answer: Ok(()),
-            text: Some(case.text.len()),
-            place: case.bytes.len() as u64,
-        };
+        let want = (Ok(()), Some(case.text.len()), case.bytes.len() as u64);
         for size in [1, 3, 4000] {
             let out = write_row(rt.alloc(), case, size)?;
-            expect_at(&rt, case.what, size, out == want);
+            let came = (out.answer, out.text, out.place);
+            expect_at(&rt, case.what, size, came == want);
         }
     }
     Ok(())
@@ -176,47 +168,7 @@ const THREE_ROWS: &[u8] = &[
 
 const THREE_TEXT: &[u8] = b"42,NULL\r\n7,8\r\nNULL,NULL\r\n";
 
-// Reads rows as far as they are in the packet, and answers how many they are.
-fn read_some<R: Read, W: Write>(
-    payload: &mut Payload<R>,
-    columns: Columns,
-    bits: &mut Area,
-    small: &mut Area,
-    sink: &mut Sink<W>,
-) -> Result<u64, Stop>
-    requires going { IsGoing payload.old }
-    requires writing { IsWriting sink.old }
-    requires bits { 8192 ≤ bits.old.room }
-    requires small { SMALL_ROOM ≤ small.old.room }
-    ensures going { IfOk result (λ _. IsGoing payload.new) }
-    ensures writing { IfOk result (λ _. IsWriting sink.new) }
-    ensures ready { IsReady sink.new }
-    ensures bits { bits.new.room ≡ bits.old.room }
-    ensures small { small.new.room ≡ small.old.room }
-{
-    read_nbc_rows(payload, columns, Charset::Windows1252, bits, small, sink)
-}
-
-// Reads rows to the end of a packet, a byte, and rows again.
-fn read_twice<R: Read, W: Write>(
-    payload: &mut Payload<R>,
-    columns: Columns,
-    bits: &mut Area,
-    small: &mut Area,
-    sink: &mut Sink<W>,
-) -> Result<(u64, u8, u64), Stop>
-    requires going { IsGoing payload.old }
-    requires writing { IsWriting sink.old }
-    requires bits { 8192 ≤ bits.old.room }
-    requires small { SMALL_ROOM ≤ small.old.room }
-    ensures { IsReady sink.new }
-{
-    let first = read_some(payload, columns, bits, small, sink)?;
-    let token = payload.next()?;
-    let second = read_some(payload, columns, bits, small, sink)?;
-    Ok((first, token, second))
-}
-
+// Rows are read to the end of a packet, a byte after it, and rows again.
 #[test]
 fn nbc_rows_are_read_to_the_end_of_a_packet(rt: HostRuntime) -> Result<(), Fail> {
     let bytes = payload_of(rt.alloc(), TWO, THREE_ROWS)?;
@@ -234,8 +186,25 @@ fn nbc_rows_are_read_to_the_end_of_a_packet(rt: HostRuntime) -> Result<(), Fail>
         return Err(Fail::from(AllocError));
     }
     let columns = Columns::view(area.bytes());
-    let rows = read_twice(&mut payload, columns, &mut bits, &mut small, &mut sink)?;
-    assert!(rt; rows == (2, NBCROW, 1));
+    let charset = Charset::Windows1252;
+    let first = read_nbc_rows(
+        &mut payload,
+        columns,
+        charset,
+        &mut bits,
+        &mut small,
+        &mut sink,
+    )?;
+    let token = payload.next()?;
+    let second = read_nbc_rows(
+        &mut payload,
+        columns,
+        charset,
+        &mut bits,
+        &mut small,
+        &mut sink,
+    )?;
+    assert!(rt; (first, token, second) == (2, NBCROW, 1));
     let _ = sink.finish();
     assert!(rt; to.device().kept() == THREE_TEXT);
     Ok(())
