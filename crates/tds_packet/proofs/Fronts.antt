@@ -1,6 +1,6 @@
 -- The packets at the front of an input, and what is read of it.
 use Rattle.tds_packet.proofs.{
-  Words.{nil_from_length, common_steps, ◌≡◌, ◌∙◌, ◌⊎◌, inl, inr, ℕ, suc, zero, ◌+◌, ◌<◌, ◌≤◌, List, [], ◌∷◌, ◌++◌, length, take, Some, false, refl, sym, ap},
+  Words.{nil_from_length, ◌≡◌, ◌∙◌, ◌⊎◌, inl, inr, ℕ, suc, zero, ◌+◌, ◌<◌, ◌≤◌, List, [], ◌∷◌, ◌++◌, length, take, Some, false, refl, sym, ap},
   Words.{arith, append-nil, append_assoc, length-append, take-append_seam, append_cancel_right, flat_map-append, one_more, Fault, InputEnded, MessageEnded},
   Words.{ReadFailed, Wire, Payload, Stop, AreBytes, Packet, packet_bytes, packet_length, is_last, header_length, wire_of, payload_of, AreBefore, AreMessage},
   Words.{IsPacket, WireFault, Coming, IsFrontMessage, Seen, Takes, Ends, IsBetween, IsOver, begun, WholePacket, after_packet, front_packet, message},
@@ -20,7 +20,7 @@ pub record BeginsMessage (size limit : ℕ) (input rest payload : List ℕ) : Ty
 -- no fault of the wire is the message's end
 pub wire_goes_on : (size limit : ℕ) (input : List ℕ) (packets : List Packet) (fault : Fault) → WireFault size limit input packets fault
     → fault ≡ MessageEnded → ⊥
-wire_goes_on size limit input packets fault w e = grind (arith, common_steps)
+wire_goes_on size limit input packets fault w e = grind arith
 
 -- an input that begins with nothing but packets
 all_packets : {size limit : ℕ} {read rest payload : List ℕ} {place : ℕ} {c : Coming} → IsFrontMessage size limit read c → c.bytes ≡ payload
@@ -92,7 +92,7 @@ pub record InLast (size : ℕ) (packets : List Packet) (n : ℕ) : Type 0 where
 -- packets as the last of them and those before it
 split_last : {size : ℕ} (packets : List Packet) → AreMessage size packets ⊎ AreBefore size packets → 0 < length packets → (before : List Packet)
     × (last : Packet) × (before ++ last ∷ [] ≡ packets) × AreBefore size before
-split_last [] each some = absurd (omega (arith, some))
+split_last [] each some = absurd (omega arith)
 split_last (p ∷ []) each some = ([], p, refl, tt)
 split_last {size} (p ∷ q ∷ ps) each some =
     let r = split_last (q ∷ ps) (elim each [ inl x ↦ inl x.2 | inr x ↦ inr x.2 ]) (omega arith) in

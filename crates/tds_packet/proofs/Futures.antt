@@ -24,7 +24,7 @@ unfolding message
 message-fuel room max zero m wire place xs h k = absurd (omega arith)
 message-fuel room max (suc n) zero wire place xs h k = absurd (omega arith)
 message-fuel room max (suc n) (suc m) wire place xs h k = same_after (message room max n) (message room max m) wire place
-    (λ body rest l e. (let lt = rest_shorter room max wire xs e in message-fuel room max n m (wire + l) (place + length body) rest
+    (λ body rest l e. (let lt = rest_shorter room max wire xs e in message-fuel room max n m (wire + l) _ rest
     (omega arith) (omega arith)))
 
 module _ {R : Type 0} (remaining : R → Option (List ℕ)) (p q : PayloadOf R) (body : List ℕ) (needs : NeedsPacket p) where
@@ -44,7 +44,7 @@ module _ {R : Type 0} (remaining : R → Option (List ℕ)) (p q : PayloadOf R) 
 hand : (room max wire place : ℕ) (last : Bool) (hs bs xs : List ℕ)
     → coming_of room max wire place last None (hs ++ bs) xs ≡ before hs (coming_of room max wire (place + length hs) last None bs xs)
 unfolding coming_of
-hand room max wire place last hs bs xs = grind (arith, common_steps, length-append, append_assoc)
+hand room max wire place last hs bs xs = grind (arith, common_steps)
 
 -- Bytes that lie ready are handed out.
 pub further_takes : {R : Type 0} (remaining : R → Option (List ℕ)) (p : PayloadOf R) (n m : ℕ) → n ≤ length (buffered p) → p.stopped ≡ None
@@ -54,10 +54,10 @@ further_takes remaining p n m le e =
     grind (arith, hand, length-take-le)
 
 pub Takes-none : (a : Seen) (n : ℕ) → Takes a a [] n
-Takes-none a n = grind (arith, common_steps, Consumes-nil, add-zero, Stays-none)
+Takes-none a n = grind arith
 
 pub Takes-more : (a b : Seen) (hs : List ℕ) (n m : ℕ) → n ≤ m → Takes a b hs n → Takes a b hs m
-Takes-more a b hs n m le p = grind (arith, common_steps)
+Takes-more a b hs n m le p = grind arith
 
 needs_joined : (a b : Seen) (r s hs : List ℕ) {n m j : ℕ} → n ≤ length hs + m → Needs a r n → Needs b s m
     → ((zs : List ℕ) → a.future (r ++ zs) ≡ before hs (b.future zs)) → j < length (r ++ s) → length (a.future (take j (r ++ s))).bytes < length hs + m
@@ -90,7 +90,7 @@ Ends-after a b c hs bs n e p (inl y) = inl (
   (λ zs. rw (append_assoc, p.1.1, y.2)),
   Stays-trans _ _ _ _ _ p.4 y.3,
 )
-Ends-after a b c hs bs n e p (inr (inl y)) = grind (arith, common_steps, Consumes-trans)
+Ends-after a b c hs bs n e p (inr (inl y)) = grind (arith, common_steps)
 Ends-after a b c hs bs n e p (inr (inr y)) = grind (arith, common_steps, Rises-after)
 
 module _ {R : Type 0} (remaining : R → Option (List ℕ)) (p : PayloadOf R) where

@@ -8,7 +8,7 @@ use Rattle.tds_packet.proofs.{
 }
 
 pub Stays-none : (f : ℕ) → Stays f f []
-Stays-none f = (refl, λ lt. absurd (omega (arith, lt)))
+Stays-none f = (refl, λ lt. absurd (omega arith))
 
 pub Stays-trans : (f g h : ℕ) (r s : List ℕ) → Stays f g r → Stays g h s → Stays f h (r ++ s)
 Stays-trans f g h r s p q = grind (arith, common_steps, length-append)

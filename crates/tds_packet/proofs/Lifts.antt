@@ -1,22 +1,22 @@
 -- What is read inside a greater grammar.
 use Rattle.tds_packet.proofs.{
-  Words.{common_steps, ◌≡◌, inl, inr, ℕ, ◌<◌, List, [], ◌∷◌, ◌++◌, length, ap, arith, append_assoc, append-nil, concat, Fault, Stop, Grammar, IsNext, Leads},
+  Words.{◌≡◌, inl, inr, ℕ, ◌<◌, List, [], ◌∷◌, ◌++◌, length, ap, arith, append_assoc, append-nil, concat, Fault, Stop, Grammar, IsNext, Leads},
   Words.{Spelt, Seen, Reads, StopsReading},
   ElementLaws.{Inside, Inside-Spelt, Spelt-append, Spelt-none, Spelt-one},
 }
 
 -- a state with a next element has some bytes to come
 pub next_some : {S : Type 0} (g : Grammar S Fault) (s : S) (element : List ℕ) → IsNext g s element → 0 < g.size s
-next_some g s element n = omega (arith, n.some, n.whole)
+next_some g s element n = omega arith
 
 module _ {S T : Type 0} (small : Grammar S Fault) (big : Grammar T Fault) (lift : S → T) (is : Inside small big lift) where
   -- an element of the smaller grammar is one of the greater
   pub next_inside : (s : S) (element : List ℕ) → 0 < small.size s → IsNext small s element → IsNext big (lift s) element
-  next_inside s element some n = grind (arith, common_steps)
+  next_inside s element some n = grind arith
 
   -- what is read by the smaller grammar is read by the greater
   abbrev pub reads_inside : (from : S) (a b : Seen) (to : S) → Reads small from a b to → Reads big (lift from) a b (lift to)
-  reads_inside from a b to r = record { bytes = r.bytes; spelt = Inside-Spelt small big lift is from r.bytes to r.spelt; takes = r.takes }
+  reads_inside from a b to r = record { bytes = r.bytes; spelt = Inside-Spelt _ _ _ is _ _ to r.spelt; takes = r.takes }
 
   -- where the smaller grammar's reading stops, so does the greater one's
   pub stops_inside : (from : S) (a b : Seen) (place : ℕ) (at : S) (stop : Stop) → big.end_fault (lift at) ≡ small.end_fault at
@@ -24,7 +24,7 @@ module _ {S T : Type 0} (small : Grammar S Fault) (big : Grammar T Fault) (lift 
   stops_inside from a b place at stop end r = record {
     bytes = r.bytes;
     spelt = Inside-Spelt _ _ _ is _ _ at r.spelt;
-    cause = elim r.cause [ inl x ↦ inl (grind (arith, is.size at, is.fault at x.0.element)) | inr x ↦ inr (grind (arith, is.size at)) ];
+    cause = elim r.cause [ inl x ↦ inl (grind arith) | inr x ↦ inr (grind arith) ];
   }
 
   -- the last element of what was read

@@ -1,13 +1,13 @@
 -- A payload on its way into packets of one size.
 use Rattle.tds_packet.proofs.{
   Words.{common_steps, PayloadOf, ◌≡◌, ◌∙◌, inl, inr, ℕ, zero, suc, ◌+◌, ◌-◌, ◌*◌, ◌<◌, ◌≤◌, Bool, true, false, List, [], ◌∷◌, ◌++◌, length, drop, Option},
-  Words.{None, refl, ap, arith, append-nil, length-append, length-drop, take_all, le_refl, div-mul-add, flat_map-append, Appends-nil, Appends-trans},
+  Words.{None, refl, ap, arith, append-nil, length-append, length-drop, take_all, le_refl, flat_map-append, Appends-nil, Appends-trans},
   Words.{Appends-kept, drop-append_seam, suc-mul, Result, Ok, Err, IsTrue, ◌^◌, Keeps, take-append-le, drop-append-le, one_more, Counted, Recut, RecutStop},
   Words.{MessageEnded, Stays, Stop, Written, coming_of, Packet, packet_bytes, wire_of, buffered, seen, Cuts, Flushes, Gains, StopsInput, StopsOutput},
   Words.{WritesPacket, Gathers, cut_packet, first_packets, before_last, packets_before, Ends, IsBetween, IsNotOver, IsOver, Seen, Takes},
-  Joins.{Stays-Rises, Stays-none, Stays-trans},
+  Joins.{Stays-Rises, Stays-trans},
   PayloadLaws.ends_there,
-  Futures.{Ends-after, Takes-more, Takes-none, Takes-trans},
+  Futures.{Ends-after, Takes-more, Takes-trans},
 }
 
 -- what was gathered, and bytes after it
@@ -28,7 +28,7 @@ module _ {R : Type 0} (remaining : R → Option (List ℕ)) (o s t : PayloadOf R
   where
     -- a byte was asked for
     asked : Takes (seen remaining s) (seen remaining t) [] 1 → Takes (seen remaining o) (seen remaining t) (drop 8 packet) (length (drop 8 packet) + 1)
-    asked q = rw append-nil at (joined (seen remaining o) (seen remaining s) (seen remaining t) (drop 8 packet) [] 1 (omega arith) x.takes q)
+    asked q = rw append-nil at (joined (seen remaining o) _ _ (drop 8 packet) [] 1 (omega arith) x.takes q)
 
     -- the payload stopped
     pub gathered_err : (stop : Stop) → Ends (seen remaining s) (seen remaining t) [] stop → (stop.fault ≡ MessageEnded → ⊥)
@@ -49,14 +49,14 @@ module _ {R : Type 0} (remaining : R → Option (List ℕ)) (o s t : PayloadOf R
       pub gathered_ok : {last : Bool} → IsBetween (seen remaining t) → (IsTrue last → IsOver (seen remaining t))
           → (last ≡ false → (length packet ≡ room) × (0 < length (buffered t)) × IsNotOver (seen remaining t))
           → Gathers remaining o t room packet (Ok last)
-      gathered_ok between over full = grind (arith, common_steps, asked)
+      gathered_ok between over full = grind (arith, asked)
 
       -- bytes that lay ready were taken
       pub gathered_more : {d : PayloadOf R} (piece : List ℕ) → Takes (seen remaining t) (seen remaining d) piece 0 → d.place ≡ t.place + length piece
           → length packet + length piece ≤ room → Gathering remaining o d room (packet ++ piece)
       gathered_more {d} piece r further fits =
           let split = drop-append-le 8 packet piece x.header in
-          let takes = joined (seen remaining o) (seen remaining t) (seen remaining d) (drop 8 packet) piece 0 (omega arith) (asked q) r in
+          let takes = joined (seen remaining o) _ (seen remaining d) (drop 8 packet) piece 0 (omega arith) (asked q) r in
           grind (arith, length-append)
 
 ready_first : {R : Type 0} (remaining : R → Option (List ℕ)) (p : PayloadOf R) (input : List ℕ) → p.stopped ≡ None
@@ -97,7 +97,7 @@ wire-more ps p = simp (flat_map-append, append-nil)
 parts : (m k : ℕ) (payload body : List ℕ) → length payload ≡ k * m → length body ≤ m → 0 < m → (0 < k → 0 < length body)
     → (before_last m (length (payload ++ body)) ≡ k) × (packets_before m (payload ++ body) ≡ first_packets m k payload)
     × (drop (k * m) (payload ++ body) ≡ body)
-parts m k payload body whole fits room some = grind (arith, length-append, div-mul-add, first-more, drop-append_seam)
+parts m k payload body whole fits room some = grind (arith, length-append, first-more, drop-append_seam)
 
 -- a full packet more is one of the first
 first_is : (m k n : ℕ) (payload body : List ℕ) → n ≡ suc k → length payload ≡ k * m → length body ≡ m
@@ -121,7 +121,7 @@ pub record Cutting {R W : Type 0} (remaining : R → Option (List ℕ)) (content
 pub cut_none : {R W : Type 0} (remaining : R → Option (List ℕ)) (contents : W → Option (List ℕ)) {m : ℕ} {s : PayloadOf R} {to : Counted W}
     → s.place ≡ 0 → Cutting remaining contents m (seen remaining s) s to to (record { packets = 0; bytes = 0 })
 unfolding first_packets
-cut_none remaining contents e = grind (arith, Takes-none, Appends-nil, Stays-none)
+cut_none remaining contents e = grind (arith, Appends-nil)
 
 module _ {R W : Type 0} {remaining : R → Option (List ℕ)} {contents : W → Option (List ℕ)} {a : Seen} {s t : PayloadOf R} {room : ℕ} {packet : List ℕ}
     {old mid : Counted W} {done : Written}
@@ -184,12 +184,12 @@ module _ {R W : Type 0} {remaining : R → Option (List ℕ)} {contents : W → 
   cut_finished new sent (Ok answer) test made et writes flushes =
       let p = next_parts made in
       let takes = next_takes made in
-      let both = Appends-trans (contents old.device) (contents mid.device) (contents sent.device) _ _ x.wrote writes.0 in
-      let wrote = Appends-kept (contents old.device) (contents sent.device) (contents new.device) _ both flushes.0 in
+      let both = Appends-trans (contents old.device) (contents mid.device) _ _ _ x.wrote writes.0 in
+      let wrote = Appends-kept (contents old.device) _ (contents new.device) _ both flushes.0 in
       grind (arith, length-append, first-length, wire-more)
   cut_finished new sent (Err stop) test made et writes flushes =
       let bytes = packet_bytes (cut_packet done.packets true (drop 8 packet)) in
-      let wrote = Appends-kept (contents mid.device) (contents sent.device) (contents new.device) bytes writes.0 flushes.0 in
+      let wrote = Appends-kept (contents mid.device) _ (contents new.device) bytes writes.0 flushes.0 in
       inr (cut_broken test made (
         bytes,
         [],
@@ -207,5 +207,5 @@ module _ {R W : Type 0} {remaining : R → Option (List ℕ)} {contents : W → 
   cut_stopped {new = new} {stop = stop} made keeps ok counted =
       let p = next_parts made in
       let ends = Ends-after a _ (seen remaining t) x.payload (drop 8 packet) _ stop x.takes made.gives in
-      let wrote = Appends-kept (contents old.device) (contents mid.device) (contents new.device) _ x.wrote keeps in
+      let wrote = Appends-kept _ (contents mid.device) (contents new.device) _ x.wrote keeps in
       grind (arith, length-append)

@@ -31,12 +31,12 @@ module _ {S : Type 0} (g : Grammar S Fault) where
   -- an element is read whole, without a fault
   abbrev pub reads_one : (s : S) (a b : Seen) (element : List ℕ) (t : S) → IsNext g s element → Takes a b element (length element)
       → g.add s element ≡ t → Reads g s a b t
-  reads_one s a b element t next takes to = record { bytes = element; spelt = rw to at (Spelt-one g s element next); takes = takes }
+  reads_one s a b element t next takes to = record { bytes = element; spelt = rw to at (Spelt-one g s _ next); takes = takes }
 
   abbrev pub reads_both : (s t u : S) (a b c : Seen) → Reads g s a b t → Reads g t b c u → Reads g s a c u
   reads_both s t u a b c p q = record {
     bytes = p.bytes ++ q.bytes;
-    spelt = Spelt-append g s p.bytes t q.bytes u p.spelt q.spelt;
+    spelt = Spelt-append g s _ t _ u p.spelt q.spelt;
     takes = takes_both a
         b c _ _ p.takes q.takes;
   }
@@ -82,9 +82,9 @@ module _ {S : Type 0} (g : Grammar S Fault) where
   refused_at_once s a b place element fault some whole first takes between =
       let refused : RefusesNext g a b [] s fault =
       record { element = element; ahead = []; some = some; whole = whole; first = first; takes = rw append-nil takes; between = between } in
-      grind (arith, Spelt-none, add_none)
+      grind arith
 
   -- the payload stopped in the first element
   pub cut_at_once : (s : S) (a b : Seen) (place : ℕ) (part : List ℕ) (own stop : Stop) → length part < g.size s → Ends a b part own
       → IsCutStop place (g.end_fault s) own stop → StopsReading g s a b place s stop
-  cut_at_once s a b place part own stop cut ends is = grind (arith, Spelt-none, add_none)
+  cut_at_once s a b place part own stop cut ends is = grind arith

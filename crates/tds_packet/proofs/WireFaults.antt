@@ -45,7 +45,7 @@ module _ (P : ℕ → Coming → Type 0) (ended : (place : ℕ) (rest : List ℕ
 
 -- what comes of an input stops with such a fault
 pub message_of_wire : (size limit fuel wire place : ℕ) (input : List ℕ) → IsOfWire (message size limit fuel wire place input).stop.fault
-message_of_wire = message_keeps (λ _ c. IsOfWire c.stop.fault) (λ _ _. tt) (λ _ _ _ _ h. h.0) (λ _ _ _ h. h)
+message_of_wire = message_keeps (λ _ c. IsOfWire c.stop.fault) _ (λ _ _ _ _ h. h.0) (λ _ _ _ h. h)
 
 -- a payload that stops blames a device only where a read failed
 pub ends_blame : {R : Type 0} (remaining : R → Option (List ℕ)) (p : PayloadOf R) (b : Seen) (bytes : List ℕ) (own : Stop) → p.stopped ≡ None
@@ -54,7 +54,7 @@ pub ends_blame : {R : Type 0} (remaining : R → Option (List ℕ)) (p : Payload
 ends_blame remaining p b bytes own going ends =
     let of_wire : (input rest : List ℕ) → (seen remaining p).future input ≡ record { bytes = bytes; stop = own; rest = rest }
     → (own.fault ≡ WriteFailed → ⊥) × (own.fault ≡ ReadFailed → b.failures ≡ one_more p.from.now.failures) = λ input rest e.
-    (let h = rw e at (seen_keeps (λ _ c. IsOfWire c.stop.fault) (λ _ _. tt) (λ _ _ _ _ h. h.0) (λ _ _ _ h. h) remaining p input going) in (
+    (let h = rw e at (seen_keeps (λ _ c. IsOfWire c.stop.fault) _ (λ _ _ _ _ h. h.0) (λ _ _ _ h. h) remaining p input going) in (
       λ w. rw
           w at h,
       λ r. absurd (rw r at h),

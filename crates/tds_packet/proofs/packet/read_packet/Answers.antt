@@ -3,22 +3,22 @@ use Rattle.tds_packet.proofs.{Words.{sym, rules, arith, device, ReadsPacket}, Jo
 
 pub returns-in_err-fill-clause-read : goal.returns-in_err-fill-clause-read
 returns-in_err-fill-clause-read g c =
-    passed_on _ _ (ReadsPacket c.args.packet.now.room c.args.max_wire c.args.wire (device g.R.Read.remaining c.args.from.now)
-    (device g.R.Read.remaining c.fill.new.from) c.args.packet.now.bytes) c.from_residual.ensures.1
+    passed_on _ _ (ReadsPacket _ c.args.max_wire c.args.wire _
+    _ c.args.packet.now.bytes) c.from_residual.ensures.1
     (fill_err _ _ _ _ _ c.fill.new.to c.args.packet.now.bytes (search rules) c.in_err-fill.ensures.read)
 
 pub returns-in_err-head-clause-read : goal.returns-in_err-head-clause-read
 returns-in_err-head-clause-read g c =
-    passed_on _ _ (ReadsPacket c.args.packet.now.room c.args.max_wire c.args.wire (device g.R.Read.remaining c.args.from.now)
+    passed_on _ _ (ReadsPacket c.args.packet.now.room c.args.max_wire c.args.wire _
     (device g.R.Read.remaining c.fill.new.from) c.args.packet.now.bytes) c.from_residual-in_err-head.ensures.1
     (header_err _ _ _ _ _ c.fill.new.to c.args.packet.now.bytes (search rules) c.in_ok-fill.ensures.read.0 c.in_ok-fill.ensures.read.1
     (rw (← c.room-room.ensures) (sym c.in_err-head.ensures.value)))
 
 pub returns-in_err-read_body-clause-read : goal.returns-in_err-read_body-clause-read
 returns-in_err-read_body-clause-read g c =
-    passed_on _ _ (ReadsPacket c.args.packet.now.room c.args.max_wire c.args.wire (device g.R.Read.remaining c.args.from.now)
-    (device g.R.Read.remaining c.read_body.new.from) c.read_body.new.packet.bytes) c.from_residual-in_err-read_body.ensures.1
-    (body_err _ _ _ _ _ (device g.R.Read.remaining c.fill.new.from) c.in_ok-head.head _ _
+    passed_on _ _ (ReadsPacket c.args.packet.now.room c.args.max_wire c.args.wire _
+    _ c.read_body.new.packet.bytes) c.from_residual-in_err-read_body.ensures.1
+    (body_err _ _ _ _ _ _ c.in_ok-head.head _ _
     (record {
       bytes = c.fill.new.to;
       eight = search rules;
@@ -40,4 +40,4 @@ returns-clause-read g c =
       good = rw
           (← c.room-room.ensures) (sym c.in_ok-head.ensures.value);
     })
-    (omega (arith, c.in_ok-read_body.ensures.len, c.in_ok-head.ensures.fits)) c.in_ok-read_body.ensures.bytes.0 c.in_ok-read_body.ensures.bytes.1
+    (omega (arith, c.in_ok-head.ensures.fits)) c.in_ok-read_body.ensures.bytes.0 c.in_ok-read_body.ensures.bytes.1

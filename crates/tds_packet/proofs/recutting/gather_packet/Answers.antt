@@ -1,6 +1,6 @@
 use Rattle.tds_packet.proofs.recutting.gather_packet.Goals as goal
 use Rattle.tds_packet.proofs.{
-  Words.{◌≡◌, ◌∙◌, ◌+◌, ◌-◌, ◌++◌, false, true, length, take, min, rules, arith, length-take-le, common_steps, buffered, Gathers},
+  Words.{◌≡◌, ◌∙◌, ◌+◌, ◌-◌, ◌++◌, false, length, take, min, rules, arith, length-take-le, common_steps, buffered, Gathers},
   Passing.passed_on,
   Recuts.{gathered_err, gathered_more, gathered_ok},
 }

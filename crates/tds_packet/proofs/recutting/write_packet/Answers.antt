@@ -5,10 +5,10 @@ use Rattle.tds_packet.{
 
 pub returns-in-Err-clause-writes : goal.returns-in-Err-clause-writes
 returns-in-Err-clause-writes g c =
-    let all = packet_bytes (cut_packet c.args.done.packets c.args.last (drop 8 c.args.output.now.bytes)) in
+    let all = packet_bytes (cut_packet _ c.args.last (drop 8 c.args.output.now.bytes)) in
     let k = c.in-Err.taken in
     let is : c.bytes.result.now ≡ all = search rules in
-    let taken : length (take k all) ≡ k = length-take-le k all (omega (arith, c.in-Err.ensures.part, ap length is)) in
+    let taken = length-take-le k all (omega (arith, c.in-Err.ensures.part, ap length is)) in
     let len : c.len-length.result ≡ length all = search rules in
     let took = subst (λ l. Appends (g.W.Write.contents c.args.to.now.device) (g.W.Write.contents c.deliver.new.self.device) (take k l)) is
     c.in-Err.ensures.err in (

@@ -1,6 +1,6 @@
 use Rattle.tds_packet.proofs.recutting.write_packets.Goals as goal
 use Rattle.tds_packet.proofs.{
-  Words.{cut_packet, ◌+◌, packet_bytes, common_steps, ◌≡◌, ◌∙◌, inr, inl, ◌-◌, true, false, drop, length, sym, ap, rules, arith, length-drop, seen, Cuts},
+  Words.{cut_packet, ◌+◌, packet_bytes, common_steps, ◌≡◌, ◌∙◌, inr, inl, ◌-◌, false, drop, length, sym, ap, rules, arith, length-drop, seen, Cuts},
   Passing.passed_on,
   Recuts.{cut_broken, cut_finished, cut_more, cut_none, cut_stopped},
 }

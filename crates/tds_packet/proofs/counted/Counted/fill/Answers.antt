@@ -1,12 +1,12 @@
 use Rattle.tds_packet.proofs.counted.Counted.fill.Goals as goal
 use Rattle.tds_packet.proofs.{
   Words.{◌≡◌, ℕ, List, ◌+◌, ◌-◌, ◌≤◌, ◌++◌, rules, arith, length, take, ap, ◌∙◌, subst, length-take-le, take-append-add, take-append-le, Consumes},
-  Words.{Consumes-trans, Consumes-kept, put_mid, post_of, one_more},
+  Words.{Consumes-trans, Consumes-kept, put_mid, one_more},
 }
 
 -- the first bytes of a part that was written over
 take_put : {a : ℕ} (k : ℕ) {n : ℕ} (xs ys : List ℕ) → a ≤ length xs → n ≤ length ys → take a xs ++ take n ys ≡ take (a + n) (put_mid a k xs ys)
-take_put k xs ys within fits = grind (arith, post_of, length-take-le, take-append-add, take-append-le)
+take_put k xs ys within fits = grind (arith, length-take-le, take-append-add, take-append-le)
 
 pub loop-at-preserved : goal.loop-at-preserved
 loop-at-preserved g c =

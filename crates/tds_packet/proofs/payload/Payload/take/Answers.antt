@@ -5,6 +5,6 @@ pub returns-clause-gives : goal.returns-clause-gives
 returns-clause-gives g c =
     let s = c.args.self.now in
     let ready : s.at < length s.packet.now.bytes = omega arith in
-    let head : take 1 (drop s.at s.packet.now.bytes) ≡ get_or c.bytes.result.now s.at 0 ∷ [] =
-    rw (c.bytes.ensures.value, drop-cons s.packet.now.bytes s.at 0 ready) in
+    let head : take 1 (drop s.at s.packet.now.bytes) ≡ get_or _ s.at 0 ∷ [] =
+    rw (c.bytes.ensures.value, drop-cons _ s.at 0 ready) in
     rw head at (further_takes g.R.Read.remaining s 1 1 (omega (arith, ready, length-drop s.at s.packet.now.bytes)) c.requires.going.going)
