@@ -1,13 +1,13 @@
 -- What a description's spelling is read as.
 use Rattle.tds_columns.proofs.{
   Words.{too_long, add-zero, if◌then◌else◌, ◌≡◌, ℕ, ◌+◌, ◌-◌, ◌*◌, ◌/◌, ◌%◌, ◌<◌, ◌≤◌, List, [], ◌∷◌, ◌++◌, length, refl, ap, append_assoc, append-nil, arith},
-  Words.{length-append, Some, None, ◌==◌, nat_tests, ne_eqb, get_or-append_seam, Kind, little, IsTypeInfo, rest_length, kind_of, rest_length_of, Spelt},
+  Words.{length-append, Some, None, ◌==◌, nat_tests, ne_eqb, get_or-append_seam, Kind, little, IsTypeInfo, rest_length, kind_of, Spelt},
   Words.{Spelt-step, Spelt-append, Spelt-none, Column, SpellsColumn, SpellsColumns, SpellsDescription, ColumnHead, NameCount, DescriptionPart, BeforeCount},
   Words.{InColumn, WholeDescription, with_column, with_count, with_type, with_units, count_fault, description, choose_false, choose_true},
 }
 
 pub fits_in : (room so_far least : ℕ) → so_far + least ≤ room → too_long room so_far least ≡ None
-fits_in room so_far least h = grind (arith, nat_tests)
+fits_in room so_far least h = grind arith
 
 -- the bytes of a TYPE_INFO: its type byte and the rest
 pub record ByteAndRest (kind : Kind) (info : List ℕ) : Type 0 where
@@ -18,15 +18,15 @@ pub record ByteAndRest (kind : Kind) (info : List ℕ) : Type 0 where
   pub allowed : kind_of (byte ∷ rest) ≡ Some kind
 
 pub byte_and_rest : (kind : Kind) (info : List ℕ) → IsTypeInfo kind info → ByteAndRest kind info
-byte_and_rest kind info h = grind (arith, rest_length_of)
+byte_and_rest kind info h = grind arith
 
 length-SpellsColumn : (c : Column) (bytes : List ℕ) (h : SpellsColumn c bytes) → length bytes ≡ (6 + length h.info) + (1 + length c.name)
-length-SpellsColumn c bytes h = rw h.spelt (simp length-append (omega (arith, h.six)))
+length-SpellsColumn c bytes h = rw h.spelt (simp length-append (omega arith))
 
 -- a column takes at least 8 bytes
 least-SpellsColumns : (cs : List Column) (bytes : List ℕ) → SpellsColumns cs bytes → 8 * length cs ≤ length bytes
 least-SpellsColumns [] bytes h = omega arith
-least-SpellsColumns (c ∷ cs) bytes h = grind (arith, byte_and_rest, length-SpellsColumn, length-append, (least-SpellsColumns cs h.1 h.4))
+least-SpellsColumns (c ∷ cs) bytes h = grind (arith, length-append, (least-SpellsColumns cs h.1 h.4))
 
 -- a description after the last of these columns
 abbrev pub after_columns : List ℕ → ℕ → List Column → DescriptionPart
@@ -35,12 +35,12 @@ after_columns bytes count columns = if length columns == count then WholeDescrip
 -- a further column comes
 pub at_column : (bytes : List ℕ) (count : ℕ) (columns : List Column) → length columns < count
     → after_columns bytes count columns ≡ InColumn bytes count columns ColumnHead
-at_column bytes count columns more = choose_false _ _ _ (ne_eqb (length columns) count (λ e. omega (arith, e, more)))
+at_column bytes count columns more = choose_false _ _ _ (ne_eqb _ count (λ e. omega arith))
 
 -- a Count of columns that fit
 count_free : (room n : ℕ) (bytes : List ℕ) → 0 < n → n < 65535 → 2 + 8 * n ≤ room → (count_fault room n ≡ None)
     × (with_count bytes n ≡ after_columns bytes n [])
-count_free room n bytes some most fits = grind (arith, ne_eqb, nat_tests, at_column)
+count_free room n bytes some most fits = grind arith
 
 module _ (room : ℕ) where
   module _ (b : List ℕ) (count : ℕ) (cols : List Column) where
@@ -49,21 +49,21 @@ module _ (room : ℕ) where
         → ((length b + 7) + ((n + 1) + 8 * (count - (length cols + 1)))) ≤ room
         → Spelt (description room) (InColumn b count cols ColumnHead) (ignored ++ byte ∷ [])
         (with_type (b ++ (ignored ++ byte ∷ [])) count cols byte n)
-    head_is_read ignored byte n six rest fits = grind (arith, Spelt-step, nat_tests, get_or-append_seam, length-append)
+    head_is_read ignored byte n six rest fits = grind (arith, Spelt-step, get_or-append_seam, length-append)
 
     info_is_read : (byte : ℕ) (rest : List ℕ) (kind : Kind) → rest_length byte ≡ Some (length rest) → kind_of (byte ∷ rest) ≡ Some kind
         → Spelt (description room) (with_type b count cols byte (length rest)) rest (InColumn (b ++ rest) count cols (NameCount kind))
     info_is_read byte [] kind n k = grind (arith, Spelt-none, append-nil)
-    info_is_read byte (x ∷ xs) kind n k = grind (arith, Spelt-step, choose_false, ne_eqb)
+    info_is_read byte (x ∷ xs) kind n k = grind (arith, Spelt-step, choose_false)
 
     units_are_read : (kind : Kind) (units : ℕ) → (length b + 1) + (2 * units + 8 * (count - (length cols + 1))) ≤ room
         → Spelt (description room) (InColumn b count cols (NameCount kind)) (units ∷ []) (with_units (b ++ units ∷ []) count cols kind units)
-    units_are_read kind units fits = grind (arith, Spelt-step, nat_tests)
+    units_are_read kind units fits = grind (arith, Spelt-step)
 
     name_is_read : (kind : Kind) (units : ℕ) (name : List ℕ) → length name ≡ 2 * units
         → Spelt (description room) (with_units b count cols kind units) name
         (with_column (b ++ name) count cols (record { kind = kind; name = name }))
-    name_is_read kind units [] l = grind (arith, Spelt-none, append-nil, choose_true, nat_tests)
+    name_is_read kind units [] l = grind (arith, Spelt-none, append-nil, choose_true)
     name_is_read kind units (x ∷ xs) l = grind (arith, Spelt-step, choose_false, ne_eqb)
 
   -- what spells a column is read as it
@@ -78,8 +78,8 @@ module _ (room : ℕ) where
       let l2 : length ((b ++ head) ++ type.rest) ≡ length b + (7 + length type.rest) = simp length-append (omega (arith, h.six)) in
       let one = head_is_read b count cols h.ignored type.byte _ h.six type.whole (omega (arith, l, li, fits)) in
       let two = info_is_read (b ++ head) count cols type.byte type.rest c.kind type.whole type.allowed in
-      let three = units_are_read ((b ++ head) ++ type.rest) count cols c.kind h.units (omega (arith, l, li, l2, h.counted, fits)) in
-      let four = name_is_read (((b ++ head) ++ type.rest) ++ h.units ∷ []) count cols c.kind h.units c.name h.counted in
+      let three = units_are_read _ count cols c.kind h.units (omega (arith, l, li, l2, h.counted, fits)) in
+      let four = name_is_read _ count cols c.kind h.units c.name h.counted in
       let all = simp append_assoc at (Spelt-append (description room) _ _ _ _ _ one
       (Spelt-append (description room) _ _ _ _ _ two (Spelt-append (description room) _ _ _ _ _ three four))) in
       rw (h.spelt, type.spelt) (simp append_assoc all)

@@ -1,23 +1,23 @@
 -- What the bytes that lead to a part of a description spell.
 use Rattle.tds_columns.proofs.{
   Words.{◌==◌, too_long, Option, Fault, first_of_two, is_some, BadTypeInfo, true, if◌then◌else◌, ◌≡◌, ◌≢◌, ℕ, ◌+◌, ◌*◌, ◌/◌, ◌%◌, ◌<◌, ◌≤◌, List, [], ◌∷◌},
-  Words.{◌++◌, length, refl, sym, ◌∙◌, ap, append_assoc, append-nil, arith, length-append, length-take-le, Some, None, slice_index, nat_tests, ne_eqb, Kind},
+  Words.{◌++◌, length, refl, sym, ◌∙◌, ap, append_assoc, append-nil, arith, length-append, Some, None, slice_index, nat_tests, Kind},
   Words.{IsTypeInfo, rest_length, bare_type, AreBytes, IsNext, Column, SpellsColumn, SpellsColumns, SpellsDescription, ColumnPlace, ColumnHead, ColumnInfo},
   Words.{NameCount, NameUnits, DescriptionPart, BeforeCount, NoDescription, InColumn, WholeDescription, with_column, with_units, add_described, type_fault},
-  Words.{count_fault, description, choose, choose_false, eq_true, eq_false, is_some_value},
+  Words.{count_fault, description, choose, eq_true, eq_false, is_some_value},
   ByteLemmas.{last_of, two_bytes},
 }
 
 pub not_long : (room so_far least : ℕ) → too_long room so_far least ≡ None → so_far + least ≤ room
-not_long room so_far least h = grind (arith, nat_tests)
+not_long room so_far least h = grind arith
 
 -- a Count that isn't refused is at least 1
 pub not_zero : (room c : ℕ) → count_fault room c ≡ None → 0 < c
-not_zero room c q = grind (arith, eq_false)
+not_zero room c q = grind arith
 
 -- and unless it is that of no metadata the room has the least bytes of its columns
 pub room_for : (room c : ℕ) → c ≢ 0xFFFF → count_fault room c ≡ None → 2 + 8 * c ≤ room
-room_for room c other q = grind (arith, choose_false, ne_eqb, not_long, not_zero)
+room_for room c other q = grind (arith, not_long)
 
 -- a type byte that is accepted
 pub known_type : (i byte : ℕ) (o : Option ℕ) (y : Option Fault) → first_of_two (type_fault i byte o) y ≡ None → (n : ℕ) × (o ≡ Some n)
@@ -90,12 +90,11 @@ module _ (room : ℕ) where
       → DescribedMeans room (add_described d e) (b ++ e)
   described_step BeforeCount b e bytes h n =
       let t = two_bytes e n.whole bytes in
-      rw h (grind (arith, choose, eq_false, eq_true, not_zero))
+      rw h (grind (arith, choose, eq_false, eq_true))
   described_step (InColumn have count cols ColumnHead) b e bytes h n =
       let spelt = rw h.begun at (longer b e (count % 256 ∷ count / 256 ∷ []) h.front h.part h.spelt) in
       let one = last_of 6 e n.whole in
-      let six = length-take-le 6 e (omega (arith, n.whole)) in
-      grind (arith, bare_type, choose, eq_true, n.free)
+      grind (arith, bare_type, choose, eq_true)
   described_step (InColumn have count cols (ColumnInfo byte)) b e bytes h n = grind (arith, append_assoc, is_some_value, longer)
   described_step (InColumn have count cols (NameCount kind)) b e bytes h n = units_step have count cols kind b e bytes h n
   described_step (InColumn have count cols (NameUnits kind m)) b e bytes h n = grind (arith, append_assoc, length-append, (with_means h e))

@@ -15,7 +15,7 @@ module _ {S : Type 0} {g : Grammar S Fault} {s : S} {a b : Seen} {before after :
   -- it is refused
   pub refused_into : {n place : ℕ} {fault : Fault} (e : TakesInto a b before after n) → 0 < n → g.size s ≡ n → g.fault s e.element ≡ Some fault
       → StopsReading g s a b place s (record { fault = fault; place = Payload place })
-  refused_into e some size first = refused_at_once g s a b _ e.element _ (omega (arith, e.whole, some)) (e.whole
+  refused_into e some size first = refused_at_once g s a b _ e.element _ (omega (arith, e.whole)) (e.whole
       ∙ sym size) first (rw e.whole e.takes) e.between
 
   -- it is cut

@@ -1,7 +1,7 @@
 -- What a description that was read spells.
 use Rattle.tds_columns.proofs.{
-  Words.{◌≡◌, ◌∙◌, inl, inr, ℕ, ◌<◌, List, [], ◌∷◌, length, refl, arith, little_number, bare_type, Space, Stop, AreBytes, Spelt, Seen, Takes, choose, eq_true},
-  Words.{is_some_value, Spelt-induct, AreBytes-front, AreBytes-back, Column, DescriptionPart, BeforeCount, NoDescription, WholeDescription, SpellsDescription},
+  Words.{◌≡◌, ◌∙◌, inl, inr, ℕ, ◌<◌, List, [], ◌∷◌, length, refl, arith, little_number, bare_type, Space, Stop, AreBytes, Spelt, Seen, Takes, eq_true},
+  Words.{Spelt-induct, AreBytes-front, AreBytes-back, Column, DescriptionPart, BeforeCount, NoDescription, WholeDescription, SpellsDescription},
   Words.{description, description_bytes, described_size, TakesInto, Describes, GatherStops, StopsDescribing},
   ByteLemmas.two_bytes,
   ColumnMeaning.{DescribedMeans, described_step},
@@ -14,7 +14,7 @@ Keeps d b = description_bytes d ≡ b
 
 module _ (room : ℕ) where
   pub kept_bytes : (d : DescriptionPart) (bytes : List ℕ) → Spelt (description room) BeforeCount bytes d → Keeps d bytes
-  kept_bytes d bytes h = Spelt-induct (description room) Keeps (λ d b e h n. grind (arith, bare_type, choose, eq_true, is_some_value)) BeforeCount
+  kept_bytes d bytes h = Spelt-induct (description room) Keeps (λ d b e h n. grind (arith, bare_type, eq_true)) BeforeCount
       refl bytes d h
 
   -- what is read has its meaning

@@ -22,13 +22,13 @@ module _ {room : ℕ} {s : DescriptionPart} {a b : Seen} {before after : Space} 
   pub description_cut : {place n : ℕ} {stop : Stop} → EndsInto a b before after place n stop → described_size s ≡ n
       → before.bytes ≡ description_bytes s → StopsDescribing room s a b place before.peak after stop
   description_cut {n = n} e size kept =
-      let o = open_state s n size (omega (arith, e.fewer)) in
+      let o = open_state s n size (omega arith) in
       record {
         at = s;
         stops = cut_into e size o.0;
         kept = e.stands
             ∙ kept;
-        bound = omega (arith, e.peak, o.1, ap length kept);
+        bound = omega (arith, ap length kept);
         further = le_refl (span s);
       }
 
@@ -64,7 +64,7 @@ module _ {room : ℕ} {s : DescriptionPart} {a b : Seen} {before after : Space} 
         stops = refused_into t some size first;
         kept = cut.0
             ∙ kept;
-        bound = omega (arith, cut.1, (open_state s n size some).1, ap length kept);
+        bound = omega (arith, (open_state s n size some).1, ap length kept);
         further = le_refl (span s);
       }
 
@@ -76,16 +76,14 @@ module _ {room : ℕ} {s t : DescriptionPart} {a b c : Seen} {p q k : ℕ} {midd
         reads = reads_both (description room) s t u a b c x.reads y.reads;
         place_is = omega (
           arith,
-          x.place_is,
           y.place_is,
           length-append x.reads.bytes y.reads.bytes,
         );
         kept = y.kept;
-        bound = omega (arith, x.bound, y.bound, y.further);
+        bound = omega (arith, x.bound);
         further = omega (
           arith,
           x.further,
-          y.further,
         );
       }
 
@@ -96,8 +94,8 @@ module _ {room : ℕ} {s t : DescriptionPart} {a b c : Seen} {p q k : ℕ} {midd
         at = y.at;
         stops = stops_after (description room) s t a b c p y.at stop x.reads (rw (← x.place_is) y.stops);
         kept = y.kept;
-        bound = omega (arith, x.bound, y.bound, y.further);
-        further = omega (arith, x.further, y.further);
+        bound = omega arith;
+        further = omega arith;
       }
 
 -- what a call reads from there on is read after the first part
@@ -112,7 +110,7 @@ part_after (Err stop) to c z after same first h = stops_describing_after same fi
 -- a column that is whole adds no bytes
 pub column_bytes : (bytes : List ℕ) (count : ℕ) (columns : List Column) (column : Column)
     → bytes ≡ description_bytes (with_column bytes count columns column)
-column_bytes bytes count columns column = grind (arith, choose)
+column_bytes bytes count columns column = grind arith
 
 -- the name after its count is read, or is cut
 pub name_after : {U : Type 0} (r : Result U Stop) (c : Seen) (after : Space) (place'' : ℕ) (stopped : Option Stop) {room count n : ℕ}

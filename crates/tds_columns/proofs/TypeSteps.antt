@@ -21,7 +21,7 @@ module _ {o a : Seen} (head : List ℕ) (taken : WereTaken o a head) (eight : le
   pub stops_after_steps : {b : Seen} {place : ℕ} {stop : Stop} → rest ≢ 0 → 8 ≤ place
       → StopsReading returned_type (TypeRest (slice_index head 7)) a b place (TypeRest (slice_index head 7)) stop → StopsType o b (place - 8) stop
   stops_after_steps {b = b} {place = place} some far q =
-      let at : (place - 8) + length head ≡ place = omega (arith, eight, far) in
+      let at : (place - 8) + length head ≡ place = omega arith in
       let open_type = choose_false _ (with_known (kind_of (slice_index head 7 ∷ []))) (TypeRest (slice_index head 7)) (ne_eqb rest 0 some) in
       record {
         at = TypeRest (slice_index head 7);
@@ -34,7 +34,7 @@ module _ {o a : Seen} (head : List ℕ) (taken : WereTaken o a head) (eight : le
   type_whole {b = b} {kind = kind} t found =
       choose (λ s. Reads returned_type TypeHead o a s → Reads returned_type TypeHead o b (KnownType kind)) (rest == 0) _ _
       (λ z p.
-      let empty = nil_from_length t.element (omega (arith, t.whole, eq_true rest 0 z)) in
+      let empty = nil_from_length t.element (omega (arith, eq_true rest 0 z)) in
       let takes : Takes a b t.element (length t.element) = rw t.whole t.takes in
       reads_both returned_type _ _ _ _ _ _ (rw (rw empty at found) at p)
       (record { bytes = []; spelt = Spelt-none returned_type (KnownType kind); takes = rw empty at takes }))

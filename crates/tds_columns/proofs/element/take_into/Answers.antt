@@ -10,29 +10,26 @@ returns-in-Ok-clause-gives g c =
       takes = rw n at c.in-Ok.ensures.all;
       between = c.in-Ok.ensures.between;
       stands = grown
-          c.args.area.now c.grow_within-lent.result.now c.fill.new.to c.fill.auto.to;
+          _ _ _ c.fill.auto.to;
     }
 
 pub returns-in-Err-clause-area : goal.returns-in-Err-clause-area
 returns-in-Err-clause-area g c =
-    let stands = grown c.args.area.now c.grow_within-lent.result.now c.fill.new.to c.fill.auto.to in
-    let back = shrunk c.args.area.now c.fill.new.to stands (c.fill.auto.to ∙ c.grow_within-lent.ensures.value) c.len-start.ensures.value
+    let back = shrunk _ _ (grown _ _ _ c.fill.auto.to) (c.fill.auto.to ∙ c.grow_within-lent.ensures.value) c.len-start.ensures.value
     c.truncate.ensures in
-    record { room = rw c.truncate.ensures; kept = (back.0, omega (arith, back.1)) }
+    record { room = rw c.truncate.ensures; kept = (back.0, omega arith) }
 
 pub returns-in-Err-clause-gives : goal.returns-in-Err-clause-gives
 returns-in-Err-clause-gives g c = λ going.
-    let n = c.fill.auto.to ∙ c.grow_within-lent.ensures.value in
-    let stands = grown c.args.area.now c.grow_within-lent.result.now c.fill.new.to c.fill.auto.to in
-    let back = shrunk c.args.area.now c.fill.new.to stands n c.len-start.ensures.value c.truncate.ensures in
+    let stands = grown _ _ c.fill.new.to c.fill.auto.to in
+    let back = shrunk _ _ stands (c.fill.auto.to ∙ c.grow_within-lent.ensures.value) c.len-start.ensures.value c.truncate.ensures in
     let part = c.in-Err.ensures.part going in
-    let few = length-take-le part.0 c.fill.new.to (omega (arith, part.2)) in
     record {
       part = take part.0 c.fill.new.to;
-      fewer = omega (arith, few, part.2, n);
+      fewer = omega (arith, (length-take-le part.0 c.fill.new.to (omega arith)));
       own = part.1;
       ends = part.3;
       stop_is = part.4;
       stands = back.0;
-      peak = omega (arith, back.1);
+      peak = omega arith;
     }

@@ -5,4 +5,4 @@ each [] h = tt
 each (x ∷ xs) h = (h 0, each xs (λ i. h (suc i)))
 
 pub returns : Rattle.tds_columns.proofs.metadata.are_bytes.Goals.returns
-returns c = each c.args.bytes.now (λ i. (c.type_inv.bytes i).fits)
+returns c = each _ (λ i. (c.type_inv.bytes i).fits)

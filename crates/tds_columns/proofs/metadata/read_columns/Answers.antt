@@ -1,6 +1,6 @@
 use Rattle.tds_columns.proofs.metadata.read_columns.Goals as goal
 use Rattle.tds_columns.proofs.{
-  Words.{◌≡◌, ◌∙◌, [], ◌∷◌, ◌++◌, length, refl, arith, rules, le_refl, length-append, ◌==◌, nat_tests, choose_true, passed, reads_none},
+  Words.{◌≡◌, ◌∙◌, [], ◌∷◌, ◌++◌, length, refl, arith, rules, le_refl, length-append, ◌==◌, choose_true, passed, reads_none},
   ColumnLaws.at_column,
   GatherSteps.{describes_both, stops_describing_after},
 }
@@ -10,11 +10,11 @@ columns-init g c = record {
   going = c.requires.going;
   same = search rules;
   room = search rules;
-  fits = omega (arith, c.requires.fits);
+  fits = omega arith;
   reads = (
     [],
     refl,
-    rw (at_column c.args.area.now.bytes c.args.count [] c.requires.some)
+    rw (at_column _ c.args.count [] c.requires.some)
         (record { reads = reads_none _ _ _; place_is = omega arith; kept = refl; bound = omega arith; further = le_refl _ }),
   );
 }
@@ -22,7 +22,7 @@ columns-init g c = record {
 pub returns-in_err-read_column-clause-gives : goal.returns-in_err-read_column-clause-gives
 returns-in_err-read_column-clause-gives g c =
     let columns = c.columns.invariant.reads in
-    let read = rw (at_column c.columns.area.bytes c.args.count columns.0 (omega (arith, columns.1, c.columns-test.true))) at columns.2 in
+    let read = rw (at_column c.columns.area.bytes c.args.count columns.0 (omega arith)) at columns.2 in
     passed _ _ _ _ c.from_residual.ensures.1 (stops_describing_after c.columns.invariant.room read
     (c.in_err-read_column.ensures.gives columns.0 columns.1))
 
@@ -44,5 +44,5 @@ columns-preserved g c =
 pub returns-clause-gives : goal.returns-clause-gives
 returns-clause-gives g c =
     let columns = c.columns.invariant.reads in
-    let all : length columns.0 ≡ c.args.count = omega (arith, columns.1, c.columns-test.false, c.columns.auto.index-end) in
-    ((columns.0, all), rw (choose_true (length columns.0 == c.args.count) _ _ (grind (arith, nat_tests))) at columns.2)
+    let all : length columns.0 ≡ c.args.count = omega arith in
+    ((columns.0, all), rw (choose_true (length columns.0 == c.args.count) _ _ (grind arith)) at columns.2)

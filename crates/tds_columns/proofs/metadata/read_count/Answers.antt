@@ -26,7 +26,7 @@ returns-then-count-clause-gives g c =
 pub returns-in-None-clause-gives : goal.returns-in-None-clause-gives
 returns-in-None-clause-gives g c =
     let t = c.in_ok-take_into.ensures.gives in
-    let free : count_fault c.args.area.now.room c.read_u16-count.result ≡ None =
+    let free : count_fault _ c.read_u16-count.result ≡ None =
     rw (← (c.room.ensures ∙ c.in_ok-take_into.ensures.area.room)) (search rules) in (
       count_read t c.requires.empty (search rules) free (choose_false _ _ _ (ne_eqb c.read_u16-count.result 0xFFFF (search rules)))
           c.in_ok-take_into.ensures.place refl refl,

@@ -1,7 +1,7 @@
 use Rattle.tds_columns.proofs.metadata.read_name.Goals as goal
 use Rattle.tds_columns.proofs.{
   Words.{add-zero, ◌+◌, ◌*◌, Seen, Space, TakesInto, List, Column, ℕ, length, get_or, ◌-◌, too_long, ◌≡◌, ◌∙◌, [], slice_index, refl, sym, arith, ne_eqb},
-  Words.{nat_tests, choose_false, passed},
+  Words.{choose_false, passed},
   ElementSteps.{byte_at, length_into},
   GatherSteps.{column_bytes, description_cut, description_read, description_refused, name_after},
 }
@@ -32,7 +32,7 @@ returns-then-size-eq0-clause-gives g c = λ columns kind number.
     let t = c.in_ok-take_into.ensures.gives in
     let w = judged t columns c.args.count number c.bytes.ensures.value c.len-start.ensures.value (c.room.ensures
     ∙ c.in_ok-take_into.ensures.area.room) c.from-size.ensures c.from-later.ensures in
-    let zero : slice_index t.element 0 ≡ 0 = omega (arith, w.0, c.if-size-eq0.true) in (
+    let zero : slice_index t.element 0 ≡ 0 = omega arith in (
       record { kind = kind; name = [] },
       description_read t (omega arith) refl (w.1 ∙ sym c.too_long.ensures ∙ c.in_default.is) (rw (t.stands, zero))
           c.in_ok-take_into.ensures.place refl refl (column_bytes _ _ _ _),
@@ -51,5 +51,4 @@ returns-clause-gives g c = λ columns kind number.
 
 pub returns-clause-fits : goal.returns-clause-fits
 returns-clause-fits g c =
-    let free = sym c.too_long.ensures ∙ c.in_default.is in
-    grind (arith, length_into, nat_tests)
+    grind (arith, length_into)

@@ -1,6 +1,6 @@
 use Rattle.tds_columns.proofs.metadata.read_type.Goals as goal
 use Rattle.tds_columns.proofs.{
-  Words.{◌≡◌, ◌∙◌, ◌+◌, ◌*◌, ◌≤◌, ◌++◌, ℕ, slice_index, refl, List, arith, Some, None, unwrap_or, ne_eqb, nat_tests, rest_length, Kind, bare_type, Column},
+  Words.{◌≡◌, ◌∙◌, ◌+◌, ◌*◌, ◌≤◌, ◌++◌, ℕ, slice_index, refl, List, arith, Some, None, unwrap_or, ne_eqb, rest_length, Kind, bare_type, Column},
   Words.{InColumn, NameCount, head_fault, with_type, choose_false, passed},
   ElementSteps.byte_at,
   GatherSteps.{description_cut, description_read, description_refused, part_after},
@@ -14,7 +14,7 @@ bare bytes after count columns byte rest known zero same = grind (arith, bare_ty
 -- a head that is accepted
 no_fault : (room so_far byte rest index left : ℕ) → rest_length byte ≡ Some rest → (so_far + rest) + 1 + 8 * left ≤ room
     → head_fault room so_far byte index left ≡ None
-no_fault room so_far byte rest index left known fits = grind (arith, nat_tests)
+no_fault room so_far byte rest index left known fits = grind arith
 
 pub returns-in_err-take_into-clause-gives : goal.returns-in_err-take_into-clause-gives
 returns-in_err-take_into-clause-gives g c =
@@ -31,12 +31,11 @@ returns-in-Err-clause-gives g c = λ columns number.
 pub returns-then-rest-eq0-clause-gives : goal.returns-then-rest-eq0-clause-gives
 returns-then-rest-eq0-clause-gives g c = λ columns number.
     let t = c.in_ok-take_into.ensures.gives in
-    let byte = byte_at t 6 c.bytes.ensures.value c.len-start.ensures.value in
-    let known = rw byte at c.in-Ok.ensures.0 in
+    let known = rw (byte_at t 6 c.bytes.ensures.value c.len-start.ensures.value) at c.in-Ok.ensures.0 in
     let kind = bare (c.args.area.now.bytes ++ t.element) c.take_into.new.area.bytes c.args.count columns (slice_index t.element 6) c.in-Ok.rest known
     c.if-rest-eq0.true (rw t.stands) in (
       kind.0,
-      description_read t (omega arith) refl (no_fault _ _ _ c.in-Ok.rest _ _ known (rw number (omega (arith, c.in-Ok.ensures.1)))) kind.1
+      description_read t (omega arith) refl (no_fault _ _ _ c.in-Ok.rest _ _ known (rw number (omega arith))) kind.1
           c.in_ok-take_into.ensures.place refl refl refl,
     )
 

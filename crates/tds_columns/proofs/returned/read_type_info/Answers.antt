@@ -1,6 +1,6 @@
 use Rattle.tds_columns.proofs.returned.read_type_info.Goals as goal
 use Rattle.tds_columns.proofs.{
-  Words.{◌≡◌, ◌∙◌, ◌∷◌, refl, sym, rules, arith, slice_index, None, kind_of, passed, refused_at_once, TypeHead, returned_type},
+  Words.{◌≡◌, ◌∙◌, ◌∷◌, refl, sym, rules, arith, slice_index, None, kind_of, passed, refused_at_once, TypeHead},
   ElementSteps.{shrunk, cut_into, element_at, refused_into},
   TypeSteps.{no_kind, stops_after_steps, type_whole},
 }
@@ -11,7 +11,7 @@ returns-in-Err-clause-gives g c = λ before taken.
     rw (c.in_payload.ensures, c.place-place.ensures)
     (record {
       at = TypeHead;
-      stops = refused_at_once returned_type TypeHead _ _ _ c.args.small.now.bytes _ (omega (arith, c.requires.head.eight))
+      stops = refused_at_once _ TypeHead _ _ _ _ _ (omega arith)
           c.requires.head.eight first (rw c.requires.head.eight taken.0) taken.1;
     })
 
@@ -20,15 +20,14 @@ returns-in_err-take_into-clause-gives g c = λ before taken.
     let known = rw c.bytes.ensures.value at c.in-Ok.ensures.gives in
     let e = c.in_err-take_into.ensures.gives c.requires.going.going in
     passed _ _ _ _ c.from_residual.ensures.1 (stops_after_steps c.args.small.now.bytes taken c.requires.head.eight c.in-Ok.rest known
-    (λ z. omega (arith, z, e.fewer)) c.requires.head.place (cut_into e (rw known) refl))
+    (λ z. omega arith) c.requires.head.place (cut_into e (rw known) refl))
 
 pub returns-in-Some-clause-kind : goal.returns-in-Some-clause-kind
 returns-in-Some-clause-kind g c =
     let t = c.in_ok-take_into.ensures.gives in
-    let same = element_at t c.bytes-2.ensures.value (sym c.requires.head.eight) in
     record {
       rest = t.element;
-      info = rw (← same, ← c.bytes.ensures.value) (sym c.kind_of.ensures ∙ c.in-Some.is);
+      info = rw (← (element_at t c.bytes-2.ensures.value (sym c.requires.head.eight)), ← c.bytes.ensures.value) (sym c.kind_of.ensures ∙ c.in-Some.is);
       takes = rw t.whole t.takes;
       place_is = rw t.whole c.in_ok-take_into.ensures.place;
     }
@@ -44,7 +43,7 @@ pub returns-in-None-clause-area : goal.returns-in-None-clause-area
 returns-in-None-clause-area g c =
     let t = c.in_ok-take_into.ensures.gives in
     let kept = shrunk _ t.element t.stands t.whole (sym c.requires.head.eight) c.truncate.ensures in
-    record { room = search rules; bound = omega (arith, kept.1, c.requires.head.eight, c.in-Ok.ensures.bound); kept = kept.0 }
+    record { room = search rules; bound = omega (arith, c.in-Ok.ensures.bound); kept = kept.0 }
 
 pub returns-in-None-clause-gives : goal.returns-in-None-clause-gives
 returns-in-None-clause-gives g c = λ before taken.
@@ -53,6 +52,6 @@ returns-in-None-clause-gives g c = λ before taken.
     let same = element_at t c.bytes-2.ensures.value (sym c.requires.head.eight) in
     let none : kind_of (slice_index c.args.small.now.bytes 7 ∷ t.element) ≡ None =
     rw (same, c.bytes.ensures.value) at (sym c.kind_of.ensures ∙ c.in-None.is) in
-    let some = no_kind (slice_index c.args.small.now.bytes 7) t.element known t.whole none in
+    let some = no_kind _ t.element known t.whole none in
     rw (c.in_payload-in-None.ensures, c.place-place.ensures) (stops_after_steps c.args.small.now.bytes taken c.requires.head.eight c.in-Ok.rest known
     some c.requires.head.place (refused_into t (omega (arith, some)) (rw known) (rw none)))

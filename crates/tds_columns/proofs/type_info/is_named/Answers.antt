@@ -1,5 +1,5 @@
-use Rattle.{std.proofs.{Common.arith, lemmas.Grind.common_steps}, tds_values.specs.TypeInfo.{named_kind, rest_length}}
+use Rattle.{std.proofs.{Common.arith}, tds_values.specs.TypeInfo.{named_kind, rest_length}}
 
 pub returns-in-36 : Rattle.tds_columns.proofs.type_info.is_named.Goals.returns-in-36
 unfolding rest_length named_kind
-returns-in-36 c = grind (arith, common_steps, c.in-36.is)
+returns-in-36 c = grind arith

@@ -8,7 +8,7 @@ use Rattle.tds_columns.proofs.{
 pub kind_at-kind-requires : goal.kind_at-kind-requires
 kind_at-kind-requires c =
     let l = lies c.args.bytes.now c.requires in
-    (rest_size c.args.bytes.now, l.known, omega (arith, l.enough, ap length (all_after c.args.bytes.now 7), length-drop 7 c.args.bytes.now))
+    (rest_size c.args.bytes.now, l.known, omega arith)
 
 -- the kind and the name at the front, by the number of bytes after the type byte and that of the name's units
 at_front : {bytes : List ℕ} {kind : Kind} {rest units : ℕ} → Lies bytes → rest_length (slice_index bytes 6) ≡ Some rest

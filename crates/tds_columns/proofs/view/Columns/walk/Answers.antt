@@ -1,21 +1,21 @@
 use Rattle.tds_columns.proofs.view.Columns.walk.Goals as goal
-use Rattle.tds_columns.proofs.{Words.{◌∙◌, arith, drop, little_number, and_parts}, ViewLaws.{all_after, description_shows, length_columns}}
+use Rattle.tds_columns.proofs.{Words.{◌∙◌, arith, drop, and_parts}, ViewLaws.{all_after, description_shows, length_columns}}
 
 pub invariant_of-result : goal.invariant_of-result
 invariant_of-result c =
     let bytes = c.args.self.now.bytes.now in
-    let count = c.count.ensures.value ∙ length_columns (little_number 2 bytes) (drop 2 bytes) in
-    record { whole = rw (count, all_after bytes 2) (and_parts _ _ c.args.self.now.whole).1 }
+    let count = c.count.ensures.value ∙ length_columns _ (drop 2 bytes) in
+    record { whole = rw (count, all_after _ 2) (and_parts _ _ c.args.self.now.whole).1 }
 
 pub returns-clause-value : goal.returns-clause-value
-returns-clause-value c = rw (all_after c.args.self.now.bytes.now 2, c.count.ensures.value, length_columns)
+returns-clause-value c = rw (all_after _ 2, c.count.ensures.value, length_columns)
 
 pub returns-clause-columns : goal.returns-clause-columns
 returns-clause-columns c = λ room columns h. rw (
-  all_after c.args.self.now.bytes.now 2,
+  all_after _ 2,
   c.count.ensures.value,
   length_columns,
 ) (description_shows _ _ _ h).0
 
 pub returns-clause-bound : goal.returns-clause-bound
-returns-clause-bound c = rw length_columns (omega (arith, c.count.type_inv))
+returns-clause-bound c = rw length_columns (omega arith)

@@ -6,26 +6,26 @@ others : (n : ℕ) (bytes : List ℕ) → n ≢ 0 → are_columns n bytes ≡ tr
 others n bytes some h = grind (arith, and_parts)
 
 pub column_at-size-requires : goal.column_at-size-requires
-column_at-size-requires c = grind (arith, and_parts)
+column_at-size-requires c = grind arith
 
 pub invariant_of-self : goal.invariant_of-self
 invariant_of-self c = record {
   whole = rw (
-    all_after c.args.self.now.rest.now c.column_at-size.result.1,
+    all_after _ c.column_at-size.result.1,
     c.column_at-size.ensures.size,
-  ) (others c.args.self.now.left c.args.self.now.rest.now c.if-self-eq0.false c.args.self.now.whole);
+  ) (others _ _ c.if-self-eq0.false c.args.self.now.whole);
 }
 
 pub returns-clause-steps : goal.returns-clause-steps
 returns-clause-steps c = rw (
-  all_after c.args.self.now.rest.now c.column_at-size.result.1,
+  all_after _ c.column_at-size.result.1,
   c.column_at-size.ensures.size,
   c.column_at-size.ensures.column,
-) (grind (arith, and_parts))
+) (grind arith)
 
 pub returns-clause-goes : goal.returns-clause-goes
 returns-clause-goes c = record {
-  on = λ _. (tt, tt, rw (length_columns, length_columns) (omega (arith, c.if-self-eq0.false)));
+  on = λ _. (tt, tt, rw (length_columns, length_columns) (omega arith));
   keeps = tt;
   rests = λ _. tt;
 }
