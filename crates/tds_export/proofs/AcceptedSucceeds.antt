@@ -3,7 +3,7 @@ use Rattle.tds_export.proofs.{
   Words.{AfterLast, AreBefore, BeforeBody, BeforeHeader, Err, Fault, IsRefused, List, Longest, Message, Ok, Outcome, Packet, Packets, Part, Payload, Place},
   Words.{Reading, Report, Response, Result, Run, Some, Spelt-induct, Stopped, Stops, SucceedsIfAccepted, Text, Token, Told, Wire, WireFault, WirePart},
   Words.{WirePlace, [], after_last, after_tokens, ap, append-nil, append_assoc, arith, before_are_read, before_packet, choose, drop, feed-Spelt, feed_all},
-  Words.{feed_all-append, flat_map-append, grammar, header_length, inl, inr, length, longest_cut, more, no_wire, one_longest, one_message, payload_of, read},
+  Words.{feed_all-append, flat_map-append, grammar, header_length, inl, inr, length, longest_cut, more, no_wire, one_longest, one_message, payload_of},
   Words.{read_longest, read_to_end, refl, response_start, subst, sym, take, take-append-drop, told, wire, wire_add, wire_end, wire_of, wire_size, with_packet},
   Words.{ℕ, ◌++◌, ◌+◌, ◌==◌, ◌∙◌, ◌∷◌, ◌≡◌, ◌≤◌, limits, IsAccepted, FailsToRead, FailsToWrite},
   ResponseLaws.{one_accepted, refused_response, response_is_read},
@@ -34,7 +34,7 @@ before_begins size limit front packets wires rest unread each within m e =
     let g = wire size limit in
     let at = before_packet size limit front in
     let first = feed-Spelt g _ _ at (before_are_read _ _ _ _ each within) in
-    let fed : feed_all g (Reading at []) rest ≡ Reading (after_last size limit packets) unread =
+    let fed =
     ap (λ p. feed_all g p rest) (sym first) ∙ sym (feed_all-append g (Reading no_wire []) (wire_of front) rest)
     ∙ ap (feed_all g (Reading no_wire [])) e ∙ read_to_end _ _ _ _ _ m in
     let t = rw fed at (told g at rest) in

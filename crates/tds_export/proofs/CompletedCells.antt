@@ -4,10 +4,10 @@ use Rattle.tds_export.proofs.{
   Words.{DateTimeOffset, Decimal, Guid, InCell, Inside-Spelt, IntN, IsNext, Kind, List, MoneyN, Narrow, None, Null, Ok, Option, Result, RowPart, ScalarBytes},
   Words.{ScalarCell, ScalarLength, ScalarValue, Shape, ShortData, ShortLength, Some, Spelt, Spelt-none, Time, Total, Utf8Text, ValueFault, WholeCell, WholeRow},
   Words.{Wide, Windows1252, [], add-one, all_clear, and_parts, ap, append_assoc, arith, before, begins_open, begun, bit, bitmap_length, cell, cell_add},
-  Words.{cell_in_row, cell_start, checked, choose, choose_false, div-eq_of_lt, eq-eqb, eq_false, eq_true, false, fixed_some, is_begun, is_decimal_length},
+  Words.{cell_in_row, cell_start, choose, choose_false, eq-eqb, eq_false, eq_true, false, fixed_some, is_begun, is_decimal_length},
   Words.{is_fit, is_length_allowed, is_scalar, is_total, is_valid, le_true, length, length-append, length-replicate, marked, nat_le, nat_tests, next_cell},
-  Words.{one-le-pow, or_cases, read_of, refl, rest_of_cell, rest_of_cells, rest_of_chunks, rest_of_row, row, row_add, shape, slice_index, subst, suc, sym},
-  Words.{terminator, test_le, test_lt, time_length, true, unit, unless_none, value_of, value_part, with_cell, within_total, zero, zero_chunks, zeros, ℕ, ⊤},
+  Words.{or_cases, read_of, refl, rest_of_cell, rest_of_cells, rest_of_chunks, rest_of_row, row, row_add, shape, slice_index, subst, suc, sym},
+  Words.{terminator, test_le, test_lt, time_length, true, unit, unless_none, value_part, with_cell, within_total, zero, zero_chunks, zeros, ℕ, ⊤},
   Words.{◌%◌, ◌&&◌, ◌++◌, ◌+◌, ◌<◌, ◌∙◌, ◌∷◌, ◌≡◌, ◌≤◌, is_ok},
   Cuts.{spelt_both, spelt_one},
   SomeBytes.{exactly, little_below, one_of_four, one_of_two},
@@ -240,11 +240,11 @@ zero_at (suc n) (suc i) = zero_at n i
 
 -- no bit of zero bytes is set
 clear_at : (n k : ℕ) → bit (zeros n) k ≡ false
-clear_at n k = grind (arith, div-eq_of_lt, one-le-pow, zero_at)
+clear_at n k = grind (arith, zero_at)
 
 marked_clear : (columns : List Column) (nulls : ℕ → Bool) (k : ℕ) → ((i : ℕ) → nulls i ≡ false) → marked columns nulls k ≡ all_clear columns
 marked_clear [] nulls k h = refl
-marked_clear (c ∷ cs) nulls k h = λ i. (c, h k i) ∷ marked_clear cs nulls (k + 1) h i
+marked_clear (c ∷ cs) nulls k h = λ i. (c, h k i) ∷ marked_clear cs _ (k + 1) h i
 
 -- A part of a row followed by what completes it is a whole row.
 pub row_ends : (p : RowPart) → RowReached p → (cells : List Cell) × Spelt (row Windows1252) p (rest_of_row p) (WholeRow cells)

@@ -62,7 +62,7 @@ AreBytes-head : AreBytes rest_of_return_head
 AreBytes-head = AreBytes-append (zeros 7) (0x24 ∷ 16 ∷ 0 ∷ []) (AreBytes-zeros 7) (omega arith, (omega arith, (omega arith, tt)))
 
 AreBytes-value : (o : Option Kind) → AreBytes (rest_of_value o)
-AreBytes-value o = grind (arith, AreBytes-cell)
+AreBytes-value o = grind arith
 
 AreBytes-return : (p : ReturnPart) → ReturnReached p → AreBytes (rest_of_return p)
 AreBytes-return ReturnOrdinal h = AreBytes-append (zeros 3) rest_of_return_head (AreBytes-zeros 3) AreBytes-head

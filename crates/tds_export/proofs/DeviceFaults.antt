@@ -75,7 +75,7 @@ Blamed given stopped = (stopped.fault ≡ ReadFailed → FailsToRead given) × (
 by_write : (given : Given) (stopped : Stopped) (stop : Stop) (middle after : Held) → stopped.fault ≡ stop.fault → stop.fault ≡ WriteFailed
     → middle.failures ≡ given.before.writer.failures → after.failures ≡ one_more middle.failures → after.failures ≡ given.after.writer.failures
     → Blamed given stopped
-by_write given stopped stop middle after is named start failed end = grind (arith, rose)
+by_write given stopped stop middle after is named start failed end = grind arith
 
 pub blamed : {given : Given} {stopped : Stopped} → StopsExport given stopped → Blamed given stopped
 blamed {given} {stopped} x = go x.stops

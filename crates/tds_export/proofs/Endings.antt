@@ -1,6 +1,6 @@
 -- How an export ends, from what its calls did.
 use Rattle.tds_export.proofs.{
-  Words.{common_steps, AreEmptied, Areas, Bool, CompletesResponse, FinishFails, Finishes, FinishesSink, Given, Held, IsNoted, IsReader, IsTrue, IsWriter, List},
+  Words.{AreEmptied, Areas, Bool, CompletesResponse, FinishFails, Finishes, FinishesSink, Given, Held, IsNoted, IsReader, IsTrue, IsWriter, List},
   Words.{MatchResult, Option, Report, Reports, Result, RunStops, Seen, Sink, Space, Stop, Stopped, StopsExport, Tidied, [], arith, begun, false, fresh_at},
   Words.{held, is_intact, limits_of, nat_tests, response, response_start, rose, stopped_with, true, ℕ, ◌≡◌},
 }
@@ -39,4 +39,4 @@ stops_export e1 e2 e3 e4 e5 e6 reader writer x tidy same is none = grind (arith,
 
 pub rooms : (old new : Areas) → IsTrue (is_intact old) → AreEmptied old new → (new.packet.room ≡ old.limits.packet_size)
     × (new.description.room ≡ old.limits.column_room)
-rooms old new h e = grind (arith, common_steps, nat_tests, Space)
+rooms old new h e = grind (arith, nat_tests, Space)

@@ -4,8 +4,8 @@ use Rattle.tds_values.specs.declared.kind.Kind.TheVariants as kinds
 use Rattle.tds_export.proofs.{
   Words.{AreBytes, Conversion, Err, FitsWidths, HexDigits, Kind, List, None, Ok, Option, Result, ScalarValue, Some, ValueFault, [], and_parts, arith},
   Words.{begun_by_test, cast_signed, checked, choose, conversion_rest, conversion_text, datetime_of, doubled, doubled-append, doubled_byte, doubled_length},
-  Words.{drop, emit, encode_utf8_all, fit_by_test, integer_of, is_begun, is_decimal_length, is_fit, is_length_allowed, joins_by_name, length, length-append},
-  Words.{length-encode_with, length-map, length-take, length-text_of, little_number, long_field, money_of, nat_tests, open_field, quote, read_of, take},
+  Words.{emit, encode_utf8_all, fit_by_test, integer_of, is_begun, is_decimal_length, is_fit, is_length_allowed, joins_by_name, length, length-append},
+  Words.{length-encode_with, length-map, length-take, length-text_of, little_number, long_field, money_of, nat_tests, open_field, quote, read_of},
   Words.{text_of, true, unsigned_abs, utf16_chars, value_of, w16, w32, w64, ℕ, ◌*◌, ◌++◌, ◌+◌, ◌-◌, ◌<◌, ◌==◌, ◌^◌, ◌∷◌, ◌≡◌, ◌≤◌, ⊤},
   SomeBytes.{AreBytes-drop, byte_below, little_below, one_of_four},
 }

@@ -43,7 +43,7 @@ module _ {old kept : List ℕ} {before middle : Held} {units : List ℕ} (none :
   end_breaks fault new after going h is = absurd is
 
   pub end_puts : {new : List ℕ} {after : Held} → Completes utf16.IsFit utf16.text kept new middle after → Puts before after (utf16.text units)
-  end_puts h = rw (joins_utf16.ends units fit) (Puts-trans _ _ _ _ _ emitted.0 (rw emitted.1 at h.put))
+  end_puts h = rw (joins_utf16.ends _ fit) (Puts-trans _ _ _ _ _ emitted.0 (rw emitted.1 at h.put))
 
 -- one piece was put, and another after it
 pub then_puts : {W U V : Type 0} {contents : W → Option (List ℕ)} {a b c : Sink W} {u : U} {p q : List ℕ} {r : Result V Stop}
@@ -102,7 +102,7 @@ module _ {W : Type 0} {contents : W → Option (List ℕ)} {columns left rest : 
   pub comma_breaks : {d : Sink W} {stop : Stop} {r : Result (Unit {0}) Stop}
       → PutsPiece {U = Unit {0}} contents b d (text_if (not first) (codes ",")) (Err stop) → IsErrAnd r (λ s. s ≡ stop)
       → PutsPiece contents a d (joined (map name_field columns)) r
-  comma_breaks broke is_passed = rw (← begins.1, ← regroup _ mark (name_field c) begins.0)
+  comma_breaks broke is_passed = rw (← begins.1, ← regroup _ mark _ begins.0)
       (passed_piece _ is_passed (then_puts x.puts (rw x.first_is at broke)))
 
   module _ {d e : Sink W} (comma : PutsPiece contents b d (text_if (not first) (codes ",")) (Ok (tt {0}))) where

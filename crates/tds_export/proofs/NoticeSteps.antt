@@ -1,7 +1,7 @@
 -- ERROR and INFO in their response, and the text of the first error.
 use Rattle.tds_export.proofs.{
   Words.{AnError, AnInfo, Bodied, Charset, Error, IsHolding, IsInBody, List, Option, Part, Progress, ReadsNotice, ReadsTokens, Report, Seen, ServerError, Some},
-  Words.{Space, Stop, StopsInNotice, Token, TracksBefore, [], after_tokens, ap, appended, arith, characters, empty, first_error, how_many, in_length, inl, inr},
+  Words.{Space, Stop, StopsInNotice, Token, TracksBefore, [], after_tokens, ap, appended, arith, characters, empty, first_error, how_many, in_length},
   Words.{is_error, length, length-append, length-take, notice_of, option_map, refl, response, server_error, sym, text, text_so_far, utf8_valid_len_le},
   Words.{whole_within, ℕ, ◌++◌, ◌+◌, ◌-◌, ◌<◌, ◌∙◌, ◌∷◌, ◌≡◌, ◌≤◌, View, ReadsNext},
   TokenSteps.{Begun, bare_reads, quietly, stops_quietly, ReadsQuiet, StopsQuiet},

@@ -103,7 +103,7 @@ module _ (run : Run) {q : Seen} {part : Part} {bytes : List ℕ} (side : ReaderS
             | inl c ↦ inl (c.0, record { read = c.2.read; split = c.2.split; cut = c.2.cut; failed = grind arith })
             | inr c ↦ inr c.0
           ];
-          leads = rw x.payload_is (longest_cut (grammar run) response_start bytes cut part spelt short);
+          leads = rw x.payload_is (longest_cut (grammar run) _ bytes cut part spelt short);
           none_refused = λ f r. (let w = r.whole in omega (arith, ap length rest));
           written = text;
           kept = kept x.packets;

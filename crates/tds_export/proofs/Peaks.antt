@@ -96,7 +96,7 @@ module _ (run : Run) (q : Seen) (are : AreBytes run.input) (left : q.left ≡ So
 
   pub reached_stopped : {at : Part} {stop : Stop} → StopsReading (grammar run) response_start (start run) q 0 at stop → Reached run at
   reached_stopped s = elim s.cause [
-    | inl r ↦ taken _ _ (rw (append_assoc s.bytes r.0.element r.0.ahead) at r.0.takes) r.0.between s.spelt
+    | inl r ↦ taken _ _ (rw (append_assoc s.bytes _ r.0.ahead) at r.0.takes) r.0.between s.spelt
     | inr c ↦ elim (ends_front _ _ _ _ _ q _ _ are left c.ends) [
       | inl m ↦ record {
         packets = m.packets;

@@ -124,7 +124,7 @@ module _ (charset : Charset) (room : ℕ) where
   -- which its fields spell
   pub fixed_spelt : (current : Option (List Column)) (f : Fixed) {fields bytes : List ℕ} → StartsToken (WithFields f) fields bytes
       → length fields ≡ fields_length f → SpellsToken charset room current (fixed f fields) bytes
-  fixed_spelt current f begins long = grind (arith, nat_tests)
+  fixed_spelt current f begins long = grind arith
 
   row_token_is_read : {tokens : List Token} (current : Option (List Column)) (cells : List Cell) {bytes : List ℕ}
       → described_after None tokens ≡ current → HasColumns current → SpellsRowToken charset current cells bytes

@@ -4,7 +4,7 @@ use Rattle.tds_export.proofs.{
   Words.{DescriptionPart, Fields, InReturn, InRow, IsFirst, IsNext, Lead, List, NoDescription, None, Open, Option, Part, Response, ReturnPart, RowMeans},
   Words.{RowPart, Some, SpellsBody, SpellsNotice, SpellsRowToken, SpellsToken, SpellsTokens, Spelt, Token, TokenBody, TokenLength, WholeDescription},
   Words.{WholeReturn, WholeRow, WithBody, WithFields, [], add-one, after_first, after_lead, ap, append-nil, append_assoc, arith, bodied, choose},
-  Words.{described_after, described_step, drop, drop-cons, drop-drop, eq_true, false, fixed, holds_notice, if◌then◌else◌, inl, inr, is_final, is_notice},
+  Words.{described_after, described_step, drop, drop-cons, drop-drop, eq_true, false, holds_notice, if◌then◌else◌, inl, inr, is_final, is_notice},
   Words.{is_row_lead, lead, lead_fault, lead_of, length, length-drop, length-take-le, line_at, little, message, nat_lt, not, notice_of, one_byte, part_add},
   Words.{passed, procedure_at, refl, response, response_start, row_byte_fault, row_start, row_start_means, row_step, server_at, slice_index, start_of_row, sym},
   Words.{take, take-append-drop, true, two_bytes, with_described, with_return, with_row, with_token, ℕ, ◌%◌, ◌&&◌, ◌*◌, ◌++◌, ◌+◌, ◌/◌, ◌<◌, ◌∙◌, ◌∷◌, ◌≡◌},
@@ -174,7 +174,7 @@ module _ (charset : Charset) (room : ℕ) where
   lead_step : (tokens : List Token) (b : List ℕ) (x : ℕ) {lead : Lead} → lead_of x ≡ Some lead → IsFirst lead x
       → SpellsTokens charset room None tokens b → row_byte_fault (is_row_lead lead) (described_after None tokens) ≡ None
       → PartMeans (after_lead charset tokens lead) (b ++ x ∷ [])
-  lead_step tokens b x begins first h free = grind (arith, leads_first, row_begins)
+  lead_step tokens b x begins first h free = grind (arith, row_begins)
 
   byte_step : (tokens : List Token) (b : List ℕ) (x : ℕ) (begun : Option Lead) → lead_of x ≡ begun → SpellsTokens charset room None tokens b
       → lead_fault (described_after None tokens) x begun ≡ None → PartMeans (after_first charset tokens begun) (b ++ x ∷ [])

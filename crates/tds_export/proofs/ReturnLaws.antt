@@ -1,10 +1,10 @@
 -- What a return value's spelling is read as, and what the bytes that lead to a part of it spell.
 use Rattle.tds_export.proofs.{
-  Words.{AreBytes, BadTypeInfo, CellMeans, CellPart, Fault, Grammar, InReturnCell, Inside, Inside-Spelt, IsNext, IsTypeInfo, Kind, List, None, Option},
+  Words.{AreBytes, CellMeans, CellPart, Fault, Grammar, InReturnCell, Inside, Inside-Spelt, IsNext, IsTypeInfo, Kind, List, None, Option},
   Words.{ReturnHead, ReturnInfo, ReturnName, ReturnNameCount, ReturnOrdinal, ReturnPart, ReturnValue, Some, SpellsReturnName, SpellsReturnValue, Spelt},
   Words.{Spelt-none, Spelt-step, WholeReturn, [], ap, append-nil, append_assoc, arith, bare_type, byte_and_rest, cell, cell_is_read, cell_step, choose},
-  Words.{choose_false, choose_true, eq_true, get_or-append_seam, if◌then◌else◌, is_some, is_some_value, kind_of, length, length-append, nat_tests, ne_eqb},
-  Words.{one_byte, refl, rest_length, return_add, return_charset, return_column, return_value, shape, shape-HasBytes, split_last, start_means, sym, true},
+  Words.{choose_false, choose_true, eq_true, get_or-append_seam, is_some_value, kind_of, length, length-append, nat_tests, ne_eqb},
+  Words.{one_byte, refl, rest_length, return_add, return_charset, return_column, return_value, shape, shape-HasBytes, split_last, start_means, sym},
   Words.{type_fault, with_return_kind, with_return_type, with_return_units, with_value, ℕ, ◌*◌, ◌++◌, ◌<◌, ◌∙◌, ◌∷◌, ◌≡◌, Reads, StopsReading, Seen, Stop},
   Words.{reads_inside, stops_inside, stops_size, some_kind},
   Cuts.{spelt_both, spelt_one},

@@ -112,7 +112,7 @@ value_passed (Ok u) name kind {b = b} c place' x y =
       steps = return_reads_after x
           (record { reads = read_inside (value_agrees _ _) y.steps.reads; place_is = y.steps.place_is });
     }
-value_passed (Err stop) name kind {b = b} c {middle = middle} place' x y =
+value_passed (Err stop) name kind {b = b} c place' x y =
     return_stops_after x (record { at = with_value name kind y.at; stops = stop_inside (value_agrees _ _) y.stops })
 
 -- ---- in its response

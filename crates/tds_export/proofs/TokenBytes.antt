@@ -2,7 +2,7 @@
 use Rattle.tds_export.proofs.{
   Words.{Bool, Charset, Ends, Fault, Held, IsBetween, IsDescription, IsHolding, IsNext, IsOfKind, IsRefusedByte, IsUnder, Lead, List, MessageEnded, Part},
   Words.{Payload, Progress, ReadsTokens, Seen, Some, Space, StepStops, Stop, StopsReading, Streams, Takes, Token, TokenKind, [], after_tokens, ap, arith},
-  Words.{begun, between, columns_of, cut_at_once, description_shows, encoded_after, false, in_kind, in_lead, inl, inr, lead_fault, lead_of, length},
+  Words.{between, columns_of, cut_at_once, description_shows, encoded_after, false, in_kind, in_lead, inl, inr, lead_fault, lead_of, length},
   Words.{length-append, reads_one, refl, refused_at_once, response, row_byte_fault, sym, text_so_far, true, ℕ, ◌+◌, ◌-◌, ◌<◌, ◌^◌, ◌∙◌, ◌∷◌, ◌≡◌, ◌≤◌},
   RowRuns.{columns_known, Describe},
   ResponseLaws.no_row,

@@ -196,7 +196,7 @@ take_payload l = cc (append-nil l, take-append_seam l [])
 -- the last delivery failed
 failed_at_end : {run : Run} {tokens : List Token} → WholeMessage run tokens → text_put run ≡ text tokens → FailsToWrite run.given
     → StopsInText run WriteFailed (length run.gained)
-failed_at_end w same fails = grind (arith, append-nil, take_payload, text_after_tokens)
+failed_at_end w same fails = grind arith
 
 -- ---- what an export answers
 

@@ -40,6 +40,23 @@ a_done = hex "FD 00 00 00 00 00 00 00 00 00 00 00 00"
 abbrev column : String → List ℕ
 column bytes = hex "81 01 00 00 00 00 00 00 00" ++ hex bytes
 
+-- what begins with a column of varbinary(10), varbinary(max), varchar(10), varchar(max) or nvarchar(max) named d, and the
+-- token byte of a ROW
+abbrev bytes_row : String → List ℕ
+bytes_row bytes = column "A5 0A 00 01 64 00 D1" ++ hex bytes
+
+abbrev byte_chunks : String → List ℕ
+byte_chunks bytes = column "A5 FF FF 01 64 00 D1" ++ hex bytes
+
+abbrev text_row : String → List ℕ
+text_row bytes = column "A7 0A 00 09 04 D0 00 34 01 64 00 D1" ++ hex bytes
+
+abbrev text_chunks : String → List ℕ
+text_chunks bytes = column "A7 FF FF 09 04 D0 00 34 01 64 00 D1" ++ hex bytes
+
+abbrev wide_chunks : String → List ℕ
+wide_chunks bytes = column "E7 FF FF 09 04 D0 00 34 01 64 00 D1" ++ hex bytes
+
 -- a return value named p, its type byte and what follows given
 abbrev returned : String → List ℕ
 returned bytes = hex "AC 01 00 02 40 00 70 00 01 00 00 00 00 00 00" ++ hex bytes
@@ -60,16 +77,17 @@ abbrev nine_columns : List ℕ
 nine_columns =
     nine "38" ++ a_done
 
--- responses
-whole_responses : HaveAnswers Windows1252 1048576 (
+-- payloads in Windows-1252
+windows_1252 : HaveAnswers Windows1252 1048576 (
+    -- whole responses
     (one_column, (31, codes "\"a\"\r\n42\r\n", None)) ∷
     -- a DONE alone
     (a_done, (13, [], None)) ∷
     -- a character in three chunks
     (
-      (column "E7 FF FF 09 04 D0 00 34 01 74 00 D1 04 00 00 00 00 00 00 00 01 00 00"
+      (wide_chunks "04 00 00 00 00 00 00 00 01 00 00"
           ++ hex "00 3D 02 00 00 00 D8 00 01 00 00 00 DE 00 00 00 00" ++ a_done),
-      (62, hex "22 74 22 0D 0A 22 F0 9F 98 80 22 0D 0A", None),
+      (62, hex "22 64 22 0D 0A 22 F0 9F 98 80 22 0D 0A", None),
     ) ∷
     -- one NULL by its bit and one by its length
     (hex "81 02 00 00 00 00 00 00 00 38 01 61 00 00 00 00 00 00 00 26 04 01 62 00 D2 01 00" ++ a_done, (40, codes "\"a\",\"b\"\r\nNULL,NULL\r\n", None)) ∷
@@ -86,12 +104,7 @@ whole_responses : HaveAnswers Windows1252 1048576 (
           ++ hex "00 00 00 00 00 00 00 00 00 00 00"),
       (107, codes "\"a\"\r\n1\r\n2\r\n\r\n\"b\"\r\n3\r\n", None),
     ) ∷
-    [])
-unfolding digits date_of utf16_chars encode_utf8 utf8_valid_len utf8_error_len is_utf8 chars encode_with rest_length named_kind refused_kind
-whole_responses = refl
-
--- tokens, descriptions and values that are refused, or cut
-stopped_responses : HaveAnswers Windows1252 1048576 (
+    -- tokens, descriptions and values that are refused, or cut
     -- a kind refused by name
     (hex "81 02 00 00 00 00 00 00 00 38 01 61 00 00 00 00 00 00 00 3E 01 62 00", (13, [], Some (RefusedColumn 1 Flt8))) ∷
     -- a row without columns
@@ -117,20 +130,65 @@ stopped_responses : HaveAnswers Windows1252 1048576 (
     -- a date of four bytes
     (column "28 01 64 00 D1 04 00", (14, codes "\"d\"\r\n", Some (BadValueLength 0))) ∷
     -- the message ends after the second chunk
-    (column "E7 FF FF 09 04 D0 00 34 01 74 00 D1 04 00 00 00 00 00 00 00 01 00 00 00 3D 02 00 00 00 D8 00", (40, codes "\"t\"\r\n\"", Some MessageEnded)) ∷
+    (wide_chunks "04 00 00 00 00 00 00 00 01 00 00 00 3D 02 00 00 00 D8 00", (40, codes "\"d\"\r\n\"", Some MessageEnded)) ∷
     -- an odd sum at the terminator
-    (column "E7 FF FF 09 04 D0 00 34 01 74 00 D1 FE FF FF FF FF FF FF FF 01 00 00 00 41 00 00 00 00", (34, codes "\"t\"\r\n\"", Some (OddText 0))) ∷
+    (wide_chunks "FE FF FF FF FF FF FF FF 01 00 00 00 41 00 00 00 00", (34, codes "\"d\"\r\n\"", Some (OddText 0))) ∷
     -- an odd total
-    (column "E7 FF FF 09 04 D0 00 34 01 74 00 D1 03 00 00 00 00 00 00 00", (21, codes "\"t\"\r\n", Some (OddText 0))) ∷
+    (wide_chunks "03 00 00 00 00 00 00 00", (21, codes "\"d\"\r\n", Some (OddText 0))) ∷
     -- a chunk that passes the total
-    (column "A5 FF FF 01 62 00 D1 03 00 00 00 00 00 00 00 04 00 00 00", (24, codes "\"b\"\r\n0x", Some (PlpLength 0))) ∷
+    (byte_chunks "03 00 00 00 00 00 00 00 04 00 00 00", (24, codes "\"d\"\r\n0x", Some (PlpLength 0))) ∷
     -- a terminator before the total is reached
-    (column "A5 FF FF 01 62 00 D1 04 00 00 00 00 00 00 00 03 00 00 00 01 02 03 00 00 00 00", (31, codes "\"b\"\r\n0x010203", Some (PlpLength 0))) ∷
+    (byte_chunks "04 00 00 00 00 00 00 00 03 00 00 00 01 02 03 00 00 00 00", (31, codes "\"d\"\r\n0x010203", Some (PlpLength 0))) ∷
     -- a total that no chunks reach
-    (column "A5 FF FF 01 62 00 D1 FD FF FF FF FF FF FF FF 00 00 00 00", (24, codes "\"b\"\r\n0x", Some (PlpLength 0))) ∷
+    (byte_chunks "FD FF FF FF FF FF FF FF 00 00 00 00", (24, codes "\"d\"\r\n0x", Some (PlpLength 0))) ∷
+    -- values in rows and return values
+    -- a decimal
+    (column "6A 05 05 02 01 64 00 D1 05 01 39 30 00 00" ++ a_done, (36, codes "\"d\"\r\n123.45\r\n", None)) ∷
+    -- one tick more than a day has
+    (column "3D 01 64 00 D1 00 00 00 00 00 82 8B 01", (14, codes "\"d\"\r\n", Some (BadValue 0))) ∷
+    -- two bytes as digits
+    (bytes_row "02 00 0A FF" ++ a_done, (33, codes "\"d\"\r\n0x0aff\r\n", None)) ∷
+    -- no bytes
+    (bytes_row "00 00" ++ a_done, (31, codes "\"d\"\r\n0x\r\n", None)) ∷
+    -- NULL
+    (bytes_row "FF FF" ++ a_done, (31, codes "\"d\"\r\nNULL\r\n", None)) ∷
+    -- the euro sign, a quote and an accent
+    (text_row "03 00 80 22 E9" ++ a_done, (39, hex "22 64 22 0D 0A 22 E2 82 AC 22 22 C3 A9 22 0D 0A", None)) ∷
+    -- no text
+    (text_row "00 00" ++ a_done, (36, codes "\"d\"\r\n\"\"\r\n", None)) ∷
+    -- NULL
+    (text_row "FF FF" ++ a_done, (36, codes "\"d\"\r\nNULL\r\n", None)) ∷
+    -- units without partners
+    (column "E7 14 00 09 04 D0 00 34 01 64 00 D1 06 00 00 D8 41 00 00 DC" ++ a_done, (42, hex "22 64 22 0D 0A 22 EF BF BD 41 EF BF BD 22 0D 0A", None)) ∷
+    -- nine columns, NULL by their bits
+    (
+      nine "26 04" ++ hex "D2 FF 01" ++ a_done,
+      (100, codes "\"\",\"\",\"\",\"\",\"\",\"\",\"\",\"\",\"\"\r\nNULL,NULL,NULL,NULL,NULL,NULL,NULL,NULL,NULL\r\n", None),
+    ) ∷
+    -- nine columns, NULL by their bits
+    (
+      nine "26 04" ++ hex "D2 FF FF" ++ a_done,
+      (100, codes "\"\",\"\",\"\",\"\",\"\",\"\",\"\",\"\",\"\"\r\nNULL,NULL,NULL,NULL,NULL,NULL,NULL,NULL,NULL\r\n", None),
+    ) ∷
+    -- ---- return values, which have no text
+    -- a return value: no text
+    (returned "26 04 04 07 00 00 00" ++ a_done, (35, [], None)) ∷
+    -- a floating-point type
+    (returned "3E 04 04 07 00 00 00", (8, [], Some (RefusedColumn 65535 Flt8))) ∷
+    -- an unknown type
+    (returned "1F 04 04 07 00 00 00", (8, [], Some (UnknownType 65535 31))) ∷
+    -- a described length of three
+    (returned "26 03 04 07 00 00 00", (16, [], Some (BadTypeInfo 65535))) ∷
+    -- a value of two bytes
+    (returned "26 04 02 07 00 00 00", (17, [], Some (BadValueLength 65535))) ∷
+    -- the message ends in the value
+    (returned "26 04 04 07 00", (18, [], Some MessageEnded)) ∷
+    -- a fixed type and no name
+    (hex "AC 00 00 00 00 00 00 00 00 00 00 38 2A 00 00 00" ++ a_done, (29, [], None)) ∷
     [])
 unfolding digits date_of utf16_chars encode_utf8 utf8_valid_len utf8_error_len is_utf8 chars encode_with rest_length named_kind refused_kind
-stopped_responses = refl
+    uuid_on_literals
+windows_1252 = refl
 
 -- descriptions, with the room and the answer
 abbrev described_in : List (ℕ × List ℕ × Answer)
@@ -173,78 +231,26 @@ first_bytes : map (answer Windows1252 1048576) (beginnings one_column) ≡
 unfolding digits date_of utf16_chars encode_utf8 utf8_valid_len utf8_error_len is_utf8 chars encode_with rest_length named_kind refused_kind
 first_bytes = refl
 
--- ---- values
-
--- values in rows and return values
-values : HaveAnswers Windows1252 1048576 (
-    -- a decimal
-    (column "6A 05 05 02 01 64 00 D1 05 01 39 30 00 00" ++ a_done, (36, codes "\"d\"\r\n123.45\r\n", None)) ∷
-    -- one tick more than a day has
-    (column "3D 01 64 00 D1 00 00 00 00 00 82 8B 01", (14, codes "\"d\"\r\n", Some (BadValue 0))) ∷
-    -- two bytes as digits
-    (column "A5 0A 00 01 64 00 D1 02 00 0A FF" ++ a_done, (33, codes "\"d\"\r\n0x0aff\r\n", None)) ∷
-    -- no bytes
-    (column "A5 0A 00 01 64 00 D1 00 00" ++ a_done, (31, codes "\"d\"\r\n0x\r\n", None)) ∷
-    -- NULL
-    (column "A5 0A 00 01 64 00 D1 FF FF" ++ a_done, (31, codes "\"d\"\r\nNULL\r\n", None)) ∷
-    -- the euro sign, a quote and an accent
-    (column "A7 0A 00 09 04 D0 00 34 01 64 00 D1 03 00 80 22 E9" ++ a_done, (39, hex "22 64 22 0D 0A 22 E2 82 AC 22 22 C3 A9 22 0D 0A", None)) ∷
-    -- no text
-    (column "A7 0A 00 09 04 D0 00 34 01 64 00 D1 00 00" ++ a_done, (36, codes "\"d\"\r\n\"\"\r\n", None)) ∷
-    -- NULL
-    (column "A7 0A 00 09 04 D0 00 34 01 64 00 D1 FF FF" ++ a_done, (36, codes "\"d\"\r\nNULL\r\n", None)) ∷
-    -- units without partners
-    (column "E7 14 00 09 04 D0 00 34 01 64 00 D1 06 00 00 D8 41 00 00 DC" ++ a_done, (42, hex "22 64 22 0D 0A 22 EF BF BD 41 EF BF BD 22 0D 0A", None)) ∷
-    -- nine columns, NULL by their bits
-    (
-      nine "26 04" ++ hex "D2 FF 01" ++ a_done,
-      (100, codes "\"\",\"\",\"\",\"\",\"\",\"\",\"\",\"\",\"\"\r\nNULL,NULL,NULL,NULL,NULL,NULL,NULL,NULL,NULL\r\n", None),
-    ) ∷
-    -- nine columns, NULL by their bits
-    (
-      nine "26 04" ++ hex "D2 FF FF" ++ a_done,
-      (100, codes "\"\",\"\",\"\",\"\",\"\",\"\",\"\",\"\",\"\"\r\nNULL,NULL,NULL,NULL,NULL,NULL,NULL,NULL,NULL\r\n", None),
-    ) ∷
-    -- ---- return values, which have no text
-    -- a return value: no text
-    (returned "26 04 04 07 00 00 00" ++ a_done, (35, [], None)) ∷
-    -- a floating-point type
-    (returned "3E 04 04 07 00 00 00", (8, [], Some (RefusedColumn 65535 Flt8))) ∷
-    -- an unknown type
-    (returned "1F 04 04 07 00 00 00", (8, [], Some (UnknownType 65535 31))) ∷
-    -- a described length of three
-    (returned "26 03 04 07 00 00 00", (16, [], Some (BadTypeInfo 65535))) ∷
-    -- a value of two bytes
-    (returned "26 04 02 07 00 00 00", (17, [], Some (BadValueLength 65535))) ∷
-    -- the message ends in the value
-    (returned "26 04 04 07 00", (18, [], Some MessageEnded)) ∷
-    -- a fixed type and no name
-    (hex "AC 00 00 00 00 00 00 00 00 00 00 38 2A 00 00 00" ++ a_done, (29, [], None)) ∷
-    [])
-unfolding digits date_of utf16_chars encode_utf8 utf8_valid_len utf8_error_len is_utf8 chars encode_with rest_length named_kind refused_kind
-    uuid_on_literals
-values = refl
-
 -- text in UTF-8
 utf8 : HaveAnswers Utf8 1048576 (
     -- three characters
-    (column "A7 0A 00 09 04 D0 00 34 01 74 00 D1 07 00 C3 A9 22 F0 9F 98 80" ++ a_done, (43, hex "22 74 22 0D 0A 22 C3 A9 22 22 F0 9F 98 80 22 0D 0A", None)) ∷
+    (text_row "07 00 C3 A9 22 F0 9F 98 80" ++ a_done, (43, hex "22 64 22 0D 0A 22 C3 A9 22 22 F0 9F 98 80 22 0D 0A", None)) ∷
     -- a surrogate
-    (column "A7 0A 00 09 04 D0 00 34 01 74 00 D1 03 00 41 ED A0", (25, codes "\"t\"\r\n\"A", Some (BadText 0))) ∷
+    (text_row "03 00 41 ED A0", (25, codes "\"d\"\r\n\"A", Some (BadText 0))) ∷
     -- a character that isn't whole
-    (column "A7 0A 00 09 04 D0 00 34 01 74 00 D1 01 00 C3", (23, codes "\"t\"\r\n\"", Some (BadText 0))) ∷
+    (text_row "01 00 C3", (23, codes "\"d\"\r\n\"", Some (BadText 0))) ∷
     -- a byte that begins none
-    (column "A7 0A 00 09 04 D0 00 34 01 74 00 D1 02 00 C0 80", (23, codes "\"t\"\r\n\"", Some (BadText 0))) ∷
+    (text_row "02 00 C0 80", (23, codes "\"d\"\r\n\"", Some (BadText 0))) ∷
     -- a character in two chunks
     (
-      (column "A7 FF FF 09 04 D0 00 34 01 74 00 D1 FE FF FF FF FF FF FF FF 01 00 00"
+      (text_chunks "FE FF FF FF FF FF FF FF 01 00 00"
           ++ hex "00 C3 01 00 00 00 A9 00 00 00 00" ++ a_done),
-      (56, hex "22 74 22 0D 0A 22 C3 A9 22 0D 0A", None),
+      (56, hex "22 64 22 0D 0A 22 C3 A9 22 0D 0A", None),
     ) ∷
     -- a chunked value that ends within one
-    (column "A7 FF FF 09 04 D0 00 34 01 74 00 D1 FE FF FF FF FF FF FF FF 01 00 00 00 C3 00 00 00 00", (34, codes "\"t\"\r\n\"", Some (BadText 0))) ∷
+    (text_chunks "FE FF FF FF FF FF FF FF 01 00 00 00 C3 00 00 00 00", (34, codes "\"d\"\r\n\"", Some (BadText 0))) ∷
     -- a chunk with a byte that begins none
-    (column "A7 FF FF 09 04 D0 00 34 01 74 00 D1 FE FF FF FF FF FF FF FF 01 00 00 00 C0", (33, codes "\"t\"\r\n\"", Some (BadText 0))) ∷
+    (text_chunks "FE FF FF FF FF FF FF FF 01 00 00 00 C0", (33, codes "\"d\"\r\n\"", Some (BadText 0))) ∷
     -- bytes that are no UTF-8, passed over
     (hex "AC 00 00 00 00 00 00 00 00 00 00 A7 0A 00 09 04 D0 00 34 02 00 C0 80" ++ a_done, (36, [], None)) ∷
     [])
@@ -279,9 +285,9 @@ all_completed : AreCompleted (
     -- a row of whole numbers
     column "38 01 61 00 D1 2A 00 00 00 FD 10 00 C1 00 01 00 00 00 00 00 00" ∷
     -- chunks of text of a known total
-    column "E7 FF FF 09 04 D0 00 34 01 74 00 D1 04 00 00 00 00 00 00 00 01 00 00 00 3D 02 00 00 00 D8 00 01 00 00 00 DE 00 00 00 00" ∷
+    wide_chunks "04 00 00 00 00 00 00 00 01 00 00 00 3D 02 00 00 00 D8 00 01 00 00 00 DE 00 00 00 00" ∷
     -- chunks of text of an unknown total
-    column "E7 FF FF 09 04 D0 00 34 01 74 00 D1 FE FF FF FF FF FF FF FF 01 00 00 00 3D 00 00 00 00" ∷
+    wide_chunks "FE FF FF FF FF FF FF FF 01 00 00 00 3D 00 00 00 00" ∷
     -- an INFO after a row
     column "38 01 61 00 D1 01 00 00 00 AB 10 00 45 16 00 00 02 00 01 00 78" ∷
     -- a decimal, and an NBCROW

@@ -1,6 +1,6 @@
 use Rattle.tds_export.proofs.returned.pass_name.Goals as goal
 use Rattle.tds_export.proofs.{
-  Words.{ReturnNameCount, ReturnOrdinal, ap, passed, refl, rules, seen, slice_index, ◌*◌},
+  Words.{ReturnNameCount, ReturnOrdinal, ap, passed, refl, rules, ◌*◌},
   Cuts.{fill_cut, part_cut},
   ReturnSteps.{front_read, name_cut, name_read, ordinal_read, return_reads_after, return_stops_after},
 }

@@ -1,6 +1,6 @@
 use Rattle.tds_export.proofs.run.export.Goals as goal
 use Rattle.tds_export.proofs.{
-  Words.{Given, Reports, Space, StopsExport, ap, arith, held, moment, refl, rules, seen, ◌≡◌},
+  Words.{Given, Reports, Space, StopsExport, ap, arith, held, moment, refl, rules, ◌≡◌},
   DeviceFaults.{blamed, no_failure},
   Endings.{exports, rooms, stops_export},
   ToldAnswers.{report_tells, stop_tells},

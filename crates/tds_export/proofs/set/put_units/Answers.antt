@@ -10,7 +10,7 @@ pub returns-in-Err : goal.returns-in-Err
 returns-in-Err g c = search (
   rules,
   push_breaks c.in-Err.fault c.push.new.self.kept (held g.W.Write.contents c.args.sink.now)
-      (held g.W.Write.contents c.push.new.sink) c.args.units.now
+      _ c.args.units.now
       c.new-joiner.ensures.withheld c.requires.writing.writing c.requires.even c.in-Err.ensures.gives c.stop_in.ensures,
 )
 
@@ -29,6 +29,6 @@ pub returns-in-Err-end : goal.returns-in-Err-end
 returns-in-Err-end g c = search (
   rules,
   end_breaks c.new-joiner.ensures.withheld c.requires.even c.in_default.ensures.gives c.in-Err-end.fault
-      c.end.new.self.kept (held g.W.Write.contents c.end.new.sink) c.in_default.ensures.failed c.in-Err-end.ensures.gives
+      c.end.new.self.kept _ c.in_default.ensures.failed c.in-Err-end.ensures.gives
       c.stop_in-in-Err-end.ensures,
 )

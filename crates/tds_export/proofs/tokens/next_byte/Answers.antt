@@ -1,6 +1,6 @@
 use Rattle.tds_export.proofs.tokens.next_byte.Goals as goal
 use Rattle.tds_export.{
-  proofs.Words.{common_steps, List, Takes, Takes-more, Takes-trans, [], arith, buffered, length, passed, refl, seen, slice_index, take, ℕ, ◌<◌, ◌∷◌, ◌≡◌},
+  proofs.Words.{common_steps, List, Takes, Takes-more, [], arith, buffered, length, passed, refl, seen, slice_index, take, ℕ, ◌<◌, ◌∷◌, ◌≡◌},
 }
 
 -- the first byte of those that lie ready
@@ -9,7 +9,7 @@ first [] h = absurd (omega arith)
 first (x ∷ front) h = refl
 
 pub returns-clause-gives : goal.returns-clause-gives
-returns-clause-gives g c = grind (arith, common_steps, seen, buffered, Takes, Takes-trans, Takes-more, first, slice_index)
+returns-clause-gives g c = grind (arith, common_steps, seen, buffered, Takes, Takes-more, first, slice_index)
 
 pub returns-in_err-at_end-clause-gives : goal.returns-in_err-at_end-clause-gives
 returns-in_err-at_end-clause-gives g c = passed _ _ _ _ c.from_residual.ensures.1 (

@@ -1,6 +1,6 @@
 use Rattle.tds_export.proofs.exporter.Exporter.return_status.Goals as goal
 use Rattle.tds_export.proofs.{
-  Words.{AStatus, List, Progress, ReturnStatus, Some, Token, Tracks, TracksBefore, [], ap, arith, cast_signed, cast_unsigned, length, little, little_number},
+  Words.{List, Progress, ReturnStatus, Some, Token, Tracks, TracksBefore, [], ap, arith, cast_signed, cast_unsigned, length, little, little_number},
   Words.{passed, refl, rules, signed, sym, w32, ℕ, ℤ, ◌++◌, ◌+◌, ◌∙◌, ◌∷◌, ◌≡◌},
   Cuts.fill_cut,
   TokenSteps.{fixed_reads, stops_first, step_read},
