@@ -5,7 +5,6 @@ pub mod HexTexts
 pub mod JiffDates
 pub mod Joining
 pub mod LocalLemmas
-pub mod MarchDates
 pub mod Rows
 pub mod TableLemmas
 pub mod TextLengths

@@ -1,6 +1,5 @@
 // The texts of dates and times, written to a slice from a place on.
-ghost use Rattle.std.specs.Prelude.{◌≡◌, ◌+◌, ◌/◌, ◌<◌, ◌≤◌, ◌^◌, ◌++◌, codes, take, length, unsigned_abs};
-ghost use Rattle.tds_values.specs.Calendar.{date_from_march, date_of};
+ghost use Rattle.std.specs.Prelude.{◌≡◌, ◌+◌, ◌<◌, ◌≤◌, ◌^◌, ◌++◌, codes, take, length, unsigned_abs};
 ghost use Rattle.tds_values.specs.ScalarText.{last_digits, date_text, day_text, seconds_text, minutes_text, fraction_text, ticks_text, offset_text, date_and_time};
 ghost use Rattle.tds_values.specs.TimeOfDay.{IsClockTime};
 
@@ -8,44 +7,33 @@ use crate::digits::{put_byte, put_end, put_four, put_piece, put_two};
 use crate::numbers::put_fraction;
 use crate::ranges::{LARGEST_OFFSET, LAST_DAY, MINUTES_A_DAY, SECONDS_A_DAY, TICKS_A_DAY};
 use crate::tables::{DAYS, MINUTES};
+use jiff_core::civil::Date;
 
-// How many days lie between 1 March and the next 1 January, and so between 0000-03-01 and day 0.
-const MARCH_TO_JANUARY: u32 = 306;
+// How many days the first day of `jiff`, -9999-01-01, is before day 0.
+pub(crate) const DAYS_BEFORE_DAY_0: u32 = 3_652_425;
 
-// The year of a day and how many of the year's days came before it, if years begin on 1 March.
+// -MM-DD and two spaces.
 #[inline(always)]
-fn march_year(day: u32) -> (u32, u32)
-    requires { day ≤ LAST_DAY }
-    ensures date { date_from_march result.0 result.1 ≡ date_of day }
-    ensures days { result.1 < 366 }
-    ensures year { result.0 + result.1 / 306 < 10000 }
+fn day_of(month: u32, day: u32) -> &'static [u8]
+    requires month { month ≤ 12 }
+    requires day { day ≤ 31 }
+    ensures { result.now ≡ day_text month day ++ codes "  " }
 {
-    let scaled = 4 * (day + MARCH_TO_JANUARY) + 3;
-    let century = scaled / 146_097;
-    let in_century = scaled % 146_097 / 4 * 4 + 3;
-    (100 * century + in_century / 1461, in_century % 1461 / 4)
-}
-
-// -MM-DD and two spaces, so many days after a 1 March.
-#[inline(always)]
-fn day_after_march(days: u32) -> &'static [u8]
-    requires { days < 366 }
-    ensures { result.now ≡ day_text (date_from_march 0 days) ++ codes "  " }
-{
-    let from = 8 * days as usize;
+    let from = 8 * (32 * month + day) as usize;
     &DAYS[from..from + 8]
 }
 
-// -MM-DD, so many days after a 1 March, and a space after it.
+// -MM-DD, and a space after it.
 #[inline(always)]
-fn put_day(to: &mut [u8], at: usize, days: u32) -> usize
+fn put_day(to: &mut [u8], at: usize, month: u32, day: u32) -> usize
     requires room { at + 8 ≤ length to.old }
-    requires days { days < 366 }
+    requires month { month ≤ 12 }
+    requires day { day ≤ 31 }
     ensures end { result ≡ at + 6 }
-    ensures written { take result to.new ≡ take at to.old ++ day_text (date_from_march 0 days) }
+    ensures written { take result to.new ≡ take at to.old ++ day_text month day }
     ensures space { take (result + 1) to.new ≡ take result to.new ++ codes " " }
 {
-    put_piece::<8>(to, at, day_after_march(days));
+    put_piece::<8>(to, at, day_of(month, day));
     at + 6
 }
 
@@ -58,9 +46,9 @@ pub(crate) fn put_date(to: &mut [u8], at: usize, day: u32) -> usize
     ensures written { take result to.new ≡ take at to.old ++ date_text day }
     ensures space { take (result + 1) to.new ≡ take result to.new ++ codes " " }
 {
-    let (year, days) = march_year(day);
-    let at = put_four(to, at, year + u32::from(days >= MARCH_TO_JANUARY));
-    put_day(to, at, days)
+    let date = Date::from_days_since_min(day + DAYS_BEFORE_DAY_0);
+    let at = put_four(to, at, date.year.unsigned_abs() as u32);
+    put_day(to, at, date.month as u32, date.day as u32)
 }
 
 // HH:MM:00.

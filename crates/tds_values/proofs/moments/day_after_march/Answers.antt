@@ -1,4 +1,0 @@
-use Rattle.tds_values.proofs.{Words.arith, TableLemmas.day_at}
-
-pub returns : Rattle.tds_values.proofs.moments.day_after_march.Goals.returns
-returns c = day_at c.args.days _ c.requires (omega arith)
