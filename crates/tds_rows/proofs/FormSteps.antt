@@ -17,11 +17,7 @@ not_last rest some = grind arith
 
 module _ (forms : List Form) (ends : Bool) (columns : List Column) (next : AreNext forms ends columns) where
   few : length forms ≤ length columns
-  few = omega (
-    arith,
-    sym (length-map forms (λ f. f.kind)) ∙ ap length next.kinds_are ∙ length-map (take (length forms) columns) (λ c. c.kind),
-    length-take (length forms) columns,
-  )
+  few = grind (arith, common_steps, length-map, length-take)
 
   -- the column after this many is the last where the forms say so
   last_of : (k : ℕ) (c : Column) (rest : List Column) → k < length forms → drop k columns ≡ c ∷ rest
@@ -165,10 +161,7 @@ first_used forms bytes used u k d first none size form others are = grind (arith
 pub left_after : (bytes rest : List ℕ) (u : ℕ) → length rest ≤ length bytes → rest ≡ drop (length bytes - length rest) bytes → u ≤ length rest
     → (length bytes - length (take (length rest - u) (drop u rest)) ≡ (length bytes - length rest) + u)
     × (take (length rest - u) (drop u rest) ≡ drop ((length bytes - length rest) + u) bytes)
-left_after bytes rest u within is some = (
-  omega (arith, within, some, length-take (length rest - u) (drop u rest), length-drop u rest),
-  all_after rest u ∙ ap (drop u) is ∙ drop-drop u (length bytes - length rest) bytes,
-)
+left_after bytes rest u within is some = grind (arith, common_steps, some, length-take, length-drop, all_after, drop-drop)
 
 -- ---- a run so far
 

@@ -1,10 +1,10 @@
 -- The next cells of a row, those of a run or one, NULL or not, and rows one after another.
 use Rattle.tds_rows.proofs.{
-  Words.{after_cells, common_steps, arith, ◌≡◌, ◌+◌, ℕ, Bool, true, false, List, ◌∷◌, drop, refl, sym, Err, Ok, Result, Option, ◌==◌, Kind, Stop, seen},
+  Words.{common_steps, arith, ◌≡◌, ◌+◌, ℕ, Bool, true, false, List, ◌∷◌, drop, refl, sym, Err, Ok, Result, Option, ◌==◌, Kind, Stop, seen},
   Words.{between_of, Column, held, Rows, Ahead, is_last_column, MarkedPut, CellRead, IsInRow, KindRead, LeavesRows, NextRead, StaysInRow, RowStops, RowPart},
   Words.{marked, IsAhead, IsNextKind, Knows, TakesColumn, ◌∙◌, zero, suc, ◌-◌, ◌^◌, ◌≤◌, ◌<◌, [], ◌++◌, length, ap, subst, append_assoc, append-nil, add-zero},
   Words.{length-append, Consumes-nil, Coming, before, IsBetween, Seen, Takes, Takes-more, Stays-none, takes_both, Held, Puts, nears_put, Puts_split, Charset},
-  Words.{Table, PutsMarked, WritesColumn, WritesMarked, WritesNext, Puts-none, RowsRun, Cell, PlainRow, RowToken, WholeRow, next_cell, row, row_so_far},
+  Words.{WritesColumn, WritesMarked, WritesNext, Puts-none, RowsRun, Cell, PlainRow, RowToken, WholeRow, next_cell, row, row_so_far},
   Words.{token_byte, token_start, ReadsRow, ReadsRows, RowsStop, RowsPut, RunsRows, rows, rows_so_far, rows_start},
   Words.{BreaksMarked, Breaks, Breaks_split, inl, inr, Takes-none},
   NullSteps.{NearsCells, all_put, cell_nears, cell_stops, null_breaks, null_nears, cell_path, marked_stops},
@@ -139,7 +139,8 @@ module _ (charset : Charset) (start : RowPart) (columns : List Column) (nulls : 
           → NearsCells charset start ((w.column, null) ∷ marked w.left nulls (at + 1)) p q at → RowStops charset start p.seen d p.place p.held j true stop
       go true v z = null_breaks rest (rw v.0 at takes) between z (rw (v.1, ends_marked w.left nulls (at + 1)) at breaks)
       go false v z = cell_stops (all_put refl delivered z)
-          (rw (ends_marked w.left nulls (at + 1)) at (whole_breaks {a = q.seen} {b = d} {place = q.place} {h = q.held} {j = j} {stop = stop} charset _ at (is_last_column w.left) rest v takes between few delivered breaks refl))
+          (rw (ends_marked w.left nulls (at + 1)) at (whole_breaks {a = q.seen} {b = d} {place = q.place} {h = q.held} {j = j} {stop = stop} charset _
+          at (is_last_column w.left) rest v takes between few delivered breaks refl))
 
   -- a write of the text of so many columns failed
   marked_breaks : (from n : ℕ) (q : At) (d : Seen) (j : Held) (stop : Stop) (bytes rest text : List ℕ)
@@ -158,14 +159,6 @@ module _ (charset : Charset) (start : RowPart) (columns : List Column) (nulls : 
             (record { takes = t.1; between = t.3 between; puts = m.2; few = m.1; delivered = delivered; place_is = refl }) x in
             column_breaks (from + n) there d j stop back rest more last t.2 between m.1 m.4 m.3 near
       ]
-
--- as many columns more as a run took
-run_nears : {table : Table} {columns : List Column} {nulls : ℕ → Bool} {from to : Ahead} {start : RowPart} {p q r : At}
-    → PutsMarked table columns nulls from to q.seen r.seen q.place r.place q.held r.held → IsBetween r.seen → length r.held.waiting < 4096
-    → q.held.delivered ≤ 2 ^ 64 - 1
-    → NearsCells table.charset start (marked (drop from.column columns) nulls from.column) p q from.column
-    → NearsCells table.charset start (marked (drop to.column columns) nulls to.column) p r to.column
-run_nears x between few delivered near = grind (arith, common_steps, marked_nears)
 
 -- ---- a reading of rows, from call to call
 
@@ -199,14 +192,19 @@ module _ {R W : Type 0} (remaining : R → Option (List ℕ)) (contents : W → 
   pub run_near : {old new : Rows R W} {from to : Ahead} → IsInRow old → StaysInRow old new → Knows old.table.now columns
       → MarkedPut remaining contents old.table.now nulls from old.payload.now new.payload.now old.sink.now new.sink.now to → NearsHere old from
       → NearsHere new to
-  run_near {new = new} x kept knows f near =
+  run_near {old = old} {new = new} {from = from} x kept knows f near =
       let put = f columns knows near.0 in
       let sink = kept.in_row.sink in
-      rw kept.same.3 (
-        put.runs.ahead,
-        run_nears put (between_of remaining new.payload.now kept.in_row.payload.going) (sink.ready.1 sink.writing)
-            x.sink.ready.2 near.1,
-      )
+      let more = marked_nears _ start columns nulls p from.column put.runs.count (here remaining contents old) (here remaining contents new) _ _
+      put.runs.writes (record {
+        takes = put.takes;
+        between = between_of remaining new.payload.now kept.in_row.payload.going;
+        puts = put.puts;
+        few = sink.ready.1 sink.writing;
+        delivered = x.sink.ready.2;
+        place_is = put.place_is;
+      }) near.1 in
+      rw kept.same.3 (put.runs.ahead, rw put.runs.further more)
 
   -- a write of their text failed
   pub run_stops : {old : Rows R W} (new : Rows R W) {from : Ahead} {failed : Bool} {stop : Stop} → IsInRow old
@@ -267,8 +265,8 @@ module _ {R W : Type 0} (remaining : R → Option (List ℕ)) (contents : W → 
         → NextRead {U = U} remaining contents at kind null old new (Err stop)
         → RowStops old.table.now.charset start p.seen (seen remaining new.payload.now) p.place p.held (held contents new.sink.now) new.sink.now.failed
         stop
-    next_stops U stop true is y = rw (y.0, y.1.failed) (null_breaks [] (Takes-none _ 0) (between_of remaining old.payload.now in_row.payload.going) (left_here _ is)
-        (rw last_is at (y.1.gives in_row.sink.writing)))
+    next_stops U stop true is y = rw (y.0, y.1.failed) (null_breaks [] (Takes-none _ 0)
+        (between_of remaining old.payload.now in_row.payload.going) (left_here _ is) (rw last_is at (y.1.gives in_row.sink.writing)))
     next_stops U stop false is y = cell_stops (all_put refl in_row.sink.ready.2 (left_here _ is)) (cell_read {U = U} (Err stop) before.0 y)
 
 -- ---- rows, one after another
@@ -369,13 +367,6 @@ module _ {charset : Charset} {all : List Column} {p q : At} {column count : ℕ}
         };
       }
 
-  -- a run whose write failed
-  rowing_breaks : (left : List Column) {d : Seen} {j : Held} {failed : Bool} {stop : Stop} → Rowing charset all (coming left column) p q column count
-      → ((cells : List Cell) → length cells ≡ column
-      → RowStops charset (after_cells charset cells left) q.seen d q.place q.held j failed stop)
-      → RowsStop PlainRow charset all p.seen d p.place p.held j failed stop
-  rowing_breaks left x f = rows_stop x.rows (rw x.counted at (f x.cells x.counted))
-
   module _ {c : Column} {ks : List (Column × Bool)} where
     -- a cell
     pub rowing_cell : {r : At} → nulls_ahead (column + 1) ks ≡ [] → Rowing charset all ((c, false) ∷ ks) p q column count
@@ -411,6 +402,6 @@ pub rows_broke : {R W : Type 0} {columns : List Column} {p : At} {old : Rows R W
     → BreaksMarked old.table.now columns (λ k. false) from (seen remaining old.payload.now) (seen remaining new.payload.now) (held contents old.sink.now)
     (held contents new.sink.now) failed stop → RowsHere remaining contents columns p old from count
     → RowsStop PlainRow old.table.now.charset columns p.seen (seen remaining new.payload.now) p.place p.held (held contents new.sink.now) failed stop
-rows_broke remaining contents new in_row y x =
+rows_broke {old = old} remaining contents new in_row y x =
     let sink = in_row.sink in
-    rowing_breaks _ x.1 (λ cells is. run_breaks cells y is (sink.ready.1 sink.writing) sink.ready.2)
+    rows_stop x.1.rows (rw x.1.counted at (run_breaks {place = old.payload.now.place} x.1.cells y x.1.counted (sink.ready.1 sink.writing) sink.ready.2))

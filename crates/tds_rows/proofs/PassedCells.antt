@@ -1,6 +1,6 @@
 -- The value of a RETURNVALUE, as it is passed over.
 use Rattle.tds_rows.proofs.{
-  Words.{HexDigits, Utf16Text, Windows1252Text, ◌≢◌, Some, None, eq_true, ReadsNumber, chunk_length_fault, short_fault, short_length, reads_one, ◌≡◌, ◌∙◌, inr},
+  Words.{HexDigits, Utf16Text, Windows1252Text, ◌≢◌, Some, None, ReadsNumber, chunk_length_fault, short_fault, short_length, reads_one, ◌≡◌, ◌∙◌, inr},
   Words.{ℕ, ◌+◌, ◌-◌, ◌%◌, ◌<◌, ◌≤◌, Bool, true, List, [], ◌++◌, length, refl, sym, ap, subst, arith, append-nil, length-append, Option, is_ok, Kind},
   Words.{is_scalar, read_of, Stop, Spelt, Seen, Takes, IsBetween, began_at, Ends-after, Takes-none, Takes-trans, add_none, began_is_cut, reads_both},
   Words.{reads_none, stops_after, BeginsData, Conversion, Charset, Cell, CellPart, ChunkLength, DataCell, ShortLength, WholeCell, cell_start, shape},
@@ -213,9 +213,7 @@ module _ {c : Conversion} {size : ℕ} (any : AnyData c size) where
       (x : ReadsNumber 4 a b place place' n) (free : chunk_length_fault return_column size total sum n ≡ None) (is : k ≡ n) where
     -- the terminator was read
     pub end_steps : k ≡ 0 → StepsOver (ChunkLength c total content) (WholeCell (DataCell c content)) a b place place'
-    end_steps ends =
-        let none = sym is ∙ ends in
-        steps_of (chunk_end c (sym any.unit_is) counted x free none (any.fit content (ap (λ m. m % size) counted ∙ (eq_true _ 0 (grind arith)))))
+    end_steps ends = grind (arith, steps_of, chunk_end, counted, content)
 
     -- the length of a chunk was read
     pub chunk_steps : k ≢ 0 → StepsOver (ChunkLength c total content) (chunk_left c total k content) a b place place'

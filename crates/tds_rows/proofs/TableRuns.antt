@@ -19,15 +19,7 @@ RowsBetween table columns old new count bytes text = IsAhead table columns new
 -- nothing yet
 pub rows_begin : {table : Table} {from : Ahead} {bytes to : List ℕ}
     → RowsRan table from bytes to (record { used = 0; made = 0; rows = 0; ahead = from })
-rows_begin = record {
-  used = omega arith;
-  made = omega arith;
-  few = omega arith;
-  writes = λ columns knows ahead. (
-    ahead,
-    λ charset cells set is. rows_none is,
-  );
-}
+rows_begin = grind (arith, rows_none)
 
 -- the token byte of a ROW is next
 begins_at : (used : ℕ) (bytes : List ℕ) → BeginsRow (take (length bytes - used) (drop used bytes)) → (used < length bytes)

@@ -1,5 +1,5 @@
 use Rattle.tds_rows.proofs.cell.passed.pass_data.Goals as goal
-use Rattle.tds_rows.proofs.{Words.{arith, rules, passed, between_of}, PassedCells.{cuts_more, passes_more, passes_none}}
+use Rattle.tds_rows.proofs.{Words.{common_steps, arith, rules, passed, between_of}, PassedCells.{cuts_more, passes_more, passes_none}}
 
 pub loop-left-init : goal.loop-left-init
 loop-left-init g c = record {
@@ -16,12 +16,4 @@ returns-in_err-left-clause-data g c =
     c.in_err-left.ensures.piece)
 
 pub loop-left-preserved : goal.loop-left-preserved
-loop-left-preserved g c =
-    let l = c.loop-left in
-    let done = c.in_ok-left.ensures in
-    record {
-      going = search rules;
-      same = search rules;
-      most = omega (arith, l.invariant.most);
-      passes = passes_more (omega (arith, l.invariant.most, done.some)) l.invariant.passes done.piece;
-    }
+loop-left-preserved g c = grind (arith, common_steps, passes_more)

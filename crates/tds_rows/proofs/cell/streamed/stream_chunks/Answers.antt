@@ -1,6 +1,6 @@
 use Rattle.tds_rows.proofs.cell.streamed.stream_chunks.Goals as goal
 use Rattle.tds_rows.proofs.{
-  Words.{◌≡◌, ◌∙◌, arith, refl, rules, sym, MatchResult-weaker, passed, chunk_length_fault},
+  Words.{common_steps, ◌≡◌, ◌∙◌, arith, refl, rules, sym, MatchResult-weaker, passed},
   LongValues.{chunk_path, chunks_end_stops, chunks_whole, streamed_more, streamed_none, reading_stops, rest_none},
   LongSteps.{chunk_holds, filling_stops},
   Numbers.{chunk_stops, chunk_blames, length_blames, read_stops, same_failures, stops_after},
@@ -74,9 +74,4 @@ loop-n-preserved g c =
     }
 
 pub returns-in_err-n-clause-blames : goal.returns-in_err-n-clause-blames
-returns-in_err-n-clause-blames g c =
-    let l = c.loop-n in
-    let stop = c.in_err-n.field-0.0 in
-    passed _ _ _ _ c.from_residual.ensures.1 (stops_after _ _ _ stop l.invariant.calm (read_stops _ _ stop
-    (length_blames g.R.Read.remaining (λ n. chunk_length_fault c.args.column c.UNIT.result c.args.total l.sum n) l.payload l.invariant.going.going
-    (chunk_blames c.args.column c.UNIT.result c.args.total l.sum) c.in_err-n.ensures.length)))
+returns-in_err-n-clause-blames g c = grind (arith, common_steps, passed, stops_after, read_stops, length_blames, chunk_blames)

@@ -1,6 +1,6 @@
 use Rattle.tds_rows.proofs.cell.streamed.stream_short.Goals as goal
 use Rattle.tds_rows.proofs.{
-  Words.{◌∙◌, ◌<◌, ◌++◌, ℕ, [], List, arith, refl, rules, sym, MatchResult-weaker, passed, short_fault},
+  Words.{common_steps, ◌∙◌, ◌<◌, ◌++◌, ℕ, [], List, arith, refl, rules, sym, MatchResult-weaker, passed},
   Numbers.{length_blames, read_stops, short_blames, short_none, short_start, short_stops},
   LongValues.{empty_puts, empty_stops, field_puts, next_breaks, next_path, none_begins, null_puts, reading_stops, rest_none, short_end_stops, short_open},
   LongValues.{short_text, short_whole},
@@ -60,7 +60,4 @@ returns-clause-field g c = λ conversion suits.
     (λ stop z. path_stops start (short_end_stops _ _ _ y z))
 
 pub returns-in_err-n-clause-blames : goal.returns-in_err-n-clause-blames
-returns-in_err-n-clause-blames g c =
-    passed _ _ _ _ c.from_residual.ensures.1 (read_stops _ _ c.in_err-n.field-0.0
-    (length_blames g.R.Read.remaining (short_fault c.args.column c.UNIT.result) c.args.payload.now c.requires.joining.payload.going
-    (short_blames c.args.column c.UNIT.result) c.in_err-n.ensures.length))
+returns-in_err-n-clause-blames g c = grind (arith, common_steps, passed, read_stops, length_blames, short_blames)

@@ -1,6 +1,6 @@
 use Rattle.tds_rows.proofs.rows.Rows.nbc_row.Goals as goal
 use Rattle.tds_rows.proofs.{
-  Words.{ℕ, ◌<◌, List, length, refl, sym, arith, rules, ◌∙◌, ◌≡◌, ap, ◌++◌, passed, passed_on, Space, LeavesRows, bitmap_length},
+  Words.{common_steps, ℕ, ◌<◌, List, length, refl, sym, arith, rules, ◌∙◌, ◌≡◌, ap, ◌++◌, passed, passed_on, Space, LeavesRows, bitmap_length},
   NextSteps.{next_nears, next_stops, run_near, run_stops, leaves_after, stays_after, stays_on},
   NullSteps.{all_put, bitmap_cut, bitmap_nears, row_ends},
 }
@@ -54,9 +54,7 @@ returns-in_err-at-clause-row g c = λ columns known.
     passed _ _ _ _ c.from_residual-in_err-at.ensures.1 (rw l.invariant.stays.same.3 at stops)
 
 pub returns-in_err-at-clause-leaves : goal.returns-in_err-at-clause-leaves
-returns-in_err-at-clause-leaves g c =
-    passed_on _ _ (λ r. LeavesRows c.args.self.now c.put_nulls.new.self r) c.from_residual-in_err-at.ensures.1
-    (leaves_after c.loop-at.invariant.stays c.in_err-at.ensures.leaves)
+returns-in_err-at-clause-leaves g c = grind (arith, common_steps, leaves_after)
 
 pub put_next-requires : goal.put_next-requires
 put_next-requires g c =

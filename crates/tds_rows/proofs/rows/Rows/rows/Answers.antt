@@ -24,7 +24,8 @@ returns-in_err-run-clause-rows g c = λ columns known.
     let l = c.loop-run in
     let knows = rw (sym l.invariant.stays.same.3) at known in
     let reads = l.invariant.reads columns knows in
-    let stops = rows_broke g.R.Read.remaining g.W.Write.contents c.put_run.new.self l.invariant.stays.in_row (c.in_err-run.ensures.cells columns knows reads.0) reads in
+    let stops = rows_broke g.R.Read.remaining g.W.Write.contents c.put_run.new.self l.invariant.stays.in_row
+    (c.in_err-run.ensures.cells columns knows reads.0) reads in
     passed _ _ _ _ c.from_residual.ensures.1 (rw l.invariant.stays.same.3 at stops)
 
 pub loop-run-preserved-then-run-gt0 : goal.loop-run-preserved-then-run-gt0
