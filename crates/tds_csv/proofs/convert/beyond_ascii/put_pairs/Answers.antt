@@ -1,6 +1,5 @@
 use Rattle.tds_csv.proofs.convert.beyond_ascii.put_pairs.Goals as goal
-use Rattle.tds_csv.{proofs.{Words.{◌≡◌, ◌+◌, ◌≤◌, arith, rules, length}, LaneMasks.first_mask, Places.pair_row, WideText.pairs_taken}, specs.Wide.is_wide}
-use lib.Count.{ones}
+use Rattle.tds_csv.{proofs.{Words.{common_steps, arith}, LaneMasks.first_mask, Places.pair_row, WideText.pairs_taken}, specs.Wide.is_wide}
 
 pub pair_places-requires : goal.pair_places-requires
 pair_places-requires c = (first_mask is_wide c.args.units c.args.n c.fits-units.0 c.requires.most c.requires.wide).0
@@ -11,12 +10,7 @@ gathered-requires-clause-places c =
     rw c.pair_places.ensures (pair_row c.args.wide mask.0).small
 
 pub put_lanes-requires : goal.put_lanes-requires
-put_lanes-requires c =
-    let mask = first_mask is_wide c.args.units c.args.n c.fits-units.0 c.requires.most c.requires.wide in
-    let size : length c.gathered.result ≡ 16 = search rules in
-    let few : c.args.n + ones c.args.wide ≤ 16 = omega (arith, mask.1) in
-    let space : c.args.at + 16 ≤ length c.args.to.now = omega arith in
-    (omega arith, (size, (few, space)))
+put_lanes-requires c = grind (arith, common_steps, first_mask)
 
 pub returns-clause-most : goal.returns-clause-most
 returns-clause-most c =

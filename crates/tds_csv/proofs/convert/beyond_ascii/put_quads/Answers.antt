@@ -1,20 +1,14 @@
 use Rattle.tds_csv.proofs.convert.beyond_ascii.put_quads.Goals as goal
 use Rattle.tds_csv.{
-  proofs.{Words.{◌≡◌, ◌+◌, ◌*◌, ◌≤◌, arith, rules, length}, LaneMasks.few_ones, Places.{ones_of_two, quad_row}, WideText.quads_taken},
+  proofs.{Words.{common_steps, arith}, LaneMasks.few_ones, Places.{ones_of_two, quad_row}, WideText.quads_taken},
   specs.Wide.{is_long, is_wide},
 }
-use lib.Count.{ones}
 
 pub gathered-requires-clause-places : goal.gathered-requires-clause-places
 gathered-requires-clause-places c = rw c.quad_places.ensures (quad_row c.args.wide c.args.long c.requires.wide c.requires.long).small
 
 pub put_lanes-requires : goal.put_lanes-requires
-put_lanes-requires c =
-    let size : length c.gathered.result ≡ 16 = search rules in
-    let few : c.args.n + ones (c.args.wide + 16 * c.args.long) ≤ 16 =
-    omega (arith, (ones_of_two c.args.wide c.args.long c.requires.wide c.requires.long).1) in
-    let space : c.args.at + 16 ≤ length c.args.to.now = omega arith in
-    (omega arith, (size, (few, space)))
+put_lanes-requires c = grind (arith, common_steps, ones_of_two)
 
 pub returns : goal.returns
 returns c = record {
