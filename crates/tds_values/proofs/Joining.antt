@@ -1,6 +1,7 @@
 -- What is written piece by piece stands joined.
 use Rattle.tds_values.{
-  proofs.Words.{◌≡◌, ◌∙◌, ℕ, ◌+◌, ◌≤◌, List, ◌++◌, take, length, ap, arith, append_assoc, codes, length-append, length-take-le, sym, take-append-add, take-take},
+  proofs.Words.{◌≡◌, ◌∙◌, ℕ, ◌+◌, ◌≤◌, List, ◌++◌, take, length, ap, arith, append_assoc, codes, length-append, length-take-le, sym},
+  proofs.Words.{take-append-add, take-take},
   specs.ScalarText.day_text,
 }
 

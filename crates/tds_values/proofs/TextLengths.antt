@@ -1,7 +1,8 @@
 -- No text has more than 41 bytes.
 use Rattle.tds_values.specs.declared.scalar.ScalarValue.TheVariants as values
 use Rattle.tds_values.proofs.{
-  Words.{ap, length-append, length-take-le, List, take, ◌≡◌, ℕ, zero, suc, ◌+◌, ◌-◌, ◌/◌, ◌^◌, ◌<◌, ◌≤◌, refl, arith, ℤ, length, unsigned_abs, decimal, IsTrue, signed_decimal, nat_tests},
+  Words.{ap, length-append, length-take-le, List, take, ◌≡◌, ℕ, zero, suc, ◌+◌, ◌-◌, ◌/◌},
+  Words.{◌^◌, ◌<◌, ◌≤◌, refl, arith, ℤ, length, unsigned_abs, decimal, IsTrue, signed_decimal, nat_tests},
   Words.{pow-add, div_below, length-decimal-le, length-decimal-le_wide, by_index_length, ScalarValue, is_in_range, last_digits, text_of, FitsWidths},
 }
 

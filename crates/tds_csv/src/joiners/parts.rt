@@ -2,7 +2,7 @@
 ghost use Rattle.std.specs.Prelude.{IfOk, MatchResult, ◌≡◌, ◌+◌, ◌-◌, ◌*◌, ◌<◌, ◌≤◌, List, ℕ, length, take};
 ghost use Rattle.tds_csv.specs.Joining.{HasPart, HasText, IsBytewise};
 ghost use Rattle.tds_csv.specs.Plain.{LiesIn};
-ghost use Rattle.tds_csv.specs.Sinks.{IsWriting, PutsPiece};
+ghost use Rattle.tds_csv.specs.Sinks.{AwaitsPart, IsWriting, PutsPiece};
 
 use crate::convert::lanes::{LANES, WIDE};
 use crate::convert::utf16::Converted;
@@ -60,9 +60,8 @@ fn put_chunk<C: Bytewise, W: Write>(
 
 // Puts the text of the first of 32 bytes or more, as far as the sink has room, and returns of how many.
 fn put_part<C: Bytewise, W: Write>(bytes: &[u8], sink: &mut Sink<'_, W>) -> Result<usize, Stop>
-    requires writing { IsWriting sink.old }
+    requires sink { AwaitsPart sink.old }
     requires wide { WIDE ≤ length bytes.now }
-    requires room { PART ≤ 4096 - length sink.old.output.now.bytes }
     ensures within { IfOk result (λ used. used ≤ length bytes.now) }
     ensures some { IfOk result (λ used. 0 < used) }
     ensures puts { MatchResult result
