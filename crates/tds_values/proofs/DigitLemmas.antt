@@ -1,6 +1,6 @@
 -- Decimal digits, some at a time.
 use Rattle.tds_values.proofs.{
-  Words.{add-suc, append-nil, ◌≡◌, ◌⊎◌, ℕ, zero, suc, ◌+◌, ◌-◌, ◌*◌, ◌/◌, ◌%◌, ◌^◌, ◌<◌, ◌≤◌, ◌++◌, refl, ap, arith, inl, inr, decimal, append_assoc},
+  Words.{add-suc, append-nil, min, ⊎_elim, add-mul-div_left, cases_lt, div_below, le-div, pow-le-pow_right, ◌≡◌, ◌⊎◌, ℕ, zero, suc, ◌+◌, ◌-◌, ◌*◌, ◌/◌, ◌%◌, ◌^◌, ◌<◌, ◌≤◌, ◌++◌, refl, ap, arith, inl, inr, decimal, append_assoc},
   Words.{decimal_digit, decimal_step_wide, one-le-pow, pow-succ', div-div-eq-div-mul, div-one, div-add-mod, pow-add, last_digits, fraction_text},
 }
 
@@ -57,3 +57,46 @@ decimal_eight n h small = rw (last_digits-mod 8 n) (decimal_split 8 n h small)
 -- a fraction depends on what the whole part leaves alone
 pub fraction_rest : (scale n : ℕ) → fraction_text scale (n % 10 ^ scale) ≡ fraction_text scale n
 fraction_rest scale n = rw (last_digits-mod scale n)
+
+-- the whole part of units of a scale, which have as many digits of eight as are needed
+units_last : (scale skipped n : ℕ) → scale + skipped ≤ 7 → n < 10 ^ (8 - skipped) → (skipped + scale ≡ 7) ⊎ (10 ^ (7 - skipped) ≤ n) → n < 100000000
+    → decimal (n / 10 ^ scale) ≡ last_digits (8 - scale - skipped) (n / 10 ^ scale)
+units_last scale skipped n few fits needed small =
+    let k = 7 - scale - skipped in
+    let width : 8 - scale - skipped ≡ suc k = omega arith in
+    let all : 8 - skipped ≡ suc k + scale = omega arith in
+    let some = one-le-pow scale 10 (omega arith) in
+    let below : n / 10 ^ scale < 10 ^ suc k = div_below n (10 ^ scale) (10 ^ suc k) some (rw (← pow-add 10 (suc k) scale, ← all) fits) in
+    let low : (k ≡ 0) ⊎ (10 ^ k ≤ n / 10 ^ scale) = ⊎_elim (λ e. inl (omega arith))
+        (λ h. inr (le-div (10 ^ k) n (10 ^ scale) some (let e : k + scale ≡ 7 - skipped = omega arith in rw (← pow-add 10 k scale, e) h))) needed in
+    rw width (decimal_last k (n / 10 ^ scale) low below (omega arith))
+
+-- with the needless zeros of eight digits, but for the last before the point
+pub decimal_units : (scale zeros n : ℕ) → 1 ≤ scale → scale ≤ 7 → n < 100000000 → zeros ≤ 7 → n < 10 ^ (8 - zeros) → (zeros ≡ 7) ⊎ (10 ^ (7 - zeros) ≤ n)
+    → decimal (n / 10 ^ scale) ≡ last_digits (8 - scale - min zeros (7 - scale)) (n / 10 ^ scale)
+decimal_units scale zeros n some few small most fits needed = ⊎_elim
+    (λ h. let few_zeros : min zeros (7 - scale) ≡ zeros = omega arith in
+        rw few_zeros (units_last scale zeros n (omega arith) fits (⊎_elim (λ e. absurd (omega arith)) inr needed) small))
+    (λ h. let all_but_one : min zeros (7 - scale) ≡ 7 - scale = omega arith in
+        let power : 10 ^ (8 - zeros) ≤ 10 ^ (8 - (7 - scale)) = pow-le-pow_right {n = 10} (omega arith) (omega arith) in
+        rw all_but_one (units_last scale (7 - scale) n (omega arith) (omega arith) (inl (omega arith)) small))
+    (cases_lt zeros (8 - scale))
+
+-- the whole part of units of a scale that have more than eight digits
+pub decimal_above : (scale n : ℕ) → scale ≤ 7 → 100000000 ≤ n → n < 10 ^ 64
+    → decimal (n / 10 ^ scale) ≡ decimal (n / 100000000) ++ last_digits (8 - scale) (n % 100000000 / 10 ^ scale)
+decimal_above scale n few many fits =
+    let some = one-le-pow scale 10 (omega arith) in
+    let all : (8 - scale) + scale ≡ 8 = omega arith in
+    let power : 10 ^ (8 - scale) * 10 ^ scale ≡ 100000000 = rw (← pow-add 10 (8 - scale) scale, all) refl in
+    let whole : n / 10 ^ scale / 10 ^ (8 - scale) ≡ n / 100000000 = grind (arith, (div-div-eq-div-mul n (10 ^ scale) (10 ^ (8 - scale)))) in
+    let low : 10 ^ (8 - scale) ≤ n / 10 ^ scale = le-div (10 ^ (8 - scale)) n (10 ^ scale) some (omega (arith, power)) in
+    let parts : n % 100000000 + 10 ^ scale * (10 ^ (8 - scale) * (n / 100000000)) ≡ n =
+        omega (arith, ap (λ p. p * (n / 100000000)) power) in
+    let above : n / 10 ^ scale ≡ 10 ^ (8 - scale) * (n / 100000000) + n % 100000000 / 10 ^ scale =
+        omega (arith, ap (λ m. m / 10 ^ scale) parts, add-mul-div_left (n % 100000000) (10 ^ (8 - scale) * (n / 100000000)) some) in
+    let last = last_digits-above (8 - scale) (n / 100000000) (n % 100000000 / 10 ^ scale) in
+    let longer : 64 ≤ 64 + scale = omega arith in
+    let more : 10 ^ 64 ≤ 10 ^ (64 + scale) = pow-le-pow_right {n = 10} (omega arith) longer in
+    let small : n / 10 ^ scale < 10 ^ 64 = div_below n (10 ^ scale) (10 ^ 64) some (rw (← pow-add 10 64 scale) (omega arith)) in
+    rw (← whole, ← last, ← above) (decimal_split (8 - scale) (n / 10 ^ scale) low small)

@@ -1,6 +1,6 @@
 -- Digits as the bytes of one number.
 use Rattle.tds_values.proofs.{
-  Words.{add-suc, ◌≡◌, ℕ, zero, suc, ◌+◌, ◌*◌, ◌/◌, ◌%◌, ◌^◌, ◌<◌, List, [], ◌∷◌, ◌++◌, refl, arith, take, length, pow-succ', div-div-eq-div-mul},
+  Words.{add-suc, append-nil, ap, drop, drop-append_seam, ◌-◌, ◌≤◌, ◌≡◌, ℕ, zero, suc, ◌+◌, ◌*◌, ◌/◌, ◌%◌, ◌^◌, ◌<◌, List, [], ◌∷◌, ◌++◌, refl, arith, take, length, pow-succ', div-div-eq-div-mul},
   Words.{bytes_low_first, All, All-head, All-nil, All-push, All-tail, last_digits, pow-add, take-append-add, take-take},
   DigitLemmas.last_digits-add,
   TextLengths.length-last_digits,
@@ -68,3 +68,22 @@ last_put xs new at j k m n long em e =
     let w = word_of (last_digits m n) / 256 ^ j in
     let f = rw (whole_word, eighth_power) at e in
     cc (take-take (at + k) (at + m) new (omega arith), take-append-add xs (bytes_of m w) k, take-bytes_of j k w, shifted_digits j k n)
+
+-- of k digits the last b
+pub end_digits : (k b n : ℕ) → b ≤ k → drop (k - b) (last_digits k n) ≡ last_digits b n
+end_digits k b n few =
+    let all : k ≡ (k - b) + b = omega arith in
+    let d = last_digits (k - b) (n / 10 ^ b) in
+    cc (ap (λ j. last_digits j n) all, last_digits-add (k - b) b n, length-last_digits (k - b) (n / 10 ^ b), drop-append_seam d (last_digits b n))
+
+-- of a + b digits the first a
+front_digits : (a b n : ℕ) → take a (last_digits (a + b) n) ≡ last_digits a (n / 10 ^ b)
+front_digits a b n =
+    let d = last_digits a (n / 10 ^ b) in
+    grind (arith, (length-last_digits a (n / 10 ^ b)), (last_digits-add a b n), (take-append-add d (last_digits b n) 0), append-nil)
+
+-- of m digits after `at` the first a
+pub front_put : (xs new : List ℕ) (at a b m n : ℕ) → length xs ≡ at → m ≡ a + b → take (at + m) new ≡ xs ++ last_digits m n
+    → take (at + a) new ≡ xs ++ last_digits a (n / 10 ^ b)
+front_put xs new at a b m n long em e =
+    cc (take-take (at + a) (at + m) new (omega arith), take-append-add xs (last_digits m n) a, front_digits a b n)

@@ -61,26 +61,16 @@ fn four(n: u32) -> u32
     LittleEndian::read_u32(four_digits(n))
 }
 
-// Two digits.
+// The last `N` digits of four.
 #[inline(always)]
-pub(crate) fn put_two(to: &mut [u8], at: usize, n: u32) -> usize
-    requires room { at + 2 ≤ length to.old }
-    requires small { n < 100 }
-    ensures end { result ≡ at + 2 }
-    ensures written { take result to.new ≡ take at to.old ++ last_digits 2 n }
-{
-    put_piece::<2>(to, at, &four_digits(n)[2..])
-}
-
-// Four digits.
-#[inline(always)]
-pub(crate) fn put_four(to: &mut [u8], at: usize, n: u32) -> usize
-    requires room { at + 4 ≤ length to.old }
+pub(crate) fn put_of_four<const N: usize>(to: &mut [u8], at: usize, n: u32) -> usize
+    requires few { N ≤ 4 }
+    requires room { at + N ≤ length to.old }
     requires small { n < 10000 }
-    ensures end { result ≡ at + 4 }
-    ensures written { take result to.new ≡ take at to.old ++ last_digits 4 n }
+    ensures end { result ≡ at + N }
+    ensures written { take result to.new ≡ take at to.old ++ last_digits N n }
 {
-    put_piece::<4>(to, at, four_digits(n))
+    put_piece::<N>(to, at, &four_digits(n)[4 - N..])
 }
 
 // Eight digits as one number, the first digit in its lowest byte.
@@ -94,7 +84,7 @@ fn word(n: u32) -> u64
 
 // The digits of eight that come after some zeros, or after digits that aren't wanted.
 #[inline(always)]
-fn put_after(to: &mut [u8], at: usize, skipped: usize, n: u32) -> usize
+pub(crate) fn put_after(to: &mut [u8], at: usize, skipped: usize, n: u32) -> usize
     requires room { at + 8 ≤ length to.old }
     requires few { skipped ≤ 7 }
     requires small { n < 100000000 }
@@ -137,7 +127,7 @@ pub(crate) fn put_end(to: &mut [u8], at: usize, k: usize, n: u32) -> usize
 // How many of eight digits are needless zeros: their bytes are 0 once each loses 48, and one bit more in the
 // last byte keeps the last digit.
 #[inline(always)]
-fn needless(n: u32) -> usize
+pub(crate) fn needless(n: u32) -> usize
     requires { n < 100000000 }
     ensures few { result ≤ 7 }
     ensures fits { n < 10 ^ (8 - result) }

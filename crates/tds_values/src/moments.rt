@@ -3,7 +3,7 @@ ghost use Rattle.std.specs.Prelude.{◌≡◌, ◌+◌, ◌<◌, ◌≤◌, ◌^
 ghost use Rattle.tds_values.specs.ScalarText.{last_digits, date_text, day_text, seconds_text, minutes_text, fraction_text, ticks_text, offset_text, date_and_time};
 ghost use Rattle.tds_values.specs.TimeOfDay.{IsClockTime};
 
-use crate::digits::{put_byte, put_end, put_four, put_piece, put_two};
+use crate::digits::{put_byte, put_end, put_of_four, put_piece};
 use crate::numbers::put_fraction;
 use crate::ranges::{LARGEST_OFFSET, LAST_DAY, MINUTES_A_DAY, SECONDS_A_DAY, TICKS_A_DAY};
 use crate::tables::{DAYS, MINUTES};
@@ -47,7 +47,7 @@ pub(crate) fn put_date(to: &mut [u8], at: usize, day: u32) -> usize
     ensures space { take (result + 1) to.new ≡ take result to.new ++ codes " " }
 {
     let date = Date::from_days_since_min(day + DAYS_BEFORE_DAY_0);
-    let at = put_four(to, at, date.year.unsigned_abs() as u32);
+    let at = put_of_four::<4>(to, at, date.year.unsigned_abs() as u32);
     put_day(to, at, date.month as u32, date.day as u32)
 }
 
@@ -61,27 +61,17 @@ fn minute(minutes: u32) -> &'static [u8]
     &MINUTES[from..from + 8]
 }
 
-// HH:MM:00.
+// HH:MM, and :00 after it.
 #[inline(always)]
-pub(crate) fn put_minute(to: &mut [u8], at: usize, minutes: u32) -> usize
-    requires room { at + 8 ≤ length to.old }
-    requires day { minutes < MINUTES_A_DAY }
-    ensures end { result ≡ at + 8 }
-    ensures written { take result to.new ≡ take at to.old ++ (minutes_text minutes ++ codes ":" ++ last_digits 2 0) }
-{
-    put_piece::<8>(to, at, minute(minutes))
-}
-
-// HH:MM, and a colon after it.
-#[inline(always)]
-fn put_minutes(to: &mut [u8], at: usize, minutes: u32) -> usize
+pub(crate) fn put_minutes(to: &mut [u8], at: usize, minutes: u32) -> usize
     requires room { at + 8 ≤ length to.old }
     requires day { minutes < MINUTES_A_DAY }
     ensures end { result ≡ at + 5 }
     ensures written { take result to.new ≡ take at to.old ++ minutes_text minutes }
     ensures colon { take (result + 1) to.new ≡ take result to.new ++ codes ":" }
+    ensures seconds { take (result + 3) to.new ≡ take at to.old ++ (minutes_text minutes ++ codes ":" ++ last_digits 2 0) }
 {
-    put_minute(to, at, minutes);
+    put_piece::<8>(to, at, minute(minutes));
     at + 5
 }
 
@@ -94,7 +84,7 @@ fn put_clock(to: &mut [u8], at: usize, seconds: u32) -> usize
     ensures written { take result to.new ≡ take at to.old ++ seconds_text seconds }
 {
     let at = put_minutes(to, at, seconds / 60);
-    put_two(to, at + 1, seconds % 60)
+    put_of_four::<2>(to, at + 1, seconds % 60)
 }
 
 // The seconds since midnight and a fraction of one.

@@ -1,9 +1,9 @@
 // The texts of numbers, written to a slice from a place on.
-ghost use Rattle.std.specs.Prelude.{◌≡◌, ◌+◌, ◌<◌, ◌≤◌, ◌^◌, ◌/◌, ◌%◌, ◌++◌, ◌&&◌, not, take, length, decimal};
+ghost use Rattle.std.specs.Prelude.{◌≡◌, ◌+◌, ◌-◌, ◌<◌, ◌≤◌, ◌^◌, ◌/◌, ◌%◌, ◌++◌, ◌&&◌, not, codes, take, length, decimal};
 ghost use Rattle.std.specs.Fmt.{signed_decimal};
 ghost use Rattle.tds_values.specs.ScalarText.{last_digits, fraction_text, minus_if, decimal_text};
 
-use crate::digits::{put_byte, put_end, put_minus, put_number, put_tail};
+use crate::digits::{needless, put_after, put_byte, put_end, put_minus, put_number, put_tail};
 use crate::text::LONGEST_TEXT;
 
 // The last k digits of a number, if they are more than eight.
@@ -148,6 +148,68 @@ pub(crate) fn put_sign(to: &mut [u8], at: usize, negative: bool, zero: bool) -> 
     put_minus(to, at, negative && !zero)
 }
 
+// Eight digits without the first ones, which aren't wanted, and a point among them.
+#[inline(always)]
+fn put_pointed(to: &mut [u8], at: usize, skipped: usize, scale: usize, n: u32) -> usize
+    requires room { at + 17 ≤ length to.old }
+    requires some { 1 ≤ scale }
+    requires few { skipped + scale ≤ 7 }
+    requires small { n < 100000000 }
+    ensures end { result ≡ at + (9 - skipped) }
+    ensures written { take result to.new ≡
+        take at to.old ++ (last_digits (8 - scale - skipped) (n / 10 ^ scale) ++ (codes "." ++ last_digits scale n)) }
+{
+    put_after(to, at, skipped, n);
+    let at = put_byte(to, at + (8 - scale - skipped), b'.');
+    put_tail(to, at, scale, n)
+}
+
+// A number of units of a scale, of at most eight digits.
+#[inline(always)]
+fn put_few_units(to: &mut [u8], at: usize, scale: usize, n: u32) -> usize
+    requires room { at + 17 ≤ length to.old }
+    requires some { 1 ≤ scale }
+    requires few { scale ≤ 7 }
+    requires small { n < 100000000 }
+    ensures end { result ≤ at + 9 }
+    ensures written { take result to.new ≡
+        take at to.old ++ (decimal (n / 10 ^ scale) ++ (codes "." ++ last_digits scale n)) }
+{
+    let skipped = needless(n).min(7 - scale);
+    put_pointed(to, at, skipped, scale, n)
+}
+
+// The same of any number of digits.
+#[inline(always)]
+fn put_units(to: &mut [u8], at: usize, scale: usize, n: u64) -> usize
+    requires room { at + 41 ≤ length to.old }
+    requires some { 1 ≤ scale }
+    requires few { scale ≤ 7 }
+    ensures end { result ≤ at + 33 }
+    ensures written { take result to.new ≡
+        take at to.old ++ (decimal (n / 10 ^ scale) ++ (codes "." ++ last_digits scale n)) }
+{
+    if n < 100_000_000 {
+        return put_few_units(to, at, scale, n as u32);
+    }
+    let at = put_number(to, at, n / 100_000_000);
+    put_pointed(to, at, 0, scale, (n % 100_000_000) as u32)
+}
+
+// The same of any scale; no point at scale 0.
+#[inline(never)]
+fn put_parts(to: &mut [u8], at: usize, magnitude: u64, scale: u8) -> usize
+    requires room { at + 49 ≤ length to.old }
+    requires scale { scale ≤ 19 }
+    ensures end { result ≤ at + 40 }
+    ensures written { take result to.new ≡
+        take at to.old ++ (decimal (magnitude / 10 ^ scale) ++ fraction_text scale magnitude) }
+{
+    let whole = whole(scale, magnitude);
+    let at = put_number(to, at, whole);
+    put_long_fraction(to, at, scale, rest(scale, magnitude, whole))
+}
+
 // A decimal whose magnitude has 64 bits.
 #[inline(always)]
 pub(crate) fn put_decimal(
@@ -162,8 +224,9 @@ pub(crate) fn put_decimal(
     ensures end { result ≤ at + LONGEST_TEXT }
     ensures written { take result to.new ≡ take at to.old ++ decimal_text negative magnitude scale }
 {
-    let whole = whole(scale, magnitude);
     let at = put_sign(to, at, negative, magnitude == 0);
-    let at = put_number(to, at, whole);
-    put_long_fraction(to, at, scale, rest(scale, magnitude, whole))
+    if scale == 0 || scale > 7 {
+        return put_parts(to, at, magnitude, scale);
+    }
+    put_units(to, at, scale as usize, magnitude)
 }

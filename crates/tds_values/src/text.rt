@@ -4,7 +4,7 @@ ghost use Rattle.tds_values.specs.ScalarRange.{is_in_range};
 ghost use Rattle.tds_values.specs.Written.{IsLocalText, IsText};
 
 use crate::digits::put_byte;
-use crate::moments::{put_date, put_minute, put_moment, put_offset, put_ticks};
+use crate::moments::{put_date, put_minutes, put_moment, put_offset, put_ticks};
 use crate::numbers::{put_decimal, rest};
 use crate::ranges::{
     DAY_OF_1900, LARGEST_OFFSET, MINUTES_A_DAY, SECONDS_A_DAY, SECONDS_OF_ALL_DAYS,
@@ -72,7 +72,7 @@ pub(crate) fn put_small_date_time(to: &mut [u8], days: u16, minutes: u16) -> usi
     ensures { IsText (ScalarValue.SmallDateTime days minutes) result to.new }
 {
     let at = put_date(to, 0, DAY_OF_1900 + days as u32);
-    put_minute(to, at + 1, minutes as u32)
+    put_minutes(to, at + 1, minutes as u32) + 3
 }
 
 // A datetime: days since 1900-01-01, and 1/300 seconds.

@@ -1,8 +1,5 @@
 use Rattle.tds_values.proofs.numbers.put_decimal.Goals as goal
-use Rattle.tds_values.proofs.{Words.{arith, append_assoc}, DigitLemmas.fraction_rest, Joining.end_of, TextLengths.length-whole}
-
-pub returns-clause-end : goal.returns-clause-end
-returns-clause-end c = let long = length-whole c.args.magnitude c.args.scale (omega arith) (omega arith) in grind (arith, end_of)
+use Rattle.tds_values.proofs.Words.{arith, append_assoc}
 
 pub returns-clause-written : goal.returns-clause-written
-returns-clause-written c = grind (arith, append_assoc, (fraction_rest c.args.scale c.args.magnitude))
+returns-clause-written c = grind (arith, append_assoc)
