@@ -68,7 +68,7 @@ units_last scale skipped n few fits needed small =
     let some = one-le-pow scale 10 (omega arith) in
     let below : n / 10 ^ scale < 10 ^ suc k = div_below n (10 ^ scale) (10 ^ suc k) some (rw (← pow-add 10 (suc k) scale, ← all) fits) in
     let low : (k ≡ 0) ⊎ (10 ^ k ≤ n / 10 ^ scale) = ⊎_elim (λ e. inl (omega arith))
-        (λ h. inr (le-div (10 ^ k) n (10 ^ scale) some (let e : k + scale ≡ 7 - skipped = omega arith in rw (← pow-add 10 k scale, e) h))) needed in
+    (λ h. inr (le-div (10 ^ k) n (10 ^ scale) some (let e : k + scale ≡ 7 - skipped = omega arith in rw (← pow-add 10 k scale, e) h))) needed in
     rw width (decimal_last k (n / 10 ^ scale) low below (omega arith))
 
 -- with the needless zeros of eight digits, but for the last before the point
@@ -76,10 +76,10 @@ pub decimal_units : (scale zeros n : ℕ) → 1 ≤ scale → scale ≤ 7 → n 
     → decimal (n / 10 ^ scale) ≡ last_digits (8 - scale - min zeros (7 - scale)) (n / 10 ^ scale)
 decimal_units scale zeros n some few small most fits needed = ⊎_elim
     (λ h. let few_zeros : min zeros (7 - scale) ≡ zeros = omega arith in
-        rw few_zeros (units_last scale zeros n (omega arith) fits (⊎_elim (λ e. absurd (omega arith)) inr needed) small))
+    rw few_zeros (units_last scale zeros n (omega arith) fits (⊎_elim (λ e. absurd (omega arith)) inr needed) small))
     (λ h. let all_but_one : min zeros (7 - scale) ≡ 7 - scale = omega arith in
-        let power : 10 ^ (8 - zeros) ≤ 10 ^ (8 - (7 - scale)) = pow-le-pow_right {n = 10} (omega arith) (omega arith) in
-        rw all_but_one (units_last scale (7 - scale) n (omega arith) (omega arith) (inl (omega arith)) small))
+    let power : 10 ^ (8 - zeros) ≤ 10 ^ (8 - (7 - scale)) = pow-le-pow_right {n = 10} (omega arith) (omega arith) in
+    rw all_but_one (units_last scale (7 - scale) n (omega arith) (omega arith) (inl (omega arith)) small))
     (cases_lt zeros (8 - scale))
 
 -- the whole part of units of a scale that have more than eight digits
@@ -92,9 +92,9 @@ decimal_above scale n few many fits =
     let whole : n / 10 ^ scale / 10 ^ (8 - scale) ≡ n / 100000000 = grind (arith, (div-div-eq-div-mul n (10 ^ scale) (10 ^ (8 - scale)))) in
     let low : 10 ^ (8 - scale) ≤ n / 10 ^ scale = le-div (10 ^ (8 - scale)) n (10 ^ scale) some (omega (arith, power)) in
     let parts : n % 100000000 + 10 ^ scale * (10 ^ (8 - scale) * (n / 100000000)) ≡ n =
-        omega (arith, ap (λ p. p * (n / 100000000)) power) in
+    omega (arith, ap (λ p. p * (n / 100000000)) power) in
     let above : n / 10 ^ scale ≡ 10 ^ (8 - scale) * (n / 100000000) + n % 100000000 / 10 ^ scale =
-        omega (arith, ap (λ m. m / 10 ^ scale) parts, add-mul-div_left (n % 100000000) (10 ^ (8 - scale) * (n / 100000000)) some) in
+    omega (arith, ap (λ m. m / 10 ^ scale) parts, add-mul-div_left (n % 100000000) (10 ^ (8 - scale) * (n / 100000000)) some) in
     let last = last_digits-above (8 - scale) (n / 100000000) (n % 100000000 / 10 ^ scale) in
     let longer : 64 ≤ 64 + scale = omega arith in
     let more : 10 ^ 64 ≤ 10 ^ (64 + scale) = pow-le-pow_right {n = 10} (omega arith) longer in
