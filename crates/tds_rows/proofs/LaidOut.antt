@@ -3,9 +3,10 @@ use Rattle.tds_rows.proofs.{
   Words.{common_steps, false≢true, slice_index, ◌≤◌, ◌&&◌, sym, take, drop, length-drop, length-take-le, is_int4, AreInt4, IsInt4, ◌≡◌, ℕ, ◌<◌, Bool, true},
   Words.{false, List, length, replicate, get_or, refl, arith, ◌==◌, slice_set, get_or-set_at, get_or-replicate, get_or-set_other, length-replicate, length-set},
   Words.{Kind, Reach, is_scalar, eq_false, eq_true, Content, Conversion, Charset, Form, Layout, LongShape, shape, value_length, value_start, whole_size, Each},
-  Words.{HasValueAt, IsLaidOut, short_size},
+  Words.{HasValueAt, IsLaidOut, short_size, ◌+◌, Option, Some, None, inl, inr, fixed_length, IsLeft, length_after, start_after, scalar_size},
+  CellSteps.fixed_some,
 }
-use Rattle.tds_rows.specs.declared.cell.layout.Layout.TheVariants.{Counted, Fixed, Short as ShortLayout}
+use Rattle.tds_rows.specs.declared.cell.layout.Layout.TheVariants.{Chunked, Counted, Fixed, Short as ShortLayout}
 
 -- the same form many times
 pub each_all : (P : Form → Type 0) (n : ℕ) (f : Form) → P f → Each P (replicate n f)
@@ -56,3 +57,21 @@ module _ (charset : Charset) (kind : Kind) where
   -- how many bytes its cell has
   pub short_whole : (content : Content) (bytes : List ℕ) → IsLaidOut charset kind (ShortLayout content) → short_size bytes ≡ whole_size kind bytes
   short_whole content bytes laid = grind (arith, is_long_kind)
+
+-- a scalar cell has some bytes
+scalar_some : (kind : Kind) (bytes : List ℕ) → 0 < scalar_size kind bytes
+scalar_some kind bytes = go (fixed_length kind) refl
+  where
+    go : (o : Option ℕ) → fixed_length kind ≡ o → 0 < start_after o + length_after o bytes
+    go (Some n) is = omega (arith, fixed_some kind n is)
+    go None is = omega arith
+
+-- where there are no bytes, a cell is left
+pub empty_left : (charset : Charset) (kind : Kind) (l : Layout) (bytes : List ℕ) (room : ℕ) → IsLaidOut charset kind l
+    → ((content : Content) → l ≡ ShortLayout content → ⊥) → length bytes ≡ 0 → IsLeft charset kind bytes room
+empty_left charset kind (Fixed n) bytes room laid other none =
+    inl ((value_there charset kind (Fixed n) bytes 0 n laid (refl, refl)).0, inl (omega (arith, scalar_some kind bytes)))
+empty_left charset kind Counted bytes room laid other none =
+    inl ((value_there charset kind Counted bytes 1 (slice_index bytes 0) laid (refl, refl)).0, inl (omega (arith, scalar_some kind bytes)))
+empty_left charset kind (ShortLayout content) bytes room laid other none = absurd (other content refl)
+empty_left charset kind (Chunked content) bytes room laid other none = grind (arith, common_steps, is_long_kind)

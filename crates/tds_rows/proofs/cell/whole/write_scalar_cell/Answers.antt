@@ -1,10 +1,10 @@
-use Rattle.tds_rows.proofs.cell.whole.write_cell.Goals as goal
+use Rattle.tds_rows.proofs.cell.whole.write_scalar_cell.Goals as goal
 use Rattle.tds_rows.proofs.{
   Words.{inl, ◌≡◌, ◌∙◌, ◌+◌, ◌-◌, ℕ, take, drop, sym, ap, subst, arith, rules, is_ok, in_line, cell_start, shape, HasValueAt, IsValueText, WritesCell},
   BufferedCells.{null_cell, refused_left, value_cell},
-  LaidOut.{counted_there, fixed_there, value_there},
+  LaidOut.{counted_there, empty_left, fixed_there, value_there},
   RunSteps.writes_scalar,
-  cell.whole.write_cell.Goals.{in-Fixed, in-Counted+else-is_empty},
+  cell.whole.write_scalar_cell.Goals.{in-Fixed, in-Counted},
 }
 
 pub returns-then-n-eq0-clause-field : goal.returns-then-n-eq0-clause-field
@@ -14,7 +14,7 @@ returns-then-n-eq0-clause-field c = λ column last.
     let there : HasValueAt c.args.form.now.layout c.args.bytes.now c.match-form.start.0 c.match-form.start.1 =
     elim c.match-form.branch [
       | in-Fixed w ↦ fixed_there _ w.in-Fixed.is w.start-is
-      | in-Counted+else-is_empty w ↦ counted_there _ w.in-Counted.is
+      | in-Counted w ↦ counted_there _ w.in-Counted.is
           w.start-is
     ] in
     let at = value_there _ _ _ _ _ _ c.requires.laid there in
@@ -30,7 +30,7 @@ returns-in-Ok-clause-field c = λ column last.
     let there : HasValueAt c.args.form.now.layout c.args.bytes.now c.match-form.start.0 c.match-form.start.1 =
     elim c.match-form.branch [
       | in-Fixed w ↦ fixed_there _ w.in-Fixed.is w.start-is
-      | in-Counted+else-is_empty w ↦ counted_there _ w.in-Counted.is
+      | in-Counted w ↦ counted_there _ w.in-Counted.is
           w.start-is
     ] in
     let at = value_there _ _ _ _ _ _ c.requires.laid there in
@@ -48,8 +48,12 @@ returns-in-Err-clause-field c =
     let there : HasValueAt c.args.form.now.layout c.args.bytes.now c.match-form.start.0 c.match-form.start.1 =
     elim c.match-form.branch [
       | in-Fixed w ↦ fixed_there _ w.in-Fixed.is w.start-is
-      | in-Counted+else-is_empty w ↦ counted_there _ w.in-Counted.is
+      | in-Counted w ↦ counted_there _ w.in-Counted.is
           w.start-is
     ] in
     let at = value_there _ _ _ _ _ _ c.requires.laid there in
     inl (at.0, refused_left _ _ _ _ at.1.0 at.1.1 c.if-n-eq0.false (ap is_ok c.in-Err.ensures.refused))
+
+pub returns-then-is_empty-clause-field : goal.returns-then-is_empty-clause-field
+returns-then-is_empty-clause-field c =
+    empty_left c.args.charset c.args.form.now.kind c.args.form.now.layout c.args.bytes.now _ c.requires.laid c.requires.other (search (arith, rules))
