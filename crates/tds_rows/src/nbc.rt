@@ -1,9 +1,8 @@
 // A row with a bitmap of the columns that are NULL, and such rows after one another (MS-TDS, NBCROW).
-ghost use Rattle.std.specs.Prelude.{◌≡◌, true, ◌*◌, ◌<◌, ◌≤◌, length, if◌then◌else◌, is_ok, ℕ, ◌+◌, ◌++◌, List, None, false, IfOk};
+ghost use Rattle.std.specs.Prelude.{◌≡◌, true, ◌*◌, ◌<◌, ◌≤◌, length, ℕ, ◌+◌, ◌++◌, List, None, false, IfOk};
 ghost use Rattle.tds_rows.specs.MarkedRuns.{AreClear, EndsClear, EndsLeft, EndsMarked, MarkedPut, MarkedWritten, room_left};
 ghost use Rattle.tds_rows.specs.Rows.{bit, NbcRow, SpellsNbcRow, bitmap_length, longest_bitmap, nbc_row_start};
 ghost use Rattle.tds_columns.specs.Description.{Column};
-ghost use Rattle.tds_columns.specs.Elements.{ElementRead, LeavesArea};
 ghost use Rattle.tds_columns.specs.View.{columns_of};
 ghost use Rattle.tds_csv.specs.Sinks.{IsReady, IsWriting, LeavesSink};
 ghost use Rattle.tds_packet.specs.Payloads.{IsGoing, IsSound, LeavesPayload, buffered};
@@ -19,7 +18,7 @@ ghost use Rattle.tds_rows.specs.Tables.{Knows};
 
 use crate::cell::layout::Form;
 use crate::cell::whole::{CELL_ROOM, put_null};
-use crate::rows::{BLOCK_END, Rows, SHORT_TEXT};
+use crate::rows::{BLOCK_END, Rows, SHORT_TEXT, earlier_stop};
 use crate::run::{CellRun, run_cells};
 use crate::table::{Ahead, Table};
 use std::io::{Read, Write};
@@ -129,27 +128,6 @@ fn bitmap_size(columns: u16) -> usize
     (columns as usize + 7) / 8
 }
 
-// Reads a bitmap of `n` bytes to the end of an area that has room for it: at once, if it is whole in the packet.
-#[inline(always)]
-fn read_bitmap<R: Read>(payload: &mut Payload<R>, bitmap: &mut Area, n: usize) -> Result<(), Stop>
-    requires going { IsGoing payload.old }
-    requires fits { length bitmap.old.bytes + n ≤ bitmap.old.room }
-    ensures payload { LeavesPayload payload.old payload.new result }
-    ensures place { payload.new.place ≡ (if is_ok result then payload.old.place + n else payload.old.place) }
-    ensures area { LeavesArea bitmap.old bitmap.new n result }
-    ensures gives { ElementRead R.remaining payload.old payload.new bitmap.old bitmap.new n result }
-{
-    let bytes = payload.buffered();
-    if bytes.len() < n {
-        return take_into(payload, bitmap, n);
-    }
-    let Ok(()) = bitmap.append(&bytes[..n]) else {
-        unreachable!()
-    };
-    payload.consume(n);
-    Ok(())
-}
-
 impl<'r, 't, 'p, 's, 'c, R: Read, W: Write> Rows<'r, 't, 'p, 's, 'c, R, W> {
     // Takes the next cells of an NBCROW, as many as are NULL by their bit or whole in the packet, aren't in
     // chunks and have room in the block, puts their text where it waits, and returns the place after them. It reads
@@ -221,7 +199,7 @@ impl<'r, 't, 'p, 's, 'c, R: Read, W: Write> Rows<'r, 't, 'p, 's, 'c, R, W> {
         ensures row { (columns : List Column) → Knows self.old.table.now columns →
             RowRead R.remaining W.contents (nbc_row_start columns) self.old self.new result }
     {
-        read_bitmap(self.payload, bitmap, bitmap_size(self.table.count()))?;
+        take_into(self.payload, bitmap, bitmap_size(self.table.count()))?;
         let mut ahead = self.table.start();
         loop {
             let at = self.put_nulls(ahead, bitmap.bytes())?;
@@ -293,10 +271,7 @@ pub fn nbc_row<R: Read, W: Write>(
     ensures again { StopsAgain W.contents payload.old payload.new sink.old sink.new result }
 {
     bitmap.clear();
-    if let Some(stop) = payload.stopped() {
-        return Err(stop);
-    }
-    if let Some(stop) = sink.failure() {
+    if let Some(stop) = earlier_stop(payload, sink) {
         return Err(stop);
     }
     let table = Table::of(columns, charset);

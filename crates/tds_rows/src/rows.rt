@@ -10,7 +10,7 @@ ghost use Rattle.tds_columns.specs.View.{columns_of};
 ghost use Rattle.tds_csv.specs.Sinks.{IsReady, IsWriting, LeavesSink};
 ghost use Rattle.tds_packet.specs.Payloads.{IsGoing, IsSound, LeavesPayload, buffered};
 ghost use Rattle.tds_rows.specs.CellSteps.{LeavesSmall, longest_cell};
-ghost use Rattle.tds_rows.specs.RowSteps.{RowPut, RowsRead, StopsAgain};
+ghost use Rattle.tds_rows.specs.RowSteps.{IsEarlierStop, RowPut, RowsRead, StopsAgain};
 ghost use Rattle.tds_rows.specs.Runs.{RowsPut};
 ghost use Rattle.tds_rows.specs.MarkedRuns.{MarkedWritten};
 ghost use Rattle.tds_rows.specs.RowRuns.{IsFurther, MarkedRead, RunRead};
@@ -75,9 +75,7 @@ impl<'r, 't, 'p, 's, 'c, R: Read, W: Write> Rows<'r, 't, 'p, 's, 'c, R, W> {
         let place = self.payload.place();
         gather_scalar(self.payload, &form.kind, at.column, self.small)?;
         let mut text = [0u8; CELL_ROOM];
-        let (charset, last) = (self.table.charset, self.table.is_last(at));
-        let bytes = self.small.bytes();
-        let Some(cell) = write_alone(form, charset, at.column, last, bytes, &mut text) else {
+        let Some(cell) = write_alone(self.table, at, form, self.small.bytes(), &mut text) else {
             let fault = Fault::BadValue { column: at.column };
             return Err(Stop::in_payload(fault, place + length_size(&form.kind) as u64));
         };
@@ -122,13 +120,12 @@ impl<'r, 't, 'p, 's, 'c, R: Read, W: Write> Rows<'r, 't, 'p, 's, 'c, R, W> {
         requires { IsAtCell self.old at form.now }
         ensures { CellRead R.remaining W.contents at.entry form.now.kind self.old self.new result }
     {
-        let (charset, column, last) = (self.table.charset, at.column, self.table.is_last(at));
         let mut text = [0u8; SHORT_TEXT];
-        let bytes = self.payload.buffered();
-        if let Some(cell) = write_alone(form, charset, column, last, bytes, &mut text) {
+        if let Some(cell) = write_alone(self.table, at, form, self.payload.buffered(), &mut text) {
             self.payload.consume(cell.used);
             return self.sink.put(&text[..cell.made]);
         }
+        let (column, last) = (at.column, self.table.is_last(at));
         match form.layout {
             Layout::Fixed(_) | Layout::Counted => self.put_gathered(at, form),
             Layout::Short(content) => self.put_joined(content, Reach::Short, column, last),
@@ -259,6 +256,16 @@ impl<'r, 't, 'p, 's, 'c, R: Read, W: Write> Rows<'r, 't, 'p, 's, 'c, R, W> {
     }
 }
 
+/// The stop of a payload or a sink that had stopped, the payload's first.
+pub(crate) fn earlier_stop<R: Read, W: Write>(payload: &Payload<R>, sink: &Sink<W>) -> Option<Stop>
+    ensures { IsEarlierStop W.contents payload.now sink.now result }
+{
+    if let Some(stop) = payload.stopped() {
+        return Some(stop);
+    }
+    sink.failure()
+}
+
 /// Reads a ROW after its token byte, and puts its line (MS-TDS, ROW). The cells before a stop count,
 /// with their text, and so does the text so far of a long value. [`Fault::BadValueLength`] is at the
 /// length byte that isn't allowed, and [`Fault::BadValue`] at the first byte of the value out of range. The
@@ -289,10 +296,7 @@ pub fn row<R: Read, W: Write>(
         SucceedsOn R.remaining payload.old payload.new sink.old sink.new result (bytes ++ more) }
     ensures again { StopsAgain W.contents payload.old payload.new sink.old sink.new result }
 {
-    if let Some(stop) = payload.stopped() {
-        return Err(stop);
-    }
-    if let Some(stop) = sink.failure() {
+    if let Some(stop) = earlier_stop(payload, sink) {
         return Err(stop);
     }
     let table = Table::of(columns, charset);

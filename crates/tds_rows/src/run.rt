@@ -1,5 +1,5 @@
 // A run of cells: as many as are whole in the packet and have room, over the ends of rows.
-ghost use Rattle.std.specs.Prelude.{true, ◌≡◌, ◌+◌, ◌-◌, ◌<◌, ◌≤◌, Bool, drop, length, take, IfSome};
+ghost use Rattle.std.specs.Prelude.{true, ◌≡◌, ◌==◌, ◌+◌, ◌-◌, ◌<◌, ◌≤◌, Bool, drop, length, take, IfSome};
 ghost use Rattle.tds_rows.specs.declared.cell.whole.TheConstants.{CELL_ROOM};
 ghost use Rattle.tds_rows.specs.FormRuns.{NumbersEnd};
 ghost use Rattle.tds_rows.specs.Layouts.{IsLaidOut};
@@ -10,7 +10,6 @@ use crate::cell::layout::Form;
 use crate::cell::whole::{CELL_ROOM, Written};
 use crate::run::forms::{latest_row, run_forms, run_row};
 use crate::table::{Ahead, Table};
-use tds_values::Charset;
 
 pub(crate) mod forms;
 
@@ -135,25 +134,26 @@ pub(crate) fn run_cells<'a, const KNOWN: bool>(
     run_unknown(table, from, end, bytes, to)
 }
 
-/// Writes only the cell of a form. `None` if it isn't whole in these bytes, is refused or in chunks, or if there isn't
+/// Writes only the next cell, which is of this form. `None` if it isn't whole in these bytes, is refused or in chunks, or if there isn't
 /// the room that the text of a short value may need.
 #[inline(never)]
 pub(crate) fn write_alone(
+    table: &Table<'_>,
+    at: Ahead<'_>,
     form: &Form,
-    charset: Charset,
-    column: u16,
-    last: bool,
     bytes: &[u8],
     to: &mut [u8],
 ) -> Option<Written>
-    requires laid { IsLaidOut charset form.now.kind form.now.layout }
+    requires within { at.column < table.now.count }
+    requires laid { IsLaidOut table.now.charset form.now.kind form.now.layout }
     requires room { CELL_ROOM ≤ length to.old }
     ensures used { IfSome result (λ written. written.used ≤ length bytes.now) }
     ensures most { IfSome result (λ written. written.made ≤ length to.old) }
-    ensures cell { AloneWritten charset form.now.kind column last bytes.now (length to.old) to.new result }
+    ensures cell { AloneWritten table.now.charset form.now.kind at.entry.column (at.entry.column + 1 == table.now.count)
+        bytes.now (length to.old) to.new result }
 {
     let one = [*form];
-    let run = run_forms(&one, charset, column, last, bytes, to);
+    let run = run_forms(&one, table.charset, at.column, table.is_last(at), bytes, to);
     if run.cells == 0 {
         return None;
     }

@@ -16,6 +16,7 @@ ghost use Rattle.tds_values.specs.declared.kind.Kind.{Kind};
 
 use crate::cell::lengths::{read_chunk_length, read_short_length, read_total};
 use crate::cell::whole::put_null;
+use crate::rows::earlier_stop;
 use std::io::{Read, Write};
 use tds_csv::{JoinFault, Joiner, Sink, write_comma, write_line_end};
 use tds_packet::{Fault, Payload, Stop};
@@ -289,10 +290,7 @@ pub fn stream_value<J: Joiner + Drop, R: Read, W: Write>(
         SucceedsOn R.remaining payload.old payload.new sink.old sink.new result (bytes ++ more) }
     ensures again { StopsAgain W.contents payload.old payload.new sink.old sink.new result }
 {
-    if let Some(stop) = payload.stopped() {
-        return Err(stop);
-    }
-    if let Some(stop) = sink.failure() {
+    if let Some(stop) = earlier_stop(payload, sink) {
         return Err(stop);
     }
     J::laws();

@@ -8,4 +8,4 @@ returns-then-run-eq0-clause-cell c = elim (c.run_forms-run.ensures.ends c.if-run
 pub returns-clause-cell : goal.returns-clause-cell
 returns-clause-cell c =
     let run = c.run_forms-run in
-    rw (and-true c.args.last) at (run.ensures.one (omega (arith, c.if-run-eq0.false, run.ensures.within.cells)) c.args.form.now [] refl)
+    rw (and-true c.is_last.result, c.is_last.ensures) at (run.ensures.one (omega (arith, c.if-run-eq0.false, run.ensures.within.cells)) c.args.form.now [] refl)

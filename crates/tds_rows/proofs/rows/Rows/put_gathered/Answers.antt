@@ -20,7 +20,7 @@ pub returns-in_default : goal.returns-in_default
 returns-in_default g c = record {
   leaves = search (arith, rules);
   cell = λ last next.
-      let x = rw (sym c.bytes-bytes.ensures.value) at (c.in_ok-gather_scalar.ensures.cell c.args.self.now.table.now.charset) in
+      let x = rw (sym c.bytes.ensures.value) at (c.in_ok-gather_scalar.ensures.cell c.args.self.now.table.now.charset) in
       let stops = left_stalls x (scalar_left _ _ _ _ c.requires.scalar c.in_default.ensures.cell) in
       rw (
         c.requires.next.in_row.sink.writing,
@@ -36,10 +36,10 @@ returns g c = record {
   cell = λ last next.
       let kind = c.args.form.now.kind in
       let charset = c.args.self.now.table.now.charset in
-      let bytes = c.bytes-bytes.result.now in
-      let end = c.is_last-last.ensures ∙ last_one _ _ _ _ _ next.knows.counted next.next ∙ sym next.last in
+      let bytes = c.bytes.result.now in
+      let end = last_one _ _ _ _ _ next.knows.counted next.next ∙ sym next.last in
       let alone = rw end at c.in-Some.ensures.cell in
-      let x = rw (sym c.bytes-bytes.ensures.value) at (c.in_ok-gather_scalar.ensures.cell charset) in
+      let x = rw (sym c.bytes.ensures.value) at (c.in_ok-gather_scalar.ensures.cell charset) in
       let all : take c.in-Some.cell.used bytes ≡ bytes =
       take_all c.in-Some.cell.used bytes (omega (arith, x.whole, alone.size, scalar_whole kind bytes c.requires.scalar)) in
       let reads = cell_reads _ c.args.at.column last _ _ _ _ bytes (take c.in-Some.cell.made c.write_alone.new.to)
