@@ -31,7 +31,7 @@ module _ (bitmap : List ℕ) (at : ℕ) where
         | yes lt ↦ omega arith
         | no above ↦
             let none : bit_at bits t ≡ 0 = rw (div-div-eq-div-mul, ← pow-add) (bit_at_above (slice_index bitmap (at / 8)) 8 _ fits (omega arith)) in
-            absurd (omega (arith, none, low.1))
+            absurd (omega (arith, none))
       ] in (
         λ k least most.
             let there : at + (k - at) ≡ k = omega arith in

@@ -95,23 +95,23 @@ module _ (charset : Charset) (kind : Kind) (column : ℕ) (last : Bool) (bytes t
 -- a whole number of four bytes is read alike in each of its kinds
 pub int4_reads : (kind : Kind) (bytes : List ℕ) → IsInt4 kind → length bytes ≡ 4 → (is_scalar kind ≡ true)
     × (read_of kind bytes ≡ read_of (IntN 4) bytes)
-int4_reads kind bytes number four = grind (arith, common_steps)
+int4_reads kind bytes number four = grind arith
 
 -- its kinds are scalar ones
 pub int4_scalar : (kind : Kind) → IsInt4 kind → is_scalar kind ≡ true
-int4_scalar kind number = grind (arith, common_steps)
+int4_scalar kind number = grind arith
 
 -- one that may be NULL comes after its length
 pub int4_start : {kind : Kind} {n : ℕ} → IsInt4 kind → kind ≡ IntN n → (bytes : List ℕ) → (is_scalar kind ≡ true)
     × ((1 ≡ value_start kind) × (value_length kind bytes ≡ slice_index bytes 0))
-int4_start number is bytes = grind (arith, common_steps)
+int4_start number is bytes = grind arith
 
 -- a cell whose value is refused is left
 pub refused_left : (kind : Kind) (bytes : List ℕ) (start n : ℕ) → start ≡ value_start kind → n ≡ value_length kind bytes → n ≢ 0
     → is_ok (read_of kind (take ((start + n) - start) (drop start bytes))) ≡ false → IsScalarLeft kind bytes
 refused_left kind bytes start n at many some bad =
     let after : (start + n) - start ≡ value_length kind bytes = omega (arith, many) in
-    inr (omega (arith, some, many), rw (after, at) at bad)
+    inr (omega (arith, many), rw (after, at) at bad)
 
 -- bytes that are a cell were read
 pub cell_reads : (from : CellPart) (column : ℕ) (last : Bool) (a b : Seen) (place place' : ℕ) (bytes text : List ℕ)

@@ -17,7 +17,7 @@ pub unless_true : (b : Bool) (f : Fault) → b ≡ true → unless b f ≡ None
 unless_true b f h = rw h
 
 is_known : (n : ℕ) → n < unknown_total → known_total n ≡ Some n
-is_known n h = grind (arith, common_steps, choose_false, ne_eqb)
+is_known n h = grind (arith, choose_false, ne_eqb)
 
 within_known : (t n : ℕ) → n ≤ t → within_total (Some t) n ≡ true
 within_known t n h = grind (arith, nat_tests)

@@ -97,7 +97,7 @@ module _ {fit begins : List ℕ → Type 0} {rest text : List ℕ → List ℕ} 
     -- the content is whole
     pub end_whole : {new : List ℕ} {h i : Held} → Completes fit text old new h i → IsFit c content
         × Puts h i (conversion_text c (conversion_rest c content))
-    end_whole x = grind (arith, common_steps, fit_whole)
+    end_whole x = grind (arith, fit_whole)
 
     -- it isn't
     end_part : {new : List ℕ} {h i : Held} → LeavesPart fit old new h i → IsFit c content → ⊥
@@ -191,17 +191,13 @@ module _ {c : Conversion} {content kept : List ℕ} {p q : At} {n left : ℕ} (b
       → StopsData c (content ++ x.more) column left q.seen d q.place q.held j failed stop
       → StopsFilling c content column n p.seen d p.place p.held j failed stop
   filled_stops {column = column} {d = d} {j = j} {failed = failed} {stop = stop} some y =
-      let rest : left ≡ n - length x.more = omega (arith, x.counted) in
+      let rest : left ≡ n - length x.more = omega arith in
       record {
         front = x.more;
         middle = q.seen;
         there = q.place;
         between = q.held;
-        fewer = omega (
-          arith,
-          x.counted,
-          some,
-        );
+        fewer = omega arith;
         fills = x.fills;
         stops = rw (← rest) y;
       }

@@ -45,11 +45,11 @@ module _ (charset : Charset) (kind : Kind) where
   -- it is that of a scalar kind
   pub value_there : (l : Layout) (bytes : List ℕ) (start n : ℕ) → IsLaidOut charset kind l → HasValueAt l bytes start n → (is_scalar kind ≡ true)
       × ((start ≡ value_start kind) × (n ≡ value_length kind bytes))
-  value_there l bytes start n laid h = grind (arith, common_steps)
+  value_there l bytes start n laid h = grind arith
 
   -- a kind whose values have contents is a long one
   is_long_kind : (c : Conversion) (r : Reach) → shape charset kind ≡ LongShape c r → is_scalar kind ≡ false
-  is_long_kind c r is = grind (arith, common_steps)
+  is_long_kind c r is = grind arith
 
   -- ---- a cell that is left, and a short value
 

@@ -89,7 +89,7 @@ module _ (charset : Charset) (cells : List Cell) (ks : List (Column × Bool)) wh
       → Writes (cell (length cells)) (cell_so_far (length cells) (ends ks)) (cell_start c.kind (shape charset c.kind)) bytes made (WholeCell v)
       → Writes (row charset) row_so_far (next_cell charset cells ((c, false) ∷ ks)) bytes made (next_cell charset (cells ++ v ∷ []) ks)
   row_cell c none x = rw begins_open at (writes_inside {whole = row_so_far} front (cell_in_row charset cells ks)
-      (grind (arith, common_steps, append-nil, part_text)) x)
+      (grind (arith, append-nil, part_text)) x)
 
 -- ---- column after column
 
@@ -143,7 +143,7 @@ cell_path charset c cells counted none y =
     (z.value, path_map (λ a m. row_cell _ _ _ c (rw counted none)) (path_of z.streams z.place_is))
 
 further : (a b e l : List ℕ) (m n k : ℕ) → b ++ e ≡ l → n ≡ m + length a → k ≡ n + length l → k ≡ m + length ((a ++ b) ++ e)
-further a b e l m n k joined first second = grind (arith, common_steps, length-append)
+further a b e l m n k joined first second = grind (arith, length-append)
 
 module _ {charset : Charset} {start : RowPart} {c : Column} {ks : List (Column × Bool)} {p q : At} {column : ℕ} where
   -- a NULL by its bit was put

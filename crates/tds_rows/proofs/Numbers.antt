@@ -29,7 +29,7 @@ pub record Next (column : ℕ) (s : CellPart) (a b : Seen) (place place' : ℕ) 
 -- a number was read, where one of so many bytes is next
 next_by : {column size place place' n : ℕ} {s t : CellPart} {a b : Seen} → 0 < size → cell_size s ≡ size → (x : ReadsNumber size a b place place' n)
     → cell_fault column s x.element ≡ None → cell_add s x.element ≡ t → Next column s a b place place' t
-next_by some is x free to = grind (arith, common_steps)
+next_by some is x free to = grind arith
 
 -- it was refused, or is cut
 number_stops : {column size place : ℕ} {s : CellPart} {fault : ℕ → Option Fault} {a b : Seen} {stop : Stop} → 0 < size → cell_size s ≡ size
@@ -43,14 +43,14 @@ number_stops some is end first (inr x) = cut_at_once _ _ _ _ _ _ _ _ (let few = 
 
 total_same : (column : ℕ) (c : Conversion) (size n : ℕ) (e : List ℕ) → size ≡ unit c → little e ≡ n
     → cell_fault column (Total c) e ≡ total_fault column size n
-total_same column c size n e unit_is is = grind (arith, common_steps, column)
+total_same column c size n e unit_is is = grind (arith, column)
 
 -- ---- the length of a short value
 
 module _ {column : ℕ} (c : Conversion) {size : ℕ} (unit_is : size ≡ unit c) where
   pub short_stops : {a b : Seen} {place : ℕ} {stop : Stop} → RefusesNumber 2 (short_fault column size) a b place stop ⊎ CutsNumber 2 a b place stop
       → StopsReading (cell column) (ShortLength c) a b place (ShortLength c) stop
-  short_stops x = number_stops (omega arith) refl refl (λ e n f is first. grind (arith, common_steps, column)) x
+  short_stops x = number_stops (omega arith) refl refl (λ e n f is first. grind (arith, column)) x
 
   -- as a call read it
   module _ {a b : Seen} {place place' : ℕ} {answer : Option ℕ} (x : (n : ℕ) × ReadsNumber 2 a b place place' n × (short_fault column size n ≡ None)
@@ -65,7 +65,7 @@ module _ {column : ℕ} (c : Conversion) {size : ℕ} (unit_is : size ≡ unit c
 
   pub total_stops : {a b : Seen} {place : ℕ} {stop : Stop} → RefusesNumber 8 (total_fault column size) a b place stop ⊎ CutsNumber 8 a b place stop
       → StopsReading (cell column) (Total c) a b place (Total c) stop
-  total_stops x = number_stops (omega arith) refl refl (λ e n f is first. grind (arith, common_steps, column)) x
+  total_stops x = number_stops (omega arith) refl refl (λ e n f is first. grind (arith, column)) x
 
   module _ {a b : Seen} {place place' : ℕ} {answer : Option (Option ℕ)} (x : (n : ℕ) × ReadsNumber 8 a b place place' n
       × (total_fault column size n ≡ None) × (answer ≡ total_of n)) where
@@ -84,12 +84,12 @@ module _ {column : ℕ} (c : Conversion) {size : ℕ} (unit_is : size ≡ unit c
   module _ {content : List ℕ} {sum : ℕ} (counted : length content ≡ sum) {a b : Seen} {place : ℕ} where
     pub chunk_stops : {stop : Stop} → RefusesNumber 4 (λ n. chunk_length_fault column size total sum n) a b place stop ⊎ CutsNumber 4 a b place stop
         → StopsReading (cell column) (ChunkLength c total content) a b place (ChunkLength c total content) stop
-    chunk_stops x = number_stops (omega arith) refl refl (λ e n f is first. grind (arith, common_steps)) x
+    chunk_stops x = number_stops (omega arith) refl refl (λ e n f is first. grind arith) x
 
     module _ {n place' : ℕ} (x : ReadsNumber 4 a b place place' n) (free : chunk_length_fault column size total sum n ≡ None) where
       -- the terminator was read, after content that is whole
       pub chunk_end : n ≡ 0 → is_fit c content ≡ true → Next column (ChunkLength c total content) a b place place' (WholeCell (DataCell c content))
-      chunk_end none fit = grind (arith, common_steps, next_by, unless_true, choose_true)
+      chunk_end none fit = grind (arith, next_by, unless_true, choose_true)
 
       -- after content that isn't, it is refused
       pub chunk_unfit : n ≡ 0 → is_fit c content ≡ false
@@ -100,7 +100,7 @@ module _ {column : ℕ} (c : Conversion) {size : ℕ} (unit_is : size ≡ unit c
 
       -- the length of a chunk was read
       pub chunk_start : n ≢ 0 → Next column (ChunkLength c total content) a b place place' (chunk_left c total n content)
-      chunk_start some = grind (arith, common_steps, next_by, ne_eqb, choose_false)
+      chunk_start some = grind (arith, next_by, ne_eqb, choose_false)
 
 -- ---- where a call stops with the fault of a device, that device failed in it
 
@@ -131,7 +131,7 @@ pub total_blames : (column size n : ℕ) → NoDevice (total_fault column size n
 total_blames column size n = grind arith
 
 pub chunk_blames : (column size : ℕ) (total : Option ℕ) (sum n : ℕ) → NoDevice (chunk_length_fault column size total sum n)
-chunk_blames column size total sum n = grind (arith, common_steps)
+chunk_blames column size total sum n = grind arith
 
 -- a length that was refused or cut
 pub length_blames : {R : Type 0} {size : ℕ} {b : Seen} {stop : Stop} (remaining : R → Option (List ℕ)) (fault : ℕ → Option Fault) (old : Input R)

@@ -47,7 +47,7 @@ module _ (table : Table) (from : Ahead) (end : ℕ) (forms : List Form) (within 
         → (to : Ahead) (bytes text : List ℕ) (run : FormsRun) → to.column ≡ from.column + run.cells → IsAhead table columns to
         → FormsWritten table.charset forms from.column ends bytes text run
         → RunsMarked table columns (λ k. false) from to (take run.used bytes) (take run.made text)
-    forms_between columns knows is to bytes text run further there x = grind (arith, common_steps, length-drop, nat_tests)
+    forms_between columns knows is to bytes text run further there x = grind (arith, length-drop, nat_tests)
 
   -- the first was left
   pub first_left : (bytes : List ℕ) (room : ℕ) → FirstLeft table.charset forms bytes room

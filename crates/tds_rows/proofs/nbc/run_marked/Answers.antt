@@ -15,23 +15,23 @@ loop-to-preserved-then-end-ahead g c =
     let end = c.clear_end-end in
     let made = c.write_null-made.result in
     let text = c.write_null-made.new.to in
-    let at : end.result ≡ l.ahead.column = c.if-end-ahead.true in
-    let null : bits l.ahead.column ≡ true = subst (λ (k : ℕ). bits k ≡ true) at
-    (end.ensures.set (omega (arith, at, c.if-ahead-count.true, c.count.ensures, c.count-in-loop-to.ensures))) in
+    let at = c.if-end-ahead.true in
+    let null = subst (λ (k : ℕ). bits k ≡ true) at
+    (end.ensures.set (omega (arith, at))) in
     let within : made ≤ length text = search (arith, rules) in
     record {
       used = l.invariant.used;
       made = search (arith, rules);
       most = search (arith, rules);
-      clear = λ k least most. absurd (omega (arith, least, most, at, c.step.ensures.further));
+      clear = λ k least most. absurd (omega (arith, least, most, at));
       writes = λ columns knows ahead.
           let ran = l.invariant.writes columns knows ahead in
-          let some : l.ahead.column < c.args.table.now.count = omega (arith, c.count.ensures, c.if-ahead-count.true) in
+          let some : l.ahead.column < c.args.table.now.count = omega arith in
           let one = next_any _ _ _ knows.counted some in
           let taken = takes _ _ _ _ _ one.1 c.step.ensures.further (c.step.ensures.ahead columns knows ran.ahead) in
           let left = drop c.step.new.at.column columns in
           let last = c.is_last.ensures ∙ last_one _ _ _ _ _ knows.counted taken.next in
-          let line : take made text ≡ in_line l.ahead.column (is_last_column left) null_field = c.write_null-made.ensures.text
+          let line = c.write_null-made.ensures.text
           ∙ ap (λ (k : ℕ). in_line k c.is_last.result null_field) at ∙ ap (λ (e : Bool). in_line l.ahead.column e null_field) last in
           rw (sym (add-zero l.used)) (runs_more _ _ _ _ _ _ _ _ _ l.invariant.made within ran (runs_column taken refl (rw null (refl, line))));
     }
@@ -43,8 +43,8 @@ loop-to-preserved g c =
     let end = c.clear_end-end in
     let ran = c.run_cells-cells in
     let cells = ran.result in
-    let further : l.ahead.column < cells.ahead.column = ran.ensures.within.further (omega (arith, c.if-cells-eq0.false)) in
-    let within : cells.ahead.column ≤ end.result = ran.ensures.within.before end.ensures.least in
+    let further = ran.ensures.within.further (omega arith) in
+    let within = ran.ensures.within.before end.ensures.least in
     let some : cells.made ≤ length ran.new.to = search (arith, rules) in
     record {
       used = search (arith, rules);
@@ -53,7 +53,7 @@ loop-to-preserved g c =
       clear = λ k least most. end.ensures.clear k (omega (arith, further, least)) most;
       writes = λ columns knows ahead.
           let x = l.invariant.writes columns knows ahead in
-          let y = runs_clear (λ k least most. end.ensures.clear k least (omega (arith, most, within))) (ran.ensures.cells columns knows x.ahead) in
+          let y = runs_clear (λ k least most. end.ensures.clear k least (omega (arith, most))) (ran.ensures.cells columns knows x.ahead) in
           runs_more _ _ _ _ _ _ _ _ _ l.invariant.made some x y;
     }
 
@@ -62,17 +62,17 @@ returns-clause-ends g c =
     let l = c.loop-to in
     record {
       used = l.invariant.used;
-      made = omega (arith, l.invariant.made, l.auto.to);
+      made = omega arith;
       left = λ columns column left knows ahead step. elim c.loop-to-test.branch [
-        | else-loop-to-test w ↦ inl (omega (arith, w.loop-to-test.false, l.auto.to))
+        | else-loop-to-test w ↦ inl (omega arith)
         | then-loop-to-test+else-ahead-count w ↦ absurd
-            (let none = none_next _ _ _ knows.counted (omega (arith, w.count.ensures, w.if-ahead-count.false)) in
+            (let none = none_next _ _ _ knows.counted (omega arith) in
             let e : column ∷ left ≡ [] = sym step ∙ none in omega (arith, ap length e))
         | then-loop-to-test+then-ahead-count+else-end-ahead+then-cells-eq0 w ↦ (let lent = take (length l.to - l.made) (drop l.made l.to) in
             let room : length lent ≡ length c.args.to.now - l.made =
-            omega (arith, l.auto.to, length-take (length l.to - l.made) (drop l.made l.to), length-drop l.made l.to) in
+            omega (arith, length-take (length l.to - l.made) (drop l.made l.to), length-drop l.made l.to) in
             let end = w.clear_end-end.ensures in
-            let before : l.ahead.column < w.clear_end-end.result = omega (arith, end.least, w.if-end-ahead.false) in
+            let before : l.ahead.column < w.clear_end-end.result = omega arith in
             let run = rw room at (rw (all_after c.args.bytes.now l.used) at (w.run_cells-cells.ensures.ends w.if-cells-eq0.true before)) in
             ends_clear _ (bit c.args.bitmap.now) _ _ _ (end.clear l.ahead.column (omega arith) before) run columns column left knows ahead step)
       ];

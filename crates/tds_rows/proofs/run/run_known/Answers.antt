@@ -22,7 +22,7 @@ pub loop-forms-preserved : goal.loop-forms-preserved
 loop-forms-preserved g c =
     let whole = c.run_whole-whole in
     let run = c.run_forms-run in
-    let some = run.ensures.within.some (omega (arith, c.if-run-eq0.false)) in
+    let some = run.ensures.within.some (omega arith) in
     rows_more _ _ some (search (arith, rules)) (search (arith, rules))
     (λ columns knows is. forms_between _ _ _ _ (omega arith) c.in-Some.ensures.ahead _ (sym (eq-eqb _ _ c.in-Some.ensures.whole)) _ knows is
     _ _ _ run.result c.pass.ensures.further (c.pass.ensures.ahead columns knows is) run.ensures.cells)
@@ -43,7 +43,7 @@ returns-clause-ends g c = λ columns column left knows ahead step.
           let left = first_left _ _ _ _ (omega arith) w.in-Some.ensures.ahead _ _ (run.ensures.ends w.if-run-eq0.true) _
           _ _ knows ahead step in
           let room : length (take (length mid - made) (drop made mid)) ≡ length c.args.to.now - made =
-          omega (arith, l.auto.to, same, length-take (length mid - made) (drop made mid), length-drop made mid) in
+          omega (arith, same, length-take (length mid - made) (drop made mid), length-drop made mid) in
           rw room at (rw (all_after bytes (l.used + whole.result.used)) at left))
     ]
 

@@ -33,29 +33,21 @@ loop-used-preserved c =
     let known = c.requires.known in
     let counted : run.cells ≡ table.count = search (arith, rules) in
     let forms = known_ahead table from table.count table.known table.laid (search (arith, rules)) (omega (arith, known))
-    (omega (arith, known, c.requires.first)) (omega (arith, known, c.requires.first)) table.few in
+    (omega (arith, known)) (omega (arith, known)) table.few in
     let rest = take (length c.args.bytes.now - c.loop-used.used) (drop c.loop-used.used c.args.bytes.now) in
     let wrote = subst (λ (n : ℕ). FormsWritten table.charset (take table.known (drop n table.forms)) n true rest text run)
     (sym c.requires.first) (rw c.row-row.ensures.row at (row.row table.charset).cells) in
     let cells = rows_more {cells = record { used = run.used; made = run.made; ahead = end }} text _
-    (row.within.some (omega (arith, counted, known))) (search (arith, rules)) (search (arith, rules)) (λ columns knows is.
-    forms_between table from table.count _ (omega arith) forms true (sym (eq-eqb _ _ (omega (
-      arith,
-      c.requires.first,
-      known,
-      length-take table.known (drop from.column table.forms),
-      length-drop from.column table.forms,
-      table.sized,
-      table.most,
-    )))) columns knows is end _ _ run
-    (omega (arith, counted, c.requires.first)) (after_known {old = from} {new = end} knows is {cells = table.count} (omega (arith, c.requires.first))
-    (omega (arith, c.requires.first)) (inr (omega (arith, known, c.requires.first))) refl) wrote) c.loop-used.invariant.ran in
+    (row.within.some (omega (arith, known))) (search (arith, rules)) (search (arith, rules)) (λ columns knows is.
+    forms_between table from table.count _ (omega arith) forms true (sym (eq-eqb _ _ (omega (arith, known, length-take table.known (drop from.column table.forms), length-drop from.column table.forms)))) columns knows is end _ _ run
+    (omega arith) (after_known {old = from} {new = end} knows is {cells = table.count} (omega arith)
+    (omega arith) (inr (omega (arith, known))) refl) wrote) c.loop-used.invariant.ran in
     record {
       same = search (arith, rules);
       ran = row_begun known.1 (omega arith) (c.row_follows.ensures.begins (search rules), c.requires.first) (λ columns knows is. record {
-        counted = omega (arith, c.requires.first);
+        counted = omega arith;
         within = λ _. is.within (omega (arith, known));
-        beyond = λ none. absurd (omega (arith, none, known, c.requires.first));
+        beyond = λ none. absurd (omega (arith, none, known));
       }) cells;
     }
 
@@ -76,14 +68,7 @@ returns-clause-ends c =
     let bytes = c.args.bytes.now in
     let row = c.row-row.ensures.row in
     let table = c.args.table.now in
-    let some : 0 < length c.row-row.result.now = omega (
-      arith,
-      c.requires.known,
-      ap length row,
-      length-take table.known table.forms,
-      table.sized,
-      table.most,
-    ) in
+    let some : 0 < length c.row-row.result.now = omega (arith, ap length row, length-take table.known table.forms) in
     let late = too_late c.in-Some.ensures some (ap length (sym row)) (length-drop l.used bytes) refl in
     elim c.loop-used-test.branch [
       | else-loop-used-test w ↦ inl (late (inl w.loop-used-test.false))

@@ -15,7 +15,7 @@ loop-ahead-preserved-then-is_end c = row_begun c.requires.some (all_before _ _ (
     (λ columns knows is. c.start-ahead.ensures.ahead columns knows) c.loop-ahead.invariant
 
 pub loop-ahead-preserved : goal.loop-ahead-preserved
-loop-ahead-preserved c = rows_more _ _ (omega (arith, c.if-cells-eq0.false)) (search (arith, rules)) (search (arith, rules))
+loop-ahead-preserved c = rows_more _ _ (omega arith) (search (arith, rules)) (search (arith, rules))
     c.run_cells-cells.ensures.cells c.loop-ahead.invariant
 
 pub returns-clause-ends : goal.returns-clause-ends
@@ -27,8 +27,8 @@ returns-clause-ends c = λ columns column left knows ahead step.
           ∙ at_end _ _ _ knows.counted (sym c.is_end.ensures ∙ w.if-is_end.true) in omega (arith, ap length e))
       | else-is_end+then-cells-eq0 w ↦ (let lent = take (length l.to - l.made) (drop l.made l.to) in
           let room : length lent ≡ length c.args.to.now - l.made =
-          omega (arith, l.auto.to, length-take (length l.to - l.made) (drop l.made l.to), length-drop l.made l.to) in
+          omega (arith, length-take (length l.to - l.made) (drop l.made l.to), length-drop l.made l.to) in
           let before = not_end _ _ _ knows.counted ahead.counted (sym c.is_end.ensures ∙ w.if-is_end.false) in
-          rw room at (rw (all_after bytes l.used) at (w.run_cells-cells.ensures.ends w.if-cells-eq0.true (omega (arith, w.count.ensures, before))))
+          rw room at (rw (all_after bytes l.used) at (w.run_cells-cells.ensures.ends w.if-cells-eq0.true (omega (arith, before))))
           columns column left knows ahead step)
     ]

@@ -3,9 +3,9 @@ use Rattle.{tds_rows.proofs.Words.{arith, refl, inl, inr, []}, std.proofs.Math.B
 
 pub returns-then-run-eq0-clause-cell : goal.returns-then-run-eq0-clause-cell
 returns-then-run-eq0-clause-cell c = elim (c.run_forms-run.ensures.ends c.if-run-eq0.true c.args.form.now [] refl)
-    [ inl few ↦ absurd (omega (arith, few, c.requires.room)) | inr left ↦ left ]
+    [ inl few ↦ absurd (omega arith) | inr left ↦ left ]
 
 pub returns-clause-cell : goal.returns-clause-cell
 returns-clause-cell c =
     let run = c.run_forms-run in
-    rw (and-true c.is_last.result, c.is_last.ensures) at (run.ensures.one (omega (arith, c.if-run-eq0.false, run.ensures.within.cells)) c.args.form.now [] refl)
+    rw (and-true c.is_last.result, c.is_last.ensures) at (run.ensures.one (omega arith) c.args.form.now [] refl)

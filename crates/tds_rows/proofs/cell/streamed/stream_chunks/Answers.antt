@@ -74,4 +74,4 @@ loop-n-preserved g c =
     }
 
 pub returns-in_err-n-clause-blames : goal.returns-in_err-n-clause-blames
-returns-in_err-n-clause-blames g c = grind (arith, common_steps, passed, stops_after, read_stops, length_blames, chunk_blames)
+returns-in_err-n-clause-blames g c = grind (arith, passed, stops_after, read_stops, length_blames, chunk_blames)

@@ -54,10 +54,10 @@ returns-clause-field g c = λ conversion suits.
     let some : 0 < c.in-Some.n = search (arith, rules) in
     let start = next_path c.args.last x _ (short_open c.args.column c.args.last conversion _ some) opened in
     let y = c.in_ok-push_data.ensures.data conversion [] suits (c.requires.withheld ∙ sym (rest_none _)) (none_begins _) in
-    let all : List ℕ = y.front ++ y.takes.piece in
+    let all = y.front ++ y.takes.piece in
     let ended = rw suits.quoted_is at (rw c.place-2.ensures at (c.put_end-2.ensures.end conversion all suits y.takes.kept_is y.takes.begun)) in
     MatchResult-weaker c.put_end-2.result ended (λ _ z. field_puts start (short_whole _ _ _ y z.0 z.1))
     (λ stop z. path_stops start (short_end_stops _ _ _ y z))
 
 pub returns-in_err-n-clause-blames : goal.returns-in_err-n-clause-blames
-returns-in_err-n-clause-blames g c = grind (arith, common_steps, passed, read_stops, length_blames, short_blames)
+returns-in_err-n-clause-blames g c = grind (arith, passed, read_stops, length_blames, short_blames)

@@ -10,7 +10,7 @@ returns-in_err-take_into-clause-row g c = λ columns known.
     let sink = c.requires.some.in_row.sink in
     let x = c.in_err-take_into.ensures.gives c.requires.some.in_row.payload.going in
     passed _ _ _ _ c.from_residual.ensures.1 (rw sink.writing
-    (bitmap_cut _ x.part x.own (omega (arith, x.fewer, c.bitmap_size.ensures.value, c.count.ensures, known.counted)) x.ends x.stop_is
+    (bitmap_cut _ x.part x.own (omega arith) x.ends x.stop_is
     sink.ready.2))
 
 pub loop-at-init : goal.loop-at-init

@@ -12,7 +12,7 @@ returns-in-Some g c =
     let n = c.in-Some.cell.used in
     let lies : n ≤ length (buffered old.payload.now) = search (arith, rules) in
     let at : c.consume.new.self.place ≡ old.payload.now.place + length (take n (buffered old.payload.now)) =
-    omega (arith, lies, ap (λ p. p.place) c.consume.ensures.rest, length-take n (buffered old.payload.now)) in
+    omega (arith, ap (λ p. p.place) c.consume.ensures.rest, length-take n (buffered old.payload.now)) in
     record {
       leaves = search (arith, rules);
       cell = λ last next.

@@ -40,8 +40,8 @@ returns g c = record {
       let end = last_one _ _ _ _ _ next.knows.counted next.next ∙ sym next.last in
       let alone = rw end at c.in-Some.ensures.cell in
       let x = rw (sym c.bytes.ensures.value) at (c.in_ok-gather_scalar.ensures.cell charset) in
-      let all : take c.in-Some.cell.used bytes ≡ bytes =
-      take_all c.in-Some.cell.used bytes (omega (arith, x.whole, alone.size, scalar_whole kind bytes c.requires.scalar)) in
+      let all =
+      take_all c.in-Some.cell.used bytes (omega (arith, scalar_whole kind bytes c.requires.scalar)) in
       let reads = cell_reads _ c.args.at.column last _ _ _ _ bytes (take c.in-Some.cell.made c.write_alone.new.to)
       (rw all at (alone.writes.at_once c.requires.scalar charset)) x.takes x.between x.place_is in
       cell_put c.put.result charset kind g.W.Write.contents c.args.self.now.sink.now c.put.new.self c.requires.next.in_row.sink reads c.put.ensures;

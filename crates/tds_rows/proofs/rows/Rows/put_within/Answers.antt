@@ -14,7 +14,7 @@ returns-clause-rows g c = λ columns knows ahead.
     let takes = Takes-more (seen g.R.Read.remaining c.args.self.now.payload.now) (seen g.R.Read.remaining c.consume.new.self) bytes 0 (length bytes)
     (omega arith) c.consume.ensures.gives in
     let at : c.consume.new.self.place ≡ c.args.self.now.payload.now.place + length bytes =
-    omega (arith, lies, ap (λ p. p.place) c.consume.ensures.rest, length-take run.used (buffered c.args.self.now.payload.now)) in
+    omega (arith, ap (λ p. p.place) c.consume.ensures.rest, length-take run.used (buffered c.args.self.now.payload.now)) in
     let ran = c.run_rows-run.ensures.rows.writes columns knows ahead in
     let puts = kept_text _ _ _ _ _ c.run_rows-run.auto.to c.waiting-waiting.ensures _ c.commit.ensures.gives in (
       ran.0,

@@ -24,13 +24,13 @@ loop-known-preserved c =
     let next = next_column columns c.loop-known.known (column_value c.in-Some.column) (columns_left c.next.new.self) step in
     record {
       most = search (arith, rules);
-      few = omega (arith, next.0);
+      few = omega arith;
       whole = search (arith, rules);
       first = first_more c.loop-known.forms columns c.loop-known.known c.of.result (column_value c.in-Some.column) (columns_left c.next.new.self)
-          (omega (arith, inv.whole, c.loop-known-test.true)) inv.first step c.of.ensures.kind;
+          (omega arith) inv.first step c.of.ensures.kind;
       laid = each_set (λ f. IsLaidOut c.args.charset f.kind f.layout) c.loop-known.forms c.loop-known.known c.of.result inv.laid
-          (omega (arith, inv.whole, c.loop-known-test.true)) c.of.ensures.laid;
+          (omega arith) c.of.ensures.laid;
       numbers = int4_set c.loop-known.forms c.loop-known.known c.of.result c.loop-known.only_numbers c.is_int4.result inv.numbers
-          (omega (arith, inv.whole, c.loop-known-test.true)) (c.is_int4.ensures ∙ ap is_int4 (sym c.of.ensures.kind));
+          (omega arith) (c.is_int4.ensures ∙ ap is_int4 (sym c.of.ensures.kind));
       rest = sym next.1.1;
     }
