@@ -16,7 +16,7 @@ ghost use Rattle.tds_values.specs.declared.kind.Kind.{Kind};
 
 use crate::cell::lengths::{read_chunk_length, read_short_length, read_total};
 use crate::cell::whole::put_null;
-use crate::rows::earlier_stop;
+use crate::reading::earlier_stop;
 use std::io::{Read, Write};
 use tds_csv::{JoinFault, Joiner, Sink, write_comma, write_line_end};
 use tds_packet::{Fault, Payload, Stop};

@@ -7,7 +7,7 @@ use Rattle.tds_rows.proofs.{
 
 pub returns-in_err-ahead : goal.returns-in_err-ahead
 returns-in_err-ahead g c =
-    let read = c.in_err-ahead.ensures.run (λ k. false) c.args.from (rw c.buffered.ensures at c.run_cells-run.ensures.cells) in
+    let read = c.in_err-ahead.ensures.run (λ k. false) c.args.from (rw c.buffered-bytes.ensures at c.run_cells-run.ensures.cells) in
     record {
       leaves = search (arith, rules, read.leaves);
       place = search (arith, rules);
@@ -16,7 +16,7 @@ returns-in_err-ahead g c =
 
 pub returns : goal.returns
 returns g c =
-    let read = c.in_ok-ahead.ensures.run (λ k. false) c.args.from (rw c.buffered.ensures at c.run_cells-run.ensures.cells) in
+    let read = c.in_ok-ahead.ensures.run (λ k. false) c.args.from (rw c.buffered-bytes.ensures at c.run_cells-run.ensures.cells) in
     record {
       leaves = search (arith, rules, read.leaves);
       place = search (arith, rules);

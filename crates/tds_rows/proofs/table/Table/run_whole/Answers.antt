@@ -1,4 +1,4 @@
-use Rattle.tds_rows.proofs.run.run_whole.Goals as goal
+use Rattle.tds_rows.proofs.table.Table.run_whole.Goals as goal
 use Rattle.tds_rows.proofs.TableRuns.{rows_begin}
 
 pub returns-clause-rows : goal.returns-clause-rows

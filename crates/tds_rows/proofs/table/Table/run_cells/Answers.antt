@@ -1,4 +1,4 @@
-use Rattle.tds_rows.proofs.run.run_cells.Goals as goal
+use Rattle.tds_rows.proofs.table.Table.run_cells.Goals as goal
 
 pub returns-in-Some-clause-ends : goal.returns-in-Some-clause-ends
 returns-in-Some-clause-ends g c = λ none some. c.run_along.ensures.ends none

@@ -1,7 +1,7 @@
-use Rattle.tds_rows.proofs.run.run_known.Goals as goal
+use Rattle.tds_rows.proofs.table.Table.run_known.Goals as goal
 use Rattle.tds_rows.proofs.{
   Words.{[], ◌∷◌, rules, arith, sym, ap, ◌≡◌, ◌∙◌, ◌+◌, ◌-◌, length, take, drop, eq-eqb, length-take, length-drop, all_after},
-  run.run_known.Goals.{in_default+then-not-row_follows, in-Some+then-run-eq0},
+  table.Table.run_known.Goals.{in_default+then-not-row_follows, in-Some+then-run-eq0},
   RunSteps.made_same,
   TableForms.{first_left, forms_between},
   TableRuns.{row_begun, rows_begin, rows_further, rows_kept, rows_more},

@@ -1,8 +1,8 @@
-use Rattle.tds_rows.proofs.nbc.run_marked.Goals as goal
+use Rattle.tds_rows.proofs.table.Table.run_marked.Goals as goal
 use Rattle.tds_rows.proofs.{
   Words.{add-zero, inl, ℕ, ◌≡◌, ◌∙◌, ◌-◌, ◌<◌, ◌≤◌, Bool, [], ◌∷◌, refl, sym, ap, length, take, drop, subst, arith, rules, true, length-take, length-drop},
   Words.{all_after, in_line, null_field, is_last_column, bit},
-  nbc.run_marked.Goals.{else-loop-to-test, then-loop-to-test+else-ahead-count, then-loop-to-test+then-ahead-count+else-end-ahead+then-cells-eq0},
+  table.Table.run_marked.Goals.{else-loop-to-test, then-loop-to-test+else-ahead-count, then-loop-to-test+then-ahead-count+else-end-ahead+then-cells-eq0},
   Stretches.{ends_clear, runs_clear, runs_column, runs_more},
   TableSteps.{last_one, next_any, none_next, takes},
 }
@@ -26,7 +26,7 @@ loop-to-preserved-then-end-ahead g c =
       clear = λ k least most. absurd (omega (arith, least, most, at));
       writes = λ columns knows ahead.
           let ran = l.invariant.writes columns knows ahead in
-          let some : l.ahead.column < c.args.table.now.count = omega arith in
+          let some : l.ahead.column < c.args.self.now.count = omega arith in
           let one = next_any _ _ _ knows.counted some in
           let taken = takes _ _ _ _ _ one.1 c.step.ensures.further (c.step.ensures.ahead columns knows ran.ahead) in
           let left = drop c.step.new.at.column columns in

@@ -1,4 +1,4 @@
-use Rattle.tds_rows.proofs.run.write_alone.Goals as goal
+use Rattle.tds_rows.proofs.table.Table.write_alone.Goals as goal
 use Rattle.{tds_rows.proofs.Words.{arith, refl, inl, inr, []}, std.proofs.Math.Bool.and-true}
 
 pub returns-then-run-eq0-clause-cell : goal.returns-then-run-eq0-clause-cell

@@ -1,4 +1,4 @@
-use Rattle.tds_rows.proofs.run.run_along.Goals as goal
+use Rattle.tds_rows.proofs.table.Table.run_along.Goals as goal
 use Rattle.tds_rows.proofs.{Words.{common_steps, arith}, TableForms.{first_left, forms_between, none_written, some_written}}
 
 pub returns-clause-ends : goal.returns-clause-ends

@@ -1,9 +1,9 @@
-use Rattle.tds_rows.proofs.run.run_numbers.Goals as goal
+use Rattle.tds_rows.proofs.table.Table.run_numbers.Goals as goal
 use Rattle.tds_rows.specs.FormRuns.{IsLastRow}
 use Rattle.tds_rows.proofs.{
   Words.{inl, ap, all_after, drop-drop, BeginsRow, ℕ, subst, length-take, length-drop, FormsWritten, refl, inr, true, arith, rules, sym, ◌≡◌, ◌+◌},
   Words.{◌-◌, ◌<◌, length, take, drop, eq-eqb, Ahead},
-  run.run_numbers.Goals.{
+  table.Table.run_numbers.Goals.{
     else-loop-used-test,
     then-loop-used-test+else-made-latest,
     then-loop-used-test+then-made-latest+in_default-run_row as row_refused,
@@ -24,7 +24,7 @@ loop-used-init c = record { same = refl; ran = rows_begin }
 
 pub loop-used-preserved : goal.loop-used-preserved
 loop-used-preserved c =
-    let table = c.args.table.now in
+    let table = c.args.self.now in
     let from = c.args.from in
     let run = c.in-Some-run_row.run' in
     let row = c.in-Some-run_row.ensures in
@@ -67,7 +67,7 @@ returns-clause-ends c =
     let l = c.loop-used in
     let bytes = c.args.bytes.now in
     let row = c.row-row.ensures.row in
-    let table = c.args.table.now in
+    let table = c.args.self.now in
     let some : 0 < length c.row-row.result.now = omega (arith, ap length row, length-take table.known table.forms) in
     let late = too_late c.in-Some.ensures some (ap length (sym row)) (length-drop l.used bytes) refl in
     elim c.loop-used-test.branch [
