@@ -1,7 +1,5 @@
 -- Fields in their line, as they are written.
-use Rattle.{
-  tds_rows.proofs.Words.{common_steps, ◌≡◌, ◌≢◌, ℕ, List, [], ◌∷◌, ◌++◌, length, refl, sym, arith, append_assoc, ne_eqb, choose_false, after_comma, joined},
-}
+use Rattle.{tds_rows.proofs.Words.{◌≡◌, ◌≢◌, ℕ, List, [], ◌∷◌, ◌++◌, length, refl, sym, arith, append_assoc, ne_eqb, choose_false, after_comma, joined}}
 
 -- a field after a comma
 pub after_some_column : (column : ℕ) (text : List ℕ) → column ≢ 0 → 44 ∷ text ≡ after_comma column text

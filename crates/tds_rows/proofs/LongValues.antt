@@ -1,11 +1,11 @@
 -- Long values, element after element: their lengths, the content between, and the end.
 use Rattle.tds_rows.proofs.{
-  Words.{common_steps, ◌≡◌, ◌∙◌, inl, inr, ℕ, zero, suc, ◌-◌, ◌^◌, ◌<◌, ◌≤◌, Bool, true, false, List, [], ◌∷◌, ◌++◌, length, sym, ap, arith, append-nil},
-  Words.{Result, Ok, Err, MatchResult, Option, drop-nil, take-nil, Stop, StopsReading, Seen, Spelt-one, Spelt-none, BeginsData, Conversion, HexDigits, IsFit},
-  Words.{Utf16Text, Utf8Text, Windows1252Text, conversion_rest, conversion_text, is_quoted, open_field, emit, after_comma, binary_mark, in_line, null_field},
-  Words.{quote, Sink, Breaks, Held, IsWriting, Puts, PutsPiece, held, begun_by_test, fit_begins, fit_by_test, no_data_is_fit, hex-nil, Breaks-after, Puts-none},
-  Words.{Puts-trans, Breaks-longer, text_nil, Cell, CellPart, Null, ShortLength, WholeCell, cell, PutsField, StopsField, cell_so_far, EndsData, StopsEnding},
-  Words.{ending, opening, ◌≢◌, ◌+◌, refl, length-append, None, unit, ChunkLength, ReadsNumber, chunk_length_fault},
+  Words.{◌≡◌, ◌∙◌, inl, inr, ℕ, zero, suc, ◌-◌, ◌^◌, ◌<◌, ◌≤◌, Bool, true, false, List, [], ◌∷◌, ◌++◌, length, sym, ap, arith, append-nil, Result, Ok, Err},
+  Words.{MatchResult, Option, drop-nil, take-nil, Stop, StopsReading, Seen, Spelt-one, Spelt-none, BeginsData, Conversion, HexDigits, IsFit, Utf16Text},
+  Words.{Utf8Text, Windows1252Text, conversion_rest, conversion_text, is_quoted, open_field, emit, after_comma, binary_mark, in_line, null_field, quote, Sink},
+  Words.{Breaks, Held, IsWriting, Puts, PutsPiece, held, begun_by_test, fit_begins, fit_by_test, no_data_is_fit, hex-nil, Breaks-after, Puts-none, Puts-trans},
+  Words.{Breaks-longer, text_nil, Cell, CellPart, Null, ShortLength, WholeCell, cell, PutsField, StopsField, cell_so_far, EndsData, StopsEnding, ending},
+  Words.{opening, ◌≢◌, ◌+◌, refl, length-append, None, unit, ChunkLength, ReadsNumber, chunk_length_fault},
   LongSteps.{ending_text, ends_break, ends_path, ends_refused, short_holds, short_refused, text_at, chunk_holds},
   Numbers.{Next, short_left, chunk_end, chunk_start, chunk_unfit, chunk_left},
   Paths.{At, Path, path_both, path_of, streams_of, path_none, path_stops},

@@ -1,12 +1,11 @@
 -- The next cells of a row, those of a run or one, NULL or not, and rows one after another.
 use Rattle.tds_rows.proofs.{
-  Words.{common_steps, arith, ◌≡◌, ◌+◌, ℕ, Bool, true, false, List, ◌∷◌, drop, refl, sym, Err, Ok, Result, Option, ◌==◌, Kind, Stop, seen},
-  Words.{between_of, Column, held, Rows, Ahead, is_last_column, MarkedPut, CellRead, IsInRow, KindRead, LeavesRows, NextRead, StaysInRow, RowStops, RowPart},
-  Words.{marked, IsAhead, IsNextKind, Knows, TakesColumn, ◌∙◌, zero, suc, ◌-◌, ◌^◌, ◌≤◌, ◌<◌, [], ◌++◌, length, ap, subst, append_assoc, append-nil, add-zero},
-  Words.{length-append, Consumes-nil, Coming, before, IsBetween, Seen, Takes, Takes-more, Stays-none, takes_both, Held, Puts, nears_put, Puts_split, Charset},
-  Words.{WritesColumn, WritesMarked, WritesNext, Puts-none, RowsRun, Cell, PlainRow, RowToken, WholeRow, next_cell, row, row_so_far},
-  Words.{token_byte, token_start, ReadsRow, ReadsRows, RowsStop, RowsPut, RunsRows, rows, rows_so_far, rows_start},
-  Words.{BreaksMarked, Breaks, Breaks_split, inl, inr, Takes-none},
+  Words.{arith, ◌≡◌, ◌+◌, ℕ, Bool, true, false, List, ◌∷◌, drop, refl, sym, Err, Ok, Result, Option, ◌==◌, Kind, Stop, seen, between_of, Column, held, Rows},
+  Words.{Ahead, is_last_column, MarkedPut, CellRead, IsInRow, KindRead, LeavesRows, NextRead, StaysInRow, RowStops, RowPart, marked, IsAhead, IsNextKind},
+  Words.{Knows, TakesColumn, ◌∙◌, zero, suc, ◌-◌, ◌^◌, ◌≤◌, ◌<◌, [], ◌++◌, length, ap, subst, append_assoc, append-nil, add-zero, length-append, Consumes-nil},
+  Words.{Coming, before, IsBetween, Seen, Takes, Takes-more, Stays-none, takes_both, Held, Puts, nears_put, Puts_split, Charset, WritesColumn, WritesMarked},
+  Words.{WritesNext, Puts-none, RowsRun, Cell, PlainRow, RowToken, WholeRow, next_cell, row, row_so_far, token_byte, token_start, ReadsRow, ReadsRows},
+  Words.{RowsStop, RowsPut, RunsRows, rows, rows_so_far, rows_start, BreaksMarked, Breaks, Breaks_split, inl, inr, Takes-none},
   NullSteps.{NearsCells, all_put, cell_nears, cell_stops, null_breaks, null_nears, cell_path, marked_stops},
   RowSteps.{ends, ends_marked, coming, nulls_ahead, PutsAt, StopsAt},
   Paths.{At, here, Path, path_both, path_map, path_none, path_of, streams_of},

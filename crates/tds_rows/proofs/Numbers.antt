@@ -1,9 +1,9 @@
 -- The numbers of a long value, its length or total and those of its chunks, as elements of its cell: how each is judged, and where it leads.
 use Rattle.tds_rows.proofs.{
-  Words.{null_total, common_steps, ◌-◌, if◌then◌else◌, ChunkData, ShortData, ◌≡◌, ◌≢◌, ◌∙◌, ◌⊎◌, inl, inr, ℕ, ◌+◌, ◌<◌, true, false, List, [], length, refl},
-  Words.{sym, ap, subst, arith, Option, Some, None, ◌==◌, ne_eqb, little, Fault, BadText, MessageEnded, Stop, IsNext, StopsReading, IsBetween, Seen, Takes},
-  Words.{choose_false, choose_true, began_is_cut, cut_at_once, refused_at_once, Conversion, is_fit, unit, CellPart, ChunkLength, DataCell, Null, ShortLength},
-  Words.{Total, WholeCell, cell, cell_add, cell_end, cell_fault, cell_size, unless, CutsNumber, ReadsNumber, RefusesNumber, chunk_length_fault, short_fault},
+  Words.{null_total, ◌-◌, if◌then◌else◌, ChunkData, ShortData, ◌≡◌, ◌≢◌, ◌∙◌, ◌⊎◌, inl, inr, ℕ, ◌+◌, ◌<◌, true, false, List, [], length, refl, sym, ap, subst},
+  Words.{arith, Option, Some, None, ◌==◌, ne_eqb, little, Fault, BadText, MessageEnded, Stop, IsNext, StopsReading, IsBetween, Seen, Takes, choose_false},
+  Words.{choose_true, began_is_cut, cut_at_once, refused_at_once, Conversion, is_fit, unit, CellPart, ChunkLength, DataCell, Null, ShortLength, Total},
+  Words.{WholeCell, cell, cell_add, cell_end, cell_fault, cell_size, unless, CutsNumber, ReadsNumber, RefusesNumber, chunk_length_fault, short_fault},
   Words.{short_length, total_fault, total_of, Payload, ⊤, one_more, ReadFailed, WriteFailed, seen, ends_blame, Failures, StopBlames},
   CellLaws.unless_true,
 }

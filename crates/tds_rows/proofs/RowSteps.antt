@@ -1,10 +1,10 @@
 -- The cells of a row, as they are read one after another and their text is put.
 use Rattle.tds_rows.proofs.{
-  Words.{common_steps, PutsField, StopsField, shape, ◌≡◌, ◌∙◌, ℕ, ◌+◌, ◌^◌, ◌-◌, ◌<◌, ◌≤◌, Bool, false, List, [], ◌∷◌, ◌++◌, length, sym, ap, arith},
-  Words.{append-nil, length-append, None, map, length-map, map-append, Kind, Stop, IsNext, Leads, Spelt, concat, IsBetween, Seen, Takes, Spelt-append},
-  Words.{Spelt-one, Column, joined, after_comma, in_line, Breaks, Held, Puts, BreaksStreaming, PutsText, Streams, Puts-none, Charset, Cell, CellPart, Shape},
-  Words.{WholeCell, cell, cell_add, cell_end, cell_size, cell_start, field, field_so_far, row, with_cell, StallsCell, cell_so_far, true, refl, append_assoc},
-  Words.{Option, Some, next_some, end_after, null_field, ChunkData, ChunkLength, Null, ShortData, is_last_column, opened, RowPart, marked, next_cell},
+  Words.{PutsField, StopsField, shape, ◌≡◌, ◌∙◌, ℕ, ◌+◌, ◌^◌, ◌-◌, ◌<◌, ◌≤◌, Bool, false, List, [], ◌∷◌, ◌++◌, length, sym, ap, arith, append-nil},
+  Words.{length-append, None, map, length-map, map-append, Kind, Stop, IsNext, Leads, Spelt, concat, IsBetween, Seen, Takes, Spelt-append, Spelt-one, Column},
+  Words.{joined, after_comma, in_line, Breaks, Held, Puts, BreaksStreaming, PutsText, Streams, Puts-none, Charset, Cell, CellPart, Shape, WholeCell, cell},
+  Words.{cell_add, cell_end, cell_size, cell_start, field, field_so_far, row, with_cell, StallsCell, cell_so_far, true, refl, append_assoc, Option, Some},
+  Words.{next_some, end_after, null_field, ChunkData, ChunkLength, Null, ShortData, is_last_column, opened, RowPart, marked, next_cell},
   Words.row_so_far,
   Paths.At,
   LineTexts.joined_snoc,

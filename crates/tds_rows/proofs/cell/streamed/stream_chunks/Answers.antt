@@ -1,6 +1,6 @@
 use Rattle.tds_rows.proofs.cell.streamed.stream_chunks.Goals as goal
 use Rattle.tds_rows.proofs.{
-  Words.{common_steps, ◌≡◌, ◌∙◌, arith, refl, rules, sym, MatchResult-weaker, passed},
+  Words.{◌≡◌, ◌∙◌, arith, refl, rules, sym, MatchResult-weaker, passed},
   LongValues.{chunk_path, chunks_end_stops, chunks_whole, streamed_more, streamed_none, reading_stops, rest_none},
   LongSteps.{chunk_holds, filling_stops},
   Numbers.{chunk_stops, chunk_blames, length_blames, read_stops, same_failures, stops_after},

@@ -1,6 +1,6 @@
 use Rattle.tds_rows.proofs.cell.streamed.stream_short.Goals as goal
 use Rattle.tds_rows.proofs.{
-  Words.{common_steps, ◌∙◌, ◌<◌, ◌++◌, ℕ, [], List, arith, refl, rules, sym, MatchResult-weaker, passed},
+  Words.{◌∙◌, ◌<◌, ◌++◌, [], arith, refl, rules, sym, MatchResult-weaker, passed},
   Numbers.{length_blames, read_stops, short_blames, short_none, short_start, short_stops},
   LongValues.{empty_puts, empty_stops, field_puts, next_breaks, next_path, none_begins, null_puts, reading_stops, rest_none, short_end_stops, short_open},
   LongValues.{short_text, short_whole},

@@ -1,7 +1,7 @@
 use Rattle.tds_rows.proofs.table.Table.run_marked.Goals as goal
 use Rattle.tds_rows.proofs.{
   Words.{add-zero, inl, ℕ, ◌≡◌, ◌∙◌, ◌-◌, ◌<◌, ◌≤◌, Bool, [], ◌∷◌, refl, sym, ap, length, take, drop, subst, arith, rules, true, length-take, length-drop},
-  Words.{all_after, in_line, null_field, is_last_column, bit},
+  Words.{all_after, in_line, null_field, bit},
   table.Table.run_marked.Goals.{else-loop-to-test, then-loop-to-test+else-ahead-count, then-loop-to-test+then-ahead-count+else-end-ahead+then-cells-eq0},
   Stretches.{ends_clear, runs_clear, runs_column, runs_more},
   TableSteps.{last_one, next_any, none_next, takes},
