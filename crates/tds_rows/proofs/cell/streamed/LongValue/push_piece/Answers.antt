@@ -1,4 +1,4 @@
-use Rattle.tds_rows.proofs.cell.streamed.push_piece.Goals as goal
+use Rattle.tds_rows.proofs.cell.streamed.LongValue.push_piece.Goals as goal
 use Rattle.{
   tds_rows.proofs.{Words.{inl, refl, arith, seen, passed, at_err, at_ok, stops_here, ends_blame}, JoinedPieces.{piece_taken, push_stops}, Numbers.read_stops},
 }
@@ -6,7 +6,7 @@ use Rattle.{
 pub returns-in_err-piece-clause-piece : goal.returns-in_err-piece-clause-piece
 returns-in_err-piece-clause-piece g c = λ conversion content suits is begun.
     let k = at_err _ _ _ _ c.in_err-piece.was c.piece.follows.holds-at-none.2 in
-    let there = stops_here g.R.Read.remaining c.args.payload.now (seen g.R.Read.remaining c.piece.follows.lender-at-none) _
+    let there = stops_here g.R.Read.remaining c.args.self.now.payload.now (seen g.R.Read.remaining c.piece.follows.lender-at-none) _
     c.requires.joining.payload.going k.0 in
     passed _ _ _ _ c.from_residual.ensures.1 (inl (
       record { own = c.in_err-piece.field-0.0; ends = k.0; stop_is = there; same = refl },
@@ -29,5 +29,5 @@ pub returns-in_err-piece-clause-blames : goal.returns-in_err-piece-clause-blames
 returns-in_err-piece-clause-blames g c =
     let k = at_err _ _ _ _ c.in_err-piece.was c.piece.follows.holds-at-none.2 in
     passed _ _ _ _ c.from_residual.ensures.1 (read_stops _ _ c.in_err-piece.field-0.0
-    (ends_blame g.R.Read.remaining c.args.payload.now (seen g.R.Read.remaining c.piece.follows.lender-at-none) _ _ c.requires.joining.payload.going
+    (ends_blame g.R.Read.remaining c.args.self.now.payload.now (seen g.R.Read.remaining c.piece.follows.lender-at-none) _ _ c.requires.joining.payload.going
     k.0))
