@@ -24,6 +24,14 @@ pub record AwaitsData {J R W : Type 0} (begins : List ℕ → Type 0) (withheld 
   pub unit_some : 0 < unit
   pub withheld_none : withheld value.joiner.now ≡ []
 
+-- A long value can be read by a joiner that withholds nothing, of data in units of so many bytes.
+pub record AwaitsValue {R W : Type 0} (begins : List ℕ → Type 0) (withheld : List ℕ) (unit : ℕ) (p : Payload R) (s : Sink W) : Type 0 where
+  pub payload : IsGoing p
+  pub sink : IsWriting s
+  pub begun : begins withheld
+  pub unit_some : 0 < unit
+  pub withheld_none : withheld ≡ []
+
 -- Two readings of a value are on the same payload, joiner and sink, at the same column.
 abbrev pub IsOnSameValue : {J R W : Type 0} → LongValue J R W → LongValue J R W → Type 0
 IsOnSameValue old new = (new.payload.ghost_name ≡ old.payload.ghost_name) × (new.joiner.ghost_name ≡ old.joiner.ghost_name)

@@ -5,8 +5,8 @@ ghost use Rattle.tds_csv.specs.Quoting.{after_comma, end_after};
 ghost use Rattle.tds_csv.specs.Sinks.{IsWriting, LeavesSink, PutsPiece, IsReady};
 ghost use Rattle.tds_rows.specs.Blames.{Blames, failures_of};
 ghost use Rattle.tds_rows.specs.LongCells.{DataTaken, EndPut, PieceTaken, good_of, join_stop, opening};
-ghost use Rattle.tds_rows.specs.LongReading.{AwaitsData, BlamesDevices, IsFurther, IsJoining, IsOnSameValue, LeavesBoth, LeavesJoining, LeavesValue, ValuePut};
-ghost use Rattle.tds_packet.specs.Payloads.{IsGoing, IsSound, LeavesPayload};
+ghost use Rattle.tds_rows.specs.LongReading.{AwaitsData, AwaitsValue, BlamesDevices, IsFurther, IsJoining, IsOnSameValue, LeavesBoth, LeavesJoining, LeavesValue, ValuePut};
+ghost use Rattle.tds_packet.specs.Payloads.{IsSound, LeavesPayload};
 ghost use Rattle.tds_meter.specs.Counts.{one_more};
 ghost use Rattle.tds_rows.specs.Cells.{Cell, ChunkLength, LongShape, ShortLength, SpellsCell, long_start};
 ghost use Rattle.tds_rows.specs.CellSteps.{FieldPut};
@@ -208,11 +208,7 @@ pub(crate) fn stream_long<J: Joiner, R: Read, W: Write>(
     joiner: &mut J,
     sink: &mut Sink<W>,
 ) -> Result<(), Stop>
-    requires going { IsGoing payload.old }
-    requires writing { IsWriting sink.old }
-    requires begun { J.begins (J.withheld joiner.old) }
-    requires unit { 0 < J.UNIT }
-    requires withheld { J.withheld joiner.old ≡ [] }
+    requires { AwaitsValue J.begins (J.withheld joiner.old) J.UNIT payload.old sink.old }
     ensures leaves { LeavesBoth payload.old payload.new sink.old sink.new result }
     ensures blames { Blames (failures_of payload.old sink.old) (failures_of payload.new sink.new) result }
     ensures field { (c : Conversion) → Suits J.fit J.begins J.rest J.text J.UNIT J.QUOTED c →
