@@ -1,11 +1,12 @@
 // The calls that read rows, one or several after one another (MS-TDS, ROW and NBCROW).
 ghost use Rattle.std.specs.Prelude.{◌≡◌, ◌+◌, ◌≤◌, ◌++◌, ℕ, List, None, false, IfOk};
 ghost use Rattle.tds_columns.specs.View.{columns_of};
-ghost use Rattle.tds_csv.specs.Sinks.{IsReady, IsWriting, LeavesSink};
-ghost use Rattle.tds_packet.specs.Payloads.{IsGoing, IsSound, LeavesPayload, buffered};
+ghost use Rattle.tds_csv.specs.Sinks.{LeavesSink};
+ghost use Rattle.tds_packet.specs.Payloads.{LeavesPayload, buffered};
 ghost use Rattle.tds_packet.specs.Reads.{KeepsRoom};
 ghost use Rattle.tds_rows.specs.Cells.{Cell};
-ghost use Rattle.tds_rows.specs.CellSteps.{LeavesSmall, longest_cell};
+ghost use Rattle.tds_rows.specs.CellSteps.{LeavesSmall};
+ghost use Rattle.tds_rows.specs.RowReading.{AwaitsRows, IsReadyForRow};
 ghost use Rattle.tds_rows.specs.RowSteps.{IsEarlierStop, RowPut, RowsRead, StopsAgain};
 ghost use Rattle.tds_rows.specs.Rows.{NbcRow, PlainRow, SpellsNbcRow, SpellsRow, longest_bitmap, nbc_row_start, row_start};
 ghost use Rattle.tds_rows.specs.Successes.{BeginNoRow, SpellsRows, SucceedsOn};
@@ -45,9 +46,7 @@ pub fn row<R: Read, W: Write>(
     small: &mut Area,
     sink: &mut Sink<W>,
 ) -> Result<(), Stop>
-    requires sound { IsSound payload.old }
-    requires ready { IsReady sink.old }
-    requires room { longest_cell ≤ small.old.room }
+    requires { IsReadyForRow payload.old sink.old small.old }
     ensures payload { LeavesPayload payload.old payload.new result }
     ensures sink { LeavesSink sink.old sink.new result }
     ensures small { LeavesSmall small.old small.new }
@@ -83,9 +82,7 @@ pub fn read_rows<R: Read, W: Write>(
     small: &mut Area,
     sink: &mut Sink<W>,
 ) -> Result<u64, Stop>
-    requires going { IsGoing payload.old }
-    requires writing { IsWriting sink.old }
-    requires room { longest_cell ≤ small.old.room }
+    requires { AwaitsRows payload.old sink.old small.old }
     ensures payload { LeavesPayload payload.old payload.new result }
     ensures sink { LeavesSink sink.old sink.new result }
     ensures small { LeavesSmall small.old small.new }
@@ -125,10 +122,8 @@ pub fn nbc_row<R: Read, W: Write>(
     small: &mut Area,
     sink: &mut Sink<W>,
 ) -> Result<(), Stop>
-    requires sound { IsSound payload.old }
-    requires ready { IsReady sink.old }
-    requires room { longest_bitmap ≤ bitmap.old.room }
-    requires small_room { longest_cell ≤ small.old.room }
+    requires row { IsReadyForRow payload.old sink.old small.old }
+    requires bitmap { longest_bitmap ≤ bitmap.old.room }
     ensures payload { LeavesPayload payload.old payload.new result }
     ensures sink { LeavesSink sink.old sink.new result }
     ensures bitmap { KeepsRoom bitmap.old bitmap.new }
@@ -168,10 +163,8 @@ pub fn read_nbc_rows<R: Read, W: Write>(
     small: &mut Area,
     sink: &mut Sink<W>,
 ) -> Result<u64, Stop>
-    requires going { IsGoing payload.old }
-    requires writing { IsWriting sink.old }
-    requires room { longest_bitmap ≤ bitmap.old.room }
-    requires small_room { longest_cell ≤ small.old.room }
+    requires rows { AwaitsRows payload.old sink.old small.old }
+    requires bitmap { longest_bitmap ≤ bitmap.old.room }
     ensures payload { LeavesPayload payload.old payload.new result }
     ensures sink { LeavesSink sink.old sink.new result }
     ensures bitmap { KeepsRoom bitmap.old bitmap.new }
