@@ -9,7 +9,7 @@ use Rattle.tds_rows.specs.declared.cell.layout.Layout.TheVariants.{Counted, Fixe
 
 -- the same form many times
 pub each_all : (P : Form → Type 0) (n : ℕ) (f : Form) → P f → Each P (replicate n f)
-each_all P n f is k d here = rw (get_or-replicate n k f d (omega (arith, length-replicate n f, here))) is
+each_all P n f is k d here = grind (arith, get_or-replicate, length-replicate)
 
 -- one more form of many
 pub each_set : (P : Form → Type 0) (forms : List Form) (k : ℕ) (f : Form) → Each P forms → k < length forms → P f → Each P (slice_set forms k f)

@@ -70,13 +70,10 @@ module _ {column : ℕ} (c : Conversion) {size : ℕ} (unit_is : size ≡ unit c
   module _ {a b : Seen} {place place' : ℕ} {answer : Option (Option ℕ)} (x : (n : ℕ) × ReadsNumber 8 a b place place' n
       × (total_fault column size n ≡ None) × (answer ≡ total_of n)) where
     pub total_none : answer ≡ None → Next column (Total c) a b place place' (WholeCell Null)
-    total_none is =
-        let null : x.0 ≡ null_total = grind arith in
-        next_by (omega arith) refl x.1 (total_same column c _ _ _ unit_is x.1.number
-        ∙ x.2) (choose_true _ _ _ (ap (λ m. m == null_total) (x.1.number ∙ null)))
+    total_none is = grind (arith, null_total, next_by, total_same, choose_true)
 
     pub total_start : {t : Option ℕ} → answer ≡ Some t → Next column (Total c) a b place place' (ChunkLength c t [])
-    total_start is = next_by (omega arith) refl x.1 (total_same column c _ _ _ unit_is x.1.number ∙ x.2) (let number = x.1.number in grind arith)
+    total_start is = grind (arith, next_by, total_same)
 
 -- ---- the length of a chunk
 

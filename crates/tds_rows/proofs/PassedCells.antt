@@ -32,7 +32,7 @@ steps_both x y = record {
 
 pub stops_after_steps : {s t : CellPart} {a b d : Seen} {place middle : ℕ} {stop : Stop} → StepsOver s t a b place middle
     → StopsPassing t b d middle stop → StopsPassing s a d place stop
-stops_after_steps x y = record { at = y.at; stops = stops_after _ _ _ _ _ _ _ _ _ x.reads (rw x.place_is at y.stops) }
+stops_after_steps x y = grind (arith, stops_after)
 
 -- ---- data, byte by byte
 

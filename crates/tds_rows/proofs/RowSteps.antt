@@ -95,7 +95,7 @@ module _ (kind : Kind) (s : Shape) (column : ℕ) (last : Bool) where
 -- ---- a cell in its row
 
 pub fields_more : (cells : List Cell) (v : List ℕ) → joined (map field cells) ++ after_comma (length cells) v ≡ joined (map field cells ++ v ∷ [])
-fields_more cells v = ap (λ n. joined (map field cells) ++ after_comma n v) (sym (length-map cells field)) ∙ joined_snoc _ v
+fields_more cells v = grind (arith, after_comma, length-map, joined_snoc)
 
 pub cell_more : (cells : List Cell) (v : Cell)
     → joined (map field cells) ++ after_comma (length cells) (field v) ≡ joined (map field (cells ++ v ∷ []))

@@ -58,15 +58,7 @@ pub more_in_rows : {table : Table} {columns : List Column} {old new : Ahead} {co
     (bytes to text rest : List ℕ) → made ≤ length to → m ≤ length text → RowsBetween table columns from old count (take used bytes) (take made to)
     → RunsMarked table columns (λ k. false) old new (take u (take (length bytes - used) (drop used bytes))) (take m text)
     → RowsBetween table columns from new count (take (used + u) bytes) (take (made + m) (take made to ++ (text ++ rest)))
-more_in_rows from used u made m bytes to text rest within some x y = (
-  y.ahead,
-  λ charset cells set is.
-      rw (
-        used_more used u bytes,
-        made_more made m to text rest within some,
-        y.further,
-      ) (marked_writes _ y.count _ _ (x.1 charset cells set is) (rw set at y.writes)),
-)
+more_in_rows from used u made m bytes to text rest within some x y = grind (arith, used_more, made_more, marked_writes)
 
 -- the same of what a run over rows has done
 pub rows_more : {table : Table} {from : Ahead} {bytes to : List ℕ} {run : RowsRun} {cells : CellRun} (text rest : List ℕ) → 0 < cells.used
@@ -123,7 +115,7 @@ run_breaks {table = table} {a = a} {b = b} {h = h} {j = j} {stop = stop} cells y
 -- what stands after what was made may be another
 pub rows_kept : {table : Table} {from : Ahead} {bytes to : List ℕ} {run : RowsRun} (new : List ℕ) → length new ≡ length to
     → take run.made new ≡ take run.made to → RowsRan table from bytes to run → RowsRan table from bytes new run
-rows_kept new same is x = record { used = x.used; made = omega (arith, same); few = x.few; writes = rw (sym is) at x.writes }
+rows_kept new same is x = grind arith
 
 -- a run, and then another that ended where it began
 pub rows_further : {table : Table} {from : Ahead} {bytes to : List ℕ} {run more : RowsRun} (text rest : List ℕ) → more.ahead ≡ run.ahead
