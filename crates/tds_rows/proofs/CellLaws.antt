@@ -17,13 +17,13 @@ pub unless_true : (b : Bool) (f : Fault) → b ≡ true → unless b f ≡ None
 unless_true b f h = rw h
 
 is_known : (n : ℕ) → n < unknown_total → known_total n ≡ Some n
-is_known n h = grind (arith, choose_false, ne_eqb)
+is_known n h = grind (arith, ne_eqb)
 
 within_known : (t n : ℕ) → n ≤ t → within_total (Some t) n ≡ true
-within_known t n h = grind (arith, nat_tests)
+within_known t n h = grind arith
 
 is_total_known : (t : ℕ) → is_total (Some t) t ≡ true
-is_total_known t = grind (arith, nat_tests)
+is_total_known t = grind arith
 
 module _ (column : ℕ) where
   fixed_cell : (kind : Kind) (n : ℕ) (v : ScalarValue) (bytes : List ℕ) → 0 < n → length bytes ≡ n → read_of kind bytes ≡ Ok v

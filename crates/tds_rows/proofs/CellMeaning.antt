@@ -91,7 +91,7 @@ guard_none b o f h = (grind arith, grind arith)
 module _ (column : ℕ) (kind : Kind) where
   value_means : (sh : Shape) (e b : List ℕ) → is_ok (read_of kind e) ≡ true
       → ((v : ScalarValue) → read_of kind e ≡ Ok v → SpellsCell kind sh (ScalarCell v) b) → CellMeans kind sh (value_part (read_of kind e)) b
-  value_means sh e b h k = grind (arith, is_ok_value)
+  value_means sh e b h k = grind arith
 
   short_means : (c : Conversion) (n left : ℕ) (d : List ℕ) (b : List ℕ) (x : ℕ) → n ≡ length d + (left + 1) → n < 65535
       → b ≡ (n % 256 ∷ n / 256 ∷ []) ++ d → (is_begun c (d ++ x ∷ []) && (nat_lt 0 left || is_fit c (d ++ x ∷ []))) ≡ true

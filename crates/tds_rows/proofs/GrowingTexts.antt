@@ -68,12 +68,12 @@ long_grows c a h = (conversion_text c (conversion_rest c a) ++ closing (is_quote
 
 -- the last byte of a short value leaves it fit
 pub last_fit : (left : ℕ) (b : Bool) → (nat_lt 0 left || b) ≡ true → (left == 0) ≡ true → b ≡ true
-last_fit left b h z = grind (arith, eq_true, lt_true, or_cases)
+last_fit left b h z = grind (arith, lt_true, or_cases)
 
 -- what ends the chunks leaves the data fit
 pub end_fit : (column : ℕ) (c : Conversion) (total : Option ℕ) (content : List ℕ) (n : ℕ) → chunk_fault column c total content n ≡ None
     → (n == 0) ≡ true → is_fit c content ≡ true
-end_fit column c total content n h z = grind (arith, guard_none, unless_none)
+end_fit column c total content n h z = grind (arith, unless_none)
 
 module _ (column : ℕ) where
   -- each element of a cell adds to its text

@@ -139,7 +139,7 @@ module _ (c : Conversion) (content : List ℕ) (begun : BeginsData c content) wh
   -- nothing was read
   fills_none : {p : At} → IsBetween p.seen → length p.held.waiting < 4096 → p.held.delivered ≤ 2 ^ 64 - 1
       → FillsData c content p.seen p.seen p.place p.place p.held p.held []
-  fills_none {p = p} between few delivered = record {
+  fills_none between few delivered = record {
     takes = Takes-none _ 0;
     between = between;
     place_is = omega arith;
@@ -190,7 +190,7 @@ module _ {c : Conversion} {content kept : List ℕ} {p q : At} {n left : ℕ} (b
   pub filled_stops : {column : ℕ} {d : Seen} {j : Held} {failed : Bool} {stop : Stop} → 0 < left
       → StopsData c (content ++ x.more) column left q.seen d q.place q.held j failed stop
       → StopsFilling c content column n p.seen d p.place p.held j failed stop
-  filled_stops {column = column} {d = d} {j = j} {failed = failed} {stop = stop} some y =
+  filled_stops {failed = failed} some y =
       let rest : left ≡ n - length x.more = omega arith in
       record {
         front = x.more;

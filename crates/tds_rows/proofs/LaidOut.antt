@@ -55,4 +55,4 @@ module _ (charset : Charset) (kind : Kind) where
 
   -- how many bytes its cell has
   pub short_whole : (content : Content) (bytes : List ℕ) → IsLaidOut charset kind (ShortLayout content) → short_size bytes ≡ whole_size kind bytes
-  short_whole content bytes laid = grind (arith, is_long_kind)
+  short_whole content bytes laid = grind arith

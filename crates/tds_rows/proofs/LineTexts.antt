@@ -3,7 +3,7 @@ use Rattle.{tds_rows.proofs.Words.{◌≡◌, ◌≢◌, ℕ, List, [], ◌∷�
 
 -- a field after a comma
 pub after_some_column : (column : ℕ) (text : List ℕ) → column ≢ 0 → 44 ∷ text ≡ after_comma column text
-after_some_column column text h = grind (arith, choose_false, ne_eqb)
+after_some_column column text h = grind (arith, ne_eqb)
 
 -- more after a field
 pub after_append : (column : ℕ) (a b : List ℕ) → after_comma column (a ++ b) ≡ after_comma column a ++ b

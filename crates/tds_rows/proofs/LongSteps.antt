@@ -46,7 +46,7 @@ no_text_false c l b is h = grind (arith, begun_by_test)
 module _ {column : ℕ} {c : Conversion} {state : ℕ → List ℕ → CellPart} {Good : List ℕ
     → Type 0} (last : Bool) (holds : HoldsContent column c state Good) where
   pub text_at : (r : ℕ) (d : List ℕ) → cell_so_far column last (state (suc r) d) ≡ after_comma column (open_field c d)
-  text_at r d = grind (arith, opened_text, column)
+  text_at r d = grind (arith, column)
 
   -- the bytes of some content are elements
   pub content_spelt : (d bytes : List ℕ) (m r : ℕ) → m ≡ length bytes + r → BeginsData c (d ++ bytes) → (r ≡ 0 → 0 < length bytes → Good (d ++ bytes))
@@ -66,17 +66,17 @@ module _ {column : ℕ} {c : Conversion} {state : ℕ → List ℕ → CellPart}
   -- and where more follow
   front_spelt : {m : ℕ} (d bytes : List ℕ) (r : ℕ) → m ≡ length bytes + suc r → BeginsData c (d ++ bytes)
       → Spelt (cell column) (state m d) bytes (state (suc r) (d ++ bytes))
-  front_spelt d bytes r is begun = grind (arith, bytes, content_spelt)
+  front_spelt d bytes r is begun = grind (arith, content_spelt)
 
   -- what some content adds to the open field
   text_more : (d more : List ℕ) → BeginsData c (d ++ more)
       → after_comma column (open_field c d) ++ added_text c d more ≡ after_comma column (open_field c (d ++ more))
-  text_more d more begun = grind (arith, after_append, column, open_grows)
+  text_more d more begun = grind (arith, column, open_grows)
 
   -- what some content adds to the text, where more follows
   text_grown : (d more : List ℕ) (r r' : ℕ) → BeginsData c (d ++ more)
       → cell_so_far column last (state (suc r) d) ++ added_text c d more ≡ cell_so_far column last (state (suc r') (d ++ more))
-  text_grown d more r r' begun = grind (arith, text_at, text_more)
+  text_grown d more r r' begun = grind (arith, text_more)
 
   -- and where none does
   text_closed : (d more tail : List ℕ) (r : ℕ) → BeginsData c (d ++ more)
@@ -221,7 +221,7 @@ module _ {column : ℕ} {c : Conversion} {state : ℕ → List ℕ → CellPart}
 
     front_path : Path (cell column) (cell_so_far column last) (state m d) p (record { seen = x.middle; place = x.there; held = x.between })
         (state (suc last_left) (d ++ x.front))
-    front_path = fills_path m last_left (omega (arith, last_split)) x.fills
+    front_path = fills_path m last_left (omega arith) x.fills
 
     last_spelt : Good all_content → Spelt (cell column) (state (suc last_left) (d ++ x.front)) x.takes.piece (state 0 all_content)
     last_spelt good = grind (arith, content_spelt, last_split)
@@ -272,7 +272,7 @@ module _ {column : ℕ} {c : Conversion} {state : ℕ → List ℕ → CellPart}
 -- ---- the content of a short value, and of a chunk
 
 short_next : (c : Conversion) (r : ℕ) (d : List ℕ) → short_left c (suc r) d ≡ ShortData c r d
-short_next c r d = grind (arith, choose_false, ne_eqb)
+short_next c r d = grind (arith, ne_eqb)
 
 module _ (column : ℕ) (c : Conversion) where
   fit_or_none : (d : List ℕ) (x : ℕ) (b : Bool) → is_fit c (d ++ x ∷ []) ≡ b → (is_fit c (d ++ x ∷ []) ≡ true)
@@ -295,7 +295,7 @@ module _ (column : ℕ) (c : Conversion) where
     text = λ r d. ap field_so_far (short_next c r d);
     add = λ r d x. ap (λ s. cell_add s (x ∷ [])) (short_next c r d);
     free = λ r d x begun fit. ap (λ s. cell_fault column s (x ∷ [])) (short_next c r d)
-        ∙ unless_true _ _ (grind (arith, and_from, or_left, or_right, test_lt));
+        ∙ unless_true _ _ (grind (arith, or_left, or_right, test_lt));
     bad = λ r d x no. ap (λ s. cell_fault column s (x ∷ [])) (short_next c r d)
         ∙ ap (λ b. unless (b && (nat_lt 0 r || is_fit c (d ++ x ∷ []))) (BadText column)) no;
     ends = λ d x. fit_or_none d x _ refl;
@@ -304,7 +304,7 @@ module _ (column : ℕ) (c : Conversion) where
 
   -- where the content isn't whole, its last byte is refused
   pub short_refused : (e : List ℕ) (y : ℕ) → is_fit c (e ++ y ∷ []) ≡ false → cell_fault column (short_left c 1 e) (y ∷ []) ≡ Some (BadText column)
-  short_refused e y unfit = grind (arith, short_next)
+  short_refused e y unfit = grind arith
 
   pub chunk_holds : (total : Option ℕ) → HoldsContent column c (chunk_left c total) (λ _. Unit {0})
   chunk_holds total = grind (arith, append-nil)

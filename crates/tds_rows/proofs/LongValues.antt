@@ -17,7 +17,7 @@ pub rest_none : (c : Conversion) → conversion_rest c [] ≡ []
 rest_none c = grind (arith, drop-nil)
 
 emit_none : (c : Conversion) → emit (conversion_rest c) (conversion_text c) [] ≡ []
-emit_none c = grind (arith, take-nil, hex-nil, text_nil)
+emit_none c = grind (arith, hex-nil, text_nil)
 
 open_none : (c : Conversion) → opening (is_quoted c) ≡ open_field c []
 open_none HexDigits = sym (append-nil binary_mark) ∙ ap (λ l. binary_mark ++ l) (sym (emit_none HexDigits))
@@ -105,7 +105,7 @@ module _ (column : ℕ) (last : Bool) (c : Conversion) where
   short_open n some = grind (arith, open_none, short_holds, text_at)
 
   empty_open : after_comma column (opening (is_quoted c)) ++ ending c (is_quoted c) last [] ≡ cell_so_far column last (short_left c 0 [])
-  empty_open = grind (arith, column, open_none, ending_text, no_data_is_fit)
+  empty_open = grind (arith, open_none, ending_text, no_data_is_fit)
 
   pub short_text : (n : ℕ) → (q : List ℕ) × (after_comma column (opening (is_quoted c)) ++ q ≡ cell_so_far column last (short_left c n []))
   short_text zero = (ending c _ last [], empty_open)

@@ -210,7 +210,7 @@ module _ {R W : Type 0} (remaining : R → Option (List ℕ)) (contents : W → 
       → BreaksMarked old.table.now columns nulls from (seen remaining old.payload.now) (seen remaining new.payload.now) (held contents old.sink.now)
       (held contents new.sink.now) failed stop → NearsHere old from
       → RowStops old.table.now.charset start p.seen (seen remaining new.payload.now) p.place p.held (held contents new.sink.now) failed stop
-  run_stops {old = old} new {from = from} {stop = stop} x y near =
+  run_stops {old = old} new {stop = stop} x y near =
       let sink = x.sink in
       rw y.failed_is (marked_breaks _ start columns nulls p _ y.runs.count (here remaining contents old) _ _ stop y.bytes [] y.text y.runs.writes
       (rw append-nil y.takes) y.between (sink.ready.1 sink.writing) sink.ready.2 y.breaks near.1)

@@ -43,14 +43,14 @@ number_stops some is end first (inr x) = cut_at_once _ _ _ _ _ _ _ _ (let few = 
 
 total_same : (column : ℕ) (c : Conversion) (size n : ℕ) (e : List ℕ) → size ≡ unit c → little e ≡ n
     → cell_fault column (Total c) e ≡ total_fault column size n
-total_same column c size n e unit_is is = grind (arith, column)
+total_same column c size n e unit_is is = grind arith
 
 -- ---- the length of a short value
 
 module _ {column : ℕ} (c : Conversion) {size : ℕ} (unit_is : size ≡ unit c) where
   pub short_stops : {a b : Seen} {place : ℕ} {stop : Stop} → RefusesNumber 2 (short_fault column size) a b place stop ⊎ CutsNumber 2 a b place stop
       → StopsReading (cell column) (ShortLength c) a b place (ShortLength c) stop
-  short_stops x = number_stops (omega arith) refl refl (λ e n f is first. grind (arith, column)) x
+  short_stops x = number_stops (omega arith) refl refl (λ e n f is first. grind arith) x
 
   -- as a call read it
   module _ {a b : Seen} {place place' : ℕ} {answer : Option ℕ} (x : (n : ℕ) × ReadsNumber 2 a b place place' n × (short_fault column size n ≡ None)
@@ -65,15 +65,15 @@ module _ {column : ℕ} (c : Conversion) {size : ℕ} (unit_is : size ≡ unit c
 
   pub total_stops : {a b : Seen} {place : ℕ} {stop : Stop} → RefusesNumber 8 (total_fault column size) a b place stop ⊎ CutsNumber 8 a b place stop
       → StopsReading (cell column) (Total c) a b place (Total c) stop
-  total_stops x = number_stops (omega arith) refl refl (λ e n f is first. grind (arith, column)) x
+  total_stops x = number_stops (omega arith) refl refl (λ e n f is first. grind arith) x
 
   module _ {a b : Seen} {place place' : ℕ} {answer : Option (Option ℕ)} (x : (n : ℕ) × ReadsNumber 8 a b place place' n
       × (total_fault column size n ≡ None) × (answer ≡ total_of n)) where
     pub total_none : answer ≡ None → Next column (Total c) a b place place' (WholeCell Null)
-    total_none is = grind (arith, null_total, next_by, total_same, choose_true)
+    total_none is = grind (arith, next_by, total_same, choose_true)
 
     pub total_start : {t : Option ℕ} → answer ≡ Some t → Next column (Total c) a b place place' (ChunkLength c t [])
-    total_start is = grind (arith, next_by, total_same)
+    total_start is = grind (arith, total_same)
 
 -- ---- the length of a chunk
 
@@ -86,7 +86,7 @@ module _ {column : ℕ} (c : Conversion) {size : ℕ} (unit_is : size ≡ unit c
     module _ {n place' : ℕ} (x : ReadsNumber 4 a b place place' n) (free : chunk_length_fault column size total sum n ≡ None) where
       -- the terminator was read, after content that is whole
       pub chunk_end : n ≡ 0 → is_fit c content ≡ true → Next column (ChunkLength c total content) a b place place' (WholeCell (DataCell c content))
-      chunk_end none fit = grind (arith, next_by, unless_true, choose_true)
+      chunk_end none fit = grind (arith, unless_true, choose_true)
 
       -- after content that isn't, it is refused
       pub chunk_unfit : n ≡ 0 → is_fit c content ≡ false
@@ -97,7 +97,7 @@ module _ {column : ℕ} (c : Conversion) {size : ℕ} (unit_is : size ≡ unit c
 
       -- the length of a chunk was read
       pub chunk_start : n ≢ 0 → Next column (ChunkLength c total content) a b place place' (chunk_left c total n content)
-      chunk_start some = grind (arith, next_by, ne_eqb, choose_false)
+      chunk_start some = grind (arith, ne_eqb, choose_false)
 
 -- ---- where a call stops with the fault of a device, that device failed in it
 

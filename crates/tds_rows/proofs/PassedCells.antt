@@ -106,7 +106,7 @@ scalar_whole charset kind bytes scalar whole good = go _ refl
 -- nothing was passed over
 pub passes_none : {n : ℕ} {a : Seen} {place : ℕ} → n ≡ 0 → IsBetween a → PassesData n a a place place
 passes_none {n = n} {a = a} none between =
-    record { bytes = []; counted = sym none; takes = Takes-none a n; between = between; place_is = omega (arith, none) }
+    record { bytes = []; counted = sym none; takes = Takes-none a n; between = between; place_is = omega arith }
 
 -- a piece more was
 pub passes_more : {m n k : ℕ} {a b d : Seen} {place middle place' : ℕ} → k ≡ m + n → PassesData m a b place middle → PassesData n b d middle place'
@@ -134,7 +134,7 @@ cuts_more {m = m} {a = a} {b = b} {d = d} sum x y = record {
 pub scalar_passes : {kind : Kind} {a b : Seen} {place place' : ℕ} {bytes : List ℕ} (charset : Charset) → is_scalar kind ≡ true
     → GathersCell kind (cell_start kind (shape charset kind)) return_column a b place place' bytes → IsGoodValue kind bytes
     → PassesCell (cell_start kind (shape charset kind)) a b place place'
-scalar_passes {kind = kind} {bytes = bytes} charset scalar x good =
+scalar_passes {bytes = bytes} charset scalar x good =
     let v = scalar_whole _ _ _ scalar x.whole good in
     record {
       value = v.0;

@@ -49,7 +49,7 @@ module _ {S : Type 0} {g : Grammar S Fault} {text : S → List ℕ} where
   }
 
   abbrev pub path_none : {s : S} {p : At} → p.held.delivered ≤ 2 ^ 64 - 1 → Path g text s p p s
-  path_none {p = p} d = record { bytes = []; made = []; writes = writes_none; takes = Takes-none _ 0; puts = Puts-none _ d; place_is = omega arith }
+  path_none d = record { bytes = []; made = []; writes = writes_none; takes = Takes-none _ 0; puts = Puts-none _ d; place_is = omega arith }
 
   pub path_both : {s t u : S} {p q r : At} → Path g text s p q t → Path g text t q r u → Path g text s p r u
   path_both {p = p} {q = q} {r = r} x y = record {

@@ -95,7 +95,7 @@ module _ (kind : Kind) (s : Shape) (column : ℕ) (last : Bool) where
 -- ---- a cell in its row
 
 pub fields_more : (cells : List Cell) (v : List ℕ) → joined (map field cells) ++ after_comma (length cells) v ≡ joined (map field cells ++ v ∷ [])
-fields_more cells v = grind (arith, after_comma, length-map, joined_snoc)
+fields_more cells v = grind (arith, length-map, joined_snoc)
 
 pub cell_more : (cells : List Cell) (v : Cell)
     → joined (map field cells) ++ after_comma (length cells) (field v) ≡ joined (map field (cells ++ v ∷ []))
@@ -171,7 +171,7 @@ module _ (column : ℕ) (last : Bool) where
   opened_grows : (a b : Option (List ℕ)) → OptionGrows a b → Grows (opened column a) (opened column b)
   opened_grows None b h = grows_all _
   opened_grows (Some a) None h = absurd h
-  opened_grows (Some a) (Some b) h = grind (arith, grows_under)
+  opened_grows (Some a) (Some b) h = grind arith
 
   -- while it is open, the text so far of a cell is that of its field
   pub opened_text : (p : CellPart) → 0 < cell_size p → opened column (field_so_far p) ≡ cell_so_far column last p

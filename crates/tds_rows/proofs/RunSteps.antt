@@ -19,7 +19,7 @@ use Rattle.tds_rows.proofs.{
 -- a cell whose text comes with its last element
 pub whole_of : {from : CellPart} {column : ℕ} {last : Bool} {bytes made : List ℕ} → WritesCell from column last bytes made
     → WritesWhole from column last bytes made
-whole_of {from = from} x = record {
+whole_of x = record {
   value = x.value;
   spelt = rw x.joined at
       (Spelt-append _ _ _ _ _ _ x.spelt (rw x.whole at (Spelt-one _ _ _ x.next)));
@@ -57,7 +57,7 @@ scalar_left set kind bytes room scalar h5 = grind arith
 
 -- a cell has some bytes
 pub whole_some : (kind : Kind) (bytes : List ℕ) → 0 < whole_size kind bytes
-whole_some kind bytes = grind (arith, fixed_some)
+whole_some kind bytes = grind arith
 
 -- ---- a run between a payload and a sink
 
@@ -66,7 +66,7 @@ pub fills_no_block : (h j : Held) (piece : List ℕ) (stop : Stop) → length h.
 fills_no_block h j piece stop few (sent, blocks, n, adds, most, least, less, whole, is, risen) =
     let both : length h.waiting + length (take n piece) ≡ length sent + length j.waiting = sym (length-append h.waiting (take n piece))
     ∙ ap length adds.1 ∙ length-append sent j.waiting in
-    omega (arith, both, most, length-take n piece)
+    omega (arith, most, length-take n piece)
 
 -- ---- over the ends of rows
 
@@ -101,7 +101,7 @@ module _ (token : RowToken) (charset : Charset) (all : List Column) (before : Li
 cell_writes : {column : ℕ} {last : Bool} {bytes made : List ℕ} (kind : Kind) (sh : Shape)
     → (x : WritesWhole (cell_start kind sh) column last bytes made)
     → Writes (cell column) (cell_so_far column last) (cell_start kind sh) bytes made (WholeCell x.value)
-cell_writes {column = column} {last = last} {made = made} kind sh x = grind (arith, made, quiet_text, start_quiet)
+cell_writes {column = column} {last = last} {made = made} kind sh x = grind (arith, quiet_text, start_quiet)
 
 -- a cell after these, in its row
 after_more : {bytes made : List ℕ} {v : Cell} (charset : Charset) (cells : List Cell) (c : Column) (left : List Column)
@@ -244,5 +244,5 @@ pub put_whole : {W U : Type 0} {column place' : ℕ} {last : Bool} {bytes text :
     (λ stop. StopsCell charset kind column last a b place (held contents old) (held contents new) new.failed stop)
 put_whole {bytes = bytes} (Ok u) charset kind a b place contents old new going between x takes at puts =
     whole_puts _ _ _ _ _ _ _ _ x (Takes-more a b bytes 0 _ (omega arith) takes) at puts.gives
-put_whole {bytes = bytes} (Err stop) charset kind a b place contents old new going between x takes at puts =
+put_whole (Err stop) charset kind a b place contents old new going between x takes at puts =
     whole_breaks _ _ _ _ [] x (rw append-nil takes) between (going.ready.1 going.writing) going.ready.2 (puts.gives going.writing) puts.failed

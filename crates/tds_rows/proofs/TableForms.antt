@@ -39,7 +39,7 @@ module _ (table : Table) (from : Ahead) (end : ℕ) (forms : List Form) (within 
   -- the first is that of the next column
   pub first_next : (form : Form) (rest : List Form) → forms ≡ form ∷ rest → (columns : List Column) → Knows table columns → IsAhead table columns from
       → NextColumn columns from form.kind
-  first_next form rest are columns knows is = grind (arith, drop_more)
+  first_next form rest are columns knows is = grind arith
 
   module _ (ends : Bool) (end_is : ends ≡ (from.column + length forms == table.count)) where
     -- what was written by them is between two places of the row

@@ -7,4 +7,4 @@ loop-at-preserved c = grind (arith, clear_byte)
 pub returns-then-bits-ne0 : goal.returns-then-bits-ne0
 returns-then-bits-ne0 c =
     let set = first_set c.args.bitmap.now c.loop-at.at (search rules) (omega arith) in
-    grind (arith, set)
+    grind arith

@@ -4,7 +4,7 @@ use Rattle.tds_rows.proofs.{Words.{rules, columns_of}, Successes.rows_succeed}
 pub returns-clause-rows : goal.returns-clause-rows
 returns-clause-rows g c =
     let x = rw c.of-table.ensures.charset at (c.nbc_rows.ensures.rows (columns_of c.args.columns.bytes.now) c.of-table.ensures.knows) in
-    search (rules, x)
+    search rules
 
 pub returns-clause-succeeds : goal.returns-clause-succeeds
 returns-clause-succeeds g c = λ first later bytes more spelt none.

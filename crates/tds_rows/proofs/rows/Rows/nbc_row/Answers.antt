@@ -96,7 +96,7 @@ loop-at-preserved g c =
     record {
       stays = stays_on (stays_on l.invariant.stays kept) (stays_after kept.in_row done.leaves);
       knows = rw (sym same) at l.invariant.knows;
-      fits = search (arith, rules);
+      fits = search arith;
       reads = λ columns known.
           let there = rw done.leaves.same.3 at known in
           let knows = rw kept.same.3 at there in

@@ -10,7 +10,7 @@ use Rattle.tds_rows.proofs.{
 
 pub returns-in_err-gather_scalar : goal.returns-in_err-gather_scalar
 returns-in_err-gather_scalar g c = record {
-  leaves = search (arith, rules);
+  leaves = search arith;
   cell = λ last next.
       rw c.requires.next.in_row.sink.writing (passed _ _ _ _ c.from_residual.ensures.1 (at_once_stalls _ _
       _ _ c.requires.next.in_row.sink.ready.2 (c.in_err-gather_scalar.ensures.cell _)));
@@ -18,7 +18,7 @@ returns-in_err-gather_scalar g c = record {
 
 pub returns-in_default : goal.returns-in_default
 returns-in_default g c = record {
-  leaves = search (arith, rules);
+  leaves = search arith;
   cell = λ last next.
       let x = rw (sym c.bytes.ensures.value) at (c.in_ok-gather_scalar.ensures.cell c.args.self.now.table.now.charset) in
       let stops = left_stalls x (scalar_left _ _ _ _ c.requires.scalar c.in_default.ensures.cell) in

@@ -7,13 +7,13 @@ use Rattle.tds_rows.proofs.{
 
 pub loop-known-init : goal.loop-known-init
 loop-known-init c = record {
-  most = search (arith, rules);
-  few = search (arith, rules);
-  whole = search (arith, rules);
-  first = search (arith, rules);
+  most = search arith;
+  few = search arith;
+  whole = search arith;
+  first = search arith;
   laid = each_all (λ f. IsLaidOut c.args.charset f.kind f.layout) 64 c.of-forms.result c.of-forms.ensures.laid;
   numbers = λ _. each_all (λ f. IsInt4 f.kind) 64 c.of-forms.result (ap is_int4 c.of-forms.ensures.kind);
-  rest = search (arith, rules);
+  rest = search arith;
 }
 
 pub loop-known-preserved : goal.loop-known-preserved

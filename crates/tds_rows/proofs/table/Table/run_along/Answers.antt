@@ -10,4 +10,4 @@ pub returns-clause-cells : goal.returns-clause-cells
 returns-clause-cells c = grind (arith, common_steps, forms_between)
 
 pub returns-clause-within : goal.returns-clause-within
-returns-clause-within c = grind (arith, some_written)
+returns-clause-within c = grind arith

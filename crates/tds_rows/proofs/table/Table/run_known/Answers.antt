@@ -23,7 +23,7 @@ loop-forms-preserved g c =
     let whole = c.run_whole-whole in
     let run = c.run_forms-run in
     let some = run.ensures.within.some (omega arith) in
-    rows_more _ _ some (search (arith, rules)) (search (arith, rules))
+    rows_more _ _ some (search arith) (search arith)
     (λ columns knows is. forms_between _ _ _ _ (omega arith) c.in-Some.ensures.ahead _ (sym (eq-eqb _ _ c.in-Some.ensures.whole)) _ knows is
     _ _ _ run.result c.pass.ensures.further (c.pass.ensures.ahead columns knows is) run.ensures.cells)
     (rows_further whole.new.to _ whole.ensures.ahead c.loop-forms.invariant whole.ensures.rows)
@@ -56,6 +56,6 @@ returns-clause-rows g c =
     let ran = rows_further whole.new.to (post_of l.made (length l.to - l.made) l.to) whole.ensures.ahead l.invariant whole.ensures.rows in
     elim c.match-rest_of_row.branch [
       | in_default+then-not-row_follows w ↦ rw w.to-is ran
-      | in-Some+then-run-eq0 w ↦ rw w.to-is (rows_kept _ (same_len_mid made (length mid - made) mid w.run_forms-run.new.to (search (arith, rules)))
+      | in-Some+then-run-eq0 w ↦ rw w.to-is (rows_kept _ (same_len_mid made (length mid - made) mid w.run_forms-run.new.to (search arith))
           (made_same made mid _ ran.made) ran)
     ]

@@ -17,13 +17,13 @@ loop-to-preserved-then-end-ahead g c =
     let text = c.write_null-made.new.to in
     let at = c.if-end-ahead.true in
     let null = subst (λ (k : ℕ). bits k ≡ true) at
-    (end.ensures.set (omega (arith, at))) in
-    let within : made ≤ length text = search (arith, rules) in
+    (end.ensures.set (omega arith)) in
+    let within : made ≤ length text = search arith in
     record {
       used = l.invariant.used;
-      made = search (arith, rules);
-      most = search (arith, rules);
-      clear = λ k least most. absurd (omega (arith, least, most, at));
+      made = search arith;
+      most = search arith;
+      clear = λ k least most. absurd (omega (arith, most, at));
       writes = λ columns knows ahead.
           let ran = l.invariant.writes columns knows ahead in
           let some : l.ahead.column < c.args.self.now.count = omega arith in
@@ -45,15 +45,15 @@ loop-to-preserved g c =
     let cells = ran.result in
     let further = ran.ensures.within.further (omega arith) in
     let within = ran.ensures.within.before end.ensures.least in
-    let some : cells.made ≤ length ran.new.to = search (arith, rules) in
+    let some : cells.made ≤ length ran.new.to = search arith in
     record {
-      used = search (arith, rules);
-      made = search (arith, rules);
-      most = search (arith, rules);
-      clear = λ k least most. end.ensures.clear k (omega (arith, further, least)) most;
+      used = search arith;
+      made = search arith;
+      most = search arith;
+      clear = λ k least most. end.ensures.clear k (omega (arith, least)) most;
       writes = λ columns knows ahead.
           let x = l.invariant.writes columns knows ahead in
-          let y = runs_clear (λ k least most. end.ensures.clear k least (omega (arith, most))) (ran.ensures.cells columns knows x.ahead) in
+          let y = runs_clear (λ k least most. end.ensures.clear k least (omega arith)) (ran.ensures.cells columns knows x.ahead) in
           runs_more _ _ _ _ _ _ _ _ _ l.invariant.made some x y;
     }
 

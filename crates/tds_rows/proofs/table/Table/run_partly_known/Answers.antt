@@ -14,7 +14,7 @@ loop-run-preserved-then-is_end c = row_begun c.requires.some (all_before _ _ (sy
     (λ columns knows is. c.start-run.ensures.ahead columns knows) c.loop-run.invariant
 
 pub loop-run-preserved : goal.loop-run-preserved
-loop-run-preserved c = rows_more _ _ (omega arith) (search (arith, rules)) (search (arith, rules))
+loop-run-preserved c = rows_more _ _ (omega arith) (search arith) (search arith)
     c.run_cells-cells.ensures.cells c.loop-run.invariant
 
 pub returns-then-cells-eq0-clause-ends : goal.returns-then-cells-eq0-clause-ends
@@ -22,7 +22,7 @@ returns-then-cells-eq0-clause-ends c = λ columns column left knows ahead step.
     let l = c.loop-run in
     let lent = take (length l.to - l.run.made) (drop l.run.made l.to) in
     let room : length lent ≡ length c.args.to.now - l.run.made =
-    omega (arith, length-take (length l.to - l.run.made) (drop l.run.made l.to), length-drop l.run.made l.to) in
+    omega (arith, length-drop l.run.made l.to) in
     let before = not_end _ _ _ knows.counted ahead.counted (sym c.is_end.ensures ∙ c.if-is_end.false) in
-    rw room at (rw (all_after c.args.bytes.now l.run.used) at (c.run_cells-cells.ensures.ends c.if-cells-eq0.true (omega (arith, before))))
+    rw room at (rw (all_after c.args.bytes.now l.run.used) at (c.run_cells-cells.ensures.ends c.if-cells-eq0.true (omega arith)))
     columns column left knows ahead step

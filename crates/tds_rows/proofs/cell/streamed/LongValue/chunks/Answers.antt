@@ -66,7 +66,7 @@ loop-n-preserved g c =
       same_sink = search rules;
       begun = done.leaves.begun;
       calm = done.blames ∙ same_failures c.in_ok-n.ensures.length.1.takes.4.0 refl ∙ l.invariant.calm;
-      few = omega (arith, l.invariant.few, done.place, (c.in_ok-n.ensures.length).1.place_is);
+      few = omega (arith, done.place, (c.in_ok-n.ensures.length).1.place_is);
       streamed = λ conversion suits.
           let x = l.invariant.streamed conversion suits in
           let r = c.in_ok-n.ensures.length in
@@ -77,4 +77,4 @@ loop-n-preserved g c =
     }
 
 pub returns-in_err-n-clause-blames : goal.returns-in_err-n-clause-blames
-returns-in_err-n-clause-blames g c = grind (arith, passed, stops_after, read_stops, length_blames, chunk_blames)
+returns-in_err-n-clause-blames g c = grind (arith, stops_after, read_stops, length_blames, chunk_blames)

@@ -41,7 +41,7 @@ pub returns-in_err-push_data-clause-field : goal.returns-in_err-push_data-clause
 returns-in_err-push_data-clause-field g c = λ conversion suits.
     let x = short_start _ (c.UNIT.ensures ∙ suits.unit_is) c.in_ok-n.ensures.length c.in-Some.is in
     let opened = rw (c.QUOTED.ensures ∙ suits.quoted_is) at c.in_ok-put_opening.ensures.gives in
-    let some : 0 < c.in-Some.n = search (arith, rules) in
+    let some : 0 < c.in-Some.n = search arith in
     let stops = c.in_err-push_data.ensures.data conversion [] suits (c.requires.withheld_none ∙ sym (rest_none _)) (none_begins _) in
     passed _ _ _ _ c.from_residual-in_err-push_data.ensures.1
     (path_stops (next_path c.args.self.now.last x _ (short_open c.args.self.now.column c.args.self.now.last conversion _ some) opened)
@@ -51,7 +51,7 @@ pub returns-clause-field : goal.returns-clause-field
 returns-clause-field g c = λ conversion suits.
     let x = short_start _ (c.UNIT.ensures ∙ suits.unit_is) c.in_ok-n.ensures.length c.in-Some.is in
     let opened = rw (c.QUOTED.ensures ∙ suits.quoted_is) at c.in_ok-put_opening.ensures.gives in
-    let some : 0 < c.in-Some.n = search (arith, rules) in
+    let some : 0 < c.in-Some.n = search arith in
     let start = next_path c.args.self.now.last x _ (short_open c.args.self.now.column c.args.self.now.last conversion _ some) opened in
     let y = c.in_ok-push_data.ensures.data conversion [] suits (c.requires.withheld_none ∙ sym (rest_none _)) (none_begins _) in
     let all = y.front ++ y.takes.piece in
@@ -62,4 +62,4 @@ returns-clause-field g c = λ conversion suits.
     (λ stop z. path_stops start (short_end_stops _ _ _ y z)))
 
 pub returns-in_err-n-clause-blames : goal.returns-in_err-n-clause-blames
-returns-in_err-n-clause-blames g c = grind (arith, passed, read_stops, length_blames, short_blames)
+returns-in_err-n-clause-blames g c = grind (arith, read_stops, length_blames, short_blames)
