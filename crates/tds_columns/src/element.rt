@@ -17,6 +17,14 @@ pub fn take_into<R: Read>(payload: &mut Payload<R>, area: &mut Area, n: usize) -
     ensures area { LeavesArea area.old area.new n result }
     ensures gives { ElementRead R.remaining payload.old payload.new area.old area.new n result }
 {
+    let held = payload.buffered();
+    if n <= held.len() && payload.stopped().is_none() {
+        let Ok(()) = area.append(&held[..n]) else {
+            unreachable!()
+        };
+        payload.consume(n);
+        return Ok(());
+    }
     let start = area.len();
     let lent = area.grow_within(n);
     match payload.fill(lent) {

@@ -26,12 +26,12 @@ module _ (bitmap : List ℕ) (at : ℕ) where
       × (bit bitmap (at + trailing_zeros w8 bits) ≡ true)
   first_set fits some =
       let t = trailing_zeros w8 bits in
-      let low = bit_at-trailing_zeros w8 bits some (omega (arith, shr_le (slice_index bitmap (at / 8)) (at % 8))) in
+      let low = bit_at-trailing_zeros w8 bits some (omega arith) in
       let within : at % 8 + t < 8 = elim (dec_le (at % 8 + t + 1) 8) [
         | yes lt ↦ omega arith
         | no above ↦
             let none : bit_at bits t ≡ 0 = rw (div-div-eq-div-mul, ← pow-add) (bit_at_above (slice_index bitmap (at / 8)) 8 _ fits (omega arith)) in
-            absurd (omega (arith, none, low.1))
+            absurd (omega arith)
       ] in (
         λ k least most.
             let there : at + (k - at) ≡ k = omega arith in

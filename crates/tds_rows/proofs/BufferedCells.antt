@@ -51,7 +51,7 @@ counted_written : (column : ℕ) (kind : Kind) (n : ℕ) (last : Bool) (bytes te
     → IsValueText kind column last (take n (drop 1 bytes)) text
     → WritesCell (ScalarLength kind) column last (take (1 + n) bytes) text
 counted_written column kind n last bytes text is some within x =
-    let whole = length-take-le n (drop 1 bytes) (grind (arith, length-drop)) in
+    let whole = length-take-le n (drop 1 bytes) (grind arith) in
     let good = ap (is_length_allowed kind) (sym whole) ∙ read_allowed kind _ x.0 x.1 in
     let yes = ap (λ v. v || is_length_allowed kind n) (ne_eqb n 0 some) ∙ good in
     let to : (cell column).add (ScalarLength kind) (n ∷ []) ≡ ScalarBytes kind n = choose_false _ _ _ (ne_eqb n 0 some) in
@@ -73,7 +73,7 @@ module _ (charset : Charset) (kind : Kind) (column : ℕ) (last : Bool) (bytes t
   -- NULL at the front of these bytes
   pub null_cell : (start : ℕ) → start ≡ value_start kind → value_length kind bytes ≡ 0 → start + 0 ≤ length bytes
       → text ≡ in_line column last null_field → WritesCell (cell_start kind (shape charset kind)) column last (take (start + 0) bytes) text
-  null_cell start at none within is = grind (arith, fixed_some, null_written, scalar_shape)
+  null_cell start at none within is = grind (arith, null_written, scalar_shape)
 
   -- a value there
   pub value_cell : (start n : ℕ) → start ≡ value_start kind → n ≡ value_length kind bytes → n ≢ 0 → start + n ≤ length bytes
@@ -95,23 +95,23 @@ module _ (charset : Charset) (kind : Kind) (column : ℕ) (last : Bool) (bytes t
 -- a whole number of four bytes is read alike in each of its kinds
 pub int4_reads : (kind : Kind) (bytes : List ℕ) → IsInt4 kind → length bytes ≡ 4 → (is_scalar kind ≡ true)
     × (read_of kind bytes ≡ read_of (IntN 4) bytes)
-int4_reads kind bytes number four = grind (arith, common_steps)
+int4_reads kind bytes number four = grind arith
 
 -- its kinds are scalar ones
 pub int4_scalar : (kind : Kind) → IsInt4 kind → is_scalar kind ≡ true
-int4_scalar kind number = grind (arith, common_steps)
+int4_scalar kind number = grind arith
 
 -- one that may be NULL comes after its length
 pub int4_start : {kind : Kind} {n : ℕ} → IsInt4 kind → kind ≡ IntN n → (bytes : List ℕ) → (is_scalar kind ≡ true)
     × ((1 ≡ value_start kind) × (value_length kind bytes ≡ slice_index bytes 0))
-int4_start number is bytes = grind (arith, common_steps)
+int4_start number is bytes = grind arith
 
 -- a cell whose value is refused is left
 pub refused_left : (kind : Kind) (bytes : List ℕ) (start n : ℕ) → start ≡ value_start kind → n ≡ value_length kind bytes → n ≢ 0
     → is_ok (read_of kind (take ((start + n) - start) (drop start bytes))) ≡ false → IsScalarLeft kind bytes
 refused_left kind bytes start n at many some bad =
-    let after : (start + n) - start ≡ value_length kind bytes = omega (arith, many) in
-    inr (omega (arith, some, many), rw (after, at) at bad)
+    let after : (start + n) - start ≡ value_length kind bytes = omega arith in
+    inr (omega arith, rw (after, at) at bad)
 
 -- bytes that are a cell were read
 pub cell_reads : (from : CellPart) (column : ℕ) (last : Bool) (a b : Seen) (place place' : ℕ) (bytes text : List ℕ)

@@ -1,11 +1,11 @@
 -- What a cell's spelling is read as.
 use Rattle.tds_rows.proofs.{
-  Words.{common_steps, ◌≡◌, ◌⊎◌, ℕ, suc, ◌+◌, ◌-◌, ◌/◌, ◌%◌, ◌<◌, ◌≤◌, Bool, true, List, [], ◌∷◌, ◌++◌, length, refl, sym, ◌∙◌, ap, subst, inl, inr},
-  Words.{append_assoc, append-nil, arith, rules, length-append, Ok, Option, Some, None, ◌==◌, ◌||◌, nat_le, is_ok, if◌then◌else◌, concat, nat_tests, ne_eqb},
-  Words.{and_from, or_left, or_right, Kind, Short, Chunked, ScalarValue, little, is_length_allowed, read_of, Conversion, unit, is_fit, fit_units, fit_begins},
-  Words.{Spelt, Fault, BadValue, Spelt-step, Spelt-append, Cell, Null, ScalarCell, DataCell, Shape, FixedShape, CountedShape, LongShape, SpellsChunk},
-  Words.{SpellsChunks, SpellsChunked, SpellsShort, SpellsCell, ScalarBytes, ScalarLength, ShortLength, ShortData, Total, ChunkLength, ChunkData, WholeCell},
-  Words.{cell_start, cell, unless, within_total, is_total, value_part, known_total, unknown_total, null_total, choose_false, choose_true, test_lt, little-two},
+  Words.{◌≡◌, ◌⊎◌, ℕ, suc, ◌+◌, ◌-◌, ◌/◌, ◌%◌, ◌<◌, ◌≤◌, Bool, true, List, [], ◌∷◌, ◌++◌, length, refl, sym, ◌∙◌, ap, subst, inl, inr, append_assoc},
+  Words.{append-nil, arith, rules, length-append, Ok, Option, Some, None, ◌==◌, ◌||◌, nat_le, is_ok, if◌then◌else◌, concat, nat_tests, ne_eqb, and_from},
+  Words.{or_left, or_right, Kind, Short, Chunked, ScalarValue, little, is_length_allowed, read_of, Conversion, unit, is_fit, fit_units, fit_begins, Spelt},
+  Words.{Fault, BadValue, Spelt-step, Spelt-append, Cell, Null, ScalarCell, DataCell, Shape, FixedShape, CountedShape, LongShape, SpellsChunk, SpellsChunks},
+  Words.{SpellsChunked, SpellsShort, SpellsCell, ScalarBytes, ScalarLength, ShortLength, ShortData, Total, ChunkLength, ChunkData, WholeCell, cell_start, cell},
+  Words.{unless, within_total, is_total, value_part, known_total, unknown_total, null_total, choose_false, choose_true, test_lt, little-two},
 }
 
 -- a fixed shape has bytes
@@ -17,13 +17,13 @@ pub unless_true : (b : Bool) (f : Fault) → b ≡ true → unless b f ≡ None
 unless_true b f h = rw h
 
 is_known : (n : ℕ) → n < unknown_total → known_total n ≡ Some n
-is_known n h = grind (arith, common_steps, choose_false, ne_eqb)
+is_known n h = grind (arith, ne_eqb)
 
 within_known : (t n : ℕ) → n ≤ t → within_total (Some t) n ≡ true
-within_known t n h = grind (arith, nat_tests)
+within_known t n h = grind arith
 
 is_total_known : (t : ℕ) → is_total (Some t) t ≡ true
-is_total_known t = grind (arith, nat_tests)
+is_total_known t = grind arith
 
 module _ (column : ℕ) where
   fixed_cell : (kind : Kind) (n : ℕ) (v : ScalarValue) (bytes : List ℕ) → 0 < n → length bytes ≡ n → read_of kind bytes ≡ Ok v

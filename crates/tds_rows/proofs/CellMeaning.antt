@@ -91,7 +91,7 @@ guard_none b o f h = (grind arith, grind arith)
 module _ (column : ℕ) (kind : Kind) where
   value_means : (sh : Shape) (e b : List ℕ) → is_ok (read_of kind e) ≡ true
       → ((v : ScalarValue) → read_of kind e ≡ Ok v → SpellsCell kind sh (ScalarCell v) b) → CellMeans kind sh (value_part (read_of kind e)) b
-  value_means sh e b h k = grind (arith, common_steps, is_ok_value)
+  value_means sh e b h k = grind arith
 
   short_means : (c : Conversion) (n left : ℕ) (d : List ℕ) (b : List ℕ) (x : ℕ) → n ≡ length d + (left + 1) → n < 65535
       → b ≡ (n % 256 ∷ n / 256 ∷ []) ++ d → (is_begun c (d ++ x ∷ []) && (nat_lt 0 left || is_fit c (d ++ x ∷ []))) ≡ true
@@ -139,7 +139,7 @@ module _ (column : ℕ) (kind : Kind) where
   data_means : (c : Conversion) (total : Option ℕ) (left : ℕ) (d b : List ℕ) (x : ℕ) → ChunkMeans total left d b
       → CellMeans kind (LongShape c Chunked) (cell_add (ChunkData c total left d) (x ∷ [])) (b ++ x ∷ [])
   data_means c total left d b x m =
-      let la : length (m.part ++ x ∷ []) ≡ length m.part + 1 = length-append m.part (x ∷ []) in
+      let la = length-append m.part (x ∷ []) in
       let counted = m.counted in
       let spelt = ap (λ v. v ++ x ∷ []) m.spelt ∙ append_assoc m.whole _ _ ∙ ap (λ v. m.whole ++ v) (append_assoc m.header m.part _) in
       let all = ap (λ v. v ++ x ∷ []) m.all ∙ append_assoc m.before m.part _ in

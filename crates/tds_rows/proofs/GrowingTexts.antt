@@ -22,7 +22,7 @@ grows_all b = (b, refl)
 
 -- growth goes on
 pub grows_trans : (a b c : List ℕ) → Grows a b → Grows b c → Grows a c
-grows_trans a b c h k = grind (arith, common_steps, append_assoc)
+grows_trans a b c h k = grind (arith, append_assoc)
 
 -- what stands in front stays
 pub grows_under : (x a b : List ℕ) → Grows a b → Grows (x ++ a) (x ++ b)
@@ -58,7 +58,7 @@ with_field_grows cells (Some a) (Some b) h = joined_last (map field cells) a b h
 
 -- more data
 open_more : (c : Conversion) (a b : List ℕ) → is_begun c (a ++ b) ≡ true → Grows (open_field c a) (open_field c (a ++ b))
-open_more c a b h = grind (arith, common_steps, open_grows, begun_by_test)
+open_more c a b h = grind (arith, open_grows, begun_by_test)
 
 -- the end of the data
 long_grows : (c : Conversion) (a : List ℕ) → is_fit c a ≡ true → Grows (open_field c a) (long_field c a)
@@ -68,12 +68,12 @@ long_grows c a h = (conversion_text c (conversion_rest c a) ++ closing (is_quote
 
 -- the last byte of a short value leaves it fit
 pub last_fit : (left : ℕ) (b : Bool) → (nat_lt 0 left || b) ≡ true → (left == 0) ≡ true → b ≡ true
-last_fit left b h z = grind (arith, eq_true, lt_true, or_cases)
+last_fit left b h z = grind (arith, lt_true, or_cases)
 
 -- what ends the chunks leaves the data fit
 pub end_fit : (column : ℕ) (c : Conversion) (total : Option ℕ) (content : List ℕ) (n : ℕ) → chunk_fault column c total content n ≡ None
     → (n == 0) ≡ true → is_fit c content ≡ true
-end_fit column c total content n h z = grind (arith, guard_none, unless_none)
+end_fit column c total content n h z = grind (arith, unless_none)
 
 module _ (column : ℕ) where
   -- each element of a cell adds to its text

@@ -1,12 +1,12 @@
 -- What joiners do with the pieces of some content, in the words of their conversion.
 use Rattle.tds_csv.specs.declared.joiners.JoinFault.TheVariants as join_faults
 use Rattle.tds_rows.proofs.{
-  Words.{common_steps, ◌≡◌, ◌∙◌, ℕ, ◌+◌, ◌-◌, ◌^◌, ◌<◌, ◌≤◌, Bool, false, List, [], ◌∷◌, ◌++◌, length, take, drop, inl, inr, refl, sym, ap, subst, arith},
-  Words.{append_assoc, append-nil, length-append, Result, Ok, Err, get_or, Option, append_cancel_left, length-take-le, take-append-drop, drop_more, take_more},
-  Words.{BadText, Stop, Seen, Takes, IsBetween, Takes-more, Takes-none, takes_both, BeginsData, Conversion, IsFit, Suits, closing, conversion_rest},
-  Words.{conversion_text, emit, JoinFault, Odd, Stopped, Completes, EndsBy, LeavesPart, Pushes, TakesPiece, TakesUpTo, is_stopped, end_after, Sink, Breaks},
-  Words.{Held, Puts, PutsPiece, held, begun_front, joins_by_name, Breaks-after, Breaks-longer, Puts-none, Puts-trans, BreaksData, EndPut, FillsData},
-  Words.{RefusesData, StopsData, StopsEnding, StopsFilling, TakesData, added_text, join_stop, Payload},
+  Words.{◌≡◌, ◌∙◌, ℕ, ◌+◌, ◌-◌, ◌^◌, ◌<◌, ◌≤◌, Bool, false, List, [], ◌∷◌, ◌++◌, length, take, drop, inl, inr, refl, sym, ap, subst, arith, append_assoc},
+  Words.{append-nil, length-append, Result, Ok, Err, get_or, Option, append_cancel_left, length-take-le, take-append-drop, drop_more, take_more, BadText, Stop},
+  Words.{Seen, Takes, IsBetween, Takes-more, Takes-none, takes_both, BeginsData, Conversion, IsFit, Suits, closing, conversion_rest, conversion_text, emit},
+  Words.{JoinFault, Odd, Stopped, Completes, EndsBy, LeavesPart, Pushes, TakesPiece, TakesUpTo, is_stopped, end_after, Sink, Breaks, Held, Puts, PutsPiece},
+  Words.{held, begun_front, joins_by_name, Breaks-after, Breaks-longer, Puts-none, Puts-trans, BreaksData, EndPut, FillsData, RefusesData, StopsData},
+  Words.{StopsEnding, StopsFilling, TakesData, added_text, join_stop, Payload},
   Paths.At,
 }
 
@@ -97,7 +97,7 @@ module _ {fit begins : List ℕ → Type 0} {rest text : List ℕ → List ℕ} 
     -- the content is whole
     pub end_whole : {new : List ℕ} {h i : Held} → Completes fit text old new h i → IsFit c content
         × Puts h i (conversion_text c (conversion_rest c content))
-    end_whole x = grind (arith, common_steps, fit_whole)
+    end_whole x = grind (arith, fit_whole)
 
     -- it isn't
     end_part : {new : List ℕ} {h i : Held} → LeavesPart fit old new h i → IsFit c content → ⊥
@@ -139,7 +139,7 @@ module _ (c : Conversion) (content : List ℕ) (begun : BeginsData c content) wh
   -- nothing was read
   fills_none : {p : At} → IsBetween p.seen → length p.held.waiting < 4096 → p.held.delivered ≤ 2 ^ 64 - 1
       → FillsData c content p.seen p.seen p.place p.place p.held p.held []
-  fills_none {p = p} between few delivered = record {
+  fills_none between few delivered = record {
     takes = Takes-none _ 0;
     between = between;
     place_is = omega arith;
@@ -190,18 +190,14 @@ module _ {c : Conversion} {content kept : List ℕ} {p q : At} {n left : ℕ} (b
   pub filled_stops : {column : ℕ} {d : Seen} {j : Held} {failed : Bool} {stop : Stop} → 0 < left
       → StopsData c (content ++ x.more) column left q.seen d q.place q.held j failed stop
       → StopsFilling c content column n p.seen d p.place p.held j failed stop
-  filled_stops {column = column} {d = d} {j = j} {failed = failed} {stop = stop} some y =
-      let rest : left ≡ n - length x.more = omega (arith, x.counted) in
+  filled_stops {failed = failed} some y =
+      let rest : left ≡ n - length x.more = omega arith in
       record {
         front = x.more;
         middle = q.seen;
         there = q.place;
         between = q.held;
-        fewer = omega (
-          arith,
-          x.counted,
-          some,
-        );
+        fewer = omega arith;
         fills = x.fills;
         stops = rw (← rest) y;
       }

@@ -10,7 +10,7 @@ use Rattle.tds_rows.specs.declared.cell.layout.Layout.TheVariants.{Chunked, Coun
 
 -- the same form many times
 pub each_all : (P : Form → Type 0) (n : ℕ) (f : Form) → P f → Each P (replicate n f)
-each_all P n f is k d here = rw (get_or-replicate n k f d (omega (arith, length-replicate n f, here))) is
+each_all P n f is k d here = grind (arith, get_or-replicate, length-replicate)
 
 -- one more form of many
 pub each_set : (P : Form → Type 0) (forms : List Form) (k : ℕ) (f : Form) → Each P forms → k < length forms → P f → Each P (slice_set forms k f)
@@ -46,17 +46,17 @@ module _ (charset : Charset) (kind : Kind) where
   -- it is that of a scalar kind
   pub value_there : (l : Layout) (bytes : List ℕ) (start n : ℕ) → IsLaidOut charset kind l → HasValueAt l bytes start n → (is_scalar kind ≡ true)
       × ((start ≡ value_start kind) × (n ≡ value_length kind bytes))
-  value_there l bytes start n laid h = grind (arith, common_steps)
+  value_there l bytes start n laid h = grind arith
 
   -- a kind whose values have contents is a long one
   is_long_kind : (c : Conversion) (r : Reach) → shape charset kind ≡ LongShape c r → is_scalar kind ≡ false
-  is_long_kind c r is = grind (arith, common_steps)
+  is_long_kind c r is = grind arith
 
   -- ---- a cell that is left, and a short value
 
   -- how many bytes its cell has
   pub short_whole : (content : Content) (bytes : List ℕ) → IsLaidOut charset kind (ShortLayout content) → short_size bytes ≡ whole_size kind bytes
-  short_whole content bytes laid = grind (arith, is_long_kind)
+  short_whole content bytes laid = grind arith
 
 -- a scalar cell has some bytes
 scalar_some : (kind : Kind) (bytes : List ℕ) → 0 < scalar_size kind bytes

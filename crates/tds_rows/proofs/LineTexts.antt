@@ -1,11 +1,9 @@
 -- Fields in their line, as they are written.
-use Rattle.{
-  tds_rows.proofs.Words.{common_steps, ◌≡◌, ◌≢◌, ℕ, List, [], ◌∷◌, ◌++◌, length, refl, sym, arith, append_assoc, ne_eqb, choose_false, after_comma, joined},
-}
+use Rattle.{tds_rows.proofs.Words.{◌≡◌, ◌≢◌, ℕ, List, [], ◌∷◌, ◌++◌, length, refl, sym, arith, append_assoc, ne_eqb, choose_false, after_comma, joined}}
 
 -- a field after a comma
 pub after_some_column : (column : ℕ) (text : List ℕ) → column ≢ 0 → 44 ∷ text ≡ after_comma column text
-after_some_column column text h = grind (arith, common_steps, choose_false, ne_eqb)
+after_some_column column text h = grind (arith, ne_eqb)
 
 -- more after a field
 pub after_append : (column : ℕ) (a b : List ℕ) → after_comma column (a ++ b) ≡ after_comma column a ++ b

@@ -1,12 +1,12 @@
 -- Long values, in the grammar of a cell: the text of its parts, and the pieces of its content.
 use Rattle.tds_rows.proofs.{
-  Words.{StopsField, common_steps, ◌≡◌, ◌∙◌, ◌⊎◌, inl, inr, ℕ, suc, ◌+◌, ◌-◌, ◌^◌, ◌<◌, ◌≤◌, Bool, true, false, List, [], ◌∷◌, ◌++◌, length, refl, sym, ap},
-  Words.{subst, arith, append_assoc, append-nil, length-append, Option, Some, None, ◌&&◌, ◌||◌, nat_lt, and_from, cases_lt, ne_eqb, or_left, or_right},
-  Words.{append_cancel_left, BadText, MessageEnded, Stop, Spelt, Seen, Takes, IsBetween, choose_false, test_lt, Spelt-append, Spelt-step, Takes-more},
-  Words.{began_is_cut, cut_at_once, BeginsData, Conversion, conversion_rest, conversion_text, is_begun, is_fit, is_quoted, closing, long_field, open_field},
-  Words.{emit, after_comma, end_after, in_line, Breaks, Held, Puts, open_grows, open_closes, unfit_adds_none, begun_by_test, joins_by_name, breaks_somewhere},
-  Words.{Breaks-after, Breaks-longer, Puts-none, Puts-trans, CellPart, ShortData, cell, cell_add, cell_end, cell_fault, cell_size, field_so_far, unless},
-  Words.{cell_so_far, BreaksData, CutsData, EndsData, FillsData, RefusesData, StopsData, StopsFilling, added_text, ending, nil_of_length, Payload},
+  Words.{StopsField, ◌≡◌, ◌∙◌, ◌⊎◌, inl, inr, ℕ, suc, ◌+◌, ◌-◌, ◌^◌, ◌<◌, ◌≤◌, Bool, true, false, List, [], ◌∷◌, ◌++◌, length, refl, sym, ap, subst, arith},
+  Words.{append_assoc, append-nil, length-append, Option, Some, None, ◌&&◌, ◌||◌, nat_lt, and_from, cases_lt, ne_eqb, or_left, or_right, append_cancel_left},
+  Words.{BadText, MessageEnded, Stop, Spelt, Seen, Takes, IsBetween, choose_false, test_lt, Spelt-append, Spelt-step, Takes-more, began_is_cut, cut_at_once},
+  Words.{BeginsData, Conversion, conversion_rest, conversion_text, is_begun, is_fit, is_quoted, closing, long_field, open_field, emit, after_comma, end_after},
+  Words.{in_line, Breaks, Held, Puts, open_grows, open_closes, unfit_adds_none, begun_by_test, joins_by_name, breaks_somewhere, Breaks-after, Breaks-longer},
+  Words.{Puts-none, Puts-trans, CellPart, ShortData, cell, cell_add, cell_end, cell_fault, cell_size, field_so_far, unless, cell_so_far, BreaksData, CutsData},
+  Words.{EndsData, FillsData, RefusesData, StopsData, StopsFilling, added_text, ending, nil_of_length, Payload},
   Paths.{At, Path, path_both, path_stops},
   RowSteps.{line_grows, opened_text},
   LineTexts.after_append,
@@ -36,7 +36,7 @@ pub record HoldsContent (column : ℕ) (c : Conversion) (state : ℕ → List �
 
 -- a list that isn't empty has a last number
 snoc_of : (l : List ℕ) → 0 < length l → (p : List ℕ) × (x : ℕ) × (l ≡ p ++ x ∷ [])
-snoc_of [] some = absurd (omega (arith, some))
+snoc_of [] some = absurd (omega arith)
 snoc_of (x ∷ []) some = ([], x, refl)
 snoc_of (x ∷ y ∷ l) some = let r = snoc_of (y ∷ l) (omega arith) in (x ∷ r.0, r.1, ap (λ t. x ∷ t) r.2)
 
@@ -46,7 +46,7 @@ no_text_false c l b is h = grind (arith, begun_by_test)
 module _ {column : ℕ} {c : Conversion} {state : ℕ → List ℕ → CellPart} {Good : List ℕ
     → Type 0} (last : Bool) (holds : HoldsContent column c state Good) where
   pub text_at : (r : ℕ) (d : List ℕ) → cell_so_far column last (state (suc r) d) ≡ after_comma column (open_field c d)
-  text_at r d = grind (arith, common_steps, opened_text, column)
+  text_at r d = grind (arith, column)
 
   -- the bytes of some content are elements
   pub content_spelt : (d bytes : List ℕ) (m r : ℕ) → m ≡ length bytes + r → BeginsData c (d ++ bytes) → (r ≡ 0 → 0 < length bytes → Good (d ++ bytes))
@@ -66,29 +66,29 @@ module _ {column : ℕ} {c : Conversion} {state : ℕ → List ℕ → CellPart}
   -- and where more follow
   front_spelt : {m : ℕ} (d bytes : List ℕ) (r : ℕ) → m ≡ length bytes + suc r → BeginsData c (d ++ bytes)
       → Spelt (cell column) (state m d) bytes (state (suc r) (d ++ bytes))
-  front_spelt d bytes r is begun = grind (arith, common_steps, bytes, content_spelt)
+  front_spelt d bytes r is begun = grind (arith, content_spelt)
 
   -- what some content adds to the open field
   text_more : (d more : List ℕ) → BeginsData c (d ++ more)
       → after_comma column (open_field c d) ++ added_text c d more ≡ after_comma column (open_field c (d ++ more))
-  text_more d more begun = grind (arith, common_steps, after_append, column, open_grows)
+  text_more d more begun = grind (arith, column, open_grows)
 
   -- what some content adds to the text, where more follows
   text_grown : (d more : List ℕ) (r r' : ℕ) → BeginsData c (d ++ more)
       → cell_so_far column last (state (suc r) d) ++ added_text c d more ≡ cell_so_far column last (state (suc r') (d ++ more))
-  text_grown d more r r' begun = grind (arith, common_steps, text_at, text_more)
+  text_grown d more r r' begun = grind (arith, text_more)
 
   -- and where none does
   text_closed : (d more tail : List ℕ) (r : ℕ) → BeginsData c (d ++ more)
       → after_comma column (open_field c (d ++ more)) ++ tail ≡ cell_so_far column last (state 0 (d ++ more))
       → cell_so_far column last (state (suc r) d) ++ (added_text c d more ++ tail) ≡ cell_so_far column last (state 0 (d ++ more))
-  text_closed d more tail r begun whole = grind (arith, common_steps, append_assoc, column, text_at, text_more)
+  text_closed d more tail r begun whole = grind (arith, append_assoc, column, text_at, text_more)
 
   -- bytes were read and their text put, and more follow
   fills_path : {d more : List ℕ} {p q : At} (m r : ℕ) → m ≡ length more + suc r → FillsData c d p.seen q.seen p.place q.place p.held q.held more
       → Path (cell column) (cell_so_far column last) (state m d) p q (state (suc r) (d ++ more))
   fills_path {more = more} m r is x =
-      let next : suc (length more + r) ≡ m = omega (arith, is) in
+      let next : suc (length more + r) ≡ m = omega arith in
       record {
         bytes = more;
         made = added_text c _ more;
@@ -151,9 +151,9 @@ module _ {column : ℕ} {c : Conversion} {state : ℕ → List ℕ → CellPart}
 
     piece_refused : RefusesData c d column (suc r) a b place h i stop → Stopped false
     piece_refused x =
-        let within : length x.good < suc r = x.within in
+        let within = x.within in
         let no = no_text_false c _ _ refl x.no_text in
-        rw x.stop_is (byte_refused d _ _ _ _ _ (omega (arith, within)) x.begun (holds.bad (r - length x.good) (d ++ x.good) x.bad no) x.takes
+        rw x.stop_is (byte_refused d _ _ _ _ _ (omega arith) x.begun (holds.bad (r - length x.good) (d ++ x.good) x.bad no) x.takes
         x.between x.puts)
 
     -- a write of the text of a piece failed, whose bytes lead to a state
@@ -217,14 +217,14 @@ module _ {column : ℕ} {c : Conversion} {state : ℕ → List ℕ → CellPart}
     last_left = x.last - 1
 
     last_split : x.last ≡ suc last_left
-    last_split = let some : 0 < x.last = x.takes.some in omega (arith, some)
+    last_split = let some = x.takes.some in omega arith
 
     front_path : Path (cell column) (cell_so_far column last) (state m d) p (record { seen = x.middle; place = x.there; held = x.between })
         (state (suc last_left) (d ++ x.front))
-    front_path = fills_path m last_left (omega (arith, x.counted, last_split)) x.fills
+    front_path = fills_path m last_left (omega arith) x.fills
 
     last_spelt : Good all_content → Spelt (cell column) (state (suc last_left) (d ++ x.front)) x.takes.piece (state 0 all_content)
-    last_spelt good = grind (arith, common_steps, content_spelt, last_split)
+    last_spelt good = grind (arith, content_spelt, last_split)
 
     -- all of it was read and its text put, and what ends it
     pub ends_path : {j : Held} (tail : List ℕ) → Good all_content
@@ -266,13 +266,13 @@ module _ {column : ℕ} {c : Conversion} {state : ℕ → List ℕ → CellPart}
         let adds = adds_none e f y begun (unfit_adds_none c _ y unfit_here) in
         let stands : x.there + length f ≡ q.place - 1 = omega arith in
         path_stops front_path (rw stands at (byte_refused {a = x.middle} {h = x.between} {i = q.held} {m = suc last_left} e f [] y 0 x.there
-        (omega (arith, x.takes.counted)) ((joins_by_name c).front _ _ (rw same at begun)) (bad _ y unfit_here) (rw s.2 at x.takes.takes)
+        (omega arith) ((joins_by_name c).front _ _ (rw same at begun)) (bad _ y unfit_here) (rw s.2 at x.takes.takes)
         x.takes.between (rw (s.2, adds) at x.takes.puts)))
 
 -- ---- the content of a short value, and of a chunk
 
 short_next : (c : Conversion) (r : ℕ) (d : List ℕ) → short_left c (suc r) d ≡ ShortData c r d
-short_next c r d = grind (arith, common_steps, choose_false, ne_eqb)
+short_next c r d = grind (arith, ne_eqb)
 
 module _ (column : ℕ) (c : Conversion) where
   fit_or_none : (d : List ℕ) (x : ℕ) (b : Bool) → is_fit c (d ++ x ∷ []) ≡ b → (is_fit c (d ++ x ∷ []) ≡ true)
@@ -295,7 +295,7 @@ module _ (column : ℕ) (c : Conversion) where
     text = λ r d. ap field_so_far (short_next c r d);
     add = λ r d x. ap (λ s. cell_add s (x ∷ [])) (short_next c r d);
     free = λ r d x begun fit. ap (λ s. cell_fault column s (x ∷ [])) (short_next c r d)
-        ∙ unless_true _ _ (grind (arith, and_from, or_left, or_right, test_lt));
+        ∙ unless_true _ _ (grind (arith, or_left, or_right, test_lt));
     bad = λ r d x no. ap (λ s. cell_fault column s (x ∷ [])) (short_next c r d)
         ∙ ap (λ b. unless (b && (nat_lt 0 r || is_fit c (d ++ x ∷ []))) (BadText column)) no;
     ends = λ d x. fit_or_none d x _ refl;
@@ -304,7 +304,7 @@ module _ (column : ℕ) (c : Conversion) where
 
   -- where the content isn't whole, its last byte is refused
   pub short_refused : (e : List ℕ) (y : ℕ) → is_fit c (e ++ y ∷ []) ≡ false → cell_fault column (short_left c 1 e) (y ∷ []) ≡ Some (BadText column)
-  short_refused e y unfit = grind (arith, common_steps, short_next)
+  short_refused e y unfit = grind arith
 
   pub chunk_holds : (total : Option ℕ) → HoldsContent column c (chunk_left c total) (λ _. Unit {0})
-  chunk_holds total = grind (arith, common_steps, append-nil)
+  chunk_holds total = grind (arith, append-nil)

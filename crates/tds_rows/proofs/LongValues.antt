@@ -1,11 +1,11 @@
 -- Long values, element after element: their lengths, the content between, and the end.
 use Rattle.tds_rows.proofs.{
-  Words.{common_steps, ◌≡◌, ◌∙◌, inl, inr, ℕ, zero, suc, ◌-◌, ◌^◌, ◌<◌, ◌≤◌, Bool, true, false, List, [], ◌∷◌, ◌++◌, length, sym, ap, arith, append-nil},
-  Words.{Result, Ok, Err, MatchResult, Option, drop-nil, take-nil, Stop, StopsReading, Seen, Spelt-one, Spelt-none, BeginsData, Conversion, HexDigits, IsFit},
-  Words.{Utf16Text, Utf8Text, Windows1252Text, conversion_rest, conversion_text, is_quoted, open_field, emit, after_comma, binary_mark, in_line, null_field},
-  Words.{quote, Sink, Breaks, Held, IsWriting, Puts, PutsPiece, held, begun_by_test, fit_begins, fit_by_test, no_data_is_fit, hex-nil, Breaks-after, Puts-none},
-  Words.{Puts-trans, Breaks-longer, text_nil, Cell, CellPart, Null, ShortLength, WholeCell, cell, PutsField, StopsField, cell_so_far, EndsData, StopsEnding},
-  Words.{ending, opening, ◌≢◌, ◌+◌, refl, length-append, None, unit, ChunkLength, ReadsNumber, chunk_length_fault},
+  Words.{◌≡◌, ◌∙◌, inl, inr, ℕ, zero, suc, ◌-◌, ◌^◌, ◌<◌, ◌≤◌, Bool, true, false, List, [], ◌∷◌, ◌++◌, length, sym, ap, arith, append-nil, Result, Ok, Err},
+  Words.{MatchResult, Option, drop-nil, take-nil, Stop, StopsReading, Seen, Spelt-one, Spelt-none, BeginsData, Conversion, HexDigits, IsFit, Utf16Text},
+  Words.{Utf8Text, Windows1252Text, conversion_rest, conversion_text, is_quoted, open_field, emit, after_comma, binary_mark, in_line, null_field, quote, Sink},
+  Words.{Breaks, Held, IsWriting, Puts, PutsPiece, held, begun_by_test, fit_begins, fit_by_test, no_data_is_fit, hex-nil, Breaks-after, Puts-none, Puts-trans},
+  Words.{Breaks-longer, text_nil, Cell, CellPart, Null, ShortLength, WholeCell, cell, PutsField, StopsField, cell_so_far, EndsData, StopsEnding, ending},
+  Words.{opening, ◌≢◌, ◌+◌, refl, length-append, None, unit, ChunkLength, ReadsNumber, chunk_length_fault},
   LongSteps.{ending_text, ends_break, ends_path, ends_refused, short_holds, short_refused, text_at, chunk_holds},
   Numbers.{Next, short_left, chunk_end, chunk_start, chunk_unfit, chunk_left},
   Paths.{At, Path, path_both, path_of, streams_of, path_none, path_stops},
@@ -17,7 +17,7 @@ pub rest_none : (c : Conversion) → conversion_rest c [] ≡ []
 rest_none c = grind (arith, drop-nil)
 
 emit_none : (c : Conversion) → emit (conversion_rest c) (conversion_text c) [] ≡ []
-emit_none c = grind (arith, common_steps, take-nil, hex-nil, text_nil)
+emit_none c = grind (arith, hex-nil, text_nil)
 
 open_none : (c : Conversion) → opening (is_quoted c) ≡ open_field c []
 open_none HexDigits = sym (append-nil binary_mark) ∙ ap (λ l. binary_mark ++ l) (sym (emit_none HexDigits))
@@ -105,7 +105,7 @@ module _ (column : ℕ) (last : Bool) (c : Conversion) where
   short_open n some = grind (arith, open_none, short_holds, text_at)
 
   empty_open : after_comma column (opening (is_quoted c)) ++ ending c (is_quoted c) last [] ≡ cell_so_far column last (short_left c 0 [])
-  empty_open = grind (arith, common_steps, column, open_none, ending_text, no_data_is_fit)
+  empty_open = grind (arith, open_none, ending_text, no_data_is_fit)
 
   pub short_text : (n : ℕ) → (q : List ℕ) × (after_comma column (opening (is_quoted c)) ++ q ≡ cell_so_far column last (short_left c n []))
   short_text zero = (ending c _ last [], empty_open)

@@ -1,12 +1,11 @@
 -- The next cells of a row, those of a run or one, NULL or not, and rows one after another.
 use Rattle.tds_rows.proofs.{
-  Words.{common_steps, arith, ◌≡◌, ◌+◌, ℕ, Bool, true, false, List, ◌∷◌, drop, refl, sym, Err, Ok, Result, Option, ◌==◌, Kind, Stop, seen},
-  Words.{between_of, Column, held, Rows, Ahead, is_last_column, MarkedPut, CellRead, IsInRow, KindRead, LeavesRows, NextRead, StaysInRow, RowStops, RowPart},
-  Words.{marked, IsAhead, IsNextKind, Knows, TakesColumn, ◌∙◌, zero, suc, ◌-◌, ◌^◌, ◌≤◌, ◌<◌, [], ◌++◌, length, ap, subst, append_assoc, append-nil, add-zero},
-  Words.{length-append, Consumes-nil, Coming, before, IsBetween, Seen, Takes, Takes-more, Stays-none, takes_both, Held, Puts, nears_put, Puts_split, Charset},
-  Words.{WritesColumn, WritesMarked, WritesNext, Puts-none, RowsRun, Cell, PlainRow, RowToken, WholeRow, next_cell, row, row_so_far},
-  Words.{token_byte, token_start, ReadsRow, ReadsRows, RowsStop, RowsPut, RunsRows, rows, rows_so_far, rows_start},
-  Words.{BreaksMarked, Breaks, Breaks_split, inl, inr, Takes-none},
+  Words.{arith, ◌≡◌, ◌+◌, ℕ, Bool, true, false, List, ◌∷◌, drop, refl, sym, Err, Ok, Result, Option, ◌==◌, Kind, Stop, seen, between_of, Column, held, Rows},
+  Words.{Ahead, is_last_column, MarkedPut, CellRead, IsInRow, KindRead, LeavesRows, NextRead, StaysInRow, RowStops, RowPart, marked, IsAhead, IsNextKind},
+  Words.{Knows, TakesColumn, ◌∙◌, zero, suc, ◌-◌, ◌^◌, ◌≤◌, ◌<◌, [], ◌++◌, length, ap, subst, append_assoc, append-nil, add-zero, length-append, Consumes-nil},
+  Words.{Coming, before, IsBetween, Seen, Takes, Takes-more, Stays-none, takes_both, Held, Puts, nears_put, Puts_split, Charset, WritesColumn, WritesMarked},
+  Words.{WritesNext, Puts-none, RowsRun, Cell, PlainRow, RowToken, WholeRow, next_cell, row, row_so_far, token_byte, token_start, ReadsRow, ReadsRows},
+  Words.{RowsStop, RowsPut, RunsRows, rows, rows_so_far, rows_start, BreaksMarked, Breaks, Breaks_split, inl, inr, Takes-none},
   NullSteps.{NearsCells, all_put, cell_nears, cell_stops, null_breaks, null_nears, cell_path, marked_stops},
   RowSteps.{ends, ends_marked, coming, nulls_ahead, PutsAt, StopsAt},
   Paths.{At, here, Path, path_both, path_map, path_none, path_of, streams_of},
@@ -85,7 +84,7 @@ module _ {charset : Charset} {start : RowPart} {left : List (Column × Bool)} {p
               n.text_is;
           half = n.half;
         };
-        place_is = omega (arith, x.place_is, y.place_is);
+        place_is = omega arith;
       }
 
   -- nothing more was put
@@ -126,7 +125,7 @@ module _ (charset : Charset) (start : RowPart) (columns : List Column) (nulls : 
       rw (add-zero from) (nears_same y'.puts (nears_onward y' x))
   marked_nears from (suc n) q r bytes text w y x =
       let t = passes_apart q r _ _ _ _ (rw (w.4, w.5) at y) in
-      let z : Near ((from + n) + 1) r = column_nears _ _ r _ _ w.7 t.2 (marked_nears _ n q _ _ _ w.6 t.1 x) in
+      let z = column_nears _ _ r _ _ w.7 t.2 (marked_nears _ n q _ _ _ w.6 t.1 x) in
       subst (λ (k : ℕ). Near k r) (omega arith) z
 
   -- a write of the text of a column failed, after more was read
@@ -147,7 +146,7 @@ module _ (charset : Charset) (start : RowPart) (columns : List Column) (nulls : 
       → WritesMarked charset columns nulls from n bytes text → Takes q.seen d (bytes ++ rest) 0 → IsBetween d → length q.held.waiting < 4096
       → q.held.delivered ≤ 2 ^ 64 - 1 → Breaks q.held j text stop → Near from q → RowStops charset start p.seen d p.place p.held j true stop
   marked_breaks from zero q d j stop bytes rest text w takes between few delivered breaks x =
-      absurd (fills_no_block q.held j text stop (omega (arith, few, ap length w.1)) breaks)
+      absurd (fills_no_block q.held j text stop (omega (arith, ap length w.1)) breaks)
   marked_breaks from (suc n) q d j stop bytes rest text (front, back, first, more, joined, text_is, before, last) takes between few delivered breaks x =
       let read = rw (joined, append_assoc front back rest) at takes in
       elim (Breaks_split q.held j first more stop (rw text_is at breaks)) [
@@ -211,7 +210,7 @@ module _ {R W : Type 0} (remaining : R → Option (List ℕ)) (contents : W → 
       → BreaksMarked old.table.now columns nulls from (seen remaining old.payload.now) (seen remaining new.payload.now) (held contents old.sink.now)
       (held contents new.sink.now) failed stop → NearsHere old from
       → RowStops old.table.now.charset start p.seen (seen remaining new.payload.now) p.place p.held (held contents new.sink.now) failed stop
-  run_stops {old = old} new {from = from} {stop = stop} x y near =
+  run_stops {old = old} new {stop = stop} x y near =
       let sink = x.sink in
       rw y.failed_is (marked_breaks _ start columns nulls p _ y.runs.count (here remaining contents old) _ _ stop y.bytes [] y.text y.runs.writes
       (rw append-nil y.takes) y.between (sink.ready.1 sink.writing) sink.ready.2 y.breaks near.1)
@@ -223,7 +222,7 @@ module _ {R W : Type 0} (remaining : R → Option (List ℕ)) (contents : W → 
   left = marked (drop after.column columns) nulls (at.column + 1)
 
   last_is : (at.column + 1 == old.table.now.count) ≡ ends left
-  last_is = grind (arith, common_steps, last_one, after, ends_marked)
+  last_is = grind (arith, last_one, after, ends_marked)
 
   -- the next cell was read, or it stopped
   pub cell_read : {U : Type 0} (result : Result U Stop) → IsAhead old.table.now columns at → CellRead remaining contents at kind old new result
@@ -306,7 +305,7 @@ module _ {token : RowToken} {charset : Charset} {all : List Column} where
     rows_whole {cells = cells} x = record {
       earlier = x.before;
       last = cells;
-      counted = omega (arith, x.counted);
+      counted = omega arith;
       streams = streams_of x.path;
       place_is = x.path.place_is;
     }

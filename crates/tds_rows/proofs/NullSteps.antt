@@ -1,12 +1,11 @@
 -- Rows with NULLs by their bit, column after column, as they are read and their text is put.
 use Rattle.tds_rows.proofs.{
-  Words.{append-nil, common_steps, ◌≡◌, ◌∙◌, inl, inr, ℕ, ◌+◌, ◌-◌, ◌^◌, ◌<◌, ◌≤◌, Bool, true, false, List, [], ◌∷◌, ◌++◌, length, refl, sym, ap, arith},
-  Words.{length-append, map, Fault, Stop, Grammar, IsNext, Ends, IsBetween, Seen, Takes, began_at, Inside-Spelt, next_inside, next_some, stops_inside},
-  Words.{began_is_cut, cut_at_once, Column, in_line, joined, null_field, Breaks, Held, Puts, BreaksStreaming, StopsStreaming, Nears, added_between, last_read},
-  Words.{nears_after, nears_breaks, nears_from, nears_inside, nears_put, tail_after, Breaks-longer, Puts-none, Charset, Cell, CellPart, Null, WholeCell, cell},
-  Words.{cell_add, cell_size, cell_start, field, shape, cell_so_far, Bitmap, InCell, RowPart, bit, bitmap_length, marked, nbc_row_start, next_cell, row},
-  Words.{row_so_far, row_start, with_cell, stops_size, ReadsRow, RowStops, Writes, nears_done},
-  Words.{Takes-trans, add-zero},
+  Words.{append-nil, ◌≡◌, ◌∙◌, inl, inr, ℕ, ◌+◌, ◌-◌, ◌^◌, ◌<◌, ◌≤◌, Bool, true, false, List, [], ◌∷◌, ◌++◌, length, refl, sym, ap, arith, length-append, map},
+  Words.{Fault, Stop, Grammar, IsNext, Ends, IsBetween, Seen, Takes, began_at, Inside-Spelt, next_inside, next_some, stops_inside, began_is_cut, cut_at_once},
+  Words.{Column, in_line, joined, null_field, Breaks, Held, Puts, BreaksStreaming, StopsStreaming, Nears, added_between, last_read, nears_after, nears_breaks},
+  Words.{nears_from, nears_inside, nears_put, tail_after, Breaks-longer, Puts-none, Charset, Cell, CellPart, Null, WholeCell, cell, cell_add, cell_size},
+  Words.{cell_start, field, shape, cell_so_far, Bitmap, InCell, RowPart, bit, bitmap_length, marked, nbc_row_start, next_cell, row, row_so_far, row_start},
+  Words.{with_cell, stops_size, ReadsRow, RowStops, Writes, nears_done, Takes-trans, add-zero},
   RowSteps.{begun_text, coming, ends, line_grows, nulls_ahead, nulls_text, part_text, rest_of, PutsAt, StopsAt, cell_some, same_end, StopsCell},
   RowLaws.{begins_open, cell_in_row},
   Paths.{At, Path, path_both, path_map, path_none, path_of, path_stops, streams_of, writes_inside},
@@ -89,7 +88,7 @@ module _ (charset : Charset) (cells : List Cell) (ks : List (Column × Bool)) wh
       → Writes (cell (length cells)) (cell_so_far (length cells) (ends ks)) (cell_start c.kind (shape charset c.kind)) bytes made (WholeCell v)
       → Writes (row charset) row_so_far (next_cell charset cells ((c, false) ∷ ks)) bytes made (next_cell charset (cells ++ v ∷ []) ks)
   row_cell c none x = rw begins_open at (writes_inside {whole = row_so_far} front (cell_in_row charset cells ks)
-      (grind (arith, common_steps, append-nil, part_text)) x)
+      (grind (arith, append-nil, part_text)) x)
 
 -- ---- column after column
 
@@ -143,7 +142,7 @@ cell_path charset c cells counted none y =
     (z.value, path_map (λ a m. row_cell _ _ _ c (rw counted none)) (path_of z.streams z.place_is))
 
 further : (a b e l : List ℕ) (m n k : ℕ) → b ++ e ≡ l → n ≡ m + length a → k ≡ n + length l → k ≡ m + length ((a ++ b) ++ e)
-further a b e l m n k joined first second = grind (arith, common_steps, length-append)
+further a b e l m n k joined first second = grind (arith, length-append)
 
 module _ {charset : Charset} {start : RowPart} {c : Column} {ks : List (Column × Bool)} {p q : At} {column : ℕ} where
   -- a NULL by its bit was put

@@ -1,9 +1,9 @@
 -- The numbers of a long value, its length or total and those of its chunks, as elements of its cell: how each is judged, and where it leads.
 use Rattle.tds_rows.proofs.{
-  Words.{null_total, common_steps, ◌-◌, if◌then◌else◌, ChunkData, ShortData, ◌≡◌, ◌≢◌, ◌∙◌, ◌⊎◌, inl, inr, ℕ, ◌+◌, ◌<◌, true, false, List, [], length, refl},
-  Words.{sym, ap, subst, arith, Option, Some, None, ◌==◌, ne_eqb, little, Fault, BadText, MessageEnded, Stop, IsNext, StopsReading, IsBetween, Seen, Takes},
-  Words.{choose_false, choose_true, began_is_cut, cut_at_once, refused_at_once, Conversion, is_fit, unit, CellPart, ChunkLength, DataCell, Null, ShortLength},
-  Words.{Total, WholeCell, cell, cell_add, cell_end, cell_fault, cell_size, unless, CutsNumber, ReadsNumber, RefusesNumber, chunk_length_fault, short_fault},
+  Words.{null_total, ◌-◌, if◌then◌else◌, ChunkData, ShortData, ◌≡◌, ◌≢◌, ◌∙◌, ◌⊎◌, inl, inr, ℕ, ◌+◌, ◌<◌, true, false, List, [], length, refl, sym, ap, subst},
+  Words.{arith, Option, Some, None, ◌==◌, ne_eqb, little, Fault, BadText, MessageEnded, Stop, IsNext, StopsReading, IsBetween, Seen, Takes, choose_false},
+  Words.{choose_true, began_is_cut, cut_at_once, refused_at_once, Conversion, is_fit, unit, CellPart, ChunkLength, DataCell, Null, ShortLength, Total},
+  Words.{WholeCell, cell, cell_add, cell_end, cell_fault, cell_size, unless, CutsNumber, ReadsNumber, RefusesNumber, chunk_length_fault, short_fault},
   Words.{short_length, total_fault, total_of, Payload, ⊤, one_more, ReadFailed, WriteFailed, seen, ends_blame, Failures, StopBlames},
   CellLaws.unless_true,
 }
@@ -29,7 +29,7 @@ pub record Next (column : ℕ) (s : CellPart) (a b : Seen) (place place' : ℕ) 
 -- a number was read, where one of so many bytes is next
 next_by : {column size place place' n : ℕ} {s t : CellPart} {a b : Seen} → 0 < size → cell_size s ≡ size → (x : ReadsNumber size a b place place' n)
     → cell_fault column s x.element ≡ None → cell_add s x.element ≡ t → Next column s a b place place' t
-next_by some is x free to = grind (arith, common_steps)
+next_by some is x free to = grind arith
 
 -- it was refused, or is cut
 number_stops : {column size place : ℕ} {s : CellPart} {fault : ℕ → Option Fault} {a b : Seen} {stop : Stop} → 0 < size → cell_size s ≡ size
@@ -43,14 +43,14 @@ number_stops some is end first (inr x) = cut_at_once _ _ _ _ _ _ _ _ (let few = 
 
 total_same : (column : ℕ) (c : Conversion) (size n : ℕ) (e : List ℕ) → size ≡ unit c → little e ≡ n
     → cell_fault column (Total c) e ≡ total_fault column size n
-total_same column c size n e unit_is is = grind (arith, common_steps, column)
+total_same column c size n e unit_is is = grind arith
 
 -- ---- the length of a short value
 
 module _ {column : ℕ} (c : Conversion) {size : ℕ} (unit_is : size ≡ unit c) where
   pub short_stops : {a b : Seen} {place : ℕ} {stop : Stop} → RefusesNumber 2 (short_fault column size) a b place stop ⊎ CutsNumber 2 a b place stop
       → StopsReading (cell column) (ShortLength c) a b place (ShortLength c) stop
-  short_stops x = number_stops (omega arith) refl refl (λ e n f is first. grind (arith, common_steps, column)) x
+  short_stops x = number_stops (omega arith) refl refl (λ e n f is first. grind arith) x
 
   -- as a call read it
   module _ {a b : Seen} {place place' : ℕ} {answer : Option ℕ} (x : (n : ℕ) × ReadsNumber 2 a b place place' n × (short_fault column size n ≡ None)
@@ -65,18 +65,15 @@ module _ {column : ℕ} (c : Conversion) {size : ℕ} (unit_is : size ≡ unit c
 
   pub total_stops : {a b : Seen} {place : ℕ} {stop : Stop} → RefusesNumber 8 (total_fault column size) a b place stop ⊎ CutsNumber 8 a b place stop
       → StopsReading (cell column) (Total c) a b place (Total c) stop
-  total_stops x = number_stops (omega arith) refl refl (λ e n f is first. grind (arith, common_steps, column)) x
+  total_stops x = number_stops (omega arith) refl refl (λ e n f is first. grind arith) x
 
   module _ {a b : Seen} {place place' : ℕ} {answer : Option (Option ℕ)} (x : (n : ℕ) × ReadsNumber 8 a b place place' n
       × (total_fault column size n ≡ None) × (answer ≡ total_of n)) where
     pub total_none : answer ≡ None → Next column (Total c) a b place place' (WholeCell Null)
-    total_none is =
-        let null : x.0 ≡ null_total = grind arith in
-        next_by (omega arith) refl x.1 (total_same column c _ _ _ unit_is x.1.number
-        ∙ x.2) (choose_true _ _ _ (ap (λ m. m == null_total) (x.1.number ∙ null)))
+    total_none is = grind (arith, next_by, total_same, choose_true)
 
     pub total_start : {t : Option ℕ} → answer ≡ Some t → Next column (Total c) a b place place' (ChunkLength c t [])
-    total_start is = next_by (omega arith) refl x.1 (total_same column c _ _ _ unit_is x.1.number ∙ x.2) (let number = x.1.number in grind arith)
+    total_start is = grind (arith, total_same)
 
 -- ---- the length of a chunk
 
@@ -84,12 +81,12 @@ module _ {column : ℕ} (c : Conversion) {size : ℕ} (unit_is : size ≡ unit c
   module _ {content : List ℕ} {sum : ℕ} (counted : length content ≡ sum) {a b : Seen} {place : ℕ} where
     pub chunk_stops : {stop : Stop} → RefusesNumber 4 (λ n. chunk_length_fault column size total sum n) a b place stop ⊎ CutsNumber 4 a b place stop
         → StopsReading (cell column) (ChunkLength c total content) a b place (ChunkLength c total content) stop
-    chunk_stops x = number_stops (omega arith) refl refl (λ e n f is first. grind (arith, common_steps)) x
+    chunk_stops x = number_stops (omega arith) refl refl (λ e n f is first. grind arith) x
 
     module _ {n place' : ℕ} (x : ReadsNumber 4 a b place place' n) (free : chunk_length_fault column size total sum n ≡ None) where
       -- the terminator was read, after content that is whole
       pub chunk_end : n ≡ 0 → is_fit c content ≡ true → Next column (ChunkLength c total content) a b place place' (WholeCell (DataCell c content))
-      chunk_end none fit = grind (arith, common_steps, next_by, unless_true, choose_true)
+      chunk_end none fit = grind (arith, unless_true, choose_true)
 
       -- after content that isn't, it is refused
       pub chunk_unfit : n ≡ 0 → is_fit c content ≡ false
@@ -100,7 +97,7 @@ module _ {column : ℕ} (c : Conversion) {size : ℕ} (unit_is : size ≡ unit c
 
       -- the length of a chunk was read
       pub chunk_start : n ≢ 0 → Next column (ChunkLength c total content) a b place place' (chunk_left c total n content)
-      chunk_start some = grind (arith, common_steps, next_by, ne_eqb, choose_false)
+      chunk_start some = grind (arith, ne_eqb, choose_false)
 
 -- ---- where a call stops with the fault of a device, that device failed in it
 
@@ -131,7 +128,7 @@ pub total_blames : (column size n : ℕ) → NoDevice (total_fault column size n
 total_blames column size n = grind arith
 
 pub chunk_blames : (column size : ℕ) (total : Option ℕ) (sum n : ℕ) → NoDevice (chunk_length_fault column size total sum n)
-chunk_blames column size total sum n = grind (arith, common_steps)
+chunk_blames column size total sum n = grind arith
 
 -- a length that was refused or cut
 pub length_blames : {R : Type 0} {size : ℕ} {b : Seen} {stop : Stop} (remaining : R → Option (List ℕ)) (fault : ℕ → Option Fault) (old : Input R)

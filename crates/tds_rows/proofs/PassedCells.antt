@@ -32,7 +32,7 @@ steps_both x y = record {
 
 pub stops_after_steps : {s t : CellPart} {a b d : Seen} {place middle : ℕ} {stop : Stop} → StepsOver s t a b place middle
     → StopsPassing t b d middle stop → StopsPassing s a d place stop
-stops_after_steps x y = record { at = y.at; stops = stops_after _ _ _ _ _ _ _ _ _ x.reads (rw x.place_is at y.stops) }
+stops_after_steps x y = grind (arith, stops_after)
 
 -- ---- data, byte by byte
 
@@ -106,7 +106,7 @@ scalar_whole charset kind bytes scalar whole good = go _ refl
 -- nothing was passed over
 pub passes_none : {n : ℕ} {a : Seen} {place : ℕ} → n ≡ 0 → IsBetween a → PassesData n a a place place
 passes_none {n = n} {a = a} none between =
-    record { bytes = []; counted = sym none; takes = Takes-none a n; between = between; place_is = omega (arith, none) }
+    record { bytes = []; counted = sym none; takes = Takes-none a n; between = between; place_is = omega arith }
 
 -- a piece more was
 pub passes_more : {m n k : ℕ} {a b d : Seen} {place middle place' : ℕ} → k ≡ m + n → PassesData m a b place middle → PassesData n b d middle place'
@@ -134,7 +134,7 @@ cuts_more {m = m} {a = a} {b = b} {d = d} sum x y = record {
 pub scalar_passes : {kind : Kind} {a b : Seen} {place place' : ℕ} {bytes : List ℕ} (charset : Charset) → is_scalar kind ≡ true
     → GathersCell kind (cell_start kind (shape charset kind)) return_column a b place place' bytes → IsGoodValue kind bytes
     → PassesCell (cell_start kind (shape charset kind)) a b place place'
-scalar_passes {kind = kind} {bytes = bytes} charset scalar x good =
+scalar_passes {bytes = bytes} charset scalar x good =
     let v = scalar_whole _ _ _ scalar x.whole good in
     record {
       value = v.0;

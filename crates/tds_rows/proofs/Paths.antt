@@ -32,7 +32,7 @@ module _ {S : Type 0} {g : Grammar S Fault} {text : S → List ℕ} where
   writes_none = record { spelt = Spelt-none _ _; text_is = append-nil _ }
 
   pub writes_both : {s t u : S} {a b p q : List ℕ} → Writes g text s a p t → Writes g text t b q u → Writes g text s (a ++ b) (p ++ q) u
-  writes_both x y = grind (arith, common_steps, Spelt-append, append_assoc)
+  writes_both x y = grind (arith, Spelt-append, append_assoc)
 
   abbrev pub streams_of : {s t : S} {p q : At} → Path g text s p q t → Streams g text s p.seen q.seen p.held q.held t
   streams_of x = record { bytes = x.bytes; spelt = x.writes.spelt; takes = x.takes; puts = (x.made, x.writes.text_is, x.puts) }
@@ -49,7 +49,7 @@ module _ {S : Type 0} {g : Grammar S Fault} {text : S → List ℕ} where
   }
 
   abbrev pub path_none : {s : S} {p : At} → p.held.delivered ≤ 2 ^ 64 - 1 → Path g text s p p s
-  path_none {p = p} d = record { bytes = []; made = []; writes = writes_none; takes = Takes-none _ 0; puts = Puts-none _ d; place_is = omega arith }
+  path_none d = record { bytes = []; made = []; writes = writes_none; takes = Takes-none _ 0; puts = Puts-none _ d; place_is = omega arith }
 
   pub path_both : {s t u : S} {p q r : At} → Path g text s p q t → Path g text t q r u → Path g text s p r u
   path_both {p = p} {q = q} {r = r} x y = record {

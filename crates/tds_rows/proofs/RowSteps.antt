@@ -1,10 +1,10 @@
 -- The cells of a row, as they are read one after another and their text is put.
 use Rattle.tds_rows.proofs.{
-  Words.{common_steps, PutsField, StopsField, shape, ◌≡◌, ◌∙◌, ℕ, ◌+◌, ◌^◌, ◌-◌, ◌<◌, ◌≤◌, Bool, false, List, [], ◌∷◌, ◌++◌, length, sym, ap, arith},
-  Words.{append-nil, length-append, None, map, length-map, map-append, Kind, Stop, IsNext, Leads, Spelt, concat, IsBetween, Seen, Takes, Spelt-append},
-  Words.{Spelt-one, Column, joined, after_comma, in_line, Breaks, Held, Puts, BreaksStreaming, PutsText, Streams, Puts-none, Charset, Cell, CellPart, Shape},
-  Words.{WholeCell, cell, cell_add, cell_end, cell_size, cell_start, field, field_so_far, row, with_cell, StallsCell, cell_so_far, true, refl, append_assoc},
-  Words.{Option, Some, next_some, end_after, null_field, ChunkData, ChunkLength, Null, ShortData, is_last_column, opened, RowPart, marked, next_cell},
+  Words.{PutsField, StopsField, shape, ◌≡◌, ◌∙◌, ℕ, ◌+◌, ◌^◌, ◌-◌, ◌<◌, ◌≤◌, Bool, false, List, [], ◌∷◌, ◌++◌, length, sym, ap, arith, append-nil},
+  Words.{length-append, None, map, length-map, map-append, Kind, Stop, IsNext, Leads, Spelt, concat, IsBetween, Seen, Takes, Spelt-append, Spelt-one, Column},
+  Words.{joined, after_comma, in_line, Breaks, Held, Puts, BreaksStreaming, PutsText, Streams, Puts-none, Charset, Cell, CellPart, Shape, WholeCell, cell},
+  Words.{cell_add, cell_end, cell_size, cell_start, field, field_so_far, row, with_cell, StallsCell, cell_so_far, true, refl, append_assoc, Option, Some},
+  Words.{next_some, end_after, null_field, ChunkData, ChunkLength, Null, ShortData, is_last_column, opened, RowPart, marked, next_cell},
   Words.row_so_far,
   Paths.At,
   LineTexts.joined_snoc,
@@ -90,16 +90,16 @@ module _ (kind : Kind) (s : Shape) (column : ℕ) (last : Bool) where
   -- it stopped before it had any text
   pub at_once_stalls : {a b : Seen} {place : ℕ} {h : Held} {stop : Stop} → h.delivered ≤ 2 ^ 64 - 1
       → StallsCell (cell_start kind s) column a b place stop → StopsField (cell_start kind s) column last a b place h h false stop
-  at_once_stalls d x = grind (arith, common_steps, none_put)
+  at_once_stalls d x = grind (arith, none_put)
 
 -- ---- a cell in its row
 
 pub fields_more : (cells : List Cell) (v : List ℕ) → joined (map field cells) ++ after_comma (length cells) v ≡ joined (map field cells ++ v ∷ [])
-fields_more cells v = ap (λ n. joined (map field cells) ++ after_comma n v) (sym (length-map cells field)) ∙ joined_snoc _ v
+fields_more cells v = grind (arith, length-map, joined_snoc)
 
 pub cell_more : (cells : List Cell) (v : Cell)
     → joined (map field cells) ++ after_comma (length cells) (field v) ≡ joined (map field (cells ++ v ∷ []))
-cell_more cells v = grind (arith, common_steps, fields_more, map-append)
+cell_more cells v = grind (arith, fields_more, map-append)
 
 -- the columns to come, each with whether it is NULL by its bit
 module _ (charset : Charset) (cells : List Cell) (ks : List (Column × Bool)) where
@@ -110,7 +110,7 @@ module _ (charset : Charset) (cells : List Cell) (ks : List (Column × Bool)) wh
 some_bytes : (column : ℕ) (from : CellPart) (v : Cell) (es : List (List ℕ)) → (from ≡ WholeCell v → ⊥) → Leads (cell column) from es (WholeCell v)
     → 0 < length (concat es)
 some_bytes column from v [] before h = absurd (before h)
-some_bytes column from v (e ∷ es) before h = omega (arith, h.0.some, length-append e (concat es))
+some_bytes column from v (e ∷ es) before h = omega (arith, length-append e (concat es))
 
 -- a cell that was read has some bytes
 pub cell_some : {column : ℕ} {last : Bool} {p q : At} (charset : Charset) (kind : Kind) → PutsAt charset kind column last p q → p.place < q.place
@@ -171,7 +171,7 @@ module _ (column : ℕ) (last : Bool) where
   opened_grows : (a b : Option (List ℕ)) → OptionGrows a b → Grows (opened column a) (opened column b)
   opened_grows None b h = grows_all _
   opened_grows (Some a) None h = absurd h
-  opened_grows (Some a) (Some b) h = grind (arith, common_steps, grows_under)
+  opened_grows (Some a) (Some b) h = grind arith
 
   -- while it is open, the text so far of a cell is that of its field
   pub opened_text : (p : CellPart) → 0 < cell_size p → opened column (field_so_far p) ≡ cell_so_far column last p
@@ -202,7 +202,7 @@ module _ (charset : Charset) (cells : List Cell) (ks : List (Column × Bool)) wh
 
   -- the text so far of the row is that of the whole cells, that of the next one, and that of the NULLs after it
   pub part_text : (at : CellPart) → (joined (map field cells) ++ cell_so_far (length cells) (ends ks) at) ++ rest_of at ≡ row_so_far (up at)
-  part_text at = grind (arith, common_steps, append-nil, nulls_text, one_more, fields_more)
+  part_text at = grind (arith, append-nil, nulls_text, one_more, fields_more)
 
   -- there are none after it while it is open
   pub begun_text : (at : CellPart) → 0 < cell_size at → joined (map field cells) ++ cell_so_far (length cells) (ends ks) at ≡ row_so_far (up at)

@@ -1,12 +1,12 @@
 -- The cells of a run, as they are written one after another.
 use Rattle.tds_rows.proofs.{
-  Words.{RowsPart, common_steps, false, zero, suc, add-zero, ◌≡◌, ◌∙◌, ℕ, ◌+◌, ◌-◌, ◌≤◌, ◌<◌, Bool, List, [], ◌∷◌, ◌++◌, length, take, drop, get_or, refl, sym},
-  Words.{ap, subst, arith, append_assoc, append-nil, length-append, Result, Ok, Err, MatchResult, true, length-take, length-take-le, take-append-le, take_all},
-  Words.{take_more, take-append-add, take-add, Stop, map, Option, Seen, Takes, joined, line, Sink, Breaks, Held, IsWriting, Puts, PutsPiece, held, Inside},
-  Words.{Spelt-append, Spelt-one, Column, all_after, Charset, Cell, CellPart, Shape, WholeCell, cell, cell_start, field, shape, NbcRow, PlainRow, RowPart},
-  Words.{RowToken, WholeRow, next_cell, row, row_so_far, token_byte, token_start, with_field, IsLeft, IsScalarLeft, WritesKind, cell_so_far, is_last_column},
-  Words.{scalar_size, whole_size, WritesCell, WritesWhole, is_scalar, Writes, WritesRows, after_cells, lines, rows, rows_so_far, Kind, WritesColumn},
-  Words.{WritesMarked, ◌^◌, inr, breaks_somewhere, IsBetween, Takes-more},
+  Words.{RowsPart, false, zero, suc, add-zero, ◌≡◌, ◌∙◌, ℕ, ◌+◌, ◌-◌, ◌≤◌, ◌<◌, Bool, List, [], ◌∷◌, ◌++◌, length, take, drop, get_or, refl, sym, ap, subst},
+  Words.{arith, append_assoc, append-nil, length-append, Result, Ok, Err, MatchResult, true, length-take, length-take-le, take-append-le, take_all, take_more},
+  Words.{take-append-add, take-add, Stop, map, Option, Seen, Takes, joined, line, Sink, Breaks, Held, IsWriting, Puts, PutsPiece, held, Inside, Spelt-append},
+  Words.{Spelt-one, Column, all_after, Charset, Cell, CellPart, Shape, WholeCell, cell, cell_start, field, shape, NbcRow, PlainRow, RowPart, RowToken},
+  Words.{WholeRow, next_cell, row, row_so_far, token_byte, token_start, with_field, IsLeft, IsScalarLeft, WritesKind, cell_so_far, is_last_column, scalar_size},
+  Words.{whole_size, WritesCell, WritesWhole, is_scalar, Writes, WritesRows, after_cells, lines, rows, rows_so_far, Kind, WritesColumn, WritesMarked, ◌^◌, inr},
+  Words.{breaks_somewhere, IsBetween, Takes-more},
   CellSteps.fixed_some,
   NullSteps.row_cell,
   RowSteps.{coming, ends_marked, line_grows, none_ahead, quiet_text, start_quiet, PutsCell, StopsCell},
@@ -19,7 +19,7 @@ use Rattle.tds_rows.proofs.{
 -- a cell whose text comes with its last element
 pub whole_of : {from : CellPart} {column : ℕ} {last : Bool} {bytes made : List ℕ} → WritesCell from column last bytes made
     → WritesWhole from column last bytes made
-whole_of {from = from} x = record {
+whole_of x = record {
   value = x.value;
   spelt = rw x.joined at
       (Spelt-append _ _ _ _ _ _ x.spelt (rw x.whole at (Spelt-one _ _ _ x.next)));
@@ -29,7 +29,7 @@ whole_of {from = from} x = record {
 -- a scalar cell, in any set
 pub writes_scalar : (set : Charset) (kind : Kind) (column : ℕ) (last : Bool) (bytes made : List ℕ)
     → ((any : Charset) → WritesCell (cell_start kind (shape any kind)) column last bytes made) → WritesKind set kind column last bytes made
-writes_scalar set kind column last bytes made x = grind (arith, common_steps, whole_of)
+writes_scalar set kind column last bytes made x = grind (arith, whole_of)
 
 -- what is made after what was made
 pub made_more : (made m : ℕ) (to new rest : List ℕ) → made ≤ length to → m ≤ length new
@@ -38,17 +38,17 @@ made_more made m to new rest within some = grind (arith, length-take-le, take-ap
 
 -- what is used after what was used
 pub used_more : (used u : ℕ) (bytes : List ℕ) → take (used + u) bytes ≡ take used bytes ++ take u (take (length bytes - used) (drop used bytes))
-used_more used u bytes = grind (arith, common_steps, take-add, all_after)
+used_more used u bytes = grind (arith, take-add, all_after)
 
 -- what is written after what was made leaves it as it was
 pub made_same : (made : ℕ) (to rest : List ℕ) → made ≤ length to → take made (take made to ++ rest) ≡ take made to
-made_same made to rest within = grind (arith, common_steps, take-append-le, length-take-le, take_all)
+made_same made to rest within = grind (arith, take-append-le, length-take-le, take_all)
 
 -- ---- the size of a cell
 
 -- how many bytes it has
 pub scalar_whole : (kind : Kind) (bytes : List ℕ) → is_scalar kind ≡ true → whole_size kind bytes ≡ scalar_size kind bytes
-scalar_whole kind bytes h = grind (arith, common_steps)
+scalar_whole kind bytes h = grind arith
 
 -- it is left as a scalar cell is
 pub scalar_left : (set : Charset) (kind : Kind) (bytes : List ℕ) (room : ℕ) → is_scalar kind ≡ true → IsLeft set kind bytes room
@@ -57,7 +57,7 @@ scalar_left set kind bytes room scalar h5 = grind arith
 
 -- a cell has some bytes
 pub whole_some : (kind : Kind) (bytes : List ℕ) → 0 < whole_size kind bytes
-whole_some kind bytes = grind (arith, common_steps, fixed_some)
+whole_some kind bytes = grind arith
 
 -- ---- a run between a payload and a sink
 
@@ -66,7 +66,7 @@ pub fills_no_block : (h j : Held) (piece : List ℕ) (stop : Stop) → length h.
 fills_no_block h j piece stop few (sent, blocks, n, adds, most, least, less, whole, is, risen) =
     let both : length h.waiting + length (take n piece) ≡ length sent + length j.waiting = sym (length-append h.waiting (take n piece))
     ∙ ap length adds.1 ∙ length-append sent j.waiting in
-    omega (arith, both, few, whole, most, length-take n piece)
+    omega (arith, most, length-take n piece)
 
 -- ---- over the ends of rows
 
@@ -76,7 +76,7 @@ lines-append (r ∷ rs) qs = ap (λ l. line (map field r) ++ l) (lines-append rs
 
 -- some columns are to come, so no line ends there
 start_text : (token : RowToken) (charset : Charset) (columns : List Column) → 0 < length columns → row_so_far (token_start token charset columns) ≡ []
-start_text PlainRow charset [] some = absurd (omega (arith, some))
+start_text PlainRow charset [] some = absurd (omega arith)
 start_text PlainRow charset (c ∷ cs) some = ap (λ o. joined (with_field [] o)) (start_quiet _ _)
 start_text NbcRow charset columns some = refl
 
@@ -93,7 +93,7 @@ module _ (token : RowToken) (charset : Charset) (all : List Column) (before : Li
   pub row_token : (cells : List Cell) → 0 < length all
       → Writes (rows token charset all) rows_so_far (record { before = before; at = WholeRow cells }) (token_byte token ∷ []) []
       (record { before = before ++ cells ∷ []; at = token_start token charset all })
-  row_token cells some = grind (arith, common_steps, Spelt-one, append-nil, lines-append, start_text)
+  row_token cells some = grind (arith, Spelt-one, append-nil, lines-append, start_text)
 
 -- ---- cells of the last row
 
@@ -101,7 +101,7 @@ module _ (token : RowToken) (charset : Charset) (all : List Column) (before : Li
 cell_writes : {column : ℕ} {last : Bool} {bytes made : List ℕ} (kind : Kind) (sh : Shape)
     → (x : WritesWhole (cell_start kind sh) column last bytes made)
     → Writes (cell column) (cell_so_far column last) (cell_start kind sh) bytes made (WholeCell x.value)
-cell_writes {column = column} {last = last} {made = made} kind sh x = grind (arith, common_steps, made, quiet_text, start_quiet)
+cell_writes {column = column} {last = last} {made = made} kind sh x = grind (arith, quiet_text, start_quiet)
 
 -- a cell after these, in its row
 after_more : {bytes made : List ℕ} {v : Cell} (charset : Charset) (cells : List Cell) (c : Column) (left : List Column)
@@ -136,7 +136,7 @@ module _ {charset : Charset} {all : List Column} {cells : List Cell} {from : ℕ
       (sym (next_column all at w.column w.left w.next).1.1) one in
       record {
         more = x.more ++ z.value ∷ [];
-        counted = omega (arith, x.counted, length-append x.more (z.value ∷ []));
+        counted = omega (arith, length-append x.more (z.value ∷ []));
         writes = writes_both (rw w.next at x.writes) next;
       }
 
@@ -169,7 +169,7 @@ module _ {charset : Charset} {all : List Column} {cells : List Cell} {columns : 
   rows_next {p = p} some x = record {
     before = x.before ++ x.more ∷ [];
     more = [];
-    rows_counted = omega (arith, x.rows_counted, length-append x.before (x.more ∷ []));
+    rows_counted = omega (arith, length-append x.before (x.more ∷ []));
     counted = refl;
     writes = rw (append-nil p) at (writes_both x.writes (row_token PlainRow charset all x.before x.more some));
   }
@@ -191,7 +191,7 @@ module _ (charset : Charset) (all : List Column) (before : List (List Cell)) whe
   rows_among_rows = grind (arith, append_assoc)
 
   rows_after_text : (p : RowsPart) → lines before ++ rows_so_far p ≡ rows_so_far (after_rows p)
-  rows_after_text p = grind (arith, common_steps, append_assoc, before, lines-append)
+  rows_after_text p = grind (arith, append_assoc, before, lines-append)
 
   pub rows_after : {p q : RowsPart} {bytes made : List ℕ} → Writes (rows PlainRow charset all) rows_so_far p bytes made q
       → Writes (rows PlainRow charset all) rows_so_far (after_rows p) bytes made (after_rows q)
@@ -204,7 +204,7 @@ pub rows_both : {charset : Charset} {all : List Column} {cells : List Cell} {col
 rows_both {charset = charset} {all = all} x y = record {
   before = x.before ++ y.before;
   more = y.more;
-  rows_counted = omega (arith, x.rows_counted, y.rows_counted, length-append x.before y.before);
+  rows_counted = omega (arith, length-append x.before y.before);
   counted = y.counted;
   writes = writes_both x.writes (rw append-nil at (rows_after charset all x.before y.writes));
 }
@@ -244,5 +244,5 @@ pub put_whole : {W U : Type 0} {column place' : ℕ} {last : Bool} {bytes text :
     (λ stop. StopsCell charset kind column last a b place (held contents old) (held contents new) new.failed stop)
 put_whole {bytes = bytes} (Ok u) charset kind a b place contents old new going between x takes at puts =
     whole_puts _ _ _ _ _ _ _ _ x (Takes-more a b bytes 0 _ (omega arith) takes) at puts.gives
-put_whole {bytes = bytes} (Err stop) charset kind a b place contents old new going between x takes at puts =
+put_whole (Err stop) charset kind a b place contents old new going between x takes at puts =
     whole_breaks _ _ _ _ [] x (rw append-nil takes) between (going.ready.1 going.writing) going.ready.2 (puts.gives going.writing) puts.failed

@@ -21,7 +21,7 @@ module _ (column : ℕ) (kind : Kind) (c : Conversion) (last : Bool) (bytes text
       → WritesWhole (ShortLength c) column last (take (2 + n) bytes) text
   short_value n counted some all fit is =
       let d = take n _ in
-      let whole : length d ≡ n = length-take-le n (drop 2 bytes) (omega (arith, length-drop 2 bytes)) in
+      let whole = length-take-le n (drop 2 bytes) (omega (arith, length-drop 2 bytes)) in
       let a : slice_index bytes 0 ≡ length d % 256 = omega arith in
       let b : slice_index bytes 1 ≡ length d / 256 = omega arith in
       let front : take 2 bytes ≡ length d % 256 ∷ length d / 256 ∷ [] = grind arith ∙ (λ i. a i ∷ b i ∷ []) in

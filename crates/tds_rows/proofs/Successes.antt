@@ -15,7 +15,7 @@ use Rattle.tds_packet.specs.declared.payload.Payload.{Payload}
 
 -- a call that fails raises the count
 pub rose : (f : ℕ) → Rose f (one_more f)
-rose f = grind (arith, nat_tests)
+rose f = grind arith
 
 -- ---- the reading of what comes whole
 
@@ -29,7 +29,7 @@ module _ {S : Type 0} (g : Grammar S Fault) (from to : S) (a b : Seen) (front mo
   -- what was read is the beginning of what comes
   came : (read : List ℕ) (bytes : List ℕ) → Consumes a.left b.left read
       → ((zs : List ℕ) → (a.future (read ++ zs)).bytes ≡ bytes ++ (b.future zs).bytes) → (rest : List ℕ) × (front ++ more ≡ bytes ++ rest)
-  came read bytes taken gives = grind (arith, left_of)
+  came read bytes taken gives = grind arith
 
   refused_there : (at : S) (bytes : List ℕ) (fault : Fault) → Spelt g from bytes at → RefusesNext g a b bytes at fault → at ≡ to
   refused_there at bytes fault spelt x =

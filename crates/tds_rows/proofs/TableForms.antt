@@ -39,7 +39,7 @@ module _ (table : Table) (from : Ahead) (end : ℕ) (forms : List Form) (within 
   -- the first is that of the next column
   pub first_next : (form : Form) (rest : List Form) → forms ≡ form ∷ rest → (columns : List Column) → Knows table columns → IsAhead table columns from
       → NextColumn columns from form.kind
-  first_next form rest are columns knows is = grind (arith, drop_more)
+  first_next form rest are columns knows is = grind arith
 
   module _ (ends : Bool) (end_is : ends ≡ (from.column + length forms == table.count)) where
     -- what was written by them is between two places of the row
@@ -47,7 +47,7 @@ module _ (table : Table) (from : Ahead) (end : ℕ) (forms : List Form) (within 
         → (to : Ahead) (bytes text : List ℕ) (run : FormsRun) → to.column ≡ from.column + run.cells → IsAhead table columns to
         → FormsWritten table.charset forms from.column ends bytes text run
         → RunsMarked table columns (λ k. false) from to (take run.used bytes) (take run.made text)
-    forms_between columns knows is to bytes text run further there x = grind (arith, common_steps, length-drop, nat_tests)
+    forms_between columns knows is to bytes text run further there x = grind (arith, length-drop, nat_tests)
 
   -- the first was left
   pub first_left : (bytes : List ℕ) (room : ℕ) → FirstLeft table.charset forms bytes room

@@ -41,15 +41,15 @@ pub row_begun : {table : Table} {from start : Ahead} {bytes to : List ℕ} {run 
 row_begun {bytes = bytes} {run = run} some at (begins, first) ahead x =
     let (within, byte) = begins_at run.used bytes begins in
     record {
-      used = omega (arith, within);
+      used = omega arith;
       made = x.made;
-      few = omega (arith, x.few);
+      few = omega arith;
       writes = λ columns knows is.
           let y = x.writes columns knows is in
           let none = none_next columns run.ahead.column _ knows.counted at in (
             ahead columns knows y.0,
             λ charset cells set counted. rw first
-                (rows_onward run.used bytes (omega (arith, some, knows.counted)) none within byte (y.1 charset cells set counted)),
+                (rows_onward run.used bytes (omega arith) none within byte (y.1 charset cells set counted)),
           );
     }
 
@@ -58,15 +58,7 @@ pub more_in_rows : {table : Table} {columns : List Column} {old new : Ahead} {co
     (bytes to text rest : List ℕ) → made ≤ length to → m ≤ length text → RowsBetween table columns from old count (take used bytes) (take made to)
     → RunsMarked table columns (λ k. false) old new (take u (take (length bytes - used) (drop used bytes))) (take m text)
     → RowsBetween table columns from new count (take (used + u) bytes) (take (made + m) (take made to ++ (text ++ rest)))
-more_in_rows from used u made m bytes to text rest within some x y = (
-  y.ahead,
-  λ charset cells set is.
-      rw (
-        used_more used u bytes,
-        made_more made m to text rest within some,
-        y.further,
-      ) (marked_writes _ y.count _ _ (x.1 charset cells set is) (rw set at y.writes)),
-)
+more_in_rows from used u made m bytes to text rest within some x y = grind (arith, used_more, made_more, marked_writes)
 
 -- the same of what a run over rows has done
 pub rows_more : {table : Table} {from : Ahead} {bytes to : List ℕ} {run : RowsRun} {cells : CellRun} (text rest : List ℕ) → 0 < cells.used
@@ -75,9 +67,9 @@ pub rows_more : {table : Table} {from : Ahead} {bytes to : List ℕ} {run : Rows
     → RowsRan table from bytes (take run.made to ++ (text ++ rest))
     (record { used = run.used + cells.used; made = run.made + cells.made; rows = run.rows; ahead = cells.ahead })
 rows_more {from = from} {bytes = bytes} {to = to} {run = run} text rest some within fits gives x = record {
-  used = omega (arith, x.used, within, length-take (length bytes - run.used) (drop run.used bytes), length-drop run.used bytes);
-  made = omega (arith, x.made, fits, length-append (take run.made to) (text ++ rest), length-append text rest, length-take-le run.made to x.made);
-  few = omega (arith, x.few);
+  used = omega (arith, length-take (length bytes - run.used) (drop run.used bytes), length-drop run.used bytes);
+  made = omega (arith, length-append (take run.made to) (text ++ rest), length-append text rest, length-take-le run.made to x.made);
+  few = omega arith;
   writes = λ columns knows is. (let y = x.writes columns knows is in more_in_rows from _ _ _ _ _ _ _ _ x.made fits y (gives columns knows y.0));
 }
 
@@ -123,7 +115,7 @@ run_breaks {table = table} {a = a} {b = b} {h = h} {j = j} {stop = stop} cells y
 -- what stands after what was made may be another
 pub rows_kept : {table : Table} {from : Ahead} {bytes to : List ℕ} {run : RowsRun} (new : List ℕ) → length new ≡ length to
     → take run.made new ≡ take run.made to → RowsRan table from bytes to run → RowsRan table from bytes new run
-rows_kept new same is x = record { used = x.used; made = omega (arith, x.made, same); few = x.few; writes = rw (sym is) at x.writes }
+rows_kept new same is x = grind arith
 
 -- a run, and then another that ended where it began
 pub rows_further : {table : Table} {from : Ahead} {bytes to : List ℕ} {run more : RowsRun} (text rest : List ℕ) → more.ahead ≡ run.ahead
@@ -131,9 +123,9 @@ pub rows_further : {table : Table} {from : Ahead} {bytes to : List ℕ} {run mor
     → RowsRan table from bytes (take run.made to ++ (text ++ rest))
     (record { used = run.used + more.used; made = run.made + more.made; rows = run.rows + more.rows; ahead = run.ahead })
 rows_further {bytes = bytes} {to = to} {run = run} {more = more} text rest is x y = record {
-  used = omega (arith, x.used, y.used, length-take (length bytes - run.used) (drop run.used bytes), length-drop run.used bytes);
-  made = omega (arith, x.made, y.made, length-append (take run.made to) (text ++ rest), length-append text rest, length-take-le run.made to x.made);
-  few = omega (arith, x.few, y.few);
+  used = omega (arith, length-take (length bytes - run.used) (drop run.used bytes), length-drop run.used bytes);
+  made = omega (arith, length-append (take run.made to) (text ++ rest), length-append text rest, length-take-le run.made to x.made);
+  few = omega arith;
   writes = λ columns knows ahead. (let u = x.writes columns knows ahead in let v = y.writes columns knows u.0 in (
     u.0,
     λ charset cells set counted. (let w = u.1 charset cells set counted in rw (

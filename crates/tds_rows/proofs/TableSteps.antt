@@ -26,10 +26,10 @@ pub known_kind : (forms : List Form) (columns : List Column) (n k : ℕ) (f : Fo
     → map (λ f. f.kind) (take n forms) ≡ kinds (take n columns) → k < n → n ≤ length forms → k < length columns
     → (get_or forms k f).kind ≡ (get_or columns k c).kind
 known_kind forms columns n k f c first known some within =
-    let one : k < length (take n forms) = omega (arith, known, some, length-take n forms) in
+    let one : k < length (take n forms) = omega (arith, length-take n forms) in
     ap (λ (f : Form). f.kind) (sym (get_or-take n forms k f known)) ∙ sym (get_or-map (λ f. f.kind) (take n forms) k f f.kind one)
     ∙ ap (λ l. get_or l k f.kind) first
-    ∙ get_or-map (λ c. c.kind) (take n columns) k c f.kind (omega (arith, known, within, length-take n columns))
+    ∙ get_or-map (λ c. c.kind) (take n columns) k c f.kind (omega (arith, length-take n columns))
     ∙ ap (λ (c : Column). c.kind) (get_or-take n columns k c known)
 
 module _ (table : Table) (columns : List Column) (at : Ahead) (kind : Kind) (knows : Knows table columns) (is : IsAhead table columns at) where
@@ -37,7 +37,7 @@ module _ (table : Table) (columns : List Column) (at : Ahead) (kind : Kind) (kno
   pub next_known : (d : Form) → at.column < table.count → at.column < table.known → table.known ≤ length table.forms
       → kind ≡ (get_or table.forms at.column d).kind → NextColumn columns at kind
   next_known d some known fits is_kind =
-      let within : at.column < length columns = omega (arith, knows.counted, some) in
+      let within : at.column < length columns = omega arith in
       let c : Column = record { kind = kind; name = [] } in
       record {
         column = get_or columns at.column c;
@@ -57,10 +57,10 @@ module _ {table : Table} {columns : List Column} {old new : Ahead} (knows : Know
       → columns_left new.walk ≡ drop 1 (columns_left old.walk) → IsAhead table columns new
   after_walked further some beyond steps =
       record {
-        counted = omega (arith, knows.counted, further, some);
-        within = λ most. absurd (omega (arith, most, beyond, further));
+        counted = omega arith;
+        within = λ most. absurd (omega (arith, beyond, further));
         beyond = λ _. steps ∙ ap (drop 1) (is.beyond beyond) ∙ drop-drop 1 old.column columns
-            ∙ ap (λ (n : ℕ). drop n columns) (omega (arith, further));
+            ∙ ap (λ (n : ℕ). drop n columns) (omega arith);
       }
 
 -- what a walk leaves after its next column
@@ -75,17 +75,17 @@ takes table columns old new kind x further ahead = grind (arith, next_column)
 
 -- a place in a row that isn't at its end is before it
 pub not_end : (columns : List Column) (k n : ℕ) → n ≡ length columns → k ≤ length columns → (k == n) ≡ false → k < n
-not_end columns k n whole within isnt = grind (arith, eq_false)
+not_end columns k n whole within isnt = grind arith
 
 -- a column is the last one where as many as there are lie before what is after it
 pub last_one : (columns rest : List Column) (c : Column) (k n : ℕ) → n ≡ length columns → drop k columns ≡ c ∷ rest
     → (k + 1 == n) ≡ is_last_column rest
-last_one columns [] c k n whole next = eq-eqb (k + 1) n (omega (arith, whole, length-drop k columns, ap length next))
-last_one columns (d ∷ ds) c k n whole next = ne_eqb (k + 1) n (λ e. omega (arith, e, whole, length-drop k columns, ap length next))
+last_one columns [] c k n whole next = eq-eqb (k + 1) n (omega (arith, length-drop k columns, ap length next))
+last_one columns (d ∷ ds) c k n whole next = ne_eqb (k + 1) n (λ e. omega (arith, length-drop k columns, ap length next))
 
 -- none is next where as many as there are lie before
 pub none_next : (columns : List Column) (k n : ℕ) → n ≡ length columns → n ≤ k → drop k columns ≡ []
-none_next columns k n whole all = drop_all k columns (omega (arith, whole, all))
+none_next columns k n whole all = drop_all k columns (omega arith)
 
 -- before the row's end the next column is ahead, of some kind
 pub next_any : (columns : List Column) (at : Ahead) (n : ℕ) → n ≡ length columns → at.column < n → (kind : Kind) × NextColumn columns at kind
@@ -96,7 +96,7 @@ next_any columns at n whole some =
       record {
         column = column;
         rest = drop (at.column + 1) columns;
-        next = drop_more columns at.column c (omega (arith, whole, some));
+        next = drop_more columns at.column c (omega arith);
         kind = refl;
       },
     )

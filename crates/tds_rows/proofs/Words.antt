@@ -78,6 +78,7 @@ pub use Rattle.tds_rows.specs.{
   FormRuns.{FormsWritten, FirstLeft, FieldsWritten, AreNext, WritesForms, FirstUsed, FirstWritten, RunsForms, WritesFields},
   Forms.{AreInt4, AreLaidOut, Each},
   Layouts.{HasValueAt, shape_of_layout, IsLaidOut},
+  LongReading.IsOnSameValue,
   LongCells.{RefusesNumber, EndsData, added_text, StopsFilling, StopsEnding, total_of, chunk_length_fault, EndPut, RefusesData, StopsData, ReadsNumber},
   LongCells.{short_length, CutsNumber, total_fault, ending, BreaksData, short_fault, join_stop, opening, FillsData, CutsData, TakesData},
   MarkedRuns.{BreaksMarked, WritesColumn, EndsLeft, MarkedPut, AreClear, PutsMarked, WritesMarked, RunsMarked, WritesNext},

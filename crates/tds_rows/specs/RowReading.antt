@@ -3,10 +3,11 @@ use Rattle.std.specs.Prelude.{◌≡◌, ◌==◌, ◌+◌, ◌*◌, ◌<◌, �
 use Rattle.tds_values.specs.declared.kind.Kind.{Kind}
 use Rattle.tds_packet.specs.declared.fault.Stop.{Stop}
 use Rattle.tds_packet.specs.declared.payload.Payload.{Payload}
-use Rattle.tds_packet.specs.Payloads.{IsGoing, IsOnSame, LeavesPayload, buffered, seen}
+use Rattle.tds_packet.specs.Payloads.{IsGoing, IsOnSame, IsSound, LeavesPayload, buffered, seen}
 use Rattle.tds_packet.specs.Seen.{Takes}
 use Rattle.tds_csv.specs.Quoting.{in_line, null_field}
-use Rattle.tds_csv.specs.Sinks.{IsOnSameSink, IsWriting, LeavesSink, PutsPiece}
+use Rattle.tds_csv.specs.declared.sink.Sink.{Sink}
+use Rattle.tds_csv.specs.Sinks.{IsOnSameSink, IsReady, IsWriting, LeavesSink, PutsPiece}
 use Rattle.tds_rows.specs.declared.rows.Rows.{Rows}
 use Rattle.tds_rows.specs.declared.table.Ahead.{Ahead}
 use Rattle.tds_rows.specs.declared.cell.layout.Form.{Form}
@@ -18,6 +19,18 @@ use Rattle.tds_rows.specs.Rows.{RowPart, RowToken, longest_bitmap, token_byte}
 use Rattle.tds_rows.specs.RowSteps.{RowPut}
 use Rattle.tds_rows.specs.Successes.{BeginNoRow}
 use Rattle.tds_rows.specs.Tables.{IsNextKind, KnowsSome}
+
+-- A call may be made that reads a row: payload and sink go on or give their stop again, and the small area has room for a cell.
+pub record IsReadyForRow {R W : Type 0} (payload : Payload R) (sink : Sink W) (small : Space) : Type 0 where
+  pub sound : IsSound payload
+  pub ready : IsReady sink
+  pub room : longest_cell ≤ small.room
+
+-- Rows can be read: payload and sink go on, and the small area has room for a cell.
+pub record AwaitsRows {R W : Type 0} (payload : Payload R) (sink : Sink W) (small : Space) : Type 0 where
+  pub going : IsGoing payload
+  pub writing : IsWriting sink
+  pub room : longest_cell ≤ small.room
 
 -- A row is being read: payload and sink go on, and the small area has room for a cell.
 pub record IsInRow {R W : Type 0} (rows : Rows R W) : Type 0 where

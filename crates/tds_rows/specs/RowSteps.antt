@@ -1,5 +1,5 @@
 -- What reading a row and putting its line does. Its start is that of a ROW or of an NBCROW.
-use Rattle.std.specs.Prelude.{◌≡◌, ◌+◌, ℕ, Bool, List, length, Option, None, true, Result, Err, IfSome, MatchResult}
+use Rattle.std.specs.Prelude.{◌≡◌, ◌⊎◌, ◌+◌, ℕ, Bool, List, length, Option, None, Some, true, false, Result, Err, IfSome, MatchOption, MatchResult}
 use Rattle.tds_packet.specs.declared.fault.Stop.{Stop}
 use Rattle.tds_packet.specs.declared.payload.Payload.{Payload}
 use Rattle.tds_packet.specs.Payloads.{seen}
@@ -66,3 +66,8 @@ pub record StopsAgain {R W U : Type 0} (contents : W → Option (List ℕ)) (old
     0 where
   pub stopped : IfSome old.stopped (λ stop. (result ≡ Err stop) × (new ≡ old) × (after ≡ before))
   pub failed : old.stopped ≡ None → before.failed ≡ true → (result ≡ Err (stop_of (held contents before))) × (new ≡ old) × (after ≡ before)
+
+-- This is the stop of a payload or a sink that had stopped, the payload's first; with none, both go on.
+abbrev pub IsEarlierStop : {R W : Type 0} → (W → Option (List ℕ)) → Payload R → Sink W → Option Stop → Type 0
+IsEarlierStop contents payload sink result = MatchOption result ((payload.stopped ≡ None) × (sink.failed ≡ false))
+    (λ stop. (payload.stopped ≡ Some stop) ⊎ ((payload.stopped ≡ None) × (sink.failed ≡ true) × (stop ≡ stop_of (held contents sink))))

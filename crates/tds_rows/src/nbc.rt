@@ -1,33 +1,26 @@
 // A row with a bitmap of the columns that are NULL, and such rows after one another (MS-TDS, NBCROW).
-ghost use Rattle.std.specs.Prelude.{◌≡◌, true, ◌*◌, ◌<◌, ◌≤◌, length, if◌then◌else◌, is_ok, ℕ, ◌+◌, ◌++◌, List, None, false, IfOk};
+ghost use Rattle.std.specs.Prelude.{◌≡◌, true, ◌*◌, ◌<◌, ◌≤◌, length, ◌+◌, List, false, IfOk};
 ghost use Rattle.tds_rows.specs.MarkedRuns.{AreClear, EndsClear, EndsLeft, EndsMarked, MarkedPut, MarkedWritten, room_left};
-ghost use Rattle.tds_rows.specs.Rows.{bit, NbcRow, SpellsNbcRow, bitmap_length, longest_bitmap, nbc_row_start};
+ghost use Rattle.tds_rows.specs.Rows.{bit, NbcRow, bitmap_length, longest_bitmap, nbc_row_start};
 ghost use Rattle.tds_columns.specs.Description.{Column};
-ghost use Rattle.tds_columns.specs.Elements.{ElementRead, LeavesArea};
-ghost use Rattle.tds_columns.specs.View.{columns_of};
-ghost use Rattle.tds_csv.specs.Sinks.{IsReady, IsWriting, LeavesSink};
-ghost use Rattle.tds_packet.specs.Payloads.{IsGoing, IsSound, LeavesPayload, buffered};
+ghost use Rattle.tds_packet.specs.Payloads.{buffered};
 ghost use Rattle.tds_packet.specs.Reads.{KeepsRoom};
 ghost use Rattle.tds_rows.specs.RowReading.{AwaitsBitmap, IsAtCell, EndsRows, IsInMarkedRow, IsInSomeRow, LeavesRows, NextRead, RowRead, StaysInRow};
 ghost use Rattle.tds_rows.specs.RowRuns.{MarkedRead};
-ghost use Rattle.tds_rows.specs.RowSteps.{RowPut, RowsRead, StopsAgain};
-ghost use Rattle.tds_rows.specs.Cells.{Cell};
-ghost use Rattle.tds_rows.specs.CellSteps.{LeavesSmall, longest_cell};
+ghost use Rattle.tds_rows.specs.RowSteps.{RowsRead};
 ghost use Rattle.tds_rows.specs.Layouts.{IsLaidOut};
-ghost use Rattle.tds_rows.specs.Successes.{BeginNoRow, SpellsRows, SucceedsOn};
 ghost use Rattle.tds_rows.specs.Tables.{Knows};
 
 use crate::cell::layout::Form;
 use crate::cell::whole::{CELL_ROOM, put_null};
 use crate::rows::{BLOCK_END, Rows, SHORT_TEXT};
-use crate::run::{CellRun, run_cells};
+use crate::run::CellRun;
 use crate::table::{Ahead, Table};
 use std::io::{Read, Write};
-use tds_columns::{Columns, take_into};
-use tds_csv::{Sink, write_null};
+use tds_columns::take_into;
+use tds_csv::write_null;
 use tds_meter::Area;
-use tds_packet::{Payload, Stop};
-use tds_values::Charset;
+use tds_packet::Stop;
 
 // Whether the bit of a column is set. The lowest bit of the first byte is the bit of column 0.
 pub(crate) fn is_null(bitmap: &[u8], column: u16) -> bool
@@ -58,61 +51,57 @@ fn clear_end(bitmap: &[u8], from: u16, known: u16, count: u16) -> u16
     count
 }
 
-// Writes cell after cell of an NBCROW as `run_nulls` does. `KNOWN` says that the table knows all columns.
-#[inline(never)]
-fn run_marked<'a, const KNOWN: bool>(
-    table: &Table<'a>,
-    from: Ahead<'a>,
-    bitmap: &[u8],
-    bytes: &[u8],
-    to: &mut [u8],
-) -> CellRun<'a>
-    requires known { KNOWN ≡ true → table.now.known ≡ table.now.count }
-    requires bitmap { table.now.count ≤ 8 * length bitmap.now }
-    ensures ends { EndsMarked table.now (bit bitmap.now) bytes.now (length to.old) result }
-    ensures cells { MarkedWritten table.now (bit bitmap.now) from.entry bytes.now to.new result }
-{
-    let mut used = 0;
-    let mut made = 0;
-    let mut ahead = from;
-    let mut end = 0;
-    while to.len() - made >= CELL_ROOM && ahead.column < table.count() {
-        end = clear_end(bitmap, ahead.column, end, table.count());
-        if end == ahead.column {
-            made += write_null(end, table.is_last(ahead), &mut to[made..]);
-            table.step(&mut ahead, 1);
-            continue;
+impl<'a> Table<'a> {
+    // Writes cell after cell of an NBCROW as `run_nulls` does. `KNOWN` says that the table knows all columns.
+    #[inline(never)]
+    fn run_marked<const KNOWN: bool>(
+        &self,
+        from: Ahead<'a>,
+        bitmap: &[u8],
+        bytes: &[u8],
+        to: &mut [u8],
+    ) -> CellRun<'a>
+        requires known { KNOWN ≡ true → self.now.known ≡ self.now.count }
+        requires bitmap { self.now.count ≤ 8 * length bitmap.now }
+        ensures ends { EndsMarked self.now (bit bitmap.now) bytes.now (length to.old) result }
+        ensures cells { MarkedWritten self.now (bit bitmap.now) from.entry bytes.now to.new result }
+    {
+        let mut used = 0;
+        let mut made = 0;
+        let mut ahead = from;
+        let mut end = 0;
+        while to.len() - made >= CELL_ROOM && ahead.column < self.count() {
+            end = clear_end(bitmap, ahead.column, end, self.count());
+            if end == ahead.column {
+                made += write_null(end, self.is_last(ahead), &mut to[made..]);
+                self.step(&mut ahead, 1);
+                continue;
+            }
+            let (rest, room) = (&bytes[used..], &mut to[made..]);
+            let cells = self.run_cells::<KNOWN>(ahead, end, rest, room);
+            if cells.used == 0 {
+                break;
+            }
+            used += cells.used;
+            made += cells.made;
+            ahead = cells.ahead;
         }
-        let (rest, room) = (&bytes[used..], &mut to[made..]);
-        let cells = run_cells::<KNOWN>(table, ahead, end, rest, room);
-        if cells.used == 0 {
-            break;
-        }
-        used += cells.used;
-        made += cells.made;
-        ahead = cells.ahead;
+        CellRun { used, made, ahead }
     }
-    CellRun { used, made, ahead }
-}
 
-// Writes cell after cell of an NBCROW, as far as they are NULL by their bit or whole in these bytes, aren't in
-// chunks, and have room. NULLs are written here.
-#[inline(always)]
-fn run_nulls<'a>(
-    table: &Table<'a>,
-    from: Ahead<'a>,
-    bitmap: &[u8],
-    bytes: &[u8],
-    to: &mut [u8],
-) -> CellRun<'a>
-    requires bitmap { table.now.count ≤ 8 * length bitmap.now }
-    ensures ends { EndsMarked table.now (bit bitmap.now) bytes.now (length to.old) result }
-    ensures cells { MarkedWritten table.now (bit bitmap.now) from.entry bytes.now to.new result }
-{
-    if table.knows_all() {
-        return run_marked::<true>(table, from, bitmap, bytes, to);
+    // Writes cell after cell of an NBCROW, as far as they are NULL by their bit or whole in these bytes, aren't in
+    // chunks, and have room. NULLs are written here.
+    #[inline(always)]
+    fn run_nulls(&self, from: Ahead<'a>, bitmap: &[u8], bytes: &[u8], to: &mut [u8]) -> CellRun<'a>
+        requires bitmap { self.now.count ≤ 8 * length bitmap.now }
+        ensures ends { EndsMarked self.now (bit bitmap.now) bytes.now (length to.old) result }
+        ensures cells { MarkedWritten self.now (bit bitmap.now) from.entry bytes.now to.new result }
+    {
+        if self.knows_all() {
+            return self.run_marked::<true>(from, bitmap, bytes, to);
+        }
+        self.run_marked::<false>(from, bitmap, bytes, to)
     }
-    run_marked::<false>(table, from, bitmap, bytes, to)
 }
 
 /// The token byte of an NBCROW (MS-TDS, NBCROW).
@@ -129,27 +118,6 @@ fn bitmap_size(columns: u16) -> usize
     (columns as usize + 7) / 8
 }
 
-// Reads a bitmap of `n` bytes to the end of an area that has room for it: at once, if it is whole in the packet.
-#[inline(always)]
-fn read_bitmap<R: Read>(payload: &mut Payload<R>, bitmap: &mut Area, n: usize) -> Result<(), Stop>
-    requires going { IsGoing payload.old }
-    requires fits { length bitmap.old.bytes + n ≤ bitmap.old.room }
-    ensures payload { LeavesPayload payload.old payload.new result }
-    ensures place { payload.new.place ≡ (if is_ok result then payload.old.place + n else payload.old.place) }
-    ensures area { LeavesArea bitmap.old bitmap.new n result }
-    ensures gives { ElementRead R.remaining payload.old payload.new bitmap.old bitmap.new n result }
-{
-    let bytes = payload.buffered();
-    if bytes.len() < n {
-        return take_into(payload, bitmap, n);
-    }
-    let Ok(()) = bitmap.append(&bytes[..n]) else {
-        unreachable!()
-    };
-    payload.consume(n);
-    Ok(())
-}
-
 impl<'r, 't, 'p, 's, 'c, R: Read, W: Write> Rows<'r, 't, 'p, 's, 'c, R, W> {
     // Takes the next cells of an NBCROW, as many as are NULL by their bit or whole in the packet, aren't in
     // chunks and have room in the block, puts their text where it waits, and returns the place after them. It reads
@@ -164,13 +132,8 @@ impl<'r, 't, 'p, 's, 'c, R: Read, W: Write> Rows<'r, 't, 'p, 's, 'c, R, W> {
     {
         let waiting = self.sink.waiting() as usize;
         let room = self.sink.room() - 1;
-        let run = run_nulls(
-            self.table,
-            from,
-            bitmap,
-            self.payload.buffered(),
-            self.sink.spare(room),
-        );
+        let (bytes, spare) = (self.payload.buffered(), self.sink.spare(room));
+        let run = self.table.run_nulls(from, bitmap, bytes, spare);
         self.payload.consume(run.used);
         self.sink.commit(waiting, run.made);
         run.ahead
@@ -184,7 +147,7 @@ impl<'r, 't, 'p, 's, 'c, R: Read, W: Write> Rows<'r, 't, 'p, 's, 'c, R, W> {
     {
         let mut text = [0u8; SHORT_TEXT];
         let bytes = self.payload.buffered();
-        let run = run_nulls(self.table, from, bitmap, bytes, &mut text);
+        let run = self.table.run_nulls(from, bitmap, bytes, &mut text);
         self.put_made(run, &text)
     }
 
@@ -212,8 +175,8 @@ impl<'r, 't, 'p, 's, 'c, R: Read, W: Write> Rows<'r, 't, 'p, 's, 'c, R, W> {
         self.put_cell(at, form)
     }
 
-    // Reads an NBCROW after its token byte, its bitmap into an empty area, and puts its line.
-    fn nbc_row(&mut self, bitmap: &mut Area) -> Result<(), Stop>
+    /// Reads an NBCROW after its token byte, its bitmap into an empty area, and puts its line.
+    pub(crate) fn nbc_row(&mut self, bitmap: &mut Area) -> Result<(), Stop>
         requires some { IsInSomeRow self.old }
         requires awaits { AwaitsBitmap bitmap.old }
         ensures leaves { LeavesRows self.old self.new result }
@@ -221,7 +184,7 @@ impl<'r, 't, 'p, 's, 'c, R: Read, W: Write> Rows<'r, 't, 'p, 's, 'c, R, W> {
         ensures row { (columns : List Column) → Knows self.old.table.now columns →
             RowRead R.remaining W.contents (nbc_row_start columns) self.old self.new result }
     {
-        read_bitmap(self.payload, bitmap, bitmap_size(self.table.count()))?;
+        take_into(self.payload, bitmap, bitmap_size(self.table.count()))?;
         let mut ahead = self.table.start();
         loop {
             let at = self.put_nulls(ahead, bitmap.bytes())?;
@@ -234,9 +197,9 @@ impl<'r, 't, 'p, 's, 'c, R: Read, W: Write> Rows<'r, 't, 'p, 's, 'c, R, W> {
         }
     }
 
-    // Reads an NBCROW and those that follow it in its packet, each with only its bitmap in the area, and puts
-    // their lines. Returns how many they are.
-    fn nbc_rows(&mut self, bitmap: &mut Area) -> Result<u64, Stop>
+    /// Reads an NBCROW and those that follow it in its packet, each with only its bitmap in the area, and puts
+    /// their lines. Returns how many they are.
+    pub(crate) fn nbc_rows(&mut self, bitmap: &mut Area) -> Result<u64, Stop>
         requires some { IsInSomeRow self.old }
         requires room { longest_bitmap ≤ bitmap.old.room }
         ensures leaves { LeavesRows self.old self.new result }
@@ -256,94 +219,4 @@ impl<'r, 't, 'p, 's, 'c, R: Read, W: Write> Rows<'r, 't, 'p, 's, 'c, R, W> {
             }
         }
     }
-}
-
-/// Reads an NBCROW after its token byte, and puts its line (MS-TDS, NBCROW). The bitmap is read into
-/// the area, which is emptied first and has room for at least 8,192 bytes. A column whose bit is set
-/// is NULL and has no data, and the bits after the last column's say nothing. The NULLs
-/// before the next cell with data, or at the row's end, count with what is read before them: the
-/// cell, or the bitmap. Faults and places are as in [`row`](crate::row), and `MessageEnded` is
-/// at the bitmap's first byte if the message ends in it. After a stop of the payload or the sink
-/// the same stop is returned, and neither changes.
-///
-/// Cells are taken in runs, as many as are NULL or whole in the packet and have room in the block. The
-/// small area is used as in [`row`](crate::row).
-pub fn nbc_row<R: Read, W: Write>(
-    payload: &mut Payload<R>,
-    columns: Columns<'_>,
-    charset: Charset,
-    bitmap: &mut Area,
-    small: &mut Area,
-    sink: &mut Sink<W>,
-) -> Result<(), Stop>
-    requires sound { IsSound payload.old }
-    requires ready { IsReady sink.old }
-    requires room { longest_bitmap ≤ bitmap.old.room }
-    requires small_room { longest_cell ≤ small.old.room }
-    ensures payload { LeavesPayload payload.old payload.new result }
-    ensures sink { LeavesSink sink.old sink.new result }
-    ensures bitmap { KeepsRoom bitmap.old bitmap.new }
-    ensures small { LeavesSmall small.old small.new }
-    ensures row { payload.old.stopped ≡ None → sink.old.failed ≡ false →
-        RowPut R.remaining W.contents charset (nbc_row_start (columns_of columns.entry.bytes.now))
-        payload.old payload.new sink.old sink.new result }
-    ensures succeeds { payload.old.stopped ≡ None → sink.old.failed ≡ false → (cells : List Cell) (bytes more : List ℕ) →
-        SpellsNbcRow charset (columns_of columns.entry.bytes.now) cells bytes →
-        SucceedsOn R.remaining payload.old payload.new sink.old sink.new result (bytes ++ more) }
-    ensures again { StopsAgain W.contents payload.old payload.new sink.old sink.new result }
-{
-    bitmap.clear();
-    if let Some(stop) = payload.stopped() {
-        return Err(stop);
-    }
-    if let Some(stop) = sink.failure() {
-        return Err(stop);
-    }
-    let table = Table::of(columns, charset);
-    let mut rows = Rows {
-        payload,
-        sink,
-        small,
-        table: &table,
-    };
-    rows.nbc_row(bitmap)
-}
-
-/// Reads an NBCROW after its token byte, and the NBCROWs after it as long as the next token byte is in the
-/// packet that the row before it ends in. Puts their lines, and returns how many they are. The lines of the
-/// whole rows count at a stop, and so does the text so far of the row that it stops in. Each bitmap is read
-/// into the area, which is emptied before it. Faults, places and the areas' rooms are as in [`nbc_row`]
-/// (MS-TDS, NBCROW).
-pub fn read_nbc_rows<R: Read, W: Write>(
-    payload: &mut Payload<R>,
-    columns: Columns<'_>,
-    charset: Charset,
-    bitmap: &mut Area,
-    small: &mut Area,
-    sink: &mut Sink<W>,
-) -> Result<u64, Stop>
-    requires going { IsGoing payload.old }
-    requires writing { IsWriting sink.old }
-    requires room { longest_bitmap ≤ bitmap.old.room }
-    requires small_room { longest_cell ≤ small.old.room }
-    ensures payload { LeavesPayload payload.old payload.new result }
-    ensures sink { LeavesSink sink.old sink.new result }
-    ensures bitmap { KeepsRoom bitmap.old bitmap.new }
-    ensures small { LeavesSmall small.old small.new }
-    ensures few { IfOk result (λ count. payload.old.place + count ≤ payload.new.place + 1) }
-    ensures all { IfOk result (λ _. BeginNoRow NbcRow (buffered payload.new)) }
-    ensures rows { RowsRead R.remaining W.contents NbcRow charset (columns_of columns.entry.bytes.now)
-        payload.old payload.new sink.old sink.new result }
-    ensures succeeds { (first : List Cell) (later : List (List Cell)) (bytes more : List ℕ) →
-        SpellsRows NbcRow charset (columns_of columns.entry.bytes.now) first later bytes → BeginNoRow NbcRow more →
-        SucceedsOn R.remaining payload.old payload.new sink.old sink.new result (bytes ++ more) }
-{
-    let table = Table::of(columns, charset);
-    let mut rows = Rows {
-        payload,
-        sink,
-        small,
-        table: &table,
-    };
-    rows.nbc_rows(bitmap)
 }

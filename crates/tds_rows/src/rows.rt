@@ -1,20 +1,16 @@
 // The reading of rows, one or several after one another (MS-TDS, ROW).
-ghost use Rattle.std.specs.Prelude.{◌≡◌, ◌+◌, ◌<◌, ◌≤◌, ◌++◌, ℕ, Bool, List, length, None, false, IfOk, IsTrue};
+ghost use Rattle.std.specs.Prelude.{◌≡◌, ◌+◌, ◌<◌, ◌≤◌, ℕ, Bool, List, length, false, IfOk, IsTrue};
 ghost use Rattle.tds_csv.specs.Fields.{conversion_of};
 ghost use Rattle.tds_rows.specs.Cells.{long_start, Cell};
 ghost use Rattle.tds_rows.specs.Layouts.{IsLaidOut};
 ghost use Rattle.tds_rows.specs.RowReading.{CellRead, ContentRead, EndsRows, IsAtCell, IsInRow, IsInSomeRow, LeavesRows, StaysInRow, TokenTaken, RowRead};
-ghost use Rattle.tds_rows.specs.Rows.{RowToken, token_byte, PlainRow, SpellsRow, row_start};
+ghost use Rattle.tds_rows.specs.Rows.{RowToken, token_byte, PlainRow, row_start};
 ghost use Rattle.tds_columns.specs.Description.{Column};
-ghost use Rattle.tds_columns.specs.View.{columns_of};
-ghost use Rattle.tds_csv.specs.Sinks.{IsReady, IsWriting, LeavesSink};
-ghost use Rattle.tds_packet.specs.Payloads.{IsGoing, IsSound, LeavesPayload, buffered};
-ghost use Rattle.tds_rows.specs.CellSteps.{LeavesSmall, longest_cell};
-ghost use Rattle.tds_rows.specs.RowSteps.{RowPut, RowsRead, StopsAgain};
+ghost use Rattle.tds_packet.specs.Payloads.{buffered};
+ghost use Rattle.tds_rows.specs.RowSteps.{RowsRead};
 ghost use Rattle.tds_rows.specs.Runs.{RowsPut};
 ghost use Rattle.tds_rows.specs.MarkedRuns.{MarkedWritten};
 ghost use Rattle.tds_rows.specs.RowRuns.{IsFurther, MarkedRead, RunRead};
-ghost use Rattle.tds_rows.specs.Successes.{BeginNoRow, SpellsRows, SucceedsOn};
 ghost use Rattle.tds_rows.specs.Tables.{Knows};
 ghost use Rattle.tds_values.specs.Kind as kinds;
 
@@ -22,16 +18,15 @@ use crate::cell::gathered::{gather_scalar, length_size};
 use crate::cell::layout::{Form, Layout};
 use crate::cell::streamed::stream_long;
 use crate::cell::whole::CELL_ROOM;
-use crate::run::{CellRun, RowsRun, run_cells, run_rows, write_alone};
+use crate::run::{CellRun, RowsRun};
 use crate::table::{Ahead, ROW, Table};
 use std::io::{Read, Write};
-use tds_columns::Columns;
 use tds_csv::{
     Content, Cp1252Joiner, HexJoiner, Joiner, Sink, Utf8Joiner, Utf16Joiner, joiners_suit,
 };
 use tds_meter::Area;
 use tds_packet::{Fault, Payload, Stop};
-use tds_values::{Charset, Reach};
+use tds_values::Reach;
 
 /// The room for the text of a run that may go over the end of a block, or of a cell that no run took.
 pub(crate) const SHORT_TEXT: usize = 256;
@@ -75,9 +70,10 @@ impl<'r, 't, 'p, 's, 'c, R: Read, W: Write> Rows<'r, 't, 'p, 's, 'c, R, W> {
         let place = self.payload.place();
         gather_scalar(self.payload, &form.kind, at.column, self.small)?;
         let mut text = [0u8; CELL_ROOM];
-        let (charset, last) = (self.table.charset, self.table.is_last(at));
-        let bytes = self.small.bytes();
-        let Some(cell) = write_alone(form, charset, at.column, last, bytes, &mut text) else {
+        let Some(cell) = self
+            .table
+            .write_alone(at, form, self.small.bytes(), &mut text)
+        else {
             let fault = Fault::BadValue { column: at.column };
             return Err(Stop::in_payload(fault, place + length_size(&form.kind) as u64));
         };
@@ -122,13 +118,15 @@ impl<'r, 't, 'p, 's, 'c, R: Read, W: Write> Rows<'r, 't, 'p, 's, 'c, R, W> {
         requires { IsAtCell self.old at form.now }
         ensures { CellRead R.remaining W.contents at.entry form.now.kind self.old self.new result }
     {
-        let (charset, column, last) = (self.table.charset, at.column, self.table.is_last(at));
         let mut text = [0u8; SHORT_TEXT];
-        let bytes = self.payload.buffered();
-        if let Some(cell) = write_alone(form, charset, column, last, bytes, &mut text) {
+        if let Some(cell) = self
+            .table
+            .write_alone(at, form, self.payload.buffered(), &mut text)
+        {
             self.payload.consume(cell.used);
             return self.sink.put(&text[..cell.made]);
         }
+        let (column, last) = (at.column, self.table.is_last(at));
         match form.layout {
             Layout::Fixed(_) | Layout::Counted => self.put_gathered(at, form),
             Layout::Short(content) => self.put_joined(content, Reach::Short, column, last),
@@ -168,12 +166,8 @@ impl<'r, 't, 'p, 's, 'c, R: Read, W: Write> Rows<'r, 't, 'p, 's, 'c, R, W> {
     {
         let waiting = self.sink.waiting() as usize;
         let room = self.sink.room() - 1;
-        let run = run_rows(
-            self.table,
-            from,
-            self.payload.buffered(),
-            self.sink.spare(room),
-        );
+        let (bytes, spare) = (self.payload.buffered(), self.sink.spare(room));
+        let run = self.table.run_rows(from, bytes, spare);
         self.payload.consume(run.used);
         self.sink.commit(waiting, run.made);
         run
@@ -190,7 +184,8 @@ impl<'r, 't, 'p, 's, 'c, R: Read, W: Write> Rows<'r, 't, 'p, 's, 'c, R, W> {
         }
         let mut text = [0u8; SHORT_TEXT];
         let end = self.table.count();
-        let run = run_cells::<false>(self.table, from, end, self.payload.buffered(), &mut text);
+        let bytes = self.payload.buffered();
+        let run = self.table.run_cells::<false>(from, end, bytes, &mut text);
         let ahead = self.put_made(run, &text)?;
         Ok(RowsRun {
             used: run.used,
@@ -212,8 +207,8 @@ impl<'r, 't, 'p, 's, 'c, R: Read, W: Write> Rows<'r, 't, 'p, 's, 'c, R, W> {
         Ok(self.put_within(from))
     }
 
-    // Reads a row cell after cell, and puts its line.
-    fn row(&mut self) -> Result<(), Stop>
+    /// Reads a row cell after cell, and puts its line.
+    pub(crate) fn row(&mut self) -> Result<(), Stop>
         requires { IsInRow self.old }
         ensures leaves { LeavesRows self.old self.new result }
         ensures row { (columns : List Column) → Knows self.old.table.now columns →
@@ -227,8 +222,8 @@ impl<'r, 't, 'p, 's, 'c, R: Read, W: Write> Rows<'r, 't, 'p, 's, 'c, R, W> {
         Ok(())
     }
 
-    // Reads a row and those that follow it in its packet, and puts their lines. Returns how many they are.
-    fn rows(&mut self) -> Result<u64, Stop>
+    /// Reads a row and those that follow it in its packet, and puts their lines. Returns how many they are.
+    pub(crate) fn rows(&mut self) -> Result<u64, Stop>
         requires { IsInSomeRow self.old }
         ensures leaves { LeavesRows self.old self.new result }
         ensures ends { IfOk result (λ count. EndsRows PlainRow self.old.payload.now self.new.payload.now count) }
@@ -257,85 +252,4 @@ impl<'r, 't, 'p, 's, 'c, R: Read, W: Write> Rows<'r, 't, 'p, 's, 'c, R, W> {
             ahead = after;
         }
     }
-}
-
-/// Reads a ROW after its token byte, and puts its line (MS-TDS, ROW). The cells before a stop count,
-/// with their text, and so does the text so far of a long value. [`Fault::BadValueLength`] is at the
-/// length byte that isn't allowed, and [`Fault::BadValue`] at the first byte of the value out of range. The
-/// faults of long values and their places are as in [`stream_value`](crate::stream_value). Columns are
-/// numbered from 0, and single-byte text is read in this set. Any other stop is the payload's or the sink's
-/// own. After a stop of the payload or the sink the same stop is returned, and nothing changes.
-///
-/// A scalar cell that goes on in the next packet is gathered in the small area, which is emptied first and has
-/// room for 18 bytes at least; so is one that the row stops at.
-pub fn row<R: Read, W: Write>(
-    payload: &mut Payload<R>,
-    columns: Columns<'_>,
-    charset: Charset,
-    small: &mut Area,
-    sink: &mut Sink<W>,
-) -> Result<(), Stop>
-    requires sound { IsSound payload.old }
-    requires ready { IsReady sink.old }
-    requires room { longest_cell ≤ small.old.room }
-    ensures payload { LeavesPayload payload.old payload.new result }
-    ensures sink { LeavesSink sink.old sink.new result }
-    ensures small { LeavesSmall small.old small.new }
-    ensures row { payload.old.stopped ≡ None → sink.old.failed ≡ false →
-        RowPut R.remaining W.contents charset (row_start charset (columns_of columns.entry.bytes.now))
-        payload.old payload.new sink.old sink.new result }
-    ensures succeeds { payload.old.stopped ≡ None → sink.old.failed ≡ false → (cells : List Cell) (bytes more : List ℕ) →
-        SpellsRow charset (columns_of columns.entry.bytes.now) cells bytes →
-        SucceedsOn R.remaining payload.old payload.new sink.old sink.new result (bytes ++ more) }
-    ensures again { StopsAgain W.contents payload.old payload.new sink.old sink.new result }
-{
-    if let Some(stop) = payload.stopped() {
-        return Err(stop);
-    }
-    if let Some(stop) = sink.failure() {
-        return Err(stop);
-    }
-    let table = Table::of(columns, charset);
-    let mut rows = Rows {
-        payload,
-        sink,
-        small,
-        table: &table,
-    };
-    rows.row()
-}
-
-/// Reads a ROW after its token byte, and the ROWs after it as long as the next token byte is in the packet
-/// that the row before it ends in. Puts their lines, and returns how many they are. The lines of the whole
-/// rows count at a stop, and so does the text so far of the row that it stops in. Faults, places and the use
-/// of the small area are as in [`row`] (MS-TDS, ROW).
-pub fn read_rows<R: Read, W: Write>(
-    payload: &mut Payload<R>,
-    columns: Columns<'_>,
-    charset: Charset,
-    small: &mut Area,
-    sink: &mut Sink<W>,
-) -> Result<u64, Stop>
-    requires going { IsGoing payload.old }
-    requires writing { IsWriting sink.old }
-    requires room { longest_cell ≤ small.old.room }
-    ensures payload { LeavesPayload payload.old payload.new result }
-    ensures sink { LeavesSink sink.old sink.new result }
-    ensures small { LeavesSmall small.old small.new }
-    ensures few { IfOk result (λ count. payload.old.place + count ≤ payload.new.place + 1) }
-    ensures all { IfOk result (λ _. BeginNoRow PlainRow (buffered payload.new)) }
-    ensures rows { RowsRead R.remaining W.contents PlainRow charset (columns_of columns.entry.bytes.now)
-        payload.old payload.new sink.old sink.new result }
-    ensures succeeds { (first : List Cell) (later : List (List Cell)) (bytes more : List ℕ) →
-        SpellsRows PlainRow charset (columns_of columns.entry.bytes.now) first later bytes → BeginNoRow PlainRow more →
-        SucceedsOn R.remaining payload.old payload.new sink.old sink.new result (bytes ++ more) }
-{
-    let table = Table::of(columns, charset);
-    let mut rows = Rows {
-        payload,
-        sink,
-        small,
-        table: &table,
-    };
-    rows.rows()
 }

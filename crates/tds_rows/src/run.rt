@@ -1,5 +1,5 @@
 // A run of cells: as many as are whole in the packet and have room, over the ends of rows.
-ghost use Rattle.std.specs.Prelude.{true, ◌≡◌, ◌+◌, ◌-◌, ◌<◌, ◌≤◌, Bool, drop, length, take, IfSome};
+ghost use Rattle.std.specs.Prelude.{true, ◌≡◌, ◌==◌, ◌+◌, ◌-◌, ◌<◌, ◌≤◌, Bool, drop, length, take, IfSome};
 ghost use Rattle.tds_rows.specs.declared.cell.whole.TheConstants.{CELL_ROOM};
 ghost use Rattle.tds_rows.specs.FormRuns.{NumbersEnd};
 ghost use Rattle.tds_rows.specs.Layouts.{IsLaidOut};
@@ -10,7 +10,6 @@ use crate::cell::layout::Form;
 use crate::cell::whole::{CELL_ROOM, Written};
 use crate::run::forms::{latest_row, run_forms, run_row};
 use crate::table::{Ahead, Table};
-use tds_values::Charset;
 
 pub(crate) mod forms;
 
@@ -58,288 +57,257 @@ impl<'a> CellRun<'a> {
     }
 }
 
-// Writes cell after cell of a row by the forms of the next ones, as far as they are whole in these bytes, aren't in
-// chunks and have room.
-#[inline(always)]
-fn run_along<'a>(
-    table: &Table<'a>,
-    from: Ahead<'a>,
-    end: u16,
-    forms: &[Form],
-    bytes: &[u8],
-    to: &mut [u8],
-) -> CellRun<'a>
-    requires within { end ≤ table.now.count }
-    requires ahead { AreAhead table.now from end forms.now }
-    ensures within { StaysWithin from.entry end (length bytes.now) (length to.old) result }
-    ensures ends { result.used ≡ 0 → RunEnds table.now from.entry bytes.now (length to.old) }
-    ensures cells { CellsWritten table.now from.entry bytes.now to.new result }
-{
-    let ends = table.ends_after(from, forms);
-    let run = run_forms(forms, table.charset, from.column, ends, bytes, to);
-    let mut ahead = from;
-    table.step(&mut ahead, run.cells);
-    CellRun {
-        used: run.used,
-        made: run.made,
-        ahead,
-    }
-}
-
-// Writes the next cell of a row, which the table doesn't know, if it is whole in these bytes, isn't in chunks and has
-// room.
-#[inline(never)]
-fn run_unknown<'a>(
-    table: &Table<'a>,
-    from: Ahead<'a>,
-    end: u16,
-    bytes: &[u8],
-    to: &mut [u8],
-) -> CellRun<'a>
-    requires within { end ≤ table.now.count }
-    requires some { from.column < end }
-    ensures within { StaysWithin from.entry end (length bytes.now) (length to.old) result }
-    ensures ends { result.used ≡ 0 → RunEnds table.now from.entry bytes.now (length to.old) }
-    ensures cells { CellsWritten table.now from.entry bytes.now to.new result }
-{
-    let Some(form) = table.form(from) else {
-        return CellRun::none(from);
-    };
-    let one = [form];
-    run_along(table, from, end, &one, bytes, to)
-}
-
-// Writes cell after cell of a row, as far as they are whole in these bytes, aren't in chunks and have room, up to the
-// column at which it ends. `KNOWN` says that the table knows all columns.
-#[inline(always)]
-pub(crate) fn run_cells<'a, const KNOWN: bool>(
-    table: &Table<'a>,
-    from: Ahead<'a>,
-    end: u16,
-    bytes: &[u8],
-    to: &mut [u8],
-) -> CellRun<'a>
-    requires known { KNOWN ≡ true → table.now.known ≡ table.now.count }
-    requires within { end ≤ table.now.count }
-    ensures within { StaysWithin from.entry end (length bytes.now) (length to.old) result }
-    ensures ends { result.used ≡ 0 → from.entry.column < end →
-        RunEnds table.now from.entry bytes.now (length to.old) }
-    ensures cells { CellsWritten table.now from.entry bytes.now to.new result }
-{
-    if let Some(forms) = (&*table).forms(from, end) {
-        return run_along(table, from, end, forms, bytes, to);
-    }
-    if KNOWN || from.column >= end {
-        return CellRun::none(from);
-    }
-    run_unknown(table, from, end, bytes, to)
-}
-
-/// Writes only the cell of a form. `None` if it isn't whole in these bytes, is refused or in chunks, or if there isn't
-/// the room that the text of a short value may need.
-#[inline(never)]
-pub(crate) fn write_alone(
-    form: &Form,
-    charset: Charset,
-    column: u16,
-    last: bool,
-    bytes: &[u8],
-    to: &mut [u8],
-) -> Option<Written>
-    requires laid { IsLaidOut charset form.now.kind form.now.layout }
-    requires room { CELL_ROOM ≤ length to.old }
-    ensures used { IfSome result (λ written. written.used ≤ length bytes.now) }
-    ensures most { IfSome result (λ written. written.made ≤ length to.old) }
-    ensures cell { AloneWritten charset form.now.kind column last bytes.now (length to.old) to.new result }
-{
-    let one = [*form];
-    let run = run_forms(&one, charset, column, last, bytes, to);
-    if run.cells == 0 {
-        return None;
-    }
-    Some(Written {
-        used: run.used,
-        made: run.made,
-    })
-}
-
-// Writes whole rows of whole numbers of four bytes, each with the token byte of the next, as long as there are bytes and
-// room for any row.
-#[inline(never)]
-fn run_numbers<'a>(table: &Table<'a>, from: Ahead<'a>, bytes: &[u8], to: &mut [u8]) -> RowsRun<'a>
-    requires known { KnowsAll table.now }
-    requires numbers { table.now.only_numbers ≡ true }
-    requires first { from.column ≡ 0 }
-    ensures ahead { result.ahead ≡ from.entry }
-    ensures ends { let row = take table.now.known table.now.forms in
-        NumbersEnd row (drop result.used bytes.now) (length to.old - result.made) }
-    ensures rows { RowsRan table.now from.entry bytes.now to.new result }
-{
-    let row = (&*table).row();
-    let Some(latest) = latest_row(row, bytes, to) else {
-        return RowsRun::none(from);
-    };
-    let mut used = 0;
-    let mut made = 0;
-    let mut rows = 0;
-    while used <= latest.used && made <= latest.made {
-        let Some(run) = run_row(row, &bytes[used..], &mut to[made..]) else {
-            break;
-        };
-        let end = used + run.used;
-        if !table.row_follows(&bytes[end..]) {
-            break;
-        }
-        used = end + 1;
-        made += run.made;
-        rows += 1;
-    }
-    RowsRun {
-        used,
-        made,
-        rows,
-        ahead: from,
-    }
-}
-
-// Writes rows as `run_numbers` does, if `NUMBERS` says that all values are whole numbers of four bytes, and the place is
-// before a row.
-#[inline(always)]
-fn run_whole<'a, const NUMBERS: bool>(
-    table: &Table<'a>,
-    from: Ahead<'a>,
-    bytes: &[u8],
-    to: &mut [u8],
-) -> RowsRun<'a>
-    requires known { KnowsAll table.now }
-    requires numbers { NUMBERS ≡ true → table.now.only_numbers ≡ true }
-    ensures ahead { result.ahead ≡ from.entry }
-    ensures ends { NUMBERS ≡ true → from.entry.column ≡ 0 → let row = take table.now.known table.now.forms in
-        NumbersEnd row (drop result.used bytes.now) (length to.old - result.made) }
-    ensures rows { RowsRan table.now from.entry bytes.now to.new result }
-{
-    if NUMBERS && from.column == 0 {
-        return run_numbers(table, from, bytes, to);
-    }
-    RowsRun::none(from)
-}
-
-// Writes cell after cell of rows whose columns the table all knows, as far as they are whole in these bytes, aren't in
-// chunks and have room, over the ends of rows. `NUMBERS` says that all their values are whole numbers of four bytes.
-#[inline(never)]
-fn run_known<'a, const NUMBERS: bool>(
-    table: &Table<'a>,
-    from: Ahead<'a>,
-    bytes: &[u8],
-    to: &mut [u8],
-) -> RowsRun<'a>
-    requires known { KnowsAll table.now }
-    requires numbers { NUMBERS ≡ true → table.now.only_numbers ≡ true }
-    ensures ends { RunEnds table.now result.ahead (drop result.used bytes.now) (length to.old - result.made) }
-    ensures rows { RowsRan table.now from.entry bytes.now to.new result }
-{
-    let mut used = 0;
-    let mut made = 0;
-    let mut rows = 0;
-    let mut ahead = from;
-    loop {
-        let whole = run_whole::<NUMBERS>(table, ahead, &bytes[used..], &mut to[made..]);
-        used += whole.used;
-        made += whole.made;
-        rows += whole.rows;
-        let Some(forms) = (&*table).rest_of_row(ahead) else {
-            if !table.row_follows(&bytes[used..]) {
-                break;
-            }
-            used += 1;
-            rows += 1;
-            table.rewind(&mut ahead);
-            continue;
-        };
-        let (rest, room) = (&bytes[used..], &mut to[made..]);
-        let run = run_forms(forms, table.charset, ahead.column, true, rest, room);
-        if run.cells == 0 {
-            break;
-        }
-        used += run.used;
-        made += run.made;
-        table.pass(&mut ahead, run.cells);
-    }
-    RowsRun {
-        used,
-        made,
-        rows,
-        ahead,
-    }
-}
-
-// Writes rows as `run_rows` does, whose columns the table doesn't all know.
-#[inline(never)]
-fn run_partly_known<'a>(
-    table: &Table<'a>,
-    from: Ahead<'a>,
-    bytes: &[u8],
-    to: &mut [u8],
-) -> RowsRun<'a>
-    requires some { 0 < table.now.count }
-    ensures ends { RunEnds table.now result.ahead (drop result.used bytes.now) (length to.old - result.made) }
-    ensures rows { RowsRan table.now from.entry bytes.now to.new result }
-{
-    let mut used = 0;
-    let mut made = 0;
-    let mut rows = 0;
-    let mut ahead = from;
-    loop {
-        if table.is_end(ahead) {
-            if !table.row_follows(&bytes[used..]) {
-                break;
-            }
-            used += 1;
-            rows += 1;
-            ahead = table.start();
-            continue;
-        }
-        let cells = run_cells::<false>(
-            table,
+impl<'a> Table<'a> {
+    // Writes cell after cell of a row by the forms of the next ones, as far as they are whole in these bytes, aren't in
+    // chunks and have room.
+    #[inline(always)]
+    fn run_along(
+        &self,
+        from: Ahead<'a>,
+        end: u16,
+        forms: &[Form],
+        bytes: &[u8],
+        to: &mut [u8],
+    ) -> CellRun<'a>
+        requires within { end ≤ self.now.count }
+        requires ahead { AreAhead self.now from end forms.now }
+        ensures within { StaysWithin from.entry end (length bytes.now) (length to.old) result }
+        ensures ends { result.used ≡ 0 → RunEnds self.now from.entry bytes.now (length to.old) }
+        ensures cells { CellsWritten self.now from.entry bytes.now to.new result }
+    {
+        let ends = self.ends_after(from, forms);
+        let run = run_forms(forms, self.charset, from.column, ends, bytes, to);
+        let mut ahead = from;
+        self.step(&mut ahead, run.cells);
+        CellRun {
+            used: run.used,
+            made: run.made,
             ahead,
-            table.count(),
-            &bytes[used..],
-            &mut to[made..],
-        );
-        if cells.used == 0 {
-            break;
         }
-        used += cells.used;
-        made += cells.made;
-        ahead = cells.ahead;
     }
-    RowsRun {
-        used,
-        made,
-        rows,
-        ahead,
-    }
-}
 
-// Writes cell after cell, as far as they are whole in these bytes, aren't in chunks and have room, over the
-// ends of rows: after a whole row it goes on if the byte of the next ROW follows.
-#[inline(always)]
-pub(crate) fn run_rows<'a>(
-    table: &Table<'a>,
-    from: Ahead<'a>,
-    bytes: &[u8],
-    to: &mut [u8],
-) -> RowsRun<'a>
-    requires some { 0 < table.now.count }
-    requires room { CELL_ROOM ≤ length to.old }
-    ensures ends { RunEnds table.now result.ahead (drop result.used bytes.now) (length to.old - result.made) }
-    ensures rows { RowsRan table.now from.entry bytes.now to.new result }
-{
-    if !table.knows_all() {
-        return run_partly_known(table, from, bytes, to);
+    // Writes the next cell of a row, which the table doesn't know, if it is whole in these bytes, isn't in chunks and has
+    // room.
+    #[inline(never)]
+    fn run_unknown(&self, from: Ahead<'a>, end: u16, bytes: &[u8], to: &mut [u8]) -> CellRun<'a>
+        requires within { end ≤ self.now.count }
+        requires some { from.column < end }
+        ensures within { StaysWithin from.entry end (length bytes.now) (length to.old) result }
+        ensures ends { result.used ≡ 0 → RunEnds self.now from.entry bytes.now (length to.old) }
+        ensures cells { CellsWritten self.now from.entry bytes.now to.new result }
+    {
+        let Some(form) = self.form(from) else {
+            return CellRun::none(from);
+        };
+        let one = [form];
+        self.run_along(from, end, &one, bytes, to)
     }
-    if table.only_numbers {
-        return run_known::<true>(table, from, bytes, to);
+
+    // Writes cell after cell of a row, as far as they are whole in these bytes, aren't in chunks and have room, up to the
+    // column at which it ends. `KNOWN` says that the table knows all columns.
+    #[inline(always)]
+    pub(crate) fn run_cells<const KNOWN: bool>(
+        &self,
+        from: Ahead<'a>,
+        end: u16,
+        bytes: &[u8],
+        to: &mut [u8],
+    ) -> CellRun<'a>
+        requires known { KNOWN ≡ true → self.now.known ≡ self.now.count }
+        requires within { end ≤ self.now.count }
+        ensures within { StaysWithin from.entry end (length bytes.now) (length to.old) result }
+        ensures ends { result.used ≡ 0 → from.entry.column < end →
+            RunEnds self.now from.entry bytes.now (length to.old) }
+        ensures cells { CellsWritten self.now from.entry bytes.now to.new result }
+    {
+        if let Some(forms) = (&*self).forms(from, end) {
+            return self.run_along(from, end, forms, bytes, to);
+        }
+        if KNOWN || from.column >= end {
+            return CellRun::none(from);
+        }
+        self.run_unknown(from, end, bytes, to)
     }
-    run_known::<false>(table, from, bytes, to)
+
+    /// Writes only the next cell, which is of this form. `None` if it isn't whole in these bytes, is refused or in chunks, or if there isn't
+    /// the room that the text of a short value may need.
+    #[inline(never)]
+    pub(crate) fn write_alone(
+        &self,
+        at: Ahead<'a>,
+        form: &Form,
+        bytes: &[u8],
+        to: &mut [u8],
+    ) -> Option<Written>
+        requires within { at.column < self.now.count }
+        requires laid { IsLaidOut self.now.charset form.now.kind form.now.layout }
+        requires room { CELL_ROOM ≤ length to.old }
+        ensures used { IfSome result (λ written. written.used ≤ length bytes.now) }
+        ensures most { IfSome result (λ written. written.made ≤ length to.old) }
+        ensures cell { AloneWritten self.now.charset form.now.kind at.entry.column (at.entry.column + 1 == self.now.count)
+            bytes.now (length to.old) to.new result }
+    {
+        let one = [*form];
+        let run = run_forms(&one, self.charset, at.column, self.is_last(at), bytes, to);
+        if run.cells == 0 {
+            return None;
+        }
+        Some(Written {
+            used: run.used,
+            made: run.made,
+        })
+    }
+
+    // Writes whole rows of whole numbers of four bytes, each with the token byte of the next, as long as there are bytes and
+    // room for any row.
+    #[inline(never)]
+    fn run_numbers(&self, from: Ahead<'a>, bytes: &[u8], to: &mut [u8]) -> RowsRun<'a>
+        requires known { KnowsAll self.now }
+        requires numbers { self.now.only_numbers ≡ true }
+        requires first { from.column ≡ 0 }
+        ensures ahead { result.ahead ≡ from.entry }
+        ensures ends { let row = take self.now.known self.now.forms in
+            NumbersEnd row (drop result.used bytes.now) (length to.old - result.made) }
+        ensures rows { RowsRan self.now from.entry bytes.now to.new result }
+    {
+        let row = (&*self).row();
+        let Some(latest) = latest_row(row, bytes, to) else {
+            return RowsRun::none(from);
+        };
+        let mut used = 0;
+        let mut made = 0;
+        let mut rows = 0;
+        while used <= latest.used && made <= latest.made {
+            let Some(run) = run_row(row, &bytes[used..], &mut to[made..]) else {
+                break;
+            };
+            let end = used + run.used;
+            if !self.row_follows(&bytes[end..]) {
+                break;
+            }
+            used = end + 1;
+            made += run.made;
+            rows += 1;
+        }
+        RowsRun {
+            used,
+            made,
+            rows,
+            ahead: from,
+        }
+    }
+
+    // Writes rows as `run_numbers` does, if `INT4` says that all values are whole numbers of four bytes, and the place is
+    // before a row.
+    #[inline(always)]
+    fn run_whole<const INT4: bool>(&self, at: Ahead<'a>, bytes: &[u8], to: &mut [u8]) -> RowsRun<'a>
+        requires known { KnowsAll self.now }
+        requires numbers { INT4 ≡ true → self.now.only_numbers ≡ true }
+        ensures ahead { result.ahead ≡ at.entry }
+        ensures ends { INT4 ≡ true → at.entry.column ≡ 0 → let row = take self.now.known self.now.forms in
+            NumbersEnd row (drop result.used bytes.now) (length to.old - result.made) }
+        ensures rows { RowsRan self.now at.entry bytes.now to.new result }
+    {
+        if INT4 && at.column == 0 {
+            return self.run_numbers(at, bytes, to);
+        }
+        RowsRun::none(at)
+    }
+
+    // Writes cell after cell of rows whose columns the table all knows, as far as they are whole in these bytes, aren't in
+    // chunks and have room, over the ends of rows. `NUMBERS` says that all their values are whole numbers of four bytes.
+    #[inline(never)]
+    fn run_known<const NUMBERS: bool>(
+        &self,
+        from: Ahead<'a>,
+        bytes: &[u8],
+        to: &mut [u8],
+    ) -> RowsRun<'a>
+        requires known { KnowsAll self.now }
+        requires numbers { NUMBERS ≡ true → self.now.only_numbers ≡ true }
+        ensures ends { RunEnds self.now result.ahead (drop result.used bytes.now) (length to.old - result.made) }
+        ensures rows { RowsRan self.now from.entry bytes.now to.new result }
+    {
+        let mut used = 0;
+        let mut made = 0;
+        let mut rows = 0;
+        let mut ahead = from;
+        loop {
+            let whole = self.run_whole::<NUMBERS>(ahead, &bytes[used..], &mut to[made..]);
+            used += whole.used;
+            made += whole.made;
+            rows += whole.rows;
+            let Some(forms) = (&*self).rest_of_row(ahead) else {
+                if !self.row_follows(&bytes[used..]) {
+                    break;
+                }
+                used += 1;
+                rows += 1;
+                self.rewind(&mut ahead);
+                continue;
+            };
+            let (rest, room) = (&bytes[used..], &mut to[made..]);
+            let run = run_forms(forms, self.charset, ahead.column, true, rest, room);
+            if run.cells == 0 {
+                break;
+            }
+            used += run.used;
+            made += run.made;
+            self.pass(&mut ahead, run.cells);
+        }
+        RowsRun {
+            used,
+            made,
+            rows,
+            ahead,
+        }
+    }
+
+    // Writes rows as `run_rows` does, whose columns the table doesn't all know.
+    #[inline(never)]
+    fn run_partly_known(&self, from: Ahead<'a>, bytes: &[u8], to: &mut [u8]) -> RowsRun<'a>
+        requires some { 0 < self.now.count }
+        ensures ends { RunEnds self.now result.ahead (drop result.used bytes.now) (length to.old - result.made) }
+        ensures rows { RowsRan self.now from.entry bytes.now to.new result }
+    {
+        let mut run = RowsRun::none(from);
+        loop {
+            if self.is_end(run.ahead) {
+                if !self.row_follows(&bytes[run.used..]) {
+                    break;
+                }
+                run.used += 1;
+                run.rows += 1;
+                run.ahead = self.start();
+                continue;
+            }
+            let (rest, room) = (&bytes[run.used..], &mut to[run.made..]);
+            let cells = self.run_cells::<false>(run.ahead, self.count(), rest, room);
+            if cells.used == 0 {
+                break;
+            }
+            run.used += cells.used;
+            run.made += cells.made;
+            run.ahead = cells.ahead;
+        }
+        run
+    }
+
+    // Writes cell after cell, as far as they are whole in these bytes, aren't in chunks and have room, over the
+    // ends of rows: after a whole row it goes on if the byte of the next ROW follows.
+    #[inline(always)]
+    pub(crate) fn run_rows(&self, from: Ahead<'a>, bytes: &[u8], to: &mut [u8]) -> RowsRun<'a>
+        requires some { 0 < self.now.count }
+        requires room { CELL_ROOM ≤ length to.old }
+        ensures ends { RunEnds self.now result.ahead (drop result.used bytes.now) (length to.old - result.made) }
+        ensures rows { RowsRan self.now from.entry bytes.now to.new result }
+    {
+        if !self.knows_all() {
+            return self.run_partly_known(from, bytes, to);
+        }
+        if self.only_numbers {
+            return self.run_known::<true>(from, bytes, to);
+        }
+        self.run_known::<false>(from, bytes, to)
+    }
 }

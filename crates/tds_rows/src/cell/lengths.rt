@@ -1,7 +1,8 @@
 // The lengths and totals of long values (MS-TDS, Partially Length-prefixed Bytes).
 ghost use Rattle.std.specs.Prelude.{◌≡◌, ◌≤◌, ◌<◌};
 ghost use Rattle.tds_packet.specs.Payloads.{IsGoing, LeavesPayload};
-ghost use Rattle.tds_rows.specs.LongCells.{LengthRead, NumberRead, chunk_length_fault, end_fault, short_fault, short_length, total_fault, total_of};
+ghost use Rattle.tds_rows.specs.LongCells.{NumberRead, chunk_length_fault, end_fault, short_fault, short_length, total_fault, total_of};
+ghost use Rattle.tds_rows.specs.LongReading.{IsAtLength, LengthTaken};
 
 use byteorder::{ByteOrder, LittleEndian};
 use std::io::Read;
@@ -35,20 +36,15 @@ pub(crate) fn read_short_length<R: Read>(
     column: u16,
     unit: u64,
 ) -> Result<Option<u64>, Stop>
-    requires going { IsGoing payload.old }
-    requires unit { 0 < unit }
-    ensures payload { LeavesPayload payload.old payload.new result }
-    ensures length { LengthRead R.remaining 2 (short_fault column unit) short_length payload.old payload.new result }
+    requires { IsAtLength payload.old unit }
+    ensures { LengthTaken R.remaining 2 (short_fault column unit) short_length payload.old payload.new result }
 {
     let place = payload.place();
-    let n = read_number(payload, 2)?;
-    if n == NULL_LENGTH {
-        return Ok(None);
+    match read_number(payload, 2)? {
+        NULL_LENGTH => Ok(None),
+        n if n % unit != 0 => Err(Stop::in_payload(Fault::OddText { column }, place)),
+        n => Ok(Some(n)),
     }
-    if n % unit != 0 {
-        return Err(Stop::in_payload(Fault::OddText { column }, place));
-    }
-    Ok(Some(n))
 }
 
 /// Reads the total of a value in chunks, whose data has units of `unit` bytes: the number of its bytes, if
@@ -58,23 +54,16 @@ pub(crate) fn read_total<R: Read>(
     column: u16,
     unit: u64,
 ) -> Result<Option<Option<u64>>, Stop>
-    requires going { IsGoing payload.old }
-    requires unit { 0 < unit }
-    ensures payload { LeavesPayload payload.old payload.new result }
-    ensures length { LengthRead R.remaining 8 (total_fault column unit) total_of payload.old payload.new result }
+    requires { IsAtLength payload.old unit }
+    ensures { LengthTaken R.remaining 8 (total_fault column unit) total_of payload.old payload.new result }
 {
     let place = payload.place();
-    let n = read_number(payload, 8)?;
-    if n == NULL_TOTAL {
-        return Ok(None);
+    match read_number(payload, 8)? {
+        NULL_TOTAL => Ok(None),
+        UNKNOWN_TOTAL => Ok(Some(None)),
+        n if n % unit != 0 => Err(Stop::in_payload(Fault::OddText { column }, place)),
+        n => Ok(Some(Some(n))),
     }
-    if n == UNKNOWN_TOTAL {
-        return Ok(Some(None));
-    }
-    if n % unit != 0 {
-        return Err(Stop::in_payload(Fault::OddText { column }, place));
-    }
-    Ok(Some(Some(n)))
 }
 
 // The fault of a terminator after `sum` bytes of data, apart from the data's own faults.
@@ -111,10 +100,8 @@ pub(crate) fn read_chunk_length<R: Read>(
     total: Option<u64>,
     sum: u64,
 ) -> Result<u64, Stop>
-    requires going { IsGoing payload.old }
-    requires unit { 0 < unit }
-    ensures payload { LeavesPayload payload.old payload.new result }
-    ensures length { LengthRead R.remaining 4 (λ n. chunk_length_fault column unit total sum n) (λ n. n)
+    requires { IsAtLength payload.old unit }
+    ensures { LengthTaken R.remaining 4 (λ n. chunk_length_fault column unit total sum n) (λ n. n)
         payload.old payload.new result }
 {
     let place = payload.place();

@@ -3,7 +3,7 @@ ghost use Rattle.std.specs.Prelude.{◌<◌, ◌≤◌, IfOk, [], ◌≡◌, ◌
 ghost use Rattle.tds_packet.specs.Payloads.{IsGoing, LeavesPayload, IsSound};
 ghost use Rattle.tds_rows.specs.PassedCells.{DataPassed, PiecePassed, AnyData, CellPassed, IsGoodValue, IsRefusedValue};
 ghost use Rattle.tds_csv.specs.Conversion.{Conversion};
-ghost use Rattle.tds_rows.specs.Cells.{ChunkLength, Total, Cell, LongShape, ShortLength, SpellsCell, cell_start, return_charset, shape};
+ghost use Rattle.tds_rows.specs.Cells.{ChunkLength, Cell, LongShape, SpellsCell, cell_start, return_charset, shape};
 ghost use Rattle.tds_rows.specs.CellSteps.{IsScalarKind, LeavesGathering, LeavesSmall, longest_cell, scalar_size};
 ghost use Rattle.tds_rows.specs.Successes.{ReadsOn};
 ghost use Rattle.tds_values.specs.declared.kind.Kind.{Kind};
@@ -70,20 +70,6 @@ fn pass_chunks<R: Read>(payload: &mut Payload<R>, unit: u64, total: Option<u64>)
     }
 }
 
-// Passes over a value in chunks, whose data has units of `unit` bytes.
-pub(crate) fn pass_chunked<R: Read>(payload: &mut Payload<R>, unit: u64) -> Result<(), Stop>
-    requires going { IsGoing payload.old }
-    requires unit { 0 < unit }
-    ensures payload { LeavesPayload payload.old payload.new result }
-    ensures cell { (c : Conversion) → AnyData c unit →
-        CellPassed R.remaining (Total c) payload.old payload.new result }
-{
-    let Some(total) = read_total(payload, RETURN_COLUMN, unit)? else {
-        return Ok(());
-    };
-    pass_chunks(payload, unit, total)
-}
-
 // Whether the value of a scalar cell is out of range; NULL isn't.
 fn is_refused(kind: &Kind, cell: &[u8]) -> bool
     requires scalar { IsScalarKind kind.now }
@@ -115,20 +101,6 @@ fn pass_scalar<R: Read>(payload: &mut Payload<R>, kind: &Kind, small: &mut Area)
     Ok(())
 }
 
-// Passes over a short value, whose data has units of `unit` bytes.
-fn pass_short<R: Read>(payload: &mut Payload<R>, unit: u64) -> Result<(), Stop>
-    requires going { IsGoing payload.old }
-    requires unit { 0 < unit }
-    ensures payload { LeavesPayload payload.old payload.new result }
-    ensures cell { (c : Conversion) → AnyData c unit →
-        CellPassed R.remaining (ShortLength c) payload.old payload.new result }
-{
-    let Some(n) = read_short_length(payload, RETURN_COLUMN, unit)? else {
-        return Ok(());
-    };
-    pass_data(payload, n)
-}
-
 // Passes over a long value, whose data has units of `unit` bytes.
 fn pass_long<R: Read>(payload: &mut Payload<R>, reach: Reach, unit: u64) -> Result<(), Stop>
     requires going { IsGoing payload.old }
@@ -138,8 +110,14 @@ fn pass_long<R: Read>(payload: &mut Payload<R>, reach: Reach, unit: u64) -> Resu
         CellPassed R.remaining (cell_start kind (LongShape c reach)) payload.old payload.new result }
 {
     match reach {
-        Reach::Short => pass_short(payload, unit),
-        Reach::Chunked => pass_chunked(payload, unit),
+        Reach::Short => match read_short_length(payload, RETURN_COLUMN, unit)? {
+            Some(n) => pass_data(payload, n),
+            None => Ok(()),
+        },
+        Reach::Chunked => match read_total(payload, RETURN_COLUMN, unit)? {
+            Some(total) => pass_chunks(payload, unit, total),
+            None => Ok(()),
+        },
     }
 }
 

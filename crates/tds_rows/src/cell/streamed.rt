@@ -3,12 +3,12 @@ ghost use Rattle.std.specs.Prelude.{◌≡◌, ◌<◌, ◌+◌, ◌^◌, ◌++�
 ghost use Rattle.tds_csv.specs.Conversion.{BeginsData, Conversion, Suits, closing, conversion_rest};
 ghost use Rattle.tds_csv.specs.Quoting.{after_comma, end_after};
 ghost use Rattle.tds_csv.specs.Sinks.{IsWriting, LeavesSink, PutsPiece, IsReady};
-ghost use Rattle.tds_rows.specs.Blames.{Blames, failures_of, failures_with};
+ghost use Rattle.tds_rows.specs.Blames.{Blames, failures_of};
 ghost use Rattle.tds_rows.specs.LongCells.{DataTaken, EndPut, PieceTaken, good_of, join_stop, opening};
-ghost use Rattle.tds_rows.specs.LongReading.{IsJoining, LeavesJoining, IsFurther, LeavesBoth};
+ghost use Rattle.tds_rows.specs.LongReading.{AwaitsData, AwaitsValue, BlamesDevices, IsFurther, IsJoining, IsOnSameValue, LeavesBoth, LeavesJoining, LeavesValue, ValuePut};
 ghost use Rattle.tds_packet.specs.Payloads.{IsSound, LeavesPayload};
 ghost use Rattle.tds_meter.specs.Counts.{one_more};
-ghost use Rattle.tds_rows.specs.Cells.{Cell, ChunkLength, LongShape, ShortLength, SpellsCell, Total, long_start};
+ghost use Rattle.tds_rows.specs.Cells.{Cell, ChunkLength, LongShape, ShortLength, SpellsCell, long_start};
 ghost use Rattle.tds_rows.specs.CellSteps.{FieldPut};
 ghost use Rattle.tds_rows.specs.RowSteps.{StopsAgain};
 ghost use Rattle.tds_rows.specs.Successes.{SucceedsOn};
@@ -16,6 +16,7 @@ ghost use Rattle.tds_values.specs.declared.kind.Kind.{Kind};
 
 use crate::cell::lengths::{read_chunk_length, read_short_length, read_total};
 use crate::cell::whole::put_null;
+use crate::reading::earlier_stop;
 use std::io::{Read, Write};
 use tds_csv::{JoinFault, Joiner, Sink, write_comma, write_line_end};
 use tds_packet::{Fault, Payload, Stop};
@@ -38,12 +39,8 @@ fn join_stop(fault: JoinFault, column: u16, place: u64) -> Stop
     Stop::in_payload(Fault::BadText { column }, place + good)
 }
 
-/// Puts the comma before a long value, and what comes before its text.
-pub(crate) fn put_opening<W: Write>(
-    column: u16,
-    quoted: bool,
-    sink: &mut Sink<W>,
-) -> Result<(), Stop>
+// Puts the comma before a long value, and what comes before its text.
+fn put_opening<W: Write>(column: u16, quoted: bool, sink: &mut Sink<W>) -> Result<(), Stop>
     requires { IsWriting sink.old }
     ensures { PutsPiece W.contents sink.old sink.new (after_comma column (opening quoted)) result }
 {
@@ -56,12 +53,8 @@ pub(crate) fn put_opening<W: Write>(
     sink.open_binary()
 }
 
-/// Puts what comes after the text of a long value, and the end of the line if it is the last.
-pub(crate) fn put_closing<W: Write>(
-    quoted: bool,
-    last: bool,
-    sink: &mut Sink<W>,
-) -> Result<(), Stop>
+// Puts what comes after the text of a long value, and the end of the line if it is the last.
+fn put_closing<W: Write>(quoted: bool, last: bool, sink: &mut Sink<W>) -> Result<(), Stop>
     requires { IsWriting sink.old }
     ensures { PutsPiece W.contents sink.old sink.new (closing quoted ++ end_after last) result }
 {
@@ -74,159 +67,136 @@ pub(crate) fn put_closing<W: Write>(
     sink.put(&end[..made])
 }
 
-// Hands the next piece of the data, at most `most` bytes, to the joiner in place, and returns its length.
-fn push_piece<J: Joiner, R: Read, W: Write>(
-    payload: &mut Payload<R>,
-    most: u64,
+// A long value that is being read, and the joiner that makes its text.
+#[derive(Drop)]
+struct LongValue<'r, 'p, 'j, 'w, 's, J, R, W> {
+    payload: &'r mut Payload<'p, R>,
     column: u16,
-    joiner: &mut J,
-    sink: &mut Sink<W>,
-) -> Result<u64, Stop>
-    requires joining { IsJoining J.begins (J.withheld joiner.old) payload.old sink.old }
-    requires some { 0 < most }
-    ensures leaves { LeavesJoining J.begins (J.withheld joiner.new)
-        payload.old payload.new sink.old sink.new result }
-    ensures further { IfOk result (λ n. IsFurther most payload.old payload.new n) }
-    ensures blames { Blames (failures_of payload.old sink.old) (failures_of payload.new sink.new) result }
-    ensures piece { (c : Conversion) (content : List ℕ) → Suits J.fit J.begins J.rest J.text J.UNIT J.QUOTED c →
-        J.withheld joiner.old ≡ conversion_rest c content → BeginsData c content →
-        PieceTaken R.remaining W.contents c content (J.withheld joiner.new) column most
-        payload.old payload.new sink.old sink.new result }
-{
-    let place = payload.place();
-    let piece = payload.piece(most.min(LONGEST_PIECE) as usize)?;
-    match joiner.push(piece, sink) {
-        Ok(()) => Ok(piece.len() as u64),
-        Err(fault) => Err(join_stop(fault, column, place)),
-    }
+    last: bool,
+    joiner: &'j mut J,
+    sink: &'w mut Sink<'s, W>,
 }
 
-/// Hands `n` bytes of data to the joiner, piece by piece.
-pub(crate) fn push_data<J: Joiner, R: Read, W: Write>(
-    payload: &mut Payload<R>,
-    n: u64,
-    column: u16,
-    joiner: &mut J,
-    sink: &mut Sink<W>,
-) -> Result<(), Stop>
-    requires joining { IsJoining J.begins (J.withheld joiner.old) payload.old sink.old }
-    requires some { 0 < n }
-    ensures leaves { LeavesJoining J.begins (J.withheld joiner.new)
-        payload.old payload.new sink.old sink.new result }
-    ensures place { IfOk result (λ _. payload.new.place ≡ payload.old.place + n) }
-    ensures blames { Blames (failures_of payload.old sink.old) (failures_of payload.new sink.new) result }
-    ensures data { (c : Conversion) (content : List ℕ) → Suits J.fit J.begins J.rest J.text J.UNIT J.QUOTED c →
-        J.withheld joiner.old ≡ conversion_rest c content → BeginsData c content →
-        DataTaken R.remaining W.contents c content (J.withheld joiner.new) column n
-        payload.old payload.new sink.old sink.new result }
-{
-    let mut left = n;
-    loop {
-        left -= push_piece(payload, left, column, joiner, sink)?;
-        if left == 0 {
-            return Ok(());
+impl<'r, 'p, 'j, 'w, 's, J: Joiner, R: Read, W: Write> LongValue<'r, 'p, 'j, 'w, 's, J, R, W> {
+    // Hands the next piece of the data, at most `most` bytes, to the joiner in place, and returns its length.
+    fn push_piece(&mut self, most: u64) -> Result<u64, Stop>
+        requires joining { IsJoining J.begins J.withheld self.old }
+        requires some { 0 < most }
+        ensures leaves { LeavesJoining J.begins J.withheld self.old self.new result }
+        ensures further { IfOk result (λ n. IsFurther most self.old.payload.now self.new.payload.now n) }
+        ensures blames { BlamesDevices self.old self.new result }
+        ensures piece { (c : Conversion) (content : List ℕ) → Suits J.fit J.begins J.rest J.text J.UNIT J.QUOTED c →
+            J.withheld self.old.joiner.now ≡ conversion_rest c content → BeginsData c content →
+            PieceTaken R.remaining W.contents c content (J.withheld self.new.joiner.now) self.old.column most
+            self.old.payload.now self.new.payload.now self.old.sink.now self.new.sink.now result }
+    {
+        let place = self.payload.place();
+        let piece = self.payload.piece(most.min(LONGEST_PIECE) as usize)?;
+        match self.joiner.push(piece, self.sink) {
+            Ok(()) => Ok(piece.len() as u64),
+            Err(fault) => Err(join_stop(fault, self.column, place)),
         }
     }
-}
 
-/// Puts the end of a value whose data was handed to the joiner. Stops at `place` if the data isn't whole text.
-pub(crate) fn put_end<J: Joiner, W: Write>(
-    joiner: &mut J,
-    column: u16,
-    last: bool,
-    place: u64,
-    sink: &mut Sink<W>,
-) -> Result<(), Stop>
-    requires { IsWriting sink.old }
-    ensures sink { LeavesSink sink.old sink.new result }
-    ensures blames { (reads : ℕ) → Blames (failures_with reads sink.old) (failures_with reads sink.new) result }
-    ensures end { (c : Conversion) (content : List ℕ) → Suits J.fit J.begins J.rest J.text J.UNIT J.QUOTED c →
-        J.withheld joiner.old ≡ conversion_rest c content → BeginsData c content →
-        EndPut W.contents c J.QUOTED last content column place sink.old sink.new result }
-{
-    match joiner.end(sink) {
-        Ok(()) => put_closing(J::QUOTED, last, sink),
-        Err(fault) => Err(join_stop(fault, column, place)),
+    // Hands `n` bytes of data to the joiner, piece by piece.
+    fn push_data(&mut self, n: u64) -> Result<(), Stop>
+        requires joining { IsJoining J.begins J.withheld self.old }
+        requires some { 0 < n }
+        ensures leaves { LeavesJoining J.begins J.withheld self.old self.new result }
+        ensures place { IfOk result (λ _. self.new.payload.now.place ≡ self.old.payload.now.place + n) }
+        ensures blames { BlamesDevices self.old self.new result }
+        ensures data { (c : Conversion) (content : List ℕ) → Suits J.fit J.begins J.rest J.text J.UNIT J.QUOTED c →
+            J.withheld self.old.joiner.now ≡ conversion_rest c content → BeginsData c content →
+            DataTaken R.remaining W.contents c content (J.withheld self.new.joiner.now) self.old.column n
+            self.old.payload.now self.new.payload.now self.old.sink.now self.new.sink.now result }
+    {
+        let mut left = n;
+        loop {
+            left -= self.push_piece(left)?;
+            if left == 0 {
+                return Ok(());
+            }
+        }
     }
-}
 
-// Reads a short value from its length on, and puts its field, and the end of the line if it is the last.
-fn stream_short<J: Joiner, R: Read, W: Write>(
-    payload: &mut Payload<R>,
-    column: u16,
-    last: bool,
-    joiner: &mut J,
-    sink: &mut Sink<W>,
-) -> Result<(), Stop>
-    requires joining { IsJoining J.begins (J.withheld joiner.old) payload.old sink.old }
-    requires unit { 0 < J.UNIT }
-    requires withheld { J.withheld joiner.old ≡ [] }
-    ensures leaves { LeavesBoth payload.old payload.new sink.old sink.new result }
-    ensures blames { Blames (failures_of payload.old sink.old) (failures_of payload.new sink.new) result }
-    ensures field { (c : Conversion) → Suits J.fit J.begins J.rest J.text J.UNIT J.QUOTED c →
-        FieldPut R.remaining W.contents (ShortLength c) column last payload.old payload.new sink.old sink.new result }
-{
-    let Some(n) = read_short_length(payload, column, J::UNIT)? else {
-        return put_null(column, last, sink);
-    };
-    put_opening(column, J::QUOTED, sink)?;
-    if n == 0 {
-        return put_end(joiner, column, last, payload.place(), sink);
+    // Puts the end of a value whose data was handed to the joiner. Stops at `place` if the data isn't whole text.
+    fn put_end(&mut self, place: u64) -> Result<(), Stop>
+        requires { IsWriting self.old.sink.now }
+        ensures same { IsOnSameValue self.old self.new }
+        ensures payload { self.new.payload.now ≡ self.old.payload.now }
+        ensures sink { LeavesSink self.old.sink.now self.new.sink.now result }
+        ensures blames { BlamesDevices self.old self.new result }
+        ensures end { (c : Conversion) (content : List ℕ) → Suits J.fit J.begins J.rest J.text J.UNIT J.QUOTED c →
+            J.withheld self.old.joiner.now ≡ conversion_rest c content → BeginsData c content →
+            EndPut W.contents c J.QUOTED self.old.last content self.old.column place
+            self.old.sink.now self.new.sink.now result }
+    {
+        match self.joiner.end(self.sink) {
+            Ok(()) => put_closing(J::QUOTED, self.last, self.sink),
+            Err(fault) => Err(join_stop(fault, self.column, place)),
+        }
     }
-    push_data(payload, n, column, joiner, sink)?;
-    put_end(joiner, column, last, payload.place() - 1, sink)
-}
 
-// Reads the chunks and the terminator after a total, and puts the text of the data and its end.
-fn stream_chunks<J: Joiner, R: Read, W: Write>(
-    payload: &mut Payload<R>,
-    total: Option<u64>,
-    column: u16,
-    last: bool,
-    joiner: &mut J,
-    sink: &mut Sink<W>,
-) -> Result<(), Stop>
-    requires joining { IsJoining J.begins (J.withheld joiner.old) payload.old sink.old }
-    requires unit { 0 < J.UNIT }
-    requires withheld { J.withheld joiner.old ≡ [] }
-    ensures leaves { LeavesBoth payload.old payload.new sink.old sink.new result }
-    ensures blames { Blames (failures_of payload.old sink.old) (failures_of payload.new sink.new) result }
-    ensures field { (c : Conversion) → Suits J.fit J.begins J.rest J.text J.UNIT J.QUOTED c →
-        FieldPut R.remaining W.contents (ChunkLength c total []) column last payload.old payload.new sink.old sink.new result }
-{
-    let mut sum = 0u64;
-    loop {
-        let place = payload.place();
-        let n = read_chunk_length(payload, column, J::UNIT, total, sum)?;
+    // Reads a short value from its length on, and puts its field, and the end of the line if it is the last.
+    fn short(&mut self) -> Result<(), Stop>
+        requires { AwaitsData J.begins J.withheld J.UNIT self.old }
+        ensures leaves { LeavesValue self.old self.new result }
+        ensures blames { BlamesDevices self.old self.new result }
+        ensures field { (c : Conversion) → Suits J.fit J.begins J.rest J.text J.UNIT J.QUOTED c →
+            ValuePut R.remaining W.contents (ShortLength c) self.old self.new result }
+    {
+        let Some(n) = read_short_length(self.payload, self.column, J::UNIT)? else {
+            return put_null(self.column, self.last, self.sink);
+        };
+        put_opening(self.column, J::QUOTED, self.sink)?;
         if n == 0 {
-            return put_end(joiner, column, last, place, sink);
+            let end = self.payload.place();
+            return self.put_end(end);
         }
-        push_data(payload, n, column, joiner, sink)?;
-        sum += n;
+        self.push_data(n)?;
+        let last_byte = self.payload.place() - 1;
+        self.put_end(last_byte)
     }
-}
 
-// Reads a value in chunks from its total on, and puts its field, and the end of the line if it is the last.
-fn stream_chunked<J: Joiner, R: Read, W: Write>(
-    payload: &mut Payload<R>,
-    column: u16,
-    last: bool,
-    joiner: &mut J,
-    sink: &mut Sink<W>,
-) -> Result<(), Stop>
-    requires joining { IsJoining J.begins (J.withheld joiner.old) payload.old sink.old }
-    requires unit { 0 < J.UNIT }
-    requires withheld { J.withheld joiner.old ≡ [] }
-    ensures leaves { LeavesBoth payload.old payload.new sink.old sink.new result }
-    ensures blames { Blames (failures_of payload.old sink.old) (failures_of payload.new sink.new) result }
-    ensures field { (c : Conversion) → Suits J.fit J.begins J.rest J.text J.UNIT J.QUOTED c →
-        FieldPut R.remaining W.contents (Total c) column last payload.old payload.new sink.old sink.new result }
-{
-    let Some(total) = read_total(payload, column, J::UNIT)? else {
-        return put_null(column, last, sink);
-    };
-    put_opening(column, J::QUOTED, sink)?;
-    stream_chunks(payload, total, column, last, joiner, sink)
+    // Reads the chunks and the terminator after a total, and puts the text of the data and its end.
+    fn chunks(&mut self, total: Option<u64>) -> Result<(), Stop>
+        requires { AwaitsData J.begins J.withheld J.UNIT self.old }
+        ensures leaves { LeavesValue self.old self.new result }
+        ensures blames { BlamesDevices self.old self.new result }
+        ensures field { (c : Conversion) → Suits J.fit J.begins J.rest J.text J.UNIT J.QUOTED c →
+            ValuePut R.remaining W.contents (ChunkLength c total []) self.old self.new result }
+    {
+        let mut sum = 0u64;
+        loop {
+            let place = self.payload.place();
+            let n = read_chunk_length(self.payload, self.column, J::UNIT, total, sum)?;
+            if n == 0 {
+                return self.put_end(place);
+            }
+            self.push_data(n)?;
+            sum += n;
+        }
+    }
+
+    // Reads the value from its length or total on, and puts its field, and the end of the line if it is the last.
+    fn read(&mut self, reach: Reach) -> Result<(), Stop>
+        requires { AwaitsData J.begins J.withheld J.UNIT self.old }
+        ensures leaves { LeavesValue self.old self.new result }
+        ensures blames { BlamesDevices self.old self.new result }
+        ensures field { (c : Conversion) → Suits J.fit J.begins J.rest J.text J.UNIT J.QUOTED c →
+            ValuePut R.remaining W.contents (long_start c reach) self.old self.new result }
+    {
+        match reach {
+            Reach::Short => self.short(),
+            Reach::Chunked => match read_total(self.payload, self.column, J::UNIT)? {
+                Some(total) => {
+                    put_opening(self.column, J::QUOTED, self.sink)?;
+                    self.chunks(total)
+                }
+                None => put_null(self.column, self.last, self.sink),
+            },
+        }
+    }
 }
 
 /// Reads a long value from its length or total on, and puts its field, and the end of the line if it is the last.
@@ -238,18 +208,20 @@ pub(crate) fn stream_long<J: Joiner, R: Read, W: Write>(
     joiner: &mut J,
     sink: &mut Sink<W>,
 ) -> Result<(), Stop>
-    requires joining { IsJoining J.begins (J.withheld joiner.old) payload.old sink.old }
-    requires unit { 0 < J.UNIT }
-    requires withheld { J.withheld joiner.old ≡ [] }
+    requires { AwaitsValue J.begins (J.withheld joiner.old) J.UNIT payload.old sink.old }
     ensures leaves { LeavesBoth payload.old payload.new sink.old sink.new result }
     ensures blames { Blames (failures_of payload.old sink.old) (failures_of payload.new sink.new) result }
     ensures field { (c : Conversion) → Suits J.fit J.begins J.rest J.text J.UNIT J.QUOTED c →
         FieldPut R.remaining W.contents (long_start c reach) column last payload.old payload.new sink.old sink.new result }
 {
-    match reach {
-        Reach::Short => stream_short(payload, column, last, joiner, sink),
-        Reach::Chunked => stream_chunked(payload, column, last, joiner, sink),
-    }
+    let mut value = LongValue {
+        payload,
+        column,
+        last,
+        joiner,
+        sink,
+    };
+    value.read(reach)
 }
 
 /// Reads a long value from its length or total on, and puts its field, after a comma unless the column
@@ -289,10 +261,7 @@ pub fn stream_value<J: Joiner + Drop, R: Read, W: Write>(
         SucceedsOn R.remaining payload.old payload.new sink.old sink.new result (bytes ++ more) }
     ensures again { StopsAgain W.contents payload.old payload.new sink.old sink.new result }
 {
-    if let Some(stop) = payload.stopped() {
-        return Err(stop);
-    }
-    if let Some(stop) = sink.failure() {
+    if let Some(stop) = earlier_stop(payload, sink) {
         return Err(stop);
     }
     J::laws();

@@ -1,14 +1,14 @@
 use Rattle.tds_columns.proofs.element.take_into.Goals as goal
 use Rattle.tds_columns.proofs.{Words.{◌∙◌, take, arith, length-take-le, grown}, ElementSteps.shrunk}
 
-pub returns-in-Ok-clause-gives : goal.returns-in-Ok-clause-gives
-returns-in-Ok-clause-gives g c =
+pub returns-in-Ok-fill-clause-gives : goal.returns-in-Ok-fill-clause-gives
+returns-in-Ok-fill-clause-gives g c =
     let n = c.fill.auto.to ∙ c.grow_within-lent.ensures.value in
     record {
       element = c.fill.new.to;
       whole = n;
-      takes = rw n at c.in-Ok.ensures.all;
-      between = c.in-Ok.ensures.between;
+      takes = rw n at c.in-Ok-fill.ensures.all;
+      between = c.in-Ok-fill.ensures.between;
       stands = grown
           _ _ _ c.fill.auto.to;
     }

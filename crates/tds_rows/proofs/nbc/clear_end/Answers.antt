@@ -1,10 +1,10 @@
 use Rattle.tds_rows.proofs.nbc.clear_end.Goals as goal
-use Rattle.tds_rows.proofs.{Words.{arith, common_steps, rules}, Bits.{clear_byte, first_set}}
+use Rattle.tds_rows.proofs.{Words.{arith, rules}, Bits.{clear_byte, first_set}}
 
 pub loop-at-preserved : goal.loop-at-preserved
-loop-at-preserved c = grind (arith, common_steps, clear_byte)
+loop-at-preserved c = grind (arith, clear_byte)
 
 pub returns-then-bits-ne0 : goal.returns-then-bits-ne0
 returns-then-bits-ne0 c =
-    let set = first_set c.args.bitmap.now c.loop-at.at (search rules) (omega (arith, c.if-bits-ne0.true)) in
-    grind (arith, common_steps, set)
+    let set = first_set c.args.bitmap.now c.loop-at.at (search rules) (omega arith) in
+    grind arith

@@ -40,7 +40,7 @@ loop-n-preserved g c =
     record {
       going = search rules;
       same = search rules;
-      few = omega (arith, l.invariant.few, r.1.place_is, done.data.place_is);
+      few = omega arith;
       walks = λ conversion any.
           let x = l.invariant.walks conversion any in
           chunks_more x any (chunk_steps any x.counted r.1 r.2 r.3 c.if-n-eq0.false) done.data;

@@ -1,7 +1,8 @@
 use Rattle.tds_rows.proofs.cell.streamed.stream_long.Goals as goal
+use Rattle.tds_rows.proofs.Words.{◌≡◌, rules}
 
-pub returns-in-Short-clause-field : goal.returns-in-Short-clause-field
-returns-in-Short-clause-field g c = λ conversion suits. rw c.in-Short.is (c.stream_short.ensures.field conversion suits)
-
-pub returns-in-Chunked-clause-field : goal.returns-in-Chunked-clause-field
-returns-in-Chunked-clause-field g c = λ conversion suits. rw c.in-Chunked.is (c.stream_chunked.ensures.field conversion suits)
+pub returns-clause-field : goal.returns-clause-field
+returns-clause-field g c = λ conversion suits.
+    let payload : c.read.new.self.payload.now ≡ c.payload-1.given.0 = search rules in
+    let sink : c.read.new.self.sink.now ≡ c.sink-1.given.0 = search rules in
+    rw (payload, sink) at (c.read.ensures.field conversion suits)

@@ -5,30 +5,30 @@ use Rattle.tds_rows.proofs.{
   NullSteps.{all_put, bitmap_cut, bitmap_nears, row_ends},
 }
 
-pub returns-in_err-read_bitmap-clause-row : goal.returns-in_err-read_bitmap-clause-row
-returns-in_err-read_bitmap-clause-row g c = λ columns known.
+pub returns-in_err-take_into-clause-row : goal.returns-in_err-take_into-clause-row
+returns-in_err-take_into-clause-row g c = λ columns known.
     let sink = c.requires.some.in_row.sink in
-    let x = c.in_err-read_bitmap.ensures.gives c.requires.some.in_row.payload.going in
+    let x = c.in_err-take_into.ensures.gives c.requires.some.in_row.payload.going in
     passed _ _ _ _ c.from_residual.ensures.1 (rw sink.writing
-    (bitmap_cut _ x.part x.own (omega (arith, x.fewer, c.bitmap_size.ensures.value, c.count.ensures, known.counted)) x.ends x.stop_is
+    (bitmap_cut _ x.part x.own (omega arith) x.ends x.stop_is
     sink.ready.2))
 
 pub loop-at-init : goal.loop-at-init
 loop-at-init g c =
     let old = c.args.self.now in
     let sink = c.requires.some.in_row.sink in
-    let x = c.in_ok-read_bitmap.ensures.gives in
-    let bytes : c.read_bitmap.new.bitmap.bytes ≡ x.element = ap (λ (s : Space). s.bytes) x.stands
+    let x = c.in_ok-take_into.ensures.gives in
+    let bytes : c.take_into.new.area.bytes ≡ x.element = ap (λ (s : Space). s.bytes) x.stands
     ∙ ap (λ (l : List ℕ). l ++ x.element) c.requires.awaits.empty in
     record {
       stays = record {
         in_row = record {
-          payload = record { sound = c.in_ok-read_bitmap.ensures.payload.sound; going = c.in_ok-read_bitmap.ensures.payload.going };
+          payload = record { sound = c.in_ok-take_into.ensures.payload.sound; going = c.in_ok-take_into.ensures.payload.going };
           sink = sink;
           room = c.requires.some.in_row.room;
         };
         same = (refl, refl, refl, refl);
-        payload = c.in_ok-read_bitmap.ensures.payload.same;
+        payload = c.in_ok-take_into.ensures.payload.same;
         sink = (refl, refl, refl);
         small = record { room = refl; bound = omega arith };
       };
@@ -40,7 +40,7 @@ loop-at-init g c =
           let some : 0 < length columns = omega (arith, c.requires.some.knows.2, knows.counted) in
           let taken = rw (sym x.whole) at x.takes in
           let near = bitmap_nears columns x.element some whole taken x.between (sink.ready.1 sink.writing) sink.ready.2
-          (omega (arith, x.whole, c.in_ok-read_bitmap.ensures.place)) in
+          (omega (arith, x.whole, c.in_ok-take_into.ensures.place)) in
           (c.start-ahead.ensures.ahead columns knows, rw (c.start-ahead.ensures.first, bytes) near);
     }
 
@@ -96,7 +96,7 @@ loop-at-preserved g c =
     record {
       stays = stays_on (stays_on l.invariant.stays kept) (stays_after kept.in_row done.leaves);
       knows = rw (sym same) at l.invariant.knows;
-      fits = search (arith, rules);
+      fits = search arith;
       reads = λ columns known.
           let there = rw done.leaves.same.3 at known in
           let knows = rw kept.same.3 at there in

@@ -33,7 +33,7 @@ returns-then-not-take_token-clause-ends g c =
     let l = c.loop-ended in
     let known = l.invariant.knows in
     let none = c.if-not-take_token.ensures.token NbcRow refl in (
-      omega (arith, l.invariant.few, (c.in_ok-nbc_row.ensures.row known.0 known.1).place_is, ap (λ p. p.place) none.0),
+      omega (arith, (c.in_ok-nbc_row.ensures.row known.0 known.1).place_is, ap (λ p. p.place) none.0),
       none.1,
     )
 
@@ -49,10 +49,10 @@ loop-ended-preserved g c =
       stays = stays_on (stays_on l.invariant.stays (stays_after l.invariant.stays.in_row done.leaves)) kept;
       knows = rw (sym same) at known;
       room = search (arith, rules);
-      few = omega (arith, l.invariant.few, (done.row known.0 known.1).place_is, taken.1);
+      few = omega (arith, (done.row known.0 known.1).place_is);
       reads = rw same (λ columns knows.
           let read = rows_row (l.invariant.reads columns knows) (done.row columns knows) in
-          let begun = rows_token (omega (arith, l.invariant.knows.2, knows.counted)) done.leaves.sink.ready.2 read taken.0 in
+          let begun = rows_token (omega arith) done.leaves.sink.ready.2 read taken.0 in
           rw (sym taken.1, sym c.take_token.ensures.sink) at begun);
     }
 
@@ -63,12 +63,4 @@ loop-ended-smaller g c =
     let kept = c.take_token.ensures.stays in
     let taken = c.if-not-take_token.ensures.token NbcRow refl in
     let known = l.invariant.knows in
-    omega (
-      arith,
-      (done.row known.0 known.1).place_is,
-      taken.1,
-      kept.in_row.payload.sound.place,
-      kept.in_row.payload.sound.wire,
-      kept.payload.3,
-      done.leaves.payload.same.3,
-    )
+    omega (arith, (done.row known.0 known.1).place_is)

@@ -7,19 +7,19 @@ use Rattle.tds_rows.proofs.{
 
 pub returns-in_err-ahead : goal.returns-in_err-ahead
 returns-in_err-ahead g c =
-    let read = c.in_err-ahead.ensures.run (λ k. false) c.args.from (rw c.buffered.ensures at c.run_cells-run.ensures.cells) in
+    let read = c.in_err-ahead.ensures.run (λ k. false) c.args.from (rw c.buffered-bytes.ensures at c.run_cells-run.ensures.cells) in
     record {
-      leaves = search (arith, rules, read.leaves);
-      place = search (arith, rules);
+      leaves = search (arith, read.leaves);
+      place = search arith;
       cells = passed _ _ _ _ c.from_residual.ensures.1 read.cells;
     }
 
 pub returns : goal.returns
 returns g c =
-    let read = c.in_ok-ahead.ensures.run (λ k. false) c.args.from (rw c.buffered.ensures at c.run_cells-run.ensures.cells) in
+    let read = c.in_ok-ahead.ensures.run (λ k. false) c.args.from (rw c.buffered-bytes.ensures at c.run_cells-run.ensures.cells) in
     record {
-      leaves = search (arith, rules, read.leaves);
-      place = search (arith, rules);
+      leaves = search (arith, read.leaves);
+      place = search arith;
       cells = λ columns knows ahead. marked_rows {p = here g.R.Read.remaining g.W.Write.contents c.args.self.now}
           {q = here g.R.Read.remaining g.W.Write.contents c.put_made.new.self} (read.cells columns knows ahead);
     }
@@ -30,7 +30,7 @@ returns-then-is_end g c =
     let at = here g.R.Read.remaining g.W.Write.contents rows in
     let begin = rows_begin {bytes = []} {to = []} in
     rw c.none.ensures (record {
-      leaves = search (arith, rules);
+      leaves = search arith;
       place = (sym (add-zero _), omega arith);
       cells = λ columns knows ahead.
           let ran = begin.writes columns knows ahead in (

@@ -12,12 +12,12 @@ returns-in-Some g c =
     let n = c.in-Some.cell.used in
     let lies : n ≤ length (buffered old.payload.now) = search (arith, rules) in
     let at : c.consume.new.self.place ≡ old.payload.now.place + length (take n (buffered old.payload.now)) =
-    omega (arith, lies, ap (λ p. p.place) c.consume.ensures.rest, length-take n (buffered old.payload.now)) in
+    omega (arith, ap (λ p. p.place) c.consume.ensures.rest, length-take n (buffered old.payload.now)) in
     record {
       leaves = search (arith, rules);
       cell = λ last next.
-          let end = c.is_last-last.ensures ∙ last_one _ _ _ _ _ next.knows.counted next.next ∙ sym next.last in
-          let alone = rw (end, c.buffered-bytes.ensures) at c.in-Some.ensures.cell in
+          let end = last_one _ _ _ _ _ next.knows.counted next.next ∙ sym next.last in
+          let alone = rw (end, c.buffered.ensures) at c.in-Some.ensures.cell in
           put_whole c.put.result _ _ _ _ _ g.W.Write.contents old.sink.now c.put.new.self c.requires.in_row.sink
           (c.consume.ensures.between c.requires.in_row.payload.going) alone.writes.whole c.consume.ensures.gives at c.put.ensures;
     }

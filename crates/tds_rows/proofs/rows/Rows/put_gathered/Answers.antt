@@ -1,6 +1,6 @@
 use Rattle.tds_rows.proofs.rows.Rows.put_gathered.Goals as goal
 use Rattle.tds_rows.proofs.{
-  Words.{◌≡◌, ◌∙◌, take, sym, arith, rules, take_all, passed},
+  Words.{◌∙◌, take, sym, arith, rules, take_all, passed},
   BufferedCells.{cell_reads, put_cell as cell_put},
   CellSteps.left_stalls,
   RowSteps.at_once_stalls,
@@ -10,7 +10,7 @@ use Rattle.tds_rows.proofs.{
 
 pub returns-in_err-gather_scalar : goal.returns-in_err-gather_scalar
 returns-in_err-gather_scalar g c = record {
-  leaves = search (arith, rules);
+  leaves = search arith;
   cell = λ last next.
       rw c.requires.next.in_row.sink.writing (passed _ _ _ _ c.from_residual.ensures.1 (at_once_stalls _ _
       _ _ c.requires.next.in_row.sink.ready.2 (c.in_err-gather_scalar.ensures.cell _)));
@@ -18,9 +18,9 @@ returns-in_err-gather_scalar g c = record {
 
 pub returns-in_default : goal.returns-in_default
 returns-in_default g c = record {
-  leaves = search (arith, rules);
+  leaves = search arith;
   cell = λ last next.
-      let x = rw (sym c.bytes-bytes.ensures.value) at (c.in_ok-gather_scalar.ensures.cell c.args.self.now.table.now.charset) in
+      let x = rw (sym c.bytes.ensures.value) at (c.in_ok-gather_scalar.ensures.cell c.args.self.now.table.now.charset) in
       let stops = left_stalls x (scalar_left _ _ _ _ c.requires.scalar c.in_default.ensures.cell) in
       rw (
         c.requires.next.in_row.sink.writing,
@@ -36,12 +36,12 @@ returns g c = record {
   cell = λ last next.
       let kind = c.args.form.now.kind in
       let charset = c.args.self.now.table.now.charset in
-      let bytes = c.bytes-bytes.result.now in
-      let end = c.is_last-last.ensures ∙ last_one _ _ _ _ _ next.knows.counted next.next ∙ sym next.last in
+      let bytes = c.bytes.result.now in
+      let end = last_one _ _ _ _ _ next.knows.counted next.next ∙ sym next.last in
       let alone = rw end at c.in-Some.ensures.cell in
-      let x = rw (sym c.bytes-bytes.ensures.value) at (c.in_ok-gather_scalar.ensures.cell charset) in
-      let all : take c.in-Some.cell.used bytes ≡ bytes =
-      take_all c.in-Some.cell.used bytes (omega (arith, x.whole, alone.size, scalar_whole kind bytes c.requires.scalar)) in
+      let x = rw (sym c.bytes.ensures.value) at (c.in_ok-gather_scalar.ensures.cell charset) in
+      let all =
+      take_all c.in-Some.cell.used bytes (omega (arith, scalar_whole kind bytes c.requires.scalar)) in
       let reads = cell_reads _ c.args.at.column last _ _ _ _ bytes (take c.in-Some.cell.made c.write_alone.new.to)
       (rw all at (alone.writes.at_once c.requires.scalar charset)) x.takes x.between x.place_is in
       cell_put c.put.result charset kind g.W.Write.contents c.args.self.now.sink.now c.put.new.self c.requires.next.in_row.sink reads c.put.ensures;

@@ -5,7 +5,7 @@ pub returns-in_err-put-clause-run : goal.returns-in_err-put-clause-run
 returns-in_err-put-clause-run g c = λ nulls from writes.
     let sink = c.requires.in_row.sink in
     record {
-      leaves = search (arith, rules);
+      leaves = search arith;
       cells = passed _ _ _ _ c.from_residual.ensures.1 (λ columns knows ahead. record {
         to = c.args.run.ahead;
         bytes = take c.args.run.used (buffered c.args.self.now.payload.now);

@@ -1,6 +1,6 @@
 use Rattle.tds_rows.proofs.rows.Rows.put_nulls_within.Goals as goal
 use Rattle.tds_rows.proofs.{
-  Words.{◌≡◌, ◌∙◌, ap, sym, drop, ◌-◌, ◌+◌, ◌≤◌, length, take, arith, rules, length-take, drop-drop, buffered, held},
+  Words.{◌≡◌, ◌∙◌, ap, sym, ◌-◌, ◌+◌, ◌≤◌, length, take, arith, rules, length-take, drop-drop, buffered, held},
   BufferedCells.kept_text,
   NextSteps.all_waits,
 }
@@ -12,17 +12,17 @@ returns-clause-ends g c =
     let j = held g.W.Write.contents c.commit.new.self in
     let run = c.run_nulls-run.result in
     let written = c.run_nulls-run.new.to in
-    let lent = c.spare.result.now in
-    let whole : length written ≡ length lent = c.run_nulls-run.auto.to in
+    let lent = c.spare-spare.result.now in
+    let whole = c.run_nulls-run.auto.to in
     let puts = kept_text h j lent written c.waiting-waiting.result whole c.waiting-waiting.ensures run.made c.commit.ensures.gives in
     let block : length lent + length h.waiting ≡ 4095 =
-    omega (arith, c.spare.ensures.value, c.room-room.ensures, c.requires.in_row.sink.ready.1 c.requires.in_row.sink.writing) in
-    let text : length (take run.made written) ≡ run.made = omega (arith, whole, c.run_nulls-run.ensures.ends.made, length-take run.made written) in
-    let waits = all_waits h j (take run.made written) puts (omega (arith, block, text, c.run_nulls-run.ensures.ends.made)) in
-    let room : length lent - run.made ≡ 4095 - length j.waiting = omega (arith, block, text, waits, c.run_nulls-run.ensures.ends.made) in
-    let rest : drop run.used (buffered old) ≡ buffered c.consume.new.self = drop-drop run.used old.at old.packet.now.bytes
+    omega (arith, c.requires.in_row.sink.ready.1 c.requires.in_row.sink.writing) in
+    let text : length (take run.made written) ≡ run.made = omega (arith, length-take run.made written) in
+    let waits = all_waits h j (take run.made written) puts (omega (arith, block, text)) in
+    let room : length lent - run.made ≡ 4095 - length j.waiting = omega (arith, block, text, waits) in
+    let rest = drop-drop run.used old.at old.packet.now.bytes
     ∙ ap buffered (sym c.consume.ensures.rest) in
-    rw room at (rw rest at (rw c.buffered.ensures at c.run_nulls-run.ensures.ends.left))
+    rw room at (rw rest at (rw c.buffered-bytes.ensures at c.run_nulls-run.ensures.ends.left))
 
 pub returns-clause-cells : goal.returns-clause-cells
 returns-clause-cells g c = λ columns knows ahead.
@@ -32,8 +32,8 @@ returns-clause-cells g c = λ columns knows ahead.
     record {
       bytes = take run.used (buffered c.args.self.now.payload.now);
       text = take run.made written;
-      runs = rw c.buffered.ensures at (c.run_nulls-run.ensures.cells columns knows ahead);
+      runs = rw c.buffered-bytes.ensures at (c.run_nulls-run.ensures.cells columns knows ahead);
       takes = c.consume.ensures.gives;
       puts = kept_text _ _ _ _ _ c.run_nulls-run.auto.to c.waiting-waiting.ensures _ c.commit.ensures.gives;
-      place_is = omega (arith, lies, ap (λ p. p.place) c.consume.ensures.rest, length-take run.used (buffered c.args.self.now.payload.now));
+      place_is = omega (arith, ap (λ p. p.place) c.consume.ensures.rest, length-take run.used (buffered c.args.self.now.payload.now));
     }

@@ -35,7 +35,7 @@ loop-run-preserved-then-run-gt0 g c =
     record {
       stays = stays_on l.invariant.stays kept;
       knows = rw (sym kept.same.3) at l.invariant.knows;
-      few = omega (arith, l.invariant.few, c.in_ok-run.ensures.place);
+      few = omega (arith, c.in_ok-run.ensures.place);
       reads = rw kept.same.3 (λ columns knows.
           rw kept.same.3 at (rows_ran g.R.Read.remaining g.W.Write.contents c.in_ok-run.run' kept knows c.in_ok-run.ensures.cells
           (l.invariant.reads columns knows)));
@@ -55,7 +55,7 @@ returns-then-not-take_token-clause-rows g c = λ columns known.
 pub returns-then-not-take_token-clause-ends : goal.returns-then-not-take_token-clause-ends
 returns-then-not-take_token-clause-ends g c =
     let none = c.if-not-take_token.ensures.token PlainRow refl in
-    (omega (arith, c.loop-run.invariant.few, c.in_ok-run.ensures.place, ap (λ p. p.place) none.0), none.1)
+    (omega (arith, c.in_ok-run.ensures.place, ap (λ p. p.place) none.0), none.1)
 
 pub returns-in_err-put_cell-clause-rows : goal.returns-in_err-put_cell-clause-rows
 returns-in_err-put_cell-clause-rows g c = λ columns known.
@@ -102,7 +102,7 @@ loop-run-preserved g c =
     record {
       stays = stays_on (stays_on l.invariant.stays kept) (stays_after kept.in_row done.leaves);
       knows = rw (sym same) at known;
-      few = omega (arith, l.invariant.few, c.in_ok-run.ensures.place, (step g c known.0 known.1).0);
+      few = omega (arith, c.in_ok-run.ensures.place, (step g c known.0 known.1).0);
       reads = λ columns knows. (step g c columns (rw same at knows)).1;
     }
 
@@ -117,13 +117,13 @@ loop-run-preserved-in_default g c =
     record {
       stays = stays_on (stays_on l.invariant.stays kept) took.stays;
       knows = rw (sym same) at l.invariant.knows;
-      few = omega (arith, l.invariant.few, c.in_ok-run.ensures.place, taken.1);
+      few = omega (arith, c.in_ok-run.ensures.place, taken.1);
       reads = rw same (λ columns knows.
           let x = rows_ran g.R.Read.remaining g.W.Write.contents c.in_ok-run.run' kept knows c.in_ok-run.ensures.cells
           (l.invariant.reads columns knows) in
           let none = c.in_default.ensures.taken columns (rw (sym kept.same.3) at knows) x.0 in
           let whole = rw kept.same.3 at (rows_whole (rw none at x.1).rows) in
-          let begun = rows_token (omega (arith, l.invariant.knows.2, knows.counted)) kept.in_row.sink.ready.2 whole taken.0 in
+          let begun = rows_token (omega (arith, knows.counted)) kept.in_row.sink.ready.2 whole taken.0 in
           let next = rw (sym taken.1, sym took.sink) at begun in
           let begins = start.ahead columns (rw (sym same) at knows) in
           (rw same at begins, rw start.first (record { cells = []; counted = refl; rows = next })));
@@ -135,7 +135,7 @@ loop-run-smaller-in_default g c =
     let kept = stays_after l.invariant.stays.in_row c.in_ok-run.ensures.leaves in
     let took = c.take_token.ensures.stays in
     let taken = c.if-not-take_token.ensures.token PlainRow refl in
-    omega (arith, taken.1, c.in_ok-run.ensures.place, took.in_row.payload.sound.place, took.in_row.payload.sound.wire, took.payload.3, kept.payload.3)
+    omega (arith, c.in_ok-run.ensures.place, took.in_row.payload.sound.place, took.in_row.payload.sound.wire, took.payload.3, kept.payload.3)
 
 pub loop-run-smaller : goal.loop-run-smaller
 loop-run-smaller g c =

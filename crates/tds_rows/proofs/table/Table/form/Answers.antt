@@ -3,7 +3,7 @@ use Rattle.tds_rows.proofs.{Words.{refl, arith, rules}, TableSteps.next_known}
 
 pub returns-then-at-self : goal.returns-then-at-self
 returns-then-at-self c = record {
-  laid = c.args.self.now.laid c.args.at.column c.index-self-at.result (search (arith, rules));
+  laid = c.args.self.now.laid c.args.at.column c.index-self-at.result (search arith);
   next = λ columns knows ahead.
-      next_known _ _ _ _ knows ahead _ (search (arith, rules)) c.if-at-self.true (search (arith, rules)) refl;
+      next_known _ _ _ _ knows ahead _ (search arith) c.if-at-self.true (search arith) refl;
 }

@@ -1,5 +1,5 @@
 use Rattle.tds_rows.proofs.table.Table.forms.Goals as goal
-use Rattle.tds_rows.proofs.{Words.{common_steps, arith}, TableForms.known_ahead}
+use Rattle.tds_rows.proofs.{Words.{arith}, TableForms.known_ahead}
 
 pub returns : goal.returns
-returns c = grind (arith, common_steps, known_ahead)
+returns c = grind (arith, known_ahead)

@@ -7,13 +7,13 @@ use Rattle.tds_rows.proofs.{
 
 pub loop-known-init : goal.loop-known-init
 loop-known-init c = record {
-  most = search (arith, rules);
-  few = search (arith, rules);
-  whole = search (arith, rules);
-  first = search (arith, rules);
+  most = search arith;
+  few = search arith;
+  whole = search arith;
+  first = search arith;
   laid = each_all (λ f. IsLaidOut c.args.charset f.kind f.layout) 64 c.of-forms.result c.of-forms.ensures.laid;
   numbers = λ _. each_all (λ f. IsInt4 f.kind) 64 c.of-forms.result (ap is_int4 c.of-forms.ensures.kind);
-  rest = search (arith, rules);
+  rest = search arith;
 }
 
 pub loop-known-preserved : goal.loop-known-preserved
@@ -24,13 +24,13 @@ loop-known-preserved c =
     let next = next_column columns c.loop-known.known (column_value c.in-Some.column) (columns_left c.next.new.self) step in
     record {
       most = search (arith, rules);
-      few = omega (arith, next.0);
+      few = omega arith;
       whole = search (arith, rules);
       first = first_more c.loop-known.forms columns c.loop-known.known c.of.result (column_value c.in-Some.column) (columns_left c.next.new.self)
-          (omega (arith, inv.whole, c.loop-known-test.true)) inv.first step c.of.ensures.kind;
+          (omega arith) inv.first step c.of.ensures.kind;
       laid = each_set (λ f. IsLaidOut c.args.charset f.kind f.layout) c.loop-known.forms c.loop-known.known c.of.result inv.laid
-          (omega (arith, inv.whole, c.loop-known-test.true)) c.of.ensures.laid;
+          (omega arith) c.of.ensures.laid;
       numbers = int4_set c.loop-known.forms c.loop-known.known c.of.result c.loop-known.only_numbers c.is_int4.result inv.numbers
-          (omega (arith, inv.whole, c.loop-known-test.true)) (c.is_int4.ensures ∙ ap is_int4 (sym c.of.ensures.kind));
+          (omega arith) (c.is_int4.ensures ∙ ap is_int4 (sym c.of.ensures.kind));
       rest = sym next.1.1;
     }

@@ -10,12 +10,12 @@ returns-clause-ahead c = λ columns knows ahead.
     let at = c.args.at.now in
     let table = c.args.self.now in
     elim c.if-cells-gt0.branch [
-      | then-cells-gt0+then-at-self w ↦ (let one : c.args.cells ≡ 1 = omega (arith, c.requires.known, w.if-cells-gt0.true, w.if-at-self.true) in
-          after_walked knows ahead (omega (arith, one, ap (λ a. a.column) w.at-is)) (omega (arith, one, c.requires.within)) w.if-at-self.true
+      | then-cells-gt0+then-at-self w ↦ (let one : c.args.cells ≡ 1 = omega arith in
+          after_walked knows ahead (omega (arith, one, ap (λ a. a.column) w.at-is)) (omega (arith, one)) w.if-at-self.true
           (ap (λ a. columns_left a.walk) w.at-is ∙ walk_after at.walk w.next.new.self w.next.result w.next.ensures.steps))
       | else-cells-gt0 w ↦ (let few : (c.args.cells ≡ 0) ⊎ (at.column + c.args.cells ≤ table.known) = elim w.else-cells-gt0.branch [
-        | else-cells-gt0-via-then-cells-gt0+else-at-self x ↦ inr (omega (arith, c.requires.known, x.if-at-self.false))
-        | else-cells-gt0-via-else-cells-gt0 x ↦ inl (omega (arith, x.if-cells-gt0.false))
+        | else-cells-gt0-via-then-cells-gt0+else-at-self x ↦ inr (omega arith)
+        | else-cells-gt0-via-else-cells-gt0 x ↦ inl (omega arith)
       ] in
           after_known knows ahead (omega (arith, ap (λ a. a.column) w.at-is)) c.requires.within few (ap (λ a. columns_left a.walk) w.at-is))
     ]

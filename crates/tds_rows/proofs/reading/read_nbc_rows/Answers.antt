@@ -1,0 +1,12 @@
+use Rattle.tds_rows.proofs.reading.read_nbc_rows.Goals as goal
+use Rattle.tds_rows.proofs.{Words.{rules, columns_of}, Successes.rows_succeed}
+
+pub returns-clause-rows : goal.returns-clause-rows
+returns-clause-rows g c =
+    let x = rw c.of-table.ensures.charset at (c.nbc_rows.ensures.rows (columns_of c.args.columns.bytes.now) c.of-table.ensures.knows) in
+    search rules
+
+pub returns-clause-succeeds : goal.returns-clause-succeeds
+returns-clause-succeeds g c = λ first later bytes more spelt none.
+    rows_succeed _ _ _ c.args.columns.some g.R.Read.remaining g.W.Write.contents c.args.payload.now c.payload-1.given.0 c.args.sink.now
+    c.sink-1.given.0 _ _ _ _ _ (returns-clause-rows g c) spelt none

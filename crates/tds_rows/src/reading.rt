@@ -1,0 +1,188 @@
+// The calls that read rows, one or several after one another (MS-TDS, ROW and NBCROW).
+ghost use Rattle.std.specs.Prelude.{◌≡◌, ◌+◌, ◌≤◌, ◌++◌, ℕ, List, None, false, IfOk};
+ghost use Rattle.tds_columns.specs.View.{columns_of};
+ghost use Rattle.tds_csv.specs.Sinks.{LeavesSink};
+ghost use Rattle.tds_packet.specs.Payloads.{LeavesPayload, buffered};
+ghost use Rattle.tds_packet.specs.Reads.{KeepsRoom};
+ghost use Rattle.tds_rows.specs.Cells.{Cell};
+ghost use Rattle.tds_rows.specs.CellSteps.{LeavesSmall};
+ghost use Rattle.tds_rows.specs.RowReading.{AwaitsRows, IsReadyForRow};
+ghost use Rattle.tds_rows.specs.RowSteps.{IsEarlierStop, RowPut, RowsRead, StopsAgain};
+ghost use Rattle.tds_rows.specs.Rows.{NbcRow, PlainRow, SpellsNbcRow, SpellsRow, longest_bitmap, nbc_row_start, row_start};
+ghost use Rattle.tds_rows.specs.Successes.{BeginNoRow, SpellsRows, SucceedsOn};
+
+use crate::rows::Rows;
+use crate::table::Table;
+use std::io::{Read, Write};
+use tds_columns::Columns;
+use tds_csv::Sink;
+use tds_meter::Area;
+use tds_packet::{Payload, Stop};
+use tds_values::Charset;
+
+/// The stop of a payload or a sink that had stopped, the payload's first.
+pub(crate) fn earlier_stop<R: Read, W: Write>(payload: &Payload<R>, sink: &Sink<W>) -> Option<Stop>
+    ensures { IsEarlierStop W.contents payload.now sink.now result }
+{
+    if let Some(stop) = payload.stopped() {
+        return Some(stop);
+    }
+    sink.failure()
+}
+
+/// Reads a ROW after its token byte, and puts its line (MS-TDS, ROW). The cells before a stop count,
+/// with their text, and so does the text so far of a long value. [`Fault::BadValueLength`] is at the
+/// length byte that isn't allowed, and [`Fault::BadValue`] at the first byte of the value out of range. The
+/// faults of long values and their places are as in [`stream_value`](crate::stream_value). Columns are
+/// numbered from 0, and single-byte text is read in this set. Any other stop is the payload's or the sink's
+/// own. After a stop of the payload or the sink the same stop is returned, and nothing changes.
+///
+/// A scalar cell that goes on in the next packet is gathered in the small area, which is emptied first and has
+/// room for 18 bytes at least; so is one that the row stops at.
+pub fn row<R: Read, W: Write>(
+    payload: &mut Payload<R>,
+    columns: Columns<'_>,
+    charset: Charset,
+    small: &mut Area,
+    sink: &mut Sink<W>,
+) -> Result<(), Stop>
+    requires { IsReadyForRow payload.old sink.old small.old }
+    ensures payload { LeavesPayload payload.old payload.new result }
+    ensures sink { LeavesSink sink.old sink.new result }
+    ensures small { LeavesSmall small.old small.new }
+    ensures row { payload.old.stopped ≡ None → sink.old.failed ≡ false →
+        RowPut R.remaining W.contents charset (row_start charset (columns_of columns.entry.bytes.now))
+        payload.old payload.new sink.old sink.new result }
+    ensures succeeds { payload.old.stopped ≡ None → sink.old.failed ≡ false → (cells : List Cell) (bytes more : List ℕ) →
+        SpellsRow charset (columns_of columns.entry.bytes.now) cells bytes →
+        SucceedsOn R.remaining payload.old payload.new sink.old sink.new result (bytes ++ more) }
+    ensures again { StopsAgain W.contents payload.old payload.new sink.old sink.new result }
+{
+    if let Some(stop) = earlier_stop(payload, sink) {
+        return Err(stop);
+    }
+    let table = Table::of(columns, charset);
+    let mut rows = Rows {
+        payload,
+        sink,
+        small,
+        table: &table,
+    };
+    rows.row()
+}
+
+/// Reads a ROW after its token byte, and the ROWs after it as long as the next token byte is in the packet
+/// that the row before it ends in. Puts their lines, and returns how many they are. The lines of the whole
+/// rows count at a stop, and so does the text so far of the row that it stops in. Faults, places and the use
+/// of the small area are as in [`row`] (MS-TDS, ROW).
+pub fn read_rows<R: Read, W: Write>(
+    payload: &mut Payload<R>,
+    columns: Columns<'_>,
+    charset: Charset,
+    small: &mut Area,
+    sink: &mut Sink<W>,
+) -> Result<u64, Stop>
+    requires { AwaitsRows payload.old sink.old small.old }
+    ensures payload { LeavesPayload payload.old payload.new result }
+    ensures sink { LeavesSink sink.old sink.new result }
+    ensures small { LeavesSmall small.old small.new }
+    ensures few { IfOk result (λ count. payload.old.place + count ≤ payload.new.place + 1) }
+    ensures all { IfOk result (λ _. BeginNoRow PlainRow (buffered payload.new)) }
+    ensures rows { RowsRead R.remaining W.contents PlainRow charset (columns_of columns.entry.bytes.now)
+        payload.old payload.new sink.old sink.new result }
+    ensures succeeds { (first : List Cell) (later : List (List Cell)) (bytes more : List ℕ) →
+        SpellsRows PlainRow charset (columns_of columns.entry.bytes.now) first later bytes → BeginNoRow PlainRow more →
+        SucceedsOn R.remaining payload.old payload.new sink.old sink.new result (bytes ++ more) }
+{
+    let table = Table::of(columns, charset);
+    let mut rows = Rows {
+        payload,
+        sink,
+        small,
+        table: &table,
+    };
+    rows.rows()
+}
+
+/// Reads an NBCROW after its token byte, and puts its line (MS-TDS, NBCROW). The bitmap is read into
+/// the area, which is emptied first and has room for at least 8,192 bytes. A column whose bit is set
+/// is NULL and has no data, and the bits after the last column's say nothing. The NULLs
+/// before the next cell with data, or at the row's end, count with what is read before them: the
+/// cell, or the bitmap. Faults and places are as in [`row`](crate::row), and `MessageEnded` is
+/// at the bitmap's first byte if the message ends in it. After a stop of the payload or the sink
+/// the same stop is returned, and neither changes.
+///
+/// Cells are taken in runs, as many as are NULL or whole in the packet and have room in the block. The
+/// small area is used as in [`row`](crate::row).
+pub fn nbc_row<R: Read, W: Write>(
+    payload: &mut Payload<R>,
+    columns: Columns<'_>,
+    charset: Charset,
+    bitmap: &mut Area,
+    small: &mut Area,
+    sink: &mut Sink<W>,
+) -> Result<(), Stop>
+    requires row { IsReadyForRow payload.old sink.old small.old }
+    requires bitmap { longest_bitmap ≤ bitmap.old.room }
+    ensures payload { LeavesPayload payload.old payload.new result }
+    ensures sink { LeavesSink sink.old sink.new result }
+    ensures bitmap { KeepsRoom bitmap.old bitmap.new }
+    ensures small { LeavesSmall small.old small.new }
+    ensures row { payload.old.stopped ≡ None → sink.old.failed ≡ false →
+        RowPut R.remaining W.contents charset (nbc_row_start (columns_of columns.entry.bytes.now))
+        payload.old payload.new sink.old sink.new result }
+    ensures succeeds { payload.old.stopped ≡ None → sink.old.failed ≡ false → (cells : List Cell) (bytes more : List ℕ) →
+        SpellsNbcRow charset (columns_of columns.entry.bytes.now) cells bytes →
+        SucceedsOn R.remaining payload.old payload.new sink.old sink.new result (bytes ++ more) }
+    ensures again { StopsAgain W.contents payload.old payload.new sink.old sink.new result }
+{
+    bitmap.clear();
+    if let Some(stop) = earlier_stop(payload, sink) {
+        return Err(stop);
+    }
+    let table = Table::of(columns, charset);
+    let mut rows = Rows {
+        payload,
+        sink,
+        small,
+        table: &table,
+    };
+    rows.nbc_row(bitmap)
+}
+
+/// Reads an NBCROW after its token byte, and the NBCROWs after it as long as the next token byte is in the
+/// packet that the row before it ends in. Puts their lines, and returns how many they are. The lines of the
+/// whole rows count at a stop, and so does the text so far of the row that it stops in. Each bitmap is read
+/// into the area, which is emptied before it. Faults, places and the areas' rooms are as in [`nbc_row`]
+/// (MS-TDS, NBCROW).
+pub fn read_nbc_rows<R: Read, W: Write>(
+    payload: &mut Payload<R>,
+    columns: Columns<'_>,
+    charset: Charset,
+    bitmap: &mut Area,
+    small: &mut Area,
+    sink: &mut Sink<W>,
+) -> Result<u64, Stop>
+    requires rows { AwaitsRows payload.old sink.old small.old }
+    requires bitmap { longest_bitmap ≤ bitmap.old.room }
+    ensures payload { LeavesPayload payload.old payload.new result }
+    ensures sink { LeavesSink sink.old sink.new result }
+    ensures bitmap { KeepsRoom bitmap.old bitmap.new }
+    ensures small { LeavesSmall small.old small.new }
+    ensures few { IfOk result (λ count. payload.old.place + count ≤ payload.new.place + 1) }
+    ensures all { IfOk result (λ _. BeginNoRow NbcRow (buffered payload.new)) }
+    ensures rows { RowsRead R.remaining W.contents NbcRow charset (columns_of columns.entry.bytes.now)
+        payload.old payload.new sink.old sink.new result }
+    ensures succeeds { (first : List Cell) (later : List (List Cell)) (bytes more : List ℕ) →
+        SpellsRows NbcRow charset (columns_of columns.entry.bytes.now) first later bytes → BeginNoRow NbcRow more →
+        SucceedsOn R.remaining payload.old payload.new sink.old sink.new result (bytes ++ more) }
+{
+    let table = Table::of(columns, charset);
+    let mut rows = Rows {
+        payload,
+        sink,
+        small,
+        table: &table,
+    };
+    rows.nbc_rows(bitmap)
+}
