@@ -34,8 +34,3 @@ some_leads {kept = kept} piece bytes used same some long is left =
     let three : length (take 3 piece) ≡ 3 = length-take-le 3 piece long in
     let past : length kept ≤ used = omega (arith, ap length is, length-append kept (take 3 piece)) in
     rw (← same, seam_some kept piece some, ← is) (Leads-seam joins_utf16 kept piece bytes 3 used is tt past left.within left.rest)
-
--- what stands after the bytes that were used is withheld
-pub kept_after : {whole bytes last cleared new : List ℕ} (used : ℕ) → bytes ≡ whole → last ≡ bytes → cleared ≡ []
-    → new ≡ cleared ++ take (length last - used) (drop used last) → drop used bytes ≡ rest bytes → new ≡ rest whole
-kept_after {last = last} used is same none all left = grind (arith, common_steps)

@@ -223,11 +223,9 @@ units_more {bytes} {source} {at = at} n lies room few single within small writte
     record { within = within; room = omega arith; leads = rw written (Leads-trans before.leads next) }
 
 -- so were eight units of the bytes
-pub eight_more : {bytes us old new : List ℕ} {at made after mask : ℕ} → at + 16 ≤ length bytes → us ≡ units (chunk at 16 bytes)
-    → mask ≡ mask_l (map is_half us) → mask ≡ 0 → after ≤ made + 24 → take after new ≡ take made old ++ units_text us → Converts bytes old at made
+pub eight_more : {bytes old new : List ℕ} {at made after : ℕ} → at + 16 ≤ length bytes → Each1 (λ u. is_half u ≡ false) (units (chunk at 16 bytes))
+    → after ≤ made + 24 → take after new ≡ take made old ++ units_text (units (chunk at 16 bytes)) → Converts bytes old at made
     → Converts bytes new (at + 16) after
-eight_more {bytes} {us} {at = at} room is masked none small written before =
-    let ys = chunk at 16 bytes in
-    let all : take 8 us ≡ us = take_all 8 us (omega (arith, eight_units ys (length-chunk at 16 bytes room) is)) in
-    let single = none_passes is_half us (sym masked ∙ none) in
-    units_more 8 (lies_itself bytes) room (omega arith) (rw (← is, all) single) room small (rw (← is, all) written) before
+eight_more {bytes} {at = at} room single small written before =
+    let all = take_all 8 (units (chunk at 16 bytes)) (omega (arith, eight_units _ (length-chunk at 16 bytes room) refl)) in
+    units_more 8 (lies_itself bytes) room (omega arith) (rw all single) room small (rw all written) before

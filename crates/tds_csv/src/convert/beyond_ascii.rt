@@ -143,7 +143,7 @@ fn put_triples(to: &mut [u8], at: usize, units: u16x8)
 
 // Writes the text of eight characters, with the mask of the long ones.
 #[inline(always)]
-pub(crate) fn put_longs(to: &mut [u8], at: usize, units: u16x8, long: u64) -> usize
+fn put_longs(to: &mut [u8], at: usize, units: u16x8, long: u64) -> usize
     requires long { long ≡ mask_l (map is_long units) }
     requires room { at + 3 * UNITS + LANES ≤ length to.old }
     ensures most { result ≤ at + 3 * UNITS }
@@ -197,4 +197,25 @@ pub(crate) fn put_units(to: &mut [u8], at: usize, lanes: u8x16, n: usize) -> Opt
         return Some(put_pairs(to, at, units, wide, n));
     }
     put_few(to, at, units, wide, long, n)
+}
+
+// Writes the text of eight units, and returns its end. Writes none if one of them is a surrogate, and with `LONG` none if
+// no one is long, or else none if all are.
+#[inline(always)]
+pub(crate) fn put_eight<const LONG: bool>(to: &mut [u8], at: usize, lanes: u8x16) -> Option<usize>
+    requires { at + 3 * UNITS + LANES ≤ length to.old }
+    ensures most { IfSome result (λ end. end ≤ at + 3 * UNITS) }
+    ensures written { IfSome result (λ end. take end to.new ≡ take at to.old ++ units_text (utf16.units lanes)) }
+    ensures single { IfSome result (λ _. Each1 (λ u. is_half u ≡ false) (utf16.units lanes)) }
+    ensures none { IfNone result (to.new ≡ to.old) }
+{
+    if !LONG {
+        return put_units(to, at, lanes, UNITS);
+    }
+    let units = units_of(lanes);
+    let long = long_units(units);
+    if long == 0 || surrogate_units(units) != 0 {
+        return None;
+    }
+    Some(put_longs(to, at, units, long))
 }

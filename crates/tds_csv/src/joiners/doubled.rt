@@ -1,4 +1,5 @@
 // Text whose quotes are doubled on the way to a sink.
+ghost use Rattle.std.specs.Prelude.{true};
 ghost use Rattle.tds_csv.specs.Quoting.{doubled};
 
 use crate::convert::doubling::{convert, convert_wide};
@@ -9,6 +10,10 @@ use crate::joiners::parts::Bytewise;
 pub(crate) struct Doubled;
 
 impl Bytewise for Doubled {
+    const QUOTED: bool = true;
+
+    ghost QUOTED = { true };
+
     ghost text = { doubled };
 
     fn convert(bytes: &[u8], _source: &[u8], to: &mut [u8]) -> usize {

@@ -97,9 +97,7 @@ impl Utf16Joiner {
         if kept.is_empty() {
             return Ok(0);
         }
-        let mut seam: Run<6> = Run::new();
-        seam.extend(kept);
-        seam.extend(&piece[..3]);
+        let seam = self.kept.followed_by(&piece[..3]);
         let used = put_chunk(seam.bytes(), seam.bytes(), sink)?;
         Ok(used - kept.len())
     }
@@ -113,8 +111,7 @@ impl Utf16Joiner {
     {
         let from = self.put_withheld(piece, sink)?;
         let at = put_from(piece, from, sink)?;
-        self.kept.clear();
-        self.kept.extend(&piece[at..]);
+        self.kept.set(&piece[at..]);
         Ok(())
     }
 
@@ -129,12 +126,9 @@ impl Utf16Joiner {
         ensures { PushesPiece W.contents (λ _. ⊤) utf16.rest utf16.text self.old.kept self.new.kept
             sink.old sink.new piece.now result }
     {
-        let mut seam: Run<6> = Run::new();
-        seam.extend(self.kept.bytes());
-        seam.extend(piece);
+        let seam = self.kept.followed_by(piece);
         let used = put_chunk(seam.bytes(), seam.bytes(), sink)?;
-        self.kept.clear();
-        self.kept.extend(&seam.bytes()[used..]);
+        self.kept.set(&seam.bytes()[used..]);
         Ok(())
     }
 }
@@ -149,8 +143,6 @@ impl Joiner for Utf16Joiner {
     ghost QUOTED = { true };
 
     ghost fit = { utf16.IsFit };
-
-    ghost begins = { λ _. ⊤ };
 
     ghost rest = { utf16.rest };
 
