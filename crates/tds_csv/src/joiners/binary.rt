@@ -1,5 +1,4 @@
 // Binary data.
-ghost use Rattle.std.specs.Prelude.{false};
 ghost use Rattle.tds_csv.specs.Binary as binary;
 
 use crate::convert::lanes::LANES;
@@ -9,16 +8,12 @@ use crate::joiners::bytewise::BytewiseJoiner;
 use crate::joiners::parts::Bytewise;
 
 /// Bytes as hexadecimal digits.
-pub type HexJoiner = BytewiseJoiner<Hex>;
+pub type HexJoiner = BytewiseJoiner<Hex, false>;
 
 /// The digits of bytes.
 pub struct Hex;
 
 impl Bytewise for Hex {
-    const QUOTED: bool = false;
-
-    ghost QUOTED = { false };
-
     ghost text = { binary.text };
 
     fn convert(bytes: &[u8], _source: &[u8], to: &mut [u8]) -> usize {

@@ -7,18 +7,18 @@ use std::marker::PhantomData;
 
 /// A joiner of data in which each byte has a text of its own. It withholds nothing.
 #[derive(Drop)]
-pub struct BytewiseJoiner<C> {
+pub struct BytewiseJoiner<C, const IN_QUOTES: bool> {
     conversion: PhantomData<C>,
 }
 
-impl<C: Bytewise> Joiner for BytewiseJoiner<C> {
+impl<C: Bytewise, const IN_QUOTES: bool> Joiner for BytewiseJoiner<C, IN_QUOTES> {
     const UNIT: u64 = 1;
 
     ghost UNIT = { 1 };
 
-    const QUOTED: bool = C::QUOTED;
+    const QUOTED: bool = IN_QUOTES;
 
-    ghost QUOTED = { C.QUOTED };
+    ghost QUOTED = { IN_QUOTES };
 
     ghost text = { C.text };
 

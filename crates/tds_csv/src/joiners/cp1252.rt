@@ -1,5 +1,4 @@
 // Text in Windows-1252.
-ghost use Rattle.std.specs.Prelude.{true};
 ghost use Rattle.tds_csv.specs.Windows1252 as windows_1252;
 
 use crate::convert::utf16::Converted;
@@ -8,16 +7,12 @@ use crate::joiners::bytewise::BytewiseJoiner;
 use crate::joiners::parts::Bytewise;
 
 /// Text in Windows-1252.
-pub type Cp1252Joiner = BytewiseJoiner<Windows1252>;
+pub type Cp1252Joiner = BytewiseJoiner<Windows1252, true>;
 
 /// The text of bytes in Windows-1252.
 pub struct Windows1252;
 
 impl Bytewise for Windows1252 {
-    const QUOTED: bool = true;
-
-    ghost QUOTED = { true };
-
     ghost text = { windows_1252.text };
 
     fn convert(bytes: &[u8], source: &[u8], to: &mut [u8]) -> usize {

@@ -1,5 +1,4 @@
 // Text whose quotes are doubled on the way to a sink.
-ghost use Rattle.std.specs.Prelude.{true};
 ghost use Rattle.tds_csv.specs.Quoting.{doubled};
 
 use crate::convert::doubling::{convert, convert_wide};
@@ -10,10 +9,6 @@ use crate::joiners::parts::Bytewise;
 pub(crate) struct Doubled;
 
 impl Bytewise for Doubled {
-    const QUOTED: bool = true;
-
-    ghost QUOTED = { true };
-
     ghost text = { doubled };
 
     fn convert(bytes: &[u8], _source: &[u8], to: &mut [u8]) -> usize {

@@ -1,5 +1,5 @@
 // Conversions in which each byte has a text of its own, put part by part.
-ghost use Rattle.std.specs.Prelude.{IfOk, MatchResult, ◌≡◌, ◌+◌, ◌-◌, ◌*◌, ◌<◌, ◌≤◌, Bool, List, ℕ, length, take};
+ghost use Rattle.std.specs.Prelude.{IfOk, MatchResult, ◌≡◌, ◌+◌, ◌-◌, ◌*◌, ◌<◌, ◌≤◌, List, ℕ, length, take};
 ghost use Rattle.tds_csv.specs.Joining.{HasPart, HasText, IsBytewise};
 ghost use Rattle.tds_csv.specs.Plain.{LiesIn};
 ghost use Rattle.tds_csv.specs.Sinks.{AwaitsPart, IsWriting, PutsPiece};
@@ -16,11 +16,6 @@ const TEXT: usize = 3 * CHUNK + LANES;
 
 /// A conversion in which each byte has a text of its own.
 pub(crate) trait Bytewise {
-    /// The field is in quotes.
-    const QUOTED: bool;
-
-    ghost QUOTED: { Bool };
-
     /// The text of bytes.
     ghost text: { List ℕ → List ℕ };
 
