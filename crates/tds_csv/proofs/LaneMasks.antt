@@ -1,6 +1,6 @@
 -- Masks of lanes that pass a test.
 use Rattle.tds_csv.proofs.{
-  Words.{◌≡◌, ◌∙◌, ℕ, ◌+◌, ◌*◌, ◌/◌, ◌%◌, ◌^◌, ◌<◌, ◌≤◌, Bool, true, false, zero, suc, List, [], ◌∷◌, map, length, take, drop, refl, sym, ap, ap₂, arith},
+  Words.{common_steps, ◌≡◌, ◌∙◌, ℕ, ◌+◌, ◌*◌, ◌/◌, ◌%◌, ◌^◌, ◌<◌, ◌≤◌, Bool, true, false, zero, suc, List, [], ◌∷◌, map, length, take, drop, refl, sym, ap, ap₂, arith},
   Words.{length-map, map-map, mask_l, mask_l-mod, top, Each1, Fits, w16, take-map, length-take, length-take-le, first_set, first_set_mask_l, prefix_len},
   Words.{prefix_len-le-length, not},
 }
@@ -50,7 +50,7 @@ first_lanes q n us is =
 
 -- and those above, the others
 pub last_lanes : (q : ℕ → Bool) (us : List ℕ) {mask : ℕ} → mask ≡ mask_l (map q us) → mask / 16 ≡ mask_l (map q (drop 4 us))
-last_lanes q us is = rw (is, ← drop-map q 4 us) (omega (arith, mask_parts 4 (map q us), mask_first 4 (map q us)))
+last_lanes q us is = grind (arith, common_steps, mask_parts, mask_first)
 
 -- and few bits
 pub few_ones : (q : ℕ → Bool) (us : List ℕ) {mask : ℕ} → mask ≡ mask_l (map q us) → count_ones mask ≤ length us
@@ -84,10 +84,8 @@ all_pass q (suc n) (u ∷ us) few is =
 -- none of the first passes, if their mask is empty
 pub none_of_first : (q : ℕ → Bool) (us : List ℕ) (n : ℕ) {mask low : ℕ} → mask ≡ mask_l (map q us) → low ≡ mask % 2 ^ n → low ≡ 0
     → Each1 (λ u. q u ≡ false) (take n us)
-none_of_first q us n is lowest none = none_passes q (take n us) (sym (first_lanes q n us is) ∙ sym lowest ∙ none)
+none_of_first q us n is lowest none = grind (arith, common_steps, none_passes, first_lanes)
 
 -- at most eight lanes come before the first that passes
 pub first_few : (q : ℕ → Bool) (us : List ℕ) {mask : ℕ} → length us ≡ 8 → mask ≡ mask_l (map q us) → first_set mask 8 ≤ 8
-first_few q us long is =
-    let before : first_set (mask_l (map q us)) 8 ≡ prefix_len (λ u. not (q u)) us = first_set_mask_l q us 8 long (omega arith) in
-    rw (is, before) (omega (arith, prefix_len-le-length (λ u. not (q u)) us))
+first_few q us long is = grind (arith, common_steps, first_set_mask_l, prefix_len-le-length)

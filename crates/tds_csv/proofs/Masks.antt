@@ -1,6 +1,6 @@
 -- From the mask of one load to the bytes before the first that stops.
 use Rattle.tds_csv.proofs.{
-  Words.{◌≡◌, ℕ, ◌+◌, ◌%◌, ◌^◌, ◌≤◌, Bool, true, not, cond, ◌-◌, List, [], ◌∷◌, map, length, take, drop, get_or, Fits, w8, refl, ap₂, ◌∙◌, arith, agree_below},
+  Words.{common_steps, ◌≡◌, ℕ, ◌+◌, ◌%◌, ◌^◌, ◌≤◌, Bool, true, not, cond, ◌-◌, List, [], ◌∷◌, map, length, take, drop, get_or, Fits, w8, refl, ap₂, ◌∙◌, arith, agree_below},
   Words.{agree_below_at, map-map, mask_l-mod, length-chunk, chunk-fits, first_set_mask_l, drop-take, length-map, take-take, prefix_len, prefix_len-le-length},
   Words.{Each1, chunk, mask_l, top, LiesIn, first_set},
 }
@@ -27,7 +27,7 @@ run_in n q d i z few room fits f lanes all =
     ∙ same_prefix (Fits w8) (λ x small. agree_below_at (λ x. not (top 7 (f x))) q 256 x all small.fits) (chunk i n d) (chunk-fits w8 i n d fits)
 
 pub run_most : (q : ℕ → Bool) (d : List ℕ) (i n : ℕ) → i + n ≤ length d → prefix_len q (chunk i n d) ≤ n
-run_most q d i n room = omega (arith, prefix_len-le-length q (chunk i n d), length-chunk i n d room)
+run_most q d i n room = grind (arith, common_steps, prefix_len-le-length, length-chunk)
 
 -- bytes that lie in others are the same as those
 pub alike : (bytes source : List ℕ) (at n : ℕ) → LiesIn bytes source → n ≤ 16 → at + n ≤ length bytes

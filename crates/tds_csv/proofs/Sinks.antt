@@ -1,7 +1,7 @@
 -- What was put into a sink, call after call.
 use Rattle.tds_packet.proofs.Joins.{Stays-Rises, Stays-none, Stays-trans}
 use Rattle.tds_csv.proofs.{
-  Words.{◌≡◌, Bool, false, ℕ, ◌+◌, ◌-◌, ◌^◌, ◌<◌, ◌≤◌, List, [], ◌++◌, length, Result, OnErr, MatchResult, refl, arith, append-nil, append_assoc},
+  Words.{common_steps, ◌≡◌, Bool, false, ℕ, ◌+◌, ◌-◌, ◌^◌, ◌<◌, ◌≤◌, List, [], ◌++◌, length, Result, OnErr, MatchResult, refl, arith, append-nil, append_assoc},
   Words.{length-append, le_refl, take_all, take-append-add, take-append-le, Appends-nil, Appends-trans, counted, Stop, Held, Adds, Puts, Breaks, Sends},
   Words.{FinishFails, take},
 }
@@ -55,4 +55,4 @@ block a m b piece r is full some x = grind (arith, append-nil, length-append, ta
 pub block_going : {U : Type 0} (a m b : Held) (piece : List ℕ) (r : Result U Stop) (failed : Bool) → m ≡ record a { waiting = a.waiting ++ piece }
     → length m.waiting ≡ 4096 → OnErr r (0 < length b.waiting)
     → MatchResult r (λ _. Sends m b) (λ e. FinishFails m b e) → MatchResult r (λ _. Puts a b piece) (λ e. failed ≡ false → Breaks a b piece e)
-block_going a m b piece r failed is full some x = let put = block a m b piece r is full some x in grind arith
+block_going a m b piece r failed is full some x = grind (arith, common_steps, block)

@@ -22,7 +22,7 @@ spare_written bytes lent written e = grind (arith, common_steps, spare_bytes, dr
 spared : (bytes room written : List ℕ) (waiting : ℕ) → length written ≡ length room → waiting ≡ length bytes
     → (take waiting (overwritten (length bytes) written (bytes ++ room)) ≡ bytes)
     × (drop waiting (overwritten (length bytes) written (bytes ++ room)) ≡ written)
-spared bytes room written waiting whole at = rw at (spare_before bytes room written whole, spare_written bytes room written whole)
+spared bytes room written waiting whole at = grind (arith, common_steps, spare_before, spare_written)
 
 -- what is written into the room that a sink lends, and kept, was put
 module _ {W U V : Type 0} {contents : W → Option (List ℕ)} {new : Sink W} {made : ℕ} {text : List ℕ} (sink : Sink W) (room written : List ℕ)

@@ -1,6 +1,6 @@
 -- The laws of UTF-8 in pieces.
 use Rattle.tds_csv.proofs.{
-  Words.{◌≡◌, ℕ, zero, suc, ◌+◌, ◌-◌, ◌≤◌, ◌<◌, true, false, cond, List, [], ◌∷◌, ◌++◌, length, take, refl, sym, ap, ◌∙◌, arith, IsUtf8, encode_utf8},
+  Words.{common_steps, ◌≡◌, ℕ, zero, suc, ◌+◌, ◌-◌, ◌≤◌, ◌<◌, true, false, cond, List, [], ◌∷◌, ◌++◌, length, take, refl, sym, ap, ◌∙◌, arith, IsUtf8, encode_utf8},
   Words.{encode_utf8_all, append_assoc, length-append, length-drop, take_at, drop_at, length-take-le, take-append-drop, take-append-le, IsUtf8-append},
   Words.{IsUtf8-nil, IsUtf8-drop, IsUtf8-encode, IsCharBoundary-from_take, is_utf8-from_IsUtf8, IsUtf8-from_is_utf8, utf8_valid_len_le, length-encode},
   Words.{len_utf8_bounds, and_parts, cases_lt, is_utf8, all_scalars, scalar, valid_len_up_to, JoinsPieces, emit, drop-append-add, inl, inr, nil_from_length},
@@ -147,7 +147,7 @@ short a begins = elim (begun_rest a begins) [
 
 -- what follows, seen from the front
 seam : (a b more : List ℕ) → (a ++ b) ++ more ≡ front a ++ ((rest a ++ b) ++ more)
-seam a b more = ap (λ t. t ++ more) (regrouped a b) ∙ append_assoc (front a) (rest a ++ b) more
+seam a b more = grind (arith, common_steps, regrouped, append_assoc)
 
 -- text in UTF-8 may come in pieces
 pub joins_utf8 : JoinsPieces IsFit Begins rest text

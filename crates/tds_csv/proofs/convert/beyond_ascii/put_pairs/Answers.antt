@@ -13,9 +13,7 @@ pub put_lanes-requires : goal.put_lanes-requires
 put_lanes-requires c = grind (arith, common_steps, first_mask)
 
 pub returns-clause-most : goal.returns-clause-most
-returns-clause-most c =
-    let mask = first_mask is_wide c.args.units c.args.n c.fits-units.0 c.requires.most c.requires.wide in
-    omega (arith, mask.1)
+returns-clause-most c = grind (arith, common_steps, first_mask)
 
 pub returns-clause-written : goal.returns-clause-written
 returns-clause-written c =

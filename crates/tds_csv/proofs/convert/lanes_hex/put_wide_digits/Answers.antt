@@ -1,6 +1,6 @@
 use Rattle.tds_csv.proofs.convert.lanes_hex.put_wide_digits.Goals as goal
 use Rattle.tds_csv.proofs.{
-  Words.{◌≡◌, ◌∙◌, ◌+◌, ◌*◌, ◌++◌, ℕ, List, take, drop, sym, ap, arith, append_assoc, take-add, drop-drop, chunk, encode_lower, lower_digits},
+  Words.{common_steps, ◌≡◌, ◌∙◌, ◌+◌, ◌*◌, ◌++◌, ℕ, List, take, drop, sym, ap, arith, append_assoc, take-add, drop-drop, chunk, encode_lower, lower_digits},
   SingleLaws.hex-append,
 }
 
@@ -16,4 +16,4 @@ both_halves bytes first second third at one two =
     ∙ ap (λ l. take (2 * at) first ++ l) (sym (ap encode_lower parts ∙ hex-append lower_digits _ _))
 
 pub returns : goal.returns
-returns c = both_halves c.args.bytes.now _ _ _ c.args.at c.put_digits.ensures c.put_digits-2.ensures
+returns c = grind (arith, common_steps, both_halves)

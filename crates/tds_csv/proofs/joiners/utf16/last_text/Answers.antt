@@ -6,4 +6,4 @@ pub returns-then-kept-eq2 : goal.returns-then-kept-eq2
 returns-then-kept-eq2 c = grind (arith, common_steps, nil_of_length, length-drop, characters_nil, append-nil)
 
 pub returns-else-kept-eq2 : goal.returns-else-kept-eq2
-returns-else-kept-eq2 c = c.new-run.ensures ∙ sym (ap utf16.text (nil_of_length c.args.kept.now (omega arith)) ∙ text_nil)
+returns-else-kept-eq2 c = grind (arith, common_steps, nil_of_length, text_nil)

@@ -1,5 +1,5 @@
 use Rattle.tds_csv.proofs.sink.Sink.put.Goals as goal
-use Rattle.tds_csv.proofs.{Words.{◌+◌, take_all, arith, rules, refl}, Singles.{puts_break, puts_more}}
+use Rattle.tds_csv.proofs.{Words.{common_steps, ◌+◌, take_all, arith, rules, refl}, Singles.{puts_break, puts_more}}
 
 pub returns-in_err-push : goal.returns-in_err-push
 returns-in_err-push g c =
@@ -14,4 +14,4 @@ loop-taken-preserved g c = record {
 }
 
 pub returns : goal.returns
-returns g c = rw (take_all c.loop-taken.taken c.args.piece.now (omega arith)) at c.loop-taken.invariant.puts
+returns g c = grind (arith, common_steps, take_all)
