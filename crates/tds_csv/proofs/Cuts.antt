@@ -45,7 +45,7 @@ module _ {s to : Space} {text left : List ℕ} (x : Added s to text left) where
   -- one more character was added
   pub added_more : (c : ℕ) {piece more : List ℕ} {after : Space} → left ≡ encode_utf8 c ++ more → piece ≡ encode_utf8 c → IsScalar c
       → after ≡ appended to piece → length to.bytes + length piece ≤ to.room → Added s after text more
-  added_more c next is scalar grown fits = grind (arith, common_steps, append_assoc, length-append, IsUtf8-append, IsUtf8-encode)
+  added_more c next is scalar grown fits = grind (arith, append_assoc, length-append, IsUtf8-append, IsUtf8-encode)
 
   -- the next one doesn't fit: the area stands as the longest beginning that fits leaves it
   pub stays_cut : (c : ℕ) (more : List ℕ) {piece : List ℕ} → left ≡ encode_utf8 c ++ more → piece ≡ encode_utf8 c

@@ -50,7 +50,7 @@ first_lanes q n us is =
 
 -- and those above, the others
 pub last_lanes : (q : ℕ → Bool) (us : List ℕ) {mask : ℕ} → mask ≡ mask_l (map q us) → mask / 16 ≡ mask_l (map q (drop 4 us))
-last_lanes q us is = grind (arith, common_steps, mask_parts, mask_first)
+last_lanes q us is = grind (arith, mask_parts, mask_first)
 
 -- and few bits
 pub few_ones : (q : ℕ → Bool) (us : List ℕ) {mask : ℕ} → mask ≡ mask_l (map q us) → count_ones mask ≤ length us
@@ -84,8 +84,8 @@ all_pass q (suc n) (u ∷ us) few is =
 -- none of the first passes, if their mask is empty
 pub none_of_first : (q : ℕ → Bool) (us : List ℕ) (n : ℕ) {mask low : ℕ} → mask ≡ mask_l (map q us) → low ≡ mask % 2 ^ n → low ≡ 0
     → Each1 (λ u. q u ≡ false) (take n us)
-none_of_first q us n is lowest none = grind (arith, common_steps, none_passes, first_lanes)
+none_of_first q us n is lowest none = grind (arith, none_passes, first_lanes)
 
 -- at most eight lanes come before the first that passes
 pub first_few : (q : ℕ → Bool) (us : List ℕ) {mask : ℕ} → length us ≡ 8 → mask ≡ mask_l (map q us) → first_set mask 8 ≤ 8
-first_few q us long is = grind (arith, common_steps, first_set_mask_l, prefix_len-le-length)
+first_few q us long is = grind (arith, first_set_mask_l, prefix_len-le-length)

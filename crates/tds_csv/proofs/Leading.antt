@@ -30,12 +30,12 @@ emit_held rest text xs empty e = grind arith
 module _ {rest text : List ℕ → List ℕ} {fit begins : List ℕ → Type 0} (laws : JoinsPieces fit begins rest text) where
   -- a first chunk, and what follows it
   pub Leads-chunk : (xs more : List ℕ) → begins (xs ++ more) → Leads rest text (xs ++ more) (rest xs ++ more) (emit rest text xs)
-  Leads-chunk xs more h = grind (arith, common_steps)
+  Leads-chunk xs more h = grind arith
 
   -- the rest of the first chunk begins after so many bytes
   Leads-from : (xs chunk more : List ℕ) (used : ℕ) → xs ≡ chunk ++ more → begins xs → used ≤ length chunk → drop used chunk ≡ rest chunk
       → Leads rest text xs (drop used xs) (emit rest text chunk)
-  Leads-from xs chunk more used is h le e = grind (arith, common_steps, drop-append-le, Leads-chunk)
+  Leads-from xs chunk more used is h le e = grind (arith, drop-append-le, Leads-chunk)
 
   -- the first chunk of some bytes
   pub Leads-front : (xs : List ℕ) (n : ℕ) → begins xs → Leads rest text xs (rest (take n xs) ++ drop n xs) (emit rest text (take n xs))

@@ -27,7 +27,7 @@ run_in n q d i z few room fits f lanes all =
     ∙ same_prefix (Fits w8) (λ x small. agree_below_at (λ x. not (top 7 (f x))) q 256 x all small.fits) (chunk i n d) (chunk-fits w8 i n d fits)
 
 pub run_most : (q : ℕ → Bool) (d : List ℕ) (i n : ℕ) → i + n ≤ length d → prefix_len q (chunk i n d) ≤ n
-run_most q d i n room = grind (arith, common_steps, prefix_len-le-length, length-chunk)
+run_most q d i n room = grind (arith, prefix_len-le-length, length-chunk)
 
 -- bytes that lie in others are the same as those
 pub alike : (bytes source : List ℕ) (at n : ℕ) → LiesIn bytes source → n ≤ 16 → at + n ≤ length bytes

@@ -141,7 +141,7 @@ module _ {S : Type 0} (g : Grammar S Fault) where
 
   -- a grammar is inside itself
   pub inside_itself : Inside g g (λ s. s)
-  inside_itself = grind (arith, common_steps)
+  inside_itself = grind arith
 
   -- the last element of what was read
   pub last_read : (s : S) (bytes : List ℕ) (t : S) → Spelt g s bytes t → 0 < length bytes → LastInside g g (λ u. u) inside_itself s bytes t
@@ -153,7 +153,7 @@ module _ {S T : Type 0} (small : Grammar S Fault) (big : Grammar T Fault) (lift 
   -- what is added to the small text between two states with a next element is added to the big one
   pub added_between : (s t : S) (more : List ℕ) → 0 < small.size s → 0 < small.size t → text s ++ more ≡ text t
       → whole (lift s) ++ more ≡ whole (lift t)
-  added_between s t more some more_to_come e = grind (arith, common_steps, append_assoc, front)
+  added_between s t more some more_to_come e = grind (arith, append_assoc, front)
 
   -- after the small text the big one has a tail
   pub tail_after : (s t : S) (more tail : List ℕ) → 0 < small.size s → text s ++ more ≡ text t → (front ++ text t) ++ tail ≡ whole (lift t)

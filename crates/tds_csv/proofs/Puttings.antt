@@ -21,7 +21,7 @@ PutsPiece-trans contents a b c u p q (Err e) x y =
 -- the value of a success says nothing
 pub PutsPiece-ok : {W U V : Type 0} (contents : W → Option (List ℕ)) (a b : Sink W) (p : List ℕ) (u : U) (v : V) → PutsPiece contents a b p (Ok u)
     → PutsPiece contents a b p (Ok v)
-PutsPiece-ok contents a b p u v x = grind (arith, common_steps)
+PutsPiece-ok contents a b p u v x = grind arith
 
 -- a call that failed, of a longer text
 pub PutsPiece-longer : {W U V : Type 0} (contents : W → Option (List ℕ)) (a b : Sink W) (p more : List ℕ) (e : Stop)
@@ -31,7 +31,7 @@ PutsPiece-longer contents a b p more e x = grind (arith, common_steps, Breaks-lo
 -- `?` passed its error on, of the same text
 pub PutsPiece-error : {W U V : Type 0} (contents : W → Option (List ℕ)) (a b : Sink W) (p : List ℕ) (e : Stop) (r : Result V Stop)
     → IsErrAnd r (λ stop. stop ≡ e) → PutsPiece {U = U} contents a b p (Err e) → PutsPiece contents a b p r
-PutsPiece-error contents a b p e r is x = grind (arith, common_steps, err_from_is_err_and)
+PutsPiece-error contents a b p e r is x = grind (arith, err_from_is_err_and)
 
 -- and of a longer one
 pub PutsPiece-passed : {W U V : Type 0} (contents : W → Option (List ℕ)) (a b : Sink W) (p more : List ℕ) (e : Stop) (r : Result V Stop)

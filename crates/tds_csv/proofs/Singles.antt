@@ -61,4 +61,4 @@ module _ (text : List ℕ → List ℕ) (appends : (x y : List ℕ) → text (x 
     -- those that were found among the next `w`
     pub lanes_itself : (w : ℕ) (bytes : List ℕ) (at n : ℕ) → n ≤ w → n ≡ prefix_len q (chunk at w bytes)
         → take n (chunk at w bytes) ≡ text (take n (drop at bytes))
-    lanes_itself w bytes at n few e = grind (arith, common_steps, some_itself, take-take)
+    lanes_itself w bytes at n few e = grind (arith, some_itself, take-take)

@@ -115,4 +115,4 @@ parts bytes = let whole = (seam bytes []).even in omega (arith, ap length (seam 
 
 -- text in UTF-16 may come in pieces
 pub joins_utf16 : JoinsPieces IsFit (λ _. ⊤) rest text
-joins_utf16 = grind (arith, common_steps, emits, seam, short, ends, parts)
+joins_utf16 = grind (arith, emits, seam, short, ends, parts)

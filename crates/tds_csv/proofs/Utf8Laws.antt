@@ -147,7 +147,7 @@ short a begins = elim (begun_rest a begins) [
 
 -- what follows, seen from the front
 seam : (a b more : List ℕ) → (a ++ b) ++ more ≡ front a ++ ((rest a ++ b) ++ more)
-seam a b more = grind (arith, common_steps, regrouped, append_assoc)
+seam a b more = grind (arith, regrouped, append_assoc)
 
 -- text in UTF-8 may come in pieces
 pub joins_utf8 : JoinsPieces IsFit Begins rest text

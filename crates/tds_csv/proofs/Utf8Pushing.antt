@@ -121,7 +121,7 @@ module _ {W U : Type 0} {contents : W → Option (List ℕ)} {a b : Sink W} {kep
   -- and `?` passed its error on
   pub pushes_passed : {piece : List ℕ} {n : ℕ} {e : JoinFault} {r : Result U JoinFault} → n ≤ length piece → IsErrAnd r (λ fault. fault ≡ e)
       → PushesPiece {U = U} contents Begins rest text kept new a b (take n piece) (Err e) → PushesPiece contents Begins rest text kept new a b piece r
-  pushes_passed long is x = grind (arith, common_steps, err_from_is_err_and, first_gives)
+  pushes_passed long is x = grind (arith, err_from_is_err_and, first_gives)
 
 module _ {W U V : Type 0} {contents : W → Option (List ℕ)} {a b d : Sink W} {kept mid new part : List ℕ} {u : U} (more : List ℕ) (at : ℕ)
     (le : at + length mid ≡ length part) (x : PushesPiece contents Begins rest text kept mid a b part (Ok u)) where
@@ -140,7 +140,7 @@ module _ {W U V : Type 0} {contents : W → Option (List ℕ)} {a b d : Sink W} 
 
   pushes_both : {r : Result V JoinFault} → PushesPiece contents Begins rest text [] new b d (mid ++ more) r
       → PushesPiece contents Begins rest text kept new a d (part ++ more) (moved_by at r)
-  pushes_both y = grind (arith, common_steps, both_give)
+  pushes_both y = grind (arith, both_give)
 
 -- the first three bytes of a piece were taken, and then what was withheld was pushed with the others
 pub pushes_long : {W U V : Type 0} {contents : W → Option (List ℕ)} {a b d : Sink W} {kept mid new : List ℕ} {u : U} {r : Result V JoinFault}

@@ -57,11 +57,7 @@ rest_part r j without le =
 
 -- a text, and a part of what follows it
 rest_after : (bytes : List ℕ) (j : ℕ) → j ≤ length (rest bytes) → rest (take (utf8_valid_len bytes + j) bytes) ≡ take j (rest bytes)
-rest_after bytes j le =
-    ap rest (take-front bytes j) ∙ rest-append (front bytes) (take j (rest bytes))
-    ∙ ap (λ l. rest (l ++ take j (rest bytes)))
-    (drop_of_length-le (front bytes) (omega (arith, utf8_valid_len-IsUtf8 (front bytes) (front_is bytes))))
-    ∙ rest_part (rest bytes) j (no_text bytes) le
+rest_after bytes j le = grind (arith, take-front, rest-append, drop_of_length-le, utf8_valid_len-IsUtf8, front_is, rest_part, no_text)
 
 -- where the bytes stop beginning a text, by the fault in their rest
 stops : (bytes : List ℕ) (k : ℕ) → utf8_error_len (rest bytes) ≡ Some k

@@ -15,7 +15,7 @@ chosen_maps m f g (u ∷ us) = ap (λ xs. cond (m u) (f u) (g u) ∷ xs) (chosen
 -- and by the tops of others
 pub chosen : (l f g : ℕ → ℕ) (us : List ℕ) {ls xs ys : List ℕ} → ls ≡ map l us → xs ≡ map f us → ys ≡ map g us
     → sel_l (map (top 15) ls) xs ys ≡ map (λ u. cond (top 15 (l u)) (f u) (g u)) us
-chosen l f g us ls xs ys = grind (arith, common_steps, map-map, chosen_maps)
+chosen l f g us ls xs ys = grind (arith, map-map, chosen_maps)
 
 -- two bytes are a lane
 pub units_of_bytes : (n : ℕ) (xs : List ℕ) → length xs ≡ 2 * n → Each1 (Fits w8) xs → digits_l 65536 n (number_l 256 xs) ≡ units xs

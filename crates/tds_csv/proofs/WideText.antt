@@ -156,7 +156,7 @@ triples_whole us long = absurd (omega arith)
 -- the text of eight is in two halves
 pub both_halves : (us low high : List ℕ) → length us ≡ 8 → Each1 (Fits w16) us → Each1 (λ u. is_long u ≡ true) us
     → take 12 low ≡ take 12 (triples us) → take 12 high ≡ take 12 (drop 12 (triples us)) → take 12 low ++ take 12 high ≡ units_text us
-both_halves us low high eight fits long is_low is_high = grind (arith, common_steps, triples_whole, long_texts, unit_range)
+both_halves us low high eight fits long is_low is_high = grind (arith, triples_whole, long_texts, unit_range)
 
 -- the low bytes of characters of ASCII are their text
 pub plain_texts : (n : ℕ) (ys : List ℕ) → Each1 (λ u. is_wide u ≡ false) (take n (units ys)) → take n (evens ys) ≡ units_text (take n (units ys))
@@ -192,7 +192,7 @@ plain_added ys old new {us} {low} {at = at} n long few within is masked lowest n
     (text ∙ ap (λ l. take at old ++ l) (plain_texts n ys plain), Each1-weaker _ _ (λ u h. no_half u (not_long u h)) _ plain)
 
 leads_unit : (low high : ℕ) (more : List ℕ) → is_half (low + 256 * high) ≡ false → Leads rest text (low ∷ high ∷ more) more (unit_text (low + 256 * high))
-leads_unit low high more h = grind (arith, common_steps, or_parts, next_one, lone_other)
+leads_unit low high more h = grind (arith, or_parts, next_one, lone_other)
 
 -- so many of the units lead on
 leads_front : (k : ℕ) (ys more : List ℕ) → k ≤ length (units ys) → Each1 (λ u. is_half u ≡ false) (take k (units ys))

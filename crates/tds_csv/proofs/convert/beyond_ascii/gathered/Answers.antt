@@ -5,4 +5,4 @@ pub swizzle : goal.swizzle
 swizzle c = SwzOk-from_below w8 16 1 16 0 c.args.places refl (omega arith) c.requires.places
 
 pub returns : goal.returns
-returns c = grind (arith, common_steps, looked_up)
+returns c = grind (arith, looked_up)

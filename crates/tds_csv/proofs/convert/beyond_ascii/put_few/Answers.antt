@@ -3,4 +3,4 @@ use Rattle.tds_csv.proofs.convert.beyond_ascii.put_few.Goals as goal
 use Rattle.tds_csv.{proofs.LaneMasks.none_of_first, specs.Wide.is_half}
 
 pub returns-clause-single : goal.returns-clause-single
-returns-clause-single c = grind (arith, common_steps, none_of_first)
+returns-clause-single c = grind (arith, none_of_first)

@@ -10,10 +10,10 @@ gathered-requires-clause-places c =
     rw c.pair_places.ensures (pair_row c.args.wide mask.0).small
 
 pub put_lanes-requires : goal.put_lanes-requires
-put_lanes-requires c = grind (arith, common_steps, first_mask)
+put_lanes-requires c = grind (arith, first_mask)
 
 pub returns-clause-most : goal.returns-clause-most
-returns-clause-most c = grind (arith, common_steps, first_mask)
+returns-clause-most c = grind (arith, first_mask)
 
 pub returns-clause-written : goal.returns-clause-written
 returns-clause-written c =

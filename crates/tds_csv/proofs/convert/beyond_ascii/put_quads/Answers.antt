@@ -8,7 +8,7 @@ pub gathered-requires-clause-places : goal.gathered-requires-clause-places
 gathered-requires-clause-places c = rw c.quad_places.ensures (quad_row c.args.wide c.args.long c.requires.wide c.requires.long).small
 
 pub put_lanes-requires : goal.put_lanes-requires
-put_lanes-requires c = grind (arith, common_steps, ones_of_two)
+put_lanes-requires c = grind (arith, ones_of_two)
 
 pub returns : goal.returns
 returns c = record {

@@ -13,10 +13,10 @@ returns-then-wide-eq0-clause-single c = (plain_added c.args.lanes _ _ c.args.n c
     c.units_of-units.ensures c.wide_units.ensures c.lowest-wide.ensures c.if-wide-eq0.true c.low_bytes.ensures c.put_lanes.ensures).1
 
 pub put_pairs-requires-clause-wide : goal.put_pairs-requires-clause-wide
-put_pairs-requires-clause-wide c = grind (arith, common_steps, first_lanes)
+put_pairs-requires-clause-wide c = grind (arith, first_lanes)
 
 pub put_pairs-requires-clause-short : goal.put_pairs-requires-clause-short
-put_pairs-requires-clause-short c = grind (arith, common_steps, none_of_first)
+put_pairs-requires-clause-short c = grind (arith, none_of_first)
 
 pub returns-then-long-eq0-clause-single : goal.returns-then-long-eq0-clause-single
 returns-then-long-eq0-clause-single c =
@@ -25,7 +25,7 @@ returns-then-long-eq0-clause-single c =
     Each1-weaker _ _ no_half _ (rw c.units_of-units.ensures at short)
 
 pub put_few-requires-clause-wide : goal.put_few-requires-clause-wide
-put_few-requires-clause-wide c = grind (arith, common_steps, first_lanes)
+put_few-requires-clause-wide c = grind (arith, first_lanes)
 
 pub put_few-requires-clause-long : goal.put_few-requires-clause-long
-put_few-requires-clause-long c = grind (arith, common_steps, first_lanes)
+put_few-requires-clause-long c = grind (arith, first_lanes)

@@ -6,7 +6,7 @@ use Rattle.tds_csv.proofs.{
 }
 
 pub loop-at-init : goal.loop-at-init
-loop-at-init c = grind (arith, common_steps, hex-nil)
+loop-at-init c = grind (arith, hex-nil)
 
 -- the digits of twice 32 bytes were written
 two_steps : (bytes first second third : List ℕ) (at : ℕ) → take (2 * at) first ≡ encode_lower (take at bytes)

@@ -16,4 +16,4 @@ both_halves bytes first second third at one two =
     ∙ ap (λ l. take (2 * at) first ++ l) (sym (ap encode_lower parts ∙ hex-append lower_digits _ _))
 
 pub returns : goal.returns
-returns c = grind (arith, common_steps, both_halves)
+returns c = grind (arith, both_halves)

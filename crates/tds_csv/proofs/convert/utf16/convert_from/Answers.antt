@@ -3,7 +3,7 @@ use Rattle.tds_csv.proofs.convert.utf16.convert_from.Goals as goal
 use Rattle.tds_csv.proofs.Utf16Ends.{ends_held}
 
 pub returns-then-next-done-clause-text : goal.returns-then-next-done-clause-text
-returns-then-next-done-clause-text c = grind (arith, common_steps, ends_held)
+returns-then-next-done-clause-text c = grind (arith, ends_held)
 
 pub returns-then-next-done-clause-used : goal.returns-then-next-done-clause-used
-returns-then-next-done-clause-used c = grind (arith, common_steps, ends_held)
+returns-then-next-done-clause-used c = grind (arith, ends_held)

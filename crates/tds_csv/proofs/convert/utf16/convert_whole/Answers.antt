@@ -8,7 +8,7 @@ use Rattle.tds_csv.{
 
 -- what is left of whole data has two bytes
 two_left : (bytes : List ℕ) (used : ℕ) → length bytes % 2 ≡ 0 → LeavesRest bytes 0 used → used ≢ length bytes → length (drop used bytes) ≡ 2
-two_left bytes used whole leaves some = grind (arith, common_steps, joins_utf16, length-drop)
+two_left bytes used whole leaves some = grind (arith, joins_utf16, length-drop)
 
 -- its text is U+FFFD
 left_text : (bytes tail : List ℕ) → tail ≡ utf16.rest bytes → length tail ≡ 2 → utf16.text tail ≡ doubled (encode_utf8 0xFFFD)
@@ -23,7 +23,7 @@ ended : (bytes tail : List ℕ) → length bytes % 2 ≡ 0 → tail ≡ utf16.re
 ended bytes tail whole is two = cc (joins_utf16.ends bytes whole, left_text bytes tail is two)
 
 pub returns-clause-short : goal.returns-clause-short
-returns-clause-short c = grind (arith, common_steps, doubled_length, two_left, length-drop)
+returns-clause-short c = grind (arith, doubled_length, two_left, length-drop)
 
 pub returns-clause-text : goal.returns-clause-text
-returns-clause-text c = grind (arith, common_steps, two_left, ended)
+returns-clause-text c = grind (arith, two_left, ended)

@@ -7,7 +7,7 @@ use Rattle.tds_csv.proofs.{
 }
 
 pub returns-in-Ok-clause-text : goal.returns-in-Ok-clause-text
-returns-in-Ok-clause-text c = grind (arith, common_steps, length-drop, utf8_valid_len-IsUtf8)
+returns-in-Ok-clause-text c = grind (arith, length-drop, utf8_valid_len-IsUtf8)
 
 pub returns-in-Ok-clause-scan : goal.returns-in-Ok-clause-scan
 returns-in-Ok-clause-scan c = grind (arith, common_steps, is_scan, utf8_valid_len-IsUtf8)
@@ -20,4 +20,4 @@ returns-in-Some-clause-scan c =
     grind (arith, common_steps, is_scan)
 
 pub returns-in-None-clause-scan : goal.returns-in-None-clause-scan
-returns-in-None-clause-scan c = grind (arith, common_steps, is_scan, none_begins)
+returns-in-None-clause-scan c = grind (arith, is_scan, none_begins)

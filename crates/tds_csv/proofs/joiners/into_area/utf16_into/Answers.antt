@@ -12,7 +12,7 @@ returns-in-Err c =
     c.in-Err.ensures.full
 
 pub loop-at-preserved : goal.loop-at-preserved
-loop-at-preserved c = grind (arith, common_steps, added_more)
+loop-at-preserved c = grind (arith, added_more)
 
 pub returns : goal.returns
 returns c =

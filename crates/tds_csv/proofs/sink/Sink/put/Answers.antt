@@ -14,4 +14,4 @@ loop-taken-preserved g c = record {
 }
 
 pub returns : goal.returns
-returns g c = grind (arith, common_steps, take_all)
+returns g c = grind (arith, take_all)

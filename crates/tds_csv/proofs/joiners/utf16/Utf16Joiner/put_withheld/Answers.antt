@@ -9,7 +9,7 @@ returns-then-is_empty-clause-puts g c =
     none_put c.args.piece.now (sym c.bytes-kept.ensures.value ∙ none) c.requires.writing
 
 pub returns-then-is_empty-clause-leads : goal.returns-then-is_empty-clause-leads
-returns-then-is_empty-clause-leads g c = grind (arith, common_steps, nil_of_length, none_leads)
+returns-then-is_empty-clause-leads g c = grind (arith, nil_of_length, none_leads)
 
 pub returns-clause-leads : goal.returns-clause-leads
 returns-clause-leads g c =
