@@ -6,10 +6,10 @@ use Rattle.tds_csv.proofs.{
 }
 
 pub nonzero_div-lead : goal.nonzero_div-lead
-nonzero_div-lead c = Each2-splat _ c.args.units 8 64 (Each1-all _ (λ x. omega arith) c.args.units)
+nonzero_div-lead c = Each2-splat _ _ 8 64 (Each1-all _ (λ x. omega arith) _)
 
 pub nonzero_rem-trail : goal.nonzero_rem-trail
-nonzero_rem-trail c = Each2-splat _ c.args.units 8 64 (Each1-all _ (λ x. omega arith) c.args.units)
+nonzero_rem-trail c = Each2-splat _ _ 8 64 (Each1-all _ (λ x. omega arith) _)
 
 pub returns : goal.returns
 returns c =

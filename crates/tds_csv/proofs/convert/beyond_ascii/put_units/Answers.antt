@@ -5,11 +5,11 @@ use Rattle.{
 }
 
 pub returns-then-wide-eq0-clause-written : goal.returns-then-wide-eq0-clause-written
-returns-then-wide-eq0-clause-written c = (plain_added c.args.lanes _ _ c.args.n c.fits-lanes.0 c.requires.most (omega (arith, c.requires.room))
+returns-then-wide-eq0-clause-written c = (plain_added _ _ _ _ c.fits-lanes.0 c.requires.most (omega (arith, c.requires.room))
     c.units_of-units.ensures c.wide_units.ensures c.lowest-wide.ensures c.if-wide-eq0.true c.low_bytes.ensures c.put_lanes.ensures).0
 
 pub returns-then-wide-eq0-clause-single : goal.returns-then-wide-eq0-clause-single
-returns-then-wide-eq0-clause-single c = (plain_added c.args.lanes _ _ c.args.n c.fits-lanes.0 c.requires.most (omega (arith, c.requires.room))
+returns-then-wide-eq0-clause-single c = (plain_added _ _ _ _ c.fits-lanes.0 c.requires.most (omega (arith, c.requires.room))
     c.units_of-units.ensures c.wide_units.ensures c.lowest-wide.ensures c.if-wide-eq0.true c.low_bytes.ensures c.put_lanes.ensures).1
 
 pub put_pairs-requires-clause-wide : goal.put_pairs-requires-clause-wide
@@ -19,8 +19,7 @@ pub put_pairs-requires-clause-short : goal.put_pairs-requires-clause-short
 put_pairs-requires-clause-short c = grind (arith, none_of_first)
 
 pub returns-then-long-eq0-clause-single : goal.returns-then-long-eq0-clause-single
-returns-then-long-eq0-clause-single c =
-    let short = none_of_first is_long c.units_of-units.result c.args.n c.long_units.ensures
+returns-then-long-eq0-clause-single c = let short = none_of_first is_long _ _ c.long_units.ensures
     c.lowest-long.ensures c.if-long-eq0.true in
     Each1-weaker _ _ no_half _ (rw c.units_of-units.ensures at short)
 

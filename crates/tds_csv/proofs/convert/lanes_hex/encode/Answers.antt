@@ -38,5 +38,5 @@ ended bytes to new at within room front back =
     ) refl
 
 pub returns : goal.returns
-returns c = ended c.args.bytes.now c.loop-at.to c.encode_to_slice.new.output c.loop-at.at c.loop-at.invariant.within c.loop-at.invariant.room
+returns c = ended _ c.loop-at.to c.encode_to_slice.new.output _ c.loop-at.invariant.within c.loop-at.invariant.room
     c.loop-at.invariant.digits c.in-Ok.ensures.written

@@ -24,6 +24,6 @@ pub loop-at-preserved : goal.loop-at-preserved
 loop-at-preserved c = record {
   within = omega arith;
   room = search rules;
-  digits = two_steps c.args.bytes.now _ _ _ c.loop-at.at
+  digits = two_steps _ _ _ _ _
       c.loop-at.invariant.digits c.put_wide_digits.ensures c.put_wide_digits-in-loop-at.ensures;
 }

@@ -6,9 +6,8 @@ use Rattle.tds_csv.proofs.{
 }
 
 pub returns-in-Err : goal.returns-in-Err
-returns-in-Err c =
-    let is : c.bytes.result.now ≡ encode_utf8 c.character_at-next.result.code = grind (arith, common_steps) in
-    c.in-Err.ensures.err ∙ stays_cut c.loop-at.invariant.added c.character_at-next.result.code _ c.character_at-next.ensures.spells is
+returns-in-Err c = let is : _ ≡ encode_utf8 _ = grind (arith, common_steps) in
+    c.in-Err.ensures.err ∙ stays_cut c.loop-at.invariant.added _ _ c.character_at-next.ensures.spells is
     c.in-Err.ensures.full
 
 pub loop-at-preserved : goal.loop-at-preserved

@@ -12,7 +12,7 @@ loop-at-init g c = record {
   after = omega arith;
   puts = (
     [],
-    PutsPiece-none g.W.Write.contents c.args.sink.now tt c.requires.writing,
+    PutsPiece-none _ _ tt c.requires.writing,
     Leads-none,
   );
 }

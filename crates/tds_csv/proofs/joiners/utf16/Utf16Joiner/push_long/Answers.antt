@@ -8,7 +8,7 @@ use Rattle.tds_csv.proofs.{
 
 pub returns-in_err-from : goal.returns-in_err-from
 returns-in_err-from g c = pushes_stopped c.requires.writing.writing tt refl
-    (puts_part (Leads-after c.args.self.now.kept c.args.piece.now) c.in_err-from.ensures.puts) c.from_residual.ensures.1
+    (puts_part (Leads-after c.args.self.now.kept _) c.in_err-from.ensures.puts) c.from_residual.ensures.1
 
 pub returns-in_err-at : goal.returns-in_err-at
 returns-in_err-at g c =

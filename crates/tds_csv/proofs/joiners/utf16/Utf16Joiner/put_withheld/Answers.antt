@@ -4,9 +4,8 @@ use Rattle.{
 }
 
 pub returns-then-is_empty-clause-puts : goal.returns-then-is_empty-clause-puts
-returns-then-is_empty-clause-puts g c =
-    let none : c.bytes-kept.result.now ≡ [] = nil_of_length c.bytes-kept.result.now (search rules) in
-    none_put c.args.piece.now (sym c.bytes-kept.ensures.value ∙ none) c.requires.writing
+returns-then-is_empty-clause-puts g c = let none : _ ≡ [] = nil_of_length _ (search rules) in
+    none_put _ (sym c.bytes-kept.ensures.value ∙ none) c.requires.writing
 
 pub returns-then-is_empty-clause-leads : goal.returns-then-is_empty-clause-leads
 returns-then-is_empty-clause-leads g c = grind (arith, nil_of_length, none_leads)

@@ -8,7 +8,6 @@ overflow_sub-result g c =
     rw c.bytes-kept.ensures.value (after_kept _ _ _ _ is c.requires.taking.begun found.gives.bad)
 
 pub returns-in-Err-BadText : goal.returns-in-Err-BadText
-returns-in-Err-BadText g c =
-    let is : c.bytes.result.now ≡ c.args.self.now.kept ++ c.args.piece.now = grind (arith, common_steps) in
+returns-in-Err-BadText g c = let is : _ ≡ c.args.self.now.kept ++ _ = grind (arith, common_steps) in
     let found = rw c.in-Err-BadText.field-0-is at c.in-Err-BadText.ensures in
     rw c.bytes-kept.ensures.value (pushes_seam is c.requires.taking.begun found)
