@@ -9,8 +9,8 @@ use Rattle.tds_csv.proofs.{
   Words.{is_quoted, long_field, open_field, closing},
   ConversionLaws.{fit_by_test, joins_by_name},
   Utf8Pushing.after_kept,
-  Utf8Stops.stops_at,
-  Utf8Test.none_begins,
+  Utf8Laws.stops_at,
+  Utf8Laws.none_begins,
 }
 
 -- The first bytes of the piece, so many, may follow the old ones, and the text that is fixed then is that which the whole piece fixes.

@@ -5,7 +5,7 @@ use Rattle.tds_csv.proofs.{
   SingleLaws.{joins_binary, joins_windows_1252},
   Utf16Laws.joins_utf16,
   Utf8Laws.joins_utf8,
-  Utf8Test.{begins_none, none_begins},
+  Utf8Laws.{begins_none, none_begins},
 }
 
 pub fit_by_test : (c : Conversion) (bytes : List ℕ) → (is_fit c bytes ≡ true) ↔ IsFit c bytes

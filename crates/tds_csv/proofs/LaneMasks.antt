@@ -1,16 +1,45 @@
 -- Masks of lanes that pass a test.
-use Rattle.tds_csv.proofs.{
-  Words.{common_steps, ◌≡◌, ◌∙◌, ℕ, ◌+◌, ◌*◌, ◌/◌, ◌%◌, ◌^◌, ◌<◌, ◌≤◌, Bool, true, false, zero, suc, List, [], ◌∷◌, map, length, take, drop, refl, sym, ap, ap₂, arith},
-  Words.{length-map, map-map, mask_l, mask_l-mod, top, Each1, Fits, w16, take-map, length-take, length-take-le, first_set, first_set_mask_l, prefix_len},
-  Words.{prefix_len-le-length, not},
-}
-use Rattle.std.{
-  proofs.{
-    Math.Nat.{add-mul-mod_self_left, mod-eq_of_lt, mul_assoc, pow-succ'},
-    lemmas.{Nat.pow_pos, Simd.ones-mask_l, List.{Sums.count_by-le-length, drop-map}},
-  },
-  specs.Prelude.count_ones,
-}
+use Rattle.tds_csv.proofs.Words.{Bool, Each1, Fits, LiesIn, List, [], agree_below, agree_below_at, ap, ap₂, arith, chunk, chunk-fits, common_steps, cond, drop, drop-take, false, first_set, first_set_mask_l, get_or, length, length-chunk, length-map, length-take, length-take-le, map, map-map, mask_l, mask_l-mod, not, prefix_len, prefix_len-le-length, refl, suc, sym, take, take-map, take-take, top, true, w16, w8, zero, ℕ, ◌%◌, ◌*◌, ◌+◌, ◌-◌, ◌/◌, ◌<◌, ◌^◌, ◌∙◌, ◌∷◌, ◌≡◌, ◌≤◌}
+use Rattle.std.proofs.Math.Nat.{add-mul-mod_self_left, mod-eq_of_lt, mul_assoc, pow-succ'}
+use Rattle.std.proofs.lemmas.List.Sums.{count_by-le-length}
+use Rattle.std.proofs.lemmas.List.{drop-map}
+use Rattle.std.proofs.lemmas.Nat.{pow_pos}
+use Rattle.std.proofs.lemmas.Simd.{ones-mask_l}
+use Rattle.std.specs.Prelude.{count_ones}
+
+-- ---- from the mask of one load to the bytes before the first that stops
+
+-- two tests that are the same on what lists hold
+pub same_prefix : (P : ℕ → Type 0) {p q : ℕ → Bool} → ((x : ℕ) → P x → p x ≡ q x) → (xs : List ℕ) → Each1 P xs → prefix_len p xs ≡ prefix_len q xs
+same_prefix P same [] each = refl
+same_prefix P same (x ∷ xs) each = ap₂ (λ b n. cond b (1 + n) 0) (same x each.0) (same_prefix P same xs each.1)
+
+-- so many lanes come before the first whose top bit is set
+pub run_before : (bit n : ℕ) (f : ℕ → ℕ) (v : List ℕ) {z : List ℕ} → length v ≡ n → n ≤ 64 → z ≡ map f v
+    → first_set (mask_l (map (top bit) z) % 2 ^ 64) n ≡ prefix_len (λ x. not (top bit (f x))) v
+run_before bit n f v long few lanes =
+    let stops = λ (x : ℕ). top bit (f x) in
+    let mask = mask_l-mod (map stops v) 64 (omega (arith, length-map v stops)) in
+    rw (lanes, map-map (top bit) f v, mask) (first_set_mask_l stops v n long few)
+
+-- a lane stops just where q fails
+pub run_in : (n : ℕ) (q : ℕ → Bool) (d : List ℕ) (i : ℕ) (z : List ℕ) → n ≤ 64 → i + n ≤ length d → ((k : ℕ) → Fits w8 (get_or d k 0)) → (f : ℕ → ℕ)
+    → z ≡ map f (chunk i n d)
+    → agree_below (λ x. not (top 7 (f x))) q 256 ≡ true → first_set (mask_l (map (top 7) z) % 2 ^ 64) n ≡ prefix_len q (chunk i n d)
+run_in n q d i z few room fits f lanes all =
+    run_before 7 n f (chunk i n d) (length-chunk i n d room) few lanes
+    ∙ same_prefix (Fits w8) (λ x small. agree_below_at (λ x. not (top 7 (f x))) q 256 x all small.fits) (chunk i n d) (chunk-fits w8 i n d fits)
+
+pub run_most : (q : ℕ → Bool) (d : List ℕ) (i n : ℕ) → i + n ≤ length d → prefix_len q (chunk i n d) ≤ n
+run_most q d i n room = grind (arith, prefix_len-le-length, length-chunk)
+
+-- bytes that lie in others are the same as those
+pub alike : (bytes source : List ℕ) (at n : ℕ) → LiesIn bytes source → n ≤ 16 → at + n ≤ length bytes
+    → take n (drop at bytes) ≡ take n (chunk at 16 source)
+alike bytes source at n lies few within =
+    let k = length bytes - at in
+    let all : at + k ≡ length bytes = omega arith in
+    rw (← lies.front, ← all, drop-take at k source, take-take n k (drop at source) (omega arith), take-take n 16 (drop at source) few) refl
 
 -- two functions that are the same on units
 pub same_map : {A : Type 0} {f g : ℕ → A} → ((u : ℕ) → u < 65536 → f u ≡ g u) → (us : List ℕ) → Each1 (Fits w16) us → map f us ≡ map g us

@@ -1,12 +1,18 @@
 -- Bytes of Windows-1252 that stand for themselves.
 use Rattle.tds_csv.specs.Windows1252 as windows_1252
-use Rattle.tds_csv.{
-  proofs.Words.{◌++◌, length, ◌+◌, ◌-◌, ◌/◌, ◌%◌, ◌<◌, get_or, agree_below_at, ◌≡◌, ◌∙◌, ◌≤◌, ◌∷◌, [], ℕ, List, true, refl, sym, ap, take, drop, arith},
-  proofs.{Words.{encode_utf8_all, prefix_len, nat_tests, append-nil, chunk, is_plain}, Encoding.front_written, SingleLaws.windows_1252-append},
-  proofs.{Characters.{of_one, doubled_character}, Singles.{some_itself, lanes_itself}},
-  specs.declared.convert.windows_1252.TheConstants.UPPER,
+use Rattle.tds_csv.proofs.{
+  Words.{List, [], agree_below_at, ap, append-nil, arith, chunk, doubled, drop, encode_utf8_all, get_or, is_plain, is_unquoted, length, nat_tests, prefix_len, refl, sym, take, true, ℕ, ◌%◌, ◌++◌, ◌+◌, ◌-◌, ◌/◌, ◌<◌, ◌∙◌, ◌∷◌, ◌≡◌, ◌≤◌},
+  Characters.{doubled_character, of_one},
+  Characters.front_written,
+  JoiningLemmas.doubled-append,
+  SingleLaws.windows_1252-append,
+  Singles.{lanes_itself, some_itself},
 }
-use Rattle.std.{proofs.{Common.nat_le, lemmas.Slice.Eq.bytes_eq-Decides}, specs.{Char.encode_utf8, Str.bytes_eq}}
+use Rattle.std.proofs.Common.{nat_le}
+use Rattle.std.proofs.lemmas.Slice.Eq.{bytes_eq-Decides}
+use Rattle.std.specs.Char.{encode_utf8}
+use Rattle.std.specs.Str.{bytes_eq}
+use Rattle.tds_csv.specs.declared.convert.windows_1252.TheConstants.{UPPER}
 
 -- the bytes of a number, from the lowest on, as many as the highest says
 abbrev pub bytes_of : ℕ → List ℕ
@@ -47,3 +53,10 @@ plain_lanes source bytes at n few plains same =
 pub wide_lanes : (bytes : List ℕ) (at n : ℕ) → n ≤ 32 → n ≡ prefix_len is_plain (chunk at 32 bytes)
     → take n (chunk at 32 bytes) ≡ windows_1252.text (take n (drop at bytes))
 wide_lanes bytes at n few e = lanes_itself windows_1252.text windows_1252-append is_plain refl plain_itself 32 bytes at n few e
+
+-- ---- bytes without a quote
+
+-- those that were found among the next `w`
+pub unquoted_lanes : (w : ℕ) (bytes : List ℕ) (at n : ℕ) → n ≤ w → n ≡ prefix_len is_unquoted (chunk at w bytes)
+    → take n (chunk at w bytes) ≡ doubled (take n (drop at bytes))
+unquoted_lanes w bytes at n few e = lanes_itself doubled doubled-append is_unquoted refl (λ b h. grind (arith, nat_tests)) w bytes at n few e

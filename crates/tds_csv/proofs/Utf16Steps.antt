@@ -1,13 +1,14 @@
 -- One character after the other of text in UTF-16.
 use Rattle.tds_csv.proofs.{
-  Words.{common_steps, ◌⊎◌, inl, ◌≡◌, ◌&&◌, ◌||◌, or-false, ◌+◌, ◌*◌, ◌<◌, ◌≤◌, ◌%◌, ℕ, true, false, List, [], ◌∷◌, ◌++◌, length, map, drop, get_or, refl, ap},
-  Words.{arith, encode_utf8_all, unwrap_or, drop_more, and_right, nat_tests, encode_utf8, utf16_lossy_chars, is_high_surrogate, is_low_surrogate},
-  Words.{surrogate_pair_char, lone_unit_char, emit, doubled, nil_from_length},
-  Utf16Laws.{starts_low, chars-apart, front, front_step, rest_step, emit-front, short},
+  Words.{IsWriting, Leads, List, Ok, Option, PutsPiece, Sink, [], and_right, ap, append-nil, arith, common_steps, doubled, drop, drop_more, emit, encode_utf8, encode_utf8_all, false, get_or, inl, is_high_surrogate, is_low_surrogate, length, length-append, length-drop, length-take-le, lone_unit_char, map, nat_tests, nil_from_length, or-false, refl, surrogate_pair_char, sym, take, true, unwrap_or, utf16_lossy_chars, ℕ, ◌%◌, ◌&&◌, ◌*◌, ◌++◌, ◌+◌, ◌-◌, ◌<◌, ◌||◌, ◌∙◌, ◌∷◌, ◌≡◌, ◌≤◌, ◌⊎◌},
   JoiningLemmas.doubled-append,
+  Leading.{Leads-none, Leads-seam, Leads-seam-front, emit_held},
+  Puttings.PutsPiece-none,
+  Utf16Laws.{chars-apart, emit-front, front, front_step, joins_utf16, rest_step, short, starts_low},
 }
-use Rattle.tds_csv.specs.{Utf16.{units, is_high, characters, rest, text}, Utf16Next.IsNext}
 use Rattle.std.specs.Char.Utf16.{utf16_chars}
+use Rattle.tds_csv.specs.Utf16.{characters, is_high, rest, text, units}
+use Rattle.tds_csv.specs.Utf16Next.{Converts, IsNext, LeavesRest, seam}
 
 pub text_nil : text [] ≡ []
 unfolding utf16_chars
@@ -126,3 +127,55 @@ module _ (xs : List ℕ) (i : ℕ) {u v : ℕ} (within : i + 3 < length xs) (fir
 
   pub pair_at : is_low_surrogate v ≡ true → IsNext (drop i xs) (surrogate_pair_char u v) 4
   pair_at low = rw (drop_four, first, second_is) (next_pair _ _ _ _ _ (rw first at high) (rw second_is at low))
+
+-- ---- where a conversion of UTF-16 has come to what is withheld
+
+-- The text so far is that of all that is fixed.
+pub record Ended (bytes to : List ℕ) (used made : ℕ) : Type 0 where
+  pub emits : take made to ≡ emit rest text bytes
+  pub leaves : LeavesRest bytes 0 used
+
+-- nothing after this place is fixed
+pub ends_held : {bytes to : List ℕ} {used made : ℕ} → Converts bytes to used made → rest (drop used bytes) ≡ drop used bytes
+    → Ended bytes to used made
+ends_held {bytes} {to} {used} {made} before held =
+    let run = take made to in
+    record {
+      emits = sym (before.leads.emits ∙ ap (λ l. run ++ l) (emit_held rest text (drop used bytes) text_nil held) ∙ append-nil run);
+      leaves = grind (arith, common_steps, short, length-drop);
+    }
+
+-- nothing comes after this place
+pub ends_there : {bytes to : List ℕ} {used made : ℕ} → Converts bytes to used made → used ≡ length bytes → Ended bytes to used made
+ends_there before all = grind (arith, nil_of_length, length-drop, ends_held)
+
+-- ---- withheld bytes of text in UTF-16, with the first ones of a piece
+
+-- where the text goes on after that of the seam
+abbrev pub after : List ℕ → List ℕ → List ℕ
+after [] piece = piece
+after (byte ∷ kept) piece = rest (byte ∷ kept ++ take 3 piece) ++ drop 3 piece
+
+pub Leads-after : (kept piece : List ℕ) → Leads rest text (kept ++ piece) (after kept piece) (emit rest text (seam kept piece))
+Leads-after [] piece = rw text_nil Leads-none
+Leads-after (byte ∷ kept) piece = Leads-seam-front joins_utf16 (byte ∷ kept) piece 3 tt
+
+-- nothing is withheld
+pub none_put : {W : Type 0} {contents : W → Option (List ℕ)} {a : Sink W} {kept : List ℕ} (piece : List ℕ) → kept ≡ [] → IsWriting a
+    → PutsPiece {U = ℕ} contents a a (emit rest text (seam kept piece)) (Ok 0)
+none_put piece none going = rw (none, text_nil) (PutsPiece-none _ _ 0 going)
+
+pub none_leads : {kept : List ℕ} (piece : List ℕ) → kept ≡ [] → Leads rest text (kept ++ piece) piece (emit rest text (seam kept piece))
+none_leads piece none = rw none (Leads-after [] piece)
+
+-- some bytes are withheld
+seam_some : (kept piece : List ℕ) → 0 < length kept → seam kept piece ≡ kept ++ take 3 piece
+seam_some kept piece some = grind arith
+
+pub some_leads : {kept own : List ℕ} (piece bytes : List ℕ) (used : ℕ) → kept ≡ own → 0 < length kept → 3 ≤ length piece
+    → bytes ≡ kept ++ take 3 piece → LeavesRest bytes 0 used
+    → Leads rest text (own ++ piece) (drop (used - length kept) piece) (emit rest text (seam own piece))
+some_leads {kept = kept} piece bytes used same some long is left =
+    let three : length (take 3 piece) ≡ 3 = length-take-le 3 piece long in
+    let past : length kept ≤ used = omega (arith, ap length is, length-append kept (take 3 piece)) in
+    rw (← same, seam_some kept piece some, ← is) (Leads-seam joins_utf16 kept piece bytes 3 used is tt past left.within left.rest)

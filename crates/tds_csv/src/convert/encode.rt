@@ -12,7 +12,7 @@ use tds_values::put_byte;
 
 // Writes a character beyond ASCII.
 #[inline(always)]
-#[tactic(auto, using(crate::proofs::Encoding::two_more, crate::proofs::Encoding::three_more, crate::proofs::Encoding::four_more, crate::proofs::Characters::of_two, crate::proofs::Characters::of_three, crate::proofs::Characters::of_four, std::proofs::lemmas::Grind::common_steps))]
+#[tactic(auto, using(crate::proofs::Characters::two_more, crate::proofs::Characters::three_more, crate::proofs::Characters::four_more, crate::proofs::Characters::of_two, crate::proofs::Characters::of_three, crate::proofs::Characters::of_four, std::proofs::lemmas::Grind::common_steps))]
 fn put_wide(to: &mut [u8], at: usize, code: u32) -> usize
     requires low { 128 ≤ code }
     requires high { code < 1114112 }
@@ -53,7 +53,7 @@ pub(crate) fn put_character(to: &mut [u8], at: usize, code: u32) -> usize
 
 // Writes a character in UTF-8, and a quote twice.
 #[inline(always)]
-#[tactic(auto, using(crate::proofs::Encoding::doubled_as_long, crate::proofs::Encoding::added_doubled))]
+#[tactic(auto, using(crate::proofs::Characters::doubled_as_long, crate::proofs::Characters::added_doubled))]
 pub(crate) fn put_quoted(to: &mut [u8], at: usize, code: u32) -> usize
     requires range { code < 1114112 }
     requires room { at + 4 ≤ length to.old }

@@ -1,4 +1,4 @@
-use Rattle.tds_csv.proofs.{Words.{arith, refl, zip2_splat, length-chunk, chunk, is_unquoted}, Masks.run_in}
+use Rattle.tds_csv.proofs.{Words.{arith, refl, zip2_splat, length-chunk, chunk, is_unquoted}, LaneMasks.run_in}
 
 pub returns : Rattle.tds_csv.proofs.convert.lanes.wide_quotes.Goals.returns
 returns c =

@@ -1,6 +1,6 @@
 use Rattle.tds_csv.proofs.Words.{common_steps, arith}
 use Rattle.tds_csv.proofs.convert.utf16.convert_from.Goals as goal
-use Rattle.tds_csv.proofs.Utf16Ends.{ends_held}
+use Rattle.tds_csv.proofs.Utf16Steps.{ends_held}
 
 pub returns-then-next-done-clause-text : goal.returns-then-next-done-clause-text
 returns-then-next-done-clause-text c = grind (arith, ends_held)

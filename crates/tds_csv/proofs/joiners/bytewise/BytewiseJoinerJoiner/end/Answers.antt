@@ -1,4 +1,4 @@
-use Rattle.tds_csv.proofs.{Words.{refl, sym}, Puttings.PutsPiece-none, Pushings.{ends_whole, passes}}
+use Rattle.tds_csv.proofs.{Words.{refl, sym}, Puttings.PutsPiece-none, Puttings.{ends_whole, passes}}
 
 pub returns : Rattle.tds_csv.proofs.joiners.bytewise.BytewiseJoinerJoiner.end.Goals.returns
 returns g c =

@@ -2,8 +2,8 @@ use Rattle.tds_csv.proofs.joiners.utf16.Utf16Joiner.push_long.Goals as goal
 use Rattle.tds_csv.proofs.{
   Words.{common_steps, refl, arith, length-drop, take_all},
   Leading.{puts_part, puts_whole},
-  Pushings.{pushes_stopped, pushes_taken},
-  Utf16Seam.Leads-after,
+  Puttings.{pushes_stopped, pushes_taken},
+  Utf16Steps.Leads-after,
 }
 
 pub returns-in_err-from : goal.returns-in_err-from

@@ -1,6 +1,6 @@
 use Rattle.tds_csv.proofs.joiners.utf16.Utf16Joiner.put_withheld.Goals as goal
 use Rattle.{
-  tds_csv.proofs.{Words.{◌≡◌, ◌∙◌, ◌++◌, [], take, sym, arith, rules, common_steps}, Utf16Seam.{none_put, none_leads, some_leads}, Utf16Steps.nil_of_length},
+  tds_csv.proofs.{Words.{◌≡◌, ◌∙◌, ◌++◌, [], take, sym, arith, rules, common_steps}, Utf16Steps.{none_put, none_leads, some_leads}, Utf16Steps.nil_of_length},
 }
 
 pub returns-then-is_empty-clause-puts : goal.returns-then-is_empty-clause-puts

@@ -1,6 +1,6 @@
 use Rattle.tds_csv.proofs.joiners.utf8.Utf8Joiner.take_text.Goals as goal
 use Rattle.tds_csv.{
-  proofs.{Words.{◌≡◌, ◌∙◌, ◌-◌, [], length, take, drop, refl, arith, rules, length-drop, take_all, TakesUpTo, held}, Pushings.{pushes_taken, pushes_up_to}},
+  proofs.{Words.{◌≡◌, ◌∙◌, ◌-◌, [], length, take, drop, refl, arith, rules, length-drop, take_all, TakesUpTo, held}, Puttings.{pushes_taken, pushes_up_to}},
   proofs.Utf8Pushing.rest_begins,
   specs.Utf8.{Begins, rest, text},
 }
