@@ -57,11 +57,7 @@ unfit_front d x unfit =
     let n = utf8_valid_len d in
     let fits = utf8_valid_len_le d in
     let same = take-append-le n d (x ∷ []) fits in
-    let longest : (m : ℕ) → n < m → m ≤ length all → IsUtf8 (take m all) → ⊥ = λ m more within u. elim (cases_lt m (length all)) [
-      | inl less ↦ utf8_laws.longest_is d m more (omega arith) (rw (take-append-le m d (x ∷ []) (omega arith)) at u)
-      | inr whole ↦ unfit (rw (take_all m all whole) at u)
-    ] in
-    rw (utf8_laws.valid_len_is all n (omega arith) (rw same (utf8_laws.front_is d)) longest) same
+    rw (utf8_laws.valid_len_is all n (omega arith) (rw same (utf8_laws.front_is d)) (λ m more within u. elim (cases_lt m (length all)) [ | inl less ↦ utf8_laws.longest_is d m more (omega arith) (rw (take-append-le m d (x ∷ []) (omega arith)) at u) | inr whole ↦ unfit (rw (take_all m all whole) at u) ])) same
 
 -- a byte after which the data isn't whole adds no text
 pub unfit_adds_none : (c : Conversion) (d : List ℕ) (x : ℕ) → is_fit c (d ++ x ∷ []) ≡ false
@@ -78,7 +74,7 @@ unfit_adds_none Utf8Text d x unfit =
 -- a piece grows the open field by the text of what was withheld and the piece
 pub open_grows : (c : Conversion) (d e : List ℕ) → BeginsData c (d ++ e)
     → open_field c d ++ emit (conversion_rest c) (conversion_text c) (conversion_rest c d ++ e) ≡ open_field c (d ++ e)
-open_grows c d e begins = let next = (joins_by_name c).emits d e begins in grind (arith, append_assoc)
+open_grows c d e begins = let next = (joins_by_name c).emits d e begins in grind arith
 
 -- the open field of whole data, the text of what was withheld and what closes the field are the field
 pub open_closes : (c : Conversion) (d : List ℕ) → is_fit c d ≡ true

@@ -4,19 +4,19 @@ use Rattle.std.specs.Char.{encode_utf8}
 
 pub of_one : (c : ℕ) → c < 128 → encode_utf8 c ≡ c ∷ []
 unfolding encode_utf8
-of_one c h = grind (arith, nat_tests)
+of_one c h = grind arith
 
 pub of_two : (c : ℕ) → 128 ≤ c → c < 2048 → encode_utf8 c ≡ (192 + c / 64) ∷ (128 + c % 64) ∷ []
 unfolding encode_utf8
-of_two c l h = grind (arith, nat_tests)
+of_two c l h = grind arith
 
 pub of_three : (c : ℕ) → 2048 ≤ c → c < 65536 → encode_utf8 c ≡ (224 + c / 4096) ∷ (128 + c / 64 % 64) ∷ (128 + c % 64) ∷ []
 unfolding encode_utf8
-of_three c l h = grind (arith, nat_tests)
+of_three c l h = grind arith
 
 pub of_four : (c : ℕ) → 65536 ≤ c → encode_utf8 c ≡ (240 + c / 262144) ∷ (128 + c / 4096 % 64) ∷ (128 + c / 64 % 64) ∷ (128 + c % 64) ∷ []
 unfolding encode_utf8
-of_four c l = grind (arith, nat_tests)
+of_four c l = grind arith
 
 -- a character that isn't a quote has no byte that is one
 pub doubled_character : (c : ℕ) → c ≢ 34 → doubled (encode_utf8 c) ≡ encode_utf8 c

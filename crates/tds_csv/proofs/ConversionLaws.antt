@@ -9,7 +9,7 @@ use Rattle.tds_csv.proofs.{
 }
 
 pub fit_by_test : (c : Conversion) (bytes : List ℕ) → (is_fit c bytes ≡ true) ↔ IsFit c bytes
-fit_by_test c bytes = grind (arith, IsUtf8-from_is_utf8, is_utf8-from_IsUtf8, nat_tests)
+fit_by_test c bytes = grind (arith, IsUtf8-from_is_utf8, is_utf8-from_IsUtf8)
 
 pub begun_by_test : (c : Conversion) (bytes : List ℕ) → (is_begun c bytes ≡ true) ↔ BeginsData c bytes
 begun_by_test c bytes = grind (arith, none_begins, begins_none)
@@ -22,11 +22,11 @@ joins_by_name Utf8Text = joins_utf8
 
 -- no data is whole
 pub no_data_is_fit : (c : Conversion) → is_fit c [] ≡ true
-no_data_is_fit c = grind (arith, is_utf8-from_IsUtf8, IsUtf8-nil)
+no_data_is_fit c = grind (arith, is_utf8-from_IsUtf8)
 
 -- whole data has whole units
 pub fit_units : (c : Conversion) (bytes : List ℕ) → is_fit c bytes ≡ true → length bytes % unit c ≡ 0
-fit_units c bytes h = grind (arith, nat_tests)
+fit_units c bytes h = grind arith
 
 -- what begins whole data begins
 pub fit_begins : (c : Conversion) (a b : List ℕ) → is_fit c (a ++ b) ≡ true → is_begun c a ≡ true

@@ -19,8 +19,7 @@ pub run_before : (bit n : ℕ) (f : ℕ → ℕ) (v : List ℕ) {z : List ℕ} �
     → first_set (mask_l (map (top bit) z) % 2 ^ 64) n ≡ prefix_len (λ x. not (top bit (f x))) v
 run_before bit n f v long few lanes =
     let stops = λ (x : ℕ). top bit (f x) in
-    let mask = mask_l-mod (map stops v) 64 (omega (arith, length-map v stops)) in
-    rw (lanes, map-map (top bit) f v, mask) (first_set_mask_l stops v n long few)
+    rw (lanes, map-map (top bit) f v, (mask_l-mod (map stops v) 64 (omega (arith, length-map v stops)))) (first_set_mask_l stops v n long few)
 
 -- a lane stops just where q fails
 pub run_in : (n : ℕ) (q : ℕ → Bool) (d : List ℕ) (i : ℕ) (z : List ℕ) → n ≤ 64 → i + n ≤ length d → ((k : ℕ) → Fits w8 (get_or d k 0)) → (f : ℕ → ℕ)
@@ -66,7 +65,7 @@ mask_parts (suc n) [] = omega arith
 mask_parts (suc n) (m ∷ ms) =
     let rest = mask_l (drop n ms) in
     let twice : 2 ^ suc n * rest ≡ 2 * (2 ^ n * rest) = rw (pow-succ' 2 n) (mul_assoc 2 (2 ^ n) rest) in
-    omega (arith, twice, mask_parts n ms)
+    omega (arith, mask_parts n ms)
 
 mask_first : (n : ℕ) (ms : List Bool) → mask_l (take n ms) < 2 ^ n
 mask_first n ms = mask_small n (take n ms) (omega (arith, length-take n ms))
@@ -79,7 +78,7 @@ first_lanes q n us is =
 
 -- and those above, the others
 pub last_lanes : (q : ℕ → Bool) (us : List ℕ) {mask : ℕ} → mask ≡ mask_l (map q us) → mask / 16 ≡ mask_l (map q (drop 4 us))
-last_lanes q us is = grind (arith, mask_parts, mask_first)
+last_lanes q us is = grind arith
 
 -- and few bits
 pub few_ones : (q : ℕ → Bool) (us : List ℕ) {mask : ℕ} → mask ≡ mask_l (map q us) → count_ones mask ≤ length us
@@ -93,7 +92,7 @@ first_mask q us n long few is = grind (arith, length-take-le, mask_small, length
 -- none of the lanes of a mask passes
 pub none_passes : (q : ℕ → Bool) (us : List ℕ) → mask_l (map q us) ≡ 0 → Each1 (λ u. q u ≡ false) us
 none_passes q [] is = tt
-none_passes q (u ∷ us) is = let here : q u ≡ false = grind arith in (here, none_passes q us (omega (arith, is)))
+none_passes q (u ∷ us) is = let here : q u ≡ false = grind arith in (here, none_passes q us (omega arith))
 
 -- a mask of lanes of which none passes
 pub none_set : (q : ℕ → Bool) (us : List ℕ) → Each1 (λ u. q u ≡ false) us → mask_l (map q us) ≡ 0
@@ -104,10 +103,10 @@ none_set q (u ∷ us) each = rw (each.0, none_set q us each.1) refl
 pub all_pass : (q : ℕ → Bool) (n : ℕ) (us : List ℕ) → length us ≤ n → mask_l (map q us) + 1 ≡ 2 ^ n → Each1 (λ u. q u ≡ true) us × (length us ≡ n)
 all_pass q zero [] few is = (tt, refl)
 all_pass q zero (u ∷ us) few is = absurd (omega arith)
-all_pass q (suc n) [] few is = absurd (omega (arith, pow_pos n, is))
+all_pass q (suc n) [] few is = absurd (omega arith)
 all_pass q (suc n) (u ∷ us) few is =
-    let here : q u ≡ true = grind (arith, pow_pos n) in
-    let more = all_pass q n us (omega arith) (grind (arith, here)) in
+    let here : q u ≡ true = grind arith in
+    let more = all_pass q n us (omega arith) (grind arith) in
     ((here, more.0), ap suc more.1)
 
 -- none of the first passes, if their mask is empty

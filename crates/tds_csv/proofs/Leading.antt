@@ -35,11 +35,11 @@ module _ {rest text : List ℕ → List ℕ} {fit begins : List ℕ → Type 0} 
   -- the rest of the first chunk begins after so many bytes
   Leads-from : (xs chunk more : List ℕ) (used : ℕ) → xs ≡ chunk ++ more → begins xs → used ≤ length chunk → drop used chunk ≡ rest chunk
       → Leads rest text xs (drop used xs) (emit rest text chunk)
-  Leads-from xs chunk more used is h le e = grind (arith, drop-append-le, Leads-chunk)
+  Leads-from xs chunk more used is h le e = grind (arith, drop-append-le)
 
   -- the first chunk of some bytes
   pub Leads-front : (xs : List ℕ) (n : ℕ) → begins xs → Leads rest text xs (rest (take n xs) ++ drop n xs) (emit rest text (take n xs))
-  Leads-front xs n h = grind (arith, take-append-drop, Leads-chunk)
+  Leads-front xs n h = grind (arith, take-append-drop)
 
   -- one more chunk, whose rest begins after so many bytes
   pub Leads-next : (xs : List ℕ) (at n used : ℕ) → begins (drop at xs) → used ≤ length (take n (drop at xs))
@@ -50,7 +50,7 @@ module _ {rest text : List ℕ → List ℕ} {fit begins : List ℕ → Type 0} 
   -- withheld bytes with the first ones of a piece are the first chunk of both
   pub Leads-seam-front : (kept piece : List ℕ) (n : ℕ) → begins (kept ++ piece)
       → Leads rest text (kept ++ piece) (rest (kept ++ take n piece) ++ drop n piece) (emit rest text (kept ++ take n piece))
-  Leads-seam-front kept piece n h = grind (arith, Leads-chunk, append_assoc, take-append-drop)
+  Leads-seam-front kept piece n h = grind (arith, append_assoc, take-append-drop)
 
   -- and the rest of that chunk begins after so many bytes
   pub Leads-seam : (kept piece bytes : List ℕ) (n used : ℕ) → bytes ≡ kept ++ take n piece → begins (kept ++ piece) → length kept ≤ used

@@ -153,7 +153,7 @@ module _ {S T : Type 0} (small : Grammar S Fault) (big : Grammar T Fault) (lift 
   -- what is added to the small text between two states with a next element is added to the big one
   pub added_between : (s t : S) (more : List ℕ) → 0 < small.size s → 0 < small.size t → text s ++ more ≡ text t
       → whole (lift s) ++ more ≡ whole (lift t)
-  added_between s t more some more_to_come e = grind (arith, append_assoc, front)
+  added_between s t more some more_to_come e = grind (arith, append_assoc)
 
   -- after the small text the big one has a tail
   pub tail_after : (s t : S) (more tail : List ℕ) → 0 < small.size s → text s ++ more ≡ text t → (front ++ text t) ++ tail ≡ whole (lift t)

@@ -14,7 +14,7 @@ use lib.Lanes.{zip2}
 -- lanes at places
 pub looked_up : (xs : List ℕ) (i : ℕ) (js : List ℕ) → i + length js ≤ 16 → Each1 (λ j. j < 16) js → swz_l w8 16 xs i js ≡ map (λ j. get_or xs j 0) js
 looked_up xs i [] few small = refl
-looked_up xs i (j ∷ js) few small = grind (arith, nat_tests, looked_up xs (suc i) js (omega arith) small.1)
+looked_up xs i (j ∷ js) few small = grind (arith, looked_up xs (suc i) js (omega arith) small.1)
 
 -- the places of bytes of each lane, for lanes of this width from a place on
 abbrev pub placed : ℕ → ℕ → List (List ℕ) → List ℕ
@@ -44,8 +44,7 @@ module _ (size : ℕ) (lane places : ℕ → List ℕ) (wide : (u : ℕ) → len
       → xs ≡ flat_map lane us ++ more → flat_map (λ u. map (λ k. get_or (lane u) k 0) (places u)) us ≡ flat_map text us
       → take (length (flat_map text us)) (map (λ j. get_or xs j 0) row) ≡ flat_map text us
   gathered_text text us more rest row_is xs_is same =
-      let front = lanes_from [] us more ∙ same in
-      rw (row_is, xs_is, map-append, front) (take-append_seam (flat_map text us) _)
+      rw (row_is, xs_is, map-append, (lanes_from [] us more ∙ same)) (take-append_seam (flat_map text us) _)
 
 -- the same text of each lane
 pub same_texts : {P : ℕ → Type 0} {f g : ℕ → List ℕ} → ((u : ℕ) → P u → f u ≡ g u) → (us : List ℕ) → Each1 P us → flat_map f us ≡ flat_map g us
@@ -58,8 +57,8 @@ bits zero mask = []
 bits (suc n) mask = nat_eq (mask % 2) 1 ∷ bits n (mask / 2)
 
 lowest_bit : (b : Bool) (n : ℕ) → (nat_eq ((cond b 1 0 + 2 * n) % 2) 1 ≡ b) × ((cond b 1 0 + 2 * n) / 2 ≡ n)
-lowest_bit true n = grind (arith, nat_tests)
-lowest_bit false n = grind (arith, nat_tests)
+lowest_bit true n = grind arith
+lowest_bit false n = grind arith
 
 -- a row for two masks of some lanes begins with the places of these lanes
 pub row_begins : (f : Bool → Bool → List ℕ) (width at m : ℕ) (ws ls : List Bool) → length ws ≤ m → length ls ≡ length ws
@@ -96,7 +95,7 @@ all_below n (k ∷ ks) = nat_lt k n && all_below n ks
 
 each_below : (n : ℕ) (ks : List ℕ) → all_below n ks ≡ true → Each1 (λ k. k < n) ks
 each_below n [] all = tt
-each_below n (k ∷ ks) all = let both = and_parts (nat_lt k n) (all_below n ks) all in (grind (arith, nat_tests, both.0), each_below n ks both.1)
+each_below n (k ∷ ks) all = let both = and_parts (nat_lt k n) (all_below n ks) all in (grind arith, each_below n ks both.1)
 
 -- A row of a table has 16 places in 16 bytes, and begins with these.
 pub record IsRow (row begins : List ℕ) : Type 0 where
@@ -111,8 +110,7 @@ is_row row begins = (nat_eq (length row) 16 && all_below 16 row) && bytes_eq row
 tested : (row begins : List ℕ) → is_row row begins ≡ true → IsRow row begins
 tested row begins h =
     let all = and_parts (nat_eq (length row) 16 && all_below 16 row) (bytes_eq row (begins ++ drop (length begins) row)) h in
-    let both = and_parts (nat_eq (length row) 16) (all_below 16 row) all.0 in
-    record { long = grind (arith, nat_tests, both.0); small = each_below 16 row both.1; is = (bytes_eq-Decides _ _).0 all.1 }
+    record { long = grind arith; small = each_below 16 row (and_parts (nat_eq (length row) 16) (all_below 16 row) all.0).1; is = (bytes_eq-Decides _ _).0 all.1 }
 
 pub pair_row : (mask : ℕ) → mask < 256 → IsRow (get_or PAIRS mask []) (placed 2 0 (zip2 pair_places (bits 8 mask) (bits 8 0)))
 pair_row mask small =

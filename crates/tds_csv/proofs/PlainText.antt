@@ -22,9 +22,7 @@ bytes_of w = take (w / 16777216) ((w % 256) ∷ (w / 256 % 256) ∷ (w / 65536 %
 table : (k : ℕ) → k < 128 → (bytes_of (get_or UPPER k 0) ≡ windows_1252.text ((128 + k) ∷ [])) × (get_or UPPER k 0 / 16777216 ≤ 3)
 unfolding encode_utf8
 table k h =
-    let same = agree_below_at (λ k. bytes_eq (bytes_of (get_or UPPER k 0)) (windows_1252.text ((128 + k) ∷ []))) (λ _. true) 128 k refl h in
-    let few = agree_below_at (λ k. nat_le (get_or UPPER k 0 / 16777216) 3) (λ _. true) 128 k refl h in
-    ((bytes_eq-Decides _ _).0 same, grind (arith, nat_tests, few))
+    ((bytes_eq-Decides _ _).0 (agree_below_at (λ k. bytes_eq (bytes_of (get_or UPPER k 0)) (windows_1252.text ((128 + k) ∷ []))) (λ _. true) 128 k refl h), grind (arith, nat_tests, (agree_below_at (λ k. nat_le (get_or UPPER k 0 / 16777216) 3) (λ _. true) 128 k refl h)))
 
 -- the text of a byte beyond ASCII, from the table
 pub upper_text : (b : ℕ) {w : ℕ} → 128 ≤ b → b < 256 → w ≡ get_or UPPER (b - 128) 0 → (bytes_of w ≡ windows_1252.text (b ∷ [])) × (w / 16777216 ≤ 3)
@@ -41,7 +39,7 @@ upper_put b at {w} old new low high is within written = let t = upper_text b low
 
 -- a byte that is plain is its own text
 plain_itself : (b : ℕ) → is_plain b ≡ true → windows_1252.text (b ∷ []) ≡ b ∷ []
-plain_itself b h = grind (arith, encode_utf8_all, append-nil, doubled_character, of_one, nat_tests)
+plain_itself b h = grind (arith, of_one)
 
 -- some of the bytes that were found among the next 16 of a source
 pub plain_lanes : (source bytes : List ℕ) (at n : ℕ) → n ≤ 16 → n ≤ prefix_len is_plain (chunk at 16 source)
@@ -59,4 +57,4 @@ wide_lanes bytes at n few e = lanes_itself windows_1252.text windows_1252-append
 -- those that were found among the next `w`
 pub unquoted_lanes : (w : ℕ) (bytes : List ℕ) (at n : ℕ) → n ≤ w → n ≡ prefix_len is_unquoted (chunk at w bytes)
     → take n (chunk at w bytes) ≡ doubled (take n (drop at bytes))
-unquoted_lanes w bytes at n few e = lanes_itself doubled doubled-append is_unquoted refl (λ b h. grind (arith, nat_tests)) w bytes at n few e
+unquoted_lanes w bytes at n few e = lanes_itself doubled doubled-append is_unquoted refl (λ b h. grind arith) w bytes at n few e

@@ -13,10 +13,10 @@ pub PutsPiece-trans : {W U V : Type 0} (contents : W → Option (List ℕ)) (a b
     → PutsPiece contents a b p (Ok u) → PutsPiece contents b c q r → PutsPiece contents a c (p ++ q) r
 PutsPiece-trans contents a b c u p q (Ok v) x y =
     let puts = Puts-trans (held contents a) (held contents b) (held contents c) p q x.gives y.gives in
-    grind (arith, common_steps)
+    grind arith
 PutsPiece-trans contents a b c u p q (Err e) x y =
     let breaks = Breaks-after (held contents a) (held contents b) (held contents c) p q e x.gives (y.gives x.failed) in
-    grind (arith, common_steps)
+    grind arith
 
 -- the value of a success says nothing
 pub PutsPiece-ok : {W U V : Type 0} (contents : W → Option (List ℕ)) (a b : Sink W) (p : List ℕ) (u : U) (v : V) → PutsPiece contents a b p (Ok u)
@@ -26,17 +26,17 @@ PutsPiece-ok contents a b p u v x = grind arith
 -- a call that failed, of a longer text
 pub PutsPiece-longer : {W U V : Type 0} (contents : W → Option (List ℕ)) (a b : Sink W) (p more : List ℕ) (e : Stop)
     → PutsPiece {U = U} contents a b p (Err e) → PutsPiece {U = V} contents a b (p ++ more) (Err e)
-PutsPiece-longer contents a b p more e x = grind (arith, common_steps, Breaks-longer)
+PutsPiece-longer contents a b p more e x = grind (arith, common_steps)
 
 -- `?` passed its error on, of the same text
 pub PutsPiece-error : {W U V : Type 0} (contents : W → Option (List ℕ)) (a b : Sink W) (p : List ℕ) (e : Stop) (r : Result V Stop)
     → IsErrAnd r (λ stop. stop ≡ e) → PutsPiece {U = U} contents a b p (Err e) → PutsPiece contents a b p r
-PutsPiece-error contents a b p e r is x = grind (arith, err_from_is_err_and)
+PutsPiece-error contents a b p e r is x = grind arith
 
 -- and of a longer one
 pub PutsPiece-passed : {W U V : Type 0} (contents : W → Option (List ℕ)) (a b : Sink W) (p more : List ℕ) (e : Stop) (r : Result V Stop)
     → IsErrAnd r (λ stop. stop ≡ e) → PutsPiece {U = U} contents a b p (Err e) → PutsPiece contents a b (p ++ more) r
-PutsPiece-passed contents a b p more e r is x = grind (arith, common_steps, err_from_is_err_and, PutsPiece-longer)
+PutsPiece-passed contents a b p more e r is x = grind (arith, common_steps)
 
 -- ---- pushes and ends of a joiner, by what they put
 
@@ -60,7 +60,7 @@ module _ {W U V : Type 0} {contents : W → Option (List ℕ)} {begins : List �
   -- a write failed
   pub pushes_stopped : {e : Stop} {r : Result V JoinFault} → a.failed ≡ false → begins new → p ≡ emit rest text (old ++ piece)
       → PutsPiece {U = U} contents a b p (Err e) → IsErrAnd r (λ fault. fault ≡ Stopped e) → PushesPiece contents begins rest text old new a b piece r
-  pushes_stopped going begun is x passed = grind (arith, err_from_is_err_and)
+  pushes_stopped going begun is x passed = grind arith
 
 -- the text of what was withheld was put
 pub ends_whole : {W U V : Type 0} {contents : W → Option (List ℕ)} {unit : ℕ} {fit begins : List ℕ → Type 0} {text : List ℕ

@@ -29,7 +29,7 @@ joins_binary = joins_single binary.text (hex-append lower_digits) hex-nil
 
 -- the text of two pieces
 pub windows_1252-append : (x y : List ℕ) → windows_1252.text (x ++ y) ≡ windows_1252.text x ++ windows_1252.text y
-windows_1252-append x y = grind (arith, encode_utf8_all, map-append, encodes-append, doubled-append)
+windows_1252-append x y = grind (arith, map-append, encodes-append, doubled-append)
 
 -- text in Windows-1252 may come in pieces
 pub joins_windows_1252 : JoinsPieces windows_1252.IsFit windows_1252.IsFit windows_1252.rest windows_1252.text

@@ -44,7 +44,7 @@ module _ (text : List ℕ → List ℕ) (appends : (x y : List ℕ) → text (x 
     pub some_itself : (k : ℕ) (xs : List ℕ) → k ≤ prefix_len q xs → text (take k xs) ≡ take k xs
     some_itself zero xs h = empty
     some_itself (suc k) [] h = absurd (omega arith)
-    some_itself (suc k) (b ∷ xs) h = grind (arith, appends (b ∷ []) (take k xs), itself b, some_itself k xs)
+    some_itself (suc k) (b ∷ xs) h = grind (arith, appends (b ∷ []) (take k xs), some_itself k xs)
 
     -- those that were found among the next `w`
     pub lanes_itself : (w : ℕ) (bytes : List ℕ) (at n : ℕ) → n ≤ w → n ≡ prefix_len q (chunk at w bytes)

@@ -30,11 +30,11 @@ Puts-trans a b c p q x y = (
 pub Breaks-after : (a b c : Held) (p q : List ℕ) (e : Stop) → Puts a b p → Breaks b c q e → Breaks a c (p ++ q) e
 Breaks-after a b c p q e x y =
     let len = length-append x.0 y.0 in
-    let adds = rw (← take-append-add p q y.2) at (Adds-trans a b c _ _ p (take y.2 q) x.2 y.3) in (
+    (
       x.0 ++ y.0,
       x.1 + y.1,
       length p + y.2,
-      adds,
+      (rw (← take-append-add p q y.2) at (Adds-trans a b c _ _ p (take y.2 q) x.2 y.3)),
       omega (arith, length-append p q),
       omega arith,
       omega arith,
@@ -55,4 +55,4 @@ block a m b piece r is full some x = grind (arith, append-nil, length-append, ta
 pub block_going : {U : Type 0} (a m b : Held) (piece : List ℕ) (r : Result U Stop) (failed : Bool) → m ≡ record a { waiting = a.waiting ++ piece }
     → length m.waiting ≡ 4096 → OnErr r (0 < length b.waiting)
     → MatchResult r (λ _. Sends m b) (λ e. FinishFails m b e) → MatchResult r (λ _. Puts a b piece) (λ e. failed ≡ false → Breaks a b piece e)
-block_going a m b piece r failed is full some x = grind (arith, common_steps, block)
+block_going a m b piece r failed is full some x = grind (arith, common_steps)

@@ -55,7 +55,7 @@ module _ {S T : Type 0} (small : Grammar S Fault) (big : Grammar T Fault) (lift 
     → List ℕ) (front : List ℕ) (text_is : (s : S) → front ++ text s ≡ whole (lift s)) where
   -- what is added to the small text is added to the big one
   pub added_inside : (s t : S) (more : List ℕ) → text s ++ more ≡ text t → whole (lift s) ++ more ≡ whole (lift t)
-  added_inside s t more e = grind (arith, append_assoc, front)
+  added_inside s t more e = grind (arith, append_assoc)
 
   -- the text between two states of the small grammar is that between those of the big one
   pub puts_inside : (s t : S) (a b : Held) → PutsText text s t a b → PutsText whole (lift s) (lift t) a b

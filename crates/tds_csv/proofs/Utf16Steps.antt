@@ -29,7 +29,7 @@ chars_one u us h = ap (map (λ o. unwrap_or o 0xFFFD)) (chars-apart (u ∷ []) u
 
 spells_one : (low high : ℕ) (bytes : List ℕ) (code : ℕ) → unwrap_or (lone_unit_char (low + 256 * high)) 0xFFFD ≡ code
     → (is_high low high ≡ true → starts_low (units bytes) ≡ false) → characters (low ∷ high ∷ bytes) ≡ encode_utf8 code ++ characters bytes
-spells_one low high bytes code e h = grind (arith, encode_utf8_all, chars_one)
+spells_one low high bytes code e h = grind (arith, chars_one)
 
 spells_pair : (low high low' high' : ℕ) (bytes : List ℕ) → is_high low high ≡ true → is_low_surrogate (low' + 256 * high') ≡ true
     → characters (low ∷ high ∷ low' ∷ high' ∷ bytes) ≡ encode_utf8 (surrogate_pair_char (low + 256 * high) (low' + 256 * high')) ++ characters bytes
@@ -39,7 +39,7 @@ spells_pair low high low' high' bytes h l = simp (h, l)
 -- the text of a front, from its characters
 emits_by : (bytes more : List ℕ) (code : ℕ) → characters (front bytes) ≡ encode_utf8 code ++ characters (front more)
     → emit rest text bytes ≡ doubled (encode_utf8 code) ++ emit rest text more
-emits_by bytes more code e = grind (arith, emit-front, doubled-append, front)
+emits_by bytes more code e = grind (arith, emit-front, doubled-append)
 
 -- a unit that is no high surrogate
 pub next_one : (low high : ℕ) (bytes : List ℕ) (code : ℕ) → is_high low high ≡ false → unwrap_or (lone_unit_char (low + 256 * high)) 0xFFFD ≡ code
@@ -51,18 +51,18 @@ next_one low high bytes code h e = record {
 }
 
 pub lone_other : (u : ℕ) → is_high_surrogate u ≡ false → is_low_surrogate u ≡ false → unwrap_or (lone_unit_char u) 0xFFFD ≡ u
-lone_other u h l = grind (arith, nat_tests)
+lone_other u h l = grind arith
 
 pub lone_half : (u : ℕ) → (is_high_surrogate u ≡ true) ⊎ (is_low_surrogate u ≡ true) → unwrap_or (lone_unit_char u) 0xFFFD ≡ 0xFFFD
-lone_half u h = grind (arith, nat_tests)
+lone_half u h = grind arith
 
 -- a surrogate that is no low one
 pub high_half : (u : ℕ) → (is_high_surrogate u || is_low_surrogate u) ≡ true → is_low_surrogate u ≡ false → is_high_surrogate u ≡ true
-high_half u some low = grind (arith, or-false)
+high_half u some low = grind arith
 
 -- a low surrogate is no high one
 pub not_high : (u : ℕ) → is_low_surrogate u ≡ true → is_high_surrogate u ≡ false
-not_high u low = grind (arith, nat_tests)
+not_high u low = grind arith
 
 -- a high surrogate before a unit that is no low one
 pub next_alone : (low high low' high' : ℕ) (bytes : List ℕ) → is_high low high ≡ true → is_low_surrogate (low' + 256 * high') ≡ false
@@ -70,10 +70,9 @@ pub next_alone : (low high low' high' : ℕ) (bytes : List ℕ) → is_high low 
 unfolding starts_low
 next_alone low high low' high' bytes h l =
     let lone = lone_half (low + 256 * high) (inl h) in
-    let first : starts_low (units (front (low' ∷ high' ∷ bytes))) ≡ false = grind arith in
     record {
       emits = emits_by (low ∷ high ∷ low' ∷ high' ∷ bytes) (low' ∷ high' ∷ bytes) 0xFFFD
-          (spells_one low high (front (low' ∷ high' ∷ bytes)) 0xFFFD lone (λ _. first));
+          (spells_one low high (front (low' ∷ high' ∷ bytes)) 0xFFFD lone (λ _. (grind arith)));
       keeps = refl;
       spells = spells_one low high (low' ∷ high' ∷ bytes) 0xFFFD lone (λ _. l);
     }
@@ -82,7 +81,7 @@ next_alone low high low' high' bytes h l =
 pub next_pair : (low high low' high' : ℕ) (bytes : List ℕ) → is_high low high ≡ true → is_low_surrogate (low' + 256 * high') ≡ true
     → IsNext (low ∷ high ∷ low' ∷ high' ∷ bytes) (surrogate_pair_char (low + 256 * high) (low' + 256 * high')) 4
 next_pair low high low' high' bytes h l =
-    let second : is_high low' high' ≡ false = grind (arith, nat_tests, l) in
+    let second : is_high low' high' ≡ false = grind arith in
     record {
       emits = emits_by (low ∷ high ∷ low' ∷ high' ∷ bytes) bytes (surrogate_pair_char (low + 256 * high) (low' + 256 * high'))
           (rw (front_step low' high' bytes second) (spells_pair low high low' high' (front bytes) h l));
@@ -111,7 +110,7 @@ drop_four xs i h = grind (arith, drop_two)
 
 pub held_at : (xs : List ℕ) (i : ℕ) {u : ℕ} → i + 1 < length xs → length xs < i + 4 → u ≡ get_or xs i 0 + 256 * get_or xs (i + 1) 0
     → is_high_surrogate u ≡ true → rest (drop i xs) ≡ drop i xs
-held_at xs i within few is h = grind (arith, common_steps, drop_two, held_high)
+held_at xs i within few is h = grind (arith, common_steps)
 
 pub one_at : (xs : List ℕ) (i : ℕ) {u code : ℕ} → i + 1 < length xs → u ≡ get_or xs i 0 + 256 * get_or xs (i + 1) 0 → is_high_surrogate u ≡ false
     → unwrap_or (lone_unit_char u) 0xFFFD ≡ code → IsNext (drop i xs) code 2
@@ -142,7 +141,7 @@ ends_held {bytes} {to} {used} {made} before held =
     let run = take made to in
     record {
       emits = sym (before.leads.emits ∙ ap (λ l. run ++ l) (emit_held rest text (drop used bytes) text_nil held) ∙ append-nil run);
-      leaves = grind (arith, common_steps, short, length-drop);
+      leaves = grind (arith, common_steps, short);
     }
 
 -- nothing comes after this place
@@ -177,5 +176,4 @@ pub some_leads : {kept own : List ℕ} (piece bytes : List ℕ) (used : ℕ) →
     → Leads rest text (own ++ piece) (drop (used - length kept) piece) (emit rest text (seam own piece))
 some_leads {kept = kept} piece bytes used same some long is left =
     let three : length (take 3 piece) ≡ 3 = length-take-le 3 piece long in
-    let past : length kept ≤ used = omega (arith, ap length is, length-append kept (take 3 piece)) in
-    rw (← same, seam_some kept piece some, ← is) (Leads-seam joins_utf16 kept piece bytes 3 used is tt past left.within left.rest)
+    rw (← same, seam_some kept piece some, ← is) (Leads-seam joins_utf16 kept piece bytes 3 used is tt (omega (arith, ap length is, length-append kept (take 3 piece))) left.within left.rest)

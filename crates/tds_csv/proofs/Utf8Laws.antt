@@ -48,8 +48,7 @@ front-rest bs = sym (take-append-drop _ bs)
 -- what follows a text in a text is a text
 pub after_text : (w z : List ℕ) → IsUtf8 w → IsUtf8 (w ++ z) → IsUtf8 z
 after_text w z u whole =
-    let edge = IsCharBoundary-from_take (w ++ z) (length w) whole (omega (arith, length-append w z)) (rw (take_at w z (length w) refl) u) in
-    rw (drop_at w z (length w) refl) at (IsUtf8-drop (w ++ z) (length w) whole edge)
+    rw (drop_at w z (length w) refl) at (IsUtf8-drop (w ++ z) (length w) whole (IsCharBoundary-from_take (w ++ z) (length w) whole (omega (arith, length-append w z)) (rw (take_at w z (length w) refl) u)))
 
 -- a text at the front than which no longer one stands there
 pub valid_len_is : (bs : List ℕ) (n : ℕ) → n ≤ length bs → IsUtf8 (take n bs) → ((m : ℕ) → n < m → m ≤ length bs → IsUtf8 (take m bs) → ⊥)
@@ -94,7 +93,7 @@ ends a = cc (front-rest a, doubled-append (front a) (rest a), emit-front a)
 
 -- the first bytes, the whole characters among them
 pub take-front : (bytes : List ℕ) (n : ℕ) → take (utf8_valid_len bytes + n) bytes ≡ front bytes ++ take n (rest bytes)
-take-front bytes n = let all = take-append-add (front bytes) (rest bytes) n in rw (length-front bytes, ← front-rest bytes) at all
+take-front bytes n = rw (length-front bytes, ← front-rest bytes) at (take-append-add (front bytes) (rest bytes) n)
 
 -- no front of the list is a text
 unfoldable pub NoText : List ℕ → Type 0
@@ -164,7 +163,7 @@ joins_utf8 = record {
 -- the first two bytes of a character of four
 four : (c a b d w : ℕ) → Scalar c → 240 ≤ a → Follows b → Follows d → Follows w → c + 63447168 ≡ a * 262144 + b * 4096 + d * 64 + w → 4 ≤ len_utf8 c
     → (a ≤ 244) × (second_byte_min a ≤ b) × (b ≤ second_byte_max a)
-four c a b d w k l f g h s long = grind (arith, ⊎_elim, nat_tests)
+four c a b d w k l f g h s long = grind arith
 
 -- the front of a character
 front_none : (c : ℕ) (r more tail : List ℕ) → Scalar c → Shape c → r ++ more ≡ encode_utf8 c ++ tail → length r < length (encode_utf8 c)
@@ -172,9 +171,9 @@ front_none : (c : ℕ) (r more tail : List ℕ) → Scalar c → Shape c → r +
 unfolding utf8_error_len
 front_none c [] more tail k s e short = refl
 front_none c (x ∷ r) more tail k (of1 h e') e short = absurd (omega (arith, ap length e'))
-front_none c (x ∷ []) more tail k (of2 a b l u f s e') e short = grind (arith, length-encode, nat_tests)
+front_none c (x ∷ []) more tail k (of2 a b l u f s e') e short = grind (arith, length-encode)
 front_none c (x ∷ y ∷ r) more tail k (of2 a b l u f s e') e short = absurd (omega (arith, ap length e'))
-front_none c (x ∷ []) more tail k (of3 a b d l u f g s e') e short = grind (arith, nat_tests)
+front_none c (x ∷ []) more tail k (of3 a b d l u f g s e') e short = grind arith
 front_none c (x ∷ y ∷ []) more tail k (of3 a b d l u f g s e') e short = grind (arith, length-encode, ⊎_elim, nat_tests)
 front_none c (x ∷ y ∷ z ∷ r) more tail k (of3 a b d l u f g s e') e short = absurd (omega (arith, ap length e'))
 front_none c (x ∷ []) more tail k (of4 a b d w l u f g h s e') e short = grind (arith, ⊎_elim, nat_tests)
@@ -190,20 +189,20 @@ begins_none bytes begins = elim (begun_rest bytes begins) [
 ]
 
 two_bytes : (a b : ℕ) → 194 ≤ a → a < 224 → second_byte_min a ≤ b → b ≤ second_byte_max a → IsUtf8 (a ∷ b ∷ [])
-two_bytes a b l u lo hi = of_two (a ∷ b ∷ []) 0 (omega arith) (l, u) (grind (arith, nat_tests))
+two_bytes a b l u lo hi = of_two (a ∷ b ∷ []) 0 (omega arith) (l, u) (grind arith)
 
 three_bytes : (a b d : ℕ) → 224 ≤ a → a < 240 → second_byte_min a ≤ b → b ≤ second_byte_max a → 128 ≤ d → d < 192 → IsUtf8 (a ∷ b ∷ d ∷ [])
-three_bytes a b d l u lo hi dl dh = of_three (a ∷ b ∷ d ∷ []) 0 (omega arith) (l, u) (grind (arith, nat_tests)) (
+three_bytes a b d l u lo hi dl dh = of_three (a ∷ b ∷ d ∷ []) 0 (omega arith) (l, u) (grind arith) (
   dl,
   dh,
-) (grind (arith, nat_tests)) (grind (arith, nat_tests))
+) (grind arith) (grind arith)
 
 four_bytes : (a b d w : ℕ) → 240 ≤ a → a ≤ 244 → second_byte_min a ≤ b → b ≤ second_byte_max a → 128 ≤ d → d < 192 → 128 ≤ w → w < 192
     → IsUtf8 (a ∷ b ∷ d ∷ w ∷ [])
-four_bytes a b d w l u lo hi dl dh wl wh = of_four (a ∷ b ∷ d ∷ w ∷ []) 0 (omega arith) l (grind (arith, nat_tests)) (dl, dh) (
+four_bytes a b d w l u lo hi dl dh wl wh = of_four (a ∷ b ∷ d ∷ w ∷ []) 0 (omega arith) l (grind arith) (dl, dh) (
   wl,
   wh,
-) (grind (arith, nat_tests))
+) (grind arith)
 
 Completes : List ℕ → Type 0
 Completes r = (more : List ℕ) × IsUtf8 (r ++ more)
@@ -220,7 +219,7 @@ one_completes : (a : ℕ) → 194 ≤ a → a ≤ 244 → Completes (a ∷ [])
 unfolding Completes
 one_completes a l h =
     let b = second_byte_min a in
-    let most : b ≤ second_byte_max a = grind (arith, nat_tests) in
+    let most : b ≤ second_byte_max a = grind arith in
     elim (cases_lt a 224) [
       | inl two ↦ (b ∷ [], two_bytes a b l two (omega arith) most)
       | inr more ↦ let x = three_complete a b 128 more h (omega arith) most (omega arith) (omega arith) in (b ∷ 128 ∷ x.0, x.1)
@@ -270,7 +269,7 @@ is_next z = is_in_range 0x80 0xBF z
 fault_four : (x y z w : ℕ) (t : List ℕ) → utf8_error_len (x ∷ y ∷ z ∷ w ∷ t) ≡ cond (is_first x)
     (cond (is_second x y) (cond (is_next z) (Some 3) (Some 2)) (Some 1)) (Some 1)
 unfolding utf8_error_len
-fault_four x y z w t = grind (arith, nat_eq, nat_tests, nat_lt)
+fault_four x y z w t = grind (arith, nat_tests)
 
 -- so many bytes of these could begin a character, and with the next one they can't
 record Good (r : List ℕ) (j : ℕ) : Type 0 where
@@ -323,6 +322,4 @@ stops bytes k e =
 pub stops_at : (bytes : List ℕ) (whole k good : ℕ) → whole ≡ utf8_valid_len bytes → utf8_error_len (drop whole bytes) ≡ Some k
     → good ≡ cond (is_first (get_or bytes whole 0)) k 0 → StopsAt bytes whole (whole + good)
 stops_at bytes whole k good is e found =
-    let first : get_or (drop whole bytes) 0 0 ≡ get_or bytes whole 0 = get_or-drop whole bytes 0 0
-    ∙ ap (λ n. get_or bytes n 0) {x = whole + 0} {y = whole} (omega arith) in
-    rw (found, ← first, is) (stops bytes k (rw is at e))
+    rw (found, ← (get_or-drop whole bytes 0 0 ∙ ap (λ n. get_or bytes n 0) {x = whole + 0} {y = whole} (omega arith)), is) (stops bytes k (rw is at e))

@@ -21,7 +21,7 @@ chosen l f g us ls xs ys = grind (arith, map-map, chosen_maps)
 pub units_of_bytes : (n : ℕ) (xs : List ℕ) → length xs ≡ 2 * n → Each1 (Fits w8) xs → digits_l 65536 n (number_l 256 xs) ≡ units xs
 units_of_bytes zero [] long fits = refl
 units_of_bytes (suc n) (low ∷ high ∷ xs) long fits = let more = units_of_bytes n xs (omega arith) fits.1.1 in
-    grind (arith, fits.0.fits, fits.1.0.fits)
+    grind arith
 units_of_bytes n xs long fits = absurd (omega arith)
 
 -- the first byte of a long character, and the two others as a number, low byte first
@@ -40,7 +40,7 @@ bytes_of_pairs : (n : ℕ) (xs : List ℕ) → length xs ≡ n → Each1 (λ x. 
 bytes_of_pairs zero [] long fits = refl
 bytes_of_pairs (suc n) (x ∷ xs) long fits =
     let two : 2 * suc n ≡ suc (suc (2 * n)) = omega arith in
-    rw two (grind (arith, fits.0, bytes_of_pairs n xs (omega arith) fits.1))
+    rw two (grind (arith, bytes_of_pairs n xs (omega arith) fits.1))
 bytes_of_pairs n xs long fits = absurd (omega arith)
 
 -- and of each number that is made of a unit
@@ -49,7 +49,7 @@ bytes_of_map f [] = refl
 bytes_of_map f (u ∷ us) = ap (λ xs. (f u % 256) ∷ (f u / 256 % 256) ∷ xs) (bytes_of_map f us)
 
 pair_fits : (u : ℕ) → u < 65536 → (pair u < 65536) × ((low_quad u < 65536) × (high_quad u < 65536))
-pair_fits u small = grind (arith, nat_tests)
+pair_fits u small = grind arith
 
 each_fits : (us : List ℕ) → Each1 (Fits w16) us → Each1 (λ x. x < 65536) (map pair us)
 each_fits [] fits = tt
@@ -79,8 +79,7 @@ four_each a b c d sa sb sc sd =
     let fb = split b sb in
     let fc = split c sc in
     let fd = split d sd in
-    let all = bytes_of_pairs 8 (four a b c d) refl (fa.3, (fa.4, (fb.3, (fb.4, (fc.3, (fc.4, (fd.3, (fd.4, tt)))))))) in
-    ap (λ bs. take 12 (woven bs)) all ∙ (cc)
+    ap (λ bs. take 12 (woven bs)) (bytes_of_pairs 8 (four a b c d) refl (fa.3, (fa.4, (fb.3, (fb.4, (fc.3, (fc.4, (fd.3, (fd.4, tt))))))))) ∙ (cc)
 
 -- eight of them, each lane beside the other
 abbrev pub beside_first : List ℕ → List ℕ → List ℕ
@@ -120,9 +119,9 @@ quad_lanes us ls hs long fits is_low is_high = absurd (omega arith)
 pub high_lane : (u : ℕ) → u < 65536
     → cond (top 15 (cond (eqb u 34) 65535 0)) 8738 (((u / 4096 + (u / 64 % 64 * 256) % 65536) % 65536 + cond (top 15 (cond (leb 2048 u) 65535 0)) 32992 49376)
     % 65536) ≡ high_quad u
-high_lane u small = grind (arith, nat_tests)
+high_lane u small = grind arith
 
 -- and of the first
 pub low_lane : (u : ℕ) → u < 65536
     → cond (top 15 (cond (eqb u 34) 65535 0)) 8738 ((u % 256 + ((u % 64 + 128) % 65536 * 256) % 65536) % 65536) ≡ low_quad u
-low_lane u small = grind (arith, nat_tests)
+low_lane u small = grind arith

@@ -24,16 +24,16 @@ use lib.Lanes.{zip2}
 
 -- the bytes of a unit's text, at the places for it
 pub pair_text : (u : ℕ) → is_long u ≡ false → map (λ k. get_or (pair_bytes u) k 0) (pair_places (is_wide u) (is_long u)) ≡ unit_text u
-pair_text u h = grind (arith, nat_tests, of_one, of_two, doubled_character)
+pair_text u h = grind (arith, of_one, of_two)
 
 pub quad_text : (u : ℕ) → u < 65536 → map (λ k. get_or (quad_bytes u) k 0) (quad_places (is_wide u) (is_long u)) ≡ unit_text u
 quad_text u small = grind (arith, nat_tests, of_one, of_two, of_three, doubled_character)
 
 plain_text : (u : ℕ) → is_wide u ≡ false → unit_text u ≡ u ∷ []
-plain_text u h = grind (arith, nat_tests, of_one, doubled_character)
+plain_text u h = grind (arith, of_one)
 
 long_text : (u : ℕ) → u < 65536 → is_long u ≡ true → unit_text u ≡ (224 + u / 4096) ∷ (128 + u / 64 % 64) ∷ (128 + u % 64) ∷ []
-long_text u small h = grind (arith, nat_tests, of_three, doubled_character)
+long_text u small h = grind (arith, of_three)
 
 -- how long the text of units is
 unit_size : (u : ℕ) → u < 65536 → length (unit_text u) ≡ 1 + (cond (is_wide u) 1 0 + cond (is_long u) 1 0)
@@ -42,7 +42,7 @@ unit_size u small = grind (arith, nat_tests, of_one, of_two, of_three, doubled_c
 units_size : (us : List ℕ) → Each1 (λ u. u < 65536) us → length (units_text us) ≡ length us + (count_by is_wide us + count_by is_long us)
 units_size [] small = refl
 units_size (u ∷ us) small = let one = unit_size u small.0 in let more = units_size us small.1 in
-    length-append (unit_text u) (units_text us) ∙ grind (arith, common_steps, one, more)
+    length-append (unit_text u) (units_text us) ∙ grind (arith, common_steps)
 
 pub text_size : (us : List ℕ) {wide long : ℕ} → Each1 (λ u. u < 65536) us → wide ≡ mask_l (map is_wide us) → long ≡ mask_l (map is_long us)
     → length (units_text us) ≡ length us + (count_ones wide + count_ones long)
@@ -86,12 +86,8 @@ row_taken width m lane f same inside us more {row} {wide = wide} {long = long} i
     let places = λ (u : ℕ). f (is_wide u) (is_long u) in
     let begins = row_begins f width 0 m (map is_wide us) (map is_long us) (omega (arith, length-map us is_wide)) (length-map us is_long
     ∙ sym (length-map us is_wide)) in
-    let each = zip2-map f is_wide is_long us in
-    let row_is : placed width 0 (zip2 f (bits m wide) (bits m long)) ≡ placed width 0 (map places us) ++ begins.0 =
-    rw (wide_is, long_is, begins.1, each) refl in
     let rest = drop (length (placed width 0 (zip2 f (bits m wide) (bits m long)))) row in
-    let whole = is_row.is ∙ ap (λ l. l ++ rest) row_is ∙ append_assoc (placed width 0 (map places us)) begins.0 rest in
-    rw (← text_size us range wide_is long_is) (gathered_text width lane places same inside unit_text us more (begins.0 ++ rest) whole is texts)
+    rw (← text_size us range wide_is long_is) (gathered_text width lane places same inside unit_text us more (begins.0 ++ rest) (is_row.is ∙ ap (λ l. l ++ rest) (rw (wide_is, long_is, begins.1, (zip2-map f is_wide is_long us)) refl) ∙ append_assoc (placed width 0 (map places us)) begins.0 rest) is texts)
 
 -- that of short characters from the bytes of eight
 pub pairs_taken : (us : List ℕ) (n : ℕ) {xs : List ℕ} {wide : ℕ} → length us ≡ 8 → n ≤ 8 → Each1 (Fits w16) us → xs ≡ flat_map pair_bytes us
@@ -100,10 +96,9 @@ pub pairs_taken : (us : List ℕ) (n : ℕ) {xs : List ℕ} {wide : ℕ} → len
 pairs_taken us n {wide = wide} eight few fits bytes is short =
     let vs = take n us in
     let counted : length vs ≡ n = length-take-le n us (omega arith) in
-    let row = pair_row wide (first_mask is_wide us n eight few is).0 in
-    let size : length vs + (count_ones wide + count_ones 0) ≡ n + count_ones wide = omega (arith, counted, ones-mask_l is_long []) in
-    rw size at (row_taken 2 8 pair_bytes pair_places (λ u. refl) (λ u. in_pair (is_wide u) (is_long u)) vs (flat_map pair_bytes (drop n us)) row
-    (omega (arith, counted)) (bytes ∙ split_lanes pair_bytes n us) is (sym (none_set is_long vs short)) (unit_range vs (each_taken (Fits w16) n us fits))
+    let size : length vs + (count_ones wide + count_ones 0) ≡ n + count_ones wide = omega (arith, ones-mask_l is_long []) in
+    rw size at (row_taken 2 8 pair_bytes pair_places (λ u. refl) (λ u. in_pair (is_wide u) (is_long u)) vs (flat_map pair_bytes (drop n us)) (pair_row wide (first_mask is_wide us n eight few is).0)
+    (omega arith) (bytes ∙ split_lanes pair_bytes n us) is (sym (none_set is_long vs short)) (unit_range vs (each_taken (Fits w16) n us fits))
     (same_texts pair_text vs short))
 
 -- and that of any from the bytes of four
@@ -128,8 +123,7 @@ pub first_added : (us : List ℕ) (n : ℕ) {old new xs : List ℕ} {at end m wi
     → (take end new ≡ take at old ++ units_text (take 4 (take n us))) × (end ≤ at + 3 * m)
 first_added us n fits wide_is long_is is adds counted =
     let vs = take n us in
-    let bytes = rw (take_both n 4 us) at (split_lanes quad_bytes n (take 4 us)) in
-    adds.adds (take 4 vs) (flat_map quad_bytes (drop n (take 4 us))) counted (is ∙ bytes) (first_lanes is_wide 4 vs wide_is)
+    adds.adds (take 4 vs) (flat_map quad_bytes (drop n (take 4 us))) counted (is ∙ (rw (take_both n 4 us) at (split_lanes quad_bytes n (take 4 us)))) (first_lanes is_wide 4 vs wide_is)
     (first_lanes is_long 4 vs long_is) (each_taken _ 4 vs (each_taken _ n us (unit_range us fits)))
 
 -- and of the others
@@ -140,9 +134,8 @@ pub others_added : (us : List ℕ) (n : ℕ) {old new xs : List ℕ} {at end wid
 others_added us n fits eight many few wide_is long_is is adds =
     let vs = take n us in
     let all : 4 + (n - 4) ≡ n = omega arith in
-    let bytes = rw (← drop-take 4 (n - 4) us, all) at (split_lanes quad_bytes (n - 4) (drop 4 us)) in
     adds.adds (drop 4 vs) (flat_map quad_bytes (drop (n - 4) (drop 4 us))) (omega (arith, length-drop 4 vs, length-take-le n us (omega (arith, eight))))
-    (is ∙ bytes) (last_lanes is_wide vs wide_is) (last_lanes is_long vs long_is) (each_left _ 4 vs (each_taken _ n us (unit_range us fits)))
+    (is ∙ (rw (← drop-take 4 (n - 4) us, all) at (split_lanes quad_bytes (n - 4) (drop 4 us)))) (last_lanes is_wide vs wide_is) (last_lanes is_long vs long_is) (each_left _ 4 vs (each_taken _ n us (unit_range us fits)))
 
 -- long characters have three bytes each
 pub long_texts : (us : List ℕ) → Each1 (λ u. u < 65536) us → Each1 (λ u. is_long u ≡ true) us → triples us ≡ units_text us
@@ -163,14 +156,14 @@ pub plain_texts : (n : ℕ) (ys : List ℕ) → Each1 (λ u. is_wide u ≡ false
 plain_texts zero ys each = refl
 plain_texts n [] each = grind arith
 plain_texts n (low ∷ []) each = grind arith
-plain_texts (suc n) (low ∷ high ∷ ys) each = grind (arith, nat_tests, plain_text (low + 256 * high) each.0, plain_texts n ys each.1)
+plain_texts (suc n) (low ∷ high ∷ ys) each = grind (arith, plain_text (low + 256 * high) each.0, plain_texts n ys each.1)
 
 -- a surrogate is long, and so it is wide
 pub no_half : (u : ℕ) → is_long u ≡ false → is_half u ≡ false
-no_half u h = grind (arith, nat_tests)
+no_half u h = grind arith
 
 pub not_long : (u : ℕ) → is_wide u ≡ false → is_long u ≡ false
-not_long u h = grind (arith, nat_tests)
+not_long u h = grind arith
 
 -- two bytes are a unit
 pub length-units : (xs : List ℕ) → length (units xs) ≡ length xs / 2
@@ -188,11 +181,10 @@ pub plain_added : (ys old new : List ℕ) {us low : List ℕ} {wide mask at : �
     → (take (at + n) new ≡ take at old ++ units_text (take n (units ys))) × Each1 (λ u. is_half u ≡ false) (take n (units ys))
 plain_added ys old new {us} {low} {at = at} n long few within is masked lowest none low_is written =
     let plain = rw is at (none_of_first is_wide us n masked lowest none) in
-    let text = rw (take-take n 8 low few, low_is) at (front_written old new (take 8 low) at n 8 few within written) in
-    (text ∙ ap (λ l. take at old ++ l) (plain_texts n ys plain), Each1-weaker _ _ (λ u h. no_half u (not_long u h)) _ plain)
+    ((rw (take-take n 8 low few, low_is) at (front_written old new (take 8 low) at n 8 few within written)) ∙ ap (λ l. take at old ++ l) (plain_texts n ys plain), Each1-weaker _ _ (λ u h. no_half u (not_long u h)) _ plain)
 
 leads_unit : (low high : ℕ) (more : List ℕ) → is_half (low + 256 * high) ≡ false → Leads rest text (low ∷ high ∷ more) more (unit_text (low + 256 * high))
-leads_unit low high more h = grind (arith, or_parts, next_one, lone_other)
+leads_unit low high more h = grind (arith, next_one)
 
 -- so many of the units lead on
 leads_front : (k : ℕ) (ys more : List ℕ) → k ≤ length (units ys) → Each1 (λ u. is_half u ≡ false) (take k (units ys))

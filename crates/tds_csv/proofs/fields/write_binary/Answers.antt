@@ -7,4 +7,4 @@ marked (a ∷ b ∷ to) h = refl
 marked to h = absurd (omega arith)
 
 pub returns-clause-field : Rattle.tds_csv.proofs.fields.write_binary.Goals.returns-clause-field
-returns-clause-field c = grind (arith, post_of, marked, take-append-add, take-append-le, take_all)
+returns-clause-field c = grind (arith, marked, take-append-add, take-append-le, take_all)

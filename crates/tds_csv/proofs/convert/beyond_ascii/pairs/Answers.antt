@@ -17,10 +17,5 @@ returns c =
     let n = c.fits-units.0 in
     let id = sym (map-id us) in
     let parts = splat_is_map us 8 64 n in
-    let lead = zip2_of_maps _ _ _ us (zip2_of_maps _ _ _ us id parts) (splat_is_map us 8 192 n) in
-    let trail = zip2_of_maps _ _ _ us (zip2_of_maps _ _ _ us id parts) (splat_is_map us 8 128 n) in
-    let two = zip2_of_maps _ _ _ us lead (zip2_of_maps _ _ _ us trail (splat_is_map us 8 256 n)) in
-    let edge : replicate {A = ℕ} 8 128 ≡ map (λ u. 128) us = splat_is_map us 8 128 n in
-    let text = chosen _ _ _ us (zip2_of_maps (λ a b. cond (leb a b) 65535 0) _ _ us edge id) two id in
-    pair_lanes us n c.fits-units.1 (chosen _ _ _ us (zip2_of_maps _ _ _ us id (splat_is_map us 8 34 n)) (splat_is_map us 8 8738 n) text
-    ∙ same_map (λ u small. grind (arith, nat_tests)) us c.fits-units.1)
+    pair_lanes us n c.fits-units.1 (chosen _ _ _ us (zip2_of_maps _ _ _ us id (splat_is_map us 8 34 n)) (splat_is_map us 8 8738 n) (chosen _ _ _ us (zip2_of_maps (λ a b. cond (leb a b) 65535 0) _ _ us (splat_is_map us 8 128 n) id) (zip2_of_maps _ _ _ us (zip2_of_maps _ _ _ us (zip2_of_maps _ _ _ us id parts) (splat_is_map us 8 192 n)) (zip2_of_maps _ _ _ us (zip2_of_maps _ _ _ us (zip2_of_maps _ _ _ us id parts) (splat_is_map us 8 128 n)) (splat_is_map us 8 256 n))) id)
+    ∙ same_map (λ u small. grind arith) us c.fits-units.1)

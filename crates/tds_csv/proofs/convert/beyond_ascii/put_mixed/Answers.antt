@@ -12,10 +12,7 @@ pub returns-then-n-le-HALF-clause-most : goal.returns-then-n-le-HALF-clause-most
 returns-then-n-le-HALF-clause-most c =
     let us = c.args.units in
     let n = c.args.n in
-    let counted = length-take-le n us (omega (arith, c.fits-units.0)) in
-    let first = first_added us n c.fits-units.1 c.requires.wide c.requires.long c.quads.ensures.0 c.put_quads-middle.ensures
-    (omega (arith, length-take 4 (take n us), counted)) in
-    omega (arith, first.1)
+    omega (arith, (first_added us n c.fits-units.1 c.requires.wide c.requires.long c.quads.ensures.0 c.put_quads-middle.ensures (omega (arith, length-take 4 (take n us), (length-take-le n us (omega arith))))).1)
 
 pub returns-then-n-le-HALF-clause-written : goal.returns-then-n-le-HALF-clause-written
 returns-then-n-le-HALF-clause-written c =
@@ -38,21 +35,13 @@ pub put_quads-requires-clause-room : goal.put_quads-requires-clause-room
 put_quads-requires-clause-room c =
     let us = c.args.units in
     let n = c.args.n in
-    let counted = length-take-le n us (omega (arith, c.fits-units.0)) in
-    let first = first_added us n c.fits-units.1 c.requires.wide c.requires.long c.quads.ensures.0 c.put_quads-middle.ensures
-    (omega (arith, length-take 4 (take n us), counted)) in
-    omega (arith, first.1)
+    omega (arith, (first_added us n c.fits-units.1 c.requires.wide c.requires.long c.quads.ensures.0 c.put_quads-middle.ensures (omega (arith, length-take 4 (take n us), (length-take-le n us (omega arith))))).1)
 
 pub returns-clause-most : goal.returns-clause-most
 returns-clause-most c =
     let us = c.args.units in
     let n = c.args.n in
-    let counted = length-take-le n us (omega (arith, c.fits-units.0)) in
-    let first = first_added us n c.fits-units.1 c.requires.wide c.requires.long c.quads.ensures.0 c.put_quads-middle.ensures
-    (omega (arith, length-take 4 (take n us), counted)) in
-    let others = others_added us n c.fits-units.1 c.fits-units.0 (omega arith) c.requires.most c.requires.wide c.requires.long c.quads.ensures.1
-    c.put_quads.ensures in
-    omega (arith, first.1, others.1)
+    omega (arith, (first_added us n c.fits-units.1 c.requires.wide c.requires.long c.quads.ensures.0 c.put_quads-middle.ensures (omega (arith, length-take 4 (take n us), (length-take-le n us (omega arith))))).1, (others_added us n c.fits-units.1 c.fits-units.0 (omega arith) c.requires.most c.requires.wide c.requires.long c.quads.ensures.1 c.put_quads.ensures).1)
 
 pub returns-clause-written : goal.returns-clause-written
 returns-clause-written c =

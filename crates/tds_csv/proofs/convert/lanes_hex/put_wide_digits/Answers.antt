@@ -11,9 +11,8 @@ both_halves : (bytes first second third : List ℕ) (at : ℕ) → take (2 * at 
 both_halves bytes first second third at one two =
     let half : 2 * at + 32 ≡ 2 * (at + 16) = omega arith in
     let all : 2 * (at + 16) + 32 ≡ 2 * at + 64 = omega arith in
-    let parts = rw (drop-drop 16 at bytes) at (take-add 16 16 (drop at bytes)) in
     rw all at two ∙ ap (λ l. l ++ encode_lower (chunk (at + 16) 16 bytes)) (rw half at one) ∙ append_assoc (take (2 * at) first) _ _
-    ∙ ap (λ l. take (2 * at) first ++ l) (sym (ap encode_lower parts ∙ hex-append lower_digits _ _))
+    ∙ ap (λ l. take (2 * at) first ++ l) (sym (ap encode_lower (rw (drop-drop 16 at bytes) at (take-add 16 16 (drop at bytes))) ∙ hex-append lower_digits _ _))
 
 pub returns : goal.returns
 returns c = grind (arith, both_halves)

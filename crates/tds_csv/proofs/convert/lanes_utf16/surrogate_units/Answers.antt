@@ -6,4 +6,4 @@ returns c =
     let long = c.fits-units.0 in
     mask_of is_half _ us long c.fits-units.1
     (zip2_of_maps _ _ _ us (zip2_of_maps _ _ _ us (sym (map-id us)) (splat_is_map us 8 55296 long)) (splat_is_map us 8 2048 long))
-    (λ u small. grind (arith, nat_tests))
+    (λ u small. grind arith)

@@ -5,7 +5,7 @@ pub loop-at-preserved : goal.loop-at-preserved
 loop-at-preserved g c =
     let end = c.in-Some.ensures in
     record {
-      more = omega (arith, c.loop-at.invariant.more);
+      more = omega arith;
       long = search rules;
-      now = eight_more (omega (arith, c.loop-at-test.true)) end.single end.most end.written c.loop-at.invariant.now;
+      now = eight_more (omega arith) end.single end.most end.written c.loop-at.invariant.now;
     }

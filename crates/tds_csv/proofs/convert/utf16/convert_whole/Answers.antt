@@ -13,9 +13,7 @@ two_left bytes used whole leaves some = grind (arith, joins_utf16, length-drop)
 -- its text is U+FFFD
 left_text : (bytes tail : List ℕ) → tail ≡ utf16.rest bytes → length tail ≡ 2 → utf16.text tail ≡ doubled (encode_utf8 0xFFFD)
 left_text bytes tail is two =
-    let again = rw (append-nil, append-nil, ← is) at (joins_utf16.keeps bytes [] tt) in
-    let none : drop 2 tail ≡ [] = nil_of_length (drop 2 tail) (omega (arith, length-drop 2 tail)) in
-    ap doubled (rw (none, characters_nil, append-nil) at (spells_held tail (omega arith) (ap (λ n. n % 2) two) (sym again)))
+    ap doubled (rw ((nil_of_length (drop 2 tail) (omega (arith, length-drop 2 tail))), characters_nil, append-nil) at (spells_held tail (omega arith) (ap (λ n. n % 2) two) (sym (rw (append-nil, append-nil, ← is) at (joins_utf16.keeps bytes [] tt)))))
 
 -- so the text of whole data ends with it
 ended : (bytes tail : List ℕ) → length bytes % 2 ≡ 0 → tail ≡ utf16.rest bytes → length tail ≡ 2

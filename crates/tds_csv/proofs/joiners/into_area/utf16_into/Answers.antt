@@ -6,8 +6,7 @@ use Rattle.tds_csv.proofs.{
 }
 
 pub returns-in-Err : goal.returns-in-Err
-returns-in-Err c = let is : _ ≡ encode_utf8 _ = grind (arith, common_steps) in
-    c.in-Err.ensures.err ∙ stays_cut c.loop-at.invariant.added _ _ c.character_at-next.ensures.spells is
+returns-in-Err c = c.in-Err.ensures.err ∙ stays_cut c.loop-at.invariant.added _ _ c.character_at-next.ensures.spells (grind arith)
     c.in-Err.ensures.full
 
 pub loop-at-preserved : goal.loop-at-preserved
@@ -15,6 +14,4 @@ loop-at-preserved c = grind (arith, added_more)
 
 pub returns : goal.returns
 returns c =
-    let tail = drop c.loop-at.at c.args.units.now in
-    let over : tail ≡ [] = nil_of_length tail (omega (arith, length-drop c.loop-at.at c.args.units.now)) in
-    stays_whole c.loop-at.invariant.added (rw over characters_nil)
+    stays_whole c.loop-at.invariant.added (rw (nil_of_length (drop c.loop-at.at c.args.units.now) (omega (arith, length-drop c.loop-at.at c.args.units.now))) characters_nil)

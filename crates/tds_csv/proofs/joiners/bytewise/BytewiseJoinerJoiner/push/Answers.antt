@@ -1,4 +1,4 @@
 use Rattle.tds_csv.proofs.{Words.{common_steps, arith, take_all}, Puttings.{passes, pushes_taken}}
 
 pub returns : Rattle.tds_csv.proofs.joiners.bytewise.BytewiseJoinerJoiner.push.Goals.returns
-returns g c = grind (arith, pushes_taken, passes, take_all)
+returns g c = grind (arith, take_all)

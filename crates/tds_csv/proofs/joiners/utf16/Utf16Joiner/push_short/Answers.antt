@@ -2,7 +2,7 @@ use Rattle.tds_csv.proofs.joiners.utf16.Utf16Joiner.push_short.Goals as goal
 use Rattle.tds_csv.proofs.{Words.{arith, common_steps, take_all, length-drop}, Puttings.{pushes_stopped, pushes_taken}}
 
 pub returns-in_err-used : goal.returns-in_err-used
-returns-in_err-used g c = grind (arith, pushes_stopped)
+returns-in_err-used g c = grind arith
 
 pub returns : goal.returns
-returns g c = grind (arith, take_all, length-drop, pushes_taken)
+returns g c = grind (arith, length-drop)

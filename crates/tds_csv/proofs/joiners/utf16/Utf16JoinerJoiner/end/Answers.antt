@@ -2,4 +2,4 @@ use Rattle.tds_csv.proofs.joiners.utf16.Utf16JoinerJoiner.end.Goals as goal
 use Rattle.tds_csv.proofs.{Words.{common_steps, arith}, Puttings.passes}
 
 pub returns-then-bytes-eq1 : goal.returns-then-bytes-eq1
-returns-then-bytes-eq1 g c = grind (arith, passes)
+returns-then-bytes-eq1 g c = grind arith

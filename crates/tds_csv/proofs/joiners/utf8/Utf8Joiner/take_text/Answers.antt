@@ -20,6 +20,6 @@ returns g c =
     let all : scan.good ≡ length bytes = omega arith in
     let tail : take (scan.good - scan.whole) (drop scan.whole bytes) ≡ rest bytes =
     take_all _ (drop scan.whole bytes) (omega (arith, length-drop scan.whole bytes)) ∙ scanned.rest in
-    let withheld : c.set.new.self ≡ rest bytes = search (tail, rules) in
+    let withheld : c.set.new.self ≡ rest bytes = search rules in
     pushes_taken c.requires.writing.writing (scanned.begins all) (rest_begins bytes withheld (scanned.begins all)) refl withheld
     c.in_ok-scan.ensures.puts
