@@ -1,10 +1,5 @@
 -- Text that is cut to a room, a character after the other.
-use Rattle.tds_csv.proofs.{
-  Words.{common_steps, ◌≡◌, ℕ, ◌+◌, ◌-◌, ◌<◌, ◌≤◌, List, [], ◌∷◌, ◌++◌, length, take, drop, ap, arith, IsUtf8, append_assoc, append-nil, length-append},
-  Words.{length-drop, length-take-le, encode_utf8_all, encode_utf8, utf8_valid_len, take-append-drop, take-take, take-append-le, take_all, take_at},
-  Words.{take-append-add, encode_same, utf8_valid_len-IsUtf8, Space, appended, whole_within, IsUtf8-append, IsUtf8-encode, IsScalar, scalar, IsUtf8-nil},
-  Utf8Laws.{valid_len-past, valid_len_is},
-}
+use Rattle.tds_csv.proofs.{Words.{◌≡◌, ℕ, ◌+◌, ◌-◌, ◌<◌, ◌≤◌, List, [], ◌∷◌, ◌++◌, length, take, drop, ap, arith, IsUtf8, append_assoc, append-nil, length-append}, Words.{length-drop, length-take-le, encode_utf8_all, encode_utf8, utf8_valid_len, take-append-drop, take-take, take-append-le, take_all, take_at}, Words.{take-append-add, encode_same, utf8_valid_len-IsUtf8, Space, appended, whole_within, IsUtf8-append, IsUtf8-encode, IsScalar, scalar, IsUtf8-nil}, Utf8Laws.{valid_len-past, valid_len_is}}
 
 -- a beginning of a character is no text
 part_is_no_text : (c n : ℕ) → 0 < n → n < length (encode_utf8 c) → IsUtf8 (take n (encode_utf8 c)) → ⊥

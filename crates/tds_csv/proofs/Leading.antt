@@ -1,9 +1,5 @@
 -- The fixed text of some bytes, put a part after the other.
-use Rattle.tds_csv.proofs.{
-  Words.{common_steps, ◌≡◌, ◌+◌, ◌-◌, ◌≤◌, ℕ, List, [], ◌++◌, length, take, drop, Option, Result, Ok, Err, refl, sym, arith, append_assoc, take-append-drop},
-  Words.{drop-append-add, drop-drop, drop-append-le, Stop, JoinsPieces, Leads, emit, Sink, PutsPiece},
-  Puttings.{PutsPiece-longer, PutsPiece-trans},
-}
+use Rattle.tds_csv.proofs.{Words.{◌≡◌, ◌+◌, ◌-◌, ◌≤◌, ℕ, List, [], ◌++◌, length, take, drop, Option, Result, Ok, Err, refl, sym, arith, append_assoc, take-append-drop}, Words.{drop-append-add, drop-drop, drop-append-le, Stop, JoinsPieces, Leads, emit, Sink, PutsPiece}, Puttings.{PutsPiece-longer, PutsPiece-trans}}
 
 module _ {rest text : List ℕ → List ℕ} where
   pub Leads-none : {xs : List ℕ} → Leads rest text xs xs []

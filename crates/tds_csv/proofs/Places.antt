@@ -1,5 +1,5 @@
 -- What the tables of places have.
-use Rattle.tds_csv.proofs.Words.{Bool, Each1, List, [], agree_below_at, and_parts, ap, append_assoc, ap₂, arith, cond, drop, false, get_or, length, length-append, map, map-append, mask_l, nat_eq, nat_lt, nat_tests, refl, suc, swz_l, take, true, w8, zero, ℕ, ◌%◌, ◌&&◌, ◌*◌, ◌++◌, ◌+◌, ◌/◌, ◌<◌, ◌^◌, ◌∙◌, ◌∷◌, ◌≡◌, ◌≤◌}
+use Rattle.tds_csv.proofs.Words.{Bool, Each1, List, [], agree_below_at, and_parts, ap, append_assoc, ap₂, arith, cond, drop, false, get_or, length, length-append, map, map-append, mask_l, nat_eq, nat_lt, refl, suc, swz_l, take, true, w8, zero, ℕ, ◌%◌, ◌&&◌, ◌*◌, ◌++◌, ◌+◌, ◌/◌, ◌<◌, ◌^◌, ◌∙◌, ◌∷◌, ◌≡◌, ◌≤◌}
 use Rattle.std.proofs.Math.Seq.{take-append_seam}
 use Rattle.std.proofs.lemmas.List.{get_or-append-add, get_or_append_left}
 use Rattle.std.proofs.lemmas.Nat.{ones-le, ones_cat}

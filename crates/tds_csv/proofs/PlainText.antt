@@ -1,13 +1,6 @@
 -- Bytes of Windows-1252 that stand for themselves.
 use Rattle.tds_csv.specs.Windows1252 as windows_1252
-use Rattle.tds_csv.proofs.{
-  Words.{List, [], agree_below_at, ap, append-nil, arith, chunk, doubled, drop, encode_utf8_all, get_or, is_plain, is_unquoted, length, nat_tests, prefix_len, refl, sym, take, true, ℕ, ◌%◌, ◌++◌, ◌+◌, ◌-◌, ◌/◌, ◌<◌, ◌∙◌, ◌∷◌, ◌≡◌, ◌≤◌},
-  Characters.{doubled_character, of_one},
-  Characters.front_written,
-  JoiningLemmas.doubled-append,
-  SingleLaws.windows_1252-append,
-  Singles.{lanes_itself, some_itself},
-}
+use Rattle.tds_csv.proofs.{Words.{List, [], agree_below_at, ap, arith, chunk, doubled, drop, get_or, is_plain, is_unquoted, length, nat_tests, prefix_len, refl, sym, take, true, ℕ, ◌%◌, ◌++◌, ◌+◌, ◌-◌, ◌/◌, ◌<◌, ◌∙◌, ◌∷◌, ◌≡◌, ◌≤◌}, Characters.{of_one}, Characters.front_written, JoiningLemmas.doubled-append, SingleLaws.windows_1252-append, Singles.{lanes_itself, some_itself}}
 use Rattle.std.proofs.Common.{nat_le}
 use Rattle.std.proofs.lemmas.Slice.Eq.{bytes_eq-Decides}
 use Rattle.std.specs.Char.{encode_utf8}

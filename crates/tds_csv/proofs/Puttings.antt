@@ -1,8 +1,5 @@
 -- Calls that put texts, one after another.
-use Rattle.tds_csv.proofs.{
-  Words.{BadText, Bool, EndsPieces, Err, IsErrAnd, IsWriting, JoinFault, List, Ok, Option, PushesPiece, PutsPiece, Result, Sink, Stop, Stopped, TakesUpTo, [], arith, common_steps, emit, err_from_is_err_and, false, held, if◌then◌else◌, refl, true, ℕ, ◌++◌, ◌≡◌},
-  Sinks.{Breaks-after, Breaks-longer, Puts-none, Puts-trans},
-}
+use Rattle.tds_csv.proofs.{Words.{BadText, Bool, EndsPieces, Err, IsErrAnd, IsWriting, JoinFault, List, Ok, Option, PushesPiece, PutsPiece, Result, Sink, Stop, Stopped, TakesUpTo, [], arith, common_steps, emit, false, held, if◌then◌else◌, refl, true, ℕ, ◌++◌, ◌≡◌}, Sinks.{Breaks-after, Puts-none, Puts-trans}}
 
 -- nothing is put
 pub PutsPiece-none : {W U : Type 0} (contents : W → Option (List ℕ)) (a : Sink W) (u : U) → IsWriting a → PutsPiece contents a a [] (Ok u)

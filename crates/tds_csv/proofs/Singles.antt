@@ -1,9 +1,5 @@
 -- Data whose bytes each stand alone, put a run after the other.
-use Rattle.tds_csv.proofs.{
-  Words.{common_steps, ◌≡◌, ◌∙◌, ◌+◌, ◌≤◌, ℕ, zero, suc, ◌-◌, Bool, true, false, cond, List, [], ◌∷◌, ◌++◌, take, drop, Option, Result, Ok, Err, refl, sym, ap},
-  Words.{subst, arith, prefix_len, IsErrAnd, take-append-drop, take-take, take-add, chunk, Stop, Sink, PutsPiece},
-  Puttings.{PutsPiece-longer, PutsPiece-ok, PutsPiece-passed, PutsPiece-trans},
-}
+use Rattle.tds_csv.proofs.{Words.{◌≡◌, ◌+◌, ◌≤◌, ℕ, zero, suc, ◌-◌, Bool, true, List, [], ◌∷◌, ◌++◌, take, drop, Option, Result, Ok, Err, refl}, Words.{arith, prefix_len, IsErrAnd, take-append-drop, take-take, take-add, chunk, Stop, Sink, PutsPiece}, Puttings.{PutsPiece-longer, PutsPiece-ok, PutsPiece-passed, PutsPiece-trans}}
 
 module _ (text : List ℕ → List ℕ) (appends : (x y : List ℕ) → text (x ++ y) ≡ text x ++ text y) where
   runs : (t e : ℕ) (xs : List ℕ) → t ≤ e → text (take t xs) ++ text (take (e - t) (drop t xs)) ≡ text (take e xs)

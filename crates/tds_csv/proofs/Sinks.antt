@@ -29,8 +29,7 @@ Puts-trans a b c p q x y = (
 
 pub Breaks-after : (a b c : Held) (p q : List ℕ) (e : Stop) → Puts a b p → Breaks b c q e → Breaks a c (p ++ q) e
 Breaks-after a b c p q e x y =
-    let len = length-append x.0 y.0 in
-    (
+    let len = length-append x.0 y.0 in (
       x.0 ++ y.0,
       x.1 + y.1,
       length p + y.2,

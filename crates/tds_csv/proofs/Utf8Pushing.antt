@@ -1,12 +1,5 @@
 -- Pieces of text in UTF-8, one after the other.
-use Rattle.tds_csv.proofs.{
-  Words.{common_steps, ◌≡◌, ◌∙◌, ◌↔◌, ℕ, ◌+◌, ◌-◌, ◌<◌, ◌≤◌, List, [], ◌++◌, length, take, drop, inl, inr, Option, Result, Ok, Err, refl, sym, ap, arith},
-  Words.{append_assoc, append-nil, length-append, length-drop, length-take-le, cases_lt, take-append-drop, take-take, take-append-le, drop-append-le, take_all},
-  Words.{drop-append-add, take-append-add, emit, IsErrAnd, err_from_is_err_and, JoinFault, Stopped, Odd, BadText, Sink},
-  Words.{Pushes, PushesPiece, TakesPiece, TakesUpTo, Held, held, IsScan, StopsAt},
-  Utf8Laws.{joins_utf8, emits, rest-append},
-  Sinks.{Puts-trans, Breaks-after, Breaks-longer},
-}
+use Rattle.tds_csv.proofs.{Words.{◌≡◌, ◌∙◌, ◌↔◌, ℕ, ◌+◌, ◌-◌, ◌<◌, ◌≤◌, List, [], ◌++◌, length, take, drop, inl, inr, Option, Result, Ok, Err, refl, sym, ap, arith}, Words.{append_assoc, append-nil, length-append, length-drop, length-take-le, cases_lt, take-append-drop, take-take, take-append-le, drop-append-le, take_all}, Words.{drop-append-add, take-append-add, emit, IsErrAnd, JoinFault, Stopped, Odd, BadText, Sink}, Words.{Pushes, PushesPiece, TakesPiece, TakesUpTo, Held, held, IsScan, StopsAt}, Utf8Laws.{joins_utf8, emits, rest-append}, Sinks.{Puts-trans, Breaks-after, Breaks-longer}}
 use Rattle.tds_csv.specs.Utf8.{Begins, rest, text}
 
 -- the answer of a push, by where its piece begins in another one

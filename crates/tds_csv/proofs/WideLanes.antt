@@ -1,9 +1,5 @@
 -- Units that are looked at eight at a time, lane by lane.
-use Rattle.tds_csv.{
-  proofs.Words.{common_steps, drop, take, get_or, ◌++◌, ◌≡◌, ◌∙◌, ◌+◌, ◌*◌, ◌/◌, ◌%◌, ◌<◌, ℕ, Bool, zero, suc, List, [], ◌∷◌, map, length, refl, ap, arith},
-  proofs.Words.{nat_tests, Fits, w8, w16, Each1, map-map, top, sel_l, length-map, cond, eqb, leb},
-  specs.{Utf16.units, Wide.{high_quad, low_and_high, low_quad, pair, pair_bytes, quad_bytes, triples}},
-}
+use Rattle.tds_csv.{proofs.Words.{drop, take, get_or, ◌++◌, ◌≡◌, ◌∙◌, ◌+◌, ◌*◌, ◌/◌, ◌%◌, ◌<◌, ℕ, Bool, zero, suc, List, [], ◌∷◌, map, length, refl, ap, arith}, proofs.Words.{Fits, w8, w16, Each1, map-map, top, sel_l, length-map, cond, eqb, leb}, specs.{Utf16.units, Wide.{high_quad, low_and_high, low_quad, pair, pair_bytes, quad_bytes, triples}}}
 use Rattle.std.specs.{Prelude.flat_map, Simd.Lanes.number_l}
 use lib.Lanes.{digits_l}
 

@@ -1,6 +1,4 @@
-use Rattle.{
-  tds_csv.proofs.Words.{common_steps, ◌≡◌, ℕ, ◌≤◌, List, [], ◌∷◌, length, take, refl, arith, slice_set, take-append-le, take_all, take-append-add, post_of},
-}
+use Rattle.{tds_csv.proofs.Words.{◌≡◌, ℕ, ◌≤◌, List, [], ◌∷◌, length, take, refl, arith, slice_set, take-append-le, take_all, take-append-add}}
 
 marked : (to : List ℕ) → 2 ≤ length to → take 2 (slice_set (slice_set to 0 48) 1 120) ≡ 48 ∷ 120 ∷ []
 marked (a ∷ b ∷ to) h = refl

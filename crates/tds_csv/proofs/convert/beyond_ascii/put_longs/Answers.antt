@@ -1,5 +1,5 @@
 use Rattle.tds_csv.proofs.convert.beyond_ascii.put_longs.Goals as goal
-use Rattle.tds_csv.{proofs.{Words.{common_steps, arith, take_all}, LaneMasks.all_pass}, specs.Wide.is_long}
+use Rattle.tds_csv.{proofs.{Words.{common_steps, arith}, LaneMasks.all_pass}, specs.Wide.is_long}
 
 pub put_triples-requires-clause-long : goal.put_triples-requires-clause-long
 put_triples-requires-clause-long c =

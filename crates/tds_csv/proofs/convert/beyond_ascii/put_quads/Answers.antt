@@ -1,8 +1,5 @@
 use Rattle.tds_csv.proofs.convert.beyond_ascii.put_quads.Goals as goal
-use Rattle.tds_csv.{
-  proofs.{Words.{common_steps, arith}, LaneMasks.few_ones, Places.{ones_of_two, quad_row}, WideText.quads_taken},
-  specs.Wide.{is_long, is_wide},
-}
+use Rattle.tds_csv.{proofs.{Words.{arith}, LaneMasks.few_ones, Places.{ones_of_two, quad_row}, WideText.quads_taken}, specs.Wide.{is_long, is_wide}}
 
 pub gathered-requires-clause-places : goal.gathered-requires-clause-places
 gathered-requires-clause-places c = rw c.quad_places.ensures (quad_row c.args.wide c.args.long c.requires.wide c.requires.long).small

@@ -1,8 +1,5 @@
 use Rattle.tds_csv.proofs.convert.beyond_ascii.put_units.Goals as goal
-use Rattle.{
-  tds_csv.{proofs.{Words.{common_steps, arith, ◌∙◌}, LaneMasks.{first_lanes, none_of_first}, WideText.{no_half, plain_added}}, specs.Wide.{is_long, is_wide}},
-  std.proofs.lemmas.Simd.Each1-weaker,
-}
+use Rattle.{tds_csv.{proofs.{Words.{arith}, LaneMasks.{first_lanes, none_of_first}, WideText.{no_half, plain_added}}, specs.Wide.{is_long}}, std.proofs.lemmas.Simd.Each1-weaker}
 
 pub returns-then-wide-eq0-clause-written : goal.returns-then-wide-eq0-clause-written
 returns-then-wide-eq0-clause-written c = (plain_added _ _ _ _ c.fits-lanes.0 c.requires.most (omega arith)

@@ -1,5 +1,5 @@
 use Rattle.tds_csv.proofs.convert.encode.take_before.Goals as goal
-use Rattle.tds_csv.proofs.Words.{◌+◌, ◌≤◌, arith, length, length-chunk}
+use Rattle.tds_csv.proofs.Words.{arith, length-chunk}
 
 pub put_lanes-requires : goal.put_lanes-requires
 put_lanes-requires c =

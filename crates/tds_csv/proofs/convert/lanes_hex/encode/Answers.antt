@@ -22,7 +22,7 @@ ended : (bytes to new : List ℕ) (at : ℕ) → at ≤ length bytes → length 
     → new ≡ encode_lower (take (length bytes - at) (drop at bytes)) → put_mid (2 * at) (length to - 2 * at) to new ≡ encode_lower bytes
 ended bytes to new at within room front back =
     rw (
-      (nil_of_length (post_of (2 * at) (length to - 2 * at) to) (omega ( arith, length-drop (length to - 2 * at) (drop (2 * at) to), length-drop (2 * at) to, ))),
+      (nil_of_length (post_of (2 * at) (length to - 2 * at) to) (omega (arith, length-drop (length to - 2 * at) (drop (2 * at) to), length-drop (2 * at) to))),
       append-nil,
       front,
       back,

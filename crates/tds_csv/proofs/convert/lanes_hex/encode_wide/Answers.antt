@@ -1,9 +1,5 @@
 use Rattle.tds_csv.proofs.convert.lanes_hex.encode_wide.Goals as goal
-use Rattle.tds_csv.proofs.{
-  Words.{common_steps, ◌≡◌, ◌+◌, ◌*◌, ◌++◌, ℕ, List, take, arith, rules, chunk, encode_lower, lower_digits},
-  SingleLaws.{hex-append, hex-nil},
-  Singles.text_taken,
-}
+use Rattle.tds_csv.proofs.{Words.{◌≡◌, ◌+◌, ◌*◌, ◌++◌, ℕ, List, take, arith, rules, chunk, encode_lower, lower_digits}, SingleLaws.{hex-append, hex-nil}, Singles.text_taken}
 
 pub loop-at-init : goal.loop-at-init
 loop-at-init c = grind (arith, hex-nil)

@@ -1,8 +1,5 @@
 use Rattle.tds_csv.proofs.convert.lanes_hex.put_wide_digits.Goals as goal
-use Rattle.tds_csv.proofs.{
-  Words.{common_steps, ◌≡◌, ◌∙◌, ◌+◌, ◌*◌, ◌++◌, ℕ, List, take, drop, sym, ap, arith, append_assoc, take-add, drop-drop, chunk, encode_lower, lower_digits},
-  SingleLaws.hex-append,
-}
+use Rattle.tds_csv.proofs.{Words.{◌≡◌, ◌∙◌, ◌+◌, ◌*◌, ◌++◌, ℕ, List, take, drop, sym, ap, arith, append_assoc, take-add, drop-drop, chunk, encode_lower, lower_digits}, SingleLaws.hex-append}
 
 -- the digits of twice 16 bytes were written
 both_halves : (bytes first second third : List ℕ) (at : ℕ) → take (2 * at + 32) second ≡ take (2 * at) first ++ encode_lower (chunk at 16 bytes)

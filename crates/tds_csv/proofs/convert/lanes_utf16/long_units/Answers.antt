@@ -1,7 +1,4 @@
-use Rattle.tds_csv.{
-  proofs.{Words.{◌≡◌, map, replicate, ℕ, cond, leb, arith, nat_tests, map-id, sym, zip2_of_maps, splat_is_map}, LaneMasks.mask_of},
-  specs.Wide.is_long,
-}
+use Rattle.tds_csv.{proofs.{Words.{cond, leb, arith, map-id, sym, zip2_of_maps, splat_is_map}, LaneMasks.mask_of}, specs.Wide.is_long}
 
 pub returns : Rattle.tds_csv.proofs.convert.lanes_utf16.long_units.Goals.returns
 returns c =

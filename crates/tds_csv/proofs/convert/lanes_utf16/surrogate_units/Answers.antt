@@ -1,4 +1,4 @@
-use Rattle.tds_csv.{proofs.{Words.{arith, nat_tests, map-id, sym, zip2_of_maps, splat_is_map}, LaneMasks.mask_of}, specs.Wide.is_half}
+use Rattle.tds_csv.{proofs.{Words.{arith, map-id, sym, zip2_of_maps, splat_is_map}, LaneMasks.mask_of}, specs.Wide.is_half}
 
 pub returns : Rattle.tds_csv.proofs.convert.lanes_utf16.surrogate_units.Goals.returns
 returns c =

@@ -1,7 +1,4 @@
-use Rattle.tds_csv.{
-  proofs.{Words.{◌≡◌, map, replicate, ℕ, bit_or, cond, leb, eqb, arith, nat_tests, map-id, sym, zip2_of_maps, splat_is_map}, LaneMasks.mask_of},
-  specs.Wide.is_wide,
-}
+use Rattle.tds_csv.{proofs.{Words.{bit_or, cond, leb, eqb, arith, map-id, sym, zip2_of_maps, splat_is_map}, LaneMasks.mask_of}, specs.Wide.is_wide}
 
 pub returns : Rattle.tds_csv.proofs.convert.lanes_utf16.wide_units.Goals.returns
 returns c =

@@ -1,4 +1,4 @@
-use Rattle.tds_csv.proofs.Words.{common_steps, arith}
+use Rattle.tds_csv.proofs.Words.{arith}
 use Rattle.tds_csv.proofs.convert.utf16.convert_from.Goals as goal
 use Rattle.tds_csv.proofs.Utf16Steps.{ends_held}
 

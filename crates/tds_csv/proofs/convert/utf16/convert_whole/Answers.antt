@@ -1,10 +1,6 @@
 use Rattle.tds_csv.specs.Utf16 as utf16
 use Rattle.tds_csv.proofs.convert.utf16.convert_whole.Goals as goal
-use Rattle.tds_csv.{
-  proofs.Words.{common_steps, ◌≡◌, ◌≢◌, ◌%◌, ◌++◌, ℕ, List, [], length, drop, sym, ap, arith, length-drop, append-nil, encode_utf8, emit, doubled},
-  proofs.{Characters.doubled_length, Utf16Laws.joins_utf16, Utf16Steps.{characters_nil, nil_of_length, spells_held}},
-  specs.Utf16Next.LeavesRest,
-}
+use Rattle.tds_csv.{proofs.Words.{◌≡◌, ◌≢◌, ◌%◌, ◌++◌, ℕ, List, [], length, drop, sym, ap, arith, length-drop, append-nil, encode_utf8, emit, doubled}, proofs.{Characters.doubled_length, Utf16Laws.joins_utf16, Utf16Steps.{characters_nil, nil_of_length, spells_held}}, specs.Utf16Next.LeavesRest}
 
 -- what is left of whole data has two bytes
 two_left : (bytes : List ℕ) (used : ℕ) → length bytes % 2 ≡ 0 → LeavesRest bytes 0 used → used ≢ length bytes → length (drop used bytes) ≡ 2

@@ -1,4 +1,4 @@
-use Rattle.tds_csv.proofs.{Words.{◌≡◌, ◌∙◌, ◌+◌, ◌++◌, length, take, drop, ap, arith, rules, length-take-le, take-add, Space, held_before}, Sinks.block}
+use Rattle.tds_csv.proofs.{Words.{◌≡◌, ◌∙◌, ◌+◌, length, take, ap, arith, rules, length-take-le, take-add, Space, held_before}, Sinks.block}
 
 pub returns : Rattle.tds_csv.proofs.sink.Sink.keep.Goals.returns
 returns g c =

@@ -1,4 +1,4 @@
-use Rattle.tds_csv.proofs.Words.{common_steps, arith, ap, Space, fresh}
+use Rattle.tds_csv.proofs.Words.{arith}
 
 pub returns-clause-held : Rattle.tds_csv.proofs.sink.Sink.new.Goals.returns-clause-held
 returns-clause-held g c = grind arith

@@ -1,5 +1,5 @@
 use Rattle.tds_csv.proofs.sink.Sink.put.Goals as goal
-use Rattle.tds_csv.proofs.{Words.{common_steps, ◌+◌, take_all, arith, rules, refl}, Singles.{puts_break, puts_more}}
+use Rattle.tds_csv.proofs.{Words.{◌+◌, take_all, arith, rules, refl}, Singles.{puts_break, puts_more}}
 
 pub returns-in_err-push : goal.returns-in_err-push
 returns-in_err-push g c = puts_break (λ l. l) (λ x y. refl) _ (c.loop-taken.taken + _) _ (omega arith)

@@ -1,5 +1,5 @@
 use Rattle.tds_csv.proofs.joiners.utf16.Utf16Joiner.push_short.Goals as goal
-use Rattle.tds_csv.proofs.{Words.{arith, common_steps, take_all, length-drop}, Puttings.{pushes_stopped, pushes_taken}}
+use Rattle.tds_csv.proofs.{Words.{arith, length-drop}}
 
 pub returns-in_err-used : goal.returns-in_err-used
 returns-in_err-used g c = grind arith

@@ -1,5 +1,5 @@
 use Rattle.tds_csv.proofs.joiners.utf8.Utf8Joiner.push_short.Goals as goal
-use Rattle.tds_csv.proofs.{Words.{◌≡◌, ◌++◌, arith, common_steps}, Utf8Pushing.{after_kept, pushes_seam}}
+use Rattle.tds_csv.proofs.{Words.{◌≡◌, ◌++◌, arith}, Utf8Pushing.{after_kept, pushes_seam}}
 
 pub overflow_sub-result : goal.overflow_sub-result
 overflow_sub-result g c =
