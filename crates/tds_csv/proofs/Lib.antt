@@ -2,13 +2,11 @@ pub mod ConversionLaws
 pub mod Rows
 pub mod Characters
 pub mod Utf16Steps
-pub mod Leading
 pub mod Utf8Pushing
 pub mod Cuts
 pub mod Spares
 pub mod Sinks
 pub mod Singles
-pub mod PlainText
 pub mod Puttings
 mod QuotedFields
 pub mod Streams
@@ -22,6 +20,5 @@ pub mod SingleLaws
 pub mod JoiningLemmas
 pub mod LaneMasks
 pub mod Places
-pub mod WideLanes
 pub mod WideText
 pub mod Words

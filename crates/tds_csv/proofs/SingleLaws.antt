@@ -30,3 +30,7 @@ windows_1252-append x y = grind (arith, map-append, encodes-append, doubled-appe
 -- text in Windows-1252 may come in pieces
 pub joins_windows_1252 : JoinsPieces windows_1252.IsFit windows_1252.IsFit windows_1252.rest windows_1252.text
 joins_windows_1252 = joins_single windows_1252.text windows_1252-append refl
+
+pub ruleset hex_laws = (hex-append, hex-nil)
+
+pub ruleset windows_1252_laws = (windows_1252-append)

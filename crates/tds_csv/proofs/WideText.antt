@@ -1,5 +1,5 @@
 -- The text of units that are characters of at most three bytes.
-use Rattle.tds_csv.proofs.{Words.{common_steps, ◌-◌, take-take, evens, length-chunk, refl, LiesIn, chunk, drop-drop, Bool, Each1, length-take-le, Fits, Leads, List, [], ap}, Words.{append_assoc, arith, cond, drop, length-append, length-map, mask_l, false, get_or, length, map}, Words.{nat_tests, flat_map-append, suc, sym, take, take-append-drop, true, w16, zero, ℕ, ◌%◌, ◌*◌, ◌++◌, ◌+◌, ◌/◌, ◌<◌, ◌∙◌, ◌∷◌, ◌≡◌, ◌≤◌, drop-take}, Words.{length-drop, take_all, ◌^◌}, LaneMasks.alike, Characters.{of_one, of_two, of_three, doubled_character}, Characters.front_written, Places.{bits, gathered_text, placed, row_begins, same_texts}, LaneMasks.{first_lanes, first_mask, last_lanes, none_of_first, none_set}, Leading.{Leads-none, Leads-trans}, Places.{IsRow, ones_of_two, pair_places, pair_row, quad_places, quad_row}, Utf16Steps.{next_one}}
+use Rattle.tds_csv.proofs.{Words.{common_steps, ◌-◌, take-take, evens, length-chunk, refl, LiesIn, chunk, drop-drop, Bool, Each1, length-take-le, Fits, Leads, List, [], ap}, Words.{append_assoc, arith, cond, drop, length-append, length-map, mask_l, false, get_or, length, map}, Words.{nat_tests, flat_map-append, suc, sym, take, take-append-drop, true, w16, zero, ℕ, ◌%◌, ◌*◌, ◌++◌, ◌+◌, ◌/◌, ◌<◌, ◌∙◌, ◌∷◌, ◌≡◌, ◌≤◌, drop-take}, Words.{length-drop, take_all, ◌^◌}, LaneMasks.alike, Characters.{of_one, of_two, of_three, doubled_character}, Characters.front_written, Places.{bits, gathered_text, placed, row_begins, same_texts}, LaneMasks.{first_lanes, first_mask, last_lanes, none_of_first, none_set}, JoiningLemmas.{Leads-none, Leads-trans}, Places.{IsRow, ones_of_two, pair_places, pair_row, quad_places, quad_row}, Utf16Steps.{next_one}}
 use Rattle.tds_csv.specs.{
   Utf16.{units, rest, text},
   Utf16Next.Converts,

@@ -22,6 +22,7 @@ const EVERY: u64 = 0xFF;
 
 // The lanes at places.
 #[inline(always)]
+#[tactic(auto, using(crate::proofs::Places::looked_up))]
 fn gathered(lanes: u8x16, places: [u8; 16]) -> u8x16
     requires lanes { length lanes ≡ LANES }
     requires places { Each1 (λ k. k < LANES) places }
@@ -83,6 +84,7 @@ fn triples(units: u16x8) -> (u8x16, u8x16)
 
 // Writes the text of the first `n` of eight short characters; the mask says which of them are wide.
 #[inline(always)]
+#[tactic(auto, using(crate::proofs::LaneMasks::first_mask))]
 fn put_pairs(to: &mut [u8], at: usize, units: u16x8, wide: u64, n: usize) -> usize
     requires most { n ≤ UNITS }
     requires wide { wide ≡ mask_l (map is_wide (take n units)) }
@@ -98,6 +100,7 @@ fn put_pairs(to: &mut [u8], at: usize, units: u16x8, wide: u64, n: usize) -> usi
 
 // Writes the text of the first `n` of four characters whose bytes are these, with masks of the wide and the long ones.
 #[inline(always)]
+#[tactic(auto, using(crate::proofs::Places::ones_of_two))]
 fn put_quads(to: &mut [u8], at: usize, quads: u8x16, wide: u64, long: u64, n: usize) -> usize
     requires most { n ≤ HALF }
     requires wide { wide < 16 }
@@ -143,6 +146,7 @@ fn put_triples(to: &mut [u8], at: usize, units: u16x8)
 
 // Writes the text of eight characters, with the mask of the long ones.
 #[inline(always)]
+#[tactic(auto, using(std::proofs::lemmas::Grind::common_steps))]
 fn put_longs(to: &mut [u8], at: usize, units: u16x8, long: u64) -> usize
     requires long { long ≡ mask_l (map is_long units) }
     requires room { at + 3 * UNITS + LANES ≤ length to.old }
@@ -159,6 +163,7 @@ fn put_longs(to: &mut [u8], at: usize, units: u16x8, long: u64) -> usize
 // Writes the text of the first `n` of eight characters, some of them long, and returns its end. Writes none if one of
 // them is a surrogate or all of the eight are long.
 #[inline(always)]
+#[tactic(auto, using(crate::proofs::LaneMasks::none_of_first))]
 fn put_few(to: &mut [u8], at: usize, units: u16x8, wide: u64, long: u64, n: usize) -> Option<usize>
     requires most { n ≤ UNITS }
     requires wide { wide ≡ mask_l (map is_wide (take n units)) }
@@ -178,6 +183,7 @@ fn put_few(to: &mut [u8], at: usize, units: u16x8, wide: u64, long: u64, n: usiz
 // Writes the text of the first `n` of eight units, and returns its end. Writes none if one of them is a surrogate or all of
 // the eight are long.
 #[inline(always)]
+#[tactic(auto, using(crate::proofs::LaneMasks::first_lanes, crate::proofs::LaneMasks::none_of_first))]
 pub(crate) fn put_units(to: &mut [u8], at: usize, lanes: u8x16, n: usize) -> Option<usize>
     requires most { n ≤ UNITS }
     requires room { at + 3 * n + LANES ≤ length to.old }

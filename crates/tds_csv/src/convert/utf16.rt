@@ -111,6 +111,7 @@ pub(crate) struct Converted {
 
 // Goes on with the text by one character, if that doesn't depend on what follows.
 #[inline(always)]
+#[tactic(auto, using(crate::proofs::Characters::doubled_length, std::proofs::lemmas::Grind::common_steps))]
 pub(crate) fn convert_one(bytes: &[u8], from: usize, to: &mut [u8], start: usize) -> Converted
     requires long { 3 * length bytes.now + 2 * LANES ≤ 2 * length to.old }
     requires before { Converts bytes.now to.old from start }
@@ -217,6 +218,7 @@ fn convert_run(bytes: &[u8], source: &[u8], from: usize, to: &mut [u8], start: u
 }
 
 // How many of the next eight units come before the first surrogate among them.
+#[tactic(auto, using(crate::proofs::LaneMasks::first_few))]
 fn units_before(source: &[u8], at: usize) -> usize
     requires { at ≤ length source.now }
     ensures { result ≤ UNITS }
@@ -230,6 +232,7 @@ fn units_before(source: &[u8], at: usize) -> usize
 
 // Goes on with the text of the characters that are fixed, with surrogates.
 #[inline(never)]
+#[tactic(auto, using(crate::proofs::Utf16Steps::ends_held))]
 fn convert_from(bytes: &[u8], source: &[u8], after: Converted, to: &mut [u8]) -> Converted
     requires { ConvertsIn bytes.now source.now to.old after.used after.made }
     ensures text { take result.made to.new ≡ emit utf16.rest utf16.text bytes.now }
@@ -250,6 +253,7 @@ fn convert_from(bytes: &[u8], source: &[u8], after: Converted, to: &mut [u8]) ->
 
 // Writes the text of the characters that are fixed. What follows the bytes in the source may be looked at.
 #[inline(always)]
+#[tactic(auto, using(crate::proofs::Utf16Steps::ends_there))]
 pub(crate) fn convert(bytes: &[u8], source: &[u8], to: &mut [u8]) -> Converted
     requires source { LiesIn bytes.now source.now }
     requires long { 3 * length bytes.now + 2 * LANES ≤ 2 * length to.old }

@@ -29,5 +29,6 @@ impl Bytewise for Hex {
         Converted { used, made }
     }
 
+    #[tactic(auto, using(crate::proofs::SingleLaws::hex_laws))]
     fn laws() {}
 }

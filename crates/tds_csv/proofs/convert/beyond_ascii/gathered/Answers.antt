@@ -3,6 +3,3 @@ use Rattle.tds_csv.proofs.{Words.{refl, arith, w8, SwzOk-from_below}, Places.loo
 
 pub swizzle : goal.swizzle
 swizzle c = SwzOk-from_below w8 16 1 16 0 c.args.places refl (omega arith) c.requires.places
-
-pub returns : goal.returns
-returns c = grind (arith, looked_up)

@@ -4,12 +4,3 @@ use Rattle.tds_csv.{proofs.{Words.{common_steps, arith}, LaneMasks.all_pass}, sp
 pub put_triples-requires-clause-long : goal.put_triples-requires-clause-long
 put_triples-requires-clause-long c =
     (all_pass is_long 8 c.args.units (omega arith) (omega arith)).0
-
-pub put_mixed-requires-clause-wide : goal.put_mixed-requires-clause-wide
-put_mixed-requires-clause-wide c = grind (arith, common_steps)
-
-pub put_mixed-requires-clause-long : goal.put_mixed-requires-clause-long
-put_mixed-requires-clause-long c = grind (arith, common_steps)
-
-pub returns-clause-written : goal.returns-clause-written
-returns-clause-written c = grind (arith, common_steps)

@@ -8,12 +8,6 @@ pub gathered-requires-clause-places : goal.gathered-requires-clause-places
 gathered-requires-clause-places c =
     rw c.pair_places.ensures (pair_row c.args.wide (first_mask is_wide c.args.units c.args.n c.fits-units.0 c.requires.most c.requires.wide).0).small
 
-pub put_lanes-requires : goal.put_lanes-requires
-put_lanes-requires c = grind (arith, first_mask)
-
-pub returns-clause-most : goal.returns-clause-most
-returns-clause-most c = grind (arith, first_mask)
-
 pub returns-clause-written : goal.returns-clause-written
 returns-clause-written c =
     cc ((pairs_taken c.args.units c.args.n c.fits-units.0 c.requires.most c.fits-units.1 c.pairs.ensures c.requires.wide c.requires.short))

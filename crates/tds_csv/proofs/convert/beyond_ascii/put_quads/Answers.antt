@@ -4,9 +4,6 @@ use Rattle.tds_csv.{proofs.{Words.{arith}, LaneMasks.few_ones, Places.{ones_of_t
 pub gathered-requires-clause-places : goal.gathered-requires-clause-places
 gathered-requires-clause-places c = rw c.quad_places.ensures (quad_row c.args.wide c.args.long c.requires.wide c.requires.long).small
 
-pub put_lanes-requires : goal.put_lanes-requires
-put_lanes-requires c = grind (arith, ones_of_two)
-
 pub returns : goal.returns
 returns c = record {
   adds = λ units more long is wide_is long_is range.

@@ -9,17 +9,5 @@ pub returns-then-wide-eq0-clause-single : goal.returns-then-wide-eq0-clause-sing
 returns-then-wide-eq0-clause-single c = (plain_added _ _ _ _ c.fits-lanes.0 c.requires.most (omega arith)
     c.units_of-units.ensures c.wide_units.ensures c.lowest-wide.ensures c.if-wide-eq0.true c.low_bytes.ensures c.put_lanes.ensures).1
 
-pub put_pairs-requires-clause-wide : goal.put_pairs-requires-clause-wide
-put_pairs-requires-clause-wide c = grind (arith, first_lanes)
-
-pub put_pairs-requires-clause-short : goal.put_pairs-requires-clause-short
-put_pairs-requires-clause-short c = grind (arith, none_of_first)
-
 pub returns-then-long-eq0-clause-single : goal.returns-then-long-eq0-clause-single
 returns-then-long-eq0-clause-single c = Each1-weaker _ _ no_half _ (rw c.units_of-units.ensures at (none_of_first is_long _ _ c.long_units.ensures c.lowest-long.ensures c.if-long-eq0.true))
-
-pub put_few-requires-clause-wide : goal.put_few-requires-clause-wide
-put_few-requires-clause-wide c = grind (arith, first_lanes)
-
-pub put_few-requires-clause-long : goal.put_few-requires-clause-long
-put_few-requires-clause-long c = grind (arith, first_lanes)

@@ -1,5 +1,5 @@
 use Rattle.tds_csv.proofs.convert.beyond_ascii.quads.Goals as goal
-use Rattle.tds_csv.proofs.{Words.{◌∙◌, cond, eqb, leb, arith, map-id, sym, zip2_of_maps, splat_is_map, Each2-splat, Each1-all}, LaneMasks.same_map, WideLanes.{chosen, high_lane, low_lane, quad_lanes}}
+use Rattle.tds_csv.proofs.{Words.{◌∙◌, cond, eqb, leb, arith, map-id, sym, zip2_of_maps, splat_is_map, Each2-splat, Each1-all}, LaneMasks.same_map, Places.{chosen, high_lane, low_lane, quad_lanes}}
 
 pub nonzero_rem-trail : goal.nonzero_rem-trail
 nonzero_rem-trail c = Each2-splat _ _ 8 64 (Each1-all _ (λ x. omega arith) _)

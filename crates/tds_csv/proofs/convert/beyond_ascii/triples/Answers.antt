@@ -1,5 +1,5 @@
 use Rattle.tds_csv.proofs.convert.beyond_ascii.triples.Goals as goal
-use Rattle.tds_csv.proofs.{Words.{◌∙◌, arith, map-id, sym, zip2_of_maps, splat_is_map, Each2-splat, Each1-all}, LaneMasks.same_map, WideLanes.{three_each, lead, others}}
+use Rattle.tds_csv.proofs.{Words.{◌∙◌, arith, map-id, sym, zip2_of_maps, splat_is_map, Each2-splat, Each1-all}, LaneMasks.same_map, Places.{three_each, lead, others}}
 
 pub nonzero_div-lead : goal.nonzero_div-lead
 nonzero_div-lead c = Each2-splat _ _ 8 4096 (Each1-all _ (λ x. omega arith) _)

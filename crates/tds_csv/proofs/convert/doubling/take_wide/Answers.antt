@@ -1,5 +1,5 @@
 use Rattle.tds_csv.proofs.convert.doubling.take_wide.Goals as goal
-use Rattle.tds_csv.proofs.{Words.{◌∙◌, ◌++◌, ap, take, arith, is_unquoted}, LaneMasks.run_most, PlainText.unquoted_lanes}
+use Rattle.tds_csv.proofs.{Words.{◌∙◌, ◌++◌, ap, take, arith, is_unquoted}, LaneMasks.run_most, Singles.unquoted_lanes}
 
 pub take_before-requires-clause-stops : goal.take_before-requires-clause-stops
 take_before-requires-clause-stops c = omega (arith, run_most is_unquoted c.args.bytes.now c.args.at 32 c.requires.wide)

@@ -1,9 +1,6 @@
 use Rattle.tds_csv.proofs.convert.lanes_hex.encode_wide.Goals as goal
 use Rattle.tds_csv.proofs.{Words.{◌≡◌, ◌+◌, ◌*◌, ◌++◌, ℕ, List, take, arith, rules, chunk, encode_lower, lower_digits}, SingleLaws.{hex-append, hex-nil}, Singles.text_taken}
 
-pub loop-at-init : goal.loop-at-init
-loop-at-init c = grind (arith, hex-nil)
-
 -- the digits of twice 32 bytes were written
 two_steps : (bytes first second third : List ℕ) (at : ℕ) → take (2 * at) first ≡ encode_lower (take at bytes)
     → take (2 * at + 64) second ≡ take (2 * at) first ++ encode_lower (chunk at 32 bytes)

@@ -13,6 +13,3 @@ returns-in-Some-clause-scan c =
     (ap (λ n. utf8_error_len (drop n c.args.bytes.now)) c.valid_up_to-whole.ensures ∙ sym c.in-Err.ensures.fault
     ∙ sym c.in-Some.ensures) c.good_of.ensures in
     grind arith
-
-pub returns-in-None-clause-scan : goal.returns-in-None-clause-scan
-returns-in-None-clause-scan c = grind (arith, none_begins)

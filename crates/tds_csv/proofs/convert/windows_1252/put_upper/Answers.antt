@@ -1,5 +1,5 @@
 use Rattle.tds_csv.proofs.convert.windows_1252.put_upper.Goals as goal
-use Rattle.tds_csv.proofs.{Words.{◌≡◌, ◌+◌, arith}, Characters.three_more, PlainText.{upper_put, upper_text}}
+use Rattle.tds_csv.proofs.{Words.{◌≡◌, ◌+◌, arith}, Characters.three_more, Singles.{upper_put, upper_text}}
 
 pub returns-clause-most : goal.returns-clause-most
 returns-clause-most c = omega (arith, (upper_text _ c.requires.upper c.ranges.byte.fits c.upper-text.ensures).1)

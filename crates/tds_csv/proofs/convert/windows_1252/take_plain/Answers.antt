@@ -1,5 +1,5 @@
 use Rattle.tds_csv.proofs.convert.windows_1252.take_plain.Goals as goal
-use Rattle.tds_csv.proofs.{Words.{common_steps, ◌+◌, ◌≤◌, length, arith, length-chunk, is_plain}, LaneMasks.{alike, run_most}, PlainText.plain_lanes}
+use Rattle.tds_csv.proofs.{Words.{common_steps, ◌+◌, ◌≤◌, length, arith, length-chunk, is_plain}, LaneMasks.{alike, run_most}, Singles.plain_lanes}
 
 pub returns-clause-taken : goal.returns-clause-taken
 returns-clause-taken c = grind (arith, common_steps, plain_lanes, alike)

@@ -1,5 +1,5 @@
 use Rattle.tds_csv.proofs.convert.windows_1252.take_wide.Goals as goal
-use Rattle.tds_csv.proofs.{Words.{◌∙◌, ◌++◌, ap, take, arith, is_plain}, LaneMasks.run_most, PlainText.wide_lanes}
+use Rattle.tds_csv.proofs.{Words.{◌∙◌, ◌++◌, ap, take, arith, is_plain}, LaneMasks.run_most, Singles.wide_lanes}
 
 pub take_before-requires-clause-stops : goal.take_before-requires-clause-stops
 take_before-requires-clause-stops c = omega (arith, run_most is_plain c.args.bytes.now c.args.at 32 c.requires.wide)

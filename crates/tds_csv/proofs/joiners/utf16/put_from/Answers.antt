@@ -1,5 +1,5 @@
 use Rattle.tds_csv.proofs.joiners.utf16.put_from.Goals as goal
-use Rattle.tds_csv.proofs.{Words.{◌-◌, ◌≤◌, [], Ok, length, take, drop, arith, length-drop, take_all}, Utf16Laws.joins_utf16, Puttings.{PutsPiece-error, PutsPiece-none, PutsPiece-ok, PutsPiece-trans}, Leading.{Leads-front, Leads-next, Leads-none, Leads-trans, puts_part, puts_whole}}
+use Rattle.tds_csv.proofs.{Words.{◌-◌, ◌≤◌, [], Ok, length, take, drop, arith, length-drop, take_all}, Utf16Laws.joins_utf16, Puttings.{PutsPiece-error, PutsPiece-none, PutsPiece-ok, PutsPiece-trans}, JoiningLemmas.{Leads-front, Leads-next, Leads-none, Leads-trans, puts_part, puts_whole}}
 
 pub loop-at-init : goal.loop-at-init
 loop-at-init g c = record {

@@ -1,7 +1,7 @@
 use Rattle.tds_csv.proofs.joiners.utf16.Utf16Joiner.push_long.Goals as goal
 use Rattle.tds_csv.proofs.{
   Words.{common_steps, refl, arith, length-drop, take_all},
-  Leading.{puts_part, puts_whole},
+  JoiningLemmas.{puts_part, puts_whole},
   Puttings.{pushes_stopped, pushes_taken},
   Utf16Steps.Leads-after,
 }

@@ -4,9 +4,6 @@ use Rattle.{tds_csv.proofs.{Words.{◌∙◌, sym, arith, rules}, Utf16Steps.{no
 pub returns-then-is_empty-clause-puts : goal.returns-then-is_empty-clause-puts
 returns-then-is_empty-clause-puts g c = none_put _ (sym c.bytes-kept.ensures.value ∙ (nil_of_length _ (search rules))) c.requires.writing
 
-pub returns-then-is_empty-clause-leads : goal.returns-then-is_empty-clause-leads
-returns-then-is_empty-clause-leads g c = grind (arith, nil_of_length, none_leads)
-
 pub returns-clause-leads : goal.returns-clause-leads
 returns-clause-leads g c =
     some_leads c.args.piece.now c.bytes.result.now c.in_ok-used.used c.bytes-kept.ensures.value (search rules) c.requires.long (grind arith)
