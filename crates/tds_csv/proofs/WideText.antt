@@ -1,5 +1,5 @@
 -- The text of units that are characters of at most three bytes.
-use Rattle.tds_csv.proofs.{Words.{common_steps, ◌-◌, take-take, evens, length-chunk, refl, LiesIn, chunk, drop-drop, Bool, Each1, length-take-le, Fits, Leads, List, [], ap}, Words.{append_assoc, arith, cond, drop, length-append, length-map, mask_l, false, get_or, length, map}, Words.{nat_tests, flat_map-append, suc, sym, take, take-append-drop, true, w16, zero, ℕ, ◌%◌, ◌*◌, ◌++◌, ◌+◌, ◌/◌, ◌<◌, ◌∙◌, ◌∷◌, ◌≡◌, ◌≤◌, drop-take}, Words.{length-drop, take_all, ◌^◌}, LaneMasks.alike, Characters.{of_one, of_two, of_three, doubled_character}, Characters.front_written, Places.{bits, gathered_text, placed, row_begins, same_texts}, LaneMasks.{first_lanes, first_mask, last_lanes, none_of_first, none_set}, JoiningLemmas.{Leads-none, Leads-trans}, Places.{IsRow, ones_of_two, pair_places, pair_row, quad_places, quad_row}, Utf16Steps.{next_one}}
+use Rattle.tds_csv.proofs.{Words.{length-take, common_steps, ◌-◌, take-take, evens, length-chunk, refl, LiesIn, chunk, drop-drop, Bool, Each1, length-take-le, Fits, Leads, List, [], ap}, Words.{append_assoc, arith, cond, drop, length-append, length-map, mask_l, false, get_or, length, map}, Words.{nat_tests, flat_map-append, suc, sym, take, take-append-drop, true, w16, zero, ℕ, ◌%◌, ◌*◌, ◌++◌, ◌+◌, ◌/◌, ◌<◌, ◌∙◌, ◌∷◌, ◌≡◌, ◌≤◌, drop-take}, Words.{length-drop, take_all, ◌^◌}, LaneMasks.alike, Characters.{of_one, of_two, of_three, doubled_character}, Characters.front_written, Places.{bits, gathered_text, placed, row_begins, same_texts}, LaneMasks.{first_lanes, first_mask, last_lanes, none_of_first, none_set}, JoiningLemmas.{Leads-none, Leads-trans}, Places.{IsRow, ones_of_two, pair_places, pair_row, quad_places, quad_row}, Utf16Steps.{next_one}}
 use Rattle.tds_csv.specs.{
   Utf16.{units, rest, text},
   Utf16Next.Converts,
@@ -103,26 +103,37 @@ take_both (suc n) zero us = refl
 take_both (suc n) (suc m) [] = refl
 take_both (suc n) (suc m) (u ∷ us) = ap (λ vs. u ∷ vs) (take_both n m us)
 
--- what was written of the first four of so many characters
-pub first_added : (us : List ℕ) (n : ℕ) {old new xs : List ℕ} {at end m wide long : ℕ} → Each1 (Fits w16) us
-    → wide ≡ mask_l (map is_wide (take n us)) → long ≡ mask_l (map is_long (take n us)) → xs ≡ flat_map quad_bytes (take 4 us)
-    → AddsQuads old new at end m xs (wide % 16) (long % 16) → length (take 4 (take n us)) ≡ m
-    → (take end new ≡ take at old ++ units_text (take 4 (take n us))) × (end ≤ at + 3 * m)
-first_added us n fits wide_is long_is is adds counted =
-    let vs = take n us in
-    adds.adds (take 4 vs) (flat_map quad_bytes (drop n (take 4 us))) counted (is ∙ (rw (take_both n 4 us) at (split_lanes quad_bytes n (take 4 us)))) (first_lanes is_wide 4 vs wide_is)
-    (first_lanes is_long 4 vs long_is) (each_taken _ 4 vs (each_taken _ n us (unit_range us fits)))
+-- what was written of so many characters: of the first four, and of all
+module _ (us : List ℕ) (n : ℕ) {old new xs : List ℕ} {at end m wide long : ℕ} (fits : (length us ≡ 8) × Each1 (Fits w16) us) (few : n ≤ 8)
+    (wide_is : wide ≡ mask_l (map is_wide (take n us))) (long_is : long ≡ mask_l (map is_long (take n us)))
+    (is : xs ≡ flat_map quad_bytes (take 4 us)) (adds : AddsQuads old new at end m xs (wide % 16) (long % 16)) where
+  first_added : length (take 4 (take n us)) ≡ m → (take end new ≡ take at old ++ units_text (take 4 (take n us))) × (end ≤ at + 3 * m)
+  first_added counted =
+      let vs = take n us in
+      adds.adds (take 4 vs) (flat_map quad_bytes (drop n (take 4 us))) counted (is ∙ rw (take_both n 4 us) at (split_lanes quad_bytes n (take 4 us)))
+      (first_lanes is_wide 4 vs wide_is) (first_lanes is_long 4 vs long_is) (each_taken _ 4 vs (each_taken _ n us (unit_range us fits.1)))
 
--- and of the others
-pub others_added : (us : List ℕ) (n : ℕ) {old new xs : List ℕ} {at end wide long : ℕ} → Each1 (Fits w16) us → length us ≡ 8 → 4 ≤ n → n ≤ 8
-    → wide ≡ mask_l (map is_wide (take n us)) → long ≡ mask_l (map is_long (take n us)) → xs ≡ flat_map quad_bytes (drop 4 us)
-    → AddsQuads old new at end (n - 4) xs (wide / 16) (long / 16)
-    → (take end new ≡ take at old ++ units_text (drop 4 (take n us))) × (end ≤ at + 3 * (n - 4))
-others_added us n fits eight many few wide_is long_is is adds =
-    let vs = take n us in
-    let all : 4 + (n - 4) ≡ n = omega arith in
-    adds.adds (drop 4 vs) (flat_map quad_bytes (drop (n - 4) (drop 4 us))) (omega (arith, length-drop 4 vs, length-take-le n us (omega (arith, eight))))
-    (is ∙ (rw (← drop-take 4 (n - 4) us, all) at (split_lanes quad_bytes (n - 4) (drop 4 us)))) (last_lanes is_wide vs wide_is) (last_lanes is_long vs long_is) (each_left _ 4 vs (each_taken _ n us (unit_range us fits)))
+  pub few_added : n ≤ 4 → m ≡ n → (take end new ≡ take at old ++ units_text (take n us)) × (end ≤ at + 3 * n)
+  few_added small counted =
+      let size = length-take-le n us (omega (arith, fits.0)) in
+      let all = take_all 4 (take n us) (omega (arith, size)) in
+      rw (all, counted) at (first_added (omega (arith, ap length all, size)))
+
+  pub middle_added : 4 ≤ n → m ≡ 4 → end ≤ at + 12
+  middle_added many counted = omega (arith, (first_added (omega (arith, length-take 4 (take n us), length-take-le n us (omega (arith, fits.0))))).1)
+
+  pub all_added : {last ys : List ℕ} {stop : ℕ} → 4 ≤ n → m ≡ 4 → ys ≡ flat_map quad_bytes (drop 4 us)
+      → AddsQuads new last end stop (n - 4) ys (wide / 16) (long / 16)
+      → (take stop last ≡ take at old ++ units_text (take n us)) × (stop ≤ at + 3 * n)
+  all_added many counted ys_is more =
+      let vs = take n us in
+      let size = length-take-le n us (omega (arith, fits.0)) in
+      let first = first_added (omega (arith, length-take 4 vs, size)) in
+      let all : 4 + (n - 4) ≡ n = omega arith in
+      let others = more.adds (drop 4 vs) (flat_map quad_bytes (drop (n - 4) (drop 4 us))) (omega (arith, length-drop 4 vs, size))
+          (ys_is ∙ rw (← drop-take 4 (n - 4) us, all) at (split_lanes quad_bytes (n - 4) (drop 4 us))) (last_lanes is_wide vs wide_is)
+          (last_lanes is_long vs long_is) (each_left _ 4 vs (each_taken _ n us (unit_range us fits.1))) in
+      (rw (others.0, first.0, append_assoc, ← split_lanes unit_text 4 vs) refl, omega (arith, first.1, others.1))
 
 -- long characters have three bytes each
 pub long_texts : (us : List ℕ) → Each1 (λ u. u < 65536) us → Each1 (λ u. is_long u ≡ true) us → triples us ≡ units_text us

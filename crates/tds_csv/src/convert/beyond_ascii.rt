@@ -116,6 +116,7 @@ fn put_quads(to: &mut [u8], at: usize, quads: u8x16, wide: u64, long: u64, n: us
 
 // Writes the text of the first `n` of eight characters, with masks of the wide and the long ones.
 #[inline(always)]
+#[tactic(auto, using(crate::proofs::WideText::few_added, crate::proofs::WideText::middle_added, crate::proofs::WideText::all_added))]
 fn put_mixed(to: &mut [u8], at: usize, units: u16x8, wide: u64, long: u64, n: usize) -> usize
     requires most { n ≤ UNITS }
     requires wide { wide ≡ mask_l (map is_wide (take n units)) }
