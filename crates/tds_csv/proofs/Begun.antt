@@ -18,8 +18,7 @@ all_begun c old piece begun = grind (arith, take_all)
 stopped_front : (old piece : List ℕ) (whole good : ℕ) → utf8.Begins old → StopsAt (old ++ piece) whole good → BegunFront Utf8Text old piece
 stopped_front old piece whole good begins stops =
     let after = after_kept old piece (old ++ piece) good refl begins stops.bad in
-    let n = good - length old in
-    let at : good ≡ length old + n = omega arith in
+    let at : good ≡ length old + (good - length old) = omega arith in
     grind (arith, after_kept, take-append-add, length-append)
 
 utf8_front : (old piece : List ℕ) (fault : Option ℕ) → utf8_error_len (utf8.rest (old ++ piece)) ≡ fault → utf8.Begins old

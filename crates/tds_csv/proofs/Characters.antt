@@ -20,11 +20,11 @@ of_four c l = grind arith
 
 -- a character that isn't a quote has no byte that is one
 pub doubled_character : (c : ℕ) → c ≢ 34 → doubled (encode_utf8 c) ≡ encode_utf8 c
-doubled_character c ne = grind (arith, cases_lt, of_one, of_two, of_three, of_four, nat_tests)
+doubled_character c ne = grind (arith, of_one, of_two, of_three, of_four, nat_tests)
 
 -- how long a character is, with a quote doubled
 pub doubled_length : (c : ℕ) → (length (doubled (encode_utf8 c)) ≤ 4) × (c < 65536 → length (doubled (encode_utf8 c)) ≤ 3)
-doubled_length c = grind (arith, cases_eq, of_one, doubled_character, cases_lt, of_two, of_three, of_four)
+doubled_length c = grind (arith, of_one, doubled_character, cases_lt, of_two, of_three, of_four)
 
 -- ---- bytes that were written to a place, one after the other or many at once
 

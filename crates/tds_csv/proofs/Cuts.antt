@@ -24,8 +24,7 @@ part_has_none c k short =
 pub cut_before : (room c : ℕ) (out more : List ℕ) → IsUtf8 out → length out ≤ room → room < length out + length (encode_utf8 c)
     → whole_within room (out ++ (encode_utf8 c ++ more)) ≡ out
 cut_before room c out more u fits full =
-    let k = room - length out in
-    let split : room ≡ length out + k = omega arith in
+    let split : room ≡ length out + (room - length out) = omega arith in
     grind (arith, take-append-add, take-append-le, valid_len-past, part_has_none, take_at)
 
 -- The first characters of a text were added to an area, and these are left.

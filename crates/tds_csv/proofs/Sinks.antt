@@ -13,7 +13,7 @@ pub counted-twice : (n k l : ℕ) → counted (counted n k) l ≡ counted n (k +
 counted-twice n k l = omega arith
 
 pub Adds-trans : (a b c : Held) (d f p q : List ℕ) → Adds a b d p → Adds b c f q → Adds a c (d ++ f) (p ++ q)
-Adds-trans a b c d f p q x y = grind (arith, append_assoc, counted-twice, length-append, Appends-trans)
+Adds-trans a b c d f p q x y = grind (arith, append_assoc, length-append, Appends-trans)
 
 pub Puts-none : (a : Held) → a.delivered ≤ 2 ^ 64 - 1 → Puts a a []
 Puts-none a h = ([], 0, (Appends-nil a.had, append-nil a.waiting, counted-none a.delivered h), refl, Stays-none a.failures)

@@ -86,7 +86,7 @@ next_pair low high low' high' bytes h l =
 -- whole data of which all is withheld is a high surrogate
 pub spells_held : (xs : List ℕ) → 2 ≤ length xs → length xs % 2 ≡ 0 → rest xs ≡ xs → characters xs ≡ encode_utf8 0xFFFD ++ characters (drop 2 xs)
 unfolding starts_low
-spells_held xs some whole e = grind (arith, short, lone_half, nat_tests, and_right, encode_utf8_all, chars_one)
+spells_held xs some whole e = grind (arith, short, nat_tests, and_right, encode_utf8_all, chars_one)
 
 -- a high surrogate stays before what is no whole unit
 held_high : (low high : ℕ) (more : List ℕ) → length more < 2 → is_high low high ≡ true → rest (low ∷ high ∷ more) ≡ low ∷ high ∷ more

@@ -243,7 +243,7 @@ two_complete a b l h lo hi none = let x = three_complete a b 128 (more_than_two 
 completes : (r : List ℕ) → NoText r → utf8_error_len r ≡ None → Completes r
 unfolding Completes utf8_error_len
 completes [] none e = ([], IsUtf8-nil)
-completes (a ∷ []) none e = grind (arith, one_completes, nat_tests)
+completes (a ∷ []) none e = grind (arith, one_completes)
 completes (a ∷ b ∷ []) none e = grind (arith, two_complete, nat_tests)
 completes (a ∷ b ∷ d ∷ []) none e = grind (arith, three_complete, more_than_two, nat_tests)
 completes (a ∷ b ∷ d ∷ w ∷ r) none e = grind (arith, nat_tests)

@@ -14,7 +14,7 @@ pub pair_text : (u : ℕ) → is_long u ≡ false → map (λ k. get_or (pair_by
 pair_text u h = grind (arith, of_one, of_two)
 
 pub quad_text : (u : ℕ) → u < 65536 → map (λ k. get_or (quad_bytes u) k 0) (quad_places (is_wide u) (is_long u)) ≡ unit_text u
-quad_text u small = grind (arith, nat_tests, of_one, of_two, of_three, doubled_character)
+quad_text u small = grind (arith, of_one, of_two, of_three, doubled_character)
 
 plain_text : (u : ℕ) → is_wide u ≡ false → unit_text u ≡ u ∷ []
 plain_text u h = grind (arith, of_one)
@@ -24,7 +24,7 @@ long_text u small h = grind (arith, of_three)
 
 -- how long the text of units is
 unit_size : (u : ℕ) → u < 65536 → length (unit_text u) ≡ 1 + (cond (is_wide u) 1 0 + cond (is_long u) 1 0)
-unit_size u small = grind (arith, nat_tests, of_one, of_two, of_three, doubled_character)
+unit_size u small = grind (arith, of_one, of_two, of_three, doubled_character)
 
 units_size : (us : List ℕ) → Each1 (λ u. u < 65536) us → length (units_text us) ≡ length us + (count_by is_wide us + count_by is_long us)
 units_size [] small = refl
@@ -115,8 +115,8 @@ module _ (us : List ℕ) (n : ℕ) {old new xs : List ℕ} {at end m wide long :
 
   pub few_added : n ≤ 4 → m ≡ n → (take end new ≡ take at old ++ units_text (take n us)) × (end ≤ at + 3 * n)
   few_added small counted =
-      let size = length-take-le n us (omega (arith, fits.0)) in
-      let all = take_all 4 (take n us) (omega (arith, size)) in
+      let size = length-take-le n us (omega arith) in
+      let all = take_all 4 (take n us) (omega arith) in
       rw (all, counted) at (first_added (omega (arith, ap length all, size)))
 
   pub middle_added : 4 ≤ n → m ≡ 4 → end ≤ at + 12
@@ -127,7 +127,7 @@ module _ (us : List ℕ) (n : ℕ) {old new xs : List ℕ} {at end m wide long :
       → (take stop last ≡ take at old ++ units_text (take n us)) × (stop ≤ at + 3 * n)
   all_added many counted ys_is more =
       let vs = take n us in
-      let size = length-take-le n us (omega (arith, fits.0)) in
+      let size = length-take-le n us (omega arith) in
       let first = first_added (omega (arith, length-take 4 vs, size)) in
       let all : 4 + (n - 4) ≡ n = omega arith in
       let others = more.adds (drop 4 vs) (flat_map quad_bytes (drop (n - 4) (drop 4 us))) (omega (arith, length-drop 4 vs, size))
@@ -205,8 +205,7 @@ pub units_more : {bytes source old new : List ℕ} {at made after : ℕ} (n : �
 units_more {bytes} {source} {at = at} n lies room few single within small written before =
     let ys = chunk at 16 source in
     let eight : length (units ys) ≡ 8 = omega (arith, length-units ys, length-chunk at 16 source room) in
-    let same = alike bytes source at (2 * n) lies (omega arith) within in
-    let next = rw (← same, take-append-drop, drop-drop (2 * n) at bytes) at (leads_front n ys (drop (2 * n) (drop at bytes)) (omega arith) single) in
+    let next = rw (← (alike bytes source at (2 * n) lies (omega arith) within), take-append-drop, drop-drop (2 * n) at bytes) at (leads_front n ys (drop (2 * n) (drop at bytes)) (omega arith) single) in
     record { within = within; room = omega arith; leads = rw written (Leads-trans before.leads next) }
 
 -- so were eight units of the bytes
