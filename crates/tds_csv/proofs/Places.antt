@@ -1,5 +1,5 @@
 -- What the tables of places have.
-use Rattle.tds_csv.proofs.Words.{Bool, Each1, Fits, List, [], agree_below_at, and_parts, ap, append_assoc, ap₂, arith, cond, drop, eqb, false, get_or, leb, length, length-append, length-map, map, map-append, map-map, mask_l, nat_eq, nat_lt, refl, sel_l, suc, swz_l, take, top, true, w16, w8, zero, ℕ, ◌%◌, ◌&&◌, ◌*◌, ◌++◌, ◌+◌, ◌/◌, ◌<◌, ◌^◌, ◌∙◌, ◌∷◌, ◌≡◌, ◌≤◌}
+use Rattle.tds_csv.proofs.Words.{Each2-splat, Each1-all, replicate, Bool, Each1, Fits, List, [], agree_below_at, and_parts, ap, append_assoc, ap₂, arith, cond, drop, eqb, false, get_or, leb, length, length-append, length-map, map, map-append, map-map, mask_l, nat_eq, nat_lt, refl, sel_l, suc, swz_l, take, top, true, w16, w8, zero, ℕ, ◌%◌, ◌&&◌, ◌*◌, ◌++◌, ◌+◌, ◌/◌, ◌<◌, ◌^◌, ◌∙◌, ◌∷◌, ◌≡◌, ◌≤◌}
 use Rattle.std.proofs.Math.Seq.{take-append_seam}
 use Rattle.std.proofs.lemmas.List.{get_or-append-add, get_or_append_left}
 use Rattle.std.proofs.lemmas.Nat.{ones-le, ones_cat}
@@ -10,7 +10,7 @@ use Rattle.std.specs.Str.{bytes_eq}
 use Rattle.tds_csv.specs.Utf16.{units}
 use Rattle.tds_csv.specs.Wide.{high_quad, low_and_high, low_quad, pair, pair_bytes, quad_bytes, triples}
 use Rattle.tds_csv.specs.declared.convert.places.TheConstants.{PAIRS, QUADS}
-use lib.Lanes.{digits_l, zip2}
+use lib.Lanes.{Each2, digits_l, zip2}
 
 -- ---- bytes that are gathered from lanes by the places of a table
 
@@ -258,3 +258,7 @@ high_lane u small = grind arith
 pub low_lane : (u : ℕ) → u < 65536
     → cond (top 15 (cond (eqb u 34) 65535 0)) 8738 ((u % 256 + ((u % 64 + 128) % 65536 * 256) % 65536) % 65536) ≡ low_quad u
 low_lane u small = grind arith
+
+-- what holds of one number holds of eight lanes of it
+pub asks_all : (R : ℕ → ℕ → Type 0) (us : List ℕ) (k : ℕ) → ((x : ℕ) → R x k) → Each2 R us (replicate 8 k)
+asks_all R us k h = Each2-splat R us 8 k (Each1-all _ h us)

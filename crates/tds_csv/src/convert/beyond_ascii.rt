@@ -33,6 +33,7 @@ fn gathered(lanes: u8x16, places: [u8; 16]) -> u8x16
 
 // The bytes of eight short characters, two each.
 #[inline(always)]
+#[tactic(auto, using(crate::proofs::Places::asks_all))]
 fn pairs(units: u16x8) -> u8x16
     ensures { result ≡ flat_map pair_bytes units }
 {
@@ -46,6 +47,7 @@ fn pairs(units: u16x8) -> u8x16
 
 // The bytes of eight characters, four each: of the first four, and of the others.
 #[inline(always)]
+#[tactic(auto, using(crate::proofs::Places::asks_all))]
 fn quads(units: u16x8) -> (u8x16, u8x16)
     ensures { (result.0 ≡ flat_map quad_bytes (take HALF units)) × (result.1 ≡ flat_map quad_bytes (drop HALF units)) }
 {
@@ -65,6 +67,7 @@ fn quads(units: u16x8) -> (u8x16, u8x16)
 
 // The bytes of eight long characters: of the first four and of the others, each with four bytes more.
 #[inline(always)]
+#[tactic(auto, using(crate::proofs::Places::asks_all))]
 fn triples(units: u16x8) -> (u8x16, u8x16)
     ensures { (take 12 result.0 ≡ take 12 (triples units)) × (take 12 result.1 ≡ take 12 (drop 12 (triples units))) }
 {

@@ -1,12 +1,6 @@
 use Rattle.tds_csv.proofs.convert.beyond_ascii.pairs.Goals as goal
 use Rattle.tds_csv.proofs.{Words.{◌∙◌, cond, leb, arith, map-id, sym, zip2_of_maps, splat_is_map, Each2-splat, Each1-all}, LaneMasks.same_map, Places.{chosen, pair_lanes}}
 
-pub nonzero_div-lead : goal.nonzero_div-lead
-nonzero_div-lead c = Each2-splat _ _ 8 64 (Each1-all _ (λ x. omega arith) _)
-
-pub nonzero_rem-trail : goal.nonzero_rem-trail
-nonzero_rem-trail c = Each2-splat _ _ 8 64 (Each1-all _ (λ x. omega arith) _)
-
 pub returns : goal.returns
 returns c =
     let us = c.args.units in

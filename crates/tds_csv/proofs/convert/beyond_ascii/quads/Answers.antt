@@ -1,21 +1,6 @@
 use Rattle.tds_csv.proofs.convert.beyond_ascii.quads.Goals as goal
 use Rattle.tds_csv.proofs.{Words.{◌∙◌, cond, eqb, leb, arith, map-id, sym, zip2_of_maps, splat_is_map, Each2-splat, Each1-all}, LaneMasks.same_map, Places.{chosen, high_lane, low_lane, quad_lanes}}
 
-pub nonzero_rem-trail : goal.nonzero_rem-trail
-nonzero_rem-trail c = Each2-splat _ _ 8 64 (Each1-all _ (λ x. omega arith) _)
-
-pub nonzero_rem-low : goal.nonzero_rem-low
-nonzero_rem-low c = Each2-splat _ _ 8 256 (Each1-all _ (λ x. omega arith) _)
-
-pub nonzero_div-middle : goal.nonzero_div-middle
-nonzero_div-middle c = Each2-splat _ _ 8 64 (Each1-all _ (λ x. omega arith) _)
-
-pub nonzero_rem-middle : goal.nonzero_rem-middle
-nonzero_rem-middle c = Each2-splat _ _ 8 64 (Each1-all _ (λ x. omega arith) _)
-
-pub nonzero_div-high : goal.nonzero_div-high
-nonzero_div-high c = Each2-splat _ _ 8 4096 (Each1-all _ (λ x. omega arith) _)
-
 pub returns : goal.returns
 returns c =
     let us = c.args.units in
