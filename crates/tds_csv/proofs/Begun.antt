@@ -2,7 +2,18 @@
 use Rattle.tds_csv.specs.Utf8 as utf8
 use Rattle.tds_csv.proofs.Utf16Laws as utf16_laws
 use Rattle.tds_csv.proofs.Utf8Laws as utf8_laws
-use Rattle.tds_csv.proofs.{Words.{◌≡◌, inl, inr, ℕ, ◌+◌, ◌-◌, ◌≤◌, ◌%◌, true, false, List, [], ◌∷◌, ◌++◌, length, take, Option, Some, None, refl, ap, arith, append_assoc}, Words.{append-nil, length-append, IsUtf8, cases_lt, take-append-le, take_all, is_utf8-from_IsUtf8, utf8_valid_len_le, take-append-add, utf8_error_len}, Words.{utf8_valid_len, emit, StopsAt, Conversion, HexDigits, Utf16Text, Windows1252Text, Utf8Text, BeginsData, conversion_rest, conversion_text, is_fit}, Words.{is_quoted, long_field, open_field, closing}, ConversionLaws.{fit_by_test, joins_by_name}, Utf8Pushing.after_kept, Utf8Laws.stops_at, Utf8Laws.none_begins}
+use Rattle.tds_csv.proofs.{
+  Words.{◌≡◌, inl, inr, ℕ, ◌+◌, ◌-◌, ◌≤◌, ◌%◌, true, false, List, [], ◌∷◌, ◌++◌, length, take, Option, Some, None, refl, ap, arith, append_assoc},
+  Words.{append-nil, length-append, IsUtf8, cases_lt, take-append-le, take_all, is_utf8-from_IsUtf8, utf8_valid_len_le, take-append-add},
+  Words.{utf8_error_len},
+  Words.{utf8_valid_len, emit, StopsAt, Conversion, HexDigits, Utf16Text, Windows1252Text, Utf8Text, BeginsData, conversion_rest, conversion_text},
+  Words.{is_fit},
+  Words.{is_quoted, long_field, open_field, closing},
+  ConversionLaws.{fit_by_test, joins_by_name},
+  Utf8Pushing.after_kept,
+  Utf8Laws.stops_at,
+  Utf8Laws.none_begins,
+}
 
 -- The first bytes of the piece, so many, may follow the old ones, and the text that is fixed then is that which the whole piece fixes.
 pub record BegunFront (c : Conversion) (old piece : List ℕ) : Type 0 where
@@ -47,7 +58,11 @@ unfit_front d x unfit =
     let n = utf8_valid_len d in
     let fits = utf8_valid_len_le d in
     let same = take-append-le n d (x ∷ []) fits in
-    rw (utf8_laws.valid_len_is all n (omega arith) (rw same (utf8_laws.front_is d)) (λ m more within u. elim (cases_lt m (length all)) [ inl less ↦ utf8_laws.longest_is d m more (omega arith) (rw (take-append-le m d (x ∷ []) (omega arith)) at u) | inr whole ↦ unfit (rw (take_all m all whole) at u) ])) same
+    rw (utf8_laws.valid_len_is all n (omega arith) (rw same (utf8_laws.front_is d)) (λ m more within u. elim (cases_lt m (length all)) [
+      | inl less ↦ utf8_laws.longest_is d m more (omega arith) (rw (take-append-le m d (x ∷ []) (omega arith)) at u)
+      | inr whole ↦ unfit
+          (rw (take_all m all whole) at u)
+    ])) same
 
 -- a byte after which the data isn't whole adds no text
 pub unfit_adds_none : (c : Conversion) (d : List ℕ) (x : ℕ) → is_fit c (d ++ x ∷ []) ≡ false

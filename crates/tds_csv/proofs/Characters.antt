@@ -1,5 +1,8 @@
 -- The bytes of a character in UTF-8, alone and with a quote doubled.
-use Rattle.tds_csv.proofs.Words.{List, [], append_assoc, arith, cases_eq, cases_lt, doubled, encode_utf8, length, length-take-le, nat_tests, take, take-append-add, take-take, ℕ, ◌%◌, ◌++◌, ◌+◌, ◌/◌, ◌<◌, ◌∷◌, ◌≡◌, ◌≢◌, ◌≤◌}
+use Rattle.tds_csv.proofs.{
+  Words.{List, [], append_assoc, arith, cases_lt, doubled, encode_utf8, length, length-take-le, nat_tests, take, take-append-add, take-take, ℕ, ◌%◌},
+  Words.{◌++◌, ◌+◌, ◌/◌, ◌<◌, ◌∷◌, ◌≡◌, ◌≢◌, ◌≤◌},
+}
 use Rattle.std.specs.Char.{encode_utf8}
 
 pub of_one : (c : ℕ) → c < 128 → encode_utf8 c ≡ c ∷ []

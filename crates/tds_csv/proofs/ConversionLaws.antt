@@ -1,5 +1,12 @@
 -- The tests of the conversions tell their facts.
-use Rattle.tds_csv.proofs.{Words.{◌≡◌, ℕ, ◌%◌, true, List, [], ◌++◌, length, arith, ◌↔◌, is_utf8-from_IsUtf8, IsUtf8-from_is_utf8, JoinsPieces, Conversion}, Words.{HexDigits, Utf16Text, Windows1252Text, Utf8Text, IsFit, BeginsData, conversion_rest, conversion_text, unit, is_fit, is_begun}, SingleLaws.{joins_binary, joins_windows_1252}, Utf16Laws.joins_utf16, Utf8Laws.joins_utf8, Utf8Laws.{begins_none, none_begins}}
+use Rattle.tds_csv.proofs.{
+  Words.{◌≡◌, ℕ, ◌%◌, true, List, [], ◌++◌, length, arith, ◌↔◌, is_utf8-from_IsUtf8, IsUtf8-from_is_utf8, JoinsPieces, Conversion},
+  Words.{HexDigits, Utf16Text, Windows1252Text, Utf8Text, IsFit, BeginsData, conversion_rest, conversion_text, unit, is_fit, is_begun},
+  SingleLaws.{joins_binary, joins_windows_1252},
+  Utf16Laws.joins_utf16,
+  Utf8Laws.joins_utf8,
+  Utf8Laws.{begins_none, none_begins},
+}
 
 pub fit_by_test : (c : Conversion) (bytes : List ℕ) → (is_fit c bytes ≡ true) ↔ IsFit c bytes
 fit_by_test c bytes = grind (arith, IsUtf8-from_is_utf8, is_utf8-from_IsUtf8)

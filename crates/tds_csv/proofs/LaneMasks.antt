@@ -1,5 +1,10 @@
 -- Masks of lanes that pass a test.
-use Rattle.tds_csv.proofs.Words.{Bool, Each1, Fits, LiesIn, List, [], agree_below, agree_below_at, ap, ap₂, arith, chunk, chunk-fits, cond, drop, drop-take, false, first_set, first_set_mask_l, get_or, length, length-chunk, length-map, length-take, length-take-le, map, map-map, mask_l, mask_l-mod, not, prefix_len, prefix_len-le-length, refl, suc, take, take-map, take-take, top, true, w16, w8, zero, ℕ, ◌%◌, ◌*◌, ◌+◌, ◌-◌, ◌/◌, ◌<◌, ◌^◌, ◌∙◌, ◌∷◌, ◌≡◌, ◌≤◌}
+use Rattle.tds_csv.proofs.{
+  Words.{Bool, Each1, Fits, LiesIn, List, [], agree_below, agree_below_at, ap, ap₂, arith, chunk, chunk-fits, cond, drop, drop-take, false},
+  Words.{first_set, first_set_mask_l, get_or, length, length-chunk, length-map, length-take, length-take-le, map, map-map, mask_l, mask_l-mod, not},
+  Words.{prefix_len, prefix_len-le-length, refl, suc, take, take-map, take-take, top, true, w16, w8, zero, ℕ, ◌%◌, ◌*◌, ◌+◌, ◌-◌, ◌/◌, ◌<◌, ◌^◌, ◌∙◌},
+  Words.{◌∷◌, ◌≡◌, ◌≤◌},
+}
 use Rattle.std.proofs.Math.Nat.{add-mul-mod_self_left, mod-eq_of_lt, mul_assoc, pow-succ'}
 use Rattle.std.proofs.lemmas.List.Sums.{count_by-le-length}
 use Rattle.std.proofs.lemmas.Nat.{pow_pos}

@@ -3,7 +3,6 @@ pub mod Rows
 pub mod Characters
 pub mod Utf16Steps
 pub mod Utf8Pushing
-pub mod Cuts
 pub mod Spares
 pub mod Sinks
 pub mod Singles

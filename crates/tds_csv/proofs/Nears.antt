@@ -1,5 +1,12 @@
 -- Calls that put the text of an element part after part.
-use Rattle.tds_csv.proofs.{Words.{◌≡◌, ◌∙◌, ℕ, ◌-◌, ◌^◌, ◌<◌, ◌≤◌, List, [], ◌∷◌, ◌++◌, length, refl, sym, ap, arith, append_assoc, append-nil, concat}, Words.{append_cancel_left, Fault, Stop, Grammar, IsNext, Spelt, Seen, Takes, IsBetween, Inside, Inside-Spelt, Spelt-append, Spelt-one, LastInside}, Words.{last_inside, next_inside, next_some, takes_both, Held, Puts, Breaks, BreaksStreaming, PutsText, Streams}, Sinks.{Breaks-after, Breaks-longer, Puts-none, Puts-trans}, Streams.puts_both, Splits.Puts_split}
+use Rattle.tds_csv.proofs.{
+  Words.{◌≡◌, ◌∙◌, ℕ, ◌-◌, ◌^◌, ◌<◌, ◌≤◌, List, [], ◌∷◌, ◌++◌, length, refl, sym, ap, arith, append_assoc, append-nil, concat},
+  Words.{append_cancel_left, Fault, Stop, Grammar, IsNext, Spelt, Seen, Takes, IsBetween, Inside, Inside-Spelt, Spelt-append, Spelt-one, LastInside},
+  Words.{last_inside, next_inside, next_some, takes_both, Held, Puts, Breaks, BreaksStreaming, PutsText, Streams},
+  Sinks.{Breaks-after, Breaks-longer, Puts-none, Puts-trans},
+  Streams.puts_both,
+  Splits.Puts_split,
+}
 use Rattle.tds_packet.specs.Elements.{Leads}
 
 -- Whole elements were read, which lead from one state to another. The text of all but the last was put, and that of the last but for its tail.

@@ -1,5 +1,13 @@
 -- A piece that was lent is many elements: where a write of their text fails, it fails in that of one of them.
-use Rattle.tds_csv.proofs.{Words.{common_steps, ◌≡◌, inl, inr, ℕ, ◌-◌, ◌^◌, ◌<◌, ◌≤◌, List, [], ◌∷◌, ◌++◌, length, arith, append_assoc, append-nil, length-append, concat}, Words.{append_cancel_left, Fault, Stop, Grammar, Spelt, Seen, Takes, IsBetween, Spelt-append, Spelt-none, Spelt-one, Takes-more, Held, Breaks}, Words.{BreaksStreaming, PutsText}, Sinks.Puts-none, Streams.puts_both, Splits.Breaks_split, Nears.{Grows, grown_leads}}
+use Rattle.tds_csv.proofs.{
+  Words.{common_steps, ◌≡◌, inl, inr, ℕ, ◌-◌, ◌^◌, ◌<◌, ◌≤◌, List, [], ◌∷◌, ◌++◌, length, arith, append_assoc, append-nil, length-append, concat},
+  Words.{append_cancel_left, Fault, Stop, Grammar, Spelt, Seen, Takes, IsBetween, Spelt-append, Spelt-none, Spelt-one, Takes-more, Held, Breaks},
+  Words.{BreaksStreaming, PutsText},
+  Sinks.Puts-none,
+  Streams.puts_both,
+  Splits.Breaks_split,
+  Nears.{Grows, grown_leads},
+}
 use Rattle.tds_packet.specs.Elements.{Leads}
 
 module _ {S : Type 0} (g : Grammar S Fault) (text : S → List ℕ) (grows : Grows g text) (s : S) (a b : Seen) (h j : Held) (stop : Stop)

@@ -1,5 +1,9 @@
 -- What the tables of places have.
-use Rattle.tds_csv.proofs.Words.{Each2-splat, Each1-all, replicate, Bool, Each1, Fits, List, [], agree_below_at, and_parts, ap, append_assoc, ap₂, arith, cond, drop, eqb, false, get_or, leb, length, length-append, length-map, map, map-append, map-map, mask_l, nat_eq, nat_lt, refl, sel_l, suc, swz_l, take, top, true, w16, w8, zero, ℕ, ◌%◌, ◌&&◌, ◌*◌, ◌++◌, ◌+◌, ◌/◌, ◌<◌, ◌^◌, ◌∙◌, ◌∷◌, ◌≡◌, ◌≤◌}
+use Rattle.tds_csv.proofs.{
+  Words.{Each2-splat, Each1-all, replicate, Bool, Each1, Fits, List, [], agree_below_at, and_parts, ap, append_assoc, ap₂, arith, cond, drop, eqb},
+  Words.{false, get_or, leb, length, length-append, length-map, map, map-append, map-map, mask_l, nat_eq, nat_lt, refl, sel_l, suc, swz_l, take, top},
+  Words.{true, w16, w8, zero, ℕ, ◌%◌, ◌&&◌, ◌*◌, ◌++◌, ◌+◌, ◌/◌, ◌<◌, ◌^◌, ◌∙◌, ◌∷◌, ◌≡◌, ◌≤◌},
+}
 use Rattle.std.proofs.Math.Seq.{take-append_seam}
 use Rattle.std.proofs.lemmas.List.{get_or-append-add, get_or_append_left}
 use Rattle.std.proofs.lemmas.Nat.{ones-le, ones_cat}
@@ -113,7 +117,12 @@ is_row row begins = (nat_eq (length row) 16 && all_below 16 row) && bytes_eq row
 tested : (row begins : List ℕ) → is_row row begins ≡ true → IsRow row begins
 tested row begins h =
     let all = and_parts (nat_eq (length row) 16 && all_below 16 row) (bytes_eq row (begins ++ drop (length begins) row)) h in
-    record { long = grind arith; small = each_below 16 row (and_parts (nat_eq (length row) 16) (all_below 16 row) all.0).1; is = (bytes_eq-Decides _ _).0 all.1 }
+    record {
+      long = grind arith;
+      small = each_below 16 row (and_parts (nat_eq (length row) 16) (all_below 16 row) all.0).1;
+      is = (bytes_eq-Decides _ _).0
+          all.1;
+    }
 
 pub pair_row : (mask : ℕ) → mask < 256 → IsRow (get_or PAIRS mask []) (placed 2 0 (zip2 pair_places (bits 8 mask) (bits 8 0)))
 pair_row mask small =

@@ -1,5 +1,9 @@
 -- Calls that put texts, one after another.
-use Rattle.tds_csv.proofs.{Words.{BadText, Bool, EndsPieces, Err, IsErrAnd, IsWriting, JoinFault, List, Ok, Option, PushesPiece, PutsPiece, Result, Sink, Stop, Stopped, TakesUpTo, [], arith, common_steps, emit, false, held, if◌then◌else◌, refl, true, ℕ, ◌++◌, ◌≡◌}, Sinks.{Breaks-after, Puts-none, Puts-trans}}
+use Rattle.tds_csv.proofs.{
+  Words.{BadText, Bool, EndsPieces, Err, IsErrAnd, IsWriting, JoinFault, List, Ok, Option, PushesPiece, PutsPiece, Result, Sink, Stop, Stopped},
+  Words.{TakesUpTo, [], arith, common_steps, emit, false, held, if◌then◌else◌, refl, true, ℕ, ◌++◌, ◌≡◌},
+  Sinks.{Breaks-after, Puts-none, Puts-trans},
+}
 
 -- nothing is put
 pub PutsPiece-none : {W U : Type 0} (contents : W → Option (List ℕ)) (a : Sink W) (u : U) → IsWriting a → PutsPiece contents a a [] (Ok u)

@@ -1,7 +1,11 @@
 -- The laws of the conversions in which each byte stands alone.
 use Rattle.tds_csv.specs.Binary as binary
 use Rattle.tds_csv.specs.Windows1252 as windows_1252
-use Rattle.tds_csv.proofs.{Words.{take_all, ◌≡◌, ℕ, ◌/◌, ◌%◌, List, [], ◌∷◌, ◌++◌, refl, ap, arith, slice_index, ⊤, map-append, append-nil, encodes-append}, Words.{lower_digits, encode_lower, JoinsPieces}, JoiningLemmas.doubled-append}
+use Rattle.tds_csv.proofs.{
+  Words.{take_all, ◌≡◌, ℕ, ◌/◌, ◌%◌, List, [], ◌∷◌, ◌++◌, refl, ap, arith, slice_index, ⊤, map-append, append-nil, encodes-append},
+  Words.{lower_digits, encode_lower, JoinsPieces},
+  JoiningLemmas.doubled-append,
+}
 use Rattle.hex.specs.Hex.{encode_with}
 
 module _ (text : List ℕ → List ℕ) (appends : (x y : List ℕ) → text (x ++ y) ≡ text x ++ text y) (empty : text [] ≡ []) where

@@ -1,7 +1,51 @@
 -- Data whose bytes each stand alone, put a run after the other.
 use Rattle.tds_csv.specs.Windows1252 as windows_1252
 use Rattle.tds_csv.proofs.{
-  Words.{Bool, Err, IsErrAnd, List, Ok, Option, PutsPiece, Result, Sink, Stop, [], agree_below_at, ap, arith, chunk, doubled, drop, get_or, is_plain, is_unquoted, length, nat_tests, prefix_len, refl, suc, sym, take, take-add, take-append-drop, take-take, true, zero, ℕ, ◌%◌, ◌++◌, ◌+◌, ◌-◌, ◌/◌, ◌<◌, ◌∙◌, ◌∷◌, ◌≡◌, ◌≤◌},
+  Words.{
+    Bool,
+    Err,
+    IsErrAnd,
+    List,
+    Ok,
+    Option,
+    PutsPiece,
+    Result,
+    Sink,
+    Stop,
+    [],
+    agree_below_at,
+    ap,
+    arith,
+    chunk,
+    doubled,
+    drop,
+    get_or,
+    is_plain,
+    is_unquoted,
+    length,
+    nat_tests,
+    prefix_len,
+    refl,
+    suc,
+    sym,
+    take,
+    take-add,
+    take-append-drop,
+    take-take,
+    true,
+    zero,
+    ℕ,
+    ◌%◌,
+    ◌++◌,
+    ◌+◌,
+    ◌-◌,
+    ◌/◌,
+    ◌<◌,
+    ◌∙◌,
+    ◌∷◌,
+    ◌≡◌,
+    ◌≤◌,
+  },
   Characters.{front_written, of_one},
   JoiningLemmas.doubled-append,
   Puttings.{PutsPiece-longer, PutsPiece-ok, PutsPiece-passed, PutsPiece-trans},
@@ -33,7 +77,12 @@ module _ (text : List ℕ → List ℕ) (appends : (x y : List ℕ) → text (x 
   pub puts_some : {W U V T : Type 0} {contents : W → Option (List ℕ)} {a b d : Sink W} {u : U} {v : V} {w : T} (t e n : ℕ) (xs : List ℕ) → n ≤ e - t
       → PutsPiece contents a b (text (take t xs)) (Ok u) → PutsPiece contents b d (text (take n (take (e - t) (drop t xs)))) (Ok v)
       → PutsPiece contents a d (text (take (t + n) xs)) (Ok w)
-  puts_some t e n xs few p q = PutsPiece-ok _ _ _ _ _ _ (rw (take-take n (e - t) (drop t xs) few, ← appends (take t xs) (take n (drop t xs)), ← take-add t n xs) at
+  puts_some t e n xs few p q = PutsPiece-ok _ _ _ _ _ _ (rw (
+    take-take n (e - t) (drop t xs) few,
+    ← appends (take t xs) (take n (drop t xs)),
+    ← take-add t n
+        xs,
+  ) at
       (PutsPiece-trans _ _ _ _ _ _ _ _ p q))
 
   -- some of them are all of it, as far as a write failed
@@ -68,8 +117,10 @@ bytes_of w = take (w / 16777216) ((w % 256) ∷ (w / 256 % 256) ∷ (w / 65536 %
 -- what the table has
 table : (k : ℕ) → k < 128 → (bytes_of (get_or UPPER k 0) ≡ windows_1252.text ((128 + k) ∷ [])) × (get_or UPPER k 0 / 16777216 ≤ 3)
 unfolding encode_utf8
-table k h =
-    ((bytes_eq-Decides _ _).0 (agree_below_at (λ k. bytes_eq (bytes_of (get_or UPPER k 0)) (windows_1252.text ((128 + k) ∷ []))) (λ _. true) 128 k refl h), grind (arith, nat_tests, (agree_below_at (λ k. nat_le (get_or UPPER k 0 / 16777216) 3) (λ _. true) 128 k refl h)))
+table k h = (
+  (bytes_eq-Decides _ _).0 (agree_below_at (λ k. bytes_eq (bytes_of (get_or UPPER k 0)) (windows_1252.text ((128 + k) ∷ []))) (λ _. true) 128 k refl h),
+  grind (arith, nat_tests, (agree_below_at (λ k. nat_le (get_or UPPER k 0 / 16777216) 3) (λ _. true) 128 k refl h)),
+)
 
 -- the text of a byte beyond ASCII, from the table
 pub upper_text : (b : ℕ) {w : ℕ} → 128 ≤ b → b < 256 → w ≡ get_or UPPER (b - 128) 0 → (bytes_of w ≡ windows_1252.text (b ∷ [])) × (w / 16777216 ≤ 3)

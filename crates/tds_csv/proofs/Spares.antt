@@ -1,5 +1,8 @@
 -- Bytes that were written into the room of a sink.
-use Rattle.tds_csv.proofs.{Words.{◌≡◌, ℕ, List, ◌++◌, length, take, drop, arith, length-append, take-append_seam, drop-append_seam, overwritten, overwritten_all, false}, Words.{Option, Ok, Err, KeepsPiece, PutsPiece, Sink, Stop, with_spare}}
+use Rattle.tds_csv.proofs.{
+  Words.{◌≡◌, ℕ, List, ◌++◌, length, take, drop, arith, length-append, take-append_seam, drop-append_seam, overwritten, overwritten_all, false},
+  Words.{Option, Ok, Err, KeepsPiece, PutsPiece, Sink, Stop, with_spare},
+}
 
 -- all the room that was lent was written over
 pub spare_bytes : (bytes lent written : List ℕ) → length written ≡ length lent → overwritten (length bytes) written (bytes ++ lent) ≡ bytes ++ written

@@ -26,7 +26,10 @@ split_at a b p r sent n adds enough below above asked =
       omega (arith, length-drop k all),
       (first, n, (grind arith, sym (take-append-drop k all), refl), size, (refl, λ some. asked (omega (arith, some)))),
       (
-        (let all_sent : Appends a.had b.had (first ++ drop k sent) = subst (Appends a.had b.had) (sym (take-append-drop k sent) ∙ ap (λ l. l ++ drop k sent) (rw (← take-append-le k sent b.waiting enough, ← joined) (take-append-le k all r below))) adds.0 in grind (arith, append_assoc)),
+        (let all_sent : Appends a.had b.had (first ++ drop k sent) = subst (Appends a.had b.had)
+            (sym (take-append-drop k sent) ∙ ap (λ l. l ++ drop k sent) (rw (← take-append-le k sent b.waiting enough, ← joined) (take-append-le k
+            all r below)))
+            adds.0 in grind (arith, append_assoc)),
         sym (drop-append-le k all r below) ∙ ap (drop k) joined ∙ drop-append-le k sent b.waiting enough,
         adds.2 ∙ ap (counted a.delivered) sizes ∙ sym (counted-twice a.delivered (length first) (length (drop k sent))),
       ),

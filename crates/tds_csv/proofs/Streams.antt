@@ -1,5 +1,10 @@
 -- Calls that read by a grammar and put the text of what they read: one after another, and inside a greater grammar.
-use Rattle.tds_csv.proofs.{Words.{◌≡◌, ◌∙◌, inl, inr, ℕ, ◌+◌, ◌<◌, Bool, List, ◌++◌, length, sym, ap, arith, append_assoc, Fault, Stop, Grammar, Seen, Inside}, Words.{Inside-Spelt, Spelt-append, StopsReading, next_inside, next_some, stops_after, takes_ahead, Held, BreaksStreaming, PutsText, StopsStreaming, Streams}, Sinks.Puts-trans}
+use Rattle.tds_csv.proofs.{
+  Words.{◌≡◌, ◌∙◌, inl, inr, ℕ, ◌+◌, ◌<◌, Bool, List, ◌++◌, length, sym, ap, arith, append_assoc, Fault, Stop, Grammar, Seen, Inside},
+  Words.{Inside-Spelt, Spelt-append, StopsReading, next_inside, next_some, stops_after, takes_ahead, Held, BreaksStreaming, PutsText, StopsStreaming},
+  Words.{Streams},
+  Sinks.Puts-trans,
+}
 
 -- a state where a reading stops has a next element
 pub stops_size : {S : Type 0} (g : Grammar S Fault) (from : S) (a b : Seen) (place : ℕ) (at : S) (stop : Stop) → StopsReading g from a b place at stop

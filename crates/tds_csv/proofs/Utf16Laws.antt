@@ -1,5 +1,12 @@
 -- The laws of UTF-16 in pieces.
-use Rattle.tds_csv.{proofs.{Words.{◌≡◌, ℕ, ◌%◌, ◌≤◌, ◌&&◌, Bool, true, false, cond, List, [], ◌∷◌, ◌++◌, length, refl, ap, ◌∙◌, arith, encode_utf8_all, ⊤}, Words.{map-append, length-append, encodes-append, utf16_lossy_chars, is_high_surrogate, is_low_surrogate, JoinsPieces, emit, doubled}, JoiningLemmas.{doubled-append, settled_front}}, specs.Utf16.{units, is_high, IsFit, text, rest}}
+use Rattle.tds_csv.{
+  proofs.{
+    Words.{◌≡◌, ℕ, ◌%◌, ◌≤◌, ◌&&◌, Bool, true, false, cond, List, [], ◌∷◌, ◌++◌, length, refl, ap, ◌∙◌, arith, encode_utf8_all, ⊤},
+    Words.{map-append, length-append, encodes-append, utf16_lossy_chars, is_high_surrogate, is_low_surrogate, JoinsPieces, emit, doubled},
+    JoiningLemmas.{doubled-append, settled_front},
+  },
+  specs.Utf16.{units, is_high, IsFit, text, rest},
+}
 use Rattle.std.specs.Char.Utf16.{utf16_chars}
 
 -- the first unit is a low surrogate
@@ -90,7 +97,8 @@ emit-front a = ap text (settled_front rest a (front a) (seam a []).whole)
 emits : (a b : List ℕ) → emit rest text (a ++ b) ≡ emit rest text a ++ emit rest text (rest a ++ b)
 unfolding starts_low
 emits a b =
-    rw (emit-front, emit-front a, emit-front (rest a ++ b), (seam a b).front_is) (text-front a (front (rest a ++ b)) (Apart-front a (units (front (rest a ++ b))) (λ h. grind (arith, high_is_not_low))))
+    rw (emit-front, emit-front a, emit-front (rest a ++ b), (seam a b).front_is) (text-front a (front (rest a ++ b))
+    (Apart-front a (units (front (rest a ++ b))) (λ h. grind (arith, high_is_not_low))))
 
 ends : (a : List ℕ) → text a ≡ emit rest text a ++ text (rest a)
 unfolding starts_low

@@ -1,5 +1,14 @@
 -- One character after the other of text in UTF-16.
-use Rattle.tds_csv.proofs.{Words.{IsWriting, Leads, List, Ok, Option, PutsPiece, Sink, [], and_right, ap, append-nil, arith, common_steps, doubled, drop, drop_more, emit, encode_utf8, encode_utf8_all, false, get_or, inl, is_high_surrogate, is_low_surrogate, length, length-append, length-drop, length-take-le, lone_unit_char, map, nat_tests, nil_from_length, refl, surrogate_pair_char, sym, take, true, unwrap_or, utf16_lossy_chars, ℕ, ◌%◌, ◌&&◌, ◌*◌, ◌++◌, ◌+◌, ◌-◌, ◌<◌, ◌||◌, ◌∙◌, ◌∷◌, ◌≡◌, ◌≤◌, ◌⊎◌}, JoiningLemmas.doubled-append, JoiningLemmas.{Leads-none, Leads-seam, Leads-seam-front, emit_held}, Puttings.PutsPiece-none, Utf16Laws.{chars-apart, emit-front, front, front_step, joins_utf16, rest_step, short, starts_low}}
+use Rattle.tds_csv.proofs.{
+  Words.{IsWriting, Leads, List, Ok, Option, PutsPiece, Sink, [], and_right, ap, append-nil, arith, common_steps, doubled, drop, drop_more, emit},
+  Words.{encode_utf8, encode_utf8_all, false, get_or, inl, is_high_surrogate, is_low_surrogate, length, length-append, length-drop, length-take-le},
+  Words.{lone_unit_char, map, nat_tests, nil_from_length, refl, surrogate_pair_char, sym, take, true, unwrap_or, utf16_lossy_chars, ℕ, ◌%◌, ◌&&◌},
+  Words.{◌*◌, ◌++◌, ◌+◌, ◌-◌, ◌<◌, ◌||◌, ◌∙◌, ◌∷◌, ◌≡◌, ◌≤◌, ◌⊎◌},
+  JoiningLemmas.doubled-append,
+  JoiningLemmas.{Leads-none, Leads-seam, Leads-seam-front, emit_held},
+  Puttings.PutsPiece-none,
+  Utf16Laws.{chars-apart, emit-front, front, front_step, joins_utf16, rest_step, short, starts_low},
+}
 use Rattle.std.specs.Char.Utf16.{utf16_chars}
 use Rattle.tds_csv.specs.Utf16.{characters, is_high, rest, text, units}
 use Rattle.tds_csv.specs.Utf16Next.{Converts, IsNext, LeavesRest, seam}
@@ -170,4 +179,5 @@ pub some_leads : {kept own : List ℕ} (piece bytes : List ℕ) (used : ℕ) →
     → Leads rest text (own ++ piece) (drop (used - length kept) piece) (emit rest text (seam own piece))
 some_leads {kept = kept} piece bytes used same some long is left =
     let three : length (take 3 piece) ≡ 3 = length-take-le 3 piece long in
-    rw (← same, seam_some kept piece some, ← is) (Leads-seam joins_utf16 kept piece bytes 3 used is tt (omega (arith, ap length is, length-append kept (take 3 piece))) left.within left.rest)
+    rw (← same, seam_some kept piece some, ← is) (Leads-seam joins_utf16 kept piece bytes 3 used is tt
+    (omega (arith, ap length is, length-append kept (take 3 piece))) left.within left.rest)

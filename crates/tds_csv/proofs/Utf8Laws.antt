@@ -1,6 +1,104 @@
 -- The laws of UTF-8 in pieces.
 use Rattle.tds_csv.proofs.{
-  Words.{Bool, Follows, IsCharBoundary-from_take, IsUtf8, IsUtf8-append, IsUtf8-drop, IsUtf8-encode, IsUtf8-from_is_utf8, IsUtf8-nil, JoinsPieces, List, None, Scalar, Shape, Some, StopsAt, [], all_scalars, and_parts, ap, append_assoc, arith, cases_lt, common_steps, cond, drop, drop-append-add, drop_at, drop_of_length-le, emit, encode_utf8, encode_utf8_all, false, get_or, get_or-drop, inl, inr, is_in_range, is_utf8, is_utf8-from_IsUtf8, len_utf8, len_utf8_bounds, length, length-append, length-drop, length-encode, length-take-le, nat_eq, nat_lt, nat_tests, nil_from_length, of1, of2, of3, of4, of_four, of_three, of_two, refl, scalar, scalar_cases, second_byte_max, second_byte_min, shape, suc, sym, take, take-append-add, take-append-drop, take-append-le, take-take, take_at, true, utf8_valid_len, utf8_valid_len-IsUtf8, utf8_valid_len_le, valid_len_up_to, zero, ℕ, ⊎_elim, ◌*◌, ◌++◌, ◌+◌, ◌-◌, ◌<◌, ◌∙◌, ◌∷◌, ◌≡◌, ◌≤◌, ◌⊎◌},
+  Words.{
+    Bool,
+    Follows,
+    IsCharBoundary-from_take,
+    IsScalar,
+    IsUtf8,
+    IsUtf8-append,
+    IsUtf8-drop,
+    IsUtf8-encode,
+    IsUtf8-from_is_utf8,
+    IsUtf8-nil,
+    JoinsPieces,
+    List,
+    None,
+    Scalar,
+    Shape,
+    Some,
+    Space,
+    StopsAt,
+    [],
+    all_scalars,
+    and_parts,
+    ap,
+    append-nil,
+    append_assoc,
+    appended,
+    arith,
+    cases_lt,
+    common_steps,
+    cond,
+    drop,
+    drop-append-add,
+    drop_at,
+    drop_of_length-le,
+    emit,
+    encode_same,
+    encode_utf8,
+    encode_utf8_all,
+    false,
+    get_or,
+    get_or-drop,
+    inl,
+    inr,
+    is_in_range,
+    is_utf8,
+    is_utf8-from_IsUtf8,
+    len_utf8,
+    len_utf8_bounds,
+    length,
+    length-append,
+    length-drop,
+    length-encode,
+    length-take-le,
+    nat_eq,
+    nat_lt,
+    nat_tests,
+    nil_from_length,
+    of1,
+    of2,
+    of3,
+    of4,
+    of_four,
+    of_three,
+    of_two,
+    refl,
+    scalar,
+    scalar_cases,
+    second_byte_max,
+    second_byte_min,
+    shape,
+    suc,
+    sym,
+    take,
+    take-append-add,
+    take-append-drop,
+    take-append-le,
+    take-take,
+    take_all,
+    take_at,
+    true,
+    utf8_valid_len,
+    utf8_valid_len-IsUtf8,
+    utf8_valid_len_le,
+    valid_len_up_to,
+    whole_within,
+    zero,
+    ℕ,
+    ⊎_elim,
+    ◌*◌,
+    ◌++◌,
+    ◌+◌,
+    ◌-◌,
+    ◌<◌,
+    ◌∙◌,
+    ◌∷◌,
+    ◌≡◌,
+    ◌≤◌,
+    ◌⊎◌,
+  },
   JoiningLemmas.{doubled-append, settled_front},
 }
 use Rattle.std.specs.Str.Lossy.{utf8_error_len, utf8_valid_len}
@@ -48,7 +146,8 @@ front-rest bs = sym (take-append-drop _ bs)
 -- what follows a text in a text is a text
 pub after_text : (w z : List ℕ) → IsUtf8 w → IsUtf8 (w ++ z) → IsUtf8 z
 after_text w z u whole =
-    rw (drop_at w z (length w) refl) at (IsUtf8-drop (w ++ z) (length w) whole (IsCharBoundary-from_take (w ++ z) (length w) whole (omega (arith, length-append w z)) (rw (take_at w z (length w) refl) u)))
+    rw (drop_at w z (length w) refl) at (IsUtf8-drop (w ++ z) (length w) whole (IsCharBoundary-from_take (w ++ z) (length w) whole
+    (omega (arith, length-append w z)) (rw (take_at w z (length w) refl) u)))
 
 -- a text at the front than which no longer one stands there
 pub valid_len_is : (bs : List ℕ) (n : ℕ) → n ≤ length bs → IsUtf8 (take n bs) → ((m : ℕ) → n < m → m ≤ length bs → IsUtf8 (take m bs) → ⊥)
@@ -323,3 +422,54 @@ pub stops_at : (bytes : List ℕ) (whole k good : ℕ) → whole ≡ utf8_valid_
     → good ≡ cond (is_first (get_or bytes whole 0)) k 0 → StopsAt bytes whole (whole + good)
 stops_at bytes whole k good is e found =
     rw (found, ← (get_or-drop whole bytes 0 0 ∙ ap (λ n. get_or bytes n 0) {x = whole + 0} {y = whole} (omega arith)), is) (stops bytes k (rw is at e))
+
+-- ---- text that is cut to a room, a character after the other
+
+-- a beginning of a character is no text
+part_is_no_text : (c n : ℕ) → 0 < n → n < length (encode_utf8 c) → IsUtf8 (take n (encode_utf8 c)) → ⊥
+part_is_no_text c n some short ([], u) = omega (arith, ap length u.1, length-take-le n (encode_utf8 c) (omega arith))
+part_is_no_text c n some short (d ∷ cs, u) =
+    let whole : encode_utf8 c ++ [] ≡ encode_utf8 d ++ (encode_utf8_all cs ++ drop n (encode_utf8 c)) =
+    cc (
+      append-nil (encode_utf8 c),
+      take-append-drop n (encode_utf8 c),
+      u.1,
+      append_assoc (encode_utf8 d) (encode_utf8_all cs) (drop n (encode_utf8 c)),
+    ) in
+    grind (arith, encode_utf8_all, append-nil, take-append-drop, append_assoc, encode_same, length-append, length-drop)
+
+part_has_none : (c k : ℕ) → k < length (encode_utf8 c) → utf8_valid_len (take k (encode_utf8 c)) ≡ 0
+part_has_none c k short =
+    let len = length-take-le k (encode_utf8 c) (omega arith) in
+    valid_len_is _ 0 (omega arith) IsUtf8-nil
+    (λ m some within u. part_is_no_text c m some (omega arith) (rw (take-take m k (encode_utf8 c) (omega arith)) at u))
+
+-- the next character doesn't fit
+pub cut_before : (room c : ℕ) (out more : List ℕ) → IsUtf8 out → length out ≤ room → room < length out + length (encode_utf8 c)
+    → whole_within room (out ++ (encode_utf8 c ++ more)) ≡ out
+cut_before room c out more u fits full =
+    let split : room ≡ length out + (room - length out) = omega arith in
+    grind (arith, take-append-add, take-append-le, valid_len-past, part_has_none, take_at)
+
+-- The first characters of a text were added to an area, and these are left.
+pub record Added (s to : Space) (text left : List ℕ) : Type 0 where
+  pub out : List ℕ
+  pub stands : to ≡ appended s out
+  pub text_is : text ≡ out ++ left
+  pub whole : IsUtf8 out
+  pub fits : length s.bytes + length out ≤ s.room
+
+module _ {s to : Space} {text left : List ℕ} (x : Added s to text left) where
+  -- one more character was added
+  pub added_more : (c : ℕ) {piece more : List ℕ} {after : Space} → left ≡ encode_utf8 c ++ more → piece ≡ encode_utf8 c → IsScalar c
+      → after ≡ appended to piece → length to.bytes + length piece ≤ to.room → Added s after text more
+  added_more c next is scalar grown fits = grind (arith, append_assoc, length-append, IsUtf8-append, IsUtf8-encode)
+
+  -- the next one doesn't fit: the area stands as the longest beginning that fits leaves it
+  pub stays_cut : (c : ℕ) (more : List ℕ) {piece : List ℕ} → left ≡ encode_utf8 c ++ more → piece ≡ encode_utf8 c
+      → to.room < length to.bytes + length piece → to ≡ appended s (whole_within (s.room - length s.bytes) text)
+  stays_cut c more next is full = grind (arith, length-append, cut_before)
+
+  -- all fits
+  pub stays_whole : left ≡ [] → to ≡ appended s (whole_within (s.room - length s.bytes) text)
+  stays_whole none = grind (arith, append-nil, take_all, utf8_valid_len-IsUtf8)

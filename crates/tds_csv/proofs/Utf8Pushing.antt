@@ -1,5 +1,13 @@
 -- Pieces of text in UTF-8, one after the other.
-use Rattle.tds_csv.proofs.{Words.{◌≡◌, ◌∙◌, ◌↔◌, ℕ, ◌+◌, ◌-◌, ◌<◌, ◌≤◌, List, [], ◌++◌, length, take, drop, inl, inr, Option, Result, Ok, Err, refl, sym, ap, arith}, Words.{append_assoc, append-nil, length-append, length-drop, length-take-le, cases_lt, take-append-drop, take-take, take-append-le, drop-append-le, take_all}, Words.{drop-append-add, take-append-add, emit, IsErrAnd, JoinFault, Stopped, Odd, BadText, Sink}, Words.{Pushes, PushesPiece, TakesPiece, TakesUpTo, Held, held, IsScan, StopsAt}, Utf8Laws.{joins_utf8, emits, rest-append}, Sinks.{Puts-trans, Breaks-after, Breaks-longer}}
+use Rattle.tds_csv.proofs.{
+  Words.{◌≡◌, ◌∙◌, ◌↔◌, ℕ, ◌+◌, ◌-◌, ◌<◌, ◌≤◌, List, [], ◌++◌, length, take, drop, inl, inr, Option, Result, Ok, Err, refl, sym, ap, arith},
+  Words.{append_assoc, append-nil, length-append, length-drop, length-take-le, cases_lt, take-append-drop, take-take, take-append-le, drop-append-le},
+  Words.{take_all},
+  Words.{drop-append-add, take-append-add, emit, IsErrAnd, JoinFault, Stopped, Odd, BadText, Sink},
+  Words.{Pushes, PushesPiece, TakesPiece, TakesUpTo, Held, held, IsScan, StopsAt},
+  Utf8Laws.{joins_utf8, emits, rest-append},
+  Sinks.{Puts-trans, Breaks-after, Breaks-longer},
+}
 use Rattle.tds_csv.specs.Utf8.{Begins, rest, text}
 
 -- the answer of a push, by where its piece begins in another one
@@ -143,4 +151,5 @@ pub pushes_long : {W U V : Type 0} {contents : W → Option (List ℕ)} {a b d :
 pushes_long {kept = kept} {mid = mid} {piece = piece} {held' = held'} long same le x y =
     let at = 3 - length held' in
     let whole : at + length mid ≡ length (take 3 piece) = omega (arith, ap length same, length-take-le 3 piece long) in
-    rw take-append-drop at (pushes_both (drop 3 piece) at whole x (rw (rw take-append-drop at (kept_tail kept (take 3 piece) (drop 3 piece) mid at x.gives.withheld whole)) at y))
+    rw take-append-drop at (pushes_both (drop 3 piece) at whole x (rw (rw take-append-drop at
+    (kept_tail kept (take 3 piece) (drop 3 piece) mid at x.gives.withheld whole)) at y))

@@ -1,5 +1,19 @@
 -- The text of units that are characters of at most three bytes.
-use Rattle.tds_csv.proofs.{Words.{length-take, common_steps, ◌-◌, take-take, evens, length-chunk, refl, LiesIn, chunk, drop-drop, Bool, Each1, length-take-le, Fits, Leads, List, [], ap}, Words.{append_assoc, arith, cond, drop, length-append, length-map, mask_l, false, get_or, length, map}, Words.{nat_tests, flat_map-append, suc, sym, take, take-append-drop, true, w16, zero, ℕ, ◌%◌, ◌*◌, ◌++◌, ◌+◌, ◌/◌, ◌<◌, ◌∙◌, ◌∷◌, ◌≡◌, ◌≤◌, drop-take}, Words.{length-drop, take_all, ◌^◌}, LaneMasks.alike, Characters.{of_one, of_two, of_three, doubled_character}, Characters.front_written, Places.{bits, gathered_text, placed, row_begins, same_texts}, LaneMasks.{first_lanes, first_mask, last_lanes, none_of_first, none_set}, JoiningLemmas.{Leads-none, Leads-trans}, Places.{IsRow, ones_of_two, pair_places, pair_row, quad_places, quad_row}, Utf16Steps.{next_one}}
+use Rattle.tds_csv.proofs.{
+  Words.{length-take, common_steps, ◌-◌, take-take, evens, length-chunk, refl, LiesIn, chunk, drop-drop, Bool, Each1, length-take-le, Fits, Leads},
+  Words.{List, [], ap},
+  Words.{append_assoc, arith, cond, drop, length-append, length-map, mask_l, false, get_or, length, map},
+  Words.{flat_map-append, suc, sym, take, take-append-drop, true, w16, zero, ℕ, ◌%◌, ◌*◌, ◌++◌, ◌+◌, ◌/◌, ◌<◌, ◌∙◌, ◌∷◌, ◌≡◌, ◌≤◌, drop-take},
+  Words.{length-drop, take_all, ◌^◌},
+  LaneMasks.alike,
+  Characters.{of_one, of_two, of_three, doubled_character},
+  Characters.front_written,
+  Places.{bits, gathered_text, placed, row_begins, same_texts},
+  LaneMasks.{first_lanes, first_mask, last_lanes, none_of_first, none_set},
+  JoiningLemmas.{Leads-none, Leads-trans},
+  Places.{IsRow, ones_of_two, pair_places, pair_row, quad_places, quad_row},
+  Utf16Steps.{next_one},
+}
 use Rattle.tds_csv.specs.{
   Utf16.{units, rest, text},
   Utf16Next.Converts,
@@ -74,7 +88,9 @@ row_taken width m lane f same inside us more {row} {wide = wide} {long = long} i
     let begins = row_begins f width 0 m (map is_wide us) (map is_long us) (omega (arith, length-map us is_wide)) (length-map us is_long
     ∙ sym (length-map us is_wide)) in
     let rest = drop (length (placed width 0 (zip2 f (bits m wide) (bits m long)))) row in
-    rw (← text_size us range wide_is long_is) (gathered_text width lane places same inside unit_text us more (begins.0 ++ rest) (is_row.is ∙ ap (λ l. l ++ rest) (rw (wide_is, long_is, begins.1, (zip2-map f is_wide is_long us)) refl) ∙ append_assoc (placed width 0 (map places us)) begins.0 rest) is texts)
+    rw (← text_size us range wide_is long_is) (gathered_text width lane places same inside unit_text us more (begins.0 ++ rest)
+    (is_row.is ∙ ap (λ l. l ++ rest) (rw (wide_is, long_is, begins.1, (zip2-map f is_wide is_long us)) refl) ∙ append_assoc (placed width 0 (map places us))
+    begins.0 rest) is texts)
 
 -- that of short characters from the bytes of eight
 pub pairs_taken : (us : List ℕ) (n : ℕ) {xs : List ℕ} {wide : ℕ} → length us ≡ 8 → n ≤ 8 → Each1 (Fits w16) us → xs ≡ flat_map pair_bytes us
@@ -84,7 +100,8 @@ pairs_taken us n {wide = wide} eight few fits bytes is short =
     let vs = take n us in
     let counted : length vs ≡ n = length-take-le n us (omega arith) in
     let size : length vs + (count_ones wide + count_ones 0) ≡ n + count_ones wide = omega (arith, ones-mask_l is_long []) in
-    rw size at (row_taken 2 8 pair_bytes pair_places (λ u. refl) (λ u. in_pair (is_wide u) (is_long u)) vs (flat_map pair_bytes (drop n us)) (pair_row wide (first_mask is_wide us n eight few is).0)
+    rw size at (row_taken 2 8 pair_bytes pair_places (λ u. refl) (λ u. in_pair (is_wide u) (is_long u)) vs (flat_map pair_bytes (drop n us))
+    (pair_row wide (first_mask is_wide us n eight few is).0)
     (omega arith) (bytes ∙ split_lanes pair_bytes n us) is (sym (none_set is_long vs short)) (unit_range vs (each_taken (Fits w16) n us fits))
     (same_texts pair_text vs short))
 
@@ -131,8 +148,8 @@ module _ (us : List ℕ) (n : ℕ) {old new xs : List ℕ} {at end m wide long :
       let first = first_added (omega (arith, length-take 4 vs, size)) in
       let all : 4 + (n - 4) ≡ n = omega arith in
       let others = more.adds (drop 4 vs) (flat_map quad_bytes (drop (n - 4) (drop 4 us))) (omega (arith, length-drop 4 vs, size))
-          (ys_is ∙ rw (← drop-take 4 (n - 4) us, all) at (split_lanes quad_bytes (n - 4) (drop 4 us))) (last_lanes is_wide vs wide_is)
-          (last_lanes is_long vs long_is) (each_left _ 4 vs (each_taken _ n us (unit_range us fits.1))) in
+      (ys_is ∙ rw (← drop-take 4 (n - 4) us, all) at (split_lanes quad_bytes (n - 4) (drop 4 us))) (last_lanes is_wide vs wide_is)
+      (last_lanes is_long vs long_is) (each_left _ 4 vs (each_taken _ n us (unit_range us fits.1))) in
       (rw (others.0, first.0, append_assoc, ← split_lanes unit_text 4 vs) refl, omega (arith, first.1, others.1))
 
 -- long characters have three bytes each
@@ -178,8 +195,11 @@ pub plain_added : (ys old new : List ℕ) {us low : List ℕ} {wide mask at : �
     → mask ≡ mask_l (map is_wide us) → wide ≡ mask % 2 ^ n → wide ≡ 0 → low ≡ evens ys → take (at + 8) new ≡ take at old ++ take 8 low
     → (take (at + n) new ≡ take at old ++ units_text (take n (units ys))) × Each1 (λ u. is_half u ≡ false) (take n (units ys))
 plain_added ys old new {us} {low} {at = at} n long few within is masked lowest none low_is written =
-    let plain = rw is at (none_of_first is_wide us n masked lowest none) in
-    ((rw (take-take n 8 low few, low_is) at (front_written old new (take 8 low) at n 8 few within written)) ∙ ap (λ l. take at old ++ l) (plain_texts n ys plain), Each1-weaker _ _ (λ u h. no_half u (not_long u h)) _ plain)
+    let plain = rw is at (none_of_first is_wide us n masked lowest none) in (
+      (rw (take-take n 8 low few, low_is) at (front_written old new (take 8 low) at n 8 few within written)) ∙ ap (λ l. take at old ++ l)
+          (plain_texts n ys plain),
+      Each1-weaker _ _ (λ u h. no_half u (not_long u h)) _ plain,
+    )
 
 leads_unit : (low high : ℕ) (more : List ℕ) → is_half (low + 256 * high) ≡ false → Leads rest text (low ∷ high ∷ more) more (unit_text (low + 256 * high))
 leads_unit low high more h = grind (arith, next_one)
@@ -205,7 +225,8 @@ pub units_more : {bytes source old new : List ℕ} {at made after : ℕ} (n : �
 units_more {bytes} {source} {at = at} n lies room few single within small written before =
     let ys = chunk at 16 source in
     let eight : length (units ys) ≡ 8 = omega (arith, length-units ys, length-chunk at 16 source room) in
-    let next = rw (← (alike bytes source at (2 * n) lies (omega arith) within), take-append-drop, drop-drop (2 * n) at bytes) at (leads_front n ys (drop (2 * n) (drop at bytes)) (omega arith) single) in
+    let next = rw (← (alike bytes source at (2 * n) lies (omega arith) within), take-append-drop, drop-drop (2 * n) at bytes) at
+    (leads_front n ys (drop (2 * n) (drop at bytes)) (omega arith) single) in
     record { within = within; room = omega arith; leads = rw written (Leads-trans before.leads next) }
 
 -- so were eight units of the bytes

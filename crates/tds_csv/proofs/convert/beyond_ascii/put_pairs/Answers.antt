@@ -1,5 +1,5 @@
 use Rattle.tds_csv.proofs.convert.beyond_ascii.put_pairs.Goals as goal
-use Rattle.tds_csv.{proofs.{Words.{arith}, LaneMasks.first_mask, Places.pair_row, WideText.pairs_taken}, specs.Wide.is_wide}
+use Rattle.tds_csv.{proofs.{LaneMasks.first_mask, Places.pair_row, WideText.pairs_taken}, specs.Wide.is_wide}
 
 pub pair_places-requires : goal.pair_places-requires
 pair_places-requires c = (first_mask is_wide c.args.units c.args.n c.fits-units.0 c.requires.most c.requires.wide).0

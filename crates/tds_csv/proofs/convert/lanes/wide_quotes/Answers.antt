@@ -2,4 +2,5 @@ use Rattle.tds_csv.proofs.{Words.{arith, refl, zip2_splat, length-chunk, chunk, 
 
 pub returns : Rattle.tds_csv.proofs.convert.lanes.wide_quotes.Goals.returns
 returns c =
-    run_in 32 is_unquoted c.args.bytes.now c.args.at _ (omega arith) c.requires c.type_inv.bytes _ (zip2_splat _ (chunk c.args.at 32 c.args.bytes.now) 32 34 (length-chunk c.args.at 32 c.args.bytes.now c.requires)) refl
+    run_in 32 is_unquoted c.args.bytes.now c.args.at _ (omega arith) c.requires c.type_inv.bytes _
+    (zip2_splat _ (chunk c.args.at 32 c.args.bytes.now) 32 34 (length-chunk c.args.at 32 c.args.bytes.now c.requires)) refl

@@ -1,7 +1,6 @@
-use Rattle.tds_csv.proofs.convert.utf16.convert_eights.Goals as goal
 use Rattle.tds_csv.proofs.{Words.{arith, rules}, WideText.eight_more}
 
-pub loop-at-preserved : goal.loop-at-preserved
+pub loop-at-preserved : Rattle.tds_csv.proofs.convert.utf16.convert_eights.Goals.loop-at-preserved
 loop-at-preserved g c =
     let end = c.in-Some.ensures in
     record {

@@ -1,8 +1,7 @@
 use Rattle.tds_csv.proofs.Words.{arith}
-use Rattle.tds_csv.proofs.convert.utf16.convert_some.Goals as goal
 use Rattle.tds_csv.proofs.{Words.arith, WideText.units_more}
 
-pub returns-clause-after : goal.returns-clause-after
+pub returns-clause-after : Rattle.tds_csv.proofs.convert.utf16.convert_some.Goals.returns-clause-after
 returns-clause-after c = let end = c.in-Some.ensures in
     let before = c.requires.before in
     units_more _ before.inside (omega arith) (omega arith)

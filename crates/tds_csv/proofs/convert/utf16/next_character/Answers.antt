@@ -1,5 +1,8 @@
 use Rattle.tds_csv.proofs.convert.utf16.next_character.Goals as goal
-use Rattle.tds_csv.proofs.{Words.{is_high_surrogate, is_low_surrogate, inr, or_parts, sym, arith, length-drop}, Utf16Steps.{alone_at, held_at, high_half, lone_half, lone_other, not_high, one_at, pair_at}}
+use Rattle.tds_csv.proofs.{
+  Words.{is_high_surrogate, is_low_surrogate, inr, or_parts, sym, arith, length-drop},
+  Utf16Steps.{alone_at, held_at, high_half, lone_half, lone_other, not_high, one_at, pair_at},
+}
 
 pub returns-then-bytes-at-lt2-clause-gives : goal.returns-then-bytes-at-lt2-clause-gives
 returns-then-bytes-at-lt2-clause-gives c = let left = length-drop c.args.at c.args.bytes.now in grind arith

@@ -1,5 +1,5 @@
 use Rattle.tds_csv.proofs.convert.utf8.scan_text.Goals as goal
-use Rattle.tds_csv.proofs.{Words.{length-drop, common_steps, ◌∙◌, drop, sym, ap, arith, utf8_valid_len-IsUtf8, utf8_error_len}, Utf8Laws.none_begins, Utf8Laws.stops_at}
+use Rattle.tds_csv.proofs.{Words.{length-drop, common_steps, ◌∙◌, drop, sym, ap, arith, utf8_valid_len-IsUtf8, utf8_error_len}, Utf8Laws.stops_at}
 
 pub returns-in-Ok-clause-text : goal.returns-in-Ok-clause-text
 returns-in-Ok-clause-text c = grind (arith, length-drop, utf8_valid_len-IsUtf8)

@@ -9,4 +9,5 @@ returns-clause-most c = omega (arith, run_most is_plain c.args.bytes.now c.args.
 
 pub returns-clause-taken : goal.returns-clause-taken
 returns-clause-taken c =
-    c.take_before.ensures.taken ∙ ap (λ l. take c.args.made c.args.to.now ++ l) (wide_lanes c.args.bytes.now c.args.at _ (omega (arith, run_most is_plain c.args.bytes.now c.args.at 32 c.requires.wide)) (c.take_before.ensures.first ∙ c.wide_stops.ensures))
+    c.take_before.ensures.taken ∙ ap (λ l. take c.args.made c.args.to.now ++ l) (wide_lanes c.args.bytes.now c.args.at _
+    (omega (arith, run_most is_plain c.args.bytes.now c.args.at 32 c.requires.wide)) (c.take_before.ensures.first ∙ c.wide_stops.ensures))

@@ -1,5 +1,10 @@
 use Rattle.tds_csv.proofs.joiners.utf16.put_from.Goals as goal
-use Rattle.tds_csv.proofs.{Words.{◌-◌, ◌≤◌, [], Ok, length, take, drop, arith, length-drop, take_all}, Utf16Laws.joins_utf16, Puttings.{PutsPiece-error, PutsPiece-none, PutsPiece-ok, PutsPiece-trans}, JoiningLemmas.{Leads-front, Leads-next, Leads-none, Leads-trans, puts_part, puts_whole}}
+use Rattle.tds_csv.proofs.{
+  Words.{◌-◌, ◌≤◌, [], Ok, length, take, drop, arith, length-drop, take_all},
+  Utf16Laws.joins_utf16,
+  Puttings.{PutsPiece-error, PutsPiece-none, PutsPiece-ok, PutsPiece-trans},
+  JoiningLemmas.{Leads-front, Leads-next, Leads-none, Leads-trans, puts_part, puts_whole},
+}
 
 pub loop-at-init : goal.loop-at-init
 loop-at-init g c = record {
@@ -15,7 +20,8 @@ loop-at-init g c = record {
 pub returns-in_err-at-clause-puts : goal.returns-in_err-at-clause-puts
 returns-in_err-at-clause-puts g c =
     let before = c.loop-at.invariant.puts in
-    PutsPiece-error _ _ _ _ _ _ c.from_residual.ensures.1 (puts_whole before.2 before.1 (puts_part (Leads-front joins_utf16 (drop c.loop-at.at c.args.bytes.now) (c.min-end.result - c.loop-at.at) tt) c.in_err-at.ensures.puts))
+    PutsPiece-error _ _ _ _ _ _ c.from_residual.ensures.1 (puts_whole before.2 before.1 (puts_part
+    (Leads-front joins_utf16 (drop c.loop-at.at c.args.bytes.now) (c.min-end.result - c.loop-at.at) tt) c.in_err-at.ensures.puts))
 
 pub loop-at-preserved : goal.loop-at-preserved
 loop-at-preserved g c =
@@ -38,4 +44,5 @@ loop-at-preserved g c =
 pub returns-then-end-bytes-clause-puts : goal.returns-then-end-bytes-clause-puts
 returns-then-end-bytes-clause-puts g c =
     let before = c.loop-at.invariant.puts in
-    PutsPiece-ok _ _ _ _ _ _ (puts_whole before.2 before.1 (rw (take_all (c.min-end.result - c.loop-at.at) (drop c.loop-at.at c.args.bytes.now) (omega (arith, length-drop c.loop-at.at c.args.bytes.now))) at c.in_ok-at.ensures.puts))
+    PutsPiece-ok _ _ _ _ _ _ (puts_whole before.2 before.1 (rw (take_all (c.min-end.result - c.loop-at.at) (drop c.loop-at.at c.args.bytes.now)
+    (omega (arith, length-drop c.loop-at.at c.args.bytes.now))) at c.in_ok-at.ensures.puts))

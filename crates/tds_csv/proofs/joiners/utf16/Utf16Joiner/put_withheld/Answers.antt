@@ -1,5 +1,5 @@
 use Rattle.tds_csv.proofs.joiners.utf16.Utf16Joiner.put_withheld.Goals as goal
-use Rattle.{tds_csv.proofs.{Words.{◌∙◌, sym, arith, rules}, Utf16Steps.{none_put, none_leads, some_leads}, Utf16Steps.nil_of_length}}
+use Rattle.{tds_csv.proofs.{Words.{◌∙◌, sym, arith, rules}, Utf16Steps.{none_put, some_leads}, Utf16Steps.nil_of_length}}
 
 pub returns-then-is_empty-clause-puts : goal.returns-then-is_empty-clause-puts
 returns-then-is_empty-clause-puts g c = none_put _ (sym c.bytes-kept.ensures.value ∙ (nil_of_length _ (search rules))) c.requires.writing

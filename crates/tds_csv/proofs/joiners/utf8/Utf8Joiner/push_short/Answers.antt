@@ -7,4 +7,5 @@ overflow_sub-result g c =
     rw c.bytes-kept.ensures.value (after_kept _ _ _ _ is c.requires.taking.begun (rw c.in-Err-BadText.field-0-is at c.in-Err-BadText.ensures).gives.bad)
 
 pub returns-in-Err-BadText : goal.returns-in-Err-BadText
-returns-in-Err-BadText g c = rw c.bytes-kept.ensures.value (pushes_seam (grind arith) c.requires.taking.begun (rw c.in-Err-BadText.field-0-is at c.in-Err-BadText.ensures))
+returns-in-Err-BadText g c = rw c.bytes-kept.ensures.value (pushes_seam (grind arith) c.requires.taking.begun
+    (rw c.in-Err-BadText.field-0-is at c.in-Err-BadText.ensures))
