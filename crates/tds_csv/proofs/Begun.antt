@@ -3,14 +3,16 @@ use Rattle.tds_csv.specs.Utf8 as utf8
 use Rattle.tds_csv.proofs.Utf16Laws as utf16_laws
 use Rattle.tds_csv.proofs.Utf8Laws as utf8_laws
 use Rattle.tds_csv.proofs.{
-  Words.{◌≡◌, inl, inr, ℕ, ◌+◌, ◌-◌, ◌<◌, ◌≤◌, ◌%◌, true, false, List, [], ◌∷◌, ◌++◌, length, take, Option, Some, None, refl, ap, arith, append_assoc},
-  Words.{append-nil, length-append, IsUtf8, cases_lt, take-append-le, take_all, is_utf8-from_IsUtf8, utf8_valid_len_le, take-append-add, utf8_error_len},
-  Words.{utf8_valid_len, emit, StopsAt, Conversion, HexDigits, Utf16Text, Windows1252Text, Utf8Text, BeginsData, conversion_rest, conversion_text, is_fit},
+  Words.{◌≡◌, inl, inr, ℕ, ◌+◌, ◌-◌, ◌≤◌, ◌%◌, true, false, List, [], ◌∷◌, ◌++◌, length, take, Option, Some, None, refl, ap, arith, append_assoc},
+  Words.{append-nil, length-append, IsUtf8, cases_lt, take-append-le, take_all, is_utf8-from_IsUtf8, utf8_valid_len_le, take-append-add},
+  Words.{utf8_error_len},
+  Words.{utf8_valid_len, emit, StopsAt, Conversion, HexDigits, Utf16Text, Windows1252Text, Utf8Text, BeginsData, conversion_rest, conversion_text},
+  Words.{is_fit},
   Words.{is_quoted, long_field, open_field, closing},
   ConversionLaws.{fit_by_test, joins_by_name},
   Utf8Pushing.after_kept,
-  Utf8Stops.stops_at,
-  Utf8Test.none_begins,
+  Utf8Laws.stops_at,
+  Utf8Laws.none_begins,
 }
 
 -- The first bytes of the piece, so many, may follow the old ones, and the text that is fixed then is that which the whole piece fixes.
@@ -27,8 +29,7 @@ all_begun c old piece begun = grind (arith, take_all)
 stopped_front : (old piece : List ℕ) (whole good : ℕ) → utf8.Begins old → StopsAt (old ++ piece) whole good → BegunFront Utf8Text old piece
 stopped_front old piece whole good begins stops =
     let after = after_kept old piece (old ++ piece) good refl begins stops.bad in
-    let n = good - length old in
-    let at : good ≡ length old + n = omega arith in
+    let at : good ≡ length old + (good - length old) = omega arith in
     grind (arith, after_kept, take-append-add, length-append)
 
 utf8_front : (old piece : List ℕ) (fault : Option ℕ) → utf8_error_len (utf8.rest (old ++ piece)) ≡ fault → utf8.Begins old
@@ -57,11 +58,11 @@ unfit_front d x unfit =
     let n = utf8_valid_len d in
     let fits = utf8_valid_len_le d in
     let same = take-append-le n d (x ∷ []) fits in
-    let longest : (m : ℕ) → n < m → m ≤ length all → IsUtf8 (take m all) → ⊥ = λ m more within u. elim (cases_lt m (length all)) [
+    rw (utf8_laws.valid_len_is all n (omega arith) (rw same (utf8_laws.front_is d)) (λ m more within u. elim (cases_lt m (length all)) [
       | inl less ↦ utf8_laws.longest_is d m more (omega arith) (rw (take-append-le m d (x ∷ []) (omega arith)) at u)
-      | inr whole ↦ unfit (rw (take_all m all whole) at u)
-    ] in
-    rw (utf8_laws.valid_len_is all n (omega arith) (rw same (utf8_laws.front_is d)) longest) same
+      | inr whole ↦ unfit
+          (rw (take_all m all whole) at u)
+    ])) same
 
 -- a byte after which the data isn't whole adds no text
 pub unfit_adds_none : (c : Conversion) (d : List ℕ) (x : ℕ) → is_fit c (d ++ x ∷ []) ≡ false
@@ -78,7 +79,7 @@ unfit_adds_none Utf8Text d x unfit =
 -- a piece grows the open field by the text of what was withheld and the piece
 pub open_grows : (c : Conversion) (d e : List ℕ) → BeginsData c (d ++ e)
     → open_field c d ++ emit (conversion_rest c) (conversion_text c) (conversion_rest c d ++ e) ≡ open_field c (d ++ e)
-open_grows c d e begins = let next = (joins_by_name c).emits d e begins in grind (arith, append_assoc)
+open_grows c d e begins = let next = (joins_by_name c).emits d e begins in grind arith
 
 -- the open field of whole data, the text of what was withheld and what closes the field are the field
 pub open_closes : (c : Conversion) (d : List ℕ) → is_fit c d ≡ true

@@ -1,16 +1,48 @@
 -- Masks of lanes that pass a test.
 use Rattle.tds_csv.proofs.{
-  Words.{◌≡◌, ◌∙◌, ℕ, ◌+◌, ◌*◌, ◌/◌, ◌%◌, ◌^◌, ◌<◌, ◌≤◌, Bool, true, false, zero, suc, List, [], ◌∷◌, map, length, take, drop, refl, sym, ap, ap₂, arith},
-  Words.{length-map, map-map, mask_l, mask_l-mod, top, Each1, Fits, w16, take-map, length-take, length-take-le, first_set, first_set_mask_l, prefix_len},
-  Words.{prefix_len-le-length, not},
+  Words.{Bool, Each1, Fits, LiesIn, List, [], agree_below, agree_below_at, ap, ap₂, arith, chunk, chunk-fits, cond, drop, drop-take, false},
+  Words.{first_set, first_set_mask_l, get_or, length, length-chunk, length-map, length-take, length-take-le, map, map-map, mask_l, mask_l-mod, not},
+  Words.{prefix_len, prefix_len-le-length, refl, suc, take, take-map, take-take, top, true, w16, w8, zero, ℕ, ◌%◌, ◌*◌, ◌+◌, ◌-◌, ◌/◌, ◌<◌, ◌^◌, ◌∙◌},
+  Words.{◌∷◌, ◌≡◌, ◌≤◌},
 }
-use Rattle.std.{
-  proofs.{
-    Math.Nat.{add-mul-mod_self_left, mod-eq_of_lt, mul_assoc, pow-succ'},
-    lemmas.{Nat.pow_pos, Simd.ones-mask_l, List.{Sums.count_by-le-length, drop-map}},
-  },
-  specs.Prelude.count_ones,
-}
+use Rattle.std.proofs.Math.Nat.{add-mul-mod_self_left, mod-eq_of_lt, mul_assoc, pow-succ'}
+use Rattle.std.proofs.lemmas.List.Sums.{count_by-le-length}
+use Rattle.std.proofs.lemmas.Nat.{pow_pos}
+use Rattle.std.proofs.lemmas.Simd.{ones-mask_l}
+use Rattle.std.specs.Prelude.{count_ones}
+
+-- ---- from the mask of one load to the bytes before the first that stops
+
+-- two tests that are the same on what lists hold
+pub same_prefix : (P : ℕ → Type 0) {p q : ℕ → Bool} → ((x : ℕ) → P x → p x ≡ q x) → (xs : List ℕ) → Each1 P xs → prefix_len p xs ≡ prefix_len q xs
+same_prefix P same [] each = refl
+same_prefix P same (x ∷ xs) each = ap₂ (λ b n. cond b (1 + n) 0) (same x each.0) (same_prefix P same xs each.1)
+
+-- so many lanes come before the first whose top bit is set
+pub run_before : (bit n : ℕ) (f : ℕ → ℕ) (v : List ℕ) {z : List ℕ} → length v ≡ n → n ≤ 64 → z ≡ map f v
+    → first_set (mask_l (map (top bit) z) % 2 ^ 64) n ≡ prefix_len (λ x. not (top bit (f x))) v
+run_before bit n f v long few lanes =
+    let stops = λ (x : ℕ). top bit (f x) in
+    rw (lanes, map-map (top bit) f v, (mask_l-mod (map stops v) 64 (omega (arith, length-map v stops)))) (first_set_mask_l stops v n long few)
+
+-- a lane stops just where q fails
+pub run_in : (n : ℕ) (q : ℕ → Bool) (d : List ℕ) (i : ℕ) (z : List ℕ) → n ≤ 64 → i + n ≤ length d → ((k : ℕ) → Fits w8 (get_or d k 0)) → (f : ℕ → ℕ)
+    → z ≡ map f (chunk i n d)
+    → agree_below (λ x. not (top 7 (f x))) q 256 ≡ true → first_set (mask_l (map (top 7) z) % 2 ^ 64) n ≡ prefix_len q (chunk i n d)
+run_in n q d i z few room fits f lanes all =
+    run_before 7 n f (chunk i n d) (length-chunk i n d room) few lanes
+    ∙ same_prefix (Fits w8) (λ x small. agree_below_at (λ x. not (top 7 (f x))) q 256 x all small.fits) (chunk i n d) (chunk-fits w8 i n d fits)
+
+pub run_most : (q : ℕ → Bool) (d : List ℕ) (i n : ℕ) → i + n ≤ length d → prefix_len q (chunk i n d) ≤ n
+run_most q d i n room = grind (arith, prefix_len-le-length, length-chunk)
+
+-- bytes that lie in others are the same as those
+pub alike : (bytes source : List ℕ) (at n : ℕ) → LiesIn bytes source → n ≤ 16 → at + n ≤ length bytes
+    → take n (drop at bytes) ≡ take n (chunk at 16 source)
+alike bytes source at n lies few within =
+    let k = length bytes - at in
+    let all : at + k ≡ length bytes = omega arith in
+    rw (← lies.front, ← all, drop-take at k source, take-take n k (drop at source) (omega arith), take-take n 16 (drop at source) few) refl
 
 -- two functions that are the same on units
 pub same_map : {A : Type 0} {f g : ℕ → A} → ((u : ℕ) → u < 65536 → f u ≡ g u) → (us : List ℕ) → Each1 (Fits w16) us → map f us ≡ map g us
@@ -37,7 +69,7 @@ mask_parts (suc n) [] = omega arith
 mask_parts (suc n) (m ∷ ms) =
     let rest = mask_l (drop n ms) in
     let twice : 2 ^ suc n * rest ≡ 2 * (2 ^ n * rest) = rw (pow-succ' 2 n) (mul_assoc 2 (2 ^ n) rest) in
-    omega (arith, twice, mask_parts n ms)
+    omega (arith, mask_parts n ms)
 
 mask_first : (n : ℕ) (ms : List Bool) → mask_l (take n ms) < 2 ^ n
 mask_first n ms = mask_small n (take n ms) (omega (arith, length-take n ms))
@@ -50,7 +82,7 @@ first_lanes q n us is =
 
 -- and those above, the others
 pub last_lanes : (q : ℕ → Bool) (us : List ℕ) {mask : ℕ} → mask ≡ mask_l (map q us) → mask / 16 ≡ mask_l (map q (drop 4 us))
-last_lanes q us is = rw (is, ← drop-map q 4 us) (omega (arith, mask_parts 4 (map q us), mask_first 4 (map q us)))
+last_lanes q us is = grind arith
 
 -- and few bits
 pub few_ones : (q : ℕ → Bool) (us : List ℕ) {mask : ℕ} → mask ≡ mask_l (map q us) → count_ones mask ≤ length us
@@ -64,7 +96,7 @@ first_mask q us n long few is = grind (arith, length-take-le, mask_small, length
 -- none of the lanes of a mask passes
 pub none_passes : (q : ℕ → Bool) (us : List ℕ) → mask_l (map q us) ≡ 0 → Each1 (λ u. q u ≡ false) us
 none_passes q [] is = tt
-none_passes q (u ∷ us) is = let here : q u ≡ false = grind arith in (here, none_passes q us (omega (arith, is)))
+none_passes q (u ∷ us) is = let here : q u ≡ false = grind arith in (here, none_passes q us (omega arith))
 
 -- a mask of lanes of which none passes
 pub none_set : (q : ℕ → Bool) (us : List ℕ) → Each1 (λ u. q u ≡ false) us → mask_l (map q us) ≡ 0
@@ -75,19 +107,17 @@ none_set q (u ∷ us) each = rw (each.0, none_set q us each.1) refl
 pub all_pass : (q : ℕ → Bool) (n : ℕ) (us : List ℕ) → length us ≤ n → mask_l (map q us) + 1 ≡ 2 ^ n → Each1 (λ u. q u ≡ true) us × (length us ≡ n)
 all_pass q zero [] few is = (tt, refl)
 all_pass q zero (u ∷ us) few is = absurd (omega arith)
-all_pass q (suc n) [] few is = absurd (omega (arith, pow_pos n, is))
+all_pass q (suc n) [] few is = absurd (omega arith)
 all_pass q (suc n) (u ∷ us) few is =
-    let here : q u ≡ true = grind (arith, pow_pos n) in
-    let more = all_pass q n us (omega arith) (grind (arith, here)) in
+    let here : q u ≡ true = grind arith in
+    let more = all_pass q n us (omega arith) (grind arith) in
     ((here, more.0), ap suc more.1)
 
 -- none of the first passes, if their mask is empty
 pub none_of_first : (q : ℕ → Bool) (us : List ℕ) (n : ℕ) {mask low : ℕ} → mask ≡ mask_l (map q us) → low ≡ mask % 2 ^ n → low ≡ 0
     → Each1 (λ u. q u ≡ false) (take n us)
-none_of_first q us n is lowest none = none_passes q (take n us) (sym (first_lanes q n us is) ∙ sym lowest ∙ none)
+none_of_first q us n is lowest none = grind (arith, none_passes, first_lanes)
 
 -- at most eight lanes come before the first that passes
 pub first_few : (q : ℕ → Bool) (us : List ℕ) {mask : ℕ} → length us ≡ 8 → mask ≡ mask_l (map q us) → first_set mask 8 ≤ 8
-first_few q us long is =
-    let before : first_set (mask_l (map q us)) 8 ≡ prefix_len (λ u. not (q u)) us = first_set_mask_l q us 8 long (omega arith) in
-    rw (is, before) (omega (arith, prefix_len-le-length (λ u. not (q u)) us))
+first_few q us long is = grind (arith, first_set_mask_l, prefix_len-le-length)

@@ -1,19 +1,11 @@
 pub mod ConversionLaws
 pub mod Rows
-pub mod Utf8Test
 pub mod Characters
 pub mod Utf16Steps
-pub mod Leading
-pub mod Utf8Stops
 pub mod Utf8Pushing
-pub mod Cuts
 pub mod Spares
 pub mod Sinks
 pub mod Singles
-pub mod Masks
-pub mod PlainText
-pub mod Unquoted
-pub mod Encoding
 pub mod Puttings
 mod QuotedFields
 pub mod Streams
@@ -21,16 +13,11 @@ pub mod Splits
 pub mod Nears
 pub mod Pieces
 pub mod Begun
-pub mod Pushings
-pub mod Utf16Seam
 pub mod Utf8Laws
 pub mod Utf16Laws
-pub mod Utf16Ends
 pub mod SingleLaws
 pub mod JoiningLemmas
 pub mod LaneMasks
-pub mod Gathering
 pub mod Places
-pub mod WideLanes
 pub mod WideText
 pub mod Words

@@ -1,6 +1,6 @@
 -- Calls that put the text of an element part after part.
 use Rattle.tds_csv.proofs.{
-  Words.{common_steps, ◌≡◌, ◌∙◌, ℕ, ◌-◌, ◌^◌, ◌<◌, ◌≤◌, List, [], ◌∷◌, ◌++◌, length, refl, sym, ap, arith, append_assoc, append-nil, concat},
+  Words.{◌≡◌, ◌∙◌, ℕ, ◌-◌, ◌^◌, ◌<◌, ◌≤◌, List, [], ◌∷◌, ◌++◌, length, refl, sym, ap, arith, append_assoc, append-nil, concat},
   Words.{append_cancel_left, Fault, Stop, Grammar, IsNext, Spelt, Seen, Takes, IsBetween, Inside, Inside-Spelt, Spelt-append, Spelt-one, LastInside},
   Words.{last_inside, next_inside, next_some, takes_both, Held, Puts, Breaks, BreaksStreaming, PutsText, Streams},
   Sinks.{Breaks-after, Breaks-longer, Puts-none, Puts-trans},
@@ -141,7 +141,7 @@ module _ {S : Type 0} (g : Grammar S Fault) where
 
   -- a grammar is inside itself
   pub inside_itself : Inside g g (λ s. s)
-  inside_itself = grind (arith, common_steps)
+  inside_itself = grind arith
 
   -- the last element of what was read
   pub last_read : (s : S) (bytes : List ℕ) (t : S) → Spelt g s bytes t → 0 < length bytes → LastInside g g (λ u. u) inside_itself s bytes t
@@ -153,7 +153,7 @@ module _ {S T : Type 0} (small : Grammar S Fault) (big : Grammar T Fault) (lift 
   -- what is added to the small text between two states with a next element is added to the big one
   pub added_between : (s t : S) (more : List ℕ) → 0 < small.size s → 0 < small.size t → text s ++ more ≡ text t
       → whole (lift s) ++ more ≡ whole (lift t)
-  added_between s t more some more_to_come e = grind (arith, common_steps, append_assoc, front)
+  added_between s t more some more_to_come e = grind (arith, append_assoc)
 
   -- after the small text the big one has a tail
   pub tail_after : (s t : S) (more tail : List ℕ) → 0 < small.size s → text s ++ more ≡ text t → (front ++ text t) ++ tail ≡ whole (lift t)

@@ -1,6 +1,6 @@
 -- A piece that was lent is many elements: where a write of their text fails, it fails in that of one of them.
 use Rattle.tds_csv.proofs.{
-  Words.{length-take, common_steps, ◌≡◌, inl, inr, ℕ, ◌-◌, ◌^◌, ◌<◌, ◌≤◌, List, [], ◌∷◌, ◌++◌, length, arith, append_assoc, append-nil, length-append, concat},
+  Words.{common_steps, ◌≡◌, inl, inr, ℕ, ◌-◌, ◌^◌, ◌<◌, ◌≤◌, List, [], ◌∷◌, ◌++◌, length, arith, append_assoc, append-nil, length-append, concat},
   Words.{append_cancel_left, Fault, Stop, Grammar, Spelt, Seen, Takes, IsBetween, Spelt-append, Spelt-none, Spelt-one, Takes-more, Held, Breaks},
   Words.{BreaksStreaming, PutsText},
   Sinks.Puts-none,
@@ -18,7 +18,7 @@ module _ {S : Type 0} (g : Grammar S Fault) (text : S → List ℕ) (grows : Gro
       → Breaks m j added stop
       → (to : S) × BreaksStreaming g text s a b h j to stop
   breaks_from at t [] bytes rest m added spelt leads takes puts few text_is breaks =
-      grind (arith, common_steps, append_cancel_left, append-nil, length-append, length-take)
+      grind (arith, common_steps, append_cancel_left)
   breaks_from at t (e ∷ es) bytes rest m added spelt leads takes puts few text_is breaks =
       let more = grows _ _ leads.0 in
       let later = grown_leads _ text grows _ _ _ leads.1 in

@@ -1,7 +1,8 @@
 -- Calls that put texts, one after another.
 use Rattle.tds_csv.proofs.{
-  Words.{common_steps, arith, ◌≡◌, ℕ, List, [], ◌++◌, Option, Result, Ok, Err, IsErrAnd, err_from_is_err_and, Stop, Sink, IsWriting, PutsPiece, held},
-  Sinks.{Breaks-after, Breaks-longer, Puts-none, Puts-trans},
+  Words.{BadText, Bool, EndsPieces, Err, IsErrAnd, IsWriting, JoinFault, List, Ok, Option, PushesPiece, PutsPiece, Result, Sink, Stop, Stopped},
+  Words.{TakesUpTo, [], arith, common_steps, emit, false, held, if◌then◌else◌, refl, true, ℕ, ◌++◌, ◌≡◌},
+  Sinks.{Breaks-after, Puts-none, Puts-trans},
 }
 
 -- nothing is put
@@ -13,27 +14,58 @@ pub PutsPiece-trans : {W U V : Type 0} (contents : W → Option (List ℕ)) (a b
     → PutsPiece contents a b p (Ok u) → PutsPiece contents b c q r → PutsPiece contents a c (p ++ q) r
 PutsPiece-trans contents a b c u p q (Ok v) x y =
     let puts = Puts-trans (held contents a) (held contents b) (held contents c) p q x.gives y.gives in
-    grind (arith, common_steps)
+    grind arith
 PutsPiece-trans contents a b c u p q (Err e) x y =
     let breaks = Breaks-after (held contents a) (held contents b) (held contents c) p q e x.gives (y.gives x.failed) in
-    grind (arith, common_steps)
+    grind arith
 
 -- the value of a success says nothing
 pub PutsPiece-ok : {W U V : Type 0} (contents : W → Option (List ℕ)) (a b : Sink W) (p : List ℕ) (u : U) (v : V) → PutsPiece contents a b p (Ok u)
     → PutsPiece contents a b p (Ok v)
-PutsPiece-ok contents a b p u v x = grind (arith, common_steps)
+PutsPiece-ok contents a b p u v x = grind arith
 
 -- a call that failed, of a longer text
 pub PutsPiece-longer : {W U V : Type 0} (contents : W → Option (List ℕ)) (a b : Sink W) (p more : List ℕ) (e : Stop)
     → PutsPiece {U = U} contents a b p (Err e) → PutsPiece {U = V} contents a b (p ++ more) (Err e)
-PutsPiece-longer contents a b p more e x = grind (arith, common_steps, Breaks-longer)
+PutsPiece-longer contents a b p more e x = grind (arith, common_steps)
 
 -- `?` passed its error on, of the same text
 pub PutsPiece-error : {W U V : Type 0} (contents : W → Option (List ℕ)) (a b : Sink W) (p : List ℕ) (e : Stop) (r : Result V Stop)
     → IsErrAnd r (λ stop. stop ≡ e) → PutsPiece {U = U} contents a b p (Err e) → PutsPiece contents a b p r
-PutsPiece-error contents a b p e r is x = grind (arith, common_steps, err_from_is_err_and)
+PutsPiece-error contents a b p e r is x = grind arith
 
 -- and of a longer one
 pub PutsPiece-passed : {W U V : Type 0} (contents : W → Option (List ℕ)) (a b : Sink W) (p more : List ℕ) (e : Stop) (r : Result V Stop)
     → IsErrAnd r (λ stop. stop ≡ e) → PutsPiece {U = U} contents a b p (Err e) → PutsPiece contents a b (p ++ more) r
-PutsPiece-passed contents a b p more e r is x = grind (arith, common_steps, err_from_is_err_and, PutsPiece-longer)
+PutsPiece-passed contents a b p more e r is x = grind (arith, common_steps)
+
+-- ---- pushes and ends of a joiner, by what they put
+
+-- what `check` answers where no write failed
+pub passes : {T E : Type 0} (failed : Bool) (t u : T) (e : E) → Ok t ≡ (if failed then Err e else Ok u) → failed ≡ false
+passes true t u e h = cc
+passes false t u e h = refl
+
+module _ {W U V : Type 0} {contents : W → Option (List ℕ)} {begins : List ℕ → Type 0} {rest text : List ℕ → List ℕ} {old new : List ℕ} {a b : Sink W}
+    {p piece : List ℕ} where
+  -- all was put
+  pub pushes_taken : {u : U} {v : V} → a.failed ≡ false → begins (old ++ piece) → begins new → p ≡ emit rest text (old ++ piece)
+      → new ≡ rest (old ++ piece) → PutsPiece contents a b p (Ok u) → PushesPiece contents begins rest text old new a b piece (Ok v)
+  pushes_taken going whole begun is withheld x = grind arith
+
+  -- the good bytes before a bad one were put
+  pub pushes_up_to : {u : U} {k : ℕ} → a.failed ≡ false → begins new → TakesUpTo begins rest text old new (held contents a) (held contents b) piece k
+      → PutsPiece contents a b p (Ok u) → PushesPiece {U = V} contents begins rest text old new a b piece (Err (BadText k))
+  pushes_up_to going begun found x = grind arith
+
+  -- a write failed
+  pub pushes_stopped : {e : Stop} {r : Result V JoinFault} → a.failed ≡ false → begins new → p ≡ emit rest text (old ++ piece)
+      → PutsPiece {U = U} contents a b p (Err e) → IsErrAnd r (λ fault. fault ≡ Stopped e) → PushesPiece contents begins rest text old new a b piece r
+  pushes_stopped going begun is x passed = grind arith
+
+-- the text of what was withheld was put
+pub ends_whole : {W U V : Type 0} {contents : W → Option (List ℕ)} {unit : ℕ} {fit begins : List ℕ → Type 0} {text : List ℕ
+    → List ℕ} {old new : List ℕ} {a b : Sink W} {p : List ℕ} {u : U} {v : V}
+    → a.failed ≡ false → fit old → new ≡ [] → (begins old → begins []) → p ≡ text old → PutsPiece contents a b p (Ok u)
+    → EndsPieces contents unit fit begins text old new a b (Ok v)
+ends_whole going whole none begun is x = grind arith

@@ -2,7 +2,7 @@
 use Rattle.tds_csv.specs.Binary as binary
 use Rattle.tds_csv.specs.Windows1252 as windows_1252
 use Rattle.tds_csv.proofs.{
-  Words.{take_all, ◌≡◌, ℕ, ◌/◌, ◌%◌, List, [], ◌∷◌, ◌++◌, refl, ap, arith, encode_utf8_all, slice_index, ⊤, map-append, append-nil, encodes-append},
+  Words.{take_all, ◌≡◌, ℕ, ◌/◌, ◌%◌, List, [], ◌∷◌, ◌++◌, refl, ap, arith, slice_index, ⊤, map-append, append-nil, encodes-append},
   Words.{lower_digits, encode_lower, JoinsPieces},
   JoiningLemmas.doubled-append,
 }
@@ -29,8 +29,12 @@ joins_binary = joins_single binary.text (hex-append lower_digits) hex-nil
 
 -- the text of two pieces
 pub windows_1252-append : (x y : List ℕ) → windows_1252.text (x ++ y) ≡ windows_1252.text x ++ windows_1252.text y
-windows_1252-append x y = grind (arith, encode_utf8_all, map-append, encodes-append, doubled-append)
+windows_1252-append x y = grind (arith, map-append, encodes-append, doubled-append)
 
 -- text in Windows-1252 may come in pieces
 pub joins_windows_1252 : JoinsPieces windows_1252.IsFit windows_1252.IsFit windows_1252.rest windows_1252.text
 joins_windows_1252 = joins_single windows_1252.text windows_1252-append refl
+
+pub ruleset hex_laws = (hex-append, hex-nil)
+
+pub ruleset windows_1252_laws = (windows_1252-append)

@@ -1,9 +1,61 @@
 -- Data whose bytes each stand alone, put a run after the other.
+use Rattle.tds_csv.specs.Windows1252 as windows_1252
 use Rattle.tds_csv.proofs.{
-  Words.{common_steps, ◌≡◌, ◌∙◌, ◌+◌, ◌≤◌, ℕ, zero, suc, ◌-◌, Bool, true, false, cond, List, [], ◌∷◌, ◌++◌, take, drop, Option, Result, Ok, Err, refl, sym, ap},
-  Words.{subst, arith, prefix_len, IsErrAnd, take-append-drop, take-take, take-add, chunk, Stop, Sink, PutsPiece},
+  Words.{
+    Bool,
+    Err,
+    IsErrAnd,
+    List,
+    Ok,
+    Option,
+    PutsPiece,
+    Result,
+    Sink,
+    Stop,
+    [],
+    agree_below_at,
+    ap,
+    arith,
+    chunk,
+    doubled,
+    drop,
+    get_or,
+    is_plain,
+    is_unquoted,
+    length,
+    nat_tests,
+    prefix_len,
+    refl,
+    suc,
+    sym,
+    take,
+    take-add,
+    take-append-drop,
+    take-take,
+    true,
+    zero,
+    ℕ,
+    ◌%◌,
+    ◌++◌,
+    ◌+◌,
+    ◌-◌,
+    ◌/◌,
+    ◌<◌,
+    ◌∙◌,
+    ◌∷◌,
+    ◌≡◌,
+    ◌≤◌,
+  },
+  Characters.{front_written, of_one},
+  JoiningLemmas.doubled-append,
   Puttings.{PutsPiece-longer, PutsPiece-ok, PutsPiece-passed, PutsPiece-trans},
+  SingleLaws.windows_1252-append,
 }
+use Rattle.std.proofs.Common.{nat_le}
+use Rattle.std.proofs.lemmas.Slice.Eq.{bytes_eq-Decides}
+use Rattle.std.specs.Char.{encode_utf8}
+use Rattle.std.specs.Str.{bytes_eq}
+use Rattle.tds_csv.specs.declared.convert.windows_1252.TheConstants.{UPPER}
 
 module _ (text : List ℕ → List ℕ) (appends : (x y : List ℕ) → text (x ++ y) ≡ text x ++ text y) where
   runs : (t e : ℕ) (xs : List ℕ) → t ≤ e → text (take t xs) ++ text (take (e - t) (drop t xs)) ≡ text (take e xs)
@@ -13,32 +65,30 @@ module _ (text : List ℕ → List ℕ) (appends : (x y : List ℕ) → text (x 
       (p : PutsPiece contents a b (text (take t xs)) (Ok u)) where
     -- one more run was put
     pub puts_more : {v : V} → PutsPiece contents b d (text (take (e - t) (drop t xs))) (Ok v) → PutsPiece contents a d (text (take e xs)) (Ok v)
-    puts_more {v = v} q = subst (λ l. PutsPiece contents a d l (Ok v)) (runs t e xs h) (PutsPiece-trans contents a b d u _ _ (Ok v) p q)
+    puts_more q = rw (runs t e xs h) at (PutsPiece-trans _ _ _ _ _ _ _ _ p q)
 
     -- a write failed in the next run
     pub puts_break : {T : Type 0} {stop : Stop} {r : Result T Stop} → PutsPiece {U = V} contents b d (text (take (e - t) (drop t xs))) (Err stop)
         → IsErrAnd r (λ s. s ≡ stop) → PutsPiece contents a d (text xs) r
-    puts_break {stop = stop} {r = r} q passed =
-        let all : (text (take t xs) ++ text (take (e - t) (drop t xs))) ++ text (drop e xs) ≡ text xs =
-        ap (λ l. l ++ text (drop e xs)) (runs t e xs h) ∙ sym (appends (take e xs) (drop e xs)) ∙ ap text (take-append-drop e xs) in
-        subst (λ l. PutsPiece contents a d l r) all
-        (PutsPiece-passed contents a d _ (text (drop e xs)) stop r passed (PutsPiece-trans contents a b d u _ _ (Err stop) p q))
+    puts_break q passed = rw (runs t e xs h, ← appends (take e xs) (drop e xs), take-append-drop) at
+        (PutsPiece-passed _ _ _ _ (text (drop e xs)) _ _ passed (PutsPiece-trans _ _ _ _ _ _ _ _ p q))
 
   -- so many of the others were put
   pub puts_some : {W U V T : Type 0} {contents : W → Option (List ℕ)} {a b d : Sink W} {u : U} {v : V} {w : T} (t e n : ℕ) (xs : List ℕ) → n ≤ e - t
       → PutsPiece contents a b (text (take t xs)) (Ok u) → PutsPiece contents b d (text (take n (take (e - t) (drop t xs)))) (Ok v)
       → PutsPiece contents a d (text (take (t + n) xs)) (Ok w)
-  puts_some {contents = contents} {a = a} {b = b} {d = d} {u = u} {v = v} {w = w} t e n xs few p q =
-      let all = ap (λ l. text (take t xs) ++ text l) (take-take n (e - t) (drop t xs) few) ∙ sym (appends (take t xs) (take n (drop t xs)))
-      ∙ ap text (sym (take-add t n xs)) in
-      PutsPiece-ok contents a d _ v w (subst (λ l. PutsPiece contents a d l (Ok v)) all (PutsPiece-trans contents a b d u _ _ (Ok v) p q))
+  puts_some t e n xs few p q = PutsPiece-ok _ _ _ _ _ _ (rw (
+    take-take n (e - t) (drop t xs) few,
+    ← appends (take t xs) (take n (drop t xs)),
+    ← take-add t n
+        xs,
+  ) at
+      (PutsPiece-trans _ _ _ _ _ _ _ _ p q))
 
   -- some of them are all of it, as far as a write failed
   pub puts_less : {W U V : Type 0} {contents : W → Option (List ℕ)} {a d : Sink W} {stop : Stop} (n : ℕ) (xs : List ℕ)
       → PutsPiece {U = U} contents a d (text (take n xs)) (Err stop) → PutsPiece {U = V} contents a d (text xs) (Err stop)
-  puts_less {V = V} {contents = contents} {a = a} {d = d} {stop = stop} n xs p =
-      subst (λ l. PutsPiece {U = V} contents a d l (Err stop)) (sym (appends (take n xs) (drop n xs))
-      ∙ ap text (take-append-drop n xs)) (PutsPiece-longer contents a d _ (text (drop n xs)) stop p)
+  puts_less {V = V} n xs p = rw (← appends (take n xs) (drop n xs), take-append-drop) at (PutsPiece-longer {V = V} _ _ _ _ (text (drop n xs)) _ p)
 
   -- which were added to it
   pub text_taken : {run after : List ℕ} (bytes : List ℕ) (at n : ℕ) → after ≡ run ++ text (take n (drop at bytes)) → run ≡ text (take at bytes)
@@ -47,18 +97,62 @@ module _ (text : List ℕ → List ℕ) (appends : (x y : List ℕ) → text (x 
 
   -- bytes that stand for themselves, up to the first that needn't
   module _ (q : ℕ → Bool) (empty : text [] ≡ []) (itself : (b : ℕ) → q b ≡ true → text (b ∷ []) ≡ b ∷ []) where
-    some_more : (passes : Bool) (b k n : ℕ) (xs : List ℕ) → (passes ≡ true → text (b ∷ []) ≡ b ∷ []) → suc k ≤ cond passes (1 + n) 0
-        → (k ≤ n → text (take k xs) ≡ take k xs) → text (b ∷ take k xs) ≡ b ∷ take k xs
-    some_more true b k n xs h few e = rw (appends (b ∷ []) (take k xs), h refl, e (omega arith)) refl
-    some_more false b k n xs h few e = absurd (omega arith)
-
     -- the first of them, so many
     pub some_itself : (k : ℕ) (xs : List ℕ) → k ≤ prefix_len q xs → text (take k xs) ≡ take k xs
     some_itself zero xs h = empty
     some_itself (suc k) [] h = absurd (omega arith)
-    some_itself (suc k) (b ∷ xs) h = some_more (q b) b k (prefix_len q xs) xs (itself b) h (some_itself k xs)
+    some_itself (suc k) (b ∷ xs) h = grind (arith, appends (b ∷ []) (take k xs), some_itself k xs)
 
     -- those that were found among the next `w`
     pub lanes_itself : (w : ℕ) (bytes : List ℕ) (at n : ℕ) → n ≤ w → n ≡ prefix_len q (chunk at w bytes)
         → take n (chunk at w bytes) ≡ text (take n (drop at bytes))
-    lanes_itself w bytes at n few e = grind (arith, common_steps, some_itself, take-take)
+    lanes_itself w bytes at n few e = grind (arith, some_itself, take-take)
+
+-- ---- bytes of Windows-1252 that stand for themselves
+
+-- the bytes of a number, from the lowest on, as many as the highest says
+abbrev pub bytes_of : ℕ → List ℕ
+bytes_of w = take (w / 16777216) ((w % 256) ∷ (w / 256 % 256) ∷ (w / 65536 % 256) ∷ [])
+
+-- what the table has
+table : (k : ℕ) → k < 128 → (bytes_of (get_or UPPER k 0) ≡ windows_1252.text ((128 + k) ∷ [])) × (get_or UPPER k 0 / 16777216 ≤ 3)
+unfolding encode_utf8
+table k h = (
+  (bytes_eq-Decides _ _).0 (agree_below_at (λ k. bytes_eq (bytes_of (get_or UPPER k 0)) (windows_1252.text ((128 + k) ∷ []))) (λ _. true) 128 k refl h),
+  grind (arith, nat_tests, (agree_below_at (λ k. nat_le (get_or UPPER k 0 / 16777216) 3) (λ _. true) 128 k refl h)),
+)
+
+-- the text of a byte beyond ASCII, from the table
+pub upper_text : (b : ℕ) {w : ℕ} → 128 ≤ b → b < 256 → w ≡ get_or UPPER (b - 128) 0 → (bytes_of w ≡ windows_1252.text (b ∷ [])) × (w / 16777216 ≤ 3)
+upper_text b low high is =
+    let e : 128 + (b - 128) ≡ b = omega arith in
+    rw is (rw e at (table (b - 128) (omega arith)))
+
+-- three bytes were written, and so many of them are that text
+pub upper_put : (b at : ℕ) {w : ℕ} (old new : List ℕ) → 128 ≤ b → b < 256 → w ≡ get_or UPPER (b - 128) 0 → at ≤ length old
+    → take (at + 3) new ≡ take at old ++ (w % 256) ∷ (w / 256 % 256) ∷ (w / 65536 % 256) ∷ []
+    → take (at + w / 16777216) new ≡ take at old ++ windows_1252.text (b ∷ [])
+upper_put b at {w} old new low high is within written = let t = upper_text b low high is in
+    rw (← t.0) (front_written old new _ at (w / 16777216) 3 t.1 within written)
+
+-- a byte that is plain is its own text
+plain_itself : (b : ℕ) → is_plain b ≡ true → windows_1252.text (b ∷ []) ≡ b ∷ []
+plain_itself b h = grind (arith, of_one)
+
+-- some of the bytes that were found among the next 16 of a source
+pub plain_lanes : (source bytes : List ℕ) (at n : ℕ) → n ≤ 16 → n ≤ prefix_len is_plain (chunk at 16 source)
+    → take n (drop at bytes) ≡ take n (chunk at 16 source) → take n (chunk at 16 source) ≡ windows_1252.text (take n (drop at bytes))
+plain_lanes source bytes at n few plains same =
+    sym (some_itself windows_1252.text windows_1252-append is_plain refl plain_itself n (chunk at 16 source) plains) ∙ ap windows_1252.text (sym same)
+
+-- those that were found among the next 32
+pub wide_lanes : (bytes : List ℕ) (at n : ℕ) → n ≤ 32 → n ≡ prefix_len is_plain (chunk at 32 bytes)
+    → take n (chunk at 32 bytes) ≡ windows_1252.text (take n (drop at bytes))
+wide_lanes bytes at n few e = lanes_itself windows_1252.text windows_1252-append is_plain refl plain_itself 32 bytes at n few e
+
+-- ---- bytes without a quote
+
+-- those that were found among the next `w`
+pub unquoted_lanes : (w : ℕ) (bytes : List ℕ) (at n : ℕ) → n ≤ w → n ≡ prefix_len is_unquoted (chunk at w bytes)
+    → take n (chunk at w bytes) ≡ doubled (take n (drop at bytes))
+unquoted_lanes w bytes at n few e = lanes_itself doubled doubled-append is_unquoted refl (λ b h. grind arith) w bytes at n few e

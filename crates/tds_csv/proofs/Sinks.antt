@@ -1,7 +1,7 @@
 -- What was put into a sink, call after call.
 use Rattle.tds_packet.proofs.Joins.{Stays-Rises, Stays-none, Stays-trans}
 use Rattle.tds_csv.proofs.{
-  Words.{◌≡◌, Bool, false, ℕ, ◌+◌, ◌-◌, ◌^◌, ◌<◌, ◌≤◌, List, [], ◌++◌, length, Result, OnErr, MatchResult, refl, arith, append-nil, append_assoc},
+  Words.{common_steps, ◌≡◌, Bool, false, ℕ, ◌+◌, ◌-◌, ◌^◌, ◌<◌, ◌≤◌, List, [], ◌++◌, length, Result, OnErr, MatchResult, refl, arith, append-nil, append_assoc},
   Words.{length-append, le_refl, take_all, take-append-add, take-append-le, Appends-nil, Appends-trans, counted, Stop, Held, Adds, Puts, Breaks, Sends},
   Words.{FinishFails, take},
 }
@@ -13,7 +13,7 @@ pub counted-twice : (n k l : ℕ) → counted (counted n k) l ≡ counted n (k +
 counted-twice n k l = omega arith
 
 pub Adds-trans : (a b c : Held) (d f p q : List ℕ) → Adds a b d p → Adds b c f q → Adds a c (d ++ f) (p ++ q)
-Adds-trans a b c d f p q x y = grind (arith, append_assoc, counted-twice, length-append, Appends-trans)
+Adds-trans a b c d f p q x y = grind (arith, append_assoc, length-append, Appends-trans)
 
 pub Puts-none : (a : Held) → a.delivered ≤ 2 ^ 64 - 1 → Puts a a []
 Puts-none a h = ([], 0, (Appends-nil a.had, append-nil a.waiting, counted-none a.delivered h), refl, Stays-none a.failures)
@@ -29,12 +29,11 @@ Puts-trans a b c p q x y = (
 
 pub Breaks-after : (a b c : Held) (p q : List ℕ) (e : Stop) → Puts a b p → Breaks b c q e → Breaks a c (p ++ q) e
 Breaks-after a b c p q e x y =
-    let len = length-append x.0 y.0 in
-    let adds = rw (← take-append-add p q y.2) at (Adds-trans a b c _ _ p (take y.2 q) x.2 y.3) in (
+    let len = length-append x.0 y.0 in (
       x.0 ++ y.0,
       x.1 + y.1,
       length p + y.2,
-      adds,
+      (rw (← take-append-add p q y.2) at (Adds-trans a b c _ _ p (take y.2 q) x.2 y.3)),
       omega (arith, length-append p q),
       omega arith,
       omega arith,
@@ -55,4 +54,4 @@ block a m b piece r is full some x = grind (arith, append-nil, length-append, ta
 pub block_going : {U : Type 0} (a m b : Held) (piece : List ℕ) (r : Result U Stop) (failed : Bool) → m ≡ record a { waiting = a.waiting ++ piece }
     → length m.waiting ≡ 4096 → OnErr r (0 < length b.waiting)
     → MatchResult r (λ _. Sends m b) (λ e. FinishFails m b e) → MatchResult r (λ _. Puts a b piece) (λ e. failed ≡ false → Breaks a b piece e)
-block_going a m b piece r failed is full some x = let put = block a m b piece r is full some x in grind arith
+block_going a m b piece r failed is full some x = grind (arith, common_steps)

@@ -20,15 +20,16 @@ split_at a b p r sent n adds enough below above asked =
     let all = a.waiting ++ p in
     let first = take k all in
     let joined = append_assoc a.waiting p r ∙ adds.1 in
-    let front : take k sent ≡ first = rw (← take-append-le k sent b.waiting enough, ← joined) (take-append-le k all r below) in
-    let parts = sym (take-append-drop k sent) ∙ ap (λ l. l ++ drop k sent) front in
     let size = length-take-le k all below in
     let sizes : length sent ≡ length first + length (drop k sent) = omega (arith, length-drop k sent) in (
       record { had = append_known a.had first; waiting = drop k all; delivered = counted a.delivered (length first); failures = a.failures },
       omega (arith, length-drop k all),
-      (first, n, (grind arith, sym (take-append-drop k all), refl), size, (refl, λ some. asked (omega (arith, sizes, some)))),
+      (first, n, (grind arith, sym (take-append-drop k all), refl), size, (refl, λ some. asked (omega (arith, some)))),
       (
-        (let all_sent : Appends a.had b.had (first ++ drop k sent) = subst (Appends a.had b.had) parts adds.0 in grind (arith, append_assoc)),
+        (let all_sent : Appends a.had b.had (first ++ drop k sent) = subst (Appends a.had b.had)
+            (sym (take-append-drop k sent) ∙ ap (λ l. l ++ drop k sent) (rw (← take-append-le k sent b.waiting enough, ← joined) (take-append-le k
+            all r below)))
+            adds.0 in grind (arith, append_assoc)),
         sym (drop-append-le k all r below) ∙ ap (drop k) joined ∙ drop-append-le k sent b.waiting enough,
         adds.2 ∙ ap (counted a.delivered) sizes ∙ sym (counted-twice a.delivered (length first) (length (drop k sent))),
       ),
@@ -54,9 +55,8 @@ Breaks_split a b p q stop x = elim (dec_le x.2 (length p)) [
   | no above ↦
       let i = x.2 - length p in
       let n = length (a.waiting ++ p) / 4096 in
-      let at : length p + i ≡ x.2 = omega arith in
       let fits : i ≤ length q = omega (arith, length-append p q) in
-      let adds = subst (Adds a b x.0) (ap (λ k. take k (p ++ q)) (sym at) ∙ take-append-add p q i) x.3 in
+      let adds = subst (Adds a b x.0) (ap (λ k. take k (p ++ q)) (sym (omega arith)) ∙ take-append-add p q i) x.3 in
       let total = total_of a b p (take i q) x.0 adds in
       let size = length-take-le i q fits in
       let s = split_at a b p (take i q) x.0 n adds (omega arith) (omega arith) (omega arith) x.9.1 in

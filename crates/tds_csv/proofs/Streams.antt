@@ -1,7 +1,8 @@
 -- Calls that read by a grammar and put the text of what they read: one after another, and inside a greater grammar.
 use Rattle.tds_csv.proofs.{
-  Words.{common_steps, ◌≡◌, ◌∙◌, inl, inr, ℕ, ◌+◌, ◌<◌, Bool, List, ◌++◌, length, sym, ap, arith, append_assoc, Fault, Stop, Grammar, Seen, Inside},
-  Words.{Inside-Spelt, Spelt-append, StopsReading, next_inside, next_some, stops_after, takes_ahead, Held, BreaksStreaming, PutsText, StopsStreaming, Streams},
+  Words.{◌≡◌, ◌∙◌, inl, inr, ℕ, ◌+◌, ◌<◌, Bool, List, ◌++◌, length, sym, ap, arith, append_assoc, Fault, Stop, Grammar, Seen, Inside},
+  Words.{Inside-Spelt, Spelt-append, StopsReading, next_inside, next_some, stops_after, takes_ahead, Held, BreaksStreaming, PutsText, StopsStreaming},
+  Words.{Streams},
   Sinks.Puts-trans,
 }
 
@@ -55,7 +56,7 @@ module _ {S T : Type 0} (small : Grammar S Fault) (big : Grammar T Fault) (lift 
     → List ℕ) (front : List ℕ) (text_is : (s : S) → front ++ text s ≡ whole (lift s)) where
   -- what is added to the small text is added to the big one
   pub added_inside : (s t : S) (more : List ℕ) → text s ++ more ≡ text t → whole (lift s) ++ more ≡ whole (lift t)
-  added_inside s t more e = grind (arith, common_steps, append_assoc, front)
+  added_inside s t more e = grind (arith, append_assoc)
 
   -- the text between two states of the small grammar is that between those of the big one
   pub puts_inside : (s t : S) (a b : Held) → PutsText text s t a b → PutsText whole (lift s) (lift t) a b

@@ -1,8 +1,8 @@
 -- The laws of UTF-16 in pieces.
 use Rattle.tds_csv.{
   proofs.{
-    Words.{common_steps, ◌≡◌, ℕ, ◌%◌, ◌≤◌, ◌&&◌, Bool, true, false, cond, List, [], ◌∷◌, ◌++◌, length, refl, ap, ◌∙◌, arith, encode_utf8_all, unwrap_or, ⊤},
-    Words.{map-append, length-append, encodes-append, and_right, nat_tests, utf16_lossy_chars, is_high_surrogate, is_low_surrogate, JoinsPieces, emit, doubled},
+    Words.{◌≡◌, ℕ, ◌%◌, ◌≤◌, ◌&&◌, Bool, true, false, cond, List, [], ◌∷◌, ◌++◌, length, refl, ap, ◌∙◌, arith, encode_utf8_all, ⊤},
+    Words.{map-append, length-append, encodes-append, utf16_lossy_chars, is_high_surrogate, is_low_surrogate, JoinsPieces, emit, doubled},
     JoiningLemmas.{doubled-append, settled_front},
   },
   specs.Utf16.{units, is_high, IsFit, text, rest},
@@ -34,10 +34,10 @@ unfolding utf16_chars starts_low
 chars-apart [] vs h = refl
 chars-apart (u ∷ []) [] h = refl
 chars-apart (u ∷ []) (v ∷ vs) h = grind arith
-chars-apart (u ∷ v ∷ us) vs h = grind (arith, Apart-tail, chars-apart us vs (Apart-tail v us vs h), chars-apart (v ∷ us) vs h)
+chars-apart (u ∷ v ∷ us) vs h = grind (arith, chars-apart us vs (Apart-tail v us vs h), chars-apart (v ∷ us) vs h)
 
 pub high_is_not_low : (u : ℕ) → is_high_surrogate u ≡ true → is_low_surrogate u ≡ false
-high_is_not_low u h = grind (arith, nat_tests)
+high_is_not_low u h = grind arith
 
 -- the bytes before the rest
 abbrev pub front : List ℕ → List ℕ
@@ -66,14 +66,14 @@ record Seam (a b : List ℕ) : Type 0 where
 seam : (a b : List ℕ) → Seam a b
 seam [] b = grind arith
 seam (odd ∷ []) b = grind arith
-seam (low ∷ high ∷ []) b = grind (arith, front_step, rest_step)
-seam (low ∷ high ∷ odd ∷ []) b = grind (arith, front_step, rest_step)
+seam (low ∷ high ∷ []) b = grind arith
+seam (low ∷ high ∷ odd ∷ []) b = grind arith
 seam (low ∷ high ∷ low' ∷ high' ∷ bytes) b = let more = seam (low' ∷ high' ∷ bytes) b in grind arith
 
 -- one unit before the front of what follows it
 Apart-cons : (u : ℕ) (a : List ℕ) (low high : ℕ) (vs : List ℕ) → (starts_high (units (rest (low ∷ high ∷ a))) ≡ true → starts_low vs ≡ false)
     → Apart (units (front (low ∷ high ∷ a))) vs → Apart (u ∷ units (front (low ∷ high ∷ a))) vs
-Apart-cons u a low high vs f h = grind (arith, and_right)
+Apart-cons u a low high vs f h = grind arith
 
 -- no pair lies across the end of the front, where no low surrogate comes first after a rest that begins with a high one
 Apart-front : (a vs : List ℕ) → (starts_high (units (rest a)) ≡ true → starts_low vs ≡ false) → Apart (units (front a)) vs
@@ -81,12 +81,12 @@ Apart-front [] vs f = tt
 Apart-front (odd ∷ []) vs f = tt
 Apart-front (low ∷ high ∷ []) vs f = grind arith
 Apart-front (low ∷ high ∷ odd ∷ []) vs f = grind arith
-Apart-front (low ∷ high ∷ low' ∷ high' ∷ bytes) vs f = grind (arith, Apart-cons, Apart-front (low' ∷ high' ∷ bytes) vs f)
+Apart-front (low ∷ high ∷ low' ∷ high' ∷ bytes) vs f = grind (arith, Apart-front (low' ∷ high' ∷ bytes) vs f)
 
 -- the text of units is that of both parts where no pair lies across
 texts : (us vs : List ℕ) → Apart us vs → doubled (encode_utf8_all (utf16_lossy_chars (us ++ vs))) ≡ doubled (encode_utf8_all (utf16_lossy_chars us))
     ++ doubled (encode_utf8_all (utf16_lossy_chars vs))
-texts us vs h = grind (arith, encode_utf8_all, unwrap_or, chars-apart, map-append, encodes-append, doubled-append)
+texts us vs h = grind (arith, chars-apart, map-append, encodes-append, doubled-append)
 
 text-front : (a b : List ℕ) → Apart (units (front a)) (units b) → text (front a ++ b) ≡ text (front a) ++ text b
 text-front a b h = ap (λ us. doubled (encode_utf8_all (utf16_lossy_chars us))) (seam a b).units_are ∙ texts (units (front a)) (units b) h
@@ -97,8 +97,8 @@ emit-front a = ap text (settled_front rest a (front a) (seam a []).whole)
 emits : (a b : List ℕ) → emit rest text (a ++ b) ≡ emit rest text a ++ emit rest text (rest a ++ b)
 unfolding starts_low
 emits a b =
-    let split = text-front a (front (rest a ++ b)) (Apart-front a (units (front (rest a ++ b))) (λ h. grind (arith, high_is_not_low))) in
-    rw (emit-front, emit-front a, emit-front (rest a ++ b), (seam a b).front_is) split
+    rw (emit-front, emit-front a, emit-front (rest a ++ b), (seam a b).front_is) (text-front a (front (rest a ++ b))
+    (Apart-front a (units (front (rest a ++ b))) (λ h. grind (arith, high_is_not_low))))
 
 ends : (a : List ℕ) → text a ≡ emit rest text a ++ text (rest a)
 unfolding starts_low
@@ -115,4 +115,4 @@ parts bytes = let whole = (seam bytes []).even in omega (arith, ap length (seam 
 
 -- text in UTF-16 may come in pieces
 pub joins_utf16 : JoinsPieces IsFit (λ _. ⊤) rest text
-joins_utf16 = grind (arith, common_steps, emits, seam, short, ends, parts)
+joins_utf16 = grind (arith, emits, seam, short, ends, parts)

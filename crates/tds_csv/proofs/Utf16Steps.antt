@@ -1,13 +1,17 @@
 -- One character after the other of text in UTF-16.
 use Rattle.tds_csv.proofs.{
-  Words.{common_steps, ◌⊎◌, inl, ◌≡◌, ◌&&◌, ◌||◌, or-false, ◌+◌, ◌*◌, ◌<◌, ◌≤◌, ◌%◌, ℕ, true, false, List, [], ◌∷◌, ◌++◌, length, map, drop, get_or, refl, ap},
-  Words.{arith, encode_utf8_all, unwrap_or, drop_more, and_right, nat_tests, encode_utf8, utf16_lossy_chars, is_high_surrogate, is_low_surrogate},
-  Words.{surrogate_pair_char, lone_unit_char, emit, doubled, nil_from_length},
-  Utf16Laws.{starts_low, chars-apart, front, front_step, rest_step, emit-front, short},
+  Words.{IsWriting, Leads, List, Ok, Option, PutsPiece, Sink, [], and_right, ap, append-nil, arith, common_steps, doubled, drop, drop_more, emit},
+  Words.{encode_utf8, encode_utf8_all, false, get_or, inl, is_high_surrogate, is_low_surrogate, length, length-append, length-drop, length-take-le},
+  Words.{lone_unit_char, map, nat_tests, nil_from_length, refl, surrogate_pair_char, sym, take, true, unwrap_or, utf16_lossy_chars, ℕ, ◌%◌, ◌&&◌},
+  Words.{◌*◌, ◌++◌, ◌+◌, ◌-◌, ◌<◌, ◌||◌, ◌∙◌, ◌∷◌, ◌≡◌, ◌≤◌, ◌⊎◌},
   JoiningLemmas.doubled-append,
+  JoiningLemmas.{Leads-none, Leads-seam, Leads-seam-front, emit_held},
+  Puttings.PutsPiece-none,
+  Utf16Laws.{chars-apart, emit-front, front, front_step, joins_utf16, rest_step, short, starts_low},
 }
-use Rattle.tds_csv.specs.{Utf16.{units, is_high, characters, rest, text}, Utf16Next.IsNext}
 use Rattle.std.specs.Char.Utf16.{utf16_chars}
+use Rattle.tds_csv.specs.Utf16.{characters, is_high, rest, text, units}
+use Rattle.tds_csv.specs.Utf16Next.{Converts, IsNext, LeavesRest, seam}
 
 pub text_nil : text [] ≡ []
 unfolding utf16_chars
@@ -28,7 +32,7 @@ chars_one u us h = ap (map (λ o. unwrap_or o 0xFFFD)) (chars-apart (u ∷ []) u
 
 spells_one : (low high : ℕ) (bytes : List ℕ) (code : ℕ) → unwrap_or (lone_unit_char (low + 256 * high)) 0xFFFD ≡ code
     → (is_high low high ≡ true → starts_low (units bytes) ≡ false) → characters (low ∷ high ∷ bytes) ≡ encode_utf8 code ++ characters bytes
-spells_one low high bytes code e h = grind (arith, encode_utf8_all, chars_one)
+spells_one low high bytes code e h = grind (arith, chars_one)
 
 spells_pair : (low high low' high' : ℕ) (bytes : List ℕ) → is_high low high ≡ true → is_low_surrogate (low' + 256 * high') ≡ true
     → characters (low ∷ high ∷ low' ∷ high' ∷ bytes) ≡ encode_utf8 (surrogate_pair_char (low + 256 * high) (low' + 256 * high')) ++ characters bytes
@@ -38,7 +42,7 @@ spells_pair low high low' high' bytes h l = simp (h, l)
 -- the text of a front, from its characters
 emits_by : (bytes more : List ℕ) (code : ℕ) → characters (front bytes) ≡ encode_utf8 code ++ characters (front more)
     → emit rest text bytes ≡ doubled (encode_utf8 code) ++ emit rest text more
-emits_by bytes more code e = grind (arith, emit-front, doubled-append, front)
+emits_by bytes more code e = grind (arith, emit-front, doubled-append)
 
 -- a unit that is no high surrogate
 pub next_one : (low high : ℕ) (bytes : List ℕ) (code : ℕ) → is_high low high ≡ false → unwrap_or (lone_unit_char (low + 256 * high)) 0xFFFD ≡ code
@@ -50,18 +54,18 @@ next_one low high bytes code h e = record {
 }
 
 pub lone_other : (u : ℕ) → is_high_surrogate u ≡ false → is_low_surrogate u ≡ false → unwrap_or (lone_unit_char u) 0xFFFD ≡ u
-lone_other u h l = grind (arith, nat_tests)
+lone_other u h l = grind arith
 
 pub lone_half : (u : ℕ) → (is_high_surrogate u ≡ true) ⊎ (is_low_surrogate u ≡ true) → unwrap_or (lone_unit_char u) 0xFFFD ≡ 0xFFFD
-lone_half u h = grind (arith, nat_tests)
+lone_half u h = grind arith
 
 -- a surrogate that is no low one
 pub high_half : (u : ℕ) → (is_high_surrogate u || is_low_surrogate u) ≡ true → is_low_surrogate u ≡ false → is_high_surrogate u ≡ true
-high_half u some low = grind (arith, or-false)
+high_half u some low = grind arith
 
 -- a low surrogate is no high one
 pub not_high : (u : ℕ) → is_low_surrogate u ≡ true → is_high_surrogate u ≡ false
-not_high u low = grind (arith, nat_tests)
+not_high u low = grind arith
 
 -- a high surrogate before a unit that is no low one
 pub next_alone : (low high low' high' : ℕ) (bytes : List ℕ) → is_high low high ≡ true → is_low_surrogate (low' + 256 * high') ≡ false
@@ -69,10 +73,9 @@ pub next_alone : (low high low' high' : ℕ) (bytes : List ℕ) → is_high low 
 unfolding starts_low
 next_alone low high low' high' bytes h l =
     let lone = lone_half (low + 256 * high) (inl h) in
-    let first : starts_low (units (front (low' ∷ high' ∷ bytes))) ≡ false = grind arith in
     record {
       emits = emits_by (low ∷ high ∷ low' ∷ high' ∷ bytes) (low' ∷ high' ∷ bytes) 0xFFFD
-          (spells_one low high (front (low' ∷ high' ∷ bytes)) 0xFFFD lone (λ _. first));
+          (spells_one low high (front (low' ∷ high' ∷ bytes)) 0xFFFD lone (λ _. (grind arith)));
       keeps = refl;
       spells = spells_one low high (low' ∷ high' ∷ bytes) 0xFFFD lone (λ _. l);
     }
@@ -81,7 +84,7 @@ next_alone low high low' high' bytes h l =
 pub next_pair : (low high low' high' : ℕ) (bytes : List ℕ) → is_high low high ≡ true → is_low_surrogate (low' + 256 * high') ≡ true
     → IsNext (low ∷ high ∷ low' ∷ high' ∷ bytes) (surrogate_pair_char (low + 256 * high) (low' + 256 * high')) 4
 next_pair low high low' high' bytes h l =
-    let second : is_high low' high' ≡ false = grind (arith, nat_tests, l) in
+    let second : is_high low' high' ≡ false = grind arith in
     record {
       emits = emits_by (low ∷ high ∷ low' ∷ high' ∷ bytes) bytes (surrogate_pair_char (low + 256 * high) (low' + 256 * high'))
           (rw (front_step low' high' bytes second) (spells_pair low high low' high' (front bytes) h l));
@@ -92,7 +95,7 @@ next_pair low high low' high' bytes h l =
 -- whole data of which all is withheld is a high surrogate
 pub spells_held : (xs : List ℕ) → 2 ≤ length xs → length xs % 2 ≡ 0 → rest xs ≡ xs → characters xs ≡ encode_utf8 0xFFFD ++ characters (drop 2 xs)
 unfolding starts_low
-spells_held xs some whole e = grind (arith, short, lone_half, nat_tests, and_right, encode_utf8_all, chars_one)
+spells_held xs some whole e = grind (arith, short, nat_tests, and_right, encode_utf8_all, chars_one)
 
 -- a high surrogate stays before what is no whole unit
 held_high : (low high : ℕ) (more : List ℕ) → length more < 2 → is_high low high ≡ true → rest (low ∷ high ∷ more) ≡ low ∷ high ∷ more
@@ -110,7 +113,7 @@ drop_four xs i h = grind (arith, drop_two)
 
 pub held_at : (xs : List ℕ) (i : ℕ) {u : ℕ} → i + 1 < length xs → length xs < i + 4 → u ≡ get_or xs i 0 + 256 * get_or xs (i + 1) 0
     → is_high_surrogate u ≡ true → rest (drop i xs) ≡ drop i xs
-held_at xs i within few is h = grind (arith, common_steps, drop_two, held_high)
+held_at xs i within few is h = grind (arith, common_steps)
 
 pub one_at : (xs : List ℕ) (i : ℕ) {u code : ℕ} → i + 1 < length xs → u ≡ get_or xs i 0 + 256 * get_or xs (i + 1) 0 → is_high_surrogate u ≡ false
     → unwrap_or (lone_unit_char u) 0xFFFD ≡ code → IsNext (drop i xs) code 2
@@ -126,3 +129,55 @@ module _ (xs : List ℕ) (i : ℕ) {u v : ℕ} (within : i + 3 < length xs) (fir
 
   pub pair_at : is_low_surrogate v ≡ true → IsNext (drop i xs) (surrogate_pair_char u v) 4
   pair_at low = rw (drop_four, first, second_is) (next_pair _ _ _ _ _ (rw first at high) (rw second_is at low))
+
+-- ---- where a conversion of UTF-16 has come to what is withheld
+
+-- The text so far is that of all that is fixed.
+pub record Ended (bytes to : List ℕ) (used made : ℕ) : Type 0 where
+  pub emits : take made to ≡ emit rest text bytes
+  pub leaves : LeavesRest bytes 0 used
+
+-- nothing after this place is fixed
+pub ends_held : {bytes to : List ℕ} {used made : ℕ} → Converts bytes to used made → rest (drop used bytes) ≡ drop used bytes
+    → Ended bytes to used made
+ends_held {bytes} {to} {used} {made} before held =
+    let run = take made to in
+    record {
+      emits = sym (before.leads.emits ∙ ap (λ l. run ++ l) (emit_held rest text (drop used bytes) text_nil held) ∙ append-nil run);
+      leaves = grind (arith, common_steps, short);
+    }
+
+-- nothing comes after this place
+pub ends_there : {bytes to : List ℕ} {used made : ℕ} → Converts bytes to used made → used ≡ length bytes → Ended bytes to used made
+ends_there before all = grind (arith, nil_of_length, length-drop, ends_held)
+
+-- ---- withheld bytes of text in UTF-16, with the first ones of a piece
+
+-- where the text goes on after that of the seam
+abbrev pub after : List ℕ → List ℕ → List ℕ
+after [] piece = piece
+after (byte ∷ kept) piece = rest (byte ∷ kept ++ take 3 piece) ++ drop 3 piece
+
+pub Leads-after : (kept piece : List ℕ) → Leads rest text (kept ++ piece) (after kept piece) (emit rest text (seam kept piece))
+Leads-after [] piece = rw text_nil Leads-none
+Leads-after (byte ∷ kept) piece = Leads-seam-front joins_utf16 (byte ∷ kept) piece 3 tt
+
+-- nothing is withheld
+pub none_put : {W : Type 0} {contents : W → Option (List ℕ)} {a : Sink W} {kept : List ℕ} (piece : List ℕ) → kept ≡ [] → IsWriting a
+    → PutsPiece {U = ℕ} contents a a (emit rest text (seam kept piece)) (Ok 0)
+none_put piece none going = rw (none, text_nil) (PutsPiece-none _ _ 0 going)
+
+pub none_leads : {kept : List ℕ} (piece : List ℕ) → kept ≡ [] → Leads rest text (kept ++ piece) piece (emit rest text (seam kept piece))
+none_leads piece none = rw none (Leads-after [] piece)
+
+-- some bytes are withheld
+seam_some : (kept piece : List ℕ) → 0 < length kept → seam kept piece ≡ kept ++ take 3 piece
+seam_some kept piece some = grind arith
+
+pub some_leads : {kept own : List ℕ} (piece bytes : List ℕ) (used : ℕ) → kept ≡ own → 0 < length kept → 3 ≤ length piece
+    → bytes ≡ kept ++ take 3 piece → LeavesRest bytes 0 used
+    → Leads rest text (own ++ piece) (drop (used - length kept) piece) (emit rest text (seam own piece))
+some_leads {kept = kept} piece bytes used same some long is left =
+    let three : length (take 3 piece) ≡ 3 = length-take-le 3 piece long in
+    rw (← same, seam_some kept piece some, ← is) (Leads-seam joins_utf16 kept piece bytes 3 used is tt
+    (omega (arith, ap length is, length-append kept (take 3 piece))) left.within left.rest)

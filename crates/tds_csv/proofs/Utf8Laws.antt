@@ -1,14 +1,108 @@
 -- The laws of UTF-8 in pieces.
 use Rattle.tds_csv.proofs.{
-  Words.{◌≡◌, ℕ, zero, suc, ◌+◌, ◌-◌, ◌≤◌, ◌<◌, true, false, cond, List, [], ◌∷◌, ◌++◌, length, take, refl, sym, ap, ◌∙◌, arith, IsUtf8, encode_utf8},
-  Words.{encode_utf8_all, append_assoc, length-append, length-drop, take_at, drop_at, length-take-le, take-append-drop, take-append-le, IsUtf8-append},
-  Words.{IsUtf8-nil, IsUtf8-drop, IsUtf8-encode, IsCharBoundary-from_take, is_utf8-from_IsUtf8, IsUtf8-from_is_utf8, utf8_valid_len_le, length-encode},
-  Words.{len_utf8_bounds, and_parts, cases_lt, is_utf8, all_scalars, scalar, valid_len_up_to, JoinsPieces, emit, drop-append-add, inl, inr, nil_from_length},
-  Words.{take-append-add, ◌⊎◌},
+  Words.{
+    Bool,
+    Follows,
+    IsCharBoundary-from_take,
+    IsScalar,
+    IsUtf8,
+    IsUtf8-append,
+    IsUtf8-drop,
+    IsUtf8-encode,
+    IsUtf8-from_is_utf8,
+    IsUtf8-nil,
+    JoinsPieces,
+    List,
+    None,
+    Scalar,
+    Shape,
+    Some,
+    Space,
+    StopsAt,
+    [],
+    all_scalars,
+    and_parts,
+    ap,
+    append-nil,
+    append_assoc,
+    appended,
+    arith,
+    cases_lt,
+    common_steps,
+    cond,
+    drop,
+    drop-append-add,
+    drop_at,
+    drop_of_length-le,
+    emit,
+    encode_same,
+    encode_utf8,
+    encode_utf8_all,
+    false,
+    get_or,
+    get_or-drop,
+    inl,
+    inr,
+    is_in_range,
+    is_utf8,
+    is_utf8-from_IsUtf8,
+    len_utf8,
+    len_utf8_bounds,
+    length,
+    length-append,
+    length-drop,
+    length-encode,
+    length-take-le,
+    nat_eq,
+    nat_lt,
+    nat_tests,
+    nil_from_length,
+    of1,
+    of2,
+    of3,
+    of4,
+    of_four,
+    of_three,
+    of_two,
+    refl,
+    scalar,
+    scalar_cases,
+    second_byte_max,
+    second_byte_min,
+    shape,
+    suc,
+    sym,
+    take,
+    take-append-add,
+    take-append-drop,
+    take-append-le,
+    take-take,
+    take_all,
+    take_at,
+    true,
+    utf8_valid_len,
+    utf8_valid_len-IsUtf8,
+    utf8_valid_len_le,
+    valid_len_up_to,
+    whole_within,
+    zero,
+    ℕ,
+    ⊎_elim,
+    ◌*◌,
+    ◌++◌,
+    ◌+◌,
+    ◌-◌,
+    ◌<◌,
+    ◌∙◌,
+    ◌∷◌,
+    ◌≡◌,
+    ◌≤◌,
+    ◌⊎◌,
+  },
   JoiningLemmas.{doubled-append, settled_front},
 }
-use Rattle.tds_csv.specs.Utf8.{IsFit, Begins, rest, text}
-use Rattle.std.specs.Str.Lossy.{utf8_valid_len}
+use Rattle.std.specs.Str.Lossy.{utf8_error_len, utf8_valid_len}
+use Rattle.tds_csv.specs.Utf8.{Begins, IsFit, rest, text}
 
 -- what is found going down is UTF-8, and nothing longer is
 front_up_to : (bs : List ℕ) (n : ℕ) → IsUtf8 (take (valid_len_up_to bs n) bs)
@@ -52,8 +146,8 @@ front-rest bs = sym (take-append-drop _ bs)
 -- what follows a text in a text is a text
 pub after_text : (w z : List ℕ) → IsUtf8 w → IsUtf8 (w ++ z) → IsUtf8 z
 after_text w z u whole =
-    let edge = IsCharBoundary-from_take (w ++ z) (length w) whole (omega (arith, length-append w z)) (rw (take_at w z (length w) refl) u) in
-    rw (drop_at w z (length w) refl) at (IsUtf8-drop (w ++ z) (length w) whole edge)
+    rw (drop_at w z (length w) refl) at (IsUtf8-drop (w ++ z) (length w) whole (IsCharBoundary-from_take (w ++ z) (length w) whole
+    (omega (arith, length-append w z)) (rw (take_at w z (length w) refl) u)))
 
 -- a text at the front than which no longer one stands there
 pub valid_len_is : (bs : List ℕ) (n : ℕ) → n ≤ length bs → IsUtf8 (take n bs) → ((m : ℕ) → n < m → m ≤ length bs → IsUtf8 (take m bs) → ⊥)
@@ -98,7 +192,7 @@ ends a = cc (front-rest a, doubled-append (front a) (rest a), emit-front a)
 
 -- the first bytes, the whole characters among them
 pub take-front : (bytes : List ℕ) (n : ℕ) → take (utf8_valid_len bytes + n) bytes ≡ front bytes ++ take n (rest bytes)
-take-front bytes n = let all = take-append-add (front bytes) (rest bytes) n in rw (length-front bytes, ← front-rest bytes) at all
+take-front bytes n = rw (length-front bytes, ← front-rest bytes) at (take-append-add (front bytes) (rest bytes) n)
 
 -- no front of the list is a text
 unfoldable pub NoText : List ℕ → Type 0
@@ -147,7 +241,7 @@ short a begins = elim (begun_rest a begins) [
 
 -- what follows, seen from the front
 seam : (a b more : List ℕ) → (a ++ b) ++ more ≡ front a ++ ((rest a ++ b) ++ more)
-seam a b more = ap (λ t. t ++ more) (regrouped a b) ∙ append_assoc (front a) (rest a ++ b) more
+seam a b more = grind (arith, regrouped, append_assoc)
 
 -- text in UTF-8 may come in pieces
 pub joins_utf8 : JoinsPieces IsFit Begins rest text
@@ -162,3 +256,220 @@ joins_utf8 = record {
   inward = λ a b h. (h.0, after_text (front a) ((rest a ++ b) ++ h.0) (front_is a) (rw (← seam a b h.0) h.1));
   outward = λ a b h. (h.0, rw (seam a b h.0) (IsUtf8-append (front a) ((rest a ++ b) ++ h.0) (front_is a) h.1));
 }
+
+-- ---- whether bytes begin a text: std's test of what follows the last whole character
+
+-- the first two bytes of a character of four
+four : (c a b d w : ℕ) → Scalar c → 240 ≤ a → Follows b → Follows d → Follows w → c + 63447168 ≡ a * 262144 + b * 4096 + d * 64 + w → 4 ≤ len_utf8 c
+    → (a ≤ 244) × (second_byte_min a ≤ b) × (b ≤ second_byte_max a)
+four c a b d w k l f g h s long = grind arith
+
+-- the front of a character
+front_none : (c : ℕ) (r more tail : List ℕ) → Scalar c → Shape c → r ++ more ≡ encode_utf8 c ++ tail → length r < length (encode_utf8 c)
+    → utf8_error_len r ≡ None
+unfolding utf8_error_len
+front_none c [] more tail k s e short = refl
+front_none c (x ∷ r) more tail k (of1 h e') e short = absurd (omega (arith, ap length e'))
+front_none c (x ∷ []) more tail k (of2 a b l u f s e') e short = grind (arith, length-encode)
+front_none c (x ∷ y ∷ r) more tail k (of2 a b l u f s e') e short = absurd (omega (arith, ap length e'))
+front_none c (x ∷ []) more tail k (of3 a b d l u f g s e') e short = grind arith
+front_none c (x ∷ y ∷ []) more tail k (of3 a b d l u f g s e') e short = grind (arith, length-encode, ⊎_elim, nat_tests)
+front_none c (x ∷ y ∷ z ∷ r) more tail k (of3 a b d l u f g s e') e short = absurd (omega (arith, ap length e'))
+front_none c (x ∷ []) more tail k (of4 a b d w l u f g h s e') e short = grind (arith, ⊎_elim, nat_tests)
+front_none c (x ∷ y ∷ []) more tail k (of4 a b d w l u f g h s e') e short = grind (arith, four, length-encode, nat_tests)
+front_none c (x ∷ y ∷ z ∷ []) more tail k (of4 a b d w l u f g h s e') e short = grind (arith, four, length-encode, nat_tests)
+front_none c (x ∷ y ∷ z ∷ v ∷ r) more tail k (of4 a b d w l u f g h s e') e short = absurd (omega (arith, ap length e'))
+
+-- where some text begins so, std finds no fault in the rest
+pub begins_none : (bytes : List ℕ) → Begins bytes → utf8_error_len (rest bytes) ≡ None
+begins_none bytes begins = elim (begun_rest bytes begins) [
+  | inl none ↦ rw none (unfold utf8_error_len in refl)
+  | inr part ↦ let k = scalar_cases part.0 part.2 in front_none part.0 (rest bytes) begins.0 part.1 k (shape part.0 k) (sym part.3) part.4
+]
+
+two_bytes : (a b : ℕ) → 194 ≤ a → a < 224 → second_byte_min a ≤ b → b ≤ second_byte_max a → IsUtf8 (a ∷ b ∷ [])
+two_bytes a b l u lo hi = of_two (a ∷ b ∷ []) 0 (omega arith) (l, u) (grind arith)
+
+three_bytes : (a b d : ℕ) → 224 ≤ a → a < 240 → second_byte_min a ≤ b → b ≤ second_byte_max a → 128 ≤ d → d < 192 → IsUtf8 (a ∷ b ∷ d ∷ [])
+three_bytes a b d l u lo hi dl dh = of_three (a ∷ b ∷ d ∷ []) 0 (omega arith) (l, u) (grind arith) (
+  dl,
+  dh,
+) (grind arith) (grind arith)
+
+four_bytes : (a b d w : ℕ) → 240 ≤ a → a ≤ 244 → second_byte_min a ≤ b → b ≤ second_byte_max a → 128 ≤ d → d < 192 → 128 ≤ w → w < 192
+    → IsUtf8 (a ∷ b ∷ d ∷ w ∷ [])
+four_bytes a b d w l u lo hi dl dh wl wh = of_four (a ∷ b ∷ d ∷ w ∷ []) 0 (omega arith) l (grind arith) (dl, dh) (
+  wl,
+  wh,
+) (grind arith)
+
+Completes : List ℕ → Type 0
+Completes r = (more : List ℕ) × IsUtf8 (r ++ more)
+
+-- a first byte of three or four, and the next two
+three_complete : (a b d : ℕ) → 224 ≤ a → a ≤ 244 → second_byte_min a ≤ b → b ≤ second_byte_max a → 128 ≤ d → d < 192 → Completes (a ∷ b ∷ d ∷ [])
+unfolding Completes
+three_complete a b d l h lo hi dl dh = elim (cases_lt a 240) [
+  | inl three ↦ ([], three_bytes a b d l three lo hi dl dh)
+  | inr four ↦ (128 ∷ [], four_bytes a b d 128 four h lo hi dl dh (omega arith) (omega arith))
+]
+
+one_completes : (a : ℕ) → 194 ≤ a → a ≤ 244 → Completes (a ∷ [])
+unfolding Completes
+one_completes a l h =
+    let b = second_byte_min a in
+    let most : b ≤ second_byte_max a = grind arith in
+    elim (cases_lt a 224) [
+      | inl two ↦ (b ∷ [], two_bytes a b l two (omega arith) most)
+      | inr more ↦ let x = three_complete a b 128 more h (omega arith) most (omega arith) (omega arith) in (b ∷ 128 ∷ x.0, x.1)
+    ]
+
+-- a first byte of two with the next byte is a text
+more_than_two : (a b : ℕ) (r : List ℕ) → 194 ≤ a → second_byte_min a ≤ b → b ≤ second_byte_max a → NoText (a ∷ b ∷ r) → 224 ≤ a
+unfolding NoText
+more_than_two a b r l lo hi none = elim (cases_lt a 224) [
+  | inl two ↦ absurd (none 2 (omega arith) (omega arith) (two_bytes a b l two lo hi))
+  | inr
+      more ↦ more
+]
+
+two_complete : (a b : ℕ) → 194 ≤ a → a ≤ 244 → second_byte_min a ≤ b → b ≤ second_byte_max a → NoText (a ∷ b ∷ []) → Completes (a ∷ b ∷ [])
+unfolding Completes
+two_complete a b l h lo hi none = let x = three_complete a b 128 (more_than_two a b [] l lo hi none) h lo hi (omega arith) (omega arith) in
+    (128 ∷ x.0, x.1)
+
+-- what std finds no fault in can be completed
+completes : (r : List ℕ) → NoText r → utf8_error_len r ≡ None → Completes r
+unfolding Completes utf8_error_len
+completes [] none e = ([], IsUtf8-nil)
+completes (a ∷ []) none e = grind (arith, one_completes)
+completes (a ∷ b ∷ []) none e = grind (arith, two_complete, nat_tests)
+completes (a ∷ b ∷ d ∷ []) none e = grind (arith, three_complete, more_than_two, nat_tests)
+completes (a ∷ b ∷ d ∷ w ∷ r) none e = grind (arith, nat_tests)
+
+-- where std finds no fault in the rest, some text begins so
+pub none_begins : (bytes : List ℕ) → utf8_error_len (rest bytes) ≡ None → Begins bytes
+unfolding Completes
+none_begins bytes e =
+    let more = completes (rest bytes) (no_text bytes) e in
+    (more.0, rw regrouped (IsUtf8-append (front bytes) (rest bytes ++ more.0) (front_is bytes) more.1))
+
+-- ---- the first byte with which bytes stop beginning a text, from what std says of them
+
+abbrev is_first : ℕ → Bool
+is_first x = is_in_range 0xC2 0xF4 x
+
+abbrev is_second : ℕ → ℕ → Bool
+is_second x y = is_in_range (second_byte_min x) (second_byte_max x) y
+
+abbrev is_next : ℕ → Bool
+is_next z = is_in_range 0x80 0xBF z
+
+fault_four : (x y z w : ℕ) (t : List ℕ) → utf8_error_len (x ∷ y ∷ z ∷ w ∷ t) ≡ cond (is_first x)
+    (cond (is_second x y) (cond (is_next z) (Some 3) (Some 2)) (Some 1)) (Some 1)
+unfolding utf8_error_len
+fault_four x y z w t = grind (arith, nat_tests)
+
+-- so many bytes of these could begin a character, and with the next one they can't
+record Good (r : List ℕ) (j : ℕ) : Type 0 where
+  within : j < length r
+  begun : utf8_error_len (take j r) ≡ None
+  bad : ¬ (utf8_error_len (take (j + 1) r) ≡ None)
+
+-- the number of good bytes of four or more, by the tests of three
+by_tests : (f s n : Bool) (k : ℕ) (P : ℕ → Type 0) → cond f (cond s (cond n (Some 3) (Some 2)) (Some 1)) (Some 1) ≡ Some k
+    → (f ≡ false → P 0) → (f ≡ true → s ≡ false → P 1) → (f ≡ true → s ≡ true → n ≡ false → P 2) → (f ≡ true → s ≡ true → n ≡ true → P 3)
+    → P (cond f k 0)
+by_tests f s n k P e none one two three = grind arith
+
+-- the number of good bytes, from the fault
+good_of : (r : List ℕ) (k : ℕ) → utf8_error_len r ≡ Some k → Good r (cond (is_first (get_or r 0 0)) k 0)
+unfolding utf8_error_len
+good_of [] k e = cc
+good_of (x ∷ []) k e = grind arith
+good_of (x ∷ y ∷ []) k e = grind (arith, common_steps)
+good_of (x ∷ y ∷ z ∷ []) k e = grind (arith, common_steps)
+good_of (x ∷ y ∷ z ∷ w ∷ t) k e =
+    by_tests (is_first x) (is_second x y) (is_next z) k (Good (x ∷ y ∷ z ∷ w ∷ t)) (sym (fault_four x y z w t)
+    ∙ e) (λ f. grind arith) (λ f s. grind arith) (λ f s n. grind arith) (λ f s n. grind (arith, nat_eq, nat_tests, nat_lt))
+
+-- a part of what has no text at its front has none either
+rest_part : (r : List ℕ) (j : ℕ) → NoText r → j ≤ length r → rest (take j r) ≡ take j r
+unfolding NoText
+rest_part r j without le =
+    let len = length-take-le j r le in
+    rw (valid_len_is (take j r) 0 (omega arith) IsUtf8-nil
+    (λ m some within u. without m some (omega arith) (rw (take-take m j r (omega arith)) at u))) refl
+
+-- a text, and a part of what follows it
+rest_after : (bytes : List ℕ) (j : ℕ) → j ≤ length (rest bytes) → rest (take (utf8_valid_len bytes + j) bytes) ≡ take j (rest bytes)
+rest_after bytes j le = grind (arith, take-front, rest-append, drop_of_length-le, utf8_valid_len-IsUtf8, front_is, rest_part, no_text)
+
+-- where the bytes stop beginning a text, by the fault in their rest
+stops : (bytes : List ℕ) (k : ℕ) → utf8_error_len (rest bytes) ≡ Some k
+    → StopsAt bytes (utf8_valid_len bytes) (utf8_valid_len bytes + cond (is_first (get_or (rest bytes) 0 0)) k 0)
+stops bytes k e =
+    let v = utf8_valid_len bytes in
+    let j = cond (is_first (get_or (rest bytes) 0 0)) k 0 in
+    let good = good_of (rest bytes) k e in
+    let part = rest_after bytes j (omega arith) in
+    let next : rest (take ((v + j) + 1) bytes) ≡ take (j + 1) (rest bytes) = ap (λ n. rest (take n bytes)) {y = v + (j + 1)} (omega arith)
+    ∙ rest_after bytes (j + 1) (omega arith) in
+    let cut = take-front bytes j ∙ ap (λ l. front bytes ++ l) (sym part) in
+    grind (arith, front, front-rest, length-drop, utf8_valid_len_le, none_begins, begins_none, settled_front, emit-front)
+
+pub stops_at : (bytes : List ℕ) (whole k good : ℕ) → whole ≡ utf8_valid_len bytes → utf8_error_len (drop whole bytes) ≡ Some k
+    → good ≡ cond (is_first (get_or bytes whole 0)) k 0 → StopsAt bytes whole (whole + good)
+stops_at bytes whole k good is e found =
+    rw (found, ← (get_or-drop whole bytes 0 0 ∙ ap (λ n. get_or bytes n 0) {x = whole + 0} {y = whole} (omega arith)), is) (stops bytes k (rw is at e))
+
+-- ---- text that is cut to a room, a character after the other
+
+-- a beginning of a character is no text
+part_is_no_text : (c n : ℕ) → 0 < n → n < length (encode_utf8 c) → IsUtf8 (take n (encode_utf8 c)) → ⊥
+part_is_no_text c n some short ([], u) = omega (arith, ap length u.1, length-take-le n (encode_utf8 c) (omega arith))
+part_is_no_text c n some short (d ∷ cs, u) =
+    let whole : encode_utf8 c ++ [] ≡ encode_utf8 d ++ (encode_utf8_all cs ++ drop n (encode_utf8 c)) =
+    cc (
+      append-nil (encode_utf8 c),
+      take-append-drop n (encode_utf8 c),
+      u.1,
+      append_assoc (encode_utf8 d) (encode_utf8_all cs) (drop n (encode_utf8 c)),
+    ) in
+    grind (arith, encode_utf8_all, append-nil, take-append-drop, append_assoc, encode_same, length-append, length-drop)
+
+part_has_none : (c k : ℕ) → k < length (encode_utf8 c) → utf8_valid_len (take k (encode_utf8 c)) ≡ 0
+part_has_none c k short =
+    let len = length-take-le k (encode_utf8 c) (omega arith) in
+    valid_len_is _ 0 (omega arith) IsUtf8-nil
+    (λ m some within u. part_is_no_text c m some (omega arith) (rw (take-take m k (encode_utf8 c) (omega arith)) at u))
+
+-- the next character doesn't fit
+pub cut_before : (room c : ℕ) (out more : List ℕ) → IsUtf8 out → length out ≤ room → room < length out + length (encode_utf8 c)
+    → whole_within room (out ++ (encode_utf8 c ++ more)) ≡ out
+cut_before room c out more u fits full =
+    let split : room ≡ length out + (room - length out) = omega arith in
+    grind (arith, take-append-add, take-append-le, valid_len-past, part_has_none, take_at)
+
+-- The first characters of a text were added to an area, and these are left.
+pub record Added (s to : Space) (text left : List ℕ) : Type 0 where
+  pub out : List ℕ
+  pub stands : to ≡ appended s out
+  pub text_is : text ≡ out ++ left
+  pub whole : IsUtf8 out
+  pub fits : length s.bytes + length out ≤ s.room
+
+module _ {s to : Space} {text left : List ℕ} (x : Added s to text left) where
+  -- one more character was added
+  pub added_more : (c : ℕ) {piece more : List ℕ} {after : Space} → left ≡ encode_utf8 c ++ more → piece ≡ encode_utf8 c → IsScalar c
+      → after ≡ appended to piece → length to.bytes + length piece ≤ to.room → Added s after text more
+  added_more c next is scalar grown fits = grind (arith, append_assoc, length-append, IsUtf8-append, IsUtf8-encode)
+
+  -- the next one doesn't fit: the area stands as the longest beginning that fits leaves it
+  pub stays_cut : (c : ℕ) (more : List ℕ) {piece : List ℕ} → left ≡ encode_utf8 c ++ more → piece ≡ encode_utf8 c
+      → to.room < length to.bytes + length piece → to ≡ appended s (whole_within (s.room - length s.bytes) text)
+  stays_cut c more next is full = grind (arith, length-append, cut_before)
+
+  -- all fits
+  pub stays_whole : left ≡ [] → to ≡ appended s (whole_within (s.room - length s.bytes) text)
+  stays_whole none = grind (arith, append-nil, take_all, utf8_valid_len-IsUtf8)

@@ -1,8 +1,9 @@
 -- Pieces of text in UTF-8, one after the other.
 use Rattle.tds_csv.proofs.{
-  Words.{common_steps, ◌≡◌, ◌∙◌, ◌↔◌, ℕ, ◌+◌, ◌-◌, ◌<◌, ◌≤◌, List, [], ◌++◌, length, take, drop, inl, inr, Option, Result, Ok, Err, refl, sym, ap, arith},
-  Words.{append_assoc, append-nil, length-append, length-drop, length-take-le, cases_lt, take-append-drop, take-take, take-append-le, drop-append-le, take_all},
-  Words.{drop-append-add, take-append-add, emit, IsErrAnd, err_from_is_err_and, JoinFault, Stopped, Odd, BadText, Sink},
+  Words.{◌≡◌, ◌∙◌, ◌↔◌, ℕ, ◌+◌, ◌-◌, ◌<◌, ◌≤◌, List, [], ◌++◌, length, take, drop, inl, inr, Option, Result, Ok, Err, refl, sym, ap, arith},
+  Words.{append_assoc, append-nil, length-append, length-drop, length-take-le, cases_lt, take-append-drop, take-take, take-append-le, drop-append-le},
+  Words.{take_all},
+  Words.{drop-append-add, take-append-add, emit, IsErrAnd, JoinFault, Stopped, Odd, BadText, Sink},
   Words.{Pushes, PushesPiece, TakesPiece, TakesUpTo, Held, held, IsScan, StopsAt},
   Utf8Laws.{joins_utf8, emits, rest-append},
   Sinks.{Puts-trans, Breaks-after, Breaks-longer},
@@ -80,13 +81,12 @@ module _ {kept mid new : List ℕ} {a b d : Held} {part : List ℕ} (x : TakesPi
   up_to_both : (more : List ℕ) (n : ℕ) → TakesUpTo Begins rest text [] new b d (mid ++ more) (length mid + n)
       → TakesUpTo Begins rest text kept new a d (part ++ more) (length part + n)
   up_to_both more n y =
-      let h = halves kept part (take (n + 1) more) x.withheld in
       let next : (part : List ℕ) → take ((length part + n) + 1) (part ++ more) ≡ part ++ take (n + 1) more =
       λ part. ap (λ k. take k (part ++ more)) {y = length part + (n + 1)} (omega arith) ∙ take-append-add part more (n + 1) in
       record {
         within = omega (arith, length-append mid more, length-append part more);
         good = rw (take-append-add part more n) (takes_both (take n more) (rw (take-append-add mid more n) at y.good));
-        bad = λ begun. y.bad (rw (next mid) (h.2.0 (rw (next part) at begun)));
+        bad = λ begun. y.bad (rw (next mid) ((halves kept part (take (n + 1) more) x.withheld).2.0 (rw (next part) at begun)));
       }
 
 -- a byte was bad in the first bytes of a piece
@@ -121,7 +121,7 @@ module _ {W U : Type 0} {contents : W → Option (List ℕ)} {a b : Sink W} {kep
   -- and `?` passed its error on
   pub pushes_passed : {piece : List ℕ} {n : ℕ} {e : JoinFault} {r : Result U JoinFault} → n ≤ length piece → IsErrAnd r (λ fault. fault ≡ e)
       → PushesPiece {U = U} contents Begins rest text kept new a b (take n piece) (Err e) → PushesPiece contents Begins rest text kept new a b piece r
-  pushes_passed long is x = grind (arith, common_steps, err_from_is_err_and, first_gives)
+  pushes_passed long is x = grind (arith, first_gives)
 
 module _ {W U V : Type 0} {contents : W → Option (List ℕ)} {a b d : Sink W} {kept mid new part : List ℕ} {u : U} (more : List ℕ) (at : ℕ)
     (le : at + length mid ≡ length part) (x : PushesPiece contents Begins rest text kept mid a b part (Ok u)) where
@@ -140,7 +140,7 @@ module _ {W U V : Type 0} {contents : W → Option (List ℕ)} {a b d : Sink W} 
 
   pushes_both : {r : Result V JoinFault} → PushesPiece contents Begins rest text [] new b d (mid ++ more) r
       → PushesPiece contents Begins rest text kept new a d (part ++ more) (moved_by at r)
-  pushes_both y = grind (arith, common_steps, both_give)
+  pushes_both y = grind (arith, both_give)
 
 -- the first three bytes of a piece were taken, and then what was withheld was pushed with the others
 pub pushes_long : {W U V : Type 0} {contents : W → Option (List ℕ)} {a b d : Sink W} {kept mid new : List ℕ} {u : U} {r : Result V JoinFault}
@@ -151,5 +151,5 @@ pub pushes_long : {W U V : Type 0} {contents : W → Option (List ℕ)} {a b d :
 pushes_long {kept = kept} {mid = mid} {piece = piece} {held' = held'} long same le x y =
     let at = 3 - length held' in
     let whole : at + length mid ≡ length (take 3 piece) = omega (arith, ap length same, length-take-le 3 piece long) in
-    let tail = rw take-append-drop at (kept_tail kept (take 3 piece) (drop 3 piece) mid at x.gives.withheld whole) in
-    rw take-append-drop at (pushes_both (drop 3 piece) at whole x (rw tail at y))
+    rw take-append-drop at (pushes_both (drop 3 piece) at whole x (rw (rw take-append-drop at
+    (kept_tail kept (take 3 piece) (drop 3 piece) mid at x.gives.withheld whole)) at y))

@@ -1,17 +1,18 @@
 -- The text of units that are characters of at most three bytes.
 use Rattle.tds_csv.proofs.{
-  Words.{common_steps, ◌-◌, take-take, evens, length-chunk, refl, LiesIn, chunk, drop-drop, Bool, Each1, length-take-le, Fits, Leads, List, [], ap},
-  Words.{append_assoc, arith, cond, drop, length-append, length-map, mask_l, or_parts, false, get_or, is_high_surrogate, is_low_surrogate, length, map},
-  Words.{nat_tests, flat_map-append, suc, sym, take, take-append-drop, true, w16, zero, ℕ, ◌%◌, ◌*◌, ◌++◌, ◌+◌, ◌/◌, ◌<◌, ◌∙◌, ◌∷◌, ◌≡◌, ◌≤◌, drop-take},
+  Words.{length-take, common_steps, ◌-◌, take-take, evens, length-chunk, refl, LiesIn, chunk, drop-drop, Bool, Each1, length-take-le, Fits, Leads},
+  Words.{List, [], ap},
+  Words.{append_assoc, arith, cond, drop, length-append, length-map, mask_l, false, get_or, length, map},
+  Words.{flat_map-append, suc, sym, take, take-append-drop, true, w16, zero, ℕ, ◌%◌, ◌*◌, ◌++◌, ◌+◌, ◌/◌, ◌<◌, ◌∙◌, ◌∷◌, ◌≡◌, ◌≤◌, drop-take},
   Words.{length-drop, take_all, ◌^◌},
-  Masks.alike,
+  LaneMasks.alike,
   Characters.{of_one, of_two, of_three, doubled_character},
-  Encoding.front_written,
-  Gathering.{bits, gathered_text, placed, row_begins, same_texts},
-  LaneMasks.{first_lanes, first_mask, last_lanes, none_of_first, none_passes, none_set},
-  Leading.{Leads-none, Leads-trans},
+  Characters.front_written,
+  Places.{bits, gathered_text, placed, row_begins, same_texts},
+  LaneMasks.{first_lanes, first_mask, last_lanes, none_of_first, none_set},
+  JoiningLemmas.{Leads-none, Leads-trans},
   Places.{IsRow, ones_of_two, pair_places, pair_row, quad_places, quad_row},
-  Utf16Steps.{next_one, lone_other},
+  Utf16Steps.{next_one},
 }
 use Rattle.tds_csv.specs.{
   Utf16.{units, rest, text},
@@ -24,25 +25,25 @@ use lib.Lanes.{zip2}
 
 -- the bytes of a unit's text, at the places for it
 pub pair_text : (u : ℕ) → is_long u ≡ false → map (λ k. get_or (pair_bytes u) k 0) (pair_places (is_wide u) (is_long u)) ≡ unit_text u
-pair_text u h = grind (arith, nat_tests, of_one, of_two, doubled_character)
+pair_text u h = grind (arith, of_one, of_two)
 
 pub quad_text : (u : ℕ) → u < 65536 → map (λ k. get_or (quad_bytes u) k 0) (quad_places (is_wide u) (is_long u)) ≡ unit_text u
-quad_text u small = grind (arith, nat_tests, of_one, of_two, of_three, doubled_character)
+quad_text u small = grind (arith, of_one, of_two, of_three, doubled_character)
 
 plain_text : (u : ℕ) → is_wide u ≡ false → unit_text u ≡ u ∷ []
-plain_text u h = grind (arith, nat_tests, of_one, doubled_character)
+plain_text u h = grind (arith, of_one)
 
 long_text : (u : ℕ) → u < 65536 → is_long u ≡ true → unit_text u ≡ (224 + u / 4096) ∷ (128 + u / 64 % 64) ∷ (128 + u % 64) ∷ []
-long_text u small h = grind (arith, nat_tests, of_three, doubled_character)
+long_text u small h = grind (arith, of_three)
 
 -- how long the text of units is
 unit_size : (u : ℕ) → u < 65536 → length (unit_text u) ≡ 1 + (cond (is_wide u) 1 0 + cond (is_long u) 1 0)
-unit_size u small = grind (arith, nat_tests, of_one, of_two, of_three, doubled_character)
+unit_size u small = grind (arith, of_one, of_two, of_three, doubled_character)
 
 units_size : (us : List ℕ) → Each1 (λ u. u < 65536) us → length (units_text us) ≡ length us + (count_by is_wide us + count_by is_long us)
 units_size [] small = refl
 units_size (u ∷ us) small = let one = unit_size u small.0 in let more = units_size us small.1 in
-    length-append (unit_text u) (units_text us) ∙ grind (arith, common_steps, one, more)
+    length-append (unit_text u) (units_text us) ∙ grind (arith, common_steps)
 
 pub text_size : (us : List ℕ) {wide long : ℕ} → Each1 (λ u. u < 65536) us → wide ≡ mask_l (map is_wide us) → long ≡ mask_l (map is_long us)
     → length (units_text us) ≡ length us + (count_ones wide + count_ones long)
@@ -86,12 +87,10 @@ row_taken width m lane f same inside us more {row} {wide = wide} {long = long} i
     let places = λ (u : ℕ). f (is_wide u) (is_long u) in
     let begins = row_begins f width 0 m (map is_wide us) (map is_long us) (omega (arith, length-map us is_wide)) (length-map us is_long
     ∙ sym (length-map us is_wide)) in
-    let each = zip2-map f is_wide is_long us in
-    let row_is : placed width 0 (zip2 f (bits m wide) (bits m long)) ≡ placed width 0 (map places us) ++ begins.0 =
-    rw (wide_is, long_is, begins.1, each) refl in
     let rest = drop (length (placed width 0 (zip2 f (bits m wide) (bits m long)))) row in
-    let whole = is_row.is ∙ ap (λ l. l ++ rest) row_is ∙ append_assoc (placed width 0 (map places us)) begins.0 rest in
-    rw (← text_size us range wide_is long_is) (gathered_text width lane places same inside unit_text us more (begins.0 ++ rest) whole is texts)
+    rw (← text_size us range wide_is long_is) (gathered_text width lane places same inside unit_text us more (begins.0 ++ rest)
+    (is_row.is ∙ ap (λ l. l ++ rest) (rw (wide_is, long_is, begins.1, (zip2-map f is_wide is_long us)) refl) ∙ append_assoc (placed width 0 (map places us))
+    begins.0 rest) is texts)
 
 -- that of short characters from the bytes of eight
 pub pairs_taken : (us : List ℕ) (n : ℕ) {xs : List ℕ} {wide : ℕ} → length us ≡ 8 → n ≤ 8 → Each1 (Fits w16) us → xs ≡ flat_map pair_bytes us
@@ -100,10 +99,10 @@ pub pairs_taken : (us : List ℕ) (n : ℕ) {xs : List ℕ} {wide : ℕ} → len
 pairs_taken us n {wide = wide} eight few fits bytes is short =
     let vs = take n us in
     let counted : length vs ≡ n = length-take-le n us (omega arith) in
-    let row = pair_row wide (first_mask is_wide us n eight few is).0 in
-    let size : length vs + (count_ones wide + count_ones 0) ≡ n + count_ones wide = omega (arith, counted, ones-mask_l is_long []) in
-    rw size at (row_taken 2 8 pair_bytes pair_places (λ u. refl) (λ u. in_pair (is_wide u) (is_long u)) vs (flat_map pair_bytes (drop n us)) row
-    (omega (arith, counted)) (bytes ∙ split_lanes pair_bytes n us) is (sym (none_set is_long vs short)) (unit_range vs (each_taken (Fits w16) n us fits))
+    let size : length vs + (count_ones wide + count_ones 0) ≡ n + count_ones wide = omega (arith, ones-mask_l is_long []) in
+    rw size at (row_taken 2 8 pair_bytes pair_places (λ u. refl) (λ u. in_pair (is_wide u) (is_long u)) vs (flat_map pair_bytes (drop n us))
+    (pair_row wide (first_mask is_wide us n eight few is).0)
+    (omega arith) (bytes ∙ split_lanes pair_bytes n us) is (sym (none_set is_long vs short)) (unit_range vs (each_taken (Fits w16) n us fits))
     (same_texts pair_text vs short))
 
 -- and that of any from the bytes of four
@@ -121,28 +120,37 @@ take_both (suc n) zero us = refl
 take_both (suc n) (suc m) [] = refl
 take_both (suc n) (suc m) (u ∷ us) = ap (λ vs. u ∷ vs) (take_both n m us)
 
--- what was written of the first four of so many characters
-pub first_added : (us : List ℕ) (n : ℕ) {old new xs : List ℕ} {at end m wide long : ℕ} → Each1 (Fits w16) us
-    → wide ≡ mask_l (map is_wide (take n us)) → long ≡ mask_l (map is_long (take n us)) → xs ≡ flat_map quad_bytes (take 4 us)
-    → AddsQuads old new at end m xs (wide % 16) (long % 16) → length (take 4 (take n us)) ≡ m
-    → (take end new ≡ take at old ++ units_text (take 4 (take n us))) × (end ≤ at + 3 * m)
-first_added us n fits wide_is long_is is adds counted =
-    let vs = take n us in
-    let bytes = rw (take_both n 4 us) at (split_lanes quad_bytes n (take 4 us)) in
-    adds.adds (take 4 vs) (flat_map quad_bytes (drop n (take 4 us))) counted (is ∙ bytes) (first_lanes is_wide 4 vs wide_is)
-    (first_lanes is_long 4 vs long_is) (each_taken _ 4 vs (each_taken _ n us (unit_range us fits)))
+-- what was written of so many characters: of the first four, and of all
+module _ (us : List ℕ) (n : ℕ) {old new xs : List ℕ} {at end m wide long : ℕ} (fits : (length us ≡ 8) × Each1 (Fits w16) us) (few : n ≤ 8)
+    (wide_is : wide ≡ mask_l (map is_wide (take n us))) (long_is : long ≡ mask_l (map is_long (take n us)))
+    (is : xs ≡ flat_map quad_bytes (take 4 us)) (adds : AddsQuads old new at end m xs (wide % 16) (long % 16)) where
+  first_added : length (take 4 (take n us)) ≡ m → (take end new ≡ take at old ++ units_text (take 4 (take n us))) × (end ≤ at + 3 * m)
+  first_added counted =
+      let vs = take n us in
+      adds.adds (take 4 vs) (flat_map quad_bytes (drop n (take 4 us))) counted (is ∙ rw (take_both n 4 us) at (split_lanes quad_bytes n (take 4 us)))
+      (first_lanes is_wide 4 vs wide_is) (first_lanes is_long 4 vs long_is) (each_taken _ 4 vs (each_taken _ n us (unit_range us fits.1)))
 
--- and of the others
-pub others_added : (us : List ℕ) (n : ℕ) {old new xs : List ℕ} {at end wide long : ℕ} → Each1 (Fits w16) us → length us ≡ 8 → 4 ≤ n → n ≤ 8
-    → wide ≡ mask_l (map is_wide (take n us)) → long ≡ mask_l (map is_long (take n us)) → xs ≡ flat_map quad_bytes (drop 4 us)
-    → AddsQuads old new at end (n - 4) xs (wide / 16) (long / 16)
-    → (take end new ≡ take at old ++ units_text (drop 4 (take n us))) × (end ≤ at + 3 * (n - 4))
-others_added us n fits eight many few wide_is long_is is adds =
-    let vs = take n us in
-    let all : 4 + (n - 4) ≡ n = omega arith in
-    let bytes = rw (← drop-take 4 (n - 4) us, all) at (split_lanes quad_bytes (n - 4) (drop 4 us)) in
-    adds.adds (drop 4 vs) (flat_map quad_bytes (drop (n - 4) (drop 4 us))) (omega (arith, length-drop 4 vs, length-take-le n us (omega (arith, eight))))
-    (is ∙ bytes) (last_lanes is_wide vs wide_is) (last_lanes is_long vs long_is) (each_left _ 4 vs (each_taken _ n us (unit_range us fits)))
+  pub few_added : n ≤ 4 → m ≡ n → (take end new ≡ take at old ++ units_text (take n us)) × (end ≤ at + 3 * n)
+  few_added small counted =
+      let size = length-take-le n us (omega arith) in
+      let all = take_all 4 (take n us) (omega arith) in
+      rw (all, counted) at (first_added (omega (arith, ap length all, size)))
+
+  pub middle_added : 4 ≤ n → m ≡ 4 → end ≤ at + 12
+  middle_added many counted = omega (arith, (first_added (omega (arith, length-take 4 (take n us), length-take-le n us (omega (arith, fits.0))))).1)
+
+  pub all_added : {last ys : List ℕ} {stop : ℕ} → 4 ≤ n → m ≡ 4 → ys ≡ flat_map quad_bytes (drop 4 us)
+      → AddsQuads new last end stop (n - 4) ys (wide / 16) (long / 16)
+      → (take stop last ≡ take at old ++ units_text (take n us)) × (stop ≤ at + 3 * n)
+  all_added many counted ys_is more =
+      let vs = take n us in
+      let size = length-take-le n us (omega arith) in
+      let first = first_added (omega (arith, length-take 4 vs, size)) in
+      let all : 4 + (n - 4) ≡ n = omega arith in
+      let others = more.adds (drop 4 vs) (flat_map quad_bytes (drop (n - 4) (drop 4 us))) (omega (arith, length-drop 4 vs, size))
+      (ys_is ∙ rw (← drop-take 4 (n - 4) us, all) at (split_lanes quad_bytes (n - 4) (drop 4 us))) (last_lanes is_wide vs wide_is)
+      (last_lanes is_long vs long_is) (each_left _ 4 vs (each_taken _ n us (unit_range us fits.1))) in
+      (rw (others.0, first.0, append_assoc, ← split_lanes unit_text 4 vs) refl, omega (arith, first.1, others.1))
 
 -- long characters have three bytes each
 pub long_texts : (us : List ℕ) → Each1 (λ u. u < 65536) us → Each1 (λ u. is_long u ≡ true) us → triples us ≡ units_text us
@@ -156,21 +164,21 @@ triples_whole us long = absurd (omega arith)
 -- the text of eight is in two halves
 pub both_halves : (us low high : List ℕ) → length us ≡ 8 → Each1 (Fits w16) us → Each1 (λ u. is_long u ≡ true) us
     → take 12 low ≡ take 12 (triples us) → take 12 high ≡ take 12 (drop 12 (triples us)) → take 12 low ++ take 12 high ≡ units_text us
-both_halves us low high eight fits long is_low is_high = rw (is_low, is_high) (triples_whole us eight ∙ long_texts us (unit_range us fits) long)
+both_halves us low high eight fits long is_low is_high = grind (arith, triples_whole, long_texts, unit_range)
 
 -- the low bytes of characters of ASCII are their text
 pub plain_texts : (n : ℕ) (ys : List ℕ) → Each1 (λ u. is_wide u ≡ false) (take n (units ys)) → take n (evens ys) ≡ units_text (take n (units ys))
 plain_texts zero ys each = refl
 plain_texts n [] each = grind arith
 plain_texts n (low ∷ []) each = grind arith
-plain_texts (suc n) (low ∷ high ∷ ys) each = grind (arith, nat_tests, plain_text (low + 256 * high) each.0, plain_texts n ys each.1)
+plain_texts (suc n) (low ∷ high ∷ ys) each = grind (arith, plain_text (low + 256 * high) each.0, plain_texts n ys each.1)
 
 -- a surrogate is long, and so it is wide
 pub no_half : (u : ℕ) → is_long u ≡ false → is_half u ≡ false
-no_half u h = grind (arith, nat_tests)
+no_half u h = grind arith
 
 pub not_long : (u : ℕ) → is_wide u ≡ false → is_long u ≡ false
-not_long u h = grind (arith, nat_tests)
+not_long u h = grind arith
 
 -- two bytes are a unit
 pub length-units : (xs : List ℕ) → length (units xs) ≡ length xs / 2
@@ -187,15 +195,14 @@ pub plain_added : (ys old new : List ℕ) {us low : List ℕ} {wide mask at : �
     → mask ≡ mask_l (map is_wide us) → wide ≡ mask % 2 ^ n → wide ≡ 0 → low ≡ evens ys → take (at + 8) new ≡ take at old ++ take 8 low
     → (take (at + n) new ≡ take at old ++ units_text (take n (units ys))) × Each1 (λ u. is_half u ≡ false) (take n (units ys))
 plain_added ys old new {us} {low} {at = at} n long few within is masked lowest none low_is written =
-    let plain = rw is at (none_of_first is_wide us n masked lowest none) in
-    let text = rw (take-take n 8 low few, low_is) at (front_written old new (take 8 low) at n 8 few within written) in
-    (text ∙ ap (λ l. take at old ++ l) (plain_texts n ys plain), Each1-weaker _ _ (λ u h. no_half u (not_long u h)) _ plain)
+    let plain = rw is at (none_of_first is_wide us n masked lowest none) in (
+      (rw (take-take n 8 low few, low_is) at (front_written old new (take 8 low) at n 8 few within written)) ∙ ap (λ l. take at old ++ l)
+          (plain_texts n ys plain),
+      Each1-weaker _ _ (λ u h. no_half u (not_long u h)) _ plain,
+    )
 
 leads_unit : (low high : ℕ) (more : List ℕ) → is_half (low + 256 * high) ≡ false → Leads rest text (low ∷ high ∷ more) more (unit_text (low + 256 * high))
-leads_unit low high more h =
-    let none = or_parts (is_high_surrogate (low + 256 * high)) (is_low_surrogate (low + 256 * high)) h in
-    let next = next_one low high more (low + 256 * high) none.0 (lone_other (low + 256 * high) none.0 none.1) in
-    record { emits = next.emits; keeps = next.keeps }
+leads_unit low high more h = grind (arith, next_one)
 
 -- so many of the units lead on
 leads_front : (k : ℕ) (ys more : List ℕ) → k ≤ length (units ys) → Each1 (λ u. is_half u ≡ false) (take k (units ys))
@@ -218,16 +225,14 @@ pub units_more : {bytes source old new : List ℕ} {at made after : ℕ} (n : �
 units_more {bytes} {source} {at = at} n lies room few single within small written before =
     let ys = chunk at 16 source in
     let eight : length (units ys) ≡ 8 = omega (arith, length-units ys, length-chunk at 16 source room) in
-    let same = alike bytes source at (2 * n) lies (omega arith) within in
-    let next = rw (← same, take-append-drop, drop-drop (2 * n) at bytes) at (leads_front n ys (drop (2 * n) (drop at bytes)) (omega arith) single) in
+    let next = rw (← (alike bytes source at (2 * n) lies (omega arith) within), take-append-drop, drop-drop (2 * n) at bytes) at
+    (leads_front n ys (drop (2 * n) (drop at bytes)) (omega arith) single) in
     record { within = within; room = omega arith; leads = rw written (Leads-trans before.leads next) }
 
 -- so were eight units of the bytes
-pub eight_more : {bytes us old new : List ℕ} {at made after mask : ℕ} → at + 16 ≤ length bytes → us ≡ units (chunk at 16 bytes)
-    → mask ≡ mask_l (map is_half us) → mask ≡ 0 → after ≤ made + 24 → take after new ≡ take made old ++ units_text us → Converts bytes old at made
+pub eight_more : {bytes old new : List ℕ} {at made after : ℕ} → at + 16 ≤ length bytes → Each1 (λ u. is_half u ≡ false) (units (chunk at 16 bytes))
+    → after ≤ made + 24 → take after new ≡ take made old ++ units_text (units (chunk at 16 bytes)) → Converts bytes old at made
     → Converts bytes new (at + 16) after
-eight_more {bytes} {us} {at = at} room is masked none small written before =
-    let ys = chunk at 16 bytes in
-    let all : take 8 us ≡ us = take_all 8 us (omega (arith, eight_units ys (length-chunk at 16 bytes room) is)) in
-    let single = none_passes is_half us (sym masked ∙ none) in
-    units_more 8 (lies_itself bytes) room (omega arith) (rw (← is, all) single) room small (rw (← is, all) written) before
+eight_more {bytes} {at = at} room single small written before =
+    let all = take_all 8 (units (chunk at 16 bytes)) (omega (arith, eight_units _ (length-chunk at 16 bytes room) refl)) in
+    units_more 8 (lies_itself bytes) room (omega arith) (rw all single) room small (rw all written) before

@@ -1,11 +1,12 @@
 // Conversions whose data comes in pieces.
-ghost use Rattle.std.specs.Prelude.{◌≡◌, ◌<◌, ◌%◌, ℕ, Bool, List, [], length};
+ghost use Rattle.std.specs.Prelude.{◌≡◌, ◌<◌, ◌%◌, ℕ, Bool, List, [], length, ⊤};
 ghost use Rattle.tds_csv.specs.Joining.{JoinsPieces};
 ghost use Rattle.tds_csv.specs.Pushing.{EndsPieces, PushesPiece};
 ghost use Rattle.tds_csv.specs.Sinks.{IsReady};
 ghost use Rattle.tds_csv.specs.declared.joiners.JoinFault.TheVariants.{Stopped};
 
 pub(crate) mod binary;
+pub(crate) mod bytewise;
 pub(crate) mod cp1252;
 pub(crate) mod doubled;
 pub(crate) mod into_area;
@@ -37,7 +38,8 @@ impl From<Stop> for JoinFault {
     }
 }
 
-/// A conversion of data that comes in pieces. It withholds the bytes whose text depends on what follows.
+/// A conversion of data that comes in pieces. It withholds the bytes whose text depends on what follows: none, and any
+/// data is whole, unless an `impl` gives words of its own.
 pub trait Joiner: Sized {
     /// How many bytes a unit of the data has.
     const UNIT: u64;
@@ -50,19 +52,19 @@ pub trait Joiner: Sized {
     ghost QUOTED: { Bool };
 
     /// The data is whole.
-    ghost fit: { List ℕ → Type 0 };
+    ghost fit: { List ℕ → Type 0 } = { λ _. ⊤ };
 
     /// Some whole data begins so.
-    ghost begins: { List ℕ → Type 0 };
+    ghost begins: { List ℕ → Type 0 } = { λ _. ⊤ };
 
     /// The bytes at the end whose text depends on what follows.
-    ghost rest: { List ℕ → List ℕ };
+    ghost rest: { List ℕ → List ℕ } = { λ _. [] };
 
     /// The text of whole data.
     ghost text: { List ℕ → List ℕ };
 
     /// The bytes that are withheld.
-    ghost withheld: { Self → List ℕ };
+    ghost withheld: { Self → List ℕ } = { λ _. [] };
 
     /// Creates a joiner that withholds nothing.
     fn new() -> Self

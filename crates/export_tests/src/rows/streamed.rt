@@ -89,15 +89,7 @@ impl<C: Count> Joiner for CountingJoiner<C> {
 
     ghost QUOTED = { false };
 
-    ghost fit = { binary.IsFit };
-
-    ghost begins = { binary.IsFit };
-
-    ghost rest = { binary.rest };
-
     ghost text = { binary.text };
-
-    ghost withheld = { λ _. [] };
 
     fn new() -> Self {
         CountingJoiner {

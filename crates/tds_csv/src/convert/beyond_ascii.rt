@@ -22,6 +22,7 @@ const EVERY: u64 = 0xFF;
 
 // The lanes at places.
 #[inline(always)]
+#[tactic(auto, using(crate::proofs::Places::looked_up))]
 fn gathered(lanes: u8x16, places: [u8; 16]) -> u8x16
     requires lanes { length lanes ≡ LANES }
     requires places { Each1 (λ k. k < LANES) places }
@@ -32,6 +33,7 @@ fn gathered(lanes: u8x16, places: [u8; 16]) -> u8x16
 
 // The bytes of eight short characters, two each.
 #[inline(always)]
+#[tactic(auto, using(crate::proofs::Places::asks_all))]
 fn pairs(units: u16x8) -> u8x16
     ensures { result ≡ flat_map pair_bytes units }
 {
@@ -45,6 +47,7 @@ fn pairs(units: u16x8) -> u8x16
 
 // The bytes of eight characters, four each: of the first four, and of the others.
 #[inline(always)]
+#[tactic(auto, using(crate::proofs::Places::asks_all))]
 fn quads(units: u16x8) -> (u8x16, u8x16)
     ensures { (result.0 ≡ flat_map quad_bytes (take HALF units)) × (result.1 ≡ flat_map quad_bytes (drop HALF units)) }
 {
@@ -64,6 +67,7 @@ fn quads(units: u16x8) -> (u8x16, u8x16)
 
 // The bytes of eight long characters: of the first four and of the others, each with four bytes more.
 #[inline(always)]
+#[tactic(auto, using(crate::proofs::Places::asks_all))]
 fn triples(units: u16x8) -> (u8x16, u8x16)
     ensures { (take 12 result.0 ≡ take 12 (triples units)) × (take 12 result.1 ≡ take 12 (drop 12 (triples units))) }
 {
@@ -83,6 +87,7 @@ fn triples(units: u16x8) -> (u8x16, u8x16)
 
 // Writes the text of the first `n` of eight short characters; the mask says which of them are wide.
 #[inline(always)]
+#[tactic(auto, using(crate::proofs::LaneMasks::first_mask))]
 fn put_pairs(to: &mut [u8], at: usize, units: u16x8, wide: u64, n: usize) -> usize
     requires most { n ≤ UNITS }
     requires wide { wide ≡ mask_l (map is_wide (take n units)) }
@@ -98,6 +103,7 @@ fn put_pairs(to: &mut [u8], at: usize, units: u16x8, wide: u64, n: usize) -> usi
 
 // Writes the text of the first `n` of four characters whose bytes are these, with masks of the wide and the long ones.
 #[inline(always)]
+#[tactic(auto, using(crate::proofs::Places::ones_of_two))]
 fn put_quads(to: &mut [u8], at: usize, quads: u8x16, wide: u64, long: u64, n: usize) -> usize
     requires most { n ≤ HALF }
     requires wide { wide < 16 }
@@ -113,6 +119,7 @@ fn put_quads(to: &mut [u8], at: usize, quads: u8x16, wide: u64, long: u64, n: us
 
 // Writes the text of the first `n` of eight characters, with masks of the wide and the long ones.
 #[inline(always)]
+#[tactic(auto, using(crate::proofs::WideText::few_added, crate::proofs::WideText::middle_added, crate::proofs::WideText::all_added))]
 fn put_mixed(to: &mut [u8], at: usize, units: u16x8, wide: u64, long: u64, n: usize) -> usize
     requires most { n ≤ UNITS }
     requires wide { wide ≡ mask_l (map is_wide (take n units)) }
@@ -143,7 +150,8 @@ fn put_triples(to: &mut [u8], at: usize, units: u16x8)
 
 // Writes the text of eight characters, with the mask of the long ones.
 #[inline(always)]
-pub(crate) fn put_longs(to: &mut [u8], at: usize, units: u16x8, long: u64) -> usize
+#[tactic(auto, using(std::proofs::lemmas::Grind::common_steps))]
+fn put_longs(to: &mut [u8], at: usize, units: u16x8, long: u64) -> usize
     requires long { long ≡ mask_l (map is_long units) }
     requires room { at + 3 * UNITS + LANES ≤ length to.old }
     ensures most { result ≤ at + 3 * UNITS }
@@ -159,6 +167,7 @@ pub(crate) fn put_longs(to: &mut [u8], at: usize, units: u16x8, long: u64) -> us
 // Writes the text of the first `n` of eight characters, some of them long, and returns its end. Writes none if one of
 // them is a surrogate or all of the eight are long.
 #[inline(always)]
+#[tactic(auto, using(crate::proofs::LaneMasks::none_of_first))]
 fn put_few(to: &mut [u8], at: usize, units: u16x8, wide: u64, long: u64, n: usize) -> Option<usize>
     requires most { n ≤ UNITS }
     requires wide { wide ≡ mask_l (map is_wide (take n units)) }
@@ -178,6 +187,7 @@ fn put_few(to: &mut [u8], at: usize, units: u16x8, wide: u64, long: u64, n: usiz
 // Writes the text of the first `n` of eight units, and returns its end. Writes none if one of them is a surrogate or all of
 // the eight are long.
 #[inline(always)]
+#[tactic(auto, using(crate::proofs::LaneMasks::first_lanes, crate::proofs::LaneMasks::none_of_first))]
 pub(crate) fn put_units(to: &mut [u8], at: usize, lanes: u8x16, n: usize) -> Option<usize>
     requires most { n ≤ UNITS }
     requires room { at + 3 * n + LANES ≤ length to.old }
@@ -197,4 +207,25 @@ pub(crate) fn put_units(to: &mut [u8], at: usize, lanes: u8x16, n: usize) -> Opt
         return Some(put_pairs(to, at, units, wide, n));
     }
     put_few(to, at, units, wide, long, n)
+}
+
+// Writes the text of eight units, and returns its end. Writes none if one of them is a surrogate, and with `LONG` none if
+// no one is long, or else none if all are.
+#[inline(always)]
+pub(crate) fn put_eight<const LONG: bool>(to: &mut [u8], at: usize, lanes: u8x16) -> Option<usize>
+    requires { at + 3 * UNITS + LANES ≤ length to.old }
+    ensures most { IfSome result (λ end. end ≤ at + 3 * UNITS) }
+    ensures written { IfSome result (λ end. take end to.new ≡ take at to.old ++ units_text (utf16.units lanes)) }
+    ensures single { IfSome result (λ _. Each1 (λ u. is_half u ≡ false) (utf16.units lanes)) }
+    ensures none { IfNone result (to.new ≡ to.old) }
+{
+    if !LONG {
+        return put_units(to, at, lanes, UNITS);
+    }
+    let units = units_of(lanes);
+    let long = long_units(units);
+    if long == 0 || surrogate_units(units) != 0 {
+        return None;
+    }
+    Some(put_longs(to, at, units, long))
 }

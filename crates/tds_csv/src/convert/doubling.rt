@@ -11,7 +11,7 @@ use std::simd::prelude::*;
 // Writes the next bytes up to a quote, at most 16, to a place, and returns how many. Writes none if fewer than
 // 16 bytes are left.
 #[inline(always)]
-#[tactic(auto, using(crate::proofs::Masks::run_most, crate::proofs::Unquoted::unquoted_lanes, std::proofs::lemmas::Grind::common_steps))]
+#[tactic(auto, using(crate::proofs::LaneMasks::run_most, crate::proofs::Singles::unquoted_lanes, std::proofs::lemmas::Grind::common_steps))]
 fn take_unquoted(bytes: &[u8], at: usize, to: &mut [u8], made: usize) -> usize
     requires from { at ≤ length bytes.now }
     requires room { made + LANES ≤ length to.old }

@@ -10,54 +10,9 @@ use crate::convert::lanes::{WIDE, first_set};
 use std::simd::prelude::*;
 use tds_values::put_byte;
 
-// Writes a character beyond ASCII in two bytes.
-#[inline(always)]
-#[tactic(auto, using(crate::proofs::Encoding::two_more, crate::proofs::Characters::of_two, std::proofs::lemmas::Grind::common_steps))]
-fn put_two(to: &mut [u8], at: usize, code: u32) -> usize
-    requires low { 128 ≤ code }
-    requires high { code < 2048 }
-    requires room { at + 4 ≤ length to.old }
-    ensures end { result ≡ at + 2 }
-    ensures written { take result to.new ≡ take at to.old ++ encode_utf8 code }
-{
-    let at = put_byte(to, at, (0xC0 + code / 64) as u8);
-    put_byte(to, at, (0x80 + code % 64) as u8)
-}
-
-// Writes a character in three bytes.
-#[inline(always)]
-#[tactic(auto, using(crate::proofs::Encoding::three_more, crate::proofs::Characters::of_three, std::proofs::lemmas::Grind::common_steps))]
-fn put_three(to: &mut [u8], at: usize, code: u32) -> usize
-    requires low { 2048 ≤ code }
-    requires high { code < 65536 }
-    requires room { at + 4 ≤ length to.old }
-    ensures end { result ≡ at + 3 }
-    ensures written { take result to.new ≡ take at to.old ++ encode_utf8 code }
-{
-    let at = put_byte(to, at, (0xE0 + code / 4096) as u8);
-    let at = put_byte(to, at, (0x80 + code / 64 % 64) as u8);
-    put_byte(to, at, (0x80 + code % 64) as u8)
-}
-
-// Writes a character in four bytes.
-#[inline(always)]
-#[tactic(auto, using(crate::proofs::Encoding::four_more, crate::proofs::Characters::of_four, std::proofs::lemmas::Grind::common_steps))]
-fn put_four(to: &mut [u8], at: usize, code: u32) -> usize
-    requires low { 65536 ≤ code }
-    requires high { code < 1114112 }
-    requires room { at + 4 ≤ length to.old }
-    ensures end { result ≡ at + 4 }
-    ensures written { take result to.new ≡ take at to.old ++ encode_utf8 code }
-{
-    let at = put_byte(to, at, (0xF0 + code / 262144) as u8);
-    let at = put_byte(to, at, (0x80 + code / 4096 % 64) as u8);
-    let at = put_byte(to, at, (0x80 + code / 64 % 64) as u8);
-    put_byte(to, at, (0x80 + code % 64) as u8)
-}
-
 // Writes a character beyond ASCII.
 #[inline(always)]
-#[tactic(auto, using(crate::proofs::Characters::of_two, crate::proofs::Characters::of_three, crate::proofs::Characters::of_four))]
+#[tactic(auto, using(crate::proofs::Characters::two_more, crate::proofs::Characters::three_more, crate::proofs::Characters::four_more, crate::proofs::Characters::of_two, crate::proofs::Characters::of_three, crate::proofs::Characters::of_four, std::proofs::lemmas::Grind::common_steps))]
 fn put_wide(to: &mut [u8], at: usize, code: u32) -> usize
     requires low { 128 ≤ code }
     requires high { code < 1114112 }
@@ -65,13 +20,21 @@ fn put_wide(to: &mut [u8], at: usize, code: u32) -> usize
     ensures end { result ≡ at + length (encode_utf8 code) }
     ensures written { take result to.new ≡ take at to.old ++ encode_utf8 code }
 {
+    let last = (0x80 + code % 64) as u8;
     if code < 0x800 {
-        put_two(to, at, code)
-    } else if code < 0x1_0000 {
-        put_three(to, at, code)
-    } else {
-        put_four(to, at, code)
+        let at = put_byte(to, at, (0xC0 + code / 64) as u8);
+        return put_byte(to, at, last);
     }
+    let third = (0x80 + code / 64 % 64) as u8;
+    if code < 0x1_0000 {
+        let at = put_byte(to, at, (0xE0 + code / 4096) as u8);
+        let at = put_byte(to, at, third);
+        return put_byte(to, at, last);
+    }
+    let at = put_byte(to, at, (0xF0 + code / 262144) as u8);
+    let at = put_byte(to, at, (0x80 + code / 4096 % 64) as u8);
+    let at = put_byte(to, at, third);
+    put_byte(to, at, last)
 }
 
 // Writes a character in UTF-8.
@@ -90,7 +53,7 @@ pub(crate) fn put_character(to: &mut [u8], at: usize, code: u32) -> usize
 
 // Writes a character in UTF-8, and a quote twice.
 #[inline(always)]
-#[tactic(auto, using(crate::proofs::Encoding::doubled_as_long, crate::proofs::Encoding::added_doubled))]
+#[tactic(auto, using(crate::proofs::Characters::doubled_as_long, crate::proofs::Characters::added_doubled))]
 pub(crate) fn put_quoted(to: &mut [u8], at: usize, code: u32) -> usize
     requires range { code < 1114112 }
     requires room { at + 4 ≤ length to.old }

@@ -32,6 +32,7 @@ fn put_wide_digits(bytes: &[u8], at: usize, to: &mut [u8])
 
 // Writes the digits of bytes to a slice, as long as 64 of them are left, and returns of how many.
 #[inline(always)]
+#[tactic(auto, using(crate::proofs::SingleLaws::hex_laws))]
 fn encode_wide(bytes: &[u8], to: &mut [u8]) -> usize
     requires { length to.old ≡ 2 * length bytes.now }
     ensures within { result ≤ length bytes.now }

@@ -58,6 +58,15 @@ impl<const N: usize> Run<N> {
         self.len = end;
     }
 
+    // Replaces the text by a piece.
+    pub(crate) fn set(&mut self, piece: &[u8])
+        requires { length piece.now ≤ N }
+        ensures { self.new ≡ piece.now }
+    {
+        self.clear();
+        self.extend(piece);
+    }
+
     // Adds a character in UTF-8.
     pub(crate) fn push_character(&mut self, code: u32)
         requires range { code < 1114112 }
@@ -74,5 +83,18 @@ impl<const N: usize> Run<N> {
         ensures { self.new ≡ self.old ++ doubled (encode_utf8 code) }
     {
         self.len = put_quoted(&mut self.bytes[..], self.len, code);
+    }
+}
+
+impl Run<3> {
+    // The bytes, and after them at most three others.
+    pub(crate) fn followed_by(&self, piece: &[u8]) -> Run<6>
+        requires { length piece.now ≤ 3 }
+        ensures { result ≡ self.now ++ piece.now }
+    {
+        let mut both: Run<6> = Run::new();
+        both.extend(self.bytes());
+        both.extend(piece);
+        both
     }
 }

@@ -7,10 +7,10 @@ ghost use Rattle.tds_csv.specs.Plain.{LiesIn};
 ghost use Rattle.tds_csv.specs.Utf16 as utf16;
 ghost use Rattle.tds_csv.specs.Utf16Next.{Converts, ConvertsIn, IsCharacter, IsNext, LeavesRest};
 
-use crate::convert::beyond_ascii::{put_longs, put_units};
+use crate::convert::beyond_ascii::{put_eight, put_units};
 use crate::convert::encode::put_quoted;
 use crate::convert::lanes::{LANES, first_set};
-use crate::convert::lanes_utf16::{UNITS, long_units, surrogate_units, units_of};
+use crate::convert::lanes_utf16::{UNITS, surrogate_units, units_of};
 use std::simd::prelude::*;
 
 // A character, and how many bytes it takes.
@@ -111,6 +111,7 @@ pub(crate) struct Converted {
 
 // Goes on with the text by one character, if that doesn't depend on what follows.
 #[inline(always)]
+#[tactic(auto, using(crate::proofs::Characters::doubled_length, std::proofs::lemmas::Grind::common_steps))]
 pub(crate) fn convert_one(bytes: &[u8], from: usize, to: &mut [u8], start: usize) -> Converted
     requires long { 3 * length bytes.now + 2 * LANES ≤ 2 * length to.old }
     requires before { Converts bytes.now to.old from start }
@@ -131,9 +132,15 @@ pub(crate) fn convert_one(bytes: &[u8], from: usize, to: &mut [u8], start: usize
     }
 }
 
-// Goes on with the text by eight units, as long as so many are left, none of them is a surrogate and not all are long.
+// Goes on with the text by eight units, as long as so many are left and none of them is a surrogate. With `LONG` one of
+// them has to be long, and otherwise one has to be short.
 #[inline(always)]
-fn convert_eights(bytes: &[u8], from: usize, to: &mut [u8], start: usize) -> Converted
+fn convert_eights<const LONG: bool>(
+    bytes: &[u8],
+    from: usize,
+    to: &mut [u8],
+    start: usize,
+) -> Converted
     requires long { 3 * length bytes.now + 2 * LANES ≤ 2 * length to.old }
     requires before { Converts bytes.now to.old from start }
     ensures more { from ≤ result.used }
@@ -147,37 +154,11 @@ fn convert_eights(bytes: &[u8], from: usize, to: &mut [u8], start: usize) -> Con
     let last = bytes.len() - LANES;
     while at <= last {
         let lanes = u8x16::from_slice(&bytes[at..]);
-        let Some(end) = put_units(to, made, lanes, UNITS) else {
+        let Some(end) = put_eight::<LONG>(to, made, lanes) else {
             break;
         };
         at += LANES;
         made = end;
-    }
-    Converted { used: at, made }
-}
-
-// Goes on with the text by eight units, as long as so many are left, none of them is a surrogate and one is long.
-#[inline(always)]
-fn convert_longs(bytes: &[u8], from: usize, to: &mut [u8], start: usize) -> Converted
-    requires long { 3 * length bytes.now + 2 * LANES ≤ 2 * length to.old }
-    requires before { Converts bytes.now to.old from start }
-    ensures more { from ≤ result.used }
-    ensures after { Converts bytes.now to.new result.used result.made }
-{
-    let mut at = from;
-    let mut made = start;
-    if bytes.len() - from < LANES {
-        return Converted { used: at, made };
-    }
-    let last = bytes.len() - LANES;
-    while at <= last {
-        let units = units_of(u8x16::from_slice(&bytes[at..]));
-        let long = long_units(units);
-        if long == 0 || surrogate_units(units) != 0 {
-            break;
-        }
-        made = put_longs(to, made, units, long);
-        at += LANES;
     }
     Converted { used: at, made }
 }
@@ -227,8 +208,8 @@ fn convert_run(bytes: &[u8], source: &[u8], from: usize, to: &mut [u8], start: u
         made: start,
     };
     loop {
-        let eights = convert_eights(bytes, run.used, to, run.made);
-        let done = convert_longs(bytes, eights.used, to, eights.made);
+        let eights = convert_eights::<false>(bytes, run.used, to, run.made);
+        let done = convert_eights::<true>(bytes, eights.used, to, eights.made);
         if done.used == eights.used {
             return convert_some(bytes, source, done.used, to, done.made, UNITS);
         }
@@ -237,6 +218,7 @@ fn convert_run(bytes: &[u8], source: &[u8], from: usize, to: &mut [u8], start: u
 }
 
 // How many of the next eight units come before the first surrogate among them.
+#[tactic(auto, using(crate::proofs::LaneMasks::first_few))]
 fn units_before(source: &[u8], at: usize) -> usize
     requires { at ≤ length source.now }
     ensures { result ≤ UNITS }
@@ -250,6 +232,7 @@ fn units_before(source: &[u8], at: usize) -> usize
 
 // Goes on with the text of the characters that are fixed, with surrogates.
 #[inline(never)]
+#[tactic(auto, using(crate::proofs::Utf16Steps::ends_held))]
 fn convert_from(bytes: &[u8], source: &[u8], after: Converted, to: &mut [u8]) -> Converted
     requires { ConvertsIn bytes.now source.now to.old after.used after.made }
     ensures text { take result.made to.new ≡ emit utf16.rest utf16.text bytes.now }
@@ -270,6 +253,7 @@ fn convert_from(bytes: &[u8], source: &[u8], after: Converted, to: &mut [u8]) ->
 
 // Writes the text of the characters that are fixed. What follows the bytes in the source may be looked at.
 #[inline(always)]
+#[tactic(auto, using(crate::proofs::Utf16Steps::ends_there))]
 pub(crate) fn convert(bytes: &[u8], source: &[u8], to: &mut [u8]) -> Converted
     requires source { LiesIn bytes.now source.now }
     requires long { 3 * length bytes.now + 2 * LANES ≤ 2 * length to.old }

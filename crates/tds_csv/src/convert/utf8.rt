@@ -25,6 +25,7 @@ fn good_of(first: u8, len: usize) -> usize
 }
 
 // How many of the first bytes are whole characters, and how many begin a text.
+#[tactic(auto, using(crate::proofs::Utf8Laws::none_begins))]
 pub(crate) fn scan_text(bytes: &[u8]) -> Scan
     ensures text { emit utf8.rest utf8.text bytes.now ≡ doubled (take result.whole bytes.now) }
     ensures scan { IsScan bytes.now result.whole result.good }

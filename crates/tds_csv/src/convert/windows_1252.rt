@@ -119,6 +119,7 @@ fn end_by_hand(bytes: &[u8], at: usize, taken: usize) -> usize
 
 // Goes on with the text of the bytes up to a place, a byte at a time, and returns how long it is then.
 #[inline(always)]
+#[tactic(auto, using(crate::proofs::SingleLaws::windows_1252_laws, std::proofs::lemmas::Grind::common_steps))]
 fn convert_by_hand(bytes: &[u8], from: usize, end: usize, to: &mut [u8], start: usize) -> usize
     requires from { from ≤ end }
     requires end { end ≤ length bytes.now }

@@ -1,20 +1,19 @@
 // Binary data.
-ghost use Rattle.std.specs.Prelude.{[], false};
 ghost use Rattle.tds_csv.specs.Binary as binary;
 
 use crate::convert::lanes::LANES;
 use crate::convert::lanes_hex::encode;
 use crate::convert::utf16::Converted;
-use crate::joiners::parts::{Bytewise, put_text};
-use crate::joiners::{JoinFault, Joiner};
-use crate::sink::Sink;
-use std::io::Write;
+use crate::joiners::bytewise::BytewiseJoiner;
+use crate::joiners::parts::Bytewise;
 
 /// Bytes as hexadecimal digits.
-#[derive(Drop)]
-pub struct HexJoiner;
+pub type HexJoiner = BytewiseJoiner<Hex, false>;
 
-impl Bytewise for HexJoiner {
+/// The digits of bytes.
+pub struct Hex;
+
+impl Bytewise for Hex {
     ghost text = { binary.text };
 
     fn convert(bytes: &[u8], _source: &[u8], to: &mut [u8]) -> usize {
@@ -30,42 +29,6 @@ impl Bytewise for HexJoiner {
         Converted { used, made }
     }
 
-    fn laws() {}
-}
-
-impl Joiner for HexJoiner {
-    const UNIT: u64 = 1;
-
-    ghost UNIT = { 1 };
-
-    const QUOTED: bool = false;
-
-    ghost QUOTED = { false };
-
-    ghost fit = { binary.IsFit };
-
-    ghost begins = { binary.IsFit };
-
-    ghost rest = { binary.rest };
-
-    ghost text = { binary.text };
-
-    ghost withheld = { λ _. [] };
-
-    fn new() -> Self {
-        HexJoiner
-    }
-
-    fn push<W: Write>(&mut self, piece: &[u8], sink: &mut Sink<'_, W>) -> Result<(), JoinFault> {
-        sink.check()?;
-        put_text::<Self, W>(piece, sink)?;
-        Ok(())
-    }
-
-    fn end<W: Write>(&mut self, sink: &mut Sink<'_, W>) -> Result<(), JoinFault> {
-        Ok(sink.check()?)
-    }
-
-    #[tactic(auto, using(crate::proofs::SingleLaws::joins_binary))]
+    #[tactic(auto, using(crate::proofs::SingleLaws::hex_laws))]
     fn laws() {}
 }

@@ -84,6 +84,7 @@ fn last_text(kept: &[u8]) -> Run<4>
 impl Utf16Joiner {
     // Puts the text of the withheld bytes with three bytes of the piece, if any are withheld, and
     // returns where the text of the piece goes on.
+    #[tactic(auto, using(crate::proofs::Utf16Steps::nil_of_length, crate::proofs::Utf16Steps::none_leads))]
     fn put_withheld<W: Write>(&self, piece: &[u8], sink: &mut Sink<'_, W>) -> Result<usize, Stop>
         requires writing { IsWriting sink.old }
         requires long { 3 ≤ length piece.now }
@@ -97,9 +98,7 @@ impl Utf16Joiner {
         if kept.is_empty() {
             return Ok(0);
         }
-        let mut seam: Run<6> = Run::new();
-        seam.extend(kept);
-        seam.extend(&piece[..3]);
+        let seam = self.kept.followed_by(&piece[..3]);
         let used = put_chunk(seam.bytes(), seam.bytes(), sink)?;
         Ok(used - kept.len())
     }
@@ -113,12 +112,12 @@ impl Utf16Joiner {
     {
         let from = self.put_withheld(piece, sink)?;
         let at = put_from(piece, from, sink)?;
-        self.kept.clear();
-        self.kept.extend(&piece[at..]);
+        self.kept.set(&piece[at..]);
         Ok(())
     }
 
     // Takes a piece of at most three bytes.
+    #[tactic(auto, using(std::proofs::lemmas::Grind::common_steps))]
     fn push_short<W: Write>(
         &mut self,
         piece: &[u8],
@@ -129,12 +128,9 @@ impl Utf16Joiner {
         ensures { PushesPiece W.contents (λ _. ⊤) utf16.rest utf16.text self.old.kept self.new.kept
             sink.old sink.new piece.now result }
     {
-        let mut seam: Run<6> = Run::new();
-        seam.extend(self.kept.bytes());
-        seam.extend(piece);
+        let seam = self.kept.followed_by(piece);
         let used = put_chunk(seam.bytes(), seam.bytes(), sink)?;
-        self.kept.clear();
-        self.kept.extend(&seam.bytes()[used..]);
+        self.kept.set(&seam.bytes()[used..]);
         Ok(())
     }
 }
@@ -149,8 +145,6 @@ impl Joiner for Utf16Joiner {
     ghost QUOTED = { true };
 
     ghost fit = { utf16.IsFit };
-
-    ghost begins = { λ _. ⊤ };
 
     ghost rest = { utf16.rest };
 

@@ -40,8 +40,7 @@ impl Utf8Joiner {
             sink.old sink.new bytes.now result }
     {
         let scan = put_whole(bytes, sink)?;
-        self.kept.clear();
-        self.kept.extend(&bytes[scan.whole..scan.good]);
+        self.kept.set(&bytes[scan.whole..scan.good]);
         if scan.good < bytes.len() {
             return Err(JoinFault::BadText(scan.good));
         }
@@ -59,9 +58,7 @@ impl Utf8Joiner {
         ensures { PushesPiece W.contents utf8.Begins utf8.rest utf8.text self.old.kept self.new.kept
             sink.old sink.new piece.now result }
     {
-        let mut seam: Run<6> = Run::new();
-        seam.extend(self.kept.bytes());
-        seam.extend(piece);
+        let seam = self.kept.followed_by(piece);
         let kept = self.kept.bytes().len();
         match self.take_text(seam.bytes(), sink) {
             Ok(()) => Ok(()),

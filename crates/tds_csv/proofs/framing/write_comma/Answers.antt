@@ -5,4 +5,4 @@ comma_text column [] text h some = absurd (omega arith)
 comma_text column (x ∷ xs) text h some = sym (ap (λ b. cond b text (44 ∷ text)) (ne_eqb column 0 h))
 
 pub returns-clause-text : Rattle.tds_csv.proofs.framing.write_comma.Goals.returns-clause-text
-returns-clause-text c = λ text. comma_text c.args.column c.args.to.now text c.if-column-eq0.false c.requires
+returns-clause-text c = λ text. comma_text c.args.column _ text c.if-column-eq0.false c.requires

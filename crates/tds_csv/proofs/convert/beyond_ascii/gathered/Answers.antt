@@ -1,8 +1,4 @@
-use Rattle.tds_csv.proofs.convert.beyond_ascii.gathered.Goals as goal
-use Rattle.tds_csv.proofs.{Words.{refl, arith, w8, SwzOk-from_below}, Gathering.looked_up}
+use Rattle.tds_csv.proofs.{Words.{refl, arith, w8, SwzOk-from_below}}
 
-pub swizzle : goal.swizzle
+pub swizzle : Rattle.tds_csv.proofs.convert.beyond_ascii.gathered.Goals.swizzle
 swizzle c = SwzOk-from_below w8 16 1 16 0 c.args.places refl (omega arith) c.requires.places
-
-pub returns : goal.returns
-returns c = looked_up c.args.lanes 0 c.args.places (omega arith) c.requires.places

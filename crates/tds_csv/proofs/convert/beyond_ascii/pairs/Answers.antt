@@ -1,26 +1,13 @@
-use Rattle.tds_csv.proofs.convert.beyond_ascii.pairs.Goals as goal
-use Rattle.tds_csv.proofs.{
-  Words.{◌∙◌, ◌≡◌, ℕ, map, replicate, cond, leb, arith, nat_tests, map-id, sym, zip2_of_maps, splat_is_map, Each2-splat, Each1-all},
-  LaneMasks.same_map,
-  WideLanes.{chosen, pair_lanes},
-}
+use Rattle.tds_csv.proofs.{Words.{◌∙◌, cond, leb, arith, map-id, sym, zip2_of_maps, splat_is_map}, LaneMasks.same_map, Places.{chosen, pair_lanes}}
 
-pub nonzero_div-lead : goal.nonzero_div-lead
-nonzero_div-lead c = Each2-splat _ c.args.units 8 64 (Each1-all _ (λ x. omega arith) c.args.units)
-
-pub nonzero_rem-trail : goal.nonzero_rem-trail
-nonzero_rem-trail c = Each2-splat _ c.args.units 8 64 (Each1-all _ (λ x. omega arith) c.args.units)
-
-pub returns : goal.returns
+pub returns : Rattle.tds_csv.proofs.convert.beyond_ascii.pairs.Goals.returns
 returns c =
     let us = c.args.units in
     let n = c.fits-units.0 in
     let id = sym (map-id us) in
     let parts = splat_is_map us 8 64 n in
-    let lead = zip2_of_maps _ _ _ us (zip2_of_maps _ _ _ us id parts) (splat_is_map us 8 192 n) in
-    let trail = zip2_of_maps _ _ _ us (zip2_of_maps _ _ _ us id parts) (splat_is_map us 8 128 n) in
-    let two = zip2_of_maps _ _ _ us lead (zip2_of_maps _ _ _ us trail (splat_is_map us 8 256 n)) in
-    let edge : replicate {A = ℕ} 8 128 ≡ map (λ u. 128) us = splat_is_map us 8 128 n in
-    let text = chosen _ _ _ us (zip2_of_maps (λ a b. cond (leb a b) 65535 0) _ _ us edge id) two id in
-    pair_lanes us n c.fits-units.1 (chosen _ _ _ us (zip2_of_maps _ _ _ us id (splat_is_map us 8 34 n)) (splat_is_map us 8 8738 n) text
-    ∙ same_map (λ u small. grind (arith, nat_tests)) us c.fits-units.1)
+    pair_lanes us n c.fits-units.1 (chosen _ _ _ us (zip2_of_maps _ _ _ us id (splat_is_map us 8 34 n)) (splat_is_map us 8 8738 n)
+    (chosen _ _ _ us (zip2_of_maps (λ a b. cond (leb a b) 65535 0) _ _ us (splat_is_map us 8 128 n) id)
+    (zip2_of_maps _ _ _ us (zip2_of_maps _ _ _ us (zip2_of_maps _ _ _ us id parts) (splat_is_map us 8 192 n))
+    (zip2_of_maps _ _ _ us (zip2_of_maps _ _ _ us (zip2_of_maps _ _ _ us id parts) (splat_is_map us 8 128 n)) (splat_is_map us 8 256 n))) id)
+    ∙ same_map (λ u small. grind arith) us c.fits-units.1)

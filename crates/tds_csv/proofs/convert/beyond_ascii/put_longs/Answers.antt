@@ -1,15 +1,5 @@
-use Rattle.tds_csv.proofs.convert.beyond_ascii.put_longs.Goals as goal
-use Rattle.tds_csv.{proofs.{Words.{arith, take_all}, LaneMasks.all_pass}, specs.Wide.is_long}
+use Rattle.tds_csv.{proofs.{Words.{arith}, LaneMasks.all_pass}, specs.Wide.is_long}
 
-pub put_triples-requires-clause-long : goal.put_triples-requires-clause-long
+pub put_triples-requires-clause-long : Rattle.tds_csv.proofs.convert.beyond_ascii.put_longs.Goals.put_triples-requires-clause-long
 put_triples-requires-clause-long c =
-    (all_pass is_long 8 c.args.units (omega (arith, c.fits-units.0)) (omega (arith, c.requires.long, c.if-long-eq-EVERY.true))).0
-
-pub put_mixed-requires-clause-wide : goal.put_mixed-requires-clause-wide
-put_mixed-requires-clause-wide c = rw (take_all 8 c.args.units (omega (arith, c.fits-units.0))) c.wide_units.ensures
-
-pub put_mixed-requires-clause-long : goal.put_mixed-requires-clause-long
-put_mixed-requires-clause-long c = rw (take_all 8 c.args.units (omega (arith, c.fits-units.0))) c.requires.long
-
-pub returns-clause-written : goal.returns-clause-written
-returns-clause-written c = rw (take_all 8 c.args.units (omega (arith, c.fits-units.0))) at c.put_mixed.ensures.written
+    (all_pass is_long 8 c.args.units (omega arith) (omega arith)).0

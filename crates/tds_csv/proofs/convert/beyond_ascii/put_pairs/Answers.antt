@@ -1,23 +1,13 @@
 use Rattle.tds_csv.proofs.convert.beyond_ascii.put_pairs.Goals as goal
-use Rattle.tds_csv.{proofs.{Words.{common_steps, arith}, LaneMasks.first_mask, Places.pair_row, WideText.pairs_taken}, specs.Wide.is_wide}
+use Rattle.tds_csv.{proofs.{LaneMasks.first_mask, Places.pair_row, WideText.pairs_taken}, specs.Wide.is_wide}
 
 pub pair_places-requires : goal.pair_places-requires
 pair_places-requires c = (first_mask is_wide c.args.units c.args.n c.fits-units.0 c.requires.most c.requires.wide).0
 
 pub gathered-requires-clause-places : goal.gathered-requires-clause-places
 gathered-requires-clause-places c =
-    let mask = first_mask is_wide c.args.units c.args.n c.fits-units.0 c.requires.most c.requires.wide in
-    rw c.pair_places.ensures (pair_row c.args.wide mask.0).small
-
-pub put_lanes-requires : goal.put_lanes-requires
-put_lanes-requires c = grind (arith, common_steps, first_mask)
-
-pub returns-clause-most : goal.returns-clause-most
-returns-clause-most c =
-    let mask = first_mask is_wide c.args.units c.args.n c.fits-units.0 c.requires.most c.requires.wide in
-    omega (arith, mask.1)
+    rw c.pair_places.ensures (pair_row c.args.wide (first_mask is_wide c.args.units c.args.n c.fits-units.0 c.requires.most c.requires.wide).0).small
 
 pub returns-clause-written : goal.returns-clause-written
 returns-clause-written c =
-    let text = pairs_taken c.args.units c.args.n c.fits-units.0 c.requires.most c.fits-units.1 c.pairs.ensures c.requires.wide c.requires.short in
-    cc (c.put_lanes.ensures, c.gathered.ensures, c.pair_places.ensures, text)
+    cc ((pairs_taken c.args.units c.args.n c.fits-units.0 c.requires.most c.fits-units.1 c.pairs.ensures c.requires.wide c.requires.short))

@@ -1,8 +1,13 @@
-use Rattle.tds_csv.proofs.convert.beyond_ascii.put_triples.Goals as goal
 use Rattle.tds_csv.proofs.{Words.{append_assoc, arith, refl, ◌≡◌, ◌+◌}, WideText.both_halves}
 
-pub returns : goal.returns
+pub returns : Rattle.tds_csv.proofs.convert.beyond_ascii.put_triples.Goals.returns
 returns c =
-    let text = both_halves c.args.units _ _ c.fits-units.0 c.fits-units.1 c.requires.long c.triples.ensures.0 c.triples.ensures.1 in
     let end : c.args.at + 12 + 12 ≡ c.args.at + 24 = omega arith in
-    rw (← end, c.put_lanes-2.ensures, c.put_lanes.ensures, append_assoc, text) refl
+    rw (
+      ← end,
+      c.put_lanes-2.ensures,
+      c.put_lanes.ensures,
+      append_assoc,
+      (both_halves c.args.units _ _ c.fits-units.0 c.fits-units.1 c.requires.long
+          c.triples.ensures.0 c.triples.ensures.1),
+    ) refl

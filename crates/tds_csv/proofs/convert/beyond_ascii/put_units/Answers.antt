@@ -1,36 +1,17 @@
 use Rattle.tds_csv.proofs.convert.beyond_ascii.put_units.Goals as goal
 use Rattle.{
-  tds_csv.{proofs.{Words.{arith, ◌∙◌}, LaneMasks.{first_lanes, none_of_first}, WideText.{no_half, plain_added}}, specs.Wide.{is_long, is_wide}},
+  tds_csv.{proofs.{Words.{arith}, LaneMasks.{none_of_first}, WideText.{no_half, plain_added}}, specs.Wide.{is_long}},
   std.proofs.lemmas.Simd.Each1-weaker,
 }
 
 pub returns-then-wide-eq0-clause-written : goal.returns-then-wide-eq0-clause-written
-returns-then-wide-eq0-clause-written c = (plain_added c.args.lanes _ _ c.args.n c.fits-lanes.0 c.requires.most (omega (arith, c.requires.room))
+returns-then-wide-eq0-clause-written c = (plain_added _ _ _ _ c.fits-lanes.0 c.requires.most (omega arith)
     c.units_of-units.ensures c.wide_units.ensures c.lowest-wide.ensures c.if-wide-eq0.true c.low_bytes.ensures c.put_lanes.ensures).0
 
 pub returns-then-wide-eq0-clause-single : goal.returns-then-wide-eq0-clause-single
-returns-then-wide-eq0-clause-single c = (plain_added c.args.lanes _ _ c.args.n c.fits-lanes.0 c.requires.most (omega (arith, c.requires.room))
+returns-then-wide-eq0-clause-single c = (plain_added _ _ _ _ c.fits-lanes.0 c.requires.most (omega arith)
     c.units_of-units.ensures c.wide_units.ensures c.lowest-wide.ensures c.if-wide-eq0.true c.low_bytes.ensures c.put_lanes.ensures).1
 
-pub put_pairs-requires-clause-wide : goal.put_pairs-requires-clause-wide
-put_pairs-requires-clause-wide c =
-    c.lowest-wide.ensures ∙ first_lanes is_wide c.args.n c.units_of-units.result c.wide_units.ensures
-
-pub put_pairs-requires-clause-short : goal.put_pairs-requires-clause-short
-put_pairs-requires-clause-short c =
-    none_of_first is_long c.units_of-units.result c.args.n c.long_units.ensures c.lowest-long.ensures
-    c.if-long-eq0.true
-
 pub returns-then-long-eq0-clause-single : goal.returns-then-long-eq0-clause-single
-returns-then-long-eq0-clause-single c =
-    let short = none_of_first is_long c.units_of-units.result c.args.n c.long_units.ensures
-    c.lowest-long.ensures c.if-long-eq0.true in
-    Each1-weaker _ _ no_half _ (rw c.units_of-units.ensures at short)
-
-pub put_few-requires-clause-wide : goal.put_few-requires-clause-wide
-put_few-requires-clause-wide c =
-    c.lowest-wide.ensures ∙ first_lanes is_wide c.args.n c.units_of-units.result c.wide_units.ensures
-
-pub put_few-requires-clause-long : goal.put_few-requires-clause-long
-put_few-requires-clause-long c =
-    c.lowest-long.ensures ∙ first_lanes is_long c.args.n c.units_of-units.result c.long_units.ensures
+returns-then-long-eq0-clause-single c = Each1-weaker _ _ no_half _ (rw c.units_of-units.ensures at
+    (none_of_first is_long _ _ c.long_units.ensures c.lowest-long.ensures c.if-long-eq0.true))

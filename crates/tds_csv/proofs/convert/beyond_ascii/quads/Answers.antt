@@ -1,42 +1,23 @@
-use Rattle.tds_csv.proofs.convert.beyond_ascii.quads.Goals as goal
 use Rattle.tds_csv.proofs.{
-  Words.{◌∙◌, ◌≡◌, ℕ, map, replicate, cond, eqb, leb, arith, map-id, sym, zip2_of_maps, splat_is_map, Each2-splat, Each1-all},
+  Words.{◌∙◌, cond, eqb, leb, map-id, sym, zip2_of_maps, splat_is_map},
   LaneMasks.same_map,
-  WideLanes.{chosen, high_lane, low_lane, quad_lanes},
+  Places.{chosen, high_lane, low_lane, quad_lanes},
 }
 
-pub nonzero_rem-trail : goal.nonzero_rem-trail
-nonzero_rem-trail c = Each2-splat _ _ 8 64 (Each1-all _ (λ x. omega arith) _)
-
-pub nonzero_rem-low : goal.nonzero_rem-low
-nonzero_rem-low c = Each2-splat _ _ 8 256 (Each1-all _ (λ x. omega arith) _)
-
-pub nonzero_div-middle : goal.nonzero_div-middle
-nonzero_div-middle c = Each2-splat _ _ 8 64 (Each1-all _ (λ x. omega arith) _)
-
-pub nonzero_rem-middle : goal.nonzero_rem-middle
-nonzero_rem-middle c = Each2-splat _ _ 8 64 (Each1-all _ (λ x. omega arith) _)
-
-pub nonzero_div-high : goal.nonzero_div-high
-nonzero_div-high c = Each2-splat _ _ 8 4096 (Each1-all _ (λ x. omega arith) _)
-
-pub returns : goal.returns
+pub returns : Rattle.tds_csv.proofs.convert.beyond_ascii.quads.Goals.returns
 returns c =
     let us = c.args.units in
     let n = c.fits-units.0 in
     let id = sym (map-id us) in
     let parts = splat_is_map us 8 64 n in
     let byte = splat_is_map us 8 256 n in
-    let quote : replicate {A = ℕ} 8 34 ≡ map (λ u. 34) us = splat_is_map us 8 34 n in
-    let quotes = zip2_of_maps (λ a b. cond (eqb a b) 65535 0) _ _ us id quote in
+    let quotes = zip2_of_maps (λ a b. cond (eqb a b) 65535 0) _ _ us id (splat_is_map us 8 34 n) in
     let both = splat_is_map us 8 8738 n in
-    let trail = zip2_of_maps _ _ _ us (zip2_of_maps _ _ _ us id parts) (splat_is_map us 8 128 n) in
-    let low = zip2_of_maps _ _ _ us (zip2_of_maps _ _ _ us id byte) (zip2_of_maps _ _ _ us trail byte) in
-    let edge : replicate {A = ℕ} 8 2048 ≡ map (λ u. 2048) us = splat_is_map us 8 2048 n in
-    let long = zip2_of_maps (λ a b. cond (leb a b) 65535 0) _ _ us edge id in
-    let mark = chosen _ _ _ us long (splat_is_map us 8 32992 n) (splat_is_map us 8 49376 n) in
-    let middle = zip2_of_maps _ _ _ us (zip2_of_maps _ _ _ us (zip2_of_maps _ _ _ us id parts) parts) byte in
-    let high = zip2_of_maps _ _ _ us (zip2_of_maps _ _ _ us (zip2_of_maps _ _ _ us id (splat_is_map us 8 4096 n)) middle) mark in
+    let high = zip2_of_maps _ _ _ us (zip2_of_maps _ _ _ us (zip2_of_maps _ _ _ us id (splat_is_map us 8 4096 n))
+    (zip2_of_maps _ _ _ us (zip2_of_maps _ _ _ us (zip2_of_maps _ _ _ us id parts) parts) byte))
+    (chosen _ _ _ us (zip2_of_maps (λ a b. cond (leb a b) 65535 0) _ _ us (splat_is_map us 8 2048 n) id) (splat_is_map us 8 32992 n)
+    (splat_is_map us 8 49376 n)) in
     quad_lanes us _ _ n c.fits-units.1
-    (chosen _ _ _ us quotes both low ∙ same_map low_lane us c.fits-units.1)
+    (chosen _ _ _ us quotes both (zip2_of_maps _ _ _ us (zip2_of_maps _ _ _ us id byte) (zip2_of_maps _ _ _ us
+    (zip2_of_maps _ _ _ us (zip2_of_maps _ _ _ us id parts) (splat_is_map us 8 128 n)) byte)) ∙ same_map low_lane us c.fits-units.1)
     (chosen _ _ _ us quotes both high ∙ same_map high_lane us c.fits-units.1)

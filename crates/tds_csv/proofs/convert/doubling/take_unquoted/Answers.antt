@@ -1,4 +1,4 @@
-use Rattle.tds_csv.proofs.{Words.{common_steps, arith}, Masks.run_most, Unquoted.unquoted_lanes}
+use Rattle.tds_csv.proofs.{Words.{arith}, Singles.unquoted_lanes}
 
 pub returns-clause-taken : Rattle.tds_csv.proofs.convert.doubling.take_unquoted.Goals.returns-clause-taken
-returns-clause-taken c = grind (arith, common_steps, run_most, unquoted_lanes 16)
+returns-clause-taken c = grind (arith, unquoted_lanes 16)

@@ -1,14 +1,13 @@
 use Rattle.tds_csv.proofs.convert.doubling.take_wide.Goals as goal
-use Rattle.tds_csv.proofs.{Words.{◌∙◌, ◌++◌, ◌≤◌, ap, take, arith, is_unquoted}, Masks.run_most, Unquoted.unquoted_lanes}
+use Rattle.tds_csv.proofs.{Words.{◌∙◌, ◌++◌, ap, take, arith, is_unquoted}, LaneMasks.run_most, Singles.unquoted_lanes}
 
 pub take_before-requires-clause-stops : goal.take_before-requires-clause-stops
-take_before-requires-clause-stops c = omega (arith, c.wide_quotes.ensures, run_most is_unquoted c.args.bytes.now c.args.at 32 c.requires.wide)
+take_before-requires-clause-stops c = omega (arith, run_most is_unquoted c.args.bytes.now c.args.at 32 c.requires.wide)
 
 pub returns-clause-most : goal.returns-clause-most
-returns-clause-most c = omega (arith, c.take_before.ensures.first, c.wide_quotes.ensures, run_most is_unquoted c.args.bytes.now c.args.at 32 c.requires.wide)
+returns-clause-most c = omega (arith, run_most is_unquoted c.args.bytes.now c.args.at 32 c.requires.wide)
 
 pub returns-clause-taken : goal.returns-clause-taken
 returns-clause-taken c =
-    let run = c.take_before.ensures.first ∙ c.wide_quotes.ensures in
-    let few : c.take_before.result ≤ 32 = omega (arith, run, run_most is_unquoted c.args.bytes.now c.args.at 32 c.requires.wide) in
-    c.take_before.ensures.taken ∙ ap (λ l. take c.args.made c.args.to.now ++ l) (unquoted_lanes 32 c.args.bytes.now c.args.at _ few run)
+    c.take_before.ensures.taken ∙ ap (λ l. take c.args.made c.args.to.now ++ l) (unquoted_lanes 32 c.args.bytes.now c.args.at _
+    (omega (arith, run_most is_unquoted c.args.bytes.now c.args.at 32 c.requires.wide)) (c.take_before.ensures.first ∙ c.wide_quotes.ensures))

@@ -1,5 +1,5 @@
 use Rattle.tds_csv.{
-  proofs.{Words.{◌∙◌, arith, leb, cond, bit_or, refl, zip2_splat, length-chunk, chunk, is_plain, map-id, splat_is_map, sym, zip2_of_maps}, Masks.run_in},
+  proofs.{Words.{◌∙◌, arith, leb, cond, bit_or, refl, zip2_splat, length-chunk, chunk, is_plain, map-id, splat_is_map, sym, zip2_of_maps}, LaneMasks.run_in},
 }
 
 pub returns : Rattle.tds_csv.proofs.convert.lanes.plain_run.Goals.returns

@@ -1,8 +1,7 @@
-use Rattle.tds_csv.proofs.{Words.{◌∙◌, arith, refl, zip2_splat, length-chunk, chunk, is_unquoted}, Masks.run_in}
+use Rattle.tds_csv.proofs.{Words.{◌∙◌, arith, refl, zip2_splat, length-chunk, chunk, is_unquoted}, LaneMasks.run_in}
 
 pub returns : Rattle.tds_csv.proofs.convert.lanes.unquoted_run.Goals.returns
 returns c =
-    let v = chunk c.args.at 16 c.args.bytes.now in
-    let long = length-chunk c.args.at 16 c.args.bytes.now c.requires in
-    c.first_set.ensures ∙ run_in 16 is_unquoted c.args.bytes.now c.args.at _ (omega arith) c.requires c.type_inv.bytes _ (zip2_splat _ v 16 34 long)
+    c.first_set.ensures ∙ run_in 16 is_unquoted c.args.bytes.now c.args.at _ (omega arith) c.requires c.type_inv.bytes _
+    (zip2_splat _ (chunk c.args.at 16 c.args.bytes.now) 16 34 (length-chunk c.args.at 16 c.args.bytes.now c.requires))
     refl

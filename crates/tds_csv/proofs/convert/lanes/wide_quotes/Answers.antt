@@ -1,7 +1,6 @@
-use Rattle.tds_csv.proofs.{Words.{arith, refl, zip2_splat, length-chunk, chunk, is_unquoted}, Masks.run_in}
+use Rattle.tds_csv.proofs.{Words.{arith, refl, zip2_splat, length-chunk, chunk, is_unquoted}, LaneMasks.run_in}
 
 pub returns : Rattle.tds_csv.proofs.convert.lanes.wide_quotes.Goals.returns
 returns c =
-    let v = chunk c.args.at 32 c.args.bytes.now in
-    let long = length-chunk c.args.at 32 c.args.bytes.now c.requires in
-    run_in 32 is_unquoted c.args.bytes.now c.args.at _ (omega arith) c.requires c.type_inv.bytes _ (zip2_splat _ v 32 34 long) refl
+    run_in 32 is_unquoted c.args.bytes.now c.args.at _ (omega arith) c.requires c.type_inv.bytes _
+    (zip2_splat _ (chunk c.args.at 32 c.args.bytes.now) 32 34 (length-chunk c.args.at 32 c.args.bytes.now c.requires)) refl

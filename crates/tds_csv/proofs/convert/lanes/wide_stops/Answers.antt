@@ -1,5 +1,5 @@
 use Rattle.{
-  tds_csv.proofs.{Words.{arith, leb, cond, bit_or, refl, zip2_splat, length-chunk, chunk, is_plain, map-id, splat_is_map, sym, zip2_of_maps}, Masks.run_in},
+  tds_csv.proofs.{Words.{arith, leb, cond, bit_or, refl, zip2_splat, length-chunk, chunk, is_plain, map-id, splat_is_map, sym, zip2_of_maps}, LaneMasks.run_in},
 }
 
 pub returns : Rattle.tds_csv.proofs.convert.lanes.wide_stops.Goals.returns

@@ -21,22 +21,16 @@ loop-at-preserved c =
 ended : (bytes to new : List ℕ) (at : ℕ) → at ≤ length bytes → length to ≡ 2 * length bytes → take (2 * at) to ≡ encode_lower (take at bytes)
     → new ≡ encode_lower (take (length bytes - at) (drop at bytes)) → put_mid (2 * at) (length to - 2 * at) to new ≡ encode_lower bytes
 ended bytes to new at within room front back =
-    let none = nil_of_length (post_of (2 * at) (length to - 2 * at) to) (omega (
-      arith,
-      length-drop (length to - 2 * at) (drop (2 * at) to),
-      length-drop (2 * at) to,
-    )) in
-    let whole = hex-append lower_digits (take at bytes) (drop at bytes) in
     rw (
-      none,
+      (nil_of_length (post_of (2 * at) (length to - 2 * at) to) (omega (arith, length-drop (length to - 2 * at) (drop (2 * at) to), length-drop (2 * at) to))),
       append-nil,
       front,
       back,
       take_all (length bytes - at) (drop at bytes) (omega (arith, length-drop at bytes)),
-      ← whole,
+      ← (hex-append lower_digits (take at bytes) (drop at bytes)),
       take-append-drop,
     ) refl
 
 pub returns : goal.returns
-returns c = ended c.args.bytes.now c.loop-at.to c.encode_to_slice.new.output c.loop-at.at c.loop-at.invariant.within c.loop-at.invariant.room
+returns c = ended _ c.loop-at.to c.encode_to_slice.new.output _ c.loop-at.invariant.within c.loop-at.invariant.room
     c.loop-at.invariant.digits c.in-Ok.ensures.written

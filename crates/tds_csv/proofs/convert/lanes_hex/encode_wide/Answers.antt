@@ -1,12 +1,8 @@
-use Rattle.tds_csv.proofs.convert.lanes_hex.encode_wide.Goals as goal
 use Rattle.tds_csv.proofs.{
-  Words.{common_steps, ◌≡◌, ◌+◌, ◌*◌, ◌++◌, ℕ, List, take, arith, rules, chunk, encode_lower, lower_digits},
-  SingleLaws.{hex-append, hex-nil},
+  Words.{◌≡◌, ◌+◌, ◌*◌, ◌++◌, ℕ, List, take, arith, rules, chunk, encode_lower, lower_digits},
+  SingleLaws.{hex-append},
   Singles.text_taken,
 }
-
-pub loop-at-init : goal.loop-at-init
-loop-at-init c = grind (arith, common_steps, hex-nil)
 
 -- the digits of twice 32 bytes were written
 two_steps : (bytes first second third : List ℕ) (at : ℕ) → take (2 * at) first ≡ encode_lower (take at bytes)
@@ -20,10 +16,10 @@ two_steps bytes first second third at before one two =
     let more = text_taken encode_lower (hex-append lower_digits) bytes at 32 one before in
     rw end at (rw all at (text_taken encode_lower (hex-append lower_digits) bytes (at + 32) 32 two (rw half at more)))
 
-pub loop-at-preserved : goal.loop-at-preserved
+pub loop-at-preserved : Rattle.tds_csv.proofs.convert.lanes_hex.encode_wide.Goals.loop-at-preserved
 loop-at-preserved c = record {
   within = omega arith;
   room = search rules;
-  digits = two_steps c.args.bytes.now _ _ _ c.loop-at.at
+  digits = two_steps _ _ _ _ _
       c.loop-at.invariant.digits c.put_wide_digits.ensures c.put_wide_digits-in-loop-at.ensures;
 }

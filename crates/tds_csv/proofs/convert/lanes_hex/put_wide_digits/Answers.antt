@@ -1,4 +1,3 @@
-use Rattle.tds_csv.proofs.convert.lanes_hex.put_wide_digits.Goals as goal
 use Rattle.tds_csv.proofs.{
   Words.{◌≡◌, ◌∙◌, ◌+◌, ◌*◌, ◌++◌, ℕ, List, take, drop, sym, ap, arith, append_assoc, take-add, drop-drop, chunk, encode_lower, lower_digits},
   SingleLaws.hex-append,
@@ -11,9 +10,8 @@ both_halves : (bytes first second third : List ℕ) (at : ℕ) → take (2 * at 
 both_halves bytes first second third at one two =
     let half : 2 * at + 32 ≡ 2 * (at + 16) = omega arith in
     let all : 2 * (at + 16) + 32 ≡ 2 * at + 64 = omega arith in
-    let parts = rw (drop-drop 16 at bytes) at (take-add 16 16 (drop at bytes)) in
     rw all at two ∙ ap (λ l. l ++ encode_lower (chunk (at + 16) 16 bytes)) (rw half at one) ∙ append_assoc (take (2 * at) first) _ _
-    ∙ ap (λ l. take (2 * at) first ++ l) (sym (ap encode_lower parts ∙ hex-append lower_digits _ _))
+    ∙ ap (λ l. take (2 * at) first ++ l) (sym (ap encode_lower (rw (drop-drop 16 at bytes) at (take-add 16 16 (drop at bytes))) ∙ hex-append lower_digits _ _))
 
-pub returns : goal.returns
-returns c = both_halves c.args.bytes.now _ _ _ c.args.at c.put_digits.ensures c.put_digits-2.ensures
+pub returns : Rattle.tds_csv.proofs.convert.lanes_hex.put_wide_digits.Goals.returns
+returns c = grind (arith, both_halves)

@@ -3,7 +3,6 @@ use Rattle.tds_csv.proofs.{Words.{◌∙◌, ◌++◌, ◌%◌, drop, ap, arith,
 
 pub returns-in-None-clause-spells : Rattle.tds_csv.proofs.convert.utf16.character_at.Goals.returns-in-None-clause-spells
 returns-in-None-clause-spells c =
-    let xs = drop c.args.at c.args.bytes.now in
     let len = length-drop c.args.at c.args.bytes.now in
-    spells_held xs (omega arith) (ap (λ n. n % 2) len ∙ c.requires.whole) c.in-None.ensures.gives
+    spells_held (drop c.args.at c.args.bytes.now) (omega arith) (ap (λ n. n % 2) len ∙ c.requires.whole) c.in-None.ensures.gives
     ∙ ap (λ l. encode_utf8 65533 ++ utf16.characters l) (drop-drop 2 c.args.at c.args.bytes.now)

@@ -1,6 +1,6 @@
 use Rattle.tds_csv.proofs.convert.utf16.next_character.Goals as goal
 use Rattle.tds_csv.proofs.{
-  Words.{common_steps, is_high_surrogate, is_low_surrogate, inr, or_parts, sym, arith, length-drop},
+  Words.{is_high_surrogate, is_low_surrogate, inr, or_parts, sym, arith, length-drop},
   Utf16Steps.{alone_at, held_at, high_half, lone_half, lone_other, not_high, one_at, pair_at},
 }
 
@@ -25,4 +25,4 @@ returns-clause-gives c = pair_at c.args.bytes.now c.args.at (omega arith) c.unit
     (high_half c.unit-first.result (sym c.if-not-is_surrogate.ensures) (sym c.if-is_low.ensures)) (sym c.if-not-is_low.ensures)
 
 pub returns-then-bytes-at-lt4-clause-gives : goal.returns-then-bytes-at-lt4-clause-gives
-returns-then-bytes-at-lt4-clause-gives c = grind (arith, common_steps, held_at, high_half)
+returns-then-bytes-at-lt4-clause-gives c = grind (arith, held_at)

@@ -1,6 +1,6 @@
 use Rattle.tds_csv.specs.Utf16 as utf16
 use Rattle.tds_csv.proofs.joiners.into_area.utf16_into.Given as goal
-use Rattle.tds_csv.proofs.{Words.{◌≡◌, ◌-◌, ◌%◌, ◌≤◌, length, drop}, Cuts.Added}
+use Rattle.tds_csv.proofs.{Words.{◌≡◌, ◌-◌, ◌%◌, ◌≤◌, length, drop}, Utf8Laws.Added}
 
 -- the characters so far were added
 abbrev pub invariant-loop-at : goal.invariant-loop-at

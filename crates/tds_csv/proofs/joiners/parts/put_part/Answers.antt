@@ -1,7 +1,6 @@
-use Rattle.tds_csv.proofs.joiners.parts.put_part.Goals as goal
 use Rattle.tds_csv.proofs.{Words.{arith, common_steps, Err, take, ℕ, PutsPiece}, Singles.puts_less}
 
-pub returns-in-Err-clause-puts : goal.returns-in-Err-clause-puts
+pub returns-in-Err-clause-puts : Rattle.tds_csv.proofs.joiners.parts.put_part.Goals.returns-in-Err-clause-puts
 returns-in-Err-clause-puts g c =
     let some : PutsPiece {U = ℕ} g.W.Write.contents c.args.sink.now c.keep.new.self
     (g.C.Bytewise.text (take c.convert_part-done.result.used c.args.bytes.now)) (Err c.in-Err.stop) = grind (arith, common_steps) in

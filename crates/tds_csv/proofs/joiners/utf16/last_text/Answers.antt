@@ -1,9 +1,8 @@
-use Rattle.tds_csv.specs.Utf16 as utf16
 use Rattle.tds_csv.proofs.joiners.utf16.last_text.Goals as goal
-use Rattle.tds_csv.proofs.{Words.{common_steps, ◌∙◌, sym, ap, arith, length-drop, append-nil}, Utf16Steps.{text_nil, characters_nil, nil_of_length}}
+use Rattle.tds_csv.proofs.{Words.{arith, append-nil}, Utf16Steps.{text_nil, characters_nil}}
 
 pub returns-then-kept-eq2 : goal.returns-then-kept-eq2
-returns-then-kept-eq2 c = grind (arith, common_steps, nil_of_length, length-drop, characters_nil, append-nil)
+returns-then-kept-eq2 c = grind (arith, characters_nil, append-nil)
 
 pub returns-else-kept-eq2 : goal.returns-else-kept-eq2
-returns-else-kept-eq2 c = c.new-run.ensures ∙ sym (ap utf16.text (nil_of_length c.args.kept.now (omega arith)) ∙ text_nil)
+returns-else-kept-eq2 c = grind (arith, text_nil)

@@ -1,9 +1,9 @@
 use Rattle.tds_csv.proofs.joiners.utf16.put_from.Goals as goal
 use Rattle.tds_csv.proofs.{
-  Words.{◌-◌, ◌≤◌, [], Ok, length, take, drop, arith, length-drop, length-take, take_all},
+  Words.{◌-◌, ◌≤◌, [], Ok, length, take, drop, arith, length-drop, take_all},
   Utf16Laws.joins_utf16,
   Puttings.{PutsPiece-error, PutsPiece-none, PutsPiece-ok, PutsPiece-trans},
-  Leading.{Leads-front, Leads-next, Leads-none, Leads-trans, puts_part, puts_whole},
+  JoiningLemmas.{Leads-front, Leads-next, Leads-none, Leads-trans, puts_part, puts_whole},
 }
 
 pub loop-at-init : goal.loop-at-init
@@ -12,7 +12,7 @@ loop-at-init g c = record {
   after = omega arith;
   puts = (
     [],
-    PutsPiece-none g.W.Write.contents c.args.sink.now tt c.requires.writing,
+    PutsPiece-none _ _ tt c.requires.writing,
     Leads-none,
   );
 }
@@ -20,9 +20,8 @@ loop-at-init g c = record {
 pub returns-in_err-at-clause-puts : goal.returns-in_err-at-clause-puts
 returns-in_err-at-clause-puts g c =
     let before = c.loop-at.invariant.puts in
-    let chunk = puts_part (Leads-front joins_utf16 (drop c.loop-at.at c.args.bytes.now) (c.min-end.result - c.loop-at.at) tt) c.in_err-at.ensures.puts
-    in
-    PutsPiece-error _ _ _ _ _ _ c.from_residual.ensures.1 (puts_whole before.2 before.1 chunk)
+    PutsPiece-error _ _ _ _ _ _ c.from_residual.ensures.1 (puts_whole before.2 before.1 (puts_part
+    (Leads-front joins_utf16 (drop c.loop-at.at c.args.bytes.now) (c.min-end.result - c.loop-at.at) tt) c.in_err-at.ensures.puts))
 
 pub loop-at-preserved : goal.loop-at-preserved
 loop-at-preserved g c =
@@ -31,8 +30,6 @@ loop-at-preserved g c =
     let used = c.in_ok-at.field-0 in
     let before = c.loop-at.invariant.puts in
     let left = c.in_ok-at.ensures.used in
-    let size : length (take (c.min-end.result - at) (drop at xs)) ≤ length xs - at =
-    omega (arith, length-take (c.min-end.result - at) (drop at xs), length-drop at xs) in
     let within : used ≤ length (take (c.min-end.result - at) (drop at xs)) = left.within in
     record {
       within = omega arith;
@@ -47,7 +44,5 @@ loop-at-preserved g c =
 pub returns-then-end-bytes-clause-puts : goal.returns-then-end-bytes-clause-puts
 returns-then-end-bytes-clause-puts g c =
     let before = c.loop-at.invariant.puts in
-    let left = drop c.loop-at.at c.args.bytes.now in
-    let last = rw (take_all (c.min-end.result - c.loop-at.at) left (omega (arith, length-drop c.loop-at.at c.args.bytes.now))) at
-    c.in_ok-at.ensures.puts in
-    PutsPiece-ok _ _ _ _ _ _ (puts_whole before.2 before.1 last)
+    PutsPiece-ok _ _ _ _ _ _ (puts_whole before.2 before.1 (rw (take_all (c.min-end.result - c.loop-at.at) (drop c.loop-at.at c.args.bytes.now)
+    (omega (arith, length-drop c.loop-at.at c.args.bytes.now))) at c.in_ok-at.ensures.puts))

@@ -1,4 +1,4 @@
-use Rattle.tds_csv.proofs.Words.{common_steps, arith, append-nil, length-drop, take-append-drop}
+use Rattle.tds_csv.proofs.Words.{common_steps, arith}
 
 pub returns-in-Err : Rattle.tds_csv.proofs.sink.Sink.deliver.Goals.returns-in-Err
-returns-in-Err g c = grind (arith, common_steps, append-nil, take-append-drop, length-drop)
+returns-in-Err g c = grind (arith, common_steps)

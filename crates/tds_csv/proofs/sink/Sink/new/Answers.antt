@@ -1,5 +1,4 @@
-use Rattle.tds_csv.proofs.Words.{ap, Space, fresh}
+use Rattle.tds_csv.proofs.Words.{arith}
 
 pub returns-clause-held : Rattle.tds_csv.proofs.sink.Sink.new.Goals.returns-clause-held
-returns-clause-held g c = ap (λ (s : Space). record (fresh (g.W.Write.contents c.args.to.now.device) c.args.to.now.failures) { waiting = s.bytes })
-    c.clear.ensures.value
+returns-clause-held g c = grind arith

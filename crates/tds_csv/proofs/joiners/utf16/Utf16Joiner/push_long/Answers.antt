@@ -1,14 +1,14 @@
 use Rattle.tds_csv.proofs.joiners.utf16.Utf16Joiner.push_long.Goals as goal
 use Rattle.tds_csv.proofs.{
   Words.{common_steps, refl, arith, length-drop, take_all},
-  Leading.{puts_part, puts_whole},
-  Pushings.{pushes_stopped, pushes_taken},
-  Utf16Seam.Leads-after,
+  JoiningLemmas.{puts_part, puts_whole},
+  Puttings.{pushes_stopped, pushes_taken},
+  Utf16Steps.Leads-after,
 }
 
 pub returns-in_err-from : goal.returns-in_err-from
 returns-in_err-from g c = pushes_stopped c.requires.writing.writing tt refl
-    (puts_part (Leads-after c.args.self.now.kept c.args.piece.now) c.in_err-from.ensures.puts) c.from_residual.ensures.1
+    (puts_part (Leads-after c.args.self.now.kept _) c.in_err-from.ensures.puts) c.from_residual.ensures.1
 
 pub returns-in_err-at : goal.returns-in_err-at
 returns-in_err-at g c =

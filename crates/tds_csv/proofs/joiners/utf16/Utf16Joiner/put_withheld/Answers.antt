@@ -1,18 +1,10 @@
 use Rattle.tds_csv.proofs.joiners.utf16.Utf16Joiner.put_withheld.Goals as goal
-use Rattle.{
-  tds_csv.proofs.{Words.{◌≡◌, ◌∙◌, ◌++◌, [], take, sym, arith, rules, common_steps}, Utf16Seam.{none_put, none_leads, some_leads}, Utf16Steps.nil_of_length},
-}
+use Rattle.{tds_csv.proofs.{Words.{◌∙◌, sym, arith, rules}, Utf16Steps.{none_put, some_leads}, Utf16Steps.nil_of_length}}
 
 pub returns-then-is_empty-clause-puts : goal.returns-then-is_empty-clause-puts
-returns-then-is_empty-clause-puts g c =
-    let none : c.bytes-kept.result.now ≡ [] = nil_of_length c.bytes-kept.result.now (search rules) in
-    none_put c.args.piece.now (sym c.bytes-kept.ensures.value ∙ none) c.requires.writing
-
-pub returns-then-is_empty-clause-leads : goal.returns-then-is_empty-clause-leads
-returns-then-is_empty-clause-leads g c = grind (arith, common_steps, nil_of_length, none_leads)
+returns-then-is_empty-clause-puts g c = none_put _ (sym c.bytes-kept.ensures.value ∙ (nil_of_length _ (search rules))) c.requires.writing
 
 pub returns-clause-leads : goal.returns-clause-leads
 returns-clause-leads g c =
-    let is : c.bytes.result.now ≡ c.bytes-kept.result.now ++ take 3 c.args.piece.now = grind (arith, common_steps) in
-    some_leads c.args.piece.now c.bytes.result.now c.in_ok-used.used c.bytes-kept.ensures.value (search rules) c.requires.long is
+    some_leads c.args.piece.now c.bytes.result.now c.in_ok-used.used c.bytes-kept.ensures.value (search rules) c.requires.long (grind arith)
     c.in_ok-used.ensures.used

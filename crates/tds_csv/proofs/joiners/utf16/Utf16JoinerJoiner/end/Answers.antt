@@ -1,5 +1,4 @@
-use Rattle.tds_csv.proofs.joiners.utf16.Utf16JoinerJoiner.end.Goals as goal
-use Rattle.tds_csv.proofs.{Words.{common_steps, arith}, Pushings.passes}
+use Rattle.tds_csv.proofs.{Words.{arith}}
 
-pub returns-then-bytes-eq1 : goal.returns-then-bytes-eq1
-returns-then-bytes-eq1 g c = grind (arith, common_steps, passes)
+pub returns-then-bytes-eq1 : Rattle.tds_csv.proofs.joiners.utf16.Utf16JoinerJoiner.end.Goals.returns-then-bytes-eq1
+returns-then-bytes-eq1 g c = grind arith

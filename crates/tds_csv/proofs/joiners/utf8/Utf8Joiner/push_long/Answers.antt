@@ -9,10 +9,10 @@ returns-in-Ok g c = pushes_long c.requires.long c.bytes.ensures.value c.bytes.en
 
 pub returns-in-Err-BadText : goal.returns-in-Err-BadText
 returns-in-Err-BadText g c =
-    let found = rw c.in-Err-BadText.field-0-is at c.in-Err-BadText.ensures in
-    pushes_long c.requires.long c.bytes.ensures.value c.bytes.ensures.fits c.in_ok-push_short.ensures found
+    pushes_long c.requires.long c.bytes.ensures.value c.bytes.ensures.fits c.in_ok-push_short.ensures
+    (rw c.in-Err-BadText.field-0-is at c.in-Err-BadText.ensures)
 
 pub returns-in-Err-Stopped : goal.returns-in-Err-Stopped
 returns-in-Err-Stopped g c =
-    let found = rw c.in-Err-Stopped.field-0-is at c.in-Err-Stopped.ensures in
-    pushes_long c.requires.long c.bytes.ensures.value c.bytes.ensures.fits c.in_ok-push_short.ensures found
+    pushes_long c.requires.long c.bytes.ensures.value c.bytes.ensures.fits c.in_ok-push_short.ensures
+    (rw c.in-Err-Stopped.field-0-is at c.in-Err-Stopped.ensures)

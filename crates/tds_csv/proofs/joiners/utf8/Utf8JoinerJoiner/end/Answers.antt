@@ -1,4 +1,4 @@
-use Rattle.tds_csv.proofs.{Words.{[], ap, rules, IsUtf8-nil, doubled}, Pushings.{ends_whole, passes}}
+use Rattle.tds_csv.proofs.{Words.{[], ap, rules, IsUtf8-nil, doubled}, Puttings.{ends_whole, passes}}
 
 pub returns : Rattle.tds_csv.proofs.joiners.utf8.Utf8JoinerJoiner.end.Goals.returns
 returns g c =

@@ -1,4 +1,0 @@
-use Rattle.tds_csv.proofs.{Words.{drop-drop, common_steps, arith}, Characters.doubled_length, Leading.Leads-trans}
-
-pub returns-clause-after : Rattle.tds_csv.proofs.convert.utf16.convert_one.Goals.returns-clause-after
-returns-clause-after c = grind (arith, common_steps, doubled_length, Leads-trans, drop-drop)

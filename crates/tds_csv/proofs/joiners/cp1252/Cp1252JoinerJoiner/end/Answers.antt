@@ -1,6 +1,0 @@
-use Rattle.tds_csv.proofs.{Words.refl, Puttings.PutsPiece-none, Pushings.{ends_whole, passes}}
-
-pub returns : Rattle.tds_csv.proofs.joiners.cp1252.Cp1252JoinerJoiner.end.Goals.returns
-returns g c =
-    let going = passes c.args.sink.now.failed _ _ _ c.in_ok-check.ensures in
-    ends_whole going tt refl (λ h. h) refl (PutsPiece-none _ _ (tt {0}) (record { ready = c.requires; writing = going }))

@@ -1,4 +1,0 @@
-use Rattle.tds_csv.proofs.{Words.{common_steps, arith, take_all}, Pushings.{passes, pushes_taken}}
-
-pub returns : Rattle.tds_csv.proofs.joiners.cp1252.Cp1252JoinerJoiner.push.Goals.returns
-returns g c = grind (arith, common_steps, pushes_taken, passes, take_all)
