@@ -33,11 +33,8 @@ unfolding Told
 before_begins size limit front packets wires rest unread each within m e =
     let g = wire size limit in
     let at = before_packet size limit front in
-    let first = feed-Spelt g _ _ at (before_are_read _ _ _ _ each within) in
-    let fed =
-    ap (λ p. feed_all g p rest) (sym first) ∙ sym (feed_all-append g (Reading no_wire []) (wire_of front) rest)
-    ∙ ap (feed_all g (Reading no_wire [])) e ∙ read_to_end _ _ _ _ _ m in
-    let t = rw fed at (told g at rest) in
+    let t = rw (ap (λ p. feed_all g p rest) (sym (feed-Spelt g _ _ at (before_are_read _ _ _ _ each within))) ∙ sym (feed_all-append g (Reading no_wire []) (wire_of front) rest)
+    ∙ ap (feed_all g (Reading no_wire [])) e ∙ read_to_end _ _ _ _ _ m) at (told g at rest) in
     Spelt-induct g (λ w b. BeginsWith w.packets front) (λ w b element h n. begins_added front w.place element h) at (
       [],
       append-nil front,
@@ -48,9 +45,7 @@ no_wire_fault : {size limit : ℕ} {input wires : List ℕ} (unread : List ℕ) 
     → input ≡ wires ++ unread → WireFault size limit input read fault → ⊥
 no_wire_fault {size} {limit} {input} unread {fault} m e f =
     let g = wire size limit in
-    let fed = ap (feed_all g (Reading no_wire [])) e ∙ read_to_end _ _ _ _ _ m in
-    let l = read_longest g _ _ _ (subst (Told g no_wire input) fed (told g _ _)) in
-    let same = (one_longest g _ _ _ _ _ _ f.longest l.2).1 in
+    let same = (one_longest g _ _ _ _ _ _ f.longest (read_longest g _ _ _ (subst (Told g no_wire input) (ap (feed_all g (Reading no_wire [])) e ∙ read_to_end _ _ _ _ _ m) (told g _ _))).2).1 in
     elim f.first [
       | inl r ↦ omega (arith, ap (λ (w : WirePart). wire_size w.place) same)
       | inr r ↦ no_end f.read.place (cc) r.1
@@ -68,10 +63,8 @@ ended_accepted : (run : Run) (tokens : List Token) (payload : List ℕ) (place :
     → (grammar run).end_fault part ≡ Some fault → ⊥
 ended_accepted run tokens payload place part fault r l end =
     let g = grammar run in
-    let read = response_is_read _ _ r in
-    let all = subst (λ v. Longest g response_start v (length payload) (after_tokens tokens)) (append-nil payload)
-    (longest_cut g _ _ _ _ read (omega arith)) in
-    let same = (one_longest g _ _ _ _ _ _ l all).1 in
+    let same = (one_longest g _ _ _ _ _ _ l (subst (λ v. Longest g response_start v (length payload) (after_tokens tokens)) (append-nil payload)
+    (longest_cut g _ _ _ _ (response_is_read _ _ r) (omega arith)))).1 in
     grind (arith, response_is_read, append-nil, longest_cut, one_longest)
 
 refused_accepted : (run : Run) {tokens : List Token} {payload : List ℕ} (more : List ℕ) {place : ℕ} {part : Part} {fault : Fault}
@@ -79,8 +72,7 @@ refused_accepted : (run : Run) {tokens : List Token} {payload : List ℕ} (more 
     → IsRefused (grammar run) part (drop place payload) fault → ⊥
 refused_accepted run {payload} more {place} {part} r l refused =
     let n = place + (grammar run).size part in
-    let split = ap (λ v. v ++ more) (sym (take-append-drop n payload)) ∙ append_assoc (take n payload) (drop n payload) more in
-    refused_response _ _ _ _ _ _ _ _ l refused (rw split at r)
+    refused_response _ _ _ _ _ _ _ _ l refused (rw (ap (λ v. v ++ more) (sym (take-append-drop n payload)) ∙ append_assoc (take n payload) (drop n payload) more) at r)
 
 -- the packets read are those of the message, or begin it
 read_begin : {run : Run} {tokens : List Token} {read packets : List Packet} → Packets run read → (a : IsAccepted run tokens packets) → (more : List ℕ)
@@ -97,11 +89,9 @@ none_stops : (run : Run) (fault : Fault) (place : Place) → Stops run fault pla
     → IsAccepted run tokens packets
     → (FailsToRead run.given → ⊥) → (FailsToWrite run.given → ⊥) → ⊥
 none_stops run fault (Payload place) x tokens packets a reads writes = elim x.first [
-  | inl r ↦ (let b = read_begin x.stands a in
-      refused_accepted run _ (rw b.1 at a.response) x.leads r.0)
-  | inr r ↦ (let same = one_message _ _ _ _ _ _ _ _ (record { spelt = refl; each = r.0; within = x.stands.within }) a.message (x.stands.begin
-      ∙ a.begins) in
-      ended_accepted run tokens (payload_of x.packets) place x.part fault (rw same a.response) x.leads r.2)
+  | inl r ↦ (refused_accepted run _ (rw (read_begin x.stands a).1 at a.response) x.leads r.0)
+  | inr r ↦ (ended_accepted run tokens (payload_of x.packets) place x.part fault (rw (one_message _ _ _ _ _ _ _ _ (record { spelt = refl; each = r.0; within = x.stands.within }) a.message (x.stands.begin
+      ∙ a.begins)) a.response) x.leads r.2)
 ]
 none_stops run fault (Wire taken) x tokens packets a reads writes = elim x.first [
   | inl r ↦ reads r.1.failed

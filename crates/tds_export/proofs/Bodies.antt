@@ -33,9 +33,8 @@ module _ (charset : Charset) (room : ℕ) {n place middle : ℕ} {tokens : List 
   after_length {stop = stop} some stops =
       let to : (response charset room).add (in_length which tokens) element ≡ in_body which tokens n =
       rw (number_is l) (choose_false _ _ _ (ne_eqb n 0 (λ z. omega arith))) in
-      let one = reads_one _ _ a b _ _ (record { some = omega arith; whole = l.two; free = length_free room tokens _ _ long (number_is l) })
-      l.takes to in
-      stops_after _ _ _ a b c _ _ _ one
+      stops_after _ _ _ a b c _ _ _ (reads_one _ _ a b _ _ (record { some = omega arith; whole = l.two; free = length_free room tokens _ _ long (number_is l) })
+      l.takes to)
       (rw l.at at stops)
 
   -- the body was read
@@ -57,8 +56,7 @@ module _ (charset : Charset) {n middle : ℕ} {tokens : List Token} {which : Bod
   pub quiet_reads : {place : ℕ} (body : List ℕ) → length body ≡ n → Takes b c body n → place ≡ middle + n
       → ReadsQuiet charset (in_length which tokens) tokens u c place s
   quiet_reads body len takes at =
-      let r = body_reads _ _ l (no_notice _ quiet) _ len takes (no_notice _ quiet) in
-      quietly begun refl (bare_reads begun _ r (omega (arith, length-append element body)) refl (bare_body _ _)
+      quietly begun refl (bare_reads begun _ (body_reads _ _ l (no_notice _ quiet) _ len takes (no_notice _ quiet)) (omega (arith, length-append element body)) refl (bare_body _ _)
       (tracks_body begun.tracks _ _ quiet))
 
   -- it was cut

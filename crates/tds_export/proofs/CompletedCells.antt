@@ -62,9 +62,8 @@ ZerosAre kind n = are_read kind n ≡ true
 zero_decimal : (d p s n : ℕ) → is_valid (Decimal d p s) ≡ true → is_length_allowed (Decimal d p s) n ≡ true → ZerosAre (Decimal d p s) n
 zero_decimal d p s n valid allowed =
     let one = and_parts (is_decimal_length d && nat_le 1 p && nat_le p 38) (nat_le s p) valid in
-    let small = test_le s 38 (omega (arith, le_true s p one.1, le_true p 38 (and_parts _ (nat_le p 38) one.0).1)) in
     let long : is_length_allowed (Decimal d p s) (length (zeros n)) ≡ true = simp (length-replicate, allowed) in
-    rw (long, small) refl
+    rw (long, test_le s 38 (omega (arith, le_true s p one.1, le_true p 38 (and_parts _ (nat_le p 38) one.0).1))) refl
 
 zeros_are_a_value : (kind : Kind) (n : ℕ) → is_valid kind ≡ true → is_scalar kind ≡ true → is_length_allowed kind n ≡ true → ZerosAre kind n
 zeros_are_a_value (IntN d) n v s h = exactly (ZerosAre (IntN d)) n d h (one_of_four (λ d. ZerosAre (IntN d) d) 1 2 4 8 d v refl refl refl refl)
@@ -101,14 +100,12 @@ module _ (column : ℕ) where
   short_ends : (c : Conversion) (left : ℕ) (content : List ℕ) → CellReached (ShortData c left content) → (x : Cell)
       × Spelt (cell column) (ShortData c left content) (zeros (left + 1)) (WholeCell x)
   short_ends c zero content (plain, even) =
-      let fit = plain_fit c _ plain (ap (λ v. v % unit c) (length-append content (0 ∷ [])) ∙ even) in
-      (DataCell c (content ++ 0 ∷ []), spelt_one (omega arith) refl (rw (plain_begun c (content ++ 0 ∷ []) plain, fit) refl) refl)
+      (DataCell c (content ++ 0 ∷ []), spelt_one (omega arith) refl (rw (plain_begun c (content ++ 0 ∷ []) plain, plain_fit c _ plain (ap (λ v. v % unit c) (length-append content (0 ∷ [])) ∙ even)) refl) refl)
   short_ends c (suc left) content (plain, even) =
       let to : cell_add (ShortData c (suc left) content) (0 ∷ []) ≡ ShortData c left (content ++ 0 ∷ []) = grind (arith, nat_tests) in
       let same : length (content ++ 0 ∷ []) + (left + 1) ≡ length content + (suc left + 1) = omega (arith, length-append content (0 ∷ [])) in
       let more = short_ends c left (content ++ 0 ∷ []) (plain, cc) in
-      let one = spelt_one (omega arith) refl (rw (plain_begun c (content ++ 0 ∷ []) plain, test_lt 0 (suc left) (omega arith)) refl) to in
-      (more.0, rw (← zeros_next left) (spelt_both one more.1))
+      (more.0, rw (← zeros_next left) (spelt_both (spelt_one (omega arith) refl (rw (plain_begun c (content ++ 0 ∷ []) plain, test_lt 0 (suc left) (omega arith)) refl) to) more.1))
 
   -- the rest of a chunk
   chunk_ends : {c : Conversion} {total : Option ℕ} (left : ℕ) {content : List ℕ} → is_plain c ≡ true
@@ -116,8 +113,7 @@ module _ (column : ℕ) where
   chunk_ends {c} zero {content} plain = spelt_one (omega arith) refl (rw (plain_begun c (content ++ 0 ∷ []) plain) refl) refl
   chunk_ends {c} {total} (suc left) {content} plain =
       let to : cell_add (ChunkData c total (suc left) content) (0 ∷ []) ≡ ChunkData c total left (content ++ 0 ∷ []) = grind (arith, nat_tests) in
-      let one = spelt_one (omega arith) refl (rw (plain_begun c (content ++ 0 ∷ []) plain) refl) to in
-      rw (← zeros_next left, ← append_assoc content (0 ∷ []) (zeros (left + 1))) (spelt_both one (chunk_ends _ plain))
+      rw (← zeros_next left, ← append_assoc content (0 ∷ []) (zeros (left + 1))) (spelt_both (spelt_one (omega arith) refl (rw (plain_begun c (content ++ 0 ∷ []) plain) refl) to) (chunk_ends _ plain))
 
   -- so many chunks of one zero byte, and the terminator
   chunks_end : {c : Conversion} {total : Option ℕ} (n : ℕ) {content : List ℕ} → is_plain c ≡ true → is_total total (length content + n) ≡ true
@@ -128,9 +124,8 @@ module _ (column : ℕ) where
       (DataCell c content, spelt_one (omega arith) refl (rw (rw same at all, sum, plain_fit c content plain sum) refl) refl)
   chunks_end {c} {total} (suc n) {content} plain all even =
       let same : length content + suc n ≡ length (content ++ 0 ∷ []) + n = omega (arith, length-append content (0 ∷ [])) in
-      let fits = within total _ (length content + 1) all (omega arith) in
       let one : Spelt (cell column) (ChunkLength c total content) (1 ∷ 0 ∷ 0 ∷ 0 ∷ []) (ChunkData c total 0 content) =
-      spelt_one (omega arith) refl (rw fits refl) refl in
+      spelt_one (omega arith) refl (rw (within total _ (length content + 1) all (omega arith)) refl) refl in
       let more = chunks_end n plain (rw same at all) (rw same at even) in
       (more.0, spelt_both (spelt_both one (chunk_ends 0 plain)) more.1)
 

@@ -86,20 +86,21 @@ module _ (room : ℕ) where
   ints_end : (bytes : List ℕ) (count : ℕ) (cols : List Column) (n : ℕ) → count ≡ length cols + (1 + n) → length bytes + (8 + 8 * n) ≤ room
       → Ends room (InColumn bytes count cols ColumnHead) (int_column ++ int_columns n)
   ints_end bytes count cols n e fits =
-      let l : length (int_columns (suc n)) ≡ 8 * suc n = length-int_columns _ in
-      let m = length-replicate n int in (
+      let l : length (int_columns (suc n)) ≡ 8 * suc n = length-int_columns _ in (
         bytes ++ int_columns (suc n),
         cols ++ int ∷ replicate n int,
-        columns_are_read _ _ _ _ _ _ _ (omega (arith, m)) (omega arith) (ints_are_spelt (suc n)),
+        columns_are_read _ _ _ _ _ _ _ (omega (arith, length-replicate n int)) (omega arith) (ints_are_spelt (suc n)),
       )
 
   -- after a column
   column_ends : (bytes : List ℕ) (count : ℕ) (cols : List Column) (c : Column) (n : ℕ) → count ≡ length cols + (1 + n) → length bytes + 8 * n ≤ room
       → Ends room (with_column bytes count cols c) (int_columns n)
-  column_ends bytes count cols c zero e fits =
-      let to = choose_true (length cols + 1 == count) (WholeDescription bytes (cols ++ c ∷ [])) (InColumn bytes count (cols ++ c ∷ []) ColumnHead)
-      (grind (arith, nat_tests)) in
-      (bytes, cols ++ c ∷ [], rw to (Spelt-none _ _))
+  column_ends bytes count cols c zero e fits = (
+    bytes,
+    cols ++ c ∷ [],
+    rw (choose_true (length cols + 1 == count) (WholeDescription bytes (cols ++ c ∷ [])) (InColumn bytes count (cols ++ c ∷ []) ColumnHead)
+        (grind (arith, nat_tests))) (Spelt-none _ _),
+  )
   column_ends bytes count cols c (suc n) e fits =
       let to : with_column bytes count cols c ≡ InColumn bytes count (cols ++ c ∷ []) ColumnHead =
       choose_false _ _ _ (ne_eqb (length cols + 1) count (λ q. omega arith)) in
@@ -119,9 +120,7 @@ module _ (room : ℕ) where
       → PlaceReached room bytes n (ColumnInfo byte) → Ends room (InColumn bytes count cols (ColumnInfo byte)) (least_info byte ++ (0 ∷ int_columns n))
   info_ends bytes count cols byte n is fewer (m, known, some, fits) =
       let least = least_type known in
-      let free = ap (λ o. (if is_some o then None else Some (BadTypeInfo (length cols)))) least.described in
-      let to = ap (λ o. with_kind (bytes ++ least_info byte) count cols o) least.described in
-      then_ends {e = least_info byte} (spelt_one (omega arith) (cc) free to)
+      then_ends {e = least_info byte} (spelt_one (omega arith) (cc) (ap (λ o. (if is_some o then None else Some (BadTypeInfo (length cols)))) least.described) (ap (λ o. with_kind (bytes ++ least_info byte) count cols o) least.described))
       (count_ends _ _ _ _ n is fewer (omega (arith, length-append bytes (least_info byte) ∙ ap (λ v. length bytes + v) least.whole)))
 
   -- A part of a description that isn't all of it, followed by what completes it, is a whole one.

@@ -176,12 +176,11 @@ module _ (room : ℕ) where
       (tokens ++ Returned all.0 ∷ [], rw (← return_opens tokens part begun) (spelt_inside (return_agrees Windows1252 _ _) all.1))
   token_ends ten tokens (TokenLength (APassed passed)) o =
       (tokens ++ PassedOver passed [] ∷ [], body_is_read Windows1252 _ (zeros 2) _ refl refl refl refl)
-  token_ends ten tokens (TokenLength b) o =
-      let free = length_free room tokens b (14 ∷ 0 ∷ []) (λ e. omega arith) refl in (
-        tokens ++ bodied b (zeros 14) ∷ [],
-        body_is_read Windows1252 _ (14 ∷ 0 ∷ []) (zeros 14) refl refl free
-            (body_free b (zeros 14) (λ e. zeros_hold 14 (omega arith))),
-      )
+  token_ends ten tokens (TokenLength b) o = (
+    tokens ++ bodied b (zeros 14) ∷ [],
+    body_is_read Windows1252 _ (14 ∷ 0 ∷ []) (zeros 14) refl refl (length_free room tokens b (14 ∷ 0 ∷ []) (λ e. omega arith) refl)
+        (body_free b (zeros 14) (λ e. zeros_hold 14 (omega arith))),
+  )
   token_ends ten tokens (TokenBody b n) (some, long) =
       let l : length (zeros n) ≡ n = length-replicate n 0 in
       (tokens ++ bodied b (zeros n) ∷ [], spelt_one (omega arith) l (body_free b (zeros n) (λ e. zeros_hold n (long e))) refl)
@@ -199,9 +198,8 @@ module _ (room : ℕ) where
 pub can_be_completed : CanBeCompleted
 can_be_completed room part bytes ten are h =
     let r = part_reached _ are h in
-    let end = token_ends _ ten _ _ r.1 in
-    let all = spelt_both h (spelt_both end.1 (done_ends _ _)) in (
+    let end = token_ends _ ten _ _ r.1 in (
       end.0 ++ Done false ∷ [],
       response_is_spelt _ _ (AreBytes-append _ _ are (AreBytes-completion _ part r.1)) (is_final-snoc end.0 (Done false))
-          all,
+          (spelt_both h (spelt_both end.1 (done_ends _ _))),
     )

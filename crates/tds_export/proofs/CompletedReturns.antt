@@ -72,13 +72,11 @@ return_ends ReturnOrdinal h = let one : Spelt return_value ReturnOrdinal (zeros 
 return_ends ReturnNameCount h = count_ends
 return_ends (ReturnName n) h =
     let l = length-replicate n 0 in
-    let one = spelt_one (omega arith) l refl refl in
-    then_ends one (head_ends)
+    then_ends (spelt_one (omega arith) l refl refl) (head_ends)
 return_ends (ReturnHead name) h = head_ends
 return_ends (ReturnInfo name byte) (n, known, some) =
     let least = least_type known in
-    let free = ap (λ o. (if is_some o then None else Some (BadTypeInfo return_column))) least.described in
-    then_ends {e = least_info byte} (spelt_one (omega arith) (cc) free refl)
+    then_ends {e = least_info byte} (spelt_one (omega arith) (cc) (ap (λ o. (if is_some o then None else Some (BadTypeInfo return_column))) least.described) refl)
     (kind_ends _ least.described (valid_of _ (byte ∷ least_info byte) least.described))
 return_ends (InReturnCell name kind part) (begun, h) = rw (← stays_open begun) (value_ends _ _ _ h)
 return_ends (WholeReturn r) h = (r, Spelt-none _ _)

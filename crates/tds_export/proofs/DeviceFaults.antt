@@ -116,7 +116,6 @@ some_read size limit left q bytes t o = go t.0 t.1.1
 
 pub no_failure : (given : Given) (report : Report) → Reports given report → (FailsToRead given → ⊥) × (FailsToWrite given → ⊥)
 no_failure given report x =
-    let t = x.completes.whole.takes in
     let moved = some_read (limits_of given).packet_size (limits_of given).max_wire given.before.reader.bytes x.seen
-    x.completes.whole.bytes t x.completes.whole.over in
+    x.completes.whole.bytes x.completes.whole.takes x.completes.whole.over in
     grind (arith, some_read)

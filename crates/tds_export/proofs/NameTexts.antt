@@ -93,10 +93,15 @@ module _ {W : Type 0} {contents : W → Option (List ℕ)} {columns left rest : 
   begins : (more : List ℕ) × ((joined (map name_field x.done) ++ (mark ++ name_field c)) ++ more ≡ joined (map name_field columns))
   begins =
       let fields = map name_field x.done in
-      let all = ap (map name_field) (sym x.split ∙ ap (λ l. x.done ++ l) is) ∙ map-append name_field x.done (c ∷ rest)
-      ∙ sym (append_assoc fields (name_field c ∷ []) _) in
-      let grows = joined_more (fields ++ name_field c ∷ []) (map name_field rest) in
-      (grows.0, cc (joined-snoc fields (name_field c), grows.1, all))
+      let grows = joined_more (fields ++ name_field c ∷ []) (map name_field rest) in (
+        grows.0,
+        cc (
+          joined-snoc fields (name_field c),
+          grows.1,
+          ap (map name_field) (sym x.split ∙ ap (λ l. x.done ++ l) is) ∙ map-append name_field x.done (c ∷ rest)
+              ∙ sym (append_assoc fields (name_field c ∷ []) _),
+        ),
+      )
 
   -- the writer failed at the comma
   pub comma_breaks : {d : Sink W} {stop : Stop} {r : Result (Unit {0}) Stop}
@@ -110,12 +115,11 @@ module _ {W : Type 0} {contents : W → Option (List ℕ)} {columns left rest : 
     pub names_more : PutsPiece contents d e (name_field c) (Ok (tt {0})) → NamesPut contents columns rest false a e
     names_more name =
         let more = map-append name_field x.done (c ∷ []) in
-        let all = ap joined more ∙ joined-snoc _ (name_field c) in
         record {
           done = x.done ++ c ∷ [];
           split = cc (append_assoc x.done (c ∷ []) rest);
           first_is = simp (more, some_fields);
-          puts = rw all (then_puts x.puts (then_puts (rw x.first_is at comma) name));
+          puts = rw (ap joined more ∙ joined-snoc _ (name_field c)) (then_puts x.puts (then_puts (rw x.first_is at comma) name));
         }
 
     -- the writer failed at the name

@@ -47,8 +47,7 @@ module _ (charset : Charset) {tokens : List Token} {s : Progress} {u : View} {b 
         → ReadsNext charset (in_length AnError tokens) tokens u (record u { seen = b; place = place; notice = after })
         (record s { report = record s.report { errors = s.report.errors + 1; first_error = Some (server_error (notice_of body)) } })
     first_error_reads cleared {after = after} none no_bytes room_is put x =
-        let n = notice_of body in
-        let first = first_next tokens n (no_errors tokens (sym (errors_are {s = s} begun.tracks) ∙ none)) in
+        let first = first_next tokens (notice_of body) (no_errors tokens (sym (errors_are {s = s} begun.tracks) ∙ none)) in
         (error_reads (cc) x, cc)
 
     -- a later ERROR was read

@@ -50,22 +50,23 @@ module _ (run : Run) {q : Seen} {part : Part} {bytes : List ℕ} (side : ReaderS
   refused_in_payload {fault = fault} x =
       let g = grammar run in
       let e = x.element in
-      let more = x.ahead ++ (q.future []).bytes in
       let b = takes_begins _ _ _ _ _ q _ _ side.bytes side.left x.takes x.between in
       let s = split_payload _ e _ _ (b.payload_is ∙ append_assoc (bytes ++ e) x.ahead (q.future []).bytes) in
-      let l = in_last _ _ _ _ _ _ q _ _ side.left x.takes b (omega (
-        arith,
-        length-append ((bytes ++ e) ++ x.ahead) (q.future []).bytes,
-        length-append (bytes ++ e) x.ahead,
-        length-append bytes e,
-      )) in
-      let refused : IsRefused g part (e ++ more) fault = grind (arith, length-append, take-append_seam) in
+      let refused : IsRefused g part (e ++ (x.ahead ++ (q.future []).bytes)) fault = grind (arith, length-append, take-append_seam) in
       record {
         packets = b.packets;
         part = part;
         stands = record { begin = b.begin; each = b.each; within = b.within };
         leads = rw s.0 (longest_refused g _ _ _ _ _ spelt refused);
-        first = inl (rw s.1 refused, ends_in_last _ e x.whole l);
+        first = inl (
+          rw s.1 refused,
+          ends_in_last _ e x.whole (in_last _ _ _ _ _ _ q _ _ side.left x.takes b (omega (
+            arith,
+            length-append ((bytes ++ e) ++ x.ahead) (q.future []).bytes,
+            length-append (bytes ++ e) x.ahead,
+            length-append bytes e,
+          ))),
+        );
         written = text;
         kept = kept b.packets;
       }
@@ -89,7 +90,6 @@ module _ (run : Run) {q : Seen} {part : Part} {bytes : List ℕ} (side : ReaderS
     stopped_on_wire : {stop : Stop} → (x : StopsAfterPackets (limits run).packet_size (limits run).max_wire run.input run.left (bytes ++ cut)
         run.given.before.reader.failures q.failures stop) → StopsOnWire run stop.fault (length (wire_of x.packets))
     stopped_on_wire x =
-        let rest = rest_of bytes x.payload_is in
         record {
           packets = x.packets;
           rest = x.more;
@@ -104,7 +104,7 @@ module _ (run : Run) {q : Seen} {part : Part} {bytes : List ℕ} (side : ReaderS
             | inr c ↦ inr c.0
           ];
           leads = rw x.payload_is (longest_cut (grammar run) _ bytes cut part spelt short);
-          none_refused = λ f r. (let w = r.whole in omega (arith, ap length rest));
+          none_refused = λ f r. (omega (arith, ap length (rest_of bytes x.payload_is)));
           written = text;
           kept = kept x.packets;
         }

@@ -34,16 +34,14 @@ further g from to last bytes more place h l =
     let least = l.longest (length bytes) to (omega (arith, length-append bytes more)) (rw (take-append_seam bytes more) h) in
     let n = place - length bytes in
     let sum : length bytes + n ≡ place = omega arith in
-    let split = ap (λ v. take v (bytes ++ more)) (sym sum) ∙ take-append-add bytes more n in
-    (take n more, rest_leads h (rw split at l.spelt))
+    (take n more, rest_leads h (rw (ap (λ v. take v (bytes ++ more)) (sym sum) ∙ take-append-add bytes more n) at l.spelt))
 
 -- what is read of an input at most has the packets that are read of its front
 begins_of : (size limit : ℕ) {input : List ℕ} (rest : List ℕ) (packets : List Packet) {s w : WirePart} {taken : ℕ} → wire_of packets ++ rest ≡ input
     → Spelt (wire size limit) no_wire (wire_of packets) s → BeginsWith s.packets packets → Longest (wire size limit) no_wire input taken w
     → BeginsWith w.packets packets
 begins_of size limit rest packets {s} {w} begin spelt begins l =
-    let f = further _ _ s w _ _ _ spelt (rw (← begin) at l) in
-    Spelt-induct _ (λ v b. BeginsWith v.packets packets) (λ v b element h n. begins_added packets v.place element h) s begins _ w f.1
+    Spelt-induct _ (λ v b. BeginsWith v.packets packets) (λ v b element h n. begins_added packets v.place element h) s begins _ w (further _ _ s w _ _ _ spelt (rw (← begin) at l)).1
 
 -- whole packets at the front of an input begin those that are read of it at most
 front_begins : (size : ℕ) {limit : ℕ} {input : List ℕ} (rest : List ℕ) (packets : List Packet) {w : WirePart} {taken : ℕ} → wire_of packets ++ rest ≡ input
@@ -57,10 +55,8 @@ front_begins size rest packets {w} begin (inr each) within l =
 pub bounded : (run : Run) (at : Part) → AreBytes run.input → Reached run at → run.given.after.areas.description.peak ≤ span_so_far at → Bounded run
 bounded run at are r peak =
     let size = (limits run).packet_size in
-    let limit = (limits run).max_wire in
     let g = grammar run in
-    let l = some_longest (wire size limit) no_wire run.input in
-    let front = l.1.packets in
+    let l = some_longest (wire size ((limits run).max_wire)) no_wire run.input in
     let b = front_begins size r.rest r.packets r.begin r.each r.within l.2 in
     let split = ap payload_of (sym b.1) ∙ flat_map-append _ r.packets b.0 ∙ ap (λ v. v ++ payload_of b.0) r.payload_is
     ∙ append_assoc r.bytes r.more (payload_of b.0) in
@@ -68,7 +64,7 @@ bounded run at are r peak =
     let f = further g _ at longest.1 r.bytes (r.more ++ payload_of b.0) longest.0 r.spelt (rw (← split) longest.2) in
     let least = span_along _ _ at longest.1 f.0 f.1 in
     record {
-      packets = front;
+      packets = l.1.packets;
       place = longest.0;
       part = longest.1;
       front = read_front _ _ _ _ _ are l.2;

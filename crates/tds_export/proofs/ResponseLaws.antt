@@ -131,11 +131,9 @@ module _ (charset : Charset) (room : ℕ) where
       → Leads (after_tokens tokens) bytes (with_token tokens (Row cells))
   row_token_is_read None cells is some h = absurd h
   row_token_is_read {tokens} (Some columns) cells {bytes} is some (rest, inl h) =
-      let read = spelt_inside (row_agrees tokens) (row_is_read _ _ _ _ h.1) in
-      lead_then ARow h.0 (cc) (rw is read)
+      lead_then ARow h.0 (cc) (rw is (spelt_inside (row_agrees tokens) (row_is_read _ _ _ _ h.1)))
   row_token_is_read {tokens} (Some columns) cells {bytes} is some (rest, inr h) =
-      let read = spelt_inside (row_agrees _) (nbc_row_is_read _ _ _ _ (omega arith) h.1) in
-      lead_then AnNbcRow h.0 (cc) (rw is read)
+      lead_then AnNbcRow h.0 (cc) (rw is (spelt_inside (row_agrees _) (nbc_row_is_read _ _ _ _ (omega arith) h.1)))
 
   -- what spells a token is read as it
   token_is_read : {tokens : List Token} (t : Token) {bytes : List ℕ} → HasColumns (described_after None tokens)
@@ -182,17 +180,15 @@ module _ (charset : Charset) (room : ℕ) where
   -- No payload spells the tokens of two responses.
   pub one_response : (a b : List Token) (payload : List ℕ) → Response charset room a payload → Response charset room b payload → a ≡ b
   one_response a b payload h k =
-      let e = one_state _ _ _ _ _ (response_is_read h) (response_is_read k) in
-      ap (λ p. p.tokens) e
+      ap (λ p. p.tokens) (one_state _ _ _ _ _ (response_is_read h) (response_is_read k))
 
   -- No response begins with an element that is refused.
   pub refused_response : (payload more' : List ℕ) (place : ℕ) (part : Part) (f : Fault) (tokens : List Token)
       → Longest (response charset room) response_start payload place part → IsRefused (response charset room) part (drop place payload) f
       → Response charset room tokens (take (place + (response charset room).size part) payload ++ more') → ⊥
   refused_response payload more' place part f tokens l r h =
-      let e = take-add place ((response charset room).size part) payload in
       refused_for_good _ _ _ _ _ f _ _ l.spelt r
-      (rw e at (response_is_read h))
+      (rw (take-add place ((response charset room).size part) payload) at (response_is_read h))
 
   -- No input begins with two accepted responses.
   pub one_accepted : (size limit : ℕ) (a b : List Token) (p q : List Packet) (input : List ℕ) → Accepted charset size room limit a p input

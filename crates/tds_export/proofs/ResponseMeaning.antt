@@ -49,13 +49,8 @@ notice_spelt body h =
     let t = parts_within body h in
     let ls = long body (sa + 1) (2 * s) (omega arith) in
     let lp = long body (pa + 1) (2 * p) (omega arith) in
-    let after : drop 6 body ≡ take 2 (drop 6 body)
-    ++ (take (2 * u) (drop 8 body) ++ (s ∷ (take (2 * s) (drop (sa + 1) body)
-    ++ (p ∷ (take (2 * p) (drop (pa + 1) body) ++ (take 4 (drop la body) ++ drop (la + 4) body)))))) =
-    piece body 6 2 8 refl (piece body 8 (2 * u) _ refl
+    let after = piece body 6 2 8 refl (piece body 8 (2 * u) _ refl
     (counted_at body t.0 refl (counted_at body t.1 refl (piece body la 4 (la + 4) refl refl)))) in
-    let all = sym (take-append-drop 4 body) ∙ ap (λ v. take 4 body ++ v)
-    (byte_at body (omega (arith, t.0)) (byte_at body (omega (arith, t.0)) after)) in
     let s_is : s ≡ length (take (2 * s) (drop (sa + 1) body)) / 2 = omega arith in
     let p_is : p ≡ length (take (2 * p) (drop (pa + 1) body)) / 2 = omega arith in
     record {
@@ -65,7 +60,8 @@ notice_spelt body h =
       procedure = take (2 * p) (drop (pa + 1) body);
       last = take 4 (drop la body);
       ignored = drop (la + 4) body;
-      spelt = regroup _ _ _ _ _ _ _ _ _ all s_is p_is;
+      spelt = regroup _ _ _ _ _ _ _ _ _ (sym (take-append-drop 4 body) ∙ ap (λ v. take 4 body ++ v)
+          (byte_at body (omega (arith, t.0)) (byte_at body (omega (arith, t.0)) after))) s_is p_is;
       number = (length-take-le 4 body (omega arith), refl);
       message = (long body 6 2 (omega arith), long body 8 (2 * u) (omega arith));
       servers = omega arith;

@@ -48,8 +48,7 @@ return_name_is_read units (x ∷ xs) l = grind (arith, Spelt-step, choose_false,
 front_is_read : {name front : List ℕ} → SpellsReturnName name front → Spelt return_value ReturnOrdinal front (ReturnHead name)
 front_is_read h =
     let next : Spelt return_value ReturnNameCount (h.units ∷ []) (with_return_units h.units) = spelt_one (omega arith) refl refl refl in
-    let one = spelt_one (omega arith) h.two refl refl in
-    rw h.spelt (spelt_both one (spelt_both next (return_name_is_read _ _ h.counted)))
+    rw h.spelt (spelt_both (spelt_one (omega arith) h.two refl refl) (spelt_both next (return_name_is_read _ _ h.counted)))
 
 head_is_read : {name : List ℕ} (ignored : List ℕ) (byte : ℕ) {n : ℕ} → length ignored ≡ 7 → rest_length byte ≡ Some n
     → Spelt return_value (ReturnHead name) (ignored ++ byte ∷ []) (with_return_type name byte n)
@@ -64,12 +63,9 @@ info_is_read name byte (x ∷ xs) n k = grind (arith, Spelt-step, choose_false, 
 pub return_is_read : {r : ReturnValue} {bytes : List ℕ} → SpellsReturnValue r bytes → Spelt return_value ReturnOrdinal bytes (WholeReturn r)
 return_is_read {r} h =
     let info = byte_and_rest _ _ h.type in
-    let type = spelt_both (head_is_read _ _ h.seven info.whole)
-    (info_is_read r.name info.byte info.rest info.whole info.allowed) in
-    let same = append_assoc h.ignored (info.byte ∷ []) info.rest ∙ ap (λ v. h.ignored ++ v) (sym info.spelt) in
-    let value = spelt_inside (value_agrees r.name r.kind) (cell_is_read return_column r.kind _ r.value h.value (shape-HasBytes return_charset r.kind)
-    h.cell) in
-    rw h.spelt (spelt_both (front_is_read h.named) (spelt_both (rw same at type) value))
+    rw h.spelt (spelt_both (front_is_read h.named) (spelt_both (rw (append_assoc h.ignored (info.byte ∷ []) info.rest ∙ ap (λ v. h.ignored ++ v) (sym info.spelt)) at (spelt_both (head_is_read _ _ h.seven info.whole)
+    (info_is_read r.name info.byte info.rest info.whole info.allowed))) (spelt_inside (value_agrees r.name r.kind) (cell_is_read return_column r.kind _ r.value h.value (shape-HasBytes return_charset r.kind)
+    h.cell))))
 
 -- the bytes up to the value's, and what is read of it
 pub record ValueMeans (name : List ℕ) (kind : Kind) (part : CellPart) (b : List ℕ) : Type 0 where
@@ -139,4 +135,4 @@ return_step (InReturnCell name kind part) b e bytes h n =
       type = h.type;
       begun = cell_step _ _ _ _ _ e bytes h.begun (record { some = n.some; whole = n.whole; free = n.free });
     })
-return_step (WholeReturn r) b e bytes h n = absurd (let l = n.whole in let s = n.some in omega arith)
+return_step (WholeReturn r) b e bytes h n = absurd (omega arith)

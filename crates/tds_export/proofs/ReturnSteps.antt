@@ -134,5 +134,4 @@ module _ (charset : Charset) {tokens : List Token} {s : Progress} {u : View} {b 
   pub return_reads : {place : ℕ} → ReadsValue u.seen b u.place place
       → ReadsQuiet charset (in_return tokens) tokens u b place (record s { report = record s.report { return_values = s.report.return_values + 1 } })
   return_reads x =
-      let r = read_inside (return_agrees _ _ _) x.steps.reads in
-      quietly begun refl (bare_reads begun _ r x.steps.place_is refl refl (tracks_returned begun.tracks _))
+      quietly begun refl (bare_reads begun _ (read_inside (return_agrees _ _ _) x.steps.reads) x.steps.place_is refl refl (tracks_returned begun.tracks _))

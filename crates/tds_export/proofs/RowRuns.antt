@@ -50,10 +50,10 @@ module _ (which : RowToken) (charset : Charset) (room : ℕ) (all : List Column)
 
     element_next : {before : List (List Cell)} (p : RowPart) (e : List ℕ) → IsNext (rows which charset all) (record { before = before; at = p }) e
         → Steps (record { before = before; at = p }) e ((rows which charset all).add (record { before = before; at = p }) e)
-    element_next (WholeRow cells) [] n = absurd (let s = n.some in omega arith)
+    element_next (WholeRow cells) [] n = absurd (omega arith)
     element_next (WholeRow cells) (x ∷ []) n =
         rw (is_token_byte n.free) (token_next _ _)
-    element_next (WholeRow cells) (x ∷ y ∷ r) n = absurd (let w = n.whole in omega arith)
+    element_next (WholeRow cells) (x ∷ y ∷ r) n = absurd (omega arith)
     element_next p e n = row_next _ p e (grind arith)
 
     -- what is read of rows from their start on and put, is read of the response and put
@@ -117,8 +117,7 @@ module _ (which : RowToken) (charset : Charset) {columns : List Column} {after :
       (record u { seen = b; place = place; held = after }) (with_rows s count)
   rows_read y =
       let x = rw shown at y in
-      let known = columns_known tokens described begun.holds.bytes begun.tracks.described in
-      let there = rows_stream _ _ _ _ _ known x.streams in
+      let there = rows_stream _ _ _ _ _ (columns_known tokens described begun.holds.bytes begun.tracks.described) x.streams in
       let end = ap after_tokens (append_assoc tokens (map Row x.earlier) (Row x.last ∷ [])
       ∙ ap (λ l. tokens ++ l) (sym (map-append Row x.earlier (x.last ∷ [])))) in
       quietly begun refl (record {
@@ -135,6 +134,5 @@ module _ (which : RowToken) (charset : Charset) {columns : List Column} {after :
       (record u { seen = b; held = after; failed = failed }) stop
   rows_stop y =
       let x = rw shown at y in
-      let known = columns_known tokens described begun.holds.bytes begun.tracks.described in
-      stops_further (rows_stream _ _ _ _ _ known x.streams) {middle = u.place + length x.streams.bytes} refl
+      stops_further (rows_stream _ _ _ _ _ (columns_known tokens described begun.holds.bytes begun.tracks.described) x.streams) {middle = u.place + length x.streams.bytes} refl
       (row_stops _ _ _ (rows_hold _ _ x.earlier begun.holds) x.stops)

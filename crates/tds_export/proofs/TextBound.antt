@@ -132,12 +132,11 @@ header_more : (columns : List Column) (c : Column) → length (header_line (colu
 header_more columns c =
     let fs = map name_field columns in
     let f = name_field c in
-    let e = map-append name_field columns (c ∷ []) in
     omega (
       arith,
       one_more_length fs f,
       long_length Utf16Text c.name,
-      ap (λ v. length (line v)) e,
+      ap (λ v. length (line v)) (map-append name_field columns (c ∷ [])),
       length-append (joined (fs ++ f ∷ [])) line_end,
       length-append (joined fs) line_end,
     )

@@ -64,8 +64,7 @@ refused : (charset : Charset) (room : ℕ) (tokens : List Token) (a b : Seen) (p
     → Describe tokens described → IsRefusedByte described byte fault → Takes a b (byte ∷ []) 1 → IsBetween b
     → StopsReading (response charset room) (after_tokens tokens) a b place (after_tokens tokens) (record { fault = fault; place = Payload place })
 refused charset room tokens a b place byte described fault k (inl x) t between =
-    let first = ap (lead_fault _ byte) x.1 ∙ ap Some (sym x.0) in
-    refused_at_once (response charset room) (after_tokens tokens) a b place (byte ∷ []) fault (omega arith) refl first t between
+    refused_at_once (response charset room) (after_tokens tokens) a b place (byte ∷ []) fault (omega arith) refl (ap (lead_fault _ byte) x.1 ∙ ap Some (sym x.0)) t between
 refused charset room tokens a b place byte described fault k (inr x) t between =
     let none = rw x.1 at k in
     let first : (response charset room).fault (after_tokens tokens) (byte ∷ []) ≡ Some fault = elim x.2 [

@@ -49,8 +49,7 @@ module _ {g : Grammar Part Fault} {s t : Part} {a b c : Seen} {h i k : Held} (x 
   pub stops_further : {place middle : ℕ} {area : Space} {failed : Bool} {stop : Stop} → middle ≡ place + length x.bytes
       → StepStops g t b c middle i k area failed stop → StepStops g s a c place h k area failed stop
   stops_further {place = place} {stop = stop} at (inl y) =
-      let stops = stops_after g s t a b c _ _ _ (record { bytes = x.bytes; spelt = x.spelt; takes = x.takes }) (rw at at y.0.stops) in
-      inl (record { at = y.0.at; stops = stops; puts = puts_both text_so_far s t y.0.at h i k x.puts y.0.puts; holds = y.0.holds }, y.1)
+      inl (record { at = y.0.at; stops = stops_after g s t a b c _ _ _ (record { bytes = x.bytes; spelt = x.spelt; takes = x.takes }) (rw at at y.0.stops); puts = puts_both text_so_far s t y.0.at h i k x.puts y.0.puts; holds = y.0.holds }, y.1)
   stops_further {stop = stop} at (inr y) = inr (
     record { at = y.0.at; breaks = breaks_after g _ s t a b c h i k _ _ x y.0.breaks; holds = y.0.holds },
     y.1,
@@ -239,11 +238,10 @@ module _ (charset : Charset) {tokens : List Token} {s : Progress} {u : View} {ar
         (record s { report = record s.report { sets = s.report.sets + 1 }; described = true })
     metadata_reads puts =
         let r = read_inside (description_agrees _ _ _) x.reads in
-        let header = between _ ++ header_line columns in
         let put = rw shown at puts in
         quietly begun refl (record {
           more = Metadata area.bytes columns ∷ [];
-          streams = record { bytes = r.bytes; spelt = r.spelt; takes = r.takes; puts = (header, header_text _ _ begun.tracks, put) };
+          streams = record { bytes = r.bytes; spelt = r.spelt; takes = r.takes; puts = (between _ ++ header_line columns, header_text _ _ begun.tracks, put) };
           place_is = x.place_is;
           tracks = tracks_metadata begun.tracks _ shown;
           holds = metadata_holds _ x.bound begun.holds;

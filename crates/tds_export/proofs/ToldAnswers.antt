@@ -66,9 +66,7 @@ fits_at : (run : Run) (packets : List Packet) (rest : List ℕ) (place : ℕ) (p
     → Spelt (grammar run) response_start (take place (payload_of packets)) part → n ≤ length (text_so_far part) → n ≤ 64 * (limits run).max_wire
 fits_at run packets rest place part n are begin within spelt few =
     let payload = payload_of packets in
-    let bytes = payload_bytes packets (AreBytes-front (wire_of packets) rest (rw begin are)) in
-    let front = AreBytes-front _ _ (rw (← take-append-drop place payload) at bytes) in
-    let most = bounded_along _ _ _ _ front spelt in
+    let most = bounded_along _ _ _ _ (AreBytes-front _ _ (rw (← take-append-drop place payload) at (payload_bytes packets (AreBytes-front (wire_of packets) rest (rw begin are))))) spelt in
     omega (arith, payload_short packets, ap length (take-append-drop place payload), length-append (take place payload) (drop place payload))
 
 fits : (run : Run) (fault : Fault) (place : Place) → AreBytes run.input → Stops run fault place → length (text_put run) ≤ 64 * (limits run).max_wire
@@ -84,7 +82,7 @@ exact run delivered e few = omega (arith, length-append run.gained (waiting run)
 -- the longest part of a payload that begins with these bytes has their text, and more of it
 longest_text : (charset : Charset) (room : ℕ) {bytes : List ℕ} (more : List ℕ) {p q : Part} {place : ℕ} → Spelt (response charset room) response_start bytes p
     → Longest (response charset room) response_start (bytes ++ more) place q → (rest : List ℕ) × (text_so_far p ++ rest ≡ text_so_far q)
-longest_text charset room more {p} {q} h l = let f = further _ _ p q _ _ _ h l in text_along _ _ f.1
+longest_text charset room more {p} {q} h l = text_along _ _ (further _ _ p q _ _ _ h l).1
 
 -- a part that fewer bytes lead to has no more text than that before the last element
 earlier_text : (charset : Charset) (room : ℕ) (bytes element : List ℕ) (p q : Part) (place : ℕ) → Spelt (response charset room) response_start bytes p
@@ -92,16 +90,13 @@ earlier_text : (charset : Charset) (room : ℕ) (bytes element : List ℕ) (p q 
     → Spelt (response charset room) response_start (take place (bytes ++ element)) q → length (text_so_far q) ≤ length (text_so_far p)
 earlier_text charset room bytes element p q place h whole less k = elim (dec_le place (length bytes)) [
   | yes below ↦
-      (let front = take-append-le place bytes element below in
-      let rest = text_along _ _ (rest_leads (rw front at k) (rw (← take-append-drop place bytes) at h)) in
+      (let rest = text_along _ _ (rest_leads (rw (take-append-le place bytes element below) at k) (rw (← take-append-drop place bytes) at h)) in
       omega (arith, ap length rest.1, length-append (text_so_far q) rest.0))
   | no above ↦
       (let n = place - length bytes in
       let sum : length bytes + n ≡ place = omega arith in
-      let split = ap (λ v. take v (bytes ++ element)) (sym sum) ∙ take-append-add bytes element n in
       let few = length-take-le n element (omega (arith, length-append bytes element)) in
-      let none = no_further _ _ _ p _ q h (λ i a b. omega (arith, length-append bytes element)) (rw split at k) in
-      absurd (omega (arith, ap length none)))
+      absurd (omega (arith, ap length (no_further _ _ _ p _ q h (λ i a b. omega (arith, length-append bytes element)) (rw (ap (λ v. take v (bytes ++ element)) (sym sum) ∙ take-append-add bytes element n) at k)))))
 ]
 
 -- the writer broke: the last packet read was needed to fill the block
@@ -120,7 +115,6 @@ broken {run} {q} at stop side writer x holds gained all =
     let spelt = spelt_both x.spelt (Spelt-one g at x.element x.next) in
     let b = takes_begins _ _ f _ _ q _ _ side.bytes side.left x.takes x.between in
     let more = x.ahead ++ (q.future []).bytes in
-    let payload = payload_of b.packets in
     let payload_is = b.payload_is ∙ append_assoc be x.ahead (q.future []).bytes in
     let longest = some_longest g _ _ in
     let beyond = longest_text _ _ _ spelt (subst (λ v. Longest g response_start v longest.0 longest.1) payload_is longest.2) in
@@ -131,18 +125,15 @@ broken {run} {q} at stop side writer x holds gained all =
       length-append be x.ahead,
     )) in
     let early = some_longest g _ _ in
-    let joined = ap payload_of (sym last.split) ∙ flat_map-append _ last.before (last.last ∷ []) in
     let fewer : early.0 < length be = omega arith in
-    let front = sym (take-append-le early.0 (payload_of last.before) (payload_of (last.last ∷ [])) early.2.within)
-    ∙ ap (take early.0) (sym joined ∙ payload_is) ∙ take-append-le early.0 be more (omega arith) in
-    let short = earlier_text _ _ _ _ at early.1 early.0 x.spelt x.next.whole fewer (subst (λ v. Spelt g response_start v early.1) front early.2.spelt)
+    let short = earlier_text _ _ _ _ at early.1 early.0 x.spelt x.next.whole fewer (subst (λ v. Spelt g response_start v early.1) (sym (take-append-le early.0 (payload_of last.before) (payload_of (last.last ∷ [])) early.2.within)
+    ∙ ap (take early.0) (sym (ap payload_of (sym last.split) ∙ flat_map-append _ last.before (last.last ∷ [])) ∙ payload_is) ∙ take-append-le early.0 be more (omega arith)) early.2.spelt)
     in
     let total : length (text_put run) ≡ 4096 * (p.1 + y.1 + 1) =
     omega (arith, ap length gained, ap length writer.waiting, length-append run.gained (waiting run), length-append p.0 y.0) in
     let chunks : length (text_put run) ≡ 4096 * (length run.gained / 4096 + 1) = omega (arith, ap length gained, length-append p.0 y.0) in
     let passes : length (text_so_far at) < length (text_put run) = omega (arith, ap length p.2.1, length-append p.0 x.middle.waiting) in
-    let text_more : (text_put run) ++ (drop y.2 x.more ++ beyond.0) ≡ text_so_far longest.1 =
-    sym (append_assoc (text_put run) (drop y.2 x.more) beyond.0) ∙ ap (λ v. (v ++ drop y.2 x.more) ++ beyond.0) all
+    let text_more = sym (append_assoc (text_put run) (drop y.2 x.more) beyond.0) ∙ ap (λ v. (v ++ drop y.2 x.more) ++ beyond.0) all
     ∙ ap (λ v. v ++ beyond.0) (append_assoc (text_so_far at) (take y.2 x.more) (drop y.2 x.more)
     ∙ ap (λ v. text_so_far at ++ v) (take-append-drop y.2 x.more) ∙ x.text_is) ∙ beyond.1 in
     let comes : Comes run b.packets (length be) to =
@@ -163,7 +154,7 @@ broken {run} {q} at stop side writer x holds gained all =
       begins = text_more;
       needed = inr (last.before, last.last, early.0, early.1, last.split, early.2, chunks, omega arith);
       failed = subst (Rose run.given.before.writer.failures) (sym (cc) ∙ writer.failures) (rose _);
-      kept = (length be, to, comes, kept_at run.given.after.areas.description to.tokens _ (drop (length be) payload) holds.bytes);
+      kept = (length be, to, comes, kept_at run.given.after.areas.description to.tokens _ (drop (length be) (payload_of b.packets)) holds.bytes);
     }
 
 -- ---- a run that read the whole response
@@ -180,8 +171,6 @@ record WholeMessage (run : Run) (tokens : List Token) : Type 0 where
 whole_message_of : {run : Run} {q : Seen} {old new : Held} → ReaderSide run q
     → (x : ReadsWhole (grammar run) response_start (start run) q old new run.given.after.areas.description) → WholeMessage run x.tokens
 whole_message_of {run} {q = q} side x =
-    let size = (limits run).packet_size in
-    let limit = (limits run).max_wire in
     let m = over_front _ _ _ _ _ q _ _ side.bytes side.left x.takes
     x.over in
     grind (arith, over_front, payload_bytes, AreBytes-front, response_is_spelt, append-nil, longest_cut, kept_at)
@@ -232,14 +221,12 @@ module _ (given : Given) (input left : List ℕ) (q : Seen) (stop : Stop) (are :
   stop_reading {l} writer y t =
       let p = rw y.puts.1 at y.puts.2 in
       let d = sends _ _ _ writer p t.1 in
-      let run = run_of given input left d.gained in
-      let side = reader_side are ql reader in
-      let stops = reading_stops side y.stops y.holds (d.all ∙ append-nil (text_so_far y.at)) in (
+      let stops = reading_stops (reader_side are ql reader) y.stops y.holds (d.all ∙ append-nil (text_so_far y.at)) in (
         d.gained,
         d.has,
         record {
           stop = stops;
-          written = exact run l.delivered d.delivered (fits _ _ _ are stops);
+          written = exact (run_of given input left d.gained) l.delivered d.delivered (fits _ _ _ are stops);
           unwritten = cc;
           no_notice = none;
           none_waits = λ calm. elim t.2 [
@@ -272,12 +259,8 @@ module _ (given : Given) (input left : List ℕ) (q : Seen) (stop : Stop) (are :
   stop_at_end : (k : Held) → IsWriter given k
       → StopsAtEnd (grammar_of given) response_start began q (fresh_at given) k given.after.areas.description stop → StopTold given input left stop k
   stop_at_end k writer y =
-      let p = whole_puts y.whole in
-      let d = sends _ _ _ writer p y.fails.1 in
-      let run = run_of given input left d.gained in
-      let whole = whole_message_of (reader_side are ql reader) y.whole in
-      let rises = subst (Rose given.before.writer.failures) (cc) (rose _) in
-      in_text writer d.has d.delivered (failed_at_end whole (simp (d.all, append-nil)) rises) y.fails.2
+      let d = sends _ _ _ writer (whole_puts y.whole) y.fails.1 in
+      in_text writer d.has d.delivered (failed_at_end (whole_message_of (reader_side are ql reader) y.whole) (simp (d.all, append-nil)) (subst (Rose given.before.writer.failures) (cc) (rose _))) y.fails.2
 
   -- each of these
   stopped_of : {k l : Held} {failed : Bool} → IsWriter given l
@@ -291,13 +274,10 @@ module _ (given : Given) (input left : List ℕ) (q : Seen) (stop : Stop) (are :
   stop_bounded : {gained : List ℕ} {k : Held} {failed : Bool}
       → RunStops (grammar_of given) response_start began q 0 (fresh_at given) k given.after.areas.description failed stop
       → Bounded (run_of given input left gained)
-  stop_bounded {gained} (inl (inl y)) = let run = run_of given input left gained in
-      bounded _ _ are (reached_stopped _ q are ql y.0.stops) y.0.holds.peak
+  stop_bounded {gained} (inl (inl y)) = bounded _ _ are (reached_stopped _ q are ql y.0.stops) y.0.holds.peak
   stop_bounded {gained} (inl (inr y)) =
-      let run = run_of given input left gained in
       bounded _ _ are (reached_broken _ q are ql y.0) y.0.holds.peak
   stop_bounded {gained} (inr y) =
-      let run = run_of given input left gained in
       bounded _ _ are (reached_whole _ q are ql y.0.whole) y.0.whole.holds.peak
 
 -- what a run that stopped read
@@ -319,14 +299,12 @@ stop_tells {given} x = λ input are e.
 pub report_tells : {given : Given} {report : Report} → Reports given report → Tells given (Ok report)
 unfolding Tells
 report_tells {given} {report} x = λ input are e.
-    let area = given.after.areas.description in
-    let z = subst (λ (a : Seen). (c : CompletesResponse (grammar_of given) response_start a x.seen (fresh_at given) x.held report area)
+    let z = subst (λ (a : Seen). (c : CompletesResponse (grammar_of given) response_start a x.seen (fresh_at given) x.held report given.after.areas.description)
     × (given.after.areas.notice.bytes ≡ error_text c.whole.tokens)) (begins_run given e) (x.completes, x.notice) in
     let y = z.0 in
     let tokens = y.whole.tokens in
     let left = known_left input y.whole.takes.0 y.whole.takes.1.0 in
-    let p = whole_puts y.whole in
-    let d = sends y.middle [] y.finishes.0 x.writer p y.finishes.1 in
+    let d = sends y.middle [] y.finishes.0 x.writer (whole_puts y.whole) y.finishes.1 in
     let run = run_of given input left.0 d.gained in
     let whole = whole_message_of (reader_side are left.1 x.reader) y.whole in
     let empty = sym x.writer.waiting ∙ y.finishes.2 in

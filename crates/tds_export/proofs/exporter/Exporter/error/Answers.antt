@@ -17,7 +17,7 @@ returns-then-self-gt1 g c = step_read c.requires.running (search rules) (λ toke
 
 pub returns : goal.returns
 returns g c =
-    let cleared : Space = c.clear.new.self in
+    let cleared = c.clear.new.self in
     let empty = ap (λ (s : Space). s.bytes) c.clear.ensures.value in
     step_read c.requires.running (search (
       rules,
@@ -25,11 +25,10 @@ returns g c =
           (within_room (characters c.message_of.result.now) empty c.clear.ensures.peak),
     )) (λ tokens begun.
     let none : c.args.self.now.progress.report.errors ≡ 0 = grind (arith, nat_tests, c.if-self-gt1.false) in
-    let body : c.bytes-body.result.now ≡ c.take_notice.new.token.bytes = c.bytes-body.ensures.value in
-    let error : c.error_of.result ≡ server_error (notice_of c.take_notice.new.token.bytes) = c.error_of.ensures
+    let body = c.bytes-body.ensures.value in
+    let error = c.error_of.ensures
     ∙ ap (λ l. server_error (notice_of l)) body in
-    let message : c.message_of.result.now ≡ (notice_of c.take_notice.new.token.bytes).message = c.message_of.ensures.value
+    let message = c.message_of.ensures.value
     ∙ ap (λ l. (notice_of l).message) body in
-    let put = c.utf16_into.ensures ∙ ap (λ l. appended cleared (whole_within (cleared.room - length cleared.bytes) (characters l))) message in
     rw error (first_error_reads _ begun _ none empty (ap (λ (s : Space). s.room) c.clear.ensures.value
-    ∙ c.requires.running.notice) put (c.in_ok-take_notice.ensures.gives _ _ tokens AnError refl)))
+    ∙ c.requires.running.notice) (c.utf16_into.ensures ∙ ap (λ l. appended cleared (whole_within (cleared.room - length cleared.bytes) (characters l))) message) (c.in_ok-take_notice.ensures.gives _ _ tokens AnError refl)))

@@ -22,9 +22,9 @@ pub returns : goal.returns
 returns g c = step_read c.requires.running (search rules) (λ tokens begun.
     let fields = c.fill.new.to in
     let four : length fields ≡ 4 = search rules in
-    let status : ℤ = cast_signed w32 (cast_unsigned w32 c.read_i32-status.result) in
+    let status = cast_signed w32 (cast_unsigned w32 c.read_i32-status.result) in
     let kept : status ≡ c.read_i32-status.result = search rules in
-    let is : status ≡ signed (little fields) = kept ∙ c.read_i32-status.ensures ∙ signed_is _
+    let is = kept ∙ c.read_i32-status.ensures ∙ signed_is _
     ∙ ap (λ n. signed (little_number n fields)) (sym four) in
     fixed_reads _ begun _ _ (c.in_ok-fill.ensures.place ∙ ap (λ n. c.args.self.now.payload.now.place + n) four) four
     (rw four at c.in_ok-fill.ensures.all) (tracks_status _ is begun.tracks) refl)
