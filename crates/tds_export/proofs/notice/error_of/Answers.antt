@@ -12,4 +12,5 @@ returns c =
     let kept : cast_signed w32 (cast_unsigned w32 c.read_i32-line.result) ≡ c.read_i32-line.result = search rules in
     error_is _ _ c.requires.long c.line_start.ensures
     (parts_within _ c.requires.holds).2
-    (number ∙ c.read_i32-number.ensures) (kept ∙ c.read_i32-line.ensures ∙ ap (λ l. cast_signed w32 (little_number 4 l)) (take_all (length body - at) (drop at body) (omega (arith, length-drop at body))))
+    (number ∙ c.read_i32-number.ensures) (kept ∙ c.read_i32-line.ensures
+    ∙ ap (λ l. cast_signed w32 (little_number 4 l)) (take_all (length body - at) (drop at body) (omega (arith, length-drop at body))))

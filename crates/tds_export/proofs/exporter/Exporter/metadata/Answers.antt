@@ -25,7 +25,11 @@ returns-in_err-put_header g c = step_read c.requires.running (search rules) (λ 
     let gives = rw c.in_default.is at c.in_ok-gather.ensures.gives in
     let breaks = rw (c.view-columns.ensures, c.bytes.ensures.value) at (c.in_err-put_header.ensures.gives sink.writing) in
     passed _ _ _ _ c.from_residual-in_err-put_header.ensures.1
-    (inr (metadata_breaks _ begun (description_shows _ _ _ gives.4).0 gives.2 (sink.ready.1 sink.writing) (between_of g.R.Read.remaining c.gather.new.payload c.in_ok-gather.ensures.payload.going) breaks, c.in_err-put_header.ensures.failed)))
+    (inr (
+      metadata_breaks _ begun (description_shows _ _ _ gives.4).0 gives.2 (sink.ready.1 sink.writing)
+          (between_of g.R.Read.remaining c.gather.new.payload c.in_ok-gather.ensures.payload.going) breaks,
+      c.in_err-put_header.ensures.failed,
+    )))
 
 pub returns : goal.returns
 returns g c = step_read c.requires.running (search rules) (λ tokens begun.

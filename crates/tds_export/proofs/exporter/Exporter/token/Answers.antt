@@ -39,6 +39,7 @@ returns-in-Err-clause-gives g c = λ tokens tracks holds noted.
     let h = held g.W.Write.contents run.sink.now in
     let read = rw c.in-Some.is at c.in_ok-byte.ensures.gives in
     let at : run.payload.now.place ≡ c.place-place.result - 1 = omega (arith, read.place_is, c.place-place.ensures) in
-    rw c.in_payload.ensures (subst (λ n. StepStops (response run.charset run.description.now.room) (after_tokens tokens) (seen g.R.Read.remaining run.payload.now) (seen g.R.Read.remaining c.next_byte.new.payload) run.payload.now.place h h
+    rw c.in_payload.ensures (subst (λ n. StepStops (response run.charset run.description.now.room) (after_tokens tokens)
+    (seen g.R.Read.remaining run.payload.now) (seen g.R.Read.remaining c.next_byte.new.payload) run.payload.now.place h h
     run.description.now run.sink.now.failed (record { fault = c.in-Err.fault; place = Payload n })) at
     (stops_at_byte _ _ sink.ready.2 sink.writing holds tracks.described c.in-Err.ensures read.takes read.between))
