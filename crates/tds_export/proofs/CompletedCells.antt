@@ -5,7 +5,7 @@ use Rattle.tds_export.proofs.{
   Words.{Time, Utf8Text, WholeCell, WholeRow, Windows1252, [], ap, arith, before, begun, bit, cell, cell_add, choose, eq_false, false, is_length_allowed},
   Words.{is_valid, le_true, length, marked, nat_le, next_cell, refl, row, subst, suc, sym, true, unit, zero, zeros, ℕ, ⊤, ◌%◌, ◌&&◌, ◌++◌, ◌+◌, ◌<◌, ◌∙◌, ◌∷◌},
   Words.{◌≡◌, ◌≤◌},
-  Cuts.{spelt_both, spelt_one},
+  ResponseLaws.{spelt_both, spelt_one},
   SomeBytes.{exactly, little_below, one_of_four, one_of_two},
 }
 

@@ -5,7 +5,7 @@ use Rattle.tds_export.proofs.{
   Words.{named_kind, refl, rest_length, suc, true, with_column, zero, zeros, ℕ, ◌*◌, ◌++◌, ◌+◌, ◌-◌, ◌<◌, ◌==◌, ◌∙◌, ◌∷◌, ◌≡◌, ◌≤◌, ⊤},
   CompletedCells.AreValid,
   LeastTypes.least_type,
-  Cuts.{spelt_both, spelt_one},
+  ResponseLaws.{spelt_both, spelt_one},
 }
 
 -- what is known of the place in a column after these bytes, with so many columns to follow: the room is enough for what must still come

@@ -9,10 +9,9 @@ use Rattle.tds_export.proofs.{
   CompletedCells.{RowReached, AreValid, marked_valid, next_reached, row_ends, row_keeps},
   LeastTypes.least_type,
   ResponseMeaning.response_is_spelt,
-  Cuts.{spelt_both, spelt_one},
+  ResponseLaws.{spelt_both, spelt_one, body_free, body_is_read, described_after-append, length_free, some_fields, description_agrees, row_agrees},
+  ResponseLaws.{return_agrees, part_at, spelt_inside},
   TokenLaws.{bare, bare_body, bare_fixed, is_bare, is_final-snoc},
-  ResponseLaws.{body_free, body_is_read, described_after-append, length_free, some_fields, description_agrees, row_agrees, return_agrees, part_at},
-  ReturnLaws.spelt_inside,
 }
 
 -- a row, and a return value, that isn't whole

@@ -4,9 +4,8 @@ use Rattle.tds_export.proofs.{
   Words.{Guid, Kind, List, None, Option, ReturnNameCount, ReturnValue, Some, Spelt, [], ap, arith, begun, if◌then◌else◌, more, named_kind, refl, rest_length},
   Words.{return_value, true, zeros, ℕ, ◌++◌, ◌<◌, ◌∷◌, ◌≡◌, ⊤},
   CompletedCells.{CellReached, cell_ends, cell_keeps, start_reached, IsOpenCell},
-  ReturnLaws.{accepted, spelt_inside, value_agrees},
+  ResponseLaws.{accepted, spelt_inside, value_agrees, spelt_both, spelt_one},
   LeastTypes.least_type,
-  Cuts.{spelt_both, spelt_one},
 }
 
 -- what is known of a part of a return value that bytes led to

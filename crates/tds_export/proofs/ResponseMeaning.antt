@@ -3,9 +3,7 @@ use Rattle.tds_export.proofs.Words as N
 use Rattle.tds_export.proofs.{
   Words.{Bool, Column, IsFirst, Lead, List, None, Option, Some, SpellsTokens, Token, [], ap, arith, described_after, drop, false, if◌then◌else◌, inl, inr},
   Words.{lead, length, message, passed, refl, sym, take, true, ℕ, ◌%◌, ◌&&◌, ◌*◌, ◌++◌, ◌+◌, ◌/◌, ◌<◌, ◌∙◌, ◌∷◌, ◌≡◌, ◌≤◌},
-  ReturnLaws.{ReturnMeans, return_step},
-  ResponseLaws.{described_after-append, fixed_spelt, part_at, IsFree},
-  NoticeLaws.parts_within,
+  ResponseLaws.{ReturnMeans, return_step, described_after-append, fixed_spelt, part_at, IsFree, parts_within},
   SomeBytes.bytes_induct,
 }
 

@@ -6,8 +6,7 @@ use Rattle.tds_export.proofs.{
   Words.{true, view_of, with_row, ℕ, ◌%◌, ◌++◌, ◌+◌, ◌-◌, ◌<◌, ◌==◌, ◌^◌, ◌∙◌, ◌∷◌, ◌≡◌, ◌≤◌},
   TokenLaws.{bare, bare_fixed, begun_after, begun_where_sets, encoded_after-append, greatest_span-append, is_bare, same_first, text_after-snoc},
   TokenLaws.{tracks_metadata, tracks_none, tracks_quiet},
-  ResponseLaws.{description_agrees, row_agrees, some_fields, part_at},
-  ReturnLaws.{inside, read_inside, stop_inside},
+  ResponseLaws.{description_agrees, row_agrees, some_fields, part_at, inside, read_inside, stop_inside},
 }
 
 -- A token has begun: what the tokens before it left is known, and the sink goes on.

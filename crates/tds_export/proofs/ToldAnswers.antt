@@ -10,7 +10,7 @@ use Rattle.tds_export.proofs.{
   DeviceFaults.no_failure,
   AcceptedSucceeds.outcome_succeeds,
   ResponseMeaning.response_is_spelt,
-  Cuts.spelt_both,
+  ResponseLaws.spelt_both,
   ReadingGrows.text_along,
   PacketOutcomes.{ReaderSide, kept_at, reading_stops, start},
 }

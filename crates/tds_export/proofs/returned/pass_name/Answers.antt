@@ -1,8 +1,8 @@
 use Rattle.tds_export.proofs.returned.pass_name.Goals as goal
 use Rattle.tds_export.proofs.{
   Words.{ReturnNameCount, ReturnOrdinal, ap, passed, refl, rules, ◌*◌},
-  Cuts.{fill_cut, part_cut},
-  ReturnSteps.{front_read, name_cut, name_read, ordinal_read, return_reads_after, return_stops_after},
+  ResponseLaws.{fill_cut, part_cut},
+  Bodies.{front_read, name_cut, name_read, ordinal_read, return_reads_after, return_stops_after},
 }
 
 pub returns-in_err-pass-clause-gives : goal.returns-in_err-pass-clause-gives

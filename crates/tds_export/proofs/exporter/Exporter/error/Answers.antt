@@ -2,7 +2,7 @@ use Rattle.tds_export.proofs.exporter.Exporter.error.Goals as goal
 use Rattle.tds_export.proofs.Words as N
 use Rattle.tds_export.proofs.{
   Words.{Space, ap, arith, length, refl, subst, sym, ◌-◌, ◌<◌, ◌∙◌, ◌≡◌, ◌≤◌},
-  NoticeSteps.{first_error_reads, later_error_reads, notice_stops, within_room},
+  Bodies.{first_error_reads, later_error_reads, notice_stops, within_room},
   TokenSteps.step_read,
 }
 

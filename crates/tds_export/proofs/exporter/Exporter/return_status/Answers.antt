@@ -2,9 +2,8 @@ use Rattle.tds_export.proofs.exporter.Exporter.return_status.Goals as goal
 use Rattle.tds_export.proofs.Words as N
 use Rattle.tds_export.proofs.{
   Words.{List, Some, [], ap, arith, length, little, refl, rules, sym, ℕ, ℤ, ◌++◌, ◌+◌, ◌∙◌, ◌∷◌, ◌≡◌},
-  Cuts.fill_cut,
+  ResponseLaws.{fill_cut, signed_is},
   TokenSteps.{fixed_reads, stops_first, step_read},
-  NoticeLaws.signed_is,
   TokenLaws.tracked,
 }
 
