@@ -1,9 +1,9 @@
 // Rows by each public call, from the bytes after the token byte to the text, the answer and the use of the small area, and
 // writers that fail in them. `examples/worked.txt` has more rows, by the program.
-ghost use Rattle.std.specs.Prelude.{◌≡◌, ◌≤◌, None, [], true, length};
+ghost use Rattle.std.specs.Prelude.{◌≡◌, ◌≤◌, None, [], IfOk, true, length};
 ghost use Rattle.tds_columns.specs.View.{IsDescription};
-ghost use Rattle.tds_csv.specs.Sinks.{IsReady, IsWriting};
-ghost use Rattle.tds_packet.specs.Payloads.{IsGoing, IsOnSame, IsSound};
+ghost use Rattle.tds_csv.specs.Sinks.{IsWriting, LeavesSink};
+ghost use Rattle.tds_packet.specs.Payloads.{IsGoing, IsOnSame, IsSound, LeavesPayload};
 
 use crate::checks::{expect, expect_at};
 use std::alloc::{AllocError, Global};
@@ -57,12 +57,20 @@ enum Token {
     Row,
     Rows,
     NbcRow,
+    NbcRows,
+}
+
+// The areas that rows are read with.
+#[derive(Drop)]
+struct Rooms {
+    bitmap: Area,
+    small: Area,
 }
 
 // What a row came to.
 #[derive(Clone, Copy, PartialEq, Eq)]
 struct Outcome {
-    answer: Result<(), Stop>,
+    answer: Result<u64, Stop>,
     // how many bytes the writer took, the last of which are those that are wanted
     text: Option<usize>,
     // how many bytes after the description were handed out
@@ -134,30 +142,43 @@ fn length_after(bytes: &[u8], end: &[u8]) -> Option<usize> {
     }
 }
 
-// Reads what follows a token byte.
+// The areas that rows are read with, as large as they may be asked for.
+fn make_rooms(alloc: Global) -> Result<Rooms, Fail>
+    ensures bits { IfOk result (λ rooms. rooms.bitmap.room ≡ 8192) }
+    ensures small { IfOk result (λ rooms. rooms.small.room ≡ SMALL_ROOM) }
+{
+    Ok(Rooms {
+        bitmap: Area::new(alloc, 8192)?,
+        small: Area::new(alloc, SMALL_ROOM)?,
+    })
+}
+
+// Reads what follows a token byte, and says how many rows it was.
 fn read_token<R: Read, W: Write>(
     token: Token,
     payload: &mut Payload<R>,
     columns: Columns,
-    bitmap: &mut Area,
-    small: &mut Area,
+    rooms: &mut Rooms,
     sink: &mut Sink<W>,
-) -> Result<(), Stop>
+) -> Result<u64, Stop>
     requires going { IsGoing payload.old }
     requires writing { IsWriting sink.old }
-    requires bits { 8192 ≤ bitmap.old.room }
-    requires room { SMALL_ROOM ≤ small.old.room }
-    ensures { IsReady sink.new }
+    requires bits { 8192 ≤ rooms.old.bitmap.room }
+    requires small { SMALL_ROOM ≤ rooms.old.small.room }
+    ensures payload { LeavesPayload payload.old payload.new result }
+    ensures sink { LeavesSink sink.old sink.new result }
+    ensures bits { rooms.new.bitmap.room ≡ rooms.old.bitmap.room }
+    ensures small { rooms.new.small.room ≡ rooms.old.small.room }
 {
     let charset = Charset::Windows1252;
+    let Rooms { bitmap, small } = rooms;
     match token {
-        Token::Row => row(payload, columns, charset, small, sink),
-        Token::Rows => match read_rows(payload, columns, charset, small, sink) {
-            Ok(_) => Ok(()),
-            Err(stop) => Err(stop),
-        },
-        Token::NbcRow => nbc_row(payload, columns, charset, bitmap, small, sink),
+        Token::Row => row(payload, columns, charset, small, sink)?,
+        Token::NbcRow => nbc_row(payload, columns, charset, bitmap, small, sink)?,
+        Token::Rows => return read_rows(payload, columns, charset, small, sink),
+        Token::NbcRows => return read_nbc_rows(payload, columns, charset, bitmap, small, sink),
     }
+    Ok(1)
 }
 
 // Reads a row in packets of `size` bytes of the payload, into a sink where `waiting` bytes wait.
@@ -179,8 +200,7 @@ fn run(
     let mut packet = Area::new(alloc, 4096)?;
     let mut output = Area::new(alloc, 4096)?;
     let mut description = Area::new(alloc, 4096)?;
-    let mut bitmap = Area::new(alloc, 8192)?;
-    let mut small = Area::new(alloc, SMALL_ROOM)?;
+    let mut rooms = make_rooms(alloc)?;
     let mut payload = Payload::new(&mut from, &mut packet, 1_000_000);
     let mut sink = Sink::new(&mut to, &mut output);
     if !describe(&mut payload, &mut description) {
@@ -188,21 +208,14 @@ fn run(
     }
     sink.put(&FILLER[..waiting.min(4095)])?;
     let columns = Columns::view(description.bytes());
-    let answer = read_token(
-        token,
-        &mut payload,
-        columns,
-        &mut bitmap,
-        &mut small,
-        &mut sink,
-    );
+    let answer = read_token(token, &mut payload, columns, &mut rooms, &mut sink);
     let place = payload.place().saturating_sub(start);
     let _ = sink.finish();
     Ok(Outcome {
         answer,
         text: length_after(to.device().kept(), wanted),
         place,
-        peak: small.peak(),
+        peak: rooms.small.peak(),
     })
 }
 
@@ -235,7 +248,7 @@ struct Reading {
     columns: &'static [&'static [u8]],
     bytes: &'static [u8],
     size: usize,
-    answer: Result<(), Stop>,
+    answer: Result<u64, Stop>,
     text: &'static [u8],
     peak: usize,
 }
@@ -247,7 +260,7 @@ const THREE_KINDS: Reading = Reading {
     columns: MIXED,
     bytes: MIXED_ROW,
     size: 4000,
-    answer: Ok(()),
+    answer: Ok(1),
     text: MIXED_TEXT,
     peak: 0,
 };
@@ -259,7 +272,7 @@ const AFTER_A_BITMAP: Reading = Reading {
     columns: &[INT4, DATE],
     bytes: &[0x01, 3, 0xDA, 0xB9, 0x37],
     size: 4000,
-    answer: Ok(()),
+    answer: Ok(1),
     text: b"NULL,9999-12-31\r\n",
     peak: 0,
 };
@@ -278,7 +291,7 @@ const READINGS: [Reading; 10] = [
         columns: &[WIDE_DECIMAL],
         bytes: NINES,
         size: 3,
-        answer: Ok(()),
+        answer: Ok(1),
         text: NINES_TEXT,
         peak: 18,
     },
@@ -289,7 +302,7 @@ const READINGS: [Reading; 10] = [
         columns: &[VARCHAR],
         bytes: &[3, 0, 0x41, 0x42, 0x43],
         size: 4000,
-        answer: Ok(()),
+        answer: Ok(1),
         text: b"\"ABC\"\r\n",
         peak: 0,
     },
@@ -372,7 +385,7 @@ fn write_after(
     waiting: usize,
     to: ScriptedWriter,
     wanted: &[u8],
-) -> Result<(Result<(), Stop>, Option<usize>), Fail> {
+) -> Result<(Result<u64, Stop>, Option<usize>), Fail> {
     let out = run(alloc, Token::Row, columns, bytes, 4000, waiting, to, wanted)?;
     Ok((out.answer, out.text))
 }
@@ -383,7 +396,7 @@ fn a_line_lies_across_a_block(rt: HostRuntime) -> Result<(), Fail> {
     for waiting in 4060..=4095 {
         let to = usual_writer();
         let came = write_after(rt.alloc(), MIXED, MIXED_ROW, waiting, to, MIXED_TEXT)?;
-        let want = (Ok(()), Some(waiting + MIXED_TEXT.len()));
+        let want = (Ok(1), Some(waiting + MIXED_TEXT.len()));
         expect_at(&rt, "bytes wait", waiting, came == want);
     }
     Ok(())

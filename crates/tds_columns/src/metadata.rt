@@ -35,6 +35,13 @@ const HEAD: usize = 7;
 // The fewest bytes that describe a column: its head, and the count of an empty name.
 const LEAST_COLUMN: usize = 8;
 
+// A column by its number, and how many there are.
+#[derive(Clone, Copy)]
+struct Nth {
+    index: u16,
+    count: u16,
+}
+
 // The numbers of a slice are bytes. It is called for what it ensures.
 fn are_bytes(bytes: &[u8])
     ensures { AreBytes bytes.now }
@@ -134,24 +141,21 @@ fn read_info<R: Read>(
 }
 
 // Reads the head of a column and what follows its type byte.
-fn read_type<R: Read>(
-    payload: &mut Payload<R>,
-    area: &mut Area,
-    index: u16,
-    count: u16,
-) -> Result<(), Stop>
+fn read_type<R: Read>(payload: &mut Payload<R>, area: &mut Area, column: Nth) -> Result<(), Stop>
     requires going { IsGoing payload.old }
-    requires among { index < count }
-    requires fits { length area.old.bytes + LEAST_COLUMN * (count - index) ≤ area.old.room }
+    requires among { column.index < column.count }
+    requires fits { length area.old.bytes + LEAST_COLUMN * (column.count - column.index) ≤ area.old.room }
     ensures leaves { LeavesReading payload.old payload.new area.old area.new result }
-    ensures fits { OnOk result (length area.new.bytes + 1 + LEAST_COLUMN * (count - (index + 1)) ≤ area.new.room) }
-    ensures gives { TypeRead R.remaining payload.old payload.new area.old area.new result count index }
+    ensures fits { OnOk result
+        (length area.new.bytes + 1 + LEAST_COLUMN * (column.count - (column.index + 1)) ≤ area.new.room) }
+    ensures gives { TypeRead R.remaining payload.old payload.new area.old area.new result column.count column.index }
 {
     let place = payload.place();
     let start = area.len();
     take_into(payload, area, HEAD)?;
     let byte = area.bytes()[start + 6];
-    let rest = match judge_head(area.room(), start + HEAD, byte, index, count - (index + 1)) {
+    let left = column.count - (column.index + 1);
+    let rest = match judge_head(area.room(), start + HEAD, byte, column.index, left) {
         Ok(rest) => rest,
         Err(fault) => {
             area.truncate(start);
@@ -161,28 +165,24 @@ fn read_type<R: Read>(
     if rest == 0 {
         return Ok(());
     }
-    read_info(payload, area, byte, rest, index)
+    read_info(payload, area, byte, rest, column.index)
 }
 
 // Reads the name of a column, and the count of its units before it.
-fn read_name<R: Read>(
-    payload: &mut Payload<R>,
-    area: &mut Area,
-    index: u16,
-    count: u16,
-) -> Result<(), Stop>
+fn read_name<R: Read>(payload: &mut Payload<R>, area: &mut Area, column: Nth) -> Result<(), Stop>
     requires going { IsGoing payload.old }
-    requires among { index < count }
-    requires fits { length area.old.bytes + 1 + LEAST_COLUMN * (count - (index + 1)) ≤ area.old.room }
+    requires among { column.index < column.count }
+    requires fits { length area.old.bytes + 1 + LEAST_COLUMN * (column.count - (column.index + 1)) ≤ area.old.room }
     ensures leaves { LeavesReading payload.old payload.new area.old area.new result }
-    ensures fits { OnOk result (length area.new.bytes + LEAST_COLUMN * (count - (index + 1)) ≤ area.new.room) }
-    ensures gives { NameRead R.remaining payload.old payload.new area.old area.new result count index }
+    ensures fits { OnOk result
+        (length area.new.bytes + LEAST_COLUMN * (column.count - (column.index + 1)) ≤ area.new.room) }
+    ensures gives { NameRead R.remaining payload.old payload.new area.old area.new result column.count column.index }
 {
     let place = payload.place();
     let start = area.len();
     take_into(payload, area, 1)?;
     let size = 2 * usize::from(area.bytes()[start]);
-    let later = LEAST_COLUMN * usize::from(count - (index + 1));
+    let later = LEAST_COLUMN * usize::from(column.count - (column.index + 1));
     if let Some(fault) = too_long(area.room(), start + 1, size + later) {
         area.truncate(start);
         return Err(Stop::in_payload(fault, place));
@@ -194,21 +194,17 @@ fn read_name<R: Read>(
 }
 
 // Reads a column.
-fn read_column<R: Read>(
-    payload: &mut Payload<R>,
-    area: &mut Area,
-    index: u16,
-    count: u16,
-) -> Result<(), Stop>
+fn read_column<R: Read>(payload: &mut Payload<R>, area: &mut Area, column: Nth) -> Result<(), Stop>
     requires going { IsGoing payload.old }
-    requires among { index < count }
-    requires fits { length area.old.bytes + LEAST_COLUMN * (count - index) ≤ area.old.room }
+    requires among { column.index < column.count }
+    requires fits { length area.old.bytes + LEAST_COLUMN * (column.count - column.index) ≤ area.old.room }
     ensures leaves { LeavesReading payload.old payload.new area.old area.new result }
-    ensures fits { OnOk result (length area.new.bytes + LEAST_COLUMN * (count - (index + 1)) ≤ area.new.room) }
-    ensures gives { ColumnRead R.remaining payload.old payload.new area.old area.new result count index }
+    ensures fits { OnOk result
+        (length area.new.bytes + LEAST_COLUMN * (column.count - (column.index + 1)) ≤ area.new.room) }
+    ensures gives { ColumnRead R.remaining payload.old payload.new area.old area.new result column.count column.index }
 {
-    read_type(payload, area, index, count)?;
-    read_name(payload, area, index, count)
+    read_type(payload, area, column)?;
+    read_name(payload, area, column)
 }
 
 // Reads all columns after Count.
@@ -220,7 +216,7 @@ fn read_columns<R: Read>(payload: &mut Payload<R>, area: &mut Area, count: u16) 
     ensures gives { ColumnsRead R.remaining payload.old payload.new area.old area.new result count }
 {
     'columns: for index in 0..count {
-        read_column(payload, area, index, count)?;
+        read_column(payload, area, Nth { index, count })?;
     }
     Ok(())
 }

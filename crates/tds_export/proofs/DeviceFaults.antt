@@ -1,9 +1,8 @@
 -- Where an export stops with the fault of a device, the device's count of failures rose.
+use Rattle.tds_export.proofs.Words as N
 use Rattle.tds_export.proofs.{
-  Words.{Bool, Charset, Coming, Ends, Fault, Given, Held, IsOfWire, IsOver, List, MessageEnded, None, Open, Option, Part, ReadFailed, Report, Reports, Rose},
-  Words.{RunStops, Seen, Some, Stop, Stopped, StopsExport, StopsReading, Takes, Token, WriteFailed, [], ap, arith, before, begun, begun_at, fresh_at},
-  Words.{front_packet, grammar_of, if◌then◌else◌, inl, inr, length, limits_of, message, message_of_wire, one_more, part_end, part_fault, read, response},
-  Words.{response_start, rose, subst, sym, true, whole_message, ℕ, ⊤, ◌++◌, ◌<◌, ◌∙◌, ◌∷◌, ◌≡◌, ◌⊎◌, FailsToRead, FailsToWrite},
+  Words.{Bool, Coming, Fault, Given, List, None, Option, Part, ReadFailed, Seen, Some, Stop, WriteFailed, [], ap, arith, before, front_packet, if◌then◌else◌},
+  Words.{inl, inr, length, message, read, subst, sym, true, ℕ, ⊤, ◌++◌, ◌<◌, ◌∙◌, ◌∷◌, ◌≡◌, ◌⊎◌},
 }
 
 -- a fault that elements may have, or the end of a message
@@ -20,46 +19,46 @@ AtMostOfPayload (Some fault) = IsOfPayload fault
 if_payload : (b : Bool) (x y : Option Fault) → AtMostOfPayload x → AtMostOfPayload y → AtMostOfPayload (if b then x else y)
 if_payload b x y p q = grind arith
 
-part_payload : (room : ℕ) (tokens : List Token) (at : Open) (e : List ℕ) → AtMostOfPayload (part_fault room tokens at e)
+part_payload : (room : ℕ) (tokens : List N.Token) (at : N.Open) (e : List ℕ) → AtMostOfPayload (N.part_fault room tokens at e)
 part_payload room tokens at e = grind (arith, if_payload)
 
-end_payload : (tokens : List Token) (at : Open) → AtMostOfPayload (part_end tokens at)
+end_payload : (tokens : List N.Token) (at : N.Open) → AtMostOfPayload (N.part_end tokens at)
 end_payload tokens at = grind (arith, if_payload)
 
-module _ (charset : Charset) (room : ℕ) where
-  element_fault : (p : Part) (e : List ℕ) (fault : Fault) → (response charset room).fault p e ≡ Some fault → IsOfPayload fault
+module _ (charset : N.Charset) (room : ℕ) where
+  element_fault : (p : Part) (e : List ℕ) (fault : Fault) → (N.response charset room).fault p e ≡ Some fault → IsOfPayload fault
   element_fault p e fault h = rw h at (part_payload room p.tokens p.at e)
 
-  end_fault : (p : Part) (fault : Fault) → (response charset room).end_fault p ≡ Some fault → IsOfPayload fault
+  end_fault : (p : Part) (fault : Fault) → (N.response charset room).end_fault p ≡ Some fault → IsOfPayload fault
   end_fault p fault h = rw h at (end_payload p.tokens p.at)
 
 -- ---- a payload that has just begun
 
 ends_of_wire : (size limit : ℕ) {failures : ℕ} (left : Option (List ℕ)) (b : Seen) {bytes : List ℕ} {own : Stop}
-    → Ends (begun size limit left failures) b bytes own → IsOfWire own.fault ⊎ ((own.fault ≡ ReadFailed) × (b.failures ≡ one_more failures))
+    → N.Ends (N.begun size limit left failures) b bytes own → N.IsOfWire own.fault ⊎ ((own.fault ≡ ReadFailed) × (b.failures ≡ N.one_more failures))
 ends_of_wire size limit left b (inl x) =
-    inl (rw (← ap (λ (c : Coming). c.stop.fault) (x.2 [])) (message_of_wire _ _ _ 0 0 _))
-ends_of_wire size limit left b (inr (inl x)) = inl (rw (← ap (λ (c : Coming). c.stop.fault) x.3) (message_of_wire _ _ _ 0 0 _))
+    inl (rw (← ap (λ (c : Coming). c.stop.fault) (x.2 [])) (N.message_of_wire _ _ _ 0 0 _))
+ends_of_wire size limit left b (inr (inl x)) = inl (rw (← ap (λ (c : Coming). c.stop.fault) x.3) (N.message_of_wire _ _ _ 0 0 _))
 ends_of_wire size limit left b (inr (inr x)) = inr (x.2, x.4.0)
 
 -- what stops the reading of a response
 abbrev ReadingFault : ℕ → ℕ → Fault → Type 0
-ReadingFault before after fault = ((fault ≡ WriteFailed) → ⊥) × ((fault ≡ ReadFailed) → after ≡ one_more before)
+ReadingFault before after fault = ((fault ≡ WriteFailed) → ⊥) × ((fault ≡ ReadFailed) → after ≡ N.one_more before)
 
 -- a fault of which no device's is one
 of_none : (P : Fault → Type 0) → (P WriteFailed → ⊥) → (P ReadFailed → ⊥) → (before after : ℕ) (fault : Fault) → P fault
     → ReadingFault before after fault
 of_none P write read before after fault h = (λ e. write (rw e at h), λ e. absurd (read (rw e at h)))
 
-reading_fault : (charset : Charset) (room size limit : ℕ) {failures : ℕ} {left : Option (List ℕ)} {b : Seen} {place : ℕ} (at : Part) (stop : Stop)
-    → StopsReading (response charset room) response_start (begun size limit left failures) b place at stop
+reading_fault : (charset : N.Charset) (room size limit : ℕ) {failures : ℕ} {left : Option (List ℕ)} {b : Seen} {place : ℕ} (at : Part) (stop : Stop)
+    → N.StopsReading (N.response charset room) N.response_start (N.begun size limit left failures) b place at stop
     → ReadingFault failures b.failures stop.fault
 reading_fault charset room size limit {b} at stop x = elim x.cause [
   | inl y ↦ of_none IsOfPayload (λ h. h) (λ h. h) _ _ _ (element_fault charset _ at y.0.element stop.fault y.0.first)
   | inr y ↦ elim y.stop_is [
     | inl z ↦ rw (ap (λ (s : Stop). s.fault) z.1.2) (of_none IsOfPayload (λ h. h) (λ h. h) _ _ _ (end_fault charset room at z.1.0 z.1.1))
     | inr z ↦ rw (ap (λ (s : Stop). s.fault) z.1) (elim (ends_of_wire _ _ _ b y.ends) [
-      | inl w ↦ of_none IsOfWire (λ h. h) (λ h. h) _ _ _ w
+      | inl w ↦ of_none N.IsOfWire (λ h. h) (λ h. h) _ _ _ w
       | inr w ↦ (λ e. (cc), λ e. w.1)
     ])
   ]
@@ -68,16 +67,16 @@ reading_fault charset room size limit {b} at stop x = elim x.cause [
 -- ---- an export
 
 -- a device is blamed only where its count rose
-abbrev Blamed : Given → Stopped → Type 0
-Blamed given stopped = (stopped.fault ≡ ReadFailed → FailsToRead given) × (stopped.fault ≡ WriteFailed → FailsToWrite given)
+abbrev Blamed : Given → N.Stopped → Type 0
+Blamed given stopped = (stopped.fault ≡ ReadFailed → N.FailsToRead given) × (stopped.fault ≡ WriteFailed → N.FailsToWrite given)
 
 -- a failed write rose the count, and is no failed read
-by_write : (given : Given) (stopped : Stopped) (stop : Stop) (middle after : Held) → stopped.fault ≡ stop.fault → stop.fault ≡ WriteFailed
-    → middle.failures ≡ given.before.writer.failures → after.failures ≡ one_more middle.failures → after.failures ≡ given.after.writer.failures
+by_write : (given : Given) (stopped : N.Stopped) (stop : Stop) (middle after : N.Held) → stopped.fault ≡ stop.fault → stop.fault ≡ WriteFailed
+    → middle.failures ≡ given.before.writer.failures → after.failures ≡ N.one_more middle.failures → after.failures ≡ given.after.writer.failures
     → Blamed given stopped
 by_write given stopped stop middle after is named start failed end = grind arith
 
-pub blamed : {given : Given} {stopped : Stopped} → StopsExport given stopped → Blamed given stopped
+pub blamed : {given : Given} {stopped : N.Stopped} → N.StopsExport given stopped → Blamed given stopped
 blamed {given} {stopped} x = go x.stops
   where
     is : stopped.fault ≡ x.stop.fault
@@ -86,11 +85,11 @@ blamed {given} {stopped} x = go x.stops
     ends : (failed : x.failed ≡ true) → x.middle.failures ≡ given.after.writer.failures
     ends failed = cc (x.same failed)
 
-    go : RunStops (grammar_of given) response_start (begun_at given) x.seen 0 (fresh_at given) x.middle given.after.areas.description x.failed x.stop
+    go : N.RunStops (N.grammar_of given) N.response_start (N.begun_at given) x.seen 0 (N.fresh_at given) x.middle given.after.areas.description x.failed x.stop
         → Blamed given stopped
     go (inl (inl y)) =
         let r = reading_fault _ _ _ _ _ _ y.0.stops in
-        (λ e. subst (Rose given.before.reader.failures) (cc (r.1 (sym is ∙ e))) (rose _), λ e. absurd (r.0 (cc)))
+        (λ e. subst (N.Rose given.before.reader.failures) (cc (r.1 (sym is ∙ e))) (N.rose _), λ e. absurd (r.0 (cc)))
     go (inl (inr y)) =
         let b = y.0.breaks.breaks in
         by_write given stopped x.stop y.0.breaks.middle x.middle is (cc) y.0.breaks.puts.2.4.0 b.9.0 (ends y.1)
@@ -101,22 +100,21 @@ blamed {given} {stopped} x = go x.stops
 -- ---- no device failed
 
 -- an input of no byte is over before the message is
-no_message : (size limit : ℕ) {c : Coming} → c.stop.fault ≡ MessageEnded → whole_message size limit [] ≡ c → ⊥
+no_message : (size limit : ℕ) {c : Coming} → c.stop.fault ≡ N.MessageEnded → N.whole_message size limit [] ≡ c → ⊥
 unfolding message front_packet
 no_message size limit is e = let no = ap (λ (d : Coming). d.stop.fault) e ∙ is in cc
 
 -- to read a whole message takes a byte
 some_read : (size limit : ℕ) {failures : ℕ} (left : Option (List ℕ)) (q : Seen) (bytes : List ℕ) {n : ℕ}
-    (t : Takes (begun size limit left failures) q bytes n) → IsOver q → 0 < length t.0
+    (t : N.Takes (N.begun size limit left failures) q bytes n) → N.IsOver q → 0 < length t.0
 some_read size limit left q bytes t o = go t.0 t.1.1
   where
-    go : (read : List ℕ) → ((zs : List ℕ) → whole_message size limit (read ++ zs) ≡ before bytes (q.future zs)) → 0 < length read
+    go : (read : List ℕ) → ((zs : List ℕ) → N.whole_message size limit (read ++ zs) ≡ before bytes (q.future zs)) → 0 < length read
     go [] f = absurd (no_message _ _ (cc (o.2 [])) (f []))
     go (x ∷ read) f = omega arith
 
-pub no_failure : (given : Given) (report : Report) → Reports given report → (FailsToRead given → ⊥) × (FailsToWrite given → ⊥)
+pub no_failure : (given : Given) (report : N.Report) → N.Reports given report → (N.FailsToRead given → ⊥) × (N.FailsToWrite given → ⊥)
 no_failure given report x =
-    let t = x.completes.whole.takes in
-    let moved = some_read (limits_of given).packet_size (limits_of given).max_wire given.before.reader.bytes x.seen
-    x.completes.whole.bytes t x.completes.whole.over in
+    let moved = some_read (N.limits_of given).packet_size (N.limits_of given).max_wire given.before.reader.bytes x.seen
+    x.completes.whole.bytes x.completes.whole.takes x.completes.whole.over in
     grind (arith, some_read)

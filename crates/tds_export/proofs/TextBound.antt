@@ -1,11 +1,8 @@
 -- The text so far is no longer than 64 bytes for each byte read.
+use Rattle.tds_export.proofs.Words as N
 use Rattle.tds_export.proofs.{
-  Words.{AreBytes, Bool, Cell, CellPart, Charset, ChunkData, ChunkLength, Column, Describing, DescriptionPart, InCell, InColumn, InRow, IsNext, List, None},
-  Words.{Null, Open, Option, Part, Result, ReturnPart, RowPart, ScalarBytes, ScalarLength, ScalarValue, ShortData, ShortLength, Some, Spelt, Token, Total},
-  Words.{Utf16Text, ValueFault, WholeCell, WholeDescription, [], add_described, and_parts, ap, append-nil, arith, cell, cell_add, choose, codes, description},
-  Words.{end_fit, false, field, field_so_far, fit_begins, header_line, joined, last_fit, length, length-append, line, line_end, little, map, map-append},
-  Words.{marked, next_cell, open_field, open_text, part_add, refl, response, response_start, row_so_far, row_start, start_quiet, suc, text, text_so_far, true},
-  Words.{unless_none, value_part, with_return, with_row, ℕ, ◌*◌, ◌++◌, ◌+◌, ◌∷◌, ◌≡◌, ◌≤◌, ⊤, name_field, slice_index, ◌==◌},
+  Words.{AreBytes, Bool, Cell, Column, IsNext, List, None, Null, Open, Option, Part, Result, Some, Token, [], ap, arith, choose, codes, false, field, joined},
+  Words.{length, length-append, map, refl, response, suc, text, true, ℕ, ◌*◌, ◌++◌, ◌+◌, ◌∷◌, ◌≡◌, ◌≤◌, ⊤, ◌==◌},
   ReadingGrows.{IsFresh, lead_cases},
   FieldLengths.{ReadShort, long_length, long_more, open_length, open_more, read_short},
   TokenLaws.{bare, bare_body, bare_fixed, begun_after, text_after-snoc},
@@ -48,7 +45,7 @@ one_more_length fs f = omega (arith, last_length fs f, before_last_most fs)
 -- one more cell
 one_more_cell : (cells : List Cell) (c : Cell)
     → length (joined (map field (cells ++ c ∷ []))) ≤ length (joined (map field cells)) + 1 + length (field c)
-one_more_cell cells c = rw (map-append field cells (c ∷ [])) (one_more_length (map field cells) (field c))
+one_more_cell cells c = rw (N.map-append field cells (c ∷ [])) (one_more_length (map field cells) (field c))
 
 -- the field that is read has at most 48 bytes more
 abbrev FieldMore : Option (List ℕ) → Option (List ℕ) → Type 0
@@ -60,25 +57,25 @@ FieldMore (Some a) (Some b) = length b ≤ length a + 48
 -- ---- a cell
 
 -- a scalar that is read
-value_more : (r : Result ScalarValue ValueFault) → ReadShort r → FieldMore None (field_so_far (value_part r))
+value_more : (r : Result N.ScalarValue N.ValueFault) → ReadShort r → FieldMore None (N.field_so_far (N.value_part r))
 value_more r h = grind arith
 
 module _ (column : ℕ) where
   -- each element of a cell adds no more
-  cell_more : (p : CellPart) {e : List ℕ} → AreBytes e → IsNext (cell column) p e → FieldMore (field_so_far p) (field_so_far (cell_add p e))
-  cell_more (ScalarBytes k i) {e} bytes n = value_more _ (read_short k e bytes)
-  cell_more (ScalarLength k) {e} bytes n = choose (λ p. FieldMore None (field_so_far p)) (slice_index e 0 == 0) (WholeCell Null) _ (λ z. omega arith)
+  cell_more : (p : N.CellPart) {e : List ℕ} → AreBytes e → IsNext (N.cell column) p e → FieldMore (N.field_so_far p) (N.field_so_far (N.cell_add p e))
+  cell_more (N.ScalarBytes k i) {e} bytes n = value_more _ (read_short k e bytes)
+  cell_more (N.ScalarLength k) {e} bytes n = choose (λ p. FieldMore None (N.field_so_far p)) (N.slice_index e 0 == 0) (N.WholeCell Null) _ (λ z. omega arith)
       (λ z. tt)
-  cell_more (ShortLength c) bytes n = grind (arith, choose, long_length, open_length)
-  cell_more (Total c) bytes n = grind (arith, choose, open_length)
-  cell_more (WholeCell x) bytes n = omega arith
-  cell_more (ShortData c left content) bytes n = grind (arith, and_parts, choose, last_fit, long_more, open_more, unless_none)
-  cell_more (ChunkLength c total content) {e} bytes n =
-      choose (λ p. FieldMore (Some (open_field c content)) (field_so_far p)) _ _ _
-      (λ z. let fit = end_fit column c total content (little e) n.free z in let end = long_more c content fit
-      (fit_begins c content [] (rw (append-nil content) fit)) in omega arith)
+  cell_more (N.ShortLength c) bytes n = grind (arith, choose, long_length, open_length)
+  cell_more (N.Total c) bytes n = grind (arith, choose, open_length)
+  cell_more (N.WholeCell x) bytes n = omega arith
+  cell_more (N.ShortData c left content) bytes n = grind (arith, N.and_parts, choose, N.last_fit, long_more, open_more, N.unless_none)
+  cell_more (N.ChunkLength c total content) {e} bytes n =
+      choose (λ p. FieldMore (Some (N.open_field c content)) (N.field_so_far p)) _ _ _
+      (λ z. let fit = N.end_fit column c total content (N.little e) n.free z in let end = long_more c content fit
+      (N.fit_begins c content [] (rw (N.append-nil content) fit)) in omega arith)
       (λ z. omega arith)
-  cell_more (ChunkData c total left content) bytes n = grind (arith, choose, open_more, unless_none)
+  cell_more (N.ChunkData c total left content) bytes n = grind (arith, choose, open_more, N.unless_none)
 
 -- ---- a row, whose cells to come that are NULL by their bit are paid by the bitmap
 
@@ -89,89 +86,88 @@ how_many_null ((k, true) ∷ ks) = 1 + how_many_null ks
 how_many_null ((k, false) ∷ ks) = how_many_null ks
 
 -- their text
-abbrev row_pending : RowPart → ℕ
-row_pending (InCell cells part ks) = 5 * how_many_null ks
+abbrev row_pending : N.RowPart → ℕ
+row_pending (N.InCell cells part ks) = 5 * how_many_null ks
 row_pending part = 0
 
 -- the text so far of a row, and what is paid for
-abbrev row_length : RowPart → ℕ
-row_length part = length (row_so_far part) + row_pending part
+abbrev row_length : N.RowPart → ℕ
+row_length part = length (N.row_so_far part) + row_pending part
 
 -- one more column
 one_null : (c : Column) (b : Bool) (ks : List (Column × Bool)) {n : ℕ} → how_many_null ks ≤ n → how_many_null ((c, b) ∷ ks) ≤ suc n
 one_null c b ks h = grind arith
 
 -- no more of them than columns
-null_most : (columns : List Column) (nulls : ℕ → Bool) (k : ℕ) → how_many_null (marked columns nulls k) ≤ length columns
+null_most : (columns : List Column) (nulls : ℕ → Bool) (k : ℕ) → how_many_null (N.marked columns nulls k) ≤ length columns
 null_most [] nulls k = omega arith
 null_most (c ∷ columns) nulls k = one_null c (nulls k) _ (null_most columns nulls (k + 1))
 
 -- none without a bitmap
-none_null : (columns : List Column) (k : ℕ) → how_many_null (marked columns (λ i. false) k) ≡ 0
+none_null : (columns : List Column) (k : ℕ) → how_many_null (N.marked columns (λ i. false) k) ≡ 0
 none_null [] k = refl
 none_null (c ∷ columns) k = none_null columns (k + 1)
 
-module _ (charset : Charset) where
+module _ (charset : N.Charset) where
   -- the cells to come begin
   next_length : (cells : List Cell) (ks : List (Column × Bool))
-      → row_length (next_cell charset cells ks) ≤ length (joined (map field cells)) + 5 * how_many_null ks + 2
-  next_length cells [] = omega (arith, length-append (joined (map field cells)) line_end)
+      → row_length (N.next_cell charset cells ks) ≤ length (joined (map field cells)) + 5 * how_many_null ks + 2
+  next_length cells [] = omega (arith, length-append (joined (map field cells)) N.line_end)
   next_length cells ((k, true) ∷ ks) = omega (arith, next_length (cells ++ Null ∷ []) ks, one_more_cell cells Null)
-  next_length cells ((k, false) ∷ ks) = rw (start_quiet _ _) (omega arith)
+  next_length cells ((k, false) ∷ ks) = rw (N.start_quiet _ _) (omega arith)
 
 -- ---- a description, whose columns pay for its header
 
 -- the header of the columns so far, and the line before it
-abbrev described_pending : DescriptionPart → ℕ
-described_pending (InColumn bytes count columns place) = 2 + length (header_line columns)
-described_pending (WholeDescription bytes columns) = 2 + length (header_line columns)
+abbrev described_pending : N.DescriptionPart → ℕ
+described_pending (N.InColumn bytes count columns place) = 2 + length (N.header_line columns)
+described_pending (N.WholeDescription bytes columns) = 2 + length (N.header_line columns)
 described_pending d = 0
 
 -- one more column in the header
-header_more : (columns : List Column) (c : Column) → length (header_line (columns ++ c ∷ [])) ≤ length (header_line columns) + 3 + 4 * length c.name
+header_more : (columns : List Column) (c : Column) → length (N.header_line (columns ++ c ∷ [])) ≤ length (N.header_line columns) + 3 + 4 * length c.name
 header_more columns c =
-    let fs = map name_field columns in
-    let f = name_field c in
-    let e = map-append name_field columns (c ∷ []) in
+    let fs = map N.name_field columns in
+    let f = N.name_field c in
     omega (
       arith,
       one_more_length fs f,
-      long_length Utf16Text c.name,
-      ap (λ v. length (line v)) e,
-      length-append (joined (fs ++ f ∷ [])) line_end,
-      length-append (joined fs) line_end,
+      long_length N.Utf16Text c.name,
+      ap (λ v. length (N.line v)) (N.map-append N.name_field columns (c ∷ [])),
+      length-append (joined (fs ++ f ∷ [])) N.line_end,
+      length-append (joined fs) N.line_end,
     )
 
 module _ (room : ℕ) where
   -- each element of a description pays for what it adds
-  described_more : {d : DescriptionPart} {e : List ℕ} → IsNext (description room) d e
-      → described_pending (add_described d e) ≤ described_pending d + 64 * length e
+  described_more : {d : N.DescriptionPart} {e : List ℕ} → IsNext (N.description room) d e
+      → described_pending (N.add_described d e) ≤ described_pending d + 64 * length e
   described_more n = grind (arith, choose, header_more)
 
 -- ---- a response
 
 -- what the bytes so far still pay for
 abbrev pending : Open → ℕ
-pending (Describing d) = described_pending d
-pending (InRow part) = row_pending part
+pending (N.Describing d) = described_pending d
+pending (N.InRow part) = row_pending part
 pending at = 0
 
 -- the length of the text so far, and of what is paid for
 abbrev grown : Part → ℕ
-grown p = length (text_so_far p) + pending p.at
+grown p = length (N.text_so_far p) + pending p.at
 
 -- a row in its response
-with_row_grown : (tokens : List Token) (part : RowPart) → grown (with_row tokens part) ≤ length (text tokens) + row_length part
-with_row_grown tokens part = grind (arith, length-append, append-nil, begun_after, text_after-snoc)
+with_row_grown : (tokens : List Token) (part : N.RowPart) → grown (N.with_row tokens part) ≤ length (text tokens) + row_length part
+with_row_grown tokens part = grind (arith, length-append, N.append-nil, begun_after, text_after-snoc)
 
 -- a return value in its response
-with_return_grown : (tokens : List Token) (part : ReturnPart) → grown (with_return tokens part) ≤ length (text tokens)
-with_return_grown tokens part = grind (arith, append-nil, text_after-snoc, bare, begun_after, length-append)
+with_return_grown : (tokens : List Token) (part : N.ReturnPart) → grown (N.with_return tokens part) ≤ length (text tokens)
+with_return_grown tokens part = grind (arith, N.append-nil, text_after-snoc, bare, begun_after, length-append)
 
-module _ (charset : Charset) (room : ℕ) where
+module _ (charset : N.Charset) (room : ℕ) where
   -- a row that begins has at most the end of its line
-  row_starts : (columns : List Column) → row_length (row_start charset columns) ≤ 2
-  row_starts columns = omega (arith, next_length charset [] (marked columns (λ k. false) 0), none_null columns 0)
+  row_starts : (columns : List Column) → row_length (N.row_start charset columns) ≤ 2
+  row_starts columns = omega (arith, next_length charset [] (N.marked columns (λ k. false) 0), none_null columns 0)
 
   -- what has just begun adds nothing
   fresh_grown : (tokens : List Token) (n : ℕ) (at : Open) → IsFresh at → grown (part_at tokens at) ≤ length (text tokens) + 64 * n
@@ -179,7 +175,7 @@ module _ (charset : Charset) (room : ℕ) where
 
   -- each element of bytes pays for what it adds
   part_grown : {tokens : List Token} (at : Open) (e : List ℕ) → AreBytes e → IsNext (response charset room) (part_at tokens at) e
-      → grown (part_add charset tokens at e) ≤ length (text tokens) + length (open_text at) + pending at + 64 * length e
+      → grown (N.part_add charset tokens at e) ≤ length (text tokens) + length (N.open_text at) + pending at + 64 * length e
   part_grown at e bytes n = grind (
     arith,
     bare_body,
@@ -194,12 +190,12 @@ module _ (charset : Charset) (room : ℕ) where
     cell_more,
     next_length,
     null_most,
-    map-append,
+    N.map-append,
     last_length,
     one_more_length,
     row_starts,
     begun_after,
-    append-nil,
+    N.append-nil,
     text_after-snoc,
     with_return_grown,
     with_row_grown,
@@ -208,10 +204,10 @@ module _ (charset : Charset) (room : ℕ) where
   -- each element pays for what it adds
   grown_more : (p : Part) (e : List ℕ) → AreBytes e → IsNext (response charset room) p e
       → grown ((response charset room).add p e) ≤ grown p + 64 * length e
-  grown_more p e bytes n = omega (arith, part_grown p.at e bytes n, length-append (text p.tokens) (open_text p.at))
+  grown_more p e bytes n = omega (arith, part_grown p.at e bytes n, length-append (text p.tokens) (N.open_text p.at))
 
   -- so do all elements between two states
-  grown_along : {p q : Part} {bytes : List ℕ} → AreBytes bytes → Spelt (response charset room) p bytes q → grown q ≤ grown p + 64 * length bytes
+  grown_along : {p q : Part} {bytes : List ℕ} → AreBytes bytes → N.Spelt (response charset room) p bytes q → grown q ≤ grown p + 64 * length bytes
   grown_along {p} {q} are h = bytes_induct (λ r b. grown r ≤ grown p + 64 * length b) (λ r b e k are n. omega (
     arith,
     grown_more r e are n,
@@ -219,6 +215,6 @@ module _ (charset : Charset) (room : ℕ) where
   )) p (omega arith) _ q are h
 
   -- the text so far is at most 64 times as long as all that is read
-  pub bounded_along : (q : Part) (bytes : List ℕ) → AreBytes bytes → Spelt (response charset room) response_start bytes q
-      → length (text_so_far q) ≤ 64 * length bytes
+  pub bounded_along : (q : Part) (bytes : List ℕ) → AreBytes bytes → N.Spelt (response charset room) N.response_start bytes q
+      → length (N.text_so_far q) ≤ 64 * length bytes
   bounded_along q bytes are h = omega (arith, grown_along are h)

@@ -77,8 +77,45 @@ abbrev nine_columns : List ℕ
 nine_columns =
     nine "38" ++ a_done
 
--- payloads in Windows-1252
-windows_1252 : HaveAnswers Windows1252 1048576 (
+-- descriptions, with the room and the answer
+abbrev described_in : List (ℕ × List ℕ × Answer)
+described_in =
+    -- too many columns for the room
+    (1024, hex "81 FE FF", (1, [], Some DescriptionTooLong)) ∷
+    -- room for the description
+    (12, one_column, (31, codes "\"a\"\r\n42\r\n", None)) ∷
+    -- room for all but one byte
+    (11, one_column, (10, [], Some DescriptionTooLong)) ∷
+    -- room for two columns
+    (22, two_columns, (36, codes "\"a\",\"b\"\r\n", None)) ∷
+    -- one byte less
+    (21, two_columns, (20, [], Some DescriptionTooLong)) ∷
+    -- less than eight bytes a column
+    (17, two_columns, (1, [], Some DescriptionTooLong)) ∷
+    -- room for nine columns without names
+    (74, nine_columns, (88, codes "\"\",\"\",\"\",\"\",\"\",\"\",\"\",\"\",\"\"\r\n", None)) ∷
+    -- one byte less
+    (73, nine_columns, (1, [], Some DescriptionTooLong)) ∷
+    []
+
+-- ---- payloads that stop, completed
+
+abbrev complete : ℕ → List ℕ → Progress Part Fault → Option Fault
+complete room payload p = fault_of (response Windows1252 room)
+    (read (response Windows1252 room) response_start (take (length payload - length (rest_of p)) payload ++ completion (state_of p)))
+
+abbrev completed : ℕ → List ℕ → Option Fault
+completed room payload = complete room payload (read (response Windows1252 room) response_start payload)
+
+-- Each beginning of each payload is accepted once it is completed.
+abbrev AreCompleted : List (List ℕ) → Type 0
+AreCompleted payloads = map (λ payload. map (completed 1048576) (beginnings payload)) payloads ≡ map
+    (λ payload. map (λ front. None) (beginnings payload)) payloads
+
+-- the answers of whole payloads, of beginnings, and of those that are completed
+worked :
+    -- payloads in Windows-1252
+    (HaveAnswers Windows1252 1048576 (
     -- whole responses
     (one_column, (31, codes "\"a\"\r\n42\r\n", None)) ∷
     -- a DONE alone
@@ -185,39 +222,11 @@ windows_1252 : HaveAnswers Windows1252 1048576 (
     (returned "26 04 04 07 00", (18, [], Some MessageEnded)) ∷
     -- a fixed type and no name
     (hex "AC 00 00 00 00 00 00 00 00 00 00 38 2A 00 00 00" ++ a_done, (29, [], None)) ∷
-    [])
-unfolding digits date_of utf16_chars encode_utf8 utf8_valid_len utf8_error_len is_utf8 chars encode_with rest_length named_kind refused_kind
-    uuid_on_literals
-windows_1252 = refl
-
--- descriptions, with the room and the answer
-abbrev described_in : List (ℕ × List ℕ × Answer)
-described_in =
-    -- too many columns for the room
-    (1024, hex "81 FE FF", (1, [], Some DescriptionTooLong)) ∷
-    -- room for the description
-    (12, one_column, (31, codes "\"a\"\r\n42\r\n", None)) ∷
-    -- room for all but one byte
-    (11, one_column, (10, [], Some DescriptionTooLong)) ∷
-    -- room for two columns
-    (22, two_columns, (36, codes "\"a\",\"b\"\r\n", None)) ∷
-    -- one byte less
-    (21, two_columns, (20, [], Some DescriptionTooLong)) ∷
-    -- less than eight bytes a column
-    (17, two_columns, (1, [], Some DescriptionTooLong)) ∷
-    -- room for nine columns without names
-    (74, nine_columns, (88, codes "\"\",\"\",\"\",\"\",\"\",\"\",\"\",\"\",\"\"\r\n", None)) ∷
-    -- one byte less
-    (73, nine_columns, (1, [], Some DescriptionTooLong)) ∷
-    []
-
--- descriptions in rooms of these sizes
-in_rooms : map (λ row. answer Windows1252 row.0 row.1) described_in ≡ map (λ row. row.2) described_in
-unfolding digits date_of utf16_chars encode_utf8 utf8_valid_len utf8_error_len is_utf8 chars encode_with rest_length named_kind refused_kind
-in_rooms = refl
-
--- each beginning of the first response, with equal answers together
-first_bytes : map (answer Windows1252 1048576) (beginnings one_column) ≡
+    []))
+    -- descriptions in rooms of these sizes
+    × (map (λ row. answer Windows1252 row.0 row.1) described_in ≡ map (λ row. row.2) described_in)
+    -- each beginning of the first response, with equal answers together
+    × (map (answer Windows1252 1048576) (beginnings one_column) ≡
     replicate 1 (0, [], Some EndWithoutDone) ++
     replicate 2 (1, [], Some MessageEnded) ++
     replicate 7 (3, [], Some MessageEnded) ++
@@ -227,12 +236,9 @@ first_bytes : map (answer Windows1252 1048576) (beginnings one_column) ≡
     replicate 4 (14, codes "\"a\"\r\n", Some MessageEnded) ++
     replicate 1 (18, codes "\"a\"\r\n42\r\n", Some EndWithoutDone) ++
     replicate 12 (19, codes "\"a\"\r\n42\r\n", Some MessageEnded) ++
-    replicate 1 (31, codes "\"a\"\r\n42\r\n", None)
-unfolding digits date_of utf16_chars encode_utf8 utf8_valid_len utf8_error_len is_utf8 chars encode_with rest_length named_kind refused_kind
-first_bytes = refl
-
--- text in UTF-8
-utf8 : HaveAnswers Utf8 1048576 (
+    replicate 1 (31, codes "\"a\"\r\n42\r\n", None))
+    -- text in UTF-8
+    × (HaveAnswers Utf8 1048576 (
     -- three characters
     (text_row "07 00 C3 A9 22 F0 9F 98 80" ++ a_done, (43, hex "22 64 22 0D 0A 22 C3 A9 22 22 F0 9F 98 80 22 0D 0A", None)) ∷
     -- a surrogate
@@ -253,35 +259,13 @@ utf8 : HaveAnswers Utf8 1048576 (
     (text_chunks "FE FF FF FF FF FF FF FF 01 00 00 00 C0", (33, codes "\"d\"\r\n\"", Some (BadText 0))) ∷
     -- bytes that are no UTF-8, passed over
     (hex "AC 00 00 00 00 00 00 00 00 00 00 A7 0A 00 09 04 D0 00 34 02 00 C0 80" ++ a_done, (36, [], None)) ∷
-    [])
-unfolding digits date_of utf16_chars encode_utf8 utf8_valid_len utf8_error_len is_utf8 chars encode_with rest_length named_kind refused_kind
-    uuid_on_literals
-utf8 = refl
-
--- a return value is counted
-returned_once : how_many is_return ((state_of
+    []))
+    -- a return value is counted
+    × (how_many is_return ((state_of
     (read (response Windows1252 1048576) response_start
-    (returned "26 04 04 07 00 00 00" ++ a_done))).tokens) ≡ 1
-unfolding digits date_of utf16_chars encode_utf8 utf8_valid_len utf8_error_len is_utf8 chars encode_with rest_length named_kind refused_kind
-    uuid_on_literals
-returned_once = refl
-
--- ---- payloads that stop, completed
-
-abbrev complete : ℕ → List ℕ → Progress Part Fault → Option Fault
-complete room payload p = fault_of (response Windows1252 room)
-    (read (response Windows1252 room) response_start (take (length payload - length (rest_of p)) payload ++ completion (state_of p)))
-
-abbrev completed : ℕ → List ℕ → Option Fault
-completed room payload = complete room payload (read (response Windows1252 room) response_start payload)
-
--- Each beginning of each payload is accepted once it is completed.
-abbrev AreCompleted : List (List ℕ) → Type 0
-AreCompleted payloads = map (λ payload. map (completed 1048576) (beginnings payload)) payloads ≡ map
-    (λ payload. map (λ front. None) (beginnings payload)) payloads
-
--- payloads that stop
-all_completed : AreCompleted (
+    (returned "26 04 04 07 00 00 00" ++ a_done))).tokens) ≡ 1)
+    -- payloads that stop
+    × (AreCompleted (
     -- a row of whole numbers
     column "38 01 61 00 D1 2A 00 00 00 FD 10 00 C1 00 01 00 00 00 00 00 00" ∷
     -- chunks of text of a known total
@@ -298,6 +282,7 @@ all_completed : AreCompleted (
     returned "26 04 04 07 00 00 00" ∷
     -- a return value in chunks
     hex "AC 00 00 00 00 00 00 00 00 00 00 A7 FF FF 09 04 D0 00 34 03 00 00 00 00 00 00 00 01 00 00 00 C0" ∷
-    [])
+    []))
 unfolding digits date_of utf16_chars encode_utf8 utf8_valid_len utf8_error_len is_utf8 chars encode_with rest_length named_kind refused_kind
-all_completed = refl
+    uuid_on_literals
+worked = (refl, refl, refl, refl, refl, refl)

@@ -29,9 +29,9 @@ byte_text byte = codes "0x" ++ encode_lower (byte ∷ [])
 -- a piece of a line
 abbrev pub piece_text : Piece → List ℕ
 piece_text (pieces.Text text) = text.now
-piece_text (pieces.Number n) = decimal n
-piece_text (pieces.Signed n) = signed_decimal n
-piece_text (pieces.Byte byte) = byte_text byte
+piece_text (pieces.Number text n) = text.now ++ decimal n
+piece_text (pieces.Signed text n) = text.now ++ signed_decimal n
+piece_text (pieces.Byte text byte) = text.now ++ byte_text byte
 
 -- the text of pieces, one after the other
 abbrev pub text_of : List Piece → List ℕ

@@ -1,6 +1,6 @@
 // The lines on standard error.
 ghost use Rattle.std.specs.Prelude.{◌≡◌, Ok, map};
-ghost use Rattle.tds_replay.specs.Lines.{FitsNotice, answer_lines, counts_line, error_line, fault_fields, fault_name as name_of_fault, kind_name as name_of_kind, memory_line, place_number, place_unit, recut_line, recut_lines, shown_byte, status_line, stop_line, unreadable_line, values_line};
+ghost use Rattle.tds_replay.specs.Lines.{FitsNotice, answer_lines, counts_line, error_line, fault_fields, fault_name as name_of_fault, kind_name as name_of_kind, memory_line, place_number, place_unit, recut_lines, shown_byte, status_line, stop_line, unreadable_line, values_line};
 ghost use Rattle.tds_replay.specs.Saying.{Says};
 
 use crate::pieces::{Piece, Unsaid, say};
@@ -62,13 +62,12 @@ fn say_fields<W: Write>(notes: &mut Counted<W>, fault: &Fault) -> Result<(), Uns
 {
     match *fault {
         Fault::WrongPacketType(byte) | Fault::RefusedToken(byte) => {
-            say(notes, &[Piece::Text(b" "), Piece::Byte(byte)])
+            say(notes, &[Piece::Byte(b" ", byte)])
         }
         Fault::RefusedColumn { index, kind } => say(
             notes,
             &[
-                Piece::Text(b" "),
-                Piece::Number(u64::from(index)),
+                Piece::Number(b" ", u64::from(index)),
                 Piece::Text(b" "),
                 Piece::Text(kind_name(kind)),
             ],
@@ -76,10 +75,8 @@ fn say_fields<W: Write>(notes: &mut Counted<W>, fault: &Fault) -> Result<(), Uns
         Fault::UnknownType { index, byte } => say(
             notes,
             &[
-                Piece::Text(b" "),
-                Piece::Number(u64::from(index)),
-                Piece::Text(b" "),
-                Piece::Byte(byte),
+                Piece::Number(b" ", u64::from(index)),
+                Piece::Byte(b" ", byte),
             ],
         ),
         Fault::BadPacketLength(n)
@@ -88,9 +85,7 @@ fn say_fields<W: Write>(notes: &mut Counted<W>, fault: &Fault) -> Result<(), Uns
         | Fault::BadValue { column: n }
         | Fault::OddText { column: n }
         | Fault::PlpLength { column: n }
-        | Fault::BadText { column: n } => {
-            say(notes, &[Piece::Text(b" "), Piece::Number(u64::from(n))])
-        }
+        | Fault::BadText { column: n } => say(notes, &[Piece::Number(b" ", u64::from(n))]),
         _ => Ok(()),
     }
 }
@@ -114,8 +109,7 @@ fn say_stop<W: Write>(notes: &mut Counted<W>, stopped: &Stopped) -> Result<(), U
     say(
         notes,
         &[
-            Piece::Text(b"fault "),
-            Piece::Number(u64::from(stopped.fault.number())),
+            Piece::Number(b"fault ", u64::from(stopped.fault.number())),
             Piece::Text(b" "),
             Piece::Text(fault_name(&stopped.fault)),
         ],
@@ -127,12 +121,9 @@ fn say_stop<W: Write>(notes: &mut Counted<W>, stopped: &Stopped) -> Result<(), U
         &[
             Piece::Text(b" at "),
             Piece::Text(unit),
-            Piece::Text(b" "),
-            Piece::Number(number),
-            Piece::Text(b", written "),
-            Piece::Number(stopped.written),
-            Piece::Text(b", unwritten "),
-            Piece::Number(stopped.unwritten),
+            Piece::Number(b" ", number),
+            Piece::Number(b", written ", stopped.written),
+            Piece::Number(b", unwritten ", stopped.unwritten),
             Piece::Text(b"\n"),
         ],
     )
@@ -145,16 +136,11 @@ fn say_counts<W: Write>(notes: &mut Counted<W>, report: &Report) -> Result<(), U
     say(
         notes,
         &[
-            Piece::Text(b"sets "),
-            Piece::Number(report.sets),
-            Piece::Text(b" rows "),
-            Piece::Number(report.rows),
-            Piece::Text(b" errors "),
-            Piece::Number(report.errors),
-            Piece::Text(b" infos "),
-            Piece::Number(report.infos),
-            Piece::Text(b" written "),
-            Piece::Number(report.written),
+            Piece::Number(b"sets ", report.sets),
+            Piece::Number(b" rows ", report.rows),
+            Piece::Number(b" errors ", report.errors),
+            Piece::Number(b" infos ", report.infos),
+            Piece::Number(b" written ", report.written),
             Piece::Text(b"\n"),
         ],
     )
@@ -169,11 +155,7 @@ fn say_values<W: Write>(notes: &mut Counted<W>, values: u64) -> Result<(), Unsai
     }
     say(
         notes,
-        &[
-            Piece::Text(b"return values "),
-            Piece::Number(values),
-            Piece::Text(b"\n"),
-        ],
+        &[Piece::Number(b"return values ", values), Piece::Text(b"\n")],
     )
 }
 
@@ -186,11 +168,7 @@ fn say_status<W: Write>(notes: &mut Counted<W>, status: Option<i32>) -> Result<(
     };
     say(
         notes,
-        &[
-            Piece::Text(b"return status "),
-            Piece::Signed(status),
-            Piece::Text(b"\n"),
-        ],
+        &[Piece::Signed(b"return status ", status), Piece::Text(b"\n")],
     )
 }
 
@@ -226,14 +204,10 @@ fn say_error<W: Write>(
     say(
         notes,
         &[
-            Piece::Text(b"server error "),
-            Piece::Signed(error.number),
-            Piece::Text(b", state "),
-            Piece::Number(u64::from(error.state)),
-            Piece::Text(b", class "),
-            Piece::Number(u64::from(error.class)),
-            Piece::Text(b", line "),
-            Piece::Signed(error.line),
+            Piece::Signed(b"server error ", error.number),
+            Piece::Number(b", state ", u64::from(error.state)),
+            Piece::Number(b", class ", u64::from(error.class)),
+            Piece::Signed(b", line ", error.line),
             Piece::Text(b": "),
             Piece::Text(text.as_slice()),
             Piece::Text(b"\n"),
@@ -271,22 +245,6 @@ pub fn say_answer<W: Write>(
     }
 }
 
-// Writes the line of a recut's numbers.
-fn say_recut<W: Write>(notes: &mut Counted<W>, done: &Recut) -> Result<(), Unsaid>
-    ensures { Says W.contents notes.old notes.new (recut_line done.now) result }
-{
-    say(
-        notes,
-        &[
-            Piece::Text(b"packets "),
-            Piece::Number(done.packets),
-            Piece::Text(b" payload "),
-            Piece::Number(done.payload),
-            Piece::Text(b"\n"),
-        ],
-    )
-}
-
 /// Writes the line of a recut's result.
 pub(crate) fn say_recut_answer<W: Write>(
     notes: &mut Counted<W>,
@@ -295,7 +253,14 @@ pub(crate) fn say_recut_answer<W: Write>(
     ensures { Says W.contents notes.old notes.new (recut_lines answer.now) result }
 {
     match answer {
-        Ok(done) => say_recut(notes, done),
+        Ok(done) => say(
+            notes,
+            &[
+                Piece::Number(b"packets ", done.packets),
+                Piece::Number(b" payload ", done.payload),
+                Piece::Text(b"\n"),
+            ],
+        ),
         Err(stopped) => say_stop(
             notes,
             &Stopped {

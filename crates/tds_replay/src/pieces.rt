@@ -1,22 +1,22 @@
 // The pieces of a line on standard error.
-ghost use Rattle.tds_replay.specs.Lines.{piece_text, text_of};
+ghost use Rattle.tds_replay.specs.Lines.{byte_text, piece_text, text_of};
 ghost use Rattle.tds_replay.specs.Saying.{Says};
 
 use itoa::Buffer;
 use std::io::Write;
 use tds_packet::Counted;
 
-/// A piece of a line.
+/// A piece of a line: a text, and what comes after it.
 #[derive(Clone, Copy)]
 pub(crate) enum Piece<'a> {
-    /// Text as it is.
+    /// Nothing more.
     Text(&'a [u8]),
     /// A number in decimal.
-    Number(u64),
+    Number(&'a [u8], u64),
     /// A number in decimal, with its sign if it is negative.
-    Signed(i32),
+    Signed(&'a [u8], i32),
     /// A byte as `0x` and two lower-case hexadecimal digits.
-    Byte(u8),
+    Byte(&'a [u8], u8),
 }
 
 /// A write failed, which its device counted.
@@ -35,7 +35,7 @@ pub(crate) fn put<W: Write>(notes: &mut Counted<W>, bytes: &[u8]) -> Result<(), 
 
 // Writes a byte as `0x` and two digits.
 fn put_byte<W: Write>(notes: &mut Counted<W>, byte: u8) -> Result<(), Unsaid>
-    ensures { Says W.contents notes.old notes.new (piece_text (Piece.Byte byte)) result }
+    ensures { Says W.contents notes.old notes.new (byte_text byte) result }
 {
     let mut text = *b"0x00";
     match hex::encode_to_slice([byte], &mut text[2..]) {
@@ -50,9 +50,18 @@ fn say_piece<W: Write>(notes: &mut Counted<W>, piece: &Piece) -> Result<(), Unsa
 {
     match *piece {
         Piece::Text(text) => put(notes, text),
-        Piece::Number(n) => put(notes, Buffer::new().format(n).as_bytes()),
-        Piece::Signed(n) => put(notes, Buffer::new().format(n).as_bytes()),
-        Piece::Byte(byte) => put_byte(notes, byte),
+        Piece::Number(text, n) => {
+            put(notes, text)?;
+            put(notes, Buffer::new().format(n).as_bytes())
+        }
+        Piece::Signed(text, n) => {
+            put(notes, text)?;
+            put(notes, Buffer::new().format(n).as_bytes())
+        }
+        Piece::Byte(text, byte) => {
+            put(notes, text)?;
+            put_byte(notes, byte)
+        }
     }
 }
 

@@ -6,9 +6,16 @@ use crate::checks::same;
 // Bytes of a response, and the text that they add once the last of them is read.
 struct Element(&'static [u8], &'static [u8]);
 
+// A ROW of int a.
+const ONE_INT: [Element; 3] = [
+    Element(b"\x81\x01\0\0\0\0\0\x08\0\x38\x01a\0", b"\"a\"\r\n"),
+    Element(b"\xD1\x2A\0\0\0", b"42\r\n"),
+    Element(b"\xFD\x10\0\xC1\0\x01\0\0\0\0\0\0\0", b""),
+];
+
 // Every token: a set of four columns with a ROW and an NBCROW, what has no text, and a set of one
 // column.
-const EVERY_TOKEN: [Element; 29] = [
+const EVERY_TOKEN: [Element; 32] = [
     // COLMETADATA: int a, varchar(10) c, nvarchar(max) w, and an int after a length without a name
     Element(b"\x81\x04\0", b""),
     Element(b"\0\0\0\0\0\0\x38\x01a\0", b""),
@@ -34,16 +41,13 @@ const EVERY_TOKEN: [Element; 29] = [
     Element(b"\xA9\x02\0\x01\0", b""),
     Element(b"\xE3\x03\0\x04\x01\x02", b""),
     // ERROR 208 of state 1, class 16 and line 1, with the message no; INFO with the message x
-    Element(
-        b"\xAA\x12\0\xD0\0\0\0\x01\x10\x02\0n\0o\0\0\0\x01\0\0\0",
-        b"",
-    ),
-    Element(b"\xAB\x10\0\x45\x16\0\0\x02\0\x01\0x\0\0\0\x01\0\0\0", b""),
+    Element(b"\xAA\x12\0\xD0\0\0\0\x01\x10", b""),
+    Element(b"\x02\0n\0o\0\0\0\x01\0\0\0", b""),
+    Element(b"\xAB\x10\0\x45\x16\0\0\x02\0", b""),
+    Element(b"\x01\0x\0\0\0\x01\0\0\0", b""),
     // RETURNVALUE: the int 7 under the name @p
-    Element(
-        b"\xAC\x01\0\x02@\0p\0\x01\0\0\0\0\0\0\x26\x04\x04\x07\0\0\0",
-        b"",
-    ),
+    Element(b"\xAC\x01\0\x02@\0p\0\x01", b""),
+    Element(b"\0\0\0\0\0\0\x26\x04\x04\x07\0\0\0", b""),
     // RETURNSTATUS -1, DONEINPROC, DONEPROC with more to come
     Element(b"\x79\xFF\xFF\xFF\xFF", b""),
     Element(b"\xFF\0\0\0\0\0\0\0\0\0\0\0\0", b""),
@@ -55,64 +59,54 @@ const EVERY_TOKEN: [Element; 29] = [
     Element(b"\xFD\0\0\0\0\0\0\0\0\0\0\0\0", b""),
 ];
 
-// A ROW of varchar(10), whose second character has two bytes in UTF-8.
-const NARROW: [Element; 5] = [
-    Element(
-        b"\x81\x01\0\0\0\0\0\0\0\xA7\x0A\0\x09\x04\xD0\0\x34\x01t\0",
-        b"\"t\"\r\n",
-    ),
-    Element(b"\xD1\x03\0", b"\""),
-    Element(b"A", b"A"),
-    Element(b"\xC3\xA9", b"\xC3\xA9\"\r\n"),
-    Element(b"\xFD\0\0\0\0\0\0\0\0\0\0\0\0", b""),
-];
-
-// A ROW of int a.
-const ONE_INT: [Element; 3] = [
-    Element(b"\x81\x01\0\0\0\0\0\x08\0\x38\x01a\0", b"\"a\"\r\n"),
-    Element(b"\xD1\x2A\0\0\0", b"42\r\n"),
-    Element(b"\xFD\x10\0\xC1\0\x01\0\0\0\0\0\0\0", b""),
-];
-
-// A ROW of money a, the greatest debt.
-const MONEY: [Element; 3] = [
-    Element(b"\x81\x01\0\0\0\0\0\0\0\x3C\x01a\0", b"\"a\"\r\n"),
-    Element(b"\xD1\0\0\0\x80\0\0\0\0", b"-922337203685477.5808\r\n"),
-    Element(b"\xFD\0\0\0\0\0\0\0\0\0\0\0\0", b""),
-];
-
-// An NBCROW of int a and of an int b after a length, which is NULL by its length.
-const PAIR: [Element; 5] = [
-    Element(b"\x81\x02\0\0\0\0\0\0\0\x38\x01a\0", b""),
-    Element(b"\0\0\0\0\0\0\x26\x04\x01b\0", b"\"a\",\"b\"\r\n"),
-    Element(b"\xD2\0\x2A\0\0\0", b"42"),
-    Element(b"\0", b",NULL\r\n"),
-    Element(b"\xFD\0\0\0\0\0\0\0\0\0\0\0\0", b""),
-];
-
-// A ROW of nvarchar(max) t: a character of two units whose four bytes lie in three chunks.
-const FACE: [Element; 7] = [
-    Element(
-        b"\x81\x01\0\0\0\0\0\0\0\xE7\xFF\xFF\x09\x04\xD0\0\x34\x01t\0",
-        b"\"t\"\r\n",
-    ),
-    Element(b"\xD1\x04\0\0\0\0\0\0\0", b"\""),
-    Element(b"\x01\0\0\0\x3D", b""),
-    Element(b"\x02\0\0\0\xD8\0", b""),
-    Element(b"\x01\0\0\0\xDE", b"\xF0\x9F\x98\x80"),
-    Element(b"\0\0\0\0", b"\"\r\n"),
-    Element(b"\xFD\0\0\0\0\0\0\0\0\0\0\0\0", b""),
+// Small responses: a debt, two ints, a character in chunks, and narrow text.
+const SMALL: [&[Element]; 4] = [
+    // A ROW of money a, the greatest debt.
+    &[
+        Element(b"\x81\x01\0\0\0\0\0\0\0\x3C\x01a\0", b"\"a\"\r\n"),
+        Element(b"\xD1\0\0\0\x80\0\0\0\0", b"-922337203685477.5808\r\n"),
+        Element(b"\xFD\0\0\0\0\0\0\0\0\0\0\0\0", b""),
+    ],
+    // An NBCROW of int a and of an int b after a length, which is NULL by its length.
+    &[
+        Element(b"\x81\x02\0\0\0\0\0\0\0\x38\x01a\0", b""),
+        Element(b"\0\0\0\0\0\0\x26\x04\x01b\0", b"\"a\",\"b\"\r\n"),
+        Element(b"\xD2\0\x2A\0\0\0", b"42"),
+        Element(b"\0", b",NULL\r\n"),
+        Element(b"\xFD\0\0\0\0\0\0\0\0\0\0\0\0", b""),
+    ],
+    // A ROW of nvarchar(max) t: a character of two units whose four bytes lie in three chunks.
+    &[
+        Element(b"\x81\x01\0\0\0\0\0\0\0\xE7\xFF\xFF", b""),
+        Element(b"\x09\x04\xD0\0\x34\x01t\0", b"\"t\"\r\n"),
+        Element(b"\xD1\x04\0\0\0\0\0\0\0", b"\""),
+        Element(b"\x01\0\0\0\x3D", b""),
+        Element(b"\x02\0\0\0\xD8\0", b""),
+        Element(b"\x01\0\0\0\xDE", b"\xF0\x9F\x98\x80"),
+        Element(b"\0\0\0\0", b"\"\r\n"),
+        Element(b"\xFD\0\0\0\0\0\0\0\0\0\0\0\0", b""),
+    ],
+    // A ROW of varchar(10), whose second character has two bytes in UTF-8.
+    &[
+        Element(b"\x81\x01\0\0\0\0\0\0\0\xA7\x0A\0", b""),
+        Element(b"\x09\x04\xD0\0\x34\x01t\0", b"\"t\"\r\n"),
+        Element(b"\xD1\x03\0", b"\""),
+        Element(b"A", b"A"),
+        Element(b"\xC3\xA9", b"\xC3\xA9\"\r\n"),
+        Element(b"\xFD\0\0\0\0\0\0\0\0\0\0\0\0", b""),
+    ],
 ];
 
 // The elements of each response, and its character set. They come by a call, so that no proof reads the tables.
 fn responses() -> [(&'static [Element], Charset); 6] {
+    let [debt, pair, face, narrow] = SMALL;
     [
         (&EVERY_TOKEN, Charset::Windows1252),
         (&ONE_INT, Charset::Windows1252),
-        (&MONEY, Charset::Windows1252),
-        (&PAIR, Charset::Windows1252),
-        (&FACE, Charset::Windows1252),
-        (&NARROW, Charset::Utf8),
+        (debt, Charset::Windows1252),
+        (pair, Charset::Windows1252),
+        (face, Charset::Windows1252),
+        (narrow, Charset::Utf8),
     ]
 }
 

@@ -1,18 +1,17 @@
 // Rows with a bitmap of the columns that are NULL, and where reading them stops.
 use super::{
     Good, INT4, INT4_N, NINE, NINE_TEXT, Outcome, Token, describe, described, in_packets,
-    payload_of, usual_writer,
+    make_rooms, payload_of, read_token, usual_writer,
 };
 use crate::checks::expect_at;
 use std::alloc::{AllocError, Global};
 use std::test::Fail;
 use tds_columns::Columns;
 use tds_csv::Sink;
-use tds_meter::{Area, SMALL_ROOM};
+use tds_meter::Area;
 use tds_packet::rig::{Failing, ScriptedReader, ScriptedWriter};
 use tds_packet::{Counted, Fault, Payload, Place, Stop};
-use tds_rows::{NBCROW, read_nbc_rows};
-use tds_values::Charset;
+use tds_rows::NBCROW;
 
 const TWO: &[&[u8]] = &[INT4, INT4_N];
 
@@ -85,7 +84,7 @@ fn write_row(alloc: Global, case: &Good, size: usize) -> Result<Outcome, Fail> {
 #[test]
 fn nbc_rows_are_written(rt: HostRuntime) -> Result<(), Fail> {
     for case in &ROWS {
-        let want = (Ok(()), Some(case.text.len()), case.bytes.len() as u64);
+        let want = (Ok(1), Some(case.text.len()), case.bytes.len() as u64);
         for size in [1, 3, 4000] {
             let out = write_row(rt.alloc(), case, size)?;
             let came = (out.answer, out.text, out.place);
@@ -178,32 +177,16 @@ fn nbc_rows_are_read_to_the_end_of_a_packet(rt: HostRuntime) -> Result<(), Fail>
     let mut packet = Area::new(rt.alloc(), 4096)?;
     let mut output = Area::new(rt.alloc(), 4096)?;
     let mut area = Area::new(rt.alloc(), 4096)?;
-    let mut bits = Area::new(rt.alloc(), 8192)?;
-    let mut small = Area::new(rt.alloc(), SMALL_ROOM)?;
+    let mut rooms = make_rooms(rt.alloc())?;
     let mut payload = Payload::new(&mut from, &mut packet, 1_000_000);
     let mut sink = Sink::new(&mut to, &mut output);
     if !describe(&mut payload, &mut area) {
         return Err(Fail::from(AllocError));
     }
     let columns = Columns::view(area.bytes());
-    let charset = Charset::Windows1252;
-    let first = read_nbc_rows(
-        &mut payload,
-        columns,
-        charset,
-        &mut bits,
-        &mut small,
-        &mut sink,
-    )?;
+    let first = read_token(Token::NbcRows, &mut payload, columns, &mut rooms, &mut sink)?;
     let token = payload.next()?;
-    let second = read_nbc_rows(
-        &mut payload,
-        columns,
-        charset,
-        &mut bits,
-        &mut small,
-        &mut sink,
-    )?;
+    let second = read_token(Token::NbcRows, &mut payload, columns, &mut rooms, &mut sink)?;
     assert!(rt; (first, token, second) == (2, NBCROW, 1));
     let _ = sink.finish();
     assert!(rt; to.device().kept() == THREE_TEXT);

@@ -1,6 +1,5 @@
 // Long values by themselves, with a joiner of each kind.
-ghost use Rattle.std.specs.Prelude.{◌≡◌, [], false};
-ghost use Rattle.tds_csv.specs.Binary as binary;
+ghost use Rattle.std.specs.Prelude.{◌≡◌, []};
 
 use super::{in_packets, length_after, usual_writer};
 use std::alloc::Global;
@@ -73,27 +72,35 @@ impl Count for Tally<'_> {
     }
 }
 
-// A joiner of binary data that has its pieces counted.
+// A joiner that has its pieces counted.
 #[derive(Drop)]
-struct CountingJoiner<C> {
-    inner: HexJoiner,
+struct CountingJoiner<J, C> {
+    inner: J,
     pushes: Option<C>,
 }
 
-impl<C: Count> Joiner for CountingJoiner<C> {
-    const UNIT: u64 = 1;
+impl<J: Joiner, C: Count> Joiner for CountingJoiner<J, C> {
+    const UNIT: u64 = J::UNIT;
 
-    ghost UNIT = { 1 };
+    ghost UNIT = { J.UNIT };
 
-    const QUOTED: bool = false;
+    const QUOTED: bool = J::QUOTED;
 
-    ghost QUOTED = { false };
+    ghost QUOTED = { J.QUOTED };
 
-    ghost text = { binary.text };
+    ghost fit = { J.fit };
+
+    ghost begins = { J.begins };
+
+    ghost rest = { J.rest };
+
+    ghost text = { J.text };
+
+    ghost withheld = { λ joiner. J.withheld joiner.inner };
 
     fn new() -> Self {
         CountingJoiner {
-            inner: HexJoiner::new(),
+            inner: J::new(),
             pushes: None,
         }
     }
@@ -110,7 +117,7 @@ impl<C: Count> Joiner for CountingJoiner<C> {
     }
 
     fn laws() {
-        HexJoiner::laws();
+        J::laws();
     }
 }
 

@@ -22,7 +22,7 @@ judged t columns count number same at limit is other = let u = is ∙ rw add-zer
 pub returns-in-Some-clause-gives : goal.returns-in-Some-clause-gives
 returns-in-Some-clause-gives g c = λ columns kind number.
     let t = c.in_ok-take_into.ensures.gives in
-    let w = judged t columns c.args.count number c.bytes.ensures.value c.len-start.ensures.value (c.room.ensures
+    let w = judged t columns c.args.column.count number c.bytes.ensures.value c.len-start.ensures.value (c.room.ensures
     ∙ c.in_ok-take_into.ensures.area.room) c.from-size.ensures c.from-later.ensures in
     rw (c.in_payload.ensures, c.place-place.ensures) (description_refused t (omega arith) refl (w.1 ∙ sym c.too_long.ensures
     ∙ c.in-Some.is) refl c.len-start.ensures.value c.truncate.ensures)
@@ -30,7 +30,7 @@ returns-in-Some-clause-gives g c = λ columns kind number.
 pub returns-then-size-eq0-clause-gives : goal.returns-then-size-eq0-clause-gives
 returns-then-size-eq0-clause-gives g c = λ columns kind number.
     let t = c.in_ok-take_into.ensures.gives in
-    let w = judged t columns c.args.count number c.bytes.ensures.value c.len-start.ensures.value (c.room.ensures
+    let w = judged t columns c.args.column.count number c.bytes.ensures.value c.len-start.ensures.value (c.room.ensures
     ∙ c.in_ok-take_into.ensures.area.room) c.from-size.ensures c.from-later.ensures in
     let zero : slice_index t.element 0 ≡ 0 = omega arith in (
       record { kind = kind; name = [] },
@@ -41,7 +41,7 @@ returns-then-size-eq0-clause-gives g c = λ columns kind number.
 pub returns-clause-gives : goal.returns-clause-gives
 returns-clause-gives g c = λ columns kind number.
     let t = c.in_ok-take_into.ensures.gives in
-    let w = judged t columns c.args.count number c.bytes.ensures.value c.len-start.ensures.value (c.room.ensures
+    let w = judged t columns c.args.column.count number c.bytes.ensures.value c.len-start.ensures.value (c.room.ensures
     ∙ c.in_ok-take_into.ensures.area.room) c.from-size.ensures c.from-later.ensures in
     name_after _ _ _ _ c.take_into.new.payload.stopped {columns = columns} {kind = kind}
     (description_read t (omega arith) refl (w.1 ∙ sym c.too_long.ensures

@@ -32,7 +32,7 @@ pub returns-then-rest-eq0-clause-gives : goal.returns-then-rest-eq0-clause-gives
 returns-then-rest-eq0-clause-gives g c = λ columns number.
     let t = c.in_ok-take_into.ensures.gives in
     let known = rw (byte_at t 6 c.bytes.ensures.value c.len-start.ensures.value) at c.in-Ok.ensures.0 in
-    let kind = bare (c.args.area.now.bytes ++ t.element) c.take_into.new.area.bytes c.args.count columns (slice_index t.element 6) c.in-Ok.rest known
+    let kind = bare (c.args.area.now.bytes ++ t.element) c.take_into.new.area.bytes c.args.column.count columns (slice_index t.element 6) c.in-Ok.rest known
     c.if-rest-eq0.true (rw t.stands) in (
       kind.0,
       description_read t (omega arith) refl (no_fault _ _ _ c.in-Ok.rest _ _ known (rw number (omega arith))) kind.1
@@ -47,4 +47,4 @@ returns-clause-gives g c = λ columns number.
     part_after _ _ _ _ _ c.in_ok-take_into.ensures.area.room
     (description_read t (omega arith) refl (no_fault _ _ _ c.in-Ok.rest _ _ known (rw number (omega (arith, c.in-Ok.ensures.1))))
     (rw (known, t.stands, byte) (choose_false _ _ _ (ne_eqb c.in-Ok.rest 0 c.if-rest-eq0.false))) c.in_ok-take_into.ensures.place refl refl refl)
-    (c.read_info.ensures.gives c.args.count columns number)
+    (c.read_info.ensures.gives c.args.column.count columns number)

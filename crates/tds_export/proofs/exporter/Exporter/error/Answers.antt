@@ -1,35 +1,36 @@
 use Rattle.tds_export.proofs.exporter.Exporter.error.Goals as goal
+use Rattle.tds_export.proofs.Words as N
 use Rattle.tds_export.proofs.{
-  Words.{AnError, Space, ap, appended, arith, characters, length, nat_tests, notice_of, passed, refl, rules, server_error, subst, sym, whole_within, ◌-◌, ◌<◌},
-  Words.{◌∙◌, ◌≡◌, ◌≤◌},
-  NoticeSteps.{first_error_reads, later_error_reads, notice_stops, within_room},
+  Words.{Space, ap, arith, length, refl, subst, sym, ◌-◌, ◌<◌, ◌∙◌, ◌≡◌, ◌≤◌},
+  Bodies.{first_error_reads, later_error_reads, notice_stops, within_room},
   TokenSteps.step_read,
 }
 
 pub returns-in_err-take_notice : goal.returns-in_err-take_notice
-returns-in_err-take_notice g c = step_read c.requires.running (search rules)
-    (λ tokens begun. passed _ _ _ _ c.from_residual.ensures.1 (notice_stops _ begun (c.in_err-take_notice.ensures.gives _ _ tokens AnError refl)))
+returns-in_err-take_notice g c = step_read c.requires.running (search N.rules)
+    (λ tokens begun. N.passed _ _ _ _ c.from_residual.ensures.1 (notice_stops _ begun (c.in_err-take_notice.ensures.gives _ _ tokens N.AnError refl)))
 
 pub returns-then-self-gt1 : goal.returns-then-self-gt1
-returns-then-self-gt1 g c = step_read c.requires.running (search rules) (λ tokens begun.
-    let some : 0 < c.args.self.now.progress.report.errors = grind (arith, nat_tests, c.if-self-gt1.true) in
-    later_error_reads _ begun some (c.in_ok-take_notice.ensures.gives _ _ tokens AnError refl))
+returns-then-self-gt1 g c = step_read c.requires.running (search N.rules) (λ tokens begun.
+    let some : 0 < c.args.self.now.progress.report.errors = grind (arith, N.nat_tests, c.if-self-gt1.true) in
+    later_error_reads _ begun some (c.in_ok-take_notice.ensures.gives _ _ tokens N.AnError refl))
 
 pub returns : goal.returns
 returns g c =
-    let cleared : Space = c.clear.new.self in
+    let cleared = c.clear.new.self in
     let empty = ap (λ (s : Space). s.bytes) c.clear.ensures.value in
     step_read c.requires.running (search (
-      rules,
+      N.rules,
       subst (λ (s : Space). s.peak ≤ s.room) (sym c.utf16_into.ensures)
-          (within_room (characters c.message_of.result.now) empty c.clear.ensures.peak),
+          (within_room (N.characters c.message_of.result.now) empty c.clear.ensures.peak),
     )) (λ tokens begun.
-    let none : c.args.self.now.progress.report.errors ≡ 0 = grind (arith, nat_tests, c.if-self-gt1.false) in
-    let body : c.bytes-body.result.now ≡ c.take_notice.new.token.bytes = c.bytes-body.ensures.value in
-    let error : c.error_of.result ≡ server_error (notice_of c.take_notice.new.token.bytes) = c.error_of.ensures
-    ∙ ap (λ l. server_error (notice_of l)) body in
-    let message : c.message_of.result.now ≡ (notice_of c.take_notice.new.token.bytes).message = c.message_of.ensures.value
-    ∙ ap (λ l. (notice_of l).message) body in
-    let put = c.utf16_into.ensures ∙ ap (λ l. appended cleared (whole_within (cleared.room - length cleared.bytes) (characters l))) message in
+    let none : c.args.self.now.progress.report.errors ≡ 0 = grind (arith, N.nat_tests, c.if-self-gt1.false) in
+    let body = c.bytes-body.ensures.value in
+    let error = c.error_of.ensures
+    ∙ ap (λ l. N.server_error (N.notice_of l)) body in
+    let message = c.message_of.ensures.value
+    ∙ ap (λ l. (N.notice_of l).message) body in
     rw error (first_error_reads _ begun _ none empty (ap (λ (s : Space). s.room) c.clear.ensures.value
-    ∙ c.requires.running.notice) put (c.in_ok-take_notice.ensures.gives _ _ tokens AnError refl)))
+    ∙ c.requires.running.notice) (c.utf16_into.ensures
+    ∙ ap (λ l. N.appended cleared (N.whole_within (cleared.room - length cleared.bytes) (N.characters l))) message)
+    (c.in_ok-take_notice.ensures.gives _ _ tokens N.AnError refl)))

@@ -24,14 +24,15 @@ returns-in_err-put_header g c = step_read c.requires.running (search rules) (λ 
     let sink = c.requires.running.sink in
     let gives = rw c.in_default.is at c.in_ok-gather.ensures.gives in
     let breaks = rw (c.view-columns.ensures, c.bytes.ensures.value) at (c.in_err-put_header.ensures.gives sink.writing) in
-    let between = between_of g.R.Read.remaining c.gather.new.payload c.in_ok-gather.ensures.payload.going in
-    let shows = description_shows _ _ _ gives.4 in
     passed _ _ _ _ c.from_residual-in_err-put_header.ensures.1
-    (inr (metadata_breaks _ begun shows.0 gives.2 (sink.ready.1 sink.writing) between breaks, c.in_err-put_header.ensures.failed)))
+    (inr (
+      metadata_breaks _ begun (description_shows _ _ _ gives.4).0 gives.2 (sink.ready.1 sink.writing)
+          (between_of g.R.Read.remaining c.gather.new.payload c.in_ok-gather.ensures.payload.going) breaks,
+      c.in_err-put_header.ensures.failed,
+    )))
 
 pub returns : goal.returns
 returns g c = step_read c.requires.running (search rules) (λ tokens begun.
     let gives = rw c.in_default.is at c.in_ok-gather.ensures.gives in
     let puts = rw (c.view-columns.ensures, c.bytes.ensures.value) at c.in_ok-put_header.ensures.gives in
-    let shows = description_shows _ _ _ gives.4 in
-    metadata_reads _ begun shows.0 gives.2 puts)
+    metadata_reads _ begun (description_shows _ _ _ gives.4).0 gives.2 puts)

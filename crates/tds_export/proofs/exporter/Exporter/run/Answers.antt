@@ -45,28 +45,33 @@ pub returns-then-not-self-clause-gives : goal.returns-then-not-self-clause-gives
 returns-then-not-self-clause-gives g c = λ tracks empty noted.
     let first = c.tokens.invariant.runs tracks empty noted in
     let y = rw c.if-branch.false at (c.in_ok-token.ensures.gives first.tokens first.tracks first.holds first.noted) in
-    let x = runs_same first y.place (ap (held g.W.Write.contents) y.sink) y.progress y.area y.notice in
     let open_end : c.token.new.self.progress.is_final ≡ false = search rules in
     let sink = c.in_ok-token.ensures.leaves.running.sink in
-    rw (c.in_payload.ensures, c.place-place.ensures) (inl (stops_end x y.takes y.over sink.writing sink.ready.2 open_end))
+    rw (c.in_payload.ensures, c.place-place.ensures) (inl (stops_end (runs_same first y.place (ap
+    (held g.W.Write.contents) y.sink) y.progress y.area y.notice) y.takes y.over sink.writing sink.ready.2 open_end))
 
 pub returns-in_err-finish-clause-gives : goal.returns-in_err-finish-clause-gives
 returns-in_err-finish-clause-gives g c = λ tracks empty noted.
     let first = c.tokens.invariant.runs tracks empty noted in
     let y = rw c.if-branch.false at (c.in_ok-token.ensures.gives first.tokens first.tracks first.holds first.noted) in
-    let x = runs_same first y.place (ap (held g.W.Write.contents) y.sink) y.progress y.area y.notice in
     let final : c.token.new.self.progress.is_final ≡ true = search rules in
-    let fails = stops_at_end x y.takes y.over final (c.in_err-finish.ensures.gives c.in_ok-token.ensures.leaves.running.sink.writing) in
-    passed _ _ _ _ c.from_residual-in_err-finish.ensures.1 (inr (fails, c.in_err-finish.ensures.failed))
+    passed _ _ _ _ c.from_residual-in_err-finish.ensures.1 (inr (
+      stops_at_end (runs_same first y.place (ap
+          (held g.W.Write.contents) y.sink) y.progress y.area y.notice) y.takes y.over final
+          (c.in_err-finish.ensures.gives c.in_ok-token.ensures.leaves.running.sink.writing),
+      c.in_err-finish.ensures.failed,
+    ))
 
 pub returns-clause-gives : goal.returns-clause-gives
 returns-clause-gives g c = λ tracks empty noted.
     let first = c.tokens.invariant.runs tracks empty noted in
     let y = rw c.if-branch.false at (c.in_ok-token.ensures.gives first.tokens first.tracks first.holds first.noted) in
     let x = runs_same first y.place (ap (held g.W.Write.contents) y.sink) y.progress y.area y.notice in
-    let final : c.token.new.self.progress.is_final ≡ true = search rules in
-    let is = ap (λ n. record c.token.new.self.progress.report { written = n }) c.delivered.ensures in
-    (completes x y.takes y.over final c.in_ok-finish.ensures.gives is, x.noted)
+    let final : c.token.new.self.progress.is_final ≡ true = search rules in (
+      completes x y.takes y.over final c.in_ok-finish.ensures.gives (ap
+          (λ n. record c.token.new.self.progress.report { written = n }) c.delivered.ensures),
+      x.noted,
+    )
 
 pub returns-clause-leaves : goal.returns-clause-leaves
 returns-clause-leaves g c =

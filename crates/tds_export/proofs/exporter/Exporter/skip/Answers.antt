@@ -1,6 +1,9 @@
 use Rattle.tds_export.proofs.exporter.Exporter.skip.Goals as goal
-use Rattle.{
-  tds_export.proofs.{Words.{length, passed, refl, rules, ◌∙◌, ◌≡◌}, TokenSteps.{begun_in, stops_first}, Cuts.fill_cut, Bodies.{quiet_reads, quiet_stops}},
+use Rattle.tds_export.proofs.{
+  Words.{length, passed, refl, rules, ◌∙◌, ◌≡◌},
+  TokenSteps.{begun_in, stops_first},
+  ResponseLaws.fill_cut,
+  Bodies.{quiet_reads, quiet_stops},
 }
 
 pub returns-in_err-fill-clause-gives : goal.returns-in_err-fill-clause-gives

@@ -15,21 +15,19 @@ returns-in_err-byte-clause-gives g c = λ tokens tracks holds noted.
 
 pub returns-in_ok-body-in-Ok-clause-gives : goal.returns-in_ok-body-in-Ok-clause-gives
 returns-in_ok-body-in-Ok-clause-gives g c = λ tokens tracks holds noted.
-    let run = c.args.self.now in
     let read = rw c.in-Some.is at c.in_ok-byte.ensures.gives in
-    let begins = begins_kind _
-    c.in-Ok.ensures holds.bytes c.requires.described tracks.described in
-    let x = c.in_ok-body-in-Ok.ensures.reads tokens (tracks_begun tracks) holds noted in
-    (reads_after_byte _ begins c.requires.sink.ready.2 read.takes read.place_is x.0, x.1)
+    let x = c.in_ok-body-in-Ok.ensures.reads tokens (tracks_begun tracks) holds noted in (
+      reads_after_byte _ (begins_kind _
+          c.in-Ok.ensures holds.bytes c.requires.described tracks.described) c.requires.sink.ready.2 read.takes read.place_is x.0,
+      x.1,
+    )
 
 pub returns-in_err-body-in-Ok-clause-gives : goal.returns-in_err-body-in-Ok-clause-gives
 returns-in_err-body-in-Ok-clause-gives g c = λ tokens tracks holds noted.
-    let run = c.args.self.now in
     let read = rw c.in-Some.is at c.in_ok-byte.ensures.gives in
-    let begins = begins_kind _
-    c.in-Ok.ensures holds.bytes c.requires.described tracks.described in
     passed _ _ _ _ c.from_residual-in_err-body-in-Ok.ensures.1
-    (stops_after_byte _ begins c.requires.sink.ready.2 read.takes read.place_is
+    (stops_after_byte _ (begins_kind _
+    c.in-Ok.ensures holds.bytes c.requires.described tracks.described) c.requires.sink.ready.2 read.takes read.place_is
     (c.in_err-body-in-Ok.ensures.reads tokens (tracks_begun tracks) holds noted))
 
 -- ---- a byte that begins no token
@@ -39,10 +37,9 @@ returns-in-Err-clause-gives g c = λ tokens tracks holds noted.
     let run = c.args.self.now in
     let sink = c.requires.sink in
     let h = held g.W.Write.contents run.sink.now in
-    let a = seen g.R.Read.remaining run.payload.now in
-    let b = seen g.R.Read.remaining c.next_byte.new.payload in
     let read = rw c.in-Some.is at c.in_ok-byte.ensures.gives in
     let at : run.payload.now.place ≡ c.place-place.result - 1 = omega (arith, read.place_is, c.place-place.ensures) in
-    rw c.in_payload.ensures (subst (λ n. StepStops (response run.charset run.description.now.room) (after_tokens tokens) a b run.payload.now.place h h
+    rw c.in_payload.ensures (subst (λ n. StepStops (response run.charset run.description.now.room) (after_tokens tokens)
+    (seen g.R.Read.remaining run.payload.now) (seen g.R.Read.remaining c.next_byte.new.payload) run.payload.now.place h h
     run.description.now run.sink.now.failed (record { fault = c.in-Err.fault; place = Payload n })) at
     (stops_at_byte _ _ sink.ready.2 sink.writing holds tracks.described c.in-Err.ensures read.takes read.between))
