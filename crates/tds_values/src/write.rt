@@ -1,5 +1,5 @@
 // The text of a value, written where it belongs, from the bytes that spell it.
-ghost use Rattle.std.specs.Prelude.{◌≡◌, ℕ, ◌+◌, ◌-◌, ◌≤◌, ◌⊎◌, IsTrue, IfOk, IfErr, Some, None, Ok, Err, drop, length, if◌then◌else◌};
+ghost use Rattle.std.specs.Prelude.{◌≡◌, ◌≢◌, ℕ, ◌+◌, ◌-◌, ◌≤◌, ◌⊎◌, IsTrue, IfOk, IfErr, Some, None, Ok, Err, drop, length, if◌then◌else◌};
 ghost use Rattle.byteorder.specs.Endian.{little_number};
 ghost use Rattle.std.specs.Int.{cast_signed, w16};
 ghost use Rattle.tds_values.specs.Kind as kinds;
@@ -8,6 +8,7 @@ ghost use Rattle.tds_values.specs.Scalar.{read_of, checked};
 ghost use Rattle.tds_values.specs.TimeOfDay.{time_length as time_length_of};
 ghost use Rattle.tds_values.specs.Written.{IsTextOf, IsWritten};
 ghost use Rattle.tds_values.specs.declared.scalar.ScalarValue.{ScalarValue};
+ghost use Rattle.tds_values.specs.declared.scalar.ValueFault.{ValueFault};
 
 use crate::guid::put_guid;
 use crate::kind::{Kind, is_decimal_length, time_length};
@@ -91,6 +92,20 @@ fn units_in(scale: u8, bytes: &[u8]) -> u64
     }
 }
 
+// The units of a time of day that comes before `more` bytes. The fault is `Length` if that is not what these are.
+#[inline(always)]
+fn units_before(more: usize, scale: u8, bytes: &[u8]) -> Result<u64, ValueFault>
+    requires { more ≤ 5 }
+    ensures units { IfOk result (λ units. units ≡ little_number (time_length_of scale) bytes.now) }
+    ensures whole { IfOk result (λ _. length bytes.now ≡ time_length_of scale + more) }
+    ensures other { IfErr result (λ fault. (fault ≡ ValueFault.Length) × (length bytes.now ≢ time_length_of scale + more)) }
+{
+    if bytes.len() != time_length(scale) as usize + more {
+        return Err(ValueFault::Length);
+    }
+    Ok(units_in(scale, bytes))
+}
+
 // A time of day.
 #[inline(always)]
 fn write_time(scale: u8, bytes: &[u8], to: &mut [u8]) -> Result<usize, ValueFault>
@@ -98,11 +113,7 @@ fn write_time(scale: u8, bytes: &[u8], to: &mut [u8]) -> Result<usize, ValueFaul
     requires room { TEXT_ROOM ≤ length to.old }
     ensures { IsWritten (read_of (Kind.Time scale) bytes.now) result to.new }
 {
-    let t = time_length(scale) as usize;
-    if bytes.len() != t {
-        return Err(ValueFault::Length);
-    }
-    let units = units_in(scale, bytes);
+    let units = units_before(0, scale, bytes)?;
     let seconds = seconds_in(scale, units);
     if seconds >= SECONDS_A_DAY {
         return Err(ValueFault::Value);
@@ -127,12 +138,8 @@ fn write_date_time2(scale: u8, bytes: &[u8], to: &mut [u8]) -> Result<usize, Val
     requires room { TEXT_ROOM ≤ length to.old }
     ensures { IsWritten (read_of (Kind.DateTime2 scale) bytes.now) result to.new }
 {
-    let t = time_length(scale) as usize;
-    if bytes.len() != t + 3 {
-        return Err(ValueFault::Length);
-    }
-    let units = units_in(scale, bytes);
-    let day = day_at(t, bytes);
+    let units = units_before(3, scale, bytes)?;
+    let day = day_at(time_length(scale) as usize, bytes);
     let seconds = seconds_in(scale, units);
     if seconds >= SECONDS_A_DAY || day > LAST_DAY {
         return Err(ValueFault::Value);
@@ -180,11 +187,8 @@ fn write_date_time_offset(scale: u8, bytes: &[u8], to: &mut [u8]) -> Result<usiz
     requires room { TEXT_ROOM ≤ length to.old }
     ensures { IsWritten (read_of (Kind.DateTimeOffset scale) bytes.now) result to.new }
 {
+    let units = units_before(5, scale, bytes)?;
     let t = time_length(scale) as usize;
-    if bytes.len() != t + 5 {
-        return Err(ValueFault::Length);
-    }
-    let units = units_in(scale, bytes);
     write_local(scale, units, day_at(t, bytes), offset_at(t + 3, bytes), to)
 }
 

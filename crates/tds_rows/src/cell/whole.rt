@@ -67,22 +67,25 @@ fn write_short(content: Content, bytes: &[u8], to: &mut [u8]) -> Option<Written>
     Some(Written { used, made })
 }
 
-// Writes the field of the scalar cell at the front of these bytes as `write_cell` does. `None` for a cell in chunks too.
+/// Writes the field of the cell at the front of these bytes. `None` if it isn't whole, is refused or in chunks, or if
+/// there isn't the room that the text of a short value may need. Two bytes of room are left after it.
 #[inline(always)]
-fn write_scalar_cell(
+pub(crate) fn write_cell(
     form: &Form,
     charset: Charset,
     bytes: &[u8],
     to: &mut [u8],
 ) -> Option<Written>
     requires laid { IsLaidOut charset form.now.kind form.now.layout }
-    requires other { (content : Content) → form.now.layout ≡ Layout.Short content → ⊥ }
     requires room { VALUE_ROOM ≤ length to.old }
     ensures used { IfSome result (λ written. written.used ≤ length bytes.now) }
     ensures most { IfSome result (λ written. written.made + 2 ≤ length to.old) }
     ensures whole { IfSome result (λ written. written.used ≡ whole_size form.now.kind bytes.now) }
     ensures field { CellWritten charset form.now.kind bytes.now (length to.old + 1) to.new result }
 {
+    if let Layout::Short(content) = form.layout {
+        return write_short(content, bytes, to);
+    }
     if bytes.is_empty() {
         return None;
     }
@@ -102,28 +105,6 @@ fn write_scalar_cell(
     match write_scalar(&form.kind, &bytes[start..used], to) {
         Ok(made) => Some(Written { used, made }),
         Err(_) => None,
-    }
-}
-
-/// Writes the field of the cell at the front of these bytes. `None` if it isn't whole, is refused or in chunks, or if
-/// there isn't the room that the text of a short value may need. Two bytes of room are left after it.
-#[inline(always)]
-pub(crate) fn write_cell(
-    form: &Form,
-    charset: Charset,
-    bytes: &[u8],
-    to: &mut [u8],
-) -> Option<Written>
-    requires laid { IsLaidOut charset form.now.kind form.now.layout }
-    requires room { VALUE_ROOM ≤ length to.old }
-    ensures used { IfSome result (λ written. written.used ≤ length bytes.now) }
-    ensures most { IfSome result (λ written. written.made + 2 ≤ length to.old) }
-    ensures whole { IfSome result (λ written. written.used ≡ whole_size form.now.kind bytes.now) }
-    ensures field { CellWritten charset form.now.kind bytes.now (length to.old + 1) to.new result }
-{
-    match form.layout {
-        Layout::Short(content) => write_short(content, bytes, to),
-        _ => write_scalar_cell(form, charset, bytes, to),
     }
 }
 

@@ -5,4 +5,4 @@ pub returns-then-seconds-ge-SECONDS_A_DAY : goal.returns-then-seconds-ge-SECONDS
 returns-then-seconds-ge-SECONDS_A_DAY c = grind arith
 
 pub returns : goal.returns
-returns c = grind (arith, (fraction_rest c.args.scale c.units_in-units.result), (time_by_seconds c.args.scale c.units_in-units.result))
+returns c = grind (arith, (fraction_rest c.args.scale c.in_ok-units.units), (time_by_seconds c.args.scale c.in_ok-units.units))
