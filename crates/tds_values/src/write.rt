@@ -25,6 +25,18 @@ use crate::text::{
 };
 use byteorder::{ByteOrder, LittleEndian};
 
+// The fault is `Length` if there aren't `n` bytes.
+#[inline(always)]
+fn check_length(n: usize, bytes: &[u8]) -> Result<(), ValueFault>
+    ensures whole { IfOk result (λ _. length bytes.now ≡ n) }
+    ensures other { IfErr result (λ fault. (fault ≡ ValueFault.Length) × (length bytes.now ≢ n)) }
+{
+    if bytes.len() != n {
+        return Err(ValueFault::Length);
+    }
+    Ok(())
+}
+
 // A whole number in n bytes, in which 1 is unsigned.
 #[inline(always)]
 fn write_integer(n: u8, bytes: &[u8], to: &mut [u8]) -> Result<usize, ValueFault>
@@ -32,9 +44,7 @@ fn write_integer(n: u8, bytes: &[u8], to: &mut [u8]) -> Result<usize, ValueFault
     requires room { INTEGER_ROOM ≤ length to.old }
     ensures { IsWritten (read_of (Kind.IntN n) bytes.now) result to.new }
 {
-    if bytes.len() != n as usize {
-        return Err(ValueFault::Length);
-    }
+    check_length(n as usize, bytes)?;
     Ok(put_integer(to, 0, integer_of(n, bytes)))
 }
 
@@ -44,9 +54,7 @@ fn write_bit(bytes: &[u8], to: &mut [u8]) -> Result<usize, ValueFault>
     requires room { TEXT_ROOM ≤ length to.old }
     ensures { IsWritten (read_of Kind.BitN bytes.now) result to.new }
 {
-    if bytes.len() != 1 {
-        return Err(ValueFault::Length);
-    }
+    check_length(1, bytes)?;
     Ok(put_bit(to, bytes[0] != 0))
 }
 
@@ -57,9 +65,7 @@ fn write_money(n: u8, bytes: &[u8], to: &mut [u8]) -> Result<usize, ValueFault>
     requires room { TEXT_ROOM ≤ length to.old }
     ensures { IsWritten (read_of (Kind.MoneyN n) bytes.now) result to.new }
 {
-    if bytes.len() != n as usize {
-        return Err(ValueFault::Length);
-    }
+    check_length(n as usize, bytes)?;
     Ok(put_money(to, money_of(n, bytes)))
 }
 
@@ -69,9 +75,7 @@ fn write_date(bytes: &[u8], to: &mut [u8]) -> Result<usize, ValueFault>
     requires room { TEXT_ROOM ≤ length to.old }
     ensures { IsWritten (read_of Kind.Date bytes.now) result to.new }
 {
-    if bytes.len() != 3 {
-        return Err(ValueFault::Length);
-    }
+    check_length(3, bytes)?;
     let day = LittleEndian::read_u24(bytes);
     if day > LAST_DAY {
         return Err(ValueFault::Value);
@@ -100,9 +104,7 @@ fn units_before(more: usize, scale: u8, bytes: &[u8]) -> Result<u64, ValueFault>
     ensures whole { IfOk result (λ _. length bytes.now ≡ time_length_of scale + more) }
     ensures other { IfErr result (λ fault. (fault ≡ ValueFault.Length) × (length bytes.now ≢ time_length_of scale + more)) }
 {
-    if bytes.len() != time_length(scale) as usize + more {
-        return Err(ValueFault::Length);
-    }
+    check_length(time_length(scale) as usize + more, bytes)?;
     Ok(units_in(scale, bytes))
 }
 
@@ -223,9 +225,7 @@ fn write_date_time_n(n: u8, bytes: &[u8], to: &mut [u8]) -> Result<usize, ValueF
     requires room { TEXT_ROOM ≤ length to.old }
     ensures { IsWritten (read_of (Kind.DateTimeN n) bytes.now) result to.new }
 {
-    if bytes.len() != n as usize {
-        return Err(ValueFault::Length);
-    }
+    check_length(n as usize, bytes)?;
     if n == 4 {
         return write_small_date_time(
             LittleEndian::read_u16(bytes),
@@ -246,9 +246,7 @@ fn write_guid(bytes: &[u8], to: &mut [u8]) -> Result<usize, ValueFault>
     requires room { TEXT_ROOM ≤ length to.old }
     ensures { IsWritten (read_of Kind.Guid bytes.now) result to.new }
 {
-    if bytes.len() != 16 {
-        return Err(ValueFault::Length);
-    }
+    check_length(16, bytes)?;
     Ok(put_guid(to, bytes))
 }
 
