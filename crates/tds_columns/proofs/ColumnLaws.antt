@@ -1,12 +1,11 @@
 -- What a description's spelling is read as.
+use Rattle.tds_columns.proofs.Words as N
 use Rattle.tds_columns.proofs.{
-  Words.{too_long, add-zero, if◌then◌else◌, ◌≡◌, ℕ, ◌+◌, ◌-◌, ◌*◌, ◌/◌, ◌%◌, ◌<◌, ◌≤◌, List, [], ◌∷◌, ◌++◌, length, refl, ap, append_assoc, append-nil, arith},
-  Words.{length-append, Some, None, ◌==◌, nat_tests, ne_eqb, get_or-append_seam, Kind, little, IsTypeInfo, rest_length, kind_of, Spelt},
-  Words.{Spelt-step, Spelt-append, Spelt-none, Column, SpellsColumn, SpellsColumns, SpellsDescription, ColumnHead, NameCount, DescriptionPart, BeforeCount},
-  Words.{InColumn, WholeDescription, with_column, with_count, with_type, with_units, count_fault, description, choose_false, choose_true},
+  Words.{if◌then◌else◌, ◌≡◌, ℕ, ◌+◌, ◌-◌, ◌*◌, ◌/◌, ◌%◌, ◌<◌, ◌≤◌, List, [], ◌∷◌, ◌++◌, length, refl, ap, arith, length-append, Some, None, ◌==◌, Kind, little},
+  Words.{Spelt, Column, InColumn, description},
 }
 
-pub fits_in : (room so_far least : ℕ) → so_far + least ≤ room → too_long room so_far least ≡ None
+pub fits_in : (room so_far least : ℕ) → so_far + least ≤ room → N.too_long room so_far least ≡ None
 fits_in room so_far least h = grind arith
 
 -- the bytes of a TYPE_INFO: its type byte and the rest
@@ -14,101 +13,100 @@ pub record ByteAndRest (kind : Kind) (info : List ℕ) : Type 0 where
   pub byte : ℕ
   pub rest : List ℕ
   pub spelt : info ≡ byte ∷ rest
-  pub whole : rest_length byte ≡ Some (length rest)
-  pub allowed : kind_of (byte ∷ rest) ≡ Some kind
+  pub whole : N.rest_length byte ≡ Some (length rest)
+  pub allowed : N.kind_of (byte ∷ rest) ≡ Some kind
 
-pub byte_and_rest : (kind : Kind) (info : List ℕ) → IsTypeInfo kind info → ByteAndRest kind info
+pub byte_and_rest : (kind : Kind) (info : List ℕ) → N.IsTypeInfo kind info → ByteAndRest kind info
 byte_and_rest kind info h = grind arith
 
-length-SpellsColumn : (c : Column) (bytes : List ℕ) (h : SpellsColumn c bytes) → length bytes ≡ (6 + length h.info) + (1 + length c.name)
+length-SpellsColumn : (c : Column) (bytes : List ℕ) (h : N.SpellsColumn c bytes) → length bytes ≡ (6 + length h.info) + (1 + length c.name)
 length-SpellsColumn c bytes h = rw h.spelt (simp length-append (omega arith))
 
 -- a column takes at least 8 bytes
-least-SpellsColumns : (cs : List Column) (bytes : List ℕ) → SpellsColumns cs bytes → 8 * length cs ≤ length bytes
+least-SpellsColumns : (cs : List Column) (bytes : List ℕ) → N.SpellsColumns cs bytes → 8 * length cs ≤ length bytes
 least-SpellsColumns [] bytes h = omega arith
 least-SpellsColumns (c ∷ cs) bytes h = grind (arith, length-append, (least-SpellsColumns cs h.1 h.4))
 
 -- a description after the last of these columns
-abbrev pub after_columns : List ℕ → ℕ → List Column → DescriptionPart
-after_columns bytes count columns = if length columns == count then WholeDescription bytes columns else InColumn bytes count columns ColumnHead
+abbrev pub after_columns : List ℕ → ℕ → List Column → N.DescriptionPart
+after_columns bytes count columns = if length columns == count then N.WholeDescription bytes columns else InColumn bytes count columns N.ColumnHead
 
 -- a further column comes
 pub at_column : (bytes : List ℕ) (count : ℕ) (columns : List Column) → length columns < count
-    → after_columns bytes count columns ≡ InColumn bytes count columns ColumnHead
-at_column bytes count columns more = choose_false _ _ _ (ne_eqb _ count (λ e. omega arith))
+    → after_columns bytes count columns ≡ InColumn bytes count columns N.ColumnHead
+at_column bytes count columns more = N.choose_false _ _ _ (N.ne_eqb _ count (λ e. omega arith))
 
 -- a Count of columns that fit
-count_free : (room n : ℕ) (bytes : List ℕ) → 0 < n → n < 65535 → 2 + 8 * n ≤ room → (count_fault room n ≡ None)
-    × (with_count bytes n ≡ after_columns bytes n [])
+count_free : (room n : ℕ) (bytes : List ℕ) → 0 < n → n < 65535 → 2 + 8 * n ≤ room → (N.count_fault room n ≡ None)
+    × (N.with_count bytes n ≡ after_columns bytes n [])
 count_free room n bytes some most fits = grind arith
 
 module _ (room : ℕ) where
   module _ (b : List ℕ) (count : ℕ) (cols : List Column) where
     -- up to the name's count
-    head_is_read : (ignored : List ℕ) (byte n : ℕ) → length ignored ≡ 6 → rest_length byte ≡ Some n
+    head_is_read : (ignored : List ℕ) (byte n : ℕ) → length ignored ≡ 6 → N.rest_length byte ≡ Some n
         → ((length b + 7) + ((n + 1) + 8 * (count - (length cols + 1)))) ≤ room
-        → Spelt (description room) (InColumn b count cols ColumnHead) (ignored ++ byte ∷ [])
-        (with_type (b ++ (ignored ++ byte ∷ [])) count cols byte n)
-    head_is_read ignored byte n six rest fits = grind (arith, Spelt-step, get_or-append_seam, length-append)
+        → Spelt (description room) (InColumn b count cols N.ColumnHead) (ignored ++ byte ∷ [])
+        (N.with_type (b ++ (ignored ++ byte ∷ [])) count cols byte n)
+    head_is_read ignored byte n six rest fits = grind (arith, N.Spelt-step, N.get_or-append_seam, length-append)
 
-    info_is_read : (byte : ℕ) (rest : List ℕ) (kind : Kind) → rest_length byte ≡ Some (length rest) → kind_of (byte ∷ rest) ≡ Some kind
-        → Spelt (description room) (with_type b count cols byte (length rest)) rest (InColumn (b ++ rest) count cols (NameCount kind))
-    info_is_read byte [] kind n k = grind (arith, Spelt-none, append-nil)
-    info_is_read byte (x ∷ xs) kind n k = grind (arith, Spelt-step, choose_false)
+    info_is_read : (byte : ℕ) (rest : List ℕ) (kind : Kind) → N.rest_length byte ≡ Some (length rest) → N.kind_of (byte ∷ rest) ≡ Some kind
+        → Spelt (description room) (N.with_type b count cols byte (length rest)) rest (InColumn (b ++ rest) count cols (N.NameCount kind))
+    info_is_read byte [] kind n k = grind (arith, N.Spelt-none, N.append-nil)
+    info_is_read byte (x ∷ xs) kind n k = grind (arith, N.Spelt-step, N.choose_false)
 
     units_are_read : (kind : Kind) (units : ℕ) → (length b + 1) + (2 * units + 8 * (count - (length cols + 1))) ≤ room
-        → Spelt (description room) (InColumn b count cols (NameCount kind)) (units ∷ []) (with_units (b ++ units ∷ []) count cols kind units)
-    units_are_read kind units fits = grind (arith, Spelt-step)
+        → Spelt (description room) (InColumn b count cols (N.NameCount kind)) (units ∷ []) (N.with_units (b ++ units ∷ []) count cols kind units)
+    units_are_read kind units fits = grind (arith, N.Spelt-step)
 
     name_is_read : (kind : Kind) (units : ℕ) (name : List ℕ) → length name ≡ 2 * units
-        → Spelt (description room) (with_units b count cols kind units) name
-        (with_column (b ++ name) count cols (record { kind = kind; name = name }))
-    name_is_read kind units [] l = grind (arith, Spelt-none, append-nil, choose_true)
-    name_is_read kind units (x ∷ xs) l = grind (arith, Spelt-step, choose_false, ne_eqb)
+        → Spelt (description room) (N.with_units b count cols kind units) name
+        (N.with_column (b ++ name) count cols (record { kind = kind; name = name }))
+    name_is_read kind units [] l = grind (arith, N.Spelt-none, N.append-nil, N.choose_true)
+    name_is_read kind units (x ∷ xs) l = grind (arith, N.Spelt-step, N.choose_false, N.ne_eqb)
 
   -- what spells a column is read as it
   column_is_read : (b : List ℕ) (count : ℕ) (cols : List Column) (c : Column) (bytes : List ℕ)
-      → (length b + length bytes) + 8 * (count - (length cols + 1)) ≤ room → SpellsColumn c bytes
-      → Spelt (description room) (InColumn b count cols ColumnHead) bytes (with_column (b ++ bytes) count cols c)
+      → (length b + length bytes) + 8 * (count - (length cols + 1)) ≤ room → N.SpellsColumn c bytes
+      → Spelt (description room) (InColumn b count cols N.ColumnHead) bytes (N.with_column (b ++ bytes) count cols c)
   column_is_read b count cols c bytes fits h =
       let type = byte_and_rest c.kind h.info h.kind in
       let head = h.ignored ++ type.byte ∷ [] in
       let li : length h.info ≡ 1 + length type.rest = omega (arith, ap length type.spelt) in
       let l = length-SpellsColumn c bytes h in
       let l2 : length ((b ++ head) ++ type.rest) ≡ length b + (7 + length type.rest) = simp length-append (omega (arith, h.six)) in
-      let one = head_is_read b count cols h.ignored type.byte _ h.six type.whole (omega (arith, l, li, fits)) in
-      let two = info_is_read (b ++ head) count cols type.byte type.rest c.kind type.whole type.allowed in
-      let three = units_are_read _ count cols c.kind h.units (omega (arith, l, li, l2, h.counted, fits)) in
-      let four = name_is_read _ count cols c.kind h.units c.name h.counted in
-      let all = simp append_assoc at (Spelt-append (description room) _ _ _ _ _ one
-      (Spelt-append (description room) _ _ _ _ _ two (Spelt-append (description room) _ _ _ _ _ three four))) in
-      rw (h.spelt, type.spelt) (simp append_assoc all)
+      let all = simp N.append_assoc at (N.Spelt-append (description room) _ _ _ _ _ (head_is_read b count cols h.ignored type.byte _ h.six type.whole (omega
+      (arith, l, li, fits)))
+      (N.Spelt-append (description room) _ _ _ _ _ (info_is_read (b ++ head) count cols type.byte type.rest c.kind type.whole type.allowed) (N.Spelt-append
+      (description room) _ _ _ _ _ (units_are_read _ count cols c.kind h.units (omega (arith, l, li, l2, h.counted, fits)))
+      (name_is_read _ count cols c.kind h.units c.name h.counted)))) in
+      rw (h.spelt, type.spelt) (simp N.append_assoc all)
 
   all_are_read : (b : List ℕ) (count : ℕ) (cols cs : List Column) (bytes : List ℕ) → count ≡ length cols + length cs → length b + length bytes ≤ room
-      → SpellsColumns cs bytes → Spelt (description room) (after_columns b count cols) bytes (WholeDescription (b ++ bytes) (cols ++ cs))
-  all_are_read b count cols [] bytes n fits h = rw (h, append-nil, append-nil, n, add-zero) (grind (arith, Spelt-none, choose_true, nat_tests))
+      → N.SpellsColumns cs bytes → Spelt (description room) (after_columns b count cols) bytes (N.WholeDescription (b ++ bytes) (cols ++ cs))
+  all_are_read b count cols [] bytes n fits h = rw (h, N.append-nil, N.append-nil, n, N.add-zero) (grind (arith, N.Spelt-none, N.choose_true, N.nat_tests))
   all_are_read b count cols (c ∷ cs) bytes n fits h =
       let la : length bytes ≡ length h.0 + length h.1 = rw (h.2, length-append) in
-      let one = column_is_read b count cols c h.0 (omega (arith, la, least-SpellsColumns cs h.1 h.4, n, fits)) h.3 in
       let more = rw length-append at (all_are_read (b ++ h.0) count (cols ++ c ∷ []) cs h.1 (simp length-append (omega (arith, n)))
       (simp length-append (omega (arith, la, fits))) h.4) in
-      rw (at_column b count cols (omega (arith, n)), h.2) (simp append_assoc at (Spelt-append (description room) _ _ _ _ _ one more))
+      rw (at_column b count cols (omega (arith, n)), h.2) (simp N.append_assoc at (N.Spelt-append (description room) _ _ _ _ _
+      (column_is_read b count cols c h.0 (omega (arith, la, least-SpellsColumns cs h.1 h.4, n, fits)) h.3) more))
 
   pub columns_are_read : (b : List ℕ) (count : ℕ) (cols : List Column) (c : Column) (cs : List Column) (bytes : List ℕ)
-      → count ≡ length cols + (1 + length cs) → length b + length bytes ≤ room → SpellsColumns (c ∷ cs) bytes
-      → Spelt (description room) (InColumn b count cols ColumnHead) bytes (WholeDescription (b ++ bytes) (cols ++ c ∷ cs))
+      → count ≡ length cols + (1 + length cs) → length b + length bytes ≤ room → N.SpellsColumns (c ∷ cs) bytes
+      → Spelt (description room) (InColumn b count cols N.ColumnHead) bytes (N.WholeDescription (b ++ bytes) (cols ++ c ∷ cs))
   columns_are_read b count cols c cs bytes n fits h =
       rw (at_column b count cols (omega (arith, n))) at (all_are_read b count cols (c ∷ cs) bytes (omega (arith, n)) fits h)
 
   -- What spells a description is read as it.
-  pub description_is_read : (cs : List Column) (bytes : List ℕ) → SpellsDescription room cs bytes
-      → Spelt (description room) BeforeCount bytes (WholeDescription bytes cs)
+  pub description_is_read : (cs : List Column) (bytes : List ℕ) → N.SpellsDescription room cs bytes
+      → Spelt (description room) N.BeforeCount bytes (N.WholeDescription bytes cs)
   description_is_read cs bytes h =
       let n = length cs in
       let count = n % 256 ∷ n / 256 ∷ [] in
       let two : little count ≡ n = omega arith in
       let la : length bytes ≡ 2 + length h.rest = rw h.spelt (omega arith) in
       let free = count_free room n count h.some h.most (omega (arith, la, h.within, least-SpellsColumns cs h.rest h.each)) in
-      let one = Spelt-step (description room) BeforeCount count (after_columns count n []) (omega arith) refl (rw two free.0) (rw two free.1) in
-      rw h.spelt (Spelt-append (description room) _ _ _ _ _ one
+      rw h.spelt (N.Spelt-append (description room) _ _ _ _ _ (N.Spelt-step (description room) N.BeforeCount count (after_columns count n [])
+      (omega arith) refl (rw two free.0) (rw two free.1))
       (all_are_read count n [] cs h.rest (omega arith) (omega (arith, la, h.within)) h.each))

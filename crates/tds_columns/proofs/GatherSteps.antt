@@ -1,26 +1,25 @@
 -- The elements of a description, as they are read into its area.
+use Rattle.tds_columns.proofs.Words as N
 use Rattle.tds_columns.proofs.{
-  Words.{BeforeCount, count_fault, with_count, holding, ◌≡◌, ◌≢◌, ◌∙◌, ℕ, ◌+◌, ◌<◌, ◌≤◌, List, [], length, take, refl, sym, ap, arith, le_refl, length-append},
-  Words.{Some, None, Option, Result, Ok, Err, MatchResult, is_ok, if◌then◌else◌, little_number, little, Kind, bare_type, Space, Fault, MessageEnded, Payload},
-  Words.{Stop, IsNext, Seen, choose, eq_true, is_some_value, reads_both, stops_after, Column, NameUnits, DescriptionPart, InColumn, add_described, description},
-  Words.{description_bytes, described_end, described_fault, described_size, span, with_column, TakesInto, EndsInto, Describes, StopsDescribing},
+  Words.{◌≡◌, ◌≢◌, ◌∙◌, ℕ, ◌+◌, ◌<◌, ◌≤◌, List, [], length, take, refl, sym, ap, arith, Some, None, Option, Result, Ok, Err, if◌then◌else◌, Space, Stop, Seen},
+  Words.{Column, DescriptionPart, span, Describes},
   ElementSteps.{cut_into, reads_into, refused_into, shrunk},
 }
 
 -- a state that something follows
-open_state : (s : DescriptionPart) (n : ℕ) → described_size s ≡ n → 0 < n → (described_end s ≡ Some MessageEnded)
-    × (span s ≡ length (description_bytes s) + n)
+open_state : (s : DescriptionPart) (n : ℕ) → N.described_size s ≡ n → 0 < n → (N.described_end s ≡ Some N.MessageEnded)
+    × (span s ≡ length (N.description_bytes s) + n)
 open_state s n size some = grind arith
 
 -- the bytes of an element are within what it leads to
-spans : (room : ℕ) (s : DescriptionPart) (e : List ℕ) → IsNext (description room) s e
-    → length (description_bytes s) + length e ≤ span (add_described s e)
-spans room s e n = grind (arith, bare_type, choose, eq_true, is_some_value, length-append)
+spans : (room : ℕ) (s : DescriptionPart) (e : List ℕ) → N.IsNext (N.description room) s e
+    → length (N.description_bytes s) + length e ≤ span (N.add_described s e)
+spans room s e n = grind (arith, N.bare_type, N.choose, N.eq_true, N.is_some_value, N.length-append)
 
 module _ {room : ℕ} {s : DescriptionPart} {a b : Seen} {before after : Space} where
   -- the next element is cut
-  pub description_cut : {place n : ℕ} {stop : Stop} → EndsInto a b before after place n stop → described_size s ≡ n
-      → before.bytes ≡ description_bytes s → StopsDescribing room s a b place before.peak after stop
+  pub description_cut : {place n : ℕ} {stop : Stop} → N.EndsInto a b before after place n stop → N.described_size s ≡ n
+      → before.bytes ≡ N.description_bytes s → N.StopsDescribing room s a b place before.peak after stop
   description_cut {n = n} e size kept =
       let o = open_state s n size (omega arith) in
       record {
@@ -29,18 +28,16 @@ module _ {room : ℕ} {s : DescriptionPart} {a b : Seen} {before after : Space} 
         kept = e.stands
             ∙ kept;
         bound = omega (arith, ap length kept);
-        further = le_refl (span s);
+        further = N.le_refl (span s);
       }
 
   -- the next element is read whole, without a fault
-  pub description_read : {kept : Space} {place place' n : ℕ} {to : DescriptionPart} (t : TakesInto a b before after n) → 0 < n → described_size s ≡ n
-      → described_fault room s t.element ≡ None → add_described s t.element ≡ to → place' ≡ place + n
-      → before.bytes ≡ description_bytes s → kept.peak ≡ after.peak → kept.bytes ≡ description_bytes to
+  pub description_read : {kept : Space} {place place' n : ℕ} {to : DescriptionPart} (t : N.TakesInto a b before after n) → 0 < n → N.described_size s ≡ n
+      → N.described_fault room s t.element ≡ None → N.add_described s t.element ≡ to → place' ≡ place + n
+      → before.bytes ≡ N.description_bytes s → kept.peak ≡ after.peak → kept.bytes ≡ N.description_bytes to
       → Describes room s a b place place' before.peak kept to
   description_read {n = n} t some size free leads at had peak bytes =
-      let l = spans room s t.element (record { some = omega (arith, t.whole, some); whole = t.whole ∙ sym size; free = free }) in
-      let o = open_state s n size some in
-      let within = rw (leads, t.whole) at l in
+      let within = rw (leads, t.whole) at (spans room s t.element (record { some = omega (arith, t.whole, some); whole = t.whole ∙ sym size; free = free })) in
       record {
         reads = reads_into t some size free leads;
         place_is = rw t.whole at;
@@ -48,15 +45,15 @@ module _ {room : ℕ} {s : DescriptionPart} {a b : Seen} {before after : Space} 
         bound = rw (
           peak,
           t.stands,
-        ) (omega (arith, length-append before.bytes t.element, t.whole, within, ap length had));
-        further = omega (arith, within, o.1);
+        ) (omega (arith, N.length-append before.bytes t.element, t.whole, within, ap length had));
+        further = omega (arith, within, (open_state s n size some).1);
       }
 
   -- the next element is read whole, and refused
-  pub description_refused : {cut : Space} {place n start : ℕ} {fault : Fault} (t : TakesInto a b before after n) → 0 < n → described_size s ≡ n
-      → described_fault room s t.element ≡ Some fault → before.bytes ≡ description_bytes s → start ≡ length before.bytes
-      → cut ≡ holding after (take start after.bytes)
-      → StopsDescribing room s a b place before.peak cut (record { fault = fault; place = Payload place })
+  pub description_refused : {cut : Space} {place n start : ℕ} {fault : N.Fault} (t : N.TakesInto a b before after n) → 0 < n → N.described_size s ≡ n
+      → N.described_fault room s t.element ≡ Some fault → before.bytes ≡ N.description_bytes s → start ≡ length before.bytes
+      → cut ≡ N.holding after (take start after.bytes)
+      → N.StopsDescribing room s a b place before.peak cut (record { fault = fault; place = N.Payload place })
   description_refused {n = n} t some size first kept at is =
       let cut = shrunk before t.element t.stands t.whole at is in
       record {
@@ -65,7 +62,7 @@ module _ {room : ℕ} {s : DescriptionPart} {a b : Seen} {before after : Space} 
         kept = cut.0
             ∙ kept;
         bound = omega (arith, (open_state s n size some).1, ap length kept);
-        further = le_refl (span s);
+        further = N.le_refl (span s);
       }
 
 module _ {room : ℕ} {s t : DescriptionPart} {a b c : Seen} {p q k : ℕ} {middle after : Space} where
@@ -73,11 +70,11 @@ module _ {room : ℕ} {s t : DescriptionPart} {a b c : Seen} {p q k : ℕ} {midd
       → Describes room' t b c q r middle.peak after u → Describes room s a c p r k after u
   describes_both {u = u} same x z = let y = rw same at z in
       record {
-        reads = reads_both (description room) s t u a b c x.reads y.reads;
+        reads = N.reads_both (N.description room) s t u a b c x.reads y.reads;
         place_is = omega (
           arith,
           y.place_is,
-          length-append x.reads.bytes y.reads.bytes,
+          N.length-append x.reads.bytes y.reads.bytes,
         );
         kept = y.kept;
         bound = omega (arith, x.bound);
@@ -88,11 +85,11 @@ module _ {room : ℕ} {s t : DescriptionPart} {a b c : Seen} {p q k : ℕ} {midd
       }
 
   pub stops_describing_after : {room' : ℕ} {stop : Stop} → room' ≡ room → Describes room s a b p q k middle t
-      → StopsDescribing room' t b c q middle.peak after stop → StopsDescribing room s a c p k after stop
+      → N.StopsDescribing room' t b c q middle.peak after stop → N.StopsDescribing room s a c p k after stop
   stops_describing_after {stop = stop} same x z = let y = rw same at z in
       record {
         at = y.at;
-        stops = stops_after (description room) s t a b c p y.at stop x.reads (rw (← x.place_is) y.stops);
+        stops = N.stops_after (N.description room) s t a b c p y.at stop x.reads (rw (← x.place_is) y.stops);
         kept = y.kept;
         bound = omega arith;
         further = omega arith;
@@ -101,25 +98,25 @@ module _ {room : ℕ} {s t : DescriptionPart} {a b c : Seen} {p q k : ℕ} {midd
 -- what a call reads from there on is read after the first part
 pub part_after : {U X : Type 0} (r : Result U Stop) (to : X → DescriptionPart) (c : Seen) (z : ℕ) (after : Space) {room : ℕ} {s t : DescriptionPart}
     {a b : Seen} {p q k : ℕ} {middle : Space} → middle.room ≡ room → Describes room s a b p q k middle t
-    → MatchResult r (λ _. (x : X) × Describes middle.room t b c q z middle.peak after (to x))
-    (λ stop. StopsDescribing middle.room t b c q middle.peak after stop)
-    → MatchResult r (λ _. (x : X) × Describes room s a c p z k after (to x)) (λ stop. StopsDescribing room s a c p k after stop)
+    → N.MatchResult r (λ _. (x : X) × Describes middle.room t b c q z middle.peak after (to x))
+    (λ stop. N.StopsDescribing middle.room t b c q middle.peak after stop)
+    → N.MatchResult r (λ _. (x : X) × Describes room s a c p z k after (to x)) (λ stop. N.StopsDescribing room s a c p k after stop)
 part_after (Ok _) to c z after same first h = (h.0, describes_both same first h.1)
 part_after (Err stop) to c z after same first h = stops_describing_after same first h
 
 -- a column that is whole adds no bytes
 pub column_bytes : (bytes : List ℕ) (count : ℕ) (columns : List Column) (column : Column)
-    → bytes ≡ description_bytes (with_column bytes count columns column)
+    → bytes ≡ N.description_bytes (N.with_column bytes count columns column)
 column_bytes bytes count columns column = grind arith
 
 -- the name after its count is read, or is cut
 pub name_after : {U : Type 0} (r : Result U Stop) (c : Seen) (after : Space) (place'' : ℕ) (stopped : Option Stop) {room count n : ℕ}
-    {columns : List Column} {kind : Kind} {s : DescriptionPart} {a b : Seen} {place place' peak : ℕ} {middle : Space}
-    → Describes room s a b place place' peak middle (InColumn middle.bytes count columns (NameUnits kind n)) → n ≢ 0 → stopped ≡ None
-    → place'' ≡ (if is_ok r then place' + n else place')
-    → MatchResult r (λ _. TakesInto b c middle after n) (λ stop. stopped ≡ None → EndsInto b c middle after place' n stop)
-    → MatchResult r (λ _. (column : Column) × Describes room s a c place place'' peak after (with_column after.bytes count columns column))
-    (λ stop. StopsDescribing room s a c place peak after stop)
+    {columns : List Column} {kind : N.Kind} {s : DescriptionPart} {a b : Seen} {place place' peak : ℕ} {middle : Space}
+    → Describes room s a b place place' peak middle (N.InColumn middle.bytes count columns (N.NameUnits kind n)) → n ≢ 0 → stopped ≡ None
+    → place'' ≡ (if N.is_ok r then place' + n else place')
+    → N.MatchResult r (λ _. N.TakesInto b c middle after n) (λ stop. stopped ≡ None → N.EndsInto b c middle after place' n stop)
+    → N.MatchResult r (λ _. (column : Column) × Describes room s a c place place'' peak after (N.with_column after.bytes count columns column))
+    (λ stop. N.StopsDescribing room s a c place peak after stop)
 name_after (Ok _) c after place'' stopped {kind = kind} first some going at u = (
   record { kind = kind; name = u.element },
   describes_both refl first (description_read u (omega (arith, some)) refl refl (rw u.stands) at refl refl (column_bytes _ _ _ _)),
@@ -127,17 +124,17 @@ name_after (Ok _) c after place'' stopped {kind = kind} first some going at u = 
 name_after (Err stop) c after place'' stopped first some going at e = stops_describing_after refl first (description_cut (e going) refl refl)
 
 -- the element is all that the area has
-count_is : {a b : Seen} {before after : Space} (t : TakesInto a b before after 2) → before.bytes ≡ [] → (after.bytes ≡ t.element)
-    × (little t.element ≡ little_number 2 after.bytes)
+count_is : {a b : Seen} {before after : Space} (t : N.TakesInto a b before after 2) → before.bytes ≡ [] → (after.bytes ≡ t.element)
+    × (N.little t.element ≡ N.little_number 2 after.bytes)
 count_is {after = after} t none = let same : after.bytes ≡ t.element = rw (t.stands, none) in (same, rw (same, t.whole))
 
-module _ {room count : ℕ} {a b : Seen} {before after kept : Space} {place : ℕ} (t : TakesInto a b before after 2) (none : before.bytes ≡ [])
-    (number : count ≡ little_number 2 after.bytes) where
-  pub count_read : {place' : ℕ} {to : DescriptionPart} → count_fault room count ≡ None → with_count after.bytes count ≡ to → place' ≡ place + 2
-      → kept.peak ≡ after.peak → kept.bytes ≡ description_bytes to → Describes room BeforeCount a b place place' before.peak kept to
+module _ {room count : ℕ} {a b : Seen} {before after kept : Space} {place : ℕ} (t : N.TakesInto a b before after 2) (none : before.bytes ≡ [])
+    (number : count ≡ N.little_number 2 after.bytes) where
+  pub count_read : {place' : ℕ} {to : DescriptionPart} → N.count_fault room count ≡ None → N.with_count after.bytes count ≡ to → place' ≡ place + 2
+      → kept.peak ≡ after.peak → kept.bytes ≡ N.description_bytes to → Describes room N.BeforeCount a b place place' before.peak kept to
   count_read free leads at peak bytes = description_read t (omega arith) refl (rw ((count_is t none).1, ← number) free)
       (rw ((count_is t none).1, ← number, ← (count_is t none).0) leads) at none peak bytes
 
-  pub count_refused : {fault : Fault} → count_fault room count ≡ Some fault → kept ≡ holding after []
-      → StopsDescribing room BeforeCount a b place before.peak kept (record { fault = fault; place = Payload place })
+  pub count_refused : {fault : N.Fault} → N.count_fault room count ≡ Some fault → kept ≡ N.holding after []
+      → N.StopsDescribing room N.BeforeCount a b place before.peak kept (record { fault = fault; place = N.Payload place })
   count_refused why clear = description_refused {start = 0} t (omega arith) refl (rw ((count_is t none).1, ← number) why) none (rw none) clear

@@ -141,21 +141,20 @@ fn read_info<R: Read>(
 }
 
 // Reads the head of a column and what follows its type byte.
-fn read_type<R: Read>(payload: &mut Payload<R>, area: &mut Area, column: Nth) -> Result<(), Stop>
+fn read_type<R: Read>(payload: &mut Payload<R>, area: &mut Area, at: Nth) -> Result<(), Stop>
     requires going { IsGoing payload.old }
-    requires among { column.index < column.count }
-    requires fits { length area.old.bytes + LEAST_COLUMN * (column.count - column.index) ≤ area.old.room }
+    requires among { at.index < at.count }
+    requires fits { length area.old.bytes + LEAST_COLUMN * (at.count - at.index) ≤ area.old.room }
     ensures leaves { LeavesReading payload.old payload.new area.old area.new result }
-    ensures fits { OnOk result
-        (length area.new.bytes + 1 + LEAST_COLUMN * (column.count - (column.index + 1)) ≤ area.new.room) }
-    ensures gives { TypeRead R.remaining payload.old payload.new area.old area.new result column.count column.index }
+    ensures fits { OnOk result (length area.new.bytes + 1 + LEAST_COLUMN * (at.count - (at.index + 1)) ≤ area.new.room) }
+    ensures gives { TypeRead R.remaining payload.old payload.new area.old area.new result at.count at.index }
 {
     let place = payload.place();
     let start = area.len();
     take_into(payload, area, HEAD)?;
     let byte = area.bytes()[start + 6];
-    let left = column.count - (column.index + 1);
-    let rest = match judge_head(area.room(), start + HEAD, byte, column.index, left) {
+    let left = at.count - (at.index + 1);
+    let rest = match judge_head(area.room(), start + HEAD, byte, at.index, left) {
         Ok(rest) => rest,
         Err(fault) => {
             area.truncate(start);
@@ -165,24 +164,23 @@ fn read_type<R: Read>(payload: &mut Payload<R>, area: &mut Area, column: Nth) ->
     if rest == 0 {
         return Ok(());
     }
-    read_info(payload, area, byte, rest, column.index)
+    read_info(payload, area, byte, rest, at.index)
 }
 
 // Reads the name of a column, and the count of its units before it.
-fn read_name<R: Read>(payload: &mut Payload<R>, area: &mut Area, column: Nth) -> Result<(), Stop>
+fn read_name<R: Read>(payload: &mut Payload<R>, area: &mut Area, at: Nth) -> Result<(), Stop>
     requires going { IsGoing payload.old }
-    requires among { column.index < column.count }
-    requires fits { length area.old.bytes + 1 + LEAST_COLUMN * (column.count - (column.index + 1)) ≤ area.old.room }
+    requires among { at.index < at.count }
+    requires fits { length area.old.bytes + 1 + LEAST_COLUMN * (at.count - (at.index + 1)) ≤ area.old.room }
     ensures leaves { LeavesReading payload.old payload.new area.old area.new result }
-    ensures fits { OnOk result
-        (length area.new.bytes + LEAST_COLUMN * (column.count - (column.index + 1)) ≤ area.new.room) }
-    ensures gives { NameRead R.remaining payload.old payload.new area.old area.new result column.count column.index }
+    ensures fits { OnOk result (length area.new.bytes + LEAST_COLUMN * (at.count - (at.index + 1)) ≤ area.new.room) }
+    ensures gives { NameRead R.remaining payload.old payload.new area.old area.new result at.count at.index }
 {
     let place = payload.place();
     let start = area.len();
     take_into(payload, area, 1)?;
     let size = 2 * usize::from(area.bytes()[start]);
-    let later = LEAST_COLUMN * usize::from(column.count - (column.index + 1));
+    let later = LEAST_COLUMN * usize::from(at.count - (at.index + 1));
     if let Some(fault) = too_long(area.room(), start + 1, size + later) {
         area.truncate(start);
         return Err(Stop::in_payload(fault, place));
@@ -194,17 +192,16 @@ fn read_name<R: Read>(payload: &mut Payload<R>, area: &mut Area, column: Nth) ->
 }
 
 // Reads a column.
-fn read_column<R: Read>(payload: &mut Payload<R>, area: &mut Area, column: Nth) -> Result<(), Stop>
+fn read_column<R: Read>(payload: &mut Payload<R>, area: &mut Area, at: Nth) -> Result<(), Stop>
     requires going { IsGoing payload.old }
-    requires among { column.index < column.count }
-    requires fits { length area.old.bytes + LEAST_COLUMN * (column.count - column.index) ≤ area.old.room }
+    requires among { at.index < at.count }
+    requires fits { length area.old.bytes + LEAST_COLUMN * (at.count - at.index) ≤ area.old.room }
     ensures leaves { LeavesReading payload.old payload.new area.old area.new result }
-    ensures fits { OnOk result
-        (length area.new.bytes + LEAST_COLUMN * (column.count - (column.index + 1)) ≤ area.new.room) }
-    ensures gives { ColumnRead R.remaining payload.old payload.new area.old area.new result column.count column.index }
+    ensures fits { OnOk result (length area.new.bytes + LEAST_COLUMN * (at.count - (at.index + 1)) ≤ area.new.room) }
+    ensures gives { ColumnRead R.remaining payload.old payload.new area.old area.new result at.count at.index }
 {
-    read_type(payload, area, column)?;
-    read_name(payload, area, column)
+    read_type(payload, area, at)?;
+    read_name(payload, area, at)
 }
 
 // Reads all columns after Count.

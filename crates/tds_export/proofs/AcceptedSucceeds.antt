@@ -13,7 +13,7 @@ abbrev pub BeginsWith : List Packet → List Packet → Type 0
 BeginsWith packets front = (tail : List Packet) × (front ++ tail ≡ packets)
 
 begins_more : (front : List Packet) {packets : List Packet} (p : Packet) → BeginsWith packets front → BeginsWith (packets ++ p ∷ []) front
-begins_more front p h = (h.0 ++ p ∷ [], cc (N.append_assoc front h.0 (p ∷ [])))
+begins_more front p h = (h.0 ++ p ∷ [], cc (N.append_assoc _ h.0 _))
 
 pub begins_added : (front : List Packet) {packets : List Packet} (place : N.WirePlace) (element : List ℕ) → BeginsWith packets front
     → BeginsWith (N.wire_add packets place element).packets front
@@ -47,7 +47,7 @@ no_wire_fault {size} {limit} {input} unread {fault} m e f =
     ∙ N.read_to_end _ _ _ _ _ m) (N.told g _ _))).2).1 in
     elim f.first [
       | inl r ↦ omega (arith, ap (λ (w : WirePart). N.wire_size w.place) same)
-      | inr r ↦ no_end f.read.place (cc) r.1
+      | inr r ↦ no_end _ (cc) r.1
     ]
   where
     no_end : (place : N.WirePlace) → place ≡ N.AfterLast → N.wire_end place ≡ Some fault → ⊥

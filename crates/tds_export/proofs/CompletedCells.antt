@@ -202,14 +202,14 @@ RowReached (WholeRow cells) = ⊤
 
 pub marked_valid : (columns : List Column) (nulls : ℕ → Bool) (k : ℕ) → AreValid columns → AreMarkedValid (marked columns nulls k)
 marked_valid [] nulls k h = tt
-marked_valid (c ∷ cs) nulls k (v, h) = (v, marked_valid cs nulls (k + 1) h)
+marked_valid (c ∷ cs) nulls k (v, h) = (v, marked_valid cs nulls _ h)
 
 starts_open : (kind : Kind) (sh : N.Shape) → IsOpenCell (N.cell_start kind sh)
 starts_open kind sh = grind arith
 
 pub next_reached : (cells : List Cell) (ks : List (Column × Bool)) → AreMarkedValid ks → RowReached (next_cell Windows1252 cells ks)
 next_reached cells [] h = tt
-next_reached cells ((k, true) ∷ ks) (v, h) = next_reached (cells ++ Null ∷ []) ks h
+next_reached cells ((k, true) ∷ ks) (v, h) = next_reached _ ks h
 next_reached cells ((k, false) ∷ ks) (v, h) = (starts_open _ _, start_reached _ v, h)
 
 -- Each element keeps what is known.

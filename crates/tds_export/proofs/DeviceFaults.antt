@@ -111,10 +111,10 @@ some_read size limit left q bytes t o = go t.0 t.1.1
   where
     go : (read : List ℕ) → ((zs : List ℕ) → N.whole_message size limit (read ++ zs) ≡ before bytes (q.future zs)) → 0 < length read
     go [] f = absurd (no_message _ _ (cc (o.2 [])) (f []))
-    go (x ∷ read) f = omega arith
+    go _ f = omega arith
 
 pub no_failure : (given : Given) (report : N.Report) → N.Reports given report → (N.FailsToRead given → ⊥) × (N.FailsToWrite given → ⊥)
 no_failure given report x =
-    let moved = some_read (N.limits_of given).packet_size (N.limits_of given).max_wire given.before.reader.bytes x.seen
-    x.completes.whole.bytes x.completes.whole.takes x.completes.whole.over in
+    let moved = some_read (N.limits_of given).packet_size (N.limits_of given).max_wire _ x.seen
+    _ x.completes.whole.takes x.completes.whole.over in
     grind (arith, some_read)

@@ -30,7 +30,7 @@ chars_length (u ∷ v ∷ us) = grind (arith, choose, (chars_length (v ∷ us)),
 
 -- a byte is doubled at most
 byte_doubled : (b : ℕ) → length (N.doubled_byte b) ≤ 2
-byte_doubled b = choose (λ v. length v ≤ 2) (b == quote) (quote ∷ quote ∷ []) (b ∷ []) (λ z. omega arith) (λ z. omega arith)
+byte_doubled b = choose (λ v. length v ≤ 2) (b == quote) _ _ (λ z. omega arith) (λ z. omega arith)
 
 -- so are all bytes
 doubled_most : (bytes : List ℕ) → length (N.doubled bytes) ≤ 2 * length bytes

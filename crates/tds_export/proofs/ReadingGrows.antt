@@ -25,7 +25,7 @@ lead_cases charset P tokens begun same row nbc = grind arith
 token_grows : (tokens : List Token) (t : Token) → Grows (text tokens ++ []) (text_so_far (N.with_token tokens t))
 token_grows tokens t =
     let m = N.text_after (begun_after false tokens) (t ∷ []) in
-    (m, cc (N.append-nil (text tokens), N.append-nil (text tokens ++ m), text_after-snoc false tokens t))
+    (m, cc (N.append-nil (text tokens), N.append-nil (text tokens ++ m), text_after-snoc false _ t))
 
 -- what has just begun has no text
 fresh_text : (at : Open) → IsFresh at → N.open_text at ≡ []

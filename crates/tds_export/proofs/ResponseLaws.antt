@@ -47,11 +47,11 @@ error_is body at long is within e f = grind (arith, N.length-drop, signed_is)
 
 -- what stands after the first n bytes begins with k known ones
 piece : (body : List ℕ) (n k : ℕ) (a b : List ℕ) → drop n body ≡ a ++ b → length a ≡ k → (take k (drop n body) ≡ a) × (drop (n + k) body ≡ b)
-piece body n k a b e l = (rw (e, ← l) (N.take-append_seam a b), sym (N.drop-drop k n body) ∙ rw (e, ← l) (N.drop-append_seam a b))
+piece body n k a b e l = (rw (e, ← l) (N.take-append_seam a b), sym (N.drop-drop k n _) ∙ rw (e, ← l) (N.drop-append_seam a b))
 
 -- the first byte of what stands there
 byte_of : (body : List ℕ) (n x : ℕ) (b : List ℕ) → drop n body ≡ x ∷ b → N.slice_index body n ≡ x
-byte_of body n x b e = ap (N.slice_index body) (omega arith) ∙ sym (N.get_or-drop n body 0 0) ∙ ap (λ v. N.slice_index v 0) e
+byte_of body n x b e = ap (N.slice_index body) (omega arith) ∙ sym (N.get_or-drop n _ 0 0) ∙ ap (λ v. N.slice_index v 0) e
 
 same_notice : {a b c : ℕ} {d : List ℕ} {e : ℕ} {n : Notice} → a ≡ n.number → b ≡ n.state → c ≡ n.class → d ≡ n.message → e ≡ n.line_number
     → ◌≡◌ {A = Notice} (record { number = a; state = b; class = c; message = d; line_number = e }) n
@@ -336,7 +336,7 @@ module _ (charset : N.Charset) (room : ℕ) where
       → Leads (after_tokens tokens) bytes (with_token tokens (N.Row cells))
   row_token_is_read None cells is some h = absurd h
   row_token_is_read {tokens} (Some columns) cells {bytes} is some (rest, inl h) =
-      lead_then N.ARow h.0 (cc) (rw is (spelt_inside (row_agrees tokens) (N.row_is_read _ _ _ _ h.1)))
+      lead_then N.ARow h.0 (cc) (rw is (spelt_inside (row_agrees _) (N.row_is_read _ _ _ _ h.1)))
   row_token_is_read {tokens} (Some columns) cells {bytes} is some (rest, inr h) =
       lead_then N.AnNbcRow h.0 (cc) (rw is (spelt_inside (row_agrees _) (N.nbc_row_is_read _ _ _ _ (omega arith) h.1)))
 

@@ -19,7 +19,7 @@ abbrev pub runs_none : {charset : N.Charset} {u : View} {progress : Progress} �
     → u.area ≡ N.empty u.area.room → N.IsNoted u.notice [] → Runs charset u u progress
 runs_none {u = u} d tracks is noted = record {
   tokens = [];
-  streams = record { bytes = []; spelt = N.Spelt-none _ _; takes = N.Takes-none u.seen 0; puts = ([], refl, N.Puts-none u.held d) };
+  streams = record { bytes = []; spelt = N.Spelt-none _ _; takes = N.Takes-none u.seen 0; puts = ([], refl, N.Puts-none _ d) };
   place_is = omega arith;
   tracks = tracks;
   holds = record { bytes = ap (λ (s : Space). s.bytes) is; peak = omega (arith, ap (λ (s : Space). s.peak) is) };
@@ -65,8 +65,8 @@ module _ {charset : N.Charset} {u v : View} {s : Progress} (x : Runs charset u v
     stops_end going d open_end =
         let stop : Stop = record { fault = N.EndWithoutDone; place = N.Payload v.place } in
         stops_further x.streams x.place_is (stops_quietly refl x.holds d going
-        (N.cut_at_once (response charset u.area.room) (N.after_tokens x.tokens) v.seen c v.place [] o.0 stop (omega arith)
-        (N.Ends-after v.seen c c [] [] 1 o.0 t (inl ([], N.Consumes-nil c.left, o.2, N.Stays-none _)))
+        (N.cut_at_once _ _ v.seen c _ [] o.0 stop (omega arith)
+        (N.Ends-after v.seen c c [] [] 1 o.0 t (inl ([], N.Consumes-nil _, o.2, N.Stays-none _)))
         (inl (o.1, (N.EndWithoutDone, rw (← x.tracks.final, open_end) refl, refl)))))
 
     abbrev reads_whole : s.is_final ≡ true → N.ReadsWhole (response charset u.area.room) N.response_start u.seen c u.held v.held v.area

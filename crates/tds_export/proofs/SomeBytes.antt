@@ -44,4 +44,4 @@ pub bytes_induct : {S : Type 0} {g : N.Grammar S N.Fault} (P : S → List ℕ �
     → AreBytes bytes → N.Spelt g s bytes t → P t bytes
 bytes_induct {g} P step s begins bytes t are h =
     N.Spelt-induct g (λ q b. AreBytes b → P q b) (λ q b e k n all. step q b e (k (N.AreBytes-front b e all)) (N.AreBytes-back b e all) n) s (λ all. begins)
-    bytes t h are
+    _ t h are

@@ -83,7 +83,7 @@ module _ {tokens : List Token} {s : Progress} {u : View} (begun : Begun tokens s
       → (x : N.ReadsTokens g from tokens a b place place' h k t area') × N.IsNoted u.notice (tokens ++ x.more)
   quietly same x = (
     x,
-    cc (same_first tokens x.more (sym (ap (λ (r : Report). r.errors) x.tracks.report) ∙ same
+    cc (same_first _ _ (sym (ap (λ (r : Report). r.errors) x.tracks.report) ∙ same
         ∙ ap (λ (r : Report). r.errors) begun.tracks.report)),
   )
 
@@ -173,9 +173,9 @@ module _ (charset : Charset) (room : ℕ) {place : ℕ} {start : N.RowPart} {are
         | inr y ↦ inr (
           record {
             at = with_row tokens x.at;
-            breaks = N.breaks_inside (N.row charset) _ (with_row tokens) (inside agrees) N.row_so_far text_so_far (text tokens) (row_front tokens) start a b
-                before after x.at stop y.0;
-            holds = rw ((inside agrees).add x.at y.0.element (N.next_some (N.row charset) x.at y.0.element y.0.next)) (row_holds _ holds);
+            breaks = N.breaks_inside _ _ _ (inside agrees) N.row_so_far text_so_far (text tokens) (row_front tokens) start a b
+                _ _ x.at stop y.0;
+            holds = rw ((inside agrees).add x.at y.0.element (N.next_some _ x.at _ y.0.next)) (row_holds _ holds);
           },
           y.1,
         )

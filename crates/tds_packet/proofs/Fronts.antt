@@ -1,9 +1,8 @@
 -- The packets at the front of an input, and what is read of it.
+use Rattle.tds_packet.proofs.Words as N
 use Rattle.tds_packet.proofs.{
-  Words.{nil_from_length, ◌≡◌, ◌∙◌, ◌⊎◌, inl, inr, ℕ, suc, zero, ◌+◌, ◌<◌, ◌≤◌, List, [], ◌∷◌, ◌++◌, length, take, Some, false, refl, sym, ap},
-  Words.{arith, append-nil, append_assoc, length-append, take-append_seam, append_cancel_right, flat_map-append, one_more, Fault, InputEnded, MessageEnded},
-  Words.{ReadFailed, Wire, Payload, Stop, AreBytes, Packet, packet_bytes, packet_length, is_last, header_length, wire_of, payload_of, AreBefore, AreMessage},
-  Words.{IsPacket, WireFault, Coming, IsFrontMessage, Seen, Takes, Ends, IsBetween, IsOver, begun, WholePacket, after_packet, front_packet, message},
+  Words.{◌≡◌, ◌∙◌, ◌⊎◌, inl, inr, ℕ, suc, zero, ◌+◌, ◌<◌, ◌≤◌, List, [], ◌∷◌, ◌++◌, length, take, Some, false, refl, sym, ap, arith, Stop, Packet},
+  Words.{packet_length, header_length, wire_of, payload_of, AreBefore, Seen, begun, front_packet, message},
   ElementLaws.AreBytes-front,
   PacketLaws.{good_header, header_of, front_message},
   Joins.whole_packet,
@@ -13,36 +12,36 @@ use Rattle.tds_packet.proofs.{
 pub record BeginsMessage (size limit : ℕ) (input rest payload : List ℕ) : Type 0 where
   pub packets : List Packet
   pub begin : wire_of packets ++ rest ≡ input
-  pub each : AreMessage size packets ⊎ AreBefore size packets
+  pub each : N.AreMessage size packets ⊎ AreBefore size packets
   pub within : length (wire_of packets) ≤ limit
   pub payload_is : payload_of packets ≡ payload
 
 -- no fault of the wire is the message's end
-pub wire_goes_on : (size limit : ℕ) (input : List ℕ) (packets : List Packet) (fault : Fault) → WireFault size limit input packets fault
-    → fault ≡ MessageEnded → ⊥
+pub wire_goes_on : (size limit : ℕ) (input : List ℕ) (packets : List Packet) (fault : N.Fault) → N.WireFault size limit input packets fault
+    → fault ≡ N.MessageEnded → ⊥
 wire_goes_on size limit input packets fault w e = grind arith
 
 -- an input that begins with nothing but packets
-all_packets : {size limit : ℕ} {read rest payload : List ℕ} {place : ℕ} {c : Coming} → IsFrontMessage size limit read c → c.bytes ≡ payload
+all_packets : {size limit : ℕ} {read rest payload : List ℕ} {place : ℕ} {c : N.Coming} → N.IsFrontMessage size limit read c → c.bytes ≡ payload
     → c.rest ≡ []
-    → ((c.stop.fault ≡ MessageEnded) ⊎ (c.stop ≡ record { fault = InputEnded; place = Wire place })) → place ≡ length read
+    → ((c.stop.fault ≡ N.MessageEnded) ⊎ (c.stop ≡ record { fault = N.InputEnded; place = N.Wire place })) → place ≡ length read
     → BeginsMessage size limit (read ++ rest) rest payload
-all_packets m b r s p = grind (arith, append-nil, length-append, nil_from_length)
+all_packets m b r s p = grind (arith, N.append-nil, N.length-append, N.nil_from_length)
 
 -- what was taken, right after a packet, came of whole packets at the front of the input
-pub takes_begins : (size limit f : ℕ) (input rest : List ℕ) (q : Seen) (bytes : List ℕ) (n : ℕ) → AreBytes input → q.left ≡ Some rest
-    → Takes (begun size limit (Some input) f) q bytes n → IsBetween q
+pub takes_begins : (size limit f : ℕ) (input rest : List ℕ) (q : Seen) (bytes : List ℕ) (n : ℕ) → N.AreBytes input → q.left ≡ Some rest
+    → N.Takes (begun size limit (Some input) f) q bytes n → N.IsBetween q
     → BeginsMessage size limit input rest (bytes ++ (q.future []).bytes)
 takes_begins size limit f input rest q bytes n are left t b =
     let split = rw left at t.1.0 in
-    rw split (all_packets (rw (rw append-nil at (t.1.1 [])) at
+    rw split (all_packets (rw (rw N.append-nil at (t.1.1 [])) at
     (front_message size limit t.0 (AreBytes-front _ _ (rw split at are)))) refl b.0 b.1 (omega arith))
 
 -- a read failed after these packets, all that what was read has whole, and the header after them wasn't refused
 pub record FailsAfterPackets (size limit : ℕ) (input rest : List ℕ) (packets : List Packet) : Type 0 where
   pub read : List ℕ
   pub split : read ++ rest ≡ input
-  pub cut : WireFault size limit read packets InputEnded
+  pub cut : N.WireFault size limit read packets N.InputEnded
 
 -- the payload stopped on the wire, after whole packets
 pub record StopsAfterPackets (size limit : ℕ) (input rest payload : List ℕ) (failures failures' : ℕ) (stop : Stop) : Type 0 where
@@ -52,34 +51,34 @@ pub record StopsAfterPackets (size limit : ℕ) (input rest payload : List ℕ) 
   pub each : AreBefore size packets
   pub within : length (wire_of packets) ≤ limit
   pub payload_is : payload_of packets ≡ payload
-  pub place : stop.place ≡ Wire (length (wire_of packets))
-  pub cause : ((stop.fault ≡ ReadFailed) × (failures' ≡ one_more failures) × FailsAfterPackets size limit input rest packets)
-      ⊎ (WireFault size limit input packets stop.fault × (failures' ≡ failures))
+  pub place : stop.place ≡ N.Wire (length (wire_of packets))
+  pub cause : ((stop.fault ≡ N.ReadFailed) × (failures' ≡ N.one_more failures) × FailsAfterPackets size limit input rest packets)
+      ⊎ (N.WireFault size limit input packets stop.fault × (failures' ≡ failures))
 
 -- the message ended
 pub record EndsMessage (size limit : ℕ) (input rest payload : List ℕ) (failures failures' : ℕ) (stop : Stop) : Type 0 where
   pub packets : List Packet
   pub begin : wire_of packets ++ rest ≡ input
-  pub each : AreMessage size packets
+  pub each : N.AreMessage size packets
   pub within : length (wire_of packets) ≤ limit
   pub payload_is : payload_of packets ≡ payload
-  pub ended : stop ≡ record { fault = MessageEnded; place = Payload (length payload) }
+  pub ended : stop ≡ record { fault = N.MessageEnded; place = N.Payload (length payload) }
   pub same : failures' ≡ failures
 
 -- a payload's stop, where its reader tells its bytes
-pub ends_front : (size limit f : ℕ) (input rest : List ℕ) (q : Seen) (payload : List ℕ) (stop : Stop) → AreBytes input → q.left ≡ Some rest
-    → Ends (begun size limit (Some input) f) q payload stop
+pub ends_front : (size limit f : ℕ) (input rest : List ℕ) (q : Seen) (payload : List ℕ) (stop : Stop) → N.AreBytes input → q.left ≡ Some rest
+    → N.Ends (begun size limit (Some input) f) q payload stop
     → EndsMessage size limit input rest payload f q.failures stop ⊎ StopsAfterPackets size limit input rest payload f q.failures stop
 ends_front size limit f input rest q payload stop are left (inl x) = grind (arith, front_message size limit input are)
-ends_front size limit f input rest q payload stop are left (inr (inl x)) = grind (arith, append-nil, front_message size limit input are)
+ends_front size limit f input rest q payload stop are left (inr (inl x)) = grind (arith, N.append-nil, front_message size limit input are)
 ends_front size limit f input rest q payload stop are left (inr (inr x)) =
-    grind (arith, append_assoc, front_message size limit x.0 (AreBytes-front x.0 rest (rw (rw left at x.1) at are)))
+    grind (arith, N.append_assoc, front_message size limit x.0 (AreBytes-front x.0 rest (rw (rw left at x.1) at are)))
 
 -- a message of which all was handed out
-pub over_front : (size limit f : ℕ) (input rest : List ℕ) (q : Seen) (bytes : List ℕ) (n : ℕ) → AreBytes input → q.left ≡ Some rest
-    → Takes (begun size limit (Some input) f) q bytes n → (o : IsOver q)
+pub over_front : (size limit f : ℕ) (input rest : List ℕ) (q : Seen) (bytes : List ℕ) (n : ℕ) → N.AreBytes input → q.left ≡ Some rest
+    → N.Takes (begun size limit (Some input) f) q bytes n → (o : N.IsOver q)
     → EndsMessage size limit input rest bytes f q.failures o.0
-over_front size limit f input rest q bytes n are left t o = grind (arith, append-nil, front_message size limit input are)
+over_front size limit f input rest q bytes n are left t o = grind (arith, N.append-nil, front_message size limit input are)
 
 -- these packets come before the last, and have fewer bytes of the payload
 pub record InLast (size : ℕ) (packets : List Packet) (n : ℕ) : Type 0 where
@@ -90,7 +89,7 @@ pub record InLast (size : ℕ) (packets : List Packet) (n : ℕ) : Type 0 where
   pub earlier : length (payload_of before) < n
 
 -- packets as the last of them and those before it
-split_last : {size : ℕ} (packets : List Packet) → AreMessage size packets ⊎ AreBefore size packets → 0 < length packets → (before : List Packet)
+split_last : {size : ℕ} (packets : List Packet) → N.AreMessage size packets ⊎ AreBefore size packets → 0 < length packets → (before : List Packet)
     × (last : Packet) × (before ++ last ∷ [] ≡ packets) × AreBefore size before
 split_last [] each some = absurd (omega arith)
 split_last (p ∷ []) each some = ([], p, refl, tt)
@@ -99,13 +98,16 @@ split_last {size} (p ∷ q ∷ ps) each some =
     (p ∷ r.0, r.1, ap (λ l. p ∷ l) r.2, elim each [ inl x ↦ (x.0, x.1, r.3) | inr x ↦ (x.0, x.1, r.3) ])
 
 -- what comes of a packet before the last, and of more after it
-front_whole : {size limit : ℕ} (from : ℕ) {p : Packet} {more : List ℕ} → IsPacket size p → is_last p ≡ false → from + packet_length p ≤ limit
-    → front_packet size limit from (packet_bytes p ++ more) ≡ WholePacket p.body false (packet_length p) more
+front_whole : {size limit : ℕ} (from : ℕ) {p : Packet} {more : List ℕ} → N.IsPacket size p → N.is_last p ≡ false → from + packet_length p ≤ limit
+    → front_packet size limit from (N.packet_bytes p ++ more) ≡ N.WholePacket p.body false (packet_length p) more
 front_whole {size} {limit} from {p} {more} each last within =
     let size_is : header_length (header_of p) ≡ packet_length p = omega arith in
-    let front = whole_packet size limit from (header_of p) (record { length = header_length (header_of p); last = is_last p }) (omega arith)
-    (rw good_header) p.body more (omega arith) in
-    rw append_assoc (rw (size_is, last) at front)
+    rw N.append_assoc (rw (size_is, last) at (whole_packet size limit from (header_of p) (record {
+      length = header_length
+          (header_of p);
+      last = N.is_last p;
+    }) (omega arith)
+    (rw good_header) p.body more (omega arith)))
 
 -- what comes of packets none of which is the last
 message_before : (size limit n from place : ℕ) (packets : List Packet) → AreBefore size packets → from + length (wire_of packets) ≤ limit
@@ -114,22 +116,31 @@ unfolding message front_packet
 message_before size limit zero from place packets each within less = absurd (omega arith)
 message_before size limit (suc n) from place [] each within less = refl
 message_before size limit (suc n) from place (p ∷ ps) each within less =
-    let long : length (wire_of (p ∷ ps)) ≡ packet_length p + length (wire_of ps) = simp length-append (omega arith) in
-    ap (λ f. (after_packet (message size limit n) from place f).bytes) (front_whole _ each.0 each.1 (omega arith))
+    let long : length (wire_of (p ∷ ps)) ≡ packet_length p + length (wire_of ps) = simp N.length-append (omega arith) in
+    ap (λ f. (N.after_packet (message size limit n) from place f).bytes) (front_whole _ each.0 each.1 (omega arith))
     ∙ ap (λ l. p.body ++ l) (message_before _ _ n _ _ _ each.2 (omega arith) (omega arith))
 
 -- the packets read were needed for n bytes of the payload
 pub in_last : (size limit f n : ℕ) (input rest : List ℕ) (q : Seen) (bytes payload : List ℕ) → q.left ≡ Some rest
-    → Takes (begun size limit (Some input) f) q bytes n
+    → N.Takes (begun size limit (Some input) f) q bytes n
     → (p : BeginsMessage size limit input rest payload) → 0 < length payload → InLast size p.packets n
 in_last size limit f n input rest q bytes payload left t p some =
     let filled = λ (ps : List Packet). elim ps as (λ ps. payload_of ps ≡ payload
     → 0 < length ps) [ [] ↦ λ e. absurd (omega (arith, ap length e)) | ◌∷◌ x _ ↦ λ _. omega arith ] in
     let l = split_last _ p.each (filled _ p.payload_is) in
     let split = rw left at t.1.0 in
-    let wires = ap wire_of (sym l.2) ∙ simp (flat_map-append, append-nil) in
-    let read = append_cancel_right t.0 (wire_of l.0 ++ packet_bytes l.1) rest (sym split ∙ sym p.begin ∙ ap (λ w. w ++ rest) wires) in
-    let long = length-append (wire_of l.0) (packet_bytes l.1) in
-    let come = message_before size limit (suc (length (wire_of l.0))) 0 0 l.0 l.3 (omega (arith, ap length wires)) (omega arith) in
-    let front : take (length (wire_of l.0)) t.0 ≡ wire_of l.0 = rw read (take-append_seam _ _) in
-    record { before = l.0; last = l.1; split = l.2; none_last = l.3; earlier = rw (← come, ← front) (t.3 _ (omega (arith, ap length read))) }
+    let wires = ap wire_of (sym l.2) ∙ simp (N.flat_map-append, N.append-nil) in
+    let read = N.append_cancel_right t.0 (wire_of l.0 ++ N.packet_bytes l.1) rest (sym split ∙ sym p.begin ∙ ap (λ w. w ++ rest) wires) in
+    let long = N.length-append (wire_of l.0) (N.packet_bytes l.1) in
+    let front : take (length (wire_of l.0)) t.0 ≡ wire_of l.0 = rw read (N.take-append_seam _ _) in
+    record {
+      before = l.0;
+      last = l.1;
+      split = l.2;
+      none_last = l.3;
+      earlier = rw (
+        ← (message_before size limit (suc (length (wire_of l.0))) 0 0 l.0 l.3
+            (omega (arith, ap length wires)) (omega arith)),
+        ← front,
+      ) (t.3 _ (omega (arith, ap length read)));
+    }

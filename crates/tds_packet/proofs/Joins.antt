@@ -1,9 +1,8 @@
 -- The parts of a packet's read, joined.
+use Rattle.tds_packet.proofs.Words as N
 use Rattle.tds_packet.proofs.{
-  Words.{common_steps, ◌≡◌, ◌∙◌, ℕ, ◌+◌, ◌-◌, ◌^◌, ◌<◌, List, [], ◌++◌, length, take, drop, Option, Ok, Err, Bool, false, refl, ap, arith, length-append},
-  Words.{length-take, append_assoc, drop-append_seam, take-append_seam, take-append-add, nat_tests, nat_lt, if◌then◌else◌, Consumes, Consumes-trans, dec_le},
-  Words.{Device, one_more, Rises, Stays, Fault, InputEnded, ReadFailed, Header, header_fault, WholePacket, NoPacket, front_packet, packet_after_header},
-  Words.{Faulted, ReadsPacket, header_of},
+  Words.{◌≡◌, ◌∙◌, ℕ, ◌+◌, ◌-◌, ◌^◌, ◌<◌, List, [], ◌++◌, length, take, drop, Option, Ok, Err, Bool, false, refl, ap, arith, nat_lt, if◌then◌else◌, Device},
+  Words.{Stays, Fault, Header, front_packet},
   Choices.{choose_true, test_lt},
 }
 
@@ -11,82 +10,82 @@ pub Stays-none : (f : ℕ) → Stays f f []
 Stays-none f = (refl, λ lt. absurd (omega arith))
 
 pub Stays-trans : (f g h : ℕ) (r s : List ℕ) → Stays f g r → Stays g h s → Stays f h (r ++ s)
-Stays-trans f g h r s p q = grind (arith, common_steps, length-append)
+Stays-trans f g h r s p q = grind (arith, N.common_steps, N.length-append)
 
 -- bytes moved before a call that failed, and in it
 pub Rises-after : {f g : ℕ} (r s : List ℕ) → Stays f g r → (0 < length s → g < 2 ^ 64 - 1) → 0 < length (r ++ s) → f < 2 ^ 64 - 1
-Rises-after r s p q some = grind (arith, length-append r s, p.0, p.1, q)
+Rises-after r s p q some = grind (arith, N.length-append r s, p.0, p.1, q)
 
 -- bytes that a device took before a call that failed, and in it
-pub Stays-Rises : {f g h : ℕ} (r s : List ℕ) → Stays f g r → Rises g h s → Rises f h (r ++ s)
-Stays-Rises r s p q = (q.0 ∙ ap one_more p.0, Rises-after r s p q.1)
+pub Stays-Rises : {f g h : ℕ} (r s : List ℕ) → Stays f g r → N.Rises g h s → N.Rises f h (r ++ s)
+Stays-Rises r s p q = (q.0 ∙ ap N.one_more p.0, Rises-after r s p q.1)
 
 -- an input of fewer than eight bytes
-short_input : (size limit wire : ℕ) (xs : List ℕ) → length xs < 8 → front_packet size limit wire xs ≡ NoPacket InputEnded []
+short_input : (size limit wire : ℕ) (xs : List ℕ) → length xs < 8 → front_packet size limit wire xs ≡ N.NoPacket N.InputEnded []
 unfolding front_packet
 short_input size limit wire xs h = rw (test_lt (length xs) 8 h)
 
 -- the header is the first eight bytes
-after_header : (size limit wire : ℕ) (hdr ys : List ℕ) {o : Option Fault} → length hdr ≡ 8 → header_fault size limit wire hdr ≡ o
-    → front_packet size limit wire (hdr ++ ys) ≡ packet_after_header hdr ys o
+after_header : (size limit wire : ℕ) (hdr ys : List ℕ) {o : Option Fault} → length hdr ≡ 8 → N.header_fault size limit wire hdr ≡ o
+    → front_packet size limit wire (hdr ++ ys) ≡ N.packet_after_header hdr ys o
 unfolding front_packet
 after_header size limit wire hdr ys e f =
-    let long : nat_lt (length hdr + length ys) 8 ≡ false = grind (arith, nat_tests) in
-    rw (length-append, long, ← e, take-append_seam, drop-append_seam, e, f)
+    let long : nat_lt (length hdr + length ys) 8 ≡ false = grind (arith, N.nat_tests) in
+    rw (N.length-append, long, ← e, N.take-append_seam, N.drop-append_seam, e, f)
 
 -- a body that is whole, and one that is cut
 whole_at : {last : Bool} {len : ℕ} {bs ys : List ℕ} {n : ℕ} → n ≡ length bs
-    → (if nat_lt (length (bs ++ ys)) n then NoPacket InputEnded [] else WholePacket (take n (bs ++ ys)) last len (drop n (bs ++ ys))) ≡ WholePacket bs
+    → (if nat_lt (length (bs ++ ys)) n then N.NoPacket N.InputEnded [] else N.WholePacket (take n (bs ++ ys)) last len (drop n (bs ++ ys))) ≡ N.WholePacket bs
     last len ys
-whole_at e = grind (arith, length-append, take-append_seam, drop-append_seam)
+whole_at e = grind (arith, N.length-append, N.take-append_seam, N.drop-append_seam)
 
-module _ (size limit wire : ℕ) (hdr : List ℕ) (h : Header) (eight : length hdr ≡ 8) (good : header_of size limit wire hdr ≡ Ok h) where
+module _ (size limit wire : ℕ) (hdr : List ℕ) (h : Header) (eight : length hdr ≡ 8) (good : N.header_of size limit wire hdr ≡ Ok h) where
   -- a packet whose header says so
   pub whole_packet : (bs ys : List ℕ) → length bs + 8 ≡ h.length
-      → front_packet size limit wire (hdr ++ (bs ++ ys)) ≡ WholePacket bs h.last h.length ys
+      → front_packet size limit wire (hdr ++ (bs ++ ys)) ≡ N.WholePacket bs h.last h.length ys
   whole_packet bs ys fits = grind (arith, after_header, whole_at)
 
   -- an input that ends in the body
-  ended_body : (bs : List ℕ) → length bs + 8 < h.length → front_packet size limit wire (hdr ++ bs) ≡ NoPacket InputEnded []
+  ended_body : (bs : List ℕ) → length bs + 8 < h.length → front_packet size limit wire (hdr ++ bs) ≡ N.NoPacket N.InputEnded []
   ended_body bs lt = grind (arith, after_header, choose_true, test_lt)
 
   -- no beginning of a packet is a packet
   cut : (body : List ℕ) (j : ℕ) → length body + 8 ≡ h.length → j < length (hdr ++ body)
-      → front_packet size limit wire (take j (hdr ++ body)) ≡ NoPacket InputEnded []
-  cut body j fits lt = elim (dec_le 8 j) [
+      → front_packet size limit wire (take j (hdr ++ body)) ≡ N.NoPacket N.InputEnded []
+  cut body j fits lt = elim (N.dec_le 8 j) [
     | yes many ↦ (let all : length hdr + (j - 8) ≡ j = omega arith in rw (
       ← all,
-      take-append-add,
-    ) (ended_body _ (omega (arith, length-append hdr body, length-take (j - 8) body))))
-    | no few ↦ short_input _ _ _ _ (omega (arith, length-take j (hdr ++ body)))
+      N.take-append-add,
+    ) (ended_body _ (omega (arith, N.length-append hdr body, N.length-take (j - 8) body))))
+    | no few ↦ short_input _ _ _ _ (omega (arith, N.length-take j (hdr ++ body)))
   ]
 
 -- A good header was read.
 pub record ReadsHeader (size limit wire : ℕ) (old mid : Device) (h : Header) : Type 0 where
   pub bytes : List ℕ
   pub eight : length bytes ≡ 8
-  pub read : Consumes old.bytes mid.bytes bytes
+  pub read : N.Consumes old.bytes mid.bytes bytes
   pub stays : Stays old.failures mid.failures bytes
-  pub good : header_of size limit wire bytes ≡ Ok h
+  pub good : N.header_of size limit wire bytes ≡ Ok h
 
 module _ (size limit wire : ℕ) (old new : Device) where
-  pub fill_err : (hdr body : List ℕ) {e : Fault} → length hdr ≡ 8 → Faulted old new (length hdr) e → ReadsPacket size limit wire old new body (Err e)
+  pub fill_err : (hdr body : List ℕ) {e : Fault} → length hdr ≡ 8 → N.Faulted old new (length hdr) e → N.ReadsPacket size limit wire old new body (Err e)
   fill_err hdr body len h = grind (arith, short_input)
 
-  pub header_err : (hdr body : List ℕ) {e : Fault} → length hdr ≡ 8 → Consumes old.bytes new.bytes hdr → Stays old.failures new.failures hdr
-      → header_of size limit wire hdr ≡ Err e → ReadsPacket size limit wire old new body (Err e)
+  pub header_err : (hdr body : List ℕ) {e : Fault} → length hdr ≡ 8 → N.Consumes old.bytes new.bytes hdr → Stays old.failures new.failures hdr
+      → N.header_of size limit wire hdr ≡ Err e → N.ReadsPacket size limit wire old new body (Err e)
   header_err hdr body len h same bad = grind (arith, after_header)
 
   pub body_err : (mid : Device) (h : Header) (body : List ℕ) (e : Fault) → ReadsHeader size limit wire old mid h → length body + 8 ≡ h.length
-      → Faulted mid new (length body) e → ReadsPacket size limit wire old new body (Err e)
-  body_err mid h body InputEnded x fits r =
+      → N.Faulted mid new (length body) e → N.ReadsPacket size limit wire old new body (Err e)
+  body_err mid h body N.InputEnded x fits r =
       let cut_short = ended_body _ _ _ x.bytes h x.eight x.good r.0.0.0 (omega arith) in
-      grind (arith, Consumes-trans)
-  body_err mid h body ReadFailed x fits r =
+      grind (arith, N.Consumes-trans)
+  body_err mid h body N.ReadFailed x fits r =
       let cut_short = ended_body size limit wire x.bytes h x.eight x.good r.0 (omega arith) in
-      grind (arith, Consumes-trans)
+      grind (arith, N.Consumes-trans)
   body_err mid h body e x fits r = absurd r
 
   pub body_ok : {mid : Device} {h : Header} {body : List ℕ} → ReadsHeader size limit wire old mid h → length body + 8 ≡ h.length
-      → Consumes mid.bytes new.bytes body → Stays mid.failures new.failures body → ReadsPacket size limit wire old new body (Ok h)
-  body_ok x fits r last = grind (arith, append_assoc, whole_packet, Consumes-trans, cut, length-append)
+      → N.Consumes mid.bytes new.bytes body → Stays mid.failures new.failures body → N.ReadsPacket size limit wire old new body (Ok h)
+  body_ok x fits r last = grind (arith, N.append_assoc, whole_packet, N.Consumes-trans, cut, N.length-append)

@@ -1,11 +1,9 @@
 -- What the wire's grammar reads are the packets that the input begins with, and what comes of them their payload.
+use Rattle.tds_packet.proofs.Words as N
 use Rattle.tds_packet.proofs.{
-  Words.{wire_add, ◌≡◌, ℕ, ◌+◌, ◌-◌, ◌/◌, ◌%◌, ◌≤◌, true, false, List, [], ◌∷◌, ◌++◌, length, take, drop, refl, sym, ◌∙◌, ap, inl, inr, append_assoc},
-  Words.{append-nil, arith, length-append, ◌⊎◌, take-append-drop, length-take-le, take-append_seam, None, ◌==◌, slice_index, if◌then◌else◌, nat_tests},
-  Words.{flat_map-append, AreBytes, Spelt, IsNext, Longest, Packet, packet_length, packet_bytes, wire_of, is_last, IsPacket, AreBefore, AreMessage},
-  Words.{IsNextPacket, Front, WirePlace, BeforeHeader, BeforeBody, AfterLast, WirePart, no_wire, header_length, packet_of, with_packet, header_fault, wire},
-  Words.{dec_le, zero, suc, ◌<◌, Bool, length-drop, drop-append_seam, Option, Some, nat_lt, Fault, Wire, IsRefused, payload_of, wire_size, wire_end, Coming},
-  Words.{FrontPacket, before, WholePacket, packet_after_header, front_packet, after_packet, message, whole_message, IsFrontMessage},
+  Words.{◌≡◌, ℕ, ◌+◌, ◌-◌, ◌/◌, ◌%◌, ◌≤◌, true, false, List, [], ◌∷◌, ◌++◌, length, take, drop, refl, sym, ◌∙◌, ap, inl, inr, append_assoc, append-nil, arith},
+  Words.{length-append, ◌⊎◌, None, ◌==◌, if◌then◌else◌, AreBytes, Spelt, Packet, packet_length, packet_bytes, wire_of, is_last, IsPacket, AreBefore, WirePlace},
+  Words.{BeforeBody, WirePart, no_wire, header_length, packet_of, wire, zero, suc, ◌<◌, Bool, Option, Some, nat_lt, payload_of, before, front_packet, message},
   ElementLaws.{Spelt-step, Spelt-append, Spelt-none, Spelt-induct, AreBytes-front, AreBytes-back, one_state, longest_cut, longest_refused},
   Choices.{choose, eq_true},
 }
@@ -14,7 +12,7 @@ pub one_more : (size : ℕ) (ps : List Packet) (p : Packet) → AreBefore size p
 one_more size [] p h i l = (i, l, tt)
 one_more size (q ∷ ps) p h i l = (h.0, h.1, one_more size ps p h.2 i l)
 
-pub last_one : {size : ℕ} (ps : List Packet) {p : Packet} → AreBefore size ps → IsPacket size p → is_last p ≡ true → AreMessage size (ps ++ p ∷ [])
+pub last_one : {size : ℕ} (ps : List Packet) {p : Packet} → AreBefore size ps → IsPacket size p → is_last p ≡ true → N.AreMessage size (ps ++ p ∷ [])
 last_one [] h i l = (i, l)
 last_one (q ∷ []) h i l = (h.0, h.1, (i, l))
 last_one {size} (q ∷ r ∷ ps) {p} h i l = (h.0, h.1, last_one (r ∷ ps) h.2 i l)
@@ -23,36 +21,36 @@ last_one {size} (q ∷ r ∷ ps) {p} h i l = (h.0, h.1, last_one (r ∷ ps) h.2 
 pub record Good (size limit : ℕ) (packets : List Packet) (header : List ℕ) : Type 0 where
   pub eight : length header ≡ 8
   pub bytes : AreBytes header
-  pub type : slice_index header 0 ≡ 4
+  pub type : N.slice_index header 0 ≡ 4
   pub least : 8 ≤ header_length header
   pub most : header_length header ≤ size
   pub within : length (wire_of packets) + header_length header ≤ limit
 
 pub free_is_good : (size limit : ℕ) (packets : List Packet) (header : List ℕ) → length header ≡ 8 → AreBytes header
-    → header_fault size limit (length (wire_of packets)) header ≡ None → Good size limit packets header
-free_is_good size limit packets header eight bytes free = grind (arith, eq_true, nat_tests)
+    → N.header_fault size limit (length (wire_of packets)) header ≡ None → Good size limit packets header
+free_is_good size limit packets header eight bytes free = grind (arith, eq_true, N.nat_tests)
 
 -- what the bytes that lead to a place of the wire are
 abbrev pub WireMeans : ℕ → ℕ → List Packet → WirePlace → List ℕ → Type 0
-WireMeans size limit packets BeforeHeader b = (b ≡ wire_of packets) × AreBefore size packets × (length b ≤ limit)
+WireMeans size limit packets N.BeforeHeader b = (b ≡ wire_of packets) × AreBefore size packets × (length b ≤ limit)
 WireMeans size limit packets (BeforeBody header) b = (b ≡ wire_of packets ++ header) × AreBefore size packets × Good size limit packets header
-WireMeans size limit packets AfterLast b = (b ≡ wire_of packets) × AreMessage size packets × (length b ≤ limit)
+WireMeans size limit packets N.AfterLast b = (b ≡ wire_of packets) × N.AreMessage size packets × (length b ≤ limit)
 
 module _ (size limit : ℕ) where
   with_means : {packets : List Packet} {header : List ℕ} (body : List ℕ) → AreBefore size packets → Good size limit packets header
-      → length body ≡ header_length header - 8 → let w = with_packet packets (packet_of header body) in
+      → length body ≡ header_length header - 8 → let w = N.with_packet packets (packet_of header body) in
       WireMeans size limit w.packets w.place (wire_of packets ++ (header ++ body))
-  with_means body before good l = grind (arith, append-nil, flat_map-append, length-append, last_one, one_more)
+  with_means body before good l = grind (arith, append-nil, N.flat_map-append, length-append, last_one, one_more)
 
   wire_step : {packets : List Packet} (place : WirePlace) (b : List ℕ) {e : List ℕ} → AreBytes e → WireMeans size limit packets place b
-      → IsNext (wire size limit) (record { packets = packets; place = place }) e → let w = wire_add packets place e in
+      → N.IsNext (wire size limit) (record { packets = packets; place = place }) e → let w = N.wire_add packets place e in
       WireMeans size limit w.packets w.place (b ++ e)
-  wire_step AfterLast b bytes h n = absurd (omega arith)
-  wire_step {packets} BeforeHeader b {e} bytes h n =
-      let good : Good size limit packets e = free_is_good _ _ packets e n.whole bytes n.free in
-      choose (λ w. WireMeans size limit w.packets w.place (b ++ e)) (header_length e == 8) (with_packet packets _)
+  wire_step N.AfterLast b bytes h n = absurd (omega arith)
+  wire_step {packets} N.BeforeHeader b {e} bytes h n =
+      let good = free_is_good _ _ packets e n.whole bytes n.free in
+      choose (λ w. WireMeans size limit w.packets w.place (b ++ e)) (header_length e == 8) (N.with_packet packets _)
       (record { packets = packets; place = BeforeBody e })
-      (λ z. (let eight : header_length e ≡ 8 = eq_true (header_length e) 8 z in rw h.0
+      (λ z. (let eight = eq_true (header_length e) 8 z in rw h.0
       (rw append-nil at (with_means [] h.1 good (omega arith))))) (λ z. (rw h.0 refl, h.1, good))
   wire_step (BeforeBody header) b bytes h n = grind (arith, append_assoc, with_means)
 
@@ -68,27 +66,27 @@ header_of p = 4 ∷ p.status ∷ packet_length p / 256 ∷ packet_length p % 256
 
 module _ (size limit : ℕ) where
   pub good_header : (before : ℕ) {p : Packet} → IsPacket size p → before + packet_length p ≤ limit
-      → header_fault size limit before (header_of p) ≡ None
-  good_header before i f = grind (arith, nat_tests)
+      → N.header_fault size limit before (header_of p) ≡ None
+  good_header before i f = grind (arith, N.nat_tests)
 
   abbrev pub before_packet : List Packet → WirePart
-  before_packet packets = record { packets = packets; place = BeforeHeader }
+  before_packet packets = record { packets = packets; place = N.BeforeHeader }
 
   -- a packet that may follow is read
   pub packet_is_read : (packets : List Packet) (p : Packet) → IsPacket size p → length (wire_of packets) + packet_length p ≤ limit
-      → Spelt (wire size limit) (before_packet packets) (packet_bytes p) (with_packet packets p)
+      → Spelt (wire size limit) (before_packet packets) (packet_bytes p) (N.with_packet packets p)
   packet_is_read packets p i f =
       let g = wire size limit in
       let eight : length (header_of p) ≡ 8 = omega arith in
       let good = good_header _ i f in
       elim p.body as (λ b. p.body ≡ b → Spelt g (before_packet packets) (header_of p ++ b)
-      (with_packet packets (record { status = p.status; id = p.id; body = b }))) [
+      (N.with_packet packets (record { status = p.status; id = p.id; body = b }))) [
         | [] ↦ λ e. (let size_is : (header_length (header_of p) == 8) ≡ true = grind arith in rw append-nil
-            (Spelt-step g _ _ _ (omega arith) eight good (rw size_is)))
+            (Spelt-step g _ _ _ (omega arith) eight good (cc)))
         | ◌∷◌ x (xs → _) ↦ λ e.
             (let inside : WirePart = record { packets = packets; place = BeforeBody (header_of p) } in
             let n : packet_length p ≡ 8 + length (x ∷ xs) = rw e in
-            let off : (header_length (header_of p) == 8) ≡ false = grind (arith, nat_tests) in
+            let off : (header_length (header_of p) == 8) ≡ false = grind (arith, N.nat_tests) in
             Spelt-append g _ (header_of p) inside (x ∷ xs) _ (Spelt-step g _ (header_of p) inside (omega arith) eight good (rw off))
             (Spelt-step g _ _ _ (omega arith) (omega arith) refl refl))
       ] refl
@@ -102,7 +100,7 @@ module _ (size limit : ℕ) where
       → Spelt (wire size limit) (before_packet done) (wire_of (p ∷ packets)) (record { packets = done ++ p ∷ packets; place = place })
   one_is_read {done} {p} packets h f more =
       let long : length (wire_of (done ++ p ∷ packets)) ≡ length (wire_of done) + (packet_length p + length (wire_of packets)) =
-      simp (flat_map-append, length-append) (omega arith) in
+      simp (N.flat_map-append, length-append) (omega arith) in
       Spelt-append _ _ _ _ _ _ (rw h.1 at (packet_is_read done p h.0 (omega arith))) (rw append_assoc at (more (rw append_assoc f)))
 
   -- packets before the last are read
@@ -113,40 +111,40 @@ module _ (size limit : ℕ) where
 
   -- the packet that follows would be read too
   no_next : {input : List ℕ} {taken : ℕ} {packets : List Packet} {place : WirePlace} {header : List ℕ}
-      → Longest (wire size limit) no_wire input taken (record { packets = packets; place = place }) → AreBefore size packets
+      → N.Longest (wire size limit) no_wire input taken (record { packets = packets; place = place }) → AreBefore size packets
       → take taken input ≡ wire_of packets ++ header
-      → (header ≡ []) ⊎ ((length header ≡ 8) × (place ≡ BeforeBody header)) → (next : Packet) → IsNextPacket size limit input packets next → ⊥
+      → (header ≡ []) ⊎ ((length header ≡ 8) × (place ≡ BeforeBody header)) → (next : Packet) → N.IsNextPacket size limit input packets next → ⊥
   no_next {input} {taken} {packets} {place} {header} l before is cause next f =
       let all = wire_of packets ++ packet_bytes next in
-      let front : take (length all) input ≡ all = rw f.spelt (take-append_seam all f.more) in
+      let front : take (length all) input ≡ all = rw f.spelt (N.take-append_seam all f.more) in
       let long = length-append (wire_of packets) (packet_bytes next) in
       let size_is : length (packet_bytes next) ≡ packet_length next = omega (arith, length-append next.id next.body) in
       let read = Spelt-append _ _ _ _ _ _ (before_are_read _ _ before (omega arith)) (packet_is_read _ _ f.rules (omega arith)) in
-      let within = l.longest (length all) (with_packet packets next) (omega (arith, ap length f.spelt, length-append all f.more)) (rw front read) in
-      let counted = sym (length-take-le taken input l.within) ∙ ap length is ∙ length-append _ header in
-      let one : length all ≡ taken → place ≡ (if is_last next then AfterLast else BeforeHeader) =
-      λ same. ap (λ w. w.place) (one_state _ no_wire _ _ (with_packet packets next) l.spelt (rw (← same, front) read)) in
+      let within = l.longest (length all) (N.with_packet packets next) (omega (arith, ap length f.spelt, length-append all f.more)) (rw front read) in
+      let counted = sym (N.length-take-le taken input l.within) ∙ ap length is ∙ length-append _ header in
+      let one : length all ≡ taken → place ≡ (if is_last next then N.AfterLast else N.BeforeHeader) =
+      λ same. ap (λ w. w.place) (one_state _ no_wire _ _ (N.with_packet packets next) l.spelt (rw (← same, front) read)) in
       grind arith
 
   -- What is read at most of an input are the packets at its front.
-  pub read_front : (input : List ℕ) (taken : ℕ) (w : WirePart) → AreBytes input → Longest (wire size limit) no_wire input taken w
-      → Front size limit input w.packets
-  read_front input taken w are l = go w.place l (wire_is_spelt size limit _ w (AreBytes-front _ (drop taken input) (rw take-append-drop are)) l.spelt)
+  pub read_front : (input : List ℕ) (taken : ℕ) (w : WirePart) → AreBytes input → N.Longest (wire size limit) no_wire input taken w
+      → N.Front size limit input w.packets
+  read_front input taken w are l = go w.place l (wire_is_spelt size limit _ w (AreBytes-front _ (drop taken input) (rw N.take-append-drop are)) l.spelt)
     where
-      go : (place : WirePlace) → Longest (wire size limit) no_wire input taken (record { packets = w.packets; place = place })
-          → WireMeans size limit w.packets place (take taken input) → Front size limit input w.packets
-      go BeforeHeader l k = grind (
+      go : (place : WirePlace) → N.Longest (wire size limit) no_wire input taken (record { packets = w.packets; place = place })
+          → WireMeans size limit w.packets place (take taken input) → N.Front size limit input w.packets
+      go N.BeforeHeader l k = grind (
         arith,
-        take-append-drop taken input,
+        N.take-append-drop taken input,
         no_next l k.1 (k.0 ∙ sym (append-nil _)) (inl refl),
       )
       go (BeforeBody header) l k = grind (
         arith,
         append_assoc,
-        take-append-drop taken input,
+        N.take-append-drop taken input,
         no_next l k.1 k.0 (inr (k.2.eight, refl)),
       )
-      go _ l k = grind (arith, take-append-drop taken input)
+      go _ l k = grind (arith, N.take-append-drop taken input)
 
 -- ---- what comes of an input
 
@@ -156,28 +154,28 @@ module _ (size limit : ℕ) (packets : List Packet) where
   at place = record { packets = packets; place = place }
 
   -- the wire stops after these packets and the bytes before an element that is refused or cut
-  stops_at : (front rest : List ℕ) (place : WirePlace) (fault : Fault) (c : Coming) → AreBytes (front ++ rest) → AreBefore size packets
+  stops_at : (front rest : List ℕ) (place : WirePlace) (fault : N.Fault) (c : N.Coming) → AreBytes (front ++ rest) → AreBefore size packets
       → Spelt (wire size limit) no_wire front (at place)
-      → IsRefused (wire size limit) (at place) rest fault ⊎ ((length rest < wire_size place) × (wire_end place ≡ Some fault))
-      → c.bytes ≡ payload_of packets → c.stop ≡ record { fault = fault; place = Wire (length (wire_of packets)) }
-      → IsFrontMessage size limit (front ++ rest) c
+      → N.IsRefused (wire size limit) (at place) rest fault ⊎ ((length rest < N.wire_size place) × (N.wire_end place ≡ Some fault))
+      → c.bytes ≡ payload_of packets → c.stop ≡ record { fault = fault; place = N.Wire (length (wire_of packets)) }
+      → N.IsFrontMessage size limit (front ++ rest) c
   stops_at front rest place fault c are each spelt cause bytes stop =
       let g = wire size limit in
-      let longest : Longest g no_wire (front ++ rest) _ (at place) =
+      let longest : N.Longest g no_wire (front ++ rest) _ (at place) =
       elim cause [ inl x ↦ longest_refused g _ _ _ _ _ spelt x | inr x ↦ longest_cut g _ _ _ _ spelt x.0 ] in
       let front_is = read_front _ _ _ _ _ are longest in
-      grind (arith, drop-append_seam)
+      grind (arith, N.drop-append_seam)
 
   -- what comes after these packets is the message at the front, by the packet that follows them
-  abbrev Gives : ℕ → List ℕ → FrontPacket → Type 0
-  Gives n input p = IsFrontMessage size limit input
-      (before (payload_of packets) (after_packet (message size limit n) (length (wire_of packets)) (length (payload_of packets)) p))
+  abbrev Gives : ℕ → List ℕ → N.FrontPacket → Type 0
+  Gives n input p = N.IsFrontMessage size limit input
+      (before (payload_of packets) (N.after_packet (message size limit n) (length (wire_of packets)) (length (payload_of packets)) p))
 
 -- with this much fuel, what comes after any packets before the last is the message at the front
 abbrev Comes : ℕ → ℕ → ℕ → Type 0
 Comes size limit n = (packets : List Packet) (rest : List ℕ) → AreBytes (wire_of packets ++ rest) → AreBefore size packets
     → length (wire_of packets) ≤ limit → length rest < n
-    → IsFrontMessage size limit (wire_of packets ++ rest)
+    → N.IsFrontMessage size limit (wire_of packets ++ rest)
     (before (payload_of packets) (message size limit n (length (wire_of packets)) (length (payload_of packets)) rest))
 
 module _ (size limit n : ℕ) (packets : List Packet) (each : AreBefore size packets) (within : length (wire_of packets) ≤ limit) where
@@ -185,11 +183,11 @@ module _ (size limit n : ℕ) (packets : List Packet) (each : AreBefore size pac
   whole_gives : (p : Packet) (wired more : List ℕ) (last : Bool) (count : ℕ) → Comes size limit n → AreBytes (wire_of packets ++ (wired ++ more))
       → (packet_bytes p ≡ wired) × IsPacket size p → length wired ≡ count
       → length (wire_of packets) + count ≤ limit → length more < n → is_last p ≡ last
-      → Gives size limit packets n (wire_of packets ++ (wired ++ more)) (WholePacket p.body last count more)
+      → Gives size limit packets n (wire_of packets ++ (wired ++ more)) (N.WholePacket p.body last count more)
   whole_gives p wired more last count comes are fits long limited less is =
-      let joined : wire_of (packets ++ p ∷ []) ≡ wire_of packets ++ wired = simp (flat_map-append, append-nil, fits.0) in
-      let bodies : payload_of (packets ++ p ∷ []) ≡ payload_of packets ++ p.body = simp (flat_map-append, append-nil) in
-      elim last as (λ t. is_last p ≡ t → Gives _ _ _ n _ (WholePacket p.body t count more)) [
+      let joined : wire_of (packets ++ p ∷ []) ≡ wire_of packets ++ wired = simp (N.flat_map-append, append-nil, fits.0) in
+      let bodies : payload_of (packets ++ p ∷ []) ≡ payload_of packets ++ p.body = simp (N.flat_map-append, append-nil) in
+      elim last as (λ t. is_last p ≡ t → Gives _ _ _ n _ (N.WholePacket p.body t count more)) [
         | true ↦ λ e. (let all = last_one _ each fits.1 e in grind (arith, append-nil, append_assoc, length-append))
         | false ↦ λ e. simp (
           joined,
@@ -202,25 +200,25 @@ module _ (size limit n : ℕ) (packets : List Packet) (each : AreBefore size pac
       ] is
 
   -- a header is whole
-  header_gives : (header rest : List ℕ) (o : Option Fault) → Comes size limit n → AreBytes (wire_of packets ++ (header ++ rest)) → length header ≡ 8
-      → length rest < n → header_fault size limit (length (wire_of packets)) header ≡ o
-      → Gives size limit packets n (wire_of packets ++ (header ++ rest)) (packet_after_header header rest o)
+  header_gives : (header rest : List ℕ) (o : Option N.Fault) → Comes size limit n → AreBytes (wire_of packets ++ (header ++ rest)) → length header ≡ 8
+      → length rest < n → N.header_fault size limit (length (wire_of packets)) header ≡ o
+      → Gives size limit packets n (wire_of packets ++ (header ++ rest)) (N.packet_after_header header rest o)
   header_gives header rest (Some fault) comes are eight less is =
-      let first : take 8 (header ++ rest) ≡ header = rw (← eight) (take-append_seam header rest) in
+      let first : take 8 (header ++ rest) ≡ header = rw (← eight) (N.take-append_seam header rest) in
       stops_at _ _ _ _ _ _ _ _ are each (before_are_read _ _ _ _ each within)
       (inl (record { some = omega arith; whole = omega (arith, length-append header rest); first = rw first is })) (append-nil _) refl
   header_gives header rest None comes are eight less free =
       let m = header_length header - 8 in
       let good = free_is_good _ _ _ _ eight (AreBytes-front _ rest (AreBytes-back _ (header ++ rest) are)) free in
-      elim (dec_le m (length rest)) [
+      elim (N.dec_le m (length rest)) [
         | yes enough ↦
             (let test : nat_lt (length rest) m ≡ false = grind arith in
-            let body = length-take-le m rest enough in
+            let body = N.length-take-le m rest enough in
             let again : (packet_bytes (packet_of header (take m rest)) ≡ header ++ take m rest) × IsPacket size (packet_of header (take m rest)) =
             grind arith in
-            let all : (header ++ take m rest) ++ drop m rest ≡ header ++ rest = rw (append_assoc, take-append-drop) in
+            let all : (header ++ take m rest) ++ drop m rest ≡ header ++ rest = rw (append_assoc, N.take-append-drop) in
             rw (test, ← all) (whole_gives _ (header ++ take m rest) _ _ _ comes (rw all are) again
-            (omega (arith, length-append header (take m rest))) good.within (omega (arith, length-drop m rest)) refl))
+            (omega (arith, length-append header (take m rest))) good.within (omega (arith, N.length-drop m rest)) refl))
         | no short ↦
             (let test : nat_lt (length rest) m ≡ true = grind arith in
             let off : (header_length header == 8) ≡ false = grind arith in
@@ -234,12 +232,12 @@ module _ (size limit n : ℕ) (packets : List Packet) (each : AreBefore size pac
 comes_front : {size limit : ℕ} (n : ℕ) → Comes size limit n
 unfolding message front_packet
 comes_front zero packets rest are each within less = absurd (omega arith)
-comes_front {size} {limit} (suc n) packets rest are each within less = elim (dec_le 8 (length rest)) [
+comes_front {size} {limit} (suc n) packets rest are each within less = elim (N.dec_le 8 (length rest)) [
   | yes long ↦
       (let test : nat_lt (length rest) 8 ≡ false = grind arith in
-      let all = take-append-drop 8 rest in
+      let all = N.take-append-drop 8 rest in
       rw test (rw all at (header_gives size limit n packets each within _ (drop 8 rest) _ (comes_front n) (rw all are)
-      (length-take-le 8 rest long) (omega (arith, length-drop 8 rest)) refl)))
+      (N.length-take-le 8 rest long) (omega (arith, N.length-drop 8 rest)) refl)))
   | no short ↦
       (let test : nat_lt (length rest) 8 ≡ true = grind arith in
       rw test (stops_at size limit _ _ _ _ _ _ are each (before_are_read _ _ _ _ each within) (inr (omega arith, refl))
@@ -247,5 +245,5 @@ comes_front {size} {limit} (suc n) packets rest are each within less = elim (dec
 ]
 
 -- What comes of an input is the message at its front.
-pub front_message : (size limit : ℕ) (input : List ℕ) → AreBytes input → IsFrontMessage size limit input (whole_message size limit input)
+pub front_message : (size limit : ℕ) (input : List ℕ) → AreBytes input → N.IsFrontMessage size limit input (N.whole_message size limit input)
 front_message size limit input are = comes_front _ [] input are tt (omega arith) (omega arith)

@@ -1,10 +1,8 @@
 -- A payload on its way into packets of one size.
+use Rattle.tds_packet.proofs.Words as N
 use Rattle.tds_packet.proofs.{
-  Words.{common_steps, PayloadOf, ◌≡◌, ◌∙◌, inl, inr, ℕ, zero, suc, ◌+◌, ◌-◌, ◌*◌, ◌<◌, ◌≤◌, Bool, true, false, List, [], ◌∷◌, ◌++◌, length, drop, Option},
-  Words.{None, refl, ap, arith, append-nil, length-append, length-drop, take_all, le_refl, flat_map-append, Appends-nil, Appends-trans},
-  Words.{Appends-kept, drop-append_seam, suc-mul, Result, Ok, Err, IsTrue, ◌^◌, Keeps, take-append-le, drop-append-le, one_more, Counted, Recut, RecutStop},
-  Words.{MessageEnded, Stays, Stop, Written, coming_of, Packet, packet_bytes, wire_of, buffered, seen, Cuts, Flushes, Gains, StopsInput, StopsOutput},
-  Words.{WritesPacket, Gathers, cut_packet, first_packets, before_last, packets_before, Ends, IsBetween, IsNotOver, IsOver, Seen, Takes},
+  Words.{PayloadOf, ◌≡◌, ◌∙◌, inl, inr, ℕ, zero, suc, ◌+◌, ◌-◌, ◌*◌, ◌<◌, ◌≤◌, Bool, true, false, List, [], ◌∷◌, ◌++◌, length, drop, Option, None, refl, ap},
+  Words.{arith, length-append, Result, Ok, Err, ◌^◌, Counted, Stop, coming_of, wire_of, seen, Gathers, cut_packet, first_packets, Seen, Takes},
   Joins.{Stays-Rises, Stays-trans},
   PayloadLaws.ends_there,
   Futures.{Ends-after, Takes-more, Takes-trans},
@@ -28,10 +26,10 @@ module _ {R : Type 0} (remaining : R → Option (List ℕ)) (o s t : PayloadOf R
   where
     -- a byte was asked for
     asked : Takes (seen remaining s) (seen remaining t) [] 1 → Takes (seen remaining o) (seen remaining t) (drop 8 packet) (length (drop 8 packet) + 1)
-    asked q = rw append-nil at (joined (seen remaining o) _ _ (drop 8 packet) [] 1 (omega arith) x.takes q)
+    asked q = rw N.append-nil at (joined (seen remaining o) _ _ (drop 8 packet) [] 1 (omega arith) x.takes q)
 
     -- the payload stopped
-    pub gathered_err : (stop : Stop) → Ends (seen remaining s) (seen remaining t) [] stop → (stop.fault ≡ MessageEnded → ⊥)
+    pub gathered_err : (stop : Stop) → N.Ends (seen remaining s) (seen remaining t) [] stop → (stop.fault ≡ N.MessageEnded → ⊥)
         → Gathers remaining o t room packet (Err stop)
     gathered_err stop ends goes_on = record {
       header = x.header;
@@ -46,8 +44,8 @@ module _ {R : Type 0} (remaining : R → Option (List ℕ)) (o s t : PayloadOf R
 
     module _ (q : Takes (seen remaining s) (seen remaining t) [] 1) (stays : t.place ≡ s.place) where
       -- the packet is full, or no byte is left
-      pub gathered_ok : {last : Bool} → IsBetween (seen remaining t) → (IsTrue last → IsOver (seen remaining t))
-          → (last ≡ false → (length packet ≡ room) × (0 < length (buffered t)) × IsNotOver (seen remaining t))
+      pub gathered_ok : {last : Bool} → N.IsBetween (seen remaining t) → (N.IsTrue last → N.IsOver (seen remaining t))
+          → (last ≡ false → (length packet ≡ room) × (0 < length (N.buffered t)) × N.IsNotOver (seen remaining t))
           → Gathers remaining o t room packet (Ok last)
       gathered_ok between over full = grind (arith, asked)
 
@@ -55,21 +53,20 @@ module _ {R : Type 0} (remaining : R → Option (List ℕ)) (o s t : PayloadOf R
       pub gathered_more : {d : PayloadOf R} (piece : List ℕ) → Takes (seen remaining t) (seen remaining d) piece 0 → d.place ≡ t.place + length piece
           → length packet + length piece ≤ room → Gathering remaining o d room (packet ++ piece)
       gathered_more {d} piece r further fits =
-          let split = drop-append-le 8 packet piece x.header in
           let takes = joined (seen remaining o) _ (seen remaining d) (drop 8 packet) piece 0 (omega arith) (asked q) r in
           grind (arith, length-append)
 
 ready_first : {R : Type 0} (remaining : R → Option (List ℕ)) (p : PayloadOf R) (input : List ℕ) → p.stopped ≡ None
-    → length (buffered p) ≤ length ((seen remaining p).future input).bytes
+    → length (N.buffered p) ≤ length ((seen remaining p).future input).bytes
 unfolding coming_of
 ready_first remaining p input e = grind (arith, length-append)
 
 -- a body holds what lay ready
 some_ready : {R : Type 0} (remaining : R → Option (List ℕ)) {s t : PayloadOf R} {room : ℕ} {packet : List ℕ} (r : Result Bool Stop)
-    → Gathers remaining s t room packet r → s.stopped ≡ None → 8 < room → 0 < length (buffered s) → 0 < length (drop 8 packet)
+    → Gathers remaining s t room packet r → s.stopped ≡ None → 8 < room → 0 < length (N.buffered s) → 0 < length (drop 8 packet)
 some_ready remaining {s} (Ok true) made going large some =
-    omega (arith, some, rw (made.gives.1.1 [], (made.over refl).2 [], append-nil) at (ready_first remaining s (made.gives.0 ++ []) going))
-some_ready remaining {packet} (Ok false) made going large some = omega (arith, (made.full refl).0, length-drop 8 packet, large)
+    omega (arith, some, rw (made.gives.1.1 [], (made.over refl).2 [], N.append-nil) at (ready_first remaining s (made.gives.0 ++ []) going))
+some_ready remaining {packet} (Ok false) made going large some = omega (arith, (made.full refl).0, N.length-drop 8 packet, large)
 some_ready remaining {s} (Err stop) made going large some = elim made.gives [
   | inl x ↦ omega (arith, some, rw (x.2 []) at (ready_first remaining s (x.0 ++ []) going))
   | inr (inl x) ↦ omega (arith, some, rw x.3 at (ready_first remaining s x.0 going))
@@ -81,84 +78,88 @@ first-more : (m k : ℕ) (xs ys : List ℕ) → k * m ≤ length xs → first_pa
 unfolding first_packets
 first-more m zero xs ys h = refl
 first-more m (suc k) xs ys h =
-    let long : k * m + m ≤ length xs = omega (arith, h, suc-mul k m) in
-    let tail = drop-append-le (k * m) xs ys (omega (arith, long)) in
-    rw (first-more m k xs ys (omega (arith, long)), tail, take-append-le m (drop (k * m) xs) ys (omega (arith, long, length-drop (k * m) xs)))
+    let long : k * m + m ≤ length xs = omega arith in
+    rw (
+      first-more m k xs ys (omega arith),
+      N.drop-append-le (k * m) xs ys (omega (arith, long)),
+      N.take-append-le m (drop (k * m) xs) ys (omega
+          (arith, long, N.length-drop (k * m) xs)),
+    )
 
 first-length : (m k : ℕ) (xs : List ℕ) → length (first_packets m k xs) ≡ k
 unfolding first_packets
 first-length m zero xs = refl
 first-length m (suc k) xs = rw (length-append, first-length m k xs) (omega arith)
 
-wire-more : (ps : List Packet) (p : Packet) → wire_of (ps ++ p ∷ []) ≡ wire_of ps ++ packet_bytes p
-wire-more ps p = simp (flat_map-append, append-nil)
+wire-more : (ps : List N.Packet) (p : N.Packet) → wire_of (ps ++ p ∷ []) ≡ wire_of ps ++ N.packet_bytes p
+wire-more ps p = simp (N.flat_map-append, N.append-nil)
 
 -- how a payload is cut that ends with a body after full packets
 parts : (m k : ℕ) (payload body : List ℕ) → length payload ≡ k * m → length body ≤ m → 0 < m → (0 < k → 0 < length body)
-    → (before_last m (length (payload ++ body)) ≡ k) × (packets_before m (payload ++ body) ≡ first_packets m k payload)
+    → (N.before_last m (length (payload ++ body)) ≡ k) × (N.packets_before m (payload ++ body) ≡ first_packets m k payload)
     × (drop (k * m) (payload ++ body) ≡ body)
-parts m k payload body whole fits room some = grind (arith, length-append, first-more, drop-append_seam)
+parts m k payload body whole fits room some = grind (arith, length-append, first-more, N.drop-append_seam)
 
 -- a full packet more is one of the first
 first_is : (m k n : ℕ) (payload body : List ℕ) → n ≡ suc k → length payload ≡ k * m → length body ≡ m
     → first_packets m n (payload ++ body) ≡ first_packets m k payload ++ cut_packet k false body ∷ []
 unfolding first_packets
-first_is m k n payload body is whole full = grind (arith, drop-append_seam, take_all, first-more)
+first_is m k n payload body is whole full = grind (arith, N.drop-append_seam, N.take_all, first-more)
 
 -- Full packets were written, and these bytes of the payload taken for them. More were ready then.
 pub record Cutting {R W : Type 0} (remaining : R → Option (List ℕ)) (contents : W → Option (List ℕ)) (m : ℕ) (a : Seen) (s : PayloadOf R)
-    (old new : Counted W) (done : Written) : Type 0 where
+    (old new : Counted W) (done : N.Written) : Type 0 where
   pub payload : List ℕ
   pub takes : Takes a (seen remaining s) payload (length payload + 1)
   pub whole : length payload ≡ done.packets * m
   pub placed : s.place ≡ length payload
-  pub wrote : Gains contents old new (wire_of (first_packets m done.packets payload))
+  pub wrote : N.Gains contents old new (wire_of (first_packets m done.packets payload))
   pub bytes_are : done.bytes ≡ length (wire_of (first_packets m done.packets payload))
-  pub stays : Stays old.failures new.failures (wire_of (first_packets m done.packets payload))
-  pub more : 0 < done.packets → 0 < length (buffered s)
+  pub stays : N.Stays old.failures new.failures (wire_of (first_packets m done.packets payload))
+  pub more : 0 < done.packets → 0 < length (N.buffered s)
 
 -- nothing was cut
 pub cut_none : {R W : Type 0} (remaining : R → Option (List ℕ)) (contents : W → Option (List ℕ)) {m : ℕ} {s : PayloadOf R} {to : Counted W}
     → s.place ≡ 0 → Cutting remaining contents m (seen remaining s) s to to (record { packets = 0; bytes = 0 })
 unfolding first_packets
-cut_none remaining contents e = grind (arith, Appends-nil)
+cut_none remaining contents e = grind (arith, N.Appends-nil)
 
 module _ {R W : Type 0} {remaining : R → Option (List ℕ)} {contents : W → Option (List ℕ)} {a : Seen} {s t : PayloadOf R} {room : ℕ} {packet : List ℕ}
-    {old mid : Counted W} {done : Written}
+    {old mid : Counted W} {done : N.Written}
     (x : Cutting remaining contents (room - 8) a s old mid done) (going : s.stopped ≡ None) (large : 8 < room) where
   next_parts : {r : Result Bool Stop} → Gathers remaining s t room packet r → let all = x.payload ++ drop 8 packet in
-      (before_last (room - 8) (length all) ≡ done.packets) × (packets_before (room - 8) all ≡ first_packets (room - 8) done.packets x.payload)
+      (N.before_last (room - 8) (length all) ≡ done.packets) × (N.packets_before (room - 8) all ≡ first_packets (room - 8) done.packets x.payload)
       × (drop (done.packets * (room - 8)) all ≡ drop 8 packet)
-  next_parts {r = r} made = parts _ _ _ _ x.whole (omega (arith, made.fits, length-drop 8 packet)) (omega (arith, large))
+  next_parts {r = r} made = parts _ _ _ _ x.whole (omega (arith, made.fits, N.length-drop 8 packet)) (omega (arith, large))
       (λ h. some_ready _ r made going large (x.more h))
 
   next_takes : {last : Bool} → Gathers remaining s t room packet (Ok last)
       → Takes a (seen remaining t) (x.payload ++ drop 8 packet) (length (x.payload ++ drop 8 packet) + 1)
-  next_takes made = joined a _ _ _ _ _ (le_refl _) x.takes made.gives
+  next_takes made = joined a _ _ _ _ _ (N.le_refl _) x.takes made.gives
 
   next_full : {last : Bool} → Gathers remaining s t room packet (Ok last) → last ≡ false
       → length (x.payload ++ drop 8 packet) ≡ (done.packets + 1) * (room - 8)
-  next_full made e = grind (arith, common_steps, length-append, suc-mul)
+  next_full made e = grind (arith, N.common_steps, length-append, N.suc-mul)
 
   -- a full packet was written
-  pub cut_more : {new : Counted W} {last : Bool} {more : Written} → last ≡ false → Gathers remaining s t room packet (Ok last)
-      → WritesPacket contents mid new done (packet_bytes (cut_packet done.packets false (drop 8 packet))) (Ok more)
+  pub cut_more : {new : Counted W} {last : Bool} {more : N.Written} → last ≡ false → Gathers remaining s t room packet (Ok last)
+      → N.WritesPacket contents mid new done (N.packet_bytes (cut_packet done.packets false (drop 8 packet))) (Ok more)
       → Cutting remaining contents (room - 8) a t old new more
   cut_more {new = new} test made writes =
-      let full : length (drop 8 packet) ≡ room - 8 = omega (arith, length-drop 8 packet, (made.full test).0) in
+      let full : length (drop 8 packet) ≡ room - 8 = omega (arith, N.length-drop 8 packet, (made.full test).0) in
       let firsts = ap wire_of (first_is _ _ (done.packets + 1) x.payload (drop 8 packet) (omega arith) x.whole full)
       ∙ wire-more (first_packets (room - 8) done.packets x.payload) (cut_packet done.packets false (drop 8 packet)) in
       let takes = next_takes made in
       let whole = next_full made test in
-      let wrote = Appends-trans (contents old.device) (contents mid.device) (contents new.device) _ _ x.wrote writes.0 in
-      let stays = Stays-trans old.failures mid.failures new.failures _ (packet_bytes (cut_packet done.packets false (drop 8 packet))) x.stays writes.2
+      let wrote = N.Appends-trans (contents old.device) (contents mid.device) (contents new.device) _ _ x.wrote writes.0 in
+      let stays = Stays-trans old.failures mid.failures new.failures _ (N.packet_bytes (cut_packet done.packets false (drop 8 packet))) x.stays writes.2
       in
       grind (arith, length-append)
 
   -- a packet, or the flush after the last one, failed
-  pub cut_broken : {new : Counted W} {last : Bool} {is : Bool} {stop : RecutStop} → last ≡ is → Gathers remaining s t room packet (Ok last)
-      → WritesPacket contents mid new done (packet_bytes (cut_packet done.packets is (drop 8 packet))) (Err stop)
-      → StopsOutput contents (room - 8) a (seen remaining t) old new stop
+  pub cut_broken : {new : Counted W} {last : Bool} {is : Bool} {stop : N.RecutStop} → last ≡ is → Gathers remaining s t room packet (Ok last)
+      → N.WritesPacket contents mid new done (N.packet_bytes (cut_packet done.packets is (drop 8 packet))) (Err stop)
+      → N.StopsOutput contents (room - 8) a (seen remaining t) old new stop
   cut_broken {new = new} {is} test made writes =
       let p = next_parts made in
       record {
@@ -171,41 +172,38 @@ module _ {R W : Type 0} {remaining : R → Option (List ℕ)} {contents : W → 
         over = λ e. made.over (test ∙ e);
         goes_on = λ e. ((made.full (test ∙ e)).2, rw p.0 (next_full made (test ∙ e)));
         split = rw (p.0, p.2) writes.2;
-        wrote = rw p.1 (Appends-trans (contents old.device) (contents mid.device) (contents new.device) _ writes.0 x.wrote writes.3);
+        wrote = rw p.1 (N.Appends-trans (contents old.device) (contents mid.device) (contents new.device) _ writes.0 x.wrote writes.3);
         stop_is = rw (p.1, length-append, ← x.bytes_are) writes.4;
         failures = rw p.1 (Stays-Rises _ _ x.stays writes.5);
       }
 
   -- all was written, and the writer flushed
-  pub cut_finished : {last : Bool} (new sent : Counted W) {all : Written} {total : ℕ} (r : Result Recut RecutStop) → last ≡ true
+  pub cut_finished : {last : Bool} (new sent : Counted W) {all : N.Written} {total : ℕ} (r : Result N.Recut N.RecutStop) → last ≡ true
       → Gathers remaining s t room packet (Ok last) → total ≡ t.place
-      → WritesPacket contents mid sent done (packet_bytes (cut_packet done.packets true (drop 8 packet))) (Ok all)
-      → Flushes contents sent new all total r → Cuts contents (room - 8) a (seen remaining t) old new r
+      → N.WritesPacket contents mid sent done (N.packet_bytes (cut_packet done.packets true (drop 8 packet))) (Ok all)
+      → N.Flushes contents sent new all total r → N.Cuts contents (room - 8) a (seen remaining t) old new r
   cut_finished new sent (Ok answer) test made et writes flushes =
       let p = next_parts made in
       let takes = next_takes made in
-      let both = Appends-trans (contents old.device) (contents mid.device) _ _ _ x.wrote writes.0 in
-      let wrote = Appends-kept (contents old.device) _ (contents new.device) _ both flushes.0 in
+      let both = N.Appends-trans (contents old.device) (contents mid.device) _ _ _ x.wrote writes.0 in
       grind (arith, length-append, first-length, wire-more)
   cut_finished new sent (Err stop) test made et writes flushes =
-      let bytes = packet_bytes (cut_packet done.packets true (drop 8 packet)) in
-      let wrote = Appends-kept (contents mid.device) _ (contents new.device) bytes writes.0 flushes.0 in
+      let bytes = N.packet_bytes (cut_packet done.packets true (drop 8 packet)) in
       inr (cut_broken test made (
         bytes,
         [],
-        append-nil bytes,
-        wrote,
+        N.append-nil bytes,
+        N.Appends-kept (contents mid.device) _ (contents new.device) bytes writes.0 flushes.0,
         rw writes.1 at flushes.1.0,
-        (flushes.1.1 ∙ ap one_more writes.2.0, writes.2.1),
+        (flushes.1.1 ∙ ap N.one_more writes.2.0, writes.2.1),
       ))
 
   -- the input stopped, and the writer was flushed
   pub cut_stopped : {new : Counted W} {stop : Stop} {flushed : Bool} → Gathers remaining s t room packet (Err stop)
-      → Keeps (contents mid.device) (contents new.device)
-      → (IsTrue flushed → (new.failures ≡ mid.failures) × (mid.failures < 2 ^ 64 - 1)) → (flushed ≡ false → new.failures ≡ one_more mid.failures)
-      → StopsInput contents (room - 8) a (seen remaining t) old new (record { stop = stop; written = done.bytes; unwritten = 0 })
+      → N.Keeps (contents mid.device) (contents new.device)
+      → (N.IsTrue flushed → (new.failures ≡ mid.failures) × (mid.failures < 2 ^ 64 - 1)) → (flushed ≡ false → new.failures ≡ N.one_more mid.failures)
+      → N.StopsInput contents (room - 8) a (seen remaining t) old new (record { stop = stop; written = done.bytes; unwritten = 0 })
   cut_stopped {new = new} {stop = stop} made keeps ok counted =
       let p = next_parts made in
       let ends = Ends-after a _ (seen remaining t) x.payload (drop 8 packet) _ stop x.takes made.gives in
-      let wrote = Appends-kept _ (contents mid.device) (contents new.device) _ x.wrote keeps in
       grind (arith, length-append)

@@ -1,35 +1,35 @@
 -- Calls that read by a grammar, one after another.
+use Rattle.tds_packet.proofs.Words as N
 use Rattle.tds_packet.proofs.{
-  Words.{◌≡◌, ◌∙◌, inl, inr, ℕ, ◌+◌, ◌<◌, List, [], ◌++◌, length, ap, arith, append_assoc, append-nil, length-append, Option, Some, Fault, MessageEnded},
-  Words.{Payload, Stop, Grammar, IsNext, Seen, Takes, Ends, IsBetween, began_at, Reads, RefusesNext, StopsReading, IsCutStop},
+  Words.{◌≡◌, ◌∙◌, inl, inr, ℕ, ◌+◌, ◌<◌, List, [], ◌++◌, length, ap, arith, Option, Some, Stop, Seen, Takes, Reads},
   ElementLaws.{Spelt-none, Spelt-append, Spelt-one},
   Futures.{Takes-none, Takes-trans, Ends-after},
 }
 
 -- bytes taken by two calls
 pub takes_both : (a b c : Seen) (xs ys : List ℕ) → Takes a b xs (length xs) → Takes b c ys (length ys) → Takes a c (xs ++ ys) (length (xs ++ ys))
-takes_both a b c xs ys p q = rw length-append (Takes-trans a b c _ _ _ _ (omega arith) p q)
+takes_both a b c xs ys p q = rw N.length-append (Takes-trans a b c _ _ _ _ (omega arith) p q)
 
 -- bytes taken by two calls, of which the second handed out more than it needed
 pub takes_ahead : (a b c : Seen) (xs ys ahead : List ℕ) → Takes a b xs (length xs) → Takes b c (ys ++ ahead) (length ys)
     → Takes a c ((xs ++ ys) ++ ahead) (length (xs ++ ys))
-takes_ahead a b c xs ys ahead p q = rw (append_assoc, length-append) (Takes-trans a b c _ _ _ _ (omega arith) p q)
+takes_ahead a b c xs ys ahead p q = rw (N.append_assoc, N.length-append) (Takes-trans a b c _ _ _ _ (omega arith) p q)
 
 -- no bytes more
 pub add_none : (n : ℕ) → n + 0 ≡ n
 add_none n = omega arith
 
 -- a call of many bytes and a cut element of an open description stop alike
-pub began_is_cut : (place : ℕ) (ended : Option Fault) (own stop : Stop) → ended ≡ Some MessageEnded → stop ≡ began_at place own
-    → IsCutStop place ended own stop
+pub began_is_cut : (place : ℕ) (ended : Option N.Fault) (own stop : Stop) → ended ≡ Some N.MessageEnded → stop ≡ N.began_at place own
+    → N.IsCutStop place ended own stop
 began_is_cut place ended own stop end is = grind arith
 
-module _ {S : Type 0} (g : Grammar S Fault) where
+module _ {S : Type 0} (g : N.Grammar S N.Fault) where
   abbrev pub reads_none : (s : S) (a : Seen) → Reads g s a a s
   reads_none s a = record { bytes = []; spelt = Spelt-none g s; takes = Takes-none a 0 }
 
   -- an element is read whole, without a fault
-  abbrev pub reads_one : (s : S) (a b : Seen) (element : List ℕ) (t : S) → IsNext g s element → Takes a b element (length element)
+  abbrev pub reads_one : (s : S) (a b : Seen) (element : List ℕ) (t : S) → N.IsNext g s element → Takes a b element (length element)
       → g.add s element ≡ t → Reads g s a b t
   reads_one s a b element t next takes to = record { bytes = element; spelt = rw to at (Spelt-one g s _ next); takes = takes }
 
@@ -43,9 +43,9 @@ module _ {S : Type 0} (g : Grammar S Fault) where
 
   -- what stops a call stops one that began before it
   pub stops_after : (s t : S) (a b c : Seen) (place : ℕ) (at : S) (stop : Stop) → (p : Reads g s a b t)
-      → StopsReading g t b c (place + length p.bytes) at stop → StopsReading g s a c place at stop
+      → N.StopsReading g t b c (place + length p.bytes) at stop → N.StopsReading g s a c place at stop
   stops_after s t a b c place at stop p q =
-      let placed : (place + length p.bytes) + length q.bytes ≡ place + length _ = omega (arith, length-append p.bytes q.bytes) in
+      let placed : (place + length p.bytes) + length q.bytes ≡ place + length _ = omega (arith, N.length-append p.bytes q.bytes) in
       record {
         bytes = p.bytes ++ q.bytes;
         spelt = Spelt-append g s _ t _ at p.spelt q.spelt;
@@ -60,31 +60,31 @@ module _ {S : Type 0} (g : Grammar S Fault) where
                   whole = r.whole;
                   first = r.first;
                   takes = rw
-                      (append_assoc p.bytes q.bytes _) (takes_ahead a b c _ _ _ p.takes r.takes);
+                      (N.append_assoc p.bytes q.bytes _) (takes_ahead a b c _ _ _ p.takes r.takes);
                   between = r.between;
                 },
-                x.1 ∙ ap Payload placed,
+                x.1 ∙ ap N.Payload placed,
               ))
           | inr x ↦ inr (record {
             part = x.part;
             cut = x.cut;
             own = x.own;
-            ends = rw append_assoc (Ends-after a b c _ _ _ _ p.takes x.ends);
+            ends = rw N.append_assoc (Ends-after a b c _ _ _ _ p.takes x.ends);
             stop_is = rw placed at x.stop_is;
           })
         ];
       }
 
   -- the first element is refused
-  pub refused_at_once : (s : S) (a b : Seen) (place : ℕ) (element : List ℕ) (fault : Fault) → 0 < length element → length element ≡ g.size s
-      → g.fault s element ≡ Some fault → Takes a b element (length element) → IsBetween b
-      → StopsReading g s a b place s (record { fault = fault; place = Payload place })
+  pub refused_at_once : (s : S) (a b : Seen) (place : ℕ) (element : List ℕ) (fault : N.Fault) → 0 < length element → length element ≡ g.size s
+      → g.fault s element ≡ Some fault → Takes a b element (length element) → N.IsBetween b
+      → N.StopsReading g s a b place s (record { fault = fault; place = N.Payload place })
   refused_at_once s a b place element fault some whole first takes between =
-      let refused : RefusesNext g a b [] s fault =
-      record { element = element; ahead = []; some = some; whole = whole; first = first; takes = rw append-nil takes; between = between } in
+      let refused : N.RefusesNext g a b [] s fault =
+      record { element = element; ahead = []; some = some; whole = whole; first = first; takes = rw N.append-nil takes; between = between } in
       grind arith
 
   -- the payload stopped in the first element
-  pub cut_at_once : (s : S) (a b : Seen) (place : ℕ) (part : List ℕ) (own stop : Stop) → length part < g.size s → Ends a b part own
-      → IsCutStop place (g.end_fault s) own stop → StopsReading g s a b place s stop
+  pub cut_at_once : (s : S) (a b : Seen) (place : ℕ) (part : List ℕ) (own stop : Stop) → length part < g.size s → N.Ends a b part own
+      → N.IsCutStop place (g.end_fault s) own stop → N.StopsReading g s a b place s stop
   cut_at_once s a b place part own stop cut ends is = grind arith

@@ -1,8 +1,8 @@
 -- Which faults the payload itself may have.
+use Rattle.tds_packet.proofs.Words as N
 use Rattle.tds_packet.proofs.{
-  Words.{PayloadOf, common_steps, arith, ◌≡◌, ◌∙◌, inl, inr, ℕ, zero, suc, ◌+◌, true, false, length, List, [], sym, Option, None, ⊤, one_more, Fault},
-  Words.{MessageEnded, ReadFailed, WriteFailed, Wire, Payload, Stop, Coming, FrontPacket, NoPacket, before, stopped_at, after_packet, coming_of, front_packet},
-  Words.{message, buffered, seen, Ends, Seen},
+  Words.{arith, ◌≡◌, ◌∙◌, inl, inr, ℕ, zero, suc, ◌+◌, true, false, length, List, [], sym, Option, None, ⊤, Fault, ReadFailed, WriteFailed, coming_of},
+  Words.{front_packet, message, seen},
 }
 
 -- a fault that the wire or the end of a message may have
@@ -12,20 +12,20 @@ IsOfWire WriteFailed = ⊥
 IsOfWire fault = ⊤
 
 -- no fault of a packet is the message's end
-front_faults : (size limit wire : ℕ) (input rest : List ℕ) (fault : Fault) → front_packet size limit wire input ≡ NoPacket fault rest → IsOfWire fault
-    × (fault ≡ MessageEnded → ⊥)
+front_faults : (size limit wire : ℕ) (input rest : List ℕ) (fault : Fault) → front_packet size limit wire input ≡ N.NoPacket fault rest → IsOfWire fault
+    × (fault ≡ N.MessageEnded → ⊥)
 unfolding front_packet
-front_faults size limit wire input rest fault e = grind (arith, common_steps)
+front_faults size limit wire input rest fault e = grind (arith, N.common_steps)
 
 -- what holds of each stop, and before the bytes of a packet, holds of what comes from each place on
-module _ (P : ℕ → Coming → Type 0) (ended : (place : ℕ) (rest : List ℕ) → P place (stopped_at MessageEnded (Payload place) rest))
-    (faulty : (wire place : ℕ) (fault : Fault) (rest : List ℕ) → IsOfWire fault × (fault ≡ MessageEnded → ⊥)
-    → P place (stopped_at fault (Wire wire) rest))
-    (more : (place : ℕ) (body : List ℕ) (c : Coming) → P (place + length body) c → P place (before body c)) where
-  packet_keeps : (next : ℕ → ℕ → List ℕ → Coming) (wire : ℕ) {place : ℕ} {p : FrontPacket}
-      → ((rest : List ℕ) (fault : Fault) → p ≡ NoPacket fault rest → IsOfWire fault × (fault ≡ MessageEnded → ⊥))
-      → ((w q : ℕ) (l : List ℕ) → P q (next w q l)) → P place (after_packet next wire place p)
-  packet_keeps next wire h k = grind (arith, common_steps)
+module _ (P : ℕ → N.Coming → Type 0) (ended : (place : ℕ) (rest : List ℕ) → P place (N.stopped_at N.MessageEnded (N.Payload place) rest))
+    (faulty : (wire place : ℕ) (fault : Fault) (rest : List ℕ) → IsOfWire fault × (fault ≡ N.MessageEnded → ⊥)
+    → P place (N.stopped_at fault (N.Wire wire) rest))
+    (more : (place : ℕ) (body : List ℕ) (c : N.Coming) → P (place + length body) c → P place (N.before body c)) where
+  packet_keeps : (next : ℕ → ℕ → List ℕ → N.Coming) (wire : ℕ) {place : ℕ} {p : N.FrontPacket}
+      → ((rest : List ℕ) (fault : Fault) → p ≡ N.NoPacket fault rest → IsOfWire fault × (fault ≡ N.MessageEnded → ⊥))
+      → ((w q : ℕ) (l : List ℕ) → P q (next w q l)) → P place (N.after_packet next wire place p)
+  packet_keeps next wire h k = grind (arith, N.common_steps)
 
   message_keeps : (size limit fuel wire place : ℕ) (input : List ℕ) → P place (message size limit fuel wire place input)
   unfolding message
@@ -34,11 +34,11 @@ module _ (P : ℕ → Coming → Type 0) (ended : (place : ℕ) (rest : List ℕ
       packet_keeps _ wire (front_faults size limit wire input) (message_keeps size limit fuel)
 
   -- so it does of what comes of a payload that has not stopped
-  pub seen_keeps : {R : Type 0} (remaining : R → Option (List ℕ)) (p : PayloadOf R) (input : List ℕ) → p.stopped ≡ None
+  pub seen_keeps : {R : Type 0} (remaining : R → Option (List ℕ)) (p : N.PayloadOf R) (input : List ℕ) → p.stopped ≡ None
       → P p.place ((seen remaining p).future input)
   unfolding coming_of
   seen_keeps remaining p input going = rw going
-      (elim p.last as (λ last. P p.place (coming_of p.packet.now.room p.max_wire p.wire p.place last None (buffered p) input)) [
+      (elim p.last as (λ last. P p.place (coming_of p.packet.now.room p.max_wire p.wire p.place last None (N.buffered p) input)) [
         | true ↦ more p.place _ _ (ended _ input)
         | false ↦ more p.place _ _ (message_keeps _ _ _ _ _ _)
       ])
@@ -48,12 +48,12 @@ pub message_of_wire : (size limit fuel wire place : ℕ) (input : List ℕ) → 
 message_of_wire = message_keeps (λ _ c. IsOfWire c.stop.fault) _ (λ _ _ _ _ h. h.0) (λ _ _ _ h. h)
 
 -- a payload that stops blames a device only where a read failed
-pub ends_blame : {R : Type 0} (remaining : R → Option (List ℕ)) (p : PayloadOf R) (b : Seen) (bytes : List ℕ) (own : Stop) → p.stopped ≡ None
-    → Ends (seen remaining p) b bytes own
-    → (own.fault ≡ WriteFailed → ⊥) × (own.fault ≡ ReadFailed → b.failures ≡ one_more p.from.now.failures)
+pub ends_blame : {R : Type 0} (remaining : R → Option (List ℕ)) (p : N.PayloadOf R) (b : N.Seen) (bytes : List ℕ) (own : N.Stop) → p.stopped ≡ None
+    → N.Ends (seen remaining p) b bytes own
+    → (own.fault ≡ WriteFailed → ⊥) × (own.fault ≡ ReadFailed → b.failures ≡ N.one_more p.from.now.failures)
 ends_blame remaining p b bytes own going ends =
     let of_wire : (input rest : List ℕ) → (seen remaining p).future input ≡ record { bytes = bytes; stop = own; rest = rest }
-    → (own.fault ≡ WriteFailed → ⊥) × (own.fault ≡ ReadFailed → b.failures ≡ one_more p.from.now.failures) = λ input rest e.
+    → (own.fault ≡ WriteFailed → ⊥) × (own.fault ≡ ReadFailed → b.failures ≡ N.one_more p.from.now.failures) = λ input rest e.
     (let h = rw e at (seen_keeps (λ _ c. IsOfWire c.stop.fault) _ (λ _ _ _ _ h. h.0) (λ _ _ _ h. h) remaining p input going) in (
       λ w. rw
           w at h,
@@ -62,5 +62,5 @@ ends_blame remaining p b bytes own going ends =
     elim ends [
       | inl x ↦ of_wire _ [] (x.2 [])
       | inr (inl x) ↦ of_wire x.0 [] x.3
-      | inr (inr x) ↦ (λ e. (let no = sym x.2 ∙ e in cc), λ e. x.4.0)
+      | inr (inr x) ↦ (λ e. (cc), λ e. x.4.0)
     ]

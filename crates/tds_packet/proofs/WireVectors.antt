@@ -1,8 +1,6 @@
 -- Worked wires: the payload that each has to give, the bytes of its whole packets, and the fault that ends it.
-use Rattle.tds_packet.proofs.{
-  Words.{◌≡◌, ℕ, ◌-◌, ◌/◌, ◌%◌, List, [], ◌∷◌, ◌++◌, map, take, refl, Fault, InputEnded, MessageEnded, WrongPacketType, BadPacketLength, ResponseTooLong, Wire},
-  Words.{Payload, Stop, message, front_packet, whole_message},
-}
+use Rattle.tds_packet.proofs.Words as N
+use Rattle.tds_packet.proofs.Words.{◌≡◌, ℕ, ◌-◌, ◌/◌, ◌%◌, List, [], ◌∷◌, ◌++◌, map, take, refl, Stop, message, front_packet}
 
 -- the payload of the worked wires
 abbrev payload : List ℕ
@@ -19,13 +17,13 @@ small_packets between (x ∷ []) = 4 ∷ 1 ∷ 0 ∷ 9 ∷ 0 ∷ 0 ∷ 0 ∷ 0 �
 small_packets between (x ∷ xs) = (4 ∷ 0 ∷ 0 ∷ 9 ∷ 0 ∷ 0 ∷ 0 ∷ 0 ∷ x ∷ between) ++ small_packets between xs
 
 abbrev ended : List ℕ × Stop
-ended = (payload, record { fault = MessageEnded; place = Payload 31 })
+ended = (payload, record { fault = N.MessageEnded; place = N.Payload 31 })
 
-abbrev refused : List ℕ → ℕ → Fault → List ℕ × Stop
-refused coming taken fault = (coming, record { fault = fault; place = Wire taken })
+abbrev refused : List ℕ → ℕ → N.Fault → List ℕ × Stop
+refused coming taken fault = (coming, record { fault = fault; place = N.Wire taken })
 
 abbrev read : ℕ → ℕ → List ℕ → List ℕ × Stop
-read size limit wire = let c = whole_message size limit wire in (c.bytes, c.stop)
+read size limit wire = let c = N.whole_message size limit wire in (c.bytes, c.stop)
 
 abbrev within : ℕ
 within = 1099511627776
@@ -38,16 +36,16 @@ worked :
     -- with an empty packet between each two
     × (read 4096 within (small_packets (4 ∷ 0 ∷ 0 ∷ 8 ∷ 0 ∷ 0 ∷ 0 ∷ 0 ∷ []) payload) ≡ ended)
     -- the last byte is missing
-    × (read 4096 within (take 38 (one_packet 4)) ≡ refused [] 0 InputEnded)
+    × (read 4096 within (take 38 (one_packet 4)) ≡ refused [] 0 N.InputEnded)
     -- another Type, of the first packet and of the second
-    × (read 4096 within (one_packet 3) ≡ refused [] 0 (WrongPacketType 3))
-    × (read 4096 within (4 ∷ 0 ∷ 0 ∷ 9 ∷ 0 ∷ 0 ∷ 0 ∷ 0 ∷ 129 ∷ 3 ∷ 0 ∷ 0 ∷ 9 ∷ 0 ∷ 0 ∷ 0 ∷ 0 ∷ []) ≡ refused (129 ∷ []) 9 (WrongPacketType 3))
+    × (read 4096 within (one_packet 3) ≡ refused [] 0 (N.WrongPacketType 3))
+    × (read 4096 within (4 ∷ 0 ∷ 0 ∷ 9 ∷ 0 ∷ 0 ∷ 0 ∷ 0 ∷ 129 ∷ 3 ∷ 0 ∷ 0 ∷ 9 ∷ 0 ∷ 0 ∷ 0 ∷ 0 ∷ []) ≡ refused (129 ∷ []) 9 (N.WrongPacketType 3))
     -- a Length below 8, and one above the size
-    × (read 4096 within (4 ∷ 1 ∷ 0 ∷ 7 ∷ 0 ∷ 0 ∷ 1 ∷ 0 ∷ []) ≡ refused [] 0 (BadPacketLength 7))
-    × (read 512 within (4 ∷ 1 ∷ 2 ∷ 1 ∷ 0 ∷ 0 ∷ 1 ∷ 0 ∷ []) ≡ refused [] 0 (BadPacketLength 513))
+    × (read 4096 within (4 ∷ 1 ∷ 0 ∷ 7 ∷ 0 ∷ 0 ∷ 1 ∷ 0 ∷ []) ≡ refused [] 0 (N.BadPacketLength 7))
+    × (read 512 within (4 ∷ 1 ∷ 2 ∷ 1 ∷ 0 ∷ 0 ∷ 1 ∷ 0 ∷ []) ≡ refused [] 0 (N.BadPacketLength 513))
     -- the limit is the length, and less
     × (read 4096 39 (one_packet 4) ≡ ended)
-    × (read 4096 38 (one_packet 4) ≡ refused [] 0 ResponseTooLong)
+    × (read 4096 38 (one_packet 4) ≡ refused [] 0 N.ResponseTooLong)
 unfolding message front_packet
 worked = (refl, refl, refl, refl, refl, refl, refl, refl, refl, refl, refl)
 
@@ -55,7 +53,7 @@ worked = (refl, refl, refl, refl, refl, refl, refl, refl, refl, refl, refl)
 abbrev beginnings : List ℕ
 beginnings = 0 ∷ 1 ∷ 8 ∷ 9 ∷ 10 ∷ 17 ∷ 18 ∷ 100 ∷ 269 ∷ 270 ∷ 278 ∷ []
 
-begun : map (λ n. read 4096 within (take n (small_packets [] payload))) beginnings ≡ map (λ n. refused (take (n / 9) payload) (n - n % 9) InputEnded)
+begun : map (λ n. read 4096 within (take n (small_packets [] payload))) beginnings ≡ map (λ n. refused (take (n / 9) payload) (n - n % 9) N.InputEnded)
     beginnings
 unfolding message front_packet
 begun = refl

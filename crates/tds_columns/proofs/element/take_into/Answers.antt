@@ -21,8 +21,8 @@ returns-in-Err-clause-area g c =
 
 pub returns-in-Err-clause-gives : goal.returns-in-Err-clause-gives
 returns-in-Err-clause-gives g c = λ going.
-    let stands = grown _ _ c.fill.new.to c.fill.auto.to in
-    let back = shrunk _ _ stands (c.fill.auto.to ∙ c.grow_within-lent.ensures.value) c.len-start.ensures.value c.truncate.ensures in
+    let back = shrunk _ _ (grown _ _ c.fill.new.to c.fill.auto.to) (c.fill.auto.to
+    ∙ c.grow_within-lent.ensures.value) c.len-start.ensures.value c.truncate.ensures in
     let part = c.in-Err.ensures.part going in
     record {
       part = take part.0 c.fill.new.to;

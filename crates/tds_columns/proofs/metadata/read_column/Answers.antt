@@ -7,5 +7,4 @@ returns-in_err-read_type-clause-gives g c =
 
 pub returns-clause-gives : goal.returns-clause-gives
 returns-clause-gives g c = λ columns number.
-    let type = c.in_ok-read_type.ensures.gives _ number in
-    part_after _ _ _ _ _ c.in_ok-read_type.ensures.leaves.room type.1 (c.read_name.ensures.gives _ _ number)
+    part_after _ _ _ _ _ c.in_ok-read_type.ensures.leaves.room (c.in_ok-read_type.ensures.gives _ number).1 (c.read_name.ensures.gives _ _ number)

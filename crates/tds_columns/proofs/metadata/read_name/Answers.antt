@@ -1,36 +1,36 @@
 use Rattle.tds_columns.proofs.metadata.read_name.Goals as goal
+use Rattle.tds_columns.proofs.Words as N
 use Rattle.tds_columns.proofs.{
-  Words.{add-zero, ◌+◌, ◌*◌, Seen, Space, TakesInto, List, Column, ℕ, length, get_or, ◌-◌, too_long, ◌≡◌, ◌∙◌, [], slice_index, refl, sym, arith, ne_eqb},
-  Words.{choose_false, passed},
+  Words.{◌+◌, ◌*◌, List, ℕ, length, ◌-◌, ◌≡◌, ◌∙◌, [], slice_index, refl, sym, arith},
   ElementSteps.{byte_at, length_into},
   GatherSteps.{column_bytes, description_cut, description_read, description_refused, name_after},
 }
 
 pub returns-in_err-take_into-clause-gives : goal.returns-in_err-take_into-clause-gives
 returns-in_err-take_into-clause-gives g c =
-    λ columns kind number. passed _ _ _ _ c.from_residual.ensures.1
+    λ columns kind number. N.passed _ _ _ _ c.from_residual.ensures.1
     (description_cut (c.in_err-take_into.ensures.gives c.requires.going.going) refl refl)
 
 -- the number of the units, and what is judged of it
-judged : {a b : Seen} {before after : Space} (t : TakesInto a b before after 1) (columns : List Column) (count : ℕ) {bytes : List ℕ}
+judged : {a b : N.Seen} {before after : N.Space} (t : N.TakesInto a b before after 1) (columns : List N.Column) (count : ℕ) {bytes : List ℕ}
     {index start room units left : ℕ} → length columns ≡ index → bytes ≡ after.bytes → start ≡ length before.bytes → room ≡ before.room
-    → units ≡ get_or bytes start 0 → left ≡ count - (index + 1)
-    → (units ≡ slice_index t.element 0) × (too_long before.room (length before.bytes + 1)
-    (2 * slice_index t.element 0 + 8 * (count - (length columns + 1))) ≡ too_long room (start + 1) (2 * units + 8 * left))
-judged t columns count number same at limit is other = let u = is ∙ rw add-zero at (byte_at t 0 same at) in (u, rw (limit, at, other, number, ← u))
+    → units ≡ N.get_or bytes start 0 → left ≡ count - (index + 1)
+    → (units ≡ slice_index t.element 0) × (N.too_long before.room (length before.bytes + 1)
+    (2 * slice_index t.element 0 + 8 * (count - (length columns + 1))) ≡ N.too_long room (start + 1) (2 * units + 8 * left))
+judged t columns count number same at limit is other = let u = is ∙ rw N.add-zero at (byte_at t 0 same at) in (u, rw (limit, at, other, number, ← u))
 
 pub returns-in-Some-clause-gives : goal.returns-in-Some-clause-gives
 returns-in-Some-clause-gives g c = λ columns kind number.
     let t = c.in_ok-take_into.ensures.gives in
-    let w = judged t columns c.args.column.count number c.bytes.ensures.value c.len-start.ensures.value (c.room.ensures
-    ∙ c.in_ok-take_into.ensures.area.room) c.from-size.ensures c.from-later.ensures in
-    rw (c.in_payload.ensures, c.place-place.ensures) (description_refused t (omega arith) refl (w.1 ∙ sym c.too_long.ensures
+    rw (c.in_payload.ensures, c.place-place.ensures) (description_refused t (omega arith) refl
+    ((judged t columns c.args.at.count number c.bytes.ensures.value c.len-start.ensures.value (c.room.ensures
+    ∙ c.in_ok-take_into.ensures.area.room) c.from-size.ensures c.from-later.ensures).1 ∙ sym c.too_long.ensures
     ∙ c.in-Some.is) refl c.len-start.ensures.value c.truncate.ensures)
 
 pub returns-then-size-eq0-clause-gives : goal.returns-then-size-eq0-clause-gives
 returns-then-size-eq0-clause-gives g c = λ columns kind number.
     let t = c.in_ok-take_into.ensures.gives in
-    let w = judged t columns c.args.column.count number c.bytes.ensures.value c.len-start.ensures.value (c.room.ensures
+    let w = judged t columns c.args.at.count number c.bytes.ensures.value c.len-start.ensures.value (c.room.ensures
     ∙ c.in_ok-take_into.ensures.area.room) c.from-size.ensures c.from-later.ensures in
     let zero : slice_index t.element 0 ≡ 0 = omega arith in (
       record { kind = kind; name = [] },
@@ -41,11 +41,11 @@ returns-then-size-eq0-clause-gives g c = λ columns kind number.
 pub returns-clause-gives : goal.returns-clause-gives
 returns-clause-gives g c = λ columns kind number.
     let t = c.in_ok-take_into.ensures.gives in
-    let w = judged t columns c.args.column.count number c.bytes.ensures.value c.len-start.ensures.value (c.room.ensures
+    let w = judged t columns c.args.at.count number c.bytes.ensures.value c.len-start.ensures.value (c.room.ensures
     ∙ c.in_ok-take_into.ensures.area.room) c.from-size.ensures c.from-later.ensures in
     name_after _ _ _ _ c.take_into.new.payload.stopped {columns = columns} {kind = kind}
     (description_read t (omega arith) refl (w.1 ∙ sym c.too_long.ensures
-    ∙ c.in_default.is) (rw (t.stands, ← w.0) (choose_false _ _ _ (ne_eqb c.from-size.result 0 (λ z. c.if-size-eq0.false (rw z)))))
+    ∙ c.in_default.is) (rw (t.stands, ← w.0) (N.choose_false _ _ _ (N.ne_eqb c.from-size.result 0 (λ z. c.if-size-eq0.false (rw z)))))
     c.in_ok-take_into.ensures.place refl refl refl)
     c.if-size-eq0.false c.in_ok-take_into.ensures.payload.going c.take_into-2.ensures.place c.take_into-2.ensures.gives
 

@@ -1,30 +1,34 @@
 use Rattle.tds_columns.proofs.metadata.read_type.Goals as goal
+use Rattle.tds_columns.proofs.Words as N
 use Rattle.tds_columns.proofs.{
-  Words.{◌≡◌, ◌∙◌, ◌+◌, ◌*◌, ◌≤◌, ◌++◌, ℕ, slice_index, refl, List, arith, Some, None, unwrap_or, ne_eqb, rest_length, Kind, bare_type, Column},
-  Words.{InColumn, NameCount, head_fault, with_type, choose_false, passed},
+  Words.{◌≡◌, ◌∙◌, ◌+◌, ◌*◌, ◌≤◌, ◌++◌, ℕ, refl, List, arith, Some, None},
   ElementSteps.byte_at,
   GatherSteps.{description_cut, description_read, description_refused, part_after},
 }
 
 -- nothing follows this type byte
-bare : (bytes after : List ℕ) (count : ℕ) (columns : List Column) (byte rest : ℕ) → rest_length byte ≡ Some rest → rest ≡ 0 → after ≡ bytes
-    → (kind : Kind) × (with_type bytes count columns byte (unwrap_or (rest_length byte) 0) ≡ InColumn after count columns (NameCount kind))
-bare bytes after count columns byte rest known zero same = grind (arith, bare_type)
+bare : (bytes after : List ℕ) (count : ℕ) (columns : List N.Column) (byte rest : ℕ) → N.rest_length byte ≡ Some rest → rest ≡ 0 → after ≡ bytes
+    → (kind : N.Kind) × (N.with_type bytes count columns byte (N.unwrap_or (N.rest_length byte) 0) ≡ N.InColumn after count columns (N.NameCount kind))
+bare bytes after count columns byte rest known zero same = grind (arith, N.bare_type)
 
 -- a head that is accepted
-no_fault : (room so_far byte rest index left : ℕ) → rest_length byte ≡ Some rest → (so_far + rest) + 1 + 8 * left ≤ room
-    → head_fault room so_far byte index left ≡ None
+no_fault : (room so_far byte rest index left : ℕ) → N.rest_length byte ≡ Some rest → (so_far + rest) + 1 + 8 * left ≤ room
+    → N.head_fault room so_far byte index left ≡ None
 no_fault room so_far byte rest index left known fits = grind arith
 
 pub returns-in_err-take_into-clause-gives : goal.returns-in_err-take_into-clause-gives
 returns-in_err-take_into-clause-gives g c =
-    λ columns number. passed _ _ _ _ c.from_residual.ensures.1 (description_cut (c.in_err-take_into.ensures.gives c.requires.going.going) refl refl)
+    λ columns number. N.passed _ _ _ _ c.from_residual.ensures.1 (description_cut (c.in_err-take_into.ensures.gives c.requires.going.going) refl refl)
 
 pub returns-in-Err-clause-gives : goal.returns-in-Err-clause-gives
 returns-in-Err-clause-gives g c = λ columns number.
     let t = c.in_ok-take_into.ensures.gives in
-    let byte = byte_at t 6 c.bytes.ensures.value c.len-start.ensures.value in
-    let first = rw (byte, c.len-start.ensures.value, c.room.ensures ∙ c.in_ok-take_into.ensures.area.room) at c.in-Err.ensures in
+    let first = rw (
+      byte_at t 6 c.bytes.ensures.value c.len-start.ensures.value,
+      c.len-start.ensures.value,
+      c.room.ensures
+          ∙ c.in_ok-take_into.ensures.area.room,
+    ) at c.in-Err.ensures in
     rw (c.in_payload.ensures, c.place-place.ensures) (description_refused t (omega arith) refl (rw number first) refl c.len-start.ensures.value
     c.truncate.ensures)
 
@@ -32,7 +36,7 @@ pub returns-then-rest-eq0-clause-gives : goal.returns-then-rest-eq0-clause-gives
 returns-then-rest-eq0-clause-gives g c = λ columns number.
     let t = c.in_ok-take_into.ensures.gives in
     let known = rw (byte_at t 6 c.bytes.ensures.value c.len-start.ensures.value) at c.in-Ok.ensures.0 in
-    let kind = bare (c.args.area.now.bytes ++ t.element) c.take_into.new.area.bytes c.args.column.count columns (slice_index t.element 6) c.in-Ok.rest known
+    let kind = bare (c.args.area.now.bytes ++ t.element) c.take_into.new.area.bytes c.args.at.count columns (N.slice_index t.element 6) c.in-Ok.rest known
     c.if-rest-eq0.true (rw t.stands) in (
       kind.0,
       description_read t (omega arith) refl (no_fault _ _ _ c.in-Ok.rest _ _ known (rw number (omega arith))) kind.1
@@ -46,5 +50,5 @@ returns-clause-gives g c = λ columns number.
     let known = rw byte at c.in-Ok.ensures.0 in
     part_after _ _ _ _ _ c.in_ok-take_into.ensures.area.room
     (description_read t (omega arith) refl (no_fault _ _ _ c.in-Ok.rest _ _ known (rw number (omega (arith, c.in-Ok.ensures.1))))
-    (rw (known, t.stands, byte) (choose_false _ _ _ (ne_eqb c.in-Ok.rest 0 c.if-rest-eq0.false))) c.in_ok-take_into.ensures.place refl refl refl)
-    (c.read_info.ensures.gives c.args.column.count columns number)
+    (rw (known, t.stands, byte) (N.choose_false _ _ _ (N.ne_eqb c.in-Ok.rest 0 c.if-rest-eq0.false))) c.in_ok-take_into.ensures.place refl refl refl)
+    (c.read_info.ensures.gives c.args.at.count columns number)

@@ -35,9 +35,8 @@ returns-in-Some-clause-kind g c =
 pub returns-in-Some-clause-gives : goal.returns-in-Some-clause-gives
 returns-in-Some-clause-gives g c = λ before taken.
     let t = c.in_ok-take_into.ensures.gives in
-    let same = element_at t c.bytes-2.ensures.value (sym c.requires.head.eight) in
     type_whole c.args.small.now.bytes taken c.requires.head.eight c.in-Ok.rest (rw c.bytes.ensures.value at c.in-Ok.ensures.gives) t
-    (rw (same, c.bytes.ensures.value) at (sym c.kind_of.ensures ∙ c.in-Some.is))
+    (rw (element_at t c.bytes-2.ensures.value (sym c.requires.head.eight), c.bytes.ensures.value) at (sym c.kind_of.ensures ∙ c.in-Some.is))
 
 pub returns-in-None-clause-area : goal.returns-in-None-clause-area
 returns-in-None-clause-area g c =
@@ -49,9 +48,8 @@ pub returns-in-None-clause-gives : goal.returns-in-None-clause-gives
 returns-in-None-clause-gives g c = λ before taken.
     let t = c.in_ok-take_into.ensures.gives in
     let known = rw c.bytes.ensures.value at c.in-Ok.ensures.gives in
-    let same = element_at t c.bytes-2.ensures.value (sym c.requires.head.eight) in
     let none : kind_of (slice_index c.args.small.now.bytes 7 ∷ t.element) ≡ None =
-    rw (same, c.bytes.ensures.value) at (sym c.kind_of.ensures ∙ c.in-None.is) in
+    rw (element_at t c.bytes-2.ensures.value (sym c.requires.head.eight), c.bytes.ensures.value) at (sym c.kind_of.ensures ∙ c.in-None.is) in
     let some = no_kind _ t.element known t.whole none in
     rw (c.in_payload-in-None.ensures, c.place-place.ensures) (stops_after_steps c.args.small.now.bytes taken c.requires.head.eight c.in-Ok.rest known
     some c.requires.head.place (refused_into t (omega (arith, some)) (rw known) (rw none)))

@@ -1,7 +1,7 @@
 use Rattle.tds_columns.proofs.walk.column_at.Goals as goal
+use Rattle.tds_columns.proofs.Words as N
 use Rattle.tds_columns.proofs.{
-  Words.{◌≡◌, ◌+◌, ◌*◌, ◌-◌, ◌%◌, ℕ, List, length, take, drop, get_or, slice_index, true, sym, ap, arith, length-drop, length-take-le, Some, Kind, is_valid},
-  Words.{named_kind, rest_length, Column, column_at, name_size, rest_size},
+  Words.{◌≡◌, ◌+◌, ◌*◌, ◌-◌, ◌%◌, ℕ, List, length, take, drop, true, sym, ap, arith, Some, name_size, rest_size},
   ViewLaws.{all_after, Lies, lies},
 }
 
@@ -11,18 +11,29 @@ kind_at-kind-requires c =
     (rest_size c.args.bytes.now, l.known, omega arith)
 
 -- the kind and the name at the front, by the number of bytes after the type byte and that of the name's units
-at_front : {bytes : List ℕ} {kind : Kind} {rest units : ℕ} → Lies bytes → rest_length (slice_index bytes 6) ≡ Some rest
-    → ((k : Kind) → named_kind (slice_index bytes 6) (take rest (take (length bytes - 7) (drop 7 bytes))) ≡ Some k → kind ≡ k)
-    → units ≡ get_or bytes (8 + rest - 1) 0
-    → (is_valid kind ≡ true) × (length (take (8 + rest + 2 * units - (8 + rest)) (drop (8 + rest) bytes)) % 2 ≡ 0)
-    × (◌≡◌ {A = Column} (record { kind = kind; name = take (8 + rest + 2 * units - (8 + rest)) (drop (8 + rest) bytes) }) (column_at bytes))
+at_front : {bytes : List ℕ} {kind : N.Kind} {rest units : ℕ} → Lies bytes → N.rest_length (N.slice_index bytes 6) ≡ Some rest
+    → ((k : N.Kind) → N.named_kind (N.slice_index bytes 6) (take rest (take (length bytes - 7) (drop 7 bytes))) ≡ Some k → kind ≡ k)
+    → units ≡ N.get_or bytes (8 + rest - 1) 0
+    → (N.is_valid kind ≡ true) × (length (take (8 + rest + 2 * units - (8 + rest)) (drop (8 + rest) bytes)) % 2 ≡ 0)
+    × (◌≡◌ {A = N.Column} (record { kind = kind; name = take (8 + rest + 2 * units - (8 + rest)) (drop (8 + rest) bytes) }) (N.column_at bytes))
 at_front {bytes} {kind} {rest} {units} l known named is =
     let r : rest ≡ rest_size bytes = cc in
     let byte : 8 + rest - 1 ≡ 7 + rest_size bytes = omega (arith, r) in
-    let size : 8 + rest + 2 * units - (8 + rest) ≡ name_size bytes = omega (arith, is, ap (λ n. get_or bytes n 0) byte) in
-    let k = named l.kind (rw (all_after bytes 7, r) l.named) in
-    let len = length-take-le (name_size bytes) (drop (8 + rest) bytes) (omega (arith, l.enough, r, length-drop (8 + rest) bytes)) in
-    (rw k l.valid, rw size (omega (arith, len)), rw (k, size, r) (sym l.at))
+    let size : 8 + rest + 2 * units - (8 + rest) ≡ name_size bytes = omega (arith, is, ap (λ n. N.get_or bytes n 0) byte) in
+    let k = named l.kind (rw (all_after bytes 7, r) l.named) in (
+      rw k l.valid,
+      rw size (omega (
+        arith,
+        N.length-take-le (name_size bytes) (drop (8 + rest) bytes) (omega (
+          arith,
+          l.enough,
+          r,
+          N.length-drop
+              (8 + rest) bytes,
+        )),
+      )),
+      rw (k, size, r) (sym l.at),
+    )
 
 pub invariant_of-column : goal.invariant_of-column
 invariant_of-column c =

@@ -3,9 +3,7 @@ use Rattle.tds_columns.proofs.{Words.{◌∙◌, arith, drop, and_parts}, ViewLa
 
 pub invariant_of-result : goal.invariant_of-result
 invariant_of-result c =
-    let bytes = c.args.self.now.bytes.now in
-    let count = c.count.ensures.value ∙ length_columns _ (drop 2 bytes) in
-    record { whole = rw (count, all_after _ 2) (and_parts _ _ c.args.self.now.whole).1 }
+    record { whole = rw (c.count.ensures.value ∙ length_columns _ (drop 2 c.args.self.now.bytes.now), all_after _ 2) (and_parts _ _ c.args.self.now.whole).1 }
 
 pub returns-clause-value : goal.returns-clause-value
 returns-clause-value c = rw (all_after _ 2, c.count.ensures.value, length_columns)

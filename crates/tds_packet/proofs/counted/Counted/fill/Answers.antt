@@ -1,12 +1,10 @@
 use Rattle.tds_packet.proofs.counted.Counted.fill.Goals as goal
-use Rattle.tds_packet.proofs.{
-  Words.{◌≡◌, ℕ, List, ◌+◌, ◌-◌, ◌≤◌, ◌++◌, rules, arith, length, take, ap, ◌∙◌, subst, length-take-le, take-append-add, take-append-le, Consumes},
-  Words.{Consumes-trans, Consumes-kept, put_mid, one_more},
-}
+use Rattle.tds_packet.proofs.Words as N
+use Rattle.tds_packet.proofs.Words.{◌≡◌, ℕ, List, ◌+◌, ◌-◌, ◌≤◌, ◌++◌, rules, arith, length, take, ap, ◌∙◌, subst, put_mid}
 
 -- the first bytes of a part that was written over
 take_put : {a : ℕ} (k : ℕ) {n : ℕ} (xs ys : List ℕ) → a ≤ length xs → n ≤ length ys → take a xs ++ take n ys ≡ take (a + n) (put_mid a k xs ys)
-take_put k xs ys within fits = grind (arith, length-take-le, take-append-add, take-append-le)
+take_put k xs ys within fits = grind (arith, N.length-take-le, N.take-append-add, N.take-append-le)
 
 pub loop-at-preserved : goal.loop-at-preserved
 loop-at-preserved g c =
@@ -16,8 +14,8 @@ loop-at-preserved g c =
       same = search rules;
       within = search rules;
       stays = (c.in-Ok.ensures.counts.0 ∙ inv.stays.0, λ _. omega (arith, c.in-Ok.ensures.counts.1, inv.stays.0));
-      read = subst (Consumes _ _) (take_put _ _ _ inv.within bound)
-          (Consumes-trans _ _ _ _ _ inv.read c.in-Ok.ensures.ok);
+      read = subst (N.Consumes _ _) (take_put _ _ _ inv.within bound)
+          (N.Consumes-trans _ _ _ _ _ inv.read c.in-Ok.ensures.ok);
     }
 
 pub returns-in-Err : goal.returns-in-Err
@@ -25,7 +23,7 @@ returns-in-Err g c =
     let inv = c.loop-at.invariant in
     let same : length (put_mid c.loop-at.at (length c.loop-at.to - c.loop-at.at) c.loop-at.to c.read.new.to) ≡ length c.args.to.now = search rules in (
       take c.loop-at.at c.loop-at.to,
-      omega (arith, same, c.loop-at.auto.to, length-take-le c.loop-at.at c.loop-at.to inv.within),
-      Consumes-kept _ _ _ _ inv.read c.in-Err.ensures.err,
-      (c.in-Err.ensures.counts ∙ ap one_more inv.stays.0, inv.stays.1),
+      omega (arith, same, c.loop-at.auto.to, N.length-take-le c.loop-at.at c.loop-at.to inv.within),
+      N.Consumes-kept _ _ _ _ inv.read c.in-Err.ensures.err,
+      (c.in-Err.ensures.counts ∙ ap N.one_more inv.stays.0, inv.stays.1),
     )

@@ -5,12 +5,11 @@ pub returns-in-Ok-clause-gives : goal.returns-in-Ok-clause-gives
 returns-in-Ok-clause-gives g c =
     let s = c.args.self.now in
     let read = c.read_packet.new in
-    let head = c.in-Ok.head in
     let t = record s {
       from = record s.from { now = read.from };
       packet = record s.packet { now = read.packet };
       at = 0;
-      last = head.last;
+      last = c.in-Ok.head.last;
       wire = s.wire + c.from.result;
     } in
     advance_ok g.R.Read.remaining s t _ c.requires (search rules) refl (search rules) refl refl refl refl c.in-Ok.ensures.read

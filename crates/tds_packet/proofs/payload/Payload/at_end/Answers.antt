@@ -14,7 +14,7 @@ returns-in-MessageEnded-clause-tells g c =
     let s = record c.ready.new.self { stopped = None } in
     let ends = c.in-Err.ensures.ended c.in-MessageEnded.is c.in_default.is in
     record {
-      over = λ _. over g.R.Read.remaining s ends.last refl (drop_of_length-le s.packet.now.bytes (omega (arith, ends.used_up)));
+      over = λ _. over g.R.Read.remaining s ends.last refl (drop_of_length-le s.packet.now.bytes (omega arith));
       more = λ e.
           cc;
       ready = λ e. cc;

@@ -11,18 +11,18 @@ loop-at-preserved g c =
     let s = c.piece.follows.lender-at-none in
     let inv = c.loop-at.invariant in
     let bytes = c.in-Ok.bytes.now in
-    let fits : c.loop-at.at + length bytes ≤ length c.loop-at.to = omega (arith, c.in-Ok.ensures.len, inv.within) in
     let all : c.copy_from_slice-in-Ok.new.self ≡ bytes = search rules in
-    let done = sym (take-put_mid c.loop-at.at ((c.loop-at.at + length bytes) - c.loop-at.at) c.loop-at.to bytes (c.loop-at.at + length bytes)
-    (omega arith) inv.within) in
     record {
       sound = h.0;
       same = search rules;
       start = inv.start;
       within = search rules;
-      place = omega (arith, k.2, inv.place);
+      place = omega arith;
       going = k.3;
-      takes = rw all (subst (λ l. Takes (seen g.R.Read.remaining c.args.self.now) (seen g.R.Read.remaining s) l (c.loop-at.at + length bytes)) done
+      takes =
+          rw all (subst (λ l. Takes (seen g.R.Read.remaining c.args.self.now) (seen g.R.Read.remaining s) l (c.loop-at.at + length bytes)) (sym
+          (take-put_mid c.loop-at.at ((c.loop-at.at + length bytes) - c.loop-at.at) c.loop-at.to bytes (c.loop-at.at + length bytes)
+          (omega arith) inv.within))
           (takes_piece g.R.Read.remaining c.args.self.now c.loop-at.self s (take c.loop-at.at c.loop-at.to) bytes
           (length-take-le c.loop-at.at c.loop-at.to inv.within) c.in-Ok.ensures.len.0 inv.takes k.0));
     }
@@ -30,14 +30,13 @@ loop-at-preserved g c =
 pub returns-in-Err-clause-part : goal.returns-in-Err-clause-part
 returns-in-Err-clause-part g c = λ _.
     let s = c.piece.follows.lender-at-none in
-    let k = at_err _ _ _ _ c.in-Err.is c.piece.follows.holds-at-none.2 in
     let left : g.R.Read.remaining c.cut.new.self.from.now.device ≡ g.R.Read.remaining s.from.now.device = search rules in
     let count : c.cut.new.self.from.now.failures ≡ s.from.now.failures = search rules in (
       c.loop-at.at,
       c.in-Err.stop,
       search rules,
       rw (left, count) (ends_there g.R.Read.remaining c.args.self.now c.loop-at.self s
-          c.loop-at.invariant.takes k.0),
+          c.loop-at.invariant.takes (at_err _ _ _ _ c.in-Err.is c.piece.follows.holds-at-none.2).0),
       search rules,
     )
 

@@ -10,36 +10,34 @@ loop-passed-preserved g c =
     let k = at_ok _ _ _ _ c.in-Ok.is h.2 in
     let inv = c.loop-passed.invariant in
     let bytes = c.in-Ok.bytes.now in
-    let takes = takes_piece g.R.Read.remaining c.args.self.now c.loop-passed.self c.piece.follows.lender-at-none inv.passes.bytes bytes
-    inv.passes.counted c.in-Ok.ensures.len.0 inv.passes.takes k.0 in
     record {
       sound = h.0;
       same = search rules;
       began = inv.began;
       within = search rules;
-      place = omega (arith, k.2, inv.place);
+      place = omega arith;
       going = k.3;
       passes = record {
         bytes = inv.passes.bytes ++ bytes;
         counted = length-append inv.passes.bytes bytes
             ∙ ap (λ n. n + length bytes) inv.passes.counted;
-        takes = takes;
+        takes = takes_piece g.R.Read.remaining c.args.self.now c.loop-passed.self c.piece.follows.lender-at-none inv.passes.bytes bytes
+            inv.passes.counted c.in-Ok.ensures.len.0 inv.passes.takes k.0;
       };
     }
 
 pub returns-in-Err-clause-part : goal.returns-in-Err-clause-part
 returns-in-Err-clause-part g c = λ _.
     let s = c.piece.follows.lender-at-none in
-    let k = at_err _ _ _ _ c.in-Err.is c.piece.follows.holds-at-none.2 in
     let before = c.loop-passed.invariant.passes in
     let left : g.R.Read.remaining c.cut.new.self.from.now.device ≡ g.R.Read.remaining s.from.now.device = search rules in
     let count : c.cut.new.self.from.now.failures ≡ s.from.now.failures = search rules in
     record {
       part = before.bytes;
       own = c.in-Err.stop;
-      fewer = omega (arith, before.counted, c.loop-passed-test.true);
+      fewer = omega arith;
       ends = rw (left, count) (ends_there g.R.Read.remaining c.args.self.now c.loop-passed.self s
-          before.takes k.0);
+          before.takes (at_err _ _ _ _ c.in-Err.is c.piece.follows.holds-at-none.2).0);
       stop_is = search rules;
     }
 

@@ -16,9 +16,7 @@ returns g c =
     let m : (s.at + n) - s.at ≡ n = omega arith in
     let fits : n ≤ length (buffered s) = omega (arith, length-drop s.at s.packet.now.bytes, up) in
     let len = length-take-le n (buffered s) fits in
-    let value = c.bytes-bytes.ensures.value in
-    let takes = Takes-trans (seen g.R.Read.remaining c.args.self.now) (seen g.R.Read.remaining s) (seen g.R.Read.remaining (further s n)) []
-    (take n (buffered s)) 1 1 (le_refl 1) ready.gives (further_takes g.R.Read.remaining s n 1 fits going) in (
+    let value = c.bytes-bytes.ensures.value in (
       (
         refl,
         λ _. tt,
@@ -32,7 +30,14 @@ returns g c =
             used_up = rw going tt;
           },
           ready.payload.answers.same,
-          (rw (value, m) takes, between_of g.R.Read.remaining (further s n) going, rw (value, m) (omega (arith, len, ready.payload.place)), going),
+          (
+            rw (value, m) (Takes-trans (seen g.R.Read.remaining c.args.self.now) (seen g.R.Read.remaining s) (seen g.R.Read.remaining (further s n)) []
+                (take n (buffered s)) 1 1 (le_refl 1) ready.gives (further_takes g.R.Read.remaining s n 1 fits going)),
+            between_of g.R.Read.remaining
+                (further s n) going,
+            rw (value, m) (omega (arith, len, ready.payload.place)),
+            going,
+          ),
           not_again _ _ _ _ ready.payload.answers.again,
         ),
       ),

@@ -12,7 +12,7 @@ returns-in-Some-clause-gives g c = stopped_ends g.R.Read.remaining c.args.self.n
 pub returns-then-self-clause-gives : goal.returns-then-self-clause-gives
 returns-then-self-clause-gives g c =
     let s = c.loop-self.self in
-    let none : drop s.at s.packet.now.bytes ≡ [] = drop_of_length-le s.packet.now.bytes (omega (arith, c.loop-self-test.true, c.len.ensures)) in
+    let none = drop_of_length-le s.packet.now.bytes (omega arith) in
     rw c.in_payload-stop.ensures (ends_there g.R.Read.remaining c.args.self.now s s c.loop-self.invariant.gives
     (ended_ends g.R.Read.remaining s c.if-self.true c.loop-self.invariant.going none))
 
@@ -28,14 +28,8 @@ loop-self-preserved g c =
     record {
       sound = answers.answers.sound;
       same = search rules;
-      lazy = λ h. absurd (omega (
-        arith,
-        ap (λ p. p.at) (inv.lazy h),
-        ap (λ p. length p.packet.now.bytes) (inv.lazy h),
-        c.loop-self-test.true,
-        c.len.ensures,
-      ));
-      place = answers.place ∙ inv.place;
+      lazy = λ h. absurd (omega (arith, ap (λ p. p.at) (inv.lazy h), ap (λ p. length p.packet.now.bytes) (inv.lazy h), c.loop-self-test.true, c.len.ensures));
+      place = cc;
       going = answers.answers.going;
       gives = Takes-trans (seen g.R.Read.remaining c.args.self.now) (seen g.R.Read.remaining c.loop-self.self)
           (seen g.R.Read.remaining c.advance.new.self) [] [] 1 1 (le_refl 1) inv.gives c.in_ok-advance.ensures.gives;
