@@ -35,8 +35,7 @@ mod sink;
 
 pub use fields::{Content, field_room, write_field};
 pub use framing::{COMMA, NULL_ROOM, write_comma, write_line_end, write_null};
-pub use joiners::binary::HexJoiner;
-pub use joiners::cp1252::Cp1252Joiner;
+pub use joiners::bytewise::{Cp1252Joiner, HexJoiner};
 pub use joiners::into_area::utf16_into;
 pub use joiners::utf8::Utf8Joiner;
 pub use joiners::utf16::Utf16Joiner;

@@ -4,11 +4,7 @@ ghost use Rattle.tds_csv.specs.Binary as binary;
 use crate::convert::lanes::LANES;
 use crate::convert::lanes_hex::encode;
 use crate::convert::utf16::Converted;
-use crate::joiners::bytewise::BytewiseJoiner;
 use crate::joiners::parts::Bytewise;
-
-/// Bytes as hexadecimal digits.
-pub type HexJoiner = BytewiseJoiner<Hex, false>;
 
 /// The digits of bytes.
 pub struct Hex;

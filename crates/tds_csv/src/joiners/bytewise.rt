@@ -1,4 +1,6 @@
 // Data in which each byte has a text of its own, in pieces.
+use crate::joiners::binary::Hex;
+use crate::joiners::cp1252::Windows1252;
 use crate::joiners::parts::{Bytewise, put_text};
 use crate::joiners::{JoinFault, Joiner};
 use crate::sink::Sink;
@@ -10,6 +12,12 @@ use std::marker::PhantomData;
 pub struct BytewiseJoiner<C, const IN_QUOTES: bool> {
     conversion: PhantomData<C>,
 }
+
+/// Bytes as hexadecimal digits.
+pub type HexJoiner = BytewiseJoiner<Hex, false>;
+
+/// Text in Windows-1252.
+pub type Cp1252Joiner = BytewiseJoiner<Windows1252, true>;
 
 impl<C: Bytewise, const IN_QUOTES: bool> Joiner for BytewiseJoiner<C, IN_QUOTES> {
     const UNIT: u64 = 1;

@@ -3,11 +3,7 @@ ghost use Rattle.tds_csv.specs.Windows1252 as windows_1252;
 
 use crate::convert::utf16::Converted;
 use crate::convert::windows_1252::{convert, convert_wide};
-use crate::joiners::bytewise::BytewiseJoiner;
 use crate::joiners::parts::Bytewise;
-
-/// Text in Windows-1252.
-pub type Cp1252Joiner = BytewiseJoiner<Windows1252, true>;
 
 /// The text of bytes in Windows-1252.
 pub struct Windows1252;
