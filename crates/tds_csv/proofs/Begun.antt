@@ -2,45 +2,40 @@
 use Rattle.tds_csv.specs.Utf8 as utf8
 use Rattle.tds_csv.proofs.Utf16Laws as utf16_laws
 use Rattle.tds_csv.proofs.Utf8Laws as utf8_laws
+use Rattle.tds_csv.proofs.Words as N
 use Rattle.tds_csv.proofs.{
-  Words.{◌≡◌, inl, inr, ℕ, ◌+◌, ◌-◌, ◌≤◌, ◌%◌, true, false, List, [], ◌∷◌, ◌++◌, length, take, Option, Some, None, refl, ap, arith, append_assoc},
-  Words.{append-nil, length-append, IsUtf8, cases_lt, take-append-le, take_all, is_utf8-from_IsUtf8, utf8_valid_len_le, take-append-add},
-  Words.{utf8_error_len},
-  Words.{utf8_valid_len, emit, StopsAt, Conversion, HexDigits, Utf16Text, Windows1252Text, Utf8Text, BeginsData, conversion_rest, conversion_text},
-  Words.{is_fit},
-  Words.{is_quoted, long_field, open_field, closing},
+  Words.{◌≡◌, inl, inr, ℕ, ◌+◌, ◌-◌, ◌≤◌, ◌%◌, true, false, List, [], ◌∷◌, ◌++◌, length, take, Option, Some, None, refl, ap, arith, emit, Conversion},
   ConversionLaws.{fit_by_test, joins_by_name},
   Utf8Pushing.after_kept,
-  Utf8Laws.stops_at,
-  Utf8Laws.none_begins,
+  Utf8Laws.{stops_at, none_begins},
 }
 
 -- The first bytes of the piece, so many, may follow the old ones, and the text that is fixed then is that which the whole piece fixes.
 pub record BegunFront (c : Conversion) (old piece : List ℕ) : Type 0 where
   pub taken : ℕ
   pub within : taken ≤ length piece
-  pub begun : BeginsData c (old ++ take taken piece)
-  pub same : emit (conversion_rest c) (conversion_text c) (old ++ take taken piece) ≡ emit (conversion_rest c) (conversion_text c) (old ++ piece)
+  pub begun : N.BeginsData c (old ++ take taken piece)
+  pub same : emit (N.conversion_rest c) (N.conversion_text c) (old ++ take taken piece) ≡ emit (N.conversion_rest c) (N.conversion_text c) (old ++ piece)
 
-all_begun : (c : Conversion) (old piece : List ℕ) → BeginsData c (old ++ piece) → BegunFront c old piece
-all_begun c old piece begun = grind (arith, take_all)
+all_begun : (c : Conversion) (old piece : List ℕ) → N.BeginsData c (old ++ piece) → BegunFront c old piece
+all_begun c old piece begun = grind (arith, N.take_all)
 
 -- a byte of the piece is bad
-stopped_front : (old piece : List ℕ) (whole good : ℕ) → utf8.Begins old → StopsAt (old ++ piece) whole good → BegunFront Utf8Text old piece
+stopped_front : (old piece : List ℕ) (whole good : ℕ) → utf8.Begins old → N.StopsAt (old ++ piece) whole good → BegunFront N.Utf8Text old piece
 stopped_front old piece whole good begins stops =
     let after = after_kept old piece (old ++ piece) good refl begins stops.bad in
     let at : good ≡ length old + (good - length old) = omega arith in
-    grind (arith, after_kept, take-append-add, length-append)
+    grind (arith, after_kept, N.take-append-add, N.length-append)
 
-utf8_front : (old piece : List ℕ) (fault : Option ℕ) → utf8_error_len (utf8.rest (old ++ piece)) ≡ fault → utf8.Begins old
-    → BegunFront Utf8Text old piece
-utf8_front old piece None is begins = all_begun Utf8Text old piece (none_begins (old ++ piece) is)
+utf8_front : (old piece : List ℕ) (fault : Option ℕ) → N.utf8_error_len (utf8.rest (old ++ piece)) ≡ fault → utf8.Begins old
+    → BegunFront N.Utf8Text old piece
+utf8_front old piece None is begins = all_begun N.Utf8Text old piece (none_begins (old ++ piece) is)
 utf8_front old piece (Some k) is begins =
     stopped_front old piece _ _ begins (stops_at (old ++ piece) _ k _ refl is refl)
 
 -- after data that begins, the first bytes of any piece begin too and fix all the text that the piece fixes
-pub begun_front : (c : Conversion) (old piece : List ℕ) → BeginsData c old → BegunFront c old piece
-begun_front c old piece begins = grind (arith, utf8_front, take_all)
+pub begun_front : (c : Conversion) (old piece : List ℕ) → N.BeginsData c old → BegunFront c old piece
+begun_front c old piece begins = grind (arith, utf8_front, N.take_all)
 
 -- an odd byte completes no unit
 odd_front : (d : List ℕ) (x : ℕ) → (length (d ++ x ∷ []) % 2 ≡ 0 → ⊥) → utf16_laws.front (d ++ x ∷ []) ≡ utf16_laws.front d
@@ -50,38 +45,38 @@ odd_front (low ∷ high ∷ low' ∷ high' ∷ bytes) x odd = ap (λ l. low ∷ 
 odd_front bytes x odd = absurd (odd (omega arith))
 
 -- a byte after which no character ends completes none
-unfit_front : (d : List ℕ) (x : ℕ) → (IsUtf8 (d ++ x ∷ []) → ⊥) → utf8_laws.front (d ++ x ∷ []) ≡ utf8_laws.front d
+unfit_front : (d : List ℕ) (x : ℕ) → (N.IsUtf8 (d ++ x ∷ []) → ⊥) → utf8_laws.front (d ++ x ∷ []) ≡ utf8_laws.front d
 unfolding utf8_laws.front
 unfit_front d x unfit =
     let all = d ++ x ∷ [] in
-    let size = length-append d (x ∷ []) in
-    let n = utf8_valid_len d in
-    let fits = utf8_valid_len_le d in
-    let same = take-append-le n d (x ∷ []) fits in
-    rw (utf8_laws.valid_len_is all n (omega arith) (rw same (utf8_laws.front_is d)) (λ m more within u. elim (cases_lt m (length all)) [
-      | inl less ↦ utf8_laws.longest_is d m more (omega arith) (rw (take-append-le m d (x ∷ []) (omega arith)) at u)
+    let size = N.length-append d (x ∷ []) in
+    let n = N.utf8_valid_len d in
+    let fits = N.utf8_valid_len_le d in
+    let same = N.take-append-le n d (x ∷ []) fits in
+    rw (utf8_laws.valid_len_is all n (omega arith) (rw same (utf8_laws.front_is d)) (λ m more within u. elim (N.cases_lt m (length all)) [
+      | inl less ↦ utf8_laws.longest_is d m more (omega arith) (rw (N.take-append-le m d (x ∷ []) (omega arith)) at u)
       | inr whole ↦ unfit
-          (rw (take_all m all whole) at u)
+          (rw (N.take_all m all whole) at u)
     ])) same
 
 -- a byte after which the data isn't whole adds no text
-pub unfit_adds_none : (c : Conversion) (d : List ℕ) (x : ℕ) → is_fit c (d ++ x ∷ []) ≡ false
-    → emit (conversion_rest c) (conversion_text c) (d ++ x ∷ []) ≡ emit (conversion_rest c) (conversion_text c) d
-unfit_adds_none HexDigits d x unfit = cc
-unfit_adds_none Utf16Text d x unfit =
-    let same = odd_front d x (λ e. cc ((fit_by_test Utf16Text (d ++ x ∷ [])).1 e)) in
+pub unfit_adds_none : (c : Conversion) (d : List ℕ) (x : ℕ) → N.is_fit c (d ++ x ∷ []) ≡ false
+    → emit (N.conversion_rest c) (N.conversion_text c) (d ++ x ∷ []) ≡ emit (N.conversion_rest c) (N.conversion_text c) d
+unfit_adds_none N.HexDigits d x unfit = cc
+unfit_adds_none N.Utf16Text d x unfit =
+    let same = odd_front d x (λ e. cc ((fit_by_test N.Utf16Text (d ++ x ∷ [])).1 e)) in
     rw (utf16_laws.emit-front, utf16_laws.emit-front, same) refl
-unfit_adds_none Windows1252Text d x unfit = cc
-unfit_adds_none Utf8Text d x unfit =
-    let same = unfit_front d x (λ u. cc (is_utf8-from_IsUtf8 (d ++ x ∷ []) u)) in
+unfit_adds_none N.Windows1252Text d x unfit = cc
+unfit_adds_none N.Utf8Text d x unfit =
+    let same = unfit_front d x (λ u. cc (N.is_utf8-from_IsUtf8 (d ++ x ∷ []) u)) in
     rw (utf8_laws.emit-front, utf8_laws.emit-front, same) refl
 
 -- a piece grows the open field by the text of what was withheld and the piece
-pub open_grows : (c : Conversion) (d e : List ℕ) → BeginsData c (d ++ e)
-    → open_field c d ++ emit (conversion_rest c) (conversion_text c) (conversion_rest c d ++ e) ≡ open_field c (d ++ e)
+pub open_grows : (c : Conversion) (d e : List ℕ) → N.BeginsData c (d ++ e)
+    → N.open_field c d ++ emit (N.conversion_rest c) (N.conversion_text c) (N.conversion_rest c d ++ e) ≡ N.open_field c (d ++ e)
 open_grows c d e begins = let next = (joins_by_name c).emits d e begins in grind arith
 
 -- the open field of whole data, the text of what was withheld and what closes the field are the field
-pub open_closes : (c : Conversion) (d : List ℕ) → is_fit c d ≡ true
-    → open_field c d ++ (conversion_text c (conversion_rest c d) ++ closing (is_quoted c)) ≡ long_field c d
-open_closes c d fit = let whole = (joins_by_name c).ends d ((fit_by_test c d).0 fit) in grind (arith, append_assoc, append-nil)
+pub open_closes : (c : Conversion) (d : List ℕ) → N.is_fit c d ≡ true
+    → N.open_field c d ++ (N.conversion_text c (N.conversion_rest c d) ++ N.closing (N.is_quoted c)) ≡ N.long_field c d
+open_closes c d fit = let whole = (joins_by_name c).ends d ((fit_by_test c d).0 fit) in grind (arith, N.append_assoc, N.append-nil)

@@ -1,9 +1,8 @@
 -- Masks of lanes that pass a test.
+use Rattle.tds_csv.proofs.Words as N
 use Rattle.tds_csv.proofs.{
-  Words.{Bool, Each1, Fits, LiesIn, List, [], agree_below, agree_below_at, ap, ap₂, arith, chunk, chunk-fits, cond, drop, drop-take, false},
-  Words.{first_set, first_set_mask_l, get_or, length, length-chunk, length-map, length-take, length-take-le, map, map-map, mask_l, mask_l-mod, not},
-  Words.{prefix_len, prefix_len-le-length, refl, suc, take, take-map, take-take, top, true, w16, w8, zero, ℕ, ◌%◌, ◌*◌, ◌+◌, ◌-◌, ◌/◌, ◌<◌, ◌^◌, ◌∙◌},
-  Words.{◌∷◌, ◌≡◌, ◌≤◌},
+  Words.{Bool, Each1, Fits, List, [], ap, arith, chunk, drop, false, length, map, mask_l, not, refl, suc, take, top, true, w8, zero, ℕ, ◌%◌, ◌*◌, ◌+◌, ◌-◌},
+  Words.{◌/◌, ◌<◌, ◌^◌, ◌∙◌, ◌∷◌, ◌≡◌, ◌≤◌},
 }
 use Rattle.std.proofs.Math.Nat.{add-mul-mod_self_left, mod-eq_of_lt, mul_assoc, pow-succ'}
 use Rattle.std.proofs.lemmas.List.Sums.{count_by-le-length}
@@ -14,47 +13,47 @@ use Rattle.std.specs.Prelude.{count_ones}
 -- ---- from the mask of one load to the bytes before the first that stops
 
 -- two tests that are the same on what lists hold
-pub same_prefix : (P : ℕ → Type 0) {p q : ℕ → Bool} → ((x : ℕ) → P x → p x ≡ q x) → (xs : List ℕ) → Each1 P xs → prefix_len p xs ≡ prefix_len q xs
+pub same_prefix : (P : ℕ → Type 0) {p q : ℕ → Bool} → ((x : ℕ) → P x → p x ≡ q x) → (xs : List ℕ) → Each1 P xs → N.prefix_len p xs ≡ N.prefix_len q xs
 same_prefix P same [] each = refl
-same_prefix P same (x ∷ xs) each = ap₂ (λ b n. cond b (1 + n) 0) (same x each.0) (same_prefix P same xs each.1)
+same_prefix P same (x ∷ xs) each = N.ap₂ (λ b n. N.cond b (1 + n) 0) (same x each.0) (same_prefix P same xs each.1)
 
 -- so many lanes come before the first whose top bit is set
 pub run_before : (bit n : ℕ) (f : ℕ → ℕ) (v : List ℕ) {z : List ℕ} → length v ≡ n → n ≤ 64 → z ≡ map f v
-    → first_set (mask_l (map (top bit) z) % 2 ^ 64) n ≡ prefix_len (λ x. not (top bit (f x))) v
+    → N.first_set (mask_l (map (top bit) z) % 2 ^ 64) n ≡ N.prefix_len (λ x. not (top bit (f x))) v
 run_before bit n f v long few lanes =
     let stops = λ (x : ℕ). top bit (f x) in
-    rw (lanes, map-map (top bit) f v, (mask_l-mod (map stops v) 64 (omega (arith, length-map v stops)))) (first_set_mask_l stops v n long few)
+    rw (lanes, N.map-map (top bit) f v, (N.mask_l-mod (map stops v) 64 (omega (arith, N.length-map v stops)))) (N.first_set_mask_l stops v n long few)
 
 -- a lane stops just where q fails
-pub run_in : (n : ℕ) (q : ℕ → Bool) (d : List ℕ) (i : ℕ) (z : List ℕ) → n ≤ 64 → i + n ≤ length d → ((k : ℕ) → Fits w8 (get_or d k 0)) → (f : ℕ → ℕ)
+pub run_in : (n : ℕ) (q : ℕ → Bool) (d : List ℕ) (i : ℕ) (z : List ℕ) → n ≤ 64 → i + n ≤ length d → ((k : ℕ) → Fits w8 (N.get_or d k 0)) → (f : ℕ → ℕ)
     → z ≡ map f (chunk i n d)
-    → agree_below (λ x. not (top 7 (f x))) q 256 ≡ true → first_set (mask_l (map (top 7) z) % 2 ^ 64) n ≡ prefix_len q (chunk i n d)
+    → N.agree_below (λ x. not (top 7 (f x))) q 256 ≡ true → N.first_set (mask_l (map (top 7) z) % 2 ^ 64) n ≡ N.prefix_len q (chunk i n d)
 run_in n q d i z few room fits f lanes all =
-    run_before 7 n f (chunk i n d) (length-chunk i n d room) few lanes
-    ∙ same_prefix (Fits w8) (λ x small. agree_below_at (λ x. not (top 7 (f x))) q 256 x all small.fits) (chunk i n d) (chunk-fits w8 i n d fits)
+    run_before 7 n f (chunk i n d) (N.length-chunk i n d room) few lanes
+    ∙ same_prefix (Fits w8) (λ x small. N.agree_below_at (λ x. not (top 7 (f x))) q 256 x all small.fits) (chunk i n d) (N.chunk-fits w8 i n d fits)
 
-pub run_most : (q : ℕ → Bool) (d : List ℕ) (i n : ℕ) → i + n ≤ length d → prefix_len q (chunk i n d) ≤ n
-run_most q d i n room = grind (arith, prefix_len-le-length, length-chunk)
+pub run_most : (q : ℕ → Bool) (d : List ℕ) (i n : ℕ) → i + n ≤ length d → N.prefix_len q (chunk i n d) ≤ n
+run_most q d i n room = grind (arith, N.prefix_len-le-length, N.length-chunk)
 
 -- bytes that lie in others are the same as those
-pub alike : (bytes source : List ℕ) (at n : ℕ) → LiesIn bytes source → n ≤ 16 → at + n ≤ length bytes
+pub alike : (bytes source : List ℕ) (at n : ℕ) → N.LiesIn bytes source → n ≤ 16 → at + n ≤ length bytes
     → take n (drop at bytes) ≡ take n (chunk at 16 source)
 alike bytes source at n lies few within =
     let k = length bytes - at in
     let all : at + k ≡ length bytes = omega arith in
-    rw (← lies.front, ← all, drop-take at k source, take-take n k (drop at source) (omega arith), take-take n 16 (drop at source) few) refl
+    rw (← lies.front, ← all, N.drop-take at k source, N.take-take n k (drop at source) (omega arith), N.take-take n 16 (drop at source) few) refl
 
 -- two functions that are the same on units
-pub same_map : {A : Type 0} {f g : ℕ → A} → ((u : ℕ) → u < 65536 → f u ≡ g u) → (us : List ℕ) → Each1 (Fits w16) us → map f us ≡ map g us
+pub same_map : {A : Type 0} {f g : ℕ → A} → ((u : ℕ) → u < 65536 → f u ≡ g u) → (us : List ℕ) → Each1 (Fits N.w16) us → map f us ≡ map g us
 same_map same [] fits = refl
-same_map same (u ∷ us) fits = ap₂ (λ x xs. x ∷ xs) (same u fits.0.fits) (same_map same us fits.1)
+same_map same (u ∷ us) fits = N.ap₂ (λ x xs. x ∷ xs) (same u fits.0.fits) (same_map same us fits.1)
 
 -- the mask of lanes whose top bit is set just where a test holds
-pub mask_of : (q : ℕ → Bool) (f : ℕ → ℕ) (us : List ℕ) {z : List ℕ} → length us ≡ 8 → Each1 (Fits w16) us → z ≡ map f us
+pub mask_of : (q : ℕ → Bool) (f : ℕ → ℕ) (us : List ℕ) {z : List ℕ} → length us ≡ 8 → Each1 (Fits N.w16) us → z ≡ map f us
     → ((u : ℕ) → u < 65536 → top 15 (f u) ≡ q u) → mask_l (map (top 15) z) % 2 ^ 64 ≡ mask_l (map q us)
 mask_of q f us long fits lanes same =
     let stops = λ (u : ℕ). top 15 (f u) in
-    rw (lanes, map-map (top 15) f us) (mask_l-mod (map stops us) 64 (omega (arith, length-map us stops)) ∙ ap mask_l (same_map same us fits))
+    rw (lanes, N.map-map (top 15) f us) (N.mask_l-mod (map stops us) 64 (omega (arith, N.length-map us stops)) ∙ ap mask_l (same_map same us fits))
 
 -- so many lanes have a small mask
 pub mask_small : (k : ℕ) (ms : List Bool) → length ms ≤ k → mask_l ms < 2 ^ k
@@ -72,13 +71,13 @@ mask_parts (suc n) (m ∷ ms) =
     omega (arith, mask_parts n ms)
 
 mask_first : (n : ℕ) (ms : List Bool) → mask_l (take n ms) < 2 ^ n
-mask_first n ms = mask_small n (take n ms) (omega (arith, length-take n ms))
+mask_first n ms = mask_small n (take n ms) (omega (arith, N.length-take n ms))
 
 -- the lowest bits of a mask are those of the first lanes
 pub first_lanes : (q : ℕ → Bool) (n : ℕ) (us : List ℕ) {mask : ℕ} → mask ≡ mask_l (map q us) → mask % 2 ^ n ≡ mask_l (map q (take n us))
 first_lanes q n us is =
     let ms = map q us in
-    rw (is, mask_parts n ms, add-mul-mod_self_left (mask_l (take n ms)) (2 ^ n) (mask_l (drop n ms)), ← take-map q n us) (mod-eq_of_lt (mask_first n ms))
+    rw (is, mask_parts n ms, add-mul-mod_self_left (mask_l (take n ms)) (2 ^ n) (mask_l (drop n ms)), ← N.take-map q n us) (mod-eq_of_lt (mask_first n ms))
 
 -- and those above, the others
 pub last_lanes : (q : ℕ → Bool) (us : List ℕ) {mask : ℕ} → mask ≡ mask_l (map q us) → mask / 16 ≡ mask_l (map q (drop 4 us))
@@ -91,7 +90,7 @@ few_ones q us is = rw (is, ones-mask_l q us) (count_by-le-length q us)
 -- so the mask of the first of eight lanes
 pub first_mask : (q : ℕ → Bool) (us : List ℕ) (n : ℕ) {mask : ℕ} → length us ≡ 8 → n ≤ 8 → mask ≡ mask_l (map q (take n us))
     → (mask < 256) × (count_ones mask ≤ n)
-first_mask q us n long few is = grind (arith, length-take-le, mask_small, length-map, few_ones)
+first_mask q us n long few is = grind (arith, N.length-take-le, mask_small, N.length-map, few_ones)
 
 -- none of the lanes of a mask passes
 pub none_passes : (q : ℕ → Bool) (us : List ℕ) → mask_l (map q us) ≡ 0 → Each1 (λ u. q u ≡ false) us
@@ -119,5 +118,5 @@ pub none_of_first : (q : ℕ → Bool) (us : List ℕ) (n : ℕ) {mask low : ℕ
 none_of_first q us n is lowest none = grind (arith, none_passes, first_lanes)
 
 -- at most eight lanes come before the first that passes
-pub first_few : (q : ℕ → Bool) (us : List ℕ) {mask : ℕ} → length us ≡ 8 → mask ≡ mask_l (map q us) → first_set mask 8 ≤ 8
-first_few q us long is = grind (arith, first_set_mask_l, prefix_len-le-length)
+pub first_few : (q : ℕ → Bool) (us : List ℕ) {mask : ℕ} → length us ≡ 8 → mask ≡ mask_l (map q us) → N.first_set mask 8 ≤ 8
+first_few q us long is = grind (arith, N.first_set_mask_l, N.prefix_len-le-length)

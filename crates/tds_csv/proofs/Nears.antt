@@ -1,8 +1,7 @@
 -- Calls that put the text of an element part after part.
+use Rattle.tds_csv.proofs.Words as N
 use Rattle.tds_csv.proofs.{
-  Words.{◌≡◌, ◌∙◌, ℕ, ◌-◌, ◌^◌, ◌<◌, ◌≤◌, List, [], ◌∷◌, ◌++◌, length, refl, sym, ap, arith, append_assoc, append-nil, concat},
-  Words.{append_cancel_left, Fault, Stop, Grammar, IsNext, Spelt, Seen, Takes, IsBetween, Inside, Inside-Spelt, Spelt-append, Spelt-one, LastInside},
-  Words.{last_inside, next_inside, next_some, takes_both, Held, Puts, Breaks, BreaksStreaming, PutsText, Streams},
+  Words.{◌≡◌, ◌∙◌, ℕ, ◌-◌, ◌^◌, ◌<◌, ◌≤◌, List, [], ◌∷◌, ◌++◌, length, refl, sym, ap, arith, append_assoc, Fault, Grammar, Seen, Held, Puts},
   Sinks.{Breaks-after, Breaks-longer, Puts-none, Puts-trans},
   Streams.puts_both,
   Splits.Puts_split,
@@ -15,26 +14,26 @@ pub record Nears {S : Type 0} (g : Grammar S Fault) (text : S → List ℕ) (fro
   pub bytes : List ℕ
   pub element : List ℕ
   pub at : S
-  pub spelt : Spelt g from bytes at
-  pub next : IsNext g at element
+  pub spelt : N.Spelt g from bytes at
+  pub next : N.IsNext g at element
   pub to_is : g.add at element ≡ to
-  pub takes : Takes old new (bytes ++ element) (length (bytes ++ element))
-  pub between : IsBetween new
+  pub takes : N.Takes old new (bytes ++ element) (length (bytes ++ element))
+  pub between : N.IsBetween new
   pub middle : Held
   pub few : length middle.waiting < 4096
-  pub puts : PutsText text from at before middle
+  pub puts : N.PutsText text from at before middle
   pub part : List ℕ
   pub text_is : text at ++ (part ++ tail) ≡ text to
   pub half : Puts middle after part
 
 -- The text of each element stands after that of what was read before it.
 abbrev pub Grows : {S : Type 0} → Grammar S Fault → (S → List ℕ) → Type 0
-Grows {S} g text = (s : S) (element : List ℕ) → IsNext g s element → (more : List ℕ) × (text s ++ more ≡ text (g.add s element))
+Grows {S} g text = (s : S) (element : List ℕ) → N.IsNext g s element → (more : List ℕ) × (text s ++ more ≡ text (g.add s element))
 
 module _ {S : Type 0} (g : Grammar S Fault) (text : S → List ℕ) where
   -- an element was read after what was read and put
-  abbrev pub nears_from : (s at : S) (a b c : Seen) (h i : Held) (element tail : List ℕ) → Streams g text s a b h i at → IsNext g at element
-      → Takes b c element (length element) → IsBetween c → length i.waiting < 4096 → i.delivered ≤ 2 ^ 64 - 1
+  abbrev pub nears_from : (s at : S) (a b c : Seen) (h i : Held) (element tail : List ℕ) → N.Streams g text s a b h i at → N.IsNext g at element
+      → N.Takes b c element (length element) → N.IsBetween c → length i.waiting < 4096 → i.delivered ≤ 2 ^ 64 - 1
       → text at ++ tail ≡ text (g.add at element) → Nears g text s a c h i (g.add at element) tail
   nears_from s at a b c h i element tail x next takes between few delivered text_is = record {
     bytes = x.bytes;
@@ -43,7 +42,7 @@ module _ {S : Type 0} (g : Grammar S Fault) (text : S → List ℕ) where
     spelt = x.spelt;
     next = next;
     to_is = refl;
-    takes = takes_both a b c _ _ x.takes takes;
+    takes = N.takes_both a b c _ _ x.takes takes;
     between = between;
     middle = i;
     few = few;
@@ -75,17 +74,17 @@ module _ {S : Type 0} (g : Grammar S Fault) (text : S → List ℕ) where
 
   -- all was put
   abbrev pub nears_done : (s : S) (a b : Seen) (h i j : Held) (to : S) (tail : List ℕ) → Nears g text s a b h i to tail → Puts i j tail
-      → Streams g text s a b h j to
+      → N.Streams g text s a b h j to
   nears_done s a b h i j to tail x puts = record {
     bytes = x.bytes ++ x.element;
-    spelt = Spelt-append _ _ _ _ _ _ x.spelt (rw x.to_is at (Spelt-one _ _ _ x.next));
+    spelt = N.Spelt-append _ _ _ _ _ _ x.spelt (rw x.to_is at (N.Spelt-one _ _ _ x.next));
     takes = x.takes;
     puts = puts_both text _ _ _ _ _ _ x.puts (_, x.text_is, Puts-trans _ _ _ _ _ x.half puts);
   }
 
   -- a write of a further part failed
-  abbrev pub nears_breaks : (s : S) (a b : Seen) (h i j : Held) (to : S) (tail p q : List ℕ) (stop : Stop) → Nears g text s a b h i to tail
-      → tail ≡ p ++ q → Breaks i j p stop → (at : S) × BreaksStreaming g text s a b h j at stop
+  abbrev pub nears_breaks : (s : S) (a b : Seen) (h i j : Held) (to : S) (tail p q : List ℕ) (stop : N.Stop) → Nears g text s a b h i to tail
+      → tail ≡ p ++ q → N.Breaks i j p stop → (at : S) × N.BreaksStreaming g text s a b h j at stop
   nears_breaks s a b h i j to tail p q stop x parts breaks = (
     x.at,
     record {
@@ -94,7 +93,7 @@ module _ {S : Type 0} (g : Grammar S Fault) (text : S → List ℕ) where
       ahead = [];
       spelt = x.spelt;
       next = x.next;
-      takes = rw append-nil x.takes;
+      takes = rw N.append-nil x.takes;
       between = x.between;
       middle = x.middle;
       few = x.few;
@@ -106,16 +105,16 @@ module _ {S : Type 0} (g : Grammar S Fault) (text : S → List ℕ) where
   )
 
   -- a call that reads on, of whose last element's text a part was put
-  abbrev pub nears_after : (s t : S) (a b c : Seen) (h i j : Held) (to : S) (tail : List ℕ) → Streams g text s a b h i t
+  abbrev pub nears_after : (s t : S) (a b c : Seen) (h i j : Held) (to : S) (tail : List ℕ) → N.Streams g text s a b h i t
       → Nears g text t b c i j to tail → Nears g text s a c h j to tail
   nears_after s t a b c h i j to tail x y = record {
     bytes = x.bytes ++ y.bytes;
     element = y.element;
     at = y.at;
-    spelt = Spelt-append _ _ _ _ _ _ x.spelt y.spelt;
+    spelt = N.Spelt-append _ _ _ _ _ _ x.spelt y.spelt;
     next = y.next;
     to_is = y.to_is;
-    takes = rw append_assoc (takes_both a b c _ _ x.takes y.takes);
+    takes = rw append_assoc (N.takes_both a b c _ _ x.takes y.takes);
     between = y.between;
     middle = y.middle;
     few = y.few;
@@ -127,28 +126,28 @@ module _ {S : Type 0} (g : Grammar S Fault) (text : S → List ℕ) where
 
   -- the text of what is read later stands after that of what is read before
   pub grown_leads : Grows g text → (s : S) (es : List (List ℕ)) (t : S) → Leads g s es t → (more : List ℕ) × (text s ++ more ≡ text t)
-  grown_leads grows s [] t leads = ([], append-nil (text s) ∙ ap text leads)
+  grown_leads grows s [] t leads = ([], N.append-nil (text s) ∙ ap text leads)
   grown_leads grows s (e ∷ es) t leads = grind (arith, append_assoc, grown_leads grows (g.add s e) es t leads.1)
 
 module _ {S : Type 0} (g : Grammar S Fault) where
   -- what reads some bytes has a next element before them
-  pub first_size : (s : S) (bytes : List ℕ) (t : S) → Spelt g s bytes t → 0 < length bytes → 0 < g.size s
+  pub first_size : (s : S) (bytes : List ℕ) (t : S) → N.Spelt g s bytes t → 0 < length bytes → 0 < g.size s
   first_size s bytes t spelt some = go spelt.elements spelt.joined spelt.leads
     where
-      go : (es : List (List ℕ)) → concat es ≡ bytes → Leads g s es t → 0 < g.size s
+      go : (es : List (List ℕ)) → N.concat es ≡ bytes → Leads g s es t → 0 < g.size s
       go [] joined leads = absurd (let z : length bytes ≡ 0 = ap length (sym joined) in omega arith)
-      go (e ∷ es) joined leads = next_some _ _ _ leads.0
+      go (e ∷ es) joined leads = N.next_some _ _ _ leads.0
 
   -- a grammar is inside itself
-  pub inside_itself : Inside g g (λ s. s)
+  pub inside_itself : N.Inside g g (λ s. s)
   inside_itself = grind arith
 
   -- the last element of what was read
-  pub last_read : (s : S) (bytes : List ℕ) (t : S) → Spelt g s bytes t → 0 < length bytes → LastInside g g (λ u. u) inside_itself s bytes t
-  last_read s bytes t spelt some = last_inside _ _ _ inside_itself _ _ _ spelt some
+  pub last_read : (s : S) (bytes : List ℕ) (t : S) → N.Spelt g s bytes t → 0 < length bytes → N.LastInside g g (λ u. u) inside_itself s bytes t
+  last_read s bytes t spelt some = N.last_inside _ _ _ inside_itself _ _ _ spelt some
 
 -- A small grammar inside a big one, whose text is that of the small one after a text that stands before it, where the small one has a next element.
-module _ {S T : Type 0} (small : Grammar S Fault) (big : Grammar T Fault) (lift : S → T) (is : Inside small big lift) (text : S → List ℕ) (whole : T
+module _ {S T : Type 0} (small : Grammar S Fault) (big : Grammar T Fault) (lift : S → T) (is : N.Inside small big lift) (text : S → List ℕ) (whole : T
     → List ℕ) (front : List ℕ) (text_is : (s : S) → 0 < small.size s → front ++ text s ≡ whole (lift s)) (grows : Grows small text) where
   -- what is added to the small text between two states with a next element is added to the big one
   pub added_between : (s t : S) (more : List ℕ) → 0 < small.size s → 0 < small.size t → text s ++ more ≡ text t
@@ -161,8 +160,8 @@ module _ {S T : Type 0} (small : Grammar S Fault) (big : Grammar T Fault) (lift 
   tail_after s t more tail some e end = grind (arith, append_assoc)
 
   -- the small grammar was read to its end, and its text put: of the big one's text only what stands after it is to be put
-  abbrev pub nears_inside : (from : S) (a b : Seen) (h i : Held) (to : S) (tail : List ℕ) → (x : Streams small text from a b h i to)
-      → 0 < length x.bytes → IsBetween b → length i.waiting < 4096 → (front ++ text to) ++ tail ≡ whole (lift to)
+  abbrev pub nears_inside : (from : S) (a b : Seen) (h i : Held) (to : S) (tail : List ℕ) → (x : N.Streams small text from a b h i to)
+      → 0 < length x.bytes → N.IsBetween b → length i.waiting < 4096 → (front ++ text to) ++ tail ≡ whole (lift to)
       → Nears big whole (lift from) a b h i (lift to) tail
   nears_inside from a b h i to tail x some between few end =
       let l = last_read _ _ _ _ x.spelt some in
@@ -170,7 +169,7 @@ module _ {S T : Type 0} (small : Grammar S Fault) (big : Grammar T Fault) (lift 
       let before = grown_leads _ text grows _ _ _ l.spelt.leads in
       let last = grows _ _ l.next in
       let closed = last.1 ∙ ap text l.to_is in
-      let parts = append_cancel_left (text from) x.puts.0 (before.0 ++ last.0) (rw (
+      let parts = N.append_cancel_left (text from) x.puts.0 (before.0 ++ last.0) (rw (
         ← append_assoc (text from) before.0 last.0,
         before.1,
         closed,
@@ -180,8 +179,8 @@ module _ {S T : Type 0} (small : Grammar S Fault) (big : Grammar T Fault) (lift 
         bytes = l.front;
         element = l.element;
         at = lift l.at;
-        spelt = Inside-Spelt _ _ _ is _ _ _ l.spelt;
-        next = next_inside _ _ _ is _ _ l.size l.next;
+        spelt = N.Inside-Spelt _ _ _ is _ _ _ l.spelt;
+        next = N.next_inside _ _ _ is _ _ l.size l.next;
         to_is = is.add l.at l.element l.size ∙ ap lift l.to_is;
         takes = rw l.joined x.takes;
         between = between;

@@ -1,8 +1,8 @@
 -- What the tables of places have.
+use Rattle.tds_csv.proofs.Words as N
 use Rattle.tds_csv.proofs.{
-  Words.{Each2-splat, Each1-all, replicate, Bool, Each1, Fits, List, [], agree_below_at, and_parts, ap, append_assoc, ap₂, arith, cond, drop, eqb},
-  Words.{false, get_or, leb, length, length-append, length-map, map, map-append, map-map, mask_l, nat_eq, nat_lt, refl, sel_l, suc, swz_l, take, top},
-  Words.{true, w16, w8, zero, ℕ, ◌%◌, ◌&&◌, ◌*◌, ◌++◌, ◌+◌, ◌/◌, ◌<◌, ◌^◌, ◌∙◌, ◌∷◌, ◌≡◌, ◌≤◌},
+  Words.{Bool, Each1, Fits, List, [], ap, ap₂, arith, cond, drop, false, get_or, length, map, mask_l, nat_eq, refl, suc, take, top, true, w16, w8, zero, ℕ},
+  Words.{◌%◌, ◌&&◌, ◌*◌, ◌++◌, ◌+◌, ◌/◌, ◌<◌, ◌^◌, ◌∙◌, ◌∷◌, ◌≡◌, ◌≤◌},
 }
 use Rattle.std.proofs.Math.Seq.{take-append_seam}
 use Rattle.std.proofs.lemmas.List.{get_or-append-add, get_or_append_left}
@@ -19,7 +19,7 @@ use lib.Lanes.{Each2, digits_l, zip2}
 -- ---- bytes that are gathered from lanes by the places of a table
 
 -- lanes at places
-pub looked_up : (xs : List ℕ) (i : ℕ) (js : List ℕ) → i + length js ≤ 16 → Each1 (λ j. j < 16) js → swz_l w8 16 xs i js ≡ map (λ j. get_or xs j 0) js
+pub looked_up : (xs : List ℕ) (i : ℕ) (js : List ℕ) → i + length js ≤ 16 → Each1 (λ j. j < 16) js → N.swz_l w8 16 xs i js ≡ map (λ j. get_or xs j 0) js
 looked_up xs i [] few small = refl
 looked_up xs i (j ∷ js) few small = grind (arith, looked_up xs (suc i) js (omega arith) small.1)
 
@@ -42,16 +42,16 @@ module _ (size : ℕ) (lane places : ℕ → List ℕ) (wide : (u : ℕ) → len
   lanes_from front [] more = refl
   lanes_from front (u ∷ us) more =
       let later = flat_map lane us ++ more in
-      let there : length (front ++ lane u) ≡ length front + size = length-append front (lane u) ∙ ap (λ n. length front + n) (wide u) in
-      let rest = rw (append_assoc front (lane u) later, there) at (lanes_from (front ++ lane u) us more) in
-      rw (append_assoc (lane u) (flat_map lane us) more, map-append) (ap₂ (λ xs ys. xs ++ ys) (one_lane front (lane u) later (places u) (inside u)) rest)
+      let there : length (front ++ lane u) ≡ length front + size = N.length-append front (lane u) ∙ ap (λ n. length front + n) (wide u) in
+      let rest = rw (N.append_assoc front (lane u) later, there) at (lanes_from (front ++ lane u) us more) in
+      rw (N.append_assoc (lane u) (flat_map lane us) more, N.map-append) (ap₂ (λ xs ys. xs ++ ys) (one_lane front (lane u) later (places u) (inside u)) rest)
 
   -- those of the first lanes, by a row of a table that begins with their places
   pub gathered_text : (text : ℕ → List ℕ) {row xs : List ℕ} (us more rest : List ℕ) → row ≡ placed size 0 (map places us) ++ rest
       → xs ≡ flat_map lane us ++ more → flat_map (λ u. map (λ k. get_or (lane u) k 0) (places u)) us ≡ flat_map text us
       → take (length (flat_map text us)) (map (λ j. get_or xs j 0) row) ≡ flat_map text us
   gathered_text text us more rest row_is xs_is same =
-      rw (row_is, xs_is, map-append, (lanes_from [] us more ∙ same)) (take-append_seam (flat_map text us) _)
+      rw (row_is, xs_is, N.map-append, (lanes_from [] us more ∙ same)) (take-append_seam (flat_map text us) _)
 
 -- the same text of each lane
 pub same_texts : {P : ℕ → Type 0} {f g : ℕ → List ℕ} → ((u : ℕ) → P u → f u ≡ g u) → (us : List ℕ) → Each1 P us → flat_map f us ≡ flat_map g us
@@ -80,7 +80,7 @@ row_begins f width at (suc m) (w ∷ ws) (l ∷ ls) few same =
         (lowest_bit l (mask_l ls)).0,
         (lowest_bit l (mask_l ls)).1,
         more.1,
-        append_assoc,
+        N.append_assoc,
       ) refl,
     )
 row_begins f width at zero (w ∷ ws) ls few same = absurd (omega arith)
@@ -98,11 +98,11 @@ quad_places wide long = cond long (2 ∷ 3 ∷ 1 ∷ []) (cond wide (3 ∷ 1 ∷
 -- each of them is below this
 abbrev all_below : ℕ → List ℕ → Bool
 all_below n [] = true
-all_below n (k ∷ ks) = nat_lt k n && all_below n ks
+all_below n (k ∷ ks) = N.nat_lt k n && all_below n ks
 
 each_below : (n : ℕ) (ks : List ℕ) → all_below n ks ≡ true → Each1 (λ k. k < n) ks
 each_below n [] all = tt
-each_below n (k ∷ ks) all = let both = and_parts (nat_lt k n) (all_below n ks) all in (grind arith, each_below n ks both.1)
+each_below n (k ∷ ks) all = let both = N.and_parts (N.nat_lt k n) (all_below n ks) all in (grind arith, each_below n ks both.1)
 
 -- A row of a table has 16 places in 16 bytes, and begins with these.
 pub record IsRow (row begins : List ℕ) : Type 0 where
@@ -116,21 +116,21 @@ is_row row begins = (nat_eq (length row) 16 && all_below 16 row) && bytes_eq row
 
 tested : (row begins : List ℕ) → is_row row begins ≡ true → IsRow row begins
 tested row begins h =
-    let all = and_parts (nat_eq (length row) 16 && all_below 16 row) (bytes_eq row (begins ++ drop (length begins) row)) h in
+    let all = N.and_parts (nat_eq (length row) 16 && all_below 16 row) (bytes_eq row (begins ++ drop (length begins) row)) h in
     record {
       long = grind arith;
-      small = each_below 16 row (and_parts (nat_eq (length row) 16) (all_below 16 row) all.0).1;
+      small = each_below 16 row (N.and_parts (nat_eq (length row) 16) (all_below 16 row) all.0).1;
       is = (bytes_eq-Decides _ _).0
           all.1;
     }
 
 pub pair_row : (mask : ℕ) → mask < 256 → IsRow (get_or PAIRS mask []) (placed 2 0 (zip2 pair_places (bits 8 mask) (bits 8 0)))
 pair_row mask small =
-    tested _ _ (agree_below_at (λ i. is_row (get_or PAIRS i []) (placed 2 0 (zip2 pair_places (bits 8 i) (bits 8 0)))) (λ _. true) 256 mask refl small)
+    tested _ _ (N.agree_below_at (λ i. is_row (get_or PAIRS i []) (placed 2 0 (zip2 pair_places (bits 8 i) (bits 8 0)))) (λ _. true) 256 mask refl small)
 
 quad_at : (i : ℕ) → i < 256 → IsRow (get_or QUADS i []) (placed 4 0 (zip2 quad_places (bits 4 (i % 16)) (bits 4 (i / 16))))
 quad_at i small =
-    tested _ _ (agree_below_at (λ i. is_row (get_or QUADS i []) (placed 4 0 (zip2 quad_places (bits 4 (i % 16)) (bits 4 (i / 16))))) (λ _. true) 256 i
+    tested _ _ (N.agree_below_at (λ i. is_row (get_or QUADS i []) (placed 4 0 (zip2 quad_places (bits 4 (i % 16)) (bits 4 (i / 16))))) (λ _. true) 256 i
     refl small)
 
 pub quad_row : (wide long : ℕ) → wide < 16 → long < 16
@@ -150,14 +150,14 @@ ones_of_two wide long small small' =
 -- ---- units that are looked at eight at a time, lane by lane
 
 -- lanes that are chosen one by one
-chosen_maps : (m : ℕ → Bool) (f g : ℕ → ℕ) (us : List ℕ) → sel_l (map m us) (map f us) (map g us) ≡ map (λ u. cond (m u) (f u) (g u)) us
+chosen_maps : (m : ℕ → Bool) (f g : ℕ → ℕ) (us : List ℕ) → N.sel_l (map m us) (map f us) (map g us) ≡ map (λ u. cond (m u) (f u) (g u)) us
 chosen_maps m f g [] = refl
 chosen_maps m f g (u ∷ us) = ap (λ xs. cond (m u) (f u) (g u) ∷ xs) (chosen_maps m f g us)
 
 -- and by the tops of others
 pub chosen : (l f g : ℕ → ℕ) (us : List ℕ) {ls xs ys : List ℕ} → ls ≡ map l us → xs ≡ map f us → ys ≡ map g us
-    → sel_l (map (top 15) ls) xs ys ≡ map (λ u. cond (top 15 (l u)) (f u) (g u)) us
-chosen l f g us ls xs ys = grind (arith, map-map, chosen_maps)
+    → N.sel_l (map (top 15) ls) xs ys ≡ map (λ u. cond (top 15 (l u)) (f u) (g u)) us
+chosen l f g us ls xs ys = grind (arith, N.map-map, chosen_maps)
 
 -- two bytes are a lane
 pub units_of_bytes : (n : ℕ) (xs : List ℕ) → length xs ≡ 2 * n → Each1 (Fits w8) xs → digits_l 65536 n (number_l 256 xs) ≡ units xs
@@ -200,7 +200,7 @@ each_fits (u ∷ us) fits = ((pair_fits u fits.0.fits).0, each_fits us fits.1)
 -- the bytes of eight pairs
 pub pair_lanes : (us : List ℕ) {z : List ℕ} → length us ≡ 8 → Each1 (Fits w16) us → z ≡ map pair us
     → digits_l 256 16 (number_l 65536 z) ≡ flat_map pair_bytes us
-pair_lanes us long fits is = rw is (bytes_of_pairs 8 (map pair us) (length-map us pair ∙ long) (each_fits us fits) ∙ bytes_of_map pair us)
+pair_lanes us long fits is = rw is (bytes_of_pairs 8 (map pair us) (N.length-map us pair ∙ long) (each_fits us fits) ∙ bytes_of_map pair us)
 
 -- of each four bytes the first, the third and the fourth, and then the second
 abbrev pub woven : List ℕ → List ℕ
@@ -259,15 +259,15 @@ quad_lanes us ls hs long fits is_low is_high = absurd (omega arith)
 
 -- what a lane of the second numbers computes
 pub high_lane : (u : ℕ) → u < 65536
-    → cond (top 15 (cond (eqb u 34) 65535 0)) 8738 (((u / 4096 + (u / 64 % 64 * 256) % 65536) % 65536 + cond (top 15 (cond (leb 2048 u) 65535 0)) 32992 49376)
+    → cond (top 15 (cond (N.eqb u 34) 65535 0)) 8738 (((u / 4096 + (u / 64 % 64 * 256) % 65536) % 65536 + cond (top 15 (cond (N.leb 2048 u) 65535 0)) 32992 49376)
     % 65536) ≡ high_quad u
 high_lane u small = grind arith
 
 -- and of the first
 pub low_lane : (u : ℕ) → u < 65536
-    → cond (top 15 (cond (eqb u 34) 65535 0)) 8738 ((u % 256 + ((u % 64 + 128) % 65536 * 256) % 65536) % 65536) ≡ low_quad u
+    → cond (top 15 (cond (N.eqb u 34) 65535 0)) 8738 ((u % 256 + ((u % 64 + 128) % 65536 * 256) % 65536) % 65536) ≡ low_quad u
 low_lane u small = grind arith
 
 -- what holds of one number holds of eight lanes of it
-pub asks_all : (R : ℕ → ℕ → Type 0) (us : List ℕ) (k : ℕ) → ((x : ℕ) → R x k) → Each2 R us (replicate 8 k)
-asks_all R us k h = Each2-splat R us 8 k (Each1-all _ h us)
+pub asks_all : (R : ℕ → ℕ → Type 0) (us : List ℕ) (k : ℕ) → ((x : ℕ) → R x k) → Each2 R us (N.replicate 8 k)
+asks_all R us k h = N.Each2-splat R us 8 k (N.Each1-all _ h us)

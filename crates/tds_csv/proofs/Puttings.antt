@@ -1,12 +1,12 @@
 -- Calls that put texts, one after another.
+use Rattle.tds_csv.proofs.Words as N
 use Rattle.tds_csv.proofs.{
-  Words.{BadText, Bool, EndsPieces, Err, IsErrAnd, IsWriting, JoinFault, List, Ok, Option, PushesPiece, PutsPiece, Result, Sink, Stop, Stopped},
-  Words.{TakesUpTo, [], arith, common_steps, emit, false, held, if◌then◌else◌, refl, true, ℕ, ◌++◌, ◌≡◌},
+  Words.{Bool, Err, List, Ok, Option, PutsPiece, Result, Sink, Stop, [], arith, false, held, if◌then◌else◌, refl, true, ℕ, ◌++◌, ◌≡◌},
   Sinks.{Breaks-after, Puts-none, Puts-trans},
 }
 
 -- nothing is put
-pub PutsPiece-none : {W U : Type 0} (contents : W → Option (List ℕ)) (a : Sink W) (u : U) → IsWriting a → PutsPiece contents a a [] (Ok u)
+pub PutsPiece-none : {W U : Type 0} (contents : W → Option (List ℕ)) (a : Sink W) (u : U) → N.IsWriting a → PutsPiece contents a a [] (Ok u)
 PutsPiece-none contents a u going = let puts = Puts-none (held contents a) going.ready.2 in grind arith
 
 -- a text, and then what the next call puts
@@ -27,17 +27,17 @@ PutsPiece-ok contents a b p u v x = grind arith
 -- a call that failed, of a longer text
 pub PutsPiece-longer : {W U V : Type 0} (contents : W → Option (List ℕ)) (a b : Sink W) (p more : List ℕ) (e : Stop)
     → PutsPiece {U = U} contents a b p (Err e) → PutsPiece {U = V} contents a b (p ++ more) (Err e)
-PutsPiece-longer contents a b p more e x = grind (arith, common_steps)
+PutsPiece-longer contents a b p more e x = grind (arith, N.common_steps)
 
 -- `?` passed its error on, of the same text
 pub PutsPiece-error : {W U V : Type 0} (contents : W → Option (List ℕ)) (a b : Sink W) (p : List ℕ) (e : Stop) (r : Result V Stop)
-    → IsErrAnd r (λ stop. stop ≡ e) → PutsPiece {U = U} contents a b p (Err e) → PutsPiece contents a b p r
+    → N.IsErrAnd r (λ stop. stop ≡ e) → PutsPiece {U = U} contents a b p (Err e) → PutsPiece contents a b p r
 PutsPiece-error contents a b p e r is x = grind arith
 
 -- and of a longer one
 pub PutsPiece-passed : {W U V : Type 0} (contents : W → Option (List ℕ)) (a b : Sink W) (p more : List ℕ) (e : Stop) (r : Result V Stop)
-    → IsErrAnd r (λ stop. stop ≡ e) → PutsPiece {U = U} contents a b p (Err e) → PutsPiece contents a b (p ++ more) r
-PutsPiece-passed contents a b p more e r is x = grind (arith, common_steps)
+    → N.IsErrAnd r (λ stop. stop ≡ e) → PutsPiece {U = U} contents a b p (Err e) → PutsPiece contents a b (p ++ more) r
+PutsPiece-passed contents a b p more e r is x = grind (arith, N.common_steps)
 
 -- ---- pushes and ends of a joiner, by what they put
 
@@ -49,23 +49,23 @@ passes false t u e h = refl
 module _ {W U V : Type 0} {contents : W → Option (List ℕ)} {begins : List ℕ → Type 0} {rest text : List ℕ → List ℕ} {old new : List ℕ} {a b : Sink W}
     {p piece : List ℕ} where
   -- all was put
-  pub pushes_taken : {u : U} {v : V} → a.failed ≡ false → begins (old ++ piece) → begins new → p ≡ emit rest text (old ++ piece)
-      → new ≡ rest (old ++ piece) → PutsPiece contents a b p (Ok u) → PushesPiece contents begins rest text old new a b piece (Ok v)
+  pub pushes_taken : {u : U} {v : V} → a.failed ≡ false → begins (old ++ piece) → begins new → p ≡ N.emit rest text (old ++ piece)
+      → new ≡ rest (old ++ piece) → PutsPiece contents a b p (Ok u) → N.PushesPiece contents begins rest text old new a b piece (Ok v)
   pushes_taken going whole begun is withheld x = grind arith
 
   -- the good bytes before a bad one were put
-  pub pushes_up_to : {u : U} {k : ℕ} → a.failed ≡ false → begins new → TakesUpTo begins rest text old new (held contents a) (held contents b) piece k
-      → PutsPiece contents a b p (Ok u) → PushesPiece {U = V} contents begins rest text old new a b piece (Err (BadText k))
+  pub pushes_up_to : {u : U} {k : ℕ} → a.failed ≡ false → begins new → N.TakesUpTo begins rest text old new (held contents a) (held contents b) piece k
+      → PutsPiece contents a b p (Ok u) → N.PushesPiece {U = V} contents begins rest text old new a b piece (Err (N.BadText k))
   pushes_up_to going begun found x = grind arith
 
   -- a write failed
-  pub pushes_stopped : {e : Stop} {r : Result V JoinFault} → a.failed ≡ false → begins new → p ≡ emit rest text (old ++ piece)
-      → PutsPiece {U = U} contents a b p (Err e) → IsErrAnd r (λ fault. fault ≡ Stopped e) → PushesPiece contents begins rest text old new a b piece r
+  pub pushes_stopped : {e : Stop} {r : Result V N.JoinFault} → a.failed ≡ false → begins new → p ≡ N.emit rest text (old ++ piece)
+      → PutsPiece {U = U} contents a b p (Err e) → N.IsErrAnd r (λ fault. fault ≡ N.Stopped e) → N.PushesPiece contents begins rest text old new a b piece r
   pushes_stopped going begun is x passed = grind arith
 
 -- the text of what was withheld was put
 pub ends_whole : {W U V : Type 0} {contents : W → Option (List ℕ)} {unit : ℕ} {fit begins : List ℕ → Type 0} {text : List ℕ
     → List ℕ} {old new : List ℕ} {a b : Sink W} {p : List ℕ} {u : U} {v : V}
     → a.failed ≡ false → fit old → new ≡ [] → (begins old → begins []) → p ≡ text old → PutsPiece contents a b p (Ok u)
-    → EndsPieces contents unit fit begins text old new a b (Ok v)
+    → N.EndsPieces contents unit fit begins text old new a b (Ok v)
 ends_whole going whole none begun is x = grind arith

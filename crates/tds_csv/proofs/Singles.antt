@@ -1,51 +1,9 @@
 -- Data whose bytes each stand alone, put a run after the other.
 use Rattle.tds_csv.specs.Windows1252 as windows_1252
+use Rattle.tds_csv.proofs.Words as N
 use Rattle.tds_csv.proofs.{
-  Words.{
-    Bool,
-    Err,
-    IsErrAnd,
-    List,
-    Ok,
-    Option,
-    PutsPiece,
-    Result,
-    Sink,
-    Stop,
-    [],
-    agree_below_at,
-    ap,
-    arith,
-    chunk,
-    doubled,
-    drop,
-    get_or,
-    is_plain,
-    is_unquoted,
-    length,
-    nat_tests,
-    prefix_len,
-    refl,
-    suc,
-    sym,
-    take,
-    take-add,
-    take-append-drop,
-    take-take,
-    true,
-    zero,
-    ℕ,
-    ◌%◌,
-    ◌++◌,
-    ◌+◌,
-    ◌-◌,
-    ◌/◌,
-    ◌<◌,
-    ◌∙◌,
-    ◌∷◌,
-    ◌≡◌,
-    ◌≤◌,
-  },
+  Words.{Bool, Err, List, Ok, Option, PutsPiece, Result, Sink, Stop, [], ap, arith, chunk, drop, get_or, is_plain, length, refl, suc, sym, take, true, zero, ℕ},
+  Words.{◌%◌, ◌++◌, ◌+◌, ◌-◌, ◌/◌, ◌<◌, ◌∙◌, ◌∷◌, ◌≡◌, ◌≤◌},
   Characters.{front_written, of_one},
   JoiningLemmas.doubled-append,
   Puttings.{PutsPiece-longer, PutsPiece-ok, PutsPiece-passed, PutsPiece-trans},
@@ -59,7 +17,7 @@ use Rattle.tds_csv.specs.declared.convert.windows_1252.TheConstants.{UPPER}
 
 module _ (text : List ℕ → List ℕ) (appends : (x y : List ℕ) → text (x ++ y) ≡ text x ++ text y) where
   runs : (t e : ℕ) (xs : List ℕ) → t ≤ e → text (take t xs) ++ text (take (e - t) (drop t xs)) ≡ text (take e xs)
-  runs t e xs h = let end : t + (e - t) ≡ e = omega arith in rw (← appends (take t xs) (take (e - t) (drop t xs)), ← take-add t (e - t) xs, end) refl
+  runs t e xs h = let end : t + (e - t) ≡ e = omega arith in rw (← appends (take t xs) (take (e - t) (drop t xs)), ← N.take-add t (e - t) xs, end) refl
 
   module _ {W U V : Type 0} {contents : W → Option (List ℕ)} {a b d : Sink W} {u : U} (t e : ℕ) (xs : List ℕ) (h : t ≤ e)
       (p : PutsPiece contents a b (text (take t xs)) (Ok u)) where
@@ -69,8 +27,8 @@ module _ (text : List ℕ → List ℕ) (appends : (x y : List ℕ) → text (x 
 
     -- a write failed in the next run
     pub puts_break : {T : Type 0} {stop : Stop} {r : Result T Stop} → PutsPiece {U = V} contents b d (text (take (e - t) (drop t xs))) (Err stop)
-        → IsErrAnd r (λ s. s ≡ stop) → PutsPiece contents a d (text xs) r
-    puts_break q passed = rw (runs t e xs h, ← appends (take e xs) (drop e xs), take-append-drop) at
+        → N.IsErrAnd r (λ s. s ≡ stop) → PutsPiece contents a d (text xs) r
+    puts_break q passed = rw (runs t e xs h, ← appends (take e xs) (drop e xs), N.take-append-drop) at
         (PutsPiece-passed _ _ _ _ (text (drop e xs)) _ _ passed (PutsPiece-trans _ _ _ _ _ _ _ _ p q))
 
   -- so many of the others were put
@@ -78,9 +36,9 @@ module _ (text : List ℕ → List ℕ) (appends : (x y : List ℕ) → text (x 
       → PutsPiece contents a b (text (take t xs)) (Ok u) → PutsPiece contents b d (text (take n (take (e - t) (drop t xs)))) (Ok v)
       → PutsPiece contents a d (text (take (t + n) xs)) (Ok w)
   puts_some t e n xs few p q = PutsPiece-ok _ _ _ _ _ _ (rw (
-    take-take n (e - t) (drop t xs) few,
+    N.take-take n (e - t) (drop t xs) few,
     ← appends (take t xs) (take n (drop t xs)),
-    ← take-add t n
+    ← N.take-add t n
         xs,
   ) at
       (PutsPiece-trans _ _ _ _ _ _ _ _ p q))
@@ -88,25 +46,25 @@ module _ (text : List ℕ → List ℕ) (appends : (x y : List ℕ) → text (x 
   -- some of them are all of it, as far as a write failed
   pub puts_less : {W U V : Type 0} {contents : W → Option (List ℕ)} {a d : Sink W} {stop : Stop} (n : ℕ) (xs : List ℕ)
       → PutsPiece {U = U} contents a d (text (take n xs)) (Err stop) → PutsPiece {U = V} contents a d (text xs) (Err stop)
-  puts_less {V = V} n xs p = rw (← appends (take n xs) (drop n xs), take-append-drop) at (PutsPiece-longer {V = V} _ _ _ _ (text (drop n xs)) _ p)
+  puts_less {V = V} n xs p = rw (← appends (take n xs) (drop n xs), N.take-append-drop) at (PutsPiece-longer {V = V} _ _ _ _ (text (drop n xs)) _ p)
 
   -- which were added to it
   pub text_taken : {run after : List ℕ} (bytes : List ℕ) (at n : ℕ) → after ≡ run ++ text (take n (drop at bytes)) → run ≡ text (take at bytes)
       → after ≡ text (take (at + n) bytes)
-  text_taken bytes at n added e = grind (arith, take-add)
+  text_taken bytes at n added e = grind (arith, N.take-add)
 
   -- bytes that stand for themselves, up to the first that needn't
   module _ (q : ℕ → Bool) (empty : text [] ≡ []) (itself : (b : ℕ) → q b ≡ true → text (b ∷ []) ≡ b ∷ []) where
     -- the first of them, so many
-    pub some_itself : (k : ℕ) (xs : List ℕ) → k ≤ prefix_len q xs → text (take k xs) ≡ take k xs
+    pub some_itself : (k : ℕ) (xs : List ℕ) → k ≤ N.prefix_len q xs → text (take k xs) ≡ take k xs
     some_itself zero xs h = empty
     some_itself (suc k) [] h = absurd (omega arith)
     some_itself (suc k) (b ∷ xs) h = grind (arith, appends (b ∷ []) (take k xs), some_itself k xs)
 
     -- those that were found among the next `w`
-    pub lanes_itself : (w : ℕ) (bytes : List ℕ) (at n : ℕ) → n ≤ w → n ≡ prefix_len q (chunk at w bytes)
+    pub lanes_itself : (w : ℕ) (bytes : List ℕ) (at n : ℕ) → n ≤ w → n ≡ N.prefix_len q (chunk at w bytes)
         → take n (chunk at w bytes) ≡ text (take n (drop at bytes))
-    lanes_itself w bytes at n few e = grind (arith, some_itself, take-take)
+    lanes_itself w bytes at n few e = grind (arith, some_itself, N.take-take)
 
 -- ---- bytes of Windows-1252 that stand for themselves
 
@@ -118,8 +76,8 @@ bytes_of w = take (w / 16777216) ((w % 256) ∷ (w / 256 % 256) ∷ (w / 65536 %
 table : (k : ℕ) → k < 128 → (bytes_of (get_or UPPER k 0) ≡ windows_1252.text ((128 + k) ∷ [])) × (get_or UPPER k 0 / 16777216 ≤ 3)
 unfolding encode_utf8
 table k h = (
-  (bytes_eq-Decides _ _).0 (agree_below_at (λ k. bytes_eq (bytes_of (get_or UPPER k 0)) (windows_1252.text ((128 + k) ∷ []))) (λ _. true) 128 k refl h),
-  grind (arith, nat_tests, (agree_below_at (λ k. nat_le (get_or UPPER k 0 / 16777216) 3) (λ _. true) 128 k refl h)),
+  (bytes_eq-Decides _ _).0 (N.agree_below_at (λ k. bytes_eq (bytes_of (get_or UPPER k 0)) (windows_1252.text ((128 + k) ∷ []))) (λ _. true) 128 k refl h),
+  grind (arith, N.nat_tests, (N.agree_below_at (λ k. nat_le (get_or UPPER k 0 / 16777216) 3) (λ _. true) 128 k refl h)),
 )
 
 -- the text of a byte beyond ASCII, from the table
@@ -140,19 +98,19 @@ plain_itself : (b : ℕ) → is_plain b ≡ true → windows_1252.text (b ∷ []
 plain_itself b h = grind (arith, of_one)
 
 -- some of the bytes that were found among the next 16 of a source
-pub plain_lanes : (source bytes : List ℕ) (at n : ℕ) → n ≤ 16 → n ≤ prefix_len is_plain (chunk at 16 source)
+pub plain_lanes : (source bytes : List ℕ) (at n : ℕ) → n ≤ 16 → n ≤ N.prefix_len is_plain (chunk at 16 source)
     → take n (drop at bytes) ≡ take n (chunk at 16 source) → take n (chunk at 16 source) ≡ windows_1252.text (take n (drop at bytes))
 plain_lanes source bytes at n few plains same =
     sym (some_itself windows_1252.text windows_1252-append is_plain refl plain_itself n (chunk at 16 source) plains) ∙ ap windows_1252.text (sym same)
 
 -- those that were found among the next 32
-pub wide_lanes : (bytes : List ℕ) (at n : ℕ) → n ≤ 32 → n ≡ prefix_len is_plain (chunk at 32 bytes)
+pub wide_lanes : (bytes : List ℕ) (at n : ℕ) → n ≤ 32 → n ≡ N.prefix_len is_plain (chunk at 32 bytes)
     → take n (chunk at 32 bytes) ≡ windows_1252.text (take n (drop at bytes))
 wide_lanes bytes at n few e = lanes_itself windows_1252.text windows_1252-append is_plain refl plain_itself 32 bytes at n few e
 
 -- ---- bytes without a quote
 
 -- those that were found among the next `w`
-pub unquoted_lanes : (w : ℕ) (bytes : List ℕ) (at n : ℕ) → n ≤ w → n ≡ prefix_len is_unquoted (chunk at w bytes)
-    → take n (chunk at w bytes) ≡ doubled (take n (drop at bytes))
-unquoted_lanes w bytes at n few e = lanes_itself doubled doubled-append is_unquoted refl (λ b h. grind arith) w bytes at n few e
+pub unquoted_lanes : (w : ℕ) (bytes : List ℕ) (at n : ℕ) → n ≤ w → n ≡ N.prefix_len N.is_unquoted (chunk at w bytes)
+    → take n (chunk at w bytes) ≡ N.doubled (take n (drop at bytes))
+unquoted_lanes w bytes at n few e = lanes_itself N.doubled doubled-append N.is_unquoted refl (λ b h. grind arith) w bytes at n few e

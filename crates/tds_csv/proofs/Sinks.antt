@@ -1,40 +1,39 @@
 -- What was put into a sink, call after call.
 use Rattle.tds_packet.proofs.Joins.{Stays-Rises, Stays-none, Stays-trans}
+use Rattle.tds_csv.proofs.Words as N
 use Rattle.tds_csv.proofs.{
-  Words.{common_steps, ◌≡◌, Bool, false, ℕ, ◌+◌, ◌-◌, ◌^◌, ◌<◌, ◌≤◌, List, [], ◌++◌, length, Result, OnErr, MatchResult, refl, arith, append-nil, append_assoc},
-  Words.{length-append, le_refl, take_all, take-append-add, take-append-le, Appends-nil, Appends-trans, counted, Stop, Held, Adds, Puts, Breaks, Sends},
-  Words.{FinishFails, take},
+  Words.{◌≡◌, Bool, false, ℕ, ◌+◌, ◌-◌, ◌^◌, ◌<◌, ◌≤◌, List, [], ◌++◌, length, Result, refl, arith, Stop, Held, Adds, Puts, Breaks, take},
 }
 
-pub counted-none : (n : ℕ) → n ≤ 2 ^ 64 - 1 → n ≡ counted n 0
+pub counted-none : (n : ℕ) → n ≤ 2 ^ 64 - 1 → n ≡ N.counted n 0
 counted-none n h = omega arith
 
-pub counted-twice : (n k l : ℕ) → counted (counted n k) l ≡ counted n (k + l)
+pub counted-twice : (n k l : ℕ) → N.counted (N.counted n k) l ≡ N.counted n (k + l)
 counted-twice n k l = omega arith
 
 pub Adds-trans : (a b c : Held) (d f p q : List ℕ) → Adds a b d p → Adds b c f q → Adds a c (d ++ f) (p ++ q)
-Adds-trans a b c d f p q x y = grind (arith, append_assoc, length-append, Appends-trans)
+Adds-trans a b c d f p q x y = grind (arith, N.append_assoc, N.length-append, N.Appends-trans)
 
 pub Puts-none : (a : Held) → a.delivered ≤ 2 ^ 64 - 1 → Puts a a []
-Puts-none a h = ([], 0, (Appends-nil a.had, append-nil a.waiting, counted-none a.delivered h), refl, Stays-none a.failures)
+Puts-none a h = ([], 0, (N.Appends-nil a.had, N.append-nil a.waiting, counted-none a.delivered h), refl, Stays-none a.failures)
 
 pub Puts-trans : (a b c : Held) (p q : List ℕ) → Puts a b p → Puts b c q → Puts a c (p ++ q)
 Puts-trans a b c p q x y = (
   x.0 ++ y.0,
   x.1 + y.1,
   Adds-trans a b c _ _ _ _ x.2 y.2,
-  omega (arith, length-append x.0 y.0),
+  omega (arith, N.length-append x.0 y.0),
   Stays-trans _ _ _ x.0 y.0 x.4 y.4,
 )
 
 pub Breaks-after : (a b c : Held) (p q : List ℕ) (e : Stop) → Puts a b p → Breaks b c q e → Breaks a c (p ++ q) e
 Breaks-after a b c p q e x y =
-    let len = length-append x.0 y.0 in (
+    let len = N.length-append x.0 y.0 in (
       x.0 ++ y.0,
       x.1 + y.1,
       length p + y.2,
-      (rw (← take-append-add p q y.2) at (Adds-trans a b c _ _ p (take y.2 q) x.2 y.3)),
-      omega (arith, length-append p q),
+      (rw (← N.take-append-add p q y.2) at (Adds-trans a b c _ _ p (take y.2 q) x.2 y.3)),
+      omega (arith, N.length-append p q),
       omega arith,
       omega arith,
       omega arith,
@@ -43,15 +42,15 @@ Breaks-after a b c p q e x y =
     )
 
 pub Breaks-longer : (a b : Held) (p more : List ℕ) (e : Stop) → Breaks a b p e → Breaks a b (p ++ more) e
-Breaks-longer a b p more e x = grind (arith, take-append-le, length-append)
+Breaks-longer a b p more e x = grind (arith, N.take-append-le, N.length-append)
 
 -- a block became full, and was delivered, or not
 pub block : {U : Type 0} (a m b : Held) (piece : List ℕ) (r : Result U Stop) → m ≡ record a { waiting = a.waiting ++ piece } → length m.waiting ≡ 4096
-    → OnErr r (0 < length b.waiting)
-    → MatchResult r (λ _. Sends m b) (λ e. FinishFails m b e) → MatchResult r (λ _. Puts a b piece) (λ e. Breaks a b piece e)
-block a m b piece r is full some x = grind (arith, append-nil, length-append, take_all, le_refl)
+    → N.OnErr r (0 < length b.waiting)
+    → N.MatchResult r (λ _. N.Sends m b) (λ e. N.FinishFails m b e) → N.MatchResult r (λ _. Puts a b piece) (λ e. Breaks a b piece e)
+block a m b piece r is full some x = grind (arith, N.append-nil, N.length-append, N.take_all, N.le_refl)
 
 pub block_going : {U : Type 0} (a m b : Held) (piece : List ℕ) (r : Result U Stop) (failed : Bool) → m ≡ record a { waiting = a.waiting ++ piece }
-    → length m.waiting ≡ 4096 → OnErr r (0 < length b.waiting)
-    → MatchResult r (λ _. Sends m b) (λ e. FinishFails m b e) → MatchResult r (λ _. Puts a b piece) (λ e. failed ≡ false → Breaks a b piece e)
-block_going a m b piece r failed is full some x = grind (arith, common_steps)
+    → length m.waiting ≡ 4096 → N.OnErr r (0 < length b.waiting)
+    → N.MatchResult r (λ _. N.Sends m b) (λ e. N.FinishFails m b e) → N.MatchResult r (λ _. Puts a b piece) (λ e. failed ≡ false → Breaks a b piece e)
+block_going a m b piece r failed is full some x = grind (arith, N.common_steps)

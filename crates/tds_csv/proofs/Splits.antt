@@ -1,14 +1,13 @@
 -- A text that is put in one call could have been put in two.
+use Rattle.tds_csv.proofs.Words as N
 use Rattle.tds_csv.proofs.{
-  Words.{◌≡◌, ◌∙◌, ◌⊎◌, inl, inr, ℕ, ◌+◌, ◌-◌, ◌*◌, ◌^◌, ◌<◌, ◌≤◌, List, ◌++◌, length, take, drop, refl, sym, ap, subst, arith, append_assoc, length-append},
-  Words.{length-drop, ◌/◌, length-take-le, take-append-drop, take-append-le, drop-append-le, take-append-add, Appends, append_known, dec_le, counted, one_more},
-  Words.{Stop, Held, Adds, Puts, Breaks},
+  Words.{◌≡◌, ◌∙◌, ◌⊎◌, inl, inr, ℕ, ◌+◌, ◌-◌, ◌*◌, ◌^◌, ◌<◌, ◌≤◌, List, ◌++◌, length, take, drop, refl, sym, ap, subst, arith, ◌/◌, Held, Adds, Puts},
   Sinks.counted-twice,
 }
 
 -- what waits and a piece is what is delivered and then waits
 total_of : (a b : Held) (p r sent : List ℕ) → Adds a b sent (p ++ r) → length (a.waiting ++ p) + length r ≡ length sent + length b.waiting
-total_of a b p r sent adds = sym (length-append (a.waiting ++ p) r) ∙ ap length (append_assoc a.waiting p r ∙ adds.1) ∙ length-append sent b.waiting
+total_of a b p r sent adds = sym (N.length-append (a.waiting ++ p) r) ∙ ap length (N.append_assoc a.waiting p r ∙ adds.1) ∙ N.length-append sent b.waiting
 
 -- the whole blocks of what waits and comes first are delivered before the rest is put
 split_at : (a b : Held) (p r sent : List ℕ) (n : ℕ) → Adds a b sent (p ++ r) → 4096 * n ≤ length sent → 4096 * n ≤ length (a.waiting ++ p)
@@ -19,19 +18,19 @@ split_at a b p r sent n adds enough below above asked =
     let k = 4096 * n in
     let all = a.waiting ++ p in
     let first = take k all in
-    let joined = append_assoc a.waiting p r ∙ adds.1 in
-    let size = length-take-le k all below in
-    let sizes : length sent ≡ length first + length (drop k sent) = omega (arith, length-drop k sent) in (
-      record { had = append_known a.had first; waiting = drop k all; delivered = counted a.delivered (length first); failures = a.failures },
-      omega (arith, length-drop k all),
-      (first, n, (grind arith, sym (take-append-drop k all), refl), size, (refl, λ some. asked (omega (arith, some)))),
+    let joined = N.append_assoc a.waiting p r ∙ adds.1 in
+    let size = N.length-take-le k all below in
+    let sizes : length sent ≡ length first + length (drop k sent) = omega (arith, N.length-drop k sent) in (
+      record { had = N.append_known a.had first; waiting = drop k all; delivered = N.counted a.delivered (length first); failures = a.failures },
+      omega (arith, N.length-drop k all),
+      (first, n, (grind arith, sym (N.take-append-drop k all), refl), size, (refl, λ some. asked (omega (arith, some)))),
       (
-        (let all_sent : Appends a.had b.had (first ++ drop k sent) = subst (Appends a.had b.had)
-            (sym (take-append-drop k sent) ∙ ap (λ l. l ++ drop k sent) (rw (← take-append-le k sent b.waiting enough, ← joined) (take-append-le k
+        (let all_sent : N.Appends a.had b.had (first ++ drop k sent) = subst (N.Appends a.had b.had)
+            (sym (N.take-append-drop k sent) ∙ ap (λ l. l ++ drop k sent) (rw (← N.take-append-le k sent b.waiting enough, ← joined) (N.take-append-le k
             all r below)))
-            adds.0 in grind (arith, append_assoc)),
-        sym (drop-append-le k all r below) ∙ ap (drop k) joined ∙ drop-append-le k sent b.waiting enough,
-        adds.2 ∙ ap (counted a.delivered) sizes ∙ sym (counted-twice a.delivered (length first) (length (drop k sent))),
+            adds.0 in grind (arith, N.append_assoc)),
+        sym (N.drop-append-le k all r below) ∙ ap (drop k) joined ∙ N.drop-append-le k sent b.waiting enough,
+        adds.2 ∙ ap (N.counted a.delivered) sizes ∙ sym (counted-twice a.delivered (length first) (length (drop k sent))),
       ),
       refl,
       omega arith,
@@ -45,22 +44,22 @@ Puts_split a b p q few x =
     let n = length (a.waiting ++ p) / 4096 in
     let total = total_of a b p q x.0 x.2 in
     let s = split_at a b p q x.0 n x.2 (omega arith) (omega arith) (omega arith) x.4.1 in
-    (s.0, s.1, s.2, (drop (4096 * n) x.0, x.1 - n, s.3, omega (arith, length-drop (4096 * n) x.0), (x.4.0 ∙ sym s.4, s.6)), s.5)
+    (s.0, s.1, s.2, (drop (4096 * n) x.0, x.1 - n, s.3, omega (arith, N.length-drop (4096 * n) x.0), (x.4.0 ∙ sym s.4, s.6)), s.5)
 
 -- a write that failed in a piece would have failed in its first part or in its second
-pub Breaks_split : (a b : Held) (p q : List ℕ) (stop : Stop) → Breaks a b (p ++ q) stop → Breaks a b p stop
-    ⊎ ((m : Held) × (length m.waiting < 4096) × Puts a m p × Breaks m b q stop × (m.delivered ≤ 2 ^ 64 - 1))
-Breaks_split a b p q stop x = elim (dec_le x.2 (length p)) [
-  | yes le ↦ inl (x.0, x.1, x.2, subst (Adds a b x.0) (take-append-le x.2 p q le) x.3, le, x.5, x.6, x.7, x.8, x.9)
+pub Breaks_split : (a b : Held) (p q : List ℕ) (stop : N.Stop) → N.Breaks a b (p ++ q) stop → N.Breaks a b p stop
+    ⊎ ((m : Held) × (length m.waiting < 4096) × Puts a m p × N.Breaks m b q stop × (m.delivered ≤ 2 ^ 64 - 1))
+Breaks_split a b p q stop x = elim (N.dec_le x.2 (length p)) [
+  | yes le ↦ inl (x.0, x.1, x.2, subst (Adds a b x.0) (N.take-append-le x.2 p q le) x.3, le, x.5, x.6, x.7, x.8, x.9)
   | no above ↦
       let i = x.2 - length p in
       let n = length (a.waiting ++ p) / 4096 in
-      let fits : i ≤ length q = omega (arith, length-append p q) in
-      let adds = subst (Adds a b x.0) (ap (λ k. take k (p ++ q)) (sym (omega arith)) ∙ take-append-add p q i) x.3 in
+      let fits : i ≤ length q = omega (arith, N.length-append p q) in
+      let adds = subst (Adds a b x.0) (ap (λ k. take k (p ++ q)) (sym (omega arith)) ∙ N.take-append-add p q i) x.3 in
       let total = total_of a b p (take i q) x.0 adds in
-      let size = length-take-le i q fits in
+      let size = N.length-take-le i q fits in
       let s = split_at a b p (take i q) x.0 n adds (omega arith) (omega arith) (omega arith) x.9.1 in
-      let left = length-drop (4096 * n) x.0 in
+      let left = N.length-drop (4096 * n) x.0 in
       inr (
         s.0,
         s.1,
@@ -75,7 +74,7 @@ Breaks_split a b p q stop x = elim (dec_le x.2 (length p)) [
           omega arith,
           omega arith,
           x.8,
-          (x.9.0 ∙ ap one_more (sym s.4), s.6),
+          (x.9.0 ∙ ap N.one_more (sym s.4), s.6),
         ),
         s.5,
       )

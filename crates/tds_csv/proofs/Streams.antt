@@ -1,31 +1,30 @@
 -- Calls that read by a grammar and put the text of what they read: one after another, and inside a greater grammar.
+use Rattle.tds_csv.proofs.Words as N
 use Rattle.tds_csv.proofs.{
-  Words.{◌≡◌, ◌∙◌, inl, inr, ℕ, ◌+◌, ◌<◌, Bool, List, ◌++◌, length, sym, ap, arith, append_assoc, Fault, Stop, Grammar, Seen, Inside},
-  Words.{Inside-Spelt, Spelt-append, StopsReading, next_inside, next_some, stops_after, takes_ahead, Held, BreaksStreaming, PutsText, StopsStreaming},
-  Words.{Streams},
+  Words.{◌≡◌, ◌∙◌, inl, inr, ℕ, ◌+◌, ◌<◌, Bool, List, ◌++◌, length, sym, ap, arith, Fault, Stop, Grammar, Seen, stops_after, Held, PutsText},
   Sinks.Puts-trans,
 }
 
 -- a state where a reading stops has a next element
-pub stops_size : {S : Type 0} (g : Grammar S Fault) (from : S) (a b : Seen) (place : ℕ) (at : S) (stop : Stop) → StopsReading g from a b place at stop
+pub stops_size : {S : Type 0} (g : Grammar S Fault) (from : S) (a b : Seen) (place : ℕ) (at : S) (stop : Stop) → N.StopsReading g from a b place at stop
     → 0 < g.size at
 stops_size g from a b place at stop r = grind arith
 
 -- the text between three states, put by two calls
 pub puts_both : {S : Type 0} (text : S → List ℕ) (s t u : S) (a b c : Held) → PutsText text s t a b → PutsText text t u b c → PutsText text s u a c
-puts_both text s t u a b c x y = (x.0 ++ y.0, sym (append_assoc (text s) x.0 y.0) ∙ ap (λ l. l ++ y.0) x.1 ∙ y.1, Puts-trans _ _ _ _ _ x.2 y.2)
+puts_both text s t u a b c x y = (x.0 ++ y.0, sym (N.append_assoc (text s) x.0 y.0) ∙ ap (λ l. l ++ y.0) x.1 ∙ y.1, Puts-trans _ _ _ _ _ x.2 y.2)
 
 module _ {S : Type 0} (g : Grammar S Fault) (text : S → List ℕ) where
   -- a call that reads on, and one whose write fails
-  abbrev pub breaks_after : (s t : S) (a b c : Seen) (h i j : Held) (at : S) (stop : Stop) → Streams g text s a b h i t
-      → BreaksStreaming g text t b c i j at stop → BreaksStreaming g text s a c h j at stop
+  abbrev pub breaks_after : (s t : S) (a b c : Seen) (h i j : Held) (at : S) (stop : Stop) → N.Streams g text s a b h i t
+      → N.BreaksStreaming g text t b c i j at stop → N.BreaksStreaming g text s a c h j at stop
   breaks_after s t a b c h i j at stop x y = record {
     bytes = x.bytes ++ y.bytes;
     element = y.element;
     ahead = y.ahead;
-    spelt = Spelt-append _ _ _ _ _ _ x.spelt y.spelt;
+    spelt = N.Spelt-append _ _ _ _ _ _ x.spelt y.spelt;
     next = y.next;
-    takes = rw (append_assoc x.bytes) (takes_ahead a b c _ _ _ x.takes y.takes);
+    takes = rw (N.append_assoc x.bytes) (N.takes_ahead a b c _ _ _ x.takes y.takes);
     between = y.between;
     middle = y.middle;
     few = y.few;
@@ -37,8 +36,8 @@ module _ {S : Type 0} (g : Grammar S Fault) (text : S → List ℕ) where
 
 module _ {S : Type 0} (g : Grammar S Fault) (text : S → List ℕ) where
   -- what stops a call that puts text stops one that began before it
-  pub streaming_after : (s t : S) (a b c : Seen) (h i j : Held) (place : ℕ) (failed : Bool) (stop : Stop) → (x : Streams g text s a b h i t)
-      → StopsStreaming g text t b c (place + length x.bytes) i j failed stop → StopsStreaming g text s a c place h j failed stop
+  pub streaming_after : (s t : S) (a b c : Seen) (h i j : Held) (place : ℕ) (failed : Bool) (stop : Stop) → (x : N.Streams g text s a b h i t)
+      → N.StopsStreaming g text t b c (place + length x.bytes) i j failed stop → N.StopsStreaming g text s a c place h j failed stop
   streaming_after s t a b c h i j place failed stop x y = record {
     at = y.at;
     cause = elim y.cause [
@@ -52,31 +51,31 @@ module _ {S : Type 0} (g : Grammar S Fault) (text : S → List ℕ) where
   }
 
 -- A small grammar inside a big one, whose text is that of the small one after a text that stands before it.
-module _ {S T : Type 0} (small : Grammar S Fault) (big : Grammar T Fault) (lift : S → T) (is : Inside small big lift) (text : S → List ℕ) (whole : T
+module _ {S T : Type 0} (small : Grammar S Fault) (big : Grammar T Fault) (lift : S → T) (is : N.Inside small big lift) (text : S → List ℕ) (whole : T
     → List ℕ) (front : List ℕ) (text_is : (s : S) → front ++ text s ≡ whole (lift s)) where
   -- what is added to the small text is added to the big one
   pub added_inside : (s t : S) (more : List ℕ) → text s ++ more ≡ text t → whole (lift s) ++ more ≡ whole (lift t)
-  added_inside s t more e = grind (arith, append_assoc)
+  added_inside s t more e = grind (arith, N.append_assoc)
 
   -- the text between two states of the small grammar is that between those of the big one
   pub puts_inside : (s t : S) (a b : Held) → PutsText text s t a b → PutsText whole (lift s) (lift t) a b
   puts_inside s t a b x = (x.0, added_inside s t x.0 x.1, x.2)
 
   -- a write that fails in the text of the small grammar fails in that of the big one
-  abbrev pub breaks_inside : (from : S) (a b : Seen) (h i : Held) (at : S) (stop : Stop) → BreaksStreaming small text from a b h i at stop
-      → BreaksStreaming big whole (lift from) a b h i (lift at) stop
+  abbrev pub breaks_inside : (from : S) (a b : Seen) (h i : Held) (at : S) (stop : Stop) → N.BreaksStreaming small text from a b h i at stop
+      → N.BreaksStreaming big whole (lift from) a b h i (lift at) stop
   breaks_inside from a b h i at stop x = record {
     bytes = x.bytes;
     element = x.element;
     ahead = x.ahead;
-    spelt = Inside-Spelt _ _ _ is _ _ _ x.spelt;
-    next = next_inside _ _ _ is _ _ (next_some _ _ _ x.next) x.next;
+    spelt = N.Inside-Spelt _ _ _ is _ _ _ x.spelt;
+    next = N.next_inside _ _ _ is _ _ (N.next_some _ _ _ x.next) x.next;
     takes = x.takes;
     between = x.between;
     middle = x.middle;
     few = x.few;
     puts = puts_inside from at h x.middle x.puts;
     more = x.more;
-    text_is = added_inside at (small.add at x.element) x.more x.text_is ∙ ap whole (sym (is.add at x.element (next_some _ _ _ x.next)));
+    text_is = added_inside at (small.add at x.element) x.more x.text_is ∙ ap whole (sym (is.add at x.element (N.next_some _ _ _ x.next)));
     breaks = x.breaks;
   }

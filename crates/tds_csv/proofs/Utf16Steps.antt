@@ -1,11 +1,9 @@
 -- One character after the other of text in UTF-16.
+use Rattle.tds_csv.proofs.Words as N
 use Rattle.tds_csv.proofs.{
-  Words.{IsWriting, Leads, List, Ok, Option, PutsPiece, Sink, [], and_right, ap, append-nil, arith, common_steps, doubled, drop, drop_more, emit},
-  Words.{encode_utf8, encode_utf8_all, false, get_or, inl, is_high_surrogate, is_low_surrogate, length, length-append, length-drop, length-take-le},
-  Words.{lone_unit_char, map, nat_tests, nil_from_length, refl, surrogate_pair_char, sym, take, true, unwrap_or, utf16_lossy_chars, ℕ, ◌%◌, ◌&&◌},
-  Words.{◌*◌, ◌++◌, ◌+◌, ◌-◌, ◌<◌, ◌||◌, ◌∙◌, ◌∷◌, ◌≡◌, ◌≤◌, ◌⊎◌},
-  JoiningLemmas.doubled-append,
-  JoiningLemmas.{Leads-none, Leads-seam, Leads-seam-front, emit_held},
+  Words.{List, Ok, Option, [], ap, arith, drop, emit, false, get_or, inl, is_low_surrogate, length, map, refl, sym, take, true, unwrap_or, ℕ, ◌%◌, ◌&&◌, ◌*◌},
+  Words.{◌++◌, ◌+◌, ◌-◌, ◌<◌, ◌||◌, ◌∙◌, ◌∷◌, ◌≡◌, ◌≤◌, ◌⊎◌},
+  JoiningLemmas.{doubled-append, Leads-none, Leads-seam, Leads-seam-front, emit_held},
   Puttings.PutsPiece-none,
   Utf16Laws.{chars-apart, emit-front, front, front_step, joins_utf16, rest_step, short, starts_low},
 }
@@ -22,30 +20,30 @@ unfolding utf16_chars
 characters_nil = refl
 
 pub nil_of_length : (xs : List ℕ) → length xs ≡ 0 → xs ≡ []
-nil_of_length = nil_from_length
+nil_of_length = N.nil_from_length
 
 -- a unit that isn't the first of a pair
-chars_one : (u : ℕ) (us : List ℕ) → (is_high_surrogate u && starts_low us) ≡ false
-    → utf16_lossy_chars (u ∷ us) ≡ unwrap_or (lone_unit_char u) 0xFFFD ∷ utf16_lossy_chars us
+chars_one : (u : ℕ) (us : List ℕ) → (N.is_high_surrogate u && starts_low us) ≡ false
+    → N.utf16_lossy_chars (u ∷ us) ≡ unwrap_or (N.lone_unit_char u) 0xFFFD ∷ N.utf16_lossy_chars us
 unfolding utf16_chars
 chars_one u us h = ap (map (λ o. unwrap_or o 0xFFFD)) (chars-apart (u ∷ []) us h)
 
-spells_one : (low high : ℕ) (bytes : List ℕ) (code : ℕ) → unwrap_or (lone_unit_char (low + 256 * high)) 0xFFFD ≡ code
-    → (is_high low high ≡ true → starts_low (units bytes) ≡ false) → characters (low ∷ high ∷ bytes) ≡ encode_utf8 code ++ characters bytes
+spells_one : (low high : ℕ) (bytes : List ℕ) (code : ℕ) → unwrap_or (N.lone_unit_char (low + 256 * high)) 0xFFFD ≡ code
+    → (is_high low high ≡ true → starts_low (units bytes) ≡ false) → characters (low ∷ high ∷ bytes) ≡ N.encode_utf8 code ++ characters bytes
 spells_one low high bytes code e h = grind (arith, chars_one)
 
 spells_pair : (low high low' high' : ℕ) (bytes : List ℕ) → is_high low high ≡ true → is_low_surrogate (low' + 256 * high') ≡ true
-    → characters (low ∷ high ∷ low' ∷ high' ∷ bytes) ≡ encode_utf8 (surrogate_pair_char (low + 256 * high) (low' + 256 * high')) ++ characters bytes
+    → characters (low ∷ high ∷ low' ∷ high' ∷ bytes) ≡ N.encode_utf8 (N.surrogate_pair_char (low + 256 * high) (low' + 256 * high')) ++ characters bytes
 unfolding utf16_chars
 spells_pair low high low' high' bytes h l = simp (h, l)
 
 -- the text of a front, from its characters
-emits_by : (bytes more : List ℕ) (code : ℕ) → characters (front bytes) ≡ encode_utf8 code ++ characters (front more)
-    → emit rest text bytes ≡ doubled (encode_utf8 code) ++ emit rest text more
+emits_by : (bytes more : List ℕ) (code : ℕ) → characters (front bytes) ≡ N.encode_utf8 code ++ characters (front more)
+    → emit rest text bytes ≡ N.doubled (N.encode_utf8 code) ++ emit rest text more
 emits_by bytes more code e = grind (arith, emit-front, doubled-append)
 
 -- a unit that is no high surrogate
-pub next_one : (low high : ℕ) (bytes : List ℕ) (code : ℕ) → is_high low high ≡ false → unwrap_or (lone_unit_char (low + 256 * high)) 0xFFFD ≡ code
+pub next_one : (low high : ℕ) (bytes : List ℕ) (code : ℕ) → is_high low high ≡ false → unwrap_or (N.lone_unit_char (low + 256 * high)) 0xFFFD ≡ code
     → IsNext (low ∷ high ∷ bytes) code 2
 next_one low high bytes code h e = record {
   emits = emits_by (low ∷ high ∷ bytes) bytes code (rw (front_step low high bytes h) (spells_one low high (front bytes) code e (λ t. cc)));
@@ -53,18 +51,18 @@ next_one low high bytes code h e = record {
   spells = spells_one low high bytes code e (λ t. cc);
 }
 
-pub lone_other : (u : ℕ) → is_high_surrogate u ≡ false → is_low_surrogate u ≡ false → unwrap_or (lone_unit_char u) 0xFFFD ≡ u
+pub lone_other : (u : ℕ) → N.is_high_surrogate u ≡ false → is_low_surrogate u ≡ false → unwrap_or (N.lone_unit_char u) 0xFFFD ≡ u
 lone_other u h l = grind arith
 
-pub lone_half : (u : ℕ) → (is_high_surrogate u ≡ true) ⊎ (is_low_surrogate u ≡ true) → unwrap_or (lone_unit_char u) 0xFFFD ≡ 0xFFFD
+pub lone_half : (u : ℕ) → (N.is_high_surrogate u ≡ true) ⊎ (is_low_surrogate u ≡ true) → unwrap_or (N.lone_unit_char u) 0xFFFD ≡ 0xFFFD
 lone_half u h = grind arith
 
 -- a surrogate that is no low one
-pub high_half : (u : ℕ) → (is_high_surrogate u || is_low_surrogate u) ≡ true → is_low_surrogate u ≡ false → is_high_surrogate u ≡ true
+pub high_half : (u : ℕ) → (N.is_high_surrogate u || is_low_surrogate u) ≡ true → is_low_surrogate u ≡ false → N.is_high_surrogate u ≡ true
 high_half u some low = grind arith
 
 -- a low surrogate is no high one
-pub not_high : (u : ℕ) → is_low_surrogate u ≡ true → is_high_surrogate u ≡ false
+pub not_high : (u : ℕ) → is_low_surrogate u ≡ true → N.is_high_surrogate u ≡ false
 not_high u low = grind arith
 
 -- a high surrogate before a unit that is no low one
@@ -82,20 +80,20 @@ next_alone low high low' high' bytes h l =
 
 -- a pair
 pub next_pair : (low high low' high' : ℕ) (bytes : List ℕ) → is_high low high ≡ true → is_low_surrogate (low' + 256 * high') ≡ true
-    → IsNext (low ∷ high ∷ low' ∷ high' ∷ bytes) (surrogate_pair_char (low + 256 * high) (low' + 256 * high')) 4
+    → IsNext (low ∷ high ∷ low' ∷ high' ∷ bytes) (N.surrogate_pair_char (low + 256 * high) (low' + 256 * high')) 4
 next_pair low high low' high' bytes h l =
     let second : is_high low' high' ≡ false = grind arith in
     record {
-      emits = emits_by (low ∷ high ∷ low' ∷ high' ∷ bytes) bytes (surrogate_pair_char (low + 256 * high) (low' + 256 * high'))
+      emits = emits_by (low ∷ high ∷ low' ∷ high' ∷ bytes) bytes (N.surrogate_pair_char (low + 256 * high) (low' + 256 * high'))
           (rw (front_step low' high' bytes second) (spells_pair low high low' high' (front bytes) h l));
       keeps = rest_step low' high' bytes second;
       spells = spells_pair low high low' high' bytes h l;
     }
 
 -- whole data of which all is withheld is a high surrogate
-pub spells_held : (xs : List ℕ) → 2 ≤ length xs → length xs % 2 ≡ 0 → rest xs ≡ xs → characters xs ≡ encode_utf8 0xFFFD ++ characters (drop 2 xs)
+pub spells_held : (xs : List ℕ) → 2 ≤ length xs → length xs % 2 ≡ 0 → rest xs ≡ xs → characters xs ≡ N.encode_utf8 0xFFFD ++ characters (drop 2 xs)
 unfolding starts_low
-spells_held xs some whole e = grind (arith, short, nat_tests, and_right, encode_utf8_all, chars_one)
+spells_held xs some whole e = grind (arith, short, N.nat_tests, N.and_right, N.encode_utf8_all, chars_one)
 
 -- a high surrogate stays before what is no whole unit
 held_high : (low high : ℕ) (more : List ℕ) → length more < 2 → is_high low high ≡ true → rest (low ∷ high ∷ more) ≡ low ∷ high ∷ more
@@ -103,7 +101,7 @@ held_high low high more few h = grind arith
 
 -- the bytes from a place on, the first ones named
 pub drop_two : (xs : List ℕ) (i : ℕ) → i + 1 < length xs → drop i xs ≡ get_or xs i 0 ∷ get_or xs (i + 1) 0 ∷ drop (i + 2) xs
-drop_two xs i h = grind (arith, drop_more)
+drop_two xs i h = grind (arith, N.drop_more)
 
 pub drop_four : (xs : List ℕ) (i : ℕ) → i + 3 < length xs
     → drop i xs ≡ get_or xs i 0 ∷ get_or xs (i + 1) 0 ∷ get_or xs (i + 2) 0 ∷ get_or xs (i + 3) 0 ∷ drop (i + 4) xs
@@ -112,22 +110,22 @@ drop_four xs i h = grind (arith, drop_two)
 -- ---- the steps from a place on, by the units that stand there
 
 pub held_at : (xs : List ℕ) (i : ℕ) {u : ℕ} → i + 1 < length xs → length xs < i + 4 → u ≡ get_or xs i 0 + 256 * get_or xs (i + 1) 0
-    → is_high_surrogate u ≡ true → rest (drop i xs) ≡ drop i xs
-held_at xs i within few is h = grind (arith, common_steps)
+    → N.is_high_surrogate u ≡ true → rest (drop i xs) ≡ drop i xs
+held_at xs i within few is h = grind (arith, N.common_steps)
 
-pub one_at : (xs : List ℕ) (i : ℕ) {u code : ℕ} → i + 1 < length xs → u ≡ get_or xs i 0 + 256 * get_or xs (i + 1) 0 → is_high_surrogate u ≡ false
-    → unwrap_or (lone_unit_char u) 0xFFFD ≡ code → IsNext (drop i xs) code 2
+pub one_at : (xs : List ℕ) (i : ℕ) {u code : ℕ} → i + 1 < length xs → u ≡ get_or xs i 0 + 256 * get_or xs (i + 1) 0 → N.is_high_surrogate u ≡ false
+    → unwrap_or (N.lone_unit_char u) 0xFFFD ≡ code → IsNext (drop i xs) code 2
 one_at xs i within is h e = rw drop_two (next_one _ _ _ _ (rw is at h) (rw is at e))
 
 module _ (xs : List ℕ) (i : ℕ) {u v : ℕ} (within : i + 3 < length xs) (first : u ≡ get_or xs i 0 + 256 * get_or xs (i + 1) 0)
-    (second : v ≡ get_or xs (i + 2) 0 + 256 * get_or xs (i + 2 + 1) 0) (high : is_high_surrogate u ≡ true) where
+    (second : v ≡ get_or xs (i + 2) 0 + 256 * get_or xs (i + 2 + 1) 0) (high : N.is_high_surrogate u ≡ true) where
   second_is : v ≡ get_or xs (i + 2) 0 + 256 * get_or xs (i + 3) 0
   second_is = grind arith
 
   pub alone_at : is_low_surrogate v ≡ false → IsNext (drop i xs) 0xFFFD 2
   alone_at low = rw drop_four (next_alone _ _ _ _ _ (rw first at high) (rw second_is at low))
 
-  pub pair_at : is_low_surrogate v ≡ true → IsNext (drop i xs) (surrogate_pair_char u v) 4
+  pub pair_at : is_low_surrogate v ≡ true → IsNext (drop i xs) (N.surrogate_pair_char u v) 4
   pair_at low = rw (drop_four, first, second_is) (next_pair _ _ _ _ _ (rw first at high) (rw second_is at low))
 
 -- ---- where a conversion of UTF-16 has come to what is withheld
@@ -143,13 +141,13 @@ pub ends_held : {bytes to : List ℕ} {used made : ℕ} → Converts bytes to us
 ends_held {bytes} {to} {used} {made} before held =
     let run = take made to in
     record {
-      emits = sym (before.leads.emits ∙ ap (λ l. run ++ l) (emit_held rest text (drop used bytes) text_nil held) ∙ append-nil run);
-      leaves = grind (arith, common_steps, short);
+      emits = sym (before.leads.emits ∙ ap (λ l. run ++ l) (emit_held rest text (drop used bytes) text_nil held) ∙ N.append-nil run);
+      leaves = grind (arith, N.common_steps, short);
     }
 
 -- nothing comes after this place
 pub ends_there : {bytes to : List ℕ} {used made : ℕ} → Converts bytes to used made → used ≡ length bytes → Ended bytes to used made
-ends_there before all = grind (arith, nil_of_length, length-drop, ends_held)
+ends_there before all = grind (arith, nil_of_length, N.length-drop, ends_held)
 
 -- ---- withheld bytes of text in UTF-16, with the first ones of a piece
 
@@ -158,16 +156,16 @@ abbrev pub after : List ℕ → List ℕ → List ℕ
 after [] piece = piece
 after (byte ∷ kept) piece = rest (byte ∷ kept ++ take 3 piece) ++ drop 3 piece
 
-pub Leads-after : (kept piece : List ℕ) → Leads rest text (kept ++ piece) (after kept piece) (emit rest text (seam kept piece))
+pub Leads-after : (kept piece : List ℕ) → N.Leads rest text (kept ++ piece) (after kept piece) (emit rest text (seam kept piece))
 Leads-after [] piece = rw text_nil Leads-none
 Leads-after (byte ∷ kept) piece = Leads-seam-front joins_utf16 (byte ∷ kept) piece 3 tt
 
 -- nothing is withheld
-pub none_put : {W : Type 0} {contents : W → Option (List ℕ)} {a : Sink W} {kept : List ℕ} (piece : List ℕ) → kept ≡ [] → IsWriting a
-    → PutsPiece {U = ℕ} contents a a (emit rest text (seam kept piece)) (Ok 0)
+pub none_put : {W : Type 0} {contents : W → Option (List ℕ)} {a : N.Sink W} {kept : List ℕ} (piece : List ℕ) → kept ≡ [] → N.IsWriting a
+    → N.PutsPiece {U = ℕ} contents a a (emit rest text (seam kept piece)) (Ok 0)
 none_put piece none going = rw (none, text_nil) (PutsPiece-none _ _ 0 going)
 
-pub none_leads : {kept : List ℕ} (piece : List ℕ) → kept ≡ [] → Leads rest text (kept ++ piece) piece (emit rest text (seam kept piece))
+pub none_leads : {kept : List ℕ} (piece : List ℕ) → kept ≡ [] → N.Leads rest text (kept ++ piece) piece (emit rest text (seam kept piece))
 none_leads piece none = rw none (Leads-after [] piece)
 
 -- some bytes are withheld
@@ -176,8 +174,8 @@ seam_some kept piece some = grind arith
 
 pub some_leads : {kept own : List ℕ} (piece bytes : List ℕ) (used : ℕ) → kept ≡ own → 0 < length kept → 3 ≤ length piece
     → bytes ≡ kept ++ take 3 piece → LeavesRest bytes 0 used
-    → Leads rest text (own ++ piece) (drop (used - length kept) piece) (emit rest text (seam own piece))
+    → N.Leads rest text (own ++ piece) (drop (used - length kept) piece) (emit rest text (seam own piece))
 some_leads {kept = kept} piece bytes used same some long is left =
-    let three : length (take 3 piece) ≡ 3 = length-take-le 3 piece long in
+    let three : length (take 3 piece) ≡ 3 = N.length-take-le 3 piece long in
     rw (← same, seam_some kept piece some, ← is) (Leads-seam joins_utf16 kept piece bytes 3 used is tt
-    (omega (arith, ap length is, length-append kept (take 3 piece))) left.within left.rest)
+    (omega (arith, ap length is, N.length-append kept (take 3 piece))) left.within left.rest)

@@ -1,121 +1,26 @@
 -- The laws of UTF-8 in pieces.
+use Rattle.tds_csv.proofs.Words as N
 use Rattle.tds_csv.proofs.{
-  Words.{
-    Bool,
-    Follows,
-    IsCharBoundary-from_take,
-    IsScalar,
-    IsUtf8,
-    IsUtf8-append,
-    IsUtf8-drop,
-    IsUtf8-encode,
-    IsUtf8-from_is_utf8,
-    IsUtf8-nil,
-    JoinsPieces,
-    List,
-    None,
-    Scalar,
-    Shape,
-    Some,
-    Space,
-    StopsAt,
-    [],
-    all_scalars,
-    and_parts,
-    ap,
-    append-nil,
-    append_assoc,
-    appended,
-    arith,
-    cases_lt,
-    common_steps,
-    cond,
-    drop,
-    drop-append-add,
-    drop_at,
-    drop_of_length-le,
-    emit,
-    encode_same,
-    encode_utf8,
-    encode_utf8_all,
-    false,
-    get_or,
-    get_or-drop,
-    inl,
-    inr,
-    is_in_range,
-    is_utf8,
-    is_utf8-from_IsUtf8,
-    len_utf8,
-    len_utf8_bounds,
-    length,
-    length-append,
-    length-drop,
-    length-encode,
-    length-take-le,
-    nat_eq,
-    nat_lt,
-    nat_tests,
-    nil_from_length,
-    of1,
-    of2,
-    of3,
-    of4,
-    of_four,
-    of_three,
-    of_two,
-    refl,
-    scalar,
-    scalar_cases,
-    second_byte_max,
-    second_byte_min,
-    shape,
-    suc,
-    sym,
-    take,
-    take-append-add,
-    take-append-drop,
-    take-append-le,
-    take-take,
-    take_all,
-    take_at,
-    true,
-    utf8_valid_len,
-    utf8_valid_len-IsUtf8,
-    utf8_valid_len_le,
-    valid_len_up_to,
-    whole_within,
-    zero,
-    ℕ,
-    ⊎_elim,
-    ◌*◌,
-    ◌++◌,
-    ◌+◌,
-    ◌-◌,
-    ◌<◌,
-    ◌∙◌,
-    ◌∷◌,
-    ◌≡◌,
-    ◌≤◌,
-    ◌⊎◌,
-  },
+  Words.{Bool, IsUtf8, List, None, Some, [], ap, arith, cases_lt, cond, drop, emit, encode_utf8, encode_utf8_all, false, get_or, get_or-drop, inl, inr},
+  Words.{is_utf8, length, nat_tests, of1, of2, of3, of4, refl, scalar, second_byte_max, second_byte_min, suc, sym, take, true, utf8_valid_len, zero, ℕ, ◌*◌},
+  Words.{◌++◌, ◌+◌, ◌-◌, ◌<◌, ◌∙◌, ◌∷◌, ◌≡◌, ◌≤◌, ◌⊎◌},
   JoiningLemmas.{doubled-append, settled_front},
 }
 use Rattle.std.specs.Str.Lossy.{utf8_error_len, utf8_valid_len}
 use Rattle.tds_csv.specs.Utf8.{Begins, IsFit, rest, text}
 
 -- what is found going down is UTF-8, and nothing longer is
-front_up_to : (bs : List ℕ) (n : ℕ) → IsUtf8 (take (valid_len_up_to bs n) bs)
-front_up_to bs zero = IsUtf8-nil
+front_up_to : (bs : List ℕ) (n : ℕ) → IsUtf8 (take (N.valid_len_up_to bs n) bs)
+front_up_to bs zero = N.IsUtf8-nil
 front_up_to bs (suc n) =
-    elim (is_utf8 (take (suc n) bs)) as (λ t. is_utf8 (take (suc n) bs) ≡ t → IsUtf8 (take (cond t (suc n) (valid_len_up_to bs n)) bs))
-    [ true ↦ IsUtf8-from_is_utf8 (take (suc n) bs) | false ↦ λ e. front_up_to bs n ] refl
+    elim (is_utf8 (take (suc n) bs)) as (λ t. is_utf8 (take (suc n) bs) ≡ t → IsUtf8 (take (cond t (suc n) (N.valid_len_up_to bs n)) bs))
+    [ true ↦ N.IsUtf8-from_is_utf8 (take (suc n) bs) | false ↦ λ e. front_up_to bs n ] refl
 
-longest_up_to : (bs : List ℕ) (n m : ℕ) → valid_len_up_to bs n < m → m ≤ n → IsUtf8 (take m bs) → ⊥
+longest_up_to : (bs : List ℕ) (n m : ℕ) → N.valid_len_up_to bs n < m → m ≤ n → IsUtf8 (take m bs) → ⊥
 longest_up_to bs zero m below within u = omega arith
 longest_up_to bs (suc n) m below within u =
-    let passed = is_utf8-from_IsUtf8 (take m bs) u in
-    elim (is_utf8 (take (suc n) bs)) as (λ t. is_utf8 (take (suc n) bs) ≡ t → cond t (suc n) (valid_len_up_to bs n) < m → ⊥) [
+    let passed = N.is_utf8-from_IsUtf8 (take m bs) u in
+    elim (is_utf8 (take (suc n) bs)) as (λ t. is_utf8 (take (suc n) bs) ≡ t → cond t (suc n) (N.valid_len_up_to bs n) < m → ⊥) [
       | true ↦ λ e below. omega arith
       | false ↦ λ e below. elim (cases_lt m (suc n)) [
         | inl less ↦ longest_up_to bs n m below (omega arith) u
@@ -137,38 +42,38 @@ longest_is bs m below within u = longest_up_to bs (length bs) m below within u
 
 pub length-front : (bs : List ℕ) → length (front bs) ≡ utf8_valid_len bs
 unfolding front
-length-front bs = length-take-le _ bs (utf8_valid_len_le bs)
+length-front bs = N.length-take-le _ bs (N.utf8_valid_len_le bs)
 
 pub front-rest : (bs : List ℕ) → bs ≡ front bs ++ rest bs
 unfolding front
-front-rest bs = sym (take-append-drop _ bs)
+front-rest bs = sym (N.take-append-drop _ bs)
 
 -- what follows a text in a text is a text
 pub after_text : (w z : List ℕ) → IsUtf8 w → IsUtf8 (w ++ z) → IsUtf8 z
 after_text w z u whole =
-    rw (drop_at w z (length w) refl) at (IsUtf8-drop (w ++ z) (length w) whole (IsCharBoundary-from_take (w ++ z) (length w) whole
-    (omega (arith, length-append w z)) (rw (take_at w z (length w) refl) u)))
+    rw (N.drop_at w z (length w) refl) at (N.IsUtf8-drop (w ++ z) (length w) whole (N.IsCharBoundary-from_take (w ++ z) (length w) whole
+    (omega (arith, N.length-append w z)) (rw (N.take_at w z (length w) refl) u)))
 
 -- a text at the front than which no longer one stands there
 pub valid_len_is : (bs : List ℕ) (n : ℕ) → n ≤ length bs → IsUtf8 (take n bs) → ((m : ℕ) → n < m → m ≤ length bs → IsUtf8 (take m bs) → ⊥)
     → utf8_valid_len bs ≡ n
 unfolding front
-valid_len_is bs n within u longest = grind (arith, longest_is bs n, longest (utf8_valid_len bs), utf8_valid_len_le, front_is bs)
+valid_len_is bs n within u longest = grind (arith, longest_is bs n, longest (utf8_valid_len bs), N.utf8_valid_len_le, front_is bs)
 
 -- the longest text at the front, after a text
 pub valid_len-past : (w y : List ℕ) → IsUtf8 w → utf8_valid_len (w ++ y) ≡ length w + utf8_valid_len y
 unfolding front
 valid_len-past w y u =
     let k = utf8_valid_len y in
-    let sum = length-append w y in
-    valid_len_is (w ++ y) (length w + k) (omega (arith, utf8_valid_len_le y)) (rw (take-append-add w y k) (IsUtf8-append w (take k y) u (front_is y)))
+    let sum = N.length-append w y in
+    valid_len_is (w ++ y) (length w + k) (omega (arith, N.utf8_valid_len_le y)) (rw (N.take-append-add w y k) (N.IsUtf8-append w (take k y) u (front_is y)))
     (λ m more within whole.
     let n = m - length w in
     let split : m ≡ length w + n = omega arith in
-    longest_is y n (omega arith) (omega arith) (after_text w (take n y) u (rw (split, take-append-add w y n) at whole)))
+    longest_is y n (omega arith) (omega arith) (after_text w (take n y) u (rw (split, N.take-append-add w y n) at whole)))
 
 pub regrouped : (a b : List ℕ) → a ++ b ≡ front a ++ (rest a ++ b)
-regrouped a b = cc (front-rest a, append_assoc (front a) (rest a) b)
+regrouped a b = cc (front-rest a, N.append_assoc (front a) (rest a) b)
 
 -- the front of two pieces, and their rest
 valid_len-append : (a b : List ℕ) → utf8_valid_len (a ++ b) ≡ length (front a) + utf8_valid_len (rest a ++ b)
@@ -176,10 +81,10 @@ valid_len-append a b = rw regrouped (valid_len-past (front a) (rest a ++ b) (fro
 
 front-append : (a b : List ℕ) → front (a ++ b) ≡ front a ++ front (rest a ++ b)
 unfolding front
-front-append a b = grind (arith, valid_len-append, regrouped, take-append-add)
+front-append a b = grind (arith, valid_len-append, regrouped, N.take-append-add)
 
 pub rest-append : (a b : List ℕ) → rest (a ++ b) ≡ rest (rest a ++ b)
-rest-append a b = grind (arith, valid_len-append, regrouped, drop-append-add)
+rest-append a b = grind (arith, valid_len-append, regrouped, N.drop-append-add)
 
 pub emit-front : (a : List ℕ) → emit rest text a ≡ text (front a)
 emit-front a = ap text (settled_front rest a (front a) (front-rest a))
@@ -192,7 +97,7 @@ ends a = cc (front-rest a, doubled-append (front a) (rest a), emit-front a)
 
 -- the first bytes, the whole characters among them
 pub take-front : (bytes : List ℕ) (n : ℕ) → take (utf8_valid_len bytes + n) bytes ≡ front bytes ++ take n (rest bytes)
-take-front bytes n = rw (length-front bytes, ← front-rest bytes) at (take-append-add (front bytes) (rest bytes) n)
+take-front bytes n = rw (length-front bytes, ← front-rest bytes) at (N.take-append-add (front bytes) (rest bytes) n)
 
 -- no front of the list is a text
 unfoldable pub NoText : List ℕ → Type 0
@@ -202,8 +107,8 @@ NoText r = (n : ℕ) → 0 < n → n ≤ length r → IsUtf8 (take n r) → ⊥
 pub no_text : (bytes : List ℕ) → NoText (rest bytes)
 unfolding NoText
 no_text bytes n some within u =
-    longest_is bytes (utf8_valid_len bytes + n) (omega arith) (omega (arith, length-drop (utf8_valid_len bytes) bytes))
-    (rw take-front (IsUtf8-append (front bytes) (take n (rest bytes)) (front_is bytes) u))
+    longest_is bytes (utf8_valid_len bytes + n) (omega arith) (omega (arith, N.length-drop (utf8_valid_len bytes) bytes))
+    (rw take-front (N.IsUtf8-append (front bytes) (take n (rest bytes)) (front_is bytes) u))
 
 -- the list is empty, or a beginning of a character, as what follows shows
 abbrev IsBegun : List ℕ → List ℕ → Type 0
@@ -217,16 +122,16 @@ begun_rest a b =
     let whole = after_text (front a) (rest a ++ b.0) (front_is a) (rw (← regrouped a b.0) b.1) in
     go whole.0 whole.1.0 whole.1.1
   where
-    go : (cs : List ℕ) → all_scalars cs ≡ true → encode_utf8_all cs ≡ rest a ++ b.0 → IsBegun (rest a) b.0
-    go [] valid e = inl (nil_from_length (rest a) (omega (arith, ap length e, length-append (rest a) b.0)))
+    go : (cs : List ℕ) → N.all_scalars cs ≡ true → encode_utf8_all cs ≡ rest a ++ b.0 → IsBegun (rest a) b.0
+    go [] valid e = inl (N.nil_from_length (rest a) (omega (arith, ap length e, N.length-append (rest a) b.0)))
     go (c ∷ cs) valid e = elim (cases_lt (length (rest a)) (length (encode_utf8 c))) [
-      | inl less ↦ inr (c, encode_utf8_all cs, (and_parts (scalar c) (all_scalars cs) valid).0, e, less)
+      | inl less ↦ inr (c, encode_utf8_all cs, (N.and_parts (scalar c) (N.all_scalars cs) valid).0, e, less)
       | inr more ↦
           let k = length (encode_utf8 c) in
           let found : take k (rest a) ≡ encode_utf8 c =
-          rw (← take-append-le k (rest a) b.0 more, ← e) (take_at (encode_utf8 c) (encode_utf8_all cs) k refl) in
-          absurd (no_text a k (omega (arith, length-encode c, len_utf8_bounds c)) more
-          (rw found (IsUtf8-encode c (and_parts (scalar c) (all_scalars cs) valid).0)))
+          rw (← N.take-append-le k (rest a) b.0 more, ← e) (N.take_at (encode_utf8 c) (encode_utf8_all cs) k refl) in
+          absurd (no_text a k (omega (arith, N.length-encode c, N.len_utf8_bounds c)) more
+          (rw found (N.IsUtf8-encode c (N.and_parts (scalar c) (N.all_scalars cs) valid).0)))
     ]
 
 short : (a : List ℕ) → Begins a → length (rest a) ≤ 3
@@ -234,71 +139,71 @@ short a begins = elim (begun_rest a begins) [
   | inl none ↦ omega (arith, ap length none)
   | inr part ↦ omega (
     arith,
-    length-encode part.0,
-    len_utf8_bounds part.0,
+    N.length-encode part.0,
+    N.len_utf8_bounds part.0,
   )
 ]
 
 -- what follows, seen from the front
 seam : (a b more : List ℕ) → (a ++ b) ++ more ≡ front a ++ ((rest a ++ b) ++ more)
-seam a b more = grind (arith, regrouped, append_assoc)
+seam a b more = grind (arith, regrouped, N.append_assoc)
 
 -- text in UTF-8 may come in pieces
-pub joins_utf8 : JoinsPieces IsFit Begins rest text
+pub joins_utf8 : N.JoinsPieces IsFit Begins rest text
 joins_utf8 = record {
   emits = λ a b _. emits a b;
   keeps = λ a b _. rest-append a b;
   short = short;
   ends = λ bytes _. ends bytes;
   fit_rest = λ bytes u. after_text (front bytes) (rest bytes) (front_is bytes) (rw (← front-rest bytes) u);
-  fit_whole = λ bytes _ u. rw (front-rest bytes) (IsUtf8-append (front bytes) (rest bytes) (front_is bytes) u);
-  front = λ a b h. (b ++ h.0, rw (← append_assoc a b h.0) h.1);
+  fit_whole = λ bytes _ u. rw (front-rest bytes) (N.IsUtf8-append (front bytes) (rest bytes) (front_is bytes) u);
+  front = λ a b h. (b ++ h.0, rw (← N.append_assoc a b h.0) h.1);
   inward = λ a b h. (h.0, after_text (front a) ((rest a ++ b) ++ h.0) (front_is a) (rw (← seam a b h.0) h.1));
-  outward = λ a b h. (h.0, rw (seam a b h.0) (IsUtf8-append (front a) ((rest a ++ b) ++ h.0) (front_is a) h.1));
+  outward = λ a b h. (h.0, rw (seam a b h.0) (N.IsUtf8-append (front a) ((rest a ++ b) ++ h.0) (front_is a) h.1));
 }
 
 -- ---- whether bytes begin a text: std's test of what follows the last whole character
 
 -- the first two bytes of a character of four
-four : (c a b d w : ℕ) → Scalar c → 240 ≤ a → Follows b → Follows d → Follows w → c + 63447168 ≡ a * 262144 + b * 4096 + d * 64 + w → 4 ≤ len_utf8 c
+four : (c a b d w : ℕ) → N.Scalar c → 240 ≤ a → N.Follows b → N.Follows d → N.Follows w → c + 63447168 ≡ a * 262144 + b * 4096 + d * 64 + w → 4 ≤ N.len_utf8 c
     → (a ≤ 244) × (second_byte_min a ≤ b) × (b ≤ second_byte_max a)
 four c a b d w k l f g h s long = grind arith
 
 -- the front of a character
-front_none : (c : ℕ) (r more tail : List ℕ) → Scalar c → Shape c → r ++ more ≡ encode_utf8 c ++ tail → length r < length (encode_utf8 c)
+front_none : (c : ℕ) (r more tail : List ℕ) → N.Scalar c → N.Shape c → r ++ more ≡ encode_utf8 c ++ tail → length r < length (encode_utf8 c)
     → utf8_error_len r ≡ None
 unfolding utf8_error_len
 front_none c [] more tail k s e short = refl
 front_none c (x ∷ r) more tail k (of1 h e') e short = absurd (omega (arith, ap length e'))
-front_none c (x ∷ []) more tail k (of2 a b l u f s e') e short = grind (arith, length-encode)
+front_none c (x ∷ []) more tail k (of2 a b l u f s e') e short = grind (arith, N.length-encode)
 front_none c (x ∷ y ∷ r) more tail k (of2 a b l u f s e') e short = absurd (omega (arith, ap length e'))
 front_none c (x ∷ []) more tail k (of3 a b d l u f g s e') e short = grind arith
-front_none c (x ∷ y ∷ []) more tail k (of3 a b d l u f g s e') e short = grind (arith, length-encode, ⊎_elim, nat_tests)
+front_none c (x ∷ y ∷ []) more tail k (of3 a b d l u f g s e') e short = grind (arith, N.length-encode, N.⊎_elim, nat_tests)
 front_none c (x ∷ y ∷ z ∷ r) more tail k (of3 a b d l u f g s e') e short = absurd (omega (arith, ap length e'))
-front_none c (x ∷ []) more tail k (of4 a b d w l u f g h s e') e short = grind (arith, ⊎_elim, nat_tests)
-front_none c (x ∷ y ∷ []) more tail k (of4 a b d w l u f g h s e') e short = grind (arith, four, length-encode, nat_tests)
-front_none c (x ∷ y ∷ z ∷ []) more tail k (of4 a b d w l u f g h s e') e short = grind (arith, four, length-encode, nat_tests)
+front_none c (x ∷ []) more tail k (of4 a b d w l u f g h s e') e short = grind (arith, N.⊎_elim, nat_tests)
+front_none c (x ∷ y ∷ []) more tail k (of4 a b d w l u f g h s e') e short = grind (arith, four, N.length-encode, nat_tests)
+front_none c (x ∷ y ∷ z ∷ []) more tail k (of4 a b d w l u f g h s e') e short = grind (arith, four, N.length-encode, nat_tests)
 front_none c (x ∷ y ∷ z ∷ v ∷ r) more tail k (of4 a b d w l u f g h s e') e short = absurd (omega (arith, ap length e'))
 
 -- where some text begins so, std finds no fault in the rest
 pub begins_none : (bytes : List ℕ) → Begins bytes → utf8_error_len (rest bytes) ≡ None
 begins_none bytes begins = elim (begun_rest bytes begins) [
   | inl none ↦ rw none (unfold utf8_error_len in refl)
-  | inr part ↦ let k = scalar_cases part.0 part.2 in front_none part.0 (rest bytes) begins.0 part.1 k (shape part.0 k) (sym part.3) part.4
+  | inr part ↦ let k = N.scalar_cases part.0 part.2 in front_none part.0 (rest bytes) begins.0 part.1 k (N.shape part.0 k) (sym part.3) part.4
 ]
 
 two_bytes : (a b : ℕ) → 194 ≤ a → a < 224 → second_byte_min a ≤ b → b ≤ second_byte_max a → IsUtf8 (a ∷ b ∷ [])
-two_bytes a b l u lo hi = of_two (a ∷ b ∷ []) 0 (omega arith) (l, u) (grind arith)
+two_bytes a b l u lo hi = N.of_two (a ∷ b ∷ []) 0 (omega arith) (l, u) (grind arith)
 
 three_bytes : (a b d : ℕ) → 224 ≤ a → a < 240 → second_byte_min a ≤ b → b ≤ second_byte_max a → 128 ≤ d → d < 192 → IsUtf8 (a ∷ b ∷ d ∷ [])
-three_bytes a b d l u lo hi dl dh = of_three (a ∷ b ∷ d ∷ []) 0 (omega arith) (l, u) (grind arith) (
+three_bytes a b d l u lo hi dl dh = N.of_three (a ∷ b ∷ d ∷ []) 0 (omega arith) (l, u) (grind arith) (
   dl,
   dh,
 ) (grind arith) (grind arith)
 
 four_bytes : (a b d w : ℕ) → 240 ≤ a → a ≤ 244 → second_byte_min a ≤ b → b ≤ second_byte_max a → 128 ≤ d → d < 192 → 128 ≤ w → w < 192
     → IsUtf8 (a ∷ b ∷ d ∷ w ∷ [])
-four_bytes a b d w l u lo hi dl dh wl wh = of_four (a ∷ b ∷ d ∷ w ∷ []) 0 (omega arith) l (grind arith) (dl, dh) (
+four_bytes a b d w l u lo hi dl dh wl wh = N.of_four (a ∷ b ∷ d ∷ w ∷ []) 0 (omega arith) l (grind arith) (dl, dh) (
   wl,
   wh,
 ) (grind arith)
@@ -341,7 +246,7 @@ two_complete a b l h lo hi none = let x = three_complete a b 128 (more_than_two 
 -- what std finds no fault in can be completed
 completes : (r : List ℕ) → NoText r → utf8_error_len r ≡ None → Completes r
 unfolding Completes utf8_error_len
-completes [] none e = ([], IsUtf8-nil)
+completes [] none e = ([], N.IsUtf8-nil)
 completes (a ∷ []) none e = grind (arith, one_completes)
 completes (a ∷ b ∷ []) none e = grind (arith, two_complete, nat_tests)
 completes (a ∷ b ∷ d ∷ []) none e = grind (arith, three_complete, more_than_two, nat_tests)
@@ -352,18 +257,18 @@ pub none_begins : (bytes : List ℕ) → utf8_error_len (rest bytes) ≡ None �
 unfolding Completes
 none_begins bytes e =
     let more = completes (rest bytes) (no_text bytes) e in
-    (more.0, rw regrouped (IsUtf8-append (front bytes) (rest bytes ++ more.0) (front_is bytes) more.1))
+    (more.0, rw regrouped (N.IsUtf8-append (front bytes) (rest bytes ++ more.0) (front_is bytes) more.1))
 
 -- ---- the first byte with which bytes stop beginning a text, from what std says of them
 
 abbrev is_first : ℕ → Bool
-is_first x = is_in_range 0xC2 0xF4 x
+is_first x = N.is_in_range 0xC2 0xF4 x
 
 abbrev is_second : ℕ → ℕ → Bool
-is_second x y = is_in_range (second_byte_min x) (second_byte_max x) y
+is_second x y = N.is_in_range (second_byte_min x) (second_byte_max x) y
 
 abbrev is_next : ℕ → Bool
-is_next z = is_in_range 0x80 0xBF z
+is_next z = N.is_in_range 0x80 0xBF z
 
 fault_four : (x y z w : ℕ) (t : List ℕ) → utf8_error_len (x ∷ y ∷ z ∷ w ∷ t) ≡ cond (is_first x)
     (cond (is_second x y) (cond (is_next z) (Some 3) (Some 2)) (Some 1)) (Some 1)
@@ -387,27 +292,27 @@ good_of : (r : List ℕ) (k : ℕ) → utf8_error_len r ≡ Some k → Good r (c
 unfolding utf8_error_len
 good_of [] k e = cc
 good_of (x ∷ []) k e = grind arith
-good_of (x ∷ y ∷ []) k e = grind (arith, common_steps)
-good_of (x ∷ y ∷ z ∷ []) k e = grind (arith, common_steps)
+good_of (x ∷ y ∷ []) k e = grind (arith, N.common_steps)
+good_of (x ∷ y ∷ z ∷ []) k e = grind (arith, N.common_steps)
 good_of (x ∷ y ∷ z ∷ w ∷ t) k e =
     by_tests (is_first x) (is_second x y) (is_next z) k (Good (x ∷ y ∷ z ∷ w ∷ t)) (sym (fault_four x y z w t)
-    ∙ e) (λ f. grind arith) (λ f s. grind arith) (λ f s n. grind arith) (λ f s n. grind (arith, nat_eq, nat_tests, nat_lt))
+    ∙ e) (λ f. grind arith) (λ f s. grind arith) (λ f s n. grind arith) (λ f s n. grind (arith, N.nat_eq, nat_tests, N.nat_lt))
 
 -- a part of what has no text at its front has none either
 rest_part : (r : List ℕ) (j : ℕ) → NoText r → j ≤ length r → rest (take j r) ≡ take j r
 unfolding NoText
 rest_part r j without le =
-    let len = length-take-le j r le in
-    rw (valid_len_is (take j r) 0 (omega arith) IsUtf8-nil
-    (λ m some within u. without m some (omega arith) (rw (take-take m j r (omega arith)) at u))) refl
+    let len = N.length-take-le j r le in
+    rw (valid_len_is (take j r) 0 (omega arith) N.IsUtf8-nil
+    (λ m some within u. without m some (omega arith) (rw (N.take-take m j r (omega arith)) at u))) refl
 
 -- a text, and a part of what follows it
 rest_after : (bytes : List ℕ) (j : ℕ) → j ≤ length (rest bytes) → rest (take (utf8_valid_len bytes + j) bytes) ≡ take j (rest bytes)
-rest_after bytes j le = grind (arith, take-front, rest-append, drop_of_length-le, utf8_valid_len-IsUtf8, front_is, rest_part, no_text)
+rest_after bytes j le = grind (arith, take-front, rest-append, N.drop_of_length-le, N.utf8_valid_len-IsUtf8, front_is, rest_part, no_text)
 
 -- where the bytes stop beginning a text, by the fault in their rest
 stops : (bytes : List ℕ) (k : ℕ) → utf8_error_len (rest bytes) ≡ Some k
-    → StopsAt bytes (utf8_valid_len bytes) (utf8_valid_len bytes + cond (is_first (get_or (rest bytes) 0 0)) k 0)
+    → N.StopsAt bytes (utf8_valid_len bytes) (utf8_valid_len bytes + cond (is_first (get_or (rest bytes) 0 0)) k 0)
 stops bytes k e =
     let v = utf8_valid_len bytes in
     let j = cond (is_first (get_or (rest bytes) 0 0)) k 0 in
@@ -416,10 +321,10 @@ stops bytes k e =
     let next : rest (take ((v + j) + 1) bytes) ≡ take (j + 1) (rest bytes) = ap (λ n. rest (take n bytes)) {y = v + (j + 1)} (omega arith)
     ∙ rest_after bytes (j + 1) (omega arith) in
     let cut = take-front bytes j ∙ ap (λ l. front bytes ++ l) (sym part) in
-    grind (arith, front, front-rest, length-drop, utf8_valid_len_le, none_begins, begins_none, settled_front, emit-front)
+    grind (arith, front, front-rest, N.length-drop, N.utf8_valid_len_le, none_begins, begins_none, settled_front, emit-front)
 
 pub stops_at : (bytes : List ℕ) (whole k good : ℕ) → whole ≡ utf8_valid_len bytes → utf8_error_len (drop whole bytes) ≡ Some k
-    → good ≡ cond (is_first (get_or bytes whole 0)) k 0 → StopsAt bytes whole (whole + good)
+    → good ≡ cond (is_first (get_or bytes whole 0)) k 0 → N.StopsAt bytes whole (whole + good)
 stops_at bytes whole k good is e found =
     rw (found, ← (get_or-drop whole bytes 0 0 ∙ ap (λ n. get_or bytes n 0) {x = whole + 0} {y = whole} (omega arith)), is) (stops bytes k (rw is at e))
 
@@ -427,49 +332,49 @@ stops_at bytes whole k good is e found =
 
 -- a beginning of a character is no text
 part_is_no_text : (c n : ℕ) → 0 < n → n < length (encode_utf8 c) → IsUtf8 (take n (encode_utf8 c)) → ⊥
-part_is_no_text c n some short ([], u) = omega (arith, ap length u.1, length-take-le n (encode_utf8 c) (omega arith))
+part_is_no_text c n some short ([], u) = omega (arith, ap length u.1, N.length-take-le n (encode_utf8 c) (omega arith))
 part_is_no_text c n some short (d ∷ cs, u) =
     let whole : encode_utf8 c ++ [] ≡ encode_utf8 d ++ (encode_utf8_all cs ++ drop n (encode_utf8 c)) =
     cc (
-      append-nil (encode_utf8 c),
-      take-append-drop n (encode_utf8 c),
+      N.append-nil (encode_utf8 c),
+      N.take-append-drop n (encode_utf8 c),
       u.1,
-      append_assoc (encode_utf8 d) (encode_utf8_all cs) (drop n (encode_utf8 c)),
+      N.append_assoc (encode_utf8 d) (encode_utf8_all cs) (drop n (encode_utf8 c)),
     ) in
-    grind (arith, encode_utf8_all, append-nil, take-append-drop, append_assoc, encode_same, length-append, length-drop)
+    grind (arith, encode_utf8_all, N.append-nil, N.take-append-drop, N.append_assoc, N.encode_same, N.length-append, N.length-drop)
 
 part_has_none : (c k : ℕ) → k < length (encode_utf8 c) → utf8_valid_len (take k (encode_utf8 c)) ≡ 0
 part_has_none c k short =
-    let len = length-take-le k (encode_utf8 c) (omega arith) in
-    valid_len_is _ 0 (omega arith) IsUtf8-nil
-    (λ m some within u. part_is_no_text c m some (omega arith) (rw (take-take m k (encode_utf8 c) (omega arith)) at u))
+    let len = N.length-take-le k (encode_utf8 c) (omega arith) in
+    valid_len_is _ 0 (omega arith) N.IsUtf8-nil
+    (λ m some within u. part_is_no_text c m some (omega arith) (rw (N.take-take m k (encode_utf8 c) (omega arith)) at u))
 
 -- the next character doesn't fit
 pub cut_before : (room c : ℕ) (out more : List ℕ) → IsUtf8 out → length out ≤ room → room < length out + length (encode_utf8 c)
-    → whole_within room (out ++ (encode_utf8 c ++ more)) ≡ out
+    → N.whole_within room (out ++ (encode_utf8 c ++ more)) ≡ out
 cut_before room c out more u fits full =
     let split : room ≡ length out + (room - length out) = omega arith in
-    grind (arith, take-append-add, take-append-le, valid_len-past, part_has_none, take_at)
+    grind (arith, N.take-append-add, N.take-append-le, valid_len-past, part_has_none, N.take_at)
 
 -- The first characters of a text were added to an area, and these are left.
-pub record Added (s to : Space) (text left : List ℕ) : Type 0 where
+pub record Added (s to : N.Space) (text left : List ℕ) : Type 0 where
   pub out : List ℕ
-  pub stands : to ≡ appended s out
+  pub stands : to ≡ N.appended s out
   pub text_is : text ≡ out ++ left
   pub whole : IsUtf8 out
   pub fits : length s.bytes + length out ≤ s.room
 
-module _ {s to : Space} {text left : List ℕ} (x : Added s to text left) where
+module _ {s to : N.Space} {text left : List ℕ} (x : Added s to text left) where
   -- one more character was added
-  pub added_more : (c : ℕ) {piece more : List ℕ} {after : Space} → left ≡ encode_utf8 c ++ more → piece ≡ encode_utf8 c → IsScalar c
-      → after ≡ appended to piece → length to.bytes + length piece ≤ to.room → Added s after text more
-  added_more c next is scalar grown fits = grind (arith, append_assoc, length-append, IsUtf8-append, IsUtf8-encode)
+  pub added_more : (c : ℕ) {piece more : List ℕ} {after : N.Space} → left ≡ encode_utf8 c ++ more → piece ≡ encode_utf8 c → N.IsScalar c
+      → after ≡ N.appended to piece → length to.bytes + length piece ≤ to.room → Added s after text more
+  added_more c next is scalar grown fits = grind (arith, N.append_assoc, N.length-append, N.IsUtf8-append, N.IsUtf8-encode)
 
   -- the next one doesn't fit: the area stands as the longest beginning that fits leaves it
   pub stays_cut : (c : ℕ) (more : List ℕ) {piece : List ℕ} → left ≡ encode_utf8 c ++ more → piece ≡ encode_utf8 c
-      → to.room < length to.bytes + length piece → to ≡ appended s (whole_within (s.room - length s.bytes) text)
-  stays_cut c more next is full = grind (arith, length-append, cut_before)
+      → to.room < length to.bytes + length piece → to ≡ N.appended s (N.whole_within (s.room - length s.bytes) text)
+  stays_cut c more next is full = grind (arith, N.length-append, cut_before)
 
   -- all fits
-  pub stays_whole : left ≡ [] → to ≡ appended s (whole_within (s.room - length s.bytes) text)
-  stays_whole none = grind (arith, append-nil, take_all, utf8_valid_len-IsUtf8)
+  pub stays_whole : left ≡ [] → to ≡ N.appended s (N.whole_within (s.room - length s.bytes) text)
+  stays_whole none = grind (arith, N.append-nil, N.take_all, N.utf8_valid_len-IsUtf8)

@@ -1,10 +1,8 @@
 -- Pieces of text in UTF-8, one after the other.
+use Rattle.tds_csv.proofs.Words as N
 use Rattle.tds_csv.proofs.{
-  Words.{◌≡◌, ◌∙◌, ◌↔◌, ℕ, ◌+◌, ◌-◌, ◌<◌, ◌≤◌, List, [], ◌++◌, length, take, drop, inl, inr, Option, Result, Ok, Err, refl, sym, ap, arith},
-  Words.{append_assoc, append-nil, length-append, length-drop, length-take-le, cases_lt, take-append-drop, take-take, take-append-le, drop-append-le},
-  Words.{take_all},
-  Words.{drop-append-add, take-append-add, emit, IsErrAnd, JoinFault, Stopped, Odd, BadText, Sink},
-  Words.{Pushes, PushesPiece, TakesPiece, TakesUpTo, Held, held, IsScan, StopsAt},
+  Words.{◌≡◌, ◌∙◌, ◌↔◌, ℕ, ◌+◌, ◌-◌, ◌<◌, ◌≤◌, List, [], ◌++◌, length, take, drop, inl, inr, Option, Result, Ok, Err, refl, sym, ap, arith, emit, JoinFault},
+  Words.{Odd, BadText, Sink, PushesPiece, TakesUpTo, Held, held},
   Utf8Laws.{joins_utf8, emits, rest-append},
   Sinks.{Puts-trans, Breaks-after, Breaks-longer},
 }
@@ -13,33 +11,33 @@ use Rattle.tds_csv.specs.Utf8.{Begins, rest, text}
 -- the answer of a push, by where its piece begins in another one
 abbrev pub moved_by : {V : Type 0} → ℕ → Result V JoinFault → Result V JoinFault
 moved_by n (Err (BadText k)) = Err (BadText (n + k))
-moved_by n (Err (Stopped stop)) = Err (Stopped stop)
+moved_by n (Err (N.Stopped stop)) = Err (N.Stopped stop)
 moved_by n (Err Odd) = Err Odd
 moved_by n (Ok v) = Ok v
 
 -- three bytes hold what is withheld
 pub is_scan : (bytes : List ℕ) (whole good : ℕ) → whole ≤ good → good ≤ length bytes → drop whole bytes ≡ rest bytes
-    → (good ≡ length bytes → Begins bytes) → (good < length bytes → StopsAt bytes whole good) → IsScan bytes whole good
+    → (good ≡ length bytes → Begins bytes) → (good < length bytes → N.StopsAt bytes whole good) → N.IsScan bytes whole good
 is_scan bytes whole good order most same begins stops =
-    let short : good ≤ whole + 3 = elim (cases_lt good (length bytes)) [
+    let short : good ≤ whole + 3 = elim (N.cases_lt good (length bytes)) [
       | inl less ↦
           let s = stops less in
           omega (
             arith,
             ap length s.keeps,
             joins_utf8.short (take good bytes) s.begun,
-            length-drop whole bytes,
-            length-take-le (good - whole) (drop whole bytes) (omega (arith, length-drop whole bytes)),
+            N.length-drop whole bytes,
+            N.length-take-le (good - whole) (drop whole bytes) (omega (arith, N.length-drop whole bytes)),
           )
-      | inr all ↦ omega (arith, ap length same, length-drop whole bytes, joins_utf8.short bytes (begins (omega arith)))
+      | inr all ↦ omega (arith, ap length same, N.length-drop whole bytes, joins_utf8.short bytes (begins (omega arith)))
     ] in
     record { order = order; most = most; short = short; rest = same; begins = begins; stops = stops }
 
 -- the bad byte is after what is withheld
 pub after_kept : (kept piece bytes : List ℕ) (k : ℕ) → bytes ≡ kept ++ piece → Begins kept → (Begins (take (k + 1) bytes) → ⊥) → length kept ≤ k
-after_kept kept piece bytes k is begun bad = elim (cases_lt k (length kept)) [
-  | inl before ↦ absurd (bad (rw (is, take-append-le (k + 1) kept piece (omega arith))
-      (joins_utf8.front _ (drop (k + 1) kept) (rw take-append-drop begun))))
+after_kept kept piece bytes k is begun bad = elim (N.cases_lt k (length kept)) [
+  | inl before ↦ absurd (bad (rw (is, N.take-append-le (k + 1) kept piece (omega arith))
+      (joins_utf8.front _ (drop (k + 1) kept) (rw N.take-append-drop begun))))
   | inr after ↦ after
 ]
 
@@ -51,7 +49,7 @@ up_to_seam {kept} {k = k} is begun x =
     let j = k - length kept in
     let split : k ≡ length kept + j = omega arith in
     let after : k + 1 ≡ length kept + (j + 1) = omega arith in
-    grind (arith, after_kept, take-append-add, length-append)
+    grind (arith, after_kept, N.take-append-add, N.length-append)
 
 -- two parts of a piece, of which the first was taken
 halves : (kept part : List ℕ) {mid : List ℕ} (more : List ℕ) → mid ≡ rest (kept ++ part)
@@ -59,20 +57,20 @@ halves : (kept part : List ℕ) {mid : List ℕ} (more : List ℕ) → mid ≡ r
     × (rest (kept ++ (part ++ more)) ≡ rest (mid ++ more)) × (Begins (kept ++ (part ++ more)) ↔ Begins (mid ++ more))
 halves kept part more is =
     let all = kept ++ part in
-    rw (is, ← append_assoc kept part more) (emits all more, rest-append all more, (joins_utf8.inward all more, joins_utf8.outward all more))
+    rw (is, ← N.append_assoc kept part more) (emits all more, rest-append all more, (joins_utf8.inward all more, joins_utf8.outward all more))
 
 -- what is withheld begins a text
 pub rest_begins : {new : List ℕ} (bytes : List ℕ) → new ≡ rest bytes → Begins bytes → Begins new
-rest_begins bytes is begun = rw (is, ← append-nil (rest bytes)) (joins_utf8.inward bytes [] (rw append-nil begun))
+rest_begins bytes is begun = rw (is, ← N.append-nil (rest bytes)) (joins_utf8.inward bytes [] (rw N.append-nil begun))
 
 -- what is withheld, and the rest of a piece whose first bytes were taken
 kept_tail : (kept part more mid : List ℕ) (at : ℕ) → mid ≡ rest (kept ++ part) → at + length mid ≡ length part
     → take (length (part ++ more) - at) (drop at (part ++ more)) ≡ mid ++ more
-kept_tail kept part more mid at is e = grind (arith, length-drop, length-append, drop-append-add, take_all, drop-append-le)
+kept_tail kept part more mid at is e = grind (arith, N.length-drop, N.length-append, N.drop-append-add, N.take_all, N.drop-append-le)
 
-module _ {kept mid new : List ℕ} {a b d : Held} {part : List ℕ} (x : TakesPiece Begins rest text kept mid a b part) where
+module _ {kept mid new : List ℕ} {a b d : Held} {part : List ℕ} (x : N.TakesPiece Begins rest text kept mid a b part) where
   -- a part of a piece was taken, and then the next bytes
-  takes_both : (more : List ℕ) → TakesPiece Begins rest text [] new b d (mid ++ more) → TakesPiece Begins rest text kept new a d (part ++ more)
+  takes_both : (more : List ℕ) → N.TakesPiece Begins rest text [] new b d (mid ++ more) → N.TakesPiece Begins rest text kept new a d (part ++ more)
   takes_both more y =
       let h = halves kept part more x.withheld in
       record { begun = h.2.1 y.begun; put = rw h.0 (Puts-trans _ _ _ _ _ x.put y.put); withheld = y.withheld ∙ sym h.1 }
@@ -82,17 +80,17 @@ module _ {kept mid new : List ℕ} {a b d : Held} {part : List ℕ} (x : TakesPi
       → TakesUpTo Begins rest text kept new a d (part ++ more) (length part + n)
   up_to_both more n y =
       let next : (part : List ℕ) → take ((length part + n) + 1) (part ++ more) ≡ part ++ take (n + 1) more =
-      λ part. ap (λ k. take k (part ++ more)) {y = length part + (n + 1)} (omega arith) ∙ take-append-add part more (n + 1) in
+      λ part. ap (λ k. take k (part ++ more)) {y = length part + (n + 1)} (omega arith) ∙ N.take-append-add part more (n + 1) in
       record {
-        within = omega (arith, length-append mid more, length-append part more);
-        good = rw (take-append-add part more n) (takes_both (take n more) (rw (take-append-add mid more n) at y.good));
+        within = omega (arith, N.length-append mid more, N.length-append part more);
+        good = rw (N.take-append-add part more n) (takes_both (take n more) (rw (N.take-append-add mid more n) at y.good));
         bad = λ begun. y.bad (rw (next mid) ((halves kept part (take (n + 1) more) x.withheld).2.0 (rw (next part) at begun)));
       }
 
 -- a byte was bad in the first bytes of a piece
 up_to_first : {kept piece new : List ℕ} {a b : Held} (n k : ℕ) → n ≤ length piece → TakesUpTo Begins rest text kept new a b (take n piece) k
     → TakesUpTo Begins rest text kept new a b piece k
-up_to_first n k long x = grind (arith, length-take-le, take-take)
+up_to_first n k long x = grind (arith, N.length-take-le, N.take-take)
 
 module _ {W U : Type 0} {contents : W → Option (List ℕ)} {a b : Sink W} {kept new : List ℕ} where
   -- bytes that are withheld, and a piece, taken as one up to a bad byte
@@ -111,15 +109,15 @@ module _ {W U : Type 0} {contents : W → Option (List ℕ)} {a b : Sink W} {kep
   -- a push of the first bytes of a piece failed
   first_gives : (piece : List ℕ) (n : ℕ) (e : JoinFault) → n ≤ length piece
       → PushesPiece {U = U} contents Begins rest text kept new a b (take n piece) (Err e)
-      → Pushes {U = U} Begins rest text kept new (held contents a) (held contents b) a.failed piece (Err e)
-  first_gives piece n (Stopped stop) long x =
-      let fixed = rw take-append-drop at (halves kept (take n piece) {mid = rest (kept ++ take n piece)} (drop n piece) refl).0 in
+      → N.Pushes {U = U} Begins rest text kept new (held contents a) (held contents b) a.failed piece (Err e)
+  first_gives piece n (N.Stopped stop) long x =
+      let fixed = rw N.take-append-drop at (halves kept (take n piece) {mid = rest (kept ++ take n piece)} (drop n piece) refl).0 in
       λ going. rw fixed (Breaks-longer _ _ _ _ _ (x.gives going))
   first_gives piece n Odd long x = x.gives
   first_gives piece n (BadText k) long x = up_to_first n k long x.gives
 
   -- and `?` passed its error on
-  pub pushes_passed : {piece : List ℕ} {n : ℕ} {e : JoinFault} {r : Result U JoinFault} → n ≤ length piece → IsErrAnd r (λ fault. fault ≡ e)
+  pub pushes_passed : {piece : List ℕ} {n : ℕ} {e : JoinFault} {r : Result U JoinFault} → n ≤ length piece → N.IsErrAnd r (λ fault. fault ≡ e)
       → PushesPiece {U = U} contents Begins rest text kept new a b (take n piece) (Err e) → PushesPiece contents Begins rest text kept new a b piece r
   pushes_passed long is x = grind (arith, first_gives)
 
@@ -127,9 +125,9 @@ module _ {W U V : Type 0} {contents : W → Option (List ℕ)} {a b d : Sink W} 
     (le : at + length mid ≡ length part) (x : PushesPiece contents Begins rest text kept mid a b part (Ok u)) where
   -- the first bytes of a piece were taken, and then what was withheld was pushed with the others
   both_give : (r : Result V JoinFault) → PushesPiece contents Begins rest text [] new b d (mid ++ more) r
-      → Pushes Begins rest text kept new (held contents a) (held contents d) a.failed (part ++ more) (moved_by at r)
+      → N.Pushes Begins rest text kept new (held contents a) (held contents d) a.failed (part ++ more) (moved_by at r)
   both_give (Ok v) y = takes_both x.gives more y.gives
-  both_give (Err (Stopped stop)) y = λ _. rw (halves kept part more x.gives.withheld).0 (Breaks-after _ _ _ _ _ _ x.gives.put (y.gives x.failed))
+  both_give (Err (N.Stopped stop)) y = λ _. rw (halves kept part more x.gives.withheld).0 (Breaks-after _ _ _ _ _ _ x.gives.put (y.gives x.failed))
   both_give (Err Odd) y = y.gives
   both_give (Err (BadText k)) y =
       let past = after_kept mid more _ k refl x.begun y.gives.bad in
@@ -150,6 +148,6 @@ pub pushes_long : {W U V : Type 0} {contents : W → Option (List ℕ)} {a b d :
     → PushesPiece contents Begins rest text kept new a d piece (moved_by (3 - length held') r)
 pushes_long {kept = kept} {mid = mid} {piece = piece} {held' = held'} long same le x y =
     let at = 3 - length held' in
-    let whole : at + length mid ≡ length (take 3 piece) = omega (arith, ap length same, length-take-le 3 piece long) in
-    rw take-append-drop at (pushes_both (drop 3 piece) at whole x (rw (rw take-append-drop at
+    let whole : at + length mid ≡ length (take 3 piece) = omega (arith, ap length same, N.length-take-le 3 piece long) in
+    rw N.take-append-drop at (pushes_both (drop 3 piece) at whole x (rw (rw N.take-append-drop at
     (kept_tail kept (take 3 piece) (drop 3 piece) mid at x.gives.withheld whole)) at y))

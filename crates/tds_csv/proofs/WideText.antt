@@ -1,18 +1,13 @@
 -- The text of units that are characters of at most three bytes.
+use Rattle.tds_csv.proofs.Words as N
 use Rattle.tds_csv.proofs.{
-  Words.{length-take, common_steps, ◌-◌, take-take, evens, length-chunk, refl, LiesIn, chunk, drop-drop, Bool, Each1, length-take-le, Fits, Leads},
-  Words.{List, [], ap},
-  Words.{append_assoc, arith, cond, drop, length-append, length-map, mask_l, false, get_or, length, map},
-  Words.{flat_map-append, suc, sym, take, take-append-drop, true, w16, zero, ℕ, ◌%◌, ◌*◌, ◌++◌, ◌+◌, ◌/◌, ◌<◌, ◌∙◌, ◌∷◌, ◌≡◌, ◌≤◌, drop-take},
-  Words.{length-drop, take_all, ◌^◌},
-  LaneMasks.alike,
-  Characters.{of_one, of_two, of_three, doubled_character},
-  Characters.front_written,
-  Places.{bits, gathered_text, placed, row_begins, same_texts},
-  LaneMasks.{first_lanes, first_mask, last_lanes, none_of_first, none_set},
+  Words.{◌-◌, refl, chunk, Bool, Each1, Fits, List, [], ap, arith, drop, mask_l, false, get_or, length, map, suc, sym, take, true, w16, zero, ℕ, ◌%◌, ◌*◌},
+  Words.{◌++◌, ◌+◌, ◌/◌, ◌<◌, ◌∙◌, ◌∷◌, ◌≡◌, ◌≤◌, ◌^◌},
+  LaneMasks.{alike, first_lanes, first_mask, last_lanes, none_of_first, none_set},
+  Characters.{of_one, of_two, of_three, doubled_character, front_written},
+  Places.{bits, gathered_text, placed, row_begins, same_texts, IsRow, ones_of_two, pair_places, pair_row, quad_places, quad_row},
   JoiningLemmas.{Leads-none, Leads-trans},
-  Places.{IsRow, ones_of_two, pair_places, pair_row, quad_places, quad_row},
-  Utf16Steps.{next_one},
+  Utf16Steps.next_one,
 }
 use Rattle.tds_csv.specs.{
   Utf16.{units, rest, text},
@@ -37,13 +32,13 @@ long_text : (u : ℕ) → u < 65536 → is_long u ≡ true → unit_text u ≡ (
 long_text u small h = grind (arith, of_three)
 
 -- how long the text of units is
-unit_size : (u : ℕ) → u < 65536 → length (unit_text u) ≡ 1 + (cond (is_wide u) 1 0 + cond (is_long u) 1 0)
+unit_size : (u : ℕ) → u < 65536 → length (unit_text u) ≡ 1 + (N.cond (is_wide u) 1 0 + N.cond (is_long u) 1 0)
 unit_size u small = grind (arith, of_one, of_two, of_three, doubled_character)
 
 units_size : (us : List ℕ) → Each1 (λ u. u < 65536) us → length (units_text us) ≡ length us + (count_by is_wide us + count_by is_long us)
 units_size [] small = refl
 units_size (u ∷ us) small = let one = unit_size u small.0 in let more = units_size us small.1 in
-    length-append (unit_text u) (units_text us) ∙ grind (arith, common_steps)
+    N.length-append (unit_text u) (units_text us) ∙ grind (arith, N.common_steps)
 
 pub text_size : (us : List ℕ) {wide long : ℕ} → Each1 (λ u. u < 65536) us → wide ≡ mask_l (map is_wide us) → long ≡ mask_l (map is_long us)
     → length (units_text us) ≡ length us + (count_ones wide + count_ones long)
@@ -74,7 +69,7 @@ each_left P (suc n) (u ∷ us) each = each_left P n us each.1
 
 -- the first and the other units
 pub split_lanes : (lane : ℕ → List ℕ) (n : ℕ) (us : List ℕ) → flat_map lane us ≡ flat_map lane (take n us) ++ flat_map lane (drop n us)
-split_lanes lane n us = sym (ap (flat_map lane) (take-append-drop n us)) ∙ flat_map-append lane (take n us) (drop n us)
+split_lanes lane n us = sym (ap (flat_map lane) (N.take-append-drop n us)) ∙ N.flat_map-append lane (take n us) (drop n us)
 
 -- the text of units is gathered from their bytes by a row for their masks
 row_taken : (width m : ℕ) (lane : ℕ → List ℕ) (f : Bool → Bool → List ℕ) → ((u : ℕ) → length (lane u) ≡ width)
@@ -85,11 +80,11 @@ row_taken : (width m : ℕ) (lane : ℕ → List ℕ) (f : Bool → Bool → Lis
     → take (length us + (count_ones wide + count_ones long)) (map (λ j. get_or xs j 0) row) ≡ units_text us
 row_taken width m lane f same inside us more {row} {wide = wide} {long = long} is_row few is wide_is long_is range texts =
     let places = λ (u : ℕ). f (is_wide u) (is_long u) in
-    let begins = row_begins f width 0 m (map is_wide us) (map is_long us) (omega (arith, length-map us is_wide)) (length-map us is_long
-    ∙ sym (length-map us is_wide)) in
+    let begins = row_begins f width 0 m (map is_wide us) (map is_long us) (omega (arith, N.length-map us is_wide)) (N.length-map us is_long
+    ∙ sym (N.length-map us is_wide)) in
     let rest = drop (length (placed width 0 (zip2 f (bits m wide) (bits m long)))) row in
     rw (← text_size us range wide_is long_is) (gathered_text width lane places same inside unit_text us more (begins.0 ++ rest)
-    (is_row.is ∙ ap (λ l. l ++ rest) (rw (wide_is, long_is, begins.1, (zip2-map f is_wide is_long us)) refl) ∙ append_assoc (placed width 0 (map places us))
+    (is_row.is ∙ ap (λ l. l ++ rest) (rw (wide_is, long_is, begins.1, (zip2-map f is_wide is_long us)) refl) ∙ N.append_assoc (placed width 0 (map places us))
     begins.0 rest) is texts)
 
 -- that of short characters from the bytes of eight
@@ -98,7 +93,7 @@ pub pairs_taken : (us : List ℕ) (n : ℕ) {xs : List ℕ} {wide : ℕ} → len
     → take (n + count_ones wide) (map (λ j. get_or xs j 0) (get_or PAIRS wide [])) ≡ units_text (take n us)
 pairs_taken us n {wide = wide} eight few fits bytes is short =
     let vs = take n us in
-    let counted : length vs ≡ n = length-take-le n us (omega arith) in
+    let counted : length vs ≡ n = N.length-take-le n us (omega arith) in
     let size : length vs + (count_ones wide + count_ones 0) ≡ n + count_ones wide = omega (arith, ones-mask_l is_long []) in
     rw size at (row_taken 2 8 pair_bytes pair_places (λ u. refl) (λ u. in_pair (is_wide u) (is_long u)) vs (flat_map pair_bytes (drop n us))
     (pair_row wide (first_mask is_wide us n eight few is).0)
@@ -132,25 +127,25 @@ module _ (us : List ℕ) (n : ℕ) {old new xs : List ℕ} {at end m wide long :
 
   pub few_added : n ≤ 4 → m ≡ n → (take end new ≡ take at old ++ units_text (take n us)) × (end ≤ at + 3 * n)
   few_added small counted =
-      let size = length-take-le n us (omega arith) in
-      let all = take_all 4 (take n us) (omega arith) in
+      let size = N.length-take-le n us (omega arith) in
+      let all = N.take_all 4 (take n us) (omega arith) in
       rw (all, counted) at (first_added (omega (arith, ap length all, size)))
 
   pub middle_added : 4 ≤ n → m ≡ 4 → end ≤ at + 12
-  middle_added many counted = omega (arith, (first_added (omega (arith, length-take 4 (take n us), length-take-le n us (omega (arith, fits.0))))).1)
+  middle_added many counted = omega (arith, (first_added (omega (arith, N.length-take 4 (take n us), N.length-take-le n us (omega (arith, fits.0))))).1)
 
   pub all_added : {last ys : List ℕ} {stop : ℕ} → 4 ≤ n → m ≡ 4 → ys ≡ flat_map quad_bytes (drop 4 us)
       → AddsQuads new last end stop (n - 4) ys (wide / 16) (long / 16)
       → (take stop last ≡ take at old ++ units_text (take n us)) × (stop ≤ at + 3 * n)
   all_added many counted ys_is more =
       let vs = take n us in
-      let size = length-take-le n us (omega arith) in
-      let first = first_added (omega (arith, length-take 4 vs, size)) in
+      let size = N.length-take-le n us (omega arith) in
+      let first = first_added (omega (arith, N.length-take 4 vs, size)) in
       let all : 4 + (n - 4) ≡ n = omega arith in
-      let others = more.adds (drop 4 vs) (flat_map quad_bytes (drop (n - 4) (drop 4 us))) (omega (arith, length-drop 4 vs, size))
-      (ys_is ∙ rw (← drop-take 4 (n - 4) us, all) at (split_lanes quad_bytes (n - 4) (drop 4 us))) (last_lanes is_wide vs wide_is)
+      let others = more.adds (drop 4 vs) (flat_map quad_bytes (drop (n - 4) (drop 4 us))) (omega (arith, N.length-drop 4 vs, size))
+      (ys_is ∙ rw (← N.drop-take 4 (n - 4) us, all) at (split_lanes quad_bytes (n - 4) (drop 4 us))) (last_lanes is_wide vs wide_is)
       (last_lanes is_long vs long_is) (each_left _ 4 vs (each_taken _ n us (unit_range us fits.1))) in
-      (rw (others.0, first.0, append_assoc, ← split_lanes unit_text 4 vs) refl, omega (arith, first.1, others.1))
+      (rw (others.0, first.0, N.append_assoc, ← split_lanes unit_text 4 vs) refl, omega (arith, first.1, others.1))
 
 -- long characters have three bytes each
 pub long_texts : (us : List ℕ) → Each1 (λ u. u < 65536) us → Each1 (λ u. is_long u ≡ true) us → triples us ≡ units_text us
@@ -167,7 +162,7 @@ pub both_halves : (us low high : List ℕ) → length us ≡ 8 → Each1 (Fits w
 both_halves us low high eight fits long is_low is_high = grind (arith, triples_whole, long_texts, unit_range)
 
 -- the low bytes of characters of ASCII are their text
-pub plain_texts : (n : ℕ) (ys : List ℕ) → Each1 (λ u. is_wide u ≡ false) (take n (units ys)) → take n (evens ys) ≡ units_text (take n (units ys))
+pub plain_texts : (n : ℕ) (ys : List ℕ) → Each1 (λ u. is_wide u ≡ false) (take n (units ys)) → take n (N.evens ys) ≡ units_text (take n (units ys))
 plain_texts zero ys each = refl
 plain_texts n [] each = grind arith
 plain_texts n (low ∷ []) each = grind arith
@@ -192,21 +187,21 @@ eight_units ys long is = omega (arith, ap length is, length-units ys)
 
 -- the first of eight are characters of ASCII, and were written
 pub plain_added : (ys old new : List ℕ) {us low : List ℕ} {wide mask at : ℕ} (n : ℕ) → length ys ≡ 16 → n ≤ 8 → at ≤ length old → us ≡ units ys
-    → mask ≡ mask_l (map is_wide us) → wide ≡ mask % 2 ^ n → wide ≡ 0 → low ≡ evens ys → take (at + 8) new ≡ take at old ++ take 8 low
+    → mask ≡ mask_l (map is_wide us) → wide ≡ mask % 2 ^ n → wide ≡ 0 → low ≡ N.evens ys → take (at + 8) new ≡ take at old ++ take 8 low
     → (take (at + n) new ≡ take at old ++ units_text (take n (units ys))) × Each1 (λ u. is_half u ≡ false) (take n (units ys))
 plain_added ys old new {us} {low} {at = at} n long few within is masked lowest none low_is written =
     let plain = rw is at (none_of_first is_wide us n masked lowest none) in (
-      (rw (take-take n 8 low few, low_is) at (front_written old new (take 8 low) at n 8 few within written)) ∙ ap (λ l. take at old ++ l)
+      (rw (N.take-take n 8 low few, low_is) at (front_written old new (take 8 low) at n 8 few within written)) ∙ ap (λ l. take at old ++ l)
           (plain_texts n ys plain),
       Each1-weaker _ _ (λ u h. no_half u (not_long u h)) _ plain,
     )
 
-leads_unit : (low high : ℕ) (more : List ℕ) → is_half (low + 256 * high) ≡ false → Leads rest text (low ∷ high ∷ more) more (unit_text (low + 256 * high))
+leads_unit : (low high : ℕ) (more : List ℕ) → is_half (low + 256 * high) ≡ false → N.Leads rest text (low ∷ high ∷ more) more (unit_text (low + 256 * high))
 leads_unit low high more h = grind (arith, next_one)
 
 -- so many of the units lead on
 leads_front : (k : ℕ) (ys more : List ℕ) → k ≤ length (units ys) → Each1 (λ u. is_half u ≡ false) (take k (units ys))
-    → Leads rest text (take (2 * k) ys ++ more) more (units_text (take k (units ys)))
+    → N.Leads rest text (take (2 * k) ys ++ more) more (units_text (take k (units ys)))
 leads_front zero ys more few each = Leads-none
 leads_front (suc k) (low ∷ high ∷ ys) more few each =
     let two : suc (suc (2 * k)) ≡ 2 * suc k = omega arith in
@@ -214,18 +209,18 @@ leads_front (suc k) (low ∷ high ∷ ys) more few each =
 leads_front k ys more few each = absurd (omega arith)
 
 -- all the bytes are a source of their own
-pub lies_itself : (bytes : List ℕ) → LiesIn bytes bytes
-lies_itself bytes = grind (arith, common_steps)
+pub lies_itself : (bytes : List ℕ) → N.LiesIn bytes bytes
+lies_itself bytes = grind (arith, N.common_steps)
 
 -- so many units of a source that begins with the bytes were converted after what was before
-pub units_more : {bytes source old new : List ℕ} {at made after : ℕ} (n : ℕ) → LiesIn bytes source → at + 16 ≤ length source → n ≤ 8
+pub units_more : {bytes source old new : List ℕ} {at made after : ℕ} (n : ℕ) → N.LiesIn bytes source → at + 16 ≤ length source → n ≤ 8
     → Each1 (λ u. is_half u ≡ false) (take n (units (chunk at 16 source))) → at + 2 * n ≤ length bytes → after ≤ made + 3 * n
     → take after new ≡ take made old ++ units_text (take n (units (chunk at 16 source))) → Converts bytes old at made
     → Converts bytes new (at + 2 * n) after
 units_more {bytes} {source} {at = at} n lies room few single within small written before =
     let ys = chunk at 16 source in
-    let eight : length (units ys) ≡ 8 = omega (arith, length-units ys, length-chunk at 16 source room) in
-    let next = rw (← (alike bytes source at (2 * n) lies (omega arith) within), take-append-drop, drop-drop (2 * n) at bytes) at
+    let eight : length (units ys) ≡ 8 = omega (arith, length-units ys, N.length-chunk at 16 source room) in
+    let next = rw (← (alike bytes source at (2 * n) lies (omega arith) within), N.take-append-drop, N.drop-drop (2 * n) at bytes) at
     (leads_front n ys (drop (2 * n) (drop at bytes)) (omega arith) single) in
     record { within = within; room = omega arith; leads = rw written (Leads-trans before.leads next) }
 
@@ -234,5 +229,5 @@ pub eight_more : {bytes old new : List ℕ} {at made after : ℕ} → at + 16 �
     → after ≤ made + 24 → take after new ≡ take made old ++ units_text (units (chunk at 16 bytes)) → Converts bytes old at made
     → Converts bytes new (at + 16) after
 eight_more {bytes} {at = at} room single small written before =
-    let all = take_all 8 (units (chunk at 16 bytes)) (omega (arith, eight_units _ (length-chunk at 16 bytes room) refl)) in
+    let all = N.take_all 8 (units (chunk at 16 bytes)) (omega (arith, eight_units _ (N.length-chunk at 16 bytes room) refl)) in
     units_more 8 (lies_itself bytes) room (omega arith) (rw all single) room small (rw all written) before

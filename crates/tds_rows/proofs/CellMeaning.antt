@@ -1,32 +1,29 @@
 -- What the bytes that lead to a part of a cell spell.
+use Rattle.tds_rows.proofs.Words as N
 use Rattle.tds_rows.proofs.{
-  Words.{common_steps, ◌≡◌, ℕ, ◌+◌, ◌/◌, ◌%◌, ◌^◌, ◌<◌, Bool, true, List, [], ◌∷◌, ◌++◌, length, replicate, refl, sym, ◌∙◌, ap, append_assoc, append-nil},
-  Words.{arith, length-append, Result, Ok, Option, Some, None, ◌==◌, ◌&&◌, ◌||◌, nat_lt, is_ok, if◌then◌else◌, concat, concat-append, Kind, Short, Chunked},
-  Words.{ScalarValue, ValueFault, little, is_length_allowed, read_of, Conversion, is_fit, is_begun, no_data_is_fit, AreBytes, Spelt, IsNext, Spelt-induct},
-  Words.{AreBytes-front, AreBytes-back, Fault, PlpLength, Cell, ScalarCell, Shape, FixedShape, CountedShape, LongShape, SpellsChunk, SpellsChunks, SpellsCell},
-  Words.{CellPart, ScalarBytes, ScalarLength, ShortLength, ShortData, Total, ChunkLength, ChunkData, WholeCell, cell_start, cell_add, cell, unless},
-  Words.{within_total, end_of_chunks, chunk_fault, value_part, known_total, null_total, choose, eq_true, eq_false, one_byte, two_bytes},
+  Words.{◌≡◌, ℕ, ◌+◌, ◌/◌, ◌%◌, ◌^◌, ◌<◌, Bool, true, List, [], ◌∷◌, ◌++◌, length, refl, sym, ◌∙◌, ap, append_assoc, arith, Result, Ok, Option, Some, None},
+  Words.{◌==◌, ◌&&◌, ◌||◌, if◌then◌else◌, Kind, Short, Chunked, little, AreBytes, Shape, LongShape, cell_add},
 }
 
 -- a test that gave no fault passed
-pub unless_none : (b : Bool) (f : Fault) → unless b f ≡ None → b ≡ true
+pub unless_none : (b : Bool) (f : N.Fault) → N.unless b f ≡ None → b ≡ true
 unless_none b f h = grind arith
 
 eight_below : (e : List ℕ) → length e ≡ 8 → AreBytes e → little e < 2 ^ 64
-eight_below e l k = grind (arith, common_steps)
+eight_below e l k = grind (arith, N.common_steps)
 
-eight_ones : (e : List ℕ) → length e ≡ 8 → AreBytes e → little e ≡ null_total → e ≡ replicate 8 255
+eight_ones : (e : List ℕ) → length e ≡ 8 → AreBytes e → little e ≡ N.null_total → e ≡ N.replicate 8 255
 eight_ones (a ∷ b ∷ c ∷ d ∷ e ∷ f ∷ g ∷ h ∷ []) l k n = grind arith
 eight_ones e l k n = absurd (omega arith)
 
 -- chunks so far, without the terminator
 abbrev pub BeginsChunks : List (List ℕ) → List ℕ → Type 0
 BeginsChunks [] bytes = bytes ≡ []
-BeginsChunks (d ∷ ds) bytes = (front : List ℕ) × (rest : List ℕ) × (bytes ≡ front ++ rest) × SpellsChunk d front × BeginsChunks ds rest
+BeginsChunks (d ∷ ds) bytes = (front : List ℕ) × (rest : List ℕ) × (bytes ≡ front ++ rest) × N.SpellsChunk d front × BeginsChunks ds rest
 
-more_chunks : (ds : List (List ℕ)) (bytes d front : List ℕ) → BeginsChunks ds bytes → SpellsChunk d front
+more_chunks : (ds : List (List ℕ)) (bytes d front : List ℕ) → BeginsChunks ds bytes → N.SpellsChunk d front
     → BeginsChunks (ds ++ d ∷ []) (bytes ++ front)
-more_chunks [] bytes d front h s = (front, [], ap (λ v. v ++ front) h ∙ sym (append-nil front), s, refl)
+more_chunks [] bytes d front h s = (front, [], ap (λ v. v ++ front) h ∙ sym (N.append-nil front), s, refl)
 more_chunks (x ∷ ds) bytes d front h s = (
   h.0,
   h.1 ++ front,
@@ -35,7 +32,7 @@ more_chunks (x ∷ ds) bytes d front h s = (
   more_chunks ds h.1 d front h.4 s,
 )
 
-end_chunks : (ds : List (List ℕ)) (bytes : List ℕ) → BeginsChunks ds bytes → SpellsChunks ds (bytes ++ 0 ∷ 0 ∷ 0 ∷ 0 ∷ [])
+end_chunks : (ds : List (List ℕ)) (bytes : List ℕ) → BeginsChunks ds bytes → N.SpellsChunks ds (bytes ++ 0 ∷ 0 ∷ 0 ∷ 0 ∷ [])
 end_chunks [] bytes h = ap (λ v. v ++ 0 ∷ 0 ∷ 0 ∷ 0 ∷ []) h
 end_chunks (x ∷ ds) bytes h = (
   h.0,
@@ -51,10 +48,10 @@ pub record ChunksMean (total : Option ℕ) (content bytes : List ℕ) : Type 0 w
   pub rest : List ℕ
   pub spelt : bytes ≡ first ++ rest
   pub eight : length first ≡ 8
-  pub total_is : total ≡ known_total (little first)
-  pub below : little first < null_total
+  pub total_is : total ≡ N.known_total (little first)
+  pub below : little first < N.null_total
   pub begun : BeginsChunks chunks rest
-  pub all : concat chunks ≡ content
+  pub all : N.concat chunks ≡ content
 
 pub record ChunkMeans (total : Option ℕ) (left : ℕ) (content bytes : List ℕ) : Type 0 where
   pub before : List ℕ
@@ -68,44 +65,44 @@ pub record ChunkMeans (total : Option ℕ) (left : ℕ) (content bytes : List �
   pub all : content ≡ before ++ part
 
 -- what the bytes that lead to a part of a cell of this kind and shape spell
-abbrev pub CellMeans : Kind → Shape → CellPart → List ℕ → Type 0
-CellMeans kind sh (WholeCell x) b = SpellsCell kind sh x b
-CellMeans kind (FixedShape n) (ScalarBytes k m) b = (k ≡ kind) × (m ≡ n) × (b ≡ [])
-CellMeans kind CountedShape (ScalarLength k) b = (k ≡ kind) × (b ≡ [])
-CellMeans kind CountedShape (ScalarBytes k m) b = (k ≡ kind) × (b ≡ m ∷ []) × (0 < m) × (is_length_allowed kind m ≡ true)
-CellMeans kind (LongShape c Short) (ShortLength c') b = (c' ≡ c) × (b ≡ [])
-CellMeans kind (LongShape c Short) (ShortData c' left d) b = (c' ≡ c) × (n : ℕ) × (n ≡ length d + (left + 1)) × (n < 65535)
+abbrev pub CellMeans : Kind → Shape → N.CellPart → List ℕ → Type 0
+CellMeans kind sh (N.WholeCell x) b = N.SpellsCell kind sh x b
+CellMeans kind (N.FixedShape n) (N.ScalarBytes k m) b = (k ≡ kind) × (m ≡ n) × (b ≡ [])
+CellMeans kind N.CountedShape (N.ScalarLength k) b = (k ≡ kind) × (b ≡ [])
+CellMeans kind N.CountedShape (N.ScalarBytes k m) b = (k ≡ kind) × (b ≡ m ∷ []) × (0 < m) × (N.is_length_allowed kind m ≡ true)
+CellMeans kind (LongShape c Short) (N.ShortLength c') b = (c' ≡ c) × (b ≡ [])
+CellMeans kind (LongShape c Short) (N.ShortData c' left d) b = (c' ≡ c) × (n : ℕ) × (n ≡ length d + (left + 1)) × (n < 65535)
     × (b ≡ (n % 256 ∷ n / 256 ∷ []) ++ d)
-CellMeans kind (LongShape c Chunked) (Total c') b = (c' ≡ c) × (b ≡ [])
-CellMeans kind (LongShape c Chunked) (ChunkLength c' total d) b = (c' ≡ c) × ChunksMean total d b
-CellMeans kind (LongShape c Chunked) (ChunkData c' total left d) b = (c' ≡ c) × ChunkMeans total left d b
+CellMeans kind (LongShape c Chunked) (N.Total c') b = (c' ≡ c) × (b ≡ [])
+CellMeans kind (LongShape c Chunked) (N.ChunkLength c' total d) b = (c' ≡ c) × ChunksMean total d b
+CellMeans kind (LongShape c Chunked) (N.ChunkData c' total left d) b = (c' ≡ c) × ChunkMeans total left d b
 CellMeans kind sh part b = ⊥
 
-pub is_ok_value : (r : Result ScalarValue ValueFault) → is_ok r ≡ true → (v : ScalarValue) × (r ≡ Ok v)
+pub is_ok_value : (r : Result N.ScalarValue N.ValueFault) → N.is_ok r ≡ true → (v : N.ScalarValue) × (r ≡ Ok v)
 is_ok_value r h = grind arith
 
 -- a test that gave no fault passed, and nor did what follows it
-pub guard_none : (b : Bool) (o : Option Fault) (f : Fault) → (if b then o else Some f) ≡ None → (b ≡ true) × (o ≡ None)
+pub guard_none : (b : Bool) (o : Option N.Fault) (f : N.Fault) → (if b then o else Some f) ≡ None → (b ≡ true) × (o ≡ None)
 guard_none b o f h = (grind arith, grind arith)
 
 module _ (column : ℕ) (kind : Kind) where
-  value_means : (sh : Shape) (e b : List ℕ) → is_ok (read_of kind e) ≡ true
-      → ((v : ScalarValue) → read_of kind e ≡ Ok v → SpellsCell kind sh (ScalarCell v) b) → CellMeans kind sh (value_part (read_of kind e)) b
+  value_means : (sh : Shape) (e b : List ℕ) → N.is_ok (N.read_of kind e) ≡ true
+      → ((v : N.ScalarValue) → N.read_of kind e ≡ Ok v → N.SpellsCell kind sh (N.ScalarCell v) b) → CellMeans kind sh (N.value_part (N.read_of kind e)) b
   value_means sh e b h k = grind arith
 
-  short_means : (c : Conversion) (n left : ℕ) (d : List ℕ) (b : List ℕ) (x : ℕ) → n ≡ length d + (left + 1) → n < 65535
-      → b ≡ (n % 256 ∷ n / 256 ∷ []) ++ d → (is_begun c (d ++ x ∷ []) && (nat_lt 0 left || is_fit c (d ++ x ∷ []))) ≡ true
-      → CellMeans kind (LongShape c Short) (cell_add (ShortData c left d) (x ∷ [])) (b ++ x ∷ [])
-  short_means c n left d b x count less is free = grind (arith, length-append)
+  short_means : (c : N.Conversion) (n left : ℕ) (d : List ℕ) (b : List ℕ) (x : ℕ) → n ≡ length d + (left + 1) → n < 65535
+      → b ≡ (n % 256 ∷ n / 256 ∷ []) ++ d → (N.is_begun c (d ++ x ∷ []) && (N.nat_lt 0 left || N.is_fit c (d ++ x ∷ []))) ≡ true
+      → CellMeans kind (LongShape c Short) (cell_add (N.ShortData c left d) (x ∷ [])) (b ++ x ∷ [])
+  short_means c n left d b x count less is free = grind (arith, N.length-append)
 
-  chunk_means : (c : Conversion) (total : Option ℕ) (d b e : List ℕ) → length e ≡ 4 → ChunksMean total d b
-      → chunk_fault column c total d (little e) ≡ None → CellMeans kind (LongShape c Chunked) (cell_add (ChunkLength c total d) e) (b ++ e)
+  chunk_means : (c : N.Conversion) (total : Option ℕ) (d b e : List ℕ) → length e ≡ 4 → ChunksMean total d b
+      → N.chunk_fault column c total d (little e) ≡ None → CellMeans kind (LongShape c Chunked) (cell_add (N.ChunkLength c total d) e) (b ++ e)
   chunk_means c total d b e four m free =
-      choose (λ p. CellMeans kind (LongShape c Chunked) p (b ++ e)) _ _ _ (λ z.
-      let zero' = eq_true _ 0 z in
-      let end = sym (ap (λ t. (if t then end_of_chunks column c total d else unless (within_total total (length d + little e)) (PlpLength column))) z)
+      N.choose (λ p. CellMeans kind (LongShape c Chunked) p (b ++ e)) _ _ _ (λ z.
+      let zero' = N.eq_true _ 0 z in
+      let end = sym (ap (λ t. (if t then N.end_of_chunks column c total d else N.unless (N.within_total total (length d + little e)) (N.PlpLength column))) z)
       ∙ free in
-      let e0 : e ≡ 0 ∷ 0 ∷ 0 ∷ 0 ∷ [] = grind (arith, common_steps) in (
+      let e0 : e ≡ 0 ∷ 0 ∷ 0 ∷ 0 ∷ [] = grind (arith, N.common_steps) in (
         refl,
         unless_none _ _ (guard_none _ _ _ (guard_none _ _ _ end).1).1,
         record {
@@ -121,7 +118,7 @@ module _ (column : ℕ) (kind : Kind) where
         },
       ))
       (λ z.
-      let some = eq_false _ 0 z in (
+      let some = N.eq_false _ 0 z in (
         refl,
         record {
           before = d;
@@ -129,23 +126,23 @@ module _ (column : ℕ) (kind : Kind) where
           chunks = m;
           header = e;
           part = [];
-          spelt = ap (λ v. b ++ v) (sym (append-nil e));
+          spelt = ap (λ v. b ++ v) (sym (N.append-nil e));
           four = four;
           counted = omega arith;
-          all = sym (append-nil d);
+          all = sym (N.append-nil d);
         },
       ))
 
-  data_means : (c : Conversion) (total : Option ℕ) (left : ℕ) (d b : List ℕ) (x : ℕ) → ChunkMeans total left d b
-      → CellMeans kind (LongShape c Chunked) (cell_add (ChunkData c total left d) (x ∷ [])) (b ++ x ∷ [])
+  data_means : (c : N.Conversion) (total : Option ℕ) (left : ℕ) (d b : List ℕ) (x : ℕ) → ChunkMeans total left d b
+      → CellMeans kind (LongShape c Chunked) (cell_add (N.ChunkData c total left d) (x ∷ [])) (b ++ x ∷ [])
   data_means c total left d b x m =
-      let la = length-append m.part (x ∷ []) in
+      let la = N.length-append m.part (x ∷ []) in
       let counted = m.counted in
       let spelt = ap (λ v. v ++ x ∷ []) m.spelt ∙ append_assoc m.whole _ _ ∙ ap (λ v. m.whole ++ v) (append_assoc m.header m.part _) in
       let all = ap (λ v. v ++ x ∷ []) m.all ∙ append_assoc m.before m.part _ in
-      choose (λ p. CellMeans kind (LongShape c Chunked) p (b ++ x ∷ [])) (left == 0) _ _ (λ z.
-      let zero' = eq_true left 0 z in
-      let one : SpellsChunk _ _ = record { header = m.header; spelt = refl; four = m.four; counted = omega arith; some = omega arith } in (
+      N.choose (λ p. CellMeans kind (LongShape c Chunked) p (b ++ x ∷ [])) (left == 0) _ _ (λ z.
+      let zero' = N.eq_true left 0 z in
+      let one : N.SpellsChunk _ _ = record { header = m.header; spelt = refl; four = m.four; counted = omega arith; some = omega arith } in (
         refl,
         record {
           first = m.chunks.first;
@@ -156,10 +153,10 @@ module _ (column : ℕ) (kind : Kind) where
           total_is = m.chunks.total_is;
           below = m.chunks.below;
           begun = more_chunks _ _ _ _ m.chunks.begun one;
-          all = concat-append m.chunks.chunks _ ∙ ap (λ v. v ++ concat ((m.part ++ x ∷ []) ∷ [])) m.chunks.all
-              ∙ ap (λ v. m.before ++ v) (append-nil _) ∙ sym all;
+          all = N.concat-append m.chunks.chunks _ ∙ ap (λ v. v ++ N.concat ((m.part ++ x ∷ []) ∷ [])) m.chunks.all
+              ∙ ap (λ v. m.before ++ v) (N.append-nil _) ∙ sym all;
         },
-      )) (λ z. let some = eq_false left 0 z in (
+      )) (λ z. let some = N.eq_false left 0 z in (
         refl,
         record {
           before = m.before;
@@ -174,20 +171,20 @@ module _ (column : ℕ) (kind : Kind) where
         },
       ))
 
-  short_length_means : (c : Conversion) (e : List ℕ) → length e ≡ 2 → AreBytes e → CellMeans kind (LongShape c Short) (cell_add (ShortLength c) e) e
-  short_length_means c e two bytes = grind (arith, no_data_is_fit, two_bytes)
+  short_length_means : (c : N.Conversion) (e : List ℕ) → length e ≡ 2 → AreBytes e → CellMeans kind (LongShape c Short) (cell_add (N.ShortLength c) e) e
+  short_length_means c e two bytes = grind (arith, N.no_data_is_fit, N.two_bytes)
 
-  total_means : (c : Conversion) (e : List ℕ) → length e ≡ 8 → AreBytes e → CellMeans kind (LongShape c Chunked) (cell_add (Total c) e) e
-  total_means c e eight bytes = grind (arith, append-nil, eight_below, eight_ones)
+  total_means : (c : N.Conversion) (e : List ℕ) → length e ≡ 8 → AreBytes e → CellMeans kind (LongShape c Chunked) (cell_add (N.Total c) e) e
+  total_means c e eight bytes = grind (arith, N.append-nil, eight_below, eight_ones)
 
   -- each element keeps the meaning
-  pub cell_step : (sh : Shape) (p : CellPart) (b e : List ℕ) → AreBytes e → CellMeans kind sh p b → IsNext (cell column) p e
+  pub cell_step : (sh : Shape) (p : N.CellPart) (b e : List ℕ) → AreBytes e → CellMeans kind sh p b → N.IsNext (N.cell column) p e
       → CellMeans kind sh (cell_add p e) (b ++ e)
   cell_step sh p b e bytes h n = grind (
     arith,
     chunk_means,
     data_means,
-    one_byte,
+    N.one_byte,
     short_length_means,
     short_means,
     total_means,
@@ -195,12 +192,12 @@ module _ (column : ℕ) (kind : Kind) where
     value_means,
   )
 
-pub start_means : (kind : Kind) (sh : Shape) → CellMeans kind sh (cell_start kind sh) []
+pub start_means : (kind : Kind) (sh : Shape) → CellMeans kind sh (N.cell_start kind sh) []
 start_means kind sh = grind arith
 
 -- What is read as a cell spells it.
-pub cell_is_spelt : {x : Cell} {bytes : List ℕ} (column : ℕ) (kind : Kind) (sh : Shape) → AreBytes bytes
-    → Spelt (cell column) (cell_start kind sh) bytes (WholeCell x) → SpellsCell kind sh x bytes
-cell_is_spelt column kind sh are h = Spelt-induct _ (λ p b. AreBytes b
-    → CellMeans kind sh p b) (λ p b e m n all. cell_step _ _ _ p b e (AreBytes-back b e all) (m (AreBytes-front b e all)) n) _ (λ _. start_means _ _)
+pub cell_is_spelt : {x : N.Cell} {bytes : List ℕ} (column : ℕ) (kind : Kind) (sh : Shape) → AreBytes bytes
+    → N.Spelt (N.cell column) (N.cell_start kind sh) bytes (N.WholeCell x) → N.SpellsCell kind sh x bytes
+cell_is_spelt column kind sh are h = N.Spelt-induct _ (λ p b. AreBytes b
+    → CellMeans kind sh p b) (λ p b e m n all. cell_step _ _ _ p b e (N.AreBytes-back b e all) (m (N.AreBytes-front b e all)) n) _ (λ _. start_means _ _)
     _ _ h are

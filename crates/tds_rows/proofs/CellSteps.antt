@@ -1,130 +1,127 @@
 -- The cells of scalar kinds, as they are read.
+use Rattle.tds_rows.proofs.Words as N
 use Rattle.tds_rows.proofs.{
-  Words.{common_steps, ◌≡◌, ◌≢◌, ◌∙◌, ℕ, ◌+◌, ◌<◌, true, false, List, [], ◌∷◌, ◌++◌, length, take, drop, refl, sym, ap, subst, arith, Result, Ok, Err},
-  Words.{MatchResult, Option, Some, None, ◌||◌, is_ok, slice_index, if◌then◌else◌, ne_eqb, take_all, Kind, fixed_length, is_length_allowed, is_scalar, read_of},
-  Words.{Space, appended, BadValue, BadValueLength, MessageEnded, Stop, Seen, Takes, Ends, IsBetween, began_at, choose_false, began_is_cut, cut_at_once},
-  Words.{reads_one, refused_at_once, stops_after, takes_both, EndsInto, TakesInto, Charset, CellPart, ScalarBytes, ScalarLength, cell_end, cell_size},
-  Words.{cell_start, field_so_far, shape, shape_of_length, unless, GathersCell, IsScalarLeft, StallsCell, length_after, start_after, value_bytes, value_start},
-  Words.Payload,
+  Words.{◌≡◌, ◌≢◌, ◌∙◌, ℕ, ◌+◌, ◌<◌, true, false, List, [], ◌∷◌, ◌++◌, length, take, drop, refl, sym, ap, subst, arith, Result, Ok, Err, Option, Some, None},
+  Words.{◌||◌, is_ok, if◌then◌else◌, Kind, fixed_length, Space, BadValue, Stop, Seen, Takes, ScalarBytes, ScalarLength, StallsCell, value_bytes, Payload},
 }
 
-pub scalar_shape : (charset : Charset) (kind : Kind) → is_scalar kind ≡ true → shape charset kind ≡ shape_of_length (fixed_length kind)
-scalar_shape charset kind h = grind (arith, common_steps)
+pub scalar_shape : (charset : N.Charset) (kind : Kind) → N.is_scalar kind ≡ true → N.shape charset kind ≡ N.shape_of_length (fixed_length kind)
+scalar_shape charset kind h = grind (arith, N.common_steps)
 
 -- the values of a kind of fixed length have some bytes
 pub fixed_some : (kind : Kind) (n : ℕ) → fixed_length kind ≡ Some n → 0 < n
-fixed_some kind n h = grind (arith, common_steps)
+fixed_some kind n h = grind (arith, N.common_steps)
 
 -- the next element of a cell is cut
-pub cell_cut : {column n place : ℕ} {s : CellPart} {a b : Seen} {stop : Stop} (part : List ℕ) (own : Stop) → field_so_far s ≡ None → cell_size s ≡ n
-    → cell_end s ≡ Some MessageEnded → length part < n → Ends a b part own → stop ≡ began_at place own → StallsCell s column a b place stop
+pub cell_cut : {column n place : ℕ} {s : N.CellPart} {a b : Seen} {stop : Stop} (part : List ℕ) (own : Stop) → N.field_so_far s ≡ None → N.cell_size s ≡ n
+    → N.cell_end s ≡ Some N.MessageEnded → length part < n → N.Ends a b part own → stop ≡ N.began_at place own → StallsCell s column a b place stop
 cell_cut {s = s} part own quiet size end fewer ends is = record {
   at = s;
-  stops = cut_at_once _ s _ _ _ _ _ _ (omega (arith, fewer, size)) ends (began_is_cut _ _ _ _ end is);
+  stops = N.cut_at_once _ s _ _ _ _ _ _ (omega (arith, fewer, size)) ends (N.began_is_cut _ _ _ _ end is);
   quiet = quiet;
 }
 
 -- a value whose bytes were read is refused
-value_stalls : {column n place : ℕ} {kind : Kind} {a b : Seen} (bytes : List ℕ) → 0 < n → length bytes ≡ n → is_ok (read_of kind bytes) ≡ false
-    → Takes a b bytes (length bytes) → IsBetween b
+value_stalls : {column n place : ℕ} {kind : Kind} {a b : Seen} (bytes : List ℕ) → 0 < n → length bytes ≡ n → is_ok (N.read_of kind bytes) ≡ false
+    → Takes a b bytes (length bytes) → N.IsBetween b
     → StallsCell (ScalarBytes kind n) column a b place (record { fault = BadValue column; place = Payload place })
 value_stalls {column = column} bytes some whole bad takes between = record {
   at = ScalarBytes _ _;
-  stops = refused_at_once _ _ _ _ _ bytes _ (omega arith) whole (ap (λ v. unless v (BadValue column)) bad) takes between;
+  stops = N.refused_at_once _ _ _ _ _ bytes _ (omega arith) whole (ap (λ v. N.unless v (BadValue column)) bad) takes between;
   quiet = refl;
 }
 
 -- the bytes of a value that has no length before it were read
 fixed_gathers : {column n place place' : ℕ} {kind : Kind} {a b : Seen} (bytes : List ℕ) → fixed_length kind ≡ Some n → length bytes ≡ n
-    → Takes a b bytes n → IsBetween b → place' ≡ place + n → GathersCell kind (ScalarBytes kind n) column a b place place' bytes
+    → Takes a b bytes n → N.IsBetween b → place' ≡ place + n → N.GathersCell kind (ScalarBytes kind n) column a b place place' bytes
 fixed_gathers {column = column} {n = n} {place = place} {kind = kind} {a = a} {b = b} bytes is whole takes between at =
     let taken = rw (sym whole) at takes in
     record {
-      whole = omega (arith, ap start_after is, ap (λ o. length_after o bytes) is);
+      whole = omega (arith, ap N.start_after is, ap (λ o. N.length_after o bytes) is);
       takes = taken;
       between = between;
       place_is = omega arith;
       refused = λ some bad.
-          let all : value_bytes kind bytes ≡ bytes = (λ i. take (length_after (is i) bytes) (drop (start_after (is i)) bytes))
-          ∙ take_all n bytes (omega arith) in
+          let all : value_bytes kind bytes ≡ bytes = (λ i. take (N.length_after (is i) bytes) (drop (N.start_after (is i)) bytes))
+          ∙ N.take_all n bytes (omega arith) in
           subst (λ k. StallsCell (ScalarBytes kind n) column a b place (record { fault = BadValue column; place = Payload k }))
-          (omega (arith, ap start_after is))
-          (value_stalls bytes (fixed_some kind n is) whole (ap (λ l. is_ok (read_of kind l)) (sym all) ∙ bad) taken between);
+          (omega (arith, ap N.start_after is))
+          (value_stalls bytes (fixed_some kind n is) whole (ap (λ l. is_ok (N.read_of kind l)) (sym all) ∙ bad) taken between);
     }
 
 -- ---- the length before it
 
 module _ {column n place : ℕ} {kind : Kind} {a b : Seen} where
-  pub length_refused : n ≢ 0 → is_length_allowed kind n ≡ false → Takes a b (n ∷ []) 1 → IsBetween b
-      → StallsCell (ScalarLength kind) column a b place (record { fault = BadValueLength column; place = Payload place })
+  pub length_refused : n ≢ 0 → N.is_length_allowed kind n ≡ false → Takes a b (n ∷ []) 1 → N.IsBetween b
+      → StallsCell (ScalarLength kind) column a b place (record { fault = N.BadValueLength column; place = Payload place })
   length_refused some bad takes between =
       record {
         at = ScalarLength kind;
-        stops = refused_at_once _ _ a b place (n ∷ []) _ (omega arith) refl
-            (ap (λ v. unless v (BadValueLength column)) (ap (λ v. v || is_length_allowed kind n) (ne_eqb n 0 some) ∙ bad)) takes between;
+        stops = N.refused_at_once _ _ a b place (n ∷ []) _ (omega arith) refl
+            (ap (λ v. N.unless v (N.BadValueLength column)) (ap (λ v. v || N.is_length_allowed kind n) (N.ne_eqb n 0 some) ∙ bad)) takes between;
         quiet = refl;
       }
 
   -- where the value stops after a length that is allowed, the cell does
-  length_then : {d : Seen} {middle : ℕ} {stop : Stop} → n ≢ 0 → is_length_allowed kind n ≡ true → Takes a b (n ∷ []) 1 → middle ≡ place + 1
+  length_then : {d : Seen} {middle : ℕ} {stop : Stop} → n ≢ 0 → N.is_length_allowed kind n ≡ true → Takes a b (n ∷ []) 1 → middle ≡ place + 1
       → StallsCell (ScalarBytes kind n) column b d middle stop → StallsCell (ScalarLength kind) column a d place stop
   length_then some good takes at x =
-      let p = reads_one _ _ a b (n ∷ []) _ (record {
+      let p = N.reads_one _ _ a b (n ∷ []) _ (record {
         some = omega arith;
         whole = refl;
-        free = ap (λ v. unless v (BadValueLength column))
-            (ap (λ v. v || is_length_allowed kind n) (ne_eqb n 0 some) ∙ good);
-      }) takes (choose_false _ _ _ (ne_eqb n 0 some)) in
-      record { at = x.at; stops = stops_after _ _ _ a b _ place x.at _ p (rw at at x.stops); quiet = x.quiet }
+        free = ap (λ v. N.unless v (N.BadValueLength column))
+            (ap (λ v. v || N.is_length_allowed kind n) (N.ne_eqb n 0 some) ∙ good);
+      }) takes (N.choose_false _ _ _ (N.ne_eqb n 0 some)) in
+      record { at = x.at; stops = N.stops_after _ _ _ a b _ place x.at _ p (rw at at x.stops); quiet = x.quiet }
 
 -- a length and the value after it were read
 counted_gathers : {column n place middle place' : ℕ} {kind : Kind} {a d : Seen} (b : Seen) (value : List ℕ) → fixed_length kind ≡ None → n ≢ 0
-    → is_length_allowed kind n ≡ true → Takes a b (n ∷ []) 1 → middle ≡ place + 1
-    → length value ≡ n → Takes b d value n → IsBetween d → place' ≡ middle + n
-    → GathersCell kind (ScalarLength kind) column a d place place' (n ∷ value)
+    → N.is_length_allowed kind n ≡ true → Takes a b (n ∷ []) 1 → middle ≡ place + 1
+    → length value ≡ n → Takes b d value n → N.IsBetween d → place' ≡ middle + n
+    → N.GathersCell kind (ScalarLength kind) column a d place place' (n ∷ value)
 counted_gathers {column = column} {n = n} {place = place} {kind = kind} {a = a} {d = d} b value is some good first at whole then_takes between there =
     let taken = rw (sym whole) at then_takes in
     record {
-      whole = omega (arith, ap start_after is, ap (λ o. length_after o (n ∷ value)) is);
-      takes = takes_both a b d (n ∷ []) value first taken;
+      whole = omega (arith, ap N.start_after is, ap (λ o. N.length_after o (n ∷ value)) is);
+      takes = N.takes_both a b d (n ∷ []) value first taken;
       between = between;
       place_is = omega arith;
       refused = λ more bad.
-          let all : value_bytes kind _ ≡ value = (λ i. take (length_after (is i) (n ∷ value)) (drop (start_after (is i)) (n ∷ value)))
-          ∙ take_all n value (omega arith) in
+          let all : value_bytes kind _ ≡ value = (λ i. take (N.length_after (is i) (n ∷ value)) (drop (N.start_after (is i)) (n ∷ value)))
+          ∙ N.take_all n value (omega arith) in
           subst (λ k. StallsCell (ScalarLength kind) column a d place (record { fault = BadValue column; place = Payload k }))
-          (omega (arith, ap start_after is))
-          (length_then some good first refl (value_stalls value (omega arith) whole (ap (λ l. is_ok (read_of kind l)) (sym all)
+          (omega (arith, ap N.start_after is))
+          (length_then some good first refl (value_stalls value (omega arith) whole (ap (λ l. is_ok (N.read_of kind l)) (sym all)
           ∙ bad) taken between));
     }
 
 -- ---- cells that are read into an area
 
 -- what an empty area gets stands there alone
-stands_alone : (before after : Space) (element : List ℕ) → before.bytes ≡ [] → after ≡ appended before element → after.bytes ≡ element
-stands_alone before after element none is = grind (arith, common_steps)
+stands_alone : (before after : Space) (element : List ℕ) → before.bytes ≡ [] → after ≡ N.appended before element → after.bytes ≡ element
+stands_alone before after element none is = grind (arith, N.common_steps)
 
 -- a cell that has no length before its value was read into an empty area, or it is cut
 pub fixed_taken : {U : Type 0} {stopped : Option Stop} {n place' : ℕ} (result : Result U Stop) (column : ℕ) (kind : Kind) (a b : Seen) (place : ℕ)
     (before after : Space) → fixed_length kind ≡ Some n → before.bytes ≡ [] → stopped ≡ None → place' ≡ (if is_ok result then place + n else place)
-    → MatchResult result (λ _. TakesInto a b before after n) (λ stop. stopped ≡ None → EndsInto a b before after place n stop)
-    → MatchResult result (λ _. GathersCell kind (ScalarBytes kind n) column a b place place' after.bytes)
+    → N.MatchResult result (λ _. N.TakesInto a b before after n) (λ stop. stopped ≡ None → N.EndsInto a b before after place n stop)
+    → N.MatchResult result (λ _. N.GathersCell kind (ScalarBytes kind n) column a b place place' after.bytes)
     (λ stop. StallsCell (ScalarBytes kind n) column a b place stop)
 fixed_taken (Ok u) column kind a b place before after is none going at x =
     rw (stands_alone _ _ _ none x.stands) (fixed_gathers _ is x.whole x.takes x.between at)
 fixed_taken (Err stop) column kind a b place before after is none going at x = let e = x going in cell_cut _ _ refl refl refl e.fewer e.ends e.stop_is
 
 -- the length that an empty area got
-pub length_taken : {a b : Seen} {before after : Space} {n : ℕ} → before.bytes ≡ [] → slice_index after.bytes 0 ≡ n → TakesInto a b before after 1
+pub length_taken : {a b : Seen} {before after : Space} {n : ℕ} → before.bytes ≡ [] → N.slice_index after.bytes 0 ≡ n → N.TakesInto a b before after 1
     → (after.bytes ≡ n ∷ []) × (Takes a b (n ∷ []) 1)
-length_taken none is x = grind (arith, common_steps, stands_alone)
+length_taken none is x = grind (arith, N.common_steps, stands_alone)
 
 -- the value after a length that is allowed was read into the area that has the length, or it is cut
 pub counted_taken : {U : Type 0} {stopped : Option Stop} {n middle place' : ℕ} (result : Result U Stop) (column : ℕ) (kind : Kind) (a b d : Seen)
-    (place : ℕ) (before after : Space) → fixed_length kind ≡ None → before.bytes ≡ n ∷ [] → n ≢ 0 → is_length_allowed kind n ≡ true
+    (place : ℕ) (before after : Space) → fixed_length kind ≡ None → before.bytes ≡ n ∷ [] → n ≢ 0 → N.is_length_allowed kind n ≡ true
     → Takes a b (n ∷ []) 1 → middle ≡ place + 1 → stopped ≡ None → place' ≡ (if is_ok result then middle + n else middle)
-    → MatchResult result (λ _. TakesInto b d before after n) (λ stop. stopped ≡ None → EndsInto b d before after middle n stop)
-    → MatchResult result (λ _. GathersCell kind (ScalarLength kind) column a d place place' after.bytes)
+    → N.MatchResult result (λ _. N.TakesInto b d before after n) (λ stop. stopped ≡ None → N.EndsInto b d before after middle n stop)
+    → N.MatchResult result (λ _. N.GathersCell kind (ScalarLength kind) column a d place place' after.bytes)
     (λ stop. StallsCell (ScalarLength kind) column a d place stop)
 counted_taken (Ok u) column kind a b d place before after is first some good takes at going there x =
     rw (ap (λ s. s.bytes) x.stands ∙ ap (λ l. l ++ x.element) first) (counted_gathers b _ is some good takes at x.whole x.takes x.between there)
@@ -133,12 +130,12 @@ counted_taken (Err stop) column kind a b d place before after is first some good
     length_then some good takes at (cell_cut e.part e.own refl refl refl e.fewer e.ends e.stop_is)
 
 -- from the shape of a scalar kind on
-pub scalar_start : (charset : Charset) (kind : Kind) (o : Option ℕ) → is_scalar kind ≡ true → fixed_length kind ≡ o
-    → cell_start kind (shape_of_length o) ≡ cell_start kind (shape charset kind)
-scalar_start charset kind o scalar is = grind (arith, common_steps, scalar_shape)
+pub scalar_start : (charset : N.Charset) (kind : Kind) (o : Option ℕ) → N.is_scalar kind ≡ true → fixed_length kind ≡ o
+    → N.cell_start kind (N.shape_of_length o) ≡ N.cell_start kind (N.shape charset kind)
+scalar_start charset kind o scalar is = grind (arith, N.common_steps, scalar_shape)
 
 -- a cell whose bytes were gathered, and that is left, stops at its value
-pub left_stalls : {kind : Kind} {from : CellPart} {column : ℕ} {a b : Seen} {place place' : ℕ} {bytes : List ℕ}
-    (x : GathersCell kind from column a b place place' bytes) → IsScalarLeft kind bytes
-    → StallsCell from column a b place (record { fault = BadValue column; place = Payload (place + value_start kind) })
+pub left_stalls : {kind : Kind} {from : N.CellPart} {column : ℕ} {a b : Seen} {place place' : ℕ} {bytes : List ℕ}
+    (x : N.GathersCell kind from column a b place place' bytes) → N.IsScalarLeft kind bytes
+    → StallsCell from column a b place (record { fault = BadValue column; place = Payload (place + N.value_start kind) })
 left_stalls x h9 = grind arith

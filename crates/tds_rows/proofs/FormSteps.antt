@@ -1,56 +1,54 @@
 -- Runs over cells by their forms, a cell after those that were written.
 use Rattle.tds_rows.specs.FormRuns.{IsLatest, NumbersWithin}
 use Rattle.tds_rows.specs.declared.run.forms.Latest.{Latest}
+use Rattle.tds_rows.proofs.Words as N
 use Rattle.tds_rows.proofs.{
-  Words.{◌⊎◌, common_steps, ◌≡◌, ◌≢◌, ◌∙◌, ℕ, zero, suc, ◌+◌, ◌-◌, ◌<◌, ◌≤◌, Bool, false, List, [], ◌∷◌, ◌++◌, length, take, drop, get_or, refl, ◌*◌, sym, ap},
-  Words.{arith, append-nil, append_assoc, length-append, ◌==◌, ◌&&◌, map, slice_set, drop_more, length-map, length-take-le, take-append-le, take_all},
-  Words.{take_more_set, get_or_default, length-drop, length-take, take-take, drop-drop, Kind, eq_false, eq_true, Column, all_after, after_comma, end_after},
-  Words.{in_line, Charset, Form, IsLeft, WritesField, WritesKind, is_last_column, whole_size, AreNext, FieldsWritten, FirstUsed, FirstWritten, FormsRun},
-  Words.{RunsForms, WritesFields, subst, WritesForms, WritesColumn, WritesMarked, nat_tests, true},
+  Words.{◌⊎◌, ◌≡◌, ◌≢◌, ◌∙◌, ℕ, zero, suc, ◌+◌, ◌-◌, ◌<◌, ◌≤◌, Bool, false, List, [], ◌∷◌, ◌++◌, length, take, drop, get_or, refl, ◌*◌, sym, ap, arith, ◌==◌},
+  Words.{◌&&◌, map, slice_set, Column, after_comma, end_after, in_line, Charset, Form, subst, true},
   LineTexts.{after_some_column, after_append},
   RunSteps.{made_more, used_more, whole_some},
   TableSteps.{known_kind, last_one},
 }
 
-not_last : (rest : List Column) → 0 < length rest → false ≡ is_last_column rest
+not_last : (rest : List Column) → 0 < length rest → false ≡ N.is_last_column rest
 not_last rest some = grind arith
 
-module _ (forms : List Form) (ends : Bool) (columns : List Column) (next : AreNext forms ends columns) where
+module _ (forms : List Form) (ends : Bool) (columns : List Column) (next : N.AreNext forms ends columns) where
   few : length forms ≤ length columns
-  few = grind (arith, common_steps, length-map, length-take)
+  few = grind (arith, N.common_steps, N.length-map, N.length-take)
 
   -- the column after this many is the last where the forms say so
   last_of : (k : ℕ) (c : Column) (rest : List Column) → k < length forms → drop k columns ≡ c ∷ rest
-      → (ends && (k + 1 == length forms)) ≡ is_last_column rest
+      → (ends && (k + 1 == length forms)) ≡ N.is_last_column rest
   last_of k c rest within step = go (length forms == length columns) refl
     where
-      go : (b : Bool) → (length forms == length columns) ≡ b → (ends && (k + 1 == length forms)) ≡ is_last_column rest
+      go : (b : Bool) → (length forms == length columns) ≡ b → (ends && (k + 1 == length forms)) ≡ N.is_last_column rest
       go true e = ap (λ v. v && (k + 1 == length forms)) (next.ends_are ∙ e)
-          ∙ last_one columns rest c k (length forms) (eq_true (length forms) (length columns) e) step
-      go false e = ap (λ v. v && (k + 1 == length forms)) (next.ends_are ∙ e) ∙ not_last rest (more (eq_false (length forms) (length columns) e))
+          ∙ last_one columns rest c k (length forms) (N.eq_true (length forms) (length columns) e) step
+      go false e = ap (λ v. v && (k + 1 == length forms)) (next.ends_are ∙ e) ∙ not_last rest (more (N.eq_false (length forms) (length columns) e))
         where
           more : length forms ≢ length columns → 0 < length rest
-          more isnt = omega (arith, few, isnt, within, ap length step, length-drop k columns)
+          more isnt = omega (arith, few, isnt, within, ap length step, N.length-drop k columns)
 
   module _ (k : ℕ) (d : Form) (within : k < length forms) where
     abbrev next_column : Column
     next_column = get_or columns k (record { kind = d.kind; name = [] })
 
     step : drop k columns ≡ next_column ∷ drop (k + 1) columns
-    step = drop_more columns k (record { kind = d.kind; name = [] }) (omega (arith, few, within))
+    step = N.drop_more columns k (record { kind = d.kind; name = [] }) (omega (arith, few, within))
 
     kind_is : (get_or forms k d).kind ≡ next_column.kind
-    kind_is = known_kind _ _ _ k d _ (ap (map (λ f. f.kind)) (take_all (length forms) forms (omega arith))
+    kind_is = known_kind _ _ _ k d _ (ap (map (λ f. f.kind)) (N.take_all (length forms) forms (omega arith))
         ∙ next.kinds_are) within (omega arith) (omega (arith, few, within))
 
     -- the cell after this many
     next_cell : (charset : Charset) (all : List Column) (column : ℕ) (bytes text : List ℕ) → columns ≡ drop column all
-        → WritesKind charset (get_or forms k d).kind (column + k) (ends && (k + 1 == length forms)) bytes text
-        → WritesColumn charset all (λ k. false) (column + k) bytes text
+        → N.WritesKind charset (get_or forms k d).kind (column + k) (ends && (k + 1 == length forms)) bytes text
+        → N.WritesColumn charset all (λ k. false) (column + k) bytes text
     next_cell charset all column bytes text is x = record {
       column = next_column;
       left = drop (k + 1) columns;
-      next = ap (λ (n : ℕ). drop n all) (omega arith) ∙ sym (drop-drop k column all) ∙ ap (drop k) (sym is) ∙ step;
+      next = ap (λ (n : ℕ). drop n all) (omega arith) ∙ sym (N.drop-drop k column all) ∙ ap (drop k) (sym is) ∙ step;
       writes = rw (kind_is, last_of k _ _ within step) at x.whole;
     }
 
@@ -59,7 +57,7 @@ pub some_first : (forms : List Form) → 0 < length forms → (form : Form) × (
 some_first [] some = absurd (omega (arith, some))
 some_first (f ∷ fs) some = (f, fs, refl)
 
-module _ (charset : Charset) (forms : List Form) (column : ℕ) (ends : Bool) (columns : List Column) (next : AreNext forms ends (drop column columns))
+module _ (charset : Charset) (forms : List Form) (column : ℕ) (ends : Bool) (columns : List Column) (next : N.AreNext forms ends (drop column columns))
   where
     -- whether so many cells end their row
     abbrev closes : ℕ → Bool
@@ -67,8 +65,8 @@ module _ (charset : Charset) (forms : List Form) (column : ℕ) (ends : Bool) (c
 
     -- a cell after those that were written
     one_more : {m : ℕ} (d : Form) (n : ℕ) (bytes text : List ℕ) → m ≡ n + 1 → m ≤ length forms
-        → (x : WritesForms charset forms column (suc n) bytes text) → WritesMarked charset columns (λ k. false) column n x.0 x.2
-        → WritesMarked charset columns (λ k. false) column (suc n) bytes (text ++ end_after (closes m))
+        → (x : N.WritesForms charset forms column (suc n) bytes text) → N.WritesMarked charset columns (λ k. false) column n x.0 x.2
+        → N.WritesMarked charset columns (λ k. false) column (suc n) bytes (text ++ end_after (closes m))
     one_more d n bytes text is few x w =
         let last = closes (n + 1) in
         rw is (
@@ -77,26 +75,26 @@ module _ (charset : Charset) (forms : List Form) (column : ℕ) (ends : Bool) (c
           x.2,
           in_line (column + n) last x.3,
           x.4,
-          ap (λ l. l ++ end_after last) x.5 ∙ append_assoc x.2 _ _,
+          ap (λ l. l ++ end_after last) x.5 ∙ N.append_assoc x.2 _ _,
           w,
           next_cell _ _ _ next n d (omega arith) _ _ _ _ _ refl (x.7 d (column + n) last),
         )
 
     not_closed : (n : ℕ) → n < length forms → closes n ≡ false
-    not_closed n few = grind (arith, nat_tests)
+    not_closed n few = grind (arith, N.nat_tests)
 
     -- the fields of cells before the last are their text
-    earlier : (d : Form) (n : ℕ) (bytes text : List ℕ) → n < length forms → WritesForms charset forms column n bytes text
-        → WritesMarked charset columns (λ k. false) column n bytes text
+    earlier : (d : Form) (n : ℕ) (bytes text : List ℕ) → n < length forms → N.WritesForms charset forms column n bytes text
+        → N.WritesMarked charset columns (λ k. false) column n bytes text
     earlier d zero bytes text few x = x
     earlier d (suc n) bytes text few x = rw (
       not_closed _ few,
-      append-nil,
+      N.append-nil,
     ) at (one_more {m = suc n} d n _ _ (omega arith) (omega arith) x (earlier d n _ _ (omega arith) x.6))
 
     -- the fields of some cells are the text of a run over them
-    pub run_marked : (cells : ℕ) (bytes fields : List ℕ) → 0 < cells → cells ≤ length forms → WritesForms charset forms column cells bytes fields
-        → WritesMarked charset columns (λ k. false) column cells bytes (fields ++ end_after (closes cells))
+    pub run_marked : (cells : ℕ) (bytes fields : List ℕ) → 0 < cells → cells ≤ length forms → N.WritesForms charset forms column cells bytes fields
+        → N.WritesMarked charset columns (λ k. false) column cells bytes (fields ++ end_after (closes cells))
     run_marked zero bytes fields some few x = absurd (omega (arith, some))
     run_marked (suc n) bytes fields some few x =
         let d = (some_first forms (omega (arith, few))).0 in
@@ -107,16 +105,16 @@ pub before_comma : (made column : ℕ) (to fields : List ℕ) → 0 < column →
     → take (made - 1) to ≡ fields
 before_comma made column to fields some within is =
     let comma : take made to ≡ fields ++ 44 ∷ [] = is ∙ ap (λ l. fields ++ l) (sym (after_some_column column [] (λ e. omega (arith, e, some)))) in
-    let counted : length fields ≡ made - 1 = omega (arith, sym (length-take-le made to within) ∙ ap length comma ∙ length-append fields (44 ∷ [])) in
-    sym (take-take (made - 1) made to (omega arith)) ∙ ap (take (made - 1)) comma
-    ∙ take-append-le (made - 1) fields (44 ∷ []) (omega (arith, counted)) ∙ take_all (made - 1) fields (omega (arith, counted))
+    let counted : length fields ≡ made - 1 = omega (arith, sym (N.length-take-le made to within) ∙ ap length comma ∙ N.length-append fields (44 ∷ [])) in
+    sym (N.take-take (made - 1) made to (omega arith)) ∙ ap (take (made - 1)) comma
+    ∙ N.take-append-le (made - 1) fields (44 ∷ []) (omega (arith, counted)) ∙ N.take_all (made - 1) fields (omega (arith, counted))
 
 module _ (charset : Charset) (forms : List Form) (column : ℕ) (bytes : List ℕ) where
   -- one cell more
   pub fields_more : (to text rest : List ℕ) (k used u now made m : ℕ) (d : Form) → now ≡ used + u → made ≤ length to → m < length text
-      → k < length forms → WritesField charset (get_or forms k d).kind (take u (take (length bytes - used) (drop used bytes))) (take m text)
-      → FieldsWritten charset forms column bytes to (record { cells = k; used = used; made = made })
-      → FieldsWritten charset forms column bytes (slice_set (take made to ++ (text ++ rest)) (made + m) 44)
+      → k < length forms → N.WritesField charset (get_or forms k d).kind (take u (take (length bytes - used) (drop used bytes))) (take m text)
+      → N.FieldsWritten charset forms column bytes to (record { cells = k; used = used; made = made })
+      → N.FieldsWritten charset forms column bytes (slice_set (take made to ++ (text ++ rest)) (made + m) 44)
       (record { cells = k + 1; used = now; made = made + m + 1 })
   fields_more to text rest k used u now made m d further within some there wrote (fields, x, is) =
       let read = take u (take (length bytes - used) (drop used bytes)) in
@@ -125,24 +123,24 @@ module _ (charset : Charset) (forms : List Form) (column : ℕ) (bytes : List �
       let here : made + m < length all = omega (
         arith,
         some,
-        length-append (take made to) (text ++ rest),
-        length-append text rest,
-        length-take-le made to within,
+        N.length-append (take made to) (text ++ rest),
+        N.length-append text rest,
+        N.length-take-le made to within,
       ) in
       let is' : take (made + m + 1) (slice_set all (made + m) 44) ≡ (fields ++ after_comma (column + k) field) ++ after_comma (column + (k + 1)) [] =
-      take_more_set all (made + m) 44 here ∙ ap (λ l. l ++ 44 ∷ []) (made_more made m to text rest within (omega (arith, some))
-      ∙ ap (λ l. l ++ field) is ∙ append_assoc fields (after_comma (column + k) []) field
+      N.take_more_set all (made + m) 44 here ∙ ap (λ l. l ++ 44 ∷ []) (made_more made m to text rest within (omega (arith, some))
+      ∙ ap (λ l. l ++ field) is ∙ N.append_assoc fields (after_comma (column + k) []) field
       ∙ ap (λ l. fields ++ l) (sym (after_append (column + k) [] field)))
       ∙ ap (λ l. (fields ++ after_comma (column + k) field) ++ l) (after_some_column (column + (k + 1)) [] (λ e. omega (arith, e))) in
-      let written : WritesForms charset forms column (suc k) (take (used + u) bytes) (fields ++ after_comma (column + k) field) =
-      (take used bytes, read, fields, field, used_more used u bytes, refl, x, λ form. rw (get_or_default forms k d form there) at wrote) in
+      let written : N.WritesForms charset forms column (suc k) (take (used + u) bytes) (fields ++ after_comma (column + k) field) =
+      (take used bytes, read, fields, field, used_more used u bytes, refl, x, λ form. rw (N.get_or_default forms k d form there) at wrote) in
       let next : suc k ≡ k + 1 = omega arith in
       rw further (fields ++ after_comma (column + k) field, rw (← next) written, is')
 
   -- the first alone
-  pub first_alone : (ends : Bool) (to : List ℕ) (used made : ℕ) (fields : List ℕ) → FirstUsed forms bytes used
-      → WritesForms charset forms column 1 (take used bytes) fields → take made to ≡ fields ++ end_after (ends && (1 == length forms))
-      → FirstWritten charset forms column ends bytes to (record { cells = 1; used = used; made = made })
+  pub first_alone : (ends : Bool) (to : List ℕ) (used made : ℕ) (fields : List ℕ) → N.FirstUsed forms bytes used
+      → N.WritesForms charset forms column 1 (take used bytes) fields → take made to ≡ fields ++ end_after (ends && (1 == length forms))
+      → N.FirstWritten charset forms column ends bytes to (record { cells = 1; used = used; made = made })
   first_alone ends to used made fields size (front, rest, before, field, b, t, x, y) is = λ form others are.
       let last = ends && (1 == length forms) in
       let read : rest ≡ take used bytes = sym (b ∙ ap (λ l. l ++ rest) x.0) in
@@ -154,14 +152,14 @@ module _ (charset : Charset) (forms : List Form) (column : ℕ) (bytes : List �
 
 -- the bytes of the first cell were used
 first_used : (forms : List Form) (bytes : List ℕ) (used u k : ℕ) (d : Form) → k ≡ 0 → used ≡ 0
-    → u ≡ whole_size (get_or forms k d).kind (take (length bytes - used) (drop used bytes)) → FirstUsed forms bytes (used + u)
-first_used forms bytes used u k d first none size form others are = grind (arith, all_after)
+    → u ≡ N.whole_size (get_or forms k d).kind (take (length bytes - used) (drop used bytes)) → N.FirstUsed forms bytes (used + u)
+first_used forms bytes used u k d first none size form others are = grind (arith, N.all_after)
 
 -- what is left of the bytes, after some more of them
 pub left_after : (bytes rest : List ℕ) (u : ℕ) → length rest ≤ length bytes → rest ≡ drop (length bytes - length rest) bytes → u ≤ length rest
     → (length bytes - length (take (length rest - u) (drop u rest)) ≡ (length bytes - length rest) + u)
     × (take (length rest - u) (drop u rest) ≡ drop ((length bytes - length rest) + u) bytes)
-left_after bytes rest u within is some = grind (arith, common_steps, some, length-take, length-drop, all_after, drop-drop)
+left_after bytes rest u within is some = grind (arith, N.common_steps, some, N.length-take, N.length-drop, N.all_after, N.drop-drop)
 
 -- ---- a run so far
 
@@ -173,12 +171,12 @@ pub record FieldsAt (forms : List Form) (bytes : List ℕ) (room cells used made
   pub begun : cells ≡ 0 → (used ≡ 0) × (made ≤ 1)
   pub some : 0 < cells → 0 < used
   pub further : 0 < cells → (0 < made) × (made < room)
-  pub one : cells ≡ 1 → FirstUsed forms bytes used
+  pub one : cells ≡ 1 → N.FirstUsed forms bytes used
 
 -- one cell more, and the comma after it
 pub fields_step : {forms : List Form} {bytes : List ℕ} {room more_room cells used now made : ℕ} (u m : ℕ) (d : Form)
     → FieldsAt forms bytes room cells used made → now ≡ used + u → more_room ≡ room → cells < length forms → u ≤ length bytes - used → made + m + 2 ≤ room
-    → u ≡ whole_size (get_or forms cells d).kind (take (length bytes - used) (drop used bytes))
+    → u ≡ N.whole_size (get_or forms cells d).kind (take (length bytes - used) (drop used bytes))
     → FieldsAt forms bytes more_room (cells + 1) now (made + m + 1)
 fields_step {forms = forms} {bytes = bytes} {cells = cells} {used = used} u m d x further same there within fits whole =
     let more = whole_some (get_or forms cells d).kind (take (length bytes - used) (drop used bytes)) in
@@ -194,10 +192,10 @@ fields_step {forms = forms} {bytes = bytes} {cells = cells} {used = used} u m d 
     }
 
 -- the run is over once the end of the line, or nothing, stands over the last comma
-pub fields_run : {charset : Charset} {forms : List Form} {column : ℕ} {ends : Bool} {bytes text : List ℕ} {run : FormsRun} (room made : ℕ)
-    (new : List ℕ) → 0 < run.cells → WritesFields charset forms column bytes text run → made ≤ room
+pub fields_run : {charset : Charset} {forms : List Form} {column : ℕ} {ends : Bool} {bytes text : List ℕ} {run : N.FormsRun} (room made : ℕ)
+    (new : List ℕ) → 0 < run.cells → N.WritesFields charset forms column bytes text run → made ≤ room
     → take made new ≡ take (run.made - 1) text ++ end_after (ends && (run.cells == length forms))
-    → RunsForms charset forms column ends bytes room new (record run { made = made })
+    → N.RunsForms charset forms column ends bytes room new (record run { made = made })
 fields_run {charset = charset} {forms = forms} {column = column} {ends = ends} {bytes = bytes} {text = text} {run = run} room made new some x fits is =
     let (fields, wrote, there) = x.fields in
     let before = before_comma run.made (column + run.cells) text fields (omega (arith, some)) x.within.made there in
@@ -206,7 +204,7 @@ fields_run {charset = charset} {forms = forms} {column = column} {ends = ends} {
       within = record { cells = x.within.cells; used = x.within.used; made = fits; some = x.within.some; none = x.within.none };
       ends = λ none. absurd (omega (arith, some, none));
       one = λ alone.
-          let one = subst (λ (n : ℕ). WritesForms charset forms column n (take run.used bytes) fields) alone wrote in
+          let one = subst (λ (n : ℕ). N.WritesForms charset forms column n (take run.used bytes) fields) alone wrote in
           let first = first_alone charset forms column bytes ends new run.used made fields (x.one alone) one
           (text_is ∙ ap (λ (n : ℕ). fields ++ end_after (ends && (n == length forms))) alone) in
           first;
@@ -225,9 +223,9 @@ room_step n k made m room more same some few within = omega arith
 -- ---- a cell that is left
 
 -- with less room too
-pub left_less : (charset : Charset) (kind : Kind) (bytes : List ℕ) (fewer room : ℕ) → fewer ≤ room → IsLeft charset kind bytes room
-    → IsLeft charset kind bytes fewer
-left_less charset kind bytes fewer room less h6 = grind (arith, common_steps)
+pub left_less : (charset : Charset) (kind : N.Kind) (bytes : List ℕ) (fewer room : ℕ) → fewer ≤ room → N.IsLeft charset kind bytes room
+    → N.IsLeft charset kind bytes fewer
+left_less charset kind bytes fewer room less h6 = grind (arith, N.common_steps)
 
 -- ---- rows of numbers
 

@@ -1,10 +1,8 @@
 -- What a text that grows is, and what the cells and rows that are read add to it.
+use Rattle.tds_rows.proofs.Words as N
 use Rattle.tds_rows.proofs.{
-  Words.{common_steps, ◌≡◌, ℕ, Bool, true, false, List, [], ◌∷◌, ◌++◌, refl, sym, ◌∙◌, ap, append_assoc, append-nil, arith, Option, Some, None, ◌==◌, ◌||◌},
-  Words.{nat_lt, map, codes, map-append, joined, null_field, Conversion, closing, conversion_rest, conversion_text, is_fit, is_begun, is_quoted, long_field},
-  Words.{open_field, open_closes, open_grows, begun_by_test, IsNext, or_cases, choose, eq_true, lt_true, Column, Charset, Cell, Null, field, shape, CellPart},
-  Words.{ShortData, ChunkLength, ChunkData, WholeCell, cell_start, cell_add, cell, field_so_far, chunk_fault, RowPart, Bitmap, InCell, WholeRow, next_cell},
-  Words.{with_cell, row_add, row, with_field, row_so_far},
+  Words.{◌≡◌, ℕ, Bool, true, false, List, [], ◌∷◌, ◌++◌, refl, sym, ◌∙◌, ap, arith, Option, Some, None, ◌==◌, ◌||◌, map, joined, open_field, eq_true, Cell},
+  Words.{field},
   CellMeaning.{guard_none, unless_none},
 }
 
@@ -14,7 +12,7 @@ Grows a b = (more : List ℕ) × (a ++ more ≡ b)
 
 -- a text grows to itself
 pub grows_same : (a : List ℕ) → Grows a a
-grows_same a = ([], append-nil a)
+grows_same a = ([], N.append-nil a)
 
 -- the empty text grows to any
 pub grows_all : (b : List ℕ) → Grows [] b
@@ -22,17 +20,17 @@ grows_all b = (b, refl)
 
 -- growth goes on
 pub grows_trans : (a b c : List ℕ) → Grows a b → Grows b c → Grows a c
-grows_trans a b c h k = grind (arith, append_assoc)
+grows_trans a b c h k = grind (arith, N.append_assoc)
 
 -- what stands in front stays
 pub grows_under : (x a b : List ℕ) → Grows a b → Grows (x ++ a) (x ++ b)
-grows_under x a b h = (h.0, append_assoc x a h.0 ∙ ap (λ v. x ++ v) h.1)
+grows_under x a b h = (h.0, N.append_assoc x a h.0 ∙ ap (λ v. x ++ v) h.1)
 
 -- more fields
 pub joined_more : (fs gs : List (List ℕ)) → Grows (joined fs) (joined (fs ++ gs))
 joined_more [] gs = grows_all (joined gs)
 joined_more (f ∷ []) [] = grows_same f
-joined_more (f ∷ []) (g ∷ gs) = (codes "," ++ joined (g ∷ gs), sym (append_assoc f _ (joined (g ∷ gs))))
+joined_more (f ∷ []) (g ∷ gs) = (N.codes "," ++ joined (g ∷ gs), sym (N.append_assoc f _ (joined (g ∷ gs))))
 joined_more (f ∷ h ∷ fs) gs = grows_under _ (joined (h ∷ fs)) (joined (h ∷ (fs ++ gs))) (joined_more (h ∷ fs) gs)
 
 -- more of the last field
@@ -48,7 +46,7 @@ OptionGrows (Some a) None = ⊥
 OptionGrows (Some a) (Some b) = Grows a b
 
 -- more of the field that is read
-with_field_grows : (cells : List Cell) (a b : Option (List ℕ)) → OptionGrows a b → Grows (joined (with_field cells a)) (joined (with_field cells b))
+with_field_grows : (cells : List Cell) (a b : Option (List ℕ)) → OptionGrows a b → Grows (joined (N.with_field cells a)) (joined (N.with_field cells b))
 with_field_grows cells None None h = grows_same _
 with_field_grows cells None (Some b) h = joined_more (map field cells) _
 with_field_grows cells (Some a) None h = absurd h
@@ -57,52 +55,52 @@ with_field_grows cells (Some a) (Some b) h = joined_last (map field cells) a b h
 -- ---- a field
 
 -- more data
-open_more : (c : Conversion) (a b : List ℕ) → is_begun c (a ++ b) ≡ true → Grows (open_field c a) (open_field c (a ++ b))
-open_more c a b h = grind (arith, open_grows, begun_by_test)
+open_more : (c : N.Conversion) (a b : List ℕ) → N.is_begun c (a ++ b) ≡ true → Grows (open_field c a) (open_field c (a ++ b))
+open_more c a b h = grind (arith, N.open_grows, N.begun_by_test)
 
 -- the end of the data
-long_grows : (c : Conversion) (a : List ℕ) → is_fit c a ≡ true → Grows (open_field c a) (long_field c a)
-long_grows c a h = (conversion_text c (conversion_rest c a) ++ closing (is_quoted c), open_closes c a h)
+long_grows : (c : N.Conversion) (a : List ℕ) → N.is_fit c a ≡ true → Grows (open_field c a) (N.long_field c a)
+long_grows c a h = (N.conversion_text c (N.conversion_rest c a) ++ N.closing (N.is_quoted c), N.open_closes c a h)
 
 -- ---- a cell
 
 -- the last byte of a short value leaves it fit
-pub last_fit : (left : ℕ) (b : Bool) → (nat_lt 0 left || b) ≡ true → (left == 0) ≡ true → b ≡ true
-last_fit left b h z = grind (arith, lt_true, or_cases)
+pub last_fit : (left : ℕ) (b : Bool) → (N.nat_lt 0 left || b) ≡ true → (left == 0) ≡ true → b ≡ true
+last_fit left b h z = grind (arith, N.lt_true, N.or_cases)
 
 -- what ends the chunks leaves the data fit
-pub end_fit : (column : ℕ) (c : Conversion) (total : Option ℕ) (content : List ℕ) (n : ℕ) → chunk_fault column c total content n ≡ None
-    → (n == 0) ≡ true → is_fit c content ≡ true
+pub end_fit : (column : ℕ) (c : N.Conversion) (total : Option ℕ) (content : List ℕ) (n : ℕ) → N.chunk_fault column c total content n ≡ None
+    → (n == 0) ≡ true → N.is_fit c content ≡ true
 end_fit column c total content n h z = grind (arith, unless_none)
 
 module _ (column : ℕ) where
   -- each element of a cell adds to its text
-  pub cell_grows : (p : CellPart) (e : List ℕ) → IsNext (cell column) p e → OptionGrows (field_so_far p) (field_so_far (cell_add p e))
-  cell_grows p e n = grind (arith, common_steps, grows_same, unless_none, open_more, choose, grows_trans, long_grows, last_fit)
+  pub cell_grows : (p : N.CellPart) (e : List ℕ) → N.IsNext (N.cell column) p e → OptionGrows (N.field_so_far p) (N.field_so_far (N.cell_add p e))
+  cell_grows p e n = grind (arith, N.common_steps, grows_same, unless_none, open_more, N.choose, grows_trans, long_grows, last_fit)
 
 -- ---- a row
 
-module _ (charset : Charset) where
+module _ (charset : N.Charset) where
   -- the cells to come begin
-  next_grows : (cells : List Cell) (ks : List (Column × Bool)) → Grows (joined (map field cells)) (row_so_far (next_cell charset cells ks))
+  next_grows : (cells : List Cell) (ks : List (N.Column × Bool)) → Grows (joined (map field cells)) (N.row_so_far (N.next_cell charset cells ks))
   next_grows cells [] = grind arith
   next_grows cells ((k, true) ∷ ks) = grows_trans _ _ _
-      (rw (sym (map-append field cells (Null ∷ []))) at (joined_more (map field cells) (null_field ∷ []))) (next_grows _ ks)
-  next_grows cells ((k, false) ∷ ks) = with_field_grows _ None (field_so_far (cell_start k.kind (shape charset k.kind))) tt
+      (rw (sym (N.map-append field cells (N.Null ∷ []))) at (joined_more (map field cells) (N.null_field ∷ []))) (next_grows _ ks)
+  next_grows cells ((k, false) ∷ ks) = with_field_grows _ None (N.field_so_far (N.cell_start k.kind (N.shape charset k.kind))) tt
 
   -- a cell in its row
-  with_cell_grows : (cells : List Cell) (ks : List (Column × Bool)) (p : CellPart)
-      → Grows (joined (with_field cells (field_so_far p))) (row_so_far (with_cell charset cells ks p))
-  with_cell_grows cells ks (WholeCell c) = rw map-append at (next_grows (cells ++ c ∷ []) ks)
-  with_cell_grows cells ks (ShortData c left content) = grows_same (joined (map field cells ++ open_field c content ∷ []))
-  with_cell_grows cells ks (ChunkLength c total content) = grows_same (joined (map field cells ++ open_field c content ∷ []))
-  with_cell_grows cells ks (ChunkData c total left content) = grows_same (joined (map field cells ++ open_field c content ∷ []))
+  with_cell_grows : (cells : List Cell) (ks : List (N.Column × Bool)) (p : N.CellPart)
+      → Grows (joined (N.with_field cells (N.field_so_far p))) (N.row_so_far (N.with_cell charset cells ks p))
+  with_cell_grows cells ks (N.WholeCell c) = rw N.map-append at (next_grows (cells ++ c ∷ []) ks)
+  with_cell_grows cells ks (N.ShortData c left content) = grows_same (joined (map field cells ++ open_field c content ∷ []))
+  with_cell_grows cells ks (N.ChunkLength c total content) = grows_same (joined (map field cells ++ open_field c content ∷ []))
+  with_cell_grows cells ks (N.ChunkData c total left content) = grows_same (joined (map field cells ++ open_field c content ∷ []))
   with_cell_grows cells ks p = grows_same (joined (map field cells))
 
   -- each element of a row adds to its text
-  pub row_grows : (p : RowPart) (e : List ℕ) → IsNext (row charset) p e → Grows (row_so_far p) (row_so_far (row_add charset p e))
-  row_grows (Bitmap columns) e n = grows_all _
-  row_grows (WholeRow cells) e n = grows_same _
-  row_grows (InCell cells part ks) e n =
+  pub row_grows : (p : N.RowPart) (e : List ℕ) → N.IsNext (N.row charset) p e → Grows (N.row_so_far p) (N.row_so_far (N.row_add charset p e))
+  row_grows (N.Bitmap columns) e n = grows_all _
+  row_grows (N.WholeRow cells) e n = grows_same _
+  row_grows (N.InCell cells part ks) e n =
       grows_trans _ _ _ (with_field_grows _ _ _ (cell_grows _ part e (record { some = n.some; whole = n.whole; free = n.free })))
       (with_cell_grows cells ks _)

@@ -1,12 +1,9 @@
 -- Long values, in the grammar of a cell: the text of its parts, and the pieces of its content.
+use Rattle.tds_rows.proofs.Words as N
 use Rattle.tds_rows.proofs.{
-  Words.{StopsField, ◌≡◌, ◌∙◌, ◌⊎◌, inl, inr, ℕ, suc, ◌+◌, ◌-◌, ◌^◌, ◌<◌, ◌≤◌, Bool, true, false, List, [], ◌∷◌, ◌++◌, length, refl, sym, ap, subst, arith},
-  Words.{append_assoc, append-nil, length-append, Option, Some, None, ◌&&◌, ◌||◌, nat_lt, and_from, cases_lt, ne_eqb, or_left, or_right, append_cancel_left},
-  Words.{BadText, MessageEnded, Stop, Spelt, Seen, Takes, IsBetween, choose_false, test_lt, Spelt-append, Spelt-step, Takes-more, began_is_cut, cut_at_once},
-  Words.{BeginsData, Conversion, conversion_rest, conversion_text, is_begun, is_fit, is_quoted, closing, long_field, open_field, emit, after_comma, end_after},
-  Words.{in_line, Breaks, Held, Puts, open_grows, open_closes, unfit_adds_none, begun_by_test, joins_by_name, breaks_somewhere, Breaks-after, Breaks-longer},
-  Words.{Puts-none, Puts-trans, CellPart, ShortData, cell, cell_add, cell_end, cell_fault, cell_size, field_so_far, unless, cell_so_far, BreaksData, CutsData},
-  Words.{EndsData, FillsData, RefusesData, StopsData, StopsFilling, added_text, ending, nil_of_length, Payload},
+  Words.{◌≡◌, ◌∙◌, ◌⊎◌, inl, inr, ℕ, suc, ◌+◌, ◌-◌, ◌^◌, ◌<◌, ◌≤◌, Bool, true, false, List, [], ◌∷◌, ◌++◌, length, refl, sym, ap, subst, arith, append_assoc},
+  Words.{Option, Some, None, ◌&&◌, ◌||◌, and_from, BadText, Stop, Spelt, Seen, choose_false, BeginsData, Conversion, is_fit, open_field, after_comma, Held},
+  Words.{cell, cell_fault, cell_so_far, added_text},
   Paths.{At, Path, path_both, path_stops},
   RowSteps.{line_grows, opened_text},
   LineTexts.after_append,
@@ -18,18 +15,18 @@ use Rattle.tds_rows.proofs.{
 
 -- the text of what of some content isn't withheld
 abbrev pub emitted : Conversion → List ℕ → List ℕ
-emitted c = emit (conversion_rest c) (conversion_text c)
+emitted c = N.emit (N.conversion_rest c) (N.conversion_text c)
 
 -- The states of the bytes of some content, by how many follow and what was read: each next byte is an element, and free of faults where text begins
 -- so, and where the content is good at its end.
-pub record HoldsContent (column : ℕ) (c : Conversion) (state : ℕ → List ℕ → CellPart) (Good : List ℕ → Type 0) : Type 0 where
-  pub size : (r : ℕ) (d : List ℕ) → cell_size (state (suc r) d) ≡ 1
-  pub end : (r : ℕ) (d : List ℕ) → cell_end (state (suc r) d) ≡ Some MessageEnded
-  pub text : (r : ℕ) (d : List ℕ) → field_so_far (state (suc r) d) ≡ Some (open_field c d)
-  pub add : (r : ℕ) (d : List ℕ) (x : ℕ) → cell_add (state (suc r) d) (x ∷ []) ≡ state r (d ++ x ∷ [])
-  pub free : (r : ℕ) (d : List ℕ) (x : ℕ) → is_begun c (d ++ x ∷ []) ≡ true → (r ≡ 0 → Good (d ++ x ∷ []))
+pub record HoldsContent (column : ℕ) (c : Conversion) (state : ℕ → List ℕ → N.CellPart) (Good : List ℕ → Type 0) : Type 0 where
+  pub size : (r : ℕ) (d : List ℕ) → N.cell_size (state (suc r) d) ≡ 1
+  pub end : (r : ℕ) (d : List ℕ) → N.cell_end (state (suc r) d) ≡ Some N.MessageEnded
+  pub text : (r : ℕ) (d : List ℕ) → N.field_so_far (state (suc r) d) ≡ Some (open_field c d)
+  pub add : (r : ℕ) (d : List ℕ) (x : ℕ) → N.cell_add (state (suc r) d) (x ∷ []) ≡ state r (d ++ x ∷ [])
+  pub free : (r : ℕ) (d : List ℕ) (x : ℕ) → N.is_begun c (d ++ x ∷ []) ≡ true → (r ≡ 0 → Good (d ++ x ∷ []))
       → cell_fault column (state (suc r) d) (x ∷ []) ≡ None
-  pub bad : (r : ℕ) (d : List ℕ) (x : ℕ) → is_begun c (d ++ x ∷ []) ≡ false → cell_fault column (state (suc r) d) (x ∷ []) ≡ Some (BadText column)
+  pub bad : (r : ℕ) (d : List ℕ) (x : ℕ) → N.is_begun c (d ++ x ∷ []) ≡ false → cell_fault column (state (suc r) d) (x ∷ []) ≡ Some (BadText column)
   pub ends : (d : List ℕ) (x : ℕ) → Good (d ++ x ∷ []) ⊎ (emitted c (d ++ x ∷ []) ≡ emitted c d)
   pub whole : (last : Bool) (d : List ℕ) → Good d → (more : List ℕ)
       × (after_comma column (open_field c d) ++ more ≡ cell_so_far column last (state 0 d))
@@ -40,10 +37,10 @@ snoc_of [] some = absurd (omega arith)
 snoc_of (x ∷ []) some = ([], x, refl)
 snoc_of (x ∷ y ∷ l) some = let r = snoc_of (y ∷ l) (omega arith) in (x ∷ r.0, r.1, ap (λ t. x ∷ t) r.2)
 
-no_text_false : (c : Conversion) (l : List ℕ) (b : Bool) → is_begun c l ≡ b → (BeginsData c l → ⊥) → b ≡ false
-no_text_false c l b is h = grind (arith, begun_by_test)
+no_text_false : (c : Conversion) (l : List ℕ) (b : Bool) → N.is_begun c l ≡ b → (BeginsData c l → ⊥) → b ≡ false
+no_text_false c l b is h = grind (arith, N.begun_by_test)
 
-module _ {column : ℕ} {c : Conversion} {state : ℕ → List ℕ → CellPart} {Good : List ℕ
+module _ {column : ℕ} {c : Conversion} {state : ℕ → List ℕ → N.CellPart} {Good : List ℕ
     → Type 0} (last : Bool) (holds : HoldsContent column c state Good) where
   pub text_at : (r : ℕ) (d : List ℕ) → cell_so_far column last (state (suc r) d) ≡ after_comma column (open_field c d)
   text_at r d = grind (arith, column)
@@ -51,17 +48,17 @@ module _ {column : ℕ} {c : Conversion} {state : ℕ → List ℕ → CellPart}
   -- the bytes of some content are elements
   pub content_spelt : (d bytes : List ℕ) (m r : ℕ) → m ≡ length bytes + r → BeginsData c (d ++ bytes) → (r ≡ 0 → 0 < length bytes → Good (d ++ bytes))
       → Spelt (cell column) (state m d) bytes (state r (d ++ bytes))
-  content_spelt d [] m r is begun good = grind (arith, append-nil)
+  content_spelt d [] m r is begun good = grind (arith, N.append-nil)
   content_spelt d (x ∷ xs) m r is begun good =
       let k = length xs + r in
       let next : m ≡ suc k = omega arith in
-      let good_one : k ≡ 0 → Good _ = λ none. subst (λ l. Good (d ++ x ∷ l)) (nil_of_length xs (omega arith)) (good (omega arith) (omega arith)) in
+      let good_one : k ≡ 0 → Good _ = λ none. subst (λ l. Good (d ++ x ∷ l)) (N.nil_of_length xs (omega arith)) (good (omega arith) (omega arith)) in
       let regroup = sym (append_assoc d _ xs) in
       let more_begun = subst (BeginsData c) regroup begun in
       let more = content_spelt (d ++ x ∷ []) xs k r refl more_begun (λ none some. subst Good regroup (good none (omega arith))) in
-      let one = Spelt-step _ _ _ _ (omega arith) (sym (holds.size k d))
-      (holds.free k d x ((begun_by_test c _).1 ((joins_by_name c).front _ xs more_begun)) good_one) (holds.add k d x) in
-      rw (next, regroup) (Spelt-append _ _ _ _ xs _ one more)
+      let one = N.Spelt-step _ _ _ _ (omega arith) (sym (holds.size k d))
+      (holds.free k d x ((N.begun_by_test c _).1 ((N.joins_by_name c).front _ xs more_begun)) good_one) (holds.add k d x) in
+      rw (next, regroup) (N.Spelt-append _ _ _ _ xs _ one more)
 
   -- and where more follow
   front_spelt : {m : ℕ} (d bytes : List ℕ) (r : ℕ) → m ≡ length bytes + suc r → BeginsData c (d ++ bytes)
@@ -71,7 +68,7 @@ module _ {column : ℕ} {c : Conversion} {state : ℕ → List ℕ → CellPart}
   -- what some content adds to the open field
   text_more : (d more : List ℕ) → BeginsData c (d ++ more)
       → after_comma column (open_field c d) ++ added_text c d more ≡ after_comma column (open_field c (d ++ more))
-  text_more d more begun = grind (arith, column, open_grows)
+  text_more d more begun = grind (arith, column, N.open_grows)
 
   -- what some content adds to the text, where more follows
   text_grown : (d more : List ℕ) (r r' : ℕ) → BeginsData c (d ++ more)
@@ -85,7 +82,7 @@ module _ {column : ℕ} {c : Conversion} {state : ℕ → List ℕ → CellPart}
   text_closed d more tail r begun whole = grind (arith, append_assoc, column, text_at, text_more)
 
   -- bytes were read and their text put, and more follow
-  fills_path : {d more : List ℕ} {p q : At} (m r : ℕ) → m ≡ length more + suc r → FillsData c d p.seen q.seen p.place q.place p.held q.held more
+  fills_path : {d more : List ℕ} {p q : At} (m r : ℕ) → m ≡ length more + suc r → N.FillsData c d p.seen q.seen p.place q.place p.held q.held more
       → Path (cell column) (cell_so_far column last) (state m d) p q (state (suc r) (d ++ more))
   fills_path {more = more} m r is x =
       let next : suc (length more + r) ≡ m = omega arith in
@@ -102,16 +99,16 @@ module _ {column : ℕ} {c : Conversion} {state : ℕ → List ℕ → CellPart}
   adds_none : (d p : List ℕ) (x : ℕ) → BeginsData c (d ++ (p ++ x ∷ [])) → emitted c ((d ++ p) ++ x ∷ []) ≡ emitted c (d ++ p)
       → added_text c d (p ++ x ∷ []) ≡ added_text c d p
   adds_none d p x begun same =
-      let laws = joins_by_name c in
+      let laws = N.joins_by_name c in
       let regroup = sym (append_assoc d p _) in
-      append_cancel_left _ _ _ (sym (laws.emits d _ begun) ∙ ap (emitted c) regroup ∙ same
+      N.append_cancel_left _ _ _ (sym (laws.emits d _ begun) ∙ ap (emitted c) regroup ∙ same
       ∙ laws.emits d p (laws.front _ _ (subst (BeginsData c) regroup begun)))
 
   -- the byte after some that are good is refused
   byte_refused : {a b : Seen} {h i : Held} {m : ℕ} (d good ahead : List ℕ) (y r place : ℕ) → m ≡ length good + suc r → BeginsData c (d ++ good)
-      → cell_fault column (state (suc r) (d ++ good)) (y ∷ []) ≡ Some (BadText column) → Takes a b (good ++ y ∷ ahead) 1 → IsBetween b
-      → Puts h i (added_text c d good)
-      → StopsField (state m d) column last a b place h i false (record { fault = BadText column; place = Payload (place + length good) })
+      → cell_fault column (state (suc r) (d ++ good)) (y ∷ []) ≡ Some (BadText column) → N.Takes a b (good ++ y ∷ ahead) 1 → N.IsBetween b
+      → N.Puts h i (added_text c d good)
+      → N.StopsField (state m d) column last a b place h i false (record { fault = BadText column; place = N.Payload (place + length good) })
   byte_refused {a = a} {m = m} d good ahead y r place is begun bad takes between puts =
       let next : suc (length good + r) ≡ m = omega arith in
       record {
@@ -127,7 +124,7 @@ module _ {column : ℕ} {c : Conversion} {state : ℕ → List ℕ → CellPart}
                 some = omega arith;
                 whole = sym (holds.size r _);
                 first = bad;
-                takes = Takes-more a _ ((good ++ y ∷ []) ++ ahead) 1 _ (omega (arith, length-append good (y ∷ []))) (rw append_assoc takes);
+                takes = N.Takes-more a _ ((good ++ y ∷ []) ++ ahead) 1 _ (omega (arith, N.length-append good (y ∷ []))) (rw append_assoc takes);
                 between = between;
               },
               refl,
@@ -141,15 +138,15 @@ module _ {column : ℕ} {c : Conversion} {state : ℕ → List ℕ → CellPart}
   module _ (d : List ℕ) (r : ℕ) (a b : Seen) (place : ℕ) (h i : Held) (stop : Stop) (few : length h.waiting < 4096)
       (delivered : h.delivered ≤ 2 ^ 64 - 1) where
     abbrev Stopped : Bool → Type 0
-    Stopped failed = StopsField (state (suc r) d) column last a b place h i failed stop
+    Stopped failed = N.StopsField (state (suc r) d) column last a b place h i failed stop
 
-    piece_cut : CutsData a b place h i stop → Stopped false
+    piece_cut : N.CutsData a b place h i stop → Stopped false
     piece_cut x =
         let at = state _ d in
-        let stops = cut_at_once _ _ a b _ _ _ _ (omega arith) x.ends (began_is_cut _ _ _ _ (holds.end r d) x.stop_is) in
-        rw x.same (record { at = at; cause = inl (stops, ([], append-nil _, Puts-none h delivered), refl) })
+        let stops = N.cut_at_once _ _ a b _ _ _ _ (omega arith) x.ends (N.began_is_cut _ _ _ _ (holds.end r d) x.stop_is) in
+        rw x.same (record { at = at; cause = inl (stops, ([], N.append-nil _, N.Puts-none h delivered), refl) })
 
-    piece_refused : RefusesData c d column (suc r) a b place h i stop → Stopped false
+    piece_refused : N.RefusesData c d column (suc r) a b place h i stop → Stopped false
     piece_refused x =
         let within = x.within in
         let no = no_text_false c _ _ refl x.no_text in
@@ -157,14 +154,14 @@ module _ {column : ℕ} {c : Conversion} {state : ℕ → List ℕ → CellPart}
         x.between x.puts)
 
     -- a write of the text of a piece failed, whose bytes lead to a state
-    broken : (good ahead added : List ℕ) (to : CellPart) → Spelt (cell column) (state (suc r) d) good to → Takes a b (good ++ ahead) 1 → IsBetween b
-        → cell_so_far column last (state (suc r) d) ++ added ≡ cell_so_far column last to → Breaks h i added stop → Stopped true
+    broken : (good ahead added : List ℕ) (to : N.CellPart) → Spelt (cell column) (state (suc r) d) good to → N.Takes a b (good ++ ahead) 1 → N.IsBetween b
+        → cell_so_far column last (state (suc r) d) ++ added ≡ cell_so_far column last to → N.Breaks h i added stop → Stopped true
     broken good ahead added to spelt takes between text_is breaks =
-        let x = breaks_somewhere _ _ (line_grows column last) _ a b h i _ between to _ _ _ spelt takes few delivered text_is breaks in
+        let x = N.breaks_somewhere _ _ (line_grows column last) _ a b h i _ between to _ _ _ spelt takes few delivered text_is breaks in
         record { at = x.0; cause = inr (x.1, refl) }
 
-    piece_broken_at : (ahead p : List ℕ) (x : ℕ) → length (p ++ x ∷ []) ≡ suc r → Takes a b ((p ++ x ∷ []) ++ ahead) 1 → IsBetween b
-        → BeginsData c (d ++ (p ++ x ∷ [])) → Breaks h i (added_text c d (p ++ x ∷ [])) stop → Stopped true
+    piece_broken_at : (ahead p : List ℕ) (x : ℕ) → length (p ++ x ∷ []) ≡ suc r → N.Takes a b ((p ++ x ∷ []) ++ ahead) 1 → N.IsBetween b
+        → BeginsData c (d ++ (p ++ x ∷ [])) → N.Breaks h i (added_text c d (p ++ x ∷ [])) stop → Stopped true
     piece_broken_at ahead p x all takes between begun breaks =
         let good = p ++ x ∷ [] in
         let same = sym (append_assoc d p _) in
@@ -173,16 +170,16 @@ module _ {column : ℕ} {c : Conversion} {state : ℕ → List ℕ → CellPart}
               (let fine = subst Good (sym same) whole in
               let w = holds.whole last _ fine in
               broken _ _ _ _ (content_spelt d _ _ 0 (omega arith) begun (λ _ _. fine)) takes between (text_closed d _ _ r begun w.1)
-              (Breaks-longer h i _ _ _ breaks))
+              (N.Breaks-longer h i _ _ _ breaks))
           | inr none ↦
-              (let front = (joins_by_name c).front _ _ (subst (BeginsData c) same begun) in
-              broken p _ _ _ (front_spelt d p 0 (omega (arith, length-append p (x ∷ []))) front) (rw append_assoc at takes) between
+              (let front = (N.joins_by_name c).front _ _ (subst (BeginsData c) same begun) in
+              broken p _ _ _ (front_spelt d p 0 (omega (arith, N.length-append p (x ∷ []))) front) (rw append_assoc at takes) between
               (text_grown d p r 0 front) (rw (adds_none d p x begun none) at breaks))
         ]
 
-    piece_broken : BreaksData c d (suc r) a b h i stop → Stopped true
+    piece_broken : N.BreaksData c d (suc r) a b h i stop → Stopped true
     piece_broken x =
-        elim (cases_lt (length x.good) (suc r)) [
+        elim (N.cases_lt (length x.good) (suc r)) [
           | inl less ↦ broken x.good x.ahead _ _ (front_spelt d x.good (r - length x.good) (omega arith) x.begun) x.takes x.between
               (text_grown d x.good r (r - length x.good) x.begun) x.breaks
           | inr more ↦
@@ -193,14 +190,14 @@ module _ {column : ℕ} {c : Conversion} {state : ℕ → List ℕ → CellPart}
         ]
 
     -- the next piece stopped
-    piece_stops : (failed : Bool) → StopsData c d column (suc r) a b place h i failed stop → Stopped failed
+    piece_stops : (failed : Bool) → N.StopsData c d column (suc r) a b place h i failed stop → Stopped failed
     piece_stops failed (inl x) = rw x.1 (piece_cut x.0)
     piece_stops failed (inr (inl x)) = rw x.1 (piece_refused x.0)
     piece_stops failed (inr (inr x)) = rw x.1 (piece_broken x.0)
 
   -- the content stopped in one of its pieces
   pub filling_stops : {d : List ℕ} {m : ℕ} {p : At} {b : Seen} {i : Held} {failed : Bool} {stop : Stop}
-      → StopsFilling c d column m p.seen b p.place p.held i failed stop → StopsField (state m d) column last p.seen b p.place p.held i failed stop
+      → N.StopsFilling c d column m p.seen b p.place p.held i failed stop → N.StopsField (state m d) column last p.seen b p.place p.held i failed stop
   filling_stops {m = m} x =
       let r = m - length x.front - 1 in
       let left : m - length x.front ≡ suc r = omega arith in
@@ -208,7 +205,7 @@ module _ {column : ℕ} {c : Conversion} {state : ℕ → List ℕ → CellPart}
 
   -- ---- the last piece
 
-  module _ {d kept : List ℕ} {m : ℕ} {p q : At} (x : EndsData c d kept p.seen q.seen p.place q.place p.held q.held m) where
+  module _ {d kept : List ℕ} {m : ℕ} {p q : At} (x : N.EndsData c d kept p.seen q.seen p.place q.place p.held q.held m) where
     -- all of the content
     abbrev all_content : List ℕ
     all_content = (d ++ x.front) ++ x.takes.piece
@@ -228,78 +225,78 @@ module _ {column : ℕ} {c : Conversion} {state : ℕ → List ℕ → CellPart}
 
     -- all of it was read and its text put, and what ends it
     pub ends_path : {j : Held} (tail : List ℕ) → Good all_content
-        → after_comma column (open_field c all_content) ++ tail ≡ cell_so_far column last (state 0 all_content) → Puts q.held j tail
+        → after_comma column (open_field c all_content) ++ tail ≡ cell_so_far column last (state 0 all_content) → N.Puts q.held j tail
         → Path (cell column) (cell_so_far column last) (state m d) p (record q { held = j }) (state 0 all_content)
     ends_path tail good whole puts =
         path_both front_path (record {
           bytes = x.takes.piece;
           made = added_text c _ _ ++ tail;
           writes = record { spelt = last_spelt good; text_is = text_closed _ _ tail _ x.takes.begun whole };
-          takes = Takes-more x.middle q.seen _ 1 _ (let some = x.takes.some in omega arith) x.takes.takes;
-          puts = Puts-trans _ q.held _ _ _ x.takes.puts puts;
+          takes = N.Takes-more x.middle q.seen _ 1 _ (let some = x.takes.some in omega arith) x.takes.takes;
+          puts = N.Puts-trans _ q.held _ _ _ x.takes.puts puts;
           place_is = omega arith;
         })
 
     -- a write of what ends it failed
     pub ends_break : {j : Held} {stop : Stop} (tail : List ℕ) → Good all_content
-        → after_comma column (open_field c all_content) ++ tail ≡ cell_so_far column last (state 0 all_content) → Breaks q.held j tail stop
-        → StopsField (state m d) column last p.seen q.seen p.place p.held j true stop
+        → after_comma column (open_field c all_content) ++ tail ≡ cell_so_far column last (state 0 all_content) → N.Breaks q.held j tail stop
+        → N.StopsField (state m d) column last p.seen q.seen p.place p.held j true stop
     ends_break tail good whole breaks =
-        let taken = rw (sym (append-nil x.takes.piece)) at x.takes.takes in
+        let taken = rw (sym (N.append-nil x.takes.piece)) at x.takes.takes in
         path_stops front_path (broken _ _ _ _ _ _ _ _ x.fills.few x.fills.delivered _ [] _ _ (last_spelt good) taken x.takes.between
-        (text_closed _ _ _ _ x.takes.begun whole) (Breaks-after _ _ _ _ _ _ x.takes.puts breaks))
+        (text_closed _ _ _ _ x.takes.begun whole) (N.Breaks-after _ _ _ _ _ _ x.takes.puts breaks))
 
     -- where the content isn't whole, its last byte is refused
     pub ends_refused : ((e : List ℕ) (y : ℕ) → is_fit c (e ++ y ∷ []) ≡ false → cell_fault column (state 1 e) (y ∷ []) ≡ Some (BadText column))
         → is_fit c all_content ≡ false
-        → StopsField (state m d) column last p.seen q.seen p.place p.held q.held false
-        (record { fault = BadText column; place = Payload (q.place - 1) })
+        → N.StopsField (state m d) column last p.seen q.seen p.place p.held q.held false
+        (record { fault = BadText column; place = N.Payload (q.place - 1) })
     ends_refused bad unfit =
         let s = snoc_of _ (omega arith) in
         let e = d ++ x.front in
         let f = s.0 in
         let y = s.1 in
-        let len : length x.takes.piece ≡ length f + 1 = ap length s.2 ∙ length-append f _ in
+        let len : length x.takes.piece ≡ length f + 1 = ap length s.2 ∙ N.length-append f _ in
         let same : e ++ (f ++ y ∷ []) ≡ (e ++ f) ++ y ∷ [] = sym (append_assoc e f _) in
         let begun = rw s.2 at x.takes.begun in
         let unfit_here = rw (s.2, same) at unfit in
-        let adds = adds_none e f y begun (unfit_adds_none c _ y unfit_here) in
+        let adds = adds_none e f y begun (N.unfit_adds_none c _ y unfit_here) in
         let stands : x.there + length f ≡ q.place - 1 = omega arith in
         path_stops front_path (rw stands at (byte_refused {a = x.middle} {h = x.between} {i = q.held} {m = suc last_left} e f [] y 0 x.there
-        (omega arith) ((joins_by_name c).front _ _ (rw same at begun)) (bad _ y unfit_here) (rw s.2 at x.takes.takes)
+        (omega arith) ((N.joins_by_name c).front _ _ (rw same at begun)) (bad _ y unfit_here) (rw s.2 at x.takes.takes)
         x.takes.between (rw (s.2, adds) at x.takes.puts)))
 
 -- ---- the content of a short value, and of a chunk
 
-short_next : (c : Conversion) (r : ℕ) (d : List ℕ) → short_left c (suc r) d ≡ ShortData c r d
-short_next c r d = grind (arith, ne_eqb)
+short_next : (c : Conversion) (r : ℕ) (d : List ℕ) → short_left c (suc r) d ≡ N.ShortData c r d
+short_next c r d = grind (arith, N.ne_eqb)
 
 module _ (column : ℕ) (c : Conversion) where
   fit_or_none : (d : List ℕ) (x : ℕ) (b : Bool) → is_fit c (d ++ x ∷ []) ≡ b → (is_fit c (d ++ x ∷ []) ≡ true)
       ⊎ (emitted c (d ++ x ∷ []) ≡ emitted c d)
-  fit_or_none d x b is = grind (arith, unfit_adds_none)
+  fit_or_none d x b is = grind (arith, N.unfit_adds_none)
 
   -- the end of a value that is whole
   pub ending_text : (last : Bool) (d : List ℕ) → is_fit c d ≡ true
-      → after_comma column (open_field c d) ++ ending c (is_quoted c) last d ≡ in_line column last (long_field c d)
+      → after_comma column (open_field c d) ++ N.ending c (N.is_quoted c) last d ≡ N.in_line column last (N.long_field c d)
   ending_text last d fit =
-      let rest = conversion_text c _ in
-      let close = closing _ in
+      let rest = N.conversion_text c _ in
+      let close = N.closing _ in
       ap (λ l. after_comma column (open_field c d) ++ l) (sym (append_assoc rest close _)) ∙ sym (append_assoc _ (rest ++ close) _)
-      ∙ ap (λ l. l ++ end_after last) (sym (after_append column _ (rest ++ close)) ∙ ap (after_comma column) (open_closes c d fit))
+      ∙ ap (λ l. l ++ N.end_after last) (sym (after_append column _ (rest ++ close)) ∙ ap (after_comma column) (N.open_closes c d fit))
 
   pub short_holds : HoldsContent column c (short_left c) (λ d. is_fit c d ≡ true)
   short_holds = record {
-    size = λ r d. ap cell_size (short_next c r d);
-    end = λ r d. ap cell_end (short_next c r d);
-    text = λ r d. ap field_so_far (short_next c r d);
-    add = λ r d x. ap (λ s. cell_add s (x ∷ [])) (short_next c r d);
+    size = λ r d. ap N.cell_size (short_next c r d);
+    end = λ r d. ap N.cell_end (short_next c r d);
+    text = λ r d. ap N.field_so_far (short_next c r d);
+    add = λ r d x. ap (λ s. N.cell_add s (x ∷ [])) (short_next c r d);
     free = λ r d x begun fit. ap (λ s. cell_fault column s (x ∷ [])) (short_next c r d)
-        ∙ unless_true _ _ (grind (arith, or_left, or_right, test_lt));
+        ∙ unless_true _ _ (grind (arith, N.or_left, N.or_right, N.test_lt));
     bad = λ r d x no. ap (λ s. cell_fault column s (x ∷ [])) (short_next c r d)
-        ∙ ap (λ b. unless (b && (nat_lt 0 r || is_fit c (d ++ x ∷ []))) (BadText column)) no;
+        ∙ ap (λ b. N.unless (b && (N.nat_lt 0 r || is_fit c (d ++ x ∷ []))) (BadText column)) no;
     ends = λ d x. fit_or_none d x _ refl;
-    whole = λ last d fit. (ending c _ last d, ending_text last d fit);
+    whole = λ last d fit. (N.ending c _ last d, ending_text last d fit);
   }
 
   -- where the content isn't whole, its last byte is refused
@@ -307,4 +304,4 @@ module _ (column : ℕ) (c : Conversion) where
   short_refused e y unfit = grind arith
 
   pub chunk_holds : (total : Option ℕ) → HoldsContent column c (chunk_left c total) (λ _. Unit {0})
-  chunk_holds total = grind (arith, append-nil)
+  chunk_holds total = grind (arith, N.append-nil)

@@ -1,11 +1,9 @@
 -- Long values, element after element: their lengths, the content between, and the end.
+use Rattle.tds_rows.proofs.Words as N
 use Rattle.tds_rows.proofs.{
   Words.{◌≡◌, ◌∙◌, inl, inr, ℕ, zero, suc, ◌-◌, ◌^◌, ◌<◌, ◌≤◌, Bool, true, false, List, [], ◌∷◌, ◌++◌, length, sym, ap, arith, append-nil, Result, Ok, Err},
-  Words.{MatchResult, Option, drop-nil, take-nil, Stop, StopsReading, Seen, Spelt-one, Spelt-none, BeginsData, Conversion, HexDigits, IsFit, Utf16Text},
-  Words.{Utf8Text, Windows1252Text, conversion_rest, conversion_text, is_quoted, open_field, emit, after_comma, binary_mark, in_line, null_field, quote, Sink},
-  Words.{Breaks, Held, IsWriting, Puts, PutsPiece, held, begun_by_test, fit_begins, fit_by_test, no_data_is_fit, hex-nil, Breaks-after, Puts-none, Puts-trans},
-  Words.{Breaks-longer, text_nil, Cell, CellPart, Null, ShortLength, WholeCell, cell, PutsField, StopsField, cell_so_far, EndsData, StopsEnding, ending},
-  Words.{opening, ◌≢◌, ◌+◌, refl, length-append, None, unit, ChunkLength, ReadsNumber, chunk_length_fault},
+  Words.{Option, take-nil, Stop, Seen, Conversion, HexDigits, Utf16Text, Utf8Text, Windows1252Text, is_quoted, after_comma, Held, Puts, held, fit_by_test},
+  Words.{CellPart, cell, PutsField, StopsField, cell_so_far, ending, opening, ◌≢◌, ◌+◌, refl, None, ChunkLength},
   LongSteps.{ending_text, ends_break, ends_path, ends_refused, short_holds, short_refused, text_at, chunk_holds},
   Numbers.{Next, short_left, chunk_end, chunk_start, chunk_unfit, chunk_left},
   Paths.{At, Path, path_both, path_of, streams_of, path_none, path_stops},
@@ -13,26 +11,26 @@ use Rattle.tds_rows.proofs.{
 
 -- ---- no content
 
-pub rest_none : (c : Conversion) → conversion_rest c [] ≡ []
-rest_none c = grind (arith, drop-nil)
+pub rest_none : (c : Conversion) → N.conversion_rest c [] ≡ []
+rest_none c = grind (arith, N.drop-nil)
 
-emit_none : (c : Conversion) → emit (conversion_rest c) (conversion_text c) [] ≡ []
-emit_none c = grind (arith, hex-nil, text_nil)
+emit_none : (c : Conversion) → N.emit (N.conversion_rest c) (N.conversion_text c) [] ≡ []
+emit_none c = grind (arith, N.hex-nil, N.text_nil)
 
-open_none : (c : Conversion) → opening (is_quoted c) ≡ open_field c []
-open_none HexDigits = sym (append-nil binary_mark) ∙ ap (λ l. binary_mark ++ l) (sym (emit_none HexDigits))
-open_none Utf16Text = ap (λ l. quote ∷ l) (sym (emit_none Utf16Text))
-open_none Windows1252Text = ap (λ l. quote ∷ l) (sym (emit_none Windows1252Text))
-open_none Utf8Text = ap (λ l. quote ∷ l) (sym (emit_none Utf8Text))
+open_none : (c : Conversion) → opening (is_quoted c) ≡ N.open_field c []
+open_none HexDigits = sym (append-nil N.binary_mark) ∙ ap (λ l. N.binary_mark ++ l) (sym (emit_none HexDigits))
+open_none Utf16Text = ap (λ l. N.quote ∷ l) (sym (emit_none Utf16Text))
+open_none Windows1252Text = ap (λ l. N.quote ∷ l) (sym (emit_none Windows1252Text))
+open_none Utf8Text = ap (λ l. N.quote ∷ l) (sym (emit_none Utf8Text))
 
-pub none_begins : (c : Conversion) → BeginsData c []
-none_begins c = (begun_by_test c []).0 (fit_begins c [] [] (no_data_is_fit c))
+pub none_begins : (c : Conversion) → N.BeginsData c []
+none_begins c = (N.begun_by_test c []).0 (N.fit_begins c [] [] (N.no_data_is_fit c))
 
 -- ---- parts of a field, one after the other
 
 -- a cell was read to its end
-pub field_of : {column : ℕ} {last : Bool} {s : CellPart} {p q : At} {value : Cell}
-    → Path (cell column) (cell_so_far column last) s p q (WholeCell value) → PutsField s column last p.seen q.seen p.place q.place p.held q.held
+pub field_of : {column : ℕ} {last : Bool} {s : CellPart} {p q : At} {value : N.Cell}
+    → Path (cell column) (cell_so_far column last) s p q (N.WholeCell value) → PutsField s column last p.seen q.seen p.place q.place p.held q.held
 field_of {value = value} x = record { value = value; streams = streams_of x; place_is = x.place_is }
 
 -- what was read and put, and then the rest of the field
@@ -42,8 +40,8 @@ field_puts x y = field_of (path_both x (path_of y.streams y.place_is))
 
 -- the reading stopped before any text
 pub reading_stops : {column place : ℕ} {s : CellPart} {a b : Seen} {h : Held} {failed : Bool} {stop : Stop} (last : Bool) → h.delivered ≤ 2 ^ 64 - 1
-    → failed ≡ false → StopsReading (cell column) s a b place s stop → StopsField s column last a b place h h failed stop
-reading_stops {s = s} last delivered going x = record { at = s; cause = inl (x, ([], append-nil _, Puts-none _ delivered), going) }
+    → failed ≡ false → N.StopsReading (cell column) s a b place s stop → StopsField s column last a b place h h failed stop
+reading_stops {s = s} last delivered going x = record { at = s; cause = inl (x, ([], append-nil _, N.Puts-none _ delivered), going) }
 
 module _ {column place' : ℕ} {s t : CellPart} {p : At} {b : Seen} (last : Bool) (x : Next column s p.seen b p.place place' t) where
   -- an element was read, and its text put
@@ -53,7 +51,7 @@ module _ {column place' : ℕ} {s t : CellPart} {p : At} {b : Seen} (last : Bool
     bytes = x.element;
     made = added;
     writes = record
-        { spelt = rw x.to at (Spelt-one _ s _ x.next); text_is = text_is };
+        { spelt = rw x.to at (N.Spelt-one _ s _ x.next); text_is = text_is };
     takes = x.takes;
     puts = puts;
     place_is = x.place_is;
@@ -61,7 +59,7 @@ module _ {column place' : ℕ} {s t : CellPart} {p : At} {b : Seen} (last : Bool
 
   -- a write of it failed
   pub next_breaks : {j : Held} {failed : Bool} {stop : Stop} (part rest : List ℕ) → length p.held.waiting < 4096 → p.held.delivered ≤ 2 ^ 64 - 1
-      → failed ≡ true → cell_so_far column last s ++ (part ++ rest) ≡ cell_so_far column last t → Breaks p.held j part stop
+      → failed ≡ true → cell_so_far column last s ++ (part ++ rest) ≡ cell_so_far column last t → N.Breaks p.held j part stop
       → StopsField s column last p.seen b p.place p.held j failed stop
   next_breaks part rest few delivered broken text_is breaks = record {
     at = s;
@@ -70,16 +68,16 @@ module _ {column place' : ℕ} {s t : CellPart} {p : At} {b : Seen} (last : Bool
         bytes = [];
         element = x.element;
         ahead = [];
-        spelt = Spelt-none _ s;
+        spelt = N.Spelt-none _ s;
         next = x.next;
         takes = rw (append-nil _) x.takes;
         between = x.between;
         middle = p.held;
         few = few;
-        puts = ([], append-nil _, Puts-none _ delivered);
+        puts = ([], append-nil _, N.Puts-none _ delivered);
         more = part ++ rest;
         text_is = text_is ∙ ap (cell_so_far column last) (sym x.to);
-        breaks = Breaks-longer _ _ _ _ _ breaks;
+        breaks = N.Breaks-longer _ _ _ _ _ breaks;
       },
       broken,
     );
@@ -87,15 +85,15 @@ module _ {column place' : ℕ} {s t : CellPart} {p : At} {b : Seen} (last : Bool
 
 -- NULL was put, or a write of it failed
 pub null_puts : {column place place' : ℕ} {s : CellPart} {a b : Seen} {W U : Type 0} (last : Bool) (contents : W
-    → Option (List ℕ)) (h k : Sink W) (r : Result U Stop) → Next column s a b place place' (WholeCell Null) → cell_so_far column last s ≡ []
-    → IsWriting h → PutsPiece contents h k (in_line column last null_field) r
-    → MatchResult r (λ _. PutsField s column last a b place place' (held contents h) (held contents k))
+    → Option (List ℕ)) (h k : N.Sink W) (r : Result U Stop) → Next column s a b place place' (N.WholeCell N.Null) → cell_so_far column last s ≡ []
+    → N.IsWriting h → N.PutsPiece contents h k (N.in_line column last N.null_field) r
+    → N.MatchResult r (λ _. PutsField s column last a b place place' (held contents h) (held contents k))
     (λ stop. StopsField s column last a b place (held contents h) (held contents k) k.failed stop)
 null_puts {column = column} last contents h k (Ok u) x silent writing puts =
-    field_of (next_path last x _ (ap (λ l. l ++ in_line column last null_field) silent) puts.gives)
+    field_of (next_path last x _ (ap (λ l. l ++ N.in_line column last N.null_field) silent) puts.gives)
 null_puts {column = column} last contents h k (Err e) x silent writing puts =
     next_breaks last x _ [] (writing.ready.1 writing.writing) writing.ready.2 puts.failed
-    (ap (λ l. l ++ (in_line column last null_field ++ [])) silent ∙ append-nil _) (puts.gives writing.writing)
+    (ap (λ l. l ++ (N.in_line column last N.null_field ++ [])) silent ∙ append-nil _) (puts.gives writing.writing)
 
 -- ---- short values
 
@@ -105,39 +103,39 @@ module _ (column : ℕ) (last : Bool) (c : Conversion) where
   short_open n some = grind (arith, open_none, short_holds, text_at)
 
   empty_open : after_comma column (opening (is_quoted c)) ++ ending c (is_quoted c) last [] ≡ cell_so_far column last (short_left c 0 [])
-  empty_open = grind (arith, open_none, ending_text, no_data_is_fit)
+  empty_open = grind (arith, open_none, ending_text, N.no_data_is_fit)
 
   pub short_text : (n : ℕ) → (q : List ℕ) × (after_comma column (opening (is_quoted c)) ++ q ≡ cell_so_far column last (short_left c n []))
   short_text zero = (ending c _ last [], empty_open)
   short_text (suc n) = ([], append-nil _ ∙ short_open _ (omega arith))
 
   -- the value has no bytes, and its end was put, or that stopped
-  pub empty_puts : {p : At} {b : Seen} {place' n : ℕ} {j : Held} (i : Held) → Next column (ShortLength c) p.seen b p.place place' (short_left c n [])
+  pub empty_puts : {p : At} {b : Seen} {place' n : ℕ} {j : Held} (i : Held) → Next column (N.ShortLength c) p.seen b p.place place' (short_left c n [])
       → n ≡ 0 → Puts p.held i (after_comma column (opening (is_quoted c))) → Puts i j (ending c (is_quoted c) last [])
-      → PutsField (ShortLength c) column last p.seen b p.place place' p.held j
-  empty_puts {p = p} i x none opened ended = field_of (next_path last (rw none at x) _ empty_open (Puts-trans p.held i _ _ _ opened ended))
+      → PutsField (N.ShortLength c) column last p.seen b p.place place' p.held j
+  empty_puts {p = p} i x none opened ended = field_of (next_path last (rw none at x) _ empty_open (N.Puts-trans p.held i _ _ _ opened ended))
 
   pub empty_stops : {p : At} {b : Seen} {place' n : ℕ} {j : Held} {failed : Bool} {stop : Stop} (i : Held) (there : ℕ)
-      → Next column (ShortLength c) p.seen b p.place place' (short_left c n []) → n ≡ 0 → Puts p.held i (after_comma column (opening (is_quoted c)))
+      → Next column (N.ShortLength c) p.seen b p.place place' (short_left c n []) → n ≡ 0 → Puts p.held i (after_comma column (opening (is_quoted c)))
       → length p.held.waiting < 4096 → p.held.delivered ≤ 2 ^ 64 - 1
-      → StopsEnding c (is_quoted c) last [] column there i j failed stop
-      → StopsField (ShortLength c) column last p.seen b p.place p.held j failed stop
+      → N.StopsEnding c (is_quoted c) last [] column there i j failed stop
+      → StopsField (N.ShortLength c) column last p.seen b p.place p.held j failed stop
   empty_stops {p = p} i there x none opened few delivered (inl y) =
       let text = after_comma column _ ++ ending c _ last [] in
-      next_breaks last (rw none at x) text [] few delivered y.2 (append-nil text ∙ empty_open) (Breaks-after p.held i _ _ _ _ opened y.1)
-  empty_stops i there x none opened few delivered (inr y) = absurd (y.0 ((fit_by_test c []).0 (no_data_is_fit c)))
+      next_breaks last (rw none at x) text [] few delivered y.2 (append-nil text ∙ empty_open) (N.Breaks-after p.held i _ _ _ _ opened y.1)
+  empty_stops i there x none opened few delivered (inr y) = absurd (y.0 ((fit_by_test c []).0 (N.no_data_is_fit c)))
 
   -- the value has some bytes: its end was put, or that stopped
-  module _ {kept : List ℕ} {n : ℕ} {p q : At} (x : EndsData c [] kept p.seen q.seen p.place q.place p.held q.held n) where
+  module _ {kept : List ℕ} {n : ℕ} {p q : At} (x : N.EndsData c [] kept p.seen q.seen p.place q.place p.held q.held n) where
     abbrev all : List ℕ
     all = x.front ++ x.takes.piece
 
-    pub short_whole : {k : Held} → IsFit c all → Puts q.held k (ending c (is_quoted c) last all)
+    pub short_whole : {k : Held} → N.IsFit c all → Puts q.held k (ending c (is_quoted c) last all)
         → PutsField (short_left c n []) column last p.seen q.seen p.place q.place p.held k
     short_whole fit puts = let good = (fit_by_test c all).1 fit in
         field_of (ends_path last (short_holds column c) x (ending c (is_quoted c) last all) good (ending_text column c last all good) puts)
 
-    pub short_end_stops : {k : Held} {failed : Bool} {stop : Stop} → StopsEnding c (is_quoted c) last all column (q.place - 1) q.held k failed stop
+    pub short_end_stops : {k : Held} {failed : Bool} {stop : Stop} → N.StopsEnding c (is_quoted c) last all column (q.place - 1) q.held k failed stop
         → StopsField (short_left c n []) column last p.seen q.seen p.place p.held k failed stop
     short_end_stops (inl z) = let good = (fit_by_test c all).1 z.0 in
         rw z.2 (ends_break last (short_holds column c) x _ good (ending_text column c last all good) z.1)
@@ -154,19 +152,19 @@ total_text column last c t = ap (after_comma column) (open_none c)
 pub record Streamed (column : ℕ) (last : Bool) (c : Conversion) (total : Option ℕ) (kept : List ℕ) (sum : ℕ) (p q : At) : Type 0 where
   pub content : List ℕ
   pub counted : length content ≡ sum
-  pub begun : BeginsData c content
-  pub kept_is : kept ≡ conversion_rest c content
+  pub begun : N.BeginsData c content
+  pub kept_is : kept ≡ N.conversion_rest c content
   pub path : Path (cell column) (cell_so_far column last) (ChunkLength c total []) p q (ChunkLength c total content)
 
-pub streamed_none : {column : ℕ} {last : Bool} {c : Conversion} {total : Option ℕ} {kept : List ℕ} {p : At} → kept ≡ conversion_rest c []
+pub streamed_none : {column : ℕ} {last : Bool} {c : Conversion} {total : Option ℕ} {kept : List ℕ} {p : At} → kept ≡ N.conversion_rest c []
     → p.held.delivered ≤ 2 ^ 64 - 1 → Streamed column last c total kept 0 p p
 streamed_none is delivered = record { content = []; counted = refl; begun = none_begins _; kept_is = is; path = path_none delivered }
 
-module _ {column : ℕ} {last : Bool} {c : Conversion} {total : Option ℕ} {kept : List ℕ} {sum : ℕ} {p q : At} (size : ℕ) (unit_is : size ≡ unit c)
-    (x : Streamed column last c total kept sum p q) {d : Seen} {there n : ℕ} (y : ReadsNumber 4 q.seen d q.place there n)
-    (free : chunk_length_fault column size total sum n ≡ None) where
+module _ {column : ℕ} {last : Bool} {c : Conversion} {total : Option ℕ} {kept : List ℕ} {sum : ℕ} {p q : At} (size : ℕ) (unit_is : size ≡ N.unit c)
+    (x : Streamed column last c total kept sum p q) {d : Seen} {there n : ℕ} (y : N.ReadsNumber 4 q.seen d q.place there n)
+    (free : N.chunk_length_fault column size total sum n ≡ None) where
   -- the terminator was read, and the end put
-  pub chunks_whole : {j : Held} → n ≡ 0 → IsFit c x.content → Puts q.held j (ending c (is_quoted c) last x.content)
+  pub chunks_whole : {j : Held} → n ≡ 0 → N.IsFit c x.content → Puts q.held j (ending c (is_quoted c) last x.content)
       → PutsField (ChunkLength c total []) column last p.seen d p.place there p.held j
   chunks_whole none fit puts =
       let good = (fit_by_test c x.content).1 fit in
@@ -174,7 +172,7 @@ module _ {column : ℕ} {last : Bool} {c : Conversion} {total : Option ℕ} {kep
 
   -- the end stopped
   pub chunks_end_stops : {j : Held} {failed : Bool} {stop : Stop} → length q.held.waiting < 4096 → q.held.delivered ≤ 2 ^ 64 - 1 → n ≡ 0
-      → StopsEnding c (is_quoted c) last x.content column q.place q.held j failed stop
+      → N.StopsEnding c (is_quoted c) last x.content column q.place q.held j failed stop
       → StopsField (ChunkLength c total []) column last p.seen d p.place p.held j failed stop
   chunks_end_stops few delivered none (inl z) =
       let good = (fit_by_test c _).1 z.0 in
@@ -190,16 +188,16 @@ module _ {column : ℕ} {last : Bool} {c : Conversion} {total : Option ℕ} {kep
       (chunk_left c total n x.content)
   chunk_path some delivered =
       let text : cell_so_far column last (ChunkLength c total _) ++ [] ≡ cell_so_far column last _ = grind (arith, append-nil) in
-      path_both x.path (next_path _ (chunk_start c unit_is x.counted y free some) _ text (Puts-none _ delivered))
+      path_both x.path (next_path _ (chunk_start c unit_is x.counted y free some) _ text (N.Puts-none _ delivered))
 
   -- one chunk more was read
   pub streamed_more : {kept' : List ℕ} {r : At} → n ≢ 0 → q.held.delivered ≤ 2 ^ 64 - 1 → r.held.delivered ≤ 2 ^ 64 - 1
-      → EndsData c x.content kept' d r.seen there r.place q.held r.held n → Streamed column last c total kept' (sum + n) p r
+      → N.EndsData c x.content kept' d r.seen there r.place q.held r.held n → Streamed column last c total kept' (sum + n) p r
   streamed_more {r = r} some delivered most z =
       record {
         content = (x.content ++ z.front) ++ z.takes.piece;
-        counted = omega (arith, length-append (x.content ++ z.front) z.takes.piece, length-append x.content z.front);
+        counted = omega (arith, N.length-append (x.content ++ z.front) z.takes.piece, N.length-append x.content z.front);
         begun = z.takes.begun;
         kept_is = z.takes.kept_is;
-        path = path_both (chunk_path some delivered) (ends_path last (chunk_holds column c total) z [] tt (append-nil _) (Puts-none r.held most));
+        path = path_both (chunk_path some delivered) (ends_path last (chunk_holds column c total) z [] tt (append-nil _) (N.Puts-none r.held most));
       }

@@ -1,11 +1,9 @@
 -- The next cells of a row, those of a run or one, NULL or not, and rows one after another.
+use Rattle.tds_rows.proofs.Words as N
 use Rattle.tds_rows.proofs.{
-  Words.{arith, ◌≡◌, ◌+◌, ℕ, Bool, true, false, List, ◌∷◌, drop, refl, sym, Err, Ok, Result, Option, ◌==◌, Kind, Stop, seen, between_of, Column, held, Rows},
-  Words.{Ahead, is_last_column, MarkedPut, CellRead, IsInRow, KindRead, LeavesRows, NextRead, StaysInRow, RowStops, RowPart, marked, IsAhead, IsNextKind},
-  Words.{Knows, TakesColumn, ◌∙◌, zero, suc, ◌-◌, ◌^◌, ◌≤◌, ◌<◌, [], ◌++◌, length, ap, subst, append_assoc, append-nil, add-zero, length-append, Consumes-nil},
-  Words.{Coming, before, IsBetween, Seen, Takes, Takes-more, Stays-none, takes_both, Held, Puts, nears_put, Puts_split, Charset, WritesColumn, WritesMarked},
-  Words.{WritesNext, Puts-none, RowsRun, Cell, PlainRow, RowToken, WholeRow, next_cell, row, row_so_far, token_byte, token_start, ReadsRow, ReadsRows},
-  Words.{RowsStop, RowsPut, RunsRows, rows, rows_so_far, rows_start, BreaksMarked, Breaks, Breaks_split, inl, inr, Takes-none},
+  Words.{arith, ◌≡◌, ◌+◌, ℕ, Bool, true, false, List, ◌∷◌, drop, refl, sym, Err, Ok, Result, Option, ◌==◌, Stop, seen, Column, held, Rows, Ahead},
+  Words.{is_last_column, IsInRow, StaysInRow, RowStops, RowPart, marked, ◌∙◌, zero, suc, ◌-◌, ◌^◌, ◌≤◌, ◌<◌, [], ◌++◌, length, ap, subst, Coming, before, Seen},
+  Words.{Takes, Held, Puts, Charset, Cell, rows, rows_so_far, rows_start, inl, inr},
   NullSteps.{NearsCells, all_put, cell_nears, cell_stops, null_breaks, null_nears, cell_path, marked_stops},
   RowSteps.{ends, ends_marked, coming, nulls_ahead, PutsAt, StopsAt},
   Paths.{At, here, Path, path_both, path_map, path_none, path_of, streams_of},
@@ -17,32 +15,32 @@ use Rattle.tds_rows.proofs.{
 -- text that doesn't fill the block waits
 pub all_waits : (h j : Held) (text : List ℕ) → Puts h j text → length h.waiting + length text < 4096
     → length j.waiting ≡ length h.waiting + length text
-all_waits h j text puts few = omega (arith, ap length puts.2.1, length-append h.waiting text, length-append puts.0 j.waiting)
+all_waits h j text puts few = omega (arith, ap length puts.2.1, N.length-append h.waiting text, N.length-append puts.0 j.waiting)
 
 -- ---- what was read and put at once could have been so one after the other
 
 -- Bytes were handed out without a packet, and text was put that waits.
 pub record Passes (p q : At) (bytes text : List ℕ) : Type 0 where
   pub takes : Takes p.seen q.seen bytes 0
-  pub between : IsBetween q.seen
+  pub between : N.IsBetween q.seen
   pub puts : Puts p.held q.held text
   pub few : length q.held.waiting < 4096
   pub delivered : p.held.delivered ≤ 2 ^ 64 - 1
   pub place_is : q.place ≡ p.place + length bytes
 
 -- what was handed out, in two parts
-takes_apart : (a c : Seen) (x y : List ℕ) → Takes a c (x ++ y) 0 → (b : Seen) × Takes a b x 0 × Takes b c y 0 × (IsBetween c → IsBetween b)
+takes_apart : (a c : Seen) (x y : List ℕ) → Takes a c (x ++ y) 0 → (b : Seen) × Takes a b x 0 × Takes b c y 0 × (N.IsBetween c → N.IsBetween b)
 takes_apart a c x y takes =
     let f : Coming → List ℕ → Coming = λ c l. record { bytes = l; stop = c.stop; rest = c.rest } in (
       record { left = c.left; future = λ zs. before y _; wire = c.wire; failures = c.failures },
       (
         takes.0,
-        (takes.1.0, λ zs. takes.1.1 zs ∙ ap (f (c.future zs)) (append_assoc x y (c.future zs).bytes)),
+        (takes.1.0, λ zs. takes.1.1 zs ∙ ap (f (c.future zs)) (N.append_assoc x y (c.future zs).bytes)),
         takes.2,
         takes.3,
         takes.4,
       ),
-      ([], (Consumes-nil _, λ zs. refl), sym (add-zero _), (λ j lt. absurd (omega arith)), Stays-none _),
+      ([], (N.Consumes-nil _, λ zs. refl), sym (N.add-zero _), (λ j lt. absurd (omega arith)), N.Stays-none _),
       λ between. between,
     )
 
@@ -50,10 +48,10 @@ takes_apart a c x y takes =
 passes_apart : (p q : At) (a b m n : List ℕ) → Passes p q (a ++ b) (m ++ n) → (t : At) × Passes p t a m × Passes t q b n
 passes_apart p q a b m n x =
     let t = takes_apart p.seen q.seen a b x.takes in
-    let h = Puts_split _ _ m n x.few x.puts in (
+    let h = N.Puts_split _ _ m n x.few x.puts in (
       record { seen = t.0; place = p.place + length a; held = h.0 },
       record { takes = t.1; between = t.3 x.between; puts = h.2; few = h.1; delivered = x.delivered; place_is = refl },
-      record { takes = t.2; between = x.between; puts = h.3; few = x.few; delivered = h.4; place_is = omega (arith, length-append a b) },
+      record { takes = t.2; between = x.between; puts = h.3; few = x.few; delivered = h.4; place_is = omega (arith, N.length-append a b) },
     )
 
 module _ {charset : Charset} {start : RowPart} {left : List (Column × Bool)} {p q : At} {column : ℕ} where
@@ -63,7 +61,7 @@ module _ {charset : Charset} {start : RowPart} {left : List (Column × Bool)} {p
   nears_onward {r = r} y x =
       let n = x.nears in
       let read = n.bytes ++ n.element in
-      let takes = rw (append-nil read) at (takes_both p.seen q.seen r.seen read [] n.takes y.takes) in
+      let takes = rw (N.append-nil read) at (N.takes_both p.seen q.seen r.seen read [] n.takes y.takes) in
       record {
         cells = x.cells;
         counted = x.counted;
@@ -91,7 +89,7 @@ module _ {charset : Charset} {start : RowPart} {left : List (Column × Bool)} {p
   nears_same : {j : Held} → Puts q.held j [] → NearsCells charset start left p q column
       → NearsCells charset start left p (record q { held = j }) column
   nears_same puts x =
-      let n = nears_put _ _ _ _ _ _ _ _ _ _ _ x.nears puts in
+      let n = N.nears_put _ _ _ _ _ _ _ _ _ _ _ x.nears puts in
       record { cells = x.cells; counted = x.counted; nears = n; place_is = x.place_is }
 
 -- ---- a row, run after run
@@ -102,39 +100,39 @@ module _ (charset : Charset) (start : RowPart) (columns : List Column) (nulls : 
   Near at q = NearsCells charset start (marked (drop at columns) nulls at) p q at
 
   -- one column more
-  column_nears : (at : ℕ) (q r : At) (bytes text : List ℕ) → WritesColumn charset columns nulls at bytes text → Passes q r bytes text → Near at q
+  column_nears : (at : ℕ) (q r : At) (bytes text : List ℕ) → N.WritesColumn charset columns nulls at bytes text → Passes q r bytes text → Near at q
       → Near (at + 1) r
   column_nears at q r bytes text w y x =
       rw (next_column columns at w.column w.left w.next).1.1 (go _ w.writes (rw w.next at x))
     where
-      go : (null : Bool) → WritesNext charset null w.column.kind at (is_last_column w.left) bytes text
+      go : (null : Bool) → N.WritesNext charset null w.column.kind at (is_last_column w.left) bytes text
           → NearsCells charset start ((w.column, null) ∷ marked w.left nulls (at + 1)) p q at
           → NearsCells charset start (marked w.left nulls (at + 1)) p r (at + 1)
       go true v z =
           let y' = rw (v.0, v.1, ends_marked w.left nulls (at + 1)) at y in
           null_nears (nears_onward y' z) y'.puts
       go false v z =
-          let put = whole_puts charset _ at (is_last_column w.left) q r bytes text v (Takes-more q.seen r.seen bytes 0 _ (omega arith) y.takes)
+          let put = whole_puts charset _ at (is_last_column w.left) q r bytes text v (N.Takes-more q.seen r.seen bytes 0 _ (omega arith) y.takes)
           y.place_is y.puts in
           cell_nears y.between y.few (all_put refl y.delivered z) (rw (ends_marked w.left nulls (at + 1)) at put)
 
   -- so many columns more
-  marked_nears : (from n : ℕ) (q r : At) (bytes text : List ℕ) → WritesMarked charset columns nulls from n bytes text → Passes q r bytes text
+  marked_nears : (from n : ℕ) (q r : At) (bytes text : List ℕ) → N.WritesMarked charset columns nulls from n bytes text → Passes q r bytes text
       → Near from q → Near (from + n) r
   marked_nears from zero q r bytes text w y x = let y' = rw (w.0, w.1) at y in
-      rw (add-zero from) (nears_same y'.puts (nears_onward y' x))
+      rw (N.add-zero from) (nears_same y'.puts (nears_onward y' x))
   marked_nears from (suc n) q r bytes text w y x =
       let t = passes_apart q r _ _ _ _ (rw (w.4, w.5) at y) in
       let z = column_nears _ _ r _ _ w.7 t.2 (marked_nears _ n q _ _ _ w.6 t.1 x) in
       subst (λ (k : ℕ). Near k r) (omega arith) z
 
   -- a write of the text of a column failed, after more was read
-  column_breaks : (at : ℕ) (q : At) (d : Seen) (j : Held) (stop : Stop) (bytes rest text : List ℕ) → WritesColumn charset columns nulls at bytes text
-      → Takes q.seen d (bytes ++ rest) 0 → IsBetween d → length q.held.waiting < 4096 → q.held.delivered ≤ 2 ^ 64 - 1 → Breaks q.held j text stop
+  column_breaks : (at : ℕ) (q : At) (d : Seen) (j : Held) (stop : Stop) (bytes rest text : List ℕ) → N.WritesColumn charset columns nulls at bytes text
+      → Takes q.seen d (bytes ++ rest) 0 → N.IsBetween d → length q.held.waiting < 4096 → q.held.delivered ≤ 2 ^ 64 - 1 → N.Breaks q.held j text stop
       → Near at q → RowStops charset start p.seen d p.place p.held j true stop
   column_breaks at q d j stop bytes rest text w takes between few delivered breaks x = go _ w.writes (rw w.next at x)
     where
-      go : (null : Bool) → WritesNext charset null w.column.kind at (is_last_column w.left) bytes text
+      go : (null : Bool) → N.WritesNext charset null w.column.kind at (is_last_column w.left) bytes text
           → NearsCells charset start ((w.column, null) ∷ marked w.left nulls (at + 1)) p q at → RowStops charset start p.seen d p.place p.held j true stop
       go true v z = null_breaks rest (rw v.0 at takes) between z (rw (v.1, ends_marked w.left nulls (at + 1)) at breaks)
       go false v z = cell_stops (all_put refl delivered z)
@@ -143,13 +141,13 @@ module _ (charset : Charset) (start : RowPart) (columns : List Column) (nulls : 
 
   -- a write of the text of so many columns failed
   marked_breaks : (from n : ℕ) (q : At) (d : Seen) (j : Held) (stop : Stop) (bytes rest text : List ℕ)
-      → WritesMarked charset columns nulls from n bytes text → Takes q.seen d (bytes ++ rest) 0 → IsBetween d → length q.held.waiting < 4096
-      → q.held.delivered ≤ 2 ^ 64 - 1 → Breaks q.held j text stop → Near from q → RowStops charset start p.seen d p.place p.held j true stop
+      → N.WritesMarked charset columns nulls from n bytes text → Takes q.seen d (bytes ++ rest) 0 → N.IsBetween d → length q.held.waiting < 4096
+      → q.held.delivered ≤ 2 ^ 64 - 1 → N.Breaks q.held j text stop → Near from q → RowStops charset start p.seen d p.place p.held j true stop
   marked_breaks from zero q d j stop bytes rest text w takes between few delivered breaks x =
       absurd (fills_no_block q.held j text stop (omega (arith, ap length w.1)) breaks)
   marked_breaks from (suc n) q d j stop bytes rest text (front, back, first, more, joined, text_is, before, last) takes between few delivered breaks x =
-      let read = rw (joined, append_assoc front back rest) at takes in
-      elim (Breaks_split q.held j first more stop (rw text_is at breaks)) [
+      let read = rw (joined, N.append_assoc front back rest) at takes in
+      elim (N.Breaks_split q.held j first more stop (rw text_is at breaks)) [
         | inl broken ↦ marked_breaks from n q d j stop front (back ++ rest) first before read between few delivered broken x
         | inr m ↦
             let t = takes_apart q.seen d front (back ++ rest) read in
@@ -170,12 +168,12 @@ pub stays_on : {R W : Type 0} {a b c : Rows R W} → StaysInRow a b → StaysInR
 stays_on x y = grind arith
 
 -- after a cell
-pub stays_after : {R W U : Type 0} {a b : Rows R W} {u : U} → IsInRow a → LeavesRows a b (Ok u) → StaysInRow a b
+pub stays_after : {R W U : Type 0} {a b : Rows R W} {u : U} → IsInRow a → N.LeavesRows a b (Ok u) → StaysInRow a b
 stays_after x y = grind arith
 
 -- where a call that stops after some steps leaves it
-pub leaves_after : {R W U V : Type 0} {a b c : Rows R W} {stop : Stop} → StaysInRow a b → LeavesRows {U = U} b c (Err stop)
-    → LeavesRows {U = V} a c (Err stop)
+pub leaves_after : {R W U V : Type 0} {a b c : Rows R W} {stop : Stop} → StaysInRow a b → N.LeavesRows {U = U} b c (Err stop)
+    → N.LeavesRows {U = V} a c (Err stop)
 leaves_after x y = grind arith
 
 -- ---- the next cell
@@ -184,12 +182,12 @@ module _ {R W : Type 0} (remaining : R → Option (List ℕ)) (contents : W → 
     → Bool) (start : RowPart) (p : At) where
   -- The cells before a place were read and their text put, but for that of the NULLs by their bit from there on.
   abbrev pub NearsHere : Rows R W → Ahead → Type 0
-  NearsHere rows at = IsAhead rows.table.now columns at
+  NearsHere rows at = N.IsAhead rows.table.now columns at
       × NearsCells rows.table.now.charset start (marked (drop at.column columns) nulls at.column) p (here remaining contents rows) at.column
 
   -- the cells of a run are read, and after them the table is the same
-  pub run_near : {old new : Rows R W} {from to : Ahead} → IsInRow old → StaysInRow old new → Knows old.table.now columns
-      → MarkedPut remaining contents old.table.now nulls from old.payload.now new.payload.now old.sink.now new.sink.now to → NearsHere old from
+  pub run_near : {old new : Rows R W} {from to : Ahead} → IsInRow old → StaysInRow old new → N.Knows old.table.now columns
+      → N.MarkedPut remaining contents old.table.now nulls from old.payload.now new.payload.now old.sink.now new.sink.now to → NearsHere old from
       → NearsHere new to
   run_near {old = old} {new = new} {from = from} x kept knows f near =
       let put = f columns knows near.0 in
@@ -197,7 +195,7 @@ module _ {R W : Type 0} (remaining : R → Option (List ℕ)) (contents : W → 
       let more = marked_nears _ start columns nulls p from.column put.runs.count (here remaining contents old) (here remaining contents new) _ _
       put.runs.writes (record {
         takes = put.takes;
-        between = between_of remaining new.payload.now kept.in_row.payload.going;
+        between = N.between_of remaining new.payload.now kept.in_row.payload.going;
         puts = put.puts;
         few = sink.ready.1 sink.writing;
         delivered = x.sink.ready.2;
@@ -207,17 +205,17 @@ module _ {R W : Type 0} (remaining : R → Option (List ℕ)) (contents : W → 
 
   -- a write of their text failed
   pub run_stops : {old : Rows R W} (new : Rows R W) {from : Ahead} {failed : Bool} {stop : Stop} → IsInRow old
-      → BreaksMarked old.table.now columns nulls from (seen remaining old.payload.now) (seen remaining new.payload.now) (held contents old.sink.now)
+      → N.BreaksMarked old.table.now columns nulls from (seen remaining old.payload.now) (seen remaining new.payload.now) (held contents old.sink.now)
       (held contents new.sink.now) failed stop → NearsHere old from
       → RowStops old.table.now.charset start p.seen (seen remaining new.payload.now) p.place p.held (held contents new.sink.now) failed stop
   run_stops {old = old} new {stop = stop} x y near =
       let sink = x.sink in
       rw y.failed_is (marked_breaks _ start columns nulls p _ y.runs.count (here remaining contents old) _ _ stop y.bytes [] y.text y.runs.writes
-      (rw append-nil y.takes) y.between (sink.ready.1 sink.writing) sink.ready.2 y.breaks near.1)
+      (rw N.append-nil y.takes) y.between (sink.ready.1 sink.writing) sink.ready.2 y.breaks near.1)
 
 module _ {R W : Type 0} (remaining : R → Option (List ℕ)) (contents : W → Option (List ℕ)) (old new : Rows R W) {columns : List Column} (nulls : ℕ
-    → Bool) {at after : Ahead} {kind : Kind} (knows : Knows old.table.now columns)
-    (taken : TakesColumn old.table.now columns at after kind) where
+    → Bool) {at after : Ahead} {kind : N.Kind} (knows : N.Knows old.table.now columns)
+    (taken : N.TakesColumn old.table.now columns at after kind) where
   abbrev left : List (Column × Bool)
   left = marked (drop after.column columns) nulls (at.column + 1)
 
@@ -225,10 +223,10 @@ module _ {R W : Type 0} (remaining : R → Option (List ℕ)) (contents : W → 
   last_is = grind (arith, last_one, after, ends_marked)
 
   -- the next cell was read, or it stopped
-  pub cell_read : {U : Type 0} (result : Result U Stop) → IsAhead old.table.now columns at → CellRead remaining contents at kind old new result
-      → KindRead remaining contents at.column (ends left) taken.column.kind old new result
+  pub cell_read : {U : Type 0} (result : Result U Stop) → N.IsAhead old.table.now columns at → N.CellRead remaining contents at kind old new result
+      → N.KindRead remaining contents at.column (ends left) taken.column.kind old new result
   cell_read result ahead x =
-      let next : IsNextKind _ at kind (is_last_column _) =
+      let next : N.IsNextKind _ at kind (is_last_column _) =
       record {
         columns = columns;
         knows = knows;
@@ -246,49 +244,49 @@ module _ {R W : Type 0} (remaining : R → Option (List ℕ)) (contents : W → 
         → NearsCells old.table.now.charset start ((taken.column, null) ∷ left) p (here remaining contents old) at.column
     left_here null is = rw is at (rw taken.next at before.1)
 
-    there : {U : Type 0} {u : U} → LeavesRows old new (Ok u)
+    there : {U : Type 0} {u : U} → N.LeavesRows old new (Ok u)
         → NearsCells old.table.now.charset start left p (here remaining contents new) (at.column + 1)
         → NearsHere remaining contents columns nulls start p new after
     there leaves x = rw leaves.same.3 (taken.ahead, rw (sym taken.further) at x)
 
     -- it was put
-    pub next_nears : {U : Type 0} (u : U) (null : Bool) → nulls at.column ≡ null → LeavesRows old new (Ok u)
-        → NextRead remaining contents at kind null old new (Ok u) → NearsHere remaining contents columns nulls start p new after
+    pub next_nears : {U : Type 0} (u : U) (null : Bool) → nulls at.column ≡ null → N.LeavesRows old new (Ok u)
+        → N.NextRead remaining contents at kind null old new (Ok u) → NearsHere remaining contents columns nulls start p new after
     next_nears u true is leaves y = there leaves (rw y.0 (null_nears (left_here true is) (rw last_is at y.1.gives)))
     next_nears u false is leaves y =
-        there leaves (cell_nears (between_of remaining new.payload.now leaves.payload.going) (leaves.sink.ready.1 leaves.sink.writing)
+        there leaves (cell_nears (N.between_of remaining new.payload.now leaves.payload.going) (leaves.sink.ready.1 leaves.sink.writing)
         (all_put refl in_row.sink.ready.2 (left_here false is)) (cell_read (Ok u) before.0 y))
 
     -- it stopped
     pub next_stops : (U : Type 0) (stop : Stop) (null : Bool) → nulls at.column ≡ null
-        → NextRead {U = U} remaining contents at kind null old new (Err stop)
+        → N.NextRead {U = U} remaining contents at kind null old new (Err stop)
         → RowStops old.table.now.charset start p.seen (seen remaining new.payload.now) p.place p.held (held contents new.sink.now) new.sink.now.failed
         stop
-    next_stops U stop true is y = rw (y.0, y.1.failed) (null_breaks [] (Takes-none _ 0)
-        (between_of remaining old.payload.now in_row.payload.going) (left_here _ is) (rw last_is at (y.1.gives in_row.sink.writing)))
+    next_stops U stop true is y = rw (y.0, y.1.failed) (null_breaks [] (N.Takes-none _ 0)
+        (N.between_of remaining old.payload.now in_row.payload.going) (left_here _ is) (rw last_is at (y.1.gives in_row.sink.writing)))
     next_stops U stop false is y = cell_stops (all_put refl in_row.sink.ready.2 (left_here _ is)) (cell_read {U = U} (Err stop) before.0 y)
 
 -- ---- rows, one after another
 
 -- Rows of a token were read and their lines put: so many whole ones, and this part of the next.
-pub record RowsAt (token : RowToken) (charset : Charset) (all : List Column) (p q : At) (count : ℕ) (part : RowPart) : Type 0 where
+pub record RowsAt (token : N.RowToken) (charset : Charset) (all : List Column) (p q : At) (count : ℕ) (part : RowPart) : Type 0 where
   pub before : List (List Cell)
   pub counted : length before ≡ count
   pub path : Path (rows token charset all) rows_so_far (rows_start token charset all) p q (record { before = before; at = part })
 
-module _ {token : RowToken} {charset : Charset} {all : List Column} where
-  pub rows_first : {p : At} → p.held.delivered ≤ 2 ^ 64 - 1 → RowsAt token charset all p p 0 (token_start token charset all)
+module _ {token : N.RowToken} {charset : Charset} {all : List Column} where
+  pub rows_first : {p : At} → p.held.delivered ≤ 2 ^ 64 - 1 → RowsAt token charset all p p 0 (N.token_start token charset all)
   rows_first d = record { before = []; counted = refl; path = path_none d }
 
   module _ {p q : At} {count : ℕ} where
     -- more of the next one
-    rows_on : {part more : RowPart} {r : At} → RowsAt token charset all p q count part → Path (row charset) row_so_far part q r more
+    rows_on : {part more : RowPart} {r : At} → RowsAt token charset all p q count part → Path (N.row charset) N.row_so_far part q r more
         → RowsAt token charset all p r count more
     rows_on x y = record { before = x.before; counted = x.counted; path = path_both x.path (path_map (λ a m. row_among _ _ _ _) y) }
 
     -- it stopped
     pub rows_stop : {part : RowPart} {d : Seen} {j : Held} {failed : Bool} {stop : Stop} → RowsAt token charset all p q count part
-        → RowStops charset part q.seen d q.place q.held j failed stop → RowsStop token charset all p.seen d p.place p.held j failed stop
+        → RowStops charset part q.seen d q.place q.held j failed stop → N.RowsStop token charset all p.seen d p.place p.held j failed stop
     rows_stop {part = part} x y = record {
       earlier = x.before;
       part = part;
@@ -300,8 +298,8 @@ module _ {token : RowToken} {charset : Charset} {all : List Column} where
     }
 
     -- all of it
-    pub rows_whole : {cells : List Cell} → RowsAt token charset all p q count (WholeRow cells)
-        → ReadsRows token charset all (count + 1) p.seen q.seen p.place q.place p.held q.held
+    pub rows_whole : {cells : List Cell} → RowsAt token charset all p q count (N.WholeRow cells)
+        → N.ReadsRows token charset all (count + 1) p.seen q.seen p.place q.place p.held q.held
     rows_whole {cells = cells} x = record {
       earlier = x.before;
       last = cells;
@@ -312,25 +310,25 @@ module _ {token : RowToken} {charset : Charset} {all : List Column} where
 
   -- a whole row that was read by itself
   pub rows_row : {p : At} {count : ℕ} {part : RowPart} {b d : Seen} {middle place' : ℕ} {i j : Held}
-      → RowsAt token charset all p (record { seen = b; place = middle; held = i }) count part → ReadsRow charset part b d middle place' i j
-      → ReadsRows token charset all (count + 1) p.seen d p.place place' p.held j
+      → RowsAt token charset all p (record { seen = b; place = middle; held = i }) count part → N.ReadsRow charset part b d middle place' i j
+      → N.ReadsRows token charset all (count + 1) p.seen d p.place place' p.held j
   rows_row x y = rows_whole (rows_on x (path_of y.streams y.place_is))
 
   -- the token byte of the next row was read
   pub rows_token : {a b d : Seen} {place middle count : ℕ} {h i : Held} → 0 < length all → i.delivered ≤ 2 ^ 64 - 1
-      → ReadsRows token charset all count a b place middle h i → Takes b d (token_byte token ∷ []) 1
+      → N.ReadsRows token charset all count a b place middle h i → Takes b d (N.token_byte token ∷ []) 1
       → RowsAt token charset all (record { seen = a; place = place; held = h }) (record { seen = d; place = middle + 1; held = i }) count
-      (token_start token charset all)
+      (N.token_start token charset all)
   rows_token some delivered x takes = record {
     before = x.earlier ++ x.last ∷ [];
-    counted = omega (arith, length-append x.earlier (x.last ∷ []));
+    counted = omega (arith, N.length-append x.earlier (x.last ∷ []));
     path = path_both (path_of x.streams x.place_is)
         (record {
-          bytes = token_byte _ ∷ [];
+          bytes = N.token_byte _ ∷ [];
           made = [];
           writes = row_token _ _ _ _ x.last some;
           takes = takes;
-          puts = Puts-none _ delivered;
+          puts = N.Puts-none _ delivered;
           place_is = refl;
         });
   }
@@ -341,18 +339,18 @@ module _ {token : RowToken} {charset : Charset} {all : List Column} where
 pub record Rowing (charset : Charset) (all : List Column) (left : List (Column × Bool)) (p q : At) (column count : ℕ) : Type 0 where
   pub cells : List Cell
   pub counted : length cells ≡ column
-  pub rows : RowsAt PlainRow charset all p q count (next_cell charset cells left)
+  pub rows : RowsAt N.PlainRow charset all p q count (N.next_cell charset cells left)
 
 module _ {charset : Charset} {all : List Column} {p q : At} {column count : ℕ} where
   -- a run
   rowing_run : {left left' : List Column} {column' count' : ℕ} {r : At} → Rowing charset all (coming left column) p q column count
       → ((cells : List Cell) → length cells ≡ column
-      → RunsRows charset all cells left left' column' count' q.seen r.seen q.place r.place q.held r.held)
+      → N.RunsRows charset all cells left left' column' count' q.seen r.seen q.place r.place q.held r.held)
       → Rowing charset all (coming left' column') p r column' (count + count')
   rowing_run x f =
       let y = f x.cells x.counted in
       let run = path_map (λ a m. rows_after charset all x.rows.before) (path_of y.streams y.place_is) in
-      let there = rw (append-nil, x.counted, y.counted) at run in
+      let there = rw (N.append-nil, x.counted, y.counted) at run in
       record {
         cells = y.more;
         counted = y.counted;
@@ -360,7 +358,7 @@ module _ {charset : Charset} {all : List Column} {p q : At} {column count : ℕ}
           before = x.rows.before ++ y.before;
           counted = omega (
             arith,
-            length-append x.rows.before y.before,
+            N.length-append x.rows.before y.before,
           );
           path = path_both x.rows.path there;
         };
@@ -372,23 +370,23 @@ module _ {charset : Charset} {all : List Column} {p q : At} {column count : ℕ}
         → PutsAt charset c.kind column (ends ks) q r → Rowing charset all ks p r (column + 1) count
     rowing_cell none x y =
         let one = cell_path _ c _ x.counted none y in
-        record { cells = x.cells ++ one.0 ∷ []; counted = omega (arith, length-append x.cells (one.0 ∷ [])); rows = rows_on x.rows one.1 }
+        record { cells = x.cells ++ one.0 ∷ []; counted = omega (arith, N.length-append x.cells (one.0 ∷ [])); rows = rows_on x.rows one.1 }
 
     -- a cell that stopped
     pub rowing_stop : {d : Seen} {j : Held} {failed : Bool} {stop : Stop} → Rowing charset all ((c, false) ∷ ks) p q column count
-        → StopsAt charset c.kind column (ends ks) q d j failed stop → RowsStop PlainRow charset all p.seen d p.place p.held j failed stop
+        → StopsAt charset c.kind column (ends ks) q d j failed stop → N.RowsStop N.PlainRow charset all p.seen d p.place p.held j failed stop
     rowing_stop x y = rows_stop x.rows (marked_stops _ _ _ c (rw (sym x.counted) at y))
 
 -- The reading of ROWs stands at this place of the last one.
 abbrev pub RowsHere : {R W : Type 0} → (R → Option (List ℕ)) → (W → Option (List ℕ)) → List Column → At → Rows R W → Ahead → ℕ → Type 0
 RowsHere remaining contents columns p rows at count =
-    IsAhead rows.table.now columns at × Rowing rows.table.now.charset columns (coming (drop at.column columns) at.column) p
+    N.IsAhead rows.table.now columns at × Rowing rows.table.now.charset columns (coming (drop at.column columns) at.column) p
     (here remaining contents rows) at.column count
 
 -- after a run
 pub rows_ran : {R W : Type 0} {columns : List Column} {p : At} {old new : Rows R W} {from : Ahead} {count : ℕ} (remaining : R
-    → Option (List ℕ)) (contents : W → Option (List ℕ)) (run : RowsRun) → StaysInRow old new → Knows old.table.now columns
-    → RowsPut remaining contents old.table.now from old.payload.now new.payload.now old.sink.now new.sink.now run
+    → Option (List ℕ)) (contents : W → Option (List ℕ)) (run : N.RowsRun) → StaysInRow old new → N.Knows old.table.now columns
+    → N.RowsPut remaining contents old.table.now from old.payload.now new.payload.now old.sink.now new.sink.now run
     → RowsHere remaining contents columns p old from count → RowsHere remaining contents columns p new run.ahead (count + run.rows)
 rows_ran {columns = columns} {old = old} remaining contents run kept knows put x =
     let ran = put columns knows x.0 in
@@ -398,9 +396,9 @@ rows_ran {columns = columns} {old = old} remaining contents run kept knows put x
 -- a write of its text failed
 pub rows_broke : {R W : Type 0} {columns : List Column} {p : At} {old : Rows R W} {from : Ahead} {count : ℕ} {failed : Bool} {stop : Stop}
     (remaining : R → Option (List ℕ)) (contents : W → Option (List ℕ)) (new : Rows R W) → IsInRow old
-    → BreaksMarked old.table.now columns (λ k. false) from (seen remaining old.payload.now) (seen remaining new.payload.now) (held contents old.sink.now)
+    → N.BreaksMarked old.table.now columns (λ k. false) from (seen remaining old.payload.now) (seen remaining new.payload.now) (held contents old.sink.now)
     (held contents new.sink.now) failed stop → RowsHere remaining contents columns p old from count
-    → RowsStop PlainRow old.table.now.charset columns p.seen (seen remaining new.payload.now) p.place p.held (held contents new.sink.now) failed stop
+    → N.RowsStop N.PlainRow old.table.now.charset columns p.seen (seen remaining new.payload.now) p.place p.held (held contents new.sink.now) failed stop
 rows_broke {old = old} remaining contents new in_row y x =
     let sink = in_row.sink in
     rows_stop x.1.rows (rw x.1.counted at (run_breaks {place = old.payload.now.place} x.1.cells y x.1.counted (sink.ready.1 sink.writing) sink.ready.2))

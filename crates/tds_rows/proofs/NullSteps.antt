@@ -1,11 +1,8 @@
 -- Rows with NULLs by their bit, column after column, as they are read and their text is put.
+use Rattle.tds_rows.proofs.Words as N
 use Rattle.tds_rows.proofs.{
-  Words.{append-nil, ◌≡◌, ◌∙◌, inl, inr, ℕ, ◌+◌, ◌-◌, ◌^◌, ◌<◌, ◌≤◌, Bool, true, false, List, [], ◌∷◌, ◌++◌, length, refl, sym, ap, arith, length-append, map},
-  Words.{Fault, Stop, Grammar, IsNext, Ends, IsBetween, Seen, Takes, began_at, Inside-Spelt, next_inside, next_some, stops_inside, began_is_cut, cut_at_once},
-  Words.{Column, in_line, joined, null_field, Breaks, Held, Puts, BreaksStreaming, StopsStreaming, Nears, added_between, last_read, nears_after, nears_breaks},
-  Words.{nears_from, nears_inside, nears_put, tail_after, Breaks-longer, Puts-none, Charset, Cell, CellPart, Null, WholeCell, cell, cell_add, cell_size},
-  Words.{cell_start, field, shape, cell_so_far, Bitmap, InCell, RowPart, bit, bitmap_length, marked, nbc_row_start, next_cell, row, row_so_far, row_start},
-  Words.{with_cell, stops_size, ReadsRow, RowStops, Writes, nears_done, Takes-trans, add-zero},
+  Words.{◌≡◌, ◌∙◌, inl, inr, ℕ, ◌+◌, ◌-◌, ◌^◌, ◌<◌, ◌≤◌, Bool, true, false, List, [], ◌∷◌, ◌++◌, length, refl, sym, ap, arith, map, Stop, Seen, Column, joined},
+  Words.{Held, Charset, Cell, CellPart, RowPart, marked, next_cell, row, row_so_far},
   RowSteps.{begun_text, coming, ends, line_grows, nulls_ahead, nulls_text, part_text, rest_of, PutsAt, StopsAt, cell_some, same_end, StopsCell},
   RowLaws.{begins_open, cell_in_row},
   Paths.{At, Path, path_both, path_map, path_none, path_of, path_stops, streams_of, writes_inside},
@@ -14,62 +11,62 @@ use Rattle.tds_rows.proofs.{
 -- ---- a cell in its row, with the NULLs after it
 
 module _ (charset : Charset) (cells : List Cell) (ks : List (Column × Bool)) where
-  abbrev small : Grammar CellPart Fault
-  small = cell (length cells)
+  abbrev small : N.Grammar CellPart N.Fault
+  small = N.cell (length cells)
 
-  abbrev big : Grammar RowPart Fault
+  abbrev big : N.Grammar RowPart N.Fault
   big = row charset
 
   abbrev up : CellPart → RowPart
-  up = with_cell charset cells ks
+  up = N.with_cell charset cells ks
 
   abbrev text : CellPart → List ℕ
-  text = cell_so_far (length cells) (ends ks)
+  text = N.cell_so_far (length cells) (ends ks)
 
   abbrev front : List ℕ
-  front = joined (map field cells)
+  front = joined (map N.field cells)
 
   -- a write of the cell's text failed, and so one of the row's
-  breaks_there : {from at : CellPart} {b d : Seen} {i j : Held} {stop : Stop} → 0 < cell_size from → BreaksStreaming small text from b d i j at stop
-      → BreaksStreaming big row_so_far (up from) b d i j (up at) stop
+  breaks_there : {from at : CellPart} {b d : Seen} {i j : Held} {stop : Stop} → 0 < N.cell_size from → N.BreaksStreaming small text from b d i j at stop
+      → N.BreaksStreaming big row_so_far (up from) b d i j (up at) stop
   breaks_there {at = at} {j = j} {stop = stop} some x =
       let is = cell_in_row charset cells ks in
       let begun = begun_text charset cells ks in
       let grows = line_grows _ (ends ks) in
-      let size = next_some small at x.element x.next in
-      let to = cell_add at x.element in
+      let size = N.next_some small at x.element x.next in
+      let to = N.cell_add at x.element in
       let rest = rest_of charset cells ks to in
       record {
         bytes = x.bytes;
         element = x.element;
         ahead = x.ahead;
-        spelt = Inside-Spelt _ _ up is _ _ _ x.spelt;
-        next = next_inside _ _ up is _ _ size x.next;
+        spelt = N.Inside-Spelt _ _ up is _ _ _ x.spelt;
+        next = N.next_inside _ _ up is _ _ size x.next;
         takes = x.takes;
         between = x.between;
         middle = x.middle;
         few = x.few;
-        puts = (x.puts.0, added_between _ _ up is text row_so_far front begun grows _ _ _ some size x.puts.1, x.puts.2);
+        puts = (x.puts.0, N.added_between _ _ up is text row_so_far front begun grows _ _ _ some size x.puts.1, x.puts.2);
         more = x.more ++ rest;
-        text_is = tail_after _ _ up is text row_so_far front begun grows at to _ rest size x.text_is (part_text charset cells ks to)
+        text_is = N.tail_after _ _ up is text row_so_far front begun grows at to _ rest size x.text_is (part_text charset cells ks to)
             ∙ ap row_so_far (sym (is.add at x.element size));
-        breaks = Breaks-longer x.middle j x.more rest stop x.breaks;
+        breaks = N.Breaks-longer x.middle j x.more rest stop x.breaks;
       }
 
   -- the cell stopped, and so the row
-  stops_there : {from : CellPart} {b d : Seen} {place : ℕ} {i j : Held} {failed : Bool} {stop : Stop} → 0 < cell_size from
-      → StopsStreaming small text from b d place i j failed stop → StopsStreaming big row_so_far (up from) b d place i j failed stop
+  stops_there : {from : CellPart} {b d : Seen} {place : ℕ} {i j : Held} {failed : Bool} {stop : Stop} → 0 < N.cell_size from
+      → N.StopsStreaming small text from b d place i j failed stop → N.StopsStreaming big row_so_far (up from) b d place i j failed stop
   stops_there some x =
       let is = cell_in_row charset cells ks in
       record {
         at = up x.at;
         cause = elim x.cause [
           | inl y ↦ inl (
-            stops_inside _ _ up is _ _ _ _ _ _ (same_end charset cells ks x.at (stops_size _ _ _ _ _ _ _ y.0)) y.0,
+            N.stops_inside _ _ up is _ _ _ _ _ _ (same_end charset cells ks x.at (N.stops_size _ _ _ _ _ _ _ y.0)) y.0,
             (
               y.1.0,
-              added_between _ _ up is text row_so_far front (begun_text charset cells ks) (line_grows _ (ends ks)) _ _ _ some
-                  (stops_size _ _ _ _ _ _ _ y.0) y.1.1,
+              N.added_between _ _ up is text row_so_far front (begun_text charset cells ks) (line_grows _ (ends ks)) _ _ _ some
+                  (N.stops_size _ _ _ _ _ _ _ y.0) y.1.1,
               y.1.2,
             ),
             y.2,
@@ -80,15 +77,15 @@ module _ (charset : Charset) (cells : List Cell) (ks : List (Column × Bool)) wh
 
   pub marked_stops : {b d : Seen} {place : ℕ} {i j : Held} {failed : Bool} {stop : Stop} (c : Column)
       → StopsCell charset c.kind (length cells) (ends ks) b d place i j failed stop
-      → RowStops charset (InCell cells (cell_start c.kind (shape charset c.kind)) ks) b d place i j failed stop
+      → N.RowStops charset (N.InCell cells (N.cell_start c.kind (N.shape charset c.kind)) ks) b d place i j failed stop
   marked_stops c x = rw (← begins_open charset cells ks c.kind _) (stops_there (grind arith) x)
 
   -- a cell in its row, with no NULL by its bit after it
   pub row_cell : (c : Column) → nulls_ahead (length cells + 1) ks ≡ [] → {bytes made : List ℕ} {v : Cell}
-      → Writes (cell (length cells)) (cell_so_far (length cells) (ends ks)) (cell_start c.kind (shape charset c.kind)) bytes made (WholeCell v)
-      → Writes (row charset) row_so_far (next_cell charset cells ((c, false) ∷ ks)) bytes made (next_cell charset (cells ++ v ∷ []) ks)
+      → N.Writes (N.cell (length cells)) (N.cell_so_far (length cells) (ends ks)) (N.cell_start c.kind (N.shape charset c.kind)) bytes made (N.WholeCell v)
+      → N.Writes (row charset) row_so_far (next_cell charset cells ((c, false) ∷ ks)) bytes made (next_cell charset (cells ++ v ∷ []) ks)
   row_cell c none x = rw begins_open at (writes_inside {whole = row_so_far} front (cell_in_row charset cells ks)
-      (grind (arith, append-nil, part_text)) x)
+      (grind (arith, N.append-nil, part_text)) x)
 
 -- ---- column after column
 
@@ -102,7 +99,7 @@ pub record Reads (charset : Charset) (start : RowPart) (left : List (Column × B
 pub record NearsCells (charset : Charset) (start : RowPart) (left : List (Column × Bool)) (p q : At) (column : ℕ) : Type 0 where
   pub cells : List Cell
   pub counted : length cells ≡ column
-  pub nears : Nears (row charset) row_so_far start p.seen q.seen p.held q.held (next_cell charset cells left) (nulls_ahead column left)
+  pub nears : N.Nears (row charset) row_so_far start p.seen q.seen p.held q.held (next_cell charset cells left) (nulls_ahead column left)
   pub place_is : q.place ≡ p.place + length (nears.bytes ++ nears.element)
 
 -- some columns are left, so the line doesn't end there
@@ -113,25 +110,25 @@ all_ahead charset (c ∷ cs) nulls some = nulls_text charset [] ((c, nulls 0) �
 
 -- the bitmap was read
 pub bitmap_nears : {charset : Charset} {p : At} {b : Seen} {place' : ℕ} (columns : List Column) (bitmap : List ℕ) → 0 < length columns
-    → length bitmap ≡ bitmap_length (length columns) → Takes p.seen b bitmap (length bitmap) → IsBetween b → length p.held.waiting < 4096
+    → length bitmap ≡ N.bitmap_length (length columns) → N.Takes p.seen b bitmap (length bitmap) → N.IsBetween b → length p.held.waiting < 4096
     → p.held.delivered ≤ 2 ^ 64 - 1
-    → place' ≡ p.place + length bitmap → NearsCells charset (nbc_row_start columns) (marked columns (bit bitmap) 0) p
+    → place' ≡ p.place + length bitmap → NearsCells charset (N.nbc_row_start columns) (marked columns (N.bit bitmap) 0) p
     (record { seen = b; place = place'; held = p.held }) 0
 bitmap_nears {p = p} columns bitmap some whole takes between few d at =
-    let next : IsNext _ _ bitmap = record { some = omega arith; whole = whole; free = refl } in
+    let next : N.IsNext _ _ bitmap = record { some = omega arith; whole = whole; free = refl } in
     record {
       cells = [];
       counted = refl;
-      nears = nears_from _ _ _ _ _ _ _ _ _ _ _ (streams_of (path_none {p = p} d)) next takes between few d (all_ahead _ _ _ some);
+      nears = N.nears_from _ _ _ _ _ _ _ _ _ _ _ (streams_of (path_none {p = p} d)) next takes between few d (all_ahead _ _ _ some);
       place_is = at;
     }
 
 -- the payload stopped in the bitmap
 pub bitmap_cut : {columns : List Column} {a b : Seen} {place : ℕ} {h : Held} {stop : Stop} (charset : Charset) (part : List ℕ) (own : Stop)
-    → length part < bitmap_length (length columns) → Ends a b part own → stop ≡ began_at place own → h.delivered ≤ 2 ^ 64 - 1
-    → RowStops charset (nbc_row_start columns) a b place h h false stop
+    → length part < N.bitmap_length (length columns) → N.Ends a b part own → stop ≡ N.began_at place own → h.delivered ≤ 2 ^ 64 - 1
+    → N.RowStops charset (N.nbc_row_start columns) a b place h h false stop
 bitmap_cut charset part own fewer ended is d =
-    record { at = Bitmap _; cause = inl (cut_at_once _ _ _ _ _ _ _ _ fewer ended (began_is_cut _ _ _ _ refl is), ([], refl, Puts-none _ d), refl) }
+    record { at = N.Bitmap _; cause = inl (N.cut_at_once _ _ _ _ _ _ _ _ fewer ended (N.began_is_cut _ _ _ _ refl is), ([], refl, N.Puts-none _ d), refl) }
 
 -- a cell was read and its text put, in its row, and no NULL by its bit is after it
 pub cell_path : {ks : List (Column × Bool)} {column : ℕ} {p q : At} (charset : Charset) (c : Column) (cells : List Cell) → length cells ≡ column
@@ -142,29 +139,29 @@ cell_path charset c cells counted none y =
     (z.value, path_map (λ a m. row_cell _ _ _ c (rw counted none)) (path_of z.streams z.place_is))
 
 further : (a b e l : List ℕ) (m n k : ℕ) → b ++ e ≡ l → n ≡ m + length a → k ≡ n + length l → k ≡ m + length ((a ++ b) ++ e)
-further a b e l m n k joined first second = grind (arith, length-append)
+further a b e l m n k joined first second = grind (arith, N.length-append)
 
 module _ {charset : Charset} {start : RowPart} {c : Column} {ks : List (Column × Bool)} {p q : At} {column : ℕ} where
   -- a NULL by its bit was put
-  pub null_nears : {j : Held} → NearsCells charset start ((c, true) ∷ ks) p q column → Puts q.held j (in_line column (ends ks) null_field)
+  pub null_nears : {j : Held} → NearsCells charset start ((c, true) ∷ ks) p q column → N.Puts q.held j (N.in_line column (ends ks) N.null_field)
       → NearsCells charset start ks p (record q { held = j }) (column + 1)
   null_nears x puts = record {
-    cells = x.cells ++ Null ∷ [];
-    counted = omega (arith, length-append x.cells (Null ∷ []));
-    nears = nears_put _ _ _ _ _ _ _ _ _ _ _ x.nears puts;
+    cells = x.cells ++ N.Null ∷ [];
+    counted = omega (arith, N.length-append x.cells (N.Null ∷ []));
+    nears = N.nears_put _ _ _ _ _ _ _ _ _ _ _ x.nears puts;
     place_is = x.place_is;
   }
 
   -- a write of it failed, after more was read
-  pub null_breaks : {d : Seen} {j : Held} {stop : Stop} (rest : List ℕ) → Takes q.seen d rest 0 → IsBetween d
-      → NearsCells charset start ((c, true) ∷ ks) p q column → Breaks q.held j (in_line column (ends ks) null_field) stop
-      → RowStops charset start p.seen d p.place p.held j true stop
+  pub null_breaks : {d : Seen} {j : Held} {stop : Stop} (rest : List ℕ) → N.Takes q.seen d rest 0 → N.IsBetween d
+      → NearsCells charset start ((c, true) ∷ ks) p q column → N.Breaks q.held j (N.in_line column (ends ks) N.null_field) stop
+      → N.RowStops charset start p.seen d p.place p.held j true stop
   null_breaks {d = d} rest takes between x breaks =
       let n = x.nears in
       let read = n.bytes ++ n.element in
-      let broken = nears_breaks _ _ _ _ _ _ _ _ _ _ _ _ _ n refl breaks in
+      let broken = N.nears_breaks _ _ _ _ _ _ _ _ _ _ _ _ _ n refl breaks in
       let y = broken.1 in
-      let both = Takes-trans p.seen q.seen d read rest (length read) 0 (omega arith) n.takes takes in
+      let both = N.Takes-trans p.seen q.seen d read rest (length read) 0 (omega arith) n.takes takes in
       record {
         at = broken.0;
         cause = inr (
@@ -174,7 +171,7 @@ module _ {charset : Charset} {start : RowPart} {c : Column} {ks : List (Column �
             ahead = rest;
             spelt = y.spelt;
             next = y.next;
-            takes = rw add-zero at both;
+            takes = rw N.add-zero at both;
             between = between;
             middle = y.middle;
             few = y.few;
@@ -192,31 +189,31 @@ module _ {charset : Charset} {start : RowPart} {c : Column} {ks : List (Column �
       → PutsAt charset c.kind column (ends ks) q r → Reads charset start ks p r (column + 1)
   cell_reads none x y =
       let one = cell_path _ c _ x.counted none y in
-      record { cells = x.cells ++ one.0 ∷ []; counted = omega (arith, length-append x.cells (one.0 ∷ [])); path = path_both x.path one.1 }
+      record { cells = x.cells ++ one.0 ∷ []; counted = omega (arith, N.length-append x.cells (one.0 ∷ [])); path = path_both x.path one.1 }
 
   -- it stopped the row
   pub cell_stops : {d : Seen} {j : Held} {failed : Bool} {stop : Stop} → Reads charset start ((c, false) ∷ ks) p q column
-      → StopsAt charset c.kind column (ends ks) q d j failed stop → RowStops charset start p.seen d p.place p.held j failed stop
+      → StopsAt charset c.kind column (ends ks) q d j failed stop → N.RowStops charset start p.seen d p.place p.held j failed stop
   cell_stops x y = path_stops x.path (marked_stops _ _ _ c (rw (sym x.counted) at y))
 
   -- a cell was read and its text put, and NULLs may be after it
-  pub cell_nears : {r : At} → IsBetween r.seen → length r.held.waiting < 4096 → Reads charset start ((c, false) ∷ ks) p q column
+  pub cell_nears : {r : At} → N.IsBetween r.seen → length r.held.waiting < 4096 → Reads charset start ((c, false) ∷ ks) p q column
       → PutsAt charset c.kind column (ends ks) q r → NearsCells charset start ks p r (column + 1)
   cell_nears {r = r} between few x y =
       let n = length x.cells in
       let z = rw (sym x.counted) at y in
       let some : 0 < length z.streams.bytes = omega (arith, cell_some) in
-      let begin = cell_start c.kind _ in
+      let begin = N.cell_start c.kind _ in
       let tail = nulls_ahead _ ks in
       let whole =
-      nears_inside _ _ _ (cell_in_row charset x.cells ks) _ _ _ (begun_text charset x.cells ks) (line_grows n (ends ks)) begin _ _ _ _ _ tail
-      z.streams some between few (part_text charset x.cells ks (WholeCell z.value)) in
-      let begun = rw (sym (begins_open charset x.cells ks c.kind (shape charset c.kind))) at x.path in
+      N.nears_inside _ _ _ (cell_in_row charset x.cells ks) _ _ _ (begun_text charset x.cells ks) (line_grows n (ends ks)) begin _ _ _ _ _ tail
+      z.streams some between few (part_text charset x.cells ks (N.WholeCell z.value)) in
+      let begun = rw (sym (begins_open charset x.cells ks c.kind (N.shape charset c.kind))) at x.path in
       let near : NearsCells charset start ks p r _ = record {
         cells = x.cells ++ z.value ∷ [];
-        counted = length-append x.cells _;
-        nears = nears_after _ _ start _ p.seen q.seen r.seen p.held q.held r.held _ tail (streams_of begun) whole;
-        place_is = further begun.bytes _ _ _ p.place q.place r.place ((last_read _ begin _ _ _ some).joined) begun.place_is z.place_is;
+        counted = N.length-append x.cells _;
+        nears = N.nears_after _ _ start _ p.seen q.seen r.seen p.held q.held r.held _ tail (streams_of begun) whole;
+        place_is = further begun.bytes _ _ _ p.place q.place r.place ((N.last_read _ begin _ _ _ some).joined) begun.place_is z.place_is;
       } in
       rw x.counted at near
 
@@ -225,19 +222,19 @@ module _ {charset : Charset} {start : RowPart} {ks : List (Column × Bool)} {p q
   pub all_put : nulls_ahead column ks ≡ [] → q.held.delivered ≤ 2 ^ 64 - 1 → NearsCells charset start ks p q column
       → Reads charset start ks p q column
   all_put none d x =
-      let last : Puts q.held q.held _ = rw none (Puts-none q.held d) in
+      let last : N.Puts q.held q.held _ = rw none (N.Puts-none q.held d) in
       record {
         cells = x.cells;
         counted = x.counted;
         path = path_of
-            (nears_done _ _ start p.seen q.seen p.held q.held q.held (next_cell charset x.cells ks) _ x.nears last) x.place_is;
+            (N.nears_done _ _ start p.seen q.seen p.held q.held q.held (next_cell charset x.cells ks) _ x.nears last) x.place_is;
       }
 
 -- before the first column of a ROW, and after the last one of a row
 pub row_begins : {charset : Charset} {p : At} (columns : List Column) → p.held.delivered ≤ 2 ^ 64 - 1
-    → Reads charset (row_start charset columns) (coming columns 0) p p 0
+    → Reads charset (N.row_start charset columns) (coming columns 0) p p 0
 row_begins columns d = record { cells = []; counted = refl; path = path_none d }
 
 pub row_ends : {charset : Charset} {start : RowPart} {p q : At} {column : ℕ} → Reads charset start [] p q column
-    → ReadsRow charset start p.seen q.seen p.place q.place p.held q.held
+    → N.ReadsRow charset start p.seen q.seen p.place q.place p.held q.held
 row_ends x = record { cells = x.cells; streams = streams_of x.path; place_is = x.path.place_is }

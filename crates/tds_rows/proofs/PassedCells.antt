@@ -1,11 +1,8 @@
 -- The value of a RETURNVALUE, as it is passed over.
+use Rattle.tds_rows.proofs.Words as N
 use Rattle.tds_rows.proofs.{
-  Words.{HexDigits, Utf16Text, Windows1252Text, ◌≢◌, Some, None, ReadsNumber, chunk_length_fault, short_fault, short_length, reads_one, ◌≡◌, ◌∙◌, inr},
-  Words.{ℕ, ◌+◌, ◌-◌, ◌%◌, ◌<◌, ◌≤◌, Bool, true, List, [], ◌++◌, length, refl, sym, ap, subst, arith, append-nil, length-append, Option, is_ok, Kind},
-  Words.{is_scalar, read_of, Stop, Spelt, Seen, Takes, IsBetween, began_at, Ends-after, Takes-none, Takes-trans, add_none, began_is_cut, reads_both},
-  Words.{reads_none, stops_after, BeginsData, Conversion, Charset, Cell, CellPart, ChunkLength, DataCell, ShortLength, WholeCell, cell_start, shape},
-  Words.{GathersCell, StallsCell, scalar_size, value_bytes, value_length, value_start, WritesCell, return_column, AnyData, CutsPassing, IsGoodValue},
-  Words.{PassesCell, PassesData, StepsOver, StopsPassing, return_cell, begun_by_test, take_all, zero},
+  Words.{◌≢◌, Some, None, ◌≡◌, ◌∙◌, inr, ℕ, ◌+◌, ◌-◌, ◌%◌, ◌<◌, ◌≤◌, Bool, true, List, [], ◌++◌, length, refl, sym, ap, subst, arith, Option, Stop, Seen},
+  Words.{Conversion, Cell, CellPart, ChunkLength, shape, return_column, AnyData, PassesData, StepsOver, zero},
   BufferedCells.{null_cell, value_cell},
   RunSteps.whole_of,
   LongSteps.{HoldsContent, content_spelt, chunk_holds, short_holds},
@@ -16,31 +13,31 @@ use Rattle.tds_rows.proofs.{
 -- ---- elements
 
 -- no element was read
-step_none : {s : CellPart} {a : Seen} {place : ℕ} → IsBetween a → StepsOver s s a a place place
-step_none between = record { reads = reads_none _ _ _; between = between; place_is = sym (add_none _) }
+step_none : {s : CellPart} {a : Seen} {place : ℕ} → N.IsBetween a → StepsOver s s a a place place
+step_none between = record { reads = N.reads_none _ _ _; between = between; place_is = sym (N.add_none _) }
 
 steps_both : {s t u : CellPart} {a b d : Seen} {place middle place' : ℕ} → StepsOver s t a b place middle → StepsOver t u b d middle place'
     → StepsOver s u a d place place'
 steps_both x y = record {
-  reads = reads_both _ _ _ _ _ _ _ x.reads y.reads;
+  reads = N.reads_both _ _ _ _ _ _ _ x.reads y.reads;
   between = y.between;
   place_is = omega (
     arith,
-    length-append x.reads.bytes y.reads.bytes,
+    N.length-append x.reads.bytes y.reads.bytes,
   );
 }
 
 pub stops_after_steps : {s t : CellPart} {a b d : Seen} {place middle : ℕ} {stop : Stop} → StepsOver s t a b place middle
-    → StopsPassing t b d middle stop → StopsPassing s a d place stop
-stops_after_steps x y = grind (arith, stops_after)
+    → N.StopsPassing t b d middle stop → N.StopsPassing s a d place stop
+stops_after_steps x y = grind (arith, N.stops_after)
 
 -- ---- data, byte by byte
 
-any_begins : {c : Conversion} {size : ℕ} → AnyData c size → (bytes : List ℕ) → BeginsData c bytes
-any_begins any bytes = (begun_by_test _ bytes).0 (any.begun bytes)
+any_begins : {c : Conversion} {size : ℕ} → AnyData c size → (bytes : List ℕ) → N.BeginsData c bytes
+any_begins any bytes = (N.begun_by_test _ bytes).0 (any.begun bytes)
 
 module _ {c : Conversion} {state : ℕ → List ℕ → CellPart} {Good : List ℕ → Type 0} (holds : HoldsContent return_column c state Good)
-    (begins : (bytes : List ℕ) → BeginsData c bytes) where
+    (begins : (bytes : List ℕ) → N.BeginsData c bytes) where
   -- all the data was handed out
   data_steps : {m : ℕ} {a b : Seen} {place place' : ℕ} (d : List ℕ) (x : PassesData m a b place place') → Good (d ++ x.bytes)
       → StepsOver (state m d) (state 0 (d ++ x.bytes)) a b place place'
@@ -56,7 +53,7 @@ module _ {c : Conversion} {state : ℕ → List ℕ → CellPart} {Good : List �
   }
 
   -- the payload stopped in it
-  data_stops : {m : ℕ} {a b : Seen} {place : ℕ} {stop : Stop} (d : List ℕ) → CutsPassing m a b place stop → StopsPassing (state m d) a b place stop
+  data_stops : {m : ℕ} {a b : Seen} {place : ℕ} {stop : Stop} (d : List ℕ) → N.CutsPassing m a b place stop → N.StopsPassing (state m d) a b place stop
   data_stops {m = m} {place = place} d x =
       let at = state _ _ in
       record {
@@ -68,8 +65,8 @@ module _ {c : Conversion} {state : ℕ → List ℕ → CellPart} {Good : List �
             part = [];
             cut = omega arith;
             own = x.own;
-            ends = rw (sym (append-nil x.bytes)) at x.ends;
-            stop_is = began_is_cut (place + length x.bytes) _ x.own _ (holds.end (m - length x.bytes - 1) _) x.stop_is;
+            ends = rw (sym (N.append-nil x.bytes)) at x.ends;
+            stop_is = N.began_is_cut (place + length x.bytes) _ x.own _ (holds.end (m - length x.bytes - 1) _) x.stop_is;
           });
         };
       }
@@ -77,63 +74,63 @@ module _ {c : Conversion} {state : ℕ → List ℕ → CellPart} {Good : List �
 -- ---- scalars
 
 -- a scalar's cell stops as any
-pub scalar_stops : {from : CellPart} {a b : Seen} {place : ℕ} {stop : Stop} → StallsCell from return_column a b place stop
-    → StopsPassing from a b place stop
+pub scalar_stops : {from : CellPart} {a b : Seen} {place : ℕ} {stop : Stop} → N.StallsCell from return_column a b place stop
+    → N.StopsPassing from a b place stop
 scalar_stops x = record { at = x.at; stops = x.stops }
 
 -- what is written of a cell is its spelling
-written_spelt : {from : CellPart} {last : Bool} {bytes text : List ℕ} → WritesCell from return_column last bytes text → (value : Cell)
-    × Spelt return_cell from bytes (WholeCell value)
+written_spelt : {from : CellPart} {last : Bool} {bytes text : List ℕ} → N.WritesCell from return_column last bytes text → (value : Cell)
+    × N.Spelt N.return_cell from bytes (N.WholeCell value)
 written_spelt x = let whole = whole_of x in (whole.value, whole.spelt)
 
 -- the bytes of a scalar cell whose value isn't refused are a whole cell
-pub scalar_whole : (charset : Charset) (kind : Kind) (bytes : List ℕ) → is_scalar kind ≡ true → length bytes ≡ scalar_size kind bytes
-    → (0 < value_length kind bytes → is_ok (read_of kind (value_bytes kind bytes)) ≡ true)
-    → (value : Cell) × Spelt return_cell (cell_start kind (shape charset kind)) bytes (WholeCell value)
+pub scalar_whole : (charset : N.Charset) (kind : N.Kind) (bytes : List ℕ) → N.is_scalar kind ≡ true → length bytes ≡ N.scalar_size kind bytes
+    → (0 < N.value_length kind bytes → N.is_ok (N.read_of kind (N.value_bytes kind bytes)) ≡ true)
+    → (value : Cell) × N.Spelt N.return_cell (N.cell_start kind (shape charset kind)) bytes (N.WholeCell value)
 scalar_whole charset kind bytes scalar whole good = go _ refl
   where
-    go : (n : ℕ) → value_length kind bytes ≡ n → (value : Cell) × Spelt return_cell (cell_start kind (shape charset kind)) bytes (WholeCell value)
+    go : (n : ℕ) → N.value_length kind bytes ≡ n → (value : Cell) × N.Spelt N.return_cell (N.cell_start kind (shape charset kind)) bytes (N.WholeCell value)
     go zero e =
         let x = null_cell charset kind _ true bytes _ scalar _ refl e (omega arith) refl in
-        rw (take_all (value_start kind + 0) bytes (omega arith)) at (written_spelt x)
+        rw (N.take_all (N.value_start kind + 0) bytes (omega arith)) at (written_spelt x)
     go _ e =
         let v = is_ok_value _ (good (omega arith)) in
         let x = value_cell charset kind _ true bytes _ scalar _ _ refl refl (λ z. omega arith) (omega arith) (v.0, v.1, refl) in
-        rw (take_all (value_start kind + value_length kind bytes) bytes (omega arith)) at (written_spelt x)
+        rw (N.take_all (N.value_start kind + N.value_length kind bytes) bytes (omega arith)) at (written_spelt x)
 
 -- ---- pieces
 
 -- nothing was passed over
-pub passes_none : {n : ℕ} {a : Seen} {place : ℕ} → n ≡ 0 → IsBetween a → PassesData n a a place place
+pub passes_none : {n : ℕ} {a : Seen} {place : ℕ} → n ≡ 0 → N.IsBetween a → PassesData n a a place place
 passes_none {n = n} {a = a} none between =
-    record { bytes = []; counted = sym none; takes = Takes-none a n; between = between; place_is = omega arith }
+    record { bytes = []; counted = sym none; takes = N.Takes-none a n; between = between; place_is = omega arith }
 
 -- a piece more was
 pub passes_more : {m n k : ℕ} {a b d : Seen} {place middle place' : ℕ} → k ≡ m + n → PassesData m a b place middle → PassesData n b d middle place'
     → PassesData k a d place place'
 passes_more {m = m} {n = n} {a = a} {b = b} {d = d} sum x y = record {
   bytes = x.bytes ++ y.bytes;
-  counted = omega (arith, length-append x.bytes y.bytes);
-  takes = subst (λ j. Takes a d (x.bytes ++ y.bytes) j) (omega arith) (Takes-trans a b d _ _ m n (omega arith) x.takes y.takes);
+  counted = omega (arith, N.length-append x.bytes y.bytes);
+  takes = subst (λ j. N.Takes a d (x.bytes ++ y.bytes) j) (omega arith) (N.Takes-trans a b d _ _ m n (omega arith) x.takes y.takes);
   between = y.between;
   place_is = omega arith;
 }
 
 -- the payload stopped after what was passed over
 pub cuts_more : {m n k : ℕ} {a b d : Seen} {place middle : ℕ} {stop : Stop} → m + n ≤ k → PassesData m a b place middle
-    → CutsPassing n b d middle stop → CutsPassing k a d place stop
+    → N.CutsPassing n b d middle stop → N.CutsPassing k a d place stop
 cuts_more {m = m} {a = a} {b = b} {d = d} sum x y = record {
   bytes = x.bytes ++ y.bytes;
   own = y.own;
-  fewer = omega (arith, length-append x.bytes y.bytes);
-  ends = Ends-after a b d _ _ m _ x.takes y.ends;
-  stop_is = y.stop_is ∙ ap (λ j. began_at j y.own) (omega (arith, length-append x.bytes y.bytes));
+  fewer = omega (arith, N.length-append x.bytes y.bytes);
+  ends = N.Ends-after a b d _ _ m _ x.takes y.ends;
+  stop_is = y.stop_is ∙ ap (λ j. N.began_at j y.own) (omega (arith, N.length-append x.bytes y.bytes));
 }
 
 -- a scalar cell whose value isn't refused was read
-pub scalar_passes : {kind : Kind} {a b : Seen} {place place' : ℕ} {bytes : List ℕ} (charset : Charset) → is_scalar kind ≡ true
-    → GathersCell kind (cell_start kind (shape charset kind)) return_column a b place place' bytes → IsGoodValue kind bytes
-    → PassesCell (cell_start kind (shape charset kind)) a b place place'
+pub scalar_passes : {kind : N.Kind} {a b : Seen} {place place' : ℕ} {bytes : List ℕ} (charset : N.Charset) → N.is_scalar kind ≡ true
+    → N.GathersCell kind (N.cell_start kind (shape charset kind)) return_column a b place place' bytes → N.IsGoodValue kind bytes
+    → N.PassesCell (N.cell_start kind (shape charset kind)) a b place place'
 scalar_passes {bytes = bytes} charset scalar x good =
     let v = scalar_whole _ _ _ scalar x.whole good in
     record {
@@ -148,21 +145,21 @@ scalar_passes {bytes = bytes} charset scalar x good =
 -- ---- short values
 
 -- a value after what was read of it
-pub cell_after : {s t : CellPart} {a b d : Seen} {place middle place' : ℕ} → StepsOver s t a b place middle → PassesCell t b d middle place'
-    → PassesCell s a d place place'
+pub cell_after : {s t : CellPart} {a b d : Seen} {place middle place' : ℕ} → StepsOver s t a b place middle → N.PassesCell t b d middle place'
+    → N.PassesCell s a d place place'
 cell_after x y = record { value = y.value; steps = steps_both x y.steps }
 
 -- the data of a short value after its length
 module _ {c : Conversion} {size n : ℕ} {a b d : Seen} {place middle : ℕ} (any : AnyData c size)
-    (x : StepsOver (ShortLength c) (short_left c n []) a b place middle) where
-  pub short_passes : {place' : ℕ} → n % size ≡ 0 → PassesData n b d middle place' → PassesCell (ShortLength c) a d place place'
+    (x : StepsOver (N.ShortLength c) (short_left c n []) a b place middle) where
+  pub short_passes : {place' : ℕ} → n % size ≡ 0 → PassesData n b d middle place' → N.PassesCell (N.ShortLength c) a d place place'
   short_passes even y = cell_after x (record {
-    value = DataCell c y.bytes;
+    value = N.DataCell c y.bytes;
     steps = data_steps (short_holds return_column c) (any_begins any) [] y
         (any.fit y.bytes (rw y.counted even));
   })
 
-  pub short_cuts : {stop : Stop} → CutsPassing n b d middle stop → StopsPassing (ShortLength c) a d place stop
+  pub short_cuts : {stop : Stop} → N.CutsPassing n b d middle stop → N.StopsPassing (N.ShortLength c) a d place stop
   short_cuts y = stops_after_steps x (data_stops (short_holds return_column c) (any_begins any) [] y)
 
 -- ---- chunks
@@ -173,14 +170,14 @@ pub record WalksChunks (c : Conversion) (total : Option ℕ) (sum : ℕ) (old ne
   pub counted : length content ≡ sum
   pub steps : StepsOver (ChunkLength c total []) (ChunkLength c total content) old new place place'
 
-pub chunks_none : {c : Conversion} {total : Option ℕ} {a : Seen} {place : ℕ} → IsBetween a → WalksChunks c total 0 a a place place
+pub chunks_none : {c : Conversion} {total : Option ℕ} {a : Seen} {place : ℕ} → N.IsBetween a → WalksChunks c total 0 a a place place
 chunks_none between = record { content = []; counted = refl; steps = step_none between }
 
 module _ {c : Conversion} {total : Option ℕ} {sum : ℕ} {a b d : Seen} {place middle there : ℕ} (x : WalksChunks c total sum a b place middle) where
   -- the terminator was read
-  pub chunks_end : StepsOver (ChunkLength c total x.content) (WholeCell (DataCell c x.content)) b d middle there
-      → PassesCell (ChunkLength c total []) a d place there
-  chunks_end y = record { value = DataCell c x.content; steps = steps_both x.steps y }
+  pub chunks_end : StepsOver (ChunkLength c total x.content) (N.WholeCell (N.DataCell c x.content)) b d middle there
+      → N.PassesCell (ChunkLength c total []) a d place there
+  chunks_end y = record { value = N.DataCell c x.content; steps = steps_both x.steps y }
 
   module _ {size n : ℕ} {e : Seen} (any : AnyData c size) (y : StepsOver (ChunkLength c total x.content) (chunk_left c total n x.content) b d middle
       there) where
@@ -188,31 +185,31 @@ module _ {c : Conversion} {total : Option ℕ} {sum : ℕ} {a b d : Seen} {place
     pub chunks_more : {place' : ℕ} → PassesData n d e there place' → WalksChunks c total (sum + n) a e place place'
     chunks_more z = record {
       content = x.content ++ z.bytes;
-      counted = omega (arith, length-append x.content z.bytes);
+      counted = omega (arith, N.length-append x.content z.bytes);
       steps = steps_both (steps_both x.steps y) (data_steps (chunk_holds _ c total) (any_begins any) _ z tt);
     }
 
     -- the data of a chunk is cut
-    pub chunks_cut : {stop : Stop} → CutsPassing n d e there stop → StopsPassing (ChunkLength c total []) a e place stop
+    pub chunks_cut : {stop : Stop} → N.CutsPassing n d e there stop → N.StopsPassing (ChunkLength c total []) a e place stop
     chunks_cut z = stops_after_steps (steps_both x.steps y) (data_stops (chunk_holds return_column c total) (any_begins any) x.content z)
 
 -- ---- lengths and totals
 
 -- an element was read that leads on
 pub steps_of : {s t : CellPart} {a b : Seen} {place place' : ℕ} → Next return_column s a b place place' t → StepsOver s t a b place place'
-steps_of x = record { reads = reads_one _ _ _ _ _ _ x.next x.takes x.to; between = x.between; place_is = x.place_is }
+steps_of x = record { reads = N.reads_one _ _ _ _ _ _ x.next x.takes x.to; between = x.between; place_is = x.place_is }
 
 module _ {c : Conversion} {size : ℕ} (any : AnyData c size) where
   -- a short value has whole units
   pub short_even : {a b : Seen} {place place' k : ℕ} {answer : Option ℕ}
-      → ((n : ℕ) × ReadsNumber 2 a b place place' n × (short_fault return_column size n ≡ None) × (answer ≡ short_length n)) → answer ≡ Some k
+      → ((n : ℕ) × N.ReadsNumber 2 a b place place' n × (N.short_fault return_column size n ≡ None) × (answer ≡ N.short_length n)) → answer ≡ Some k
       → k % size ≡ 0
   short_even x is = grind arith
 
   module _ {total : Option ℕ} {content : List ℕ} {sum n k place place' : ℕ} {a b : Seen} (counted : length content ≡ sum)
-      (x : ReadsNumber 4 a b place place' n) (free : chunk_length_fault return_column size total sum n ≡ None) (is : k ≡ n) where
+      (x : N.ReadsNumber 4 a b place place' n) (free : N.chunk_length_fault return_column size total sum n ≡ None) (is : k ≡ n) where
     -- the terminator was read
-    pub end_steps : k ≡ 0 → StepsOver (ChunkLength c total content) (WholeCell (DataCell c content)) a b place place'
+    pub end_steps : k ≡ 0 → StepsOver (ChunkLength c total content) (N.WholeCell (N.DataCell c content)) a b place place'
     end_steps ends = grind (arith, steps_of, chunk_end, counted, content)
 
     -- the length of a chunk was read
@@ -221,11 +218,11 @@ module _ {c : Conversion} {size : ℕ} (any : AnyData c size) where
 
 -- ---- the data of a RETURNVALUE may be any bytes
 
-pub any_hex : AnyData HexDigits 1
+pub any_hex : AnyData N.HexDigits 1
 any_hex = grind arith
 
-pub any_narrow : AnyData Windows1252Text 1
+pub any_narrow : AnyData N.Windows1252Text 1
 any_narrow = grind arith
 
-pub any_wide : AnyData Utf16Text 2
+pub any_wide : AnyData N.Utf16Text 2
 any_wide = grind arith

@@ -1,21 +1,18 @@
 -- What bytes make by a grammar, and how a call that reads them and puts what they make goes from place to place.
-use Rattle.tds_rows.proofs.{
-  Words.{common_steps, ◌≡◌, ℕ, ◌+◌, ◌-◌, ◌^◌, ◌≤◌, Bool, List, [], ◌++◌, length, arith, append_assoc, append-nil, length-append, Fault, Stop, Grammar, Seen},
-  Words.{Takes, Inside, Inside-Spelt, Spelt-append, Spelt-none, Takes-none, takes_both, Option, seen, Sink, Held, Puts, held, StopsStreaming, Streams},
-  Words.{Puts-none, Puts-trans, added_inside, streaming_after, Rows, Writes},
-}
+use Rattle.tds_rows.proofs.Words as N
+use Rattle.tds_rows.proofs.Words.{◌≡◌, ℕ, ◌+◌, ◌-◌, ◌^◌, ◌≤◌, Bool, List, [], ◌++◌, length, arith, Fault, Grammar, Option, seen, held, Writes}
 use Rattle.tds_packet.specs.declared.payload.Payload.{Payload}
 
 -- where a reading stands: what the payload is seen to give, how many of its bytes were read, and what the sink holds
 pub record At : Type 0 where
-  pub seen : Seen
+  pub seen : N.Seen
   pub place : ℕ
-  pub held : Held
+  pub held : N.Held
 
-abbrev pub at_of : {R W : Type 0} → (R → Option (List ℕ)) → (W → Option (List ℕ)) → Payload R → Sink W → At
+abbrev pub at_of : {R W : Type 0} → (R → Option (List ℕ)) → (W → Option (List ℕ)) → Payload R → N.Sink W → At
 at_of remaining contents payload sink = record { seen = seen remaining payload; place = payload.place; held = held contents sink }
 
-abbrev pub here : {R W : Type 0} → (R → Option (List ℕ)) → (W → Option (List ℕ)) → Rows R W → At
+abbrev pub here : {R W : Type 0} → (R → Option (List ℕ)) → (W → Option (List ℕ)) → N.Rows R W → At
 here remaining contents rows = at_of remaining contents rows.payload.now rows.sink.now
 
 -- From one place to another bytes were read, and what they make was put.
@@ -23,21 +20,21 @@ pub record Path {S : Type 0} (g : Grammar S Fault) (text : S → List ℕ) (s : 
   pub bytes : List ℕ
   pub made : List ℕ
   pub writes : Writes g text s bytes made t
-  pub takes : Takes p.seen q.seen bytes (length bytes)
-  pub puts : Puts p.held q.held made
+  pub takes : N.Takes p.seen q.seen bytes (length bytes)
+  pub puts : N.Puts p.held q.held made
   pub place_is : q.place ≡ p.place + length bytes
 
 module _ {S : Type 0} {g : Grammar S Fault} {text : S → List ℕ} where
   pub writes_none : {s : S} → Writes g text s [] [] s
-  writes_none = record { spelt = Spelt-none _ _; text_is = append-nil _ }
+  writes_none = record { spelt = N.Spelt-none _ _; text_is = N.append-nil _ }
 
   pub writes_both : {s t u : S} {a b p q : List ℕ} → Writes g text s a p t → Writes g text t b q u → Writes g text s (a ++ b) (p ++ q) u
-  writes_both x y = grind (arith, Spelt-append, append_assoc)
+  writes_both x y = grind (arith, N.Spelt-append, N.append_assoc)
 
-  abbrev pub streams_of : {s t : S} {p q : At} → Path g text s p q t → Streams g text s p.seen q.seen p.held q.held t
+  abbrev pub streams_of : {s t : S} {p q : At} → Path g text s p q t → N.Streams g text s p.seen q.seen p.held q.held t
   streams_of x = record { bytes = x.bytes; spelt = x.writes.spelt; takes = x.takes; puts = (x.made, x.writes.text_is, x.puts) }
 
-  abbrev pub path_of : {s t : S} {p q : At} → (x : Streams g text s p.seen q.seen p.held q.held t) → q.place ≡ p.place + length x.bytes
+  abbrev pub path_of : {s t : S} {p q : At} → (x : N.Streams g text s p.seen q.seen p.held q.held t) → q.place ≡ p.place + length x.bytes
       → Path g text s p q t
   path_of x at = record {
     bytes = x.bytes;
@@ -49,28 +46,28 @@ module _ {S : Type 0} {g : Grammar S Fault} {text : S → List ℕ} where
   }
 
   abbrev pub path_none : {s : S} {p : At} → p.held.delivered ≤ 2 ^ 64 - 1 → Path g text s p p s
-  path_none d = record { bytes = []; made = []; writes = writes_none; takes = Takes-none _ 0; puts = Puts-none _ d; place_is = omega arith }
+  path_none d = record { bytes = []; made = []; writes = writes_none; takes = N.Takes-none _ 0; puts = N.Puts-none _ d; place_is = omega arith }
 
   pub path_both : {s t u : S} {p q r : At} → Path g text s p q t → Path g text t q r u → Path g text s p r u
   path_both {p = p} {q = q} {r = r} x y = record {
     bytes = x.bytes ++ y.bytes;
     made = x.made ++ y.made;
     writes = writes_both x.writes y.writes;
-    takes = takes_both p.seen q.seen r.seen x.bytes y.bytes x.takes y.takes;
-    puts = Puts-trans _ _ _ _ _ x.puts y.puts;
-    place_is = omega (arith, length-append x.bytes y.bytes);
+    takes = N.takes_both p.seen q.seen r.seen x.bytes y.bytes x.takes y.takes;
+    puts = N.Puts-trans _ _ _ _ _ x.puts y.puts;
+    place_is = omega (arith, N.length-append x.bytes y.bytes);
   }
 
   -- a call that stops after one that doesn't
-  pub path_stops : {s t : S} {p q : At} {d : Seen} {j : Held} {failed : Bool} {stop : Stop} → Path g text s p q t
-      → StopsStreaming g text t q.seen d q.place q.held j failed stop → StopsStreaming g text s p.seen d p.place p.held j failed stop
-  path_stops {p = p} x y = streaming_after _ _ _ _ _ _ _ _ _ _ p.place _ _ (streams_of x) (rw x.place_is at y)
+  pub path_stops : {s t : S} {p q : At} {d : N.Seen} {j : N.Held} {failed : Bool} {stop : N.Stop} → Path g text s p q t
+      → N.StopsStreaming g text t q.seen d q.place q.held j failed stop → N.StopsStreaming g text s p.seen d p.place p.held j failed stop
+  path_stops {p = p} x y = N.streaming_after _ _ _ _ _ _ _ _ _ _ p.place _ _ (streams_of x) (rw x.place_is at y)
 
 -- a small grammar inside a big one, with a text before it
 pub writes_inside : {S T : Type 0} {small : Grammar S Fault} {big : Grammar T Fault} {lift : S → T} {text : S → List ℕ} {whole : T
-    → List ℕ} {s t : S} {a p : List ℕ} (front : List ℕ) → Inside small big lift → ((s : S) → front ++ text s ≡ whole (lift s))
+    → List ℕ} {s t : S} {a p : List ℕ} (front : List ℕ) → N.Inside small big lift → ((s : S) → front ++ text s ≡ whole (lift s))
     → Writes small text s a p t → Writes big whole (lift s) a p (lift t)
-writes_inside {whole = whole} front is text_is x = grind (arith, common_steps, whole, Inside-Spelt, added_inside)
+writes_inside {whole = whole} front is text_is x = grind (arith, N.common_steps, whole, N.Inside-Spelt, N.added_inside)
 
 -- what is known of all bytes and what they make
 pub path_map : {S T : Type 0} {g : Grammar S Fault} {k : Grammar T Fault} {text : S → List ℕ} {whole : T → List ℕ} {s t : S} {u v : T} {p q : At}

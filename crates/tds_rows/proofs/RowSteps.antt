@@ -1,11 +1,8 @@
 -- The cells of a row, as they are read one after another and their text is put.
+use Rattle.tds_rows.proofs.Words as N
 use Rattle.tds_rows.proofs.{
-  Words.{PutsField, StopsField, shape, ◌≡◌, ◌∙◌, ℕ, ◌+◌, ◌^◌, ◌-◌, ◌<◌, ◌≤◌, Bool, false, List, [], ◌∷◌, ◌++◌, length, sym, ap, arith, append-nil},
-  Words.{length-append, None, map, length-map, map-append, Kind, Stop, IsNext, Leads, Spelt, concat, IsBetween, Seen, Takes, Spelt-append, Spelt-one, Column},
-  Words.{joined, after_comma, in_line, Breaks, Held, Puts, BreaksStreaming, PutsText, Streams, Puts-none, Charset, Cell, CellPart, Shape, WholeCell, cell},
-  Words.{cell_add, cell_end, cell_size, cell_start, field, field_so_far, row, with_cell, StallsCell, cell_so_far, true, refl, append_assoc, Option, Some},
-  Words.{next_some, end_after, null_field, ChunkData, ChunkLength, Null, ShortData, is_last_column, opened, RowPart, marked, next_cell},
-  Words.row_so_far,
+  Words.{◌≡◌, ◌∙◌, ℕ, ◌+◌, ◌^◌, ◌-◌, ◌<◌, ◌≤◌, Bool, false, List, [], ◌∷◌, ◌++◌, length, sym, ap, arith, append-nil, None, map, Kind, Stop, Seen, Column},
+  Words.{joined, Held, Charset, Cell, CellPart, WholeCell, cell, cell_start, field, cell_so_far, true, refl, Option, Some, opened},
   Paths.At,
   LineTexts.joined_snoc,
   GrowingTexts.{Grows, OptionGrows, cell_grows, grows_all, grows_same, grows_trans, grows_under},
@@ -17,22 +14,22 @@ pub record ReadsCell (from : CellPart) (column : ℕ) (last : Bool) (old new : S
   pub front : List ℕ
   pub at : CellPart
   pub element : List ℕ
-  pub spelt : Spelt (cell column) from front at
-  pub next : IsNext (cell column) at element
-  pub whole : cell_add at element ≡ WholeCell value
-  pub quiet : field_so_far at ≡ None
-  pub takes : Takes old new (front ++ element) (length (front ++ element))
-  pub between : IsBetween new
+  pub spelt : N.Spelt (cell column) from front at
+  pub next : N.IsNext (cell column) at element
+  pub whole : N.cell_add at element ≡ WholeCell value
+  pub quiet : N.field_so_far at ≡ None
+  pub takes : N.Takes old new (front ++ element) (length (front ++ element))
+  pub between : N.IsBetween new
   pub place_is : place' ≡ place + length (front ++ element)
-  pub text_is : text ≡ in_line column last (field value)
+  pub text_is : text ≡ N.in_line column last (field value)
 
 -- A cell of a kind was read, and its text put.
 abbrev pub PutsCell : Charset → Kind → ℕ → Bool → Seen → Seen → ℕ → ℕ → Held → Held → Type 0
-PutsCell charset kind = PutsField (cell_start kind (shape charset kind))
+PutsCell charset kind = N.PutsField (cell_start kind (N.shape charset kind))
 
 -- A cell of a kind stopped so.
 abbrev pub StopsCell : Charset → Kind → ℕ → Bool → Seen → Seen → ℕ → Held → Held → Bool → Stop → Type 0
-StopsCell charset kind = StopsField (cell_start kind (shape charset kind))
+StopsCell charset kind = N.StopsField (cell_start kind (N.shape charset kind))
 
 -- A cell of a kind was read and its text put, from one place to another; or it stopped so.
 abbrev pub PutsAt : Charset → Kind → ℕ → Bool → At → At → Type 0
@@ -44,33 +41,33 @@ StopsAt charset kind column last p d j failed stop = StopsCell charset kind colu
 -- ---- a cell whose text comes with its last element alone
 
 -- before its first element a cell has no text
-pub start_quiet : (kind : Kind) (s : Shape) → field_so_far (cell_start kind s) ≡ None
+pub start_quiet : (kind : Kind) (s : N.Shape) → N.field_so_far (cell_start kind s) ≡ None
 start_quiet kind s = grind arith
 
 -- it has no text yet
-pub quiet_text : (column : ℕ) (last : Bool) (at : CellPart) → field_so_far at ≡ None → cell_so_far column last at ≡ []
+pub quiet_text : (column : ℕ) (last : Bool) (at : CellPart) → N.field_so_far at ≡ None → cell_so_far column last at ≡ []
 quiet_text column last at h = grind arith
 
-module _ (kind : Kind) (s : Shape) (column : ℕ) (last : Bool) where
-  none_put : (at : CellPart) (h : Held) → field_so_far at ≡ None → h.delivered ≤ 2 ^ 64 - 1
-      → PutsText (cell_so_far column last) (cell_start kind s) at h h
-  none_put at h quiet d = grind (arith, Puts-none)
+module _ (kind : Kind) (s : N.Shape) (column : ℕ) (last : Bool) where
+  none_put : (at : CellPart) (h : Held) → N.field_so_far at ≡ None → h.delivered ≤ 2 ^ 64 - 1
+      → N.PutsText (cell_so_far column last) (cell_start kind s) at h h
+  none_put at h quiet d = grind (arith, N.Puts-none)
 
   -- it was read, and its text put
   abbrev pub at_once_streams : {a b : Seen} {place place' : ℕ} {h i : Held} {text : List ℕ}
-      (r : ReadsCell (cell_start kind s) column last a b place place' text) → Puts h i text
-      → Streams (cell column) (cell_so_far column last) (cell_start kind s) a b h i (WholeCell r.value)
+      (r : ReadsCell (cell_start kind s) column last a b place place' text) → N.Puts h i text
+      → N.Streams (cell column) (cell_so_far column last) (cell_start kind s) a b h i (WholeCell r.value)
   at_once_streams {text = text} r x = record {
     bytes = r.front ++ r.element;
-    spelt = Spelt-append _ _ _ _ _ _ r.spelt (rw (← r.whole) (Spelt-one _ _ _ r.next));
+    spelt = N.Spelt-append _ _ _ _ _ _ r.spelt (rw (← r.whole) (N.Spelt-one _ _ _ r.next));
     takes = r.takes;
     puts = (text, ap (λ l. l ++ text) (quiet_text _ _ _ (start_quiet _ s)) ∙ r.text_is, x);
   }
 
   -- it was read, and a write of its text failed
   pub at_once_breaks : {a b : Seen} {place place' : ℕ} {h i : Held} {text : List ℕ} {stop : Stop} → h.delivered ≤ 2 ^ 64 - 1 → length h.waiting < 4096
-      → (r : ReadsCell (cell_start kind s) column last a b place place' text) → Breaks h i text stop
-      → BreaksStreaming (cell column) (cell_so_far column last) (cell_start kind s) a b h i r.at stop
+      → (r : ReadsCell (cell_start kind s) column last a b place place' text) → N.Breaks h i text stop
+      → N.BreaksStreaming (cell column) (cell_so_far column last) (cell_start kind s) a b h i r.at stop
   at_once_breaks {h = h} {text = text} d few r x = record {
     bytes = r.front;
     element = r.element;
@@ -89,28 +86,28 @@ module _ (kind : Kind) (s : Shape) (column : ℕ) (last : Bool) where
 
   -- it stopped before it had any text
   pub at_once_stalls : {a b : Seen} {place : ℕ} {h : Held} {stop : Stop} → h.delivered ≤ 2 ^ 64 - 1
-      → StallsCell (cell_start kind s) column a b place stop → StopsField (cell_start kind s) column last a b place h h false stop
+      → N.StallsCell (cell_start kind s) column a b place stop → N.StopsField (cell_start kind s) column last a b place h h false stop
   at_once_stalls d x = grind (arith, none_put)
 
 -- ---- a cell in its row
 
-pub fields_more : (cells : List Cell) (v : List ℕ) → joined (map field cells) ++ after_comma (length cells) v ≡ joined (map field cells ++ v ∷ [])
-fields_more cells v = grind (arith, length-map, joined_snoc)
+pub fields_more : (cells : List Cell) (v : List ℕ) → joined (map field cells) ++ N.after_comma (length cells) v ≡ joined (map field cells ++ v ∷ [])
+fields_more cells v = grind (arith, N.length-map, joined_snoc)
 
 pub cell_more : (cells : List Cell) (v : Cell)
-    → joined (map field cells) ++ after_comma (length cells) (field v) ≡ joined (map field (cells ++ v ∷ []))
-cell_more cells v = grind (arith, fields_more, map-append)
+    → joined (map field cells) ++ N.after_comma (length cells) (field v) ≡ joined (map field (cells ++ v ∷ []))
+cell_more cells v = grind (arith, fields_more, N.map-append)
 
 -- the columns to come, each with whether it is NULL by its bit
 module _ (charset : Charset) (cells : List Cell) (ks : List (Column × Bool)) where
   -- a row ends as its open cell does
-  pub same_end : (at : CellPart) → 0 < cell_size at → (row charset).end_fault (with_cell charset cells ks at) ≡ cell_end at
+  pub same_end : (at : CellPart) → 0 < N.cell_size at → (N.row charset).end_fault (N.with_cell charset cells ks at) ≡ N.cell_end at
   same_end at h = grind arith
 
-some_bytes : (column : ℕ) (from : CellPart) (v : Cell) (es : List (List ℕ)) → (from ≡ WholeCell v → ⊥) → Leads (cell column) from es (WholeCell v)
-    → 0 < length (concat es)
+some_bytes : (column : ℕ) (from : CellPart) (v : Cell) (es : List (List ℕ)) → (from ≡ WholeCell v → ⊥) → N.Leads (cell column) from es (WholeCell v)
+    → 0 < length (N.concat es)
 some_bytes column from v [] before h = absurd (before h)
-some_bytes column from v (e ∷ es) before h = omega (arith, length-append e (concat es))
+some_bytes column from v (e ∷ es) before h = omega (arith, N.length-append e (N.concat es))
 
 -- a cell that was read has some bytes
 pub cell_some : {column : ℕ} {last : Bool} {p q : At} (charset : Charset) (kind : Kind) → PutsAt charset kind column last p q → p.place < q.place
@@ -127,17 +124,17 @@ ends [] = true
 ends (k ∷ ks) = false
 
 -- so it is where no column is left
-pub ends_marked : (columns : List Column) (nulls : ℕ → Bool) (n : ℕ) → is_last_column columns ≡ ends (marked columns nulls n)
+pub ends_marked : (columns : List Column) (nulls : ℕ → Bool) (n : ℕ) → N.is_last_column columns ≡ ends (N.marked columns nulls n)
 ends_marked columns nulls n = grind arith
 
 -- no column is NULL by its bit
 abbrev pub coming : List Column → ℕ → List (Column × Bool)
-coming left n = marked left (λ k. false) n
+coming left n = N.marked left (λ k. false) n
 
 -- the text in its line of the first columns, as far as they are NULL by their bit; this many columns lie before them
 abbrev pub nulls_ahead : ℕ → List (Column × Bool) → List ℕ
 nulls_ahead n [] = []
-nulls_ahead n ((k, true) ∷ ks) = in_line n (ends ks) null_field ++ nulls_ahead (n + 1) ks
+nulls_ahead n ((k, true) ∷ ks) = N.in_line n (ends ks) N.null_field ++ nulls_ahead (n + 1) ks
 nulls_ahead n ((k, false) ∷ ks) = []
 
 pub none_ahead : (left : List Column) (n : ℕ) → nulls_ahead n (coming left n) ≡ []
@@ -146,23 +143,23 @@ none_ahead (c ∷ cs) n = refl
 
 -- one more whole cell, and what is known of the text after it
 one_more : (cells : List Cell) (v : Cell) (ks : List (Column × Bool)) (text : List ℕ)
-    → (joined (map field (cells ++ v ∷ [])) ++ end_after (ends ks)) ++ nulls_ahead (length (cells ++ v ∷ [])) ks ≡ text
-    → (joined (map field cells) ++ in_line (length cells) (ends ks) (field v)) ++ nulls_ahead (length cells + 1) ks ≡ text
+    → (joined (map field (cells ++ v ∷ [])) ++ N.end_after (ends ks)) ++ nulls_ahead (length (cells ++ v ∷ [])) ks ≡ text
+    → (joined (map field cells) ++ N.in_line (length cells) (ends ks) (field v)) ++ nulls_ahead (length cells + 1) ks ≡ text
 one_more cells v ks text is =
     let begun =
-    sym (append_assoc (joined (map field cells)) _ _) ∙ ap (λ l. l ++ end_after (ends ks)) (cell_more cells v) in
+    sym (N.append_assoc (joined (map field cells)) _ _) ∙ ap (λ l. l ++ N.end_after (ends ks)) (cell_more cells v) in
     ap (λ l. l ++ nulls_ahead (length cells + 1) ks) begun
-    ∙ ap (λ n. (joined (map field (cells ++ v ∷ [])) ++ end_after (ends ks)) ++ nulls_ahead n ks) (sym (length-append cells _)) ∙ is
+    ∙ ap (λ n. (joined (map field (cells ++ v ∷ [])) ++ N.end_after (ends ks)) ++ nulls_ahead n ks) (sym (N.length-append cells _)) ∙ is
 
 -- a row's text so far is that of its whole cells, the end of the line where no column follows, and that of the NULLs to come
 pub nulls_text : (charset : Charset) (cells : List Cell) (ks : List (Column × Bool))
-    → (joined (map field cells) ++ end_after (ends ks)) ++ nulls_ahead (length cells) ks ≡ row_so_far (next_cell charset cells ks)
+    → (joined (map field cells) ++ N.end_after (ends ks)) ++ nulls_ahead (length cells) ks ≡ N.row_so_far (N.next_cell charset cells ks)
 nulls_text charset cells [] = append-nil _
 nulls_text charset cells ((k, true) ∷ ks) =
     let tail = nulls_ahead _ ks in
-    ap (λ l. l ++ (in_line (length cells) (ends ks) null_field ++ tail)) (append-nil (joined (map field cells)))
-    ∙ sym (append_assoc (joined (map field cells)) _ tail)
-    ∙ one_more cells Null ks _ (nulls_text charset (cells ++ Null ∷ []) ks)
+    ap (λ l. l ++ (N.in_line (length cells) (ends ks) N.null_field ++ tail)) (append-nil (joined (map field cells)))
+    ∙ sym (N.append_assoc (joined (map field cells)) _ tail)
+    ∙ one_more cells N.Null ks _ (nulls_text charset (cells ++ N.Null ∷ []) ks)
 nulls_text charset cells ((k, false) ∷ ks) = grind (arith, append-nil)
 
 -- ---- a cell's text in its line
@@ -174,26 +171,26 @@ module _ (column : ℕ) (last : Bool) where
   opened_grows (Some a) (Some b) h = grind arith
 
   -- while it is open, the text so far of a cell is that of its field
-  pub opened_text : (p : CellPart) → 0 < cell_size p → opened column (field_so_far p) ≡ cell_so_far column last p
+  pub opened_text : (p : CellPart) → 0 < N.cell_size p → opened column (N.field_so_far p) ≡ cell_so_far column last p
   opened_text p h = grind arith
 
-  opened_to : (p : CellPart) → Grows (opened column (field_so_far p)) (cell_so_far column last p)
-  opened_to (ShortData c n d) = grows_same _
-  opened_to (ChunkLength c t d) = grows_same _
-  opened_to (ChunkData c t n d) = grows_same _
+  opened_to : (p : CellPart) → Grows (opened column (N.field_so_far p)) (cell_so_far column last p)
+  opened_to (N.ShortData c n d) = grows_same _
+  opened_to (N.ChunkLength c t d) = grows_same _
+  opened_to (N.ChunkData c t n d) = grows_same _
   opened_to (WholeCell v) = grind arith
   opened_to p = grows_all []
 
   -- each element of a cell adds to its text in its line
-  pub line_grows : (p : CellPart) (e : List ℕ) → IsNext (cell column) p e → Grows (cell_so_far column last p) (cell_so_far column last (cell_add p e))
-  line_grows p e n = rw (opened_text p (next_some _ p e n)) at (grows_trans _ _ _ (opened_grows _ _ (cell_grows _ p e n)) (opened_to _))
+  pub line_grows : (p : CellPart) (e : List ℕ) → N.IsNext (cell column) p e → Grows (cell_so_far column last p) (cell_so_far column last (N.cell_add p e))
+  line_grows p e n = rw (opened_text p (N.next_some _ p e n)) at (grows_trans _ _ _ (opened_grows _ _ (cell_grows _ p e n)) (opened_to _))
 
 -- ---- a cell in its row, with the NULLs after it
 
 module _ (charset : Charset) (cells : List Cell) (ks : List (Column × Bool)) where
   -- a cell's states in its row
-  abbrev up : CellPart → RowPart
-  up = with_cell charset cells ks
+  abbrev up : CellPart → N.RowPart
+  up = N.with_cell charset cells ks
 
   -- the text of the NULLs after it, once it is whole
   abbrev pub rest_of : CellPart → List ℕ
@@ -201,9 +198,9 @@ module _ (charset : Charset) (cells : List Cell) (ks : List (Column × Bool)) wh
   rest_of part = []
 
   -- the text so far of the row is that of the whole cells, that of the next one, and that of the NULLs after it
-  pub part_text : (at : CellPart) → (joined (map field cells) ++ cell_so_far (length cells) (ends ks) at) ++ rest_of at ≡ row_so_far (up at)
+  pub part_text : (at : CellPart) → (joined (map field cells) ++ cell_so_far (length cells) (ends ks) at) ++ rest_of at ≡ N.row_so_far (up at)
   part_text at = grind (arith, append-nil, nulls_text, one_more, fields_more)
 
   -- there are none after it while it is open
-  pub begun_text : (at : CellPart) → 0 < cell_size at → joined (map field cells) ++ cell_so_far (length cells) (ends ks) at ≡ row_so_far (up at)
+  pub begun_text : (at : CellPart) → 0 < N.cell_size at → joined (map field cells) ++ cell_so_far (length cells) (ends ks) at ≡ N.row_so_far (up at)
   begun_text at some = grind (arith, append-nil, (part_text at))

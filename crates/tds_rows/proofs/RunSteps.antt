@@ -1,12 +1,9 @@
 -- The cells of a run, as they are written one after another.
+use Rattle.tds_rows.proofs.Words as N
 use Rattle.tds_rows.proofs.{
-  Words.{RowsPart, false, zero, suc, add-zero, ◌≡◌, ◌∙◌, ℕ, ◌+◌, ◌-◌, ◌≤◌, ◌<◌, Bool, List, [], ◌∷◌, ◌++◌, length, take, drop, get_or, refl, sym, ap, subst},
-  Words.{arith, append_assoc, append-nil, length-append, Result, Ok, Err, MatchResult, true, length-take, length-take-le, take-append-le, take_all, take_more},
-  Words.{take-append-add, take-add, Stop, map, Option, Seen, Takes, joined, line, Sink, Breaks, Held, IsWriting, Puts, PutsPiece, held, Inside, Spelt-append},
-  Words.{Spelt-one, Column, all_after, Charset, Cell, CellPart, Shape, WholeCell, cell, cell_start, field, shape, NbcRow, PlainRow, RowPart, RowToken},
-  Words.{WholeRow, next_cell, row, row_so_far, token_byte, token_start, with_field, IsLeft, IsScalarLeft, WritesKind, cell_so_far, is_last_column, scalar_size},
-  Words.{whole_size, WritesCell, WritesWhole, is_scalar, Writes, WritesRows, after_cells, lines, rows, rows_so_far, Kind, WritesColumn, WritesMarked, ◌^◌, inr},
-  Words.{breaks_somewhere, IsBetween, Takes-more},
+  Words.{false, zero, suc, ◌≡◌, ◌∙◌, ℕ, ◌+◌, ◌-◌, ◌≤◌, ◌<◌, Bool, List, [], ◌∷◌, ◌++◌, length, take, drop, refl, sym, ap, subst, arith, Result, Ok, Err, true},
+  Words.{Stop, map, Option, held, Column, Charset, Cell, cell, cell_start, shape, PlainRow, row, row_so_far, Writes, WritesRows, after_cells, lines, rows},
+  Words.{rows_so_far, Kind, ◌^◌, inr},
   CellSteps.fixed_some,
   NullSteps.row_cell,
   RowSteps.{coming, ends_marked, line_grows, none_ahead, quiet_text, start_quiet, PutsCell, StopsCell},
@@ -17,101 +14,101 @@ use Rattle.tds_rows.proofs.{
 -- ---- cells of a row
 
 -- a cell whose text comes with its last element
-pub whole_of : {from : CellPart} {column : ℕ} {last : Bool} {bytes made : List ℕ} → WritesCell from column last bytes made
-    → WritesWhole from column last bytes made
+pub whole_of : {from : N.CellPart} {column : ℕ} {last : Bool} {bytes made : List ℕ} → N.WritesCell from column last bytes made
+    → N.WritesWhole from column last bytes made
 whole_of x = record {
   value = x.value;
   spelt = rw x.joined at
-      (Spelt-append _ _ _ _ _ _ x.spelt (rw x.whole at (Spelt-one _ _ _ x.next)));
+      (N.Spelt-append _ _ _ _ _ _ x.spelt (rw x.whole at (N.Spelt-one _ _ _ x.next)));
   text_is = x.text_is;
 }
 
 -- a scalar cell, in any set
 pub writes_scalar : (set : Charset) (kind : Kind) (column : ℕ) (last : Bool) (bytes made : List ℕ)
-    → ((any : Charset) → WritesCell (cell_start kind (shape any kind)) column last bytes made) → WritesKind set kind column last bytes made
+    → ((any : Charset) → N.WritesCell (cell_start kind (shape any kind)) column last bytes made) → N.WritesKind set kind column last bytes made
 writes_scalar set kind column last bytes made x = grind (arith, whole_of)
 
 -- what is made after what was made
 pub made_more : (made m : ℕ) (to new rest : List ℕ) → made ≤ length to → m ≤ length new
     → take (made + m) (take made to ++ (new ++ rest)) ≡ take made to ++ take m new
-made_more made m to new rest within some = grind (arith, length-take-le, take-append-add, take-append-le)
+made_more made m to new rest within some = grind (arith, N.length-take-le, N.take-append-add, N.take-append-le)
 
 -- what is used after what was used
 pub used_more : (used u : ℕ) (bytes : List ℕ) → take (used + u) bytes ≡ take used bytes ++ take u (take (length bytes - used) (drop used bytes))
-used_more used u bytes = grind (arith, take-add, all_after)
+used_more used u bytes = grind (arith, N.take-add, N.all_after)
 
 -- what is written after what was made leaves it as it was
 pub made_same : (made : ℕ) (to rest : List ℕ) → made ≤ length to → take made (take made to ++ rest) ≡ take made to
-made_same made to rest within = grind (arith, take-append-le, length-take-le, take_all)
+made_same made to rest within = grind (arith, N.take-append-le, N.length-take-le, N.take_all)
 
 -- ---- the size of a cell
 
 -- how many bytes it has
-pub scalar_whole : (kind : Kind) (bytes : List ℕ) → is_scalar kind ≡ true → whole_size kind bytes ≡ scalar_size kind bytes
+pub scalar_whole : (kind : Kind) (bytes : List ℕ) → N.is_scalar kind ≡ true → N.whole_size kind bytes ≡ N.scalar_size kind bytes
 scalar_whole kind bytes h = grind arith
 
 -- it is left as a scalar cell is
-pub scalar_left : (set : Charset) (kind : Kind) (bytes : List ℕ) (room : ℕ) → is_scalar kind ≡ true → IsLeft set kind bytes room
-    → IsScalarLeft kind bytes
+pub scalar_left : (set : Charset) (kind : Kind) (bytes : List ℕ) (room : ℕ) → N.is_scalar kind ≡ true → N.IsLeft set kind bytes room
+    → N.IsScalarLeft kind bytes
 scalar_left set kind bytes room scalar h5 = grind arith
 
 -- a cell has some bytes
-pub whole_some : (kind : Kind) (bytes : List ℕ) → 0 < whole_size kind bytes
+pub whole_some : (kind : Kind) (bytes : List ℕ) → 0 < N.whole_size kind bytes
 whole_some kind bytes = grind arith
 
 -- ---- a run between a payload and a sink
 
 -- what doesn't fill a block isn't delivered, so no write of it fails
-pub fills_no_block : (h j : Held) (piece : List ℕ) (stop : Stop) → length h.waiting + length piece < 4096 → Breaks h j piece stop → ⊥
+pub fills_no_block : (h j : N.Held) (piece : List ℕ) (stop : Stop) → length h.waiting + length piece < 4096 → N.Breaks h j piece stop → ⊥
 fills_no_block h j piece stop few (sent, blocks, n, adds, most, least, less, whole, is, risen) =
-    let both : length h.waiting + length (take n piece) ≡ length sent + length j.waiting = sym (length-append h.waiting (take n piece))
-    ∙ ap length adds.1 ∙ length-append sent j.waiting in
-    omega (arith, most, length-take n piece)
+    let both : length h.waiting + length (take n piece) ≡ length sent + length j.waiting = sym (N.length-append h.waiting (take n piece))
+    ∙ ap length adds.1 ∙ N.length-append sent j.waiting in
+    omega (arith, most, N.length-take n piece)
 
 -- ---- over the ends of rows
 
 pub lines-append : (rs qs : List (List Cell)) → lines (rs ++ qs) ≡ lines rs ++ lines qs
 lines-append [] qs = refl
-lines-append (r ∷ rs) qs = ap (λ l. line (map field r) ++ l) (lines-append rs qs) ∙ sym (append_assoc (line (map field r)) (lines rs) (lines qs))
+lines-append (r ∷ rs) qs = ap (λ l. N.line (map N.field r) ++ l) (lines-append rs qs) ∙ sym (N.append_assoc (N.line (map N.field r)) (lines rs) (lines qs))
 
 -- some columns are to come, so no line ends there
-start_text : (token : RowToken) (charset : Charset) (columns : List Column) → 0 < length columns → row_so_far (token_start token charset columns) ≡ []
+start_text : (token : N.RowToken) (charset : Charset) (columns : List Column) → 0 < length columns → row_so_far (N.token_start token charset columns) ≡ []
 start_text PlainRow charset [] some = absurd (omega arith)
-start_text PlainRow charset (c ∷ cs) some = ap (λ o. joined (with_field [] o)) (start_quiet _ _)
-start_text NbcRow charset columns some = refl
+start_text PlainRow charset (c ∷ cs) some = ap (λ o. N.joined (N.with_field [] o)) (start_quiet _ _)
+start_text N.NbcRow charset columns some = refl
 
-module _ (token : RowToken) (charset : Charset) (all : List Column) (before : List (List Cell)) where
-  pub row_among_rows : Inside (row charset) (rows token charset all) (λ p. record { before = before; at = p })
+module _ (token : N.RowToken) (charset : Charset) (all : List Column) (before : List (List Cell)) where
+  pub row_among_rows : N.Inside (row charset) (rows token charset all) (λ p. record { before = before; at = p })
   row_among_rows = grind arith
 
   -- what is written of a row is written of the rows
-  pub row_among : {p q : RowPart} {bytes made : List ℕ} → Writes (row charset) row_so_far p bytes made q
+  pub row_among : {p q : N.RowPart} {bytes made : List ℕ} → Writes (row charset) row_so_far p bytes made q
       → Writes (rows token charset all) rows_so_far (record { before = before; at = p }) bytes made (record { before = before; at = q })
   row_among x = writes_inside {text = row_so_far} {whole = rows_so_far} _ row_among_rows (λ p. refl) x
 
   -- the token byte of the next row
   pub row_token : (cells : List Cell) → 0 < length all
-      → Writes (rows token charset all) rows_so_far (record { before = before; at = WholeRow cells }) (token_byte token ∷ []) []
-      (record { before = before ++ cells ∷ []; at = token_start token charset all })
-  row_token cells some = grind (arith, Spelt-one, append-nil, lines-append, start_text)
+      → Writes (rows token charset all) rows_so_far (record { before = before; at = N.WholeRow cells }) (N.token_byte token ∷ []) []
+      (record { before = before ++ cells ∷ []; at = N.token_start token charset all })
+  row_token cells some = grind (arith, N.Spelt-one, N.append-nil, lines-append, start_text)
 
 -- ---- cells of the last row
 
 -- a cell that lies whole, by itself
-cell_writes : {column : ℕ} {last : Bool} {bytes made : List ℕ} (kind : Kind) (sh : Shape)
-    → (x : WritesWhole (cell_start kind sh) column last bytes made)
-    → Writes (cell column) (cell_so_far column last) (cell_start kind sh) bytes made (WholeCell x.value)
+cell_writes : {column : ℕ} {last : Bool} {bytes made : List ℕ} (kind : Kind) (sh : N.Shape)
+    → (x : N.WritesWhole (cell_start kind sh) column last bytes made)
+    → Writes (cell column) (N.cell_so_far column last) (cell_start kind sh) bytes made (N.WholeCell x.value)
 cell_writes {column = column} {last = last} {made = made} kind sh x = grind (arith, quiet_text, start_quiet)
 
 -- a cell after these, in its row
 after_more : {bytes made : List ℕ} {v : Cell} (charset : Charset) (cells : List Cell) (c : Column) (left : List Column)
-    → Writes (cell (length cells)) (cell_so_far (length cells) (is_last_column left)) (cell_start c.kind (shape charset c.kind)) bytes made
-    (WholeCell v)
+    → Writes (cell (length cells)) (N.cell_so_far (length cells) (N.is_last_column left)) (cell_start c.kind (shape charset c.kind)) bytes made
+    (N.WholeCell v)
     → Writes (row charset) row_so_far (after_cells charset cells (c ∷ left)) bytes made (after_cells charset (cells ++ v ∷ []) left)
 after_more {bytes = bytes} {made = made} {v = v} charset cells c left x =
     let n = length cells + 1 in
     subst (λ (k : ℕ). Writes (row charset) row_so_far (after_cells charset cells (c ∷ left)) bytes made
-    (next_cell charset (cells ++ v ∷ []) (coming left k))) (sym (length-append cells (v ∷ [])))
+    (N.next_cell charset (cells ++ v ∷ []) (coming left k))) (sym (N.length-append cells (v ∷ [])))
     (row_cell _ _ _ c (none_ahead _ n) (rw (ends_marked _ (λ k. false) n) at x))
 
 pub rows_none : {charset : Charset} {all : List Column} {cells : List Cell} {columns : List Column} {column : ℕ} → length cells ≡ column
@@ -126,7 +123,7 @@ pub record WritesCells (charset : Charset) (all : List Column) (cells : List Cel
 
 module _ {charset : Charset} {all : List Column} {cells : List Cell} {from : ℕ} where
   -- one column more
-  column_cells : {a b p q : List ℕ} (at : ℕ) → WritesCells charset all cells from at a p → WritesColumn charset all (λ k. false) at b q
+  column_cells : {a b p q : List ℕ} (at : ℕ) → WritesCells charset all cells from at a p → N.WritesColumn charset all (λ k. false) at b q
       → WritesCells charset all cells from (at + 1) (a ++ b) (p ++ q)
   column_cells {b = b} {q = q} at x w =
       let z = rw (sym x.counted) at w.writes in
@@ -136,14 +133,14 @@ module _ {charset : Charset} {all : List Column} {cells : List Cell} {from : ℕ
       (sym (next_column all at w.column w.left w.next).1.1) one in
       record {
         more = x.more ++ z.value ∷ [];
-        counted = omega (arith, length-append x.more (z.value ∷ []));
+        counted = omega (arith, N.length-append x.more (z.value ∷ []));
         writes = writes_both (rw w.next at x.writes) next;
       }
 
   -- so many columns
-  pub marked_cells : (n : ℕ) (b q : List ℕ) → length cells ≡ from → WritesMarked charset all (λ k. false) from n b q
+  pub marked_cells : (n : ℕ) (b q : List ℕ) → length cells ≡ from → N.WritesMarked charset all (λ k. false) from n b q
       → WritesCells charset all cells from (from + n) b q
-  marked_cells zero b q counted w = rw (w.0, w.1, add-zero from) (record { more = cells; counted = counted; writes = writes_none })
+  marked_cells zero b q counted w = rw (w.0, w.1, N.add-zero from) (record { more = cells; counted = counted; writes = writes_none })
   marked_cells (suc n) b q counted w =
       let y = column_cells _ (marked_cells n _ _ counted w.6) w.7 in
       let further : (from + n) + 1 ≡ from + suc n = omega arith in
@@ -152,7 +149,7 @@ module _ {charset : Charset} {all : List Column} {cells : List Cell} {from : ℕ
 module _ {charset : Charset} {all : List Column} {cells : List Cell} {columns : List Column} {count : ℕ} where
   -- so many columns more of the last row
   pub marked_writes : {a p : List ℕ} (at n : ℕ) (b q : List ℕ) → WritesRows charset all cells columns (drop at all) at count a p
-      → WritesMarked charset all (λ k. false) at n b q → WritesRows charset all cells columns (drop (at + n) all) (at + n) count (a ++ b) (p ++ q)
+      → N.WritesMarked charset all (λ k. false) at n b q → WritesRows charset all cells columns (drop (at + n) all) (at + n) count (a ++ b) (p ++ q)
   marked_writes at n b q x w =
       let y = marked_cells n b q x.counted w in
       record {
@@ -169,31 +166,31 @@ module _ {charset : Charset} {all : List Column} {cells : List Cell} {columns : 
   rows_next {p = p} some x = record {
     before = x.before ++ x.more ∷ [];
     more = [];
-    rows_counted = omega (arith, length-append x.before (x.more ∷ []));
+    rows_counted = omega (arith, N.length-append x.before (x.more ∷ []));
     counted = refl;
-    writes = rw (append-nil p) at (writes_both x.writes (row_token PlainRow charset all x.before x.more some));
+    writes = rw (N.append-nil p) at (writes_both x.writes (row_token PlainRow charset all x.before x.more some));
   }
 
   pub rows_onward : {left : List Column} {column : ℕ} {p : List ℕ} (used : ℕ) (bytes : List ℕ) → 0 < length all → left ≡ [] → used < length bytes
-      → get_or bytes used 0 ≡ 0xD1
+      → N.get_or bytes used 0 ≡ 0xD1
       → WritesRows charset all cells columns left column count (take used bytes) p
       → WritesRows charset all cells columns all 0 (count + 1) (take (used + 1) bytes) p
-  rows_onward used bytes some none within is x = grind (arith, rows_next, take_more)
+  rows_onward used bytes some none within is x = grind (arith, rows_next, N.take_more)
 
 -- ---- rows after rows
 
 module _ (charset : Charset) (all : List Column) (before : List (List Cell)) where
   -- rows after these
-  abbrev after_rows : RowsPart → RowsPart
+  abbrev after_rows : N.RowsPart → N.RowsPart
   after_rows p = record { before = before ++ p.before; at = p.at }
 
-  rows_among_rows : Inside (rows PlainRow charset all) (rows PlainRow charset all) after_rows
-  rows_among_rows = grind (arith, append_assoc)
+  rows_among_rows : N.Inside (rows PlainRow charset all) (rows PlainRow charset all) after_rows
+  rows_among_rows = grind (arith, N.append_assoc)
 
-  rows_after_text : (p : RowsPart) → lines before ++ rows_so_far p ≡ rows_so_far (after_rows p)
-  rows_after_text p = grind (arith, append_assoc, before, lines-append)
+  rows_after_text : (p : N.RowsPart) → lines before ++ rows_so_far p ≡ rows_so_far (after_rows p)
+  rows_after_text p = grind (arith, N.append_assoc, before, lines-append)
 
-  pub rows_after : {p q : RowsPart} {bytes made : List ℕ} → Writes (rows PlainRow charset all) rows_so_far p bytes made q
+  pub rows_after : {p q : N.RowsPart} {bytes made : List ℕ} → Writes (rows PlainRow charset all) rows_so_far p bytes made q
       → Writes (rows PlainRow charset all) rows_so_far (after_rows p) bytes made (after_rows q)
   rows_after x = writes_inside _ rows_among_rows rows_after_text x
 
@@ -204,17 +201,17 @@ pub rows_both : {charset : Charset} {all : List Column} {cells : List Cell} {col
 rows_both {charset = charset} {all = all} x y = record {
   before = x.before ++ y.before;
   more = y.more;
-  rows_counted = omega (arith, length-append x.before y.before);
+  rows_counted = omega (arith, N.length-append x.before y.before);
   counted = y.counted;
-  writes = writes_both x.writes (rw append-nil at (rows_after charset all x.before y.writes));
+  writes = writes_both x.writes (rw N.append-nil at (rows_after charset all x.before y.writes));
 }
 
 -- ---- a cell that lies whole
 
 -- its bytes were passed over and its text put, so it was read
 pub whole_puts : (charset : Charset) (kind : Kind) (column : ℕ) (last : Bool) (p q : At) (bytes text : List ℕ)
-    → WritesWhole (cell_start kind (shape charset kind)) column last bytes text
-    → Takes p.seen q.seen bytes (length bytes) → q.place ≡ p.place + length bytes → Puts p.held q.held text
+    → N.WritesWhole (cell_start kind (shape charset kind)) column last bytes text
+    → N.Takes p.seen q.seen bytes (length bytes) → q.place ≡ p.place + length bytes → N.Puts p.held q.held text
     → PutsCell charset kind column last p.seen q.seen p.place q.place p.held q.held
 whole_puts charset kind column last p q bytes text x takes at puts =
     let writes = cell_writes _ _ x in
@@ -225,24 +222,24 @@ whole_puts charset kind column last p q bytes text x takes at puts =
     }
 
 -- its bytes and more were passed over, and a write of its text failed
-pub whole_breaks : {bytes text : List ℕ} {a b : Seen} {place : ℕ} {h j : Held} {failed : Bool} {stop : Stop} (charset : Charset) (kind : Kind) (column
-    : ℕ) (last : Bool) (rest : List ℕ) → WritesWhole (cell_start kind (shape charset kind)) column last bytes text
-    → Takes a b (bytes ++ rest) 0 → IsBetween b → length h.waiting < 4096 → h.delivered ≤ 2 ^ 64 - 1 → Breaks h j text stop → failed ≡ true
+pub whole_breaks : {bytes text : List ℕ} {a b : N.Seen} {place : ℕ} {h j : N.Held} {failed : Bool} {stop : Stop} (charset : Charset) (kind : Kind) (column
+    : ℕ) (last : Bool) (rest : List ℕ) → N.WritesWhole (cell_start kind (shape charset kind)) column last bytes text
+    → N.Takes a b (bytes ++ rest) 0 → N.IsBetween b → length h.waiting < 4096 → h.delivered ≤ 2 ^ 64 - 1 → N.Breaks h j text stop → failed ≡ true
     → StopsCell charset kind column last a b place h j failed stop
 whole_breaks {bytes = bytes} {a = a} {b = b} {h = h} {j = j} {stop = stop} charset kind column last rest x takes between few delivered breaks failed =
     let writes = cell_writes _ _ x in
-    let broken = breaks_somewhere (cell column) (cell_so_far column last) (line_grows column last) _ a b h j stop between _ bytes rest _ writes.spelt
-    (Takes-more a b (bytes ++ rest) 0 1 (omega arith) takes) few delivered writes.text_is breaks in
+    let broken = N.breaks_somewhere (cell column) (N.cell_so_far column last) (line_grows column last) _ a b h j stop between _ bytes rest _ writes.spelt
+    (N.Takes-more a b (bytes ++ rest) 0 1 (omega arith) takes) few delivered writes.text_is breaks in
     record { at = broken.0; cause = inr (broken.1, failed) }
 
 -- it was put at once
 pub put_whole : {W U : Type 0} {column place' : ℕ} {last : Bool} {bytes text : List ℕ} (r : Result U Stop) (charset : Charset) (kind : Kind)
-    (a b : Seen) (place : ℕ) (contents : W → Option (List ℕ)) (old new : Sink W) → IsWriting old → IsBetween b
-    → WritesWhole (cell_start kind (shape charset kind)) column last bytes text → Takes a b bytes 0 → place' ≡ place + length bytes
-    → PutsPiece contents old new text r
-    → MatchResult r (λ _. PutsCell charset kind column last a b place place' (held contents old) (held contents new))
+    (a b : N.Seen) (place : ℕ) (contents : W → Option (List ℕ)) (old new : N.Sink W) → N.IsWriting old → N.IsBetween b
+    → N.WritesWhole (cell_start kind (shape charset kind)) column last bytes text → N.Takes a b bytes 0 → place' ≡ place + length bytes
+    → N.PutsPiece contents old new text r
+    → N.MatchResult r (λ _. PutsCell charset kind column last a b place place' (held contents old) (held contents new))
     (λ stop. StopsCell charset kind column last a b place (held contents old) (held contents new) new.failed stop)
 put_whole {bytes = bytes} (Ok u) charset kind a b place contents old new going between x takes at puts =
-    whole_puts _ _ _ _ _ _ _ _ x (Takes-more a b bytes 0 _ (omega arith) takes) at puts.gives
+    whole_puts _ _ _ _ _ _ _ _ x (N.Takes-more a b bytes 0 _ (omega arith) takes) at puts.gives
 put_whole (Err stop) charset kind a b place contents old new going between x takes at puts =
-    whole_breaks _ _ _ _ [] x (rw append-nil takes) between (going.ready.1 going.writing) going.ready.2 (puts.gives going.writing) puts.failed
+    whole_breaks _ _ _ _ [] x (rw N.append-nil takes) between (going.ready.1 going.writing) going.ready.2 (puts.gives going.writing) puts.failed

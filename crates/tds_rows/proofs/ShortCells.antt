@@ -1,29 +1,28 @@
 -- Cells of short values whose bytes lie together.
+use Rattle.tds_rows.proofs.Words as N
 use Rattle.tds_rows.proofs.{
-  Words.{◌≡◌, ◌≢◌, ◌∙◌, ℕ, ◌+◌, ◌/◌, ◌%◌, ◌<◌, ◌≤◌, Bool, true, List, [], ◌∷◌, ◌++◌, length, take, drop, refl, ap, arith, length-drop, length-take-le},
-  Words.{slice_index, Kind, Short, Conversion, is_fit, long_field, in_line, null_field, DataCell, LongShape, Null, ShortLength, SpellsShort, stated_length},
-  Words.{WritesWhole, take-add},
+  Words.{◌≡◌, ◌≢◌, ◌∙◌, ℕ, ◌+◌, ◌/◌, ◌%◌, ◌<◌, ◌≤◌, Bool, true, List, [], ◌∷◌, ◌++◌, length, take, drop, refl, ap, arith, slice_index},
   CellLaws.cell_is_read,
 }
 
-module _ (column : ℕ) (kind : Kind) (c : Conversion) (last : Bool) (bytes text : List ℕ) (within : 2 ≤ length bytes) (low : slice_index bytes 0 < 256)
+module _ (column : ℕ) (kind : N.Kind) (c : N.Conversion) (last : Bool) (bytes text : List ℕ) (within : 2 ≤ length bytes) (low : slice_index bytes 0 < 256)
     (high : slice_index bytes 1 < 256) where
   -- NULL
-  pub short_null : stated_length bytes ≡ 65535 → text ≡ in_line column last null_field → WritesWhole (ShortLength c) column last (take 2 bytes) text
+  pub short_null : N.stated_length bytes ≡ 65535 → text ≡ N.in_line column last N.null_field → N.WritesWhole (N.ShortLength c) column last (take 2 bytes) text
   short_null all is =
       let a : slice_index bytes 0 ≡ 255 = omega arith in
       let b : slice_index bytes 1 ≡ 255 = omega arith in
-      record { value = Null; spelt = cell_is_read column kind (LongShape c Short) Null _ tt (grind arith ∙ (λ i. a i ∷ b i ∷ [])); text_is = is }
+      record { value = N.Null; spelt = cell_is_read column kind (N.LongShape c N.Short) N.Null _ tt (grind arith ∙ (λ i. a i ∷ b i ∷ [])); text_is = is }
 
   -- a value
-  pub short_value : (n : ℕ) → n ≡ stated_length bytes → n ≢ 65535 → 2 + n ≤ length bytes → is_fit c (take n (drop 2 bytes)) ≡ true
-      → text ≡ in_line column last (long_field c (take n (drop 2 bytes)))
-      → WritesWhole (ShortLength c) column last (take (2 + n) bytes) text
+  pub short_value : (n : ℕ) → n ≡ N.stated_length bytes → n ≢ 65535 → 2 + n ≤ length bytes → N.is_fit c (take n (drop 2 bytes)) ≡ true
+      → text ≡ N.in_line column last (N.long_field c (take n (drop 2 bytes)))
+      → N.WritesWhole (N.ShortLength c) column last (take (2 + n) bytes) text
   short_value n counted some all fit is =
       let d = take n _ in
-      let whole = length-take-le n (drop 2 bytes) (omega (arith, length-drop 2 bytes)) in
+      let whole = N.length-take-le n (drop 2 bytes) (omega (arith, N.length-drop 2 bytes)) in
       let a : slice_index bytes 0 ≡ length d % 256 = omega arith in
       let b : slice_index bytes 1 ≡ length d / 256 = omega arith in
       let front : take 2 bytes ≡ length d % 256 ∷ length d / 256 ∷ [] = grind arith ∙ (λ i. a i ∷ b i ∷ []) in
-      let spells : SpellsShort d _ = record { counted = take-add 2 n bytes ∙ ap (λ l. l ++ d) front; least = omega arith } in
-      record { value = DataCell c d; spelt = cell_is_read column kind (LongShape c Short) _ _ tt (refl, fit, spells); text_is = is }
+      let spells : N.SpellsShort d _ = record { counted = N.take-add 2 n bytes ∙ ap (λ l. l ++ d) front; least = omega arith } in
+      record { value = N.DataCell c d; spelt = cell_is_read column kind (N.LongShape c N.Short) _ _ tt (refl, fit, spells); text_is = is }

@@ -1,8 +1,7 @@
 -- Runs over the cells of a row: before the first, one alone, one run after another, and one over columns that aren't NULL by their bit.
+use Rattle.tds_rows.proofs.Words as N
 use Rattle.tds_rows.proofs.{
-  Words.{inl, inr, ◌≡◌, ◌∙◌, ℕ, zero, suc, ◌+◌, ◌-◌, ◌≤◌, ◌<◌, Bool, false, List, [], ◌++◌, length, take, drop, refl, sym, ap, subst, arith, append_assoc},
-  Words.{append-nil, add-zero, Column, Charset, Ahead, Table, is_last_column, EndsLeft, RunsMarked, WritesColumn, WritesMarked, WritesNext, RunEnds},
-  Words.{TakesColumn, Kind},
+  Words.{inl, inr, ◌≡◌, ◌∙◌, ℕ, zero, suc, ◌+◌, ◌-◌, ◌≤◌, ◌<◌, Bool, false, List, [], ◌++◌, length, take, drop, refl, sym, ap, subst, arith, Ahead, RunsMarked},
   RunSteps.{made_more, used_more},
 }
 
@@ -10,11 +9,11 @@ use Rattle.tds_rows.proofs.{
 abbrev pub none_null : ℕ → Bool
 none_null k = false
 
-module _ (charset : Charset) (columns : List Column) where
+module _ (charset : N.Charset) (columns : List N.Column) where
   -- so many columns, and then so many more
-  marked_both : (nulls : ℕ → Bool) (from n m : ℕ) (a b p q : List ℕ) → WritesMarked charset columns nulls from n a p
-      → WritesMarked charset columns nulls (from + n) m b q → WritesMarked charset columns nulls from (n + m) (a ++ b) (p ++ q)
-  marked_both nulls from n zero a b p q x y = grind (arith, append-nil)
+  marked_both : (nulls : ℕ → Bool) (from n m : ℕ) (a b p q : List ℕ) → N.WritesMarked charset columns nulls from n a p
+      → N.WritesMarked charset columns nulls (from + n) m b q → N.WritesMarked charset columns nulls from (n + m) (a ++ b) (p ++ q)
+  marked_both nulls from n zero a b p q x y = grind (arith, N.append-nil)
   marked_both nulls from n (suc m) a b p q x y =
       let at : (from + n) + m ≡ from + (n + m) = omega arith in
       let counted : suc _ ≡ n + suc m = omega arith in
@@ -23,31 +22,31 @@ module _ (charset : Charset) (columns : List Column) where
         y.1,
         p ++ y.2,
         y.3,
-        ap (λ l. a ++ l) y.4 ∙ sym (append_assoc a y.0 y.1),
-        ap (λ l. p ++ l) y.5 ∙ sym (append_assoc p y.2 y.3),
+        ap (λ l. a ++ l) y.4 ∙ sym (N.append_assoc a y.0 y.1),
+        ap (λ l. p ++ l) y.5 ∙ sym (N.append_assoc p y.2 y.3),
         marked_both nulls from n m a y.0 p y.2 x y.6,
         rw at at y.7,
       )
 
   -- columns whose bits are clear
   pub marked_clear : (nulls : ℕ → Bool) (from n : ℕ) (bytes text : List ℕ) → ((k : ℕ) → from ≤ k → k < from + n → nulls k ≡ false)
-      → WritesMarked charset columns none_null from n bytes text → WritesMarked charset columns nulls from n bytes text
+      → N.WritesMarked charset columns none_null from n bytes text → N.WritesMarked charset columns nulls from n bytes text
   marked_clear nulls from zero bytes text clear x = x
   marked_clear nulls from (suc n) bytes text clear x =
       let last = x.7 in
-      let writes = subst (λ e. WritesNext charset e last.column.kind (from + n) (is_last_column last.left) x.1 x.3)
+      let writes = subst (λ e. N.WritesNext charset e last.column.kind (from + n) (N.is_last_column last.left) x.1 x.3)
       (sym (clear (from + n) (omega arith) (omega arith))) last.writes in
-      let one : WritesColumn charset columns nulls (from + n) x.1 x.3 =
+      let one : N.WritesColumn charset columns nulls (from + n) x.1 x.3 =
       record { column = last.column; left = last.left; next = last.next; writes = writes } in
       (x.0, x.1, x.2, x.3, x.4, x.5, marked_clear _ _ n _ _ (λ k least most. clear k least (omega arith)) x.6, one)
 
-module _ {table : Table} {columns : List Column} {nulls : ℕ → Bool} {at : Ahead} where
+module _ {table : N.Table} {columns : List N.Column} {nulls : ℕ → Bool} {at : Ahead} where
   -- one cell
-  pub runs_column : {after : Ahead} {kind : Kind} {last : Bool} {bytes text : List ℕ} → TakesColumn table columns at after kind
-      → last ≡ is_last_column (drop after.column columns) → WritesNext table.charset (nulls at.column) kind at.column last bytes text
+  pub runs_column : {after : Ahead} {kind : N.Kind} {last : Bool} {bytes text : List ℕ} → N.TakesColumn table columns at after kind
+      → last ≡ N.is_last_column (drop after.column columns) → N.WritesNext table.charset (nulls at.column) kind at.column last bytes text
       → RunsMarked table columns nulls at after bytes text
   runs_column {bytes = bytes} {text = text} taken end cell =
-      let one : WritesColumn _ columns nulls _ bytes text =
+      let one : N.WritesColumn _ columns nulls _ bytes text =
       record { column = taken.column; left = drop _ columns; next = taken.next; writes = rw (taken.kind, end) at cell } in
       record {
         count = 1;
@@ -61,11 +60,11 @@ module _ {table : Table} {columns : List Column} {nulls : ℕ → Bool} {at : Ah
           refl,
           refl,
           (refl, refl),
-          rw (sym (add-zero at.column)) at one,
+          rw (sym (N.add-zero at.column)) at one,
         );
       }
 
-module _ {table : Table} {columns : List Column} {nulls : ℕ → Bool} {from to : Ahead} where
+module _ {table : N.Table} {columns : List N.Column} {nulls : ℕ → Bool} {from to : Ahead} where
   -- a run over columns whose bits are clear
   pub runs_clear : {bytes text : List ℕ} → ((k : ℕ) → from.column ≤ k → k < to.column → nulls k ≡ false)
       → RunsMarked table columns none_null from to bytes text → RunsMarked table columns nulls from to bytes text
@@ -84,7 +83,7 @@ module _ {table : Table} {columns : List Column} {nulls : ℕ → Bool} {from to
   }
 
 -- a run ended before a column whose bit is clear
-pub ends_clear : (table : Table) (nulls : ℕ → Bool) (at : Ahead) (bytes : List ℕ) (room : ℕ) → nulls at.column ≡ false → RunEnds table at bytes room
-    → EndsLeft table nulls at bytes room
+pub ends_clear : (table : N.Table) (nulls : ℕ → Bool) (at : Ahead) (bytes : List ℕ) (room : ℕ) → nulls at.column ≡ false → N.RunEnds table at bytes room
+    → N.EndsLeft table nulls at bytes room
 ends_clear table nulls at bytes room clear x =
     λ columns column left knows ahead next. elim (x columns column left knows ahead next) [ inl few ↦ inl few | inr y ↦ inr (clear, y.1) ]

@@ -1,9 +1,8 @@
 -- Runs of cells over the columns that a table knows: more cells after those that were written.
+use Rattle.tds_rows.proofs.Words as N
 use Rattle.tds_rows.proofs.{
-  Words.{arith, false, [], ◌∷◌, ◌≡◌, ◌∙◌, ap, all_after, drop_more, refl, BeginsRow, ℕ, ◌+◌, ◌-◌, ◌<◌, ◌≤◌, List, ◌++◌, length, length-append},
-  Words.{length-drop, length-take, length-take-le, take, drop, get_or, sym, Column, Charset, Ahead, CellRun, CellsWritten, RowsRan, RowsRun, Table, Cell},
-  Words.{WritesRows, IsAhead, Knows, RunsMarked, ◌^◌, inr, append-nil, Bool, Held, Puts, RowStops, RunsRows, Seen, Stop, Takes, Takes-more},
-  Words.{after_cells, breaks_somewhere, row, row_so_far, BreaksMarked, PutsMarked},
+  Words.{arith, false, [], ◌∷◌, ◌≡◌, ◌∙◌, ap, refl, ℕ, ◌+◌, ◌-◌, ◌<◌, ◌≤◌, List, ◌++◌, length, take, drop, sym, Column, Ahead, RowsRan, Table, Cell, ◌^◌, inr},
+  Words.{Bool},
   GrowingTexts.row_grows,
   Paths.At,
   TableSteps.none_next,
@@ -12,9 +11,9 @@ use Rattle.tds_rows.proofs.{
 
 -- Between two places of rows, over the ends of so many, these bytes are their cells, and this is their text.
 abbrev pub RowsBetween : Table → List Column → Ahead → Ahead → ℕ → List ℕ → List ℕ → Type 0
-RowsBetween table columns old new count bytes text = IsAhead table columns new
-    × ((charset : Charset) (cells : List Cell) → table.charset ≡ charset → length cells ≡ old.column
-    → WritesRows charset columns cells (drop old.column columns) (drop new.column columns) new.column count bytes text)
+RowsBetween table columns old new count bytes text = N.IsAhead table columns new
+    × ((charset : N.Charset) (cells : List Cell) → table.charset ≡ charset → length cells ≡ old.column
+    → N.WritesRows charset columns cells (drop old.column columns) (drop new.column columns) new.column count bytes text)
 
 -- nothing yet
 pub rows_begin : {table : Table} {from : Ahead} {bytes to : List ℕ}
@@ -22,20 +21,20 @@ pub rows_begin : {table : Table} {from : Ahead} {bytes to : List ℕ}
 rows_begin = grind (arith, rows_none)
 
 -- the token byte of a ROW is next
-begins_at : (used : ℕ) (bytes : List ℕ) → BeginsRow (take (length bytes - used) (drop used bytes)) → (used < length bytes)
-    × (get_or bytes used 0 ≡ 0xD1)
+begins_at : (used : ℕ) (bytes : List ℕ) → N.BeginsRow (take (length bytes - used) (drop used bytes)) → (used < length bytes)
+    × (N.get_or bytes used 0 ≡ 0xD1)
 begins_at used bytes begins = go _ refl
   where
-    go : (rest : List ℕ) → drop used bytes ≡ rest → (used < length bytes) × (get_or bytes used 0 ≡ 0xD1)
-    go [] e = absurd (rw (all_after bytes used, e) at begins)
+    go : (rest : List ℕ) → drop used bytes ≡ rest → (used < length bytes) × (N.get_or bytes used 0 ≡ 0xD1)
+    go [] e = absurd (rw (N.all_after bytes used, e) at begins)
     go (byte ∷ rest) e =
-        let within : used < length bytes = omega (arith, length-drop used bytes, ap length e) in
-        (within, ap (λ l. get_or l 0 0) (sym (drop_more bytes used 0 within) ∙ e) ∙ (rw (all_after bytes used, e) at begins))
+        let within : used < length bytes = omega (arith, N.length-drop used bytes, ap length e) in
+        (within, ap (λ l. N.get_or l 0 0) (sym (N.drop_more bytes used 0 within) ∙ e) ∙ (rw (N.all_after bytes used, e) at begins))
 
 -- one row more, after its token byte
-pub row_begun : {table : Table} {from start : Ahead} {bytes to : List ℕ} {run : RowsRun} → 0 < table.count → table.count ≤ run.ahead.column
-    → BeginsRow (take (length bytes - run.used) (drop run.used bytes)) × (start.column ≡ 0)
-    → ((columns : List Column) → Knows table columns → IsAhead table columns run.ahead → IsAhead table columns start)
+pub row_begun : {table : Table} {from start : Ahead} {bytes to : List ℕ} {run : N.RowsRun} → 0 < table.count → table.count ≤ run.ahead.column
+    → N.BeginsRow (take (length bytes - run.used) (drop run.used bytes)) × (start.column ≡ 0)
+    → ((columns : List Column) → N.Knows table columns → N.IsAhead table columns run.ahead → N.IsAhead table columns start)
     → RowsRan table from bytes to run → RowsRan table from bytes to
     (record { used = run.used + 1; made = run.made; rows = run.rows + 1; ahead = start })
 row_begun {bytes = bytes} {run = run} some at (begins, first) ahead x =
@@ -56,33 +55,33 @@ row_begun {bytes = bytes} {run = run} some at (begins, first) ahead x =
 -- more cells of the last row, in the bytes that are left and after what was made
 pub more_in_rows : {table : Table} {columns : List Column} {old new : Ahead} {count : ℕ} (from : Ahead) (used u made m : ℕ)
     (bytes to text rest : List ℕ) → made ≤ length to → m ≤ length text → RowsBetween table columns from old count (take used bytes) (take made to)
-    → RunsMarked table columns (λ k. false) old new (take u (take (length bytes - used) (drop used bytes))) (take m text)
+    → N.RunsMarked table columns (λ k. false) old new (take u (take (length bytes - used) (drop used bytes))) (take m text)
     → RowsBetween table columns from new count (take (used + u) bytes) (take (made + m) (take made to ++ (text ++ rest)))
 more_in_rows from used u made m bytes to text rest within some x y = grind (arith, used_more, made_more, marked_writes)
 
 -- the same of what a run over rows has done
-pub rows_more : {table : Table} {from : Ahead} {bytes to : List ℕ} {run : RowsRun} {cells : CellRun} (text rest : List ℕ) → 0 < cells.used
+pub rows_more : {table : Table} {from : Ahead} {bytes to : List ℕ} {run : N.RowsRun} {cells : N.CellRun} (text rest : List ℕ) → 0 < cells.used
     → cells.used ≤ length (take (length bytes - run.used) (drop run.used bytes)) → cells.made ≤ length text
-    → CellsWritten table run.ahead (take (length bytes - run.used) (drop run.used bytes)) text cells → RowsRan table from bytes to run
+    → N.CellsWritten table run.ahead (take (length bytes - run.used) (drop run.used bytes)) text cells → RowsRan table from bytes to run
     → RowsRan table from bytes (take run.made to ++ (text ++ rest))
     (record { used = run.used + cells.used; made = run.made + cells.made; rows = run.rows; ahead = cells.ahead })
 rows_more {from = from} {bytes = bytes} {to = to} {run = run} text rest some within fits gives x = record {
-  used = omega (arith, length-take (length bytes - run.used) (drop run.used bytes), length-drop run.used bytes);
-  made = omega (arith, length-append (take run.made to) (text ++ rest), length-append text rest, length-take-le run.made to x.made);
+  used = omega (arith, N.length-take (length bytes - run.used) (drop run.used bytes), N.length-drop run.used bytes);
+  made = omega (arith, N.length-append (take run.made to) (text ++ rest), N.length-append text rest, N.length-take-le run.made to x.made);
   few = omega arith;
   writes = λ columns knows is. (let y = x.writes columns knows is in more_in_rows from _ _ _ _ _ _ _ _ x.made fits y (gives columns knows y.0));
 }
 
 -- the cells of a run within a row, none of which is NULL by its bit
 pub marked_in_rows : {table : Table} {columns : List Column} {from to : Ahead} {bytes text : List ℕ}
-    → RunsMarked table columns (λ k. false) from to bytes text → RowsBetween table columns from to 0 bytes text
+    → N.RunsMarked table columns (λ k. false) from to bytes text → RowsBetween table columns from to 0 bytes text
 marked_in_rows y = (y.ahead, λ charset cells set is. rw y.further (marked_writes _ y.count _ _ (rows_none is) (rw set at y.writes)))
 
 -- what was written of rows was read and put
-pub runs_rows : {charset : Charset} {all : List Column} {cells : List Cell} {columns left : List Column} {column count : ℕ} {bytes made : List ℕ}
-    {p q : At} → WritesRows charset all cells columns left column count bytes made → Takes p.seen q.seen bytes (length bytes)
-    → Puts p.held q.held made → q.place ≡ p.place + length bytes
-    → RunsRows charset all cells columns left column count p.seen q.seen p.place q.place p.held q.held
+pub runs_rows : {charset : N.Charset} {all : List Column} {cells : List Cell} {columns left : List Column} {column count : ℕ} {bytes made : List ℕ}
+    {p q : At} → N.WritesRows charset all cells columns left column count bytes made → N.Takes p.seen q.seen bytes (length bytes)
+    → N.Puts p.held q.held made → q.place ≡ p.place + length bytes
+    → N.RunsRows charset all cells columns left column count p.seen q.seen p.place q.place p.held q.held
 runs_rows {bytes = bytes} {made = made} x takes puts at = record {
   before = x.before;
   more = x.more;
@@ -94,37 +93,37 @@ runs_rows {bytes = bytes} {made = made} x takes puts at = record {
 
 -- the cells of a run within a row were read and put
 pub marked_rows : {table : Table} {columns : List Column} {from to : Ahead} {p q : At}
-    → PutsMarked table columns (λ k. false) from to p.seen q.seen p.place q.place p.held q.held
-    → IsAhead table columns to × ((charset : Charset) (cells : List Cell) → table.charset ≡ charset → length cells ≡ from.column
-    → RunsRows charset columns cells (drop from.column columns) (drop to.column columns) to.column 0 p.seen q.seen p.place q.place p.held q.held)
+    → N.PutsMarked table columns (λ k. false) from to p.seen q.seen p.place q.place p.held q.held
+    → N.IsAhead table columns to × ((charset : N.Charset) (cells : List Cell) → table.charset ≡ charset → length cells ≡ from.column
+    → N.RunsRows charset columns cells (drop from.column columns) (drop to.column columns) to.column 0 p.seen q.seen p.place q.place p.held q.held)
 marked_rows {p = p} {q = q} x =
     let ran = marked_in_rows x.runs in
-    (ran.0, λ charset cells set is. runs_rows (ran.1 charset cells set is) (Takes-more p.seen q.seen x.bytes 0 _ (omega arith) x.takes) x.puts x.place_is)
+    (ran.0, λ charset cells set is. runs_rows (ran.1 charset cells set is) (N.Takes-more p.seen q.seen x.bytes 0 _ (omega arith) x.takes) x.puts x.place_is)
 
 -- a write of their text failed, in the row that the run began in
-pub run_breaks : {table : Table} {columns : List Column} {from : Ahead} {a b : Seen} {h j : Held} {place : ℕ} {failed : Bool}
-    {stop : Stop} (cells : List Cell) → BreaksMarked table columns (λ k. false) from a b h j failed stop → length cells ≡ from.column
+pub run_breaks : {table : Table} {columns : List Column} {from : Ahead} {a b : N.Seen} {h j : N.Held} {place : ℕ} {failed : Bool}
+    {stop : N.Stop} (cells : List Cell) → N.BreaksMarked table columns (λ k. false) from a b h j failed stop → length cells ≡ from.column
     → length h.waiting < 4096 → h.delivered ≤ 2 ^ 64 - 1
-    → RowStops table.charset (after_cells table.charset cells (drop from.column columns)) a b place h j failed stop
+    → N.RowStops table.charset (N.after_cells table.charset cells (drop from.column columns)) a b place h j failed stop
 run_breaks {table = table} {a = a} {b = b} {h = h} {j = j} {stop = stop} cells y counted few delivered =
     let x = marked_cells {charset = table.charset} {cells = cells} y.runs.count y.bytes _ counted y.runs.writes in
-    let broken = breaks_somewhere (row table.charset) row_so_far (row_grows table.charset) _ a b h j stop y.between _ y.bytes [] _ x.writes.spelt
-    (rw append-nil (Takes-more a b y.bytes 0 1 (omega arith) y.takes)) few delivered x.writes.text_is y.breaks in
+    let broken = N.breaks_somewhere (N.row table.charset) N.row_so_far (row_grows table.charset) _ a b h j stop y.between _ y.bytes [] _ x.writes.spelt
+    (rw N.append-nil (N.Takes-more a b y.bytes 0 1 (omega arith) y.takes)) few delivered x.writes.text_is y.breaks in
     record { at = broken.0; cause = inr (broken.1, y.failed_is) }
 
 -- what stands after what was made may be another
-pub rows_kept : {table : Table} {from : Ahead} {bytes to : List ℕ} {run : RowsRun} (new : List ℕ) → length new ≡ length to
+pub rows_kept : {table : Table} {from : Ahead} {bytes to : List ℕ} {run : N.RowsRun} (new : List ℕ) → length new ≡ length to
     → take run.made new ≡ take run.made to → RowsRan table from bytes to run → RowsRan table from bytes new run
 rows_kept new same is x = grind arith
 
 -- a run, and then another that ended where it began
-pub rows_further : {table : Table} {from : Ahead} {bytes to : List ℕ} {run more : RowsRun} (text rest : List ℕ) → more.ahead ≡ run.ahead
+pub rows_further : {table : Table} {from : Ahead} {bytes to : List ℕ} {run more : N.RowsRun} (text rest : List ℕ) → more.ahead ≡ run.ahead
     → RowsRan table from bytes to run → RowsRan table run.ahead (take (length bytes - run.used) (drop run.used bytes)) text more
     → RowsRan table from bytes (take run.made to ++ (text ++ rest))
     (record { used = run.used + more.used; made = run.made + more.made; rows = run.rows + more.rows; ahead = run.ahead })
 rows_further {bytes = bytes} {to = to} {run = run} {more = more} text rest is x y = record {
-  used = omega (arith, length-take (length bytes - run.used) (drop run.used bytes), length-drop run.used bytes);
-  made = omega (arith, length-append (take run.made to) (text ++ rest), length-append text rest, length-take-le run.made to x.made);
+  used = omega (arith, N.length-take (length bytes - run.used) (drop run.used bytes), N.length-drop run.used bytes);
+  made = omega (arith, N.length-append (take run.made to) (text ++ rest), N.length-append text rest, N.length-take-le run.made to x.made);
   few = omega arith;
   writes = λ columns knows ahead. (let u = x.writes columns knows ahead in let v = y.writes columns knows u.0 in (
     u.0,

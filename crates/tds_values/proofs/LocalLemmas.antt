@@ -1,59 +1,56 @@
 -- Local times by their whole seconds.
-use Rattle.tds_values.proofs.{
-  Words.{◌≡◌, ℕ, ◌+◌, ◌*◌, ◌/◌, ◌%◌, ◌^◌, ◌<◌, ◌++◌, ℤ, unsigned_abs, Some, ap, arith, is_some, one-le-pow, div-add-mod, mul-le, div-mul-add, mod-mul-add},
-  Words.{mod_below, local_units, is_local, local_seconds, fraction_text, seconds_text, local_text, date_and_time},
-  DigitLemmas.{last_digits-above, last_digits-mod},
-}
+use Rattle.tds_values.proofs.Words as N
+use Rattle.tds_values.proofs.{Words.{◌≡◌, ℕ, ◌+◌, ◌*◌, ◌/◌, ◌%◌, ◌^◌, ◌<◌, ◌++◌, ℤ, Some, ap, arith}, DigitLemmas.{last_digits-above, last_digits-mod}}
 
 more : (p x t f : ℕ) → f < p → t < x → t * p + f < x * p
-more p x t f h less = omega (arith, mul-le (t + 1) p x p (omega arith) (omega arith))
+more p x t f h less = omega (arith, N.mul-le (t + 1) p x p (omega arith) (omega arith))
 
 -- a local time lies in the calendar where its seconds do
-pub local_by_seconds : (scale units day : ℕ) (offset : ℤ) → is_local scale units day offset ≡ is_some (local_seconds (units / 10 ^ scale) day offset)
+pub local_by_seconds : (scale units day : ℕ) (offset : ℤ) → N.is_local scale units day offset ≡ N.is_some (N.local_seconds (units / 10 ^ scale) day offset)
 local_by_seconds scale units day offset =
     let p = 10 ^ scale in
-    let small : units % p < p = mod_below units p (one-le-pow scale 10 (omega arith)) in
-    let o = unsigned_abs offset * 60 in
+    let small : units % p < p = N.mod_below units p (N.one-le-pow scale 10 (omega arith)) in
+    let o = N.unsigned_abs offset * 60 in
     let t = day * 86400 + units / p in
     grind (
       arith,
       (more p o t (units % p) small),
-      (mul-le o p t p),
+      (N.mul-le o p t p),
       (more p 315537897600 (t + o) (units % p) small),
-      (mul-le 315537897600 p (t + o) p),
+      (N.mul-le 315537897600 p (t + o) p),
     )
 
 scaled_sum : (p s o t : ℕ) → s + o ≡ t → s * p + o * p ≡ t * p
 scaled_sum p s o t e = omega (arith, ap (λ k. k * p) e)
 
 -- and its units are those seconds and the fraction
-pub units_of_seconds : (scale units day l : ℕ) (offset : ℤ) → local_seconds (units / 10 ^ scale) day offset ≡ Some l
-    → local_units scale units day offset ≡ l * 10 ^ scale + units % 10 ^ scale
+pub units_of_seconds : (scale units day l : ℕ) (offset : ℤ) → N.local_seconds (units / 10 ^ scale) day offset ≡ Some l
+    → N.local_units scale units day offset ≡ l * 10 ^ scale + units % 10 ^ scale
 units_of_seconds scale units day l offset h =
     let p = 10 ^ scale in
-    let o = unsigned_abs offset * 60 in
+    let o = N.unsigned_abs offset * 60 in
     let t = day * 86400 + units / p in
     grind (arith, (scaled_sum p t o l), (scaled_sum p l o t))
 
-fraction-above : (scale x f : ℕ) → fraction_text scale (x * 10 ^ scale + f) ≡ fraction_text scale f
+fraction-above : (scale x f : ℕ) → N.fraction_text scale (x * 10 ^ scale + f) ≡ N.fraction_text scale f
 fraction-above scale x f = let turned : x * 10 ^ scale ≡ 10 ^ scale * x = omega arith in rw (turned, last_digits-above)
 
 day_parts : (p l f : ℕ) → f < p → ((l * p + f) / (86400 * p) ≡ l / 86400) × ((l * p + f) % (86400 * p) ≡ l % 86400 * p + f)
 day_parts p l f small =
     let short : l % 86400 * p + f < 86400 * p = more p 86400 (l % 86400) f small (omega arith) in
-    let whole : l * p + f ≡ l / 86400 * (86400 * p) + (l % 86400 * p + f) = omega (arith, ap (λ k. k * p) (div-add-mod l 86400)) in
-    rw whole (div-mul-add (l / 86400) (86400 * p) (l % 86400 * p + f) short, mod-mul-add (l / 86400) (86400 * p) (l % 86400 * p + f) short)
+    let whole : l * p + f ≡ l / 86400 * (86400 * p) + (l % 86400 * p + f) = omega (arith, ap (λ k. k * p) (N.div-add-mod l 86400)) in
+    rw whole (N.div-mul-add (l / 86400) (86400 * p) (l % 86400 * p + f) short, N.mod-mul-add (l / 86400) (86400 * p) (l % 86400 * p + f) short)
 
 -- so its text is that of the seconds and the fraction
 pub text_of_seconds : (scale l units : ℕ)
-    → local_text scale (l * 10 ^ scale + units % 10 ^ scale) ≡ date_and_time (l / 86400) (seconds_text (l % 86400) ++ fraction_text scale units)
+    → N.local_text scale (l * 10 ^ scale + units % 10 ^ scale) ≡ N.date_and_time (l / 86400) (N.seconds_text (l % 86400) ++ N.fraction_text scale units)
 text_of_seconds scale l units =
-    let small = mod_below units (10 ^ scale) (one-le-pow scale 10 (omega arith)) in
+    let small = N.mod_below units (10 ^ scale) (N.one-le-pow scale 10 (omega arith)) in
     let p = day_parts (10 ^ scale) l (units % 10 ^ scale) small in
     rw (
       p.0,
       p.1,
-      div-mul-add (l % 86400) (10 ^ scale) (units % 10 ^ scale) small,
+      N.div-mul-add (l % 86400) (10 ^ scale) (units % 10 ^ scale) small,
       fraction-above scale (l % 86400) (units % 10 ^ scale),
       last_digits-mod scale units,
     )

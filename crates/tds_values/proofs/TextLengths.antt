@@ -1,30 +1,27 @@
 -- No text has more than 41 bytes.
 use Rattle.tds_values.specs.declared.scalar.ScalarValue.TheVariants as values
-use Rattle.tds_values.proofs.{
-  Words.{ap, length-append, length-take-le, List, take, ◌≡◌, ℕ, zero, suc, ◌+◌, ◌-◌, ◌/◌},
-  Words.{◌^◌, ◌<◌, ◌≤◌, refl, arith, ℤ, length, unsigned_abs, decimal, IsTrue, signed_decimal, nat_tests},
-  Words.{pow-add, div_below, length-decimal-le, length-decimal-le_wide, by_index_length, ScalarValue, is_in_range, last_digits, text_of, FitsWidths},
-}
+use Rattle.tds_values.proofs.Words as N
+use Rattle.tds_values.proofs.Words.{ap, List, take, ◌≡◌, ℕ, zero, suc, ◌+◌, ◌-◌, ◌/◌, ◌^◌, ◌<◌, ◌≤◌, refl, arith, ℤ, length, signed_decimal}
 
-pub length-last_digits : (k n : ℕ) → length (last_digits k n) ≡ k
+pub length-last_digits : (k n : ℕ) → length (N.last_digits k n) ≡ k
 length-last_digits zero n = refl
-length-last_digits (suc k) n = grind (arith, length-append, (length-last_digits k (n / 10)))
+length-last_digits (suc k) n = grind (arith, N.length-append, (length-last_digits k (n / 10)))
 
 -- the digits before the point
-pub length-whole : (m scale : ℕ) → m < 2 ^ 128 → scale ≤ 38 → length (decimal (m / 10 ^ scale)) ≤ 39 - scale
+pub length-whole : (m scale : ℕ) → m < 2 ^ 128 → scale ≤ 38 → length (N.decimal (m / 10 ^ scale)) ≤ 39 - scale
 length-whole m scale fits small =
     let all : 39 - scale + scale ≡ 39 = omega arith in
-    grind (arith, (length-decimal-le_wide (39 - scale) (m / 10 ^ scale)), div_below, (rw all at (pow-add 10 (39 - scale) scale)))
+    grind (arith, (N.length-decimal-le_wide (39 - scale) (m / 10 ^ scale)), N.div_below, (rw all at (N.pow-add 10 (39 - scale) scale)))
 
-length-integer : (n : ℤ) → unsigned_abs n < 2 ^ 64 → length (signed_decimal n) ≤ 41
-length-integer n h = grind (arith, (length-decimal-le 20))
+length-integer : (n : ℤ) → N.unsigned_abs n < 2 ^ 64 → length (signed_decimal n) ≤ 41
+length-integer n h = grind (arith, (N.length-decimal-le 20))
 
 -- the front of a list is that of a whole number of four bytes
-pub length-int4 : (made : ℕ) (to : List ℕ) (n : ℤ) → take made to ≡ signed_decimal n → made ≤ length to → unsigned_abs n ≤ 2 ^ 31 → made ≤ 11
+pub length-int4 : (made : ℕ) (to : List ℕ) (n : ℤ) → take made to ≡ signed_decimal n → made ≤ length to → N.unsigned_abs n ≤ 2 ^ 31 → made ≤ 11
 length-int4 made to n is within small =
-    let few : length (signed_decimal n) ≤ 11 = grind (arith, (length-decimal-le 10)) in
-    omega (arith, few, length-take-le made to, ap length is)
+    let few : length (signed_decimal n) ≤ 11 = grind (arith, (N.length-decimal-le 10)) in
+    omega (arith, few, N.length-take-le made to, ap length is)
 
-pub length-text_of : (value : ScalarValue) → IsTrue (is_in_range value) → FitsWidths value → length (text_of value) ≤ 41
-length-text_of (values.Money amount) h fits = grind (arith, (length-whole (unsigned_abs amount) 4), length-append)
-length-text_of value h fits = grind (arith, nat_tests, length-integer, length-whole, by_index_length, length-append, length-last_digits)
+pub length-text_of : (value : N.ScalarValue) → N.IsTrue (N.is_in_range value) → N.FitsWidths value → length (N.text_of value) ≤ 41
+length-text_of (values.Money amount) h fits = grind (arith, (length-whole (N.unsigned_abs amount) 4), N.length-append)
+length-text_of value h fits = grind (arith, N.nat_tests, length-integer, length-whole, N.by_index_length, N.length-append, length-last_digits)

@@ -1,7 +1,7 @@
 -- Digits as the bytes of one number.
+use Rattle.tds_values.proofs.Words as N
 use Rattle.tds_values.proofs.{
-  Words.{add-suc, append-nil, ap, drop, drop-append_seam, ◌-◌, ◌≤◌, ◌≡◌, ℕ, zero, suc, ◌+◌, ◌*◌, ◌/◌, ◌%◌, ◌^◌, ◌<◌, List, [], ◌∷◌, ◌++◌, refl, arith, take, length, pow-succ', div-div-eq-div-mul},
-  Words.{bytes_low_first, All, All-head, All-nil, All-push, All-tail, last_digits, pow-add, take-append-add, take-take},
+  Words.{ap, drop, ◌-◌, ◌≤◌, ◌≡◌, ℕ, zero, suc, ◌+◌, ◌*◌, ◌/◌, ◌%◌, ◌^◌, ◌<◌, List, [], ◌∷◌, ◌++◌, refl, arith, take, length, All, last_digits},
   DigitLemmas.last_digits-add,
   TextLengths.length-last_digits,
 }
@@ -17,21 +17,21 @@ bytes_of zero n = []
 bytes_of (suc k) n = n % 256 ∷ bytes_of k (n / 256)
 
 pub digits_are_bytes : (k n : ℕ) → All (λ b. b < 256) (last_digits k n)
-digits_are_bytes zero n = All-nil (λ b. b < 256)
-digits_are_bytes (suc k) n = All-push (λ b. b < 256) _ (48 + n % 10) (digits_are_bytes k (n / 10)) (omega arith)
+digits_are_bytes zero n = N.All-nil (λ b. b < 256)
+digits_are_bytes (suc k) n = N.All-push (λ b. b < 256) _ (48 + n % 10) (digits_are_bytes k (n / 10)) (omega arith)
 
 -- the low bytes of a number give back what it was made of
 bytes_of-word_of : (xs : List ℕ) → All (λ b. b < 256) xs → bytes_of (length xs) (word_of xs) ≡ xs
 bytes_of-word_of [] h = refl
-bytes_of-word_of (x ∷ xs) h = grind (arith, All-head, (bytes_of-word_of xs (All-tail (λ b. b < 256) x xs h)))
+bytes_of-word_of (x ∷ xs) h = grind (arith, N.All-head, (bytes_of-word_of xs (N.All-tail (λ b. b < 256) x xs h)))
 
 -- a shift takes the first bytes away
 word_of-shift : (xs ys : List ℕ) → All (λ b. b < 256) xs → word_of (xs ++ ys) / 256 ^ length xs ≡ word_of ys
 word_of-shift [] ys h = omega arith
 word_of-shift (x ∷ xs) ys h =
-    let b : x < 256 = All-head (λ b. b < 256) x xs h in
+    let b : x < 256 = N.All-head (λ b. b < 256) x xs h in
     let high : (x + 256 * word_of (xs ++ ys)) / 256 ≡ word_of (xs ++ ys) = omega arith in
-    rw (pow-succ' 256 (length xs), ← div-div-eq-div-mul _ 256 (256 ^ length xs), high) (word_of-shift xs ys (All-tail (λ b. b < 256) x xs h))
+    rw (N.pow-succ' 256 (length xs), ← N.div-div-eq-div-mul _ 256 (256 ^ length xs), high) (word_of-shift xs ys (N.All-tail (λ b. b < 256) x xs h))
 
 shifted : (xs ys : List ℕ) → All (λ b. b < 256) xs → All (λ b. b < 256) ys → bytes_of (length ys) (word_of (xs ++ ys) / 256 ^ length xs) ≡ ys
 shifted xs ys h g = rw (word_of-shift xs ys h) (bytes_of-word_of ys g)
@@ -46,44 +46,44 @@ shifted_digits a k n =
 
 pub take-bytes_of : (j k w : ℕ) → take k (bytes_of (j + k) w) ≡ bytes_of k w
 take-bytes_of j zero w = refl
-take-bytes_of j (suc k) w = rw (add-suc, take-bytes_of j k (w / 256))
+take-bytes_of j (suc k) w = rw (N.add-suc, take-bytes_of j k (w / 256))
 
-low_bytes : (i k n : ℕ) → bytes_low_first i k n ≡ bytes_of k (n / 256 ^ i)
+low_bytes : (i k n : ℕ) → N.bytes_low_first i k n ≡ bytes_of k (n / 256 ^ i)
 low_bytes i zero n = refl
-low_bytes i (suc k) n = grind (arith, div-div-eq-div-mul, (low_bytes (suc i) k n))
+low_bytes i (suc k) n = grind (arith, N.div-div-eq-div-mul, (low_bytes (suc i) k n))
 
 -- the bytes of a whole number
-pub whole_word : (m w : ℕ) → bytes_low_first 0 m w ≡ bytes_of m w
+pub whole_word : (m w : ℕ) → N.bytes_low_first 0 m w ≡ bytes_of m w
 whole_word m w = let one : w / 256 ^ 0 ≡ w = omega arith in rw one at (low_bytes 0 m w)
 
 eighth_power : (k : ℕ) → 2 ^ (8 * k) ≡ 256 ^ k
 eighth_power zero = refl
-eighth_power (suc k) = let e : 8 * suc k ≡ 8 + 8 * k = omega arith in rw (e, pow-add 2 8 (8 * k), eighth_power k, pow-succ' 256 k)
+eighth_power (suc k) = let e : 8 * suc k ≡ 8 + 8 * k = omega arith in rw (e, N.pow-add 2 8 (8 * k), eighth_power k, N.pow-succ' 256 k)
 
 -- of the bytes after `at`, shifted past the first j digits, the first k
 pub last_put : (xs new : List ℕ) (at j k m n : ℕ) → length xs ≡ at → m ≡ j + k
-    → take (at + m) new ≡ xs ++ bytes_low_first 0 m (word_of (last_digits m n) / 2 ^ (8 * j))
+    → take (at + m) new ≡ xs ++ N.bytes_low_first 0 m (word_of (last_digits m n) / 2 ^ (8 * j))
     → take (at + k) new ≡ xs ++ last_digits k n
 last_put xs new at j k m n long em e =
     let w = word_of (last_digits m n) / 256 ^ j in
     let f = rw (whole_word, eighth_power) at e in
-    cc (take-take (at + k) (at + m) new (omega arith), take-append-add xs (bytes_of m w) k, take-bytes_of j k w, shifted_digits j k n)
+    cc (N.take-take (at + k) (at + m) new (omega arith), N.take-append-add xs (bytes_of m w) k, take-bytes_of j k w, shifted_digits j k n)
 
 -- of k digits the last b
 pub end_digits : (k b n : ℕ) → b ≤ k → drop (k - b) (last_digits k n) ≡ last_digits b n
 end_digits k b n few =
     let all : k ≡ (k - b) + b = omega arith in
     let d = last_digits (k - b) (n / 10 ^ b) in
-    cc (ap (λ j. last_digits j n) all, last_digits-add (k - b) b n, length-last_digits (k - b) (n / 10 ^ b), drop-append_seam d (last_digits b n))
+    cc (ap (λ j. last_digits j n) all, last_digits-add (k - b) b n, length-last_digits (k - b) (n / 10 ^ b), N.drop-append_seam d (last_digits b n))
 
 -- of a + b digits the first a
 front_digits : (a b n : ℕ) → take a (last_digits (a + b) n) ≡ last_digits a (n / 10 ^ b)
 front_digits a b n =
     let d = last_digits a (n / 10 ^ b) in
-    grind (arith, (length-last_digits a (n / 10 ^ b)), (last_digits-add a b n), (take-append-add d (last_digits b n) 0), append-nil)
+    grind (arith, (length-last_digits a (n / 10 ^ b)), (last_digits-add a b n), (N.take-append-add d (last_digits b n) 0), N.append-nil)
 
 -- of m digits after `at` the first a
 pub front_put : (xs new : List ℕ) (at a b m n : ℕ) → length xs ≡ at → m ≡ a + b → take (at + m) new ≡ xs ++ last_digits m n
     → take (at + a) new ≡ xs ++ last_digits a (n / 10 ^ b)
 front_put xs new at a b m n long em e =
-    cc (take-take (at + a) (at + m) new (omega arith), take-append-add xs (last_digits m n) a, front_digits a b n)
+    cc (N.take-take (at + a) (at + m) new (omega arith), N.take-append-add xs (last_digits m n) a, front_digits a b n)

@@ -1,7 +1,7 @@
 use Rattle.tds_csv.proofs.convert.lanes_hex.encode.Goals as goal
+use Rattle.tds_csv.proofs.Words as N
 use Rattle.tds_csv.proofs.{
-  Words.{rules, ◌+◌, ◌≡◌, ◌*◌, ◌-◌, ◌≤◌, ℕ, List, length, take, drop, arith, length-drop, take-append-drop, append-nil, take_all, put_mid, post_of},
-  Words.{encode_lower, lower_digits, refl},
+  Words.{◌+◌, ◌≡◌, ◌*◌, ◌-◌, ◌≤◌, ℕ, List, length, take, drop, arith, refl},
   Utf16Steps.nil_of_length,
   SingleLaws.hex-append,
   Singles.text_taken,
@@ -12,23 +12,23 @@ loop-at-preserved c =
     let end : 2 * c.loop-at.at + 32 ≡ 2 * (c.loop-at.at + 16) = omega arith in
     record {
       within = omega arith;
-      room = search rules;
+      room = search N.rules;
       digits = rw end at
-          (text_taken encode_lower (hex-append lower_digits) c.args.bytes.now c.loop-at.at 16 c.put_digits.ensures c.loop-at.invariant.digits);
+          (text_taken N.encode_lower (hex-append N.lower_digits) c.args.bytes.now c.loop-at.at 16 c.put_digits.ensures c.loop-at.invariant.digits);
     }
 
 -- the digits of the other bytes were written after them
-ended : (bytes to new : List ℕ) (at : ℕ) → at ≤ length bytes → length to ≡ 2 * length bytes → take (2 * at) to ≡ encode_lower (take at bytes)
-    → new ≡ encode_lower (take (length bytes - at) (drop at bytes)) → put_mid (2 * at) (length to - 2 * at) to new ≡ encode_lower bytes
+ended : (bytes to new : List ℕ) (at : ℕ) → at ≤ length bytes → length to ≡ 2 * length bytes → take (2 * at) to ≡ N.encode_lower (take at bytes)
+    → new ≡ N.encode_lower (take (length bytes - at) (drop at bytes)) → N.put_mid (2 * at) (length to - 2 * at) to new ≡ N.encode_lower bytes
 ended bytes to new at within room front back =
     rw (
-      (nil_of_length (post_of (2 * at) (length to - 2 * at) to) (omega (arith, length-drop (length to - 2 * at) (drop (2 * at) to), length-drop (2 * at) to))),
-      append-nil,
+      (nil_of_length (N.post_of (2 * at) (length to - 2 * at) to) (omega (arith, N.length-drop (length to - 2 * at) (drop (2 * at) to), N.length-drop (2 * at) to))),
+      N.append-nil,
       front,
       back,
-      take_all (length bytes - at) (drop at bytes) (omega (arith, length-drop at bytes)),
-      ← (hex-append lower_digits (take at bytes) (drop at bytes)),
-      take-append-drop,
+      N.take_all (length bytes - at) (drop at bytes) (omega (arith, N.length-drop at bytes)),
+      ← (hex-append N.lower_digits (take at bytes) (drop at bytes)),
+      N.take-append-drop,
     ) refl
 
 pub returns : goal.returns

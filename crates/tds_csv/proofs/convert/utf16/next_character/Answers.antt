@@ -1,15 +1,13 @@
 use Rattle.tds_csv.proofs.convert.utf16.next_character.Goals as goal
-use Rattle.tds_csv.proofs.{
-  Words.{is_high_surrogate, is_low_surrogate, inr, or_parts, sym, arith, length-drop},
-  Utf16Steps.{alone_at, held_at, high_half, lone_half, lone_other, not_high, one_at, pair_at},
-}
+use Rattle.tds_csv.proofs.Words as N
+use Rattle.tds_csv.proofs.{Words.{inr, sym, arith}, Utf16Steps.{alone_at, held_at, high_half, lone_half, lone_other, not_high, one_at, pair_at}}
 
 pub returns-then-bytes-at-lt2-clause-gives : goal.returns-then-bytes-at-lt2-clause-gives
-returns-then-bytes-at-lt2-clause-gives c = let left = length-drop c.args.at c.args.bytes.now in grind arith
+returns-then-bytes-at-lt2-clause-gives c = let left = N.length-drop c.args.at c.args.bytes.now in grind arith
 
 pub returns-then-not-is_surrogate-clause-gives : goal.returns-then-not-is_surrogate-clause-gives
 returns-then-not-is_surrogate-clause-gives c =
-    let none = or_parts (is_high_surrogate c.unit-first.result) (is_low_surrogate c.unit-first.result) (sym c.if-not-is_surrogate.ensures) in
+    let none = N.or_parts (N.is_high_surrogate c.unit-first.result) (N.is_low_surrogate c.unit-first.result) (sym c.if-not-is_surrogate.ensures) in
     one_at c.args.bytes.now c.args.at (omega arith) c.unit-first.ensures.value none.0 (lone_other c.unit-first.result none.0 none.1)
 
 pub returns-then-is_low-clause-gives : goal.returns-then-is_low-clause-gives
