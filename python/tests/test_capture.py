@@ -330,7 +330,7 @@ cursor.execute("SELECT * FROM sets")
 cursor.fetchall()
 connection.close()'
 for file in any.pcap lo.pcapng ts.pcapng; do
-    until [ "$(tshark -r $file -Y 'tcp.flags.fin == 1' 2> reading.notes | wc -l)" -ge 6 ]; do sleep 0.2; done
+    until [ "$(tshark -r $file -Y 'tcp.flags.fin == 1' -T fields -e tcp.srcport -e tcp.dstport 2> reading.notes | sort -u | wc -l)" -ge 6 ]; do sleep 0.2; done
 done
 kill $first $second $third
 wait
