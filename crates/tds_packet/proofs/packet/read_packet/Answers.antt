@@ -3,21 +3,21 @@ use Rattle.tds_packet.proofs.{Words.{sym, rules, arith, device, ReadsPacket}, Jo
 
 pub returns-in_err-fill-clause-read : goal.returns-in_err-fill-clause-read
 returns-in_err-fill-clause-read g c =
-    passed_on _ _ (ReadsPacket _ c.args.max_wire c.args.wire _
+    passed_on _ _ (ReadsPacket _ c.args.max_wire _ _
     _ c.args.packet.now.bytes) c.from_residual.ensures.1
-    (fill_err _ _ _ _ _ c.fill.new.to c.args.packet.now.bytes (search rules) c.in_err-fill.ensures.read)
+    (fill_err _ _ _ _ _ _ c.args.packet.now.bytes (search rules) c.in_err-fill.ensures.read)
 
 pub returns-in_err-head-clause-read : goal.returns-in_err-head-clause-read
 returns-in_err-head-clause-read g c =
-    passed_on _ _ (ReadsPacket c.args.packet.now.room c.args.max_wire c.args.wire _
+    passed_on _ _ (ReadsPacket c.args.packet.now.room c.args.max_wire _ _
     (device g.R.Read.remaining c.fill.new.from) c.args.packet.now.bytes) c.from_residual-in_err-head.ensures.1
-    (header_err _ _ _ _ _ c.fill.new.to c.args.packet.now.bytes (search rules) c.in_ok-fill.ensures.read.0 c.in_ok-fill.ensures.read.1
+    (header_err _ _ _ _ _ _ c.args.packet.now.bytes (search rules) c.in_ok-fill.ensures.read.0 c.in_ok-fill.ensures.read.1
     (rw (← c.room-room.ensures) (sym c.in_err-head.ensures.value)))
 
 pub returns-in_err-read_body-clause-read : goal.returns-in_err-read_body-clause-read
 returns-in_err-read_body-clause-read g c =
-    passed_on _ _ (ReadsPacket c.args.packet.now.room c.args.max_wire c.args.wire _
-    _ c.read_body.new.packet.bytes) c.from_residual-in_err-read_body.ensures.1
+    passed_on _ _ (ReadsPacket _ _ _ _
+    _ _) c.from_residual-in_err-read_body.ensures.1
     (body_err _ _ _ _ _ _ c.in_ok-head.head _ _
     (record {
       bytes = c.fill.new.to;
@@ -32,12 +32,5 @@ returns-in_err-read_body-clause-read g c =
 pub returns-clause-read : goal.returns-clause-read
 returns-clause-read g c =
     body_ok _ _ _ _ _
-    (record {
-      bytes = c.fill.new.to;
-      eight = search rules;
-      read = c.in_ok-fill.ensures.read.0;
-      stays = c.in_ok-fill.ensures.read.1;
-      good = rw
-          (← c.room-room.ensures) (sym c.in_ok-head.ensures.value);
-    })
+    (grind arith)
     (omega (arith, c.in_ok-head.ensures.fits)) c.in_ok-read_body.ensures.bytes.0 c.in_ok-read_body.ensures.bytes.1

@@ -11,7 +11,7 @@ returns-in-Err-clause-writes g c =
       take k all,
       drop k all,
       N.take-append-drop k all,
-      subst (λ l. N.Appends (g.W.Write.contents c.args.to.now.device) (g.W.Write.contents c.deliver.new.self.device) (take k l)) is
+      rw (← is)
           c.in-Err.ensures.err,
       rw (N.length-take-le k all (omega (arith, c.in-Err.ensures.part, ap length is)), N.length-drop k all, ← len) c.write_failed.ensures,
       subst (λ l. N.Rises c.args.to.now.failures c.deliver.new.self.failures (take k l)) is c.in-Err.ensures.counted,

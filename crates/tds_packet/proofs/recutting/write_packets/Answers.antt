@@ -6,12 +6,12 @@ use Rattle.tds_packet.proofs.{
 }
 
 pub loop-to-init : goal.loop-to-init
-loop-to-init g c = grind (arith, common_steps, cut_none)
+loop-to-init g c = grind (arith, cut_none)
 
 pub returns-in-Ok-true-clause-cuts : goal.returns-in-Ok-true-clause-cuts
 returns-in-Ok-true-clause-cuts g c =
     let inv = c.loop-to.invariant in
-    rw (sym inv.room) (cut_finished inv.cutting inv.going.going (omega (arith, inv.room, c.requires.room)) _ _ _ c.in-Ok-true.field-0-test
+    rw (sym inv.room) (cut_finished inv.cutting inv.going.going (omega (arith, c.requires.room)) _ _ _ c.in-Ok-true.field-0-test
     c.in-Ok-true.ensures.body c.place.ensures c.in_ok-all-in-Ok-true.ensures.writes c.finish.ensures)
 
 pub returns-in_err-all-in-Ok-true-clause-cuts : goal.returns-in_err-all-in-Ok-true-clause-cuts
@@ -34,7 +34,7 @@ returns-in_err-done-in-Ok-false-clause-cuts g c =
 pub returns-in-Err-clause-cuts : goal.returns-in-Err-clause-cuts
 returns-in-Err-clause-cuts g c =
     let inv = c.loop-to.invariant in
-    rw (sym inv.room) (inl (cut_stopped inv.cutting inv.going.going (omega (arith, inv.room, c.requires.room)) c.in-Err.ensures.body
+    rw (sym inv.room) (inl (cut_stopped inv.cutting inv.going.going (omega (arith, inv.room)) c.in-Err.ensures.body
     c.flush.ensures.bytes c.flush.ensures.ok c.flush.ensures.counted))
 
 pub loop-to-preserved : goal.loop-to-preserved

@@ -9,12 +9,12 @@ take_put k xs ys within fits = grind (arith, N.length-take-le, N.take-append-add
 pub loop-at-preserved : goal.loop-at-preserved
 loop-at-preserved g c =
     let inv = c.loop-at.invariant in
-    let bound : c.in-Ok.n ≤ length c.read.new.to = search rules in
+    let bound : c.in-Ok.n ≤ length _ = search rules in
     record {
       same = search rules;
       within = search rules;
-      stays = (c.in-Ok.ensures.counts.0 ∙ inv.stays.0, λ _. omega (arith, c.in-Ok.ensures.counts.1, inv.stays.0));
-      read = subst (N.Consumes _ _) (take_put _ _ _ inv.within bound)
+      stays = grind arith;
+      read = rw (← (take_put _ _ _ inv.within bound))
           (N.Consumes-trans _ _ _ _ _ inv.read c.in-Ok.ensures.ok);
     }
 
@@ -23,7 +23,7 @@ returns-in-Err g c =
     let inv = c.loop-at.invariant in
     let same : length (put_mid c.loop-at.at (length c.loop-at.to - c.loop-at.at) c.loop-at.to c.read.new.to) ≡ length c.args.to.now = search rules in (
       take c.loop-at.at c.loop-at.to,
-      omega (arith, same, c.loop-at.auto.to, N.length-take-le c.loop-at.at c.loop-at.to inv.within),
+      omega (arith, same, N.length-take-le c.loop-at.at c.loop-at.to inv.within),
       N.Consumes-kept _ _ _ _ inv.read c.in-Err.ensures.err,
       (c.in-Err.ensures.counts ∙ ap N.one_more inv.stays.0, inv.stays.1),
     )

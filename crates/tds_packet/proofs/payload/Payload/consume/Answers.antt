@@ -6,4 +6,4 @@ returns-clause-gives g c = pass_takes g.R.Read.remaining c.args.self.now refl c.
     c.requires.within
 
 pub returns-clause-between : goal.returns-clause-between
-returns-clause-between g c = λ e. between_of g.R.Read.remaining (further c.args.self.now c.args.n) e
+returns-clause-between g c = λ e. between_of g.R.Read.remaining (further c.args.self.now _) e

@@ -10,7 +10,7 @@ returns-clause-begun g c = record {
   limit = refl;
   place = refl;
   going = refl;
-  begins = rw c.clear.ensures.value refl;
+  begins = rw c.clear.ensures.value;
   between = between_of g.R.Read.remaining (record {
     from = c.args.from;
     packet = record c.args.packet { now = c.clear.new.self };

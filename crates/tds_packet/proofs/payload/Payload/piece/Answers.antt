@@ -23,7 +23,7 @@ returns g c =
         (
           record {
             at = omega (arith, up, ready.stands);
-            place = omega (arith, sound.place, up, ready.stands);
+            place = omega arith;
             wire = sound.wire;
             limit = sound.limit;
             peak = sound.peak;
@@ -35,7 +35,7 @@ returns g c =
                 (take n (buffered s)) 1 1 (le_refl 1) ready.gives (further_takes g.R.Read.remaining s n 1 fits going)),
             between_of g.R.Read.remaining
                 (further s n) going,
-            rw (value, m) (omega (arith, len, ready.payload.place)),
+            rw (value, m) (omega arith),
             going,
           ),
           not_again _ _ _ _ ready.payload.answers.again,
