@@ -1,5 +1,6 @@
 -- A reading byte by byte, which worked rows are computed by.
-use Rattle.tds_packet.proofs.Words.{◌==◌, ℕ, Bool, true, false, List, [], ◌∷◌, ◌++◌, length, Option, Some, None, Grammar}
+use Rattle.tds_packet.proofs as N
+use N.{◌==◌, ℕ, true, false, List, [], ◌∷◌, ◌++◌, None, Grammar}
 
 -- How far a reading has come, byte by byte.
 pub data Progress (S F : Type 0) : Type 0 where
@@ -9,18 +10,18 @@ pub data Progress (S F : Type 0) : Type 0 where
   Refused : S → List ℕ → F → Progress S F
 
 -- the element is judged
-abbrev pub judged : {S F : Type 0} → Grammar S F → S → List ℕ → Option F → Progress S F
+abbrev pub judged : {S F : Type 0} → Grammar S F → S → List ℕ → N.Option F → Progress S F
 judged g s element None = Reading (g.add s element) []
-judged g s element (Some fault) = Refused s element fault
+judged g s element (N.Some fault) = Refused s element fault
 
 -- an element is judged as soon as it is whole
-abbrev pub come : {S F : Type 0} → Grammar S F → S → List ℕ → Bool → Progress S F
+abbrev pub come : {S F : Type 0} → Grammar S F → S → List ℕ → N.Bool → Progress S F
 come g s begun true = judged g s begun (g.fault s begun)
 come g s begun false = Reading s begun
 
 -- one more byte
 abbrev pub feed : {S F : Type 0} → Grammar S F → Progress S F → ℕ → Progress S F
-feed g (Reading s begun) byte = come g s (begun ++ byte ∷ []) (length (begun ++ byte ∷ []) == g.size s)
+feed g (Reading s begun) byte = come g s (begun ++ byte ∷ []) (N.length (begun ++ byte ∷ []) == g.size s)
 feed g (Refused s rest fault) byte = Refused s (rest ++ byte ∷ []) fault
 
 -- all these bytes, one by one
@@ -43,6 +44,6 @@ rest_of (Reading s rest) = rest
 rest_of (Refused s rest fault) = rest
 
 -- the fault, where the message has ended
-abbrev pub fault_of : {S F : Type 0} → Grammar S F → Progress S F → Option F
+abbrev pub fault_of : {S F : Type 0} → Grammar S F → Progress S F → N.Option F
 fault_of g (Reading s rest) = g.end_fault s
-fault_of g (Refused s rest fault) = Some fault
+fault_of g (Refused s rest fault) = N.Some fault

@@ -1,12 +1,7 @@
 -- The packets at the front of an input, and what is read of it.
-use Rattle.tds_packet.proofs.Words as N
-use Rattle.tds_packet.proofs.{
-  Words.{◌≡◌, ◌∙◌, ◌⊎◌, inl, inr, ℕ, suc, zero, ◌+◌, ◌<◌, ◌≤◌, List, [], ◌∷◌, ◌++◌, length, take, Some, false, refl, sym, ap, arith, Stop, Packet},
-  Words.{packet_length, header_length, wire_of, payload_of, AreBefore, Seen, begun, front_packet, message},
-  ElementLaws.AreBytes-front,
-  PacketLaws.{good_header, header_of, front_message},
-  Joins.whole_packet,
-}
+use Rattle.tds_packet.proofs as N
+use N.{◌≡◌, ◌∙◌, ◌⊎◌, inl, inr, ℕ, suc, ◌+◌, ◌<◌, ◌≤◌, List, [], ◌∷◌, ◌++◌, length, Some, refl, sym, ap, arith, Stop, Packet, wire_of, payload_of, AreBefore}
+use N.{Seen, begun, Words.{front_packet, message}, ElementLaws.AreBytes-front, PacketLaws.{good_header, header_of, front_message}}
 
 -- whole packets at the front of an input, with the rest of it after them; none but the last is marked as the last
 pub record BeginsMessage (size limit : ℕ) (input rest payload : List ℕ) : Type 0 where
@@ -98,12 +93,12 @@ split_last {size} (p ∷ q ∷ ps) each some =
     (p ∷ r.0, r.1, ap (λ l. p ∷ l) r.2, elim each [ inl x ↦ (x.0, x.1, r.3) | inr x ↦ (x.0, x.1, r.3) ])
 
 -- what comes of a packet before the last, and of more after it
-front_whole : {size limit : ℕ} (from : ℕ) {p : Packet} {more : List ℕ} → N.IsPacket size p → N.is_last p ≡ false → from + packet_length p ≤ limit
-    → front_packet size limit from (N.packet_bytes p ++ more) ≡ N.WholePacket p.body false (packet_length p) more
+front_whole : {size limit : ℕ} (from : ℕ) {p : Packet} {more : List ℕ} → N.IsPacket size p → N.is_last p ≡ N.false → from + N.packet_length p ≤ limit
+    → front_packet size limit from (N.packet_bytes p ++ more) ≡ N.WholePacket p.body N.false (N.packet_length p) more
 front_whole {size} {limit} from {p} {more} each last within =
-    let size_is : header_length (header_of p) ≡ packet_length p = omega arith in
-    rw N.append_assoc (rw (size_is, last) at (whole_packet size limit from (header_of p) (record {
-      length = header_length
+    let size_is : N.header_length (header_of p) ≡ N.packet_length p = omega arith in
+    rw N.append_assoc (rw (size_is, last) at (N.Joins.whole_packet size limit from (header_of p) (record {
+      length = N.header_length
           (header_of p);
       last = N.is_last p;
     }) (omega arith)
@@ -113,10 +108,10 @@ front_whole {size} {limit} from {p} {more} each last within =
 message_before : (size limit n from place : ℕ) (packets : List Packet) → AreBefore size packets → from + length (wire_of packets) ≤ limit
     → length (wire_of packets) < n → (message size limit n from place (wire_of packets)).bytes ≡ payload_of packets
 unfolding message front_packet
-message_before size limit zero from place packets each within less = absurd (omega arith)
+message_before size limit N.zero from place packets each within less = absurd (omega arith)
 message_before size limit (suc n) from place [] each within less = refl
 message_before size limit (suc n) from place (p ∷ ps) each within less =
-    let long : length (wire_of (p ∷ ps)) ≡ packet_length p + length (wire_of ps) = simp N.length-append (omega arith) in
+    let long : length (wire_of (p ∷ ps)) ≡ N.packet_length p + length (wire_of ps) = simp N.length-append (omega arith) in
     ap (λ f. (N.after_packet (message size limit n) from place f).bytes) (front_whole _ each.0 each.1 (omega arith))
     ∙ ap (λ l. p.body ++ l) (message_before _ _ n _ _ _ each.2 (omega arith) (omega arith))
 
@@ -132,7 +127,7 @@ in_last size limit f n input rest q bytes payload left t p some =
     let wires = ap wire_of (sym l.2) ∙ simp (N.flat_map-append, N.append-nil) in
     let read = N.append_cancel_right t.0 (wire_of l.0 ++ N.packet_bytes l.1) rest (sym split ∙ sym p.begin ∙ ap (λ w. w ++ rest) wires) in
     let long = N.length-append (wire_of l.0) (N.packet_bytes l.1) in
-    let front : take (length (wire_of l.0)) t.0 ≡ wire_of l.0 = rw read (N.take-append_seam _ _) in
+    let front : N.take (length (wire_of l.0)) t.0 ≡ wire_of l.0 = rw read (N.take-append_seam _ _) in
     record {
       before = l.0;
       last = l.1;

@@ -1,13 +1,10 @@
 -- The parts of a packet's read, joined.
-use Rattle.tds_packet.proofs.Words as N
-use Rattle.tds_packet.proofs.{
-  Words.{◌≡◌, ◌∙◌, ℕ, ◌+◌, ◌-◌, ◌^◌, ◌<◌, List, [], ◌++◌, length, take, drop, Option, Ok, Err, Bool, false, refl, ap, arith, nat_lt, if◌then◌else◌, Device},
-  Words.{Stays, Fault, Header, front_packet},
-  Choices.{choose_true, test_lt},
-}
+use Rattle.tds_packet.proofs as N
+use N.{◌≡◌, ◌∙◌, ℕ, ◌+◌, ◌-◌, ◌^◌, ◌<◌, List, [], ◌++◌, length, Ok, Err, false, arith, if◌then◌else◌, Device, Stays, Fault, Header, Words.front_packet}
+use N.{Choices.test_lt}
 
 pub Stays-none : (f : ℕ) → Stays f f []
-Stays-none f = (refl, λ lt. absurd (omega arith))
+Stays-none f = (N.refl, λ lt. absurd (omega arith))
 
 pub Stays-trans : (f g h : ℕ) (r s : List ℕ) → Stays f g r → Stays g h s → Stays f h (r ++ s)
 Stays-trans f g h r s p q = grind (arith, N.common_steps, N.length-append)
@@ -18,7 +15,7 @@ Rises-after r s p q some = grind (arith, N.length-append r s, p.0, p.1, q)
 
 -- bytes that a device took before a call that failed, and in it
 pub Stays-Rises : {f g h : ℕ} (r s : List ℕ) → Stays f g r → N.Rises g h s → N.Rises f h (r ++ s)
-Stays-Rises r s p q = (q.0 ∙ ap N.one_more p.0, Rises-after r s p q.1)
+Stays-Rises r s p q = (q.0 ∙ N.ap N.one_more p.0, Rises-after r s p q.1)
 
 -- an input of fewer than eight bytes
 short_input : (size limit wire : ℕ) (xs : List ℕ) → length xs < 8 → front_packet size limit wire xs ≡ N.NoPacket N.InputEnded []
@@ -26,16 +23,16 @@ unfolding front_packet
 short_input size limit wire xs h = rw (test_lt (length xs) 8 h)
 
 -- the header is the first eight bytes
-after_header : (size limit wire : ℕ) (hdr ys : List ℕ) {o : Option Fault} → length hdr ≡ 8 → N.header_fault size limit wire hdr ≡ o
+after_header : (size limit wire : ℕ) (hdr ys : List ℕ) {o : N.Option Fault} → length hdr ≡ 8 → N.header_fault size limit wire hdr ≡ o
     → front_packet size limit wire (hdr ++ ys) ≡ N.packet_after_header hdr ys o
 unfolding front_packet
 after_header size limit wire hdr ys e f =
-    let long : nat_lt (length hdr + length ys) 8 ≡ false = grind (arith, N.nat_tests) in
+    let long : N.nat_lt (length hdr + length ys) 8 ≡ false = grind (arith, N.nat_tests) in
     rw (N.length-append, long, ← e, N.take-append_seam, N.drop-append_seam, e, f)
 
 -- a body that is whole, and one that is cut
-whole_at : {last : Bool} {len : ℕ} {bs ys : List ℕ} {n : ℕ} → n ≡ length bs
-    → (if nat_lt (length (bs ++ ys)) n then N.NoPacket N.InputEnded [] else N.WholePacket (take n (bs ++ ys)) last len (drop n (bs ++ ys))) ≡ N.WholePacket bs
+whole_at : {last : N.Bool} {len : ℕ} {bs ys : List ℕ} {n : ℕ} → n ≡ length bs
+    → (if N.nat_lt (length (bs ++ ys)) n then N.NoPacket N.InputEnded [] else N.WholePacket (N.take n (bs ++ ys)) last len (N.drop n (bs ++ ys))) ≡ N.WholePacket bs
     last len ys
 whole_at e = grind (arith, N.length-append, N.take-append_seam, N.drop-append_seam)
 
@@ -47,11 +44,11 @@ module _ (size limit wire : ℕ) (hdr : List ℕ) (h : Header) (eight : length h
 
   -- an input that ends in the body
   ended_body : (bs : List ℕ) → length bs + 8 < h.length → front_packet size limit wire (hdr ++ bs) ≡ N.NoPacket N.InputEnded []
-  ended_body bs lt = grind (arith, after_header, choose_true, test_lt)
+  ended_body bs lt = grind (arith, after_header, N.Choices.choose_true, test_lt)
 
   -- no beginning of a packet is a packet
   cut : (body : List ℕ) (j : ℕ) → length body + 8 ≡ h.length → j < length (hdr ++ body)
-      → front_packet size limit wire (take j (hdr ++ body)) ≡ N.NoPacket N.InputEnded []
+      → front_packet size limit wire (N.take j (hdr ++ body)) ≡ N.NoPacket N.InputEnded []
   cut body j fits lt = elim (N.dec_le 8 j) [
     | yes many ↦ (let all : length hdr + (j - 8) ≡ j = omega arith in rw (
       ← all,

@@ -15,3 +15,4 @@ pub mod Recuts
 pub mod Places
 pub mod WireFaults
 pub mod Words
+pub use Words.*

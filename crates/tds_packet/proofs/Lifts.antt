@@ -1,9 +1,6 @@
 -- What is read inside a greater grammar.
-use Rattle.tds_packet.proofs.Words as N
-use Rattle.tds_packet.proofs.{
-  Words.{◌≡◌, inl, inr, ℕ, ◌<◌, List, [], ◌∷◌, ◌++◌, length, ap, arith, IsNext},
-  ElementLaws.{Inside, Inside-Spelt, Spelt-append, Spelt-none, Spelt-one},
-}
+use Rattle.tds_packet.proofs as N
+use N.{◌≡◌, ℕ, ◌<◌, List, [], ◌∷◌, ◌++◌, arith, IsNext, ElementLaws.{Inside, Inside-Spelt, Spelt-append, Spelt-none, Spelt-one}}
 
 -- a state with a next element has some bytes to come
 pub next_some : {S : Type 0} (g : N.Grammar S N.Fault) (s : S) (element : List ℕ) → IsNext g s element → 0 < g.size s
@@ -24,7 +21,7 @@ module _ {S T : Type 0} (small : N.Grammar S N.Fault) (big : N.Grammar T N.Fault
   stops_inside from a b place at stop end r = record {
     bytes = r.bytes;
     spelt = Inside-Spelt _ _ _ is _ _ at r.spelt;
-    cause = elim r.cause [ inl x ↦ inl (grind arith) | inr x ↦ inr (grind arith) ];
+    cause = elim r.cause [ N.inl x ↦ N.inl (grind arith) | N.inr x ↦ N.inr (grind arith) ];
   }
 
   -- the last element of what was read
@@ -49,9 +46,9 @@ module _ {S T : Type 0} (small : N.Grammar S N.Fault) (big : N.Grammar T N.Fault
             (Spelt-append small from front s e _ spelt (Spelt-one small s e leads.0)) leads.1,
       )
 
-  pub last_inside : (from : S) (bytes : List ℕ) (to : S) → N.Spelt small from bytes to → 0 < length bytes → LastInside from bytes to
+  pub last_inside : (from : S) (bytes : List ℕ) (to : S) → N.Spelt small from bytes to → 0 < N.length bytes → LastInside from bytes to
   last_inside from bytes to spelt some = rw spelt.joined at (elim spelt.elements as (λ es. N.concat es ≡ bytes → N.Leads small from es to
       → LastInside from (N.concat es) to) [
-        | [] ↦ λ e leads. absurd (omega (arith, ap length e))
+        | [] ↦ λ e leads. absurd (omega (arith, N.ap N.length e))
         | ◌∷◌ e (es → _) ↦ λ _ leads. last_of _ _ _ e _ _ (Spelt-none _ _) leads
       ] spelt.joined spelt.leads)

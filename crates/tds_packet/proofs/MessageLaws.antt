@@ -1,35 +1,30 @@
 -- An input begins with one message at most.
-use Rattle.tds_packet.proofs.Words as N
-use Rattle.tds_packet.proofs.{
-  Words.{◌≡◌, ℕ, ◌≤◌, List, [], ◌∷◌, ◌++◌, length, arith, Packet, wire},
-  Feeding.{Reading, feed_all},
-  ElementLaws.{feed-Spelt, feed_all-append, feed_part},
-  PacketLaws.{before_packet, one_is_read, packet_is_read},
-}
+use Rattle.tds_packet.proofs as N
+use N.{◌≡◌, ℕ, ◌≤◌, List, [], ◌∷◌, ◌++◌, Packet, wire, Feeding.{Reading, feed_all}, ElementLaws.{feed-Spelt, feed_part}}
 
 module _ (size limit : ℕ) where
   abbrev pub after_packets : List Packet → N.WirePart
   after_packets packets = record { packets = packets; place = N.AfterLast }
 
   -- a message is read to its end
-  pub message_is_read : (done packets : List Packet) → N.AreMessage size packets → length (N.wire_of (done ++ packets)) ≤ limit
-      → N.Spelt (wire size limit) (before_packet size limit done) (N.wire_of packets) (after_packets (done ++ packets))
+  pub message_is_read : (done packets : List Packet) → N.AreMessage size packets → N.length (N.wire_of (done ++ packets)) ≤ limit
+      → N.Spelt (wire size limit) (N.PacketLaws.before_packet size limit done) (N.wire_of packets) (after_packets (done ++ packets))
   message_is_read done [] h f = absurd h
   message_is_read done (p ∷ []) h f = rw N.append-nil
-      (rw h.1 at (packet_is_read size limit done p h.0 (omega (arith, simp (N.flat_map-append, N.append-nil, N.length-append) at f, h.0.id))))
-  message_is_read done (p ∷ q ∷ packets) h f = one_is_read _ _ _ (h.0, h.1) f (message_is_read _ _ h.2)
+      (rw h.1 at (N.PacketLaws.packet_is_read size limit done p h.0 (omega (N.arith, simp (N.flat_map-append, N.append-nil, N.length-append) at f, h.0.id))))
+  message_is_read done (p ∷ q ∷ packets) h f = N.PacketLaws.one_is_read _ _ _ (h.0, h.1) f (message_is_read _ _ h.2)
 
   -- and nothing after it
   pub read_to_end : (packets : List Packet) (w more : List ℕ) → N.Message size limit packets w
       → feed_all (wire size limit) (Reading N.no_wire []) (w ++ more) ≡ Reading (after_packets packets) more
   read_to_end packets w more m =
       rw (
-        feed_all-append,
+        N.ElementLaws.feed_all-append,
         feed-Spelt _ N.no_wire w _ (rw m.spelt at (message_is_read [] packets m.each (rw m.spelt m.within))),
         feed_part (wire size limit)
-            (after_packets packets) [] more (λ k a b q. omega arith),
+            (after_packets packets) [] more (λ k a b q. omega N.arith),
       )
 
   -- no input begins with two messages
   pub one_message : (a b : List Packet) (w v x y : List ℕ) → N.Message size limit a w → N.Message size limit b v → w ++ x ≡ v ++ y → a ≡ b
-  one_message a b w v x y m n e = grind (arith, read_to_end a w x m, read_to_end b v y n)
+  one_message a b w v x y m n e = grind (N.arith, read_to_end a w x m, read_to_end b v y n)

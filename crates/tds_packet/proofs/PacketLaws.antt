@@ -1,12 +1,9 @@
 -- What the wire's grammar reads are the packets that the input begins with, and what comes of them their payload.
-use Rattle.tds_packet.proofs.Words as N
-use Rattle.tds_packet.proofs.{
-  Words.{◌≡◌, ℕ, ◌+◌, ◌-◌, ◌/◌, ◌%◌, ◌≤◌, true, false, List, [], ◌∷◌, ◌++◌, length, take, drop, refl, sym, ◌∙◌, ap, inl, inr, append_assoc, append-nil, arith},
-  Words.{length-append, ◌⊎◌, None, ◌==◌, if◌then◌else◌, AreBytes, Spelt, Packet, packet_length, packet_bytes, wire_of, is_last, IsPacket, AreBefore, WirePlace},
-  Words.{BeforeBody, WirePart, no_wire, header_length, packet_of, wire, zero, suc, ◌<◌, Bool, Option, Some, nat_lt, payload_of, before, front_packet, message},
-  ElementLaws.{Spelt-step, Spelt-append, Spelt-none, Spelt-induct, AreBytes-front, AreBytes-back, one_state, longest_cut, longest_refused},
-  Choices.{choose, eq_true},
-}
+use Rattle.tds_packet.proofs as N
+use N.{◌≡◌, ℕ, ◌+◌, ◌-◌, ◌/◌, ◌%◌, ◌≤◌, true, false, List, [], ◌∷◌, ◌++◌, length, take, drop, refl, ◌∙◌, ap, inl, inr, append_assoc, append-nil, arith}
+use N.{length-append, ◌⊎◌, None, ◌==◌, if◌then◌else◌, AreBytes, Spelt, Packet, wire_of, is_last, IsPacket, AreBefore, WirePlace, BeforeBody, WirePart, no_wire}
+use N.{header_length, wire, ◌<◌, nat_lt, payload_of, before, Words.{front_packet, message}, ElementLaws.{Spelt-step, Spelt-append, Spelt-none, Spelt-induct}}
+use N.{ElementLaws.{AreBytes-front, AreBytes-back, one_state, longest_cut}, Choices.{choose, eq_true}}
 
 pub one_more : (size : ℕ) (ps : List Packet) (p : Packet) → AreBefore size ps → IsPacket size p → is_last p ≡ false → AreBefore size (ps ++ p ∷ [])
 one_more size [] p h i l = (i, l, tt)
@@ -38,7 +35,7 @@ WireMeans size limit packets N.AfterLast b = (b ≡ wire_of packets) × N.AreMes
 
 module _ (size limit : ℕ) where
   with_means : {packets : List Packet} {header : List ℕ} (body : List ℕ) → AreBefore size packets → Good size limit packets header
-      → length body ≡ header_length header - 8 → let w = N.with_packet packets (packet_of header body) in
+      → length body ≡ header_length header - 8 → let w = N.with_packet packets (N.packet_of header body) in
       WireMeans size limit w.packets w.place (wire_of packets ++ (header ++ body))
   with_means body before good l = grind (arith, append-nil, N.flat_map-append, length-append, last_one, one_more)
 
@@ -62,10 +59,10 @@ module _ (size limit : ℕ) where
 
 -- the header of a packet
 abbrev pub header_of : Packet → List ℕ
-header_of p = 4 ∷ p.status ∷ packet_length p / 256 ∷ packet_length p % 256 ∷ p.id
+header_of p = 4 ∷ p.status ∷ N.packet_length p / 256 ∷ N.packet_length p % 256 ∷ p.id
 
 module _ (size limit : ℕ) where
-  pub good_header : (before : ℕ) {p : Packet} → IsPacket size p → before + packet_length p ≤ limit
+  pub good_header : (before : ℕ) {p : Packet} → IsPacket size p → before + N.packet_length p ≤ limit
       → N.header_fault size limit before (header_of p) ≡ None
   good_header before i f = grind (arith, N.nat_tests)
 
@@ -73,8 +70,8 @@ module _ (size limit : ℕ) where
   before_packet packets = record { packets = packets; place = N.BeforeHeader }
 
   -- a packet that may follow is read
-  pub packet_is_read : (packets : List Packet) (p : Packet) → IsPacket size p → length (wire_of packets) + packet_length p ≤ limit
-      → Spelt (wire size limit) (before_packet packets) (packet_bytes p) (N.with_packet packets p)
+  pub packet_is_read : (packets : List Packet) (p : Packet) → IsPacket size p → length (wire_of packets) + N.packet_length p ≤ limit
+      → Spelt (wire size limit) (before_packet packets) (N.packet_bytes p) (N.with_packet packets p)
   packet_is_read packets p i f =
       let g = wire size limit in
       let eight : length (header_of p) ≡ 8 = omega arith in
@@ -85,7 +82,7 @@ module _ (size limit : ℕ) where
             (Spelt-step g _ _ _ (omega arith) eight good (cc)))
         | ◌∷◌ x (xs → _) ↦ λ e.
             (let inside : WirePart = record { packets = packets; place = BeforeBody (header_of p) } in
-            let n : packet_length p ≡ 8 + length (x ∷ xs) = rw e in
+            let n : N.packet_length p ≡ 8 + length (x ∷ xs) = rw e in
             let off : (header_length (header_of p) == 8) ≡ false = grind (arith, N.nat_tests) in
             Spelt-append g _ (header_of p) inside (x ∷ xs) _ (Spelt-step g _ (header_of p) inside (omega arith) eight good (rw off))
             (Spelt-step g _ _ _ (omega arith) (omega arith) refl refl))
@@ -99,7 +96,7 @@ module _ (size limit : ℕ) where
       (record { packets = (done ++ p ∷ []) ++ packets; place = place }))
       → Spelt (wire size limit) (before_packet done) (wire_of (p ∷ packets)) (record { packets = done ++ p ∷ packets; place = place })
   one_is_read {done} {p} packets h f more =
-      let long : length (wire_of (done ++ p ∷ packets)) ≡ length (wire_of done) + (packet_length p + length (wire_of packets)) =
+      let long : length (wire_of (done ++ p ∷ packets)) ≡ length (wire_of done) + (N.packet_length p + length (wire_of packets)) =
       simp (N.flat_map-append, length-append) (omega arith) in
       Spelt-append _ _ _ _ _ _ (rw h.1 at (packet_is_read done p h.0 (omega arith))) (rw append_assoc at (more (rw append_assoc f)))
 
@@ -115,13 +112,13 @@ module _ (size limit : ℕ) where
       → take taken input ≡ wire_of packets ++ header
       → (header ≡ []) ⊎ ((length header ≡ 8) × (place ≡ BeforeBody header)) → (next : Packet) → N.IsNextPacket size limit input packets next → ⊥
   no_next {input} {taken} {packets} {place} {header} l before is cause next f =
-      let all = wire_of packets ++ packet_bytes next in
+      let all = wire_of packets ++ N.packet_bytes next in
       let front : take (length all) input ≡ all = rw f.spelt (N.take-append_seam all f.more) in
-      let long = length-append (wire_of packets) (packet_bytes next) in
-      let size_is : length (packet_bytes next) ≡ packet_length next = omega (arith, length-append next.id next.body) in
+      let long = length-append (wire_of packets) (N.packet_bytes next) in
+      let size_is : length (N.packet_bytes next) ≡ N.packet_length next = omega (arith, length-append next.id next.body) in
       let read = Spelt-append _ _ _ _ _ _ (before_are_read _ _ before (omega arith)) (packet_is_read _ _ f.rules (omega arith)) in
       let within = l.longest (length all) (N.with_packet packets next) (omega (arith, ap length f.spelt, length-append all f.more)) (rw front read) in
-      let counted = sym (N.length-take-le taken input l.within) ∙ ap length is ∙ length-append _ header in
+      let counted = N.sym (N.length-take-le taken input l.within) ∙ ap length is ∙ length-append _ header in
       let one : length all ≡ taken → place ≡ (if is_last next then N.AfterLast else N.BeforeHeader) =
       λ same. ap (λ w. w.place) (one_state _ no_wire _ _ (N.with_packet packets next) l.spelt (rw (← same, front) read)) in
       grind arith
@@ -136,7 +133,7 @@ module _ (size limit : ℕ) where
       go N.BeforeHeader l k = grind (
         arith,
         N.take-append-drop taken input,
-        no_next l k.1 (k.0 ∙ sym (append-nil _)) (inl refl),
+        no_next l k.1 (k.0 ∙ N.sym (append-nil _)) (inl refl),
       )
       go (BeforeBody header) l k = grind (
         arith,
@@ -156,13 +153,13 @@ module _ (size limit : ℕ) (packets : List Packet) where
   -- the wire stops after these packets and the bytes before an element that is refused or cut
   stops_at : (front rest : List ℕ) (place : WirePlace) (fault : N.Fault) (c : N.Coming) → AreBytes (front ++ rest) → AreBefore size packets
       → Spelt (wire size limit) no_wire front (at place)
-      → N.IsRefused (wire size limit) (at place) rest fault ⊎ ((length rest < N.wire_size place) × (N.wire_end place ≡ Some fault))
+      → N.IsRefused (wire size limit) (at place) rest fault ⊎ ((length rest < N.wire_size place) × (N.wire_end place ≡ N.Some fault))
       → c.bytes ≡ payload_of packets → c.stop ≡ record { fault = fault; place = N.Wire (length (wire_of packets)) }
       → N.IsFrontMessage size limit (front ++ rest) c
   stops_at front rest place fault c are each spelt cause bytes stop =
       let g = wire size limit in
       let longest : N.Longest g no_wire (front ++ rest) _ (at place) =
-      elim cause [ inl x ↦ longest_refused g _ _ _ _ _ spelt x | inr x ↦ longest_cut g _ _ _ _ spelt x.0 ] in
+      elim cause [ inl x ↦ N.ElementLaws.longest_refused g _ _ _ _ _ spelt x | inr x ↦ longest_cut g _ _ _ _ spelt x.0 ] in
       let front_is = read_front _ _ _ _ _ are longest in
       grind (arith, N.drop-append_seam)
 
@@ -180,8 +177,8 @@ Comes size limit n = (packets : List Packet) (rest : List ℕ) → AreBytes (wir
 
 module _ (size limit n : ℕ) (packets : List Packet) (each : AreBefore size packets) (within : length (wire_of packets) ≤ limit) where
   -- a packet is whole
-  whole_gives : (p : Packet) (wired more : List ℕ) (last : Bool) (count : ℕ) → Comes size limit n → AreBytes (wire_of packets ++ (wired ++ more))
-      → (packet_bytes p ≡ wired) × IsPacket size p → length wired ≡ count
+  whole_gives : (p : Packet) (wired more : List ℕ) (last : N.Bool) (count : ℕ) → Comes size limit n → AreBytes (wire_of packets ++ (wired ++ more))
+      → (N.packet_bytes p ≡ wired) × IsPacket size p → length wired ≡ count
       → length (wire_of packets) + count ≤ limit → length more < n → is_last p ≡ last
       → Gives size limit packets n (wire_of packets ++ (wired ++ more)) (N.WholePacket p.body last count more)
   whole_gives p wired more last count comes are fits long limited less is =
@@ -200,10 +197,10 @@ module _ (size limit n : ℕ) (packets : List Packet) (each : AreBefore size pac
       ] is
 
   -- a header is whole
-  header_gives : (header rest : List ℕ) (o : Option N.Fault) → Comes size limit n → AreBytes (wire_of packets ++ (header ++ rest)) → length header ≡ 8
+  header_gives : (header rest : List ℕ) (o : N.Option N.Fault) → Comes size limit n → AreBytes (wire_of packets ++ (header ++ rest)) → length header ≡ 8
       → length rest < n → N.header_fault size limit (length (wire_of packets)) header ≡ o
       → Gives size limit packets n (wire_of packets ++ (header ++ rest)) (N.packet_after_header header rest o)
-  header_gives header rest (Some fault) comes are eight less is =
+  header_gives header rest (N.Some fault) comes are eight less is =
       let first : take 8 (header ++ rest) ≡ header = rw (← eight) (N.take-append_seam header rest) in
       stops_at _ _ _ _ _ _ _ _ are each (before_are_read _ _ _ _ each within)
       (inl (record { some = omega arith; whole = omega (arith, length-append header rest); first = rw first is })) (append-nil _) refl
@@ -214,7 +211,7 @@ module _ (size limit n : ℕ) (packets : List Packet) (each : AreBefore size pac
         | yes enough ↦
             (let test : nat_lt (length rest) m ≡ false = grind arith in
             let body = N.length-take-le m rest enough in
-            let again : (packet_bytes (packet_of header (take m rest)) ≡ header ++ take m rest) × IsPacket size (packet_of header (take m rest)) =
+            let again : (N.packet_bytes (N.packet_of header (take m rest)) ≡ header ++ take m rest) × IsPacket size (N.packet_of header (take m rest)) =
             grind arith in
             let all : (header ++ take m rest) ++ drop m rest ≡ header ++ rest = rw (append_assoc, N.take-append-drop) in
             rw (test, ← all) (whole_gives _ (header ++ take m rest) _ _ _ comes (rw all are) again
@@ -231,8 +228,8 @@ module _ (size limit n : ℕ) (packets : List Packet) (each : AreBefore size pac
 -- what comes after any packets before the last is the message at the front
 comes_front : {size limit : ℕ} (n : ℕ) → Comes size limit n
 unfolding message front_packet
-comes_front zero packets rest are each within less = absurd (omega arith)
-comes_front {size} {limit} (suc n) packets rest are each within less = elim (N.dec_le 8 (length rest)) [
+comes_front N.zero packets rest are each within less = absurd (omega arith)
+comes_front {size} {limit} (N.suc n) packets rest are each within less = elim (N.dec_le 8 (length rest)) [
   | yes long ↦
       (let test : nat_lt (length rest) 8 ≡ false = grind arith in
       let all = N.take-append-drop 8 rest in

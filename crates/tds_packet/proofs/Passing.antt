@@ -1,10 +1,11 @@
 -- What `?` passes on.
-use Rattle.tds_packet.proofs.Words.{common_steps, arith, ◌≡◌, Result, Err, MatchResult, IsErrAnd, err_from_is_err_and}
+use Rattle.tds_packet.proofs as N
+use N.{◌≡◌}
 
 -- where `?` leaves with an error, what is said of each answer holds if it holds of that error
-pub passed : {T E : Type 0} (r : Result T E) (e : E) (P : T → Type 0) (Q : E → Type 0) → IsErrAnd r (λ x. x ≡ e) → Q e → MatchResult r P Q
-passed r e P Q is holds = grind arith
+pub passed : {T E : Type 0} (r : N.Result T E) (e : E) (P : T → Type 0) (Q : E → Type 0) → N.IsErrAnd r (λ x. x ≡ e) → Q e → N.MatchResult r P Q
+passed r e P Q is holds = grind N.arith
 
 -- so it is of whatever is said of the answer
-pub passed_on : {T E : Type 0} (r : Result T E) (e : E) (P : Result T E → Type 0) → IsErrAnd r (λ x. x ≡ e) → P (Err e) → P r
-passed_on r e P is holds = grind (arith, common_steps, err_from_is_err_and)
+pub passed_on : {T E : Type 0} (r : N.Result T E) (e : E) (P : N.Result T E → Type 0) → N.IsErrAnd r (λ x. x ≡ e) → P (N.Err e) → P r
+passed_on r e P is holds = grind (N.arith, N.common_steps, N.err_from_is_err_and)

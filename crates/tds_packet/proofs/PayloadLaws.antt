@@ -1,29 +1,26 @@
 -- A payload, as its calls leave it.
-use Rattle.tds_packet.proofs.Words as N
-use Rattle.tds_packet.proofs.{
-  Words.{coming_of, message, front_packet, ◌≡◌, ℕ, ◌+◌, ◌<◌, ◌≤◌, List, ◌++◌, length, take, Option, None, Result, Ok, Err, arith, Stop, seen, Takes, []},
-  Futures.{Ends-after, Takes-more, Takes-trans, further_takes},
-}
+use Rattle.tds_packet.proofs as N
+use N.{◌≡◌, ℕ, ◌+◌, ◌<◌, ◌≤◌, List, ◌++◌, length, Option, Ok, arith, Stop, seen, Takes, [], Words.{coming_of, message, front_packet}}
 
 -- It has not stopped, so no packet is cut.
-pub between_of : {R : Type 0} (remaining : R → Option (List ℕ)) (p : N.PayloadOf R) → p.stopped ≡ None → N.IsBetween (seen remaining p)
+pub between_of : {R : Type 0} (remaining : R → Option (List ℕ)) (p : N.PayloadOf R) → p.stopped ≡ N.None → N.IsBetween (seen remaining p)
 unfolding coming_of message front_packet
 between_of remaining p e = grind arith
 
 -- Where it has stopped, none lies ready.
 pub pass_takes : {R : Type 0} (remaining : R → Option (List ℕ)) (p : N.PayloadOf R) {n : ℕ} {o : Option Stop} → p.stopped ≡ o → N.IsUsedUp p o
-    → n ≤ length (N.buffered p) → Takes (seen remaining p) (seen remaining (N.further p n)) (take n (N.buffered p)) 0
-pass_takes remaining p e used le = grind (arith, further_takes, N.length-drop)
+    → n ≤ length (N.buffered p) → Takes (seen remaining p) (seen remaining (N.further p n)) (N.take n (N.buffered p)) 0
+pass_takes remaining p e used le = grind (arith, N.Futures.further_takes, N.length-drop)
 
 -- A call that succeeded was on no payload that had stopped.
-pub not_again : {A : Type 0} (o : Option Stop) (a : A) (P Q : Stop → Type 0) → N.IfSome o (λ stop. (Ok a ≡ Err stop) × P stop) → N.IfSome o Q
+pub not_again : {A : Type 0} (o : Option Stop) (a : A) (P Q : Stop → Type 0) → N.IfSome o (λ stop. (Ok a ≡ N.Err stop) × P stop) → N.IfSome o Q
 not_again o a P Q h = grind arith
 
 -- What a call says of its answer, where that is known.
-pub at_ok : {A : Type 0} (r : Result A Stop) (a : A) (P : A → Type 0) (Q : Stop → Type 0) → r ≡ Ok a → N.MatchResult r P Q → P a
+pub at_ok : {A : Type 0} (r : N.Result A Stop) (a : A) (P : A → Type 0) (Q : Stop → Type 0) → r ≡ Ok a → N.MatchResult r P Q → P a
 at_ok r a P Q e h = rw e at h
 
-pub at_err : {A : Type 0} (r : Result A Stop) (stop : Stop) (P : A → Type 0) (Q : Stop → Type 0) → r ≡ Err stop → N.MatchResult r P Q → Q stop
+pub at_err : {A : Type 0} (r : N.Result A Stop) (stop : Stop) (P : A → Type 0) (Q : Stop → Type 0) → r ≡ N.Err stop → N.MatchResult r P Q → Q stop
 at_err r stop P Q e h = rw e at h
 
 -- A piece of at least a byte was taken after so many bytes.
@@ -31,10 +28,10 @@ pub takes_piece : {R : Type 0} (remaining : R → Option (List ℕ)) (o s t : N.
     → 0 < length bytes → Takes (seen remaining o) (seen remaining s) front i → Takes (seen remaining s) (seen remaining t) bytes 1
     → Takes (seen remaining o) (seen remaining t) (front ++ bytes) (i + length bytes)
 takes_piece remaining o s t front bytes {i} len some p q =
-    rw len at (Takes-trans (seen remaining o) _ _ front bytes i _ (omega arith) p (Takes-more (seen remaining s) _ bytes 1 _ some q))
+    rw len at (N.Futures.Takes-trans (seen remaining o) _ _ front bytes i _ (omega arith) p (N.Futures.Takes-more (seen remaining s) _ bytes 1 _ some q))
 
 -- The payload stopped after so many bytes.
 pub ends_there : {R : Type 0} (remaining : R → Option (List ℕ)) (o s t : N.PayloadOf R) {front : List ℕ} {n : ℕ} {stop : Stop}
     → Takes (seen remaining o) (seen remaining s) front n → N.Ends (seen remaining s) (seen remaining t) [] stop
     → N.Ends (seen remaining o) (seen remaining t) front stop
-ends_there remaining o s t {front} {n} {stop} p q = rw N.append-nil at (Ends-after (seen remaining o) _ (seen remaining t) front [] n stop p q)
+ends_there remaining o s t {front} {n} {stop} p q = rw N.append-nil at (N.Futures.Ends-after (seen remaining o) _ (seen remaining t) front [] n stop p q)

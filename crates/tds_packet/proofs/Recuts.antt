@@ -1,19 +1,14 @@
 -- A payload on its way into packets of one size.
-use Rattle.tds_packet.proofs.Words as N
-use Rattle.tds_packet.proofs.{
-  Words.{PayloadOf, ◌≡◌, ◌∙◌, inl, inr, ℕ, zero, suc, ◌+◌, ◌-◌, ◌*◌, ◌<◌, ◌≤◌, Bool, true, false, List, [], ◌∷◌, ◌++◌, length, drop, Option, None, refl, ap},
-  Words.{arith, length-append, Result, Ok, Err, ◌^◌, Counted, Stop, coming_of, wire_of, seen, Gathers, cut_packet, first_packets, Seen, Takes},
-  Joins.{Stays-Rises, Stays-trans},
-  PayloadLaws.ends_there,
-  Futures.{Ends-after, Takes-more, Takes-trans},
-}
+use Rattle.tds_packet.proofs as N
+use N.{PayloadOf, ◌≡◌, ◌∙◌, inr, ℕ, suc, ◌+◌, ◌-◌, ◌*◌, ◌<◌, ◌≤◌, Bool, true, false, List, [], ◌∷◌, ◌++◌, length, drop, Option, None, refl, ap, arith}
+use N.{length-append, Ok, Err, ◌^◌, Counted, Stop, wire_of, seen, Gathers, cut_packet, Seen, Takes, Words.{coming_of, first_packets}, Futures.Takes-more}
 
 -- what was gathered, and bytes after it
 pub joined : (a b c : Seen) (hs bs : List ℕ) (n : ℕ) → n ≤ length bs + 1 → Takes a b hs (length hs + 1) → Takes b c bs n
     → Takes a c (hs ++ bs) (length (hs ++ bs) + 1)
 joined a b c hs bs n le p q =
     Takes-more a c _ _ _ (omega (arith, length-append hs bs))
-    (Takes-trans a b c _ _ _ _ (omega arith) p (Takes-more b c _ n _ le q))
+    (N.Futures.Takes-trans a b c _ _ _ _ (omega arith) p (Takes-more b c _ n _ le q))
 
 -- So many bytes were taken after those of a header.
 pub record Gathering {R : Type 0} (remaining : R → Option (List ℕ)) (o s : PayloadOf R) (room : ℕ) (packet : List ℕ) : Type 0 where
@@ -34,7 +29,7 @@ module _ {R : Type 0} (remaining : R → Option (List ℕ)) (o s t : PayloadOf R
     gathered_err stop ends goes_on = record {
       header = x.header;
       fits = x.fits;
-      gives = ends_there remaining o s t x.takes ends;
+      gives = N.PayloadLaws.ends_there remaining o s t x.takes ends;
       over = tt;
       full = tt;
       between = tt;
@@ -62,21 +57,21 @@ unfolding coming_of
 ready_first remaining p input e = grind (arith, length-append)
 
 -- a body holds what lay ready
-some_ready : {R : Type 0} (remaining : R → Option (List ℕ)) {s t : PayloadOf R} {room : ℕ} {packet : List ℕ} (r : Result Bool Stop)
+some_ready : {R : Type 0} (remaining : R → Option (List ℕ)) {s t : PayloadOf R} {room : ℕ} {packet : List ℕ} (r : N.Result Bool Stop)
     → Gathers remaining s t room packet r → s.stopped ≡ None → 8 < room → 0 < length (N.buffered s) → 0 < length (drop 8 packet)
 some_ready remaining {s} (Ok true) made going large some =
     omega (arith, some, rw (made.gives.1.1 [], (made.over refl).2 [], N.append-nil) at (ready_first remaining s (made.gives.0 ++ []) going))
 some_ready remaining {packet} (Ok false) made going large some = omega (arith, (made.full refl).0, N.length-drop 8 packet, large)
 some_ready remaining {s} (Err stop) made going large some = elim made.gives [
-  | inl x ↦ omega (arith, some, rw (x.2 []) at (ready_first remaining s (x.0 ++ []) going))
-  | inr (inl x) ↦ omega (arith, some, rw x.3 at (ready_first remaining s x.0 going))
+  | N.inl x ↦ omega (arith, some, rw (x.2 []) at (ready_first remaining s (x.0 ++ []) going))
+  | inr (N.inl x) ↦ omega (arith, some, rw x.3 at (ready_first remaining s x.0 going))
   | inr (inr x) ↦ omega (arith, some, rw x.3 at (ready_first remaining s x.0 going))
 ]
 
 -- more bytes after full packets change none of them
 first-more : (m k : ℕ) (xs ys : List ℕ) → k * m ≤ length xs → first_packets m k (xs ++ ys) ≡ first_packets m k xs
 unfolding first_packets
-first-more m zero xs ys h = refl
+first-more m N.zero xs ys h = refl
 first-more m (suc k) xs ys h =
     let long : k * m + m ≤ length xs = omega arith in
     rw (
@@ -88,7 +83,7 @@ first-more m (suc k) xs ys h =
 
 first-length : (m k : ℕ) (xs : List ℕ) → length (first_packets m k xs) ≡ k
 unfolding first_packets
-first-length m zero xs = refl
+first-length m N.zero xs = refl
 first-length m (suc k) xs = rw (length-append, first-length m k xs) (omega arith)
 
 wire-more : (ps : List N.Packet) (p : N.Packet) → wire_of (ps ++ p ∷ []) ≡ wire_of ps ++ N.packet_bytes p
@@ -127,7 +122,7 @@ cut_none remaining contents e = grind (arith, N.Appends-nil)
 module _ {R W : Type 0} {remaining : R → Option (List ℕ)} {contents : W → Option (List ℕ)} {a : Seen} {s t : PayloadOf R} {room : ℕ} {packet : List ℕ}
     {old mid : Counted W} {done : N.Written}
     (x : Cutting remaining contents (room - 8) a s old mid done) (going : s.stopped ≡ None) (large : 8 < room) where
-  next_parts : {r : Result Bool Stop} → Gathers remaining s t room packet r → let all = x.payload ++ drop 8 packet in
+  next_parts : {r : N.Result Bool Stop} → Gathers remaining s t room packet r → let all = x.payload ++ drop 8 packet in
       (N.before_last (room - 8) (length all) ≡ done.packets) × (N.packets_before (room - 8) all ≡ first_packets (room - 8) done.packets x.payload)
       × (drop (done.packets * (room - 8)) all ≡ drop 8 packet)
   next_parts {r = r} made = parts _ _ _ _ x.whole (omega (arith, made.fits, N.length-drop 8 packet)) (omega (arith, large))
@@ -152,7 +147,7 @@ module _ {R W : Type 0} {remaining : R → Option (List ℕ)} {contents : W → 
       let takes = next_takes made in
       let whole = next_full made test in
       let wrote = N.Appends-trans (contents old.device) (contents mid.device) (contents new.device) _ _ x.wrote writes.0 in
-      let stays = Stays-trans old.failures mid.failures new.failures _ (N.packet_bytes (cut_packet done.packets false (drop 8 packet))) x.stays writes.2
+      let stays = N.Joins.Stays-trans old.failures mid.failures new.failures _ (N.packet_bytes (cut_packet done.packets false (drop 8 packet))) x.stays writes.2
       in
       grind (arith, length-append)
 
@@ -174,11 +169,11 @@ module _ {R W : Type 0} {remaining : R → Option (List ℕ)} {contents : W → 
         split = rw (p.0, p.2) writes.2;
         wrote = rw p.1 (N.Appends-trans (contents old.device) (contents mid.device) (contents new.device) _ writes.0 x.wrote writes.3);
         stop_is = rw (p.1, length-append, ← x.bytes_are) writes.4;
-        failures = rw p.1 (Stays-Rises _ _ x.stays writes.5);
+        failures = rw p.1 (N.Joins.Stays-Rises _ _ x.stays writes.5);
       }
 
   -- all was written, and the writer flushed
-  pub cut_finished : {last : Bool} (new sent : Counted W) {all : N.Written} {total : ℕ} (r : Result N.Recut N.RecutStop) → last ≡ true
+  pub cut_finished : {last : Bool} (new sent : Counted W) {all : N.Written} {total : ℕ} (r : N.Result N.Recut N.RecutStop) → last ≡ true
       → Gathers remaining s t room packet (Ok last) → total ≡ t.place
       → N.WritesPacket contents mid sent done (N.packet_bytes (cut_packet done.packets true (drop 8 packet))) (Ok all)
       → N.Flushes contents sent new all total r → N.Cuts contents (room - 8) a (seen remaining t) old new r
@@ -205,5 +200,5 @@ module _ {R W : Type 0} {remaining : R → Option (List ℕ)} {contents : W → 
       → N.StopsInput contents (room - 8) a (seen remaining t) old new (record { stop = stop; written = done.bytes; unwritten = 0 })
   cut_stopped {new = new} {stop = stop} made keeps ok counted =
       let p = next_parts made in
-      let ends = Ends-after a _ (seen remaining t) x.payload (drop 8 packet) _ stop x.takes made.gives in
+      let ends = N.Futures.Ends-after a _ (seen remaining t) x.payload (drop 8 packet) _ stop x.takes made.gives in
       grind (arith, length-append)

@@ -1,32 +1,28 @@
 -- Calls that read by a grammar, one after another.
-use Rattle.tds_packet.proofs.Words as N
-use Rattle.tds_packet.proofs.{
-  Words.{◌≡◌, ◌∙◌, inl, inr, ℕ, ◌+◌, ◌<◌, List, [], ◌++◌, length, ap, arith, Option, Some, Stop, Seen, Takes, Reads},
-  ElementLaws.{Spelt-none, Spelt-append, Spelt-one},
-  Futures.{Takes-none, Takes-trans, Ends-after},
-}
+use Rattle.tds_packet.proofs as N
+use N.{◌≡◌, ◌∙◌, ℕ, ◌+◌, ◌<◌, List, [], ◌++◌, length, arith, Stop, Seen, Takes, Reads, ElementLaws.{Spelt-none, Spelt-append, Spelt-one}}
 
 -- bytes taken by two calls
 pub takes_both : (a b c : Seen) (xs ys : List ℕ) → Takes a b xs (length xs) → Takes b c ys (length ys) → Takes a c (xs ++ ys) (length (xs ++ ys))
-takes_both a b c xs ys p q = rw N.length-append (Takes-trans a b c _ _ _ _ (omega arith) p q)
+takes_both a b c xs ys p q = rw N.length-append (N.Futures.Takes-trans a b c _ _ _ _ (omega arith) p q)
 
 -- bytes taken by two calls, of which the second handed out more than it needed
 pub takes_ahead : (a b c : Seen) (xs ys ahead : List ℕ) → Takes a b xs (length xs) → Takes b c (ys ++ ahead) (length ys)
     → Takes a c ((xs ++ ys) ++ ahead) (length (xs ++ ys))
-takes_ahead a b c xs ys ahead p q = rw (N.append_assoc, N.length-append) (Takes-trans a b c _ _ _ _ (omega arith) p q)
+takes_ahead a b c xs ys ahead p q = rw (N.append_assoc, N.length-append) (N.Futures.Takes-trans a b c _ _ _ _ (omega arith) p q)
 
 -- no bytes more
 pub add_none : (n : ℕ) → n + 0 ≡ n
 add_none n = omega arith
 
 -- a call of many bytes and a cut element of an open description stop alike
-pub began_is_cut : (place : ℕ) (ended : Option N.Fault) (own stop : Stop) → ended ≡ Some N.MessageEnded → stop ≡ N.began_at place own
+pub began_is_cut : (place : ℕ) (ended : N.Option N.Fault) (own stop : Stop) → ended ≡ N.Some N.MessageEnded → stop ≡ N.began_at place own
     → N.IsCutStop place ended own stop
 began_is_cut place ended own stop end is = grind arith
 
 module _ {S : Type 0} (g : N.Grammar S N.Fault) where
   abbrev pub reads_none : (s : S) (a : Seen) → Reads g s a a s
-  reads_none s a = record { bytes = []; spelt = Spelt-none g s; takes = Takes-none a 0 }
+  reads_none s a = record { bytes = []; spelt = Spelt-none g s; takes = N.Futures.Takes-none a 0 }
 
   -- an element is read whole, without a fault
   abbrev pub reads_one : (s : S) (a b : Seen) (element : List ℕ) (t : S) → N.IsNext g s element → Takes a b element (length element)
@@ -50,9 +46,9 @@ module _ {S : Type 0} (g : N.Grammar S N.Fault) where
         bytes = p.bytes ++ q.bytes;
         spelt = Spelt-append g s _ t _ at p.spelt q.spelt;
         cause = elim q.cause [
-          | inl x ↦
+          | N.inl x ↦
               (let r = x.0 in
-              inl (
+              N.inl (
                 record {
                   element = r.element;
                   ahead = r.ahead;
@@ -63,13 +59,13 @@ module _ {S : Type 0} (g : N.Grammar S N.Fault) where
                       (N.append_assoc p.bytes q.bytes _) (takes_ahead a b c _ _ _ p.takes r.takes);
                   between = r.between;
                 },
-                x.1 ∙ ap N.Payload placed,
+                x.1 ∙ N.ap N.Payload placed,
               ))
-          | inr x ↦ inr (record {
+          | N.inr x ↦ N.inr (record {
             part = x.part;
             cut = x.cut;
             own = x.own;
-            ends = rw N.append_assoc (Ends-after a b c _ _ _ _ p.takes x.ends);
+            ends = rw N.append_assoc (N.Futures.Ends-after a b c _ _ _ _ p.takes x.ends);
             stop_is = rw placed at x.stop_is;
           })
         ];
@@ -77,7 +73,7 @@ module _ {S : Type 0} (g : N.Grammar S N.Fault) where
 
   -- the first element is refused
   pub refused_at_once : (s : S) (a b : Seen) (place : ℕ) (element : List ℕ) (fault : N.Fault) → 0 < length element → length element ≡ g.size s
-      → g.fault s element ≡ Some fault → Takes a b element (length element) → N.IsBetween b
+      → g.fault s element ≡ N.Some fault → Takes a b element (length element) → N.IsBetween b
       → N.StopsReading g s a b place s (record { fault = fault; place = N.Payload place })
   refused_at_once s a b place element fault some whole first takes between =
       let refused : N.RefusesNext g a b [] s fault =

@@ -1,6 +1,6 @@
 -- Worked wires: the payload that each has to give, the bytes of its whole packets, and the fault that ends it.
-use Rattle.tds_packet.proofs.Words as N
-use Rattle.tds_packet.proofs.Words.{◌≡◌, ℕ, ◌-◌, ◌/◌, ◌%◌, List, [], ◌∷◌, ◌++◌, map, take, refl, Stop, message, front_packet}
+use Rattle.tds_packet.proofs as N
+use N.{◌≡◌, ℕ, ◌-◌, ◌/◌, ◌%◌, List, [], ◌∷◌, ◌++◌, take, refl, Stop, Words.{message, front_packet}}
 
 -- the payload of the worked wires
 abbrev payload : List ℕ
@@ -53,7 +53,7 @@ worked = (refl, refl, refl, refl, refl, refl, refl, refl, refl, refl, refl)
 abbrev beginnings : List ℕ
 beginnings = 0 ∷ 1 ∷ 8 ∷ 9 ∷ 10 ∷ 17 ∷ 18 ∷ 100 ∷ 269 ∷ 270 ∷ 278 ∷ []
 
-begun : map (λ n. read 4096 within (take n (small_packets [] payload))) beginnings ≡ map (λ n. refused (take (n / 9) payload) (n - n % 9) N.InputEnded)
+begun : N.map (λ n. read 4096 within (take n (small_packets [] payload))) beginnings ≡ N.map (λ n. refused (take (n / 9) payload) (n - n % 9) N.InputEnded)
     beginnings
 unfolding message front_packet
 begun = refl

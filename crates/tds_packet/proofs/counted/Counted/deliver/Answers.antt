@@ -1,5 +1,5 @@
-use Rattle.tds_packet.proofs.counted.Counted.deliver.Goals as goal
-use Rattle.tds_packet.proofs.Words.{common_steps, arith, length-take, take-add, take-take, Appends-trans}
+use Rattle.tds_packet.proofs as N
+use N.counted.Counted.deliver.Goals as goal
 
 pub loop-taken-preserved : goal.loop-taken-preserved
-loop-taken-preserved g c = grind (arith, common_steps, take-take, take-add)
+loop-taken-preserved g c = grind (N.arith, N.common_steps, N.take-take, N.take-add)

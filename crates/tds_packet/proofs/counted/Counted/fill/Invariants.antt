@@ -1,12 +1,13 @@
-use Rattle.tds_packet.proofs.counted.Counted.fill.Given as goal
-use Rattle.tds_packet.proofs.Words.{◌≡◌, ◌-◌, ◌≤◌, length, take, Consumes, Stays}
+use Rattle.tds_packet.proofs as N
+use N.counted.Counted.fill.Given as goal
+use N.{◌≡◌, ◌-◌, ◌≤◌, length}
 
 abbrev pub invariant-loop-at : goal.invariant-loop-at
 invariant-loop-at g l = record {
   same : length l.to ≡ length l.initial.to;
   within : l.at ≤ length l.to;
-  stays : Stays l.initial.self.failures l.self.failures (take l.at l.to);
-  read : Consumes (g.R.Read.remaining l.initial.self.device) (g.R.Read.remaining l.self.device) (take l.at l.to);
+  stays : N.Stays l.initial.self.failures l.self.failures (N.take l.at l.to);
+  read : N.Consumes (g.R.Read.remaining l.initial.self.device) (g.R.Read.remaining l.self.device) (N.take l.at l.to);
 }
 
 abbrev pub decreases-loop-at : goal.decreases-loop-at

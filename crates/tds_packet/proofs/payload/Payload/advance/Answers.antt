@@ -1,5 +1,6 @@
-use Rattle.tds_packet.proofs.payload.Payload.advance.Goals as goal
-use Rattle.{std.proofs.Common.{◌+◌, refl, rules}, tds_packet.proofs.Futures.{advance_ok, advance_err}}
+use Rattle.tds_packet.proofs as N
+use N.payload.Payload.advance.Goals as goal
+use Rattle.{std.proofs.Common.{◌+◌, refl, rules}}
 
 pub returns-in-Ok-clause-gives : goal.returns-in-Ok-clause-gives
 returns-in-Ok-clause-gives g c =
@@ -12,10 +13,10 @@ returns-in-Ok-clause-gives g c =
       last = c.in-Ok.head.last;
       wire = s.wire + c.from.result;
     } in
-    advance_ok g.R.Read.remaining s t _ c.requires (search rules) refl (search rules) refl refl refl refl c.in-Ok.ensures.read
+    N.Futures.advance_ok g.R.Read.remaining s t _ c.requires (search rules) refl (search rules) refl refl refl refl c.in-Ok.ensures.read
 
 pub returns-in-Err-clause-gives : goal.returns-in-Err-clause-gives
 returns-in-Err-clause-gives g c =
     let s = c.args.self.now in
-    advance_err g.R.Read.remaining s (record s { from = record s.from { now = c.read_packet.new.from } }) c.read_packet.new.packet.bytes c.requires
+    N.Futures.advance_err g.R.Read.remaining s (record s { from = record s.from { now = c.read_packet.new.from } }) c.read_packet.new.packet.bytes c.requires
     c.in-Err.ensures.read

@@ -1,8 +1,6 @@
-use Rattle.tds_packet.proofs.payload.Payload.fill.Goals as goal
-use Rattle.tds_packet.proofs.{
-  Words.{◌≡◌, ◌+◌, ◌-◌, ◌≤◌, length, take, subst, arith, rules, length-take-le, sym, take-put_mid, Takes, seen},
-  PayloadLaws.{at_ok, at_err, between_of, ends_there, takes_piece},
-}
+use Rattle.tds_packet.proofs as N
+use N.payload.Payload.fill.Goals as goal
+use N.{◌≡◌, ◌+◌, ◌-◌, ◌≤◌, rules, PayloadLaws.{at_ok, at_err, between_of, ends_there, takes_piece}}
 
 pub loop-at-preserved : goal.loop-at-preserved
 loop-at-preserved g c =
@@ -17,14 +15,14 @@ loop-at-preserved g c =
       same = search rules;
       start = inv.start;
       within = search rules;
-      place = omega arith;
+      place = omega N.arith;
       going = k.3;
       takes =
-          rw all (subst (λ l. Takes (seen g.R.Read.remaining c.args.self.now) (seen g.R.Read.remaining s) l (c.loop-at.at + length bytes)) (sym
-          (take-put_mid c.loop-at.at ((c.loop-at.at + length bytes) - c.loop-at.at) c.loop-at.to bytes (c.loop-at.at + length bytes)
-          (omega arith) inv.within))
-          (takes_piece g.R.Read.remaining c.args.self.now c.loop-at.self s (take c.loop-at.at c.loop-at.to) bytes
-          (length-take-le c.loop-at.at c.loop-at.to inv.within) c.in-Ok.ensures.len.0 inv.takes k.0));
+          rw all (N.subst (λ l. N.Takes (N.seen g.R.Read.remaining c.args.self.now) (N.seen g.R.Read.remaining s) l (c.loop-at.at + N.length bytes)) (N.sym
+          (N.take-put_mid c.loop-at.at ((c.loop-at.at + N.length bytes) - c.loop-at.at) c.loop-at.to bytes (c.loop-at.at + N.length bytes)
+          (omega N.arith) inv.within))
+          (takes_piece g.R.Read.remaining c.args.self.now c.loop-at.self s (N.take c.loop-at.at c.loop-at.to) bytes
+          (N.length-take-le c.loop-at.at c.loop-at.to inv.within) c.in-Ok.ensures.len.0 inv.takes k.0));
     }
 
 pub returns-in-Err-clause-part : goal.returns-in-Err-clause-part

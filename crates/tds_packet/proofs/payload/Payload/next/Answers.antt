@@ -1,5 +1,5 @@
-use Rattle.tds_packet.proofs.payload.Payload.next.Goals as goal
-use Rattle.tds_packet.proofs.PayloadLaws.{between_of}
+use Rattle.tds_packet.proofs as N
+use N.payload.Payload.next.Goals as goal
 
 pub returns-clause-between : goal.returns-clause-between
-returns-clause-between g c = between_of g.R.Read.remaining c.take.new.self c.take.ensures.going.going
+returns-clause-between g c = N.PayloadLaws.between_of g.R.Read.remaining c.take.new.self c.take.ensures.going.going

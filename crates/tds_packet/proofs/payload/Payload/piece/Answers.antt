@@ -1,9 +1,6 @@
-use Rattle.tds_packet.proofs.payload.Payload.piece.Goals as goal
-use Rattle.tds_packet.proofs.{
-  Words.{◌≡◌, [], ◌+◌, ◌-◌, ◌≤◌, length, take, min, refl, arith, rules, length-take-le, length-drop, le_refl, seen, buffered, further},
-  Futures.{Takes-trans, further_takes},
-  PayloadLaws.{between_of, not_again},
-}
+use Rattle.tds_packet.proofs as N
+use N.payload.Payload.piece.Goals as goal
+use N.{◌≡◌, [], ◌+◌, ◌-◌, ◌≤◌, arith, seen, PayloadLaws.{between_of, not_again}}
 
 pub returns : goal.returns
 returns g c =
@@ -12,13 +9,13 @@ returns g c =
     let ready = c.in_ok-ready.ensures in
     let sound = ready.payload.answers.sound in
     let going = ready.payload.answers.going in
-    let up : n ≡ min c.args.max (length s.packet.now.bytes - s.at) = search rules in
+    let up : n ≡ N.min c.args.max (N.length s.packet.now.bytes - s.at) = search N.rules in
     let m : (s.at + n) - s.at ≡ n = omega arith in
-    let fits : n ≤ length (buffered s) = omega (arith, length-drop s.at s.packet.now.bytes, up) in
-    let len = length-take-le n (buffered s) fits in
+    let fits : n ≤ N.length (N.buffered s) = omega (arith, N.length-drop s.at s.packet.now.bytes, up) in
+    let len = N.length-take-le n (N.buffered s) fits in
     let value = c.bytes-bytes.ensures.value in (
       (
-        refl,
+        N.refl,
         λ _. tt,
         (
           record {
@@ -31,10 +28,10 @@ returns g c =
           },
           ready.payload.answers.same,
           (
-            rw (value, m) (Takes-trans (seen g.R.Read.remaining c.args.self.now) (seen g.R.Read.remaining s) (seen g.R.Read.remaining (further s n)) []
-                (take n (buffered s)) 1 1 (le_refl 1) ready.gives (further_takes g.R.Read.remaining s n 1 fits going)),
+            rw (value, m) (N.Futures.Takes-trans (seen g.R.Read.remaining c.args.self.now) (seen g.R.Read.remaining s) (seen g.R.Read.remaining (N.further s n)) []
+                (N.take n (N.buffered s)) 1 1 (N.le_refl 1) ready.gives (N.Futures.further_takes g.R.Read.remaining s n 1 fits going)),
             between_of g.R.Read.remaining
-                (further s n) going,
+                (N.further s n) going,
             rw (value, m) (omega arith),
             going,
           ),

@@ -1,5 +1,6 @@
-use Rattle.tds_packet.proofs.payload.Payload.take.Goals as goal
-use Rattle.{std.proofs.Common.{◌≡◌, ◌<◌, [], ◌∷◌, length, take, drop, get_or, arith, drop-cons, length-drop}, tds_packet.proofs.Futures.further_takes}
+use Rattle.tds_packet.proofs as N
+use N.payload.Payload.take.Goals as goal
+use Rattle.{std.proofs.Common.{◌≡◌, ◌<◌, [], ◌∷◌, length, take, drop, get_or, arith, drop-cons, length-drop}}
 
 pub returns-clause-gives : goal.returns-clause-gives
 returns-clause-gives g c =
@@ -7,4 +8,4 @@ returns-clause-gives g c =
     let ready : s.at < length s.packet.now.bytes = omega arith in
     let head : take 1 (drop s.at s.packet.now.bytes) ≡ get_or _ s.at 0 ∷ [] =
     rw (c.bytes.ensures.value, drop-cons _ s.at 0 ready) in
-    rw head at (further_takes g.R.Read.remaining s 1 1 (omega (arith, ready, length-drop s.at s.packet.now.bytes)) c.requires.going.going)
+    rw head at (N.Futures.further_takes g.R.Read.remaining s 1 1 (omega (arith, ready, length-drop s.at s.packet.now.bytes)) c.requires.going.going)
