@@ -1,11 +1,9 @@
 -- What a description's spelling is read as.
-use Rattle.tds_columns.proofs.Words as N
-use Rattle.tds_columns.proofs.{
-  Words.{if◌then◌else◌, ◌≡◌, ℕ, ◌+◌, ◌-◌, ◌*◌, ◌/◌, ◌%◌, ◌<◌, ◌≤◌, List, [], ◌∷◌, ◌++◌, length, refl, ap, arith, length-append, Some, None, ◌==◌, Kind, little},
-  Words.{Spelt, Column, InColumn, description},
-}
+use Rattle.tds_columns.proofs as N
+use N.{if◌then◌else◌, ◌≡◌, ℕ, ◌+◌, ◌-◌, ◌*◌, ◌/◌, ◌%◌, ◌<◌, ◌≤◌, List, [], ◌∷◌, ◌++◌, length, arith, length-append, Some, ◌==◌, Kind, Spelt, Column, InColumn}
+use N.{description}
 
-pub fits_in : (room so_far least : ℕ) → so_far + least ≤ room → N.too_long room so_far least ≡ None
+pub fits_in : (room so_far least : ℕ) → so_far + least ≤ room → N.too_long room so_far least ≡ N.None
 fits_in room so_far least h = grind arith
 
 -- the bytes of a TYPE_INFO: its type byte and the rest
@@ -37,7 +35,7 @@ pub at_column : (bytes : List ℕ) (count : ℕ) (columns : List Column) → len
 at_column bytes count columns more = N.choose_false _ _ _ (N.ne_eqb _ count (λ e. omega arith))
 
 -- a Count of columns that fit
-count_free : (room n : ℕ) (bytes : List ℕ) → 0 < n → n < 65535 → 2 + 8 * n ≤ room → (N.count_fault room n ≡ None)
+count_free : (room n : ℕ) (bytes : List ℕ) → 0 < n → n < 65535 → 2 + 8 * n ≤ room → (N.count_fault room n ≡ N.None)
     × (N.with_count bytes n ≡ after_columns bytes n [])
 count_free room n bytes some most fits = grind arith
 
@@ -72,7 +70,7 @@ module _ (room : ℕ) where
   column_is_read b count cols c bytes fits h =
       let type = byte_and_rest c.kind h.info h.kind in
       let head = h.ignored ++ type.byte ∷ [] in
-      let li : length h.info ≡ 1 + length type.rest = omega (arith, ap length type.spelt) in
+      let li : length h.info ≡ 1 + length type.rest = omega (arith, N.ap length type.spelt) in
       let l = length-SpellsColumn c bytes h in
       let l2 : length ((b ++ head) ++ type.rest) ≡ length b + (7 + length type.rest) = simp length-append (omega (arith, h.six)) in
       let all = simp N.append_assoc at (N.Spelt-append (description room) _ _ _ _ _ (head_is_read b count cols h.ignored type.byte _ h.six type.whole (omega
@@ -104,9 +102,9 @@ module _ (room : ℕ) where
   description_is_read cs bytes h =
       let n = length cs in
       let count = n % 256 ∷ n / 256 ∷ [] in
-      let two : little count ≡ n = omega arith in
+      let two : N.little count ≡ n = omega arith in
       let la : length bytes ≡ 2 + length h.rest = rw h.spelt (omega arith) in
       let free = count_free room n count h.some h.most (omega (arith, la, h.within, least-SpellsColumns cs h.rest h.each)) in
       rw h.spelt (N.Spelt-append (description room) _ _ _ _ _ (N.Spelt-step (description room) N.BeforeCount count (after_columns count n [])
-      (omega arith) refl (rw two free.0) (rw two free.1))
+      (omega arith) N.refl (rw two free.0) (rw two free.1))
       (all_are_read count n [] cs h.rest (omega arith) (omega (arith, la, h.within)) h.each))

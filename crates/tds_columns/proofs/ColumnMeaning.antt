@@ -1,10 +1,7 @@
 -- What the bytes that lead to a part of a description spell.
-use Rattle.tds_columns.proofs.Words as N
-use Rattle.tds_columns.proofs.{
-  Words.{◌==◌, Option, true, if◌then◌else◌, ◌≡◌, ◌≢◌, ℕ, ◌+◌, ◌*◌, ◌/◌, ◌%◌, ◌<◌, ◌≤◌, List, [], ◌∷◌, ◌++◌, length, refl, sym, ◌∙◌, ap, arith, Some, None},
-  Words.{Column, InColumn, choose},
-  ByteLemmas.{last_of, two_bytes},
-}
+use Rattle.tds_columns.proofs as N
+use N.{◌==◌, if◌then◌else◌, ◌≡◌, ◌≢◌, ℕ, ◌+◌, ◌*◌, ◌/◌, ◌%◌, ◌<◌, ◌≤◌, List, [], ◌∷◌, ◌++◌, length, ◌∙◌, ap, arith, Some, None, Column, InColumn, choose}
+use N.ByteLemmas.{last_of, two_bytes}
 
 pub not_long : (room so_far least : ℕ) → N.too_long room so_far least ≡ None → so_far + least ≤ room
 not_long room so_far least h = grind arith
@@ -18,11 +15,11 @@ pub room_for : (room c : ℕ) → c ≢ 0xFFFF → N.count_fault room c ≡ None
 room_for room c other q = grind (arith, not_long)
 
 -- a type byte that is accepted
-pub known_type : (i byte : ℕ) (o : Option ℕ) (y : Option N.Fault) → N.first_of_two (N.type_fault i byte o) y ≡ None → (n : ℕ) × (o ≡ Some n)
+pub known_type : (i byte : ℕ) (o : N.Option ℕ) (y : N.Option N.Fault) → N.first_of_two (N.type_fault i byte o) y ≡ None → (n : ℕ) × (o ≡ Some n)
 known_type i byte o y h = grind arith
 
 -- type information that is accepted
-pub some_kind : (index : ℕ) (o : Option N.Kind) → (if N.is_some o then None else Some (N.BadTypeInfo index)) ≡ None → N.is_some o ≡ true
+pub some_kind : (index : ℕ) (o : N.Option N.Kind) → (if N.is_some o then None else Some (N.BadTypeInfo index)) ≡ None → N.is_some o ≡ N.true
 some_kind index o q = grind arith
 
 -- the part of a column that is read, at the end of these bytes in this room
@@ -54,7 +51,7 @@ DescribedMeans room (N.WholeDescription bytes cols) b = (bytes ≡ b) × N.Spell
 
 one_more_column : (cols : List Column) (b : List ℕ) (c : Column) (e : List ℕ) → N.SpellsColumns cols b → N.SpellsColumn c e
     → N.SpellsColumns (cols ++ c ∷ []) (b ++ e)
-one_more_column [] b c e h s = (e, [], ap (λ v. v ++ e) h ∙ sym (N.append-nil e), s, refl)
+one_more_column [] b c e h s = (e, [], ap (λ v. v ++ e) h ∙ N.sym (N.append-nil e), s, N.refl)
 one_more_column (d ∷ cols) b c e h s = (h.0, h.1 ++ e, ap (λ v. v ++ e) h.2 ∙ N.append_assoc h.0 h.1 e, h.3, one_more_column cols h.1 c e h.4 s)
 
 -- the bytes go on

@@ -1,36 +1,36 @@
 -- An element that is read to the end of an area, under any grammar.
-use Rattle.tds_columns.proofs.Words as N
-use Rattle.tds_columns.proofs.Words.{◌≡◌, ◌∙◌, ℕ, ◌+◌, ◌-◌, ◌<◌, List, length, take, drop, max, sym, arith, Some, None, Space, reads_one}
+use Rattle.tds_columns.proofs as N
+use N.{◌≡◌, ◌∙◌, ℕ, ◌+◌, ◌-◌, ◌<◌, List, length, arith, Space}
 
 module _ {S : Type 0} {g : N.Grammar S N.Fault} {s : S} {a b : N.Seen} {before after : Space} where
   -- it is read whole, without a fault
-  abbrev pub reads_into : {n : ℕ} {t : S} (e : N.TakesInto a b before after n) → 0 < n → g.size s ≡ n → g.fault s e.element ≡ None
+  abbrev pub reads_into : {n : ℕ} {t : S} (e : N.TakesInto a b before after n) → 0 < n → g.size s ≡ n → g.fault s e.element ≡ N.None
       → g.add s e.element ≡ t → N.Reads g s a b t
   reads_into {t = t} e some size free leads =
-      reads_one g s a b e.element t (record { some = omega (arith, e.whole, some); whole = e.whole ∙ sym size; free = free }) (rw e.whole e.takes)
+      N.reads_one g s a b e.element t (record { some = omega (arith, e.whole, some); whole = e.whole ∙ N.sym size; free = free }) (rw e.whole e.takes)
       leads
 
   -- it is refused
-  pub refused_into : {n place : ℕ} {fault : N.Fault} (e : N.TakesInto a b before after n) → 0 < n → g.size s ≡ n → g.fault s e.element ≡ Some fault
+  pub refused_into : {n place : ℕ} {fault : N.Fault} (e : N.TakesInto a b before after n) → 0 < n → g.size s ≡ n → g.fault s e.element ≡ N.Some fault
       → N.StopsReading g s a b place s (record { fault = fault; place = N.Payload place })
   refused_into e some size first = N.refused_at_once g s a b _ e.element _ (omega (arith, e.whole)) (e.whole
-      ∙ sym size) first (rw e.whole e.takes) e.between
+      ∙ N.sym size) first (rw e.whole e.takes) e.between
 
   -- it is cut
-  pub cut_into : {n place : ℕ} {stop : N.Stop} → N.EndsInto a b before after place n stop → g.size s ≡ n → g.end_fault s ≡ Some N.MessageEnded
+  pub cut_into : {n place : ℕ} {stop : N.Stop} → N.EndsInto a b before after place n stop → g.size s ≡ n → g.end_fault s ≡ N.Some N.MessageEnded
       → N.StopsReading g s a b place s stop
   cut_into e size end = N.cut_at_once g s a b _ e.part e.own _ (rw size e.fewer) e.ends (N.began_is_cut _ (g.end_fault s) e.own _ end e.stop_is)
 
 -- an area that grew is cut back
 pub shrunk : (before : Space) (element : List ℕ) {after cut : Space} {start n : ℕ} → after ≡ N.appended before element → length element ≡ n
-    → start ≡ length before.bytes → cut ≡ N.holding after (take start after.bytes) → (cut.bytes ≡ before.bytes)
-    × (cut.peak ≡ max before.peak (length before.bytes + n))
+    → start ≡ length before.bytes → cut ≡ N.holding after (N.take start after.bytes) → (cut.bytes ≡ before.bytes)
+    × (cut.peak ≡ N.max before.peak (length before.bytes + n))
 shrunk before element stands whole at is = rw (is, at, stands, ← whole) (grind (arith, N.common_steps))
 
 module _ {a b : N.Seen} {before after : Space} {n : ℕ} where
   -- what stands in the area after what it had
   pub element_at : {bytes : List ℕ} {start : ℕ} (e : N.TakesInto a b before after n) → bytes ≡ after.bytes → start ≡ length before.bytes
-      → take (length bytes - start) (drop start bytes) ≡ e.element
+      → N.take (length bytes - start) (N.drop start bytes) ≡ e.element
   element_at e same at = rw (same, at, e.stands) (grind (arith, N.common_steps))
 
   -- a byte of it

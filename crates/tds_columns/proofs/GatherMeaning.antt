@@ -1,10 +1,6 @@
 -- What a description that was read spells.
-use Rattle.tds_columns.proofs.Words as N
-use Rattle.tds_columns.proofs.{
-  Words.{◌≡◌, ◌∙◌, inl, inr, ℕ, ◌<◌, List, [], ◌∷◌, length, refl, arith, Seen, described_size},
-  ByteLemmas.two_bytes,
-  ColumnMeaning.{DescribedMeans, described_step},
-}
+use Rattle.tds_columns.proofs as N
+use N.{◌≡◌, ◌∙◌, ℕ, ◌<◌, List, [], ◌∷◌, arith, Seen, ColumnMeaning.{DescribedMeans, described_step}}
 
 -- the bytes that are kept are those read
 abbrev pub Keeps : N.DescriptionPart → List ℕ → Type 0
@@ -14,19 +10,19 @@ Keeps d b = N.description_bytes d ≡ b
 module _ (room : ℕ) where
   pub kept_bytes : (d : N.DescriptionPart) (bytes : List ℕ) → N.Spelt (N.description room) N.BeforeCount bytes d → Keeps d bytes
   kept_bytes d bytes h = N.Spelt-induct (N.description room) Keeps (λ d b e h n. grind (arith, N.bare_type, N.eq_true)) N.BeforeCount
-      refl bytes d h
+      N.refl bytes d h
 
   -- what is read has its meaning
   pub described_means : (d : N.DescriptionPart) (bytes : List ℕ) → N.AreBytes bytes → N.Spelt (N.description room) N.BeforeCount bytes d
       → DescribedMeans room d bytes
   described_means d bytes are h = N.Spelt-induct (N.description room) (λ t b. N.AreBytes b
       → DescribedMeans room t b) (λ t b e m n all. described_step room t b e (N.AreBytes-back b e all) (m (N.AreBytes-front b e all)) n) N.BeforeCount
-      (λ _. refl) bytes d h are
+      (λ _. N.refl) bytes d h are
 
 -- a description that was read whole
 pub gathers : {room : ℕ} {a b : Seen} {place place' peak : ℕ} {area : N.Space} {columns : List N.Column} → N.AreBytes area.bytes
     → N.Describes room N.BeforeCount a b place place' peak area (N.WholeDescription area.bytes columns)
-    → N.Takes a b area.bytes (length area.bytes) × N.SpellsDescription room columns area.bytes
+    → N.Takes a b area.bytes (N.length area.bytes) × N.SpellsDescription room columns area.bytes
 gathers {room = room} are x =
     let same = kept_bytes room (N.WholeDescription _ _) x.reads.bytes x.reads.spelt in
     rw same (x.reads.takes, (described_means room (N.WholeDescription _ _) x.reads.bytes (rw same at are) x.reads.spelt).1)
@@ -34,15 +30,15 @@ gathers {room = room} are x =
 -- a Count that says that there is no metadata
 pub gathers_none : {a b : Seen} {before after : N.Space} → before.bytes ≡ [] → N.TakesInto a b before after 2 → N.AreBytes after.bytes
     → N.little_number 2 after.bytes ≡ 0xFFFF → N.Takes a b (255 ∷ 255 ∷ []) 2
-gathers_none none t are all = grind (arith, two_bytes)
+gathers_none none t are all = grind (arith, N.ByteLemmas.two_bytes)
 
 -- an unfinished description has the bytes that were read
-unfinished : (d : N.DescriptionPart) (b : List ℕ) → Keeps d b → 0 < described_size d → N.description_bytes d ≡ b
+unfinished : (d : N.DescriptionPart) (b : List ℕ) → Keeps d b → 0 < N.described_size d → N.description_bytes d ≡ b
 unfinished d b k some = grind arith
 
 -- where a description stops the bytes kept are those of the whole elements
 pub gather_stops : {room : ℕ} {a b : Seen} {place peak : ℕ} {area : N.Space} {stop : N.Stop} → N.StopsDescribing room N.BeforeCount a b place peak area stop
     → N.GatherStops room a b place peak area stop
 gather_stops {room = room} x =
-    let some : 0 < described_size x.at = elim x.stops.cause [ inl r ↦ omega (arith, r.0.some, r.0.whole) | inr r ↦ omega (arith, r.cut) ] in
+    let some : 0 < N.described_size x.at = elim x.stops.cause [ N.inl r ↦ omega (arith, r.0.some, r.0.whole) | N.inr r ↦ omega (arith, r.cut) ] in
     record { describing = x; begins = x.kept ∙ unfinished x.at x.stops.bytes (kept_bytes room x.at x.stops.bytes x.stops.spelt) some }

@@ -1,10 +1,7 @@
 -- The elements of a description, as they are read into its area.
-use Rattle.tds_columns.proofs.Words as N
-use Rattle.tds_columns.proofs.{
-  Words.{◌≡◌, ◌≢◌, ◌∙◌, ℕ, ◌+◌, ◌<◌, ◌≤◌, List, [], length, take, refl, sym, ap, arith, Some, None, Option, Result, Ok, Err, if◌then◌else◌, Space, Stop, Seen},
-  Words.{Column, DescriptionPart, span, Describes},
-  ElementSteps.{cut_into, reads_into, refused_into, shrunk},
-}
+use Rattle.tds_columns.proofs as N
+use N.{◌≡◌, ◌≢◌, ◌∙◌, ℕ, ◌+◌, ◌<◌, ◌≤◌, List, [], length, refl, ap, arith, Some, None, Ok, if◌then◌else◌, Space, Stop, Seen, Column, DescriptionPart, span}
+use N.{Describes, ElementSteps.{cut_into, reads_into, refused_into, shrunk}}
 
 -- a state that something follows
 open_state : (s : DescriptionPart) (n : ℕ) → N.described_size s ≡ n → 0 < n → (N.described_end s ≡ Some N.MessageEnded)
@@ -37,7 +34,7 @@ module _ {room : ℕ} {s : DescriptionPart} {a b : Seen} {before after : Space} 
       → before.bytes ≡ N.description_bytes s → kept.peak ≡ after.peak → kept.bytes ≡ N.description_bytes to
       → Describes room s a b place place' before.peak kept to
   description_read {n = n} t some size free leads at had peak bytes =
-      let within = rw (leads, t.whole) at (spans room s t.element (record { some = omega (arith, t.whole, some); whole = t.whole ∙ sym size; free = free })) in
+      let within = rw (leads, t.whole) at (spans room s t.element (record { some = omega (arith, t.whole, some); whole = t.whole ∙ N.sym size; free = free })) in
       record {
         reads = reads_into t some size free leads;
         place_is = rw t.whole at;
@@ -52,7 +49,7 @@ module _ {room : ℕ} {s : DescriptionPart} {a b : Seen} {before after : Space} 
   -- the next element is read whole, and refused
   pub description_refused : {cut : Space} {place n start : ℕ} {fault : N.Fault} (t : N.TakesInto a b before after n) → 0 < n → N.described_size s ≡ n
       → N.described_fault room s t.element ≡ Some fault → before.bytes ≡ N.description_bytes s → start ≡ length before.bytes
-      → cut ≡ N.holding after (take start after.bytes)
+      → cut ≡ N.holding after (N.take start after.bytes)
       → N.StopsDescribing room s a b place before.peak cut (record { fault = fault; place = N.Payload place })
   description_refused {n = n} t some size first kept at is =
       let cut = shrunk before t.element t.stands t.whole at is in
@@ -96,13 +93,13 @@ module _ {room : ℕ} {s t : DescriptionPart} {a b c : Seen} {p q k : ℕ} {midd
       }
 
 -- what a call reads from there on is read after the first part
-pub part_after : {U X : Type 0} (r : Result U Stop) (to : X → DescriptionPart) (c : Seen) (z : ℕ) (after : Space) {room : ℕ} {s t : DescriptionPart}
+pub part_after : {U X : Type 0} (r : N.Result U Stop) (to : X → DescriptionPart) (c : Seen) (z : ℕ) (after : Space) {room : ℕ} {s t : DescriptionPart}
     {a b : Seen} {p q k : ℕ} {middle : Space} → middle.room ≡ room → Describes room s a b p q k middle t
     → N.MatchResult r (λ _. (x : X) × Describes middle.room t b c q z middle.peak after (to x))
     (λ stop. N.StopsDescribing middle.room t b c q middle.peak after stop)
     → N.MatchResult r (λ _. (x : X) × Describes room s a c p z k after (to x)) (λ stop. N.StopsDescribing room s a c p k after stop)
 part_after (Ok _) to c z after same first h = (h.0, describes_both same first h.1)
-part_after (Err stop) to c z after same first h = stops_describing_after same first h
+part_after (N.Err stop) to c z after same first h = stops_describing_after same first h
 
 -- a column that is whole adds no bytes
 pub column_bytes : (bytes : List ℕ) (count : ℕ) (columns : List Column) (column : Column)
@@ -110,7 +107,7 @@ pub column_bytes : (bytes : List ℕ) (count : ℕ) (columns : List Column) (col
 column_bytes bytes count columns column = grind arith
 
 -- the name after its count is read, or is cut
-pub name_after : {U : Type 0} (r : Result U Stop) (c : Seen) (after : Space) (place'' : ℕ) (stopped : Option Stop) {room count n : ℕ}
+pub name_after : {U : Type 0} (r : N.Result U Stop) (c : Seen) (after : Space) (place'' : ℕ) (stopped : N.Option Stop) {room count n : ℕ}
     {columns : List Column} {kind : N.Kind} {s : DescriptionPart} {a b : Seen} {place place' peak : ℕ} {middle : Space}
     → Describes room s a b place place' peak middle (N.InColumn middle.bytes count columns (N.NameUnits kind n)) → n ≢ 0 → stopped ≡ None
     → place'' ≡ (if N.is_ok r then place' + n else place')
@@ -121,7 +118,7 @@ name_after (Ok _) c after place'' stopped {kind = kind} first some going at u = 
   record { kind = kind; name = u.element },
   describes_both refl first (description_read u (omega (arith, some)) refl refl (rw u.stands) at refl refl (column_bytes _ _ _ _)),
 )
-name_after (Err stop) c after place'' stopped first some going at e = stops_describing_after refl first (description_cut (e going) refl refl)
+name_after (N.Err stop) c after place'' stopped first some going at e = stops_describing_after refl first (description_cut (e going) refl refl)
 
 -- the element is all that the area has
 count_is : {a b : Seen} {before after : Space} (t : N.TakesInto a b before after 2) → before.bytes ≡ [] → (after.bytes ≡ t.element)

@@ -1,15 +1,12 @@
 -- The type of a returned value, as it is read.
-use Rattle.tds_columns.proofs.Words as N
-use Rattle.tds_columns.proofs.{
-  Words.{◌≡◌, ◌≢◌, ℕ, ◌+◌, ◌-◌, ◌≤◌, List, [], ◌∷◌, length, arith, Some, None, ◌==◌, slice_index, Seen, Reads, TypeHead, returned_type},
-  ElementSteps.reads_into,
-}
+use Rattle.tds_columns.proofs as N
+use N.{◌≡◌, ◌≢◌, ℕ, ◌+◌, ◌-◌, ◌≤◌, [], ◌∷◌, length, arith, Some, ◌==◌, slice_index, Seen, Reads, TypeHead, returned_type}
 
-pub no_kind : (byte : ℕ) {rest : ℕ} (element : List ℕ) → N.rest_length byte ≡ Some rest → length element ≡ rest → N.kind_of (byte ∷ element) ≡ None
+pub no_kind : (byte : ℕ) {rest : ℕ} (element : N.List ℕ) → N.rest_length byte ≡ Some rest → length element ≡ rest → N.kind_of (byte ∷ element) ≡ N.None
     → rest ≢ 0
 no_kind byte element known len none z = grind (arith, N.bare_type, N.nil_from_length)
 
-module _ {o a : Seen} (head : List ℕ) (taken : N.WereTaken o a head) (eight : length head ≡ 8) (rest : ℕ)
+module _ {o a : Seen} (head : N.List ℕ) (taken : N.WereTaken o a head) (eight : length head ≡ 8) (rest : ℕ)
     (known : N.rest_length (slice_index head 7) ≡ Some rest) where
   -- the eight bytes were taken, and lead to this state
   abbrev head_read : Reads returned_type TypeHead o a (N.with_type_byte (slice_index head 7) rest)
@@ -41,5 +38,5 @@ module _ {o a : Seen} (head : List ℕ) (taken : N.WereTaken o a head) (eight : 
       let takes : N.Takes a b t.element (length t.element) = rw t.whole t.takes in
       N.reads_both returned_type _ _ _ _ _ _ (rw (rw empty at found) at p)
       (record { bytes = []; spelt = N.Spelt-none returned_type (N.KnownType kind); takes = rw empty at takes }))
-      (λ z p. N.reads_both returned_type _ _ _ _ _ _ p (reads_into t (omega (arith, N.eq_false rest 0 z)) (rw known) (rw found) (rw found)))
+      (λ z p. N.reads_both returned_type _ _ _ _ _ _ p (N.ElementSteps.reads_into t (omega (arith, N.eq_false rest 0 z)) (rw known) (rw found) (rw found)))
       head_read

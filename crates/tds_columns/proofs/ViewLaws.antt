@@ -1,13 +1,10 @@
 -- The columns of a description lie in its bytes as it is spelt.
-use Rattle.tds_columns.proofs.Words as N
-use Rattle.tds_columns.proofs.{
-  Words.{◌≡◌, ℕ, zero, suc, ◌+◌, ◌*◌, ◌-◌, ◌≤◌, true, List, [], ◌∷◌, ◌++◌, length, take, drop, refl, sym, ap, arith, Some, slice_index, Column, column_at},
-  ColumnLaws.byte_and_rest,
-}
+use Rattle.tds_columns.proofs as N
+use N.{◌≡◌, ℕ, ◌+◌, ◌*◌, ◌-◌, ◌≤◌, true, List, [], ◌∷◌, ◌++◌, length, take, drop, refl, sym, arith, Some, Column}
 
 -- ---- a column at the front
 
-item : (front rest : List ℕ) (x n : ℕ) → n ≡ length front → slice_index (front ++ x ∷ rest) n ≡ x
+item : (front rest : List ℕ) (x n : ℕ) → n ≡ length front → N.slice_index (front ++ x ∷ rest) n ≡ x
 item front rest x n e = rw e (N.get_or-append_seam front x rest 0)
 
 -- what n items are followed by, and these
@@ -16,7 +13,7 @@ parted front rest n e = rw e (N.drop-append_seam front rest, N.take-append_seam 
 
 -- a column of this size lies at the front
 abbrev Front : Column → ℕ → List ℕ → Type 0
-Front c size bytes = (N.column_size bytes ≡ size) × (column_at bytes ≡ c) × (N.is_column bytes ≡ true)
+Front c size bytes = (N.column_size bytes ≡ size) × (N.column_at bytes ≡ c) × (N.is_column bytes ≡ true)
 
 laid : (c : Column) (front ignored info rest more : List ℕ) (byte units : ℕ) → front ≡ (ignored ++ info) ++ units ∷ c.name → info ≡ byte ∷ rest
     → length ignored ≡ 6 → N.rest_length byte ≡ Some (length rest) → N.kind_of (byte ∷ rest) ≡ Some c.kind → length c.name ≡ 2 * units
@@ -28,7 +25,7 @@ laid c front ignored info rest more byte units spelt split six known kind counte
     let at6 = item ignored (rest ++ units ∷ tail) byte 6 (sym six) in
     let info_is : take (1 + length rest) (drop 6 bytes) ≡ byte ∷ rest =
     rw (parted ignored (byte ∷ (rest ++ units ∷ tail)) 6 (sym six)).0 (parted (byte ∷ rest) (units ∷ tail) (1 + length rest) (omega arith)).1 in
-    let count : slice_index bytes (7 + length rest) ≡ units =
+    let count : N.slice_index bytes (7 + length rest) ≡ units =
     rw N.append_assoc at (item (ignored ++ byte ∷ rest) tail units (7 + length rest) (sym head)) in
     let at8 : drop (8 + length rest) bytes ≡ tail =
     simp N.append_assoc at (parted ((ignored ++ byte ∷ rest) ++ units ∷ []) tail (8 + length rest)
@@ -36,7 +33,7 @@ laid c front ignored info rest more byte units spelt split six known kind counte
     let same : front ++ more ≡ bytes = rw (spelt, split) (simp N.append_assoc) in
     let size : (8 + length rest) + 2 * units ≡ length front =
     rw (spelt, split) (omega (arith, N.length-append (ignored ++ byte ∷ rest) (units ∷ c.name), head, counted)) in
-    let fits : length front ≤ length bytes = omega (arith, ap length same, N.length-append front more) in
+    let fits : length front ≤ length bytes = omega (arith, N.ap length same, N.length-append front more) in
     rw same (
       rw (at6, known, count, size),
       rw (at6, known, count, info_is, kind, at8, (parted c.name more (2 * units) (sym counted)).1),
@@ -45,7 +42,7 @@ laid c front ignored info rest more byte units spelt split six known kind counte
 
 front_of : (c : Column) (front more : List ℕ) → N.SpellsColumn c front → Front c (length front) (front ++ more)
 front_of c front more h =
-    let type = byte_and_rest c.kind h.info h.kind in
+    let type = N.ColumnLaws.byte_and_rest c.kind h.info h.kind in
     laid c front h.ignored h.info type.rest more type.byte h.units h.spelt type.spelt h.six type.whole type.allowed h.counted
 
 -- columns that are spelt lie there
@@ -62,8 +59,8 @@ description_shows room columns bytes h = grind (arith, N.and_from, columns_lie, 
 -- ---- what a whole column at the front allows
 
 pub length_columns : (n : ℕ) (bytes : List ℕ) → length (N.columns_in n bytes) ≡ n
-length_columns zero bytes = refl
-length_columns (suc n) bytes = omega (arith, length_columns n (drop (N.column_size bytes) bytes))
+length_columns N.zero bytes = refl
+length_columns (N.suc n) bytes = omega (arith, length_columns n (drop (N.column_size bytes) bytes))
 
 -- the kind that a TYPE_INFO names
 named_of : (k : N.Kind) (b : ℕ) (rest : List ℕ) → N.kind_of (b ∷ rest) ≡ Some k → N.named_kind b rest ≡ Some k
@@ -73,12 +70,12 @@ named_of k b rest h = grind (arith, N.rest_length_of, N.nat_tests)
 pub record Lies (bytes : List ℕ) : Type 0 where
   pub kind : N.Kind
   pub enough : N.column_size bytes ≤ length bytes
-  pub known : N.rest_length (slice_index bytes 6) ≡ Some (N.rest_size bytes)
-  pub named : N.named_kind (slice_index bytes 6) (take (N.rest_size bytes) (drop 7 bytes)) ≡ Some kind
-  pub at : column_at bytes ≡ record { kind = kind; name = take (N.name_size bytes) (drop (8 + N.rest_size bytes) bytes) }
+  pub known : N.rest_length (N.slice_index bytes 6) ≡ Some (N.rest_size bytes)
+  pub named : N.named_kind (N.slice_index bytes 6) (take (N.rest_size bytes) (drop 7 bytes)) ≡ Some kind
+  pub at : N.column_at bytes ≡ record { kind = kind; name = take (N.name_size bytes) (drop (8 + N.rest_size bytes) bytes) }
   pub valid : N.is_valid kind ≡ true
 
-from_type : (bytes : List ℕ) (n : ℕ) → 7 ≤ length bytes → take (1 + n) (drop 6 bytes) ≡ slice_index bytes 6 ∷ take n (drop 7 bytes)
+from_type : (bytes : List ℕ) (n : ℕ) → 7 ≤ length bytes → take (1 + n) (drop 6 bytes) ≡ N.slice_index bytes 6 ∷ take n (drop 7 bytes)
 from_type bytes n h = grind (arith, N.common_steps, N.drop-cons)
 
 pub lies : (bytes : List ℕ) → N.is_column bytes ≡ true → Lies bytes

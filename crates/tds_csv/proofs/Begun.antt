@@ -1,21 +1,17 @@
 -- The text of data that is still open, by the name of its conversion.
+use Rattle.tds_csv.proofs as N
+use N.Utf16Laws as utf16_laws
+use N.Utf8Laws as utf8_laws
+use N.{◌≡◌, ℕ, ◌+◌, ◌-◌, ◌≤◌, ◌%◌, List, [], ◌∷◌, ◌++◌, length, refl, arith, emit, Conversion, ConversionLaws.{fit_by_test, joins_by_name}}
+use N.Utf8Pushing.{after_kept}
 use Rattle.tds_csv.specs.Utf8 as utf8
-use Rattle.tds_csv.proofs.Utf16Laws as utf16_laws
-use Rattle.tds_csv.proofs.Utf8Laws as utf8_laws
-use Rattle.tds_csv.proofs.Words as N
-use Rattle.tds_csv.proofs.{
-  Words.{◌≡◌, inl, inr, ℕ, ◌+◌, ◌-◌, ◌≤◌, ◌%◌, true, false, List, [], ◌∷◌, ◌++◌, length, take, Option, Some, None, refl, ap, arith, emit, Conversion},
-  ConversionLaws.{fit_by_test, joins_by_name},
-  Utf8Pushing.after_kept,
-  Utf8Laws.{stops_at, none_begins},
-}
 
 -- The first bytes of the piece, so many, may follow the old ones, and the text that is fixed then is that which the whole piece fixes.
 pub record BegunFront (c : Conversion) (old piece : List ℕ) : Type 0 where
   pub taken : ℕ
   pub within : taken ≤ length piece
-  pub begun : N.BeginsData c (old ++ take taken piece)
-  pub same : emit (N.conversion_rest c) (N.conversion_text c) (old ++ take taken piece) ≡ emit (N.conversion_rest c) (N.conversion_text c) (old ++ piece)
+  pub begun : N.BeginsData c (old ++ N.take taken piece)
+  pub same : emit (N.conversion_rest c) (N.conversion_text c) (old ++ N.take taken piece) ≡ emit (N.conversion_rest c) (N.conversion_text c) (old ++ piece)
 
 all_begun : (c : Conversion) (old piece : List ℕ) → N.BeginsData c (old ++ piece) → BegunFront c old piece
 all_begun c old piece begun = grind (arith, N.take_all)
@@ -27,11 +23,11 @@ stopped_front old piece whole good begins stops =
     let at : good ≡ length old + (good - length old) = omega arith in
     grind (arith, after_kept, N.take-append-add, N.length-append)
 
-utf8_front : (old piece : List ℕ) (fault : Option ℕ) → N.utf8_error_len (utf8.rest (old ++ piece)) ≡ fault → utf8.Begins old
+utf8_front : (old piece : List ℕ) (fault : N.Option ℕ) → N.utf8_error_len (utf8.rest (old ++ piece)) ≡ fault → utf8.Begins old
     → BegunFront N.Utf8Text old piece
-utf8_front old piece None is begins = all_begun N.Utf8Text old piece (none_begins (old ++ piece) is)
-utf8_front old piece (Some k) is begins =
-    stopped_front old piece _ _ begins (stops_at (old ++ piece) _ k _ refl is refl)
+utf8_front old piece N.None is begins = all_begun N.Utf8Text old piece (N.Utf8Laws.none_begins (old ++ piece) is)
+utf8_front old piece (N.Some k) is begins =
+    stopped_front old piece _ _ begins (N.Utf8Laws.stops_at (old ++ piece) _ k _ refl is refl)
 
 -- after data that begins, the first bytes of any piece begin too and fix all the text that the piece fixes
 pub begun_front : (c : Conversion) (old piece : List ℕ) → N.BeginsData c old → BegunFront c old piece
@@ -41,7 +37,7 @@ begun_front c old piece begins = grind (arith, utf8_front, N.take_all)
 odd_front : (d : List ℕ) (x : ℕ) → (length (d ++ x ∷ []) % 2 ≡ 0 → ⊥) → utf16_laws.front (d ++ x ∷ []) ≡ utf16_laws.front d
 odd_front [] x odd = refl
 odd_front (low ∷ high ∷ []) x odd = refl
-odd_front (low ∷ high ∷ low' ∷ high' ∷ bytes) x odd = ap (λ l. low ∷ high ∷ l) (odd_front (low' ∷ high' ∷ bytes) x (λ e. odd (omega arith)))
+odd_front (low ∷ high ∷ low' ∷ high' ∷ bytes) x odd = N.ap (λ l. low ∷ high ∷ l) (odd_front (low' ∷ high' ∷ bytes) x (λ e. odd (omega arith)))
 odd_front bytes x odd = absurd (odd (omega arith))
 
 -- a byte after which no character ends completes none
@@ -54,13 +50,13 @@ unfit_front d x unfit =
     let fits = N.utf8_valid_len_le d in
     let same = N.take-append-le n d (x ∷ []) fits in
     rw (utf8_laws.valid_len_is all n (omega arith) (rw same (utf8_laws.front_is d)) (λ m more within u. elim (N.cases_lt m (length all)) [
-      | inl less ↦ utf8_laws.longest_is d m more (omega arith) (rw (N.take-append-le m d (x ∷ []) (omega arith)) at u)
-      | inr whole ↦ unfit
+      | N.inl less ↦ utf8_laws.longest_is d m more (omega arith) (rw (N.take-append-le m d (x ∷ []) (omega arith)) at u)
+      | N.inr whole ↦ unfit
           (rw (N.take_all m all whole) at u)
     ])) same
 
 -- a byte after which the data isn't whole adds no text
-pub unfit_adds_none : (c : Conversion) (d : List ℕ) (x : ℕ) → N.is_fit c (d ++ x ∷ []) ≡ false
+pub unfit_adds_none : (c : Conversion) (d : List ℕ) (x : ℕ) → N.is_fit c (d ++ x ∷ []) ≡ N.false
     → emit (N.conversion_rest c) (N.conversion_text c) (d ++ x ∷ []) ≡ emit (N.conversion_rest c) (N.conversion_text c) d
 unfit_adds_none N.HexDigits d x unfit = cc
 unfit_adds_none N.Utf16Text d x unfit =
@@ -77,6 +73,6 @@ pub open_grows : (c : Conversion) (d e : List ℕ) → N.BeginsData c (d ++ e)
 open_grows c d e begins = let next = (joins_by_name c).emits d e begins in grind arith
 
 -- the open field of whole data, the text of what was withheld and what closes the field are the field
-pub open_closes : (c : Conversion) (d : List ℕ) → N.is_fit c d ≡ true
+pub open_closes : (c : Conversion) (d : List ℕ) → N.is_fit c d ≡ N.true
     → N.open_field c d ++ (N.conversion_text c (N.conversion_rest c d) ++ N.closing (N.is_quoted c)) ≡ N.long_field c d
 open_closes c d fit = let whole = (joins_by_name c).ends d ((fit_by_test c d).0 fit) in grind (arith, N.append_assoc, N.append-nil)

@@ -1,30 +1,25 @@
 -- The tests of the conversions tell their facts.
-use Rattle.tds_csv.proofs.Words as N
-use Rattle.tds_csv.proofs.{
-  Words.{◌≡◌, ℕ, ◌%◌, true, List, [], ◌++◌, length, arith, ◌↔◌, Conversion, HexDigits, Utf16Text, Windows1252Text, Utf8Text, is_fit},
-  SingleLaws.{joins_binary, joins_windows_1252},
-  Utf16Laws.joins_utf16,
-  Utf8Laws.{joins_utf8, begins_none, none_begins},
-}
+use Rattle.tds_csv.proofs as N
+use N.{◌≡◌, ℕ, ◌%◌, true, List, [], ◌++◌, arith, ◌↔◌, Conversion, HexDigits, Utf16Text, Windows1252Text, Utf8Text, is_fit}
 
 pub fit_by_test : (c : Conversion) (bytes : List ℕ) → (is_fit c bytes ≡ true) ↔ N.IsFit c bytes
 fit_by_test c bytes = grind (arith, N.IsUtf8-from_is_utf8, N.is_utf8-from_IsUtf8)
 
 pub begun_by_test : (c : Conversion) (bytes : List ℕ) → (N.is_begun c bytes ≡ true) ↔ N.BeginsData c bytes
-begun_by_test c bytes = grind (arith, none_begins, begins_none)
+begun_by_test c bytes = grind (arith, N.Utf8Laws.none_begins, N.Utf8Laws.begins_none)
 
 pub joins_by_name : (c : Conversion) → N.JoinsPieces (N.IsFit c) (N.BeginsData c) (N.conversion_rest c) (N.conversion_text c)
-joins_by_name HexDigits = joins_binary
-joins_by_name Utf16Text = joins_utf16
-joins_by_name Windows1252Text = joins_windows_1252
-joins_by_name Utf8Text = joins_utf8
+joins_by_name HexDigits = N.SingleLaws.joins_binary
+joins_by_name Utf16Text = N.Utf16Laws.joins_utf16
+joins_by_name Windows1252Text = N.SingleLaws.joins_windows_1252
+joins_by_name Utf8Text = N.Utf8Laws.joins_utf8
 
 -- no data is whole
 pub no_data_is_fit : (c : Conversion) → is_fit c [] ≡ true
 no_data_is_fit c = grind (arith, N.is_utf8-from_IsUtf8)
 
 -- whole data has whole units
-pub fit_units : (c : Conversion) (bytes : List ℕ) → is_fit c bytes ≡ true → length bytes % N.unit c ≡ 0
+pub fit_units : (c : Conversion) (bytes : List ℕ) → is_fit c bytes ≡ true → N.length bytes % N.unit c ≡ 0
 fit_units c bytes h = grind arith
 
 -- what begins whole data begins

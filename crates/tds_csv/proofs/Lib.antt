@@ -21,3 +21,4 @@ pub mod LaneMasks
 pub mod Places
 pub mod WideText
 pub mod Words
+pub use Words.*

@@ -1,11 +1,6 @@
 -- Calls that put the text of an element part after part.
-use Rattle.tds_csv.proofs.Words as N
-use Rattle.tds_csv.proofs.{
-  Words.{◌≡◌, ◌∙◌, ℕ, ◌-◌, ◌^◌, ◌<◌, ◌≤◌, List, [], ◌∷◌, ◌++◌, length, refl, sym, ap, arith, append_assoc, Fault, Grammar, Seen, Held, Puts},
-  Sinks.{Breaks-after, Breaks-longer, Puts-none, Puts-trans},
-  Streams.puts_both,
-  Splits.Puts_split,
-}
+use Rattle.tds_csv.proofs as N
+use N.{◌≡◌, ◌∙◌, ℕ, ◌-◌, ◌^◌, ◌<◌, ◌≤◌, List, [], ◌∷◌, ◌++◌, length, ap, arith, append_assoc, Fault, Grammar, Seen, Held, Puts, Streams.puts_both}
 use Rattle.tds_packet.specs.Elements.{Leads}
 
 -- Whole elements were read, which lead from one state to another. The text of all but the last was put, and that of the last but for its tail.
@@ -32,7 +27,7 @@ Grows {S} g text = (s : S) (element : List ℕ) → N.IsNext g s element → (mo
 
 module _ {S : Type 0} (g : Grammar S Fault) (text : S → List ℕ) where
   -- an element was read after what was read and put
-  abbrev pub nears_from : (s at : S) (a b c : Seen) (h i : Held) (element tail : List ℕ) → N.Streams g text s a b h i at → N.IsNext g at element
+  abbrev pub nears_from : (s at : S) (a b c : Seen) (h i : Held) (element tail : List ℕ) → N.Words.Streams g text s a b h i at → N.IsNext g at element
       → N.Takes b c element (length element) → N.IsBetween c → length i.waiting < 4096 → i.delivered ≤ 2 ^ 64 - 1
       → text at ++ tail ≡ text (g.add at element) → Nears g text s a c h i (g.add at element) tail
   nears_from s at a b c h i element tail x next takes between few delivered text_is = record {
@@ -41,7 +36,7 @@ module _ {S : Type 0} (g : Grammar S Fault) (text : S → List ℕ) where
     at = at;
     spelt = x.spelt;
     next = next;
-    to_is = refl;
+    to_is = N.refl;
     takes = N.takes_both a b c _ _ x.takes takes;
     between = between;
     middle = i;
@@ -49,7 +44,7 @@ module _ {S : Type 0} (g : Grammar S Fault) (text : S → List ℕ) where
     puts = x.puts;
     part = [];
     text_is = text_is;
-    half = Puts-none i delivered;
+    half = N.Sinks.Puts-none i delivered;
   }
 
   -- a further part was put
@@ -69,17 +64,17 @@ module _ {S : Type 0} (g : Grammar S Fault) (text : S → List ℕ) where
     puts = x.puts;
     part = x.part ++ p;
     text_is = ap (λ l. text x.at ++ l) (append_assoc x.part p q) ∙ x.text_is;
-    half = Puts-trans _ _ _ _ _ x.half puts;
+    half = N.Sinks.Puts-trans _ _ _ _ _ x.half puts;
   }
 
   -- all was put
   abbrev pub nears_done : (s : S) (a b : Seen) (h i j : Held) (to : S) (tail : List ℕ) → Nears g text s a b h i to tail → Puts i j tail
-      → N.Streams g text s a b h j to
+      → N.Words.Streams g text s a b h j to
   nears_done s a b h i j to tail x puts = record {
     bytes = x.bytes ++ x.element;
     spelt = N.Spelt-append _ _ _ _ _ _ x.spelt (rw x.to_is at (N.Spelt-one _ _ _ x.next));
     takes = x.takes;
-    puts = puts_both text _ _ _ _ _ _ x.puts (_, x.text_is, Puts-trans _ _ _ _ _ x.half puts);
+    puts = puts_both text _ _ _ _ _ _ x.puts (_, x.text_is, N.Sinks.Puts-trans _ _ _ _ _ x.half puts);
   }
 
   -- a write of a further part failed
@@ -99,13 +94,13 @@ module _ {S : Type 0} (g : Grammar S Fault) (text : S → List ℕ) where
       few = x.few;
       puts = x.puts;
       more = x.part ++ tail;
-      text_is = x.text_is ∙ ap text (sym x.to_is);
-      breaks = rw (parts, ← append_assoc x.part p q) (Breaks-longer _ _ _ q _ (Breaks-after _ _ _ _ _ _ x.half breaks));
+      text_is = x.text_is ∙ ap text (N.sym x.to_is);
+      breaks = rw (parts, ← append_assoc x.part p q) (N.Sinks.Breaks-longer _ _ _ q _ (N.Sinks.Breaks-after _ _ _ _ _ _ x.half breaks));
     },
   )
 
   -- a call that reads on, of whose last element's text a part was put
-  abbrev pub nears_after : (s t : S) (a b c : Seen) (h i j : Held) (to : S) (tail : List ℕ) → N.Streams g text s a b h i t
+  abbrev pub nears_after : (s t : S) (a b c : Seen) (h i j : Held) (to : S) (tail : List ℕ) → N.Words.Streams g text s a b h i t
       → Nears g text t b c i j to tail → Nears g text s a c h j to tail
   nears_after s t a b c h i j to tail x y = record {
     bytes = x.bytes ++ y.bytes;
@@ -135,7 +130,7 @@ module _ {S : Type 0} (g : Grammar S Fault) where
   first_size s bytes t spelt some = go spelt.elements spelt.joined spelt.leads
     where
       go : (es : List (List ℕ)) → N.concat es ≡ bytes → Leads g s es t → 0 < g.size s
-      go [] joined leads = absurd (let z : length bytes ≡ 0 = ap length (sym joined) in omega arith)
+      go [] joined leads = absurd (let z : length bytes ≡ 0 = ap length (N.sym joined) in omega arith)
       go (e ∷ es) joined leads = N.next_some _ _ _ leads.0
 
   -- a grammar is inside itself
@@ -160,7 +155,7 @@ module _ {S T : Type 0} (small : Grammar S Fault) (big : Grammar T Fault) (lift 
   tail_after s t more tail some e end = grind (arith, append_assoc)
 
   -- the small grammar was read to its end, and its text put: of the big one's text only what stands after it is to be put
-  abbrev pub nears_inside : (from : S) (a b : Seen) (h i : Held) (to : S) (tail : List ℕ) → (x : N.Streams small text from a b h i to)
+  abbrev pub nears_inside : (from : S) (a b : Seen) (h i : Held) (to : S) (tail : List ℕ) → (x : N.Words.Streams small text from a b h i to)
       → 0 < length x.bytes → N.IsBetween b → length i.waiting < 4096 → (front ++ text to) ++ tail ≡ whole (lift to)
       → Nears big whole (lift from) a b h i (lift to) tail
   nears_inside from a b h i to tail x some between few end =
@@ -174,7 +169,7 @@ module _ {S T : Type 0} (small : Grammar S Fault) (big : Grammar T Fault) (lift 
         before.1,
         closed,
       ) x.puts.1) in
-      let cut = Puts_split h i before.0 last.0 few (rw parts at x.puts.2) in
+      let cut = N.Splits.Puts_split h i before.0 last.0 few (rw parts at x.puts.2) in
       record {
         bytes = l.front;
         element = l.element;

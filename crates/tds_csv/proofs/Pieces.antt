@@ -1,30 +1,24 @@
 -- A piece that was lent is many elements: where a write of their text fails, it fails in that of one of them.
-use Rattle.tds_csv.proofs.Words as N
-use Rattle.tds_csv.proofs.{
-  Words.{◌≡◌, inl, inr, ℕ, ◌-◌, ◌^◌, ◌<◌, ◌≤◌, List, [], ◌∷◌, ◌++◌, length, arith, concat},
-  Sinks.Puts-none,
-  Streams.puts_both,
-  Splits.Breaks_split,
-  Nears.{Grows, grown_leads},
-}
+use Rattle.tds_csv.proofs as N
+use N.{◌≡◌, ℕ, ◌-◌, ◌^◌, ◌<◌, ◌≤◌, List, [], ◌∷◌, ◌++◌, concat}
 use Rattle.tds_packet.specs.Elements.{Leads}
 
-module _ {S : Type 0} (g : N.Grammar S N.Fault) (text : S → List ℕ) (grows : Grows g text) (s : S) (a b : N.Seen) (h j : N.Held) (stop : N.Stop)
+module _ {S : Type 0} (g : N.Grammar S N.Fault) (text : S → List ℕ) (grows : N.Nears.Grows g text) (s : S) (a b : N.Seen) (h j : N.Held) (stop : N.Stop)
     (between : N.IsBetween b) where
   -- the elements from a state on, before which all was put
   breaks_from : (at t : S) (es : List (List ℕ)) (bytes rest : List ℕ) (m : N.Held) (added : List ℕ) → N.Spelt g s bytes at → Leads g at es t
-      → N.Takes a b ((bytes ++ concat es) ++ rest) 1 → N.PutsText text s at h m → length m.waiting < 4096 → text at ++ added ≡ text t
+      → N.Takes a b ((bytes ++ concat es) ++ rest) 1 → N.PutsText text s at h m → N.length m.waiting < 4096 → text at ++ added ≡ text t
       → N.Breaks m j added stop
       → (to : S) × N.BreaksStreaming g text s a b h j to stop
   breaks_from at t [] bytes rest m added spelt leads takes puts few text_is breaks =
-      grind (arith, N.common_steps, N.append_cancel_left)
+      grind (N.arith, N.common_steps, N.append_cancel_left)
   breaks_from at t (e ∷ es) bytes rest m added spelt leads takes puts few text_is breaks =
       let more = grows _ _ leads.0 in
-      let later = grown_leads _ text grows _ _ _ leads.1 in
+      let later = N.Nears.grown_leads _ text grows _ _ _ leads.1 in
       let parts = N.append_cancel_left (text at) added (more.0 ++ later.0) (rw (← N.append_assoc (text at) more.0 later.0, more.1, later.1) text_is) in
       let taken = rw (← N.append_assoc bytes e (concat es)) at takes in
-      elim (Breaks_split _ _ more.0 later.0 _ (rw parts at breaks)) [
-        | inl broken ↦ (
+      elim (N.Splits.Breaks_split _ _ more.0 later.0 _ (rw parts at breaks)) [
+        | N.inl broken ↦ (
           at,
           record {
             bytes = bytes;
@@ -32,7 +26,7 @@ module _ {S : Type 0} (g : N.Grammar S N.Fault) (text : S → List ℕ) (grows :
             ahead = concat es ++ rest;
             spelt = spelt;
             next = leads.0;
-            takes = N.Takes-more a b _ 1 (length (bytes ++ e)) (omega (arith, N.length-append bytes e))
+            takes = N.Takes-more a b _ 1 (N.length (bytes ++ e)) (omega (N.arith, N.length-append bytes e))
                 (rw (N.append_assoc (bytes ++ e) (concat es) rest) at taken);
             between = between;
             middle = m;
@@ -43,18 +37,18 @@ module _ {S : Type 0} (g : N.Grammar S N.Fault) (text : S → List ℕ) (grows :
             breaks = broken;
           },
         )
-        | inr x ↦
+        | N.inr x ↦
             breaks_from (g.add at e) t es _ rest _ _ (N.Spelt-append _ _ _ _ _ _ spelt (N.Spelt-one _ _ _ leads.0)) leads.1 taken
-            (puts_both text _ _ _ _ _ _ puts (more.0, more.1, x.2)) x.1 later.1 x.3
+            (N.Streams.puts_both text _ _ _ _ _ _ puts (more.0, more.1, x.2)) x.1 later.1 x.3
       ]
 
   -- a piece was read at once, and a write of its text failed: it failed in that of one of its elements
-  pub breaks_somewhere : (t : S) (piece rest : List ℕ) (added : List ℕ) → N.Spelt g s piece t → N.Takes a b (piece ++ rest) 1 → length h.waiting < 4096
+  pub breaks_somewhere : (t : S) (piece rest : List ℕ) (added : List ℕ) → N.Spelt g s piece t → N.Takes a b (piece ++ rest) 1 → N.length h.waiting < 4096
       → h.delivered ≤ 2 ^ 64 - 1 → text s ++ added ≡ text t → N.Breaks h j added stop
       → (at : S) × N.BreaksStreaming g text s a b h j at stop
   breaks_somewhere t piece rest added spelt takes few delivered text_is breaks =
       breaks_from _ t _ [] rest h added (N.Spelt-none g s) spelt.leads (rw spelt.joined takes) (
         [],
         N.append-nil (text s),
-        Puts-none h delivered,
+        N.Sinks.Puts-none h delivered,
       ) few text_is breaks

@@ -1,18 +1,10 @@
 -- What the tables of places have.
-use Rattle.tds_csv.proofs.Words as N
-use Rattle.tds_csv.proofs.{
-  Words.{Bool, Each1, Fits, List, [], ap, ap₂, arith, cond, drop, false, get_or, length, map, mask_l, nat_eq, refl, suc, take, top, true, w16, w8, zero, ℕ},
-  Words.{◌%◌, ◌&&◌, ◌*◌, ◌++◌, ◌+◌, ◌/◌, ◌<◌, ◌^◌, ◌∙◌, ◌∷◌, ◌≡◌, ◌≤◌},
-}
-use Rattle.std.proofs.Math.Seq.{take-append_seam}
-use Rattle.std.proofs.lemmas.List.{get_or-append-add, get_or_append_left}
-use Rattle.std.proofs.lemmas.Nat.{ones-le, ones_cat}
-use Rattle.std.proofs.lemmas.Slice.Eq.{bytes_eq-Decides}
-use Rattle.std.specs.Prelude.{count_ones, flat_map}
-use Rattle.std.specs.Simd.Lanes.{number_l}
-use Rattle.std.specs.Str.{bytes_eq}
-use Rattle.tds_csv.specs.Utf16.{units}
-use Rattle.tds_csv.specs.Wide.{high_quad, low_and_high, low_quad, pair, pair_bytes, quad_bytes, triples}
+use Rattle.tds_csv.proofs as N
+use N.{Bool, Each1, Fits, List, [], ap, ap₂, arith, cond, drop, get_or, length, map, mask_l, nat_eq, refl, suc, take, top, true, w16, w8, zero, ℕ, ◌%◌, ◌&&◌}
+use N.{◌*◌, ◌++◌, ◌+◌, ◌/◌, ◌<◌, ◌^◌, ◌∙◌, ◌∷◌, ◌≡◌, ◌≤◌}
+use Rattle.std.proofs.{Math.Seq.take-append_seam, lemmas.{List.{get_or-append-add, get_or_append_left}, Nat.{ones-le, ones_cat}, Slice.Eq.bytes_eq-Decides}}
+use Rattle.std.specs.{Prelude.{count_ones, flat_map}, Simd.Lanes.number_l, Str.bytes_eq}
+use Rattle.tds_csv.specs.{Utf16.units, Wide.{high_quad, low_and_high, low_quad, pair, pair_bytes, quad_bytes, triples}}
 use Rattle.tds_csv.specs.declared.convert.places.TheConstants.{PAIRS, QUADS}
 use lib.Lanes.{Each2, digits_l, zip2}
 
@@ -65,7 +57,7 @@ bits (suc n) mask = nat_eq (mask % 2) 1 ∷ bits n (mask / 2)
 
 lowest_bit : (b : Bool) (n : ℕ) → (nat_eq ((cond b 1 0 + 2 * n) % 2) 1 ≡ b) × ((cond b 1 0 + 2 * n) / 2 ≡ n)
 lowest_bit true n = grind arith
-lowest_bit false n = grind arith
+lowest_bit N.false n = grind arith
 
 -- a row for two masks of some lanes begins with the places of these lanes
 pub row_begins : (f : Bool → Bool → List ℕ) (width at m : ℕ) (ws ls : List Bool) → length ws ≤ m → length ls ≡ length ws

@@ -1,22 +1,19 @@
 -- Calls that put texts, one after another.
-use Rattle.tds_csv.proofs.Words as N
-use Rattle.tds_csv.proofs.{
-  Words.{Bool, Err, List, Ok, Option, PutsPiece, Result, Sink, Stop, [], arith, false, held, if◌then◌else◌, refl, true, ℕ, ◌++◌, ◌≡◌},
-  Sinks.{Breaks-after, Puts-none, Puts-trans},
-}
+use Rattle.tds_csv.proofs as N
+use N.{Err, List, Ok, Option, PutsPiece, Result, Sink, Stop, [], arith, false, held, if◌then◌else◌, ℕ, ◌++◌, ◌≡◌}
 
 -- nothing is put
 pub PutsPiece-none : {W U : Type 0} (contents : W → Option (List ℕ)) (a : Sink W) (u : U) → N.IsWriting a → PutsPiece contents a a [] (Ok u)
-PutsPiece-none contents a u going = let puts = Puts-none (held contents a) going.ready.2 in grind arith
+PutsPiece-none contents a u going = let puts = N.Sinks.Puts-none (held contents a) going.ready.2 in grind arith
 
 -- a text, and then what the next call puts
 pub PutsPiece-trans : {W U V : Type 0} (contents : W → Option (List ℕ)) (a b c : Sink W) (u : U) (p q : List ℕ) (r : Result V Stop)
     → PutsPiece contents a b p (Ok u) → PutsPiece contents b c q r → PutsPiece contents a c (p ++ q) r
 PutsPiece-trans contents a b c u p q (Ok v) x y =
-    let puts = Puts-trans (held contents a) (held contents b) (held contents c) p q x.gives y.gives in
+    let puts = N.Sinks.Puts-trans (held contents a) (held contents b) (held contents c) p q x.gives y.gives in
     grind arith
 PutsPiece-trans contents a b c u p q (Err e) x y =
-    let breaks = Breaks-after (held contents a) (held contents b) (held contents c) p q e x.gives (y.gives x.failed) in
+    let breaks = N.Sinks.Breaks-after (held contents a) (held contents b) (held contents c) p q e x.gives (y.gives x.failed) in
     grind arith
 
 -- the value of a success says nothing
@@ -42,9 +39,9 @@ PutsPiece-passed contents a b p more e r is x = grind (arith, N.common_steps)
 -- ---- pushes and ends of a joiner, by what they put
 
 -- what `check` answers where no write failed
-pub passes : {T E : Type 0} (failed : Bool) (t u : T) (e : E) → Ok t ≡ (if failed then Err e else Ok u) → failed ≡ false
-passes true t u e h = cc
-passes false t u e h = refl
+pub passes : {T E : Type 0} (failed : N.Bool) (t u : T) (e : E) → Ok t ≡ (if failed then Err e else Ok u) → failed ≡ false
+passes N.true t u e h = cc
+passes false t u e h = N.refl
 
 module _ {W U V : Type 0} {contents : W → Option (List ℕ)} {begins : List ℕ → Type 0} {rest text : List ℕ → List ℕ} {old new : List ℕ} {a b : Sink W}
     {p piece : List ℕ} where

@@ -1,19 +1,19 @@
 -- The laws of the conversions in which each byte stands alone.
+use Rattle.tds_csv.proofs as N
+use N.{◌≡◌, ℕ, ◌/◌, ◌%◌, List, [], ◌∷◌, ◌++◌, refl, ⊤}
 use Rattle.tds_csv.specs.Binary as binary
 use Rattle.tds_csv.specs.Windows1252 as windows_1252
-use Rattle.tds_csv.proofs.Words as N
-use Rattle.tds_csv.proofs.{Words.{◌≡◌, ℕ, ◌/◌, ◌%◌, List, [], ◌∷◌, ◌++◌, refl, ap, arith, ⊤}, JoiningLemmas.doubled-append}
 use Rattle.hex.specs.Hex.{encode_with}
 
 module _ (text : List ℕ → List ℕ) (appends : (x y : List ℕ) → text (x ++ y) ≡ text x ++ text y) (empty : text [] ≡ []) where
   joins_single : N.JoinsPieces (λ _. ⊤) (λ _. ⊤) (λ _. []) text
-  joins_single = grind (arith, N.append-nil, N.take_all)
+  joins_single = grind (N.arith, N.append-nil, N.take_all)
 
 -- the digits of two pieces
 pub hex-append : (t x y : List ℕ) → encode_with t (x ++ y) ≡ encode_with t x ++ encode_with t y
 unfolding encode_with
 hex-append t [] y = refl
-hex-append t (b ∷ x) y = ap (λ r. N.slice_index t (b / 16) ∷ N.slice_index t (b % 16) ∷ r) (hex-append t x y)
+hex-append t (b ∷ x) y = N.ap (λ r. N.slice_index t (b / 16) ∷ N.slice_index t (b % 16) ∷ r) (hex-append t x y)
 
 -- no bytes have no digits
 pub hex-nil : N.encode_lower [] ≡ []
@@ -26,7 +26,7 @@ joins_binary = joins_single binary.text (hex-append N.lower_digits) hex-nil
 
 -- the text of two pieces
 pub windows_1252-append : (x y : List ℕ) → windows_1252.text (x ++ y) ≡ windows_1252.text x ++ windows_1252.text y
-windows_1252-append x y = grind (arith, N.map-append, N.encodes-append, doubled-append)
+windows_1252-append x y = grind (N.arith, N.map-append, N.encodes-append, N.JoiningLemmas.doubled-append)
 
 -- text in Windows-1252 may come in pieces
 pub joins_windows_1252 : N.JoinsPieces windows_1252.IsFit windows_1252.IsFit windows_1252.rest windows_1252.text

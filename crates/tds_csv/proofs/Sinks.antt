@@ -1,9 +1,7 @@
 -- What was put into a sink, call after call.
+use Rattle.tds_csv.proofs as N
+use N.{◌≡◌, ℕ, ◌+◌, ◌-◌, ◌^◌, ◌<◌, ◌≤◌, List, [], ◌++◌, length, arith, Stop, Held, Adds, Puts, Breaks}
 use Rattle.tds_packet.proofs.Joins.{Stays-Rises, Stays-none, Stays-trans}
-use Rattle.tds_csv.proofs.Words as N
-use Rattle.tds_csv.proofs.{
-  Words.{◌≡◌, Bool, false, ℕ, ◌+◌, ◌-◌, ◌^◌, ◌<◌, ◌≤◌, List, [], ◌++◌, length, Result, refl, arith, Stop, Held, Adds, Puts, Breaks, take},
-}
 
 pub counted-none : (n : ℕ) → n ≤ 2 ^ 64 - 1 → n ≡ N.counted n 0
 counted-none n h = omega arith
@@ -15,7 +13,7 @@ pub Adds-trans : (a b c : Held) (d f p q : List ℕ) → Adds a b d p → Adds b
 Adds-trans a b c d f p q x y = grind (arith, N.append_assoc, N.length-append, N.Appends-trans)
 
 pub Puts-none : (a : Held) → a.delivered ≤ 2 ^ 64 - 1 → Puts a a []
-Puts-none a h = ([], 0, (N.Appends-nil a.had, N.append-nil a.waiting, counted-none a.delivered h), refl, Stays-none a.failures)
+Puts-none a h = ([], 0, (N.Appends-nil a.had, N.append-nil a.waiting, counted-none a.delivered h), N.refl, Stays-none a.failures)
 
 pub Puts-trans : (a b c : Held) (p q : List ℕ) → Puts a b p → Puts b c q → Puts a c (p ++ q)
 Puts-trans a b c p q x y = (
@@ -32,7 +30,7 @@ Breaks-after a b c p q e x y =
       x.0 ++ y.0,
       x.1 + y.1,
       length p + y.2,
-      (rw (← N.take-append-add p q y.2) at (Adds-trans a b c _ _ p (take y.2 q) x.2 y.3)),
+      (rw (← N.take-append-add p q y.2) at (Adds-trans a b c _ _ p (N.take y.2 q) x.2 y.3)),
       omega (arith, N.length-append p q),
       omega arith,
       omega arith,
@@ -45,12 +43,12 @@ pub Breaks-longer : (a b : Held) (p more : List ℕ) (e : Stop) → Breaks a b p
 Breaks-longer a b p more e x = grind (arith, N.take-append-le, N.length-append)
 
 -- a block became full, and was delivered, or not
-pub block : {U : Type 0} (a m b : Held) (piece : List ℕ) (r : Result U Stop) → m ≡ record a { waiting = a.waiting ++ piece } → length m.waiting ≡ 4096
+pub block : {U : Type 0} (a m b : Held) (piece : List ℕ) (r : N.Result U Stop) → m ≡ record a { waiting = a.waiting ++ piece } → length m.waiting ≡ 4096
     → N.OnErr r (0 < length b.waiting)
     → N.MatchResult r (λ _. N.Sends m b) (λ e. N.FinishFails m b e) → N.MatchResult r (λ _. Puts a b piece) (λ e. Breaks a b piece e)
 block a m b piece r is full some x = grind (arith, N.append-nil, N.length-append, N.take_all, N.le_refl)
 
-pub block_going : {U : Type 0} (a m b : Held) (piece : List ℕ) (r : Result U Stop) (failed : Bool) → m ≡ record a { waiting = a.waiting ++ piece }
+pub block_going : {U : Type 0} (a m b : Held) (piece : List ℕ) (r : N.Result U Stop) (failed : N.Bool) → m ≡ record a { waiting = a.waiting ++ piece }
     → length m.waiting ≡ 4096 → N.OnErr r (0 < length b.waiting)
-    → N.MatchResult r (λ _. N.Sends m b) (λ e. N.FinishFails m b e) → N.MatchResult r (λ _. Puts a b piece) (λ e. failed ≡ false → Breaks a b piece e)
+    → N.MatchResult r (λ _. N.Sends m b) (λ e. N.FinishFails m b e) → N.MatchResult r (λ _. Puts a b piece) (λ e. failed ≡ N.false → Breaks a b piece e)
 block_going a m b piece r failed is full some x = grind (arith, N.common_steps)

@@ -1,9 +1,6 @@
 -- A text that is put in one call could have been put in two.
-use Rattle.tds_csv.proofs.Words as N
-use Rattle.tds_csv.proofs.{
-  Words.{◌≡◌, ◌∙◌, ◌⊎◌, inl, inr, ℕ, ◌+◌, ◌-◌, ◌*◌, ◌^◌, ◌<◌, ◌≤◌, List, ◌++◌, length, take, drop, refl, sym, ap, subst, arith, ◌/◌, Held, Adds, Puts},
-  Sinks.counted-twice,
-}
+use Rattle.tds_csv.proofs as N
+use N.{◌≡◌, ◌∙◌, ◌⊎◌, ℕ, ◌+◌, ◌-◌, ◌*◌, ◌^◌, ◌<◌, ◌≤◌, List, ◌++◌, length, take, drop, refl, sym, ap, arith, ◌/◌, Held, Adds, Puts}
 
 -- what waits and a piece is what is delivered and then waits
 total_of : (a b : Held) (p r sent : List ℕ) → Adds a b sent (p ++ r) → length (a.waiting ++ p) + length r ≡ length sent + length b.waiting
@@ -25,12 +22,12 @@ split_at a b p r sent n adds enough below above asked =
       omega (arith, N.length-drop k all),
       (first, n, (grind arith, sym (N.take-append-drop k all), refl), size, (refl, λ some. asked (omega (arith, some)))),
       (
-        (let all_sent : N.Appends a.had b.had (first ++ drop k sent) = subst (N.Appends a.had b.had)
+        (let all_sent : N.Appends a.had b.had (first ++ drop k sent) = N.subst (N.Appends a.had b.had)
             (sym (N.take-append-drop k sent) ∙ ap (λ l. l ++ drop k sent) (rw (← N.take-append-le k sent b.waiting enough, ← joined) (N.take-append-le k
             all r below)))
             adds.0 in grind (arith, N.append_assoc)),
         sym (N.drop-append-le k all r below) ∙ ap (drop k) joined ∙ N.drop-append-le k sent b.waiting enough,
-        adds.2 ∙ ap (N.counted a.delivered) sizes ∙ sym (counted-twice a.delivered (length first) (length (drop k sent))),
+        adds.2 ∙ ap (N.counted a.delivered) sizes ∙ sym (N.Sinks.counted-twice a.delivered (length first) (length (drop k sent))),
       ),
       refl,
       omega arith,
@@ -50,17 +47,17 @@ Puts_split a b p q few x =
 pub Breaks_split : (a b : Held) (p q : List ℕ) (stop : N.Stop) → N.Breaks a b (p ++ q) stop → N.Breaks a b p stop
     ⊎ ((m : Held) × (length m.waiting < 4096) × Puts a m p × N.Breaks m b q stop × (m.delivered ≤ 2 ^ 64 - 1))
 Breaks_split a b p q stop x = elim (N.dec_le x.2 (length p)) [
-  | yes le ↦ inl (x.0, x.1, x.2, subst (Adds a b x.0) (N.take-append-le x.2 p q le) x.3, le, x.5, x.6, x.7, x.8, x.9)
+  | yes le ↦ N.inl (x.0, x.1, x.2, N.subst (Adds a b x.0) (N.take-append-le x.2 p q le) x.3, le, x.5, x.6, x.7, x.8, x.9)
   | no above ↦
       let i = x.2 - length p in
       let n = length (a.waiting ++ p) / 4096 in
       let fits : i ≤ length q = omega (arith, N.length-append p q) in
-      let adds = subst (Adds a b x.0) (ap (λ k. take k (p ++ q)) (sym (omega arith)) ∙ N.take-append-add p q i) x.3 in
+      let adds = N.subst (Adds a b x.0) (ap (λ k. take k (p ++ q)) (sym (omega arith)) ∙ N.take-append-add p q i) x.3 in
       let total = total_of a b p (take i q) x.0 adds in
       let size = N.length-take-le i q fits in
       let s = split_at a b p (take i q) x.0 n adds (omega arith) (omega arith) (omega arith) x.9.1 in
       let left = N.length-drop (4096 * n) x.0 in
-      inr (
+      N.inr (
         s.0,
         s.1,
         s.2,

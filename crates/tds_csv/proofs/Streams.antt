@@ -1,22 +1,19 @@
 -- Calls that read by a grammar and put the text of what they read: one after another, and inside a greater grammar.
-use Rattle.tds_csv.proofs.Words as N
-use Rattle.tds_csv.proofs.{
-  Words.{◌≡◌, ◌∙◌, inl, inr, ℕ, ◌+◌, ◌<◌, Bool, List, ◌++◌, length, sym, ap, arith, Fault, Stop, Grammar, Seen, stops_after, Held, PutsText},
-  Sinks.Puts-trans,
-}
+use Rattle.tds_csv.proofs as N
+use N.{◌≡◌, ◌∙◌, ℕ, ◌+◌, ◌<◌, List, ◌++◌, ap, Fault, Stop, Grammar, Seen, Held, PutsText}
 
 -- a state where a reading stops has a next element
 pub stops_size : {S : Type 0} (g : Grammar S Fault) (from : S) (a b : Seen) (place : ℕ) (at : S) (stop : Stop) → N.StopsReading g from a b place at stop
     → 0 < g.size at
-stops_size g from a b place at stop r = grind arith
+stops_size g from a b place at stop r = grind N.arith
 
 -- the text between three states, put by two calls
 pub puts_both : {S : Type 0} (text : S → List ℕ) (s t u : S) (a b c : Held) → PutsText text s t a b → PutsText text t u b c → PutsText text s u a c
-puts_both text s t u a b c x y = (x.0 ++ y.0, sym (N.append_assoc (text s) x.0 y.0) ∙ ap (λ l. l ++ y.0) x.1 ∙ y.1, Puts-trans _ _ _ _ _ x.2 y.2)
+puts_both text s t u a b c x y = (x.0 ++ y.0, N.sym (N.append_assoc (text s) x.0 y.0) ∙ ap (λ l. l ++ y.0) x.1 ∙ y.1, N.Sinks.Puts-trans _ _ _ _ _ x.2 y.2)
 
 module _ {S : Type 0} (g : Grammar S Fault) (text : S → List ℕ) where
   -- a call that reads on, and one whose write fails
-  abbrev pub breaks_after : (s t : S) (a b c : Seen) (h i j : Held) (at : S) (stop : Stop) → N.Streams g text s a b h i t
+  abbrev pub breaks_after : (s t : S) (a b c : Seen) (h i j : Held) (at : S) (stop : Stop) → N.Words.Streams g text s a b h i t
       → N.BreaksStreaming g text t b c i j at stop → N.BreaksStreaming g text s a c h j at stop
   breaks_after s t a b c h i j at stop x y = record {
     bytes = x.bytes ++ y.bytes;
@@ -36,17 +33,17 @@ module _ {S : Type 0} (g : Grammar S Fault) (text : S → List ℕ) where
 
 module _ {S : Type 0} (g : Grammar S Fault) (text : S → List ℕ) where
   -- what stops a call that puts text stops one that began before it
-  pub streaming_after : (s t : S) (a b c : Seen) (h i j : Held) (place : ℕ) (failed : Bool) (stop : Stop) → (x : N.Streams g text s a b h i t)
-      → N.StopsStreaming g text t b c (place + length x.bytes) i j failed stop → N.StopsStreaming g text s a c place h j failed stop
+  pub streaming_after : (s t : S) (a b c : Seen) (h i j : Held) (place : ℕ) (failed : N.Bool) (stop : Stop) → (x : N.Words.Streams g text s a b h i t)
+      → N.StopsStreaming g text t b c (place + N.length x.bytes) i j failed stop → N.StopsStreaming g text s a c place h j failed stop
   streaming_after s t a b c h i j place failed stop x y = record {
     at = y.at;
     cause = elim y.cause [
-      | inl z ↦ inl (
-        stops_after g s t a b c place y.at stop (record { bytes = x.bytes; spelt = x.spelt; takes = x.takes }) z.0,
+      | N.inl z ↦ N.inl (
+        N.stops_after g s t a b c place y.at stop (record { bytes = x.bytes; spelt = x.spelt; takes = x.takes }) z.0,
         puts_both text _ _ _ _ _ _ x.puts z.1,
         z.2,
       )
-      | inr z ↦ inr (breaks_after _ _ _ _ _ _ _ _ _ _ _ _ x z.0, z.1)
+      | N.inr z ↦ N.inr (breaks_after _ _ _ _ _ _ _ _ _ _ _ _ x z.0, z.1)
     ];
   }
 
@@ -55,7 +52,7 @@ module _ {S T : Type 0} (small : Grammar S Fault) (big : Grammar T Fault) (lift 
     → List ℕ) (front : List ℕ) (text_is : (s : S) → front ++ text s ≡ whole (lift s)) where
   -- what is added to the small text is added to the big one
   pub added_inside : (s t : S) (more : List ℕ) → text s ++ more ≡ text t → whole (lift s) ++ more ≡ whole (lift t)
-  added_inside s t more e = grind (arith, N.append_assoc)
+  added_inside s t more e = grind (N.arith, N.append_assoc)
 
   -- the text between two states of the small grammar is that between those of the big one
   pub puts_inside : (s t : S) (a b : Held) → PutsText text s t a b → PutsText whole (lift s) (lift t) a b
@@ -76,6 +73,6 @@ module _ {S T : Type 0} (small : Grammar S Fault) (big : Grammar T Fault) (lift 
     few = x.few;
     puts = puts_inside from at h x.middle x.puts;
     more = x.more;
-    text_is = added_inside at (small.add at x.element) x.more x.text_is ∙ ap whole (sym (is.add at x.element (N.next_some _ _ _ x.next)));
+    text_is = added_inside at (small.add at x.element) x.more x.text_is ∙ ap whole (N.sym (is.add at x.element (N.next_some _ _ _ x.next)));
     breaks = x.breaks;
   }

@@ -1,15 +1,9 @@
 -- One character after the other of text in UTF-16.
-use Rattle.tds_csv.proofs.Words as N
-use Rattle.tds_csv.proofs.{
-  Words.{List, Ok, Option, [], ap, arith, drop, emit, false, get_or, inl, is_low_surrogate, length, map, refl, sym, take, true, unwrap_or, ℕ, ◌%◌, ◌&&◌, ◌*◌},
-  Words.{◌++◌, ◌+◌, ◌-◌, ◌<◌, ◌||◌, ◌∙◌, ◌∷◌, ◌≡◌, ◌≤◌, ◌⊎◌},
-  JoiningLemmas.{doubled-append, Leads-none, Leads-seam, Leads-seam-front, emit_held},
-  Puttings.PutsPiece-none,
-  Utf16Laws.{chars-apart, emit-front, front, front_step, joins_utf16, rest_step, short, starts_low},
-}
-use Rattle.std.specs.Char.Utf16.{utf16_chars}
-use Rattle.tds_csv.specs.Utf16.{characters, is_high, rest, text, units}
-use Rattle.tds_csv.specs.Utf16Next.{Converts, IsNext, LeavesRest, seam}
+use Rattle.tds_csv.proofs as N
+use N.{List, [], ap, arith, drop, emit, false, get_or, is_low_surrogate, length, refl, take, true, unwrap_or, ℕ, ◌%◌, ◌&&◌, ◌*◌, ◌++◌, ◌+◌, ◌-◌, ◌<◌, ◌||◌, ◌∙◌}
+use N.{◌∷◌, ◌≡◌, ◌≤◌, ◌⊎◌, JoiningLemmas.{doubled-append, Leads-none, Leads-seam, emit_held}, Utf16Laws.{emit-front, front, front_step, joins_utf16, rest_step}}
+use N.Utf16Laws.{short, starts_low}
+use Rattle.{std.specs.Char.Utf16.utf16_chars, tds_csv.specs.{Utf16.{characters, is_high, rest, text, units}, Utf16Next.{Converts, IsNext, LeavesRest, seam}}}
 
 pub text_nil : text [] ≡ []
 unfolding utf16_chars
@@ -26,7 +20,7 @@ nil_of_length = N.nil_from_length
 chars_one : (u : ℕ) (us : List ℕ) → (N.is_high_surrogate u && starts_low us) ≡ false
     → N.utf16_lossy_chars (u ∷ us) ≡ unwrap_or (N.lone_unit_char u) 0xFFFD ∷ N.utf16_lossy_chars us
 unfolding utf16_chars
-chars_one u us h = ap (map (λ o. unwrap_or o 0xFFFD)) (chars-apart (u ∷ []) us h)
+chars_one u us h = ap (N.map (λ o. unwrap_or o 0xFFFD)) (N.Utf16Laws.chars-apart (u ∷ []) us h)
 
 spells_one : (low high : ℕ) (bytes : List ℕ) (code : ℕ) → unwrap_or (N.lone_unit_char (low + 256 * high)) 0xFFFD ≡ code
     → (is_high low high ≡ true → starts_low (units bytes) ≡ false) → characters (low ∷ high ∷ bytes) ≡ N.encode_utf8 code ++ characters bytes
@@ -70,7 +64,7 @@ pub next_alone : (low high low' high' : ℕ) (bytes : List ℕ) → is_high low 
     → IsNext (low ∷ high ∷ low' ∷ high' ∷ bytes) 0xFFFD 2
 unfolding starts_low
 next_alone low high low' high' bytes h l =
-    let lone = lone_half (low + 256 * high) (inl h) in
+    let lone = lone_half (low + 256 * high) (N.inl h) in
     record {
       emits = emits_by (low ∷ high ∷ low' ∷ high' ∷ bytes) (low' ∷ high' ∷ bytes) 0xFFFD
           (spells_one low high (front (low' ∷ high' ∷ bytes)) 0xFFFD lone (λ _. (grind arith)));
@@ -141,7 +135,7 @@ pub ends_held : {bytes to : List ℕ} {used made : ℕ} → Converts bytes to us
 ends_held {bytes} {to} {used} {made} before held =
     let run = take made to in
     record {
-      emits = sym (before.leads.emits ∙ ap (λ l. run ++ l) (emit_held rest text (drop used bytes) text_nil held) ∙ N.append-nil run);
+      emits = N.sym (before.leads.emits ∙ ap (λ l. run ++ l) (emit_held rest text (drop used bytes) text_nil held) ∙ N.append-nil run);
       leaves = grind (arith, N.common_steps, short);
     }
 
@@ -158,12 +152,12 @@ after (byte ∷ kept) piece = rest (byte ∷ kept ++ take 3 piece) ++ drop 3 pie
 
 pub Leads-after : (kept piece : List ℕ) → N.Leads rest text (kept ++ piece) (after kept piece) (emit rest text (seam kept piece))
 Leads-after [] piece = rw text_nil Leads-none
-Leads-after (byte ∷ kept) piece = Leads-seam-front joins_utf16 (byte ∷ kept) piece 3 tt
+Leads-after (byte ∷ kept) piece = N.JoiningLemmas.Leads-seam-front joins_utf16 (byte ∷ kept) piece 3 tt
 
 -- nothing is withheld
-pub none_put : {W : Type 0} {contents : W → Option (List ℕ)} {a : N.Sink W} {kept : List ℕ} (piece : List ℕ) → kept ≡ [] → N.IsWriting a
-    → N.PutsPiece {U = ℕ} contents a a (emit rest text (seam kept piece)) (Ok 0)
-none_put piece none going = rw (none, text_nil) (PutsPiece-none _ _ 0 going)
+pub none_put : {W : Type 0} {contents : W → N.Option (List ℕ)} {a : N.Sink W} {kept : List ℕ} (piece : List ℕ) → kept ≡ [] → N.IsWriting a
+    → N.PutsPiece {U = ℕ} contents a a (emit rest text (seam kept piece)) (N.Ok 0)
+none_put piece none going = rw (none, text_nil) (N.Puttings.PutsPiece-none _ _ 0 going)
 
 pub none_leads : {kept : List ℕ} (piece : List ℕ) → kept ≡ [] → N.Leads rest text (kept ++ piece) piece (emit rest text (seam kept piece))
 none_leads piece none = rw none (Leads-after [] piece)

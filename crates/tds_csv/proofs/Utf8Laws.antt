@@ -1,13 +1,9 @@
 -- The laws of UTF-8 in pieces.
-use Rattle.tds_csv.proofs.Words as N
-use Rattle.tds_csv.proofs.{
-  Words.{Bool, IsUtf8, List, None, Some, [], ap, arith, cases_lt, cond, drop, emit, encode_utf8, encode_utf8_all, false, get_or, get_or-drop, inl, inr},
-  Words.{is_utf8, length, nat_tests, of1, of2, of3, of4, refl, scalar, second_byte_max, second_byte_min, suc, sym, take, true, utf8_valid_len, zero, ℕ, ◌*◌},
-  Words.{◌++◌, ◌+◌, ◌-◌, ◌<◌, ◌∙◌, ◌∷◌, ◌≡◌, ◌≤◌, ◌⊎◌},
-  JoiningLemmas.{doubled-append, settled_front},
-}
-use Rattle.std.specs.Str.Lossy.{utf8_error_len, utf8_valid_len}
-use Rattle.tds_csv.specs.Utf8.{Begins, IsFit, rest, text}
+use Rattle.tds_csv.proofs as N
+use N.{Bool, IsUtf8, List, None, Some, [], ap, arith, cases_lt, cond, drop, emit, encode_utf8, false, get_or, inl, inr, is_utf8, length, nat_tests, of3, of4}
+use N.{refl, scalar, second_byte_max, second_byte_min, suc, sym, take, true, zero, ℕ, ◌*◌, ◌++◌, ◌+◌, ◌-◌, ◌<◌, ◌∙◌, ◌∷◌, ◌≡◌, ◌≤◌, ◌⊎◌, Words.utf8_valid_len}
+use N.JoiningLemmas.{doubled-append, settled_front}
+use Rattle.{std.specs.Str.Lossy.{utf8_error_len, utf8_valid_len}, tds_csv.specs.Utf8.{Begins, IsFit, rest, text}}
 
 -- what is found going down is UTF-8, and nothing longer is
 front_up_to : (bs : List ℕ) (n : ℕ) → IsUtf8 (take (N.valid_len_up_to bs n) bs)
@@ -122,14 +118,14 @@ begun_rest a b =
     let whole = after_text (front a) (rest a ++ b.0) (front_is a) (rw (← regrouped a b.0) b.1) in
     go whole.0 whole.1.0 whole.1.1
   where
-    go : (cs : List ℕ) → N.all_scalars cs ≡ true → encode_utf8_all cs ≡ rest a ++ b.0 → IsBegun (rest a) b.0
+    go : (cs : List ℕ) → N.all_scalars cs ≡ true → N.encode_utf8_all cs ≡ rest a ++ b.0 → IsBegun (rest a) b.0
     go [] valid e = inl (N.nil_from_length (rest a) (omega (arith, ap length e, N.length-append (rest a) b.0)))
     go (c ∷ cs) valid e = elim (cases_lt (length (rest a)) (length (encode_utf8 c))) [
-      | inl less ↦ inr (c, encode_utf8_all cs, (N.and_parts (scalar c) (N.all_scalars cs) valid).0, e, less)
+      | inl less ↦ inr (c, N.encode_utf8_all cs, (N.and_parts (scalar c) (N.all_scalars cs) valid).0, e, less)
       | inr more ↦
           let k = length (encode_utf8 c) in
           let found : take k (rest a) ≡ encode_utf8 c =
-          rw (← N.take-append-le k (rest a) b.0 more, ← e) (N.take_at (encode_utf8 c) (encode_utf8_all cs) k refl) in
+          rw (← N.take-append-le k (rest a) b.0 more, ← e) (N.take_at (encode_utf8 c) (N.encode_utf8_all cs) k refl) in
           absurd (no_text a k (omega (arith, N.length-encode c, N.len_utf8_bounds c)) more
           (rw found (N.IsUtf8-encode c (N.and_parts (scalar c) (N.all_scalars cs) valid).0)))
     ]
@@ -174,9 +170,9 @@ front_none : (c : ℕ) (r more tail : List ℕ) → N.Scalar c → N.Shape c →
     → utf8_error_len r ≡ None
 unfolding utf8_error_len
 front_none c [] more tail k s e short = refl
-front_none c (x ∷ r) more tail k (of1 h e') e short = absurd (omega (arith, ap length e'))
-front_none c (x ∷ []) more tail k (of2 a b l u f s e') e short = grind (arith, N.length-encode)
-front_none c (x ∷ y ∷ r) more tail k (of2 a b l u f s e') e short = absurd (omega (arith, ap length e'))
+front_none c (x ∷ r) more tail k (N.of1 h e') e short = absurd (omega (arith, ap length e'))
+front_none c (x ∷ []) more tail k (N.of2 a b l u f s e') e short = grind (arith, N.length-encode)
+front_none c (x ∷ y ∷ r) more tail k (N.of2 a b l u f s e') e short = absurd (omega (arith, ap length e'))
 front_none c (x ∷ []) more tail k (of3 a b d l u f g s e') e short = grind arith
 front_none c (x ∷ y ∷ []) more tail k (of3 a b d l u f g s e') e short = grind (arith, N.length-encode, N.⊎_elim, nat_tests)
 front_none c (x ∷ y ∷ z ∷ r) more tail k (of3 a b d l u f g s e') e short = absurd (omega (arith, ap length e'))
@@ -326,7 +322,7 @@ stops bytes k e =
 pub stops_at : (bytes : List ℕ) (whole k good : ℕ) → whole ≡ utf8_valid_len bytes → utf8_error_len (drop whole bytes) ≡ Some k
     → good ≡ cond (is_first (get_or bytes whole 0)) k 0 → N.StopsAt bytes whole (whole + good)
 stops_at bytes whole k good is e found =
-    rw (found, ← (get_or-drop whole bytes 0 0 ∙ ap (λ n. get_or bytes n 0) {x = whole + 0} {y = whole} (omega arith)), is) (stops bytes k (rw is at e))
+    rw (found, ← (N.get_or-drop whole bytes 0 0 ∙ ap (λ n. get_or bytes n 0) {x = whole + 0} {y = whole} (omega arith)), is) (stops bytes k (rw is at e))
 
 -- ---- text that is cut to a room, a character after the other
 
@@ -334,14 +330,14 @@ stops_at bytes whole k good is e found =
 part_is_no_text : (c n : ℕ) → 0 < n → n < length (encode_utf8 c) → IsUtf8 (take n (encode_utf8 c)) → ⊥
 part_is_no_text c n some short ([], u) = omega (arith, ap length u.1, N.length-take-le n (encode_utf8 c) (omega arith))
 part_is_no_text c n some short (d ∷ cs, u) =
-    let whole : encode_utf8 c ++ [] ≡ encode_utf8 d ++ (encode_utf8_all cs ++ drop n (encode_utf8 c)) =
+    let whole : encode_utf8 c ++ [] ≡ encode_utf8 d ++ (N.encode_utf8_all cs ++ drop n (encode_utf8 c)) =
     cc (
       N.append-nil (encode_utf8 c),
       N.take-append-drop n (encode_utf8 c),
       u.1,
-      N.append_assoc (encode_utf8 d) (encode_utf8_all cs) (drop n (encode_utf8 c)),
+      N.append_assoc (encode_utf8 d) (N.encode_utf8_all cs) (drop n (encode_utf8 c)),
     ) in
-    grind (arith, encode_utf8_all, N.append-nil, N.take-append-drop, N.append_assoc, N.encode_same, N.length-append, N.length-drop)
+    grind (arith, N.encode_utf8_all, N.append-nil, N.take-append-drop, N.append_assoc, N.encode_same, N.length-append, N.length-drop)
 
 part_has_none : (c k : ℕ) → k < length (encode_utf8 c) → utf8_valid_len (take k (encode_utf8 c)) ≡ 0
 part_has_none c k short =

@@ -1,11 +1,7 @@
 -- Pieces of text in UTF-8, one after the other.
-use Rattle.tds_csv.proofs.Words as N
-use Rattle.tds_csv.proofs.{
-  Words.{◌≡◌, ◌∙◌, ◌↔◌, ℕ, ◌+◌, ◌-◌, ◌<◌, ◌≤◌, List, [], ◌++◌, length, take, drop, inl, inr, Option, Result, Ok, Err, refl, sym, ap, arith, emit, JoinFault},
-  Words.{Odd, BadText, Sink, PushesPiece, TakesUpTo, Held, held},
-  Utf8Laws.{joins_utf8, emits, rest-append},
-  Sinks.{Puts-trans, Breaks-after, Breaks-longer},
-}
+use Rattle.tds_csv.proofs as N
+use N.{◌≡◌, ◌∙◌, ◌↔◌, ℕ, ◌+◌, ◌-◌, ◌<◌, ◌≤◌, List, [], ◌++◌, length, take, drop, Result, Ok, Err, ap, arith, emit, JoinFault, Odd, BadText, Sink, PushesPiece}
+use N.{TakesUpTo, Held, held, Utf8Laws.{joins_utf8, emits}}
 use Rattle.tds_csv.specs.Utf8.{Begins, rest, text}
 
 -- the answer of a push, by where its piece begins in another one
@@ -20,7 +16,7 @@ pub is_scan : (bytes : List ℕ) (whole good : ℕ) → whole ≤ good → good 
     → (good ≡ length bytes → Begins bytes) → (good < length bytes → N.StopsAt bytes whole good) → N.IsScan bytes whole good
 is_scan bytes whole good order most same begins stops =
     let short : good ≤ whole + 3 = elim (N.cases_lt good (length bytes)) [
-      | inl less ↦
+      | N.inl less ↦
           let s = stops less in
           omega (
             arith,
@@ -29,16 +25,16 @@ is_scan bytes whole good order most same begins stops =
             N.length-drop whole bytes,
             N.length-take-le (good - whole) (drop whole bytes) (omega (arith, N.length-drop whole bytes)),
           )
-      | inr all ↦ omega (arith, ap length same, N.length-drop whole bytes, joins_utf8.short bytes (begins (omega arith)))
+      | N.inr all ↦ omega (arith, ap length same, N.length-drop whole bytes, joins_utf8.short bytes (begins (omega arith)))
     ] in
     record { order = order; most = most; short = short; rest = same; begins = begins; stops = stops }
 
 -- the bad byte is after what is withheld
 pub after_kept : (kept piece bytes : List ℕ) (k : ℕ) → bytes ≡ kept ++ piece → Begins kept → (Begins (take (k + 1) bytes) → ⊥) → length kept ≤ k
 after_kept kept piece bytes k is begun bad = elim (N.cases_lt k (length kept)) [
-  | inl before ↦ absurd (bad (rw (is, N.take-append-le (k + 1) kept piece (omega arith))
+  | N.inl before ↦ absurd (bad (rw (is, N.take-append-le (k + 1) kept piece (omega arith))
       (joins_utf8.front _ (drop (k + 1) kept) (rw N.take-append-drop begun))))
-  | inr after ↦ after
+  | N.inr after ↦ after
 ]
 
 -- bytes that are withheld, and a piece, taken as one
@@ -57,7 +53,7 @@ halves : (kept part : List ℕ) {mid : List ℕ} (more : List ℕ) → mid ≡ r
     × (rest (kept ++ (part ++ more)) ≡ rest (mid ++ more)) × (Begins (kept ++ (part ++ more)) ↔ Begins (mid ++ more))
 halves kept part more is =
     let all = kept ++ part in
-    rw (is, ← N.append_assoc kept part more) (emits all more, rest-append all more, (joins_utf8.inward all more, joins_utf8.outward all more))
+    rw (is, ← N.append_assoc kept part more) (emits all more, N.Utf8Laws.rest-append all more, (joins_utf8.inward all more, joins_utf8.outward all more))
 
 -- what is withheld begins a text
 pub rest_begins : {new : List ℕ} (bytes : List ℕ) → new ≡ rest bytes → Begins bytes → Begins new
@@ -73,7 +69,7 @@ module _ {kept mid new : List ℕ} {a b d : Held} {part : List ℕ} (x : N.Takes
   takes_both : (more : List ℕ) → N.TakesPiece Begins rest text [] new b d (mid ++ more) → N.TakesPiece Begins rest text kept new a d (part ++ more)
   takes_both more y =
       let h = halves kept part more x.withheld in
-      record { begun = h.2.1 y.begun; put = rw h.0 (Puts-trans _ _ _ _ _ x.put y.put); withheld = y.withheld ∙ sym h.1 }
+      record { begun = h.2.1 y.begun; put = rw h.0 (N.Sinks.Puts-trans _ _ _ _ _ x.put y.put); withheld = y.withheld ∙ N.sym h.1 }
 
   -- and then a byte was bad
   up_to_both : (more : List ℕ) (n : ℕ) → TakesUpTo Begins rest text [] new b d (mid ++ more) (length mid + n)
@@ -92,7 +88,7 @@ up_to_first : {kept piece new : List ℕ} {a b : Held} (n k : ℕ) → n ≤ len
     → TakesUpTo Begins rest text kept new a b piece k
 up_to_first n k long x = grind (arith, N.length-take-le, N.take-take)
 
-module _ {W U : Type 0} {contents : W → Option (List ℕ)} {a b : Sink W} {kept new : List ℕ} where
+module _ {W U : Type 0} {contents : W → N.Option (List ℕ)} {a b : Sink W} {kept new : List ℕ} where
   -- bytes that are withheld, and a piece, taken as one up to a bad byte
   pub pushes_seam : {piece bytes : List ℕ} {k : ℕ} → bytes ≡ kept ++ piece → Begins kept
       → PushesPiece {U = U} contents Begins rest text [] new a b bytes (Err (BadText k))
@@ -111,8 +107,8 @@ module _ {W U : Type 0} {contents : W → Option (List ℕ)} {a b : Sink W} {kep
       → PushesPiece {U = U} contents Begins rest text kept new a b (take n piece) (Err e)
       → N.Pushes {U = U} Begins rest text kept new (held contents a) (held contents b) a.failed piece (Err e)
   first_gives piece n (N.Stopped stop) long x =
-      let fixed = rw N.take-append-drop at (halves kept (take n piece) {mid = rest (kept ++ take n piece)} (drop n piece) refl).0 in
-      λ going. rw fixed (Breaks-longer _ _ _ _ _ (x.gives going))
+      let fixed = rw N.take-append-drop at (halves kept (take n piece) {mid = rest (kept ++ take n piece)} (drop n piece) N.refl).0 in
+      λ going. rw fixed (N.Sinks.Breaks-longer _ _ _ _ _ (x.gives going))
   first_gives piece n Odd long x = x.gives
   first_gives piece n (BadText k) long x = up_to_first n k long x.gives
 
@@ -121,16 +117,16 @@ module _ {W U : Type 0} {contents : W → Option (List ℕ)} {a b : Sink W} {kep
       → PushesPiece {U = U} contents Begins rest text kept new a b (take n piece) (Err e) → PushesPiece contents Begins rest text kept new a b piece r
   pushes_passed long is x = grind (arith, first_gives)
 
-module _ {W U V : Type 0} {contents : W → Option (List ℕ)} {a b d : Sink W} {kept mid new part : List ℕ} {u : U} (more : List ℕ) (at : ℕ)
+module _ {W U V : Type 0} {contents : W → N.Option (List ℕ)} {a b d : Sink W} {kept mid new part : List ℕ} {u : U} (more : List ℕ) (at : ℕ)
     (le : at + length mid ≡ length part) (x : PushesPiece contents Begins rest text kept mid a b part (Ok u)) where
   -- the first bytes of a piece were taken, and then what was withheld was pushed with the others
   both_give : (r : Result V JoinFault) → PushesPiece contents Begins rest text [] new b d (mid ++ more) r
       → N.Pushes Begins rest text kept new (held contents a) (held contents d) a.failed (part ++ more) (moved_by at r)
   both_give (Ok v) y = takes_both x.gives more y.gives
-  both_give (Err (N.Stopped stop)) y = λ _. rw (halves kept part more x.gives.withheld).0 (Breaks-after _ _ _ _ _ _ x.gives.put (y.gives x.failed))
+  both_give (Err (N.Stopped stop)) y = λ _. rw (halves kept part more x.gives.withheld).0 (N.Sinks.Breaks-after _ _ _ _ _ _ x.gives.put (y.gives x.failed))
   both_give (Err Odd) y = y.gives
   both_give (Err (BadText k)) y =
-      let past = after_kept mid more _ k refl x.begun y.gives.bad in
+      let past = after_kept mid more _ k N.refl x.begun y.gives.bad in
       let n = k - length mid in
       let here : length mid + n ≡ k = omega arith in
       let there : length part + n ≡ at + k = omega arith in
@@ -141,7 +137,7 @@ module _ {W U V : Type 0} {contents : W → Option (List ℕ)} {a b d : Sink W} 
   pushes_both y = grind (arith, both_give)
 
 -- the first three bytes of a piece were taken, and then what was withheld was pushed with the others
-pub pushes_long : {W U V : Type 0} {contents : W → Option (List ℕ)} {a b d : Sink W} {kept mid new : List ℕ} {u : U} {r : Result V JoinFault}
+pub pushes_long : {W U V : Type 0} {contents : W → N.Option (List ℕ)} {a b d : Sink W} {kept mid new : List ℕ} {u : U} {r : Result V JoinFault}
     {piece held' : List ℕ} → 3 ≤ length piece → held' ≡ mid → length mid ≤ 3
     → PushesPiece contents Begins rest text kept mid a b (take 3 piece) (Ok u)
     → PushesPiece contents Begins rest text [] new b d (take (length piece - (3 - length held')) (drop (3 - length held') piece)) r

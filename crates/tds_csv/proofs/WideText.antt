@@ -1,20 +1,11 @@
 -- The text of units that are characters of at most three bytes.
-use Rattle.tds_csv.proofs.Words as N
-use Rattle.tds_csv.proofs.{
-  Words.{◌-◌, refl, chunk, Bool, Each1, Fits, List, [], ap, arith, drop, mask_l, false, get_or, length, map, suc, sym, take, true, w16, zero, ℕ, ◌%◌, ◌*◌},
-  Words.{◌++◌, ◌+◌, ◌/◌, ◌<◌, ◌∙◌, ◌∷◌, ◌≡◌, ◌≤◌, ◌^◌},
-  LaneMasks.{alike, first_lanes, first_mask, last_lanes, none_of_first, none_set},
-  Characters.{of_one, of_two, of_three, doubled_character, front_written},
-  Places.{bits, gathered_text, placed, row_begins, same_texts, IsRow, ones_of_two, pair_places, pair_row, quad_places, quad_row},
-  JoiningLemmas.{Leads-none, Leads-trans},
-  Utf16Steps.next_one,
-}
-use Rattle.tds_csv.specs.{
-  Utf16.{units, rest, text},
-  Utf16Next.Converts,
-  Wide.{AddsQuads, is_half, is_long, is_wide, pair_bytes, quad_bytes, triples, unit_text, units_text},
-  declared.convert.places.TheConstants.{PAIRS, QUADS},
-}
+use Rattle.tds_csv.proofs as N
+use N.{◌-◌, refl, chunk, Bool, Each1, Fits, List, [], ap, arith, drop, mask_l, false, get_or, length, map, suc, sym, take, true, w16, zero, ℕ, ◌%◌, ◌*◌, ◌++◌}
+use N.{◌+◌, ◌/◌, ◌<◌, ◌∙◌, ◌∷◌, ◌≡◌, ◌≤◌, ◌^◌, LaneMasks.{alike, first_lanes, first_mask, last_lanes, none_set}, Characters.{of_one, of_two, of_three}}
+use N.{Characters.doubled_character, Places.{bits, placed, same_texts, IsRow, pair_places, quad_places}, JoiningLemmas.{Leads-none, Leads-trans}}
+use Rattle.tds_csv.specs.{Utf16.{units, rest, text}, Utf16Next.Converts}
+use Rattle.tds_csv.specs.Wide.{AddsQuads, is_half, is_long, is_wide, pair_bytes, quad_bytes, triples, unit_text, units_text}
+use Rattle.tds_csv.specs.declared.convert.places.TheConstants.{PAIRS, QUADS}
 use Rattle.std.{proofs.lemmas.Simd.{Each1-weaker, below_from_Fits, ones-mask_l, zip2-map}, specs.{List.count_by, Prelude.{count_ones, flat_map}}}
 use lib.Lanes.{zip2}
 
@@ -80,10 +71,10 @@ row_taken : (width m : ℕ) (lane : ℕ → List ℕ) (f : Bool → Bool → Lis
     → take (length us + (count_ones wide + count_ones long)) (map (λ j. get_or xs j 0) row) ≡ units_text us
 row_taken width m lane f same inside us more {row} {wide = wide} {long = long} is_row few is wide_is long_is range texts =
     let places = λ (u : ℕ). f (is_wide u) (is_long u) in
-    let begins = row_begins f width 0 m (map is_wide us) (map is_long us) (omega (arith, N.length-map us is_wide)) (N.length-map us is_long
+    let begins = N.Places.row_begins f width 0 m (map is_wide us) (map is_long us) (omega (arith, N.length-map us is_wide)) (N.length-map us is_long
     ∙ sym (N.length-map us is_wide)) in
     let rest = drop (length (placed width 0 (zip2 f (bits m wide) (bits m long)))) row in
-    rw (← text_size us range wide_is long_is) (gathered_text width lane places same inside unit_text us more (begins.0 ++ rest)
+    rw (← text_size us range wide_is long_is) (N.Places.gathered_text width lane places same inside unit_text us more (begins.0 ++ rest)
     (is_row.is ∙ ap (λ l. l ++ rest) (rw (wide_is, long_is, begins.1, (zip2-map f is_wide is_long us)) refl) ∙ N.append_assoc (placed width 0 (map places us))
     begins.0 rest) is texts)
 
@@ -96,7 +87,7 @@ pairs_taken us n {wide = wide} eight few fits bytes is short =
     let counted : length vs ≡ n = N.length-take-le n us (omega arith) in
     let size : length vs + (count_ones wide + count_ones 0) ≡ n + count_ones wide = omega (arith, ones-mask_l is_long []) in
     rw size at (row_taken 2 8 pair_bytes pair_places (λ u. refl) (λ u. in_pair (is_wide u) (is_long u)) vs (flat_map pair_bytes (drop n us))
-    (pair_row wide (first_mask is_wide us n eight few is).0)
+    (N.Places.pair_row wide (first_mask is_wide us n eight few is).0)
     (omega arith) (bytes ∙ split_lanes pair_bytes n us) is (sym (none_set is_long vs short)) (unit_range vs (each_taken (Fits w16) n us fits))
     (same_texts pair_text vs short))
 
@@ -105,8 +96,8 @@ pub quads_taken : (us more : List ℕ) {xs : List ℕ} {wide long : ℕ} → len
     → wide ≡ mask_l (map is_wide us) → long ≡ mask_l (map is_long us) → Each1 (λ u. u < 65536) us
     → take (length us + count_ones (wide + 16 * long)) (map (λ j. get_or xs j 0) (get_or QUADS (wide + 16 * long) [])) ≡ units_text us
 quads_taken us more {wide = wide} {long = long} few small small' is wide_is long_is range =
-    rw (← (ones_of_two wide long small small').0) at (row_taken 4 4 quad_bytes quad_places (λ u. refl) (λ u. in_quad (is_wide u) (is_long u)) us more
-    (quad_row wide long small small') few is wide_is long_is range (same_texts quad_text us range))
+    rw (← (N.Places.ones_of_two wide long small small').0) at (row_taken 4 4 quad_bytes quad_places (λ u. refl) (λ u. in_quad (is_wide u) (is_long u)) us more
+    (N.Places.quad_row wide long small small') few is wide_is long_is range (same_texts quad_text us range))
 
 take_both : (n m : ℕ) (us : List ℕ) → take n (take m us) ≡ take m (take n us)
 take_both zero zero us = refl
@@ -190,14 +181,14 @@ pub plain_added : (ys old new : List ℕ) {us low : List ℕ} {wide mask at : �
     → mask ≡ mask_l (map is_wide us) → wide ≡ mask % 2 ^ n → wide ≡ 0 → low ≡ N.evens ys → take (at + 8) new ≡ take at old ++ take 8 low
     → (take (at + n) new ≡ take at old ++ units_text (take n (units ys))) × Each1 (λ u. is_half u ≡ false) (take n (units ys))
 plain_added ys old new {us} {low} {at = at} n long few within is masked lowest none low_is written =
-    let plain = rw is at (none_of_first is_wide us n masked lowest none) in (
-      (rw (N.take-take n 8 low few, low_is) at (front_written old new (take 8 low) at n 8 few within written)) ∙ ap (λ l. take at old ++ l)
+    let plain = rw is at (N.LaneMasks.none_of_first is_wide us n masked lowest none) in (
+      (rw (N.take-take n 8 low few, low_is) at (N.Characters.front_written old new (take 8 low) at n 8 few within written)) ∙ ap (λ l. take at old ++ l)
           (plain_texts n ys plain),
       Each1-weaker _ _ (λ u h. no_half u (not_long u h)) _ plain,
     )
 
 leads_unit : (low high : ℕ) (more : List ℕ) → is_half (low + 256 * high) ≡ false → N.Leads rest text (low ∷ high ∷ more) more (unit_text (low + 256 * high))
-leads_unit low high more h = grind (arith, next_one)
+leads_unit low high more h = grind (arith, N.Utf16Steps.next_one)
 
 -- so many of the units lead on
 leads_front : (k : ℕ) (ys more : List ℕ) → k ≤ length (units ys) → Each1 (λ u. is_half u ≡ false) (take k (units ys))

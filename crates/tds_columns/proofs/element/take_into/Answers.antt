@@ -1,5 +1,6 @@
-use Rattle.tds_columns.proofs.element.take_into.Goals as goal
-use Rattle.tds_columns.proofs.{Words.{◌∙◌, take, arith, length-take-le, grown}, ElementSteps.shrunk}
+use Rattle.tds_columns.proofs as N
+use N.element.take_into.Goals as goal
+use N.{◌∙◌, arith, ElementSteps.shrunk}
 
 pub returns-in-Ok-fill-clause-gives : goal.returns-in-Ok-fill-clause-gives
 returns-in-Ok-fill-clause-gives g c =
@@ -9,24 +10,24 @@ returns-in-Ok-fill-clause-gives g c =
       whole = n;
       takes = rw n at c.in-Ok-fill.ensures.all;
       between = c.in-Ok-fill.ensures.between;
-      stands = grown
+      stands = N.grown
           _ _ _ c.fill.auto.to;
     }
 
 pub returns-in-Err-clause-area : goal.returns-in-Err-clause-area
 returns-in-Err-clause-area g c =
-    let back = shrunk _ _ (grown _ _ _ c.fill.auto.to) (c.fill.auto.to ∙ c.grow_within-lent.ensures.value) c.len-start.ensures.value
+    let back = shrunk _ _ (N.grown _ _ _ c.fill.auto.to) (c.fill.auto.to ∙ c.grow_within-lent.ensures.value) c.len-start.ensures.value
     c.truncate.ensures in
     record { room = rw c.truncate.ensures; kept = (back.0, omega arith) }
 
 pub returns-in-Err-clause-gives : goal.returns-in-Err-clause-gives
 returns-in-Err-clause-gives g c = λ going.
-    let back = shrunk _ _ (grown _ _ c.fill.new.to c.fill.auto.to) (c.fill.auto.to
+    let back = shrunk _ _ (N.grown _ _ c.fill.new.to c.fill.auto.to) (c.fill.auto.to
     ∙ c.grow_within-lent.ensures.value) c.len-start.ensures.value c.truncate.ensures in
     let part = c.in-Err.ensures.part going in
     record {
-      part = take part.0 c.fill.new.to;
-      fewer = omega (arith, (length-take-le part.0 c.fill.new.to (omega arith)));
+      part = N.take part.0 c.fill.new.to;
+      fewer = omega (arith, (N.length-take-le part.0 c.fill.new.to (omega arith)));
       own = part.1;
       ends = part.3;
       stop_is = part.4;

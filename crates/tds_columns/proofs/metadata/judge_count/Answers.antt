@@ -1,4 +1,4 @@
-use Rattle.tds_columns.proofs.Words.{arith}
+use Rattle.tds_columns.proofs as N
 
-pub returns-else-count-eq0 : Rattle.tds_columns.proofs.metadata.judge_count.Goals.returns-else-count-eq0
-returns-else-count-eq0 c = grind arith
+pub returns-else-count-eq0 : N.metadata.judge_count.Goals.returns-else-count-eq0
+returns-else-count-eq0 c = grind N.arith

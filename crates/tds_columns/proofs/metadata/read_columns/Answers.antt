@@ -1,9 +1,6 @@
-use Rattle.tds_columns.proofs.metadata.read_columns.Goals as goal
-use Rattle.tds_columns.proofs.{
-  Words.{◌≡◌, ◌∙◌, [], ◌∷◌, ◌++◌, length, refl, arith, rules, le_refl, length-append, ◌==◌, choose_true, passed, reads_none},
-  ColumnLaws.at_column,
-  GatherSteps.{describes_both, stops_describing_after},
-}
+use Rattle.tds_columns.proofs as N
+use N.metadata.read_columns.Goals as goal
+use N.{◌≡◌, ◌∙◌, [], ◌∷◌, ◌++◌, arith, rules, ◌==◌, ColumnLaws.at_column}
 
 pub columns-init : goal.columns-init
 columns-init g c = record {
@@ -13,9 +10,9 @@ columns-init g c = record {
   fits = omega arith;
   reads = (
     [],
-    refl,
+    N.refl,
     rw (at_column _ c.args.count [] c.requires.some)
-        (record { reads = reads_none _ _ _; place_is = omega arith; kept = refl; bound = omega arith; further = le_refl _ }),
+        (record { reads = N.reads_none _ _ _; place_is = omega arith; kept = N.refl; bound = omega arith; further = N.le_refl _ }),
   );
 }
 
@@ -23,7 +20,7 @@ pub returns-in_err-read_column-clause-gives : goal.returns-in_err-read_column-cl
 returns-in_err-read_column-clause-gives g c =
     let columns = c.columns.invariant.reads in
     let read = rw (at_column c.columns.area.bytes c.args.count columns.0 (omega arith)) at columns.2 in
-    passed _ _ _ _ c.from_residual.ensures.1 (stops_describing_after c.columns.invariant.room read
+    N.passed _ _ _ _ c.from_residual.ensures.1 (N.GatherSteps.stops_describing_after c.columns.invariant.room read
     (c.in_err-read_column.ensures.gives columns.0 columns.1))
 
 pub columns-preserved : goal.columns-preserved
@@ -31,18 +28,18 @@ columns-preserved g c =
     let columns = c.columns.invariant.reads in
     let read = rw (at_column c.columns.area.bytes c.args.count columns.0 (omega (arith, columns.1, c.columns-test.true))) at columns.2 in
     let one = c.in_ok-read_column.ensures.gives columns.0 columns.1 in
-    let len = length-append columns.0 (one.0 ∷ []) in
+    let len = N.length-append columns.0 (one.0 ∷ []) in
     let ok = c.in_ok-read_column.ensures in
     record {
       going = search rules;
       same = search rules;
       room = ok.leaves.room ∙ c.columns.invariant.room;
       fits = ok.fits;
-      reads = (columns.0 ++ one.0 ∷ [], omega (arith, len, columns.1), rw len (describes_both c.columns.invariant.room read one.1));
+      reads = (columns.0 ++ one.0 ∷ [], omega (arith, len, columns.1), rw len (N.GatherSteps.describes_both c.columns.invariant.room read one.1));
     }
 
 pub returns-clause-gives : goal.returns-clause-gives
 returns-clause-gives g c =
     let columns = c.columns.invariant.reads in
-    let all : length columns.0 ≡ c.args.count = omega arith in
-    ((columns.0, all), rw (choose_true (length columns.0 == c.args.count) _ _ (grind arith)) at columns.2)
+    let all : N.length columns.0 ≡ c.args.count = omega arith in
+    ((columns.0, all), rw (N.choose_true (N.length columns.0 == c.args.count) _ _ (grind arith)) at columns.2)

@@ -1,28 +1,24 @@
-use Rattle.tds_columns.proofs.metadata.read_name.Goals as goal
-use Rattle.tds_columns.proofs.Words as N
-use Rattle.tds_columns.proofs.{
-  Words.{◌+◌, ◌*◌, List, ℕ, length, ◌-◌, ◌≡◌, ◌∙◌, [], slice_index, refl, sym, arith},
-  ElementSteps.{byte_at, length_into},
-  GatherSteps.{column_bytes, description_cut, description_read, description_refused, name_after},
-}
+use Rattle.tds_columns.proofs as N
+use N.metadata.read_name.Goals as goal
+use N.{◌+◌, ◌*◌, ℕ, length, ◌-◌, ◌≡◌, ◌∙◌, [], refl, sym, arith, ElementSteps.{byte_at, length_into}, GatherSteps.{column_bytes, description_read, name_after}}
 
 pub returns-in_err-take_into-clause-gives : goal.returns-in_err-take_into-clause-gives
 returns-in_err-take_into-clause-gives g c =
     λ columns kind number. N.passed _ _ _ _ c.from_residual.ensures.1
-    (description_cut (c.in_err-take_into.ensures.gives c.requires.going.going) refl refl)
+    (N.GatherSteps.description_cut (c.in_err-take_into.ensures.gives c.requires.going.going) refl refl)
 
 -- the number of the units, and what is judged of it
-judged : {a b : N.Seen} {before after : N.Space} (t : N.TakesInto a b before after 1) (columns : List N.Column) (count : ℕ) {bytes : List ℕ}
+judged : {a b : N.Seen} {before after : N.Space} (t : N.TakesInto a b before after 1) (columns : N.List N.Column) (count : ℕ) {bytes : N.List ℕ}
     {index start room units left : ℕ} → length columns ≡ index → bytes ≡ after.bytes → start ≡ length before.bytes → room ≡ before.room
     → units ≡ N.get_or bytes start 0 → left ≡ count - (index + 1)
-    → (units ≡ slice_index t.element 0) × (N.too_long before.room (length before.bytes + 1)
-    (2 * slice_index t.element 0 + 8 * (count - (length columns + 1))) ≡ N.too_long room (start + 1) (2 * units + 8 * left))
+    → (units ≡ N.slice_index t.element 0) × (N.too_long before.room (length before.bytes + 1)
+    (2 * N.slice_index t.element 0 + 8 * (count - (length columns + 1))) ≡ N.too_long room (start + 1) (2 * units + 8 * left))
 judged t columns count number same at limit is other = let u = is ∙ rw N.add-zero at (byte_at t 0 same at) in (u, rw (limit, at, other, number, ← u))
 
 pub returns-in-Some-clause-gives : goal.returns-in-Some-clause-gives
 returns-in-Some-clause-gives g c = λ columns kind number.
     let t = c.in_ok-take_into.ensures.gives in
-    rw (c.in_payload.ensures, c.place-place.ensures) (description_refused t (omega arith) refl
+    rw (c.in_payload.ensures, c.place-place.ensures) (N.GatherSteps.description_refused t (omega arith) refl
     ((judged t columns c.args.at.count number c.bytes.ensures.value c.len-start.ensures.value (c.room.ensures
     ∙ c.in_ok-take_into.ensures.area.room) c.from-size.ensures c.from-later.ensures).1 ∙ sym c.too_long.ensures
     ∙ c.in-Some.is) refl c.len-start.ensures.value c.truncate.ensures)
@@ -32,7 +28,7 @@ returns-then-size-eq0-clause-gives g c = λ columns kind number.
     let t = c.in_ok-take_into.ensures.gives in
     let w = judged t columns c.args.at.count number c.bytes.ensures.value c.len-start.ensures.value (c.room.ensures
     ∙ c.in_ok-take_into.ensures.area.room) c.from-size.ensures c.from-later.ensures in
-    let zero : slice_index t.element 0 ≡ 0 = omega arith in (
+    let zero : N.slice_index t.element 0 ≡ 0 = omega arith in (
       record { kind = kind; name = [] },
       description_read t (omega arith) refl (w.1 ∙ sym c.too_long.ensures ∙ c.in_default.is) (rw (t.stands, zero))
           c.in_ok-take_into.ensures.place refl refl (column_bytes _ _ _ _),

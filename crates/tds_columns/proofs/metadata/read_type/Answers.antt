@@ -1,24 +1,20 @@
-use Rattle.tds_columns.proofs.metadata.read_type.Goals as goal
-use Rattle.tds_columns.proofs.Words as N
-use Rattle.tds_columns.proofs.{
-  Words.{◌≡◌, ◌∙◌, ◌+◌, ◌*◌, ◌≤◌, ◌++◌, ℕ, refl, List, arith, Some, None},
-  ElementSteps.byte_at,
-  GatherSteps.{description_cut, description_read, description_refused, part_after},
-}
+use Rattle.tds_columns.proofs as N
+use N.metadata.read_type.Goals as goal
+use N.{◌≡◌, ◌∙◌, ◌+◌, ◌*◌, ◌≤◌, ◌++◌, ℕ, refl, arith, ElementSteps.byte_at, GatherSteps.{description_read, part_after}}
 
 -- nothing follows this type byte
-bare : (bytes after : List ℕ) (count : ℕ) (columns : List N.Column) (byte rest : ℕ) → N.rest_length byte ≡ Some rest → rest ≡ 0 → after ≡ bytes
+bare : (bytes after : N.List ℕ) (count : ℕ) (columns : N.List N.Column) (byte rest : ℕ) → N.rest_length byte ≡ N.Some rest → rest ≡ 0 → after ≡ bytes
     → (kind : N.Kind) × (N.with_type bytes count columns byte (N.unwrap_or (N.rest_length byte) 0) ≡ N.InColumn after count columns (N.NameCount kind))
 bare bytes after count columns byte rest known zero same = grind (arith, N.bare_type)
 
 -- a head that is accepted
-no_fault : (room so_far byte rest index left : ℕ) → N.rest_length byte ≡ Some rest → (so_far + rest) + 1 + 8 * left ≤ room
-    → N.head_fault room so_far byte index left ≡ None
+no_fault : (room so_far byte rest index left : ℕ) → N.rest_length byte ≡ N.Some rest → (so_far + rest) + 1 + 8 * left ≤ room
+    → N.head_fault room so_far byte index left ≡ N.None
 no_fault room so_far byte rest index left known fits = grind arith
 
 pub returns-in_err-take_into-clause-gives : goal.returns-in_err-take_into-clause-gives
 returns-in_err-take_into-clause-gives g c =
-    λ columns number. N.passed _ _ _ _ c.from_residual.ensures.1 (description_cut (c.in_err-take_into.ensures.gives c.requires.going.going) refl refl)
+    λ columns number. N.passed _ _ _ _ c.from_residual.ensures.1 (N.GatherSteps.description_cut (c.in_err-take_into.ensures.gives c.requires.going.going) refl refl)
 
 pub returns-in-Err-clause-gives : goal.returns-in-Err-clause-gives
 returns-in-Err-clause-gives g c = λ columns number.
@@ -29,7 +25,7 @@ returns-in-Err-clause-gives g c = λ columns number.
       c.room.ensures
           ∙ c.in_ok-take_into.ensures.area.room,
     ) at c.in-Err.ensures in
-    rw (c.in_payload.ensures, c.place-place.ensures) (description_refused t (omega arith) refl (rw number first) refl c.len-start.ensures.value
+    rw (c.in_payload.ensures, c.place-place.ensures) (N.GatherSteps.description_refused t (omega arith) refl (rw number first) refl c.len-start.ensures.value
     c.truncate.ensures)
 
 pub returns-then-rest-eq0-clause-gives : goal.returns-then-rest-eq0-clause-gives

@@ -1,30 +1,27 @@
-use Rattle.tds_columns.proofs.walk.column_at.Goals as goal
-use Rattle.tds_columns.proofs.Words as N
-use Rattle.tds_columns.proofs.{
-  Words.{◌≡◌, ◌+◌, ◌*◌, ◌-◌, ◌%◌, ℕ, List, length, take, drop, true, sym, ap, arith, Some, name_size, rest_size},
-  ViewLaws.{all_after, Lies, lies},
-}
+use Rattle.tds_columns.proofs as N
+use N.walk.column_at.Goals as goal
+use N.{◌≡◌, ◌+◌, ◌*◌, ◌-◌, ◌%◌, ℕ, take, drop, arith, ViewLaws.{all_after, Lies, lies}}
 
 pub kind_at-kind-requires : goal.kind_at-kind-requires
 kind_at-kind-requires c =
     let l = lies c.args.bytes.now c.requires in
-    (rest_size c.args.bytes.now, l.known, omega arith)
+    (N.rest_size c.args.bytes.now, l.known, omega arith)
 
 -- the kind and the name at the front, by the number of bytes after the type byte and that of the name's units
-at_front : {bytes : List ℕ} {kind : N.Kind} {rest units : ℕ} → Lies bytes → N.rest_length (N.slice_index bytes 6) ≡ Some rest
-    → ((k : N.Kind) → N.named_kind (N.slice_index bytes 6) (take rest (take (length bytes - 7) (drop 7 bytes))) ≡ Some k → kind ≡ k)
+at_front : {bytes : N.List ℕ} {kind : N.Kind} {rest units : ℕ} → Lies bytes → N.rest_length (N.slice_index bytes 6) ≡ N.Some rest
+    → ((k : N.Kind) → N.named_kind (N.slice_index bytes 6) (take rest (take (N.length bytes - 7) (drop 7 bytes))) ≡ N.Some k → kind ≡ k)
     → units ≡ N.get_or bytes (8 + rest - 1) 0
-    → (N.is_valid kind ≡ true) × (length (take (8 + rest + 2 * units - (8 + rest)) (drop (8 + rest) bytes)) % 2 ≡ 0)
+    → (N.is_valid kind ≡ N.true) × (N.length (take (8 + rest + 2 * units - (8 + rest)) (drop (8 + rest) bytes)) % 2 ≡ 0)
     × (◌≡◌ {A = N.Column} (record { kind = kind; name = take (8 + rest + 2 * units - (8 + rest)) (drop (8 + rest) bytes) }) (N.column_at bytes))
 at_front {bytes} {kind} {rest} {units} l known named is =
-    let r : rest ≡ rest_size bytes = cc in
-    let byte : 8 + rest - 1 ≡ 7 + rest_size bytes = omega (arith, r) in
-    let size : 8 + rest + 2 * units - (8 + rest) ≡ name_size bytes = omega (arith, is, ap (λ n. N.get_or bytes n 0) byte) in
+    let r : rest ≡ N.rest_size bytes = cc in
+    let byte : 8 + rest - 1 ≡ 7 + N.rest_size bytes = omega (arith, r) in
+    let size : 8 + rest + 2 * units - (8 + rest) ≡ N.name_size bytes = omega (arith, is, N.ap (λ n. N.get_or bytes n 0) byte) in
     let k = named l.kind (rw (all_after bytes 7, r) l.named) in (
       rw k l.valid,
       rw size (omega (
         arith,
-        N.length-take-le (name_size bytes) (drop (8 + rest) bytes) (omega (
+        N.length-take-le (N.name_size bytes) (drop (8 + rest) bytes) (omega (
           arith,
           l.enough,
           r,
@@ -32,7 +29,7 @@ at_front {bytes} {kind} {rest} {units} l known named is =
               (8 + rest) bytes,
         )),
       )),
-      rw (k, size, r) (sym l.at),
+      rw (k, size, r) (N.sym l.at),
     )
 
 pub invariant_of-column : goal.invariant_of-column

@@ -1,8 +1,9 @@
-use Rattle.{tds_csv.proofs.Words.{◌≡◌, ℕ, ◌≤◌, List, [], ◌∷◌, length, take, refl, arith, slice_set, take-append-le, take_all, take-append-add}}
+use Rattle.tds_csv.proofs as N
+use N.{◌≡◌, ℕ, ◌≤◌, [], ◌∷◌}
 
-marked : (to : List ℕ) → 2 ≤ length to → take 2 (slice_set (slice_set to 0 48) 1 120) ≡ 48 ∷ 120 ∷ []
-marked (a ∷ b ∷ to) h = refl
-marked to h = absurd (omega arith)
+marked : (to : N.List ℕ) → 2 ≤ N.length to → N.take 2 (N.slice_set (N.slice_set to 0 48) 1 120) ≡ 48 ∷ 120 ∷ []
+marked (a ∷ b ∷ to) h = N.refl
+marked to h = absurd (omega N.arith)
 
-pub returns-clause-field : Rattle.tds_csv.proofs.fields.write_binary.Goals.returns-clause-field
-returns-clause-field c = grind (arith, marked, take-append-add, take-append-le, take_all)
+pub returns-clause-field : N.fields.write_binary.Goals.returns-clause-field
+returns-clause-field c = grind (N.arith, marked, N.take-append-add, N.take-append-le, N.take_all)

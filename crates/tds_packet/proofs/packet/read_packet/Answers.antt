@@ -1,6 +1,6 @@
 use Rattle.tds_packet.proofs as N
 use N.packet.read_packet.Goals as goal
-use N.{Passing.passed_on}
+use N.Passing.{passed_on}
 
 pub returns-in_err-fill-clause-read : goal.returns-in_err-fill-clause-read
 returns-in_err-fill-clause-read g c =

@@ -1,14 +1,15 @@
-use Rattle.tds_packet.proofs.recutting.write_packets.Given as goal
-use Rattle.tds_packet.proofs.{Words.{◌≡◌, ◌-◌, ◌*◌, ◌≤◌, IsGoing, IsOnSame, seen}, Recuts.Cutting}
+use Rattle.tds_packet.proofs as N
+use N.recutting.write_packets.Given as goal
+use N.{◌≡◌, ◌-◌, ◌*◌, ◌≤◌}
 
 abbrev pub invariant-loop-to : goal.invariant-loop-to
 invariant-loop-to g l = record {
-  going : IsGoing l.payload;
-  same : IsOnSame l.initial.payload l.payload;
+  going : N.IsGoing l.payload;
+  same : N.IsOnSame l.initial.payload l.payload;
   room : l.output.room ≡ l.initial.output.room;
   few : l.done.packets ≤ l.payload.place;
   short : l.done.bytes ≤ 2 * l.payload.place;
-  cutting : Cutting g.R.Read.remaining g.W.Write.contents (l.output.room - 8) (seen g.R.Read.remaining l.initial.payload) l.payload l.initial.to l.to
+  cutting : N.Recuts.Cutting g.R.Read.remaining g.W.Write.contents (l.output.room - 8) (N.seen g.R.Read.remaining l.initial.payload) l.payload l.initial.to l.to
       l.done;
 }
 

@@ -1,9 +1,10 @@
-use Rattle.tds_columns.proofs.view.Columns.walk.Goals as goal
-use Rattle.tds_columns.proofs.{Words.{◌∙◌, arith, drop, and_parts}, ViewLaws.{all_after, description_shows, length_columns}}
+use Rattle.tds_columns.proofs as N
+use N.view.Columns.walk.Goals as goal
+use N.{◌∙◌, ViewLaws.{all_after, length_columns}}
 
 pub invariant_of-result : goal.invariant_of-result
 invariant_of-result c =
-    record { whole = rw (c.count.ensures.value ∙ length_columns _ (drop 2 c.args.self.now.bytes.now), all_after _ 2) (and_parts _ _ c.args.self.now.whole).1 }
+    record { whole = rw (c.count.ensures.value ∙ length_columns _ (N.drop 2 c.args.self.now.bytes.now), all_after _ 2) (N.and_parts _ _ c.args.self.now.whole).1 }
 
 pub returns-clause-value : goal.returns-clause-value
 returns-clause-value c = rw (all_after _ 2, c.count.ensures.value, length_columns)
@@ -13,7 +14,7 @@ returns-clause-columns c = λ room columns h. rw (
   all_after _ 2,
   c.count.ensures.value,
   length_columns,
-) (description_shows _ _ _ h).0
+) (N.ViewLaws.description_shows _ _ _ h).0
 
 pub returns-clause-bound : goal.returns-clause-bound
-returns-clause-bound c = rw length_columns (omega arith)
+returns-clause-bound c = rw length_columns (omega N.arith)

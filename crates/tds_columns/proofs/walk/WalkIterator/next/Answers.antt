@@ -1,9 +1,10 @@
-use Rattle.tds_columns.proofs.walk.WalkIterator.next.Goals as goal
-use Rattle.tds_columns.proofs.{Words.{◌≡◌, ◌≢◌, ◌-◌, ℕ, List, true, drop, arith, and_parts, are_columns, column_size}, ViewLaws.{all_after, length_columns}}
+use Rattle.tds_columns.proofs as N
+use N.walk.WalkIterator.next.Goals as goal
+use N.{◌≡◌, ◌≢◌, ◌-◌, ℕ, arith, ViewLaws.{all_after, length_columns}}
 
 -- the columns after the first
-others : (n : ℕ) (bytes : List ℕ) → n ≢ 0 → are_columns n bytes ≡ true → are_columns (n - 1) (drop (column_size bytes) bytes) ≡ true
-others n bytes some h = grind (arith, and_parts)
+others : (n : ℕ) (bytes : N.List ℕ) → n ≢ 0 → N.are_columns n bytes ≡ N.true → N.are_columns (n - 1) (N.drop (N.column_size bytes) bytes) ≡ N.true
+others n bytes some h = grind (arith, N.and_parts)
 
 pub column_at-size-requires : goal.column_at-size-requires
 column_at-size-requires c = grind arith

@@ -1,4 +1,4 @@
-use Rattle.tds_csv.proofs.{Words.{refl, arith, w8, SwzOk-from_below}}
+use Rattle.tds_csv.proofs as N
 
-pub swizzle : Rattle.tds_csv.proofs.convert.beyond_ascii.gathered.Goals.swizzle
-swizzle c = SwzOk-from_below w8 16 1 16 0 c.args.places refl (omega arith) c.requires.places
+pub swizzle : N.convert.beyond_ascii.gathered.Goals.swizzle
+swizzle c = N.SwzOk-from_below N.w8 16 1 16 0 c.args.places N.refl (omega N.arith) c.requires.places

@@ -1,13 +1,14 @@
-use Rattle.tds_csv.proofs.{Words.{◌∙◌, cond, leb, arith, map-id, sym, zip2_of_maps, splat_is_map}, LaneMasks.same_map, Places.{chosen, pair_lanes}}
+use Rattle.tds_csv.proofs as N
+use N.{◌∙◌, zip2_of_maps, splat_is_map, Places.chosen}
 
-pub returns : Rattle.tds_csv.proofs.convert.beyond_ascii.pairs.Goals.returns
+pub returns : N.convert.beyond_ascii.pairs.Goals.returns
 returns c =
     let us = c.args.units in
     let n = c.fits-units.0 in
-    let id = sym (map-id us) in
+    let id = N.sym (N.map-id us) in
     let parts = splat_is_map us 8 64 n in
-    pair_lanes us n c.fits-units.1 (chosen _ _ _ us (zip2_of_maps _ _ _ us id (splat_is_map us 8 34 n)) (splat_is_map us 8 8738 n)
-    (chosen _ _ _ us (zip2_of_maps (λ a b. cond (leb a b) 65535 0) _ _ us (splat_is_map us 8 128 n) id)
+    N.Places.pair_lanes us n c.fits-units.1 (chosen _ _ _ us (zip2_of_maps _ _ _ us id (splat_is_map us 8 34 n)) (splat_is_map us 8 8738 n)
+    (chosen _ _ _ us (zip2_of_maps (λ a b. N.cond (N.leb a b) 65535 0) _ _ us (splat_is_map us 8 128 n) id)
     (zip2_of_maps _ _ _ us (zip2_of_maps _ _ _ us (zip2_of_maps _ _ _ us id parts) (splat_is_map us 8 192 n))
     (zip2_of_maps _ _ _ us (zip2_of_maps _ _ _ us (zip2_of_maps _ _ _ us id parts) (splat_is_map us 8 128 n)) (splat_is_map us 8 256 n))) id)
-    ∙ same_map (λ u small. grind arith) us c.fits-units.1)
+    ∙ N.LaneMasks.same_map (λ u small. grind N.arith) us c.fits-units.1)

@@ -1,13 +1,14 @@
-use Rattle.tds_csv.proofs.{Words.{append_assoc, arith, refl, ◌≡◌, ◌+◌}, WideText.both_halves}
+use Rattle.tds_csv.proofs as N
+use N.{◌≡◌, ◌+◌}
 
-pub returns : Rattle.tds_csv.proofs.convert.beyond_ascii.put_triples.Goals.returns
+pub returns : N.convert.beyond_ascii.put_triples.Goals.returns
 returns c =
-    let end : c.args.at + 12 + 12 ≡ c.args.at + 24 = omega arith in
+    let end : c.args.at + 12 + 12 ≡ c.args.at + 24 = omega N.arith in
     rw (
       ← end,
       c.put_lanes-2.ensures,
       c.put_lanes.ensures,
-      append_assoc,
-      (both_halves c.args.units _ _ c.fits-units.0 c.fits-units.1 c.requires.long
+      N.append_assoc,
+      (N.WideText.both_halves c.args.units _ _ c.fits-units.0 c.fits-units.1 c.requires.long
           c.triples.ensures.0 c.triples.ensures.1),
-    ) refl
+    ) N.refl

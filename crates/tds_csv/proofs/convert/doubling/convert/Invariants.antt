@@ -1,5 +1,6 @@
-use Rattle.tds_csv.proofs.convert.doubling.convert.Given as goal
-use Rattle.tds_csv.proofs.Words.{◌≡◌, ◌*◌, ◌-◌, ◌≤◌, ◌+◌, length, take, doubled}
+use Rattle.tds_csv.proofs as N
+use N.convert.doubling.convert.Given as goal
+use N.{◌≡◌, ◌*◌, ◌-◌, ◌≤◌, ◌+◌, length}
 
 -- the text so far is that of the bytes so far
 abbrev pub invariant-loop-at : goal.invariant-loop-at
@@ -7,8 +8,8 @@ invariant-loop-at l = record {
   within : l.at ≤ length l.bytes;
   long : 2 * length l.bytes + 16 ≤ length l.to;
   room : l.made ≤ 2 * l.at;
-  text : take
-      l.made l.to ≡ doubled (take l.at l.bytes);
+  text : N.take
+      l.made l.to ≡ N.doubled (N.take l.at l.bytes);
 }
 
 abbrev pub decreases-loop-at : goal.decreases-loop-at

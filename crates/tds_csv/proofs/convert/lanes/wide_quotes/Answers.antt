@@ -1,6 +1,6 @@
-use Rattle.tds_csv.proofs.{Words.{arith, refl, zip2_splat, length-chunk, chunk, is_unquoted}, LaneMasks.run_in}
+use Rattle.tds_csv.proofs as N
 
-pub returns : Rattle.tds_csv.proofs.convert.lanes.wide_quotes.Goals.returns
+pub returns : N.convert.lanes.wide_quotes.Goals.returns
 returns c =
-    run_in 32 is_unquoted c.args.bytes.now c.args.at _ (omega arith) c.requires c.type_inv.bytes _
-    (zip2_splat _ (chunk c.args.at 32 c.args.bytes.now) 32 34 (length-chunk c.args.at 32 c.args.bytes.now c.requires)) refl
+    N.LaneMasks.run_in 32 N.is_unquoted c.args.bytes.now c.args.at _ (omega N.arith) c.requires c.type_inv.bytes _
+    (N.zip2_splat _ (N.chunk c.args.at 32 c.args.bytes.now) 32 34 (N.length-chunk c.args.at 32 c.args.bytes.now c.requires)) N.refl

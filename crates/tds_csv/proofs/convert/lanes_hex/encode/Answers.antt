@@ -1,11 +1,6 @@
-use Rattle.tds_csv.proofs.convert.lanes_hex.encode.Goals as goal
-use Rattle.tds_csv.proofs.Words as N
-use Rattle.tds_csv.proofs.{
-  Words.{◌+◌, ◌≡◌, ◌*◌, ◌-◌, ◌≤◌, ℕ, List, length, take, drop, arith, refl},
-  Utf16Steps.nil_of_length,
-  SingleLaws.hex-append,
-  Singles.text_taken,
-}
+use Rattle.tds_csv.proofs as N
+use N.convert.lanes_hex.encode.Goals as goal
+use N.{◌+◌, ◌≡◌, ◌*◌, ◌-◌, ◌≤◌, ℕ, length, take, drop, arith, SingleLaws.hex-append}
 
 pub loop-at-preserved : goal.loop-at-preserved
 loop-at-preserved c =
@@ -14,22 +9,22 @@ loop-at-preserved c =
       within = omega arith;
       room = search N.rules;
       digits = rw end at
-          (text_taken N.encode_lower (hex-append N.lower_digits) c.args.bytes.now c.loop-at.at 16 c.put_digits.ensures c.loop-at.invariant.digits);
+          (N.Singles.text_taken N.encode_lower (hex-append N.lower_digits) c.args.bytes.now c.loop-at.at 16 c.put_digits.ensures c.loop-at.invariant.digits);
     }
 
 -- the digits of the other bytes were written after them
-ended : (bytes to new : List ℕ) (at : ℕ) → at ≤ length bytes → length to ≡ 2 * length bytes → take (2 * at) to ≡ N.encode_lower (take at bytes)
+ended : (bytes to new : N.List ℕ) (at : ℕ) → at ≤ length bytes → length to ≡ 2 * length bytes → take (2 * at) to ≡ N.encode_lower (take at bytes)
     → new ≡ N.encode_lower (take (length bytes - at) (drop at bytes)) → N.put_mid (2 * at) (length to - 2 * at) to new ≡ N.encode_lower bytes
 ended bytes to new at within room front back =
     rw (
-      (nil_of_length (N.post_of (2 * at) (length to - 2 * at) to) (omega (arith, N.length-drop (length to - 2 * at) (drop (2 * at) to), N.length-drop (2 * at) to))),
+      (N.Utf16Steps.nil_of_length (N.post_of (2 * at) (length to - 2 * at) to) (omega (arith, N.length-drop (length to - 2 * at) (drop (2 * at) to), N.length-drop (2 * at) to))),
       N.append-nil,
       front,
       back,
       N.take_all (length bytes - at) (drop at bytes) (omega (arith, N.length-drop at bytes)),
       ← (hex-append N.lower_digits (take at bytes) (drop at bytes)),
       N.take-append-drop,
-    ) refl
+    ) N.refl
 
 pub returns : goal.returns
 returns c = ended _ c.loop-at.to c.encode_to_slice.new.output _ c.loop-at.invariant.within c.loop-at.invariant.room

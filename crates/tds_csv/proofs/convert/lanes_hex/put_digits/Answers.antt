@@ -1,4 +1,4 @@
-use Rattle.tds_csv.proofs.Words.{arith, append_assoc, length-put_chunk, take_more_put_chunk, chunk}
+use Rattle.tds_csv.proofs as N
 
-pub returns : Rattle.tds_csv.proofs.convert.lanes_hex.put_digits.Goals.returns
-returns c = grind (arith, length-put_chunk, take_more_put_chunk, append_assoc, chunk)
+pub returns : N.convert.lanes_hex.put_digits.Goals.returns
+returns c = grind (N.arith, N.length-put_chunk, N.take_more_put_chunk, N.append_assoc, N.chunk)

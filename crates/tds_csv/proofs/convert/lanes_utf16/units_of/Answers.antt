@@ -1,4 +1,4 @@
-use Rattle.tds_csv.proofs.{Words.arith, Places.units_of_bytes}
+use Rattle.tds_csv.proofs as N
 
-pub returns : Rattle.tds_csv.proofs.convert.lanes_utf16.units_of.Goals.returns
-returns c = units_of_bytes 8 c.args.bytes (omega arith) c.fits-bytes.1
+pub returns : N.convert.lanes_utf16.units_of.Goals.returns
+returns c = N.Places.units_of_bytes 8 c.args.bytes (omega N.arith) c.fits-bytes.1

@@ -1,8 +1,7 @@
-use Rattle.tds_csv.proofs.Words.{arith}
-use Rattle.tds_csv.proofs.{Words.arith, WideText.units_more}
+use Rattle.tds_csv.proofs as N
 
-pub returns-clause-after : Rattle.tds_csv.proofs.convert.utf16.convert_some.Goals.returns-clause-after
+pub returns-clause-after : N.convert.utf16.convert_some.Goals.returns-clause-after
 returns-clause-after c = let end = c.in-Some.ensures in
     let before = c.requires.before in
-    units_more _ before.inside (omega arith) (omega arith)
-    end.single (omega arith) end.most end.written before.before
+    N.WideText.units_more _ before.inside (omega N.arith) (omega N.arith)
+    end.single (omega N.arith) end.most end.written before.before

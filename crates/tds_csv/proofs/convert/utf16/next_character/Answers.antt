@@ -1,6 +1,6 @@
-use Rattle.tds_csv.proofs.convert.utf16.next_character.Goals as goal
-use Rattle.tds_csv.proofs.Words as N
-use Rattle.tds_csv.proofs.{Words.{inr, sym, arith}, Utf16Steps.{alone_at, held_at, high_half, lone_half, lone_other, not_high, one_at, pair_at}}
+use Rattle.tds_csv.proofs as N
+use N.convert.utf16.next_character.Goals as goal
+use N.{sym, arith, Utf16Steps.{alone_at, held_at, high_half, lone_half, lone_other, not_high, one_at, pair_at}}
 
 pub returns-then-bytes-at-lt2-clause-gives : goal.returns-then-bytes-at-lt2-clause-gives
 returns-then-bytes-at-lt2-clause-gives c = let left = N.length-drop c.args.at c.args.bytes.now in grind arith
@@ -12,7 +12,7 @@ returns-then-not-is_surrogate-clause-gives c =
 
 pub returns-then-is_low-clause-gives : goal.returns-then-is_low-clause-gives
 returns-then-is_low-clause-gives c = one_at c.args.bytes.now c.args.at (omega arith) c.unit-first.ensures.value
-    (not_high c.unit-first.result (sym c.if-is_low.ensures)) (lone_half c.unit-first.result (inr (sym c.if-is_low.ensures)))
+    (not_high c.unit-first.result (sym c.if-is_low.ensures)) (lone_half c.unit-first.result (N.inr (sym c.if-is_low.ensures)))
 
 pub returns-then-not-is_low-clause-gives : goal.returns-then-not-is_low-clause-gives
 returns-then-not-is_low-clause-gives c = alone_at c.args.bytes.now c.args.at (omega arith) c.unit-first.ensures.value c.unit-second.ensures.value

@@ -1,18 +1,19 @@
+use Rattle.tds_csv.proofs as N
+use N.convert.windows_1252.convert_by_hand.Given as goal
+use N.{◌≡◌, ◌+◌, ◌*◌, ◌-◌, ◌≤◌}
 use Rattle.tds_csv.specs.Windows1252 as windows_1252
-use Rattle.tds_csv.proofs.convert.windows_1252.convert_by_hand.Given as goal
-use Rattle.tds_csv.proofs.Words.{◌≡◌, ◌+◌, ◌*◌, ◌-◌, ◌≤◌, length, take}
 
 -- the text so far is that of the bytes so far
 abbrev pub invariant-loop-at : goal.invariant-loop-at
 invariant-loop-at l = record {
   within : l.at ≤ l.end;
   from : l.from ≤ l.at;
-  end : l.end ≤ length l.bytes;
+  end : l.end ≤ N.length l.bytes;
   most : l.made ≤ l.start + 3 * (l.at - l.from);
-  fits : l.start + 3 * (l.end - l.from) ≤ length l.to;
+  fits : l.start + 3 * (l.end - l.from) ≤ N.length l.to;
   room : l.made ≤ 3 * l.at;
-  text : take l.made
-      l.to ≡ windows_1252.text (take l.at l.bytes);
+  text : N.take l.made
+      l.to ≡ windows_1252.text (N.take l.at l.bytes);
 }
 
 abbrev pub decreases-loop-at : goal.decreases-loop-at

@@ -1,13 +1,14 @@
-use Rattle.tds_csv.proofs.convert.windows_1252.take_wide.Goals as goal
-use Rattle.tds_csv.proofs.{Words.{◌∙◌, ◌++◌, ap, take, arith, is_plain}, LaneMasks.run_most, Singles.wide_lanes}
+use Rattle.tds_csv.proofs as N
+use N.convert.windows_1252.take_wide.Goals as goal
+use N.{◌∙◌, ◌++◌, LaneMasks.run_most}
 
 pub take_before-requires-clause-stops : goal.take_before-requires-clause-stops
-take_before-requires-clause-stops c = omega (arith, run_most is_plain c.args.bytes.now c.args.at 32 c.requires.wide)
+take_before-requires-clause-stops c = omega (N.arith, run_most N.is_plain c.args.bytes.now c.args.at 32 c.requires.wide)
 
 pub returns-clause-most : goal.returns-clause-most
-returns-clause-most c = omega (arith, run_most is_plain c.args.bytes.now c.args.at 32 c.requires.wide)
+returns-clause-most c = omega (N.arith, run_most N.is_plain c.args.bytes.now c.args.at 32 c.requires.wide)
 
 pub returns-clause-taken : goal.returns-clause-taken
 returns-clause-taken c =
-    c.take_before.ensures.taken ∙ ap (λ l. take c.args.made c.args.to.now ++ l) (wide_lanes c.args.bytes.now c.args.at _
-    (omega (arith, run_most is_plain c.args.bytes.now c.args.at 32 c.requires.wide)) (c.take_before.ensures.first ∙ c.wide_stops.ensures))
+    c.take_before.ensures.taken ∙ N.ap (λ l. N.take c.args.made c.args.to.now ++ l) (N.Singles.wide_lanes c.args.bytes.now c.args.at _
+    (omega (N.arith, run_most N.is_plain c.args.bytes.now c.args.at 32 c.requires.wide)) (c.take_before.ensures.first ∙ c.wide_stops.ensures))

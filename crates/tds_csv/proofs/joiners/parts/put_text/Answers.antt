@@ -1,5 +1,6 @@
-use Rattle.tds_csv.proofs.joiners.parts.put_text.Goals as goal
-use Rattle.tds_csv.proofs.{Words.{arith, rules, length}, Singles.{puts_break, puts_more, puts_some}}
+use Rattle.tds_csv.proofs as N
+use N.joiners.parts.put_text.Goals as goal
+use N.{arith, Singles.puts_break}
 
 pub returns-in_err-put_chunk : goal.returns-in_err-put_chunk
 returns-in_err-put_chunk g c =
@@ -8,19 +9,19 @@ returns-in_err-put_chunk g c =
 
 pub loop-taken-preserved : goal.loop-taken-preserved
 loop-taken-preserved g c = record {
-  within = search rules;
-  puts = puts_more g.C.Bytewise.text c.laws.ensures.appends c.loop-taken.taken c.min-end.result c.args.bytes.now (omega arith)
+  within = search N.rules;
+  puts = N.Singles.puts_more g.C.Bytewise.text c.laws.ensures.appends c.loop-taken.taken c.min-end.result c.args.bytes.now (omega arith)
       c.loop-taken.invariant.puts c.in_ok-put_chunk.ensures;
 }
 
 pub returns-in_err-used : goal.returns-in_err-used
 returns-in_err-used g c =
-    puts_break g.C.Bytewise.text c.laws.ensures.appends c.loop-taken.taken (length c.args.bytes.now) c.args.bytes.now (omega arith)
+    puts_break g.C.Bytewise.text c.laws.ensures.appends c.loop-taken.taken (N.length c.args.bytes.now) c.args.bytes.now (omega arith)
     c.loop-taken.invariant.puts c.in_err-used.ensures.puts c.from_residual.ensures.1
 
 pub loop-taken-preserved-then-room-ge-PART : goal.loop-taken-preserved-then-room-ge-PART
 loop-taken-preserved-then-room-ge-PART g c = record {
   within = omega (arith, c.in_ok-used.ensures.within);
-  puts = puts_some g.C.Bytewise.text c.laws.ensures.appends c.loop-taken.taken (length c.args.bytes.now) c.in_ok-used.used c.args.bytes.now
+  puts = N.Singles.puts_some g.C.Bytewise.text c.laws.ensures.appends c.loop-taken.taken (N.length c.args.bytes.now) c.in_ok-used.used c.args.bytes.now
       (omega (arith, c.in_ok-used.ensures.within)) c.loop-taken.invariant.puts c.in_ok-used.ensures.puts;
 }

@@ -1,10 +1,6 @@
-use Rattle.tds_csv.proofs.joiners.utf16.put_from.Goals as goal
-use Rattle.tds_csv.proofs.{
-  Words.{◌-◌, ◌≤◌, [], Ok, length, take, drop, arith, length-drop, take_all},
-  Utf16Laws.joins_utf16,
-  Puttings.{PutsPiece-error, PutsPiece-none, PutsPiece-ok, PutsPiece-trans},
-  JoiningLemmas.{Leads-front, Leads-next, Leads-none, Leads-trans, puts_part, puts_whole},
-}
+use Rattle.tds_csv.proofs as N
+use N.joiners.utf16.put_from.Goals as goal
+use N.{◌-◌, ◌≤◌, [], drop, arith, Utf16Laws.joins_utf16, JoiningLemmas.{Leads-front, Leads-next, Leads-none, Leads-trans, puts_part, puts_whole}}
 
 pub loop-at-init : goal.loop-at-init
 loop-at-init g c = record {
@@ -12,7 +8,7 @@ loop-at-init g c = record {
   after = omega arith;
   puts = (
     [],
-    PutsPiece-none _ _ tt c.requires.writing,
+    N.Puttings.PutsPiece-none _ _ tt c.requires.writing,
     Leads-none,
   );
 }
@@ -20,7 +16,7 @@ loop-at-init g c = record {
 pub returns-in_err-at-clause-puts : goal.returns-in_err-at-clause-puts
 returns-in_err-at-clause-puts g c =
     let before = c.loop-at.invariant.puts in
-    PutsPiece-error _ _ _ _ _ _ c.from_residual.ensures.1 (puts_whole before.2 before.1 (puts_part
+    N.Puttings.PutsPiece-error _ _ _ _ _ _ c.from_residual.ensures.1 (puts_whole before.2 before.1 (puts_part
     (Leads-front joins_utf16 (drop c.loop-at.at c.args.bytes.now) (c.min-end.result - c.loop-at.at) tt) c.in_err-at.ensures.puts))
 
 pub loop-at-preserved : goal.loop-at-preserved
@@ -30,13 +26,13 @@ loop-at-preserved g c =
     let used = c.in_ok-at.field-0 in
     let before = c.loop-at.invariant.puts in
     let left = c.in_ok-at.ensures.used in
-    let within : used ≤ length (take (c.min-end.result - at) (drop at xs)) = left.within in
+    let within : used ≤ N.length (N.take (c.min-end.result - at) (drop at xs)) = left.within in
     record {
       within = omega arith;
       after = omega arith;
       puts = (
         _,
-        PutsPiece-ok _ _ _ _ used tt (PutsPiece-trans _ _ _ _ tt _ _ (Ok used) before.1 c.in_ok-at.ensures.puts),
+        N.Puttings.PutsPiece-ok _ _ _ _ used tt (N.Puttings.PutsPiece-trans _ _ _ _ tt _ _ (N.Ok used) before.1 c.in_ok-at.ensures.puts),
         Leads-trans before.2 (Leads-next joins_utf16 xs at (c.min-end.result - at) used tt left.within left.rest),
       );
     }
@@ -44,5 +40,5 @@ loop-at-preserved g c =
 pub returns-then-end-bytes-clause-puts : goal.returns-then-end-bytes-clause-puts
 returns-then-end-bytes-clause-puts g c =
     let before = c.loop-at.invariant.puts in
-    PutsPiece-ok _ _ _ _ _ _ (puts_whole before.2 before.1 (rw (take_all (c.min-end.result - c.loop-at.at) (drop c.loop-at.at c.args.bytes.now)
-    (omega (arith, length-drop c.loop-at.at c.args.bytes.now))) at c.in_ok-at.ensures.puts))
+    N.Puttings.PutsPiece-ok _ _ _ _ _ _ (puts_whole before.2 before.1 (rw (N.take_all (c.min-end.result - c.loop-at.at) (drop c.loop-at.at c.args.bytes.now)
+    (omega (arith, N.length-drop c.loop-at.at c.args.bytes.now))) at c.in_ok-at.ensures.puts))

@@ -1,4 +1,4 @@
-use Rattle.tds_csv.proofs.{Words.{arith, common_steps, take-add, Appends-nil}, Sinks.counted-none}
+use Rattle.tds_csv.proofs as N
 
-pub returns : Rattle.tds_csv.proofs.sink.Sink.commit.Goals.returns
-returns g c = grind (arith, common_steps, take-add, Appends-nil, counted-none)
+pub returns : N.sink.Sink.commit.Goals.returns
+returns g c = grind (N.arith, N.common_steps, N.take-add, N.Appends-nil, N.Sinks.counted-none)

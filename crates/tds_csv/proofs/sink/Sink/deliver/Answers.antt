@@ -1,4 +1,4 @@
-use Rattle.tds_csv.proofs.Words.{common_steps, arith}
+use Rattle.tds_csv.proofs as N
 
-pub returns-in-Err : Rattle.tds_csv.proofs.sink.Sink.deliver.Goals.returns-in-Err
-returns-in-Err g c = grind (arith, common_steps)
+pub returns-in-Err : N.sink.Sink.deliver.Goals.returns-in-Err
+returns-in-Err g c = grind (N.arith, N.common_steps)

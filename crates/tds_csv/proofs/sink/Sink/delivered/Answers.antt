@@ -1,4 +1,4 @@
-use Rattle.tds_csv.proofs.Words.{refl}
+use Rattle.tds_csv.proofs as N
 
-pub returns : Rattle.tds_csv.proofs.sink.Sink.delivered.Goals.returns
-returns g c = refl
+pub returns : N.sink.Sink.delivered.Goals.returns
+returns g c = N.refl

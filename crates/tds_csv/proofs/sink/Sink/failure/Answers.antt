@@ -1,4 +1,4 @@
-use Rattle.tds_csv.proofs.Words.{arith}
+use Rattle.tds_csv.proofs as N
 
-pub returns-then-self : Rattle.tds_csv.proofs.sink.Sink.failure.Goals.returns-then-self
-returns-then-self g c = grind arith
+pub returns-then-self : N.sink.Sink.failure.Goals.returns-then-self
+returns-then-self g c = grind N.arith

@@ -1,4 +1,4 @@
-use Rattle.tds_csv.proofs.Words.{arith}
+use Rattle.tds_csv.proofs as N
 
-pub returns-clause-held : Rattle.tds_csv.proofs.sink.Sink.new.Goals.returns-clause-held
-returns-clause-held g c = grind arith
+pub returns-clause-held : N.sink.Sink.new.Goals.returns-clause-held
+returns-clause-held g c = grind N.arith

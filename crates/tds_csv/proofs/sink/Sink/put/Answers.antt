@@ -1,16 +1,17 @@
-use Rattle.tds_csv.proofs.sink.Sink.put.Goals as goal
-use Rattle.tds_csv.proofs.{Words.{◌+◌, take_all, arith, rules, refl}, Singles.{puts_break, puts_more}}
+use Rattle.tds_csv.proofs as N
+use N.sink.Sink.put.Goals as goal
+use N.{◌+◌}
 
 pub returns-in_err-push : goal.returns-in_err-push
-returns-in_err-push g c = puts_break (λ l. l) (λ x y. refl) _ (c.loop-taken.taken + _) _ (omega arith)
+returns-in_err-push g c = N.Singles.puts_break (λ l. l) (λ x y. N.refl) _ (c.loop-taken.taken + _) _ (omega N.arith)
     c.loop-taken.invariant.puts c.in_err-push.ensures c.from_residual-in_err-push.ensures.1
 
 pub loop-taken-preserved : goal.loop-taken-preserved
 loop-taken-preserved g c = record {
-  within = search rules;
-  puts = puts_more (λ l. l) (λ x y. refl) _ (c.loop-taken.taken + _) _ (omega arith)
+  within = search N.rules;
+  puts = N.Singles.puts_more (λ l. l) (λ x y. N.refl) _ (c.loop-taken.taken + _) _ (omega N.arith)
       c.loop-taken.invariant.puts c.in_ok-push.ensures;
 }
 
 pub returns : goal.returns
-returns g c = grind (arith, take_all)
+returns g c = grind (N.arith, N.take_all)

@@ -1,4 +1,4 @@
-use Rattle.tds_csv.proofs.Words.{arith}
+use Rattle.tds_csv.proofs as N
 
-pub returns : Rattle.tds_csv.proofs.sink.Sink.room.Goals.returns
-returns g c = grind arith
+pub returns : N.sink.Sink.room.Goals.returns
+returns g c = grind N.arith

@@ -1,4 +1,4 @@
-use Rattle.tds_csv.proofs.Words.{length, ap}
+use Rattle.tds_csv.proofs as N
 
-pub returns : Rattle.tds_csv.proofs.sink.Sink.waiting.Goals.returns
-returns g c = ap length c.bytes.ensures.value
+pub returns : N.sink.Sink.waiting.Goals.returns
+returns g c = N.ap N.length c.bytes.ensures.value

@@ -1,6 +1,6 @@
 use Rattle.tds_packet.proofs as N
 use N.payload.Payload.advance.Goals as goal
-use Rattle.{std.proofs.Common.{◌+◌, refl, rules}}
+use Rattle.std.proofs.Common.{◌+◌, refl, rules}
 
 pub returns-in-Ok-clause-gives : goal.returns-in-Ok-clause-gives
 returns-in-Ok-clause-gives g c =

@@ -1,7 +1,7 @@
 use Rattle.tds_packet.proofs as N
 use N.payload.Payload.pass.Goals as goal
-use N.{PayloadLaws.{at_ok, at_err, between_of, ends_there, takes_piece}}
-use Rattle.{std.proofs.Common.{◌≡◌, ◌∙◌, ◌++◌, ◌+◌, length, ap, arith, rules, length-append}}
+use N.PayloadLaws.{at_ok, at_err, between_of, ends_there, takes_piece}
+use Rattle.std.proofs.Common.{◌≡◌, ◌∙◌, ◌++◌, ◌+◌, length, ap, arith, rules, length-append}
 
 pub loop-passed-preserved : goal.loop-passed-preserved
 loop-passed-preserved g c =

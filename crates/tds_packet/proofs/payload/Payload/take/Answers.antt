@@ -1,6 +1,6 @@
 use Rattle.tds_packet.proofs as N
 use N.payload.Payload.take.Goals as goal
-use Rattle.{std.proofs.Common.{◌≡◌, ◌<◌, [], ◌∷◌, length, take, drop, get_or, arith, drop-cons, length-drop}}
+use Rattle.std.proofs.Common.{◌≡◌, ◌<◌, [], ◌∷◌, length, take, drop, get_or, arith, drop-cons, length-drop}
 
 pub returns-clause-gives : goal.returns-clause-gives
 returns-clause-gives g c =

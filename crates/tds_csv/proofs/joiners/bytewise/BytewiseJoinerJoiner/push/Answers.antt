@@ -1,4 +1,4 @@
-use Rattle.tds_csv.proofs.{Words.{arith, take_all}}
+use Rattle.tds_csv.proofs as N
 
-pub returns : Rattle.tds_csv.proofs.joiners.bytewise.BytewiseJoinerJoiner.push.Goals.returns
-returns g c = grind (arith, take_all)
+pub returns : N.joiners.bytewise.BytewiseJoinerJoiner.push.Goals.returns
+returns g c = grind (N.arith, N.take_all)

@@ -1,5 +1,4 @@
-use Rattle.tds_csv.proofs.SingleLaws.{windows_1252-append}
-use Rattle.tds_csv.proofs.Words.{refl}
+use Rattle.tds_csv.proofs as N
 
-pub returns : Rattle.tds_csv.proofs.joiners.cp1252.Windows1252Bytewise.laws.Goals.returns
-returns c = record { appends = windows_1252-append; empty = refl }
+pub returns : N.joiners.cp1252.Windows1252Bytewise.laws.Goals.returns
+returns c = record { appends = N.SingleLaws.windows_1252-append; empty = N.refl }

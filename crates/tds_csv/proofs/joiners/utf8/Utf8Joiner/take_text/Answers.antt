@@ -1,25 +1,23 @@
-use Rattle.tds_csv.proofs.joiners.utf8.Utf8Joiner.take_text.Goals as goal
-use Rattle.tds_csv.{
-  proofs.{Words.{◌≡◌, ◌∙◌, ◌-◌, [], length, take, drop, refl, arith, rules, length-drop, take_all, TakesUpTo, held}, Puttings.{pushes_taken, pushes_up_to}},
-  proofs.Utf8Pushing.rest_begins,
-  specs.Utf8.{Begins, rest, text},
-}
+use Rattle.tds_csv.proofs as N
+use N.joiners.utf8.Utf8Joiner.take_text.Goals as goal
+use N.{◌≡◌, ◌∙◌, ◌-◌, [], Utf8Pushing.rest_begins}
+use Rattle.tds_csv.specs.Utf8.{Begins, rest, text}
 
 pub returns-then-scan-bytes : goal.returns-then-scan-bytes
 returns-then-scan-bytes g c =
-    let seen = held g.W.Write.contents in
-    let taken : TakesUpTo Begins rest text [] c.set.new.self (seen c.args.sink.now) (seen c.put_whole.new.sink) c.args.bytes.now
-    c.in_ok-scan.scan.good = search rules in
-    pushes_up_to c.requires.writing.writing (rest_begins _ taken.good.withheld taken.good.begun) taken c.in_ok-scan.ensures.puts
+    let seen = N.held g.W.Write.contents in
+    let taken : N.TakesUpTo Begins rest text [] c.set.new.self (seen c.args.sink.now) (seen c.put_whole.new.sink) c.args.bytes.now
+    c.in_ok-scan.scan.good = search N.rules in
+    N.Puttings.pushes_up_to c.requires.writing.writing (rest_begins _ taken.good.withheld taken.good.begun) taken c.in_ok-scan.ensures.puts
 
 pub returns : goal.returns
 returns g c =
     let bytes = c.args.bytes.now in
     let scan = c.in_ok-scan.scan in
     let scanned = c.in_ok-scan.ensures.scanned in
-    let all : scan.good ≡ length bytes = omega arith in
-    let tail : take (scan.good - scan.whole) (drop scan.whole bytes) ≡ rest bytes =
-    take_all _ (drop scan.whole bytes) (omega (arith, length-drop scan.whole bytes)) ∙ scanned.rest in
-    let withheld : c.set.new.self ≡ rest bytes = search rules in
-    pushes_taken c.requires.writing.writing (scanned.begins all) (rest_begins bytes withheld (scanned.begins all)) refl withheld
+    let all : scan.good ≡ N.length bytes = omega N.arith in
+    let tail : N.take (scan.good - scan.whole) (N.drop scan.whole bytes) ≡ rest bytes =
+    N.take_all _ (N.drop scan.whole bytes) (omega (N.arith, N.length-drop scan.whole bytes)) ∙ scanned.rest in
+    let withheld : c.set.new.self ≡ rest bytes = search N.rules in
+    N.Puttings.pushes_taken c.requires.writing.writing (scanned.begins all) (rest_begins bytes withheld (scanned.begins all)) N.refl withheld
     c.in_ok-scan.ensures.puts

@@ -1,6 +1,7 @@
-use Rattle.tds_csv.proofs.{Words.{[], ap, rules, IsUtf8-nil, doubled}, Puttings.{ends_whole, passes}}
+use Rattle.tds_csv.proofs as N
+use N.{[]}
 
-pub returns : Rattle.tds_csv.proofs.joiners.utf8.Utf8JoinerJoiner.end.Goals.returns
+pub returns : N.joiners.utf8.Utf8JoinerJoiner.end.Goals.returns
 returns g c =
-    ends_whole (passes c.args.sink.now.failed _ _ _ c.in_ok-check.ensures) (search rules) c.clear.ensures (λ h. ([], IsUtf8-nil))
-    (ap doubled c.bytes-2.ensures.value) c.in_ok-put_text.ensures
+    N.Puttings.ends_whole (N.Puttings.passes c.args.sink.now.failed _ _ _ c.in_ok-check.ensures) (search N.rules) c.clear.ensures (λ h. ([], N.IsUtf8-nil))
+    (N.ap N.doubled c.bytes-2.ensures.value) c.in_ok-put_text.ensures
