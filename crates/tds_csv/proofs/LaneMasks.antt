@@ -2,7 +2,8 @@
 use Rattle.tds_csv.proofs as N
 use N.{Bool, Each1, Fits, List, [], ap, arith, chunk, drop, false, length, map, mask_l, not, refl, suc, take, top, true, w8, zero, ℕ, ◌%◌, ◌*◌, ◌+◌, ◌-◌, ◌/◌}
 use N.{◌<◌, ◌^◌, ◌∙◌, ◌∷◌, ◌≡◌, ◌≤◌}
-use Rattle.std.{proofs.{Math.Nat.{add-mul-mod_self_left, mod-eq_of_lt, mul_assoc, pow-succ'}, lemmas.{List.Sums.count_by-le-length, Nat.pow_pos, Simd.ones-mask_l}}, specs.Prelude.count_ones}
+use Rattle.std.proofs.{Math.Nat.{add-mul-mod_self_left, mod-eq_of_lt, mul_assoc, pow-succ'}, lemmas.{List.Sums.count_by-le-length, Nat.pow_pos}}
+use Rattle.std.specs.Prelude.{count_ones}
 
 -- ---- from the mask of one load to the bytes before the first that stops
 
@@ -79,7 +80,7 @@ last_lanes q us is = grind arith
 
 -- and few bits
 pub few_ones : (q : ℕ → Bool) (us : List ℕ) {mask : ℕ} → mask ≡ mask_l (map q us) → count_ones mask ≤ length us
-few_ones q us is = rw (is, ones-mask_l q us) (count_by-le-length q us)
+few_ones q us is = rw (is, N.ones-mask_l q us) (count_by-le-length q us)
 
 -- so the mask of the first of eight lanes
 pub first_mask : (q : ℕ → Bool) (us : List ℕ) (n : ℕ) {mask : ℕ} → length us ≡ 8 → n ≤ 8 → mask ≡ mask_l (map q (take n us))

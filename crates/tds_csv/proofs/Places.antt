@@ -1,11 +1,9 @@
 -- What the tables of places have.
 use Rattle.tds_csv.proofs as N
-use N.{Bool, Each1, Fits, List, [], ap, ap₂, arith, cond, drop, get_or, length, map, mask_l, nat_eq, refl, suc, take, top, true, w16, w8, zero, ℕ, ◌%◌, ◌&&◌}
-use N.{◌*◌, ◌++◌, ◌+◌, ◌/◌, ◌<◌, ◌^◌, ◌∙◌, ◌∷◌, ◌≡◌, ◌≤◌}
-use Rattle.std.proofs.{Math.Seq.take-append_seam, lemmas.{List.{get_or-append-add, get_or_append_left}, Nat.{ones-le, ones_cat}, Slice.Eq.bytes_eq-Decides}}
-use Rattle.std.specs.{Prelude.{count_ones, flat_map}, Simd.Lanes.number_l, Str.bytes_eq}
-use Rattle.tds_csv.specs.{Utf16.units, Wide.{high_quad, low_and_high, low_quad, pair, pair_bytes, quad_bytes, triples}}
-use Rattle.tds_csv.specs.declared.convert.places.TheConstants.{PAIRS, QUADS}
+use N.{high_quad, low_quad, pair, Bool, Each1, Fits, List, [], ap, ap₂, arith, cond, drop, get_or, length, map, mask_l, nat_eq, refl, suc, take, top, true, w16}
+use N.{w8, zero, ℕ, ◌%◌, ◌&&◌, ◌*◌, ◌++◌, ◌+◌, ◌/◌, ◌<◌, ◌^◌, ◌∙◌, ◌∷◌, ◌≡◌, ◌≤◌}
+use Rattle.std.proofs.lemmas.{List.{get_or-append-add, get_or_append_left}, Nat.{ones-le, ones_cat}}
+use Rattle.{std.specs.{Prelude.{count_ones, flat_map}, Simd.Lanes.number_l}, tds_csv.specs.Utf16.units}
 use lib.Lanes.{Each2, digits_l, zip2}
 
 -- ---- bytes that are gathered from lanes by the places of a table
@@ -43,7 +41,7 @@ module _ (size : ℕ) (lane places : ℕ → List ℕ) (wide : (u : ℕ) → len
       → xs ≡ flat_map lane us ++ more → flat_map (λ u. map (λ k. get_or (lane u) k 0) (places u)) us ≡ flat_map text us
       → take (length (flat_map text us)) (map (λ j. get_or xs j 0) row) ≡ flat_map text us
   gathered_text text us more rest row_is xs_is same =
-      rw (row_is, xs_is, N.map-append, (lanes_from [] us more ∙ same)) (take-append_seam (flat_map text us) _)
+      rw (row_is, xs_is, N.map-append, (lanes_from [] us more ∙ same)) (N.take-append_seam (flat_map text us) _)
 
 -- the same text of each lane
 pub same_texts : {P : ℕ → Type 0} {f g : ℕ → List ℕ} → ((u : ℕ) → P u → f u ≡ g u) → (us : List ℕ) → Each1 P us → flat_map f us ≡ flat_map g us
@@ -104,29 +102,29 @@ pub record IsRow (row begins : List ℕ) : Type 0 where
 
 -- its test
 abbrev is_row : List ℕ → List ℕ → Bool
-is_row row begins = (nat_eq (length row) 16 && all_below 16 row) && bytes_eq row (begins ++ drop (length begins) row)
+is_row row begins = (nat_eq (length row) 16 && all_below 16 row) && N.bytes_eq row (begins ++ drop (length begins) row)
 
 tested : (row begins : List ℕ) → is_row row begins ≡ true → IsRow row begins
 tested row begins h =
-    let all = N.and_parts (nat_eq (length row) 16 && all_below 16 row) (bytes_eq row (begins ++ drop (length begins) row)) h in
+    let all = N.and_parts (nat_eq (length row) 16 && all_below 16 row) (N.bytes_eq row (begins ++ drop (length begins) row)) h in
     record {
       long = grind arith;
       small = each_below 16 row (N.and_parts (nat_eq (length row) 16) (all_below 16 row) all.0).1;
-      is = (bytes_eq-Decides _ _).0
+      is = (N.bytes_eq-Decides _ _).0
           all.1;
     }
 
-pub pair_row : (mask : ℕ) → mask < 256 → IsRow (get_or PAIRS mask []) (placed 2 0 (zip2 pair_places (bits 8 mask) (bits 8 0)))
+pub pair_row : (mask : ℕ) → mask < 256 → IsRow (get_or N.PAIRS mask []) (placed 2 0 (zip2 pair_places (bits 8 mask) (bits 8 0)))
 pair_row mask small =
-    tested _ _ (N.agree_below_at (λ i. is_row (get_or PAIRS i []) (placed 2 0 (zip2 pair_places (bits 8 i) (bits 8 0)))) (λ _. true) 256 mask refl small)
+    tested _ _ (N.agree_below_at (λ i. is_row (get_or N.PAIRS i []) (placed 2 0 (zip2 pair_places (bits 8 i) (bits 8 0)))) (λ _. true) 256 mask refl small)
 
-quad_at : (i : ℕ) → i < 256 → IsRow (get_or QUADS i []) (placed 4 0 (zip2 quad_places (bits 4 (i % 16)) (bits 4 (i / 16))))
+quad_at : (i : ℕ) → i < 256 → IsRow (get_or N.QUADS i []) (placed 4 0 (zip2 quad_places (bits 4 (i % 16)) (bits 4 (i / 16))))
 quad_at i small =
-    tested _ _ (N.agree_below_at (λ i. is_row (get_or QUADS i []) (placed 4 0 (zip2 quad_places (bits 4 (i % 16)) (bits 4 (i / 16))))) (λ _. true) 256 i
+    tested _ _ (N.agree_below_at (λ i. is_row (get_or N.QUADS i []) (placed 4 0 (zip2 quad_places (bits 4 (i % 16)) (bits 4 (i / 16))))) (λ _. true) 256 i
     refl small)
 
 pub quad_row : (wide long : ℕ) → wide < 16 → long < 16
-    → IsRow (get_or QUADS (wide + 16 * long) []) (placed 4 0 (zip2 quad_places (bits 4 wide) (bits 4 long)))
+    → IsRow (get_or N.QUADS (wide + 16 * long) []) (placed 4 0 (zip2 quad_places (bits 4 wide) (bits 4 long)))
 quad_row wide long small small' =
     let low : (wide + 16 * long) % 16 ≡ wide = omega arith in
     let high : (wide + 16 * long) / 16 ≡ long = omega arith in
@@ -178,7 +176,7 @@ bytes_of_pairs (suc n) (x ∷ xs) long fits =
 bytes_of_pairs n xs long fits = absurd (omega arith)
 
 -- and of each number that is made of a unit
-bytes_of_map : (f : ℕ → ℕ) (us : List ℕ) → bytes_of (map f us) ≡ flat_map (λ u. low_and_high (f u)) us
+bytes_of_map : (f : ℕ → ℕ) (us : List ℕ) → bytes_of (map f us) ≡ flat_map (λ u. N.low_and_high (f u)) us
 bytes_of_map f [] = refl
 bytes_of_map f (u ∷ us) = ap (λ xs. (f u % 256) ∷ (f u / 256 % 256) ∷ xs) (bytes_of_map f us)
 
@@ -191,7 +189,7 @@ each_fits (u ∷ us) fits = ((pair_fits u fits.0.fits).0, each_fits us fits.1)
 
 -- the bytes of eight pairs
 pub pair_lanes : (us : List ℕ) {z : List ℕ} → length us ≡ 8 → Each1 (Fits w16) us → z ≡ map pair us
-    → digits_l 256 16 (number_l 65536 z) ≡ flat_map pair_bytes us
+    → digits_l 256 16 (number_l 65536 z) ≡ flat_map N.pair_bytes us
 pair_lanes us long fits is = rw is (bytes_of_pairs 8 (map pair us) (N.length-map us pair ∙ long) (each_fits us fits) ∙ bytes_of_map pair us)
 
 -- of each four bytes the first, the third and the fourth, and then the second
@@ -207,7 +205,7 @@ abbrev four : ℕ → ℕ → ℕ → ℕ → List ℕ
 four a b c d = lead a ∷ others a ∷ lead b ∷ others b ∷ lead c ∷ others c ∷ lead d ∷ others d ∷ []
 
 four_each : (a b c d : ℕ) → a < 65536 → b < 65536 → c < 65536 → d < 65536
-    → take 12 (woven (digits_l 256 16 (number_l 65536 (four a b c d)))) ≡ triples (a ∷ b ∷ c ∷ d ∷ [])
+    → take 12 (woven (digits_l 256 16 (number_l 65536 (four a b c d)))) ≡ N.triples (a ∷ b ∷ c ∷ d ∷ [])
 four_each a b c d sa sb sc sd =
     let fa = split a sa in
     let fb = split b sb in
@@ -223,8 +221,8 @@ abbrev pub beside_second : List ℕ → List ℕ → List ℕ
 beside_second ls os = map (λ k. get_or (ls ++ os) k 0) (4 ∷ 12 ∷ 5 ∷ 13 ∷ 6 ∷ 14 ∷ 7 ∷ 15 ∷ [])
 
 pub three_each : (us ls os : List ℕ) → length us ≡ 8 → Each1 (Fits w16) us → ls ≡ map lead us → os ≡ map others us
-    → (take 12 (woven (digits_l 256 16 (number_l 65536 (beside_first ls os)))) ≡ take 12 (triples us))
-    × (take 12 (woven (digits_l 256 16 (number_l 65536 (beside_second ls os)))) ≡ take 12 (drop 12 (triples us)))
+    → (take 12 (woven (digits_l 256 16 (number_l 65536 (beside_first ls os)))) ≡ take 12 (N.triples us))
+    × (take 12 (woven (digits_l 256 16 (number_l 65536 (beside_second ls os)))) ≡ take 12 (drop 12 (N.triples us)))
 three_each (a ∷ b ∷ c ∷ d ∷ e ∷ f ∷ g ∷ h ∷ []) ls os long (fa, (fb, (fc, (fd, (fe, (ff, (fg, (fh, _)))))))) is_lead is_others =
     rw (is_lead, is_others) (four_each a b c d fa.fits fb.fits fc.fits fd.fits, four_each e f g h fe.fits ff.fits fg.fits fh.fits)
 three_each us ls os long fits is_lead is_others = absurd (omega arith)
@@ -232,7 +230,7 @@ three_each us ls os long fits is_lead is_others = absurd (omega arith)
 -- the bytes of four characters, four each
 quad_each : (a b c d : ℕ) → a < 65536 → b < 65536 → c < 65536 → d < 65536
     → digits_l 256 16 (number_l 65536 (low_quad a ∷ high_quad a ∷ low_quad b ∷ high_quad b ∷ low_quad c ∷ high_quad c ∷ low_quad d ∷ high_quad d
-    ∷ [])) ≡ flat_map quad_bytes (a ∷ b ∷ c ∷ d ∷ [])
+    ∷ [])) ≡ flat_map N.quad_bytes (a ∷ b ∷ c ∷ d ∷ [])
 quad_each a b c d sa sb sc sd =
     let fa = (pair_fits a sa).1 in
     let fb = (pair_fits b sb).1 in
@@ -243,8 +241,8 @@ quad_each a b c d sa sb sc sd =
 
 -- and of eight
 pub quad_lanes : (us ls hs : List ℕ) → length us ≡ 8 → Each1 (Fits w16) us → ls ≡ map low_quad us → hs ≡ map high_quad us
-    → (digits_l 256 16 (number_l 65536 (beside_first ls hs)) ≡ flat_map quad_bytes (take 4 us))
-    × (digits_l 256 16 (number_l 65536 (beside_second ls hs)) ≡ flat_map quad_bytes (drop 4 us))
+    → (digits_l 256 16 (number_l 65536 (beside_first ls hs)) ≡ flat_map N.quad_bytes (take 4 us))
+    × (digits_l 256 16 (number_l 65536 (beside_second ls hs)) ≡ flat_map N.quad_bytes (drop 4 us))
 quad_lanes (a ∷ b ∷ c ∷ d ∷ e ∷ f ∷ g ∷ h ∷ []) ls hs long (fa, (fb, (fc, (fd, (fe, (ff, (fg, (fh, _)))))))) is_low is_high =
     rw (is_low, is_high) (quad_each a b c d fa.fits fb.fits fc.fits fd.fits, quad_each e f g h fe.fits ff.fits fg.fits fh.fits)
 quad_lanes us ls hs long fits is_low is_high = absurd (omega arith)

@@ -1,10 +1,9 @@
 -- Data whose bytes each stand alone, put a run after the other.
 use Rattle.tds_csv.proofs as N
-use N.{Err, List, Ok, PutsPiece, Sink, Stop, [], arith, chunk, drop, get_or, is_plain, refl, take, true, ℕ, ◌%◌, ◌++◌, ◌+◌, ◌-◌, ◌/◌, ◌<◌, ◌∙◌, ◌∷◌, ◌≡◌, ◌≤◌}
-use N.Puttings.{PutsPiece-trans}
+use N.{UPPER, Err, List, Ok, PutsPiece, Sink, Stop, [], arith, chunk, drop, get_or, is_plain, refl, take, true, ℕ, ◌%◌, ◌++◌, ◌+◌, ◌-◌, ◌/◌, ◌<◌, ◌∙◌, ◌∷◌, ◌≡◌}
+use N.{◌≤◌, Puttings.PutsPiece-trans}
 use Rattle.tds_csv.specs.Windows1252 as windows_1252
-use Rattle.std.{proofs.{Common.nat_le, lemmas.Slice.Eq.bytes_eq-Decides}, specs.{Char.encode_utf8, Str.bytes_eq}}
-use Rattle.tds_csv.specs.declared.convert.windows_1252.TheConstants.{UPPER}
+use Rattle.std.{proofs.Common.nat_le, specs.Char.encode_utf8}
 
 module _ (text : List ℕ → List ℕ) (appends : (x y : List ℕ) → text (x ++ y) ≡ text x ++ text y) where
   runs : (t e : ℕ) (xs : List ℕ) → t ≤ e → text (take t xs) ++ text (take (e - t) (drop t xs)) ≡ text (take e xs)
@@ -67,7 +66,7 @@ bytes_of w = take (w / 16777216) ((w % 256) ∷ (w / 256 % 256) ∷ (w / 65536 %
 table : (k : ℕ) → k < 128 → (bytes_of (get_or UPPER k 0) ≡ windows_1252.text ((128 + k) ∷ [])) × (get_or UPPER k 0 / 16777216 ≤ 3)
 unfolding encode_utf8
 table k h = (
-  (bytes_eq-Decides _ _).0 (N.agree_below_at (λ k. bytes_eq (bytes_of (get_or UPPER k 0)) (windows_1252.text ((128 + k) ∷ []))) (λ _. true) 128 k refl h),
+  (N.bytes_eq-Decides _ _).0 (N.agree_below_at (λ k. N.bytes_eq (bytes_of (get_or UPPER k 0)) (windows_1252.text ((128 + k) ∷ []))) (λ _. true) 128 k refl h),
   grind (arith, N.nat_tests, (N.agree_below_at (λ k. nat_le (get_or UPPER k 0 / 16777216) 3) (λ _. true) 128 k refl h)),
 )
 

@@ -1,9 +1,9 @@
 -- One character after the other of text in UTF-16.
 use Rattle.tds_csv.proofs as N
-use N.{List, [], ap, arith, drop, emit, false, get_or, is_low_surrogate, length, refl, take, true, unwrap_or, ℕ, ◌%◌, ◌&&◌, ◌*◌, ◌++◌, ◌+◌, ◌-◌, ◌<◌, ◌||◌, ◌∙◌}
-use N.{◌∷◌, ◌≡◌, ◌≤◌, ◌⊎◌, JoiningLemmas.{doubled-append, Leads-none, Leads-seam, emit_held}, Utf16Laws.{emit-front, front, front_step, joins_utf16, rest_step}}
-use N.Utf16Laws.{short, starts_low}
-use Rattle.{std.specs.Char.Utf16.utf16_chars, tds_csv.specs.{Utf16.{characters, is_high, rest, text, units}, Utf16Next.{Converts, IsNext, LeavesRest, seam}}}
+use N.{seam, List, [], ap, arith, drop, emit, false, get_or, is_low_surrogate, length, refl, take, true, unwrap_or, ℕ, ◌%◌, ◌&&◌, ◌*◌, ◌++◌, ◌+◌, ◌-◌, ◌<◌}
+use N.{◌||◌, ◌∙◌, ◌∷◌, ◌≡◌, ◌≤◌, ◌⊎◌, JoiningLemmas.{doubled-append, Leads-none, Leads-seam, emit_held}, Utf16Laws.{emit-front, front, front_step, joins_utf16}}
+use N.Utf16Laws.{rest_step, short, starts_low}
+use Rattle.{std.specs.Char.Utf16.utf16_chars, tds_csv.specs.{Utf16.{characters, is_high, rest, text, units}, Utf16Next.IsNext}}
 
 pub text_nil : text [] ≡ []
 unfolding utf16_chars
@@ -127,10 +127,10 @@ module _ (xs : List ℕ) (i : ℕ) {u v : ℕ} (within : i + 3 < length xs) (fir
 -- The text so far is that of all that is fixed.
 pub record Ended (bytes to : List ℕ) (used made : ℕ) : Type 0 where
   pub emits : take made to ≡ emit rest text bytes
-  pub leaves : LeavesRest bytes 0 used
+  pub leaves : N.LeavesRest bytes 0 used
 
 -- nothing after this place is fixed
-pub ends_held : {bytes to : List ℕ} {used made : ℕ} → Converts bytes to used made → rest (drop used bytes) ≡ drop used bytes
+pub ends_held : {bytes to : List ℕ} {used made : ℕ} → N.Converts bytes to used made → rest (drop used bytes) ≡ drop used bytes
     → Ended bytes to used made
 ends_held {bytes} {to} {used} {made} before held =
     let run = take made to in
@@ -140,7 +140,7 @@ ends_held {bytes} {to} {used} {made} before held =
     }
 
 -- nothing comes after this place
-pub ends_there : {bytes to : List ℕ} {used made : ℕ} → Converts bytes to used made → used ≡ length bytes → Ended bytes to used made
+pub ends_there : {bytes to : List ℕ} {used made : ℕ} → N.Converts bytes to used made → used ≡ length bytes → Ended bytes to used made
 ends_there before all = grind (arith, nil_of_length, N.length-drop, ends_held)
 
 -- ---- withheld bytes of text in UTF-16, with the first ones of a piece
@@ -167,7 +167,7 @@ seam_some : (kept piece : List ℕ) → 0 < length kept → seam kept piece ≡ 
 seam_some kept piece some = grind arith
 
 pub some_leads : {kept own : List ℕ} (piece bytes : List ℕ) (used : ℕ) → kept ≡ own → 0 < length kept → 3 ≤ length piece
-    → bytes ≡ kept ++ take 3 piece → LeavesRest bytes 0 used
+    → bytes ≡ kept ++ take 3 piece → N.LeavesRest bytes 0 used
     → N.Leads rest text (own ++ piece) (drop (used - length kept) piece) (emit rest text (seam own piece))
 some_leads {kept = kept} piece bytes used same some long is left =
     let three : length (take 3 piece) ≡ 3 = N.length-take-le 3 piece long in

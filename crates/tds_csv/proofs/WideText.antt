@@ -1,16 +1,14 @@
 -- The text of units that are characters of at most three bytes.
 use Rattle.tds_csv.proofs as N
-use N.{◌-◌, refl, chunk, Bool, Each1, Fits, List, [], ap, arith, drop, mask_l, false, get_or, length, map, suc, sym, take, true, w16, zero, ℕ, ◌%◌, ◌*◌, ◌++◌}
-use N.{◌+◌, ◌/◌, ◌<◌, ◌∙◌, ◌∷◌, ◌≡◌, ◌≤◌, ◌^◌, LaneMasks.{alike, first_lanes, first_mask, last_lanes, none_set}, Characters.{of_one, of_two, of_three}}
-use N.{Characters.doubled_character, Places.{bits, placed, same_texts, IsRow, pair_places, quad_places}, JoiningLemmas.{Leads-none, Leads-trans}}
-use Rattle.tds_csv.specs.{Utf16.{units, rest, text}, Utf16Next.Converts}
-use Rattle.tds_csv.specs.Wide.{AddsQuads, is_half, is_long, is_wide, pair_bytes, quad_bytes, triples, unit_text, units_text}
-use Rattle.tds_csv.specs.declared.convert.places.TheConstants.{PAIRS, QUADS}
-use Rattle.std.{proofs.lemmas.Simd.{Each1-weaker, below_from_Fits, ones-mask_l, zip2-map}, specs.{List.count_by, Prelude.{count_ones, flat_map}}}
+use N.{is_half, is_long, is_wide, quad_bytes, triples, unit_text, units_text, ◌-◌, refl, chunk, Bool, Each1, Fits, List, [], ap, arith, drop, mask_l, false}
+use N.{get_or, length, map, suc, sym, take, true, w16, zero, ℕ, ◌%◌, ◌*◌, ◌++◌, ◌+◌, ◌/◌, ◌<◌, ◌∙◌, ◌∷◌, ◌≡◌, ◌≤◌, ◌^◌, LaneMasks.{alike, first_lanes}}
+use N.{LaneMasks.{first_mask, last_lanes, none_set}, Characters.{of_one, of_two, of_three, doubled_character}, Places.{bits, placed, same_texts, IsRow}}
+use N.{Places.{pair_places, quad_places}, JoiningLemmas.{Leads-none, Leads-trans}}
+use Rattle.{tds_csv.specs.Utf16.{units, rest, text}, std.specs.{List.count_by, Prelude.{count_ones, flat_map}}}
 use lib.Lanes.{zip2}
 
 -- the bytes of a unit's text, at the places for it
-pub pair_text : (u : ℕ) → is_long u ≡ false → map (λ k. get_or (pair_bytes u) k 0) (pair_places (is_wide u) (is_long u)) ≡ unit_text u
+pub pair_text : (u : ℕ) → is_long u ≡ false → map (λ k. get_or (N.pair_bytes u) k 0) (pair_places (is_wide u) (is_long u)) ≡ unit_text u
 pair_text u h = grind (arith, of_one, of_two)
 
 pub quad_text : (u : ℕ) → u < 65536 → map (λ k. get_or (quad_bytes u) k 0) (quad_places (is_wide u) (is_long u)) ≡ unit_text u
@@ -33,7 +31,7 @@ units_size (u ∷ us) small = let one = unit_size u small.0 in let more = units_
 
 pub text_size : (us : List ℕ) {wide long : ℕ} → Each1 (λ u. u < 65536) us → wide ≡ mask_l (map is_wide us) → long ≡ mask_l (map is_long us)
     → length (units_text us) ≡ length us + (count_ones wide + count_ones long)
-text_size us small wide_is long_is = rw (wide_is, long_is, ones-mask_l is_wide us, ones-mask_l is_long us) (units_size us small)
+text_size us small wide_is long_is = rw (wide_is, long_is, N.ones-mask_l is_wide us, N.ones-mask_l is_long us) (units_size us small)
 
 in_pair : (wide long : Bool) → Each1 (λ k. k < 2) (pair_places wide long)
 in_pair true long = (omega arith, (omega arith, tt))
@@ -46,7 +44,7 @@ in_quad false false = (omega arith, tt)
 
 -- units are numbers of 16 bits
 pub unit_range : (us : List ℕ) → Each1 (Fits w16) us → Each1 (λ u. u < 65536) us
-unit_range us fits = below_from_Fits w16 us fits
+unit_range us fits = N.below_from_Fits w16 us fits
 
 each_taken : (P : ℕ → Type 0) (n : ℕ) (us : List ℕ) → Each1 P us → Each1 P (take n us)
 each_taken P zero us each = tt
@@ -75,26 +73,26 @@ row_taken width m lane f same inside us more {row} {wide = wide} {long = long} i
     ∙ sym (N.length-map us is_wide)) in
     let rest = drop (length (placed width 0 (zip2 f (bits m wide) (bits m long)))) row in
     rw (← text_size us range wide_is long_is) (N.Places.gathered_text width lane places same inside unit_text us more (begins.0 ++ rest)
-    (is_row.is ∙ ap (λ l. l ++ rest) (rw (wide_is, long_is, begins.1, (zip2-map f is_wide is_long us)) refl) ∙ N.append_assoc (placed width 0 (map places us))
+    (is_row.is ∙ ap (λ l. l ++ rest) (rw (wide_is, long_is, begins.1, (N.zip2-map f is_wide is_long us)) refl) ∙ N.append_assoc (placed width 0 (map places us))
     begins.0 rest) is texts)
 
 -- that of short characters from the bytes of eight
-pub pairs_taken : (us : List ℕ) (n : ℕ) {xs : List ℕ} {wide : ℕ} → length us ≡ 8 → n ≤ 8 → Each1 (Fits w16) us → xs ≡ flat_map pair_bytes us
+pub pairs_taken : (us : List ℕ) (n : ℕ) {xs : List ℕ} {wide : ℕ} → length us ≡ 8 → n ≤ 8 → Each1 (Fits w16) us → xs ≡ flat_map N.pair_bytes us
     → wide ≡ mask_l (map is_wide (take n us)) → Each1 (λ u. is_long u ≡ false) (take n us)
-    → take (n + count_ones wide) (map (λ j. get_or xs j 0) (get_or PAIRS wide [])) ≡ units_text (take n us)
+    → take (n + count_ones wide) (map (λ j. get_or xs j 0) (get_or N.PAIRS wide [])) ≡ units_text (take n us)
 pairs_taken us n {wide = wide} eight few fits bytes is short =
     let vs = take n us in
     let counted : length vs ≡ n = N.length-take-le n us (omega arith) in
-    let size : length vs + (count_ones wide + count_ones 0) ≡ n + count_ones wide = omega (arith, ones-mask_l is_long []) in
-    rw size at (row_taken 2 8 pair_bytes pair_places (λ u. refl) (λ u. in_pair (is_wide u) (is_long u)) vs (flat_map pair_bytes (drop n us))
+    let size : length vs + (count_ones wide + count_ones 0) ≡ n + count_ones wide = omega (arith, N.ones-mask_l is_long []) in
+    rw size at (row_taken 2 8 N.pair_bytes pair_places (λ u. refl) (λ u. in_pair (is_wide u) (is_long u)) vs (flat_map N.pair_bytes (drop n us))
     (N.Places.pair_row wide (first_mask is_wide us n eight few is).0)
-    (omega arith) (bytes ∙ split_lanes pair_bytes n us) is (sym (none_set is_long vs short)) (unit_range vs (each_taken (Fits w16) n us fits))
+    (omega arith) (bytes ∙ split_lanes N.pair_bytes n us) is (sym (none_set is_long vs short)) (unit_range vs (each_taken (Fits w16) n us fits))
     (same_texts pair_text vs short))
 
 -- and that of any from the bytes of four
 pub quads_taken : (us more : List ℕ) {xs : List ℕ} {wide long : ℕ} → length us ≤ 4 → wide < 16 → long < 16 → xs ≡ flat_map quad_bytes us ++ more
     → wide ≡ mask_l (map is_wide us) → long ≡ mask_l (map is_long us) → Each1 (λ u. u < 65536) us
-    → take (length us + count_ones (wide + 16 * long)) (map (λ j. get_or xs j 0) (get_or QUADS (wide + 16 * long) [])) ≡ units_text us
+    → take (length us + count_ones (wide + 16 * long)) (map (λ j. get_or xs j 0) (get_or N.QUADS (wide + 16 * long) [])) ≡ units_text us
 quads_taken us more {wide = wide} {long = long} few small small' is wide_is long_is range =
     rw (← (N.Places.ones_of_two wide long small small').0) at (row_taken 4 4 quad_bytes quad_places (λ u. refl) (λ u. in_quad (is_wide u) (is_long u)) us more
     (N.Places.quad_row wide long small small') few is wide_is long_is range (same_texts quad_text us range))
@@ -109,7 +107,7 @@ take_both (suc n) (suc m) (u ∷ us) = ap (λ vs. u ∷ vs) (take_both n m us)
 -- what was written of so many characters: of the first four, and of all
 module _ (us : List ℕ) (n : ℕ) {old new xs : List ℕ} {at end m wide long : ℕ} (fits : (length us ≡ 8) × Each1 (Fits w16) us) (few : n ≤ 8)
     (wide_is : wide ≡ mask_l (map is_wide (take n us))) (long_is : long ≡ mask_l (map is_long (take n us)))
-    (is : xs ≡ flat_map quad_bytes (take 4 us)) (adds : AddsQuads old new at end m xs (wide % 16) (long % 16)) where
+    (is : xs ≡ flat_map quad_bytes (take 4 us)) (adds : N.AddsQuads old new at end m xs (wide % 16) (long % 16)) where
   first_added : length (take 4 (take n us)) ≡ m → (take end new ≡ take at old ++ units_text (take 4 (take n us))) × (end ≤ at + 3 * m)
   first_added counted =
       let vs = take n us in
@@ -126,7 +124,7 @@ module _ (us : List ℕ) (n : ℕ) {old new xs : List ℕ} {at end m wide long :
   middle_added many counted = omega (arith, (first_added (omega (arith, N.length-take 4 (take n us), N.length-take-le n us (omega (arith, fits.0))))).1)
 
   pub all_added : {last ys : List ℕ} {stop : ℕ} → 4 ≤ n → m ≡ 4 → ys ≡ flat_map quad_bytes (drop 4 us)
-      → AddsQuads new last end stop (n - 4) ys (wide / 16) (long / 16)
+      → N.AddsQuads new last end stop (n - 4) ys (wide / 16) (long / 16)
       → (take stop last ≡ take at old ++ units_text (take n us)) × (stop ≤ at + 3 * n)
   all_added many counted ys_is more =
       let vs = take n us in
@@ -184,7 +182,7 @@ plain_added ys old new {us} {low} {at = at} n long few within is masked lowest n
     let plain = rw is at (N.LaneMasks.none_of_first is_wide us n masked lowest none) in (
       (rw (N.take-take n 8 low few, low_is) at (N.Characters.front_written old new (take 8 low) at n 8 few within written)) ∙ ap (λ l. take at old ++ l)
           (plain_texts n ys plain),
-      Each1-weaker _ _ (λ u h. no_half u (not_long u h)) _ plain,
+      N.Each1-weaker _ _ (λ u h. no_half u (not_long u h)) _ plain,
     )
 
 leads_unit : (low high : ℕ) (more : List ℕ) → is_half (low + 256 * high) ≡ false → N.Leads rest text (low ∷ high ∷ more) more (unit_text (low + 256 * high))
@@ -206,8 +204,8 @@ lies_itself bytes = grind (arith, N.common_steps)
 -- so many units of a source that begins with the bytes were converted after what was before
 pub units_more : {bytes source old new : List ℕ} {at made after : ℕ} (n : ℕ) → N.LiesIn bytes source → at + 16 ≤ length source → n ≤ 8
     → Each1 (λ u. is_half u ≡ false) (take n (units (chunk at 16 source))) → at + 2 * n ≤ length bytes → after ≤ made + 3 * n
-    → take after new ≡ take made old ++ units_text (take n (units (chunk at 16 source))) → Converts bytes old at made
-    → Converts bytes new (at + 2 * n) after
+    → take after new ≡ take made old ++ units_text (take n (units (chunk at 16 source))) → N.Converts bytes old at made
+    → N.Converts bytes new (at + 2 * n) after
 units_more {bytes} {source} {at = at} n lies room few single within small written before =
     let ys = chunk at 16 source in
     let eight : length (units ys) ≡ 8 = omega (arith, length-units ys, N.length-chunk at 16 source room) in
@@ -217,8 +215,8 @@ units_more {bytes} {source} {at = at} n lies room few single within small writte
 
 -- so were eight units of the bytes
 pub eight_more : {bytes old new : List ℕ} {at made after : ℕ} → at + 16 ≤ length bytes → Each1 (λ u. is_half u ≡ false) (units (chunk at 16 bytes))
-    → after ≤ made + 24 → take after new ≡ take made old ++ units_text (units (chunk at 16 bytes)) → Converts bytes old at made
-    → Converts bytes new (at + 16) after
+    → after ≤ made + 24 → take after new ≡ take made old ++ units_text (units (chunk at 16 bytes)) → N.Converts bytes old at made
+    → N.Converts bytes new (at + 16) after
 eight_more {bytes} {at = at} room single small written before =
     let all = N.take_all 8 (units (chunk at 16 bytes)) (omega (arith, eight_units _ (N.length-chunk at 16 bytes room) refl)) in
     units_more 8 (lies_itself bytes) room (omega arith) (rw all single) room small (rw all written) before

@@ -19,6 +19,8 @@ pub use Rattle.std.proofs.{
     Str.{IsUtf8-drop, IsUtf8-encode, IsCharBoundary-from_take, length-encode, len_utf8_bounds},
   },
   str.{Laws.{Scalar, Follows, Shape, of1, of2, of3, of4, shape}, Valid.{of_two, of_three, of_four}},
+  lemmas.Slice.Eq.bytes_eq-Decides,
+  lemmas.Simd.{Each1-weaker, below_from_Fits, ones-mask_l, zip2-map},
 }
 pub use Rattle.std.specs.{
   Char.{encode_utf8, IsScalar, len_utf8, Utf16.{utf16_lossy_chars, is_high_surrogate, is_low_surrogate, surrogate_pair_char, lone_unit_char}},
@@ -28,6 +30,7 @@ pub use Rattle.std.specs.{
   Result.IsErrAnd,
   Str.{is_utf8, all_scalars, Lossy.{utf8_error_len, utf8_valid_len, valid_len_up_to, second_byte_min, second_byte_max}},
   Prelude.{Option, ◌↔◌, if◌then◌else◌, slice_set, ⊤},
+  Str.bytes_eq,
 }
 pub use Rattle.tds_csv.specs.{
   Cutting.whole_within,
@@ -43,6 +46,10 @@ pub use Rattle.tds_csv.specs.{
   Quoting.{quote, doubled, doubled_byte, quoted_field, binary_field, line, after_comma},
   Sinks.{Breaks, Held, Puts, PutsPiece, IsWriting, held, Adds, Sends, FinishFails, stop_of, fresh},
   declared.{joiners.JoinFault.{JoinFault, TheVariants.{Stopped, Odd, BadText}}, sink.Sink.Sink},
+  declared.convert.windows_1252.TheConstants.UPPER,
+  Utf16Next.{Converts, LeavesRest, seam},
+  Wide.{AddsQuads, high_quad, is_half, is_long, is_wide, low_and_high, low_quad, pair, pair_bytes, quad_bytes, triples, unit_text, units_text},
+  declared.convert.places.TheConstants.{PAIRS, QUADS},
 }
 pub use Rattle.tds_meter.{proofs.Overwriting.overwritten_all, specs.{Counts.{counted, one_more}, Lent.overwritten, Space.{Space, appended}}}
 pub use Rattle.tds_packet.{

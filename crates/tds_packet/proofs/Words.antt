@@ -7,6 +7,7 @@ pub use Rattle.std.proofs.{
   Common.{length-drop, true, ◌∷◌, append_assoc, Bool, suc, zero, Err, length-take-le, subst, ◌⊎◌, Ok, add-zero, le_refl, length-take, MatchResult, Result, min},
   Common.{◌%◌, ◌*◌, ◌/◌, ◌≢◌, IfSome, map, take-add, take_all, ◌^◌},
   KnownBytes.{Consumes-trans, Appends-trans, Appends-kept, Appends-nil, Consumes-kept, Consumes-nil},
+  Common.{drop-cons, get_or},
 }
 pub use Rattle.std.specs.{
   Io.KnownBytes.{Consumes, Appends, Keeps},

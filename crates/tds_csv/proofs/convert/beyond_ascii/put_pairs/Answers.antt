@@ -1,14 +1,13 @@
 use Rattle.tds_csv.proofs as N
 use N.convert.beyond_ascii.put_pairs.Goals as goal
 use N.LaneMasks.{first_mask}
-use Rattle.tds_csv.specs.Wide.{is_wide}
 
 pub pair_places-requires : goal.pair_places-requires
-pair_places-requires c = (first_mask is_wide c.args.units c.args.n c.fits-units.0 c.requires.most c.requires.wide).0
+pair_places-requires c = (first_mask N.is_wide c.args.units c.args.n c.fits-units.0 c.requires.most c.requires.wide).0
 
 pub gathered-requires-clause-places : goal.gathered-requires-clause-places
 gathered-requires-clause-places c =
-    rw c.pair_places.ensures (N.Places.pair_row c.args.wide (first_mask is_wide c.args.units c.args.n c.fits-units.0 c.requires.most c.requires.wide).0).small
+    rw c.pair_places.ensures (N.Places.pair_row c.args.wide (first_mask N.is_wide c.args.units c.args.n c.fits-units.0 c.requires.most c.requires.wide).0).small
 
 pub returns-clause-written : goal.returns-clause-written
 returns-clause-written c =

@@ -1,7 +1,6 @@
 use Rattle.tds_csv.proofs as N
 use N.convert.beyond_ascii.put_quads.Goals as goal
 use N.LaneMasks.{few_ones}
-use Rattle.tds_csv.specs.Wide.{is_long, is_wide}
 
 pub gathered-requires-clause-places : goal.gathered-requires-clause-places
 gathered-requires-clause-places c = rw c.quad_places.ensures (N.Places.quad_row c.args.wide c.args.long c.requires.wide c.requires.long).small
@@ -20,8 +19,8 @@ returns c = record {
       N.arith,
       long,
       (N.Places.ones_of_two c.args.wide c.args.long c.requires.wide c.requires.long).0,
-      few_ones is_wide units wide_is,
-      few_ones is_long units long_is,
+      few_ones N.is_wide units wide_is,
+      few_ones N.is_long units long_is,
     ),
   );
 }

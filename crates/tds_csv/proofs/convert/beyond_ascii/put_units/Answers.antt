@@ -1,7 +1,6 @@
 use Rattle.tds_csv.proofs as N
 use N.convert.beyond_ascii.put_units.Goals as goal
 use N.WideText.{no_half, plain_added}
-use Rattle.{tds_csv.specs.Wide.is_long, std.proofs.lemmas.Simd.Each1-weaker}
 
 pub returns-then-wide-eq0-clause-written : goal.returns-then-wide-eq0-clause-written
 returns-then-wide-eq0-clause-written c = (plain_added _ _ _ _ c.fits-lanes.0 c.requires.most (omega N.arith)
@@ -12,5 +11,5 @@ returns-then-wide-eq0-clause-single c = (plain_added _ _ _ _ c.fits-lanes.0 c.re
     c.units_of-units.ensures c.wide_units.ensures c.lowest-wide.ensures c.if-wide-eq0.true c.low_bytes.ensures c.put_lanes.ensures).1
 
 pub returns-then-long-eq0-clause-single : goal.returns-then-long-eq0-clause-single
-returns-then-long-eq0-clause-single c = Each1-weaker _ _ no_half _ (rw c.units_of-units.ensures at
-    (N.LaneMasks.none_of_first is_long _ _ c.long_units.ensures c.lowest-long.ensures c.if-long-eq0.true))
+returns-then-long-eq0-clause-single c = N.Each1-weaker _ _ no_half _ (rw c.units_of-units.ensures at
+    (N.LaneMasks.none_of_first N.is_long _ _ c.long_units.ensures c.lowest-long.ensures c.if-long-eq0.true))

@@ -2,10 +2,9 @@ use Rattle.tds_csv.proofs as N
 use N.convert.utf16.convert_whole.Goals as goal
 use N.{◌≡◌, ◌≢◌, ◌%◌, ◌++◌, ℕ, List, [], length, ap, arith, Utf16Laws.joins_utf16}
 use Rattle.tds_csv.specs.Utf16 as utf16
-use Rattle.tds_csv.specs.Utf16Next.{LeavesRest}
 
 -- what is left of whole data has two bytes
-two_left : (bytes : List ℕ) (used : ℕ) → length bytes % 2 ≡ 0 → LeavesRest bytes 0 used → used ≢ length bytes → length (N.drop used bytes) ≡ 2
+two_left : (bytes : List ℕ) (used : ℕ) → length bytes % 2 ≡ 0 → N.LeavesRest bytes 0 used → used ≢ length bytes → length (N.drop used bytes) ≡ 2
 two_left bytes used whole leaves some = grind (arith, joins_utf16, N.length-drop)
 
 -- its text is U+FFFD

@@ -1,6 +1,6 @@
 use Rattle.tds_packet.proofs as N
 use N.payload.Payload.advance.Goals as goal
-use Rattle.std.proofs.Common.{◌+◌, refl, rules}
+use N.{◌+◌, refl}
 
 pub returns-in-Ok-clause-gives : goal.returns-in-Ok-clause-gives
 returns-in-Ok-clause-gives g c =
@@ -13,7 +13,7 @@ returns-in-Ok-clause-gives g c =
       last = c.in-Ok.head.last;
       wire = s.wire + c.from.result;
     } in
-    N.Futures.advance_ok g.R.Read.remaining s t _ c.requires (search rules) refl (search rules) refl refl refl refl c.in-Ok.ensures.read
+    N.Futures.advance_ok g.R.Read.remaining s t _ c.requires (search N.rules) refl (search N.rules) refl refl refl refl c.in-Ok.ensures.read
 
 pub returns-in-Err-clause-gives : goal.returns-in-Err-clause-gives
 returns-in-Err-clause-gives g c =

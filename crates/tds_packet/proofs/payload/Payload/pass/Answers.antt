@@ -1,7 +1,6 @@
 use Rattle.tds_packet.proofs as N
 use N.payload.Payload.pass.Goals as goal
-use N.PayloadLaws.{at_ok, at_err, between_of, ends_there, takes_piece}
-use Rattle.std.proofs.Common.{◌≡◌, ◌∙◌, ◌++◌, ◌+◌, length, ap, arith, rules, length-append}
+use N.{◌≡◌, ◌∙◌, ◌++◌, ◌+◌, rules, PayloadLaws.{at_ok, at_err, between_of, ends_there, takes_piece}}
 
 pub loop-passed-preserved : goal.loop-passed-preserved
 loop-passed-preserved g c =
@@ -14,12 +13,12 @@ loop-passed-preserved g c =
       same = search rules;
       began = inv.began;
       within = search rules;
-      place = omega arith;
+      place = omega N.arith;
       going = k.3;
       passes = record {
         bytes = inv.passes.bytes ++ bytes;
-        counted = length-append inv.passes.bytes bytes
-            ∙ ap (λ n. n + length bytes) inv.passes.counted;
+        counted = N.length-append inv.passes.bytes bytes
+            ∙ N.ap (λ n. n + N.length bytes) inv.passes.counted;
         takes = takes_piece g.R.Read.remaining c.args.self.now c.loop-passed.self c.piece.follows.lender-at-none inv.passes.bytes bytes
             inv.passes.counted c.in-Ok.ensures.len.0 inv.passes.takes k.0;
       };
@@ -34,7 +33,7 @@ returns-in-Err-clause-part g c = λ _.
     record {
       part = before.bytes;
       own = c.in-Err.stop;
-      fewer = omega arith;
+      fewer = omega N.arith;
       ends = rw (left, count) (ends_there g.R.Read.remaining c.args.self.now c.loop-passed.self s
           before.takes (at_err _ _ _ _ c.in-Err.is c.piece.follows.holds-at-none.2).0);
       stop_is = search rules;
