@@ -4,7 +4,7 @@ use N.{if◌then◌else◌, ◌≡◌, ℕ, ◌+◌, ◌-◌, ◌*◌, ◌/◌, 
 use N.{description}
 
 pub fits_in : (room so_far least : ℕ) → so_far + least ≤ room → N.too_long room so_far least ≡ N.None
-fits_in room so_far least h = grind arith
+fits_in = grind arith
 
 -- the bytes of a TYPE_INFO: its type byte and the rest
 pub record ByteAndRest (kind : Kind) (info : List ℕ) : Type 0 where
@@ -15,7 +15,7 @@ pub record ByteAndRest (kind : Kind) (info : List ℕ) : Type 0 where
   pub allowed : N.kind_of (byte ∷ rest) ≡ Some kind
 
 pub byte_and_rest : (kind : Kind) (info : List ℕ) → N.IsTypeInfo kind info → ByteAndRest kind info
-byte_and_rest kind info h = grind arith
+byte_and_rest = grind arith
 
 length-SpellsColumn : (c : Column) (bytes : List ℕ) (h : N.SpellsColumn c bytes) → length bytes ≡ (6 + length h.info) + (1 + length c.name)
 length-SpellsColumn c bytes h = rw h.spelt (simp length-append (omega arith))
@@ -37,7 +37,7 @@ at_column bytes count columns more = N.choose_false _ _ _ (N.ne_eqb _ count (λ 
 -- a Count of columns that fit
 count_free : (room n : ℕ) (bytes : List ℕ) → 0 < n → n < 65535 → 2 + 8 * n ≤ room → (N.count_fault room n ≡ N.None)
     × (N.with_count bytes n ≡ after_columns bytes n [])
-count_free room n bytes some most fits = grind arith
+count_free = grind arith
 
 module _ (room : ℕ) where
   module _ (b : List ℕ) (count : ℕ) (cols : List Column) where
@@ -46,7 +46,7 @@ module _ (room : ℕ) where
         → ((length b + 7) + ((n + 1) + 8 * (count - (length cols + 1)))) ≤ room
         → Spelt (description room) (InColumn b count cols N.ColumnHead) (ignored ++ byte ∷ [])
         (N.with_type (b ++ (ignored ++ byte ∷ [])) count cols byte n)
-    head_is_read ignored byte n six rest fits = grind (arith, N.Spelt-step, N.get_or-append_seam, length-append)
+    head_is_read = grind (arith, N.Spelt-step, N.get_or-append_seam, length-append)
 
     info_is_read : (byte : ℕ) (rest : List ℕ) (kind : Kind) → N.rest_length byte ≡ Some (length rest) → N.kind_of (byte ∷ rest) ≡ Some kind
         → Spelt (description room) (N.with_type b count cols byte (length rest)) rest (InColumn (b ++ rest) count cols (N.NameCount kind))
@@ -55,7 +55,7 @@ module _ (room : ℕ) where
 
     units_are_read : (kind : Kind) (units : ℕ) → (length b + 1) + (2 * units + 8 * (count - (length cols + 1))) ≤ room
         → Spelt (description room) (InColumn b count cols (N.NameCount kind)) (units ∷ []) (N.with_units (b ++ units ∷ []) count cols kind units)
-    units_are_read kind units fits = grind (arith, N.Spelt-step)
+    units_are_read = grind (arith, N.Spelt-step)
 
     name_is_read : (kind : Kind) (units : ℕ) (name : List ℕ) → length name ≡ 2 * units
         → Spelt (description room) (N.with_units b count cols kind units) name

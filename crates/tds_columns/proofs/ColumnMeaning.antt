@@ -4,23 +4,23 @@ use N.{◌==◌, if◌then◌else◌, ◌≡◌, ◌≢◌, ℕ, ◌+◌, ◌*�
 use N.ByteLemmas.{last_of, two_bytes}
 
 pub not_long : (room so_far least : ℕ) → N.too_long room so_far least ≡ None → so_far + least ≤ room
-not_long room so_far least h = grind arith
+not_long = grind arith
 
 -- a Count that isn't refused is at least 1
 pub not_zero : (room c : ℕ) → N.count_fault room c ≡ None → 0 < c
-not_zero room c q = grind arith
+not_zero = grind arith
 
 -- and unless it is that of no metadata the room has the least bytes of its columns
 pub room_for : (room c : ℕ) → c ≢ 0xFFFF → N.count_fault room c ≡ None → 2 + 8 * c ≤ room
-room_for room c other q = grind (arith, not_long)
+room_for = grind (arith, not_long)
 
 -- a type byte that is accepted
 pub known_type : (i byte : ℕ) (o : N.Option ℕ) (y : N.Option N.Fault) → N.first_of_two (N.type_fault i byte o) y ≡ None → (n : ℕ) × (o ≡ Some n)
-known_type i byte o y h = grind arith
+known_type = grind arith
 
 -- type information that is accepted
 pub some_kind : (index : ℕ) (o : N.Option N.Kind) → (if N.is_some o then None else Some (N.BadTypeInfo index)) ≡ None → N.is_some o ≡ N.true
-some_kind index o q = grind arith
+some_kind = grind arith
 
 -- the part of a column that is read, at the end of these bytes in this room
 abbrev pub ColumnMeans : ℕ → List ℕ → N.ColumnPlace → List ℕ → Type 0
@@ -64,7 +64,7 @@ module _ (room : ℕ) where
     -- a whole column
     with_means : (c : Column) → N.SpellsColumn c (h.part ++ e) → length (b ++ e) ≤ room
         → DescribedMeans room (N.with_column (have ++ e) count cols c) (b ++ e)
-    with_means c col fits =
+    with_means c col =
         let spelt = longer b e (count % 256 ∷ count / 256 ∷ []) h.front h.part h.spelt in
         let la = N.length-append cols (c ∷ []) in
         let each = one_more_column cols h.front c (h.part ++ e) h.whole col in

@@ -30,11 +30,11 @@ gathers {room = room} are x =
 -- a Count that says that there is no metadata
 pub gathers_none : {a b : Seen} {before after : N.Space} → before.bytes ≡ [] → N.TakesInto a b before after 2 → N.AreBytes after.bytes
     → N.little_number 2 after.bytes ≡ 0xFFFF → N.Takes a b (255 ∷ 255 ∷ []) 2
-gathers_none none t are all = grind (arith, N.ByteLemmas.two_bytes)
+gathers_none = grind (arith, N.ByteLemmas.two_bytes)
 
 -- an unfinished description has the bytes that were read
 unfinished : (d : N.DescriptionPart) (b : List ℕ) → Keeps d b → 0 < N.described_size d → N.description_bytes d ≡ b
-unfinished d b k some = grind arith
+unfinished = grind arith
 
 -- where a description stops the bytes kept are those of the whole elements
 pub gather_stops : {room : ℕ} {a b : Seen} {place peak : ℕ} {area : N.Space} {stop : N.Stop} → N.StopsDescribing room N.BeforeCount a b place peak area stop

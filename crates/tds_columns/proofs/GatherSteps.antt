@@ -6,12 +6,12 @@ use N.{Describes, ElementSteps.{cut_into, reads_into, refused_into, shrunk}}
 -- a state that something follows
 open_state : (s : DescriptionPart) (n : ℕ) → N.described_size s ≡ n → 0 < n → (N.described_end s ≡ Some N.MessageEnded)
     × (span s ≡ length (N.description_bytes s) + n)
-open_state s n size some = grind arith
+open_state = grind arith
 
 -- the bytes of an element are within what it leads to
 spans : (room : ℕ) (s : DescriptionPart) (e : List ℕ) → N.IsNext (N.description room) s e
     → length (N.description_bytes s) + length e ≤ span (N.add_described s e)
-spans room s e n = grind (arith, N.bare_type, N.choose, N.eq_true, N.is_some_value, N.length-append)
+spans = grind (arith, N.bare_type, N.choose, N.eq_true, N.is_some_value, N.length-append)
 
 module _ {room : ℕ} {s : DescriptionPart} {a b : Seen} {before after : Space} where
   -- the next element is cut
@@ -104,7 +104,7 @@ part_after (N.Err stop) to c z after same first h = stops_describing_after same 
 -- a column that is whole adds no bytes
 pub column_bytes : (bytes : List ℕ) (count : ℕ) (columns : List Column) (column : Column)
     → bytes ≡ N.description_bytes (N.with_column bytes count columns column)
-column_bytes bytes count columns column = grind arith
+column_bytes = grind arith
 
 -- the name after its count is read, or is cut
 pub name_after : {U : Type 0} (r : N.Result U Stop) (c : Seen) (after : Space) (place'' : ℕ) (stopped : N.Option Stop) {room count n : ℕ}

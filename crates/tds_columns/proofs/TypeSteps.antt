@@ -4,7 +4,7 @@ use N.{◌≡◌, ◌≢◌, ℕ, ◌+◌, ◌-◌, ◌≤◌, [], ◌∷◌, le
 
 pub no_kind : (byte : ℕ) {rest : ℕ} (element : N.List ℕ) → N.rest_length byte ≡ Some rest → length element ≡ rest → N.kind_of (byte ∷ element) ≡ N.None
     → rest ≢ 0
-no_kind byte element known len none z = grind (arith, N.bare_type, N.nil_from_length)
+no_kind = grind (arith, N.bare_type, N.nil_from_length)
 
 module _ {o a : Seen} (head : N.List ℕ) (taken : N.WereTaken o a head) (eight : length head ≡ 8) (rest : ℕ)
     (known : N.rest_length (slice_index head 7) ≡ Some rest) where

@@ -54,7 +54,7 @@ columns_lie (c ∷ cs) bytes h = grind (arith, N.drop-append_seam, N.and_from, (
 -- a description that is spelt shows its columns
 pub description_shows : (room : ℕ) (columns : List Column) (bytes : List ℕ) → N.SpellsDescription room columns bytes → (N.columns_of bytes ≡ columns)
     × (N.is_described bytes ≡ true) × (N.little_number 2 bytes ≡ length columns)
-description_shows room columns bytes h = grind (arith, N.and_from, columns_lie, N.length-append, N.test_le)
+description_shows = grind (arith, N.and_from, columns_lie, N.length-append, N.test_le)
 
 -- ---- what a whole column at the front allows
 
@@ -64,7 +64,7 @@ length_columns (N.suc n) bytes = omega (arith, length_columns n (drop (N.column_
 
 -- the kind that a TYPE_INFO names
 named_of : (k : N.Kind) (b : ℕ) (rest : List ℕ) → N.kind_of (b ∷ rest) ≡ Some k → N.named_kind b rest ≡ Some k
-named_of k b rest h = grind (arith, N.rest_length_of, N.nat_tests)
+named_of = grind (arith, N.rest_length_of, N.nat_tests)
 
 -- a whole column at the front
 pub record Lies (bytes : List ℕ) : Type 0 where
@@ -76,10 +76,10 @@ pub record Lies (bytes : List ℕ) : Type 0 where
   pub valid : N.is_valid kind ≡ true
 
 from_type : (bytes : List ℕ) (n : ℕ) → 7 ≤ length bytes → take (1 + n) (drop 6 bytes) ≡ N.slice_index bytes 6 ∷ take n (drop 7 bytes)
-from_type bytes n h = grind (arith, N.common_steps, N.drop-cons)
+from_type = grind (arith, N.common_steps, N.drop-cons)
 
 pub lies : (bytes : List ℕ) → N.is_column bytes ≡ true → Lies bytes
-lies bytes h = grind (arith, N.and_parts, from_type, N.is_some_value, N.le_true, N.length-drop, N.length-take-le, named_of, N.rest_length_of, N.valid_of)
+lies = grind (arith, N.and_parts, from_type, N.is_some_value, N.le_true, N.length-drop, N.length-take-le, named_of, N.rest_length_of, N.valid_of)
 
 -- all bytes from a place on
 pub all_after : (bytes : List ℕ) (n : ℕ) → take (length bytes - n) (drop n bytes) ≡ drop n bytes

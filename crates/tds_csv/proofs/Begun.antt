@@ -14,7 +14,7 @@ pub record BegunFront (c : Conversion) (old piece : List ℕ) : Type 0 where
   pub same : emit (N.conversion_rest c) (N.conversion_text c) (old ++ N.take taken piece) ≡ emit (N.conversion_rest c) (N.conversion_text c) (old ++ piece)
 
 all_begun : (c : Conversion) (old piece : List ℕ) → N.BeginsData c (old ++ piece) → BegunFront c old piece
-all_begun c old piece begun = grind (arith, N.take_all)
+all_begun = grind (arith, N.take_all)
 
 -- a byte of the piece is bad
 stopped_front : (old piece : List ℕ) (whole good : ℕ) → utf8.Begins old → N.StopsAt (old ++ piece) whole good → BegunFront N.Utf8Text old piece
@@ -31,7 +31,7 @@ utf8_front old piece (N.Some k) is begins =
 
 -- after data that begins, the first bytes of any piece begin too and fix all the text that the piece fixes
 pub begun_front : (c : Conversion) (old piece : List ℕ) → N.BeginsData c old → BegunFront c old piece
-begun_front c old piece begins = grind (arith, utf8_front, N.take_all)
+begun_front = grind (arith, utf8_front, N.take_all)
 
 -- an odd byte completes no unit
 odd_front : (d : List ℕ) (x : ℕ) → (length (d ++ x ∷ []) % 2 ≡ 0 → ⊥) → utf16_laws.front (d ++ x ∷ []) ≡ utf16_laws.front d

@@ -28,7 +28,7 @@ run_in n q d i z few room fits f lanes all =
     ∙ same_prefix (Fits w8) (λ x small. N.agree_below_at (λ x. not (top 7 (f x))) q 256 x all small.fits) (chunk i n d) (N.chunk-fits w8 i n d fits)
 
 pub run_most : (q : ℕ → Bool) (d : List ℕ) (i n : ℕ) → i + n ≤ length d → N.prefix_len q (chunk i n d) ≤ n
-run_most q d i n room = grind (arith, N.prefix_len-le-length, N.length-chunk)
+run_most = grind (arith, N.prefix_len-le-length, N.length-chunk)
 
 -- bytes that lie in others are the same as those
 pub alike : (bytes source : List ℕ) (at n : ℕ) → N.LiesIn bytes source → n ≤ 16 → at + n ≤ length bytes
@@ -76,7 +76,7 @@ first_lanes q n us is =
 
 -- and those above, the others
 pub last_lanes : (q : ℕ → Bool) (us : List ℕ) {mask : ℕ} → mask ≡ mask_l (map q us) → mask / 16 ≡ mask_l (map q (drop 4 us))
-last_lanes q us is = grind arith
+last_lanes = grind arith
 
 -- and few bits
 pub few_ones : (q : ℕ → Bool) (us : List ℕ) {mask : ℕ} → mask ≡ mask_l (map q us) → count_ones mask ≤ length us
@@ -85,7 +85,7 @@ few_ones q us is = rw (is, N.ones-mask_l q us) (count_by-le-length q us)
 -- so the mask of the first of eight lanes
 pub first_mask : (q : ℕ → Bool) (us : List ℕ) (n : ℕ) {mask : ℕ} → length us ≡ 8 → n ≤ 8 → mask ≡ mask_l (map q (take n us))
     → (mask < 256) × (count_ones mask ≤ n)
-first_mask q us n long few is = grind (arith, N.length-take-le, mask_small, N.length-map, few_ones)
+first_mask = grind (arith, N.length-take-le, mask_small, N.length-map, few_ones)
 
 -- none of the lanes of a mask passes
 pub none_passes : (q : ℕ → Bool) (us : List ℕ) → mask_l (map q us) ≡ 0 → Each1 (λ u. q u ≡ false) us
@@ -110,8 +110,8 @@ all_pass q (suc n) (u ∷ us) few is =
 -- none of the first passes, if their mask is empty
 pub none_of_first : (q : ℕ → Bool) (us : List ℕ) (n : ℕ) {mask low : ℕ} → mask ≡ mask_l (map q us) → low ≡ mask % 2 ^ n → low ≡ 0
     → Each1 (λ u. q u ≡ false) (take n us)
-none_of_first q us n is lowest none = grind (arith, none_passes, first_lanes)
+none_of_first = grind (arith, none_passes, first_lanes)
 
 -- at most eight lanes come before the first that passes
 pub first_few : (q : ℕ → Bool) (us : List ℕ) {mask : ℕ} → length us ≡ 8 → mask ≡ mask_l (map q us) → N.first_set mask 8 ≤ 8
-first_few q us long is = grind (arith, N.first_set_mask_l, N.prefix_len-le-length)
+first_few = grind (arith, N.first_set_mask_l, N.prefix_len-le-length)

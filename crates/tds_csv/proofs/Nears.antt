@@ -147,12 +147,12 @@ module _ {S T : Type 0} (small : Grammar S Fault) (big : Grammar T Fault) (lift 
   -- what is added to the small text between two states with a next element is added to the big one
   pub added_between : (s t : S) (more : List ℕ) → 0 < small.size s → 0 < small.size t → text s ++ more ≡ text t
       → whole (lift s) ++ more ≡ whole (lift t)
-  added_between s t more some more_to_come e = grind (arith, append_assoc)
+  added_between = grind (arith, append_assoc)
 
   -- after the small text the big one has a tail
   pub tail_after : (s t : S) (more tail : List ℕ) → 0 < small.size s → text s ++ more ≡ text t → (front ++ text t) ++ tail ≡ whole (lift t)
       → whole (lift s) ++ (more ++ tail) ≡ whole (lift t)
-  tail_after s t more tail some e end = grind (arith, append_assoc)
+  tail_after = grind (arith, append_assoc)
 
   -- the small grammar was read to its end, and its text put: of the big one's text only what stands after it is to be put
   abbrev pub nears_inside : (from : S) (a b : Seen) (h i : Held) (to : S) (tail : List ℕ) → (x : N.Words.Streams small text from a b h i to)

@@ -54,8 +54,8 @@ bits zero mask = []
 bits (suc n) mask = nat_eq (mask % 2) 1 ∷ bits n (mask / 2)
 
 lowest_bit : (b : Bool) (n : ℕ) → (nat_eq ((cond b 1 0 + 2 * n) % 2) 1 ≡ b) × ((cond b 1 0 + 2 * n) / 2 ≡ n)
-lowest_bit true n = grind arith
-lowest_bit N.false n = grind arith
+lowest_bit true = grind arith
+lowest_bit N.false = grind arith
 
 -- a row for two masks of some lanes begins with the places of these lanes
 pub row_begins : (f : Bool → Bool → List ℕ) (width at m : ℕ) (ws ls : List Bool) → length ws ≤ m → length ls ≡ length ws
@@ -147,7 +147,7 @@ chosen_maps m f g (u ∷ us) = ap (λ xs. cond (m u) (f u) (g u) ∷ xs) (chosen
 -- and by the tops of others
 pub chosen : (l f g : ℕ → ℕ) (us : List ℕ) {ls xs ys : List ℕ} → ls ≡ map l us → xs ≡ map f us → ys ≡ map g us
     → N.sel_l (map (top 15) ls) xs ys ≡ map (λ u. cond (top 15 (l u)) (f u) (g u)) us
-chosen l f g us ls xs ys = grind (arith, N.map-map, chosen_maps)
+chosen = grind (arith, N.map-map, chosen_maps)
 
 -- two bytes are a lane
 pub units_of_bytes : (n : ℕ) (xs : List ℕ) → length xs ≡ 2 * n → Each1 (Fits w8) xs → digits_l 65536 n (number_l 256 xs) ≡ units xs
@@ -181,7 +181,7 @@ bytes_of_map f [] = refl
 bytes_of_map f (u ∷ us) = ap (λ xs. (f u % 256) ∷ (f u / 256 % 256) ∷ xs) (bytes_of_map f us)
 
 pair_fits : (u : ℕ) → u < 65536 → (pair u < 65536) × ((low_quad u < 65536) × (high_quad u < 65536))
-pair_fits u small = grind arith
+pair_fits = grind arith
 
 each_fits : (us : List ℕ) → Each1 (Fits w16) us → Each1 (λ x. x < 65536) (map pair us)
 each_fits [] fits = tt
@@ -198,7 +198,7 @@ woven bs = map (λ k. get_or (bs ++ bs) k 0) (0 ∷ 2 ∷ 3 ∷ 4 ∷ 6 ∷ 7 �
 
 split : (u : ℕ) → u < 65536 → (lead u % 256 ≡ 224 + u / 4096) × (others u % 256 ≡ 128 + u / 64 % 64) × (others u / 256 % 256 ≡ 128 + u % 64)
     × (lead u < 65536) × (others u < 65536)
-split u small = grind arith
+split = grind arith
 
 -- the bytes of four of them
 abbrev four : ℕ → ℕ → ℕ → ℕ → List ℕ
@@ -251,12 +251,12 @@ quad_lanes us ls hs long fits is_low is_high = absurd (omega arith)
 pub high_lane : (u : ℕ) → u < 65536
     → cond (top 15 (cond (N.eqb u 34) 65535 0)) 8738 (((u / 4096 + (u / 64 % 64 * 256) % 65536) % 65536 + cond (top 15 (cond (N.leb 2048 u) 65535 0)) 32992 49376)
     % 65536) ≡ high_quad u
-high_lane u small = grind arith
+high_lane = grind arith
 
 -- and of the first
 pub low_lane : (u : ℕ) → u < 65536
     → cond (top 15 (cond (N.eqb u 34) 65535 0)) 8738 ((u % 256 + ((u % 64 + 128) % 65536 * 256) % 65536) % 65536) ≡ low_quad u
-low_lane u small = grind arith
+low_lane = grind arith
 
 -- what holds of one number holds of eight lanes of it
 pub asks_all : (R : ℕ → ℕ → Type 0) (us : List ℕ) (k : ℕ) → ((x : ℕ) → R x k) → Each2 R us (N.replicate 8 k)

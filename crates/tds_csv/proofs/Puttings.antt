@@ -19,22 +19,22 @@ PutsPiece-trans contents a b c u p q (Err e) x y =
 -- the value of a success says nothing
 pub PutsPiece-ok : {W U V : Type 0} (contents : W → Option (List ℕ)) (a b : Sink W) (p : List ℕ) (u : U) (v : V) → PutsPiece contents a b p (Ok u)
     → PutsPiece contents a b p (Ok v)
-PutsPiece-ok contents a b p u v x = grind arith
+PutsPiece-ok = grind arith
 
 -- a call that failed, of a longer text
 pub PutsPiece-longer : {W U V : Type 0} (contents : W → Option (List ℕ)) (a b : Sink W) (p more : List ℕ) (e : Stop)
     → PutsPiece {U = U} contents a b p (Err e) → PutsPiece {U = V} contents a b (p ++ more) (Err e)
-PutsPiece-longer contents a b p more e x = grind (arith, N.common_steps)
+PutsPiece-longer = grind (arith, N.common_steps)
 
 -- `?` passed its error on, of the same text
 pub PutsPiece-error : {W U V : Type 0} (contents : W → Option (List ℕ)) (a b : Sink W) (p : List ℕ) (e : Stop) (r : Result V Stop)
     → N.IsErrAnd r (λ stop. stop ≡ e) → PutsPiece {U = U} contents a b p (Err e) → PutsPiece contents a b p r
-PutsPiece-error contents a b p e r is x = grind arith
+PutsPiece-error = grind arith
 
 -- and of a longer one
 pub PutsPiece-passed : {W U V : Type 0} (contents : W → Option (List ℕ)) (a b : Sink W) (p more : List ℕ) (e : Stop) (r : Result V Stop)
     → N.IsErrAnd r (λ stop. stop ≡ e) → PutsPiece {U = U} contents a b p (Err e) → PutsPiece contents a b (p ++ more) r
-PutsPiece-passed contents a b p more e r is x = grind (arith, N.common_steps)
+PutsPiece-passed = grind (arith, N.common_steps)
 
 -- ---- pushes and ends of a joiner, by what they put
 
@@ -48,21 +48,21 @@ module _ {W U V : Type 0} {contents : W → Option (List ℕ)} {begins : List �
   -- all was put
   pub pushes_taken : {u : U} {v : V} → a.failed ≡ false → begins (old ++ piece) → begins new → p ≡ N.emit rest text (old ++ piece)
       → new ≡ rest (old ++ piece) → PutsPiece contents a b p (Ok u) → N.PushesPiece contents begins rest text old new a b piece (Ok v)
-  pushes_taken going whole begun is withheld x = grind arith
+  pushes_taken = grind arith
 
   -- the good bytes before a bad one were put
   pub pushes_up_to : {u : U} {k : ℕ} → a.failed ≡ false → begins new → N.TakesUpTo begins rest text old new (held contents a) (held contents b) piece k
       → PutsPiece contents a b p (Ok u) → N.PushesPiece {U = V} contents begins rest text old new a b piece (Err (N.BadText k))
-  pushes_up_to going begun found x = grind arith
+  pushes_up_to = grind arith
 
   -- a write failed
   pub pushes_stopped : {e : Stop} {r : Result V N.JoinFault} → a.failed ≡ false → begins new → p ≡ N.emit rest text (old ++ piece)
       → PutsPiece {U = U} contents a b p (Err e) → N.IsErrAnd r (λ fault. fault ≡ N.Stopped e) → N.PushesPiece contents begins rest text old new a b piece r
-  pushes_stopped going begun is x passed = grind arith
+  pushes_stopped = grind arith
 
 -- the text of what was withheld was put
 pub ends_whole : {W U V : Type 0} {contents : W → Option (List ℕ)} {unit : ℕ} {fit begins : List ℕ → Type 0} {text : List ℕ
     → List ℕ} {old new : List ℕ} {a b : Sink W} {p : List ℕ} {u : U} {v : V}
     → a.failed ≡ false → fit old → new ≡ [] → (begins old → begins []) → p ≡ text old → PutsPiece contents a b p (Ok u)
     → N.EndsPieces contents unit fit begins text old new a b (Ok v)
-ends_whole going whole none begun is x = grind arith
+ends_whole = grind arith

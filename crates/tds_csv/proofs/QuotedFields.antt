@@ -8,4 +8,4 @@ opened (a ∷ to) h = refl
 -- a quote, so many bytes of what was written after it, and a quote
 pub quoted : (to new rest text : List ℕ) (m : ℕ) → 1 ≤ length to → m ≤ length new → take m new ≡ text
     → take (1 + m) (take 1 (slice_set to 0 quote) ++ (new ++ rest)) ++ quote ∷ [] ≡ quoted_field text
-quoted to new rest text m some within is = grind (arith, opened, take-append-le)
+quoted = grind (arith, opened, take-append-le)

@@ -26,7 +26,7 @@ joins_binary = joins_single binary.text (hex-append N.lower_digits) hex-nil
 
 -- the text of two pieces
 pub windows_1252-append : (x y : List ℕ) → windows_1252.text (x ++ y) ≡ windows_1252.text x ++ windows_1252.text y
-windows_1252-append x y = grind (N.arith, N.map-append, N.encodes-append, N.JoiningLemmas.doubled-append)
+windows_1252-append = grind (N.arith, N.map-append, N.encodes-append, N.JoiningLemmas.doubled-append)
 
 -- text in Windows-1252 may come in pieces
 pub joins_windows_1252 : N.JoinsPieces windows_1252.IsFit windows_1252.IsFit windows_1252.rest windows_1252.text

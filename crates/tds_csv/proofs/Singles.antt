@@ -41,7 +41,7 @@ module _ (text : List ℕ → List ℕ) (appends : (x y : List ℕ) → text (x 
   -- which were added to it
   pub text_taken : {run after : List ℕ} (bytes : List ℕ) (at n : ℕ) → after ≡ run ++ text (take n (drop at bytes)) → run ≡ text (take at bytes)
       → after ≡ text (take (at + n) bytes)
-  text_taken bytes at n added e = grind (arith, N.take-add)
+  text_taken = grind (arith, N.take-add)
 
   -- bytes that stand for themselves, up to the first that needn't
   module _ (q : ℕ → N.Bool) (empty : text [] ≡ []) (itself : (b : ℕ) → q b ≡ true → text (b ∷ []) ≡ b ∷ []) where
@@ -54,7 +54,7 @@ module _ (text : List ℕ → List ℕ) (appends : (x y : List ℕ) → text (x 
     -- those that were found among the next `w`
     pub lanes_itself : (w : ℕ) (bytes : List ℕ) (at n : ℕ) → n ≤ w → n ≡ N.prefix_len q (chunk at w bytes)
         → take n (chunk at w bytes) ≡ text (take n (drop at bytes))
-    lanes_itself w bytes at n few e = grind (arith, some_itself, N.take-take)
+    lanes_itself = grind (arith, some_itself, N.take-take)
 
 -- ---- bytes of Windows-1252 that stand for themselves
 
@@ -85,7 +85,7 @@ upper_put b at {w} old new low high is within written = let t = upper_text b low
 
 -- a byte that is plain is its own text
 plain_itself : (b : ℕ) → is_plain b ≡ true → windows_1252.text (b ∷ []) ≡ b ∷ []
-plain_itself b h = grind (arith, N.Characters.of_one)
+plain_itself = grind (arith, N.Characters.of_one)
 
 -- some of the bytes that were found among the next 16 of a source
 pub plain_lanes : (source bytes : List ℕ) (at n : ℕ) → n ≤ 16 → n ≤ N.prefix_len is_plain (chunk at 16 source)

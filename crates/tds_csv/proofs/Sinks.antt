@@ -4,13 +4,13 @@ use N.{◌≡◌, ℕ, ◌+◌, ◌-◌, ◌^◌, ◌<◌, ◌≤◌, List, [], 
 use Rattle.tds_packet.proofs.Joins.{Stays-Rises, Stays-none, Stays-trans}
 
 pub counted-none : (n : ℕ) → n ≤ 2 ^ 64 - 1 → n ≡ N.counted n 0
-counted-none n h = omega arith
+counted-none = omega arith
 
 pub counted-twice : (n k l : ℕ) → N.counted (N.counted n k) l ≡ N.counted n (k + l)
-counted-twice n k l = omega arith
+counted-twice = omega arith
 
 pub Adds-trans : (a b c : Held) (d f p q : List ℕ) → Adds a b d p → Adds b c f q → Adds a c (d ++ f) (p ++ q)
-Adds-trans a b c d f p q x y = grind (arith, N.append_assoc, N.length-append, N.Appends-trans)
+Adds-trans = grind (arith, N.append_assoc, N.length-append, N.Appends-trans)
 
 pub Puts-none : (a : Held) → a.delivered ≤ 2 ^ 64 - 1 → Puts a a []
 Puts-none a h = ([], 0, (N.Appends-nil a.had, N.append-nil a.waiting, counted-none a.delivered h), N.refl, Stays-none a.failures)
@@ -40,15 +40,15 @@ Breaks-after a b c p q e x y =
     )
 
 pub Breaks-longer : (a b : Held) (p more : List ℕ) (e : Stop) → Breaks a b p e → Breaks a b (p ++ more) e
-Breaks-longer a b p more e x = grind (arith, N.take-append-le, N.length-append)
+Breaks-longer = grind (arith, N.take-append-le, N.length-append)
 
 -- a block became full, and was delivered, or not
 pub block : {U : Type 0} (a m b : Held) (piece : List ℕ) (r : N.Result U Stop) → m ≡ record a { waiting = a.waiting ++ piece } → length m.waiting ≡ 4096
     → N.OnErr r (0 < length b.waiting)
     → N.MatchResult r (λ _. N.Sends m b) (λ e. N.FinishFails m b e) → N.MatchResult r (λ _. Puts a b piece) (λ e. Breaks a b piece e)
-block a m b piece r is full some x = grind (arith, N.append-nil, N.length-append, N.take_all, N.le_refl)
+block = grind (arith, N.append-nil, N.length-append, N.take_all, N.le_refl)
 
 pub block_going : {U : Type 0} (a m b : Held) (piece : List ℕ) (r : N.Result U Stop) (failed : N.Bool) → m ≡ record a { waiting = a.waiting ++ piece }
     → length m.waiting ≡ 4096 → N.OnErr r (0 < length b.waiting)
     → N.MatchResult r (λ _. N.Sends m b) (λ e. N.FinishFails m b e) → N.MatchResult r (λ _. Puts a b piece) (λ e. failed ≡ N.false → Breaks a b piece e)
-block_going a m b piece r failed is full some x = grind (arith, N.common_steps)
+block_going = grind (arith, N.common_steps)

@@ -4,23 +4,23 @@ use N.{◌≡◌, ℕ, List, ◌++◌, length, take, arith, Ok}
 
 -- all the room that was lent was written over
 pub spare_bytes : (bytes lent written : List ℕ) → length written ≡ length lent → N.overwritten (length bytes) written (bytes ++ lent) ≡ bytes ++ written
-spare_bytes bytes lent written e = grind (arith, N.length-append, N.overwritten_all, N.take-append_seam)
+spare_bytes = grind (arith, N.length-append, N.overwritten_all, N.take-append_seam)
 
 -- what waited before
 pub spare_before : (bytes lent written : List ℕ) → length written ≡ length lent
     → take (length bytes) (N.overwritten (length bytes) written (bytes ++ lent)) ≡ bytes
-spare_before bytes lent written e = grind (arith, spare_bytes, N.take-append_seam)
+spare_before = grind (arith, spare_bytes, N.take-append_seam)
 
 -- what was written
 pub spare_written : (bytes lent written : List ℕ) → length written ≡ length lent
     → N.drop (length bytes) (N.overwritten (length bytes) written (bytes ++ lent)) ≡ written
-spare_written bytes lent written e = grind (arith, spare_bytes, N.drop-append_seam)
+spare_written = grind (arith, spare_bytes, N.drop-append_seam)
 
 -- the bytes that wait, and what was written after them
 spared : (bytes room written : List ℕ) (waiting : ℕ) → length written ≡ length room → waiting ≡ length bytes
     → (take waiting (N.overwritten (length bytes) written (bytes ++ room)) ≡ bytes)
     × (N.drop waiting (N.overwritten (length bytes) written (bytes ++ room)) ≡ written)
-spared bytes room written waiting whole at = grind (arith, spare_before, spare_written)
+spared = grind (arith, spare_before, spare_written)
 
 -- what is written into the room that a sink lends, and kept, was put
 module _ {W U V : Type 0} {contents : W → N.Option (List ℕ)} {new : N.Sink W} {made : ℕ} {text : List ℕ} (sink : N.Sink W) (room written : List ℕ)
@@ -28,8 +28,8 @@ module _ {W U V : Type 0} {contents : W → N.Option (List ℕ)} {new : N.Sink W
     (is : take made written ≡ text) where
   pub kept_puts : {u : U} {v : V} → N.KeepsPiece contents (N.with_spare sink room written) new waiting made (Ok u)
       → N.PutsPiece contents sink new text (Ok v)
-  kept_puts x = grind (arith, spared)
+  kept_puts = grind (arith, spared)
 
   pub kept_breaks : {e : N.Stop} → N.KeepsPiece {U = U} contents (N.with_spare sink room written) new waiting made (N.Err e)
       → N.PutsPiece {U = V} contents sink new text (N.Err e)
-  kept_breaks x = grind (arith, spared)
+  kept_breaks = grind (arith, spared)

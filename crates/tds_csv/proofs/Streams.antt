@@ -5,7 +5,7 @@ use N.{◌≡◌, ◌∙◌, ℕ, ◌+◌, ◌<◌, List, ◌++◌, ap, Fault, S
 -- a state where a reading stops has a next element
 pub stops_size : {S : Type 0} (g : Grammar S Fault) (from : S) (a b : Seen) (place : ℕ) (at : S) (stop : Stop) → N.StopsReading g from a b place at stop
     → 0 < g.size at
-stops_size g from a b place at stop r = grind N.arith
+stops_size = grind N.arith
 
 -- the text between three states, put by two calls
 pub puts_both : {S : Type 0} (text : S → List ℕ) (s t u : S) (a b c : Held) → PutsText text s t a b → PutsText text t u b c → PutsText text s u a c
@@ -52,7 +52,7 @@ module _ {S T : Type 0} (small : Grammar S Fault) (big : Grammar T Fault) (lift 
     → List ℕ) (front : List ℕ) (text_is : (s : S) → front ++ text s ≡ whole (lift s)) where
   -- what is added to the small text is added to the big one
   pub added_inside : (s t : S) (more : List ℕ) → text s ++ more ≡ text t → whole (lift s) ++ more ≡ whole (lift t)
-  added_inside s t more e = grind (N.arith, N.append_assoc)
+  added_inside = grind (N.arith, N.append_assoc)
 
   -- the text between two states of the small grammar is that between those of the big one
   pub puts_inside : (s t : S) (a b : Held) → PutsText text s t a b → PutsText whole (lift s) (lift t) a b

@@ -26,7 +26,7 @@ Apart (u ∷ []) vs = (is_high_surrogate u && starts_low vs) ≡ false
 Apart (u ∷ v ∷ us) vs = Apart (v ∷ us) vs
 
 Apart-tail : (v : ℕ) (us vs : List ℕ) → Apart (v ∷ us) vs → Apart us vs
-Apart-tail v us vs h = grind arith
+Apart-tail = grind arith
 
 -- the characters of units that are cut where no pair lies
 pub chars-apart : (us vs : List ℕ) → Apart us vs → utf16_chars (us ++ vs) ≡ utf16_chars us ++ utf16_chars vs
@@ -37,7 +37,7 @@ chars-apart (u ∷ []) (v ∷ vs) h = grind arith
 chars-apart (u ∷ v ∷ us) vs h = grind (arith, chars-apart us vs (Apart-tail v us vs h), chars-apart (v ∷ us) vs h)
 
 pub high_is_not_low : (u : ℕ) → is_high_surrogate u ≡ true → is_low_surrogate u ≡ false
-high_is_not_low u h = grind arith
+high_is_not_low = grind arith
 
 -- the bytes before the rest
 abbrev pub front : List ℕ → List ℕ
@@ -49,10 +49,10 @@ front (low ∷ high ∷ low' ∷ high' ∷ bytes) = low ∷ high ∷ front (low'
 
 -- a unit that is no high surrogate is settled, whatever follows
 pub front_step : (low high : ℕ) (bytes : List ℕ) → is_high low high ≡ false → front (low ∷ high ∷ bytes) ≡ low ∷ high ∷ front bytes
-front_step low high bytes h = grind arith
+front_step = grind arith
 
 pub rest_step : (low high : ℕ) (bytes : List ℕ) → is_high low high ≡ false → rest (low ∷ high ∷ bytes) ≡ rest bytes
-rest_step low high bytes h = grind arith
+rest_step = grind arith
 
 -- bytes and what follows them, seen from the bytes that are withheld
 record Seam (a b : List ℕ) : Type 0 where
@@ -73,7 +73,7 @@ seam (low ∷ high ∷ low' ∷ high' ∷ bytes) b = let more = seam (low' ∷ h
 -- one unit before the front of what follows it
 Apart-cons : (u : ℕ) (a : List ℕ) (low high : ℕ) (vs : List ℕ) → (starts_high (units (rest (low ∷ high ∷ a))) ≡ true → starts_low vs ≡ false)
     → Apart (units (front (low ∷ high ∷ a))) vs → Apart (u ∷ units (front (low ∷ high ∷ a))) vs
-Apart-cons u a low high vs f h = grind arith
+Apart-cons = grind arith
 
 -- no pair lies across the end of the front, where no low surrogate comes first after a rest that begins with a high one
 Apart-front : (a vs : List ℕ) → (starts_high (units (rest a)) ≡ true → starts_low vs ≡ false) → Apart (units (front a)) vs
@@ -86,7 +86,7 @@ Apart-front (low ∷ high ∷ low' ∷ high' ∷ bytes) vs f = grind (arith, Apa
 -- the text of units is that of both parts where no pair lies across
 texts : (us vs : List ℕ) → Apart us vs → doubled (encode_utf8_all (utf16_lossy_chars (us ++ vs))) ≡ doubled (encode_utf8_all (utf16_lossy_chars us))
     ++ doubled (encode_utf8_all (utf16_lossy_chars vs))
-texts us vs h = grind (arith, chars-apart, map-append, encodes-append, doubled-append)
+texts = grind (arith, chars-apart, map-append, encodes-append, doubled-append)
 
 text-front : (a b : List ℕ) → Apart (units (front a)) (units b) → text (front a ++ b) ≡ text (front a) ++ text b
 text-front a b h = ap (λ us. doubled (encode_utf8_all (utf16_lossy_chars us))) (seam a b).units_are ∙ texts (units (front a)) (units b) h

@@ -24,7 +24,7 @@ chars_one u us h = ap (N.map (λ o. unwrap_or o 0xFFFD)) (N.Utf16Laws.chars-apar
 
 spells_one : (low high : ℕ) (bytes : List ℕ) (code : ℕ) → unwrap_or (N.lone_unit_char (low + 256 * high)) 0xFFFD ≡ code
     → (is_high low high ≡ true → starts_low (units bytes) ≡ false) → characters (low ∷ high ∷ bytes) ≡ N.encode_utf8 code ++ characters bytes
-spells_one low high bytes code e h = grind (arith, chars_one)
+spells_one = grind (arith, chars_one)
 
 spells_pair : (low high low' high' : ℕ) (bytes : List ℕ) → is_high low high ≡ true → is_low_surrogate (low' + 256 * high') ≡ true
     → characters (low ∷ high ∷ low' ∷ high' ∷ bytes) ≡ N.encode_utf8 (N.surrogate_pair_char (low + 256 * high) (low' + 256 * high')) ++ characters bytes
@@ -34,7 +34,7 @@ spells_pair low high low' high' bytes h l = simp (h, l)
 -- the text of a front, from its characters
 emits_by : (bytes more : List ℕ) (code : ℕ) → characters (front bytes) ≡ N.encode_utf8 code ++ characters (front more)
     → emit rest text bytes ≡ N.doubled (N.encode_utf8 code) ++ emit rest text more
-emits_by bytes more code e = grind (arith, emit-front, doubled-append)
+emits_by = grind (arith, emit-front, doubled-append)
 
 -- a unit that is no high surrogate
 pub next_one : (low high : ℕ) (bytes : List ℕ) (code : ℕ) → is_high low high ≡ false → unwrap_or (N.lone_unit_char (low + 256 * high)) 0xFFFD ≡ code
@@ -46,18 +46,18 @@ next_one low high bytes code h e = record {
 }
 
 pub lone_other : (u : ℕ) → N.is_high_surrogate u ≡ false → is_low_surrogate u ≡ false → unwrap_or (N.lone_unit_char u) 0xFFFD ≡ u
-lone_other u h l = grind arith
+lone_other = grind arith
 
 pub lone_half : (u : ℕ) → (N.is_high_surrogate u ≡ true) ⊎ (is_low_surrogate u ≡ true) → unwrap_or (N.lone_unit_char u) 0xFFFD ≡ 0xFFFD
-lone_half u h = grind arith
+lone_half = grind arith
 
 -- a surrogate that is no low one
 pub high_half : (u : ℕ) → (N.is_high_surrogate u || is_low_surrogate u) ≡ true → is_low_surrogate u ≡ false → N.is_high_surrogate u ≡ true
-high_half u some low = grind arith
+high_half = grind arith
 
 -- a low surrogate is no high one
 pub not_high : (u : ℕ) → is_low_surrogate u ≡ true → N.is_high_surrogate u ≡ false
-not_high u low = grind arith
+not_high = grind arith
 
 -- a high surrogate before a unit that is no low one
 pub next_alone : (low high low' high' : ℕ) (bytes : List ℕ) → is_high low high ≡ true → is_low_surrogate (low' + 256 * high') ≡ false
@@ -87,25 +87,25 @@ next_pair low high low' high' bytes h l =
 -- whole data of which all is withheld is a high surrogate
 pub spells_held : (xs : List ℕ) → 2 ≤ length xs → length xs % 2 ≡ 0 → rest xs ≡ xs → characters xs ≡ N.encode_utf8 0xFFFD ++ characters (drop 2 xs)
 unfolding starts_low
-spells_held xs some whole e = grind (arith, short, N.nat_tests, N.and_right, N.encode_utf8_all, chars_one)
+spells_held = grind (arith, short, N.nat_tests, N.and_right, N.encode_utf8_all, chars_one)
 
 -- a high surrogate stays before what is no whole unit
 held_high : (low high : ℕ) (more : List ℕ) → length more < 2 → is_high low high ≡ true → rest (low ∷ high ∷ more) ≡ low ∷ high ∷ more
-held_high low high more few h = grind arith
+held_high = grind arith
 
 -- the bytes from a place on, the first ones named
 pub drop_two : (xs : List ℕ) (i : ℕ) → i + 1 < length xs → drop i xs ≡ get_or xs i 0 ∷ get_or xs (i + 1) 0 ∷ drop (i + 2) xs
-drop_two xs i h = grind (arith, N.drop_more)
+drop_two = grind (arith, N.drop_more)
 
 pub drop_four : (xs : List ℕ) (i : ℕ) → i + 3 < length xs
     → drop i xs ≡ get_or xs i 0 ∷ get_or xs (i + 1) 0 ∷ get_or xs (i + 2) 0 ∷ get_or xs (i + 3) 0 ∷ drop (i + 4) xs
-drop_four xs i h = grind (arith, drop_two)
+drop_four = grind (arith, drop_two)
 
 -- ---- the steps from a place on, by the units that stand there
 
 pub held_at : (xs : List ℕ) (i : ℕ) {u : ℕ} → i + 1 < length xs → length xs < i + 4 → u ≡ get_or xs i 0 + 256 * get_or xs (i + 1) 0
     → N.is_high_surrogate u ≡ true → rest (drop i xs) ≡ drop i xs
-held_at xs i within few is h = grind (arith, N.common_steps)
+held_at = grind (arith, N.common_steps)
 
 pub one_at : (xs : List ℕ) (i : ℕ) {u code : ℕ} → i + 1 < length xs → u ≡ get_or xs i 0 + 256 * get_or xs (i + 1) 0 → N.is_high_surrogate u ≡ false
     → unwrap_or (N.lone_unit_char u) 0xFFFD ≡ code → IsNext (drop i xs) code 2
@@ -141,7 +141,7 @@ ends_held {bytes} {to} {used} {made} before held =
 
 -- nothing comes after this place
 pub ends_there : {bytes to : List ℕ} {used made : ℕ} → N.Converts bytes to used made → used ≡ length bytes → Ended bytes to used made
-ends_there before all = grind (arith, nil_of_length, N.length-drop, ends_held)
+ends_there = grind (arith, nil_of_length, N.length-drop, ends_held)
 
 -- ---- withheld bytes of text in UTF-16, with the first ones of a piece
 
@@ -164,7 +164,7 @@ none_leads piece none = rw none (Leads-after [] piece)
 
 -- some bytes are withheld
 seam_some : (kept piece : List ℕ) → 0 < length kept → seam kept piece ≡ kept ++ take 3 piece
-seam_some kept piece some = grind arith
+seam_some = grind arith
 
 pub some_leads : {kept own : List ℕ} (piece bytes : List ℕ) (used : ℕ) → kept ≡ own → 0 < length kept → 3 ≤ length piece
     → bytes ≡ kept ++ take 3 piece → N.LeavesRest bytes 0 used

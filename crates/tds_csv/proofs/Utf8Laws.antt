@@ -77,16 +77,16 @@ valid_len-append a b = rw regrouped (valid_len-past (front a) (rest a ++ b) (fro
 
 front-append : (a b : List ℕ) → front (a ++ b) ≡ front a ++ front (rest a ++ b)
 unfolding front
-front-append a b = grind (arith, valid_len-append, regrouped, N.take-append-add)
+front-append = grind (arith, valid_len-append, regrouped, N.take-append-add)
 
 pub rest-append : (a b : List ℕ) → rest (a ++ b) ≡ rest (rest a ++ b)
-rest-append a b = grind (arith, valid_len-append, regrouped, N.drop-append-add)
+rest-append = grind (arith, valid_len-append, regrouped, N.drop-append-add)
 
 pub emit-front : (a : List ℕ) → emit rest text a ≡ text (front a)
 emit-front a = ap text (settled_front rest a (front a) (front-rest a))
 
 pub emits : (a b : List ℕ) → emit rest text (a ++ b) ≡ emit rest text a ++ emit rest text (rest a ++ b)
-emits a b = grind (arith, emit-front, front-append, doubled-append)
+emits = grind (arith, emit-front, front-append, doubled-append)
 
 ends : (a : List ℕ) → text a ≡ emit rest text a ++ text (rest a)
 ends a = cc (front-rest a, doubled-append (front a) (rest a), emit-front a)
@@ -142,7 +142,7 @@ short a begins = elim (begun_rest a begins) [
 
 -- what follows, seen from the front
 seam : (a b more : List ℕ) → (a ++ b) ++ more ≡ front a ++ ((rest a ++ b) ++ more)
-seam a b more = grind (arith, regrouped, N.append_assoc)
+seam = grind (arith, regrouped, N.append_assoc)
 
 -- text in UTF-8 may come in pieces
 pub joins_utf8 : N.JoinsPieces IsFit Begins rest text
@@ -163,7 +163,7 @@ joins_utf8 = record {
 -- the first two bytes of a character of four
 four : (c a b d w : ℕ) → N.Scalar c → 240 ≤ a → N.Follows b → N.Follows d → N.Follows w → c + 63447168 ≡ a * 262144 + b * 4096 + d * 64 + w → 4 ≤ N.len_utf8 c
     → (a ≤ 244) × (second_byte_min a ≤ b) × (b ≤ second_byte_max a)
-four c a b d w k l f g h s long = grind arith
+four = grind arith
 
 -- the front of a character
 front_none : (c : ℕ) (r more tail : List ℕ) → N.Scalar c → N.Shape c → r ++ more ≡ encode_utf8 c ++ tail → length r < length (encode_utf8 c)
@@ -269,7 +269,7 @@ is_next z = N.is_in_range 0x80 0xBF z
 fault_four : (x y z w : ℕ) (t : List ℕ) → utf8_error_len (x ∷ y ∷ z ∷ w ∷ t) ≡ cond (is_first x)
     (cond (is_second x y) (cond (is_next z) (Some 3) (Some 2)) (Some 1)) (Some 1)
 unfolding utf8_error_len
-fault_four x y z w t = grind (arith, nat_tests)
+fault_four = grind (arith, nat_tests)
 
 -- so many bytes of these could begin a character, and with the next one they can't
 record Good (r : List ℕ) (j : ℕ) : Type 0 where
@@ -281,7 +281,7 @@ record Good (r : List ℕ) (j : ℕ) : Type 0 where
 by_tests : (f s n : Bool) (k : ℕ) (P : ℕ → Type 0) → cond f (cond s (cond n (Some 3) (Some 2)) (Some 1)) (Some 1) ≡ Some k
     → (f ≡ false → P 0) → (f ≡ true → s ≡ false → P 1) → (f ≡ true → s ≡ true → n ≡ false → P 2) → (f ≡ true → s ≡ true → n ≡ true → P 3)
     → P (cond f k 0)
-by_tests f s n k P e none one two three = grind arith
+by_tests f s n k P = grind arith
 
 -- the number of good bytes, from the fault
 good_of : (r : List ℕ) (k : ℕ) → utf8_error_len r ≡ Some k → Good r (cond (is_first (get_or r 0 0)) k 0)
@@ -304,7 +304,7 @@ rest_part r j without le =
 
 -- a text, and a part of what follows it
 rest_after : (bytes : List ℕ) (j : ℕ) → j ≤ length (rest bytes) → rest (take (utf8_valid_len bytes + j) bytes) ≡ take j (rest bytes)
-rest_after bytes j le = grind (arith, take-front, rest-append, N.drop_of_length-le, N.utf8_valid_len-IsUtf8, front_is, rest_part, no_text)
+rest_after = grind (arith, take-front, rest-append, N.drop_of_length-le, N.utf8_valid_len-IsUtf8, front_is, rest_part, no_text)
 
 -- where the bytes stop beginning a text, by the fault in their rest
 stops : (bytes : List ℕ) (k : ℕ) → utf8_error_len (rest bytes) ≡ Some k
@@ -364,13 +364,13 @@ module _ {s to : N.Space} {text left : List ℕ} (x : Added s to text left) wher
   -- one more character was added
   pub added_more : (c : ℕ) {piece more : List ℕ} {after : N.Space} → left ≡ encode_utf8 c ++ more → piece ≡ encode_utf8 c → N.IsScalar c
       → after ≡ N.appended to piece → length to.bytes + length piece ≤ to.room → Added s after text more
-  added_more c next is scalar grown fits = grind (arith, N.append_assoc, N.length-append, N.IsUtf8-append, N.IsUtf8-encode)
+  added_more = grind (arith, N.append_assoc, N.length-append, N.IsUtf8-append, N.IsUtf8-encode)
 
   -- the next one doesn't fit: the area stands as the longest beginning that fits leaves it
   pub stays_cut : (c : ℕ) (more : List ℕ) {piece : List ℕ} → left ≡ encode_utf8 c ++ more → piece ≡ encode_utf8 c
       → to.room < length to.bytes + length piece → to ≡ N.appended s (N.whole_within (s.room - length s.bytes) text)
-  stays_cut c more next is full = grind (arith, N.length-append, cut_before)
+  stays_cut = grind (arith, N.length-append, cut_before)
 
   -- all fits
   pub stays_whole : left ≡ [] → to ≡ N.appended s (N.whole_within (s.room - length s.bytes) text)
-  stays_whole none = grind (arith, N.append-nil, N.take_all, N.utf8_valid_len-IsUtf8)
+  stays_whole = grind (arith, N.append-nil, N.take_all, N.utf8_valid_len-IsUtf8)

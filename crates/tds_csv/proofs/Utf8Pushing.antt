@@ -62,7 +62,7 @@ rest_begins bytes is begun = rw (is, ← N.append-nil (rest bytes)) (joins_utf8.
 -- what is withheld, and the rest of a piece whose first bytes were taken
 kept_tail : (kept part more mid : List ℕ) (at : ℕ) → mid ≡ rest (kept ++ part) → at + length mid ≡ length part
     → take (length (part ++ more) - at) (drop at (part ++ more)) ≡ mid ++ more
-kept_tail kept part more mid at is e = grind (arith, N.length-drop, N.length-append, N.drop-append-add, N.take_all, N.drop-append-le)
+kept_tail = grind (arith, N.length-drop, N.length-append, N.drop-append-add, N.take_all, N.drop-append-le)
 
 module _ {kept mid new : List ℕ} {a b d : Held} {part : List ℕ} (x : N.TakesPiece Begins rest text kept mid a b part) where
   -- a part of a piece was taken, and then the next bytes
@@ -86,7 +86,7 @@ module _ {kept mid new : List ℕ} {a b d : Held} {part : List ℕ} (x : N.Takes
 -- a byte was bad in the first bytes of a piece
 up_to_first : {kept piece new : List ℕ} {a b : Held} (n k : ℕ) → n ≤ length piece → TakesUpTo Begins rest text kept new a b (take n piece) k
     → TakesUpTo Begins rest text kept new a b piece k
-up_to_first n k long x = grind (arith, N.length-take-le, N.take-take)
+up_to_first = grind (arith, N.length-take-le, N.take-take)
 
 module _ {W U : Type 0} {contents : W → N.Option (List ℕ)} {a b : Sink W} {kept new : List ℕ} where
   -- bytes that are withheld, and a piece, taken as one up to a bad byte
@@ -115,7 +115,7 @@ module _ {W U : Type 0} {contents : W → N.Option (List ℕ)} {a b : Sink W} {k
   -- and `?` passed its error on
   pub pushes_passed : {piece : List ℕ} {n : ℕ} {e : JoinFault} {r : Result U JoinFault} → n ≤ length piece → N.IsErrAnd r (λ fault. fault ≡ e)
       → PushesPiece {U = U} contents Begins rest text kept new a b (take n piece) (Err e) → PushesPiece contents Begins rest text kept new a b piece r
-  pushes_passed long is x = grind (arith, first_gives)
+  pushes_passed = grind (arith, first_gives)
 
 module _ {W U V : Type 0} {contents : W → N.Option (List ℕ)} {a b d : Sink W} {kept mid new part : List ℕ} {u : U} (more : List ℕ) (at : ℕ)
     (le : at + length mid ≡ length part) (x : PushesPiece contents Begins rest text kept mid a b part (Ok u)) where
@@ -134,7 +134,7 @@ module _ {W U V : Type 0} {contents : W → N.Option (List ℕ)} {a b d : Sink W
 
   pushes_both : {r : Result V JoinFault} → PushesPiece contents Begins rest text [] new b d (mid ++ more) r
       → PushesPiece contents Begins rest text kept new a d (part ++ more) (moved_by at r)
-  pushes_both y = grind (arith, both_give)
+  pushes_both = grind (arith, both_give)
 
 -- the first three bytes of a piece were taken, and then what was withheld was pushed with the others
 pub pushes_long : {W U V : Type 0} {contents : W → N.Option (List ℕ)} {a b d : Sink W} {kept mid new : List ℕ} {u : U} {r : Result V JoinFault}

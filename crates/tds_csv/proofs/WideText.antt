@@ -9,20 +9,20 @@ use lib.Lanes.{zip2}
 
 -- the bytes of a unit's text, at the places for it
 pub pair_text : (u : ℕ) → is_long u ≡ false → map (λ k. get_or (N.pair_bytes u) k 0) (pair_places (is_wide u) (is_long u)) ≡ unit_text u
-pair_text u h = grind (arith, of_one, of_two)
+pair_text = grind (arith, of_one, of_two)
 
 pub quad_text : (u : ℕ) → u < 65536 → map (λ k. get_or (quad_bytes u) k 0) (quad_places (is_wide u) (is_long u)) ≡ unit_text u
-quad_text u small = grind (arith, of_one, of_two, of_three, doubled_character)
+quad_text = grind (arith, of_one, of_two, of_three, doubled_character)
 
 plain_text : (u : ℕ) → is_wide u ≡ false → unit_text u ≡ u ∷ []
-plain_text u h = grind (arith, of_one)
+plain_text = grind (arith, of_one)
 
 long_text : (u : ℕ) → u < 65536 → is_long u ≡ true → unit_text u ≡ (224 + u / 4096) ∷ (128 + u / 64 % 64) ∷ (128 + u % 64) ∷ []
-long_text u small h = grind (arith, of_three)
+long_text = grind (arith, of_three)
 
 -- how long the text of units is
 unit_size : (u : ℕ) → u < 65536 → length (unit_text u) ≡ 1 + (N.cond (is_wide u) 1 0 + N.cond (is_long u) 1 0)
-unit_size u small = grind (arith, of_one, of_two, of_three, doubled_character)
+unit_size = grind (arith, of_one, of_two, of_three, doubled_character)
 
 units_size : (us : List ℕ) → Each1 (λ u. u < 65536) us → length (units_text us) ≡ length us + (count_by is_wide us + count_by is_long us)
 units_size [] small = refl
@@ -148,7 +148,7 @@ triples_whole us long = absurd (omega arith)
 -- the text of eight is in two halves
 pub both_halves : (us low high : List ℕ) → length us ≡ 8 → Each1 (Fits w16) us → Each1 (λ u. is_long u ≡ true) us
     → take 12 low ≡ take 12 (triples us) → take 12 high ≡ take 12 (drop 12 (triples us)) → take 12 low ++ take 12 high ≡ units_text us
-both_halves us low high eight fits long is_low is_high = grind (arith, triples_whole, long_texts, unit_range)
+both_halves = grind (arith, triples_whole, long_texts, unit_range)
 
 -- the low bytes of characters of ASCII are their text
 pub plain_texts : (n : ℕ) (ys : List ℕ) → Each1 (λ u. is_wide u ≡ false) (take n (units ys)) → take n (N.evens ys) ≡ units_text (take n (units ys))
@@ -159,10 +159,10 @@ plain_texts (suc n) (low ∷ high ∷ ys) each = grind (arith, plain_text (low +
 
 -- a surrogate is long, and so it is wide
 pub no_half : (u : ℕ) → is_long u ≡ false → is_half u ≡ false
-no_half u h = grind arith
+no_half = grind arith
 
 pub not_long : (u : ℕ) → is_wide u ≡ false → is_long u ≡ false
-not_long u h = grind arith
+not_long = grind arith
 
 -- two bytes are a unit
 pub length-units : (xs : List ℕ) → length (units xs) ≡ length xs / 2
@@ -186,7 +186,7 @@ plain_added ys old new {us} {low} {at = at} n long few within is masked lowest n
     )
 
 leads_unit : (low high : ℕ) (more : List ℕ) → is_half (low + 256 * high) ≡ false → N.Leads rest text (low ∷ high ∷ more) more (unit_text (low + 256 * high))
-leads_unit low high more h = grind (arith, N.Utf16Steps.next_one)
+leads_unit = grind (arith, N.Utf16Steps.next_one)
 
 -- so many of the units lead on
 leads_front : (k : ℕ) (ys more : List ℕ) → k ≤ length (units ys) → Each1 (λ u. is_half u ≡ false) (take k (units ys))
@@ -199,7 +199,7 @@ leads_front k ys more few each = absurd (omega arith)
 
 -- all the bytes are a source of their own
 pub lies_itself : (bytes : List ℕ) → N.LiesIn bytes bytes
-lies_itself bytes = grind (arith, N.common_steps)
+lies_itself = grind (arith, N.common_steps)
 
 -- so many units of a source that begins with the bytes were converted after what was before
 pub units_more : {bytes source old new : List ℕ} {at made after : ℕ} (n : ℕ) → N.LiesIn bytes source → at + 16 ≤ length source → n ≤ 8

@@ -14,14 +14,14 @@ pub record BeginsMessage (size limit : ℕ) (input rest payload : List ℕ) : Ty
 -- no fault of the wire is the message's end
 pub wire_goes_on : (size limit : ℕ) (input : List ℕ) (packets : List Packet) (fault : N.Fault) → N.WireFault size limit input packets fault
     → fault ≡ N.MessageEnded → ⊥
-wire_goes_on size limit input packets fault w e = grind arith
+wire_goes_on = grind arith
 
 -- an input that begins with nothing but packets
 all_packets : {size limit : ℕ} {read rest payload : List ℕ} {place : ℕ} {c : N.Coming} → N.IsFrontMessage size limit read c → c.bytes ≡ payload
     → c.rest ≡ []
     → ((c.stop.fault ≡ N.MessageEnded) ⊎ (c.stop ≡ record { fault = N.InputEnded; place = N.Wire place })) → place ≡ length read
     → BeginsMessage size limit (read ++ rest) rest payload
-all_packets m b r s p = grind (arith, N.append-nil, N.length-append, N.nil_from_length)
+all_packets = grind (arith, N.append-nil, N.length-append, N.nil_from_length)
 
 -- what was taken, right after a packet, came of whole packets at the front of the input
 pub takes_begins : (size limit f : ℕ) (input rest : List ℕ) (q : Seen) (bytes : List ℕ) (n : ℕ) → N.AreBytes input → q.left ≡ Some rest
@@ -73,7 +73,7 @@ ends_front size limit f input rest q payload stop are left (inr (inr x)) =
 pub over_front : (size limit f : ℕ) (input rest : List ℕ) (q : Seen) (bytes : List ℕ) (n : ℕ) → N.AreBytes input → q.left ≡ Some rest
     → N.Takes (begun size limit (Some input) f) q bytes n → (o : N.IsOver q)
     → EndsMessage size limit input rest bytes f q.failures o.0
-over_front size limit f input rest q bytes n are left t o = grind (arith, N.append-nil, front_message size limit input are)
+over_front size limit f input rest q bytes n are = grind (arith, N.append-nil, front_message size limit input are)
 
 -- these packets come before the last, and have fewer bytes of the payload
 pub record InLast (size : ℕ) (packets : List Packet) (n : ℕ) : Type 0 where

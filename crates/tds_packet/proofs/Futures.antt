@@ -6,12 +6,12 @@ use N.{Words.{front_packet, message, coming_of}, Joins.{Stays-none, Stays-trans}
 rest_shorter : (room max wire : ℕ) (xs : List ℕ) {body rest : List ℕ} {last : N.Bool} {n : ℕ} → front_packet room max wire xs ≡ N.WholePacket body last n rest
     → length rest < length xs
 unfolding front_packet
-rest_shorter room max wire xs e = grind (arith, N.nat_tests, N.length-drop)
+rest_shorter = grind (arith, N.nat_tests, N.length-drop)
 
 same_after : (F G : ℕ → ℕ → List ℕ → N.Coming) (wire place : ℕ) {p : N.FrontPacket}
     → ((body rest : List ℕ) (n : ℕ) → p ≡ N.WholePacket body N.false n rest
     → F (wire + n) (place + length body) rest ≡ G (wire + n) (place + length body) rest) → N.after_packet F wire place p ≡ N.after_packet G wire place p
-same_after F G wire place same = grind arith
+same_after F G = grind arith
 
 message-fuel : (room max n m wire place : ℕ) (xs : List ℕ) → length xs < n → length xs < m
     → message room max n wire place xs ≡ message room max m wire place xs
@@ -28,31 +28,31 @@ module _ {R : Type 0} (remaining : R → N.Option (List ℕ)) (p q : N.PayloadOf
       → N.ReadsPacket p.packet.now.room p.max_wire p.wire (device remaining p.from.now) (device remaining q.from.now) body (N.Ok h)
       → Takes (seen remaining p) (seen remaining q) [] 1
   unfolding coming_of message
-  advance_ok er em ew ep el es eb reads = grind (arith, rest_shorter, message-fuel, N.drop_of_length-le)
+  advance_ok = grind (arith, rest_shorter, message-fuel, N.drop_of_length-le)
 
   pub advance_err : {e : N.Fault} → N.ReadsPacket p.packet.now.room p.max_wire p.wire (device remaining p.from.now) (device remaining q.from.now) body
       (N.Err e)
       → Ends (seen remaining p) (seen remaining q) [] (record { fault = e; place = N.Wire p.wire })
   unfolding coming_of message
-  advance_err reads = grind (arith, N.drop_of_length-le)
+  advance_err = grind (arith, N.drop_of_length-le)
 
 hand : (room max wire place : ℕ) (last : N.Bool) (hs bs xs : List ℕ)
     → coming_of room max wire place last None (hs ++ bs) xs ≡ N.before hs (coming_of room max wire (place + length hs) last None bs xs)
 unfolding coming_of
-hand room max wire place last hs bs xs = grind (arith, N.common_steps)
+hand = grind (arith, N.common_steps)
 
 -- Bytes that lie ready are handed out.
 pub further_takes : {R : Type 0} (remaining : R → N.Option (List ℕ)) (p : N.PayloadOf R) (n m : ℕ) → n ≤ length (buffered p) → p.stopped ≡ None
     → Takes (seen remaining p) (seen remaining (N.further p n)) (take n (buffered p)) m
-further_takes remaining p n m le e =
+further_takes remaining p n =
     let split : buffered p ≡ take n (buffered p) ++ buffered (N.further p n) = N.sym (rw (← N.drop-drop) (N.take-append-drop n _)) in
     grind (arith, hand, N.length-take-le)
 
 pub Takes-none : (a : Seen) (n : ℕ) → Takes a a [] n
-Takes-none a n = grind arith
+Takes-none = grind arith
 
 pub Takes-more : (a b : Seen) (hs : List ℕ) (n m : ℕ) → n ≤ m → Takes a b hs n → Takes a b hs m
-Takes-more a b hs n m le p = grind arith
+Takes-more = grind arith
 
 needs_joined : (a b : Seen) (r s hs : List ℕ) {n m j : ℕ} → n ≤ length hs + m → N.Needs a r n → N.Needs b s m
     → ((zs : List ℕ) → a.future (r ++ zs) ≡ N.before hs (b.future zs)) → j < length (r ++ s) → length (a.future (take j (r ++ s))).bytes < length hs + m
@@ -105,4 +105,4 @@ module _ {R : Type 0} (remaining : R → N.Option (List ℕ)) (p : N.PayloadOf R
 
   pub not_over : p.stopped ≡ None → 0 < length (buffered p) → N.IsNotOver (seen remaining p)
   unfolding coming_of
-  not_over e h = grind (arith, N.length-append)
+  not_over = grind (arith, N.length-append)

@@ -7,11 +7,11 @@ pub Stays-none : (f : ℕ) → Stays f f []
 Stays-none f = (N.refl, λ lt. absurd (omega arith))
 
 pub Stays-trans : (f g h : ℕ) (r s : List ℕ) → Stays f g r → Stays g h s → Stays f h (r ++ s)
-Stays-trans f g h r s p q = grind (arith, N.common_steps, N.length-append)
+Stays-trans = grind (arith, N.common_steps, N.length-append)
 
 -- bytes moved before a call that failed, and in it
 pub Rises-after : {f g : ℕ} (r s : List ℕ) → Stays f g r → (0 < length s → g < 2 ^ 64 - 1) → 0 < length (r ++ s) → f < 2 ^ 64 - 1
-Rises-after r s p q some = grind (arith, N.length-append r s, p.0, p.1, q)
+Rises-after r s p q = grind (arith, N.length-append r s, p.0, p.1, q)
 
 -- bytes that a device took before a call that failed, and in it
 pub Stays-Rises : {f g h : ℕ} (r s : List ℕ) → Stays f g r → N.Rises g h s → N.Rises f h (r ++ s)
@@ -34,17 +34,17 @@ after_header size limit wire hdr ys e f =
 whole_at : {last : N.Bool} {len : ℕ} {bs ys : List ℕ} {n : ℕ} → n ≡ length bs
     → (if N.nat_lt (length (bs ++ ys)) n then N.NoPacket N.InputEnded [] else N.WholePacket (N.take n (bs ++ ys)) last len (N.drop n (bs ++ ys))) ≡ N.WholePacket bs
     last len ys
-whole_at e = grind (arith, N.length-append, N.take-append_seam, N.drop-append_seam)
+whole_at = grind (arith, N.length-append, N.take-append_seam, N.drop-append_seam)
 
 module _ (size limit wire : ℕ) (hdr : List ℕ) (h : Header) (eight : length hdr ≡ 8) (good : N.header_of size limit wire hdr ≡ Ok h) where
   -- a packet whose header says so
   pub whole_packet : (bs ys : List ℕ) → length bs + 8 ≡ h.length
       → front_packet size limit wire (hdr ++ (bs ++ ys)) ≡ N.WholePacket bs h.last h.length ys
-  whole_packet bs ys fits = grind (arith, after_header, whole_at)
+  whole_packet = grind (arith, after_header, whole_at)
 
   -- an input that ends in the body
   ended_body : (bs : List ℕ) → length bs + 8 < h.length → front_packet size limit wire (hdr ++ bs) ≡ N.NoPacket N.InputEnded []
-  ended_body bs lt = grind (arith, after_header, N.Choices.choose_true, test_lt)
+  ended_body = grind (arith, after_header, N.Choices.choose_true, test_lt)
 
   -- no beginning of a packet is a packet
   cut : (body : List ℕ) (j : ℕ) → length body + 8 ≡ h.length → j < length (hdr ++ body)
@@ -67,11 +67,11 @@ pub record ReadsHeader (size limit wire : ℕ) (old mid : Device) (h : Header) :
 
 module _ (size limit wire : ℕ) (old new : Device) where
   pub fill_err : (hdr body : List ℕ) {e : Fault} → length hdr ≡ 8 → N.Faulted old new (length hdr) e → N.ReadsPacket size limit wire old new body (Err e)
-  fill_err hdr body len h = grind (arith, short_input)
+  fill_err = grind (arith, short_input)
 
   pub header_err : (hdr body : List ℕ) {e : Fault} → length hdr ≡ 8 → N.Consumes old.bytes new.bytes hdr → Stays old.failures new.failures hdr
       → N.header_of size limit wire hdr ≡ Err e → N.ReadsPacket size limit wire old new body (Err e)
-  header_err hdr body len h same bad = grind (arith, after_header)
+  header_err = grind (arith, after_header)
 
   pub body_err : (mid : Device) (h : Header) (body : List ℕ) (e : Fault) → ReadsHeader size limit wire old mid h → length body + 8 ≡ h.length
       → N.Faulted mid new (length body) e → N.ReadsPacket size limit wire old new body (Err e)
@@ -85,4 +85,4 @@ module _ (size limit wire : ℕ) (old new : Device) where
 
   pub body_ok : {mid : Device} {h : Header} {body : List ℕ} → ReadsHeader size limit wire old mid h → length body + 8 ≡ h.length
       → N.Consumes mid.bytes new.bytes body → Stays mid.failures new.failures body → N.ReadsPacket size limit wire old new body (Ok h)
-  body_ok x fits r last = grind (arith, N.append_assoc, whole_packet, N.Consumes-trans, cut, N.length-append)
+  body_ok = grind (arith, N.append_assoc, whole_packet, N.Consumes-trans, cut, N.length-append)

@@ -4,12 +4,12 @@ use N.{◌≡◌, ℕ, ◌<◌, List, [], ◌∷◌, ◌++◌, arith, IsNext, El
 
 -- a state with a next element has some bytes to come
 pub next_some : {S : Type 0} (g : N.Grammar S N.Fault) (s : S) (element : List ℕ) → IsNext g s element → 0 < g.size s
-next_some g s element n = omega arith
+next_some = omega arith
 
 module _ {S T : Type 0} (small : N.Grammar S N.Fault) (big : N.Grammar T N.Fault) (lift : S → T) (is : Inside small big lift) where
   -- an element of the smaller grammar is one of the greater
   pub next_inside : (s : S) (element : List ℕ) → 0 < small.size s → IsNext small s element → IsNext big (lift s) element
-  next_inside s element some n = grind arith
+  next_inside = grind arith
 
   -- what is read by the smaller grammar is read by the greater
   abbrev pub reads_inside : (from : S) (a b : N.Seen) (to : S) → N.Reads small from a b to → N.Reads big (lift from) a b (lift to)

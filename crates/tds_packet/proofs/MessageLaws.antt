@@ -27,4 +27,4 @@ module _ (size limit : ℕ) where
 
   -- no input begins with two messages
   pub one_message : (a b : List Packet) (w v x y : List ℕ) → N.Message size limit a w → N.Message size limit b v → w ++ x ≡ v ++ y → a ≡ b
-  one_message a b w v x y m n e = grind (N.arith, read_to_end a w x m, read_to_end b v y n)
+  one_message a b w v x y m n = grind (N.arith, read_to_end a w x m, read_to_end b v y n)

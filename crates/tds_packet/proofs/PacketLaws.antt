@@ -25,7 +25,7 @@ pub record Good (size limit : ℕ) (packets : List Packet) (header : List ℕ) :
 
 pub free_is_good : (size limit : ℕ) (packets : List Packet) (header : List ℕ) → length header ≡ 8 → AreBytes header
     → N.header_fault size limit (length (wire_of packets)) header ≡ None → Good size limit packets header
-free_is_good size limit packets header eight bytes free = grind (arith, eq_true, N.nat_tests)
+free_is_good = grind (arith, eq_true, N.nat_tests)
 
 -- what the bytes that lead to a place of the wire are
 abbrev pub WireMeans : ℕ → ℕ → List Packet → WirePlace → List ℕ → Type 0
@@ -37,7 +37,7 @@ module _ (size limit : ℕ) where
   with_means : {packets : List Packet} {header : List ℕ} (body : List ℕ) → AreBefore size packets → Good size limit packets header
       → length body ≡ header_length header - 8 → let w = N.with_packet packets (N.packet_of header body) in
       WireMeans size limit w.packets w.place (wire_of packets ++ (header ++ body))
-  with_means body before good l = grind (arith, append-nil, N.flat_map-append, length-append, last_one, one_more)
+  with_means = grind (arith, append-nil, N.flat_map-append, length-append, last_one, one_more)
 
   wire_step : {packets : List Packet} (place : WirePlace) (b : List ℕ) {e : List ℕ} → AreBytes e → WireMeans size limit packets place b
       → N.IsNext (wire size limit) (record { packets = packets; place = place }) e → let w = N.wire_add packets place e in
@@ -64,7 +64,7 @@ header_of p = 4 ∷ p.status ∷ N.packet_length p / 256 ∷ N.packet_length p %
 module _ (size limit : ℕ) where
   pub good_header : (before : ℕ) {p : Packet} → IsPacket size p → before + N.packet_length p ≤ limit
       → N.header_fault size limit before (header_of p) ≡ None
-  good_header before i f = grind (arith, N.nat_tests)
+  good_header = grind (arith, N.nat_tests)
 
   abbrev pub before_packet : List Packet → WirePart
   before_packet packets = record { packets = packets; place = N.BeforeHeader }
@@ -156,7 +156,7 @@ module _ (size limit : ℕ) (packets : List Packet) where
       → N.IsRefused (wire size limit) (at place) rest fault ⊎ ((length rest < N.wire_size place) × (N.wire_end place ≡ N.Some fault))
       → c.bytes ≡ payload_of packets → c.stop ≡ record { fault = fault; place = N.Wire (length (wire_of packets)) }
       → N.IsFrontMessage size limit (front ++ rest) c
-  stops_at front rest place fault c are each spelt cause bytes stop =
+  stops_at front rest place fault c are each spelt cause =
       let g = wire size limit in
       let longest : N.Longest g no_wire (front ++ rest) _ (at place) =
       elim cause [ inl x ↦ N.ElementLaws.longest_refused g _ _ _ _ _ spelt x | inr x ↦ longest_cut g _ _ _ _ spelt x.0 ] in

@@ -5,16 +5,16 @@ use N.{◌≡◌, ℕ, ◌+◌, ◌<◌, ◌≤◌, List, ◌++◌, length, Opti
 -- It has not stopped, so no packet is cut.
 pub between_of : {R : Type 0} (remaining : R → Option (List ℕ)) (p : N.PayloadOf R) → p.stopped ≡ N.None → N.IsBetween (seen remaining p)
 unfolding coming_of message front_packet
-between_of remaining p e = grind arith
+between_of = grind arith
 
 -- Where it has stopped, none lies ready.
 pub pass_takes : {R : Type 0} (remaining : R → Option (List ℕ)) (p : N.PayloadOf R) {n : ℕ} {o : Option Stop} → p.stopped ≡ o → N.IsUsedUp p o
     → n ≤ length (N.buffered p) → Takes (seen remaining p) (seen remaining (N.further p n)) (N.take n (N.buffered p)) 0
-pass_takes remaining p e used le = grind (arith, N.Futures.further_takes, N.length-drop)
+pass_takes = grind (arith, N.Futures.further_takes, N.length-drop)
 
 -- A call that succeeded was on no payload that had stopped.
 pub not_again : {A : Type 0} (o : Option Stop) (a : A) (P Q : Stop → Type 0) → N.IfSome o (λ stop. (Ok a ≡ N.Err stop) × P stop) → N.IfSome o Q
-not_again o a P Q h = grind arith
+not_again o a P Q = grind arith
 
 -- What a call says of its answer, where that is known.
 pub at_ok : {A : Type 0} (r : N.Result A Stop) (a : A) (P : A → Type 0) (Q : Stop → Type 0) → r ≡ Ok a → N.MatchResult r P Q → P a

@@ -42,19 +42,19 @@ module _ {R : Type 0} (remaining : R → Option (List ℕ)) (o s t : PayloadOf R
       pub gathered_ok : {last : Bool} → N.IsBetween (seen remaining t) → (N.IsTrue last → N.IsOver (seen remaining t))
           → (last ≡ false → (length packet ≡ room) × (0 < length (N.buffered t)) × N.IsNotOver (seen remaining t))
           → Gathers remaining o t room packet (Ok last)
-      gathered_ok between over full = grind (arith, asked)
+      gathered_ok = grind (arith, asked)
 
       -- bytes that lay ready were taken
       pub gathered_more : {d : PayloadOf R} (piece : List ℕ) → Takes (seen remaining t) (seen remaining d) piece 0 → d.place ≡ t.place + length piece
           → length packet + length piece ≤ room → Gathering remaining o d room (packet ++ piece)
-      gathered_more {d} piece r further fits =
+      gathered_more {d} piece r =
           let takes = joined (seen remaining o) _ (seen remaining d) (drop 8 packet) piece 0 (omega arith) (asked q) r in
           grind (arith, length-append)
 
 ready_first : {R : Type 0} (remaining : R → Option (List ℕ)) (p : PayloadOf R) (input : List ℕ) → p.stopped ≡ None
     → length (N.buffered p) ≤ length ((seen remaining p).future input).bytes
 unfolding coming_of
-ready_first remaining p input e = grind (arith, length-append)
+ready_first = grind (arith, length-append)
 
 -- a body holds what lay ready
 some_ready : {R : Type 0} (remaining : R → Option (List ℕ)) {s t : PayloadOf R} {room : ℕ} {packet : List ℕ} (r : N.Result Bool Stop)
@@ -93,13 +93,13 @@ wire-more ps p = simp (N.flat_map-append, N.append-nil)
 parts : (m k : ℕ) (payload body : List ℕ) → length payload ≡ k * m → length body ≤ m → 0 < m → (0 < k → 0 < length body)
     → (N.before_last m (length (payload ++ body)) ≡ k) × (N.packets_before m (payload ++ body) ≡ first_packets m k payload)
     × (drop (k * m) (payload ++ body) ≡ body)
-parts m k payload body whole fits room some = grind (arith, length-append, first-more, N.drop-append_seam)
+parts = grind (arith, length-append, first-more, N.drop-append_seam)
 
 -- a full packet more is one of the first
 first_is : (m k n : ℕ) (payload body : List ℕ) → n ≡ suc k → length payload ≡ k * m → length body ≡ m
     → first_packets m n (payload ++ body) ≡ first_packets m k payload ++ cut_packet k false body ∷ []
 unfolding first_packets
-first_is m k n payload body is whole full = grind (arith, N.drop-append_seam, N.take_all, first-more)
+first_is = grind (arith, N.drop-append_seam, N.take_all, first-more)
 
 -- Full packets were written, and these bytes of the payload taken for them. More were ready then.
 pub record Cutting {R W : Type 0} (remaining : R → Option (List ℕ)) (contents : W → Option (List ℕ)) (m : ℕ) (a : Seen) (s : PayloadOf R)
@@ -117,7 +117,7 @@ pub record Cutting {R W : Type 0} (remaining : R → Option (List ℕ)) (content
 pub cut_none : {R W : Type 0} (remaining : R → Option (List ℕ)) (contents : W → Option (List ℕ)) {m : ℕ} {s : PayloadOf R} {to : Counted W}
     → s.place ≡ 0 → Cutting remaining contents m (seen remaining s) s to to (record { packets = 0; bytes = 0 })
 unfolding first_packets
-cut_none remaining contents e = grind (arith, N.Appends-nil)
+cut_none = grind (arith, N.Appends-nil)
 
 module _ {R W : Type 0} {remaining : R → Option (List ℕ)} {contents : W → Option (List ℕ)} {a : Seen} {s t : PayloadOf R} {room : ℕ} {packet : List ℕ}
     {old mid : Counted W} {done : N.Written}
@@ -134,7 +134,7 @@ module _ {R W : Type 0} {remaining : R → Option (List ℕ)} {contents : W → 
 
   next_full : {last : Bool} → Gathers remaining s t room packet (Ok last) → last ≡ false
       → length (x.payload ++ drop 8 packet) ≡ (done.packets + 1) * (room - 8)
-  next_full made e = grind (arith, N.common_steps, length-append, N.suc-mul)
+  next_full = grind (arith, N.common_steps, length-append, N.suc-mul)
 
   -- a full packet was written
   pub cut_more : {new : Counted W} {last : Bool} {more : N.Written} → last ≡ false → Gathers remaining s t room packet (Ok last)
@@ -198,7 +198,7 @@ module _ {R W : Type 0} {remaining : R → Option (List ℕ)} {contents : W → 
       → N.Keeps (contents mid.device) (contents new.device)
       → (N.IsTrue flushed → (new.failures ≡ mid.failures) × (mid.failures < 2 ^ 64 - 1)) → (flushed ≡ false → new.failures ≡ N.one_more mid.failures)
       → N.StopsInput contents (room - 8) a (seen remaining t) old new (record { stop = stop; written = done.bytes; unwritten = 0 })
-  cut_stopped {new = new} {stop = stop} made keeps ok counted =
+  cut_stopped {new = new} {stop = stop} made =
       let p = next_parts made in
       let ends = N.Futures.Ends-after a _ (seen remaining t) x.payload (drop 8 packet) _ stop x.takes made.gives in
       grind (arith, length-append)

@@ -13,12 +13,12 @@ takes_ahead a b c xs ys ahead p q = rw (N.append_assoc, N.length-append) (N.Futu
 
 -- no bytes more
 pub add_none : (n : ℕ) → n + 0 ≡ n
-add_none n = omega arith
+add_none = omega arith
 
 -- a call of many bytes and a cut element of an open description stop alike
 pub began_is_cut : (place : ℕ) (ended : N.Option N.Fault) (own stop : Stop) → ended ≡ N.Some N.MessageEnded → stop ≡ N.began_at place own
     → N.IsCutStop place ended own stop
-began_is_cut place ended own stop end is = grind arith
+began_is_cut = grind arith
 
 module _ {S : Type 0} (g : N.Grammar S N.Fault) where
   abbrev pub reads_none : (s : S) (a : Seen) → Reads g s a a s
@@ -83,4 +83,4 @@ module _ {S : Type 0} (g : N.Grammar S N.Fault) where
   -- the payload stopped in the first element
   pub cut_at_once : (s : S) (a b : Seen) (place : ℕ) (part : List ℕ) (own stop : Stop) → length part < g.size s → N.Ends a b part own
       → N.IsCutStop place (g.end_fault s) own stop → N.StopsReading g s a b place s stop
-  cut_at_once s a b place part own stop cut ends is = grind arith
+  cut_at_once = grind arith

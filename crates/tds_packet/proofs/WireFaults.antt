@@ -12,7 +12,7 @@ IsOfWire fault = ⊤
 front_faults : (size limit wire : ℕ) (input rest : List ℕ) (fault : Fault) → front_packet size limit wire input ≡ N.NoPacket fault rest → IsOfWire fault
     × (fault ≡ N.MessageEnded → ⊥)
 unfolding front_packet
-front_faults size limit wire input rest fault e = grind (N.arith, N.common_steps)
+front_faults = grind (N.arith, N.common_steps)
 
 -- what holds of each stop, and before the bytes of a packet, holds of what comes from each place on
 module _ (P : ℕ → N.Coming → Type 0) (ended : (place : ℕ) (rest : List ℕ) → P place (N.stopped_at N.MessageEnded (N.Payload place) rest))
@@ -22,7 +22,7 @@ module _ (P : ℕ → N.Coming → Type 0) (ended : (place : ℕ) (rest : List �
   packet_keeps : (next : ℕ → ℕ → List ℕ → N.Coming) (wire : ℕ) {place : ℕ} {p : N.FrontPacket}
       → ((rest : List ℕ) (fault : Fault) → p ≡ N.NoPacket fault rest → IsOfWire fault × (fault ≡ N.MessageEnded → ⊥))
       → ((w q : ℕ) (l : List ℕ) → P q (next w q l)) → P place (N.after_packet next wire place p)
-  packet_keeps next wire h k = grind (N.arith, N.common_steps)
+  packet_keeps = grind (N.arith, N.common_steps)
 
   message_keeps : (size limit fuel wire place : ℕ) (input : List ℕ) → P place (message size limit fuel wire place input)
   unfolding message

@@ -46,5 +46,5 @@ returns-clause-gives g c = λ columns kind number.
     c.if-size-eq0.false c.in_ok-take_into.ensures.payload.going c.take_into-2.ensures.place c.take_into-2.ensures.gives
 
 pub returns-clause-fits : goal.returns-clause-fits
-returns-clause-fits g c =
+returns-clause-fits =
     grind (arith, length_into)

@@ -5,12 +5,12 @@ use N.{◌≡◌, ◌∙◌, ◌+◌, ◌*◌, ◌≤◌, ◌++◌, ℕ, refl, a
 -- nothing follows this type byte
 bare : (bytes after : N.List ℕ) (count : ℕ) (columns : N.List N.Column) (byte rest : ℕ) → N.rest_length byte ≡ N.Some rest → rest ≡ 0 → after ≡ bytes
     → (kind : N.Kind) × (N.with_type bytes count columns byte (N.unwrap_or (N.rest_length byte) 0) ≡ N.InColumn after count columns (N.NameCount kind))
-bare bytes after count columns byte rest known zero same = grind (arith, N.bare_type)
+bare bytes after count columns byte rest known zero = grind (arith, N.bare_type)
 
 -- a head that is accepted
 no_fault : (room so_far byte rest index left : ℕ) → N.rest_length byte ≡ N.Some rest → (so_far + rest) + 1 + 8 * left ≤ room
     → N.head_fault room so_far byte index left ≡ N.None
-no_fault room so_far byte rest index left known fits = grind arith
+no_fault = grind arith
 
 pub returns-in_err-take_into-clause-gives : goal.returns-in_err-take_into-clause-gives
 returns-in_err-take_into-clause-gives g c =

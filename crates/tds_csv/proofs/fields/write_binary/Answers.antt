@@ -6,4 +6,4 @@ marked (a ∷ b ∷ to) h = N.refl
 marked to h = absurd (omega N.arith)
 
 pub returns-clause-field : N.fields.write_binary.Goals.returns-clause-field
-returns-clause-field c = grind (N.arith, marked, N.take-append-add, N.take-append-le, N.take_all)
+returns-clause-field = grind (N.arith, marked, N.take-append-add, N.take-append-le, N.take_all)

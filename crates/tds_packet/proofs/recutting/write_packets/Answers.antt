@@ -3,7 +3,7 @@ use N.recutting.write_packets.Goals as goal
 use N.{◌+◌, ◌≡◌, ◌∙◌, ◌-◌, sym, ap, arith, seen, Passing.passed_on}
 
 pub loop-to-init : goal.loop-to-init
-loop-to-init g c = grind (arith, N.Recuts.cut_none)
+loop-to-init = grind (arith, N.Recuts.cut_none)
 
 pub returns-in-Ok-true-clause-cuts : goal.returns-in-Ok-true-clause-cuts
 returns-in-Ok-true-clause-cuts g c =

@@ -4,10 +4,10 @@ use N.{◌≡◌, ◌≢◌, ◌-◌, ℕ, arith, ViewLaws.{all_after, length_co
 
 -- the columns after the first
 others : (n : ℕ) (bytes : N.List ℕ) → n ≢ 0 → N.are_columns n bytes ≡ N.true → N.are_columns (n - 1) (N.drop (N.column_size bytes) bytes) ≡ N.true
-others n bytes some h = grind (arith, N.and_parts)
+others = grind (arith, N.and_parts)
 
 pub column_at-size-requires : goal.column_at-size-requires
-column_at-size-requires c = grind arith
+column_at-size-requires = grind arith
 
 pub invariant_of-self : goal.invariant_of-self
 invariant_of-self c = record {

@@ -12,4 +12,4 @@ both_halves bytes first second third at one two =
     ∙ ap (λ l. take (2 * at) first ++ l) (N.sym (ap N.encode_lower (rw (N.drop-drop 16 at bytes) at (N.take-add 16 16 (N.drop at bytes))) ∙ N.SingleLaws.hex-append N.lower_digits _ _))
 
 pub returns : N.convert.lanes_hex.put_wide_digits.Goals.returns
-returns c = grind (N.arith, both_halves)
+returns = grind (N.arith, both_halves)

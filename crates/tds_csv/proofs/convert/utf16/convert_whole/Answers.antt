@@ -5,7 +5,7 @@ use Rattle.tds_csv.specs.Utf16 as utf16
 
 -- what is left of whole data has two bytes
 two_left : (bytes : List ℕ) (used : ℕ) → length bytes % 2 ≡ 0 → N.LeavesRest bytes 0 used → used ≢ length bytes → length (N.drop used bytes) ≡ 2
-two_left bytes used whole leaves some = grind (arith, joins_utf16, N.length-drop)
+two_left = grind (arith, joins_utf16, N.length-drop)
 
 -- its text is U+FFFD
 left_text : (bytes tail : List ℕ) → tail ≡ utf16.rest bytes → length tail ≡ 2 → utf16.text tail ≡ N.doubled (N.encode_utf8 0xFFFD)
@@ -19,7 +19,7 @@ ended : (bytes tail : List ℕ) → length bytes % 2 ≡ 0 → tail ≡ utf16.re
 ended bytes tail whole is two = cc (joins_utf16.ends bytes whole, left_text bytes tail is two)
 
 pub returns-clause-short : goal.returns-clause-short
-returns-clause-short c = grind (arith, N.Characters.doubled_length, two_left, N.length-drop)
+returns-clause-short = grind (arith, N.Characters.doubled_length, two_left, N.length-drop)
 
 pub returns-clause-text : goal.returns-clause-text
-returns-clause-text c = grind (arith, two_left, ended)
+returns-clause-text = grind (arith, two_left, ended)

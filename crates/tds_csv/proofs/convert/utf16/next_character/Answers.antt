@@ -23,4 +23,4 @@ returns-clause-gives c = pair_at c.args.bytes.now c.args.at (omega arith) c.unit
     (high_half c.unit-first.result (sym c.if-not-is_surrogate.ensures) (sym c.if-is_low.ensures)) (sym c.if-not-is_low.ensures)
 
 pub returns-then-bytes-at-lt4-clause-gives : goal.returns-then-bytes-at-lt4-clause-gives
-returns-then-bytes-at-lt4-clause-gives c = grind (arith, held_at)
+returns-then-bytes-at-lt4-clause-gives = grind (arith, held_at)

@@ -3,10 +3,10 @@ use N.convert.utf8.scan_text.Goals as goal
 use N.{◌∙◌}
 
 pub returns-in-Ok-clause-text : goal.returns-in-Ok-clause-text
-returns-in-Ok-clause-text c = grind (N.arith, N.length-drop, N.utf8_valid_len-IsUtf8)
+returns-in-Ok-clause-text = grind (N.arith, N.length-drop, N.utf8_valid_len-IsUtf8)
 
 pub returns-in-Ok-clause-scan : goal.returns-in-Ok-clause-scan
-returns-in-Ok-clause-scan c = grind (N.arith, N.common_steps, N.utf8_valid_len-IsUtf8)
+returns-in-Ok-clause-scan = grind (N.arith, N.common_steps, N.utf8_valid_len-IsUtf8)
 
 pub returns-in-Some-clause-scan : goal.returns-in-Some-clause-scan
 returns-in-Some-clause-scan c =

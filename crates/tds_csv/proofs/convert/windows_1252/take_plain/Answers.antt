@@ -3,7 +3,7 @@ use N.convert.windows_1252.take_plain.Goals as goal
 use N.{◌+◌, ◌≤◌, arith, LaneMasks.{alike, run_most}}
 
 pub returns-clause-taken : goal.returns-clause-taken
-returns-clause-taken c = grind (arith, N.common_steps, N.Singles.plain_lanes, alike)
+returns-clause-taken = grind (arith, N.common_steps, N.Singles.plain_lanes, alike)
 
 pub put_lanes-requires : goal.put_lanes-requires
 put_lanes-requires c =

@@ -7,7 +7,7 @@ returns-in-Err c = c.in-Err.ensures.err ∙ N.Utf8Laws.stays_cut c.loop-at.invar
     c.in-Err.ensures.full
 
 pub loop-at-preserved : goal.loop-at-preserved
-loop-at-preserved c = grind (N.arith, N.Utf8Laws.added_more)
+loop-at-preserved = grind (N.arith, N.Utf8Laws.added_more)
 
 pub returns : goal.returns
 returns c =

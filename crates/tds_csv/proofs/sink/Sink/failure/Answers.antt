@@ -1,4 +1,4 @@
 use Rattle.tds_csv.proofs as N
 
 pub returns-then-self : N.sink.Sink.failure.Goals.returns-then-self
-returns-then-self g c = grind N.arith
+returns-then-self = grind N.arith

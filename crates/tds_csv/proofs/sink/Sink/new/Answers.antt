@@ -1,4 +1,4 @@
 use Rattle.tds_csv.proofs as N
 
 pub returns-clause-held : N.sink.Sink.new.Goals.returns-clause-held
-returns-clause-held g c = grind N.arith
+returns-clause-held = grind N.arith

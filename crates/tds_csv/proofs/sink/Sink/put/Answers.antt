@@ -14,4 +14,4 @@ loop-taken-preserved g c = record {
 }
 
 pub returns : goal.returns
-returns g c = grind (N.arith, N.take_all)
+returns = grind (N.arith, N.take_all)

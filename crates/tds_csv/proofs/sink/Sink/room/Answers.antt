@@ -1,4 +1,4 @@
 use Rattle.tds_csv.proofs as N
 
 pub returns : N.sink.Sink.room.Goals.returns
-returns g c = grind N.arith
+returns = grind N.arith

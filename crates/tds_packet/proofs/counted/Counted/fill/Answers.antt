@@ -4,7 +4,7 @@ use N.{◌≡◌, ℕ, ◌+◌, ◌-◌, ◌≤◌, ◌++◌, rules, length, tak
 
 -- the first bytes of a part that was written over
 take_put : {a : ℕ} (k : ℕ) {n : ℕ} (xs ys : N.List ℕ) → a ≤ length xs → n ≤ length ys → take a xs ++ take n ys ≡ take (a + n) (N.put_mid a k xs ys)
-take_put k xs ys within fits = grind (N.arith, N.length-take-le, N.take-append-add, N.take-append-le)
+take_put = grind (N.arith, N.length-take-le, N.take-append-add, N.take-append-le)
 
 pub loop-at-preserved : goal.loop-at-preserved
 loop-at-preserved g c =

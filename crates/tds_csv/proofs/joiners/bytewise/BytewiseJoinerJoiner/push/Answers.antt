@@ -1,4 +1,4 @@
 use Rattle.tds_csv.proofs as N
 
 pub returns : N.joiners.bytewise.BytewiseJoinerJoiner.push.Goals.returns
-returns g c = grind (N.arith, N.take_all)
+returns = grind (N.arith, N.take_all)
