@@ -32,7 +32,7 @@ after_columns bytes count columns = if length columns == count then N.WholeDescr
 -- a further column comes
 pub at_column : (bytes : List ℕ) (count : ℕ) (columns : List Column) → length columns < count
     → after_columns bytes count columns ≡ InColumn bytes count columns N.ColumnHead
-at_column bytes count columns more = N.choose_false _ _ _ (N.ne_eqb _ count (λ e. omega arith))
+at_column bytes count columns more = N.choose_false _ _ _ (N.ne_eqb _ count (omega arith))
 
 -- a Count of columns that fit
 count_free : (room n : ℕ) (bytes : List ℕ) → 0 < n → n < 65535 → 2 + 8 * n ≤ room → (N.count_fault room n ≡ N.None)

@@ -77,8 +77,8 @@ module _ (room : ℕ) where
       let one = last_of 0 e n.whole in
       let spelt = longer b e (count % 256 ∷ count / 256 ∷ []) h.front h.part h.spelt in
       choose (λ s. DescribedMeans room s (b ++ e)) (N.slice_index e 0 == 0) _ _
-      (λ z. grind (arith, N.length-append, N.eq_true, (with_means h e (record { kind = kind; name = [] }))))
-      (λ z. grind (arith, N.length-append, N.nat_tests))
+      (grind (arith, N.length-append, N.eq_true, (with_means h e (record { kind = kind; name = [] }))))
+      (grind (arith, N.length-append, N.nat_tests))
 
   -- each element keeps the meaning
   pub described_step : (d : N.DescriptionPart) (b e : List ℕ) → N.AreBytes e → DescribedMeans room d b → N.IsNext (N.description room) d e
@@ -93,4 +93,4 @@ module _ (room : ℕ) where
   described_step (InColumn have count cols (N.ColumnInfo byte)) b e bytes h n = grind (arith, N.append_assoc, N.is_some_value, longer)
   described_step (InColumn have count cols (N.NameCount kind)) b e bytes h n = units_step have count cols kind b e bytes h n
   described_step (InColumn have count cols (N.NameUnits kind m)) b e bytes h n = grind (arith, N.append_assoc, N.length-append, (with_means h e))
-  described_step d b e bytes h n = absurd (omega (arith, n.some, n.whole))
+  described_step d b e bytes h n = grind arith

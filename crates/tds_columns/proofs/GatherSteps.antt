@@ -134,4 +134,4 @@ module _ {room count : ℕ} {a b : Seen} {before after kept : Space} {place : �
 
   pub count_refused : {fault : N.Fault} → N.count_fault room count ≡ Some fault → kept ≡ N.holding after []
       → N.StopsDescribing room N.BeforeCount a b place before.peak kept (record { fault = fault; place = N.Payload place })
-  count_refused why clear = description_refused {start = 0} t (omega arith) refl (rw ((count_is t none).1, ← number) why) none (rw none) clear
+  count_refused why = description_refused {start = 0} t (omega arith) refl (rw ((count_is t none).1, ← number) why) none (rw none)

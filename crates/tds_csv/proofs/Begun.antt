@@ -38,7 +38,7 @@ odd_front : (d : List ℕ) (x : ℕ) → (length (d ++ x ∷ []) % 2 ≡ 0 → �
 odd_front [] x odd = refl
 odd_front (low ∷ high ∷ []) x odd = refl
 odd_front (low ∷ high ∷ low' ∷ high' ∷ bytes) x odd = N.ap (λ l. low ∷ high ∷ l) (odd_front (low' ∷ high' ∷ bytes) x (λ e. odd (omega arith)))
-odd_front bytes x odd = absurd (odd (omega arith))
+odd_front bytes x odd = grind arith
 
 -- a byte after which no character ends completes none
 unfit_front : (d : List ℕ) (x : ℕ) → (N.IsUtf8 (d ++ x ∷ []) → ⊥) → utf8_laws.front (d ++ x ∷ []) ≡ utf8_laws.front d

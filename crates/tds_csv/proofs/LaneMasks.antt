@@ -53,7 +53,7 @@ mask_of q f us long fits lanes same =
 -- so many lanes have a small mask
 pub mask_small : (k : ℕ) (ms : List Bool) → length ms ≤ k → mask_l ms < 2 ^ k
 mask_small k [] few = pow_pos k
-mask_small zero (m ∷ ms) few = absurd (omega arith)
+mask_small zero (m ∷ ms) few = grind arith
 mask_small (suc k) (m ∷ ms) few = let more = mask_small k ms (omega arith) in grind arith
 
 -- a mask has the bits of its first lanes, and then the others
@@ -100,8 +100,8 @@ none_set q (u ∷ us) each = rw (each.0, none_set q us each.1) refl
 -- all of them pass
 pub all_pass : (q : ℕ → Bool) (n : ℕ) (us : List ℕ) → length us ≤ n → mask_l (map q us) + 1 ≡ 2 ^ n → Each1 (λ u. q u ≡ true) us × (length us ≡ n)
 all_pass q zero [] few is = (tt, refl)
-all_pass q zero (u ∷ us) few is = absurd (omega arith)
-all_pass q (suc n) [] few is = absurd (omega arith)
+all_pass q zero (u ∷ us) few is = grind arith
+all_pass q (suc n) [] few is = grind arith
 all_pass q (suc n) (u ∷ us) few is =
     let here : q u ≡ true = grind arith in
     let more = all_pass q n us (omega arith) (grind arith) in

@@ -130,7 +130,7 @@ module _ {S : Type 0} (g : Grammar S Fault) where
   first_size s bytes t spelt some = go spelt.elements spelt.joined spelt.leads
     where
       go : (es : List (List ℕ)) → N.concat es ≡ bytes → Leads g s es t → 0 < g.size s
-      go [] joined leads = absurd (let z : length bytes ≡ 0 = ap length (N.sym joined) in omega arith)
+      go [] joined leads = grind arith
       go (e ∷ es) joined leads = N.next_some _ _ _ leads.0
 
   -- a grammar is inside itself
@@ -139,7 +139,7 @@ module _ {S : Type 0} (g : Grammar S Fault) where
 
   -- the last element of what was read
   pub last_read : (s : S) (bytes : List ℕ) (t : S) → N.Spelt g s bytes t → 0 < length bytes → N.LastInside g g (λ u. u) inside_itself s bytes t
-  last_read s bytes t spelt some = N.last_inside _ _ _ inside_itself _ _ _ spelt some
+  last_read s bytes t = N.last_inside _ _ _ inside_itself _ _ _
 
 -- A small grammar inside a big one, whose text is that of the small one after a text that stands before it, where the small one has a next element.
 module _ {S T : Type 0} (small : Grammar S Fault) (big : Grammar T Fault) (lift : S → T) (is : N.Inside small big lift) (text : S → List ℕ) (whole : T

@@ -46,9 +46,8 @@ module _ {S : Type 0} (g : N.Grammar S N.Fault) (text : S → List ℕ) (grows :
   pub breaks_somewhere : (t : S) (piece rest : List ℕ) (added : List ℕ) → N.Spelt g s piece t → N.Takes a b (piece ++ rest) 1 → N.length h.waiting < 4096
       → h.delivered ≤ 2 ^ 64 - 1 → text s ++ added ≡ text t → N.Breaks h j added stop
       → (at : S) × N.BreaksStreaming g text s a b h j at stop
-  breaks_somewhere t piece rest added spelt takes few delivered text_is breaks =
-      breaks_from _ t _ [] rest h added (N.Spelt-none g s) spelt.leads (rw spelt.joined takes) (
-        [],
-        N.append-nil (text s),
-        N.Sinks.Puts-none h delivered,
-      ) few text_is breaks
+  breaks_somewhere t piece rest added spelt takes few delivered = breaks_from _ t _ [] rest h added (N.Spelt-none g s) spelt.leads (rw spelt.joined takes) (
+    [],
+    N.append-nil (text s),
+    N.Sinks.Puts-none h delivered,
+  ) few

@@ -73,9 +73,9 @@ row_begins f width at (suc m) (w ∷ ws) (l ∷ ls) few same =
         N.append_assoc,
       ) refl,
     )
-row_begins f width at zero (w ∷ ws) ls few same = absurd (omega arith)
-row_begins f width at m [] (l ∷ ls) few same = absurd (omega arith)
-row_begins f width at m (w ∷ ws) [] few same = absurd (omega arith)
+row_begins f width at zero (w ∷ ws) ls few same = grind arith
+row_begins f width at m [] (l ∷ ls) few same = grind arith
+row_begins f width at m (w ∷ ws) [] few same = grind arith
 
 -- where the bytes of a text are in a unit's two: a text of two bytes, or of one
 abbrev pub pair_places : Bool → Bool → List ℕ
@@ -154,7 +154,7 @@ pub units_of_bytes : (n : ℕ) (xs : List ℕ) → length xs ≡ 2 * n → Each1
 units_of_bytes zero [] long fits = refl
 units_of_bytes (suc n) (low ∷ high ∷ xs) long fits = let more = units_of_bytes n xs (omega arith) fits.1.1 in
     grind arith
-units_of_bytes n xs long fits = absurd (omega arith)
+units_of_bytes n xs long fits = grind arith
 
 -- the first byte of a long character, and the two others as a number, low byte first
 abbrev pub lead : ℕ → ℕ
@@ -173,7 +173,7 @@ bytes_of_pairs zero [] long fits = refl
 bytes_of_pairs (suc n) (x ∷ xs) long fits =
     let two : 2 * suc n ≡ suc (suc (2 * n)) = omega arith in
     rw two (grind (arith, bytes_of_pairs n xs (omega arith) fits.1))
-bytes_of_pairs n xs long fits = absurd (omega arith)
+bytes_of_pairs n xs long fits = grind arith
 
 -- and of each number that is made of a unit
 bytes_of_map : (f : ℕ → ℕ) (us : List ℕ) → bytes_of (map f us) ≡ flat_map (λ u. N.low_and_high (f u)) us
@@ -225,7 +225,7 @@ pub three_each : (us ls os : List ℕ) → length us ≡ 8 → Each1 (Fits w16) 
     × (take 12 (woven (digits_l 256 16 (number_l 65536 (beside_second ls os)))) ≡ take 12 (drop 12 (N.triples us)))
 three_each (a ∷ b ∷ c ∷ d ∷ e ∷ f ∷ g ∷ h ∷ []) ls os long (fa, (fb, (fc, (fd, (fe, (ff, (fg, (fh, _)))))))) is_lead is_others =
     rw (is_lead, is_others) (four_each a b c d fa.fits fb.fits fc.fits fd.fits, four_each e f g h fe.fits ff.fits fg.fits fh.fits)
-three_each us ls os long fits is_lead is_others = absurd (omega arith)
+three_each us ls os long fits is_lead is_others = grind arith
 
 -- the bytes of four characters, four each
 quad_each : (a b c d : ℕ) → a < 65536 → b < 65536 → c < 65536 → d < 65536
@@ -245,7 +245,7 @@ pub quad_lanes : (us ls hs : List ℕ) → length us ≡ 8 → Each1 (Fits w16) 
     × (digits_l 256 16 (number_l 65536 (beside_second ls hs)) ≡ flat_map N.quad_bytes (drop 4 us))
 quad_lanes (a ∷ b ∷ c ∷ d ∷ e ∷ f ∷ g ∷ h ∷ []) ls hs long (fa, (fb, (fc, (fd, (fe, (ff, (fg, (fh, _)))))))) is_low is_high =
     rw (is_low, is_high) (quad_each a b c d fa.fits fb.fits fc.fits fd.fits, quad_each e f g h fe.fits ff.fits fg.fits fh.fits)
-quad_lanes us ls hs long fits is_low is_high = absurd (omega arith)
+quad_lanes us ls hs long fits is_low is_high = grind arith
 
 -- what a lane of the second numbers computes
 pub high_lane : (u : ℕ) → u < 65536

@@ -2,7 +2,7 @@
 use Rattle.{tds_csv.proofs.Words.{◌≡◌, ℕ, ◌+◌, ◌≤◌, List, [], ◌∷◌, ◌++◌, length, take, refl, arith, slice_set, take-append-le, quote, quoted_field}}
 
 opened : (to : List ℕ) → 1 ≤ length to → take 1 (slice_set to 0 quote) ≡ quote ∷ []
-opened [] h = absurd (omega arith)
+opened [] h = grind arith
 opened (a ∷ to) h = refl
 
 -- a quote, so many bytes of what was written after it, and a quote

@@ -48,7 +48,7 @@ module _ (text : List ℕ → List ℕ) (appends : (x y : List ℕ) → text (x 
     -- the first of them, so many
     pub some_itself : (k : ℕ) (xs : List ℕ) → k ≤ N.prefix_len q xs → text (take k xs) ≡ take k xs
     some_itself N.zero xs h = empty
-    some_itself (N.suc k) [] h = absurd (omega arith)
+    some_itself (N.suc k) [] h = grind arith
     some_itself (N.suc k) (b ∷ xs) h = grind (arith, appends (b ∷ []) (take k xs), some_itself k xs)
 
     -- those that were found among the next `w`
@@ -103,4 +103,4 @@ wide_lanes bytes at n few e = lanes_itself windows_1252.text N.SingleLaws.window
 -- those that were found among the next `w`
 pub unquoted_lanes : (w : ℕ) (bytes : List ℕ) (at n : ℕ) → n ≤ w → n ≡ N.prefix_len N.is_unquoted (chunk at w bytes)
     → take n (chunk at w bytes) ≡ N.doubled (take n (drop at bytes))
-unquoted_lanes w bytes at n few e = lanes_itself N.doubled N.JoiningLemmas.doubled-append N.is_unquoted refl (λ b h. grind arith) w bytes at n few e
+unquoted_lanes w bytes at n few e = lanes_itself N.doubled N.JoiningLemmas.doubled-append N.is_unquoted refl (grind arith) w bytes at n few e

@@ -98,12 +98,12 @@ emits : (a b : List ℕ) → emit rest text (a ++ b) ≡ emit rest text a ++ emi
 unfolding starts_low
 emits a b =
     rw (emit-front, emit-front a, emit-front (rest a ++ b), (seam a b).front_is) (text-front a (front (rest a ++ b))
-    (Apart-front a (units (front (rest a ++ b))) (λ h. grind (arith, high_is_not_low))))
+    (Apart-front a (units (front (rest a ++ b))) (grind (arith, high_is_not_low))))
 
 ends : (a : List ℕ) → text a ≡ emit rest text a ++ text (rest a)
 unfolding starts_low
 ends a =
-    let split = text-front a (rest a) (Apart-front a (units (rest a)) (λ h. grind (arith, high_is_not_low))) in
+    let split = text-front a (rest a) (Apart-front a (units (rest a)) (grind (arith, high_is_not_low))) in
     cc (emit-front a, (seam a []).whole)
 
 pub short : (a : List ℕ) → length (rest a) ≤ 3

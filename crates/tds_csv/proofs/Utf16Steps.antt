@@ -67,7 +67,7 @@ next_alone low high low' high' bytes h l =
     let lone = lone_half (low + 256 * high) (N.inl h) in
     record {
       emits = emits_by (low ∷ high ∷ low' ∷ high' ∷ bytes) (low' ∷ high' ∷ bytes) 0xFFFD
-          (spells_one low high (front (low' ∷ high' ∷ bytes)) 0xFFFD lone (λ _. (grind arith)));
+          (spells_one low high (front (low' ∷ high' ∷ bytes)) 0xFFFD lone (grind arith));
       keeps = refl;
       spells = spells_one low high (low' ∷ high' ∷ bytes) 0xFFFD lone (λ _. l);
     }

@@ -17,7 +17,7 @@ longest_up_to bs zero m below within u = omega arith
 longest_up_to bs (suc n) m below within u =
     let passed = N.is_utf8-from_IsUtf8 (take m bs) u in
     elim (is_utf8 (take (suc n) bs)) as (λ t. is_utf8 (take (suc n) bs) ≡ t → cond t (suc n) (N.valid_len_up_to bs n) < m → ⊥) [
-      | true ↦ λ e below. omega arith
+      | true ↦ omega arith
       | false ↦ λ e below. elim (cases_lt m (suc n)) [
         | inl less ↦ longest_up_to bs n m below (omega arith) u
         | inr whole ↦ let same = ap (λ k. is_utf8 (take k bs)) {x = m} {y = suc n} (omega arith) in cc
@@ -34,7 +34,7 @@ front_is bs = front_up_to bs (length bs)
 
 pub longest_is : (bs : List ℕ) (m : ℕ) → utf8_valid_len bs < m → m ≤ length bs → IsUtf8 (take m bs) → ⊥
 unfolding utf8_valid_len
-longest_is bs m below within u = longest_up_to bs (length bs) m below within u
+longest_is bs = longest_up_to bs (length bs)
 
 pub length-front : (bs : List ℕ) → length (front bs) ≡ utf8_valid_len bs
 unfolding front
@@ -170,16 +170,16 @@ front_none : (c : ℕ) (r more tail : List ℕ) → N.Scalar c → N.Shape c →
     → utf8_error_len r ≡ None
 unfolding utf8_error_len
 front_none c [] more tail k s e short = refl
-front_none c (x ∷ r) more tail k (N.of1 h e') e short = absurd (omega (arith, ap length e'))
+front_none c (x ∷ r) more tail k (N.of1 h e') e short = grind arith
 front_none c (x ∷ []) more tail k (N.of2 a b l u f s e') e short = grind (arith, N.length-encode)
-front_none c (x ∷ y ∷ r) more tail k (N.of2 a b l u f s e') e short = absurd (omega (arith, ap length e'))
+front_none c (x ∷ y ∷ r) more tail k (N.of2 a b l u f s e') e short = grind arith
 front_none c (x ∷ []) more tail k (of3 a b d l u f g s e') e short = grind arith
 front_none c (x ∷ y ∷ []) more tail k (of3 a b d l u f g s e') e short = grind (arith, N.length-encode, N.⊎_elim, nat_tests)
-front_none c (x ∷ y ∷ z ∷ r) more tail k (of3 a b d l u f g s e') e short = absurd (omega (arith, ap length e'))
+front_none c (x ∷ y ∷ z ∷ r) more tail k (of3 a b d l u f g s e') e short = grind arith
 front_none c (x ∷ []) more tail k (of4 a b d w l u f g h s e') e short = grind (arith, N.⊎_elim, nat_tests)
 front_none c (x ∷ y ∷ []) more tail k (of4 a b d w l u f g h s e') e short = grind (arith, four, N.length-encode, nat_tests)
 front_none c (x ∷ y ∷ z ∷ []) more tail k (of4 a b d w l u f g h s e') e short = grind (arith, four, N.length-encode, nat_tests)
-front_none c (x ∷ y ∷ z ∷ v ∷ r) more tail k (of4 a b d w l u f g h s e') e short = absurd (omega (arith, ap length e'))
+front_none c (x ∷ y ∷ z ∷ v ∷ r) more tail k (of4 a b d w l u f g h s e') e short = grind arith
 
 -- where some text begins so, std finds no fault in the rest
 pub begins_none : (bytes : List ℕ) → Begins bytes → utf8_error_len (rest bytes) ≡ None
@@ -292,7 +292,7 @@ good_of (x ∷ y ∷ []) k e = grind (arith, N.common_steps)
 good_of (x ∷ y ∷ z ∷ []) k e = grind (arith, N.common_steps)
 good_of (x ∷ y ∷ z ∷ w ∷ t) k e =
     by_tests (is_first x) (is_second x y) (is_next z) k (Good (x ∷ y ∷ z ∷ w ∷ t)) (sym (fault_four x y z w t)
-    ∙ e) (λ f. grind arith) (λ f s. grind arith) (λ f s n. grind arith) (λ f s n. grind (arith, N.nat_eq, nat_tests, N.nat_lt))
+    ∙ e) (grind arith) (grind arith) (grind arith) (grind (arith, N.nat_eq, nat_tests, N.nat_lt))
 
 -- a part of what has no text at its front has none either
 rest_part : (r : List ℕ) (j : ℕ) → NoText r → j ≤ length r → rest (take j r) ≡ take j r

@@ -99,7 +99,7 @@ module _ {W U : Type 0} {contents : W → N.Option (List ℕ)} {a b : Sink W} {k
     failed = x.failed;
     gives = up_to_seam is begun x.gives;
     begun = x.begun;
-    again = λ failed. absurd (cc ((x.again failed).0));
+    again = grind arith;
   }
 
   -- a push of the first bytes of a piece failed

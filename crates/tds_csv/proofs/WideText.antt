@@ -44,7 +44,7 @@ in_quad false false = (omega arith, tt)
 
 -- units are numbers of 16 bits
 pub unit_range : (us : List ℕ) → Each1 (Fits w16) us → Each1 (λ u. u < 65536) us
-unit_range us fits = N.below_from_Fits w16 us fits
+unit_range = N.below_from_Fits w16
 
 each_taken : (P : ℕ → Type 0) (n : ℕ) (us : List ℕ) → Each1 P us → Each1 P (take n us)
 each_taken P zero us each = tt
@@ -143,7 +143,7 @@ long_texts (u ∷ us) small each = rw (long_text u small.0 each.0, long_texts us
 
 triples_whole : (us : List ℕ) → length us ≡ 8 → take 12 (triples us) ++ take 12 (drop 12 (triples us)) ≡ triples us
 triples_whole (a ∷ b ∷ c ∷ d ∷ e ∷ f ∷ g ∷ h ∷ []) long = refl
-triples_whole us long = absurd (omega arith)
+triples_whole us long = grind arith
 
 -- the text of eight is in two halves
 pub both_halves : (us low high : List ℕ) → length us ≡ 8 → Each1 (Fits w16) us → Each1 (λ u. is_long u ≡ true) us
@@ -195,7 +195,7 @@ leads_front zero ys more few each = Leads-none
 leads_front (suc k) (low ∷ high ∷ ys) more few each =
     let two : suc (suc (2 * k)) ≡ 2 * suc k = omega arith in
     rw (← two) (Leads-trans (leads_unit low high (take (2 * k) ys ++ more) each.0) (leads_front k ys more (omega arith) each.1))
-leads_front k ys more few each = absurd (omega arith)
+leads_front k ys more few each = grind arith
 
 -- all the bytes are a source of their own
 pub lies_itself : (bytes : List ℕ) → N.LiesIn bytes bytes

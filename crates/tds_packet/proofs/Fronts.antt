@@ -86,7 +86,7 @@ pub record InLast (size : ℕ) (packets : List Packet) (n : ℕ) : Type 0 where
 -- packets as the last of them and those before it
 split_last : {size : ℕ} (packets : List Packet) → N.AreMessage size packets ⊎ AreBefore size packets → 0 < length packets → (before : List Packet)
     × (last : Packet) × (before ++ last ∷ [] ≡ packets) × AreBefore size before
-split_last [] each some = absurd (omega arith)
+split_last [] each some = grind arith
 split_last (p ∷ []) each some = ([], p, refl, tt)
 split_last {size} (p ∷ q ∷ ps) each some =
     let r = split_last (q ∷ ps) (elim each [ inl x ↦ inl x.2 | inr x ↦ inr x.2 ]) (omega arith) in
@@ -108,7 +108,7 @@ front_whole {size} {limit} from {p} {more} each last within =
 message_before : (size limit n from place : ℕ) (packets : List Packet) → AreBefore size packets → from + length (wire_of packets) ≤ limit
     → length (wire_of packets) < n → (message size limit n from place (wire_of packets)).bytes ≡ payload_of packets
 unfolding message front_packet
-message_before size limit N.zero from place packets each within less = absurd (omega arith)
+message_before size limit N.zero from place packets each within less = grind arith
 message_before size limit (suc n) from place [] each within less = refl
 message_before size limit (suc n) from place (p ∷ ps) each within less =
     let long : length (wire_of (p ∷ ps)) ≡ N.packet_length p + length (wire_of ps) = simp N.length-append (omega arith) in
@@ -121,7 +121,7 @@ pub in_last : (size limit f n : ℕ) (input rest : List ℕ) (q : Seen) (bytes p
     → (p : BeginsMessage size limit input rest payload) → 0 < length payload → InLast size p.packets n
 in_last size limit f n input rest q bytes payload left t p some =
     let filled = λ (ps : List Packet). elim ps as (λ ps. payload_of ps ≡ payload
-    → 0 < length ps) [ [] ↦ λ e. absurd (omega (arith, ap length e)) | ◌∷◌ x _ ↦ λ _. omega arith ] in
+    → 0 < length ps) [ [] ↦ grind arith | ◌∷◌ x _ ↦ omega arith ] in
     let l = split_last _ p.each (filled _ p.payload_is) in
     let split = rw left at t.1.0 in
     let wires = ap wire_of (sym l.2) ∙ simp (N.flat_map-append, N.append-nil) in

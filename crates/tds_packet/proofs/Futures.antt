@@ -16,8 +16,8 @@ same_after F G = grind arith
 message-fuel : (room max n m wire place : ℕ) (xs : List ℕ) → length xs < n → length xs < m
     → message room max n wire place xs ≡ message room max m wire place xs
 unfolding message
-message-fuel room max N.zero m wire place xs h k = absurd (omega arith)
-message-fuel room max (suc n) N.zero wire place xs h k = absurd (omega arith)
+message-fuel room max N.zero m wire place xs h k = grind arith
+message-fuel room max (suc n) N.zero wire place xs h k = grind arith
 message-fuel room max (suc n) (suc m) wire place xs h k = same_after (message room max n) (message room max m) wire place
     (λ body rest l e. (let lt = rest_shorter room max wire xs e in message-fuel room max n m (wire + l) _ rest
     (omega arith) (omega arith)))

@@ -4,7 +4,7 @@ use N.{◌≡◌, ◌∙◌, ℕ, ◌+◌, ◌-◌, ◌^◌, ◌<◌, List, [], 
 use N.Choices.{test_lt}
 
 pub Stays-none : (f : ℕ) → Stays f f []
-Stays-none f = (N.refl, λ lt. absurd (omega arith))
+Stays-none f = (N.refl, grind arith)
 
 pub Stays-trans : (f g h : ℕ) (r s : List ℕ) → Stays f g r → Stays g h s → Stays f h (r ++ s)
 Stays-trans = grind (arith, N.common_steps, N.length-append)

@@ -49,6 +49,6 @@ module _ {S T : Type 0} (small : N.Grammar S N.Fault) (big : N.Grammar T N.Fault
   pub last_inside : (from : S) (bytes : List ℕ) (to : S) → N.Spelt small from bytes to → 0 < N.length bytes → LastInside from bytes to
   last_inside from bytes to spelt some = rw spelt.joined at (elim spelt.elements as (λ es. N.concat es ≡ bytes → N.Leads small from es to
       → LastInside from (N.concat es) to) [
-        | [] ↦ λ e leads. absurd (omega (arith, N.ap N.length e))
-        | ◌∷◌ e (es → _) ↦ λ _ leads. last_of _ _ _ e _ _ (Spelt-none _ _) leads
+        | [] ↦ grind arith
+        | ◌∷◌ e (es → _) ↦ λ _. last_of _ _ _ e _ _ (Spelt-none _ _)
       ] spelt.joined spelt.leads)

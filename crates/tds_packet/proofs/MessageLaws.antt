@@ -22,7 +22,7 @@ module _ (size limit : ℕ) where
         N.ElementLaws.feed_all-append,
         feed-Spelt _ N.no_wire w _ (rw m.spelt at (message_is_read [] packets m.each (rw m.spelt m.within))),
         feed_part (wire size limit)
-            (after_packets packets) [] more (λ k a b q. omega N.arith),
+            (after_packets packets) [] more (omega N.arith),
       )
 
   -- no input begins with two messages

@@ -42,7 +42,7 @@ module _ (size limit : ℕ) where
   wire_step : {packets : List Packet} (place : WirePlace) (b : List ℕ) {e : List ℕ} → AreBytes e → WireMeans size limit packets place b
       → N.IsNext (wire size limit) (record { packets = packets; place = place }) e → let w = N.wire_add packets place e in
       WireMeans size limit w.packets w.place (b ++ e)
-  wire_step N.AfterLast b bytes h n = absurd (omega arith)
+  wire_step N.AfterLast b bytes h n = grind arith
   wire_step {packets} N.BeforeHeader b {e} bytes h n =
       let good = free_is_good _ _ packets e n.whole bytes n.free in
       choose (λ w. WireMeans size limit w.packets w.place (b ++ e)) (header_length e == 8) (N.with_packet packets _)
@@ -228,7 +228,7 @@ module _ (size limit n : ℕ) (packets : List Packet) (each : AreBefore size pac
 -- what comes after any packets before the last is the message at the front
 comes_front : {size limit : ℕ} (n : ℕ) → Comes size limit n
 unfolding message front_packet
-comes_front N.zero packets rest are each within less = absurd (omega arith)
+comes_front N.zero packets rest are each within less = grind arith
 comes_front {size} {limit} (N.suc n) packets rest are each within less = elim (N.dec_le 8 (length rest)) [
   | yes long ↦
       (let test : nat_lt (length rest) 8 ≡ false = grind arith in

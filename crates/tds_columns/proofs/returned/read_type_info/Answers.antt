@@ -17,7 +17,7 @@ returns-in_err-take_into-clause-gives g c = λ before taken.
     let known = rw c.bytes.ensures.value at c.in-Ok.ensures.gives in
     let e = c.in_err-take_into.ensures.gives c.requires.going.going in
     N.passed _ _ _ _ c.from_residual.ensures.1 (stops_after_steps c.args.small.now.bytes taken c.requires.head.eight c.in-Ok.rest known
-    (λ z. omega arith) c.requires.head.place (cut_into e (rw known) N.refl))
+    (omega arith) c.requires.head.place (cut_into e (rw known) N.refl))
 
 pub returns-in-Some-clause-kind : goal.returns-in-Some-clause-kind
 returns-in-Some-clause-kind g c =

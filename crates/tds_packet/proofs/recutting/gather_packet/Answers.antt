@@ -19,11 +19,7 @@ returns-then-n-eq0-clause-body g c =
     let none : c.min-n.result ≡ 0 = search rules in
     let ready = c.in_ok-at_end.ensures.tells.ready more in
     N.Recuts.gathered_ok _ _ _ _ _ _ inv.body c.in_ok-at_end.ensures.gives c.in_ok-at_end.ensures.payload.place
-    c.in_ok-at_end.ensures.between (λ e. cc) (λ _. (
-      omega (arith, inv.body.fits, room, up, none, ready),
-      ready,
-      c.in_ok-at_end.ensures.tells.more more,
-    ))
+    c.in_ok-at_end.ensures.between (λ e. cc) (grind arith)
 
 pub returns-clause-body : goal.returns-clause-body
 returns-clause-body g c =

@@ -11,4 +11,4 @@ returns c =
     (chosen _ _ _ us (zip2_of_maps (λ a b. N.cond (N.leb a b) 65535 0) _ _ us (splat_is_map us 8 128 n) id)
     (zip2_of_maps _ _ _ us (zip2_of_maps _ _ _ us (zip2_of_maps _ _ _ us id parts) (splat_is_map us 8 192 n))
     (zip2_of_maps _ _ _ us (zip2_of_maps _ _ _ us (zip2_of_maps _ _ _ us id parts) (splat_is_map us 8 128 n)) (splat_is_map us 8 256 n))) id)
-    ∙ N.LaneMasks.same_map (λ u small. grind N.arith) us c.fits-units.1)
+    ∙ N.LaneMasks.same_map (grind N.arith) us c.fits-units.1)

@@ -7,4 +7,4 @@ returns-clause-gives g c = pass_takes g.R.Read.remaining c.args.self.now N.refl 
     c.requires.within
 
 pub returns-clause-between : goal.returns-clause-between
-returns-clause-between g c = λ e. between_of g.R.Read.remaining (N.further c.args.self.now _) e
+returns-clause-between g c = between_of g.R.Read.remaining (N.further c.args.self.now _)

@@ -24,7 +24,7 @@ loop-self-preserved g c =
     record {
       sound = answers.answers.sound;
       same = search N.rules;
-      lazy = λ h. absurd (omega (N.arith, ap (λ p. p.at) (inv.lazy h), ap (λ p. N.length p.packet.now.bytes) (inv.lazy h), c.loop-self-test.true, c.len.ensures));
+      lazy = λ h. grind (N.arith, ap (λ p. p.at) (inv.lazy h), ap (λ p. N.length p.packet.now.bytes) (inv.lazy h), c.loop-self-test.true, c.len.ensures);
       place = cc;
       going = answers.answers.going;
       gives = N.Futures.Takes-trans (seen g.R.Read.remaining c.args.self.now) (seen g.R.Read.remaining c.loop-self.self)
