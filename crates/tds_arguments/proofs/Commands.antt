@@ -1,28 +1,22 @@
 -- What the parser reads of a command that is built step by step.
-use Rattle.std.proofs.{Common.{◌≡◌, ◌∙◌, ◌||◌, Bool, IfOk, Result, Some, ℤ, ap, ap₂, pos, true}, lemmas.Result.{IfOk-at_ok, IfOk-weaker}}
-use Rattle.clap.specs.{
-  Simple.{Shape, app_of_fields, on_top},
-  Words.{AddsArg, AddsSubcommand, App, NarrowsTo, Rule, rule_of, with_rule, with_subcommand},
-  declared.{
-    builder.{arg.Arg.Arg, command.Command.{Command, TheViews.out-Command, TheOpen.Command-F}, value_parser.ValueParser.{ValueParser, TheVariants.Signed}},
-  },
-}
-use Rattle.tds_arguments.specs.CommandLine.{GainsArgument, IsArgument, IsCommand, packet_sizes}
+use Rattle.tds_arguments.proofs as N
+use N.{◌≡◌, ◌∙◌, ◌||◌, IfOk, ℤ, ap, ap₂, pos, true, App, Rule, Arg, Command, out-Command, Command-F, IsCommand}
+use Rattle.clap.specs.Simple.{Shape, app_of_fields, on_top}
 
-pub with_argument : {app : App} {rule : Rule} (old new : Command) (a : Arg) → IsCommand app old → IsArgument rule a → AddsArg old a new
-    → IsCommand (with_rule app rule) new
-with_argument old new a is arg add = (add.shape arg.1 ∙ ap₂ with_rule is.0 arg.0, add.globals ∙ ap₂ (λ (x y : Bool). x || y) is.1 arg.1)
+pub with_argument : {app : App} {rule : Rule} (old new : Command) (a : Arg) → IsCommand app old → N.IsArgument rule a → N.AddsArg old a new
+    → IsCommand (N.with_rule app rule) new
+with_argument old new a is arg add = (add.shape arg.1 ∙ ap₂ N.with_rule is.0 arg.0, add.globals ∙ ap₂ (λ (x y : N.Bool). x || y) is.1 arg.1)
 
 -- the same of a command that may be missing for want of memory
-pub argument_then : {E : Type 0} (made next : Result Command E) (a : Arg) (app : App) (rule : Rule) → IfOk made (IsCommand app) → IsArgument rule a
-    → IfOk next (GainsArgument made a) → IfOk next (IsCommand (with_rule app rule))
+pub argument_then : {E : Type 0} (made next : N.Result Command E) (a : Arg) (app : App) (rule : Rule) → IfOk made (IsCommand app) → N.IsArgument rule a
+    → IfOk next (N.GainsArgument made a) → IfOk next (IsCommand (N.with_rule app rule))
 argument_then made next a app rule is arg gains =
-    IfOk-weaker next _ _ (λ new g. with_argument g.0 new a (IfOk-at_ok (IsCommand app) g.1 is) arg g.2) gains
+    N.IfOk-weaker next _ _ (λ new g. with_argument g.0 new a (N.IfOk-at_ok (IsCommand app) g.1 is) arg g.2) gains
 
-pub with_command : {app below : App} (old sub new : Command) → IsCommand app old → IsCommand below sub → AddsSubcommand old sub new
-    → IsCommand (with_subcommand app below.top) new
+pub with_command : {app below : App} (old sub new : Command) → IsCommand app old → IsCommand below sub → N.AddsSubcommand old sub new
+    → IsCommand (N.with_subcommand app below.top) new
 with_command old sub new is under add =
-    (add.shape under.1 ∙ ap₂ with_subcommand is.0 (ap (λ (a : App). a.top) under.0), add.globals ∙ ap₂ (λ (x y : Bool). x || y) is.1 under.1)
+    (add.shape under.1 ∙ ap₂ N.with_subcommand is.0 (ap (λ (a : App). a.top) under.0), add.globals ∙ ap₂ (λ (x y : N.Bool). x || y) is.1 under.1)
 
 -- the same of texts, which the parser doesn't read
 pub told : {app : App} {fields : Command-F Command} (old new : Command) → out-Command new ≡ fields
@@ -43,11 +37,11 @@ set old new value settle change is same globals c = (
 )
 
 -- an argument that has to be given
-pub required : {rule : Rule} (old new : Arg) → new ≡ record old { required = true } → IsArgument rule old
-    → IsArgument (record rule { required = true }) new
-required old new is arg = (ap rule_of is ∙ ap (λ (r : Rule). record r { required = true }) arg.0, ap (λ (a : Arg). a.global) is ∙ arg.1)
+pub required : {rule : Rule} (old new : Arg) → new ≡ record old { required = true } → N.IsArgument rule old
+    → N.IsArgument (record rule { required = true }) new
+required old new is arg = (ap N.rule_of is ∙ ap (λ (r : Rule). record r { required = true }) arg.0, ap (λ (a : Arg). a.global) is ∙ arg.1)
 
 -- a parser of numbers of 16 bits, narrowed to packet sizes
-pub narrowed : (parser result : ValueParser) (least most : ℤ) → parser ≡ Signed (pos 0) (pos 65535) → least ≡ pos 512 → most ≡ pos 32767
-    → NarrowsTo parser (Some least) (Some most) result → result ≡ packet_sizes
+pub narrowed : (parser result : N.ValueParser) (least most : ℤ) → parser ≡ N.Signed (pos 0) (pos 65535) → least ≡ pos 512 → most ≡ pos 32767
+    → N.NarrowsTo parser (N.Some least) (N.Some most) result → result ≡ N.packet_sizes
 narrowed parser result least most is low high narrows = rw (is, low, high) at narrows

@@ -1,30 +1,27 @@
 -- Numbers that are read from values.
-use Rattle.{
-  std.proofs.Common.{◌≢◌, ◌<◌, ◌^◌, ℕ, List, [], ◌∷◌, Option, Some, None, Result, Ok, Err, IfErr, arith, inl, inr, subst, slice_index},
-  std.{proofs.lemmas.Str.Parse.{numerals_by_value, parse_plain, tells_digits}, specs.{Char.digit_value, Str.Parse.{AllDigits, IsNumeral, ParsesUnsigned}}},
-  tds_arguments.specs.Jobs.{IsDecimal, IsUnread},
-}
+use Rattle.tds_arguments.proofs as N
+use N.{◌≢◌, ◌<◌, ◌^◌, ℕ, List, [], ◌∷◌}
 
 -- a numeral doesn't begin with a plus
-no_plus : (text : List ℕ) → IsNumeral 10 text → slice_index text 0 ≢ 43
-no_plus [] numeral plus = absurd (omega (arith, numeral.0))
-no_plus (c ∷ cs) numeral plus = let bad : digit_value 43 < 10 = subst (λ (x : ℕ). digit_value x < 10) plus numeral.1.0 in absurd (omega (arith, bad))
+no_plus : (text : List ℕ) → N.IsNumeral 10 text → N.slice_index text 0 ≢ 43
+no_plus [] numeral plus = absurd (omega (N.arith, numeral.0))
+no_plus (c ∷ cs) numeral plus = let bad : N.digit_value 43 < 10 = N.subst (λ (x : ℕ). N.digit_value x < 10) plus numeral.1.0 in absurd (omega (N.arith, bad))
 
-module _ {E : Type 0} (P Q : List ℕ → Result ℕ E → Type 0) where
+module _ {E : Type 0} (P Q : List ℕ → N.Result ℕ E → Type 0) where
   -- how an unsigned type of k bits reads a text
-  abbrev pub reads : ℕ → List ℕ → Result ℕ E → Type 0
-  reads k text r = ParsesUnsigned k 10 text r × P text r × Q text r
+  abbrev pub reads : ℕ → List ℕ → N.Result ℕ E → Type 0
+  reads k text r = N.ParsesUnsigned k 10 text r × P text r × Q text r
 
-  pub unread_decimal : (k : ℕ) (value : Option (List ℕ)) (n : ℕ) → IsUnread (reads k) value → n < 2 ^ k → IsDecimal value n → ⊥
-  unread_decimal k None n h low w = w
-  unread_decimal k (Some text) n (inl plus) low w = no_plus text w.0 plus
-  unread_decimal k (Some text) n (inr h) low w =
-      parse_plain (numerals_by_value (AllDigits 10) tells_digits) k text (Err h.0) h.1.0 (no_plus text w.0) (
+  pub unread_decimal : (k : ℕ) (value : N.Option (List ℕ)) (n : ℕ) → N.IsUnread (reads k) value → n < 2 ^ k → N.IsDecimal value n → ⊥
+  unread_decimal k N.None n h low w = w
+  unread_decimal k (N.Some text) n (N.inl plus) low w = no_plus text w.0 plus
+  unread_decimal k (N.Some text) n (N.inr h) low w =
+      N.parse_plain (N.numerals_by_value (N.AllDigits 10) N.tells_digits) k text (N.Err h.0) h.1.0 (no_plus text w.0) (
         w.0.1,
         w.0.0,
-        subst (λ (x : ℕ). x < 2 ^ k) w.1 low,
+        N.subst (λ (x : ℕ). x < 2 ^ k) w.1 low,
       )
 
-pub if_err : {T E : Type 0} (r : Result T E) {P : Type 0} → P → IfErr r (λ _. P)
-if_err (Ok x) p = tt
-if_err (Err e) p = p
+pub if_err : {T E : Type 0} (r : N.Result T E) {P : Type 0} → P → N.IfErr r (λ _. P)
+if_err (N.Ok x) p = tt
+if_err (N.Err e) p = p

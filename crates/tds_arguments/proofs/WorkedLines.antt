@@ -1,30 +1,24 @@
 -- Command lines that were worked out by hand.
-use Rattle.std.proofs.Common.{◌≡◌, List, [], ◌∷◌, Option, Some, None, codes, map, option_map, refl}
-use Rattle.clap.{
-  specs.{
-    Words.{App, Text, fault_of, first_of, subcommand_of},
-    declared.error.kind.ErrorKind.TheVariants.{InvalidValue, MissingRequiredArgument, MissingSubcommand, ValueValidation},
-  },
-  proofs.OnLiterals.clap_on_literals,
-}
-use Rattle.tds_arguments.{proofs.Found.some_names, specs.CommandLine.program_app}
+use Rattle.tds_arguments.proofs as N
+use N.{◌≡◌, List, [], ◌∷◌, Some, None, codes, refl, Text}
+use Rattle.clap.proofs.OnLiterals.{clap_on_literals}
 
-abbrev app : App
-app = program_app some_names some_names
+abbrev app : N.App
+app = N.program_app N.Found.some_names N.Found.some_names
 
 -- what is found under a command's name: packet size, room for columns, limit of the wire, character set and FILE
-abbrev found : List Text → Option (Text × List (Option Text))
-found arguments = option_map (λ p. (
+abbrev found : List Text → N.Option (Text × List (N.Option Text))
+found arguments = N.option_map (λ p. (
   p.0,
-  map (λ name. first_of name p.1)
+  N.map (λ name. N.first_of name p.1)
       (codes "packet-size" ∷ codes "column-room" ∷ codes "max-wire" ∷ codes "charset" ∷ codes "FILE" ∷ []),
-)) (subcommand_of app arguments)
+)) (N.subcommand_of app arguments)
 
 all_options : List Text
 all_options = codes "export" ∷ codes "--packet-size" ∷ codes "512" ∷ codes "--charset=utf-8" ∷ codes "f" ∷ codes "--column-room=10" ∷ codes
     "--max-wire" ∷ codes "8" ∷ []
 
-all_options-found : (fault_of app all_options ≡ [])
+all_options-found : (N.fault_of app all_options ≡ [])
     × (found all_options ≡ Some (
       codes "export",
       Some (codes "512") ∷ Some (codes "10") ∷ Some (codes "8") ∷ Some (codes "utf-8") ∷ Some (codes "f") ∷ [],
@@ -33,7 +27,7 @@ unfolding clap_on_literals all_options
 all_options-found = (refl, refl)
 
 -- the defaults, and standard input; and a recut
-defaults-found : (fault_of app (codes "check" ∷ []) ≡ [])
+defaults-found : (N.fault_of app (codes "check" ∷ []) ≡ [])
     × (found (codes "check" ∷ []) ≡ Some (
       codes "check",
       Some (codes "4096") ∷ Some (codes "1048576") ∷ Some (codes "1099511627776") ∷ Some (codes "windows-1252") ∷ None ∷ [],
@@ -46,8 +40,8 @@ unfolding clap_on_literals
 defaults-found = (refl, refl, refl)
 
 -- a recut without its packet size, a number below its range, an unknown name of a character set, and no command
-faults : map (fault_of app) ((codes "recut" ∷ []) ∷ (codes "export" ∷ codes "--packet-size=511" ∷ []) ∷
-    (codes "export" ∷ codes "--charset=latin" ∷ []) ∷ [] ∷ []) ≡ (MissingRequiredArgument ∷ []) ∷ (ValueValidation ∷ []) ∷ (InvalidValue ∷ []) ∷
-    (MissingSubcommand ∷ []) ∷ []
+faults : N.map (N.fault_of app) ((codes "recut" ∷ []) ∷ (codes "export" ∷ codes "--packet-size=511" ∷ []) ∷
+    (codes "export" ∷ codes "--charset=latin" ∷ []) ∷ [] ∷ []) ≡ (N.MissingRequiredArgument ∷ []) ∷ (N.ValueValidation ∷ []) ∷ (N.InvalidValue ∷ []) ∷
+    (N.MissingSubcommand ∷ []) ∷ []
 unfolding clap_on_literals
 faults = refl

@@ -1,4 +1,4 @@
-use Rattle.std.proofs.Common.{rules}
+use Rattle.tds_arguments.proofs as N
 
-pub returns : Rattle.tds_arguments.proofs.options.packet_size.Goals.returns
-returns c = search rules
+pub returns : N.options.packet_size.Goals.returns
+returns c = search N.rules

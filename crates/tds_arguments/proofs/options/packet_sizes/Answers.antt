@@ -1,5 +1,5 @@
-use Rattle.{std.proofs.Common.refl, tds_arguments.proofs.Commands.narrowed}
+use Rattle.tds_arguments.proofs as N
 
-pub returns : Rattle.tds_arguments.proofs.options.packet_sizes.Goals.returns
-returns c = narrowed c.value_parser.result c.range.result _ _ c.value_parser.ensures (rw (c.new.ensures.start, c.from.ensures) refl)
-    (rw (c.new.ensures.end, c.from-2.ensures) refl) c.range.ensures
+pub returns : N.options.packet_sizes.Goals.returns
+returns c = N.Commands.narrowed c.value_parser.result c.range.result _ _ c.value_parser.ensures (rw (c.new.ensures.start, c.from.ensures) N.refl)
+    (rw (c.new.ensures.end, c.from-2.ensures) N.refl) c.range.ensures

@@ -1,4 +1,4 @@
-use Rattle.std.proofs.Common.{rules}
+use Rattle.tds_arguments.proofs as N
 
-pub returns : Rattle.tds_arguments.proofs.parsing.Given.check_job.Goals.returns
-returns c = search rules
+pub returns : N.parsing.Given.check_job.Goals.returns
+returns c = search N.rules

@@ -1,28 +1,27 @@
-use Rattle.tds_arguments.proofs.parsing.Given.number.Goals as goal
-use Rattle.{
-  std.proofs.{Common.{◌≡◌, ◌≢◌, ◌==◌, true, false, arith, inl, inr, slice_index}, lemmas.Bool.Decides.nat_tests},
-  clap.proofs.WalkLemmas.first_value-rows,
-}
+use Rattle.tds_arguments.proofs as N
+use N.parsing.Given.number.Goals as goal
+use N.{◌≡◌, ◌≢◌, ◌==◌, arith}
+use Rattle.std.proofs.lemmas.Bool.Decides.{nat_tests}
 
 pub returns-in_default-clause-err : goal.returns-in_default-clause-err
 returns-in_default-clause-err g c =
-    rw (← first_value-rows, ← c.in_default.ensures) tt
+    rw (← N.first_value-rows, ← c.in_default.ensures) tt
 
 pub returns-then-starts_with-clause-err : goal.returns-then-starts_with-clause-err
 returns-then-starts_with-clause-err g c =
     let text = c.in-Some.text.now in
-    let byte : true ≡ (slice_index text 0 == 43) = c.if-starts_with.ensures.byte (omega arith) (omega arith) (λ w o h. h) in
-    let plus : slice_index text 0 ≡ 43 = grind (arith, nat_tests, byte) in
-    rw (← first_value-rows, ← c.in-Some.ensures) (inl plus)
+    let byte : N.true ≡ (N.slice_index text 0 == 43) = c.if-starts_with.ensures.byte (omega arith) (omega arith) (λ w o h. h) in
+    let plus : N.slice_index text 0 ≡ 43 = grind (arith, nat_tests, byte) in
+    rw (← N.first_value-rows, ← c.in-Some.ensures) (N.inl plus)
 
 pub returns-in-Ok-clause-ok : goal.returns-in-Ok-clause-ok
 returns-in-Ok-clause-ok g c =
     let text = c.in-Some.text.now in
-    let byte : false ≡ (slice_index text 0 == 43) = c.if-starts_with.ensures.byte (omega arith) (omega arith) (λ w o h. h) in
-    let plus : slice_index text 0 ≢ 43 = grind (arith, nat_tests, byte) in
-    rw (← first_value-rows, ← c.in-Some.ensures) (plus, c.in-Ok.ensures.value)
+    let byte : N.false ≡ (N.slice_index text 0 == 43) = c.if-starts_with.ensures.byte (omega arith) (omega arith) (λ w o h. h) in
+    let plus : N.slice_index text 0 ≢ 43 = grind (arith, nat_tests, byte) in
+    rw (← N.first_value-rows, ← c.in-Some.ensures) (plus, c.in-Ok.ensures.value)
 
 pub returns-clause-err : goal.returns-clause-err
 returns-clause-err g c =
     let text = c.in-Some.text.now in
-    rw (← first_value-rows, ← c.in-Some.ensures) (inr (c.in-Err.field-0, c.in-Err.ensures.value))
+    rw (← N.first_value-rows, ← c.in-Some.ensures) (N.inr (c.in-Err.field-0, c.in-Err.ensures.value))
