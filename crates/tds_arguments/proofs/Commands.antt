@@ -10,8 +10,7 @@ with_argument old new a is arg add = (add.shape arg.1 ∙ ap₂ N.with_rule is.0
 -- the same of a command that may be missing for want of memory
 pub argument_then : {E : Type 0} (made next : N.Result Command E) (a : Arg) (app : App) (rule : Rule) → IfOk made (IsCommand app) → N.IsArgument rule a
     → IfOk next (N.GainsArgument made a) → IfOk next (IsCommand (N.with_rule app rule))
-argument_then made next a app rule is arg gains =
-    N.IfOk-weaker next _ _ (λ new g. with_argument g.0 new a (N.IfOk-at_ok (IsCommand app) g.1 is) arg g.2) gains
+argument_then made next a app rule is arg = N.IfOk-weaker next _ _ (λ new g. with_argument g.0 new a (N.IfOk-at_ok (IsCommand app) g.1 is) arg g.2)
 
 pub with_command : {app below : App} (old sub new : Command) → IsCommand app old → IsCommand below sub → N.AddsSubcommand old sub new
     → IsCommand (N.with_subcommand app below.top) new
@@ -22,7 +21,7 @@ with_command old sub new is under add =
 pub told : {app : App} {fields : Command-F Command} (old new : Command) → out-Command new ≡ fields
     → app_of_fields fields ≡ app_of_fields (out-Command old)
     → fields.has_globals ≡ (out-Command old).has_globals → IsCommand app old → IsCommand app new
-told old new is same globals c = (ap app_of_fields is ∙ same ∙ c.0, ap (λ (f : Command-F Command). f.has_globals) is ∙ globals ∙ c.1)
+told old new is same globals c = (ap app_of_fields is ∙ same ∙ c.0, ap (λ f. f.has_globals) is ∙ globals ∙ c.1)
 
 -- the same of a setting that the parser reads
 pub set : {V : Type 0} {app : App} (old new : Command) (value : V) (settle : V → Command-F Command → Command-F Command) (change : Shape → Shape)
@@ -39,7 +38,7 @@ set old new value settle change is same globals c = (
 -- an argument that has to be given
 pub required : {rule : Rule} (old new : Arg) → new ≡ record old { required = true } → N.IsArgument rule old
     → N.IsArgument (record rule { required = true }) new
-required old new is arg = (ap N.rule_of is ∙ ap (λ (r : Rule). record r { required = true }) arg.0, ap (λ (a : Arg). a.global) is ∙ arg.1)
+required old new is arg = (ap N.rule_of is ∙ ap (λ (r : Rule). record r { required = true }) arg.0, ap (λ a. a.global) is ∙ arg.1)
 
 -- a parser of numbers of 16 bits, narrowed to packet sizes
 pub narrowed : (parser result : N.ValueParser) (least most : ℤ) → parser ≡ N.Signed (pos 0) (pos 65535) → least ≡ pos 512 → most ≡ pos 32767

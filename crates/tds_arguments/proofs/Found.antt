@@ -23,7 +23,7 @@ some_names = record {
 pub without_memory : (arguments : List N.Text) (answer : N.Result Job Usage) → N.IsErrAnd answer (λ usage. usage ≡ N.OutOfMemory) → N.Answers arguments answer
 without_memory arguments (Ok job) none = absurd none
 without_memory arguments (Err usage) is = record {
-  app = N.program_app some_names some_names;
+  app = N.program_app _ _;
   is_program = (some_names, some_names, refl, refl, refl);
   gives = (inl is, rw is tt);
 }

@@ -3,7 +3,7 @@ use N.parsing.parse.Goals as goal
 use N.{map, Found.{found, is_known}}
 
 pub returns-in_err-program-clause-answers : goal.returns-in_err-program-clause-answers
-returns-in_err-program-clause-answers c = N.Found.without_memory (map N.string_bytes c.args.arguments.now) c.from_residual.result c.from_residual.ensures.1
+returns-in_err-program-clause-answers c = N.Found.without_memory (map _ _) c.from_residual.result c.from_residual.ensures.1
 
 pub returns-in-Ok-clause-answers : goal.returns-in-Ok-clause-answers
 returns-in-Ok-clause-answers c =

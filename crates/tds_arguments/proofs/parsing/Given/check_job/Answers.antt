@@ -1,4 +1,4 @@
 use Rattle.tds_arguments.proofs as N
 
 pub returns : N.parsing.Given.check_job.Goals.returns
-returns c = search N.rules
+returns = search N.rules

@@ -11,14 +11,14 @@ pub returns-then-starts_with-clause-err : goal.returns-then-starts_with-clause-e
 returns-then-starts_with-clause-err g c =
     let text = c.in-Some.text.now in
     let byte : N.true ≡ (N.slice_index text 0 == 43) = c.if-starts_with.ensures.byte (omega arith) (omega arith) (λ w o h. h) in
-    let plus : N.slice_index text 0 ≡ 43 = grind (arith, nat_tests, byte) in
+    let plus : N.slice_index text 0 ≡ 43 = grind (arith, nat_tests) in
     rw (← N.first_value-rows, ← c.in-Some.ensures) (N.inl plus)
 
 pub returns-in-Ok-clause-ok : goal.returns-in-Ok-clause-ok
 returns-in-Ok-clause-ok g c =
     let text = c.in-Some.text.now in
     let byte : N.false ≡ (N.slice_index text 0 == 43) = c.if-starts_with.ensures.byte (omega arith) (omega arith) (λ w o h. h) in
-    let plus : N.slice_index text 0 ≢ 43 = grind (arith, nat_tests, byte) in
+    let plus : N.slice_index text 0 ≢ 43 = grind (arith, nat_tests) in
     rw (← N.first_value-rows, ← c.in-Some.ensures) (plus, c.in-Ok.ensures.value)
 
 pub returns-clause-err : goal.returns-clause-err
