@@ -1,2 +1,4 @@
 pub mod Overwriting
 pub mod Shifting
+pub mod Words
+pub use Words.*

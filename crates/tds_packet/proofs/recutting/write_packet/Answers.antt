@@ -1,8 +1,7 @@
 use Rattle.tds_packet.proofs as N
-use N.recutting.write_packet.Goals as goal
 use N.{◌≡◌}
 
-pub returns-in-Err-clause-writes : goal.returns-in-Err-clause-writes
+pub returns-in-Err-clause-writes : N.recutting.write_packet.Goals.returns-in-Err-clause-writes
 returns-in-Err-clause-writes g c =
     let all = N.packet_bytes (N.cut_packet _ c.args.last (N.drop 8 c.args.output.now.bytes)) in
     let k = c.in-Err.taken in

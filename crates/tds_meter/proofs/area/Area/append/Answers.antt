@@ -1,4 +1,4 @@
-use Rattle.std.proofs.Common.{rules}
+use Rattle.tds_meter.proofs as N
 
-pub returns-then-piece-free-clause-full : Rattle.tds_meter.proofs.area.Area.append.Goals.returns-then-piece-free-clause-full
-returns-then-piece-free-clause-full c = search rules
+pub returns-then-piece-free-clause-full : N.area.Area.append.Goals.returns-then-piece-free-clause-full
+returns-then-piece-free-clause-full = search N.rules

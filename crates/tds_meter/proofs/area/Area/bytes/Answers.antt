@@ -1,4 +1,4 @@
-use Rattle.std.proofs.Common.{rules}
+use Rattle.tds_meter.proofs as N
 
-pub returns-clause-value : Rattle.tds_meter.proofs.area.Area.bytes.Goals.returns-clause-value
-returns-clause-value c = search rules
+pub returns-clause-value : N.area.Area.bytes.Goals.returns-clause-value
+returns-clause-value = search N.rules

@@ -1,4 +1,4 @@
-use Rattle.std.proofs.Common.{rules}
+use Rattle.tds_meter.proofs as N
 
-pub returns-then-n-free-clause-full : Rattle.tds_meter.proofs.area.Area.extend.Goals.returns-then-n-free-clause-full
-returns-then-n-free-clause-full c = search rules
+pub returns-then-n-free-clause-full : N.area.Area.extend.Goals.returns-then-n-free-clause-full
+returns-then-n-free-clause-full = search N.rules

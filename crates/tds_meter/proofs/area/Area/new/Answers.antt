@@ -1,4 +1,4 @@
-use Rattle.std.proofs.Common.{rules}
+use Rattle.tds_meter.proofs as N
 
-pub returns-in-Ok : Rattle.tds_meter.proofs.area.Area.new.Goals.returns-in-Ok
-returns-in-Ok c = search rules
+pub returns-in-Ok : N.area.Area.new.Goals.returns-in-Ok
+returns-in-Ok = search N.rules

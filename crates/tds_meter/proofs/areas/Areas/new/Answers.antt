@@ -1,4 +1,4 @@
-use Rattle.std.proofs.Common.{rules}
+use Rattle.tds_meter.proofs as N
 
-pub returns-clause-intact : Rattle.tds_meter.proofs.areas.Areas.new.Goals.returns-clause-intact
-returns-clause-intact c = search rules
+pub returns-clause-intact : N.areas.Areas.new.Goals.returns-clause-intact
+returns-clause-intact = search N.rules

@@ -1,4 +1,4 @@
-use Rattle.std.proofs.Common.{rules}
+use Rattle.tds_meter.proofs as N
 
-pub returns : Rattle.tds_meter.proofs.areas.Areas.peak_rest.Goals.returns
-returns c = search rules
+pub returns : N.areas.Areas.peak_rest.Goals.returns
+returns = search N.rules

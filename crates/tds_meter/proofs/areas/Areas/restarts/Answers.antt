@@ -1,2 +1,2 @@
 pub returns : Rattle.tds_meter.proofs.areas.Areas.restarts.Goals.returns
-returns c = search
+returns = search

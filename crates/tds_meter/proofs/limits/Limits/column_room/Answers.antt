@@ -1,2 +1,2 @@
 pub returns : Rattle.tds_meter.proofs.limits.Limits.column_room.Goals.returns
-returns c = search
+returns = search

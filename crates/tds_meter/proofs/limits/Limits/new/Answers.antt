@@ -1,8 +1,8 @@
-use Rattle.tds_meter.proofs.limits.Limits.new.Goals as goal
-use Rattle.std.proofs.Common.{rules}
+use Rattle.tds_meter.proofs as N
+use N.limits.Limits.new.Goals as goal
 
 pub invariant_of-result : goal.invariant_of-result
-invariant_of-result c = search rules
+invariant_of-result = search N.rules
 
 pub returns-then-column_room-lt-LEAST_COLUMN_ROOM : goal.returns-then-column_room-lt-LEAST_COLUMN_ROOM
-returns-then-column_room-lt-LEAST_COLUMN_ROOM c = search rules
+returns-then-column_room-lt-LEAST_COLUMN_ROOM = search N.rules

@@ -1,8 +1,7 @@
 use Rattle.tds_packet.proofs as N
-use N.payload.Payload.new.Goals as goal
 use N.{refl, Words.coming_of}
 
-pub returns-clause-begun : goal.returns-clause-begun
+pub returns-clause-begun : N.payload.Payload.new.Goals.returns-clause-begun
 unfolding coming_of
 returns-clause-begun g c = record {
   sound = search N.rules;

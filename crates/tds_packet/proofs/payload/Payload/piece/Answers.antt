@@ -1,8 +1,7 @@
 use Rattle.tds_packet.proofs as N
-use N.payload.Payload.piece.Goals as goal
 use N.{◌≡◌, [], ◌+◌, ◌-◌, ◌≤◌, arith, seen, PayloadLaws.{between_of, not_again}}
 
-pub returns : goal.returns
+pub returns : N.payload.Payload.piece.Goals.returns
 returns g c =
     let s = c.ready.new.self in
     let n = c.min-n.result in

@@ -1,8 +1,7 @@
 use Rattle.tds_packet.proofs as N
-use N.payload.Payload.take.Goals as goal
 use N.{◌≡◌, ◌<◌, [], ◌∷◌}
 
-pub returns-clause-gives : goal.returns-clause-gives
+pub returns-clause-gives : N.payload.Payload.take.Goals.returns-clause-gives
 returns-clause-gives g c =
     let s = c.args.self.now in
     let ready : s.at < N.length s.packet.now.bytes = omega N.arith in
