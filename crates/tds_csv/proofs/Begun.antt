@@ -17,8 +17,8 @@ all_begun : (c : Conversion) (old piece : List ℕ) → N.BeginsData c (old ++ p
 all_begun = grind (arith, N.take_all)
 
 -- a byte of the piece is bad
-stopped_front : (old piece : List ℕ) (whole good : ℕ) → utf8.Begins old → N.StopsAt (old ++ piece) whole good → BegunFront N.Utf8Text old piece
-stopped_front old piece whole good begins stops =
+stopped_front : (old piece : List ℕ) {whole good : ℕ} → utf8.Begins old → N.StopsAt (old ++ piece) whole good → BegunFront N.Utf8Text old piece
+stopped_front old piece {good = good} begins stops =
     let after = after_kept old piece (old ++ piece) good refl begins stops.bad in
     let at : good ≡ length old + (good - length old) = omega arith in
     grind (arith, after_kept, N.take-append-add, N.length-append)
@@ -27,7 +27,7 @@ utf8_front : (old piece : List ℕ) (fault : N.Option ℕ) → N.utf8_error_len 
     → BegunFront N.Utf8Text old piece
 utf8_front old piece N.None is begins = all_begun N.Utf8Text old piece (N.Utf8Laws.none_begins (old ++ piece) is)
 utf8_front old piece (N.Some k) is begins =
-    stopped_front old piece _ _ begins (N.Utf8Laws.stops_at (old ++ piece) _ k _ refl is refl)
+    stopped_front old piece begins (N.Utf8Laws.stops_at (old ++ piece) _ k _ refl is refl)
 
 -- after data that begins, the first bytes of any piece begin too and fix all the text that the piece fixes
 pub begun_front : (c : Conversion) (old piece : List ℕ) → N.BeginsData c old → BegunFront c old piece

@@ -20,10 +20,10 @@ run_before bit n f v long few lanes =
     rw (lanes, N.map-map (top bit) f v, (N.mask_l-mod (map stops v) 64 (omega (arith, N.length-map v stops)))) (N.first_set_mask_l stops v n long few)
 
 -- a lane stops just where q fails
-pub run_in : (n : ℕ) (q : ℕ → Bool) (d : List ℕ) (i : ℕ) (z : List ℕ) → n ≤ 64 → i + n ≤ length d → ((k : ℕ) → Fits w8 (N.get_or d k 0)) → (f : ℕ → ℕ)
+pub run_in : (n : ℕ) (q : ℕ → Bool) (d : List ℕ) (i : ℕ) {z : List ℕ} → n ≤ 64 → i + n ≤ length d → ((k : ℕ) → Fits w8 (N.get_or d k 0)) → (f : ℕ → ℕ)
     → z ≡ map f (chunk i n d)
     → N.agree_below (λ x. not (top 7 (f x))) q 256 ≡ true → N.first_set (mask_l (map (top 7) z) % 2 ^ 64) n ≡ N.prefix_len q (chunk i n d)
-run_in n q d i z few room fits f lanes all =
+run_in n q d i few room fits f lanes all =
     run_before 7 n f (chunk i n d) (N.length-chunk i n d room) few lanes
     ∙ same_prefix (Fits w8) (λ x small. N.agree_below_at (λ x. not (top 7 (f x))) q 256 x all small.fits) (chunk i n d) (N.chunk-fits w8 i n d fits)
 

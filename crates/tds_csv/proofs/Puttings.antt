@@ -17,17 +17,17 @@ PutsPiece-trans contents a b c u p q (Err e) x y =
     grind arith
 
 -- the value of a success says nothing
-pub PutsPiece-ok : {W U V : Type 0} (contents : W → Option (List ℕ)) (a b : Sink W) (p : List ℕ) (u : U) (v : V) → PutsPiece contents a b p (Ok u)
+pub PutsPiece-ok : {W U V : Type 0} {contents : W → Option (List ℕ)} {a b : Sink W} {p : List ℕ} (u : U) (v : V) → PutsPiece contents a b p (Ok u)
     → PutsPiece contents a b p (Ok v)
 PutsPiece-ok = grind arith
 
 -- a call that failed, of a longer text
-pub PutsPiece-longer : {W U V : Type 0} (contents : W → Option (List ℕ)) (a b : Sink W) (p more : List ℕ) (e : Stop)
+pub PutsPiece-longer : {W U V : Type 0} {contents : W → Option (List ℕ)} {a b : Sink W} (p more : List ℕ) {e : Stop}
     → PutsPiece {U = U} contents a b p (Err e) → PutsPiece {U = V} contents a b (p ++ more) (Err e)
 PutsPiece-longer = grind (arith, N.common_steps)
 
 -- `?` passed its error on, of the same text
-pub PutsPiece-error : {W U V : Type 0} (contents : W → Option (List ℕ)) (a b : Sink W) (p : List ℕ) (e : Stop) (r : Result V Stop)
+pub PutsPiece-error : {W U V : Type 0} {contents : W → Option (List ℕ)} {a b : Sink W} {p : List ℕ} {e : Stop} {r : Result V Stop}
     → N.IsErrAnd r (λ stop. stop ≡ e) → PutsPiece {U = U} contents a b p (Err e) → PutsPiece contents a b p r
 PutsPiece-error = grind arith
 

@@ -25,7 +25,7 @@ module _ (text : List ℕ → List ℕ) (appends : (x y : List ℕ) → text (x 
   pub puts_some : {W U V T : Type 0} {contents : W → N.Option (List ℕ)} {a b d : Sink W} {u : U} {v : V} {w : T} (t e n : ℕ) (xs : List ℕ) → n ≤ e - t
       → PutsPiece contents a b (text (take t xs)) (Ok u) → PutsPiece contents b d (text (take n (take (e - t) (drop t xs)))) (Ok v)
       → PutsPiece contents a d (text (take (t + n) xs)) (Ok w)
-  puts_some t e n xs few p q = N.Puttings.PutsPiece-ok _ _ _ _ _ _ (rw (
+  puts_some t e n xs few p q = N.Puttings.PutsPiece-ok _ _ (rw (
     N.take-take n (e - t) (drop t xs) few,
     ← appends (take t xs) (take n (drop t xs)),
     ← N.take-add t n
@@ -36,7 +36,7 @@ module _ (text : List ℕ → List ℕ) (appends : (x y : List ℕ) → text (x 
   -- some of them are all of it, as far as a write failed
   pub puts_less : {W U V : Type 0} {contents : W → N.Option (List ℕ)} {a d : Sink W} {stop : Stop} (n : ℕ) (xs : List ℕ)
       → PutsPiece {U = U} contents a d (text (take n xs)) (Err stop) → PutsPiece {U = V} contents a d (text xs) (Err stop)
-  puts_less {V = V} n xs p = rw (← appends (take n xs) (drop n xs), N.take-append-drop) at (N.Puttings.PutsPiece-longer {V = V} _ _ _ _ (text (drop n xs)) _ p)
+  puts_less {V = V} n xs p = rw (← appends (take n xs) (drop n xs), N.take-append-drop) at (N.Puttings.PutsPiece-longer {V = V} _ (text (drop n xs)) p)
 
   -- which were added to it
   pub text_taken : {run after : List ℕ} (bytes : List ℕ) (at n : ℕ) → after ≡ run ++ text (take n (drop at bytes)) → run ≡ text (take at bytes)

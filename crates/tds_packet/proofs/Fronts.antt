@@ -90,7 +90,7 @@ split_last [] each some = grind arith
 split_last (p ∷ []) each some = ([], p, refl, tt)
 split_last {size} (p ∷ q ∷ ps) each some =
     let r = split_last (q ∷ ps) (elim each [ inl x ↦ inl x.2 | inr x ↦ inr x.2 ]) (omega arith) in
-    (p ∷ r.0, r.1, ap (λ l. p ∷ l) r.2, elim each [ inl x ↦ (x.0, x.1, r.3) | inr x ↦ (x.0, x.1, r.3) ])
+    (p ∷ r.0, r.1, ap (λ l. p ∷ l) r.2, grind arith)
 
 -- what comes of a packet before the last, and of more after it
 front_whole : {size limit : ℕ} (from : ℕ) {p : Packet} {more : List ℕ} → N.IsPacket size p → N.is_last p ≡ N.false → from + N.packet_length p ≤ limit

@@ -81,7 +81,7 @@ Takes-trans a b c hs bs n m le p q =
 pub Ends-after : (a b c : Seen) (hs bs : List ℕ) (n : ℕ) (e : N.Stop) → Takes a b hs n → Ends b c bs e → Ends a c (hs ++ bs) e
 Ends-after a b c hs bs n e p (inl y) = inl (
   p.0 ++ y.0,
-  N.Consumes-trans a.left b.left c.left p.0 y.0 p.1.0 y.1,
+  grind (arith, N.Consumes-trans),
   (λ zs. rw (N.append_assoc, p.1.1, y.2)),
   Stays-trans _ _ _ _ _ p.4 y.3,
 )
@@ -91,17 +91,17 @@ Ends-after a b c hs bs n e p (inr (inr y)) = grind (arith, N.common_steps, N.Joi
 module _ {R : Type 0} (remaining : R → N.Option (List ℕ)) (p : N.PayloadOf R) where
   pub stopped_ends : {s : N.Stop} → p.stopped ≡ N.Some s → Ends (seen remaining p) (seen remaining p) [] s
   unfolding coming_of
-  stopped_ends e = inl ([], N.Consumes-nil _, λ zs. rw e, Stays-none _)
+  stopped_ends e = inl (grind arith)
 
   -- the last packet is used up
   pub over : p.last ≡ N.true → p.stopped ≡ None → buffered p ≡ [] → N.IsOver (seen remaining p)
   unfolding coming_of
-  over el es eb = (record { fault = N.MessageEnded; place = N.Payload p.place }, N.refl, λ zs. rw (es, el, eb, N.add-zero))
+  over el es eb = (record { fault = N.MessageEnded; place = N.Payload p.place }, N.refl, grind arith)
 
   pub ended_ends : p.last ≡ N.true → p.stopped ≡ None → buffered p ≡ []
       → Ends (seen remaining p) (seen remaining p) [] (record { fault = N.MessageEnded; place = N.Payload p.place })
   unfolding over
-  ended_ends el es eb = inl ([], N.Consumes-nil _, (over el es eb).2, Stays-none _)
+  ended_ends el es eb = inl (grind arith)
 
   pub not_over : p.stopped ≡ None → 0 < length (buffered p) → N.IsNotOver (seen remaining p)
   unfolding coming_of

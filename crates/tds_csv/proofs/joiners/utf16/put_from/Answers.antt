@@ -16,7 +16,7 @@ loop-at-init g c = record {
 pub returns-in_err-at-clause-puts : goal.returns-in_err-at-clause-puts
 returns-in_err-at-clause-puts g c =
     let before = c.loop-at.invariant.puts in
-    N.Puttings.PutsPiece-error _ _ _ _ _ _ c.from_residual.ensures.1 (puts_whole before.2 before.1 (puts_part
+    N.Puttings.PutsPiece-error c.from_residual.ensures.1 (puts_whole before.2 before.1 (puts_part
     (Leads-front joins_utf16 (drop c.loop-at.at c.args.bytes.now) (c.min-end.result - c.loop-at.at) tt) c.in_err-at.ensures.puts))
 
 pub loop-at-preserved : goal.loop-at-preserved
@@ -32,7 +32,7 @@ loop-at-preserved g c =
       after = omega arith;
       puts = (
         _,
-        N.Puttings.PutsPiece-ok _ _ _ _ used tt (N.Puttings.PutsPiece-trans _ _ _ _ tt _ _ (N.Ok used) before.1 c.in_ok-at.ensures.puts),
+        N.Puttings.PutsPiece-ok used tt (N.Puttings.PutsPiece-trans _ _ _ _ tt _ _ (N.Ok used) before.1 c.in_ok-at.ensures.puts),
         Leads-trans before.2 (Leads-next joins_utf16 xs at (c.min-end.result - at) used tt left.within left.rest),
       );
     }
@@ -40,5 +40,5 @@ loop-at-preserved g c =
 pub returns-then-end-bytes-clause-puts : goal.returns-then-end-bytes-clause-puts
 returns-then-end-bytes-clause-puts g c =
     let before = c.loop-at.invariant.puts in
-    N.Puttings.PutsPiece-ok _ _ _ _ _ _ (puts_whole before.2 before.1 (rw (N.take_all (c.min-end.result - c.loop-at.at) (drop c.loop-at.at c.args.bytes.now)
+    N.Puttings.PutsPiece-ok _ _ (puts_whole before.2 before.1 (rw (N.take_all (c.min-end.result - c.loop-at.at) (drop c.loop-at.at c.args.bytes.now)
     (omega (arith, N.length-drop c.loop-at.at c.args.bytes.now))) at c.in_ok-at.ensures.puts))
