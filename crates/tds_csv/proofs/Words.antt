@@ -6,13 +6,12 @@ pub use Rattle.std.proofs.{
   Common.{Fits, Bool, Result, Ok, Err, MatchResult, ◌^◌, not, cond, replicate, ap₂, codes, slice_index, zero, OnErr, le_refl, ◌⊎◌, ◌*◌, length-take, ◌&&◌, eqb},
   Common.{leb, bit_or, unwrap_or, ⊎_elim, nat_lt, nat_eq, rules},
   KnownBytes.{Appends-nil, Appends-trans},
-  Math.{Bool.or-false, ListN.drop_of_length-le, Seq.{take-append-add, drop-append-add, take-append_seam, drop-append_seam}},
+  Math.{ListN.drop_of_length-le, Seq.{take-append-add, drop-append-add, take-append_seam, drop-append_seam}},
   lemmas.{
-    Bool.{or_parts, cases_lt, cases_eq, agree_below, agree_below_at, and_right, and_parts, ne_eqb, Decides.nat_tests},
+    Bool.{or_parts, cases_lt, agree_below, agree_below_at, and_right, and_parts, ne_eqb, Decides.nat_tests},
     Grind.{flat_map-append, common_steps},
     List.{take-append-le, nil_from_length, map-id, take-append-drop, take-take, take_at, drop-append-le, drop-take, length-map, append_cancel_left, map-append},
     List.{take_more, drop_more, drop_at, get_or-drop, take-map, Sums.prefix_len-le-length},
-    Result.err_from_is_err_and,
     Simd.{swz_l, map-map, mask_l-mod, length-chunk, chunk-fits, first_set_mask_l, zip2_of_maps, splat_is_map, zip2_splat, SwzOk-from_below, length-put_chunk},
     Simd.{take_more_put_chunk, Each2-splat, Each1-all},
     Str.{is_utf8-from_IsUtf8, utf8_valid_len_le, IsUtf8-from_is_utf8, IsUtf8-nil, encode_same, utf8_valid_len-IsUtf8, encodes-append, IsUtf8-append},
@@ -34,7 +33,6 @@ pub use Rattle.std.specs.{
 }
 pub use Rattle.tds_csv.specs.{
   Cutting.whole_within,
-  Fields.{conversion_of, field_room},
   Joining.{emit, JoinsPieces, settled, Leads},
   Spare.{held_before, KeepsPiece, with_spare},
   Streaming.{BreaksStreaming, PutsText, Streams, StopsStreaming},
@@ -44,7 +42,7 @@ pub use Rattle.tds_csv.specs.{
   Plain.{LiesIn, first_set, is_plain, evens, is_unquoted},
   Pushing.{EndsPieces, PushesPiece, Pushes, TakesPiece, TakesUpTo},
   Quoting.{quote, doubled, doubled_byte, quoted_field, binary_field, line, after_comma},
-  Sinks.{Breaks, Held, Puts, PutsPiece, IsWriting, held, Adds, Sends, FinishFails, stop_of, fresh},
+  Sinks.{Breaks, Held, Puts, PutsPiece, IsWriting, held, Adds, Sends, FinishFails},
   declared.{joiners.JoinFault.{JoinFault, TheVariants.{Stopped, Odd, BadText}}, sink.Sink.Sink},
   declared.convert.windows_1252.TheConstants.UPPER,
   Utf16Next.{Converts, LeavesRest, seam},
@@ -58,5 +56,5 @@ pub use Rattle.tds_packet.{
   specs.{Elements.{Grammar, IsNext, Spelt}, Reading.StopsReading, Seen.{Seen, Takes, IsBetween}, declared.fault.{Fault.Fault, Stop.Stop}},
 }
 pub use borrow.Rule.Slice.PartMut.{put_mid, post_of}
-pub use lib.{Lanes.{put_chunk, sel_l, Each1, chunk, mask_l, top}, Seq.{drop-drop, take-add}, Utf8.{scalar, scalar_cases}}
+pub use lib.{Lanes.{sel_l, Each1, chunk, mask_l, top}, Seq.{drop-drop, take-add}, Utf8.{scalar, scalar_cases}}
 pub use native.Mathlib.Decide.{dec_le}

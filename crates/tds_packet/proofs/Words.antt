@@ -2,11 +2,11 @@
 pub use Rattle.std.proofs.{
   Math.{ListN.drop_of_length-le, Nat.suc-mul, Seq.{take-append_seam, take-append-add, drop-append_seam}},
   lemmas.{Bool.Decides.nat_tests, Grind.{common_steps, flat_map-append}, List.{take-append-drop, append_cancel_right, drop-drop, nil_from_length}},
-  lemmas.{List.Folds.concat-append, Nat.div-mul-add, Result.err_from_is_err_and, Slice.take-put_mid},
+  lemmas.{List.Folds.concat-append, Result.err_from_is_err_and, Slice.take-put_mid},
   Common.{◌≡◌, length, arith, ◌+◌, ◌-◌, ◌≤◌, [], refl, take, ◌++◌, ◌∙◌, rules, ℕ, ◌<◌, List, ap, sym, false, drop, inl, inr, length-append, None, append-nil},
   Common.{length-drop, true, ◌∷◌, append_assoc, Bool, suc, zero, Err, length-take-le, subst, ◌⊎◌, Ok, add-zero, le_refl, length-take, MatchResult, Result, min},
   Common.{◌%◌, ◌*◌, ◌/◌, ◌≢◌, IfSome, map, take-add, take_all, ◌^◌},
-  KnownBytes.{Consumes-trans, Appends-trans, Appends-kept, Appends-nil, Consumes-kept, Consumes-nil},
+  KnownBytes.{Consumes-trans, Appends-trans, Appends-kept, Appends-nil, Consumes-kept},
   Common.{drop-cons, get_or},
 }
 pub use Rattle.std.specs.{
@@ -39,7 +39,7 @@ pub use Rattle.tds_packet.specs.{
   Recutting.{cut_packet, Cuts, Gathers, Flushes, Gains, StopsInput, StopsOutput, WritesPacket, before_last, packets_before},
   Seen.{Takes, Ends, Seen, IsBetween, IsOver, IsNotOver, began_at, begun, Needs},
 }
-pub use borrow.Rule.Slice.PartMut.{post_of, put_mid}
+pub use borrow.Rule.Slice.PartMut.{put_mid}
 pub use lib.Seq.{take-append-le, drop-append-le, take-take}
 pub use native.Mathlib.Decide.{dec_le}
 unfoldable pub use Rattle.tds_packet.specs.{Coming.{front_packet, message, coming_of}, Recutting.first_packets}
