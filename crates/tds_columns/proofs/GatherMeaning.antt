@@ -8,7 +8,7 @@ Keeps N.NoDescription b = Unit {0}
 Keeps d b = N.description_bytes d ≡ b
 
 module _ (room : ℕ) where
-  pub kept_bytes : (d : N.DescriptionPart) (bytes : List ℕ) → N.Spelt (N.description room) N.BeforeCount bytes d → Keeps d bytes
+  kept_bytes : (d : N.DescriptionPart) (bytes : List ℕ) → N.Spelt (N.description room) N.BeforeCount bytes d → Keeps d bytes
   kept_bytes d bytes h = N.Spelt-induct (N.description room) Keeps (grind (arith, N.bare_type, N.eq_true)) N.BeforeCount
       N.refl bytes d h
 

@@ -46,7 +46,7 @@ front_of c front more h =
     laid c front h.ignored h.info type.rest more type.byte h.units h.spelt type.spelt h.six type.whole type.allowed h.counted
 
 -- columns that are spelt lie there
-pub columns_lie : (cs : List Column) (bytes : List ℕ) → N.SpellsColumns cs bytes → (N.columns_in (length cs) bytes ≡ cs)
+columns_lie : (cs : List Column) (bytes : List ℕ) → N.SpellsColumns cs bytes → (N.columns_in (length cs) bytes ≡ cs)
     × (N.are_columns (length cs) bytes ≡ true)
 columns_lie [] bytes h = (refl, refl)
 columns_lie (c ∷ cs) bytes h = grind (arith, N.drop-append_seam, N.and_from, (front_of c h.0 h.1 h.3), (columns_lie cs h.1 h.4))

@@ -8,12 +8,12 @@ use Rattle.std.specs.Prelude.{count_ones}
 -- ---- from the mask of one load to the bytes before the first that stops
 
 -- two tests that are the same on what lists hold
-pub same_prefix : (P : ℕ → Type 0) {p q : ℕ → Bool} → ((x : ℕ) → P x → p x ≡ q x) → (xs : List ℕ) → Each1 P xs → N.prefix_len p xs ≡ N.prefix_len q xs
+same_prefix : (P : ℕ → Type 0) {p q : ℕ → Bool} → ((x : ℕ) → P x → p x ≡ q x) → (xs : List ℕ) → Each1 P xs → N.prefix_len p xs ≡ N.prefix_len q xs
 same_prefix P same [] each = refl
 same_prefix P same (x ∷ xs) each = N.ap₂ (λ b n. N.cond b (1 + n) 0) (same x each.0) (same_prefix P same xs each.1)
 
 -- so many lanes come before the first whose top bit is set
-pub run_before : (bit n : ℕ) (f : ℕ → ℕ) (v : List ℕ) {z : List ℕ} → length v ≡ n → n ≤ 64 → z ≡ map f v
+run_before : (bit n : ℕ) (f : ℕ → ℕ) (v : List ℕ) {z : List ℕ} → length v ≡ n → n ≤ 64 → z ≡ map f v
     → N.first_set (mask_l (map (top bit) z) % 2 ^ 64) n ≡ N.prefix_len (λ x. not (top bit (f x))) v
 run_before bit n f v long few lanes =
     let stops = λ (x : ℕ). top bit (f x) in
@@ -51,7 +51,7 @@ mask_of q f us long fits lanes same =
     rw (lanes, N.map-map (top 15) f us) (N.mask_l-mod (map stops us) 64 (omega (arith, N.length-map us stops)) ∙ ap mask_l (same_map same us fits))
 
 -- so many lanes have a small mask
-pub mask_small : (k : ℕ) (ms : List Bool) → length ms ≤ k → mask_l ms < 2 ^ k
+mask_small : (k : ℕ) (ms : List Bool) → length ms ≤ k → mask_l ms < 2 ^ k
 mask_small k [] few = pow_pos k
 mask_small zero (m ∷ ms) few = grind arith
 mask_small (suc k) (m ∷ ms) few = let more = mask_small k ms (omega arith) in grind arith

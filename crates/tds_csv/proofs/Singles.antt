@@ -46,13 +46,13 @@ module _ (text : List ℕ → List ℕ) (appends : (x y : List ℕ) → text (x 
   -- bytes that stand for themselves, up to the first that needn't
   module _ (q : ℕ → N.Bool) (empty : text [] ≡ []) (itself : (b : ℕ) → q b ≡ true → text (b ∷ []) ≡ b ∷ []) where
     -- the first of them, so many
-    pub some_itself : (k : ℕ) (xs : List ℕ) → k ≤ N.prefix_len q xs → text (take k xs) ≡ take k xs
+    some_itself : (k : ℕ) (xs : List ℕ) → k ≤ N.prefix_len q xs → text (take k xs) ≡ take k xs
     some_itself N.zero xs h = empty
     some_itself (N.suc k) [] h = grind arith
     some_itself (N.suc k) (b ∷ xs) h = grind (arith, appends (b ∷ []) (take k xs), some_itself k xs)
 
     -- those that were found among the next `w`
-    pub lanes_itself : (w : ℕ) (bytes : List ℕ) (at n : ℕ) → n ≤ w → n ≡ N.prefix_len q (chunk at w bytes)
+    lanes_itself : (w : ℕ) (bytes : List ℕ) (at n : ℕ) → n ≤ w → n ≡ N.prefix_len q (chunk at w bytes)
         → take n (chunk at w bytes) ≡ text (take n (drop at bytes))
     lanes_itself = grind (arith, some_itself, N.take-take)
 

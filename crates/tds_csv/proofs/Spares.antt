@@ -3,7 +3,7 @@ use Rattle.tds_csv.proofs as N
 use N.{◌≡◌, ℕ, List, ◌++◌, length, take, arith, Ok}
 
 -- all the room that was lent was written over
-pub spare_bytes : (bytes lent written : List ℕ) → length written ≡ length lent → N.overwritten (length bytes) written (bytes ++ lent) ≡ bytes ++ written
+spare_bytes : (bytes lent written : List ℕ) → length written ≡ length lent → N.overwritten (length bytes) written (bytes ++ lent) ≡ bytes ++ written
 spare_bytes = grind (arith, N.length-append, N.overwritten_all, N.take-append_seam)
 
 -- what waited before

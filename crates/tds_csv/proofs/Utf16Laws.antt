@@ -36,7 +36,7 @@ chars-apart (u ∷ []) [] h = refl
 chars-apart (u ∷ []) (v ∷ vs) h = grind arith
 chars-apart (u ∷ v ∷ us) vs h = grind (arith, chars-apart us vs (Apart-tail v us vs h), chars-apart (v ∷ us) vs h)
 
-pub high_is_not_low : (u : ℕ) → is_high_surrogate u ≡ true → is_low_surrogate u ≡ false
+high_is_not_low : (u : ℕ) → is_high_surrogate u ≡ true → is_low_surrogate u ≡ false
 high_is_not_low = grind arith
 
 -- the bytes before the rest

@@ -60,7 +60,7 @@ pub not_high : (u : ℕ) → is_low_surrogate u ≡ true → N.is_high_surrogate
 not_high = grind arith
 
 -- a high surrogate before a unit that is no low one
-pub next_alone : (low high low' high' : ℕ) (bytes : List ℕ) → is_high low high ≡ true → is_low_surrogate (low' + 256 * high') ≡ false
+next_alone : (low high low' high' : ℕ) (bytes : List ℕ) → is_high low high ≡ true → is_low_surrogate (low' + 256 * high') ≡ false
     → IsNext (low ∷ high ∷ low' ∷ high' ∷ bytes) 0xFFFD 2
 unfolding starts_low
 next_alone low high low' high' bytes h l =
@@ -73,7 +73,7 @@ next_alone low high low' high' bytes h l =
     }
 
 -- a pair
-pub next_pair : (low high low' high' : ℕ) (bytes : List ℕ) → is_high low high ≡ true → is_low_surrogate (low' + 256 * high') ≡ true
+next_pair : (low high low' high' : ℕ) (bytes : List ℕ) → is_high low high ≡ true → is_low_surrogate (low' + 256 * high') ≡ true
     → IsNext (low ∷ high ∷ low' ∷ high' ∷ bytes) (N.surrogate_pair_char (low + 256 * high) (low' + 256 * high')) 4
 next_pair low high low' high' bytes h l =
     let second : is_high low' high' ≡ false = grind arith in
@@ -94,10 +94,10 @@ held_high : (low high : ℕ) (more : List ℕ) → length more < 2 → is_high l
 held_high = grind arith
 
 -- the bytes from a place on, the first ones named
-pub drop_two : (xs : List ℕ) (i : ℕ) → i + 1 < length xs → drop i xs ≡ get_or xs i 0 ∷ get_or xs (i + 1) 0 ∷ drop (i + 2) xs
+drop_two : (xs : List ℕ) (i : ℕ) → i + 1 < length xs → drop i xs ≡ get_or xs i 0 ∷ get_or xs (i + 1) 0 ∷ drop (i + 2) xs
 drop_two = grind (arith, N.drop_more)
 
-pub drop_four : (xs : List ℕ) (i : ℕ) → i + 3 < length xs
+drop_four : (xs : List ℕ) (i : ℕ) → i + 3 < length xs
     → drop i xs ≡ get_or xs i 0 ∷ get_or xs (i + 1) 0 ∷ get_or xs (i + 2) 0 ∷ get_or xs (i + 3) 0 ∷ drop (i + 4) xs
 drop_four = grind (arith, drop_two)
 

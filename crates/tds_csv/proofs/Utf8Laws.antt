@@ -36,16 +36,16 @@ pub longest_is : (bs : List ℕ) (m : ℕ) → utf8_valid_len bs < m → m ≤ l
 unfolding utf8_valid_len
 longest_is bs = longest_up_to bs (length bs)
 
-pub length-front : (bs : List ℕ) → length (front bs) ≡ utf8_valid_len bs
+length-front : (bs : List ℕ) → length (front bs) ≡ utf8_valid_len bs
 unfolding front
 length-front bs = N.length-take-le _ bs (N.utf8_valid_len_le bs)
 
-pub front-rest : (bs : List ℕ) → bs ≡ front bs ++ rest bs
+front-rest : (bs : List ℕ) → bs ≡ front bs ++ rest bs
 unfolding front
 front-rest bs = sym (N.take-append-drop _ bs)
 
 -- what follows a text in a text is a text
-pub after_text : (w z : List ℕ) → IsUtf8 w → IsUtf8 (w ++ z) → IsUtf8 z
+after_text : (w z : List ℕ) → IsUtf8 w → IsUtf8 (w ++ z) → IsUtf8 z
 after_text w z u whole =
     rw (N.drop_at w z (length w) refl) at (N.IsUtf8-drop (w ++ z) (length w) whole (N.IsCharBoundary-from_take (w ++ z) (length w) whole
     (omega (arith, N.length-append w z)) (rw (N.take_at w z (length w) refl) u)))
@@ -57,7 +57,7 @@ unfolding front
 valid_len_is bs n within u longest = grind (arith, longest_is bs n, longest (utf8_valid_len bs), N.utf8_valid_len_le, front_is bs)
 
 -- the longest text at the front, after a text
-pub valid_len-past : (w y : List ℕ) → IsUtf8 w → utf8_valid_len (w ++ y) ≡ length w + utf8_valid_len y
+valid_len-past : (w y : List ℕ) → IsUtf8 w → utf8_valid_len (w ++ y) ≡ length w + utf8_valid_len y
 unfolding front
 valid_len-past w y u =
     let k = utf8_valid_len y in
@@ -68,7 +68,7 @@ valid_len-past w y u =
     let split : m ≡ length w + n = omega arith in
     longest_is y n (omega arith) (omega arith) (after_text w (take n y) u (rw (split, N.take-append-add w y n) at whole)))
 
-pub regrouped : (a b : List ℕ) → a ++ b ≡ front a ++ (rest a ++ b)
+regrouped : (a b : List ℕ) → a ++ b ≡ front a ++ (rest a ++ b)
 regrouped a b = cc (front-rest a, N.append_assoc (front a) (rest a) b)
 
 -- the front of two pieces, and their rest
@@ -92,7 +92,7 @@ ends : (a : List ℕ) → text a ≡ emit rest text a ++ text (rest a)
 ends a = cc (front-rest a, doubled-append (front a) (rest a), emit-front a)
 
 -- the first bytes, the whole characters among them
-pub take-front : (bytes : List ℕ) (n : ℕ) → take (utf8_valid_len bytes + n) bytes ≡ front bytes ++ take n (rest bytes)
+take-front : (bytes : List ℕ) (n : ℕ) → take (utf8_valid_len bytes + n) bytes ≡ front bytes ++ take n (rest bytes)
 take-front bytes n = rw (length-front bytes, ← front-rest bytes) at (N.take-append-add (front bytes) (rest bytes) n)
 
 -- no front of the list is a text
@@ -112,7 +112,7 @@ IsBegun r more = (r ≡ []) ⊎ ((c : ℕ) × (tail : List ℕ) × (scalar c ≡
     × (length r < length (encode_utf8 c)))
 
 -- the rest of what begins a text is so
-pub begun_rest : (a : List ℕ) → (b : Begins a) → IsBegun (rest a) b.0
+begun_rest : (a : List ℕ) → (b : Begins a) → IsBegun (rest a) b.0
 unfolding NoText
 begun_rest a b =
     let whole = after_text (front a) (rest a ++ b.0) (front_is a) (rw (← regrouped a b.0) b.1) in
@@ -346,7 +346,7 @@ part_has_none c k short =
     (λ m some within u. part_is_no_text c m some (omega arith) (rw (N.take-take m k (encode_utf8 c) (omega arith)) at u))
 
 -- the next character doesn't fit
-pub cut_before : (room c : ℕ) (out more : List ℕ) → IsUtf8 out → length out ≤ room → room < length out + length (encode_utf8 c)
+cut_before : (room c : ℕ) (out more : List ℕ) → IsUtf8 out → length out ≤ room → room < length out + length (encode_utf8 c)
     → N.whole_within room (out ++ (encode_utf8 c ++ more)) ≡ out
 cut_before room c out more u fits full =
     let split : room ≡ length out + (room - length out) = omega arith in

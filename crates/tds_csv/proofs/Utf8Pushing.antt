@@ -12,7 +12,7 @@ moved_by n (Err Odd) = Err Odd
 moved_by n (Ok v) = Ok v
 
 -- three bytes hold what is withheld
-pub is_scan : (bytes : List ℕ) (whole good : ℕ) → whole ≤ good → good ≤ length bytes → drop whole bytes ≡ rest bytes
+is_scan : (bytes : List ℕ) (whole good : ℕ) → whole ≤ good → good ≤ length bytes → drop whole bytes ≡ rest bytes
     → (good ≡ length bytes → Begins bytes) → (good < length bytes → N.StopsAt bytes whole good) → N.IsScan bytes whole good
 is_scan bytes whole good order most same begins stops =
     let short : good ≤ whole + 3 = elim (N.cases_lt good (length bytes)) [

@@ -8,10 +8,10 @@ use Rattle.{tds_csv.specs.Utf16.{units, rest, text}, std.specs.{List.count_by, P
 use lib.Lanes.{zip2}
 
 -- the bytes of a unit's text, at the places for it
-pub pair_text : (u : ℕ) → is_long u ≡ false → map (λ k. get_or (N.pair_bytes u) k 0) (pair_places (is_wide u) (is_long u)) ≡ unit_text u
+pair_text : (u : ℕ) → is_long u ≡ false → map (λ k. get_or (N.pair_bytes u) k 0) (pair_places (is_wide u) (is_long u)) ≡ unit_text u
 pair_text = grind (arith, of_one, of_two)
 
-pub quad_text : (u : ℕ) → u < 65536 → map (λ k. get_or (quad_bytes u) k 0) (quad_places (is_wide u) (is_long u)) ≡ unit_text u
+quad_text : (u : ℕ) → u < 65536 → map (λ k. get_or (quad_bytes u) k 0) (quad_places (is_wide u) (is_long u)) ≡ unit_text u
 quad_text = grind (arith, of_one, of_two, of_three, doubled_character)
 
 plain_text : (u : ℕ) → is_wide u ≡ false → unit_text u ≡ u ∷ []
@@ -29,7 +29,7 @@ units_size [] small = refl
 units_size (u ∷ us) small = let one = unit_size u small.0 in let more = units_size us small.1 in
     N.length-append (unit_text u) (units_text us) ∙ grind (arith, N.common_steps)
 
-pub text_size : (us : List ℕ) {wide long : ℕ} → Each1 (λ u. u < 65536) us → wide ≡ mask_l (map is_wide us) → long ≡ mask_l (map is_long us)
+text_size : (us : List ℕ) {wide long : ℕ} → Each1 (λ u. u < 65536) us → wide ≡ mask_l (map is_wide us) → long ≡ mask_l (map is_long us)
     → length (units_text us) ≡ length us + (count_ones wide + count_ones long)
 text_size us small wide_is long_is = rw (wide_is, long_is, N.ones-mask_l is_wide us, N.ones-mask_l is_long us) (units_size us small)
 
@@ -43,7 +43,7 @@ in_quad true false = (omega arith, (omega arith, tt))
 in_quad false false = (omega arith, tt)
 
 -- units are numbers of 16 bits
-pub unit_range : (us : List ℕ) → Each1 (Fits w16) us → Each1 (λ u. u < 65536) us
+unit_range : (us : List ℕ) → Each1 (Fits w16) us → Each1 (λ u. u < 65536) us
 unit_range = N.below_from_Fits w16
 
 each_taken : (P : ℕ → Type 0) (n : ℕ) (us : List ℕ) → Each1 P us → Each1 P (take n us)
@@ -57,7 +57,7 @@ each_left P (suc n) [] each = tt
 each_left P (suc n) (u ∷ us) each = each_left P n us each.1
 
 -- the first and the other units
-pub split_lanes : (lane : ℕ → List ℕ) (n : ℕ) (us : List ℕ) → flat_map lane us ≡ flat_map lane (take n us) ++ flat_map lane (drop n us)
+split_lanes : (lane : ℕ → List ℕ) (n : ℕ) (us : List ℕ) → flat_map lane us ≡ flat_map lane (take n us) ++ flat_map lane (drop n us)
 split_lanes lane n us = sym (ap (flat_map lane) (N.take-append-drop n us)) ∙ N.flat_map-append lane (take n us) (drop n us)
 
 -- the text of units is gathered from their bytes by a row for their masks
@@ -137,7 +137,7 @@ module _ (us : List ℕ) (n : ℕ) {old new xs : List ℕ} {at end m wide long :
       (rw (others.0, first.0, N.append_assoc, ← split_lanes unit_text 4 vs) refl, omega (arith, first.1, others.1))
 
 -- long characters have three bytes each
-pub long_texts : (us : List ℕ) → Each1 (λ u. u < 65536) us → Each1 (λ u. is_long u ≡ true) us → triples us ≡ units_text us
+long_texts : (us : List ℕ) → Each1 (λ u. u < 65536) us → Each1 (λ u. is_long u ≡ true) us → triples us ≡ units_text us
 long_texts [] small each = refl
 long_texts (u ∷ us) small each = rw (long_text u small.0 each.0, long_texts us small.1 each.1) refl
 
@@ -151,7 +151,7 @@ pub both_halves : (us low high : List ℕ) → length us ≡ 8 → Each1 (Fits w
 both_halves = grind (arith, triples_whole, long_texts, unit_range)
 
 -- the low bytes of characters of ASCII are their text
-pub plain_texts : (n : ℕ) (ys : List ℕ) → Each1 (λ u. is_wide u ≡ false) (take n (units ys)) → take n (N.evens ys) ≡ units_text (take n (units ys))
+plain_texts : (n : ℕ) (ys : List ℕ) → Each1 (λ u. is_wide u ≡ false) (take n (units ys)) → take n (N.evens ys) ≡ units_text (take n (units ys))
 plain_texts zero ys each = refl
 plain_texts n [] each = grind arith
 plain_texts n (low ∷ []) each = grind arith
@@ -165,13 +165,13 @@ pub not_long : (u : ℕ) → is_wide u ≡ false → is_long u ≡ false
 not_long = grind arith
 
 -- two bytes are a unit
-pub length-units : (xs : List ℕ) → length (units xs) ≡ length xs / 2
+length-units : (xs : List ℕ) → length (units xs) ≡ length xs / 2
 length-units [] = grind arith
 length-units (low ∷ []) = grind arith
 length-units (low ∷ high ∷ xs) = let more = length-units xs in grind arith
 
 -- so 16 bytes are eight
-pub eight_units : (ys : List ℕ) {us : List ℕ} → length ys ≡ 16 → us ≡ units ys → length us ≡ 8
+eight_units : (ys : List ℕ) {us : List ℕ} → length ys ≡ 16 → us ≡ units ys → length us ≡ 8
 eight_units ys long is = omega (arith, ap length is, length-units ys)
 
 -- the first of eight are characters of ASCII, and were written
@@ -198,7 +198,7 @@ leads_front (suc k) (low ∷ high ∷ ys) more few each =
 leads_front k ys more few each = grind arith
 
 -- all the bytes are a source of their own
-pub lies_itself : (bytes : List ℕ) → N.LiesIn bytes bytes
+lies_itself : (bytes : List ℕ) → N.LiesIn bytes bytes
 lies_itself = grind (arith, N.common_steps)
 
 -- so many units of a source that begins with the bytes were converted after what was before

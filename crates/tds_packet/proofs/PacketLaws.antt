@@ -23,7 +23,7 @@ pub record Good (size limit : ℕ) (packets : List Packet) (header : List ℕ) :
   pub most : header_length header ≤ size
   pub within : length (wire_of packets) + header_length header ≤ limit
 
-pub free_is_good : (size limit : ℕ) (packets : List Packet) (header : List ℕ) → length header ≡ 8 → AreBytes header
+free_is_good : (size limit : ℕ) (packets : List Packet) (header : List ℕ) → length header ≡ 8 → AreBytes header
     → N.header_fault size limit (length (wire_of packets)) header ≡ None → Good size limit packets header
 free_is_good = grind (arith, eq_true, N.nat_tests)
 
@@ -52,7 +52,7 @@ module _ (size limit : ℕ) where
   wire_step (BeforeBody header) b bytes h n = grind (arith, append_assoc, with_means)
 
   -- what is read of a wire are the packets that it begins with
-  pub wire_is_spelt : (bytes : List ℕ) (w : WirePart) → AreBytes bytes → Spelt (wire size limit) no_wire bytes w
+  wire_is_spelt : (bytes : List ℕ) (w : WirePart) → AreBytes bytes → Spelt (wire size limit) no_wire bytes w
       → WireMeans size limit w.packets w.place bytes
   wire_is_spelt bytes w are h = Spelt-induct _ (λ q b. AreBytes b → WireMeans size limit q.packets q.place b)
       (λ q b e k n t. wire_step _ b (AreBytes-back b e t) (k (AreBytes-front b e t)) n) no_wire (λ t. (refl, tt, omega arith)) bytes w h are

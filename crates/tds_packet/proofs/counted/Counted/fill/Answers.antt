@@ -9,7 +9,7 @@ take_put = grind (N.arith, N.length-take-le, N.take-append-add, N.take-append-le
 pub loop-at-preserved : goal.loop-at-preserved
 loop-at-preserved g c =
     let inv = c.loop-at.invariant in
-    let bound : c.in-Ok.n ≤ length _ = search rules in
+    let bound : c.in-Ok.n ≤ length c.read.new.to = search rules in
     record {
       same = search rules;
       within = search rules;

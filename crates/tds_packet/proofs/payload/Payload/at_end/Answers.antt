@@ -5,7 +5,7 @@ use N.{◌<◌, Futures.{over, not_over}, PayloadLaws.between_of}
 pub returns-in-Ok-clause-tells : goal.returns-in-Ok-clause-tells
 returns-in-Ok-clause-tells g c =
     let s = c.ready.new.self in
-    let some : 0 < N.length (N.drop _ s.packet.now.bytes) = omega (N.arith, N.length-drop s.at s.packet.now.bytes, c.in-Ok.ensures.stands) in
+    let some : 0 < N.length (N.drop s.at s.packet.now.bytes) = omega (N.arith, N.length-drop s.at s.packet.now.bytes, c.in-Ok.ensures.stands) in
     record { over = λ e. cc; more = λ _. not_over g.R.Read.remaining s c.in-Ok.ensures.payload.answers.going some; ready = λ _. some }
 
 pub returns-in-MessageEnded-clause-tells : goal.returns-in-MessageEnded-clause-tells
