@@ -367,7 +367,7 @@ part_payload : (room : ℕ) (tokens : List Token) (at : Open) (e : List ℕ) →
 part_payload room tokens at e = grind (arith, if_payload)
 
 end_payload : (tokens : List Token) (at : Open) → AtMostOfPayload (part_end tokens at)
-end_payload tokens at = grind (arith, if_payload)
+end_payload tokens at = grind arith
 
 module _ (charset : Charset) (room : ℕ) where
   element_fault : (p : Part) (e : List ℕ) (fault : Fault) → (response charset room).fault p e ≡ Some fault → IsOfPayload fault
@@ -465,7 +465,7 @@ no_failure given report x =
 -- however the last delivery ended
 tidied : {U : Type 0} (h k : Held) (failed : Bool) (r : Result U Stop) → failed ≡ false
     → MatchResult r (λ _. Finishes h k) (λ stop. failed ≡ false → FinishFails h k stop) → Tidied h k
-tidied h k failed r going x = grind (arith, rose)
+tidied h k failed r going x = grind arith
 
 -- the end of a text leaves a sink so
 pub tidies : {W U : Type 0} (contents : W → Option (List ℕ)) (old new : Sink W) (r : Result U Stop) → FinishesSink contents old new r
@@ -488,13 +488,13 @@ pub stops_export : {given : Given} {a q : Seen} {h k l : Held} {size limit room 
     → h ≡ fresh_at given → room ≡ (limits_of given).column_room → place ≡ 0 → IsReader given q → IsWriter given l
     → RunStops (response given.charset room) response_start a q place h k given.after.areas.description failed stop → (failed ≡ false → Tidied k l)
     → (failed ≡ true → l ≡ k) → stopped ≡ stopped_with stop l → given.after.areas.notice.bytes ≡ [] → StopsExport given stopped
-stops_export e1 e2 e3 e4 e5 e6 reader writer x tidy same is none = grind (arith, tidied)
+stops_export e1 e2 e3 e4 e5 e6 reader writer x tidy same is none = grind arith
 
 -- ---- the rooms of areas that were intact and are emptied
 
 pub rooms : (old new : Areas) → IsTrue (is_intact old) → AreEmptied old new → (new.packet.room ≡ old.limits.packet_size)
     × (new.description.room ≡ old.limits.column_room)
-rooms old new h e = grind (arith, nat_tests, Space)
+rooms old new h e = grind arith
 
 -- ---- what an export answers, where its reader and writer tell their bytes
 

@@ -90,12 +90,8 @@ module _ {W : Type 0} {contents : W → Option (List ℕ)} {columns left rest : 
       let fields = map name_field x.done in
       let grows = joined_more (fields ++ name_field c ∷ []) (map name_field rest) in (
         grows.0,
-        cc (
-          joined-snoc fields (name_field c),
-          grows.1,
-          ap (map name_field) (sym x.split ∙ ap (λ l. x.done ++ l) is) ∙ map-append name_field x.done (c ∷ rest)
-              ∙ sym (append_assoc fields (name_field c ∷ []) _),
-        ),
+        cc (joined-snoc fields (name_field c), ap (map name_field) (sym x.split ∙ ap (λ l. x.done ++ l) is) ∙ map-append name_field x.done (c ∷ rest)
+              ∙ sym (append_assoc fields (name_field c ∷ []) _)),
       )
 
   -- the writer failed at the comma
@@ -151,7 +147,7 @@ same_grows : (tokens : List Token) (at : Open) → IsFresh at → Grows (text to
 same_grows tokens at h = rw (fresh_text at h) (grows_same _)
 
 with_row_grows : (tokens : List Token) (part : RowPart) → Grows (text tokens ++ row_so_far part) (text_so_far (with_row tokens part))
-with_row_grows tokens part = grind (arith, append-nil, grows_same, text_after-snoc)
+with_row_grows tokens part = grind (arith, append-nil, text_after-snoc)
 
 -- a row that begins
 start_grows : (tokens : List Token) (start : List Column → RowPart) (current : Option (List Column))
@@ -174,7 +170,7 @@ with_return_grows tokens part = grows_same _
 module _ (room : ℕ) where
   -- each element of a description adds to its span
   description_span : {d : DescriptionPart} {e : List ℕ} → IsNext (description room) d e → span d ≤ span (add_described d e)
-  description_span n = grind (arith, choose, is_some_value, known_type, length-append, some_kind, bare_type, eq_true)
+  description_span n = grind (arith, choose, length-append, some_kind, bare_type, eq_true)
 
 module _ (charset : Charset) (room : ℕ) where
   -- each element adds to the text, by where it is read
@@ -194,7 +190,7 @@ module _ (charset : Charset) (room : ℕ) where
   -- each element adds to the span, by where it is read
   part_span : {tokens : List Token} (at : Open) (e : List ℕ) → IsNext (response charset room) (part_at tokens at) e
       → max (greatest_span tokens) (open_span at) ≤ span_so_far (part_add charset tokens at e)
-  part_span at e n = grind (arith, choose, description_span, lead_cases, greatest_span-append)
+  part_span at e n = grind (arith, choose, description_span, greatest_span-append)
 
   -- all elements between two states add to the text
   pub text_along : {p q : Part} {bytes : List ℕ} → Spelt (response charset room) p bytes q → (more : List ℕ) × (text_so_far p ++ more ≡ text_so_far q)
@@ -224,7 +220,7 @@ chars_length : (us : List ℕ) → length (utf16_chars us) ≤ length us
 unfolding utf16_chars
 chars_length [] = omega arith
 chars_length (u ∷ []) = omega arith
-chars_length (u ∷ v ∷ us) = grind (arith, choose, (chars_length (v ∷ us)), (chars_length us))
+chars_length (u ∷ v ∷ us) = grind (arith, (chars_length (v ∷ us)), (chars_length us))
 
 -- a byte is doubled at most
 byte_doubled : (b : ℕ) → length (doubled_byte b) ≤ 2
@@ -269,7 +265,7 @@ text_more : (c : Conversion) (a : List ℕ) → is_fit c a ≡ true → is_begun
 text_more c a h b =
     let j = joins_by_name c in
     let short = j.short a ((begun_by_test c a).0 b) in
-    grind (arith, joins_by_name, fit_by_test, begun_by_test, length-append, conversion_length)
+    grind (arith, fit_by_test, length-append, conversion_length)
 
 -- a piece adds four bytes for each byte, and for each of three that were withheld
 open_more : (c : Conversion) (a b : List ℕ) → is_begun c (a ++ b) ≡ true → length (open_field c (a ++ b)) ≤ length (open_field c a) + 4 * (3 + length b)
@@ -285,13 +281,13 @@ long_more c a h b = omega (arith, text_more c a h b, length-append (conversion_t
 
 -- signed numbers of 16, 32 and 64 bits
 signed_fits : (n : ℕ) → (unsigned_abs (cast_signed w16 n) < 2 ^ 64) × (unsigned_abs (cast_signed w32 n) < 2 ^ 64) × (unsigned_abs (cast_signed w64 n) < 2 ^ 64)
-signed_fits n = (grind (arith, nat_tests), grind (arith, nat_tests), grind (arith, nat_tests))
+signed_fits n = (grind arith, grind arith, grind arith)
 
 integer_fits : (n : ℕ) (xs : List ℕ) → AreBytes xs → unsigned_abs (integer_of n xs) < 2 ^ 64
-integer_fits n xs h = grind (arith, byte_below, choose, signed_fits)
+integer_fits n xs h = grind (arith, byte_below)
 
 money_fits : (n : ℕ) (xs : List ℕ) → unsigned_abs (money_of n xs) < 2 ^ 64
-money_fits n xs = grind (arith, choose, unsigned_abs, signed_fits)
+money_fits n xs = grind arith
 
 magnitude_fits : (n : ℕ) (xs : List ℕ) → AreBytes xs → is_decimal_length n ≡ true → little_number (n - 1) xs < 2 ^ 128
 magnitude_fits n xs h k = grind (arith, little_below, one_of_four)
@@ -328,7 +324,7 @@ ReadShort (Err f) = ⊤
 
 -- a value in its range has a short text
 checked_short : (o : Option ScalarValue) → AllFit o → ReadShort (checked o)
-checked_short o h = grind (arith, choose, length-text_of)
+checked_short o h = grind (arith, length-text_of)
 
 -- so has each value that is read
 read_short : (kind : Kind) (e : List ℕ) → AreBytes e → ReadShort (read_of kind e)
@@ -460,7 +456,7 @@ module _ (room : ℕ) where
   -- each element of a description pays for what it adds
   described_more : {d : DescriptionPart} {e : List ℕ} → IsNext (description room) d e
       → described_pending (add_described d e) ≤ described_pending d + 64 * length e
-  described_more n = grind (arith, choose, header_more)
+  described_more n = grind (arith, header_more)
 
 -- ---- a response
 
@@ -479,7 +475,7 @@ with_row_grown tokens part = grind (arith, length-append, append-nil, begun_afte
 
 -- a return value in its response
 with_return_grown : (tokens : List Token) (part : ReturnPart) → grown (with_return tokens part) ≤ length (text tokens)
-with_return_grown tokens part = grind (arith, append-nil, text_after-snoc, bare, begun_after, length-append)
+with_return_grown tokens part = grind (arith, append-nil, text_after-snoc, bare)
 
 module _ (charset : Charset) (room : ℕ) where
   -- a row that begins has at most the end of its line
@@ -488,7 +484,7 @@ module _ (charset : Charset) (room : ℕ) where
 
   -- what has just begun adds nothing
   fresh_grown : (tokens : List Token) (n : ℕ) (at : Open) → IsFresh at → grown (part_at tokens at) ≤ length (text tokens) + 64 * n
-  fresh_grown tokens n at h = grind (arith, length-append, part_at)
+  fresh_grown tokens n at h = grind (arith, length-append)
 
   -- each element of bytes pays for what it adds
   part_grown : {tokens : List Token} (at : Open) (e : List ℕ) → AreBytes e → IsNext (response charset room) (part_at tokens at) e

@@ -105,7 +105,7 @@ module _ (charset : Charset) {tokens : List Token} {s : Progress} {u : View} (be
   -- a DONE or DONEPROC was read
   pub done_reads : (fields : List ℕ) → place ≡ u.place + length fields → length fields ≡ 12 → Takes u.seen b fields (length fields)
       → ReadsQuiet charset (in_done tokens) tokens u b place (record s { is_final = slice_index fields 0 % 2 == 0 })
-  done_reads fields at len takes = fixed_reads _ (rw len at at) len (rw len at takes) (tracks_quiet begun.tracks _ refl (grind (arith, nat_tests))) refl
+  done_reads fields at len takes = fixed_reads _ (rw len at at) len (rw len at takes) (tracks_quiet begun.tracks _ refl (grind arith)) refl
 
   pub done_in_proc_reads : (fields : List ℕ) → place ≡ u.place + 12 → length fields ≡ 12 → Takes u.seen b fields 12
       → ReadsQuiet charset (in_done_in_proc tokens) tokens u b place s
@@ -274,7 +274,7 @@ step_read running leaves reads = record { leaves = leaves; reads = grind arith }
 
 -- a byte that is no other token's
 is_token_byte : {byte x : ℕ} → (if x == byte then None else Some (RefusedToken x)) ≡ None → x ≡ byte
-is_token_byte h = search (arith, h)
+is_token_byte h = search arith
 
 rows_describe : {before : Option (List Column)} (rs : List (List Cell)) → described_after before (map Row rs) ≡ before
 rows_describe [] = refl
@@ -303,7 +303,7 @@ module _ (which : RowToken) (charset : Charset) (room : ℕ) (all : List Column)
 
     row_next : (ts : List Token) (at : RowPart) (e : List ℕ) → IsNext (row charset) at e → IsNext (response charset room) (with_row ts at) e
         × ((response charset room).add (with_row ts at) e ≡ with_row ts ((row charset).add at e))
-    row_next ts at e n = grind (arith, next_inside, next_some, inside, row_agrees)
+    row_next ts at e n = grind (arith, inside)
 
     element_next : {before : List (List Cell)} (p : RowPart) (e : List ℕ) → IsNext (rows which charset all) (record { before = before; at = p }) e
         → Steps (record { before = before; at = p }) e ((rows which charset all).add (record { before = before; at = p }) e)
@@ -403,7 +403,7 @@ some_columns d = rw (description_shows _ _ _ d.2).0 d.2.some
 begins_lead : {charset : Charset} {room : ℕ} {tokens : List Token} {byte : ℕ} {described : Bool} {bytes : List ℕ} {begun : Lead}
     → lead_of byte ≡ Some begun → IsUnder described begun → bytes ≡ encoded_after [] tokens → (described ≡ true → IsDescription bytes)
     → Describe tokens described → BeginsToken charset room tokens byte (in_lead charset (columns_of bytes) begun tokens)
-begins_lead e under is d k = grind (arith, columns_known, no_row, some_columns, start_text)
+begins_lead e under is d k = grind (arith, no_row, some_columns, start_text)
 
 pub begins_kind : {charset : Charset} {room : ℕ} {tokens : List Token} {byte : ℕ} {described : Bool} {bytes : List ℕ} (kind : TokenKind)
     → IsOfKind described byte kind → bytes ≡ encoded_after [] tokens → (described ≡ true → IsDescription bytes) → Describe tokens described
@@ -429,7 +429,7 @@ module _ {charset : Charset} {room byte : ℕ} {tokens : List Token} {to : Part}
   reads_after_byte r = record {
     more = r.more;
     streams = streams_both (first begins d t) r.streams;
-    place_is = r.place_is ∙ omega (arith, length-append (byte ∷ []) r.streams.bytes);
+    place_is = r.place_is ∙ omega arith;
     tracks = r.tracks;
     holds = r.holds;
   }
@@ -472,7 +472,7 @@ module _ (charset : Charset) (room : ℕ) {place : ℕ} {tokens : List Token} {a
 
 -- a text as far as it fits stays within the room
 pub within_room : {s : Space} (text : List ℕ) → s.bytes ≡ [] → s.peak ≤ s.room → (appended s (whole_within (s.room - length s.bytes) text)).peak ≤ s.room
-within_room text empty peak = grind (arith, length-append, length-take, utf8_valid_len_le)
+within_room text empty peak = grind (arith, length-take, utf8_valid_len_le)
 
 -- before or after the Length no text is added, and the area holds what it held
 in_body_holds : {area : Space} {tokens : List Token} {which : Bodied} (at : Part) → IsHolding area (after_tokens tokens) → IsInBody tokens which at
@@ -576,11 +576,11 @@ known_kind name o = grind arith
 
 byte_read : (name : List ℕ) (byte : ℕ) (z : Bool) → (if z then with_return_kind name (kind_of (byte ∷ [])) else ReturnInfo name byte) ≡ after_name name
     (if z then with_known (kind_of (byte ∷ [])) else TypeRest byte)
-byte_read name byte z = grind (arith, known_kind)
+byte_read name byte z = grind arith
 
 -- a type is read in its return value as by itself
 type_agrees : {name : List ℕ} (p : TypePart) → 0 < returned_type.size p → Agrees returned_type return_value (after_name name) p
-type_agrees p h = grind (arith, byte_read, known_kind)
+type_agrees p h = grind (arith, byte_read)
 
 -- whatever the answer is
 pub type_taken : (r : Result Kind Stop) (name head : List ℕ) (a b c : Seen) (place : ℕ) {middle : ℕ} (place' : ℕ) → length head ≡ 8 → Takes a b head 8

@@ -20,7 +20,7 @@ returns-in_err-take_into-clause-gives g c = λ charset room tokens which notice.
       takes = c.in_ok-fill.ensures.all;
       at = c.in_ok-fill.ensures.place;
     })
-    (omega (N.arith, c.if-length-lt-LEAST_NOTICE.false, c.from.ensures)) (c.in_err-take_into.ensures.gives c.in_ok-fill.ensures.payload.going))
+    (omega N.arith) (c.in_err-take_into.ensures.gives c.in_ok-fill.ensures.payload.going))
 
 pub returns-then-not-lengths_fit-clause-gives : goal.returns-then-not-lengths_fit-clause-gives
 returns-then-not-lengths_fit-clause-gives g c = λ charset room tokens which notice.
@@ -33,7 +33,7 @@ returns-then-not-lengths_fit-clause-gives g c = λ charset room tokens which not
       takes = c.in_ok-fill.ensures.all;
       at = c.in_ok-fill.ensures.place;
     })
-    (omega (N.arith, c.if-length-lt-LEAST_NOTICE.false, c.from.ensures)) t (rw is at passes))
+    (omega N.arith) t (rw is at passes))
 
 pub returns-clause-gives : goal.returns-clause-gives
 returns-clause-gives g c = λ charset room tokens which notice.

@@ -56,7 +56,7 @@ unfolding rest_length
 beyond byte n h = grind (arith, nat_tests)
 
 found : (byte n : ℕ) (r : Option ℕ) (k : Option Kind) → holds r (least_info byte) k ≡ true → r ≡ Some n → kind_of (byte ∷ least_info byte) ≡ k → IsLeast byte n
-found byte n r k h e d = grind (arith, and_parts, bytes_true, eq_true)
+found byte n r k h e d = grind (arith, bytes_true, eq_true)
 
 -- After each type byte that is accepted its least rest describes a kind.
 least_type : {byte n : ℕ} → rest_length byte ≡ Some n → IsLeast byte n
@@ -138,7 +138,7 @@ zeros_next n = cc (add-one n, add-one (suc n))
 
 -- a sum that stays below that of a known total may still become it
 within : (total : Option ℕ) (m k : ℕ) → is_total total m ≡ true → k ≤ m → within_total total k ≡ true
-within total m k h le = grind (arith, eq_true, test_le)
+within total m k h le = grind arith
 
 -- one zero byte where the sum is odd makes it even
 made_even : (c : Conversion) (n : ℕ) → (n + n % unit c) % unit c ≡ 0
@@ -192,7 +192,7 @@ module _ (column : ℕ) where
   length_ends : {c : Conversion} (total : Option ℕ) {content : List ℕ} → is_plain c ≡ true → HoldsTotal c total (length content) → (x : Cell)
       × Spelt (cell column) (ChunkLength c total content) (rest_of_chunks c total (length content)) (WholeCell x)
   length_ends {c} None plain h = chunks_end _ plain refl (made_even c _)
-  length_ends (Some t) plain (le, even) = grind (arith, chunks_end, eq-eqb)
+  length_ends (Some t) plain (le, even) = grind (arith, chunks_end)
 
   -- A part of a cell followed by what completes it is a whole cell.
   cell_ends : (p : CellPart) → CellReached p → (x : Cell) × Spelt (cell column) p (rest_of_cell p) (WholeCell x)
@@ -227,7 +227,7 @@ module _ (column : ℕ) where
 
 -- A cell of a valid kind begins so.
 start_reached : (kind : Kind) → is_valid kind ≡ true → CellReached (cell_start kind (shape Windows1252 kind))
-start_reached kind v = grind (arith, fixed_some)
+start_reached kind v = grind arith
 
 -- the kinds of the columns are valid
 abbrev AreValid : List Column → Type 0
@@ -340,7 +340,7 @@ AreValid-append (d ∷ cs) c h v = (h.0, AreValid-append cs c h.1 v)
 module _ (room : ℕ) where
   column_reached : (bytes : List ℕ) {count : ℕ} (cols : List Column) (c : Column) → length cols < count → AreValid cols → is_valid c.kind ≡ true
       → length bytes + 8 * (count - (length cols + 1)) ≤ room → DescribedReached room (with_column bytes count cols c)
-  column_reached bytes cols c fewer valid v fits = grind (arith, AreValid-append, choose, eq_false, length-append)
+  column_reached bytes cols c fewer valid v fits = grind (arith, AreValid-append, choose, length-append)
 
   -- Each element keeps what is known.
   described_keeps : {d : DescriptionPart} {e : List ℕ} → AreBytes e → DescribedReached room d → IsNext (description room) d e
@@ -399,7 +399,7 @@ module _ (room : ℕ) where
     bytes,
     cols ++ c ∷ [],
     rw (choose_true (length cols + 1 == count) (WholeDescription bytes (cols ++ c ∷ [])) (InColumn bytes count (cols ++ c ∷ []) ColumnHead)
-        (grind (arith, nat_tests))) (Spelt-none _ _),
+        (grind arith)) (Spelt-none _ _),
   )
   column_ends bytes count cols c (suc n) e fits =
       let to : with_column bytes count cols c ≡ InColumn bytes count (cols ++ c ∷ []) ColumnHead =
@@ -457,7 +457,7 @@ kind_reached name is v = rw is (value_is_reached _ _ _ (start_reached _ v))
 -- Each element keeps what is known.
 return_keeps : (p : ReturnPart) {e : List ℕ} → AreBytes e → ReturnReached p → IsNext return_value p e → ReturnReached (return_add p e)
 return_keeps ReturnNameCount are h n = grind (arith, choose, eq_false)
-return_keeps (ReturnHead name) are h n = grind (arith, accepted, bare_type, choose, eq_false, eq_true, kind_reached, valid_of)
+return_keeps (ReturnHead name) are h n = grind (arith, accepted, choose, eq_false, eq_true, valid_of)
 return_keeps (ReturnInfo name byte) {e} are h n = let k = is_some_value _ (some_kind _ _ n.free) in kind_reached _ k.1 (valid_of _ (byte ∷ e) k.1)
 return_keeps (InReturnCell name kind part) are (begun, h) n =
     value_is_reached _ _ _ (cell_keeps _ _ are h (record { some = n.some; whole = n.whole; free = n.free }))
@@ -595,7 +595,7 @@ PartReached room p = CurrentReached (described_after None p.tokens) × OpenReach
 
 -- a notice of zero bytes holds its inner lengths
 zeros_hold : (n : ℕ) → 14 ≤ n → holds_notice (zeros n) ≡ true
-zeros_hold n h = grind (arith, common_steps, zeros, test_le, test_lt)
+zeros_hold n h = grind (arith, common_steps, zeros)
 
 module _ (room : ℕ) where
   -- a token that describes nothing

@@ -26,7 +26,7 @@ tokens-preserved g c = record {
   token = c.in_ok-token.ensures.leaves.areas.token.room ∙ c.tokens.invariant.token;
   notice = c.in_ok-token.ensures.leaves.areas.notice.room ∙ c.tokens.invariant.notice;
   small = c.in_ok-token.ensures.leaves.areas.small.room ∙ c.tokens.invariant.small;
-  forward = omega (N.arith, c.tokens.invariant.forward, c.in_ok-token.ensures.leaves.forward);
+  forward = omega (N.arith, c.in_ok-token.ensures.leaves.forward);
   runs = λ tracks empty noted.
       let x = c.tokens.invariant.runs tracks empty noted in
       N.runs_on x c.tokens.invariant.same.6 c.tokens.invariant.room (rw c.if-branch.true at (c.in_ok-token.ensures.gives x.tokens x.tracks x.holds x.noted));
@@ -76,6 +76,6 @@ returns-clause-leaves g c =
       payload = search (rules, running);
       sink = search rules;
       areas = search (rules, running);
-      forward = omega (N.arith, c.tokens.invariant.forward, c.in_ok-token.ensures.leaves.forward);
+      forward = omega (N.arith, c.in_ok-token.ensures.leaves.forward);
       running = search (rules, running);
     }

@@ -13,7 +13,7 @@ byte_below (x ∷ xs) (suc i) h = byte_below xs i h.1
 -- so many bytes spell a number below that power
 pub little_below : (n i : ℕ) (xs : List ℕ) → AreBytes xs → little_from i n xs < 256 ^ n
 little_below zero i xs h = omega arith
-little_below (suc n) i xs h = grind (arith, byte_below, pow-suc, (little_below n (suc i) xs h))
+little_below (suc n) i xs h = grind (arith, byte_below, (little_below n (suc i) xs h))
 
 -- the bytes after some bytes
 pub AreBytes-drop : (n : ℕ) (xs : List ℕ) → AreBytes xs → AreBytes (drop n xs)
@@ -38,7 +38,7 @@ pub one_of_two : (P : ℕ → Type 0) (a b n : ℕ) → (n == a || n == b) ≡ t
 one_of_two P a b n h pa pb = elim (or_cases (n == a) (n == b) h) [ inl z ↦ exactly P n a z pa | inr z ↦ exactly P n b z pb ]
 
 pub one_of_four : (P : ℕ → Type 0) (a b c d n : ℕ) → (n == a || n == b || n == c || n == d) ≡ true → P a → P b → P c → P d → P n
-one_of_four P a b c d n h pa pb pc pd = grind (arith, exactly, one_of_two, or_cases)
+one_of_four P a b c d n h pa pb pc pd = grind arith
 
 -- what each element of bytes keeps holds at their end
 pub bytes_induct : {S : Type 0} {g : Grammar S Fault} (P : S → List ℕ → Type 0)
@@ -74,7 +74,7 @@ module _ {S : Type 0} {g : Grammar S Fault} {s : S} {a b : Seen} {place n : ℕ}
 -- the parts of a body that holds lie within it
 pub parts_within : (body : List ℕ) → holds_notice body ≡ true → (server_at body < length body) × (procedure_at body < length body)
     × (line_at body + 4 ≤ length body)
-parts_within body h = grind (arith, and_parts, le_true, lt_true)
+parts_within body h = grind arith
 
 -- a number of 32 bits as one with a sign
 pub signed_is : (n : ℕ) → cast_signed w32 n ≡ signed n
@@ -84,7 +84,7 @@ signed_is n = grind arith
 pub error_is : (body : List ℕ) {number line : ℤ} (at : ℕ) → 14 ≤ length body → at ≡ line_at body → line_at body + 4 ≤ length body
     → number ≡ cast_signed w32 (little_number 4 body) → line ≡ cast_signed w32 (little_number 4 (drop at body))
     → ◌≡◌ {A = ServerError} (record { number = number; state = slice_index body 4; class = slice_index body 5; line = line }) (server_error (notice_of body))
-error_is body at long is within e f = grind (arith, length-drop, signed_is)
+error_is body at long is within e f = grind arith
 
 -- what stands after the first n bytes begins with k known ones
 piece : (body : List ℕ) (n k : ℕ) (a b : List ℕ) → drop n body ≡ a ++ b → length a ≡ k → (take k (drop n body) ≡ a) × (drop (n + k) body ≡ b)
@@ -158,8 +158,8 @@ pub value_agrees : (name : List ℕ) (kind : Kind) (p : CellPart) → 0 < (cell 
 value_agrees name kind p h = grind arith
 
 pub return_name_is_read : (units : ℕ) (name : List ℕ) → length name ≡ 2 * units → Spelt return_value (with_return_units units) name (ReturnHead name)
-return_name_is_read units [] l = grind (arith, Spelt-none, choose_true, nat_tests)
-return_name_is_read units (x ∷ xs) l = grind (arith, Spelt-step, choose_false, ne_eqb)
+return_name_is_read units [] l = grind (arith, nat_tests)
+return_name_is_read units (x ∷ xs) l = grind (arith, Spelt-step, ne_eqb)
 
 front_is_read : {name front : List ℕ} → SpellsReturnName name front → Spelt return_value ReturnOrdinal front (ReturnHead name)
 front_is_read h =
@@ -173,7 +173,7 @@ head_is_read ignored byte seven known = grind (arith, Spelt-step, get_or-append_
 pub info_is_read : (name : List ℕ) (byte : ℕ) (rest : List ℕ) {kind : Kind} → rest_length byte ≡ Some (length rest)
     → kind_of (byte ∷ rest) ≡ Some kind → Spelt return_value (with_return_type name byte (length rest)) rest (with_return_kind name (Some kind))
 info_is_read name byte [] n k = rw k (Spelt-none _ _)
-info_is_read name byte (x ∷ xs) n k = grind (arith, Spelt-step, choose_false, ne_eqb)
+info_is_read name byte (x ∷ xs) n k = grind (arith, Spelt-step)
 
 -- What spells a return value is read as it.
 return_is_read : {r : ReturnValue} {bytes : List ℕ} → SpellsReturnValue r bytes → Spelt return_value ReturnOrdinal bytes (WholeReturn r)
@@ -270,7 +270,7 @@ first_leads byte first = grind arith
 
 -- the fields of a DONE say whether more follows
 more_is : {m : Bool} (fields : List ℕ) → SpellsMore m fields → more fields ≡ m
-more_is fields h = grind (arith, nat_tests)
+more_is fields h = grind arith
 
 -- a byte that begins no row is free
 pub no_row : (current : Option (List Column)) → row_byte_fault false current ≡ None
@@ -279,7 +279,7 @@ no_row current = grind arith
 -- no fault of a notice's Length, where it is long enough
 pub length_free : (room : ℕ) {n : ℕ} (tokens : List Token) (which : Bodied) (element : List ℕ) → (is_notice which ≡ true → 14 ≤ n) → little element ≡ n
     → part_fault room tokens (TokenLength which) element ≡ None
-length_free room tokens which element long number = grind (arith, nat_tests)
+length_free room tokens which element long number = grind arith
 
 -- a body has no fault
 abbrev IsFree : Bodied → List ℕ → Type 0
@@ -422,7 +422,7 @@ piece_at body n k m e is = cc (take-append-drop k (drop n body), drop-drop k n b
 
 -- the byte after the first n, and those after it
 byte_at : (body : List ℕ) {n : ℕ} {r : List ℕ} → n < length body → drop (n + 1) body ≡ r → drop n body ≡ slice_index body n ∷ r
-byte_at body h is = grind (arith, add-one, drop-cons)
+byte_at body h is = grind (arith, drop-cons)
 
 -- a byte that counts units, these, and the bytes after them
 counted_at : (body : List ℕ) {n m : ℕ} {r : List ℕ} → n < length body → (n + 1) + 2 * slice_index body n ≡ m → drop m body ≡ r
@@ -461,7 +461,7 @@ notice_spelt body h =
       last = take 4 (drop la body);
       ignored = drop (la + 4) body;
       spelt = regroup _ _ _ _ _ _ _ _ _ (sym (take-append-drop 4 body) ∙ ap (λ v. take 4 body ++ v)
-          (byte_at body (omega (arith, t.0)) (byte_at body (omega (arith, t.0)) after))) s_is p_is;
+          (byte_at body (omega (arith, t.0)) (byte_at body (omega arith) after))) s_is p_is;
       number = (length-take-le 4 body (omega arith), refl);
       message = (long body 6 2 (omega arith), long body 8 (2 * u) (omega arith));
       servers = omega arith;
