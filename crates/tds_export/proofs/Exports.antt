@@ -183,7 +183,7 @@ ended_accepted run tokens payload place part fault r l end =
     let g = grammar run in
     let same = (one_longest g _ _ _ _ _ _ l (subst (λ v. Longest g response_start v (length payload) (after_tokens tokens)) (append-nil payload)
     (longest_cut g _ _ _ _ (response_is_read _ _ r) (omega arith)))).1 in
-    grind (arith, response_is_read, append-nil, longest_cut, one_longest)
+    grind arith
 
 refused_accepted : (run : Run) {tokens : List Token} {payload : List ℕ} (more : List ℕ) {place : ℕ} {part : Part} {fault : Fault}
     → Response run.given.charset (limits run).column_room tokens (payload ++ more) → Longest (grammar run) response_start payload place part
@@ -240,7 +240,7 @@ record Reached (run : Run) (at : Part) : Type 0 where
 -- what follows whole elements leads from where they lead
 rest_leads : {S : Type 0} {g : Grammar S Fault} {s t u : S} {a b : List ℕ} → Spelt g s a t → Spelt g s (a ++ b) u → Spelt g t b u
 unfolding Told
-rest_leads h k = grind (arith, append-nil, feed-Spelt, feed_all, feed_all-append, told)
+rest_leads h k = grind (arith, append-nil, feed-Spelt, feed_all-append, told)
 
 -- what follows such bytes, up to the longest part
 pub further : {S : Type 0} (g : Grammar S Fault) (from to last : S) (bytes more : List ℕ) (place : ℕ) → Spelt g from bytes to
@@ -458,7 +458,7 @@ pub no_failure : (given : Given) (report : Report) → Reports given report → 
 no_failure given report x =
     let moved = some_read (limits_of given).packet_size (limits_of given).max_wire _ x.seen
     _ x.completes.whole.takes x.completes.whole.over in
-    grind (arith, some_read)
+    grind arith
 
 -- ---- how an export ends, from what its calls did
 
@@ -667,7 +667,7 @@ begins_run given e = cc
 
 reader_side : {given : Given} {input left gained : List ℕ} {q : Seen} → AreBytes input → q.left ≡ Some left → IsReader given q
     → ReaderSide (run_of given input left gained) q
-reader_side {left} are ql reader = record { bytes = are; left = ql; failures = reader.failures }
+reader_side are ql reader = record { bytes = are; left = ql; failures = reader.failures }
 
 -- all of the text was put, where the whole response was read
 whole_puts : {g : Grammar Part Fault} {a q : Seen} {h k : Held} {area : Space} → (x : ReadsWhole g response_start a q h k area) → Puts h k (text x.tokens)
@@ -714,7 +714,7 @@ module _ (given : Given) (input left : List ℕ) (q : Seen) (stop : Stop) (are :
   in_text {gained} writer has delivered stops is =
       let run = run_of given input left gained in
       let written = exact run _ delivered (fits run WriteFailed (Text (length gained)) are stops) in
-      grind (arith, exact, fits)
+      grind arith
 
   -- the writer broke
   stop_writing : (k : Held) → IsWriter given k → StopsInWriting (grammar_of given) response_start began q (fresh_at given) k given.after.areas.description stop

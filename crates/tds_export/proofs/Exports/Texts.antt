@@ -170,7 +170,7 @@ with_return_grows tokens part = grows_same _
 module _ (room : ℕ) where
   -- each element of a description adds to its span
   description_span : {d : DescriptionPart} {e : List ℕ} → IsNext (description room) d e → span d ≤ span (add_described d e)
-  description_span n = grind (arith, choose, length-append, some_kind, bare_type, eq_true)
+  description_span n = grind (arith, length-append, bare_type)
 
 module _ (charset : Charset) (room : ℕ) where
   -- each element adds to the text, by where it is read
@@ -257,7 +257,7 @@ emit_more c a b h =
     let begins = (begun_by_test c _).0 h in
     let e = j.emits a b begins in
     let short = j.short a (j.front a b begins) in
-    grind (arith, joins_by_name, begun_by_test, length-append, emit_length)
+    grind (arith, length-append, emit_length)
 
 -- what the end adds
 text_more : (c : Conversion) (a : List ℕ) → is_fit c a ≡ true → is_begun c a ≡ true
@@ -290,7 +290,7 @@ money_fits : (n : ℕ) (xs : List ℕ) → unsigned_abs (money_of n xs) < 2 ^ 64
 money_fits n xs = grind arith
 
 magnitude_fits : (n : ℕ) (xs : List ℕ) → AreBytes xs → is_decimal_length n ≡ true → little_number (n - 1) xs < 2 ^ 128
-magnitude_fits n xs h k = grind (arith, little_below, one_of_four)
+magnitude_fits n xs h k = grind (arith, little_below)
 
 -- the numbers of a value, if there is one, fit
 abbrev AllFit : Option ScalarValue → Type 0
@@ -489,30 +489,7 @@ module _ (charset : Charset) (room : ℕ) where
   -- each element of bytes pays for what it adds
   part_grown : {tokens : List Token} (at : Open) (e : List ℕ) → AreBytes e → IsNext (response charset room) (part_at tokens at) e
       → grown (part_add charset tokens at e) ≤ length (text tokens) + length (open_text at) + pending at + 64 * length e
-  part_grown at e bytes n = grind (
-    arith,
-    bare_body,
-    bare_fixed,
-    bare,
-    choose,
-    described_more,
-    fresh_grown,
-    lead_cases,
-    length-append,
-    part_at,
-    cell_more,
-    next_length,
-    null_most,
-    map-append,
-    last_length,
-    one_more_length,
-    row_starts,
-    begun_after,
-    append-nil,
-    text_after-snoc,
-    with_return_grown,
-    with_row_grown,
-  )
+  part_grown at e bytes n = grind (arith, bare_body, bare_fixed, bare, choose, described_more, fresh_grown, lead_cases, length-append, part_at, cell_more, next_length, null_most, map-append, last_length, one_more_length, row_starts, begun_after, append-nil, text_after-snoc, with_row_grown)
 
   -- each element pays for what it adds
   grown_more : (p : Part) (e : List ℕ) → AreBytes e → IsNext (response charset room) p e → grown ((response charset room).add p e) ≤ grown p + 64 * length e

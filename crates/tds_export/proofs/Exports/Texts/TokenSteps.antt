@@ -145,7 +145,7 @@ module _ (charset : Charset) (room : ℕ) {place : ℕ} {start : RowPart} {area 
             stops = stop_inside agrees y.0;
             puts = puts_inside _ _ _ (inside agrees) row_so_far text_so_far (text tokens) (row_front tokens) start x.at
                 _ _ y.1;
-            holds = row_holds {area = area} {tokens = tokens} x.at holds;
+            holds = row_holds x.at holds;
           },
           y.2,
         )
@@ -303,7 +303,7 @@ module _ (which : RowToken) (charset : Charset) (room : ℕ) (all : List Column)
 
     row_next : (ts : List Token) (at : RowPart) (e : List ℕ) → IsNext (row charset) at e → IsNext (response charset room) (with_row ts at) e
         × ((response charset room).add (with_row ts at) e ≡ with_row ts ((row charset).add at e))
-    row_next ts at e n = grind (arith, inside)
+    row_next ts at e n = grind arith
 
     element_next : {before : List (List Cell)} (p : RowPart) (e : List ℕ) → IsNext (rows which charset all) (record { before = before; at = p }) e
         → Steps (record { before = before; at = p }) e ((rows which charset all).add (record { before = before; at = p }) e)
@@ -403,7 +403,7 @@ some_columns d = rw (description_shows _ _ _ d.2).0 d.2.some
 begins_lead : {charset : Charset} {room : ℕ} {tokens : List Token} {byte : ℕ} {described : Bool} {bytes : List ℕ} {begun : Lead}
     → lead_of byte ≡ Some begun → IsUnder described begun → bytes ≡ encoded_after [] tokens → (described ≡ true → IsDescription bytes)
     → Describe tokens described → BeginsToken charset room tokens byte (in_lead charset (columns_of bytes) begun tokens)
-begins_lead e under is d k = grind (arith, no_row, some_columns, start_text)
+begins_lead e under is d k = grind (arith, some_columns, start_text)
 
 pub begins_kind : {charset : Charset} {room : ℕ} {tokens : List Token} {byte : ℕ} {described : Bool} {bytes : List ℕ} (kind : TokenKind)
     → IsOfKind described byte kind → bytes ≡ encoded_after [] tokens → (described ≡ true → IsDescription bytes) → Describe tokens described
@@ -507,7 +507,7 @@ module _ (charset : Charset) {tokens : List Token} {s : Progress} {u : View} {b 
         → ReadsNext charset (in_length AnError tokens) tokens u (record u { seen = b; place = place; notice = after })
         (record s { report = record s.report { errors = s.report.errors + 1; first_error = Some (server_error (notice_of body)) } })
     first_error_reads cleared none no_bytes room_is put x =
-        let first = first_next tokens (notice_of body) (no_errors tokens (sym (errors_are {s = s} begun.tracks) ∙ none)) in
+        let first = first_next tokens (notice_of body) (no_errors tokens (sym (errors_are begun.tracks) ∙ none)) in
         (error_reads (cc) x, cc)
 
     pub later_error_reads : 0 < s.report.errors → ReadsNotice charset u.area.room tokens AnError u.seen b u.place place body

@@ -46,4 +46,4 @@ returns-clause-gives g c = λ charset room tokens which notice.
       takes = c.in_ok-fill.ensures.all;
       at = c.in_ok-fill.ensures.place;
     })
-    (omega (N.arith, c.if-length-lt-LEAST_NOTICE.false, c.from.ensures)) t c.in_ok-take_into.ensures.place (rw is at holds))
+    (omega N.arith) t c.in_ok-take_into.ensures.place (rw is at holds))

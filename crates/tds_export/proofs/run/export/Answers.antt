@@ -32,7 +32,7 @@ returns-in-Ok-clause-exports g c =
     record { gives = grind (arith, all_read g c); tells = grind (arith, N.report_tells (all_read g c)); failed_reads = tt; failed_writes = tt }
 
 pub returns-in-Ok-clause-no_failure : goal.returns-in-Ok-clause-no_failure
-returns-in-Ok-clause-no_failure g c = let none = N.no_failure _ _ (all_read g c) in (grind (arith, none), grind arith)
+returns-in-Ok-clause-no_failure g c = let none = N.no_failure _ _ (all_read g c) in (grind arith, grind arith)
 
 abbrev stopped : (g : Over) → goal.After-to-in-Err-1 g → N.Given
 stopped g c = let at = N.moment g.R.Read.remaining g.W.Write.contents in record {

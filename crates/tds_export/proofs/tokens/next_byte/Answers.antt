@@ -8,7 +8,7 @@ first [] h = absurd (omega N.arith)
 first (x ∷ front) h = N.refl
 
 pub returns-clause-gives : goal.returns-clause-gives
-returns-clause-gives g c = grind (N.arith, N.common_steps, N.seen, N.buffered, N.Takes, first)
+returns-clause-gives g c = grind (N.arith, N.common_steps)
 
 pub returns-in_err-at_end-clause-gives : goal.returns-in_err-at_end-clause-gives
 returns-in_err-at_end-clause-gives g c = N.passed _ _ _ _ c.from_residual.ensures.1 (

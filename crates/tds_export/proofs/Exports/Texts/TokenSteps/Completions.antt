@@ -170,7 +170,7 @@ module _ (column : ℕ) where
       → Spelt (cell column) (ChunkData c total left content) (zeros (left + 1)) (ChunkLength c total (content ++ zeros (left + 1)))
   chunk_ends {c} zero {content} plain = spelt_one (omega arith) refl (rw (plain_begun c (content ++ 0 ∷ []) plain) refl) refl
   chunk_ends {c} {total} (suc left) {content} plain =
-      let to : cell_add (ChunkData c total (suc left) content) (0 ∷ []) ≡ ChunkData c total left (content ++ 0 ∷ []) = grind (arith, nat_tests) in
+      let to : cell_add (ChunkData c total (suc left) content) (0 ∷ []) ≡ ChunkData c total left (content ++ 0 ∷ []) = grind arith in
       rw (← zeros_next left, ← append_assoc content (0 ∷ []) (zeros (left + 1))) (spelt_both (spelt_one (omega arith) refl (rw (plain_begun c
       (content ++ 0 ∷ []) plain) refl) to) (chunk_ends _ plain))
 
@@ -340,27 +340,12 @@ AreValid-append (d ∷ cs) c h v = (h.0, AreValid-append cs c h.1 v)
 module _ (room : ℕ) where
   column_reached : (bytes : List ℕ) {count : ℕ} (cols : List Column) (c : Column) → length cols < count → AreValid cols → is_valid c.kind ≡ true
       → length bytes + 8 * (count - (length cols + 1)) ≤ room → DescribedReached room (with_column bytes count cols c)
-  column_reached bytes cols c fewer valid v fits = grind (arith, AreValid-append, choose, length-append)
+  column_reached bytes cols c fewer valid v fits = grind (arith, AreValid-append, length-append)
 
   -- Each element keeps what is known.
   described_keeps : {d : DescriptionPart} {e : List ℕ} → AreBytes e → DescribedReached room d → IsNext (description room) d e
       → DescribedReached room (add_described d e)
-  described_keeps are h n = grind (
-    arith,
-    choose,
-    column_reached,
-    eq_false,
-    known_type,
-    bare_type,
-    eq_true,
-    is_some_value,
-    some_kind,
-    valid_of,
-    length-append,
-    not_zero,
-    room_for,
-    not_long,
-  )
+  described_keeps are h n = grind (arith, choose, column_reached, eq_false, known_type, eq_true, valid_of, length-append, not_zero, room_for, not_long)
 
 -- the column that int_column describes
 abbrev int : Column
@@ -456,8 +441,8 @@ kind_reached name is v = rw is (value_is_reached _ _ _ (start_reached _ v))
 
 -- Each element keeps what is known.
 return_keeps : (p : ReturnPart) {e : List ℕ} → AreBytes e → ReturnReached p → IsNext return_value p e → ReturnReached (return_add p e)
-return_keeps ReturnNameCount are h n = grind (arith, choose, eq_false)
-return_keeps (ReturnHead name) are h n = grind (arith, accepted, choose, eq_false, eq_true, valid_of)
+return_keeps ReturnNameCount are h n = grind arith
+return_keeps (ReturnHead name) are h n = grind (arith, choose)
 return_keeps (ReturnInfo name byte) {e} are h n = let k = is_some_value _ (some_kind _ _ n.free) in kind_reached _ k.1 (valid_of _ (byte ∷ e) k.1)
 return_keeps (InReturnCell name kind part) are (begun, h) n =
     value_is_reached _ _ _ (cell_keeps _ _ are h (record { some = n.some; whole = n.whole; free = n.free }))
@@ -568,17 +553,7 @@ AreBytes-return (InReturnCell name kind part) h = AreBytes-cell part
 AreBytes-return (WholeReturn r) h = tt
 
 AreBytes-token : (room : ℕ) (at : Open) → OpenReached room at → AreBytes (rest_of_token at)
-AreBytes-token room at h = grind (
-  arith,
-  least_type,
-  AreBytes-int,
-  AreBytes-ints,
-  AreBytes-return,
-  AreBytes-append,
-  AreBytes-cell,
-  AreBytes-cells,
-  AreBytes-zeros,
-)
+AreBytes-token room at h = grind (arith, least_type, AreBytes-int, AreBytes-ints, AreBytes-append, AreBytes-cell, AreBytes-cells, AreBytes-zeros)
 
 -- What completes a part that bytes led to are bytes.
 AreBytes-completion : (room : ℕ) (p : Part) → OpenReached room p.at → AreBytes (completion p)
@@ -595,7 +570,7 @@ PartReached room p = CurrentReached (described_after None p.tokens) × OpenReach
 
 -- a notice of zero bytes holds its inner lengths
 zeros_hold : (n : ℕ) → 14 ≤ n → holds_notice (zeros n) ≡ true
-zeros_hold n h = grind (arith, common_steps, zeros)
+zeros_hold n h = grind (arith, common_steps)
 
 module _ (room : ℕ) where
   -- a token that describes nothing

@@ -8,7 +8,7 @@ returns-in_err-take_notice g c = N.step_read c.requires.running (search N.rules)
 
 pub returns-then-self-gt1 : goal.returns-then-self-gt1
 returns-then-self-gt1 g c = N.step_read c.requires.running (search N.rules) (λ tokens begun.
-    let some : 0 < c.args.self.now.progress.report.errors = grind (N.arith, N.nat_tests, c.if-self-gt1.true) in
+    let some : 0 < c.args.self.now.progress.report.errors = grind N.arith in
     N.later_error_reads _ begun some (c.in_ok-take_notice.ensures.gives _ _ tokens N.AnError refl))
 
 pub returns : goal.returns
@@ -19,7 +19,7 @@ returns g c =
       N.rules,
       N.subst (λ (s : Space). s.peak ≤ s.room) (N.sym c.utf16_into.ensures) (N.within_room (N.characters c.message_of.result.now) empty c.clear.ensures.peak),
     )) (λ tokens begun.
-    let none : c.args.self.now.progress.report.errors ≡ 0 = grind (N.arith, N.nat_tests, c.if-self-gt1.false) in
+    let none : c.args.self.now.progress.report.errors ≡ 0 = grind N.arith in
     let body = c.bytes-body.ensures.value in
     let error = c.error_of.ensures ∙ ap (λ l. N.server_error (N.notice_of l)) body in
     let message = c.message_of.ensures.value ∙ ap (λ l. (N.notice_of l).message) body in

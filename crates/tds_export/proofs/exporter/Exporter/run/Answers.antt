@@ -73,9 +73,9 @@ returns-clause-leaves g c =
     let running = c.in_ok-token.ensures.leaves.running in
     record {
       same = search rules;
-      payload = search (rules, running);
+      payload = search rules;
       sink = search rules;
-      areas = search (rules, running);
+      areas = search rules;
       forward = omega (N.arith, c.in_ok-token.ensures.leaves.forward);
-      running = search (rules, running);
+      running = search rules;
     }

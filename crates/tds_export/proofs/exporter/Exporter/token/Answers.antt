@@ -29,7 +29,7 @@ returns-in-Err-clause-gives g c = λ tokens tracks holds noted.
     let sink = c.requires.sink in
     let h = N.held g.W.Write.contents run.sink.now in
     let read = rw c.in-Some.is at c.in_ok-byte.ensures.gives in
-    let at : run.payload.now.place ≡ c.place-place.result - 1 = omega (N.arith, read.place_is, c.place-place.ensures) in
+    let at : run.payload.now.place ≡ c.place-place.result - 1 = omega N.arith in
     rw c.in_payload.ensures (N.subst (λ n. N.StepStops (N.response run.charset run.description.now.room) (N.after_tokens tokens)
     (N.seen g.R.Read.remaining run.payload.now) (N.seen g.R.Read.remaining c.next_byte.new.payload) run.payload.now.place h h
     run.description.now run.sink.now.failed (record { fault = c.in-Err.fault; place = N.Payload n })) at

@@ -122,7 +122,7 @@ notice_is_read {n} {body} h =
       length-append h.last h.ignored,
     ) in (
       omega arith,
-      grind (arith, test_lt, test_le),
+      grind arith,
       same_notice (rw head.0 h.number.1) (byte_of body 4 _ _ head.1) (byte_of body 5 _ _ class)
           (rw (units.0, message.0) refl) (rw (line_is, (piece body _ 4 h.last h.ignored line h.line.0).0) h.line.1),
     )
@@ -158,8 +158,8 @@ pub value_agrees : (name : List ℕ) (kind : Kind) (p : CellPart) → 0 < (cell 
 value_agrees name kind p h = grind arith
 
 pub return_name_is_read : (units : ℕ) (name : List ℕ) → length name ≡ 2 * units → Spelt return_value (with_return_units units) name (ReturnHead name)
-return_name_is_read units [] l = grind (arith, nat_tests)
-return_name_is_read units (x ∷ xs) l = grind (arith, Spelt-step, ne_eqb)
+return_name_is_read units [] l = grind arith
+return_name_is_read units (x ∷ xs) l = grind (arith, Spelt-step)
 
 front_is_read : {name front : List ℕ} → SpellsReturnName name front → Spelt return_value ReturnOrdinal front (ReturnHead name)
 front_is_read h =
@@ -461,7 +461,7 @@ notice_spelt body h =
       last = take 4 (drop la body);
       ignored = drop (la + 4) body;
       spelt = regroup _ _ _ _ _ _ _ _ _ (sym (take-append-drop 4 body) ∙ ap (λ v. take 4 body ++ v)
-          (byte_at body (omega (arith, t.0)) (byte_at body (omega arith) after))) s_is p_is;
+          (byte_at body (omega arith) (byte_at body (omega arith) after))) s_is p_is;
       number = (length-take-le 4 body (omega arith), refl);
       message = (long body 6 2 (omega arith), long body 8 (2 * u) (omega arith));
       servers = omega arith;
