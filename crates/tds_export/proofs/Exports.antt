@@ -139,7 +139,7 @@ begins_more front p h = (h.0 ++ p ∷ [], cc (append_assoc _ h.0 _))
 begins_added : (front : List Packet) {packets : List Packet} (place : WirePlace) (element : List ℕ) → BeginsWith packets front
     → BeginsWith (wire_add packets place element).packets front
 begins_added front {packets} BeforeHeader element h = choose (λ w. BeginsWith w.packets front) (header_length element == 8) (with_packet packets _)
-    (record { packets = packets; place = BeforeBody element }) (λ z. begins_more front _ h) (λ z. h)
+    _ (λ z. begins_more front _ h) (λ z. h)
 begins_added front (BeforeBody header) element h = begins_more _ _ h
 begins_added front AfterLast element h = h
 
@@ -162,7 +162,7 @@ no_wire_fault : {size limit : ℕ} {input wires : List ℕ} (unread : List ℕ) 
     → input ≡ wires ++ unread → WireFault size limit input read fault → ⊥
 no_wire_fault {size} {limit} {input} unread {fault} m e f =
     let g = wire size limit in
-    let same = (one_longest g _ _ _ _ _ _ f.longest (read_longest g _ _ _ (subst (Told g no_wire input) (ap (feed_all g (Reading no_wire [])) e
+    let same = (one_longest g _ _ _ _ _ _ f.longest (read_longest g _ _ _ (subst (Told g no_wire input) (ap (feed_all g _) e
     ∙ read_to_end _ _ _ _ _ m) (told g _ _))).2).1 in
     elim f.first [
       | inl r ↦ omega (arith, ap (λ (w : WirePart). wire_size w.place) same)
@@ -443,7 +443,7 @@ blamed {given} {stopped} x = go x.stops
 -- an input of no byte is over before the message is
 no_message : (size limit : ℕ) {c : Coming} → c.stop.fault ≡ MessageEnded → whole_message size limit [] ≡ c → ⊥
 unfolding message front_packet
-no_message size limit is e = let no = ap (λ (d : Coming). d.stop.fault) e ∙ is in cc
+no_message size limit is e = let no = ap (λ (d : _). d.stop.fault) e ∙ is in cc
 
 -- to read a whole message takes a byte
 some_read : (size limit : ℕ) {failures : ℕ} (left : Option (List ℕ)) (q : Seen) (bytes : List ℕ) {n : ℕ}
@@ -528,7 +528,7 @@ payload_short (p ∷ packets) = omega (
 payload_bytes : (packets : List Packet) → AreBytes (wire_of packets) → AreBytes (payload_of packets)
 payload_bytes [] h = tt
 payload_bytes (p ∷ packets) h = AreBytes-append _ _ (AreBytes-back (4 ∷ p.status ∷ (8 + length p.body) / 256 ∷ (8 + length p.body) % 256 ∷ p.id) _
-    (AreBytes-front (packet_bytes p) (wire_of packets) h)) (payload_bytes packets (AreBytes-back (packet_bytes p) _ h))
+    (AreBytes-front (packet_bytes p) _ h)) (payload_bytes packets (AreBytes-back (packet_bytes p) _ h))
 
 -- the text so far is within 64 times the limit of the wire
 fits_at : (run : Run) (packets : List Packet) (rest : List ℕ) (place : ℕ) (part : Part) (n : ℕ) → AreBytes run.input
@@ -648,7 +648,7 @@ whole_message_of {q} side x =
     grind (arith, over_front, payload_bytes, AreBytes-front, response_is_spelt, append-nil, longest_cut, kept_at)
 
 text_after_tokens : (tokens : List Token) → text_so_far (after_tokens tokens) ≡ text tokens
-text_after_tokens tokens = append-nil (text tokens)
+text_after_tokens tokens = append-nil _
 
 -- all of a payload
 take_payload : (l : List ℕ) → take (length l) l ≡ l
@@ -713,7 +713,7 @@ module _ (given : Given) (input left : List ℕ) (q : Seen) (stop : Stop) (are :
       → StopTold given input left stop k
   in_text {gained} writer has delivered stops is =
       let run = run_of given input left gained in
-      let written = exact run _ delivered (fits run WriteFailed (Text (length gained)) are stops) in
+      let written = exact run _ delivered (fits run _ (Text _) are stops) in
       grind arith
 
   -- the writer broke

@@ -69,4 +69,4 @@ returns-in-Err-clause-exports g c =
     }
 
 pub returns-in-Err-clause-no_notice : goal.returns-in-Err-clause-no_notice
-returns-in-Err-clause-no_notice g c = ap (λ (s : Space). s.bytes) c.clear.ensures.value
+returns-in-Err-clause-no_notice g c = ap (λ (s : _). s.bytes) c.clear.ensures.value

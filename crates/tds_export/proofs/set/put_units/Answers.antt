@@ -3,7 +3,7 @@ use N.set.put_units.Goals as goal
 use N.{held}
 
 pub stop_in-requires : goal.stop_in-requires
-stop_in-requires g c = N.push_stopped _ c.new-joiner.result.kept c.push.new.self.kept (held g.W.Write.contents c.args.sink.now)
+stop_in-requires g c = N.push_stopped _ c.new-joiner.result.kept c.push.new.self.kept _
     (held g.W.Write.contents c.push.new.sink) _ c.args.units.now c.in-Err.ensures.gives
 
 pub returns-in-Err : goal.returns-in-Err

@@ -16,7 +16,7 @@ pub returns : goal.returns
 returns g c = N.step_read c.requires.running (search rules) (λ tokens begun.
     let fields = c.fill.new.to in
     let four : N.length fields ≡ 4 = search rules in
-    let status = N.cast_signed N.w32 (N.cast_unsigned N.w32 c.read_i32-status.result) in
+    let status = N.cast_signed N.w32 _ in
     let kept : status ≡ c.read_i32-status.result = search rules in
     let is = kept ∙ c.read_i32-status.ensures ∙ N.signed_is _ ∙ ap (λ n. N.signed (N.little_number n fields)) (N.sym four) in
     N.fixed_reads _ begun _ _ (c.in_ok-fill.ensures.place ∙ ap (λ n. c.args.self.now.payload.now.place + n) four) four
