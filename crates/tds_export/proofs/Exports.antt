@@ -19,8 +19,8 @@ record ReaderSide (run : Run) (q : Seen) : Type 0 where
 abbrev pub start : Run → Seen
 start run = begun (limits run).packet_size (limits run).max_wire (Some run.input) run.given.before.reader.failures
 
-none_before : (n : ℕ) → 0 + n ≡ n
-none_before n = omega arith
+none_before : {n : ℕ} → 0 + n ≡ n
+none_before = omega arith
 
 -- an element's end lies in the last of the packets that were needed for it
 ends_in_last : {run : Run} {part : Part} {packets : List Packet} (bytes element : List ℕ) → length element ≡ (grammar run).size part
@@ -106,7 +106,7 @@ module _ (run : Run) {q : Seen} {part : Part} {bytes : List ℕ} (side : ReaderS
   cut_stops : {stop : Stop} → CutsNext (grammar run) (start run) q bytes 0 part stop → Stops run stop.fault stop.place
   cut_stops c = elim (ends_front _ _ _ _ _ q _ _ side.bytes side.left c.ends) [
     | inl m ↦ elim c.stop_is [
-      | inl e ↦ rw (e.1.2 ∙ ap (λ n. record { fault = e.1.0; place = Payload n }) (none_before _)) (ended_in_payload _ c.cut m e.1.1)
+      | inl e ↦ rw (e.1.2 ∙ ap (λ n. record { fault = e.1.0; place = Payload n }) (none_before)) (ended_in_payload _ c.cut m e.1.1)
       | inr e ↦ absurd (e.0 (cc))
     ]
     | inr x ↦ elim c.stop_is [
@@ -123,7 +123,7 @@ reading_stops : {run : Run} {q : Seen} {at : Part} {stop : Stop} → ReaderSide 
     → StopsReading (grammar run) response_start (start run) q 0 at stop → IsHolding run.given.after.areas.description at
     → text_put run ≡ text_so_far at → Stops run stop.fault stop.place
 reading_stops side s holds text = elim s.cause [
-  | inl r ↦ rw (r.1 ∙ ap Payload (none_before _)) (refused_in_payload _ side s.spelt holds text r.0)
+  | inl r ↦ rw (r.1 ∙ ap Payload (none_before)) (refused_in_payload _ side s.spelt holds text r.0)
   | inr c ↦ cut_stops _ side s.spelt holds text c
 ]
 
@@ -474,12 +474,12 @@ tidies contents old new r x going = tidied _ _ _ r going x.gives
 
 -- ---- what an export leaves, from what its calls did
 
-pub exports : (given : Given) (a q : Seen) (h k : Held) (size limit room : ℕ) (report : Report)
+pub exports : {given : Given} {a q : Seen} {h k : Held} {size limit room : ℕ} {report : Report}
     → a ≡ begun size limit given.before.reader.bytes given.before.reader.failures → size ≡ (limits_of given).packet_size
     → limit ≡ (limits_of given).max_wire → h ≡ fresh_at given → room ≡ (limits_of given).column_room
     → IsReader given q → IsWriter given k → (c : CompletesResponse (response given.charset room) response_start a q h k report
     given.after.areas.description) × IsNoted given.after.areas.notice c.whole.tokens → Reports given report
-exports given a q h k size limit room report e1 e2 e3 e4 e5 reader writer x =
+exports {q} {k} e1 e2 e3 e4 e5 reader writer x =
     let y = rw (e1, e2, e3, e4, e5) at x in
     record { seen = q; held = k; reader = reader; writer = writer; completes = y.0; notice = y.1 }
 
@@ -492,9 +492,9 @@ stops_export e1 e2 e3 e4 e5 e6 reader writer x tidy same is none = grind arith
 
 -- ---- the rooms of areas that were intact and are emptied
 
-pub rooms : (old new : Areas) → IsTrue (is_intact old) → AreEmptied old new → (new.packet.room ≡ old.limits.packet_size)
+pub rooms : {old new : Areas} → IsTrue (is_intact old) → AreEmptied old new → (new.packet.room ≡ old.limits.packet_size)
     × (new.description.room ≡ old.limits.column_room)
-rooms old new h e = grind arith
+rooms h e = grind arith
 
 -- ---- what an export answers, where its reader and writer tell their bytes
 
@@ -575,12 +575,12 @@ earlier_text charset room bytes element p q place h whole less k = elim (dec_le 
 ]
 
 -- the writer broke: the last packet read was needed to fill the block
-broken : {run : Run} {q : Seen} {k : Held} (at : Part) (stop : Stop) → ReaderSide run q → IsWriter run.given k
+broken : {run : Run} {q : Seen} {k : Held} {at : Part} {stop : Stop} → ReaderSide run q → IsWriter run.given k
     → (x : BreaksStreaming (grammar run) text_so_far response_start (start run) q (fresh_at run.given) k at stop)
     → IsHolding run.given.after.areas.description ((grammar run).add at x.element)
     → run.gained ≡ (subst (Puts (fresh_at run.given) x.middle) x.puts.1 x.puts.2).0 ++ x.breaks.0
     → text_put run ≡ text_so_far at ++ take x.breaks.2 x.more → StopsInText run WriteFailed (length run.gained)
-broken {run} {q} at stop side writer x holds gained all =
+broken {run} {q} {at} side writer x holds gained all =
     let g = grammar run in
     let f = run.given.before.reader.failures in
     let be = x.bytes ++ x.element in
@@ -722,7 +722,7 @@ module _ (given : Given) (input left : List ℕ) (q : Seen) (stop : Stop) (are :
   stop_writing k writer y =
       let x = y.breaks in
       let d = sends _ _ _ writer (rw x.puts.1 at x.puts.2) x.breaks.3 in
-      in_text writer d.has d.delivered (broken _ _ (reader_side are ql reader) writer x y.holds refl d.all) x.breaks.8
+      in_text writer d.has d.delivered (broken (reader_side are ql reader) writer x y.holds refl d.all) x.breaks.8
 
   -- the last delivery failed
   stop_at_end : (k : Held) → IsWriter given k

@@ -501,7 +501,7 @@ module _ (charset : Charset) (room : ℕ) where
     arith,
     grown_more r e are n,
     length-append b e,
-  )) p (omega arith) _ q are h
+  )) p (omega arith) q are h
 
   -- the text so far is at most 64 times as long as all that is read
   pub bounded_along : (q : Part) (bytes : List ℕ) → AreBytes bytes → Spelt (response charset room) response_start bytes q

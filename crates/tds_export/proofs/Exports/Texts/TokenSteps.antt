@@ -475,9 +475,9 @@ pub within_room : {s : Space} (text : List ℕ) → s.bytes ≡ [] → s.peak �
 within_room text empty peak = grind (arith, length-take, utf8_valid_len_le)
 
 -- before or after the Length no text is added, and the area holds what it held
-in_body_holds : {area : Space} {tokens : List Token} {which : Bodied} (at : Part) → IsHolding area (after_tokens tokens) → IsInBody tokens which at
+in_body_holds : {area : Space} {tokens : List Token} {which : Bodied} {at : Part} → IsHolding area (after_tokens tokens) → IsInBody tokens which at
     → (text_so_far (in_length which tokens) ≡ text_so_far at) × IsHolding area at
-in_body_holds at holds h = grind arith
+in_body_holds holds h = grind arith
 
 -- the ERRORs so far are counted
 errors_are : {s : Progress} {tokens : List Token} → TracksBefore s tokens → s.report.errors ≡ how_many is_error tokens
@@ -487,7 +487,7 @@ module _ (charset : Charset) {tokens : List Token} {s : Progress} {u : View} {b 
   -- a notice is cut or refused
   pub notice_stops : {which : Bodied} {stop : Stop} → StopsInNotice charset u.area.room tokens which u.seen b u.place stop
       → StopsQuiet charset (in_length which tokens) u b stop
-  notice_stops x = let there = in_body_holds _ begun.holds x.in_body in stops_quietly there.0 there.1 begun.delivered begun.going x.stops
+  notice_stops x = let there = in_body_holds begun.holds x.in_body in stops_quietly there.0 there.1 begun.delivered begun.going x.stops
 
   module _ {place : ℕ} {body : List ℕ} where
     pub info_reads : ReadsNotice charset u.area.room tokens AnInfo u.seen b u.place place body

@@ -20,10 +20,10 @@ reported g c = let at = N.moment g.R.Read.remaining g.W.Write.contents in record
 
 all_read : (g : Over) (c : goal.In-Ok g) → N.Reports (reported g c) c.in-Ok.report
 all_read g c =
-    let emptied = N.rooms _ _ c.requires c.restart.ensures.emptied in
+    let emptied = N.rooms c.requires c.restart.ensures.emptied in
     let limit : c.max_wire-max_wire.result ≡ c.args.areas.now.limits.max_wire = search N.rules in
-    N.exports _ _ _
-    _ _ _ _ _ _
+    N.exports
+   
     c.new-payload.ensures.begun.begins emptied.0 limit c.new-sink.ensures.held emptied.1
     (record { left = refl; failures = refl }) (record { has = refl; waiting = refl; failures = refl }) c.in-Ok.ensures.gives
 
@@ -51,7 +51,7 @@ stopped g c = let at = N.moment g.R.Read.remaining g.W.Write.contents in record 
 
 read_so_far : (g : Over) (c : goal.After-to-in-Err-1 g) → N.StopsExport (stopped g c) c.stop_at.result
 read_so_far g c =
-    let emptied = N.rooms _ _ c.requires c.restart.ensures.emptied in
+    let emptied = N.rooms c.requires c.restart.ensures.emptied in
     let limit : c.max_wire-max_wire.result ≡ c.args.areas.now.limits.max_wire = search N.rules in
     N.stops_export
     c.new-payload.ensures.begun.begins emptied.0 limit c.new-sink.ensures.held emptied.1 c.new-payload.ensures.begun.place

@@ -51,17 +51,17 @@ unfolding all_below has_least rest_length named_kind
 every_byte = refl
 
 -- and a number above is no type byte
-beyond : (byte n : ℕ) → rest_length byte ≡ Some n → byte < 256
+beyond : {byte : ℕ} (n : ℕ) → rest_length byte ≡ Some n → byte < 256
 unfolding rest_length
-beyond byte n h = grind (arith, nat_tests)
+beyond n h = grind (arith, nat_tests)
 
-found : (byte n : ℕ) (r : Option ℕ) (k : Option Kind) → holds r (least_info byte) k ≡ true → r ≡ Some n → kind_of (byte ∷ least_info byte) ≡ k → IsLeast byte n
-found byte n r k h e d = grind (arith, bytes_true, eq_true)
+found : {byte : ℕ} (n : ℕ) {r : Option ℕ} {k : Option Kind} → holds r (least_info byte) k ≡ true → r ≡ Some n → kind_of (byte ∷ least_info byte) ≡ k → IsLeast byte n
+found n h e d = grind (arith, bytes_true, eq_true)
 
 -- After each type byte that is accepted its least rest describes a kind.
 least_type : {byte n : ℕ} → rest_length byte ≡ Some n → IsLeast byte n
 unfolding has_least
-least_type {n} h = found _ n _ _ (one_below _ _ every_byte _ (beyond _ n h)) h refl
+least_type {n} h = found n (one_below _ _ every_byte _ (beyond n h)) h refl
 
 -- ---- what completes a cell and a row is read as their rest
 
@@ -93,14 +93,14 @@ CellReached (ChunkData c total left content) = (is_plain c ≡ true) × HoldsTot
 CellReached (WholeCell x) = ⊤
 
 -- numbers up to 7
-below_eight : (P : ℕ → Bool) → (P 0 && P 1 && P 2 && P 3 && P 4 && P 5 && P 6 && P 7) ≡ true → (s : ℕ) → s ≤ 7 → P s ≡ true
-below_eight P h s l = grind arith
+below_eight : (P : ℕ → Bool) → (P 0 && P 1 && P 2 && P 3 && P 4 && P 5 && P 6 && P 7) ≡ true → {s : ℕ} → s ≤ 7 → P s ≡ true
+below_eight P h l = grind arith
 
 abbrev IsRead : Result ScalarValue ValueFault → Type 0
 IsRead r = (v : ScalarValue) × (r ≡ Ok v)
 
-value_there : (r : Result ScalarValue ValueFault) → is_ok r ≡ true → IsRead r
-value_there r h = grind arith
+value_there : {r : Result ScalarValue ValueFault} → is_ok r ≡ true → IsRead r
+value_there h = grind arith
 
 -- whether so many zeros are a value of a kind
 abbrev are_read : Kind → ℕ → Bool
@@ -123,11 +123,11 @@ zeros_are_a_value (DateTimeN d) n v s h = exactly (ZerosAre (DateTimeN d)) n d h
 zeros_are_a_value Guid n v s h = exactly (ZerosAre Guid) n 16 h refl
 zeros_are_a_value (Decimal d p sc) n v s h = zero_decimal d p _ n v h
 zeros_are_a_value Date n v s h = exactly (ZerosAre Date) n 3 h refl
-zeros_are_a_value (Time sc) n v s h = exactly (ZerosAre (Time sc)) n _ h (below_eight (λ sc. are_read (Time sc) (time_length sc)) refl _ (le_true _ 7 v))
+zeros_are_a_value (Time sc) n v s h = exactly (ZerosAre (Time sc)) n _ h (below_eight (λ sc. are_read (Time sc) (time_length sc)) refl (le_true _ 7 v))
 zeros_are_a_value (DateTime2 sc) n v s h =
-    exactly (ZerosAre (DateTime2 sc)) n _ h (below_eight (λ sc. are_read (DateTime2 sc) (time_length sc + 3)) refl _ (le_true _ 7 v))
+    exactly (ZerosAre (DateTime2 sc)) n _ h (below_eight (λ sc. are_read (DateTime2 sc) (time_length sc + 3)) refl (le_true _ 7 v))
 zeros_are_a_value (DateTimeOffset sc) n v s h =
-    exactly (ZerosAre (DateTimeOffset sc)) n _ h (below_eight (λ sc. are_read (DateTimeOffset sc) (time_length sc + 5)) refl _ (le_true _ 7 v))
+    exactly (ZerosAre (DateTimeOffset sc)) n _ h (below_eight (λ sc. are_read (DateTimeOffset sc) (time_length sc + 5)) refl (le_true _ 7 v))
 zeros_are_a_value (Binary r) n v s h = cc
 zeros_are_a_value (Narrow r) n v s h = cc
 zeros_are_a_value (Wide r) n v s h = cc
@@ -197,7 +197,7 @@ module _ (column : ℕ) where
   -- A part of a cell followed by what completes it is a whole cell.
   cell_ends : (p : CellPart) → CellReached p → (x : Cell) × Spelt (cell column) p (rest_of_cell p) (WholeCell x)
   cell_ends (ScalarBytes kind n) (some, valid, scalar, allowed) =
-      let v = value_there _ (zeros_are_a_value _ n valid scalar allowed) in
+      let v = value_there (zeros_are_a_value _ n valid scalar allowed) in
       let l : length (zeros n) ≡ n = length-replicate n 0 in
       (ScalarCell v.0, spelt_one (omega arith) l (cc v.1) (cc v.1))
   cell_ends (ScalarLength kind) h = (Null, spelt_one (omega arith) refl refl refl)
@@ -294,9 +294,9 @@ zero_at (suc n) (suc i) = zero_at n i
 clear_at : (n k : ℕ) → bit (zeros n) k ≡ false
 clear_at n k = grind (arith, zero_at)
 
-marked_clear : (columns : List Column) (nulls : ℕ → Bool) (k : ℕ) → ((i : ℕ) → nulls i ≡ false) → marked columns nulls k ≡ all_clear columns
-marked_clear [] nulls k h = refl
-marked_clear (c ∷ cs) nulls k h = λ i. (c, h k i) ∷ marked_clear cs _ (k + 1) h i
+marked_clear : (columns : List Column) {nulls : ℕ → Bool} (k : ℕ) → ((i : ℕ) → nulls i ≡ false) → marked columns nulls k ≡ all_clear columns
+marked_clear [] k h = refl
+marked_clear (c ∷ cs) k h = λ i. (c, h k i) ∷ marked_clear cs (k + 1) h i
 
 -- A part of a row followed by what completes it is a whole row.
 row_ends : (p : RowPart) → RowReached p → (cells : List Cell) × Spelt (row Windows1252) p (rest_of_row p) (WholeRow cells)
@@ -305,7 +305,7 @@ row_ends (Bitmap columns) (some, h) =
     let l = length-replicate n 0 in
     let one : Spelt (row Windows1252) (Bitmap columns) (zeros n) (next_cell Windows1252 [] (marked columns (bit (zeros n)) 0)) =
     spelt_one (omega (arith, l)) l refl refl in
-    let clear = marked_clear _ _ 0 (clear_at n) in
+    let clear = marked_clear _ 0 (clear_at n) in
     let more = cells_end _ _ (subst AreMarkedValid clear (marked_valid _ _ 0 h)) in
     (more.0, spelt_both (rw clear at one) more.1)
 row_ends (InCell cells part ks) (begun, h, m) = rw (← stays_open begun) (part_ends _ _ _ h (λ b. cells_end b _ m))
@@ -614,7 +614,7 @@ module _ (room : ℕ) where
   open_keeps {tokens} (Fields f) {e} are h o n = bare_reached tokens _ (bare_fixed f e) h
 
   part_reached : {bytes : List ℕ} {p : Part} → AreBytes bytes → Spelt (response Windows1252 room) response_start bytes p → PartReached room p
-  part_reached {p} are h = bytes_induct (λ q b. PartReached room q) (λ q b e r are n. open_keeps _ are r.0 r.1 n) _ (tt, tt) _ p are h
+  part_reached {p} are h = bytes_induct (λ q b. PartReached room q) (λ q b e r are n. open_keeps _ are r.0 r.1 n) _ (tt, tt) p are h
 
   -- the rest of a token, up to its end
   abbrev TokenEnds : List Token → Open → List ℕ → Type 0

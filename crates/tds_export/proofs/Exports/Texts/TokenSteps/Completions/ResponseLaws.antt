@@ -42,9 +42,9 @@ one_of_four P a b c d n h pa pb pc pd = grind arith
 
 -- what each element of bytes keeps holds at their end
 pub bytes_induct : {S : Type 0} {g : Grammar S Fault} (P : S → List ℕ → Type 0)
-    → ((s : S) (b e : List ℕ) → P s b → AreBytes e → IsNext g s e → P (g.add s e) (b ++ e)) → (s : S) → P s [] → (bytes : List ℕ) (t : S)
+    → ((s : S) (b e : List ℕ) → P s b → AreBytes e → IsNext g s e → P (g.add s e) (b ++ e)) → (s : S) → P s [] → {bytes : List ℕ} (t : S)
     → AreBytes bytes → Spelt g s bytes t → P t bytes
-bytes_induct {g} P step s begins bytes t are h =
+bytes_induct {g} P step s begins t are h =
     Spelt-induct g (λ q b. AreBytes b → P q b) (λ q b e k n all. step q b e (k (AreBytes-front b e all)) (AreBytes-back b e all) n) s (λ all. begins)
     _ t h are
 
@@ -91,8 +91,8 @@ piece : (body : List ℕ) (n k : ℕ) (a b : List ℕ) → drop n body ≡ a ++ 
 piece body n k a b e l = (rw (e, ← l) (take-append_seam a b), sym (drop-drop k n _) ∙ rw (e, ← l) (drop-append_seam a b))
 
 -- the first byte of what stands there
-byte_of : (body : List ℕ) (n x : ℕ) (b : List ℕ) → drop n body ≡ x ∷ b → slice_index body n ≡ x
-byte_of body n x b e = ap (slice_index body) (omega arith) ∙ sym (get_or-drop n _ 0 0) ∙ ap (λ v. slice_index v 0) e
+byte_of : (body : List ℕ) (n x : ℕ) {b : List ℕ} → drop n body ≡ x ∷ b → slice_index body n ≡ x
+byte_of body n x e = ap (slice_index body) (omega arith) ∙ sym (get_or-drop n _ 0 0) ∙ ap (λ v. slice_index v 0) e
 
 same_notice : {a b c : ℕ} {d : List ℕ} {e : ℕ} {n : Notice} → a ≡ n.number → b ≡ n.state → c ≡ n.class → d ≡ n.message → e ≡ n.line_number
     → ◌≡◌ {A = Notice} (record { number = a; state = b; class = c; message = d; line_number = e }) n
@@ -111,10 +111,10 @@ notice_is_read {n} {body} h =
     let message = piece body 8 (2 * u) n.message _ units.1 h.message.1 in
     let server_is : server_at body ≡ 8 + 2 * u = rw units.0 refl in
     let procedure = (piece body (8 + 2 * u) (1 + 2 * s) (s ∷ h.server) _ message.1 (omega arith)).1 in
-    let procedure_is : procedure_at body ≡ (8 + 2 * u) + (1 + 2 * s) = rw (server_is, byte_of body (8 + 2 * u) s _ message.1) (omega arith) in
+    let procedure_is : procedure_at body ≡ (8 + 2 * u) + (1 + 2 * s) = rw (server_is, byte_of body (8 + 2 * u) s message.1) (omega arith) in
     let line = (piece body ((8 + 2 * u) + (1 + 2 * s)) (1 + 2 * p) (p ∷ h.procedure) _ procedure (omega arith)).1 in
     let line_is : line_at body ≡ ((8 + 2 * u) + (1 + 2 * s)) + (1 + 2 * p) =
-    rw (procedure_is, byte_of body ((8 + 2 * u) + (1 + 2 * s)) p _ procedure) (omega arith) in
+    rw (procedure_is, byte_of body ((8 + 2 * u) + (1 + 2 * s)) p procedure) (omega arith) in
     let long : line_at body + 4 ≤ length body = omega (
       arith,
       ap length line,
@@ -123,7 +123,7 @@ notice_is_read {n} {body} h =
     ) in (
       omega arith,
       grind arith,
-      same_notice (rw head.0 h.number.1) (byte_of body 4 _ _ head.1) (byte_of body 5 _ _ class)
+      same_notice (rw head.0 h.number.1) (byte_of body 4 _ head.1) (byte_of body 5 _ class)
           (rw (units.0, message.0) refl) (rw (line_is, (piece body _ 4 h.last h.ignored line h.line.0).0) h.line.1),
     )
 
@@ -476,8 +476,8 @@ empty_body k h = grind arith
 leads_first : (byte : ℕ) {lead : Lead} → lead_of byte ≡ Some lead → IsFirst lead byte
 leads_first byte h = grind (arith, eq_true)
 
-notice_holds : (b : Bool) → ((if not b then Some BadNotice else None) ≡ None) → b ≡ true
-notice_holds b h = grind arith
+notice_holds : {b : Bool} → ((if not b then Some BadNotice else None) ≡ None) → b ≡ true
+notice_holds h = grind arith
 
 module _ (charset : Charset) (room : ℕ) where
   one_more_token : (current : Option (List Column)) (ts : List Token) (a : List ℕ) (t : Token) (e : List ℕ) → SpellsTokens charset room current ts a
@@ -575,7 +575,7 @@ module _ (charset : Charset) (room : ℕ) where
       spelt : (k : Bodied) → IsFirst (WithBody k) h.first → IsFree k body
           → SpellsToken charset room (described_after None tokens) (bodied k body) (h.first ∷ h.rest)
       spelt (APassed passed) begins f = (h.rest, (h.first, refl, begins), h.follows)
-      spelt b begins f = (h.rest, body, (h.first, refl, begins), h.follows, notice_spelt _ (notice_holds _ f))
+      spelt b begins f = (h.rest, body, (h.first, refl, begins), h.follows, notice_spelt _ (notice_holds f))
 
   -- each element keeps the meaning
   part_step : {tokens : List Token} (at : Open) (b : List ℕ) {e : List ℕ} → AreBytes e → OpenMeans tokens at b
@@ -597,7 +597,7 @@ module _ (charset : Charset) (room : ℕ) where
 
   -- What is read as a part of a response is spelt so.
   part_is_spelt : {bytes : List ℕ} {p : Part} → AreBytes bytes → Spelt (response charset room) response_start bytes p → PartMeans p bytes
-  part_is_spelt {p} are h = bytes_induct _ (λ q b e k are n. part_step _ b are k n) _ refl _ p are h
+  part_is_spelt {p} are h = bytes_induct _ (λ q b e k are n. part_step _ b are k n) _ refl p are h
 
   -- What is read between tokens, after a final one, is a response.
   pub response_is_spelt : {payload : List ℕ} {tokens : List Token} → AreBytes payload → is_final tokens ≡ true
