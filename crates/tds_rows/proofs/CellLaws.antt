@@ -1,9 +1,8 @@
 -- What a cell's spelling is read as.
 use Rattle.tds_rows.proofs.Words as N
 use Rattle.tds_rows.proofs.{
-  Words.{◌≡◌, ◌⊎◌, ℕ, suc, ◌+◌, ◌-◌, ◌/◌, ◌%◌, ◌<◌, ◌≤◌, Bool, true, List, [], ◌∷◌, ◌++◌, length, refl, sym, ◌∙◌, ap, subst, inl, inr, arith, Ok, Option, Some},
-  Words.{None, ◌==◌, ◌||◌, if◌then◌else◌, concat, nat_tests, ne_eqb, Kind, little, Conversion, unit, is_fit, Spelt, Spelt-step, Spelt-append, Null, DataCell},
-  Words.{Total, WholeCell, cell},
+  Words.{◌≡◌, ◌⊎◌, ℕ, suc, ◌+◌, ◌-◌, ◌/◌, ◌%◌, ◌<◌, ◌≤◌, true, List, [], ◌∷◌, ◌++◌, length, refl, ◌∙◌, ap, arith, Ok, Option, Some, ◌==◌, ◌||◌},
+  Words.{if◌then◌else◌, concat, ne_eqb, Kind, little, Conversion, unit, is_fit, Spelt, Spelt-step, Spelt-append, Null, DataCell, Total, WholeCell, cell},
 }
 
 -- a fixed shape has bytes
@@ -11,7 +10,7 @@ abbrev pub HasBytes : N.Shape → Type 0
 HasBytes (N.FixedShape n) = 0 < n
 HasBytes s = Unit {0}
 
-pub unless_true : (b : Bool) (f : N.Fault) → b ≡ true → N.unless b f ≡ None
+pub unless_true : (b : N.Bool) (f : N.Fault) → b ≡ true → N.unless b f ≡ N.None
 unless_true b f h = rw h
 
 is_known : (n : ℕ) → n < N.unknown_total → N.known_total n ≡ Some n
@@ -62,7 +61,7 @@ module _ (column : ℕ) where
   short_cell c [] bytes h s = rw s.counted (short_length c 0 (omega arith) (grind arith))
   short_cell c (x ∷ xs) bytes h s =
       let to = N.choose_false _ _ _ (ne_eqb (length (x ∷ xs)) 0 (λ q. omega arith)) ∙ ap (λ k. N.ShortData c k []) (omega arith) in
-      let head = subst (λ v. Spelt (cell column) (N.ShortLength c) (length (x ∷ xs) % 256 ∷ length (x ∷ xs) / 256 ∷ []) v) to
+      let head = N.subst (λ v. Spelt (cell column) (N.ShortLength c) (length (x ∷ xs) % 256 ∷ length (x ∷ xs) / 256 ∷ []) v) to
       (short_length c _ s.least (N.fit_units c _ h)) in
       rw s.counted (Spelt-append _ _ _ _ _ _ head (short_data c [] x xs h))
 
@@ -72,7 +71,7 @@ module _ (column : ℕ) where
   chunk_data c total d x [] more h = Spelt-step _ _ _ _ (omega arith) refl (unless_true _ _ (N.fit_begins c _ _ h)) refl
   chunk_data c total d x (y ∷ ys) more h =
       let k = ap (λ v. is_fit c (v ++ more)) (N.append_assoc d _ _) ∙ h in
-      let begun = N.fit_begins c _ _ (ap (is_fit c) (sym (N.append_assoc (d ++ x ∷ []) _ more)) ∙ k) in
+      let begun = N.fit_begins c _ _ (ap (is_fit c) (N.sym (N.append_assoc (d ++ x ∷ []) _ more)) ∙ k) in
       Spelt-append _ _ _ _ _ _ (Spelt-step _ _ _ _ (omega arith) refl (unless_true _ _ begun) (search N.rules))
       (rw N.append_assoc at (chunk_data c total (d ++ x ∷ []) y ys more k))
 
@@ -86,7 +85,7 @@ module _ (column : ℕ) where
       let head : Spelt (cell column) (N.ChunkLength c total d) s.header (N.ChunkData c total (length xs) d) =
       Spelt-step _ _ _ _ (let four : length s.header ≡ 4 = s.four in omega arith) s.four
       (rw n (N.choose_false _ _ _ (ne_eqb (suc (length xs)) 0 (λ q. omega arith)) ∙ unless_true _ _ w)) (rw n (search N.rules)) in
-      rw (sym s.spelt) at (Spelt-append _ _ _ _ _ _ head (chunk_data c _ d x _ _ f))
+      rw (N.sym s.spelt) at (Spelt-append _ _ _ _ _ _ head (chunk_data c _ d x _ _ f))
 
   -- the chunks and the terminator
   chunks_cell : (c : Conversion) (total : Option ℕ) (d : List ℕ) (ds : List (List ℕ)) (bytes : List ℕ)
@@ -126,8 +125,8 @@ module _ (column : ℕ) where
 
       go : (little s.total ≡ N.unknown_total) ⊎ ((little s.total ≡ length d) × (length d < N.unknown_total))
           → Spelt (cell column) (Total c) (s.total ++ s.rest) (WholeCell (DataCell c d))
-      go (inl u) = from None (ap N.known_total u) (omega arith) (rw u) (λ n h. refl) refl
-      go (inr k) =
+      go (N.inl u) = from N.None (ap N.known_total u) (omega arith) (rw u) (λ n h. refl) refl
+      go (N.inr k) =
           let even = ap (λ n. n % unit c == 0) k.0 ∙ ap (λ n. n == 0) (N.fit_units c d f) in
           from _ (ap N.known_total k.0 ∙ is_known _ k.1) (omega arith) (N.or_right _ _ even) (within_known _) (is_total_known _)
 

@@ -1,12 +1,12 @@
 -- What the bytes that lead to a part of a cell spell.
 use Rattle.tds_rows.proofs.Words as N
 use Rattle.tds_rows.proofs.{
-  Words.{◌≡◌, ℕ, ◌+◌, ◌/◌, ◌%◌, ◌^◌, ◌<◌, Bool, true, List, [], ◌∷◌, ◌++◌, length, refl, sym, ◌∙◌, ap, append_assoc, arith, Result, Ok, Option, Some, None},
-  Words.{◌==◌, ◌&&◌, ◌||◌, if◌then◌else◌, Kind, Short, Chunked, little, AreBytes, Shape, LongShape, cell_add},
+  Words.{◌≡◌, ℕ, ◌+◌, ◌/◌, ◌%◌, ◌^◌, ◌<◌, true, List, [], ◌∷◌, ◌++◌, length, refl, sym, ◌∙◌, ap, append_assoc, arith, Ok, Option, None, ◌==◌, ◌&&◌, ◌||◌},
+  Words.{if◌then◌else◌, Kind, Short, Chunked, little, AreBytes, Shape, LongShape, cell_add},
 }
 
 -- a test that gave no fault passed
-pub unless_none : (b : Bool) (f : N.Fault) → N.unless b f ≡ None → b ≡ true
+pub unless_none : (b : N.Bool) (f : N.Fault) → N.unless b f ≡ None → b ≡ true
 unless_none b f h = grind arith
 
 eight_below : (e : List ℕ) → length e ≡ 8 → AreBytes e → little e < 2 ^ 64
@@ -78,11 +78,11 @@ CellMeans kind (LongShape c Chunked) (N.ChunkLength c' total d) b = (c' ≡ c) �
 CellMeans kind (LongShape c Chunked) (N.ChunkData c' total left d) b = (c' ≡ c) × ChunkMeans total left d b
 CellMeans kind sh part b = ⊥
 
-pub is_ok_value : (r : Result N.ScalarValue N.ValueFault) → N.is_ok r ≡ true → (v : N.ScalarValue) × (r ≡ Ok v)
+pub is_ok_value : (r : N.Result N.ScalarValue N.ValueFault) → N.is_ok r ≡ true → (v : N.ScalarValue) × (r ≡ Ok v)
 is_ok_value r h = grind arith
 
 -- a test that gave no fault passed, and nor did what follows it
-pub guard_none : (b : Bool) (o : Option N.Fault) (f : N.Fault) → (if b then o else Some f) ≡ None → (b ≡ true) × (o ≡ None)
+pub guard_none : (b : N.Bool) (o : Option N.Fault) (f : N.Fault) → (if b then o else N.Some f) ≡ None → (b ≡ true) × (o ≡ None)
 guard_none b o f h = (grind arith, grind arith)
 
 module _ (column : ℕ) (kind : Kind) where

@@ -1,14 +1,14 @@
 -- Runs over cells by their forms, a cell after those that were written.
-use Rattle.tds_rows.specs.FormRuns.{IsLatest, NumbersWithin}
-use Rattle.tds_rows.specs.declared.run.forms.Latest.{Latest}
 use Rattle.tds_rows.proofs.Words as N
 use Rattle.tds_rows.proofs.{
-  Words.{◌⊎◌, ◌≡◌, ◌≢◌, ◌∙◌, ℕ, zero, suc, ◌+◌, ◌-◌, ◌<◌, ◌≤◌, Bool, false, List, [], ◌∷◌, ◌++◌, length, take, drop, get_or, refl, ◌*◌, sym, ap, arith, ◌==◌},
-  Words.{◌&&◌, map, slice_set, Column, after_comma, end_after, in_line, Charset, Form, subst, true},
+  Words.{◌⊎◌, ◌≡◌, ◌≢◌, ◌∙◌, ℕ, suc, ◌+◌, ◌-◌, ◌<◌, ◌≤◌, Bool, false, List, [], ◌∷◌, ◌++◌, length, take, drop, get_or, refl, ◌*◌, sym, ap, arith, ◌==◌},
+  Words.{◌&&◌, Column, after_comma, end_after, Charset, Form},
   LineTexts.{after_some_column, after_append},
   RunSteps.{made_more, used_more, whole_some},
   TableSteps.{known_kind, last_one},
 }
+use Rattle.tds_rows.specs.FormRuns.{IsLatest, NumbersWithin}
+use Rattle.tds_rows.specs.declared.run.forms.Latest.{Latest}
 
 not_last : (rest : List Column) → 0 < length rest → false ≡ N.is_last_column rest
 not_last rest some = grind arith
@@ -23,7 +23,7 @@ module _ (forms : List Form) (ends : Bool) (columns : List Column) (next : N.Are
   last_of k c rest within step = go (length forms == length columns) refl
     where
       go : (b : Bool) → (length forms == length columns) ≡ b → (ends && (k + 1 == length forms)) ≡ N.is_last_column rest
-      go true e = ap (λ v. v && (k + 1 == length forms)) (next.ends_are ∙ e)
+      go N.true e = ap (λ v. v && (k + 1 == length forms)) (next.ends_are ∙ e)
           ∙ last_one columns rest c k (length forms) (N.eq_true (length forms) (length columns) e) step
       go false e = ap (λ v. v && (k + 1 == length forms)) (next.ends_are ∙ e) ∙ not_last rest (more (N.eq_false (length forms) (length columns) e))
         where
@@ -38,7 +38,7 @@ module _ (forms : List Form) (ends : Bool) (columns : List Column) (next : N.Are
     step = N.drop_more columns k (record { kind = d.kind; name = [] }) (omega (arith, few, within))
 
     kind_is : (get_or forms k d).kind ≡ next_column.kind
-    kind_is = known_kind _ _ _ k d _ (ap (map (λ f. f.kind)) (N.take_all (length forms) forms (omega arith))
+    kind_is = known_kind _ _ _ k d _ (ap (N.map (λ f. f.kind)) (N.take_all (length forms) forms (omega arith))
         ∙ next.kinds_are) within (omega arith) (omega (arith, few, within))
 
     -- the cell after this many
@@ -73,7 +73,7 @@ module _ (charset : Charset) (forms : List Form) (column : ℕ) (ends : Bool) (c
           x.0,
           x.1,
           x.2,
-          in_line (column + n) last x.3,
+          N.in_line (column + n) last x.3,
           x.4,
           ap (λ l. l ++ end_after last) x.5 ∙ N.append_assoc x.2 _ _,
           w,
@@ -86,7 +86,7 @@ module _ (charset : Charset) (forms : List Form) (column : ℕ) (ends : Bool) (c
     -- the fields of cells before the last are their text
     earlier : (d : Form) (n : ℕ) (bytes text : List ℕ) → n < length forms → N.WritesForms charset forms column n bytes text
         → N.WritesMarked charset columns (λ k. false) column n bytes text
-    earlier d zero bytes text few x = x
+    earlier d N.zero bytes text few x = x
     earlier d (suc n) bytes text few x = rw (
       not_closed _ few,
       N.append-nil,
@@ -95,7 +95,7 @@ module _ (charset : Charset) (forms : List Form) (column : ℕ) (ends : Bool) (c
     -- the fields of some cells are the text of a run over them
     pub run_marked : (cells : ℕ) (bytes fields : List ℕ) → 0 < cells → cells ≤ length forms → N.WritesForms charset forms column cells bytes fields
         → N.WritesMarked charset columns (λ k. false) column cells bytes (fields ++ end_after (closes cells))
-    run_marked zero bytes fields some few x = absurd (omega (arith, some))
+    run_marked N.zero bytes fields some few x = absurd (omega (arith, some))
     run_marked (suc n) bytes fields some few x =
         let d = (some_first forms (omega (arith, few))).0 in
         one_more d n bytes fields (omega arith) few x (earlier d n x.0 x.2 (omega arith) x.6)
@@ -114,7 +114,7 @@ module _ (charset : Charset) (forms : List Form) (column : ℕ) (bytes : List �
   pub fields_more : (to text rest : List ℕ) (k used u now made m : ℕ) (d : Form) → now ≡ used + u → made ≤ length to → m < length text
       → k < length forms → N.WritesField charset (get_or forms k d).kind (take u (take (length bytes - used) (drop used bytes))) (take m text)
       → N.FieldsWritten charset forms column bytes to (record { cells = k; used = used; made = made })
-      → N.FieldsWritten charset forms column bytes (slice_set (take made to ++ (text ++ rest)) (made + m) 44)
+      → N.FieldsWritten charset forms column bytes (N.slice_set (take made to ++ (text ++ rest)) (made + m) 44)
       (record { cells = k + 1; used = now; made = made + m + 1 })
   fields_more to text rest k used u now made m d further within some there wrote (fields, x, is) =
       let read = take u (take (length bytes - used) (drop used bytes)) in
@@ -127,7 +127,7 @@ module _ (charset : Charset) (forms : List Form) (column : ℕ) (bytes : List �
         N.length-append text rest,
         N.length-take-le made to within,
       ) in
-      let is' : take (made + m + 1) (slice_set all (made + m) 44) ≡ (fields ++ after_comma (column + k) field) ++ after_comma (column + (k + 1)) [] =
+      let is' : take (made + m + 1) (N.slice_set all (made + m) 44) ≡ (fields ++ after_comma (column + k) field) ++ after_comma (column + (k + 1)) [] =
       N.take_more_set all (made + m) 44 here ∙ ap (λ l. l ++ 44 ∷ []) (made_more made m to text rest within (omega (arith, some))
       ∙ ap (λ l. l ++ field) is ∙ N.append_assoc fields (after_comma (column + k) []) field
       ∙ ap (λ l. fields ++ l) (sym (after_append (column + k) [] field)))
@@ -144,7 +144,7 @@ module _ (charset : Charset) (forms : List Form) (column : ℕ) (bytes : List �
   first_alone ends to used made fields size (front, rest, before, field, b, t, x, y) is = λ form others are.
       let last = ends && (1 == length forms) in
       let read : rest ≡ take used bytes = sym (b ∙ ap (λ l. l ++ rest) x.0) in
-      let text : in_line column last field ≡ take made to =
+      let text : N.in_line column last field ≡ take made to =
       ap (λ l. l ++ end_after last) (ap (λ (n : ℕ). after_comma n field) (let n : column ≡ column + 0 = omega arith in n)
       ∙ sym (t ∙ ap (λ l. l ++ after_comma (column + 0) field) x.1)) ∙ sym is in
       let kind_is : (get_or forms 0 form).kind ≡ form.kind = ap (λ (l : List Form). (get_or l 0 form).kind) are in
@@ -204,7 +204,7 @@ fields_run {charset = charset} {forms = forms} {column = column} {ends = ends} {
       within = record { cells = x.within.cells; used = x.within.used; made = fits; some = x.within.some; none = x.within.none };
       ends = λ none. absurd (omega (arith, some, none));
       one = λ alone.
-          let one = subst (λ (n : ℕ). N.WritesForms charset forms column n (take run.used bytes) fields) alone wrote in
+          let one = N.subst (λ (n : ℕ). N.WritesForms charset forms column n (take run.used bytes) fields) alone wrote in
           let first = first_alone charset forms column bytes ends new run.used made fields (x.one alone) one
           (text_is ∙ ap (λ (n : ℕ). fields ++ end_after (ends && (n == length forms))) alone) in
           first;

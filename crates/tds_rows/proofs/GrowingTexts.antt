@@ -1,10 +1,6 @@
 -- What a text that grows is, and what the cells and rows that are read add to it.
 use Rattle.tds_rows.proofs.Words as N
-use Rattle.tds_rows.proofs.{
-  Words.{◌≡◌, ℕ, Bool, true, false, List, [], ◌∷◌, ◌++◌, refl, sym, ◌∙◌, ap, arith, Option, Some, None, ◌==◌, ◌||◌, map, joined, open_field, eq_true, Cell},
-  Words.{field},
-  CellMeaning.{guard_none, unless_none},
-}
+use Rattle.tds_rows.proofs.{Words.{◌≡◌, ℕ, Bool, true, List, [], ◌∷◌, ◌++◌, ◌∙◌, arith, Option, Some, None, ◌==◌, ◌||◌, map, joined, open_field, Cell, field}, CellMeaning.{unless_none}}
 
 -- the second text begins with the first
 abbrev pub Grows : List ℕ → List ℕ → Type 0
@@ -16,7 +12,7 @@ grows_same a = ([], N.append-nil a)
 
 -- the empty text grows to any
 pub grows_all : (b : List ℕ) → Grows [] b
-grows_all b = (b, refl)
+grows_all b = (b, N.refl)
 
 -- growth goes on
 pub grows_trans : (a b c : List ℕ) → Grows a b → Grows b c → Grows a c
@@ -24,13 +20,13 @@ grows_trans a b c h k = grind (arith, N.append_assoc)
 
 -- what stands in front stays
 pub grows_under : (x a b : List ℕ) → Grows a b → Grows (x ++ a) (x ++ b)
-grows_under x a b h = (h.0, N.append_assoc x a h.0 ∙ ap (λ v. x ++ v) h.1)
+grows_under x a b h = (h.0, N.append_assoc x a h.0 ∙ N.ap (λ v. x ++ v) h.1)
 
 -- more fields
 pub joined_more : (fs gs : List (List ℕ)) → Grows (joined fs) (joined (fs ++ gs))
 joined_more [] gs = grows_all (joined gs)
 joined_more (f ∷ []) [] = grows_same f
-joined_more (f ∷ []) (g ∷ gs) = (N.codes "," ++ joined (g ∷ gs), sym (N.append_assoc f _ (joined (g ∷ gs))))
+joined_more (f ∷ []) (g ∷ gs) = (N.codes "," ++ joined (g ∷ gs), N.sym (N.append_assoc f _ (joined (g ∷ gs))))
 joined_more (f ∷ h ∷ fs) gs = grows_under _ (joined (h ∷ fs)) (joined (h ∷ (fs ++ gs))) (joined_more (h ∷ fs) gs)
 
 -- more of the last field
@@ -85,8 +81,8 @@ module _ (charset : N.Charset) where
   next_grows : (cells : List Cell) (ks : List (N.Column × Bool)) → Grows (joined (map field cells)) (N.row_so_far (N.next_cell charset cells ks))
   next_grows cells [] = grind arith
   next_grows cells ((k, true) ∷ ks) = grows_trans _ _ _
-      (rw (sym (N.map-append field cells (N.Null ∷ []))) at (joined_more (map field cells) (N.null_field ∷ []))) (next_grows _ ks)
-  next_grows cells ((k, false) ∷ ks) = with_field_grows _ None (N.field_so_far (N.cell_start k.kind (N.shape charset k.kind))) tt
+      (rw (N.sym (N.map-append field cells (N.Null ∷ []))) at (joined_more (map field cells) (N.null_field ∷ []))) (next_grows _ ks)
+  next_grows cells ((k, N.false) ∷ ks) = with_field_grows _ None (N.field_so_far (N.cell_start k.kind (N.shape charset k.kind))) tt
 
   -- a cell in its row
   with_cell_grows : (cells : List Cell) (ks : List (N.Column × Bool)) (p : N.CellPart)

@@ -1,11 +1,11 @@
 -- What joiners do with the pieces of some content, in the words of their conversion.
-use Rattle.tds_csv.specs.declared.joiners.JoinFault.TheVariants as join_faults
 use Rattle.tds_rows.proofs.Words as N
 use Rattle.tds_rows.proofs.{
-  Words.{◌≡◌, ◌∙◌, ℕ, ◌+◌, ◌-◌, ◌^◌, ◌<◌, ◌≤◌, Bool, false, List, [], ◌∷◌, ◌++◌, length, take, drop, inl, inr, refl, sym, ap, subst, arith, Result, Ok, Err},
-  Words.{Option, Stop, Seen, Takes, IsBetween, BeginsData, Conversion, IsFit, conversion_rest, emit, Held, Puts, joins_by_name, added_text},
+  Words.{◌≡◌, ◌∙◌, ℕ, ◌+◌, ◌-◌, ◌^◌, ◌<◌, ◌≤◌, Bool, List, [], ◌∷◌, ◌++◌, length, inl, inr, sym, ap, subst, arith, Err, Stop, Seen, Takes, IsBetween},
+  Words.{BeginsData, Conversion, IsFit, conversion_rest, emit, Held, Puts, joins_by_name, added_text},
   Paths.At,
 }
+use Rattle.tds_csv.specs.declared.joiners.JoinFault.TheVariants as join_faults
 
 module _ {fit begins : List ℕ → Type 0} {rest text : List ℕ → List ℕ} {size : ℕ} {quoted : Bool} {c : Conversion}
     (suits : N.Suits fit begins rest text size quoted c) where
@@ -21,7 +21,7 @@ module _ {fit begins : List ℕ → Type 0} {rest text : List ℕ → List ℕ} 
         let all = begun_with piece x.begun in
         record {
           piece = piece;
-          counted = refl;
+          counted = N.refl;
           some = some;
           takes = takes;
           between = between;
@@ -38,13 +38,13 @@ module _ {fit begins : List ℕ → Type 0} {rest text : List ℕ → List ℕ} 
     piece_bad {k = k} {h = h} {column = column} {a = a} {b = b} {place = place} piece short takes between x =
         let within = x.within in
         let len = N.length-take-le k piece (omega arith) in
-        let good = take _ piece in
+        let good = N.take _ piece in
         let bad = N.get_or piece _ 0 in
         let split = sym (N.take-append-drop _ piece) ∙ ap (λ l. good ++ l) (N.drop_more piece _ 0 within) in
         record {
           good = good;
           bad = bad;
-          ahead = drop _ piece;
+          ahead = N.drop _ piece;
           within = omega arith;
           takes = subst (λ l. Takes a b l 1) split takes;
           between = between;
@@ -62,11 +62,11 @@ module _ {fit begins : List ℕ → Type 0} {rest text : List ℕ → List ℕ} 
         → begins old → N.Breaks h i (emit rest text (old ++ piece)) stop → N.BreaksData c content most a b h i stop
     piece_breaks {h = h} {i = i} {stop = stop} piece short takes between begins_old breaks =
         let f = N.begun_front c old piece ((suits.begins_is old).0 begins_old) in
-        let good = take f.taken piece in
+        let good = N.take f.taken piece in
         let within = f.within in
         record {
           good = good;
-          ahead = drop f.taken piece;
+          ahead = N.drop f.taken piece;
           within = omega (arith, N.length-take-le f.taken piece within);
           takes = rw (N.take-append-drop f.taken piece) takes;
           between = between;
@@ -77,7 +77,7 @@ module _ {fit begins : List ℕ → Type 0} {rest text : List ℕ → List ℕ} 
 
     -- the fault of a push
     pub push_stops : {column most : ℕ} {a b : Seen} {place : ℕ} {h i : Held} {before after : Bool} (new piece : List ℕ) (fault : N.JoinFault)
-        → length piece ≤ most → Takes a b piece 1 → IsBetween b → begins old → before ≡ false → after ≡ N.is_stopped {U = Unit {0}} (Err fault)
+        → length piece ≤ most → Takes a b piece 1 → IsBetween b → begins old → before ≡ N.false → after ≡ N.is_stopped {U = Unit {0}} (Err fault)
         → N.Pushes {U = Unit {0}} begins rest text old new h i before piece (Err fault)
         → N.StopsData c content column most a b place h i after (N.join_stop column place fault)
     push_stops new piece (N.Stopped stop) short takes between begins_old going failed x =
@@ -102,7 +102,7 @@ module _ {fit begins : List ℕ → Type 0} {rest text : List ℕ → List ℕ} 
 
     -- the fault of an end
     pub end_stops : {column place : ℕ} {h i : Held} {before after : Bool} (new : List ℕ) (unit' : ℕ) (last : Bool) (fault : N.JoinFault)
-        → before ≡ false → after ≡ N.is_stopped {U = Unit {0}} (Err fault) → N.EndsBy {U = Unit {0}} unit' fit text old new h i before (Err fault)
+        → before ≡ N.false → after ≡ N.is_stopped {U = Unit {0}} (Err fault) → N.EndsBy {U = Unit {0}} unit' fit text old new h i before (Err fault)
         → N.StopsEnding c quoted last content column place h i after (N.join_stop column place fault)
     end_stops {h = h} {i = i} new unit' last (N.Stopped stop) going failed x =
         let breaks = subst (λ l. N.Breaks h i l stop) (suits.text_is old ∙ ap (N.conversion_text c) is) (x going).1 in
@@ -200,9 +200,9 @@ module _ {c : Conversion} {content kept : List ℕ} {p q : At} {n left : ℕ} (b
       }
 
 -- the end of content that is whole was put, or a write of it failed
-pub end_puts : {W U : Type 0} (contents : W → Option (List ℕ)) (c : Conversion) (quoted last : Bool) (content : List ℕ) (column place : ℕ)
-    (a b d : N.Sink W) (r : Result U Stop)
-    → IsFit c content × Puts (N.held contents a) (N.held contents b) (N.conversion_text c (conversion_rest c content)) → b.failed ≡ false
+pub end_puts : {W U : Type 0} (contents : W → N.Option (List ℕ)) (c : Conversion) (quoted last : Bool) (content : List ℕ) (column place : ℕ)
+    (a b d : N.Sink W) (r : N.Result U Stop)
+    → IsFit c content × Puts (N.held contents a) (N.held contents b) (N.conversion_text c (conversion_rest c content)) → b.failed ≡ N.false
     → N.PutsPiece contents b d (N.closing quoted ++ N.end_after last) r → N.EndPut contents c quoted last content column place a d r
-end_puts contents c quoted last content column place a b d (Ok u) x going y = (x.0, N.Puts-trans _ _ _ _ _ x.1 y.gives)
+end_puts contents c quoted last content column place a b d (N.Ok u) x going y = (x.0, N.Puts-trans _ _ _ _ _ x.1 y.gives)
 end_puts contents c quoted last content column place a b d (Err e) x going y = inl (x.0, N.Breaks-after _ _ _ _ _ e x.1 (y.gives going), y.failed)

@@ -1,15 +1,6 @@
 -- Long values, in the grammar of a cell: the text of its parts, and the pieces of its content.
 use Rattle.tds_rows.proofs.Words as N
-use Rattle.tds_rows.proofs.{
-  Words.{◌≡◌, ◌∙◌, ◌⊎◌, inl, inr, ℕ, suc, ◌+◌, ◌-◌, ◌^◌, ◌<◌, ◌≤◌, Bool, true, false, List, [], ◌∷◌, ◌++◌, length, refl, sym, ap, subst, arith, append_assoc},
-  Words.{Option, Some, None, ◌&&◌, ◌||◌, and_from, BadText, Stop, Spelt, Seen, choose_false, BeginsData, Conversion, is_fit, open_field, after_comma, Held},
-  Words.{cell, cell_fault, cell_so_far, added_text},
-  Paths.{At, Path, path_both, path_stops},
-  RowSteps.{line_grows, opened_text},
-  LineTexts.after_append,
-  CellLaws.unless_true,
-  Numbers.{chunk_left, short_left},
-}
+use Rattle.tds_rows.proofs.{Words.{◌≡◌, ◌∙◌, ◌⊎◌, inl, inr, ℕ, suc, ◌+◌, ◌-◌, ◌^◌, ◌<◌, ◌≤◌, Bool, true, false, List, [], ◌∷◌, ◌++◌, length, refl, sym, ap, subst, arith}, Words.{append_assoc, Some, ◌&&◌, ◌||◌, BadText, Stop, Spelt, Seen, BeginsData, Conversion, is_fit, open_field, after_comma, Held, cell, cell_fault}, Words.{cell_so_far, added_text}, Paths.{At, Path, path_both, path_stops}, RowSteps.{line_grows}, LineTexts.after_append, CellLaws.unless_true, Numbers.{chunk_left, short_left}}
 
 -- ---- content, byte by byte
 
@@ -25,7 +16,7 @@ pub record HoldsContent (column : ℕ) (c : Conversion) (state : ℕ → List �
   pub text : (r : ℕ) (d : List ℕ) → N.field_so_far (state (suc r) d) ≡ Some (open_field c d)
   pub add : (r : ℕ) (d : List ℕ) (x : ℕ) → N.cell_add (state (suc r) d) (x ∷ []) ≡ state r (d ++ x ∷ [])
   pub free : (r : ℕ) (d : List ℕ) (x : ℕ) → N.is_begun c (d ++ x ∷ []) ≡ true → (r ≡ 0 → Good (d ++ x ∷ []))
-      → cell_fault column (state (suc r) d) (x ∷ []) ≡ None
+      → cell_fault column (state (suc r) d) (x ∷ []) ≡ N.None
   pub bad : (r : ℕ) (d : List ℕ) (x : ℕ) → N.is_begun c (d ++ x ∷ []) ≡ false → cell_fault column (state (suc r) d) (x ∷ []) ≡ Some (BadText column)
   pub ends : (d : List ℕ) (x : ℕ) → Good (d ++ x ∷ []) ⊎ (emitted c (d ++ x ∷ []) ≡ emitted c d)
   pub whole : (last : Bool) (d : List ℕ) → Good d → (more : List ℕ)
@@ -303,5 +294,5 @@ module _ (column : ℕ) (c : Conversion) where
   pub short_refused : (e : List ℕ) (y : ℕ) → is_fit c (e ++ y ∷ []) ≡ false → cell_fault column (short_left c 1 e) (y ∷ []) ≡ Some (BadText column)
   short_refused e y unfit = grind arith
 
-  pub chunk_holds : (total : Option ℕ) → HoldsContent column c (chunk_left c total) (λ _. Unit {0})
+  pub chunk_holds : (total : N.Option ℕ) → HoldsContent column c (chunk_left c total) (λ _. Unit {0})
   chunk_holds total = grind (arith, N.append-nil)

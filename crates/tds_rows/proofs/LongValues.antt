@@ -1,9 +1,8 @@
 -- Long values, element after element: their lengths, the content between, and the end.
 use Rattle.tds_rows.proofs.Words as N
 use Rattle.tds_rows.proofs.{
-  Words.{◌≡◌, ◌∙◌, inl, inr, ℕ, zero, suc, ◌-◌, ◌^◌, ◌<◌, ◌≤◌, Bool, true, false, List, [], ◌∷◌, ◌++◌, length, sym, ap, arith, append-nil, Result, Ok, Err},
-  Words.{Option, take-nil, Stop, Seen, Conversion, HexDigits, Utf16Text, Utf8Text, Windows1252Text, is_quoted, after_comma, Held, Puts, held, fit_by_test},
-  Words.{CellPart, cell, PutsField, StopsField, cell_so_far, ending, opening, ◌≢◌, ◌+◌, refl, None, ChunkLength},
+  Words.{◌≡◌, ◌∙◌, inl, inr, ℕ, ◌-◌, ◌^◌, ◌<◌, ◌≤◌, Bool, List, [], ◌∷◌, ◌++◌, length, sym, ap, arith, append-nil, Option, Stop, Seen, Conversion},
+  Words.{is_quoted, after_comma, Held, Puts, held, fit_by_test, CellPart, cell, PutsField, StopsField, cell_so_far, ending, opening, ◌≢◌, ◌+◌, ChunkLength},
   LongSteps.{ending_text, ends_break, ends_path, ends_refused, short_holds, short_refused, text_at, chunk_holds},
   Numbers.{Next, short_left, chunk_end, chunk_start, chunk_unfit, chunk_left},
   Paths.{At, Path, path_both, path_of, streams_of, path_none, path_stops},
@@ -18,10 +17,10 @@ emit_none : (c : Conversion) → N.emit (N.conversion_rest c) (N.conversion_text
 emit_none c = grind (arith, N.hex-nil, N.text_nil)
 
 open_none : (c : Conversion) → opening (is_quoted c) ≡ N.open_field c []
-open_none HexDigits = sym (append-nil N.binary_mark) ∙ ap (λ l. N.binary_mark ++ l) (sym (emit_none HexDigits))
-open_none Utf16Text = ap (λ l. N.quote ∷ l) (sym (emit_none Utf16Text))
-open_none Windows1252Text = ap (λ l. N.quote ∷ l) (sym (emit_none Windows1252Text))
-open_none Utf8Text = ap (λ l. N.quote ∷ l) (sym (emit_none Utf8Text))
+open_none N.HexDigits = sym (append-nil N.binary_mark) ∙ ap (λ l. N.binary_mark ++ l) (sym (emit_none N.HexDigits))
+open_none N.Utf16Text = ap (λ l. N.quote ∷ l) (sym (emit_none N.Utf16Text))
+open_none N.Windows1252Text = ap (λ l. N.quote ∷ l) (sym (emit_none N.Windows1252Text))
+open_none N.Utf8Text = ap (λ l. N.quote ∷ l) (sym (emit_none N.Utf8Text))
 
 pub none_begins : (c : Conversion) → N.BeginsData c []
 none_begins c = (N.begun_by_test c []).0 (N.fit_begins c [] [] (N.no_data_is_fit c))
@@ -40,7 +39,7 @@ field_puts x y = field_of (path_both x (path_of y.streams y.place_is))
 
 -- the reading stopped before any text
 pub reading_stops : {column place : ℕ} {s : CellPart} {a b : Seen} {h : Held} {failed : Bool} {stop : Stop} (last : Bool) → h.delivered ≤ 2 ^ 64 - 1
-    → failed ≡ false → N.StopsReading (cell column) s a b place s stop → StopsField s column last a b place h h failed stop
+    → failed ≡ N.false → N.StopsReading (cell column) s a b place s stop → StopsField s column last a b place h h failed stop
 reading_stops {s = s} last delivered going x = record { at = s; cause = inl (x, ([], append-nil _, N.Puts-none _ delivered), going) }
 
 module _ {column place' : ℕ} {s t : CellPart} {p : At} {b : Seen} (last : Bool) (x : Next column s p.seen b p.place place' t) where
@@ -59,7 +58,7 @@ module _ {column place' : ℕ} {s t : CellPart} {p : At} {b : Seen} (last : Bool
 
   -- a write of it failed
   pub next_breaks : {j : Held} {failed : Bool} {stop : Stop} (part rest : List ℕ) → length p.held.waiting < 4096 → p.held.delivered ≤ 2 ^ 64 - 1
-      → failed ≡ true → cell_so_far column last s ++ (part ++ rest) ≡ cell_so_far column last t → N.Breaks p.held j part stop
+      → failed ≡ N.true → cell_so_far column last s ++ (part ++ rest) ≡ cell_so_far column last t → N.Breaks p.held j part stop
       → StopsField s column last p.seen b p.place p.held j failed stop
   next_breaks part rest few delivered broken text_is breaks = record {
     at = s;
@@ -85,13 +84,13 @@ module _ {column place' : ℕ} {s t : CellPart} {p : At} {b : Seen} (last : Bool
 
 -- NULL was put, or a write of it failed
 pub null_puts : {column place place' : ℕ} {s : CellPart} {a b : Seen} {W U : Type 0} (last : Bool) (contents : W
-    → Option (List ℕ)) (h k : N.Sink W) (r : Result U Stop) → Next column s a b place place' (N.WholeCell N.Null) → cell_so_far column last s ≡ []
+    → Option (List ℕ)) (h k : N.Sink W) (r : N.Result U Stop) → Next column s a b place place' (N.WholeCell N.Null) → cell_so_far column last s ≡ []
     → N.IsWriting h → N.PutsPiece contents h k (N.in_line column last N.null_field) r
     → N.MatchResult r (λ _. PutsField s column last a b place place' (held contents h) (held contents k))
     (λ stop. StopsField s column last a b place (held contents h) (held contents k) k.failed stop)
-null_puts {column = column} last contents h k (Ok u) x silent writing puts =
+null_puts {column = column} last contents h k (N.Ok u) x silent writing puts =
     field_of (next_path last x _ (ap (λ l. l ++ N.in_line column last N.null_field) silent) puts.gives)
-null_puts {column = column} last contents h k (Err e) x silent writing puts =
+null_puts {column = column} last contents h k (N.Err e) x silent writing puts =
     next_breaks last x _ [] (writing.ready.1 writing.writing) writing.ready.2 puts.failed
     (ap (λ l. l ++ (N.in_line column last N.null_field ++ [])) silent ∙ append-nil _) (puts.gives writing.writing)
 
@@ -106,8 +105,8 @@ module _ (column : ℕ) (last : Bool) (c : Conversion) where
   empty_open = grind (arith, open_none, ending_text, N.no_data_is_fit)
 
   pub short_text : (n : ℕ) → (q : List ℕ) × (after_comma column (opening (is_quoted c)) ++ q ≡ cell_so_far column last (short_left c n []))
-  short_text zero = (ending c _ last [], empty_open)
-  short_text (suc n) = ([], append-nil _ ∙ short_open _ (omega arith))
+  short_text N.zero = (ending c _ last [], empty_open)
+  short_text (N.suc n) = ([], append-nil _ ∙ short_open _ (omega arith))
 
   -- the value has no bytes, and its end was put, or that stopped
   pub empty_puts : {p : At} {b : Seen} {place' n : ℕ} {j : Held} (i : Held) → Next column (N.ShortLength c) p.seen b p.place place' (short_left c n [])
@@ -158,11 +157,11 @@ pub record Streamed (column : ℕ) (last : Bool) (c : Conversion) (total : Optio
 
 pub streamed_none : {column : ℕ} {last : Bool} {c : Conversion} {total : Option ℕ} {kept : List ℕ} {p : At} → kept ≡ N.conversion_rest c []
     → p.held.delivered ≤ 2 ^ 64 - 1 → Streamed column last c total kept 0 p p
-streamed_none is delivered = record { content = []; counted = refl; begun = none_begins _; kept_is = is; path = path_none delivered }
+streamed_none is delivered = record { content = []; counted = N.refl; begun = none_begins _; kept_is = is; path = path_none delivered }
 
 module _ {column : ℕ} {last : Bool} {c : Conversion} {total : Option ℕ} {kept : List ℕ} {sum : ℕ} {p q : At} (size : ℕ) (unit_is : size ≡ N.unit c)
     (x : Streamed column last c total kept sum p q) {d : Seen} {there n : ℕ} (y : N.ReadsNumber 4 q.seen d q.place there n)
-    (free : N.chunk_length_fault column size total sum n ≡ None) where
+    (free : N.chunk_length_fault column size total sum n ≡ N.None) where
   -- the terminator was read, and the end put
   pub chunks_whole : {j : Held} → n ≡ 0 → N.IsFit c x.content → Puts q.held j (ending c (is_quoted c) last x.content)
       → PutsField (ChunkLength c total []) column last p.seen d p.place there p.held j

@@ -1,9 +1,8 @@
 -- The next cells of a row, those of a run or one, NULL or not, and rows one after another.
 use Rattle.tds_rows.proofs.Words as N
 use Rattle.tds_rows.proofs.{
-  Words.{arith, ◌≡◌, ◌+◌, ℕ, Bool, true, false, List, ◌∷◌, drop, refl, sym, Err, Ok, Result, Option, ◌==◌, Stop, seen, Column, held, Rows, Ahead},
-  Words.{is_last_column, IsInRow, StaysInRow, RowStops, RowPart, marked, ◌∙◌, zero, suc, ◌-◌, ◌^◌, ◌≤◌, ◌<◌, [], ◌++◌, length, ap, subst, Coming, before, Seen},
-  Words.{Takes, Held, Puts, Charset, Cell, rows, rows_so_far, rows_start, inl, inr},
+  Words.{arith, ◌≡◌, ◌+◌, ℕ, Bool, true, false, List, ◌∷◌, drop, refl, sym, Err, Ok, Option, ◌==◌, Stop, seen, Column, held, Rows, Ahead, IsInRow},
+  Words.{StaysInRow, RowStops, RowPart, marked, ◌∙◌, ◌-◌, ◌^◌, ◌≤◌, ◌<◌, [], ◌++◌, length, ap, before, Seen, Takes, Held, Puts, Charset, Cell, rows},
   NullSteps.{NearsCells, all_put, cell_nears, cell_stops, null_breaks, null_nears, cell_path, marked_stops},
   RowSteps.{ends, ends_marked, coming, nulls_ahead, PutsAt, StopsAt},
   Paths.{At, here, Path, path_both, path_map, path_none, path_of, streams_of},
@@ -31,7 +30,7 @@ pub record Passes (p q : At) (bytes text : List ℕ) : Type 0 where
 -- what was handed out, in two parts
 takes_apart : (a c : Seen) (x y : List ℕ) → Takes a c (x ++ y) 0 → (b : Seen) × Takes a b x 0 × Takes b c y 0 × (N.IsBetween c → N.IsBetween b)
 takes_apart a c x y takes =
-    let f : Coming → List ℕ → Coming = λ c l. record { bytes = l; stop = c.stop; rest = c.rest } in (
+    let f : N.Coming → List ℕ → N.Coming = λ c l. record { bytes = l; stop = c.stop; rest = c.rest } in (
       record { left = c.left; future = λ zs. before y _; wire = c.wire; failures = c.failures },
       (
         takes.0,
@@ -105,26 +104,26 @@ module _ (charset : Charset) (start : RowPart) (columns : List Column) (nulls : 
   column_nears at q r bytes text w y x =
       rw (next_column columns at w.column w.left w.next).1.1 (go _ w.writes (rw w.next at x))
     where
-      go : (null : Bool) → N.WritesNext charset null w.column.kind at (is_last_column w.left) bytes text
+      go : (null : Bool) → N.WritesNext charset null w.column.kind at (N.is_last_column w.left) bytes text
           → NearsCells charset start ((w.column, null) ∷ marked w.left nulls (at + 1)) p q at
           → NearsCells charset start (marked w.left nulls (at + 1)) p r (at + 1)
       go true v z =
           let y' = rw (v.0, v.1, ends_marked w.left nulls (at + 1)) at y in
           null_nears (nears_onward y' z) y'.puts
       go false v z =
-          let put = whole_puts charset _ at (is_last_column w.left) q r bytes text v (N.Takes-more q.seen r.seen bytes 0 _ (omega arith) y.takes)
+          let put = whole_puts charset _ at (N.is_last_column w.left) q r bytes text v (N.Takes-more q.seen r.seen bytes 0 _ (omega arith) y.takes)
           y.place_is y.puts in
           cell_nears y.between y.few (all_put refl y.delivered z) (rw (ends_marked w.left nulls (at + 1)) at put)
 
   -- so many columns more
   marked_nears : (from n : ℕ) (q r : At) (bytes text : List ℕ) → N.WritesMarked charset columns nulls from n bytes text → Passes q r bytes text
       → Near from q → Near (from + n) r
-  marked_nears from zero q r bytes text w y x = let y' = rw (w.0, w.1) at y in
+  marked_nears from N.zero q r bytes text w y x = let y' = rw (w.0, w.1) at y in
       rw (N.add-zero from) (nears_same y'.puts (nears_onward y' x))
-  marked_nears from (suc n) q r bytes text w y x =
+  marked_nears from (N.suc n) q r bytes text w y x =
       let t = passes_apart q r _ _ _ _ (rw (w.4, w.5) at y) in
       let z = column_nears _ _ r _ _ w.7 t.2 (marked_nears _ n q _ _ _ w.6 t.1 x) in
-      subst (λ (k : ℕ). Near k r) (omega arith) z
+      N.subst (λ (k : ℕ). Near k r) (omega arith) z
 
   -- a write of the text of a column failed, after more was read
   column_breaks : (at : ℕ) (q : At) (d : Seen) (j : Held) (stop : Stop) (bytes rest text : List ℕ) → N.WritesColumn charset columns nulls at bytes text
@@ -132,24 +131,24 @@ module _ (charset : Charset) (start : RowPart) (columns : List Column) (nulls : 
       → Near at q → RowStops charset start p.seen d p.place p.held j true stop
   column_breaks at q d j stop bytes rest text w takes between few delivered breaks x = go _ w.writes (rw w.next at x)
     where
-      go : (null : Bool) → N.WritesNext charset null w.column.kind at (is_last_column w.left) bytes text
+      go : (null : Bool) → N.WritesNext charset null w.column.kind at (N.is_last_column w.left) bytes text
           → NearsCells charset start ((w.column, null) ∷ marked w.left nulls (at + 1)) p q at → RowStops charset start p.seen d p.place p.held j true stop
       go true v z = null_breaks rest (rw v.0 at takes) between z (rw (v.1, ends_marked w.left nulls (at + 1)) at breaks)
       go false v z = cell_stops (all_put refl delivered z)
           (rw (ends_marked w.left nulls (at + 1)) at (whole_breaks {a = q.seen} {b = d} {place = q.place} {h = q.held} {j = j} {stop = stop} charset _
-          at (is_last_column w.left) rest v takes between few delivered breaks refl))
+          at (N.is_last_column w.left) rest v takes between few delivered breaks refl))
 
   -- a write of the text of so many columns failed
   marked_breaks : (from n : ℕ) (q : At) (d : Seen) (j : Held) (stop : Stop) (bytes rest text : List ℕ)
       → N.WritesMarked charset columns nulls from n bytes text → Takes q.seen d (bytes ++ rest) 0 → N.IsBetween d → length q.held.waiting < 4096
       → q.held.delivered ≤ 2 ^ 64 - 1 → N.Breaks q.held j text stop → Near from q → RowStops charset start p.seen d p.place p.held j true stop
-  marked_breaks from zero q d j stop bytes rest text w takes between few delivered breaks x =
+  marked_breaks from N.zero q d j stop bytes rest text w takes between few delivered breaks x =
       absurd (fills_no_block q.held j text stop (omega (arith, ap length w.1)) breaks)
-  marked_breaks from (suc n) q d j stop bytes rest text (front, back, first, more, joined, text_is, before, last) takes between few delivered breaks x =
+  marked_breaks from (N.suc n) q d j stop bytes rest text (front, back, first, more, joined, text_is, before, last) takes between few delivered breaks x =
       let read = rw (joined, N.append_assoc front back rest) at takes in
       elim (N.Breaks_split q.held j first more stop (rw text_is at breaks)) [
-        | inl broken ↦ marked_breaks from n q d j stop front (back ++ rest) first before read between few delivered broken x
-        | inr m ↦
+        | N.inl broken ↦ marked_breaks from n q d j stop front (back ++ rest) first before read between few delivered broken x
+        | N.inr m ↦
             let t = takes_apart q.seen d front (back ++ rest) read in
             let there : At = record { seen = t.0; place = q.place + length front; held = m.0 } in
             let near = marked_nears from n q there front first before
@@ -223,10 +222,10 @@ module _ {R W : Type 0} (remaining : R → Option (List ℕ)) (contents : W → 
   last_is = grind (arith, last_one, after, ends_marked)
 
   -- the next cell was read, or it stopped
-  pub cell_read : {U : Type 0} (result : Result U Stop) → N.IsAhead old.table.now columns at → N.CellRead remaining contents at kind old new result
+  pub cell_read : {U : Type 0} (result : N.Result U Stop) → N.IsAhead old.table.now columns at → N.CellRead remaining contents at kind old new result
       → N.KindRead remaining contents at.column (ends left) taken.column.kind old new result
   cell_read result ahead x =
-      let next : N.IsNextKind _ at kind (is_last_column _) =
+      let next : N.IsNextKind _ at kind (N.is_last_column _) =
       record {
         columns = columns;
         knows = knows;
@@ -272,7 +271,7 @@ module _ {R W : Type 0} (remaining : R → Option (List ℕ)) (contents : W → 
 pub record RowsAt (token : N.RowToken) (charset : Charset) (all : List Column) (p q : At) (count : ℕ) (part : RowPart) : Type 0 where
   pub before : List (List Cell)
   pub counted : length before ≡ count
-  pub path : Path (rows token charset all) rows_so_far (rows_start token charset all) p q (record { before = before; at = part })
+  pub path : Path (rows token charset all) N.rows_so_far (N.rows_start token charset all) p q (record { before = before; at = part })
 
 module _ {token : N.RowToken} {charset : Charset} {all : List Column} where
   pub rows_first : {p : At} → p.held.delivered ≤ 2 ^ 64 - 1 → RowsAt token charset all p p 0 (N.token_start token charset all)

@@ -1,8 +1,8 @@
 -- Rows with NULLs by their bit, column after column, as they are read and their text is put.
 use Rattle.tds_rows.proofs.Words as N
 use Rattle.tds_rows.proofs.{
-  Words.{◌≡◌, ◌∙◌, inl, inr, ℕ, ◌+◌, ◌-◌, ◌^◌, ◌<◌, ◌≤◌, Bool, true, false, List, [], ◌∷◌, ◌++◌, length, refl, sym, ap, arith, map, Stop, Seen, Column, joined},
-  Words.{Held, Charset, Cell, CellPart, RowPart, marked, next_cell, row, row_so_far},
+  Words.{◌≡◌, ◌∙◌, inl, inr, ℕ, ◌+◌, ◌-◌, ◌^◌, ◌<◌, ◌≤◌, Bool, true, false, List, [], ◌∷◌, ◌++◌, length, refl, sym, arith, Stop, Seen, Column, Held},
+  Words.{Charset, Cell, CellPart, RowPart, marked, next_cell, row, row_so_far},
   RowSteps.{begun_text, coming, ends, line_grows, nulls_ahead, nulls_text, part_text, rest_of, PutsAt, StopsAt, cell_some, same_end, StopsCell},
   RowLaws.{begins_open, cell_in_row},
   Paths.{At, Path, path_both, path_map, path_none, path_of, path_stops, streams_of, writes_inside},
@@ -24,7 +24,7 @@ module _ (charset : Charset) (cells : List Cell) (ks : List (Column × Bool)) wh
   text = N.cell_so_far (length cells) (ends ks)
 
   abbrev front : List ℕ
-  front = joined (map N.field cells)
+  front = N.joined (N.map N.field cells)
 
   -- a write of the cell's text failed, and so one of the row's
   breaks_there : {from at : CellPart} {b d : Seen} {i j : Held} {stop : Stop} → 0 < N.cell_size from → N.BreaksStreaming small text from b d i j at stop
@@ -49,7 +49,7 @@ module _ (charset : Charset) (cells : List Cell) (ks : List (Column × Bool)) wh
         puts = (x.puts.0, N.added_between _ _ up is text row_so_far front begun grows _ _ _ some size x.puts.1, x.puts.2);
         more = x.more ++ rest;
         text_is = N.tail_after _ _ up is text row_so_far front begun grows at to _ rest size x.text_is (part_text charset cells ks to)
-            ∙ ap row_so_far (sym (is.add at x.element size));
+            ∙ N.ap row_so_far (sym (is.add at x.element size));
         breaks = N.Breaks-longer x.middle j x.more rest stop x.breaks;
       }
 

@@ -1,8 +1,8 @@
 -- The numbers of a long value, its length or total and those of its chunks, as elements of its cell: how each is judged, and where it leads.
 use Rattle.tds_rows.proofs.Words as N
 use Rattle.tds_rows.proofs.{
-  Words.{null_total, ◌-◌, if◌then◌else◌, ◌≡◌, ◌≢◌, ◌∙◌, ◌⊎◌, inl, inr, ℕ, ◌+◌, ◌<◌, true, false, List, [], length, refl, sym, ap, subst, arith, Option, Some},
-  Words.{None, ◌==◌, Fault, Stop, Seen, unit, CellPart, ChunkLength, Total, cell, ⊤},
+  Words.{◌-◌, if◌then◌else◌, ◌≡◌, ◌≢◌, ◌∙◌, ◌⊎◌, ℕ, ◌+◌, ◌<◌, List, [], refl, sym, ap, arith, Option, Some, None, ◌==◌, Fault, Stop, Seen, unit, CellPart},
+  Words.{ChunkLength, Total, cell},
   CellLaws.unless_true,
 }
 use Rattle.tds_packet.specs.declared.payload.Payload.{Payload as Input}
@@ -20,9 +20,9 @@ pub record Next (column : ℕ) (s : CellPart) (a b : Seen) (place place' : ℕ) 
   pub element : List ℕ
   pub next : N.IsNext (cell column) s element
   pub to : N.cell_add s element ≡ t
-  pub takes : N.Takes a b element (length element)
+  pub takes : N.Takes a b element (N.length element)
   pub between : N.IsBetween b
-  pub place_is : place' ≡ place + length element
+  pub place_is : place' ≡ place + N.length element
 
 -- a number was read, where one of so many bytes is next
 next_by : {column size place place' n : ℕ} {s t : CellPart} {a b : Seen} → 0 < size → N.cell_size s ≡ size → (x : N.ReadsNumber size a b place place' n)
@@ -33,11 +33,11 @@ next_by some is x free to = grind arith
 number_stops : {column size place : ℕ} {s : CellPart} {fault : ℕ → Option Fault} {a b : Seen} {stop : Stop} → 0 < size → N.cell_size s ≡ size
     → N.cell_end s ≡ Some N.MessageEnded → ((e : List ℕ) (n : ℕ) (f : Fault) → N.little e ≡ n → fault n ≡ Some f → N.cell_fault column s e ≡ Some f)
     → N.RefusesNumber size fault a b place stop ⊎ N.CutsNumber size a b place stop → N.StopsReading (cell column) s a b place s stop
-number_stops {column = column} {place = place} {s = s} {a = a} {b = b} {stop = stop} some is end first (inl x) =
+number_stops {column = column} {place = place} {s = s} {a = a} {b = b} {stop = stop} some is end first (N.inl x) =
     let r = x.reads in
-    subst (λ t. N.StopsReading (cell column) s a b place s t) (ap (λ q. record { fault = stop.fault; place = q }) (sym x.stands))
+    N.subst (λ t. N.StopsReading (cell column) s a b place s t) (ap (λ q. record { fault = stop.fault; place = q }) (sym x.stands))
     (N.refused_at_once _ s a b _ _ _ (omega arith) (r.whole ∙ sym is) (first _ x.n _ r.number x.first) r.takes r.between)
-number_stops some is end first (inr x) = N.cut_at_once _ _ _ _ _ _ _ _ (let few = x.fewer in omega arith) x.ends (N.began_is_cut _ _ _ _ end x.stop_is)
+number_stops some is end first (N.inr x) = N.cut_at_once _ _ _ _ _ _ _ _ (let few = x.fewer in omega arith) x.ends (N.began_is_cut _ _ _ _ end x.stop_is)
 
 total_same : (column : ℕ) (c : N.Conversion) (size n : ℕ) (e : List ℕ) → size ≡ unit c → N.little e ≡ n
     → N.cell_fault column (Total c) e ≡ N.total_fault column size n
@@ -76,18 +76,18 @@ module _ {column : ℕ} (c : N.Conversion) {size : ℕ} (unit_is : size ≡ unit
 -- ---- the length of a chunk
 
 module _ {column : ℕ} (c : N.Conversion) {size : ℕ} (unit_is : size ≡ unit c) {total : Option ℕ} where
-  module _ {content : List ℕ} {sum : ℕ} (counted : length content ≡ sum) {a b : Seen} {place : ℕ} where
+  module _ {content : List ℕ} {sum : ℕ} (counted : N.length content ≡ sum) {a b : Seen} {place : ℕ} where
     pub chunk_stops : {stop : Stop} → N.RefusesNumber 4 (λ n. N.chunk_length_fault column size total sum n) a b place stop ⊎ N.CutsNumber 4 a b place stop
         → N.StopsReading (cell column) (ChunkLength c total content) a b place (ChunkLength c total content) stop
     chunk_stops x = number_stops (omega arith) refl refl (λ e n f is first. grind arith) x
 
     module _ {n place' : ℕ} (x : N.ReadsNumber 4 a b place place' n) (free : N.chunk_length_fault column size total sum n ≡ None) where
       -- the terminator was read, after content that is whole
-      pub chunk_end : n ≡ 0 → N.is_fit c content ≡ true → Next column (ChunkLength c total content) a b place place' (N.WholeCell (N.DataCell c content))
+      pub chunk_end : n ≡ 0 → N.is_fit c content ≡ N.true → Next column (ChunkLength c total content) a b place place' (N.WholeCell (N.DataCell c content))
       chunk_end none fit = grind (arith, unless_true, N.choose_true)
 
       -- after content that isn't, it is refused
-      pub chunk_unfit : n ≡ 0 → N.is_fit c content ≡ false
+      pub chunk_unfit : n ≡ 0 → N.is_fit c content ≡ N.false
           → N.StopsReading (cell column) (ChunkLength c total content) a b place (ChunkLength c total content)
           (record { fault = N.BadText column; place = N.Payload place })
       chunk_unfit none unfit = N.refused_at_once _ _ a b place _ _ (omega arith) x.whole (grind arith ∙ ap (λ f. N.unless f (N.BadText column)) unfit)
@@ -116,7 +116,7 @@ read_stops old new stop h = (h.1, λ e. absurd (h.0 e))
 
 -- a fault that names no device
 abbrev NoDevice : Option Fault → Type 0
-NoDevice None = ⊤
+NoDevice None = N.⊤
 NoDevice (Some fault) = (fault ≡ N.WriteFailed → ⊥) × (fault ≡ N.ReadFailed → ⊥)
 
 pub short_blames : (column size n : ℕ) → NoDevice (N.short_fault column size n)
@@ -133,8 +133,8 @@ pub length_blames : {R : Type 0} {size : ℕ} {b : Seen} {stop : Stop} (remainin
     → old.stopped ≡ None → ((n : ℕ) → NoDevice (fault n))
     → N.RefusesNumber size fault (N.seen remaining old) b old.place stop ⊎ N.CutsNumber size (N.seen remaining old) b old.place stop
     → ReadBlames old.from.now.failures b.failures stop
-length_blames remaining fault old going none (inl x) = grind arith
-length_blames {b = b} remaining fault old going none (inr x) =
+length_blames remaining fault old going none (N.inl x) = grind arith
+length_blames {b = b} remaining fault old going none (N.inr x) =
     let h = N.ends_blame remaining old b x.part x.own going x.ends in
     let is = ap (λ s. s.fault) x.stop_is in
     (λ e. h.0 (sym is ∙ e), λ e. h.1 (sym is ∙ e))

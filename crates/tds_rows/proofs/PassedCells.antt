@@ -1,8 +1,8 @@
 -- The value of a RETURNVALUE, as it is passed over.
 use Rattle.tds_rows.proofs.Words as N
 use Rattle.tds_rows.proofs.{
-  Words.{◌≢◌, Some, None, ◌≡◌, ◌∙◌, inr, ℕ, ◌+◌, ◌-◌, ◌%◌, ◌<◌, ◌≤◌, Bool, true, List, [], ◌++◌, length, refl, sym, ap, subst, arith, Option, Stop, Seen},
-  Words.{Conversion, Cell, CellPart, ChunkLength, shape, return_column, AnyData, PassesData, StepsOver, zero},
+  Words.{◌≢◌, ◌≡◌, ◌∙◌, ℕ, ◌+◌, ◌-◌, ◌%◌, ◌<◌, ◌≤◌, true, List, [], ◌++◌, length, refl, sym, arith, Option, Stop, Seen, Conversion, Cell, CellPart},
+  Words.{ChunkLength, shape, return_column, AnyData, PassesData, StepsOver},
   BufferedCells.{null_cell, value_cell},
   RunSteps.whole_of,
   LongSteps.{HoldsContent, content_spelt, chunk_holds, short_holds},
@@ -61,7 +61,7 @@ module _ {c : Conversion} {state : ℕ → List ℕ → CellPart} {Good : List �
         stops = record {
           bytes = x.bytes;
           spelt = content_spelt true holds d x.bytes m _ (omega arith) (begins _) (λ none _. absurd (omega arith));
-          cause = inr (record {
+          cause = N.inr (record {
             part = [];
             cut = omega arith;
             own = x.own;
@@ -79,7 +79,7 @@ pub scalar_stops : {from : CellPart} {a b : Seen} {place : ℕ} {stop : Stop} �
 scalar_stops x = record { at = x.at; stops = x.stops }
 
 -- what is written of a cell is its spelling
-written_spelt : {from : CellPart} {last : Bool} {bytes text : List ℕ} → N.WritesCell from return_column last bytes text → (value : Cell)
+written_spelt : {from : CellPart} {last : N.Bool} {bytes text : List ℕ} → N.WritesCell from return_column last bytes text → (value : Cell)
     × N.Spelt N.return_cell from bytes (N.WholeCell value)
 written_spelt x = let whole = whole_of x in (whole.value, whole.spelt)
 
@@ -90,7 +90,7 @@ pub scalar_whole : (charset : N.Charset) (kind : N.Kind) (bytes : List ℕ) → 
 scalar_whole charset kind bytes scalar whole good = go _ refl
   where
     go : (n : ℕ) → N.value_length kind bytes ≡ n → (value : Cell) × N.Spelt N.return_cell (N.cell_start kind (shape charset kind)) bytes (N.WholeCell value)
-    go zero e =
+    go N.zero e =
         let x = null_cell charset kind _ true bytes _ scalar _ refl e (omega arith) refl in
         rw (N.take_all (N.value_start kind + 0) bytes (omega arith)) at (written_spelt x)
     go _ e =
@@ -111,7 +111,7 @@ pub passes_more : {m n k : ℕ} {a b d : Seen} {place middle place' : ℕ} → k
 passes_more {m = m} {n = n} {a = a} {b = b} {d = d} sum x y = record {
   bytes = x.bytes ++ y.bytes;
   counted = omega (arith, N.length-append x.bytes y.bytes);
-  takes = subst (λ j. N.Takes a d (x.bytes ++ y.bytes) j) (omega arith) (N.Takes-trans a b d _ _ m n (omega arith) x.takes y.takes);
+  takes = N.subst (λ j. N.Takes a d (x.bytes ++ y.bytes) j) (omega arith) (N.Takes-trans a b d _ _ m n (omega arith) x.takes y.takes);
   between = y.between;
   place_is = omega arith;
 }
@@ -124,7 +124,7 @@ cuts_more {m = m} {a = a} {b = b} {d = d} sum x y = record {
   own = y.own;
   fewer = omega (arith, N.length-append x.bytes y.bytes);
   ends = N.Ends-after a b d _ _ m _ x.takes y.ends;
-  stop_is = y.stop_is ∙ ap (λ j. N.began_at j y.own) (omega (arith, N.length-append x.bytes y.bytes));
+  stop_is = y.stop_is ∙ N.ap (λ j. N.began_at j y.own) (omega (arith, N.length-append x.bytes y.bytes));
 }
 
 -- a scalar cell whose value isn't refused was read
@@ -202,12 +202,12 @@ steps_of x = record { reads = N.reads_one _ _ _ _ _ _ x.next x.takes x.to; betwe
 module _ {c : Conversion} {size : ℕ} (any : AnyData c size) where
   -- a short value has whole units
   pub short_even : {a b : Seen} {place place' k : ℕ} {answer : Option ℕ}
-      → ((n : ℕ) × N.ReadsNumber 2 a b place place' n × (N.short_fault return_column size n ≡ None) × (answer ≡ N.short_length n)) → answer ≡ Some k
+      → ((n : ℕ) × N.ReadsNumber 2 a b place place' n × (N.short_fault return_column size n ≡ N.None) × (answer ≡ N.short_length n)) → answer ≡ N.Some k
       → k % size ≡ 0
   short_even x is = grind arith
 
   module _ {total : Option ℕ} {content : List ℕ} {sum n k place place' : ℕ} {a b : Seen} (counted : length content ≡ sum)
-      (x : N.ReadsNumber 4 a b place place' n) (free : N.chunk_length_fault return_column size total sum n ≡ None) (is : k ≡ n) where
+      (x : N.ReadsNumber 4 a b place place' n) (free : N.chunk_length_fault return_column size total sum n ≡ N.None) (is : k ≡ n) where
     -- the terminator was read
     pub end_steps : k ≡ 0 → StepsOver (ChunkLength c total content) (N.WholeCell (N.DataCell c content)) a b place place'
     end_steps ends = grind (arith, steps_of, chunk_end, counted, content)

@@ -1,6 +1,6 @@
 -- What bytes make by a grammar, and how a call that reads them and puts what they make goes from place to place.
 use Rattle.tds_rows.proofs.Words as N
-use Rattle.tds_rows.proofs.Words.{◌≡◌, ℕ, ◌+◌, ◌-◌, ◌^◌, ◌≤◌, Bool, List, [], ◌++◌, length, arith, Fault, Grammar, Option, seen, held, Writes}
+use Rattle.tds_rows.proofs.Words.{◌≡◌, ℕ, ◌+◌, ◌-◌, ◌^◌, ◌≤◌, List, [], ◌++◌, arith, Fault, Grammar, Option, Writes}
 use Rattle.tds_packet.specs.declared.payload.Payload.{Payload}
 
 -- where a reading stands: what the payload is seen to give, how many of its bytes were read, and what the sink holds
@@ -10,7 +10,7 @@ pub record At : Type 0 where
   pub held : N.Held
 
 abbrev pub at_of : {R W : Type 0} → (R → Option (List ℕ)) → (W → Option (List ℕ)) → Payload R → N.Sink W → At
-at_of remaining contents payload sink = record { seen = seen remaining payload; place = payload.place; held = held contents sink }
+at_of remaining contents payload sink = record { seen = N.seen remaining payload; place = payload.place; held = N.held contents sink }
 
 abbrev pub here : {R W : Type 0} → (R → Option (List ℕ)) → (W → Option (List ℕ)) → N.Rows R W → At
 here remaining contents rows = at_of remaining contents rows.payload.now rows.sink.now
@@ -20,9 +20,9 @@ pub record Path {S : Type 0} (g : Grammar S Fault) (text : S → List ℕ) (s : 
   pub bytes : List ℕ
   pub made : List ℕ
   pub writes : Writes g text s bytes made t
-  pub takes : N.Takes p.seen q.seen bytes (length bytes)
+  pub takes : N.Takes p.seen q.seen bytes (N.length bytes)
   pub puts : N.Puts p.held q.held made
-  pub place_is : q.place ≡ p.place + length bytes
+  pub place_is : q.place ≡ p.place + N.length bytes
 
 module _ {S : Type 0} {g : Grammar S Fault} {text : S → List ℕ} where
   pub writes_none : {s : S} → Writes g text s [] [] s
@@ -34,7 +34,7 @@ module _ {S : Type 0} {g : Grammar S Fault} {text : S → List ℕ} where
   abbrev pub streams_of : {s t : S} {p q : At} → Path g text s p q t → N.Streams g text s p.seen q.seen p.held q.held t
   streams_of x = record { bytes = x.bytes; spelt = x.writes.spelt; takes = x.takes; puts = (x.made, x.writes.text_is, x.puts) }
 
-  abbrev pub path_of : {s t : S} {p q : At} → (x : N.Streams g text s p.seen q.seen p.held q.held t) → q.place ≡ p.place + length x.bytes
+  abbrev pub path_of : {s t : S} {p q : At} → (x : N.Streams g text s p.seen q.seen p.held q.held t) → q.place ≡ p.place + N.length x.bytes
       → Path g text s p q t
   path_of x at = record {
     bytes = x.bytes;
@@ -59,7 +59,7 @@ module _ {S : Type 0} {g : Grammar S Fault} {text : S → List ℕ} where
   }
 
   -- a call that stops after one that doesn't
-  pub path_stops : {s t : S} {p q : At} {d : N.Seen} {j : N.Held} {failed : Bool} {stop : N.Stop} → Path g text s p q t
+  pub path_stops : {s t : S} {p q : At} {d : N.Seen} {j : N.Held} {failed : N.Bool} {stop : N.Stop} → Path g text s p q t
       → N.StopsStreaming g text t q.seen d q.place q.held j failed stop → N.StopsStreaming g text s p.seen d p.place p.held j failed stop
   path_stops {p = p} x y = N.streaming_after _ _ _ _ _ _ _ _ _ _ p.place _ _ (streams_of x) (rw x.place_is at y)
 

@@ -1,12 +1,6 @@
 -- The cells of a row, as they are read one after another and their text is put.
 use Rattle.tds_rows.proofs.Words as N
-use Rattle.tds_rows.proofs.{
-  Words.{◌≡◌, ◌∙◌, ℕ, ◌+◌, ◌^◌, ◌-◌, ◌<◌, ◌≤◌, Bool, false, List, [], ◌∷◌, ◌++◌, length, sym, ap, arith, append-nil, None, map, Kind, Stop, Seen, Column},
-  Words.{joined, Held, Charset, Cell, CellPart, WholeCell, cell, cell_start, field, cell_so_far, true, refl, Option, Some, opened},
-  Paths.At,
-  LineTexts.joined_snoc,
-  GrowingTexts.{Grows, OptionGrows, cell_grows, grows_all, grows_same, grows_trans, grows_under},
-}
+use Rattle.tds_rows.proofs.{Words.{◌≡◌, ◌∙◌, ℕ, ◌+◌, ◌^◌, ◌-◌, ◌<◌, ◌≤◌, Bool, false, List, [], ◌∷◌, ◌++◌, length, sym, ap, arith, append-nil, None, map, Kind, Stop, Seen, Column}, Words.{joined, Held, Charset, Cell, CellPart, WholeCell, cell, cell_start, field, cell_so_far, true, Some, opened}, Paths.At, LineTexts.joined_snoc, GrowingTexts.{Grows, OptionGrows, cell_grows, grows_all, grows_same, grows_trans}}
 
 -- A cell was read, of those whose text comes with the last element alone, and this is its text in its line.
 pub record ReadsCell (from : CellPart) (column : ℕ) (last : Bool) (old new : Seen) (place place' : ℕ) (text : List ℕ) : Type 0 where
@@ -138,8 +132,8 @@ nulls_ahead n ((k, true) ∷ ks) = N.in_line n (ends ks) N.null_field ++ nulls_a
 nulls_ahead n ((k, false) ∷ ks) = []
 
 pub none_ahead : (left : List Column) (n : ℕ) → nulls_ahead n (coming left n) ≡ []
-none_ahead [] n = refl
-none_ahead (c ∷ cs) n = refl
+none_ahead [] n = N.refl
+none_ahead (c ∷ cs) n = N.refl
 
 -- one more whole cell, and what is known of the text after it
 one_more : (cells : List Cell) (v : Cell) (ks : List (Column × Bool)) (text : List ℕ)
@@ -165,7 +159,7 @@ nulls_text charset cells ((k, false) ∷ ks) = grind (arith, append-nil)
 -- ---- a cell's text in its line
 
 module _ (column : ℕ) (last : Bool) where
-  opened_grows : (a b : Option (List ℕ)) → OptionGrows a b → Grows (opened column a) (opened column b)
+  opened_grows : (a b : N.Option (List ℕ)) → OptionGrows a b → Grows (opened column a) (opened column b)
   opened_grows None b h = grows_all _
   opened_grows (Some a) None h = absurd h
   opened_grows (Some a) (Some b) h = grind arith

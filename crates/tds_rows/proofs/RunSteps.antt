@@ -1,15 +1,6 @@
 -- The cells of a run, as they are written one after another.
 use Rattle.tds_rows.proofs.Words as N
-use Rattle.tds_rows.proofs.{
-  Words.{false, zero, suc, ◌≡◌, ◌∙◌, ℕ, ◌+◌, ◌-◌, ◌≤◌, ◌<◌, Bool, List, [], ◌∷◌, ◌++◌, length, take, drop, refl, sym, ap, subst, arith, Result, Ok, Err, true},
-  Words.{Stop, map, Option, held, Column, Charset, Cell, cell, cell_start, shape, PlainRow, row, row_so_far, Writes, WritesRows, after_cells, lines, rows},
-  Words.{rows_so_far, Kind, ◌^◌, inr},
-  CellSteps.fixed_some,
-  NullSteps.row_cell,
-  RowSteps.{coming, ends_marked, line_grows, none_ahead, quiet_text, start_quiet, PutsCell, StopsCell},
-  Paths.{At, writes_both, writes_inside, writes_none},
-  TableSteps.next_column,
-}
+use Rattle.tds_rows.proofs.{Words.{false, ◌≡◌, ◌∙◌, ℕ, ◌+◌, ◌-◌, ◌≤◌, ◌<◌, Bool, List, [], ◌∷◌, ◌++◌, length, take, drop, refl, sym, ap, arith, true, Stop, held, Column, Charset}, Words.{Cell, cell, cell_start, shape, PlainRow, row, row_so_far, Writes, WritesRows, after_cells, lines, rows, rows_so_far, Kind, ◌^◌}, NullSteps.row_cell, RowSteps.{coming, ends_marked, line_grows, none_ahead, quiet_text, start_quiet, PutsCell, StopsCell}, Paths.{At, writes_both, writes_inside, writes_none}, TableSteps.next_column}
 
 -- ---- cells of a row
 
@@ -69,7 +60,7 @@ fills_no_block h j piece stop few (sent, blocks, n, adds, most, least, less, who
 
 pub lines-append : (rs qs : List (List Cell)) → lines (rs ++ qs) ≡ lines rs ++ lines qs
 lines-append [] qs = refl
-lines-append (r ∷ rs) qs = ap (λ l. N.line (map N.field r) ++ l) (lines-append rs qs) ∙ sym (N.append_assoc (N.line (map N.field r)) (lines rs) (lines qs))
+lines-append (r ∷ rs) qs = ap (λ l. N.line (N.map N.field r) ++ l) (lines-append rs qs) ∙ sym (N.append_assoc (N.line (N.map N.field r)) (lines rs) (lines qs))
 
 -- some columns are to come, so no line ends there
 start_text : (token : N.RowToken) (charset : Charset) (columns : List Column) → 0 < length columns → row_so_far (N.token_start token charset columns) ≡ []
@@ -107,7 +98,7 @@ after_more : {bytes made : List ℕ} {v : Cell} (charset : Charset) (cells : Lis
     → Writes (row charset) row_so_far (after_cells charset cells (c ∷ left)) bytes made (after_cells charset (cells ++ v ∷ []) left)
 after_more {bytes = bytes} {made = made} {v = v} charset cells c left x =
     let n = length cells + 1 in
-    subst (λ (k : ℕ). Writes (row charset) row_so_far (after_cells charset cells (c ∷ left)) bytes made
+    N.subst (λ (k : ℕ). Writes (row charset) row_so_far (after_cells charset cells (c ∷ left)) bytes made
     (N.next_cell charset (cells ++ v ∷ []) (coming left k))) (sym (N.length-append cells (v ∷ [])))
     (row_cell _ _ _ c (none_ahead _ n) (rw (ends_marked _ (λ k. false) n) at x))
 
@@ -129,7 +120,7 @@ module _ {charset : Charset} {all : List Column} {cells : List Cell} {from : ℕ
       let z = rw (sym x.counted) at w.writes in
       let one = after_more charset x.more w.column w.left (cell_writes w.column.kind (shape charset w.column.kind) z) in
       let after = λ (l : List Column). after_cells charset (x.more ++ z.value ∷ []) l in
-      let next = subst (λ l. Writes (row charset) row_so_far (after_cells charset x.more (w.column ∷ w.left)) b q (after l))
+      let next = N.subst (λ l. Writes (row charset) row_so_far (after_cells charset x.more (w.column ∷ w.left)) b q (after l))
       (sym (next_column all at w.column w.left w.next).1.1) one in
       record {
         more = x.more ++ z.value ∷ [];
@@ -140,10 +131,10 @@ module _ {charset : Charset} {all : List Column} {cells : List Cell} {from : ℕ
   -- so many columns
   pub marked_cells : (n : ℕ) (b q : List ℕ) → length cells ≡ from → N.WritesMarked charset all (λ k. false) from n b q
       → WritesCells charset all cells from (from + n) b q
-  marked_cells zero b q counted w = rw (w.0, w.1, N.add-zero from) (record { more = cells; counted = counted; writes = writes_none })
-  marked_cells (suc n) b q counted w =
+  marked_cells N.zero b q counted w = rw (w.0, w.1, N.add-zero from) (record { more = cells; counted = counted; writes = writes_none })
+  marked_cells (N.suc n) b q counted w =
       let y = column_cells _ (marked_cells n _ _ counted w.6) w.7 in
-      let further : (from + n) + 1 ≡ from + suc n = omega arith in
+      let further : (from + n) + 1 ≡ from + N.suc n = omega arith in
       rw (w.4, w.5) (rw further at y)
 
 module _ {charset : Charset} {all : List Column} {cells : List Cell} {columns : List Column} {count : ℕ} where
@@ -230,16 +221,16 @@ whole_breaks {bytes = bytes} {a = a} {b = b} {h = h} {j = j} {stop = stop} chars
     let writes = cell_writes _ _ x in
     let broken = N.breaks_somewhere (cell column) (N.cell_so_far column last) (line_grows column last) _ a b h j stop between _ bytes rest _ writes.spelt
     (N.Takes-more a b (bytes ++ rest) 0 1 (omega arith) takes) few delivered writes.text_is breaks in
-    record { at = broken.0; cause = inr (broken.1, failed) }
+    record { at = broken.0; cause = N.inr (broken.1, failed) }
 
 -- it was put at once
-pub put_whole : {W U : Type 0} {column place' : ℕ} {last : Bool} {bytes text : List ℕ} (r : Result U Stop) (charset : Charset) (kind : Kind)
-    (a b : N.Seen) (place : ℕ) (contents : W → Option (List ℕ)) (old new : N.Sink W) → N.IsWriting old → N.IsBetween b
+pub put_whole : {W U : Type 0} {column place' : ℕ} {last : Bool} {bytes text : List ℕ} (r : N.Result U Stop) (charset : Charset) (kind : Kind)
+    (a b : N.Seen) (place : ℕ) (contents : W → N.Option (List ℕ)) (old new : N.Sink W) → N.IsWriting old → N.IsBetween b
     → N.WritesWhole (cell_start kind (shape charset kind)) column last bytes text → N.Takes a b bytes 0 → place' ≡ place + length bytes
     → N.PutsPiece contents old new text r
     → N.MatchResult r (λ _. PutsCell charset kind column last a b place place' (held contents old) (held contents new))
     (λ stop. StopsCell charset kind column last a b place (held contents old) (held contents new) new.failed stop)
-put_whole {bytes = bytes} (Ok u) charset kind a b place contents old new going between x takes at puts =
+put_whole {bytes = bytes} (N.Ok u) charset kind a b place contents old new going between x takes at puts =
     whole_puts _ _ _ _ _ _ _ _ x (N.Takes-more a b bytes 0 _ (omega arith) takes) at puts.gives
-put_whole (Err stop) charset kind a b place contents old new going between x takes at puts =
+put_whole (N.Err stop) charset kind a b place contents old new going between x takes at puts =
     whole_breaks _ _ _ _ [] x (rw N.append-nil takes) between (going.ready.1 going.writing) going.ready.2 (puts.gives going.writing) puts.failed

@@ -1,7 +1,7 @@
 -- Runs over the cells of a row: before the first, one alone, one run after another, and one over columns that aren't NULL by their bit.
 use Rattle.tds_rows.proofs.Words as N
 use Rattle.tds_rows.proofs.{
-  Words.{inl, inr, ◌≡◌, ◌∙◌, ℕ, zero, suc, ◌+◌, ◌-◌, ◌≤◌, ◌<◌, Bool, false, List, [], ◌++◌, length, take, drop, refl, sym, ap, subst, arith, Ahead, RunsMarked},
+  Words.{◌≡◌, ◌∙◌, ℕ, suc, ◌+◌, ◌-◌, ◌≤◌, ◌<◌, Bool, false, List, [], ◌++◌, take, drop, refl, sym, ap, arith, Ahead, RunsMarked},
   RunSteps.{made_more, used_more},
 }
 
@@ -13,7 +13,7 @@ module _ (charset : N.Charset) (columns : List N.Column) where
   -- so many columns, and then so many more
   marked_both : (nulls : ℕ → Bool) (from n m : ℕ) (a b p q : List ℕ) → N.WritesMarked charset columns nulls from n a p
       → N.WritesMarked charset columns nulls (from + n) m b q → N.WritesMarked charset columns nulls from (n + m) (a ++ b) (p ++ q)
-  marked_both nulls from n zero a b p q x y = grind (arith, N.append-nil)
+  marked_both nulls from n N.zero a b p q x y = grind (arith, N.append-nil)
   marked_both nulls from n (suc m) a b p q x y =
       let at : (from + n) + m ≡ from + (n + m) = omega arith in
       let counted : suc _ ≡ n + suc m = omega arith in
@@ -31,10 +31,10 @@ module _ (charset : N.Charset) (columns : List N.Column) where
   -- columns whose bits are clear
   pub marked_clear : (nulls : ℕ → Bool) (from n : ℕ) (bytes text : List ℕ) → ((k : ℕ) → from ≤ k → k < from + n → nulls k ≡ false)
       → N.WritesMarked charset columns none_null from n bytes text → N.WritesMarked charset columns nulls from n bytes text
-  marked_clear nulls from zero bytes text clear x = x
+  marked_clear nulls from N.zero bytes text clear x = x
   marked_clear nulls from (suc n) bytes text clear x =
       let last = x.7 in
-      let writes = subst (λ e. N.WritesNext charset e last.column.kind (from + n) (N.is_last_column last.left) x.1 x.3)
+      let writes = N.subst (λ e. N.WritesNext charset e last.column.kind (from + n) (N.is_last_column last.left) x.1 x.3)
       (sym (clear (from + n) (omega arith) (omega arith))) last.writes in
       let one : N.WritesColumn charset columns nulls (from + n) x.1 x.3 =
       record { column = last.column; left = last.left; next = last.next; writes = writes } in
@@ -71,9 +71,9 @@ module _ {table : N.Table} {columns : List N.Column} {nulls : ℕ → Bool} {fro
   runs_clear clear x = grind (arith, marked_clear)
 
   -- more cells, in the bytes that are left and after what was made
-  pub runs_more : (at : Ahead) (used u made m : ℕ) (bytes text new rest : List ℕ) → made ≤ length text → m ≤ length new
+  pub runs_more : (at : Ahead) (used u made m : ℕ) (bytes text new rest : List ℕ) → made ≤ N.length text → m ≤ N.length new
       → RunsMarked table columns nulls from at (take used bytes) (take made text)
-      → RunsMarked table columns nulls at to (take u (take (length bytes - used) (drop used bytes))) (take m new)
+      → RunsMarked table columns nulls at to (take u (take (N.length bytes - used) (drop used bytes))) (take m new)
       → RunsMarked table columns nulls from to (take (used + u) bytes) (take (made + m) (take made text ++ (new ++ rest)))
   runs_more at used u made m bytes text new rest within some x y = record {
     count = x.count + y.count;
@@ -86,4 +86,4 @@ module _ {table : N.Table} {columns : List N.Column} {nulls : ℕ → Bool} {fro
 pub ends_clear : (table : N.Table) (nulls : ℕ → Bool) (at : Ahead) (bytes : List ℕ) (room : ℕ) → nulls at.column ≡ false → N.RunEnds table at bytes room
     → N.EndsLeft table nulls at bytes room
 ends_clear table nulls at bytes room clear x =
-    λ columns column left knows ahead next. elim (x columns column left knows ahead next) [ inl few ↦ inl few | inr y ↦ inr (clear, y.1) ]
+    λ columns column left knows ahead next. elim (x columns column left knows ahead next) [ N.inl few ↦ N.inl few | N.inr y ↦ N.inr (clear, y.1) ]

@@ -1,8 +1,8 @@
 -- A call that reads what comes whole stops only where a device fails.
 use Rattle.tds_rows.proofs.Words as N
 use Rattle.tds_rows.proofs.{
-  Words.{◌≡◌, ◌∙◌, inl, inr, ℕ, ◌+◌, ◌<◌, Bool, List, [], ◌∷◌, ◌++◌, length, take, refl, sym, ap, subst, arith, Result, Ok, Err, Option, Some, None},
-  Words.{if◌then◌else◌, nat_tests, Rose, Fault, Stop, before, Grammar, Spelt, Seen, Cell, Brings},
+  Words.{◌≡◌, ◌∙◌, inl, inr, ℕ, ◌+◌, ◌<◌, List, [], ◌∷◌, ◌++◌, length, refl, sym, ap, arith, Ok, Err, Option, Some, if◌then◌else◌, Rose, Fault, Stop},
+  Words.{before, Grammar, Spelt, Seen, Cell, Brings},
   CellLaws.cell_is_read,
   RowLaws.{nbc_row_is_read, row_is_read, shape-HasBytes},
   RunSteps.{row_token, row_among_rows},
@@ -38,7 +38,7 @@ module _ {S : Type 0} (g : Grammar S Fault) (from to : S) (a b : Seen) (front mo
       let refused : N.IsRefused g at rest fault = record {
         some = omega arith;
         whole = omega (arith, N.length-append e (x.ahead ++ c.0));
-        first = ap (λ k. g.fault at (take k rest)) (sym whole) ∙ ap (g.fault at) (N.take-append_seam e _) ∙ x.first;
+        first = ap (λ k. g.fault at (N.take k rest)) (sym whole) ∙ ap (g.fault at) (N.take-append_seam e _) ∙ x.first;
       } in
       (N.one_longest g _ _ _ _ _ _ (rw (← all) at (N.longest_refused g _ _ _ _ _ spelt refused)) last).1
 
@@ -69,21 +69,21 @@ none_stops_reading {stop = stop} g from to front more brings spelt none reads x 
     omega (arith, ap g.size there)
 
 -- a call that reads whole elements to a state at which nothing follows, and puts their text, doesn't stop
-pub none_stops : {S : Type 0} {a b : Seen} {place : ℕ} {h i : N.Held} {failed : Bool} {stop : Stop} (g : Grammar S Fault) (text : S
+pub none_stops : {S : Type 0} {a b : Seen} {place : ℕ} {h i : N.Held} {failed : N.Bool} {stop : Stop} (g : Grammar S Fault) (text : S
     → List ℕ) (from to : S) (front more : List ℕ) → Brings a (front ++ more) → Spelt g from front to → g.size to ≡ 0
     → (Rose a.failures b.failures → ⊥) → (Rose h.failures i.failures → ⊥) → N.StopsStreaming g text from a b place h i failed stop → ⊥
 none_stops g text from to front more brings spelt none reads writes x = elim x.cause [
   | inl y ↦ none_stops_reading g _ _ _ _ brings spelt none reads y.0
   | inr y ↦
       (let z = y.0 in
-      writes (subst (Rose _) (sym (z.breaks.9.0 ∙ ap N.one_more z.puts.2.4.0)) (rose _)))
+      writes (N.subst (Rose _) (sym (z.breaks.9.0 ∙ ap N.one_more z.puts.2.4.0)) (rose _)))
 ]
 
 -- ---- the calls
 
 -- one that reads to such a state and puts the text succeeds
 pub streaming_succeeds : {S R W U : Type 0} {from to : S} {bytes : List ℕ} (g : Grammar S Fault) (text : S → List ℕ) (remaining : R
-    → Option (List ℕ)) (contents : W → Option (List ℕ)) (old new : Payload R) (sink sink' : N.Sink W) (result : Result U Stop) (more : List ℕ) (P : U
+    → Option (List ℕ)) (contents : W → Option (List ℕ)) (old new : Payload R) (sink sink' : N.Sink W) (result : N.Result U Stop) (more : List ℕ) (P : U
     → Type 0)
     → N.MatchResult result P (λ stop. N.StopsStreaming g text from (N.seen remaining old) (N.seen remaining new) old.place (N.held contents sink)
     (N.held contents sink') sink'.failed stop) → Spelt g from bytes to → g.size to ≡ 0
@@ -92,7 +92,7 @@ streaming_succeeds g text remaining contents old new sink sink' (Ok x) more P pu
 streaming_succeeds g text remaining contents old new sink sink' (Err stop) more P put spelt none =
     λ brings reads writes. absurd (none_stops _ _ _ _ _ more brings spelt none reads writes put)
 
-pub value_passes : {R U : Type 0} (remaining : R → Option (List ℕ)) (kind : N.Kind) (old new : Payload R) (result : Result U Stop) (value : Cell)
+pub value_passes : {R U : Type 0} (remaining : R → Option (List ℕ)) (kind : N.Kind) (old new : Payload R) (result : N.Result U Stop) (value : Cell)
     (bytes more : List ℕ)
     → N.CellPassed remaining (N.cell_start kind (N.shape N.return_charset kind)) old new result → N.SpellsCell kind (N.shape N.return_charset kind) value bytes
     → N.ReadsOn remaining old new result (bytes ++ more)
@@ -143,9 +143,9 @@ module _ (token : N.RowToken) (charset : N.Charset) (columns : List N.Column) (s
       → N.Longest all_rows from (front ++ more) (length front) (among earlier (N.WholeRow last))
   longest_rows from earlier last front [] spelt none = N.longest_cut _ _ _ _ _ spelt (omega arith)
   longest_rows from earlier last front (byte ∷ more) spelt none = N.longest_refused _ _ _ _ _ _ spelt
-      (record { some = omega arith; whole = omega arith; first = ap (λ b. if b then None else Some (N.RefusedToken byte)) none })
+      (record { some = omega arith; whole = omega arith; first = ap (λ b. if b then N.None else Some (N.RefusedToken byte)) none })
 
-  rows_stop_not : {a b : Seen} {place : ℕ} {h i : N.Held} {failed : Bool} {stop : Stop} (first : List Cell) (later : List (List Cell))
+  rows_stop_not : {a b : Seen} {place : ℕ} {h i : N.Held} {failed : N.Bool} {stop : Stop} (first : List Cell) (later : List (List Cell))
       (front more : List ℕ) → Brings a (front ++ more) → N.SpellsRows token charset columns first later front → N.BeginNoRow token more
       → (Rose a.failures b.failures → ⊥) → (Rose h.failures i.failures → ⊥) → N.RowsStop token charset columns a b place h i failed stop → ⊥
   rows_stop_not {place = place} {stop = stop} first later front more brings spelt none reads writes x = elim x.stops.cause [
@@ -161,11 +161,11 @@ module _ (token : N.RowToken) (charset : N.Charset) (columns : List N.Column) (s
         omega (arith, ap (N.row charset).size (ap (λ p. p.at) same)))
     | inr y ↦
         (let z = y.0 in
-        writes (subst (Rose _) (sym (z.breaks.9.0 ∙ ap N.one_more (z.puts.2.4.0 ∙ x.streams.puts.2.4.0))) (rose _)))
+        writes (N.subst (Rose _) (sym (z.breaks.9.0 ∙ ap N.one_more (z.puts.2.4.0 ∙ x.streams.puts.2.4.0))) (rose _)))
   ]
 
   pub rows_succeed : {R W : Type 0} (remaining : R → Option (List ℕ)) (contents : W → Option (List ℕ)) (old new : Payload R) (before after : N.Sink W)
-      (result : Result ℕ Stop) (first : List Cell) (later : List (List Cell)) (bytes more : List ℕ)
+      (result : N.Result ℕ Stop) (first : List Cell) (later : List (List Cell)) (bytes more : List ℕ)
       → N.RowsRead remaining contents token charset columns old new before after result → N.SpellsRows token charset columns first later bytes
       → N.BeginNoRow token more → N.SucceedsOn remaining old new before after result (bytes ++ more)
   rows_succeed remaining contents old new before after (Ok n) first later bytes more read spelt none = λ brings reads writes. refl

@@ -1,12 +1,9 @@
 -- The forms of the next columns of a row, as a table gives them.
 use Rattle.tds_rows.proofs.Words as N
-use Rattle.tds_rows.proofs.{
-  Words.{◌≡◌, ◌∙◌, inl, inr, ℕ, ◌+◌, ◌<◌, ◌≤◌, Bool, false, List, ◌∷◌, length, take, drop, refl, sym, ap, arith, ◌⊎◌, ◌==◌, map, drop_more, Column, Form},
-  FormSteps.some_first,
-}
+use Rattle.tds_rows.proofs.{Words.{◌≡◌, ◌∙◌, inl, ℕ, ◌+◌, ◌<◌, ◌≤◌, List, ◌∷◌, take, drop, sym, ap, arith, ◌⊎◌, ◌==◌, Column, Form}, FormSteps.some_first}
 
 -- those that a table knows, from a place in a row on
-pub known_ahead : (table : N.Table) (at : N.Ahead) (end : ℕ) (n : ℕ) → N.AreLaidOut table.charset table.forms → table.known ≤ length table.forms → 0 < n
+pub known_ahead : (table : N.Table) (at : N.Ahead) (end : ℕ) (n : ℕ) → N.AreLaidOut table.charset table.forms → table.known ≤ N.length table.forms → 0 < n
     → at.column + n ≤ end → at.column + n ≤ table.known → table.known ≤ table.count → N.AreAhead table at end (take n (drop at.column table.forms))
 known_ahead table at end n laid fits some within known few =
     let k = at.column in
@@ -18,10 +15,10 @@ known_ahead table at end n laid fits some within known few =
       known = inl (omega arith);
       next = λ columns knows ahead.
           let first =
-          ap (map (λ f. f.kind)) (sym (N.take-take _ _ _ known)) ∙ sym (N.take-map (λ f. f.kind) _ _) ∙ ap (take _) knows.first
+          ap (N.map (λ f. f.kind)) (sym (N.take-take _ _ _ known)) ∙ sym (N.take-map (λ f. f.kind) _ _) ∙ ap (take _) knows.first
           ∙ N.take-map (λ c. c.kind) _ _ ∙ ap N.kinds (N.take-take _ _ columns known) in
           let forms_are =
-          ap (map (λ f. f.kind)) (sym (N.drop-take k n _)) ∙ sym (N.drop-map (λ f. f.kind) k _) ∙ ap (drop k) first ∙ N.drop-map (λ c. c.kind) k _
+          ap (N.map (λ f. f.kind)) (sym (N.drop-take k n _)) ∙ sym (N.drop-map (λ f. f.kind) k _) ∙ ap (drop k) first ∙ N.drop-map (λ c. c.kind) k _
           ∙ ap N.kinds (N.drop-take k n columns) in
           forms_are ∙ ap (λ m. N.kinds (take m (drop k columns))) (sym len);
     }
@@ -40,26 +37,26 @@ module _ (table : N.Table) (from : N.Ahead) (end : ℕ) (forms : List Form) (wit
       → N.NextColumn columns from form.kind
   first_next form rest are columns knows is = grind arith
 
-  module _ (ends : Bool) (end_is : ends ≡ (from.column + length forms == table.count)) where
+  module _ (ends : N.Bool) (end_is : ends ≡ (from.column + N.length forms == table.count)) where
     -- what was written by them is between two places of the row
     pub forms_between : (columns : List Column) → N.Knows table columns → N.IsAhead table columns from
         → (to : N.Ahead) (bytes text : List ℕ) (run : N.FormsRun) → to.column ≡ from.column + run.cells → N.IsAhead table columns to
         → N.FormsWritten table.charset forms from.column ends bytes text run
-        → N.RunsMarked table columns (λ k. false) from to (take run.used bytes) (take run.made text)
+        → N.RunsMarked table columns (λ k. N.false) from to (take run.used bytes) (take run.made text)
     forms_between columns knows is to bytes text run further there x = grind (arith, N.length-drop, N.nat_tests)
 
   -- the first was left
   pub first_left : (bytes : List ℕ) (room : ℕ) → N.FirstLeft table.charset forms bytes room
       → (columns : List Column) (column : Column) (left : List Column) → N.Knows table columns → N.IsAhead table columns from
       → drop from.column columns ≡ column ∷ left
-      → (room < N.CELL_ROOM) ⊎ ((false ≡ false) × N.IsLeft table.charset column.kind bytes room)
+      → (room < N.CELL_ROOM) ⊎ ((N.false ≡ N.false) × N.IsLeft table.charset column.kind bytes room)
   first_left bytes room x columns column left knows is step =
       let first = some_first _ ahead.some in
       let n = first_next _ _ first.2 columns knows is in
       elim (x first.0 first.1 first.2) [
         | inl few ↦ inl few
-        | inr y ↦ inr (
-          refl,
+        | N.inr y ↦ N.inr (
+          N.refl,
           rw (n.kind ∙ ap (λ r. (N.get_or r 0 column).kind) (sym n.next ∙ step)) at y,
         )
       ]

@@ -1,8 +1,7 @@
 -- Runs of cells over the columns that a table knows: more cells after those that were written.
 use Rattle.tds_rows.proofs.Words as N
 use Rattle.tds_rows.proofs.{
-  Words.{arith, false, [], ◌∷◌, ◌≡◌, ◌∙◌, ap, refl, ℕ, ◌+◌, ◌-◌, ◌<◌, ◌≤◌, List, ◌++◌, length, take, drop, sym, Column, Ahead, RowsRan, Table, Cell, ◌^◌, inr},
-  Words.{Bool},
+  Words.{arith, false, [], ◌∷◌, ◌≡◌, ◌∙◌, ap, ℕ, ◌+◌, ◌-◌, ◌<◌, ◌≤◌, List, ◌++◌, length, take, drop, Column, Ahead, RowsRan, Table, Cell, ◌^◌},
   GrowingTexts.row_grows,
   Paths.At,
   TableSteps.none_next,
@@ -23,13 +22,13 @@ rows_begin = grind (arith, rows_none)
 -- the token byte of a ROW is next
 begins_at : (used : ℕ) (bytes : List ℕ) → N.BeginsRow (take (length bytes - used) (drop used bytes)) → (used < length bytes)
     × (N.get_or bytes used 0 ≡ 0xD1)
-begins_at used bytes begins = go _ refl
+begins_at used bytes begins = go _ N.refl
   where
     go : (rest : List ℕ) → drop used bytes ≡ rest → (used < length bytes) × (N.get_or bytes used 0 ≡ 0xD1)
     go [] e = absurd (rw (N.all_after bytes used, e) at begins)
     go (byte ∷ rest) e =
         let within : used < length bytes = omega (arith, N.length-drop used bytes, ap length e) in
-        (within, ap (λ l. N.get_or l 0 0) (sym (N.drop_more bytes used 0 within) ∙ e) ∙ (rw (N.all_after bytes used, e) at begins))
+        (within, ap (λ l. N.get_or l 0 0) (N.sym (N.drop_more bytes used 0 within) ∙ e) ∙ (rw (N.all_after bytes used, e) at begins))
 
 -- one row more, after its token byte
 pub row_begun : {table : Table} {from start : Ahead} {bytes to : List ℕ} {run : N.RowsRun} → 0 < table.count → table.count ≤ run.ahead.column
@@ -101,7 +100,7 @@ marked_rows {p = p} {q = q} x =
     (ran.0, λ charset cells set is. runs_rows (ran.1 charset cells set is) (N.Takes-more p.seen q.seen x.bytes 0 _ (omega arith) x.takes) x.puts x.place_is)
 
 -- a write of their text failed, in the row that the run began in
-pub run_breaks : {table : Table} {columns : List Column} {from : Ahead} {a b : N.Seen} {h j : N.Held} {place : ℕ} {failed : Bool}
+pub run_breaks : {table : Table} {columns : List Column} {from : Ahead} {a b : N.Seen} {h j : N.Held} {place : ℕ} {failed : N.Bool}
     {stop : N.Stop} (cells : List Cell) → N.BreaksMarked table columns (λ k. false) from a b h j failed stop → length cells ≡ from.column
     → length h.waiting < 4096 → h.delivered ≤ 2 ^ 64 - 1
     → N.RowStops table.charset (N.after_cells table.charset cells (drop from.column columns)) a b place h j failed stop
@@ -109,7 +108,7 @@ run_breaks {table = table} {a = a} {b = b} {h = h} {j = j} {stop = stop} cells y
     let x = marked_cells {charset = table.charset} {cells = cells} y.runs.count y.bytes _ counted y.runs.writes in
     let broken = N.breaks_somewhere (N.row table.charset) N.row_so_far (row_grows table.charset) _ a b h j stop y.between _ y.bytes [] _ x.writes.spelt
     (rw N.append-nil (N.Takes-more a b y.bytes 0 1 (omega arith) y.takes)) few delivered x.writes.text_is y.breaks in
-    record { at = broken.0; cause = inr (broken.1, y.failed_is) }
+    record { at = broken.0; cause = N.inr (broken.1, y.failed_is) }
 
 -- what stands after what was made may be another
 pub rows_kept : {table : Table} {from : Ahead} {bytes to : List ℕ} {run : N.RowsRun} (new : List ℕ) → length new ≡ length to

@@ -1,10 +1,10 @@
 -- A table of columns, column by column.
-use Rattle.tds_columns.specs.declared.walk.Column as walks
 use Rattle.tds_rows.proofs.Words as N
 use Rattle.tds_rows.proofs.{
-  Words.{◌≡◌, ◌⊎◌, ◌∙◌, ℕ, true, false, ◌+◌, ◌≤◌, ◌<◌, List, [], ◌∷◌, length, take, drop, get_or, refl, sym, ap, arith, map, ◌==◌, Option, Kind, Column},
-  Words.{eq_false, columns_left, Ahead, Form, IsAhead},
+  Words.{◌≡◌, ◌⊎◌, ◌∙◌, ℕ, ◌+◌, ◌≤◌, ◌<◌, List, [], ◌∷◌, length, take, drop, get_or, sym, ap, arith, map, ◌==◌, Kind, Column, columns_left, Ahead, Form},
+  Words.IsAhead,
 }
+use Rattle.tds_columns.specs.declared.walk.Column as walks
 
 -- what is ahead begins with the next column
 pub next_column : (columns : List Column) (k : ℕ) (c : Column) (rest : List Column) → drop k columns ≡ c ∷ rest → (k < length columns)
@@ -63,7 +63,7 @@ module _ {table : N.Table} {columns : List Column} {old new : Ahead} (knows : N.
       }
 
 -- what a walk leaves after its next column
-pub walk_after : (walk new : N.Walk) (column : Option walks.Column) → N.YieldsFirstBy N.column_value columns_left walk column new
+pub walk_after : (walk new : N.Walk) (column : N.Option walks.Column) → N.YieldsFirstBy N.column_value columns_left walk column new
     → columns_left new ≡ drop 1 (columns_left walk)
 walk_after walk new column y = grind arith
 
@@ -73,7 +73,7 @@ pub takes : (table : N.Table) (columns : List Column) (old new : Ahead) (kind : 
 takes table columns old new kind x further ahead = grind (arith, next_column)
 
 -- a place in a row that isn't at its end is before it
-pub not_end : (columns : List Column) (k n : ℕ) → n ≡ length columns → k ≤ length columns → (k == n) ≡ false → k < n
+pub not_end : (columns : List Column) (k n : ℕ) → n ≡ length columns → k ≤ length columns → (k == n) ≡ N.false → k < n
 not_end columns k n whole within isnt = grind arith
 
 -- a column is the last one where as many as there are lie before what is after it
@@ -96,14 +96,14 @@ next_any columns at n whole some =
         column = column;
         rest = drop (at.column + 1) columns;
         next = N.drop_more columns at.column c (omega arith);
-        kind = refl;
+        kind = N.refl;
       },
     )
 
 -- as many lie before where the place is the row's end
-pub all_before : (k n : ℕ) → true ≡ (k == n) → n ≤ k
+pub all_before : (k n : ℕ) → N.true ≡ (k == n) → n ≤ k
 all_before k n is = omega (arith, N.eq_true k n (sym is))
 
 -- none is next at the row's end
-pub at_end : (columns : List Column) (k n : ℕ) → n ≡ length columns → (k == n) ≡ true → drop k columns ≡ []
+pub at_end : (columns : List Column) (k n : ℕ) → n ≡ length columns → (k == n) ≡ N.true → drop k columns ≡ []
 at_end columns k n whole is = none_next columns k n whole (omega (arith, N.eq_true k n is))

@@ -1,6 +1,7 @@
 use Rattle.tds_rows.proofs.rows.Rows.nbc_row.Goals as goal
+use Rattle.tds_rows.proofs.Words as N
 use Rattle.tds_rows.proofs.{
-  Words.{common_steps, ℕ, ◌<◌, List, length, refl, sym, arith, rules, ◌∙◌, ◌≡◌, ap, ◌++◌, passed, passed_on, Space, LeavesRows, bitmap_length},
+  Words.{◌<◌, length, refl, sym, arith, ◌∙◌, ◌≡◌, ap, ◌++◌},
   NextSteps.{next_nears, next_stops, run_near, run_stops, leaves_after, stays_after, stays_on},
   NullSteps.{all_put, bitmap_cut, bitmap_nears, row_ends},
 }
@@ -9,7 +10,7 @@ pub returns-in_err-take_into-clause-row : goal.returns-in_err-take_into-clause-r
 returns-in_err-take_into-clause-row g c = λ columns known.
     let sink = c.requires.some.in_row.sink in
     let x = c.in_err-take_into.ensures.gives c.requires.some.in_row.payload.going in
-    passed _ _ _ _ c.from_residual.ensures.1 (rw sink.writing
+    N.passed _ _ _ _ c.from_residual.ensures.1 (rw sink.writing
     (bitmap_cut _ x.part x.own (omega arith) x.ends x.stop_is
     sink.ready.2))
 
@@ -18,8 +19,8 @@ loop-at-init g c =
     let old = c.args.self.now in
     let sink = c.requires.some.in_row.sink in
     let x = c.in_ok-take_into.ensures.gives in
-    let bytes : c.take_into.new.area.bytes ≡ x.element = ap (λ (s : Space). s.bytes) x.stands
-    ∙ ap (λ (l : List ℕ). l ++ x.element) c.requires.awaits.empty in
+    let bytes : c.take_into.new.area.bytes ≡ x.element = ap (λ (s : N.Space). s.bytes) x.stands
+    ∙ ap (λ (l : N.List N.ℕ). l ++ x.element) c.requires.awaits.empty in
     record {
       stays = record {
         in_row = record {
@@ -35,8 +36,8 @@ loop-at-init g c =
       knows = c.requires.some.knows;
       fits = omega (arith, ap length bytes, x.whole, c.bitmap_size.ensures.value, c.count.ensures);
       reads = λ columns knows.
-          let whole : length x.element ≡ bitmap_length (length columns) = x.whole ∙ c.bitmap_size.ensures.value
-          ∙ ap bitmap_length (c.count.ensures ∙ knows.counted) in
+          let whole : length x.element ≡ N.bitmap_length (length columns) = x.whole ∙ c.bitmap_size.ensures.value
+          ∙ ap N.bitmap_length (c.count.ensures ∙ knows.counted) in
           let some : 0 < length columns = omega (arith, c.requires.some.knows.2, knows.counted) in
           let taken = rw (sym x.whole) at x.takes in
           let near = bitmap_nears columns x.element some whole taken x.between (sink.ready.1 sink.writing) sink.ready.2
@@ -51,10 +52,10 @@ returns-in_err-at-clause-row g c = λ columns known.
     let near = l.invariant.reads columns knows in
     let stops = run_stops g.R.Read.remaining g.W.Write.contents columns _ _ _ c.put_nulls.new.self l.invariant.stays.in_row
     (rw c.bytes.ensures.value at (c.in_err-at.ensures.cells columns knows near.0)) near in
-    passed _ _ _ _ c.from_residual-in_err-at.ensures.1 (rw l.invariant.stays.same.3 at stops)
+    N.passed _ _ _ _ c.from_residual-in_err-at.ensures.1 (rw l.invariant.stays.same.3 at stops)
 
 pub returns-in_err-at-clause-leaves : goal.returns-in_err-at-clause-leaves
-returns-in_err-at-clause-leaves g c = grind (arith, common_steps, leaves_after)
+returns-in_err-at-clause-leaves g c = grind (arith, N.common_steps, leaves_after)
 
 pub put_next-requires : goal.put_next-requires
 put_next-requires g c =
@@ -78,11 +79,11 @@ returns-in_err-put_next-clause-row g c = λ columns known.
     let is = rw c.bytes-in-loop-at.ensures.value at (sym c.is_null-null.ensures) in
     let stops = next_stops g.R.Read.remaining g.W.Write.contents c.put_nulls.new.self c.put_next.new.self _ there taken _ _ kept.in_row near _ _ _ is
     c.in_err-put_next.ensures.cell in
-    passed _ _ _ _ c.from_residual-in_err-put_next.ensures.1 (rw (kept.same.3 ∙ l.invariant.stays.same.3) at stops)
+    N.passed _ _ _ _ c.from_residual-in_err-put_next.ensures.1 (rw (kept.same.3 ∙ l.invariant.stays.same.3) at stops)
 
 pub returns-in_err-put_next-clause-leaves : goal.returns-in_err-put_next-clause-leaves
 returns-in_err-put_next-clause-leaves g c =
-    passed_on _ _ (λ r. LeavesRows c.args.self.now c.put_next.new.self r) c.from_residual-in_err-put_next.ensures.1
+    N.passed_on _ _ (λ r. N.LeavesRows c.args.self.now c.put_next.new.self r) c.from_residual-in_err-put_next.ensures.1
     (leaves_after (stays_on c.loop-at.invariant.stays (stays_after c.loop-at.invariant.stays.in_row c.in_ok-at.ensures.leaves))
     c.in_err-put_next.ensures.leaves)
 

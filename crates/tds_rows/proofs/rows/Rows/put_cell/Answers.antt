@@ -1,20 +1,16 @@
 use Rattle.tds_rows.proofs.rows.Rows.put_cell.Goals as goal
-use Rattle.tds_rows.proofs.{
-  Words.{◌≡◌, ◌∙◌, ◌+◌, ◌≤◌, ap, length, sym, take, arith, rules, length-take, buffered, long_start, cell_start, shape, shape_of_layout, conversion_of},
-  Words.{Chunked, Short},
-  RunSteps.put_whole,
-  TableSteps.last_one,
-}
+use Rattle.tds_rows.proofs.Words as N
+use Rattle.tds_rows.proofs.{Words.{◌≡◌, ◌∙◌, ◌+◌, ◌≤◌, ap, sym}, RunSteps.put_whole, TableSteps.last_one}
 
 pub returns-in-Some : goal.returns-in-Some
 returns-in-Some g c =
     let old = c.args.self.now in
     let n = c.in-Some.cell.used in
-    let lies : n ≤ length (buffered old.payload.now) = search (arith, rules) in
-    let at : c.consume.new.self.place ≡ old.payload.now.place + length (take n (buffered old.payload.now)) =
-    omega (arith, ap (λ p. p.place) c.consume.ensures.rest, length-take n (buffered old.payload.now)) in
+    let lies : n ≤ N.length (N.buffered old.payload.now) = search (N.arith, N.rules) in
+    let at : c.consume.new.self.place ≡ old.payload.now.place + N.length (N.take n (N.buffered old.payload.now)) =
+    omega (N.arith, ap (λ p. p.place) c.consume.ensures.rest, N.length-take n (N.buffered old.payload.now)) in
     record {
-      leaves = search (arith, rules);
+      leaves = search (N.arith, N.rules);
       cell = λ last next.
           let end = last_one _ _ _ _ _ next.knows.counted next.next ∙ sym next.last in
           let alone = rw (end, c.buffered.ensures) at c.in-Some.ensures.cell in
@@ -29,8 +25,8 @@ returns-in-Short g c = record {
   cell = λ last next.
       let kind = c.args.form.now.kind in
       let end = c.is_last-last.ensures ∙ last_one _ _ _ _ _ next.knows.counted next.next ∙ sym next.last in
-      let start : long_start (conversion_of c.in-Short.content) Short ≡ cell_start kind (shape c.args.self.now.table.now.charset kind) =
-      sym (ap (cell_start kind) (c.requires.laid ∙ ap shape_of_layout c.in-Short.is)) in
+      let start : N.long_start (N.conversion_of c.in-Short.content) N.Short ≡ N.cell_start kind (N.shape c.args.self.now.table.now.charset kind) =
+      sym (ap (N.cell_start kind) (c.requires.laid ∙ ap N.shape_of_layout c.in-Short.is)) in
       rw start at (rw end at c.put_joined.ensures.field);
 }
 
@@ -40,7 +36,7 @@ returns-in-Chunked g c = record {
   cell = λ last next.
       let kind = c.args.form.now.kind in
       let end = c.is_last-last.ensures ∙ last_one _ _ _ _ _ next.knows.counted next.next ∙ sym next.last in
-      let start : long_start (conversion_of c.in-Chunked.content) Chunked ≡ cell_start kind (shape c.args.self.now.table.now.charset kind) =
-      sym (ap (cell_start kind) (c.requires.laid ∙ ap shape_of_layout c.in-Chunked.is)) in
+      let start : N.long_start (N.conversion_of c.in-Chunked.content) N.Chunked ≡ N.cell_start kind (N.shape c.args.self.now.table.now.charset kind) =
+      sym (ap (N.cell_start kind) (c.requires.laid ∙ ap N.shape_of_layout c.in-Chunked.is)) in
       rw start at (rw end at c.put_joined-in-Chunked.ensures.field);
 }

@@ -1,7 +1,6 @@
-use Rattle.tds_rows.proofs.rows.Rows.put_made.Goals as goal
-use Rattle.tds_rows.proofs.Words.{arith, rules, passed, buffered, take}
+use Rattle.tds_rows.proofs.Words.{arith, passed, buffered, take}
 
-pub returns-in_err-put-clause-run : goal.returns-in_err-put-clause-run
+pub returns-in_err-put-clause-run : Rattle.tds_rows.proofs.rows.Rows.put_made.Goals.returns-in_err-put-clause-run
 returns-in_err-put-clause-run g c = λ nulls from writes.
     let sink = c.requires.in_row.sink in
     record {

@@ -1,5 +1,4 @@
-use Rattle.tds_rows.proofs.table.Table.forms.Goals as goal
 use Rattle.tds_rows.proofs.{Words.{arith}, TableForms.known_ahead}
 
-pub returns : goal.returns
+pub returns : Rattle.tds_rows.proofs.table.Table.forms.Goals.returns
 returns c = grind (arith, known_ahead)
