@@ -65,7 +65,7 @@ module _ (charset : N.Charset) (kind : Kind) (column : ℕ) (last : Bool) (bytes
   -- NULL at the front of these bytes
   pub null_cell : (start : ℕ) → start ≡ N.value_start kind → N.value_length kind bytes ≡ 0 → start + 0 ≤ length bytes
       → text ≡ N.in_line column last N.null_field → WritesCell (N.cell_start kind (shape charset kind)) column last (take (start + 0) bytes) text
-  null_cell start at none within is = grind (arith, null_written, scalar_shape)
+  null_cell start at none within is = grind (arith, null_written)
 
   -- a value there
   pub value_cell : (start n : ℕ) → start ≡ N.value_start kind → n ≡ N.value_length kind bytes → n ≢ 0 → start + n ≤ length bytes
@@ -119,16 +119,16 @@ module _ (h j : N.Held) (room written : List ℕ) (n : ℕ) (whole : length writ
   lent = N.overwritten (length h.waiting) written (h.waiting ++ room)
 
   before : take n lent ≡ h.waiting
-  before = ap (λ k. take k lent) at ∙ N.spare_before _ _ _ whole
+  before = grind (arith, N.spare_before, lent)
 
   after : drop n lent ≡ written
-  after = ap (λ k. drop k lent) at ∙ N.spare_written h.waiting _ _ whole
+  after = grind (arith, N.spare_written, lent)
 
   abbrev lent_held : N.Held
   lent_held = record h { waiting = take n lent }
 
   same : lent_held ≡ h
-  same = ap (λ (w : List ℕ). record h { waiting = w }) before
+  same = grind (arith, before)
 
   -- the text of a cell that was written there was put
   pub kept_text : (made : ℕ) → N.Puts lent_held j (take made (drop n lent)) → N.Puts h j (take made written)

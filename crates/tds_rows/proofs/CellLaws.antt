@@ -14,7 +14,7 @@ pub unless_true : (b : N.Bool) (f : N.Fault) → b ≡ true → N.unless b f ≡
 unless_true b f h = rw h
 
 is_known : (n : ℕ) → n < N.unknown_total → N.known_total n ≡ Some n
-is_known n h = grind (arith, ne_eqb)
+is_known n h = grind arith
 
 within_known : (t n : ℕ) → n ≤ t → N.within_total (Some t) n ≡ true
 within_known t n h = grind arith
@@ -79,11 +79,11 @@ module _ (column : ℕ) where
   chunk_cell : (c : Conversion) (total : Option ℕ) (d content bytes more : List ℕ) → is_fit c ((d ++ content) ++ more) ≡ true
       → N.within_total total (length d + length content) ≡ true → N.SpellsChunk content bytes
       → Spelt (cell column) (N.ChunkLength c total d) bytes (N.ChunkLength c total (d ++ content))
-  chunk_cell c total d [] bytes more f w s = absurd (let p : 0 < length {A = ℕ} [] = s.some in omega arith)
+  chunk_cell c total d [] bytes more f w s = grind arith
   chunk_cell c total d (x ∷ xs) bytes more f w s =
-      let n : little s.header ≡ suc (length xs) = s.counted in
+      let n = s.counted in
       let head : Spelt (cell column) (N.ChunkLength c total d) s.header (N.ChunkData c total (length xs) d) =
-      Spelt-step _ _ _ _ (let four : length s.header ≡ 4 = s.four in omega arith) s.four
+      Spelt-step _ _ _ _ (omega arith) s.four
       (rw n (N.choose_false _ _ _ (ne_eqb (suc (length xs)) 0 (λ q. omega arith)) ∙ unless_true _ _ w)) (rw n (search N.rules)) in
       rw (N.sym s.spelt) at (Spelt-append _ _ _ _ _ _ head (chunk_data c _ d x _ _ f))
 
@@ -133,11 +133,11 @@ module _ (column : ℕ) where
   -- What spells a cell is read as that cell.
   pub cell_is_read : (kind : Kind) (sh : N.Shape) (x : N.Cell) (bytes : List ℕ) → HasBytes sh → N.SpellsCell kind sh x bytes
       → Spelt (cell column) (N.cell_start kind sh) bytes (WholeCell x)
-  cell_is_read kind (N.FixedShape n) (N.ScalarCell v) bytes some h = fixed_cell _ n v _ some h.0 h.1
+  cell_is_read kind (N.FixedShape n) (N.ScalarCell v) bytes some h = grind (arith, fixed_cell)
   cell_is_read kind N.CountedShape Null bytes some h = rw h (Spelt-step _ _ _ _ (omega arith) refl refl refl)
-  cell_is_read kind N.CountedShape (N.ScalarCell v) bytes some h = rw h.1 (counted_cell _ v _ h.2 h.3 h.4)
+  cell_is_read kind N.CountedShape (N.ScalarCell v) bytes some h = grind (arith, counted_cell)
   cell_is_read kind (N.LongShape c N.Short) Null bytes some h = rw h (Spelt-step _ _ _ _ (omega arith) refl refl refl)
-  cell_is_read kind (N.LongShape c N.Short) (DataCell c' d) bytes some h = rw h.0 (short_cell c d _ h.1 h.2)
+  cell_is_read kind (N.LongShape c N.Short) (DataCell c' d) bytes some h = grind (arith, short_cell)
   cell_is_read kind (N.LongShape c N.Chunked) Null bytes some h = rw h (Spelt-step _ _ _ _ (omega arith) refl refl refl)
-  cell_is_read kind (N.LongShape c N.Chunked) (DataCell c' d) bytes some h = rw h.0 (chunked_cell c d _ h.1 h.2)
+  cell_is_read kind (N.LongShape c N.Chunked) (DataCell c' d) bytes some h = grind (arith, chunked_cell)
   cell_is_read kind sh x bytes some h = absurd h

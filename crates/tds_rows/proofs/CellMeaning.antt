@@ -14,7 +14,7 @@ eight_below e l k = grind (arith, N.common_steps)
 
 eight_ones : (e : List ℕ) → length e ≡ 8 → AreBytes e → little e ≡ N.null_total → e ≡ N.replicate 8 255
 eight_ones (a ∷ b ∷ c ∷ d ∷ e ∷ f ∷ g ∷ h ∷ []) l k n = grind arith
-eight_ones e l k n = absurd (omega arith)
+eight_ones e l k n = cc
 
 -- chunks so far, without the terminator
 abbrev pub BeginsChunks : List (List ℕ) → List ℕ → Type 0
@@ -23,7 +23,7 @@ BeginsChunks (d ∷ ds) bytes = (front : List ℕ) × (rest : List ℕ) × (byte
 
 more_chunks : (ds : List (List ℕ)) (bytes d front : List ℕ) → BeginsChunks ds bytes → N.SpellsChunk d front
     → BeginsChunks (ds ++ d ∷ []) (bytes ++ front)
-more_chunks [] bytes d front h s = (front, [], ap (λ v. v ++ front) h ∙ sym (N.append-nil front), s, refl)
+more_chunks [] bytes d front h s = search N.rules
 more_chunks (x ∷ ds) bytes d front h s = (
   h.0,
   h.1 ++ front,
@@ -33,7 +33,7 @@ more_chunks (x ∷ ds) bytes d front h s = (
 )
 
 end_chunks : (ds : List (List ℕ)) (bytes : List ℕ) → BeginsChunks ds bytes → N.SpellsChunks ds (bytes ++ 0 ∷ 0 ∷ 0 ∷ 0 ∷ [])
-end_chunks [] bytes h = ap (λ v. v ++ 0 ∷ 0 ∷ 0 ∷ 0 ∷ []) h
+end_chunks [] bytes h = cc
 end_chunks (x ∷ ds) bytes h = (
   h.0,
   h.1 ++ 0 ∷ 0 ∷ 0 ∷ 0 ∷ [],
@@ -83,7 +83,7 @@ is_ok_value r h = grind arith
 
 -- a test that gave no fault passed, and nor did what follows it
 pub guard_none : (b : N.Bool) (o : Option N.Fault) (f : N.Fault) → (if b then o else N.Some f) ≡ None → (b ≡ true) × (o ≡ None)
-guard_none b o f h = (grind arith, grind arith)
+guard_none b o f h = grind arith
 
 module _ (column : ℕ) (kind : Kind) where
   value_means : (sh : Shape) (e b : List ℕ) → N.is_ok (N.read_of kind e) ≡ true
@@ -99,7 +99,6 @@ module _ (column : ℕ) (kind : Kind) where
       → N.chunk_fault column c total d (little e) ≡ None → CellMeans kind (LongShape c Chunked) (cell_add (N.ChunkLength c total d) e) (b ++ e)
   chunk_means c total d b e four m free =
       N.choose (λ p. CellMeans kind (LongShape c Chunked) p (b ++ e)) _ _ _ (λ z.
-      let zero' = N.eq_true _ 0 z in
       let end = sym (ap (λ t. (if t then N.end_of_chunks column c total d else N.unless (N.within_total total (length d + little e)) (N.PlpLength column))) z)
       ∙ free in
       let e0 : e ≡ 0 ∷ 0 ∷ 0 ∷ 0 ∷ [] = grind (arith, N.common_steps) in (
@@ -137,7 +136,6 @@ module _ (column : ℕ) (kind : Kind) where
       → CellMeans kind (LongShape c Chunked) (cell_add (N.ChunkData c total left d) (x ∷ [])) (b ++ x ∷ [])
   data_means c total left d b x m =
       let la = N.length-append m.part (x ∷ []) in
-      let counted = m.counted in
       let spelt = ap (λ v. v ++ x ∷ []) m.spelt ∙ append_assoc m.whole _ _ ∙ ap (λ v. m.whole ++ v) (append_assoc m.header m.part _) in
       let all = ap (λ v. v ++ x ∷ []) m.all ∙ append_assoc m.before m.part _ in
       N.choose (λ p. CellMeans kind (LongShape c Chunked) p (b ++ x ∷ [])) (left == 0) _ _ (λ z.
@@ -180,17 +178,7 @@ module _ (column : ℕ) (kind : Kind) where
   -- each element keeps the meaning
   pub cell_step : (sh : Shape) (p : N.CellPart) (b e : List ℕ) → AreBytes e → CellMeans kind sh p b → N.IsNext (N.cell column) p e
       → CellMeans kind sh (cell_add p e) (b ++ e)
-  cell_step sh p b e bytes h n = grind (
-    arith,
-    chunk_means,
-    data_means,
-    N.one_byte,
-    short_length_means,
-    short_means,
-    total_means,
-    unless_none,
-    value_means,
-  )
+  cell_step sh p b e bytes h n = grind (arith, N.one_byte, chunk_means, data_means, short_length_means, short_means, total_means, unless_none, value_means)
 
 pub start_means : (kind : Kind) (sh : Shape) → CellMeans kind sh (N.cell_start kind sh) []
 start_means kind sh = grind arith

@@ -6,20 +6,16 @@ use Rattle.tds_rows.proofs.{
 }
 
 pub scalar_shape : (charset : N.Charset) (kind : Kind) → N.is_scalar kind ≡ true → N.shape charset kind ≡ N.shape_of_length (fixed_length kind)
-scalar_shape charset kind h = grind (arith, N.common_steps)
+scalar_shape charset kind h = grind arith
 
 -- the values of a kind of fixed length have some bytes
 pub fixed_some : (kind : Kind) (n : ℕ) → fixed_length kind ≡ Some n → 0 < n
-fixed_some kind n h = grind (arith, N.common_steps)
+fixed_some kind n h = grind arith
 
 -- the next element of a cell is cut
 pub cell_cut : {column n place : ℕ} {s : N.CellPart} {a b : Seen} {stop : Stop} (part : List ℕ) (own : Stop) → N.field_so_far s ≡ None → N.cell_size s ≡ n
     → N.cell_end s ≡ Some N.MessageEnded → length part < n → N.Ends a b part own → stop ≡ N.began_at place own → StallsCell s column a b place stop
-cell_cut {s = s} part own quiet size end fewer ends is = record {
-  at = s;
-  stops = N.cut_at_once _ s _ _ _ _ _ _ (omega (arith, fewer, size)) ends (N.began_is_cut _ _ _ _ end is);
-  quiet = quiet;
-}
+cell_cut {s = s} part own quiet size end fewer ends is = grind arith
 
 -- a value whose bytes were read is refused
 value_stalls : {column n place : ℕ} {kind : Kind} {a b : Seen} (bytes : List ℕ) → 0 < n → length bytes ≡ n → is_ok (N.read_of kind bytes) ≡ N.false
@@ -42,7 +38,7 @@ fixed_gathers {column = column} {n = n} {place = place} {kind = kind} {a = a} {b
       between = between;
       place_is = omega arith;
       refused = λ some bad.
-          let all : N.value_bytes kind bytes ≡ bytes = (λ i. N.take (N.length_after (is i) bytes) (N.drop (N.start_after (is i)) bytes))
+          let all = (λ i. N.take (N.length_after (is i) bytes) (N.drop (N.start_after (is i)) bytes))
           ∙ N.take_all n bytes (omega arith) in
           N.subst (λ k. StallsCell (ScalarBytes kind n) column a b place (record { fault = BadValue column; place = Payload k }))
           (omega (arith, ap N.start_after is))
@@ -87,7 +83,7 @@ counted_gathers {column = column} {n = n} {place = place} {kind = kind} {a = a} 
       between = between;
       place_is = omega arith;
       refused = λ more bad.
-          let all : N.value_bytes kind _ ≡ value = (λ i. N.take (N.length_after (is i) (n ∷ value)) (N.drop (N.start_after (is i)) (n ∷ value)))
+          let all = (λ i. N.take (N.length_after (is i) (n ∷ value)) (N.drop (N.start_after (is i)) (n ∷ value)))
           ∙ N.take_all n value (omega arith) in
           N.subst (λ k. StallsCell (ScalarLength kind) column a d place (record { fault = BadValue column; place = Payload k }))
           (omega (arith, ap N.start_after is))
@@ -99,7 +95,7 @@ counted_gathers {column = column} {n = n} {place = place} {kind = kind} {a = a} 
 
 -- what an empty area gets stands there alone
 stands_alone : (before after : Space) (element : List ℕ) → before.bytes ≡ [] → after ≡ N.appended before element → after.bytes ≡ element
-stands_alone before after element none is = grind (arith, N.common_steps)
+stands_alone before after element none is = grind arith
 
 -- a cell that has no length before its value was read into an empty area, or it is cut
 pub fixed_taken : {U : Type 0} {stopped : N.Option Stop} {n place' : ℕ} (result : N.Result U Stop) (column : ℕ) (kind : Kind) (a b : Seen) (place : ℕ)
@@ -114,7 +110,7 @@ fixed_taken (N.Err stop) column kind a b place before after is none going at x =
 -- the length that an empty area got
 pub length_taken : {a b : Seen} {before after : Space} {n : ℕ} → before.bytes ≡ [] → N.slice_index after.bytes 0 ≡ n → N.TakesInto a b before after 1
     → (after.bytes ≡ n ∷ []) × (Takes a b (n ∷ []) 1)
-length_taken none is x = grind (arith, N.common_steps, stands_alone)
+length_taken none is x = grind (arith, N.common_steps)
 
 -- the value after a length that is allowed was read into the area that has the length, or it is cut
 pub counted_taken : {U : Type 0} {stopped : N.Option Stop} {n middle place' : ℕ} (result : N.Result U Stop) (column : ℕ) (kind : Kind) (a b d : Seen)
@@ -132,7 +128,7 @@ counted_taken (N.Err stop) column kind a b d place before after is first some go
 -- from the shape of a scalar kind on
 pub scalar_start : (charset : N.Charset) (kind : Kind) (o : N.Option ℕ) → N.is_scalar kind ≡ true → fixed_length kind ≡ o
     → N.cell_start kind (N.shape_of_length o) ≡ N.cell_start kind (N.shape charset kind)
-scalar_start charset kind o scalar is = grind (arith, N.common_steps, scalar_shape)
+scalar_start charset kind o scalar is = grind arith
 
 -- a cell whose bytes were gathered, and that is left, stops at its value
 pub left_stalls : {kind : Kind} {from : N.CellPart} {column : ℕ} {a b : Seen} {place place' : ℕ} {bytes : List ℕ}

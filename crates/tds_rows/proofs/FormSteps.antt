@@ -15,7 +15,7 @@ not_last rest some = grind arith
 
 module _ (forms : List Form) (ends : Bool) (columns : List Column) (next : N.AreNext forms ends columns) where
   few : length forms ≤ length columns
-  few = grind (arith, N.common_steps, N.length-map, N.length-take)
+  few = grind (arith, N.length-map, N.length-take)
 
   -- the column after this many is the last where the forms say so
   last_of : (k : ℕ) (c : Column) (rest : List Column) → k < length forms → drop k columns ≡ c ∷ rest
@@ -28,33 +28,28 @@ module _ (forms : List Form) (ends : Bool) (columns : List Column) (next : N.Are
       go false e = ap (λ v. v && (k + 1 == length forms)) (next.ends_are ∙ e) ∙ not_last rest (more (N.eq_false (length forms) (length columns) e))
         where
           more : length forms ≢ length columns → 0 < length rest
-          more isnt = omega (arith, few, isnt, within, ap length step, N.length-drop k columns)
+          more isnt = omega (arith, few, isnt, ap length step, N.length-drop k columns)
 
   module _ (k : ℕ) (d : Form) (within : k < length forms) where
     abbrev next_column : Column
     next_column = get_or columns k (record { kind = d.kind; name = [] })
 
     step : drop k columns ≡ next_column ∷ drop (k + 1) columns
-    step = N.drop_more columns k (record { kind = d.kind; name = [] }) (omega (arith, few, within))
+    step = grind (arith, N.drop_more, few)
 
     kind_is : (get_or forms k d).kind ≡ next_column.kind
     kind_is = known_kind _ _ _ k d _ (ap (N.map (λ f. f.kind)) (N.take_all (length forms) forms (omega arith))
-        ∙ next.kinds_are) within (omega arith) (omega (arith, few, within))
+        ∙ next.kinds_are) within (omega arith) (omega (arith, few))
 
     -- the cell after this many
     next_cell : (charset : Charset) (all : List Column) (column : ℕ) (bytes text : List ℕ) → columns ≡ drop column all
         → N.WritesKind charset (get_or forms k d).kind (column + k) (ends && (k + 1 == length forms)) bytes text
         → N.WritesColumn charset all (λ k. false) (column + k) bytes text
-    next_cell charset all column bytes text is x = record {
-      column = next_column;
-      left = drop (k + 1) columns;
-      next = ap (λ (n : ℕ). drop n all) (omega arith) ∙ sym (N.drop-drop k column all) ∙ ap (drop k) (sym is) ∙ step;
-      writes = rw (kind_is, last_of k _ _ within step) at x.whole;
-    }
+    next_cell charset all column bytes text is x = grind (arith, N.drop-drop, kind_is, last_of, next_column, step)
 
 -- some forms have a first
 pub some_first : (forms : List Form) → 0 < length forms → (form : Form) × (rest : List Form) × (forms ≡ form ∷ rest)
-some_first [] some = absurd (omega (arith, some))
+some_first [] some = grind arith
 some_first (f ∷ fs) some = (f, fs, refl)
 
 module _ (charset : Charset) (forms : List Form) (column : ℕ) (ends : Bool) (columns : List Column) (next : N.AreNext forms ends (drop column columns))
@@ -81,7 +76,7 @@ module _ (charset : Charset) (forms : List Form) (column : ℕ) (ends : Bool) (c
         )
 
     not_closed : (n : ℕ) → n < length forms → closes n ≡ false
-    not_closed n few = grind (arith, N.nat_tests)
+    not_closed n few = grind arith
 
     -- the fields of cells before the last are their text
     earlier : (d : Form) (n : ℕ) (bytes text : List ℕ) → n < length forms → N.WritesForms charset forms column n bytes text
@@ -95,19 +90,19 @@ module _ (charset : Charset) (forms : List Form) (column : ℕ) (ends : Bool) (c
     -- the fields of some cells are the text of a run over them
     pub run_marked : (cells : ℕ) (bytes fields : List ℕ) → 0 < cells → cells ≤ length forms → N.WritesForms charset forms column cells bytes fields
         → N.WritesMarked charset columns (λ k. false) column cells bytes (fields ++ end_after (closes cells))
-    run_marked N.zero bytes fields some few x = absurd (omega (arith, some))
+    run_marked N.zero bytes fields some few x = grind arith
     run_marked (suc n) bytes fields some few x =
-        let d = (some_first forms (omega (arith, few))).0 in
+        let d = (some_first forms (omega arith)).0 in
         one_more d n bytes fields (omega arith) few x (earlier d n x.0 x.2 (omega arith) x.6)
 
 -- what stands before the comma of the next cell
 pub before_comma : (made column : ℕ) (to fields : List ℕ) → 0 < column → made ≤ length to → take made to ≡ fields ++ after_comma column []
     → take (made - 1) to ≡ fields
 before_comma made column to fields some within is =
-    let comma : take made to ≡ fields ++ 44 ∷ [] = is ∙ ap (λ l. fields ++ l) (sym (after_some_column column [] (λ e. omega (arith, e, some)))) in
+    let comma = is ∙ ap (λ l. fields ++ l) (sym (after_some_column column [] (λ e. omega (arith, e)))) in
     let counted : length fields ≡ made - 1 = omega (arith, sym (N.length-take-le made to within) ∙ ap length comma ∙ N.length-append fields (44 ∷ [])) in
     sym (N.take-take (made - 1) made to (omega arith)) ∙ ap (take (made - 1)) comma
-    ∙ N.take-append-le (made - 1) fields (44 ∷ []) (omega (arith, counted)) ∙ N.take_all (made - 1) fields (omega (arith, counted))
+    ∙ N.take-append-le (made - 1) fields (44 ∷ []) (omega arith) ∙ N.take_all (made - 1) fields (omega arith)
 
 module _ (charset : Charset) (forms : List Form) (column : ℕ) (bytes : List ℕ) where
   -- one cell more
@@ -120,18 +115,12 @@ module _ (charset : Charset) (forms : List Form) (column : ℕ) (bytes : List �
       let read = take u (take (length bytes - used) (drop used bytes)) in
       let field = take m text in
       let all = take made to ++ (text ++ rest) in
-      let here : made + m < length all = omega (
-        arith,
-        some,
-        N.length-append (take made to) (text ++ rest),
-        N.length-append text rest,
-        N.length-take-le made to within,
-      ) in
-      let is' : take (made + m + 1) (N.slice_set all (made + m) 44) ≡ (fields ++ after_comma (column + k) field) ++ after_comma (column + (k + 1)) [] =
-      N.take_more_set all (made + m) 44 here ∙ ap (λ l. l ++ 44 ∷ []) (made_more made m to text rest within (omega (arith, some))
+      let here : made + m < length all = omega (arith, N.length-append (take made to) (text ++ rest), N.length-append text rest, N.length-take-le made to within) in
+      let is' =
+      N.take_more_set all (made + m) 44 here ∙ ap (λ l. l ++ 44 ∷ []) (made_more made m to text rest within (omega arith)
       ∙ ap (λ l. l ++ field) is ∙ N.append_assoc fields (after_comma (column + k) []) field
       ∙ ap (λ l. fields ++ l) (sym (after_append (column + k) [] field)))
-      ∙ ap (λ l. (fields ++ after_comma (column + k) field) ++ l) (after_some_column (column + (k + 1)) [] (λ e. omega (arith, e))) in
+      ∙ ap (λ l. (fields ++ after_comma (column + k) field) ++ l) (after_some_column (column + (k + 1)) [] (λ e. omega arith)) in
       let written : N.WritesForms charset forms column (suc k) (take (used + u) bytes) (fields ++ after_comma (column + k) field) =
       (take used bytes, read, fields, field, used_more used u bytes, refl, x, λ form. rw (N.get_or_default forms k d form there) at wrote) in
       let next : suc k ≡ k + 1 = omega arith in
@@ -143,11 +132,11 @@ module _ (charset : Charset) (forms : List Form) (column : ℕ) (bytes : List �
       → N.FirstWritten charset forms column ends bytes to (record { cells = 1; used = used; made = made })
   first_alone ends to used made fields size (front, rest, before, field, b, t, x, y) is = λ form others are.
       let last = ends && (1 == length forms) in
-      let read : rest ≡ take used bytes = sym (b ∙ ap (λ l. l ++ rest) x.0) in
-      let text : N.in_line column last field ≡ take made to =
+      let read = sym (b ∙ ap (λ l. l ++ rest) x.0) in
+      let text =
       ap (λ l. l ++ end_after last) (ap (λ (n : ℕ). after_comma n field) (let n : column ≡ column + 0 = omega arith in n)
       ∙ sym (t ∙ ap (λ l. l ++ after_comma (column + 0) field) x.1)) ∙ sym is in
-      let kind_is : (get_or forms 0 form).kind ≡ form.kind = ap (λ (l : List Form). (get_or l 0 form).kind) are in
+      let kind_is = ap (λ (l : List Form). (get_or l 0 form).kind) are in
       record { size = size form others are; writes = rw kind_is at (rw text at (rw read at (y form column last))) }
 
 -- the bytes of the first cell were used
@@ -159,7 +148,7 @@ first_used forms bytes used u k d first none size form others are = grind (arith
 pub left_after : (bytes rest : List ℕ) (u : ℕ) → length rest ≤ length bytes → rest ≡ drop (length bytes - length rest) bytes → u ≤ length rest
     → (length bytes - length (take (length rest - u) (drop u rest)) ≡ (length bytes - length rest) + u)
     × (take (length rest - u) (drop u rest) ≡ drop ((length bytes - length rest) + u) bytes)
-left_after bytes rest u within is some = grind (arith, N.common_steps, some, N.length-take, N.length-drop, N.all_after, N.drop-drop)
+left_after bytes rest u within is some = grind (arith, N.all_after, N.drop-drop, N.length-drop, N.length-take)
 
 -- ---- a run so far
 
@@ -182,13 +171,13 @@ fields_step {forms = forms} {bytes = bytes} {cells = cells} {used = used} u m d 
     let more = whole_some (get_or forms cells d).kind (take (length bytes - used) (drop used bytes)) in
     record {
       few = omega arith;
-      taken = omega (arith, x.taken);
+      taken = omega arith;
       fits = omega arith;
-      begun = λ never. absurd (omega (arith, never));
-      some = λ _. omega (arith, more, whole);
+      begun = λ never. absurd (omega arith);
+      some = λ _. omega (arith, more);
       further = λ _. (omega arith, omega arith);
-      one = λ first. let begun = x.begun (omega (arith, first)) in
-          rw further (first_used forms bytes used u cells d (omega (arith, first)) begun.0 whole);
+      one = λ first. let begun = x.begun (omega arith) in
+          rw further (first_used forms bytes used u cells d (omega arith) begun.0 whole);
     }
 
 -- the run is over once the end of the line, or nothing, stands over the last comma
@@ -198,11 +187,11 @@ pub fields_run : {charset : Charset} {forms : List Form} {column : ℕ} {ends : 
     → N.RunsForms charset forms column ends bytes room new (record run { made = made })
 fields_run {charset = charset} {forms = forms} {column = column} {ends = ends} {bytes = bytes} {text = text} {run = run} room made new some x fits is =
     let (fields, wrote, there) = x.fields in
-    let before = before_comma run.made (column + run.cells) text fields (omega (arith, some)) x.within.made there in
+    let before = before_comma run.made (column + run.cells) text fields (omega arith) x.within.made there in
     let text_is = is ∙ ap (λ l. l ++ end_after (ends && (run.cells == length forms))) before in
     record {
       within = record { cells = x.within.cells; used = x.within.used; made = fits; some = x.within.some; none = x.within.none };
-      ends = λ none. absurd (omega (arith, some, none));
+      ends = λ none. absurd (omega (arith, none));
       one = λ alone.
           let one = N.subst (λ (n : ℕ). N.WritesForms charset forms column n (take run.used bytes) fields) alone wrote in
           let first = first_alone charset forms column bytes ends new run.used made fields (x.one alone) one
@@ -225,7 +214,7 @@ room_step n k made m room more same some few within = omega arith
 -- with less room too
 pub left_less : (charset : Charset) (kind : N.Kind) (bytes : List ℕ) (fewer room : ℕ) → fewer ≤ room → N.IsLeft charset kind bytes room
     → N.IsLeft charset kind bytes fewer
-left_less charset kind bytes fewer room less h6 = grind (arith, N.common_steps)
+left_less charset kind bytes fewer room less h6 = grind arith
 
 -- ---- rows of numbers
 

@@ -8,7 +8,7 @@ Grows a b = (more : List ℕ) × (a ++ more ≡ b)
 
 -- a text grows to itself
 pub grows_same : (a : List ℕ) → Grows a a
-grows_same a = ([], N.append-nil a)
+grows_same a = search N.rules
 
 -- the empty text grows to any
 pub grows_all : (b : List ℕ) → Grows [] b
@@ -20,11 +20,11 @@ grows_trans a b c h k = grind (arith, N.append_assoc)
 
 -- what stands in front stays
 pub grows_under : (x a b : List ℕ) → Grows a b → Grows (x ++ a) (x ++ b)
-grows_under x a b h = (h.0, N.append_assoc x a h.0 ∙ N.ap (λ v. x ++ v) h.1)
+grows_under x a b h = grind (arith, N.append_assoc)
 
 -- more fields
 pub joined_more : (fs gs : List (List ℕ)) → Grows (joined fs) (joined (fs ++ gs))
-joined_more [] gs = grows_all (joined gs)
+joined_more [] gs = grind arith
 joined_more (f ∷ []) [] = grows_same f
 joined_more (f ∷ []) (g ∷ gs) = (N.codes "," ++ joined (g ∷ gs), N.sym (N.append_assoc f _ (joined (g ∷ gs))))
 joined_more (f ∷ h ∷ fs) gs = grows_under _ (joined (h ∷ fs)) (joined (h ∷ (fs ++ gs))) (joined_more (h ∷ fs) gs)
@@ -44,9 +44,9 @@ OptionGrows (Some a) (Some b) = Grows a b
 -- more of the field that is read
 with_field_grows : (cells : List Cell) (a b : Option (List ℕ)) → OptionGrows a b → Grows (joined (N.with_field cells a)) (joined (N.with_field cells b))
 with_field_grows cells None None h = grows_same _
-with_field_grows cells None (Some b) h = joined_more (map field cells) _
+with_field_grows cells None (Some b) h = grind (arith, joined_more)
 with_field_grows cells (Some a) None h = absurd h
-with_field_grows cells (Some a) (Some b) h = joined_last (map field cells) a b h
+with_field_grows cells (Some a) (Some b) h = grind (arith, joined_last)
 
 -- ---- a field
 
@@ -62,17 +62,17 @@ long_grows c a h = (N.conversion_text c (N.conversion_rest c a) ++ N.closing (N.
 
 -- the last byte of a short value leaves it fit
 pub last_fit : (left : ℕ) (b : Bool) → (N.nat_lt 0 left || b) ≡ true → (left == 0) ≡ true → b ≡ true
-last_fit left b h z = grind (arith, N.lt_true, N.or_cases)
+last_fit left b h z = grind arith
 
 -- what ends the chunks leaves the data fit
 pub end_fit : (column : ℕ) (c : N.Conversion) (total : Option ℕ) (content : List ℕ) (n : ℕ) → N.chunk_fault column c total content n ≡ None
     → (n == 0) ≡ true → N.is_fit c content ≡ true
-end_fit column c total content n h z = grind (arith, unless_none)
+end_fit column c total content n h z = grind arith
 
 module _ (column : ℕ) where
   -- each element of a cell adds to its text
   pub cell_grows : (p : N.CellPart) (e : List ℕ) → N.IsNext (N.cell column) p e → OptionGrows (N.field_so_far p) (N.field_so_far (N.cell_add p e))
-  cell_grows p e n = grind (arith, N.common_steps, grows_same, unless_none, open_more, N.choose, grows_trans, long_grows, last_fit)
+  cell_grows p e n = grind (arith, N.common_steps, grows_same, unless_none, open_more, N.choose, long_grows, last_fit)
 
 -- ---- a row
 
@@ -82,16 +82,16 @@ module _ (charset : N.Charset) where
   next_grows cells [] = grind arith
   next_grows cells ((k, true) ∷ ks) = grows_trans _ _ _
       (rw (N.sym (N.map-append field cells (N.Null ∷ []))) at (joined_more (map field cells) (N.null_field ∷ []))) (next_grows _ ks)
-  next_grows cells ((k, N.false) ∷ ks) = with_field_grows _ None (N.field_so_far (N.cell_start k.kind (N.shape charset k.kind))) tt
+  next_grows cells ((k, N.false) ∷ ks) = search N.rules
 
   -- a cell in its row
   with_cell_grows : (cells : List Cell) (ks : List (N.Column × Bool)) (p : N.CellPart)
       → Grows (joined (N.with_field cells (N.field_so_far p))) (N.row_so_far (N.with_cell charset cells ks p))
   with_cell_grows cells ks (N.WholeCell c) = rw N.map-append at (next_grows (cells ++ c ∷ []) ks)
-  with_cell_grows cells ks (N.ShortData c left content) = grows_same (joined (map field cells ++ open_field c content ∷ []))
-  with_cell_grows cells ks (N.ChunkLength c total content) = grows_same (joined (map field cells ++ open_field c content ∷ []))
-  with_cell_grows cells ks (N.ChunkData c total left content) = grows_same (joined (map field cells ++ open_field c content ∷ []))
-  with_cell_grows cells ks p = grows_same (joined (map field cells))
+  with_cell_grows cells ks (N.ShortData c left content) = search N.rules
+  with_cell_grows cells ks (N.ChunkLength c total content) = search N.rules
+  with_cell_grows cells ks (N.ChunkData c total left content) = search N.rules
+  with_cell_grows cells ks p = search N.rules
 
   -- each element of a row adds to its text
   pub row_grows : (p : N.RowPart) (e : List ℕ) → N.IsNext (N.row charset) p e → Grows (N.row_so_far p) (N.row_so_far (N.row_add charset p e))

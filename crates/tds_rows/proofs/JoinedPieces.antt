@@ -50,7 +50,7 @@ module _ {fit begins : List ℕ → Type 0} {rest text : List ℕ → List ℕ} 
           between = between;
           begun = begun_with good x.good.begun;
           no_text = λ so.
-              let inward : BeginsData c _ = (joins_by_name c).inward content (good ++ bad ∷ [])
+              let inward = (joins_by_name c).inward content (good ++ bad ∷ [])
               (subst (BeginsData c) (N.append_assoc content good (bad ∷ [])) so) in
               x.bad ((suits.begins_is _).1 (rw (is, N.take_more piece _ 0 within) inward));
           puts = subst (Puts h _) (grind arith) x.good.put;
@@ -81,7 +81,7 @@ module _ {fit begins : List ℕ → Type 0} {rest text : List ℕ → List ℕ} 
         → N.Pushes {U = Unit {0}} begins rest text old new h i before piece (Err fault)
         → N.StopsData c content column most a b place h i after (N.join_stop column place fault)
     push_stops new piece (N.Stopped stop) short takes between begins_old going failed x =
-        inr (inr (piece_breaks piece short takes between begins_old (x going), failed))
+        grind (arith, piece_breaks)
     push_stops new piece N.Odd short takes between begins_old going failed x = absurd x
     push_stops new piece (join_faults.BadText k) short takes between begins_old going failed x =
         inr (inl (piece_bad piece short takes between x, failed))
@@ -105,8 +105,7 @@ module _ {fit begins : List ℕ → Type 0} {rest text : List ℕ → List ℕ} 
         → before ≡ N.false → after ≡ N.is_stopped {U = Unit {0}} (Err fault) → N.EndsBy {U = Unit {0}} unit' fit text old new h i before (Err fault)
         → N.StopsEnding c quoted last content column place h i after (N.join_stop column place fault)
     end_stops {h = h} {i = i} new unit' last (N.Stopped stop) going failed x =
-        let breaks = subst (λ l. N.Breaks h i l stop) (suits.text_is old ∙ ap (N.conversion_text c) is) (x going).1 in
-        inl (fit_whole (x going).0, N.Breaks-longer h i _ _ stop breaks, failed)
+        grind (arith, N.common_steps, fit_whole)
     end_stops {column = column} {place = place} new unit' last N.Odd going failed x =
         inr (end_part x.0, x.0.put, ap (λ n. record { fault = N.BadText column; place = N.Payload n }) (omega arith), failed)
     end_stops {column = column} {place = place} new unit' last (join_faults.BadText k) going failed x =

@@ -12,22 +12,18 @@ each_all P n f is k d here = grind (arith, N.get_or-replicate, N.length-replicat
 
 -- one more form of many
 pub each_set : (P : Form → Type 0) (forms : List Form) (k : ℕ) (f : Form) → Each P forms → k < length forms → P f → Each P (N.slice_set forms k f)
-each_set P forms k f all within is j d here = go _ refl
-  where
-    go : (b : N.Bool) → (j == k) ≡ b → P (N.get_or (N.slice_set forms k f) j d)
-    go true e = rw (N.get_or-set_at forms k j f d (N.eq_true j k e) within) is
-    go false e = rw (N.get_or-set_other forms k j f d (N.eq_false j k e)) (all j d (omega (arith, N.length-set forms k f, here)))
+each_set P forms k f all within is j d here = search N.rules
 
 -- one more whole number of four bytes, or a form of another kind
 pub int4_set : (forms : List Form) (k : ℕ) (f : Form) (all one : N.Bool) → (all ≡ true → N.AreInt4 forms) → k < length forms → one ≡ N.is_int4 f.kind
     → (all && one) ≡ true → N.AreInt4 (N.slice_set forms k f)
-int4_set forms k f true true before within is both = each_set (λ f. N.IsInt4 f.kind) forms k f (before refl) within (N.sym is)
-int4_set forms k f true false before within is both = absurd (N.false≢true both)
-int4_set forms k f false one before within is both = absurd (N.false≢true both)
+int4_set forms k f true true before within is both = search N.rules
+int4_set forms k f true false before within is both = cc
+int4_set forms k f false one before within is both = cc
 
 -- a part of whole numbers of four bytes
 pub int4_part : (forms : List Form) (k n : ℕ) → N.AreInt4 forms → n ≤ length (N.drop k forms) → N.AreInt4 (N.take n (N.drop k forms))
-int4_part forms k n all fits j d here = grind (arith, N.common_steps, N.length-drop, N.length-take-le)
+int4_part forms k n all fits j d here = grind (arith, N.common_steps, N.length-drop)
 
 -- ---- a value that is there
 
@@ -58,18 +54,14 @@ module _ (charset : N.Charset) (kind : Kind) where
 
 -- a scalar cell has some bytes
 scalar_some : (kind : Kind) (bytes : List ℕ) → 0 < N.scalar_size kind bytes
-scalar_some kind bytes = go (N.fixed_length kind) refl
-  where
-    go : (o : N.Option ℕ) → N.fixed_length kind ≡ o → 0 < N.start_after o + N.length_after o bytes
-    go (N.Some n) is = omega (arith, fixed_some kind n is)
-    go N.None is = omega arith
+scalar_some kind bytes = grind arith
 
 -- where there are no bytes, a cell is left
 pub empty_left : (charset : N.Charset) (kind : Kind) (l : Layout) (bytes : List ℕ) (room : ℕ) → N.IsLaidOut charset kind l
     → ((content : N.Content) → l ≡ ShortLayout content → ⊥) → length bytes ≡ 0 → N.IsLeft charset kind bytes room
 empty_left charset kind (Fixed n) bytes room laid other none =
-    inl ((value_there charset kind (Fixed n) bytes 0 n laid (refl, refl)).0, inl (omega (arith, scalar_some kind bytes)))
+    grind arith
 empty_left charset kind Counted bytes room laid other none =
-    inl ((value_there charset kind Counted bytes 1 (N.slice_index bytes 0) laid (refl, refl)).0, inl (omega (arith, scalar_some kind bytes)))
-empty_left charset kind (ShortLayout content) bytes room laid other none = absurd (other content refl)
-empty_left charset kind (Chunked content) bytes room laid other none = grind (arith, N.common_steps, is_long_kind)
+    grind arith
+empty_left charset kind (ShortLayout content) bytes room laid other none = grind arith
+empty_left charset kind (Chunked content) bytes room laid other none = grind arith

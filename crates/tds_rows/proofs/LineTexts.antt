@@ -4,7 +4,7 @@ use Rattle.tds_rows.proofs.Words.{◌≡◌, ◌≢◌, ℕ, List, [], ◌∷◌
 
 -- a field after a comma
 pub after_some_column : (column : ℕ) (text : List ℕ) → column ≢ 0 → 44 ∷ text ≡ N.after_comma column text
-after_some_column column text h = grind (N.arith, N.ne_eqb)
+after_some_column column text h = grind N.arith
 
 -- more after a field
 pub after_append : (column : ℕ) (a b : List ℕ) → N.after_comma column (a ++ b) ≡ N.after_comma column a ++ b

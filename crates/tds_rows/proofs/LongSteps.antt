@@ -24,7 +24,7 @@ pub record HoldsContent (column : ℕ) (c : Conversion) (state : ℕ → List �
 
 -- a list that isn't empty has a last number
 snoc_of : (l : List ℕ) → 0 < length l → (p : List ℕ) × (x : ℕ) × (l ≡ p ++ x ∷ [])
-snoc_of [] some = absurd (omega arith)
+snoc_of [] some = grind arith
 snoc_of (x ∷ []) some = ([], x, refl)
 snoc_of (x ∷ y ∷ l) some = let r = snoc_of (y ∷ l) (omega arith) in (x ∷ r.0, r.1, ap (λ t. x ∷ t) r.2)
 
@@ -34,12 +34,12 @@ no_text_false c l b is h = grind (arith, N.begun_by_test)
 module _ {column : ℕ} {c : Conversion} {state : ℕ → List ℕ → N.CellPart} {Good : List ℕ
     → Type 0} (last : Bool) (holds : HoldsContent column c state Good) where
   pub text_at : (r : ℕ) (d : List ℕ) → cell_so_far column last (state (suc r) d) ≡ after_comma column (open_field c d)
-  text_at r d = grind (arith, column)
+  text_at r d = grind arith
 
   -- the bytes of some content are elements
   pub content_spelt : (d bytes : List ℕ) (m r : ℕ) → m ≡ length bytes + r → BeginsData c (d ++ bytes) → (r ≡ 0 → 0 < length bytes → Good (d ++ bytes))
       → Spelt (cell column) (state m d) bytes (state r (d ++ bytes))
-  content_spelt d [] m r is begun good = grind (arith, N.append-nil)
+  content_spelt d [] m r is begun good = search N.rules
   content_spelt d (x ∷ xs) m r is begun good =
       let k = length xs + r in
       let next : m ≡ suc k = omega arith in
@@ -59,7 +59,7 @@ module _ {column : ℕ} {c : Conversion} {state : ℕ → List ℕ → N.CellPar
   -- what some content adds to the open field
   text_more : (d more : List ℕ) → BeginsData c (d ++ more)
       → after_comma column (open_field c d) ++ added_text c d more ≡ after_comma column (open_field c (d ++ more))
-  text_more d more begun = grind (arith, column, N.open_grows)
+  text_more d more begun = grind (arith, N.open_grows)
 
   -- what some content adds to the text, where more follows
   text_grown : (d more : List ℕ) (r r' : ℕ) → BeginsData c (d ++ more)
@@ -70,7 +70,7 @@ module _ {column : ℕ} {c : Conversion} {state : ℕ → List ℕ → N.CellPar
   text_closed : (d more tail : List ℕ) (r : ℕ) → BeginsData c (d ++ more)
       → after_comma column (open_field c (d ++ more)) ++ tail ≡ cell_so_far column last (state 0 (d ++ more))
       → cell_so_far column last (state (suc r) d) ++ (added_text c d more ++ tail) ≡ cell_so_far column last (state 0 (d ++ more))
-  text_closed d more tail r begun whole = grind (arith, append_assoc, column, text_at, text_more)
+  text_closed d more tail r begun whole = grind (arith, append_assoc, text_more)
 
   -- bytes were read and their text put, and more follow
   fills_path : {d more : List ℕ} {p q : At} (m r : ℕ) → m ≡ length more + suc r → N.FillsData c d p.seen q.seen p.place q.place p.held q.held more
@@ -139,7 +139,6 @@ module _ {column : ℕ} {c : Conversion} {state : ℕ → List ℕ → N.CellPar
 
     piece_refused : N.RefusesData c d column (suc r) a b place h i stop → Stopped false
     piece_refused x =
-        let within = x.within in
         let no = no_text_false c _ _ refl x.no_text in
         rw x.stop_is (byte_refused d _ _ _ _ _ (omega arith) x.begun (holds.bad (r - length x.good) (d ++ x.good) x.bad no) x.takes
         x.between x.puts)
@@ -154,7 +153,6 @@ module _ {column : ℕ} {c : Conversion} {state : ℕ → List ℕ → N.CellPar
     piece_broken_at : (ahead p : List ℕ) (x : ℕ) → length (p ++ x ∷ []) ≡ suc r → N.Takes a b ((p ++ x ∷ []) ++ ahead) 1 → N.IsBetween b
         → BeginsData c (d ++ (p ++ x ∷ [])) → N.Breaks h i (added_text c d (p ++ x ∷ [])) stop → Stopped true
     piece_broken_at ahead p x all takes between begun breaks =
-        let good = p ++ x ∷ [] in
         let same = sym (append_assoc d p _) in
         elim (holds.ends _ x) [
           | inl whole ↦
@@ -174,8 +172,7 @@ module _ {column : ℕ} {c : Conversion} {state : ℕ → List ℕ → N.CellPar
           | inl less ↦ broken x.good x.ahead _ _ (front_spelt d x.good (r - length x.good) (omega arith) x.begun) x.takes x.between
               (text_grown d x.good r (r - length x.good) x.begun) x.breaks
           | inr more ↦
-              (let within = x.within in
-              let all : length x.good ≡ suc r = omega arith in
+              (let all : length x.good ≡ suc r = omega arith in
               let s = snoc_of x.good (omega arith) in
               piece_broken_at x.ahead s.0 s.1 (rw s.2 at all) (rw s.2 at x.takes) x.between (rw s.2 at x.begun) (rw s.2 at x.breaks))
         ]
@@ -205,14 +202,14 @@ module _ {column : ℕ} {c : Conversion} {state : ℕ → List ℕ → N.CellPar
     last_left = x.last - 1
 
     last_split : x.last ≡ suc last_left
-    last_split = let some = x.takes.some in omega arith
+    last_split = omega arith
 
     front_path : Path (cell column) (cell_so_far column last) (state m d) p (record { seen = x.middle; place = x.there; held = x.between })
         (state (suc last_left) (d ++ x.front))
-    front_path = fills_path m last_left (omega arith) x.fills
+    front_path = grind (arith, fills_path, last_left)
 
     last_spelt : Good all_content → Spelt (cell column) (state (suc last_left) (d ++ x.front)) x.takes.piece (state 0 all_content)
-    last_spelt good = grind (arith, content_spelt, last_split)
+    last_spelt good = grind (arith, content_spelt)
 
     -- all of it was read and its text put, and what ends it
     pub ends_path : {j : Held} (tail : List ℕ) → Good all_content
@@ -223,7 +220,7 @@ module _ {column : ℕ} {c : Conversion} {state : ℕ → List ℕ → N.CellPar
           bytes = x.takes.piece;
           made = added_text c _ _ ++ tail;
           writes = record { spelt = last_spelt good; text_is = text_closed _ _ tail _ x.takes.begun whole };
-          takes = N.Takes-more x.middle q.seen _ 1 _ (let some = x.takes.some in omega arith) x.takes.takes;
+          takes = N.Takes-more x.middle q.seen _ 1 _ (omega arith) x.takes.takes;
           puts = N.Puts-trans _ q.held _ _ _ x.takes.puts puts;
           place_is = omega arith;
         })
@@ -260,7 +257,7 @@ module _ {column : ℕ} {c : Conversion} {state : ℕ → List ℕ → N.CellPar
 -- ---- the content of a short value, and of a chunk
 
 short_next : (c : Conversion) (r : ℕ) (d : List ℕ) → short_left c (suc r) d ≡ N.ShortData c r d
-short_next c r d = grind (arith, N.ne_eqb)
+short_next c r d = grind arith
 
 module _ (column : ℕ) (c : Conversion) where
   fit_or_none : (d : List ℕ) (x : ℕ) (b : Bool) → is_fit c (d ++ x ∷ []) ≡ b → (is_fit c (d ++ x ∷ []) ≡ true)
@@ -283,7 +280,7 @@ module _ (column : ℕ) (c : Conversion) where
     text = λ r d. ap N.field_so_far (short_next c r d);
     add = λ r d x. ap (λ s. N.cell_add s (x ∷ [])) (short_next c r d);
     free = λ r d x begun fit. ap (λ s. cell_fault column s (x ∷ [])) (short_next c r d)
-        ∙ unless_true _ _ (grind (arith, N.or_left, N.or_right, N.test_lt));
+        ∙ unless_true _ _ (grind (arith, N.or_left, N.test_lt));
     bad = λ r d x no. ap (λ s. cell_fault column s (x ∷ [])) (short_next c r d)
         ∙ ap (λ b. N.unless (b && (N.nat_lt 0 r || is_fit c (d ++ x ∷ []))) (BadText column)) no;
     ends = λ d x. fit_or_none d x _ refl;
@@ -295,4 +292,4 @@ module _ (column : ℕ) (c : Conversion) where
   short_refused e y unfit = grind arith
 
   pub chunk_holds : (total : N.Option ℕ) → HoldsContent column c (chunk_left c total) (λ _. Unit {0})
-  chunk_holds total = grind (arith, N.append-nil)
+  chunk_holds total = search N.rules

@@ -19,11 +19,11 @@ emit_none c = grind (arith, N.hex-nil, N.text_nil)
 open_none : (c : Conversion) → opening (is_quoted c) ≡ N.open_field c []
 open_none N.HexDigits = sym (append-nil N.binary_mark) ∙ ap (λ l. N.binary_mark ++ l) (sym (emit_none N.HexDigits))
 open_none N.Utf16Text = ap (λ l. N.quote ∷ l) (sym (emit_none N.Utf16Text))
-open_none N.Windows1252Text = ap (λ l. N.quote ∷ l) (sym (emit_none N.Windows1252Text))
-open_none N.Utf8Text = ap (λ l. N.quote ∷ l) (sym (emit_none N.Utf8Text))
+open_none N.Windows1252Text = cc
+open_none N.Utf8Text = grind arith
 
 pub none_begins : (c : Conversion) → N.BeginsData c []
-none_begins c = (N.begun_by_test c []).0 (N.fit_begins c [] [] (N.no_data_is_fit c))
+none_begins c = grind arith
 
 -- ---- parts of a field, one after the other
 
@@ -99,14 +99,14 @@ null_puts {column = column} last contents h k (N.Err e) x silent writing puts =
 module _ (column : ℕ) (last : Bool) (c : Conversion) where
   -- the text that comes with the length
   pub short_open : (n : ℕ) → 0 < n → after_comma column (opening (is_quoted c)) ≡ cell_so_far column last (short_left c n [])
-  short_open n some = grind (arith, open_none, short_holds, text_at)
+  short_open n some = grind (arith, open_none, text_at)
 
   empty_open : after_comma column (opening (is_quoted c)) ++ ending c (is_quoted c) last [] ≡ cell_so_far column last (short_left c 0 [])
   empty_open = grind (arith, open_none, ending_text, N.no_data_is_fit)
 
   pub short_text : (n : ℕ) → (q : List ℕ) × (after_comma column (opening (is_quoted c)) ++ q ≡ cell_so_far column last (short_left c n []))
-  short_text N.zero = (ending c _ last [], empty_open)
-  short_text (N.suc n) = ([], append-nil _ ∙ short_open _ (omega arith))
+  short_text N.zero = grind (arith, empty_open)
+  short_text (N.suc n) = grind (arith, append-nil, short_open)
 
   -- the value has no bytes, and its end was put, or that stopped
   pub empty_puts : {p : At} {b : Seen} {place' n : ℕ} {j : Held} (i : Held) → Next column (N.ShortLength c) p.seen b p.place place' (short_left c n [])
@@ -122,7 +122,7 @@ module _ (column : ℕ) (last : Bool) (c : Conversion) where
   empty_stops {p = p} i there x none opened few delivered (inl y) =
       let text = after_comma column _ ++ ending c _ last [] in
       next_breaks last (rw none at x) text [] few delivered y.2 (append-nil text ∙ empty_open) (N.Breaks-after p.held i _ _ _ _ opened y.1)
-  empty_stops i there x none opened few delivered (inr y) = absurd (y.0 ((fit_by_test c []).0 (N.no_data_is_fit c)))
+  empty_stops i there x none opened few delivered (inr y) = grind arith
 
   -- the value has some bytes: its end was put, or that stopped
   module _ {kept : List ℕ} {n : ℕ} {p q : At} (x : N.EndsData c [] kept p.seen q.seen p.place q.place p.held q.held n) where
@@ -145,7 +145,7 @@ module _ (column : ℕ) (last : Bool) (c : Conversion) where
 -- the text that comes with the total
 pub total_text : (column : ℕ) (last : Bool) (c : Conversion) (t : Option ℕ)
     → after_comma column (opening (is_quoted c)) ≡ cell_so_far column last (ChunkLength c t [])
-total_text column last c t = ap (after_comma column) (open_none c)
+total_text column last c t = grind (arith, open_none)
 
 -- Chunks were read and their text put; so many bytes of content stand before the next length.
 pub record Streamed (column : ℕ) (last : Bool) (c : Conversion) (total : Option ℕ) (kept : List ℕ) (sum : ℕ) (p q : At) : Type 0 where
@@ -157,7 +157,7 @@ pub record Streamed (column : ℕ) (last : Bool) (c : Conversion) (total : Optio
 
 pub streamed_none : {column : ℕ} {last : Bool} {c : Conversion} {total : Option ℕ} {kept : List ℕ} {p : At} → kept ≡ N.conversion_rest c []
     → p.held.delivered ≤ 2 ^ 64 - 1 → Streamed column last c total kept 0 p p
-streamed_none is delivered = record { content = []; counted = N.refl; begun = none_begins _; kept_is = is; path = path_none delivered }
+streamed_none is delivered = grind (arith, none_begins, path_none)
 
 module _ {column : ℕ} {last : Bool} {c : Conversion} {total : Option ℕ} {kept : List ℕ} {sum : ℕ} {p q : At} (size : ℕ) (unit_is : size ≡ N.unit c)
     (x : Streamed column last c total kept sum p q) {d : Seen} {there n : ℕ} (y : N.ReadsNumber 4 q.seen d q.place there n)

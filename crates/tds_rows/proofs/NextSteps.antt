@@ -143,7 +143,7 @@ module _ (charset : Charset) (start : RowPart) (columns : List Column) (nulls : 
       → N.WritesMarked charset columns nulls from n bytes text → Takes q.seen d (bytes ++ rest) 0 → N.IsBetween d → length q.held.waiting < 4096
       → q.held.delivered ≤ 2 ^ 64 - 1 → N.Breaks q.held j text stop → Near from q → RowStops charset start p.seen d p.place p.held j true stop
   marked_breaks from N.zero q d j stop bytes rest text w takes between few delivered breaks x =
-      absurd (fills_no_block q.held j text stop (omega (arith, ap length w.1)) breaks)
+      grind (arith, N.common_steps, fills_no_block)
   marked_breaks from (N.suc n) q d j stop bytes rest text (front, back, first, more, joined, text_is, before, last) takes between few delivered breaks x =
       let read = rw (joined, N.append_assoc front back rest) at takes in
       elim (N.Breaks_split q.held j first more stop (rw text_is at breaks)) [
@@ -219,7 +219,7 @@ module _ {R W : Type 0} (remaining : R → Option (List ℕ)) (contents : W → 
   left = marked (drop after.column columns) nulls (at.column + 1)
 
   last_is : (at.column + 1 == old.table.now.count) ≡ ends left
-  last_is = grind (arith, last_one, after, ends_marked)
+  last_is = grind (arith, last_one)
 
   -- the next cell was read, or it stopped
   pub cell_read : {U : Type 0} (result : N.Result U Stop) → N.IsAhead old.table.now columns at → N.CellRead remaining contents at kind old new result
@@ -241,12 +241,12 @@ module _ {R W : Type 0} (remaining : R → Option (List ℕ)) (contents : W → 
   module _ (start : RowPart) (p : At) (in_row : IsInRow old) (before : NearsHere remaining contents columns nulls start p old at) where
     left_here : (null : Bool) → nulls at.column ≡ null
         → NearsCells old.table.now.charset start ((taken.column, null) ∷ left) p (here remaining contents old) at.column
-    left_here null is = rw is at (rw taken.next at before.1)
+    left_here null is = grind arith
 
     there : {U : Type 0} {u : U} → N.LeavesRows old new (Ok u)
         → NearsCells old.table.now.charset start left p (here remaining contents new) (at.column + 1)
         → NearsHere remaining contents columns nulls start p new after
-    there leaves x = rw leaves.same.3 (taken.ahead, rw (sym taken.further) at x)
+    there leaves x = grind arith
 
     -- it was put
     pub next_nears : {U : Type 0} (u : U) (null : Bool) → nulls at.column ≡ null → N.LeavesRows old new (Ok u)
@@ -275,7 +275,7 @@ pub record RowsAt (token : N.RowToken) (charset : Charset) (all : List Column) (
 
 module _ {token : N.RowToken} {charset : Charset} {all : List Column} where
   pub rows_first : {p : At} → p.held.delivered ≤ 2 ^ 64 - 1 → RowsAt token charset all p p 0 (N.token_start token charset all)
-  rows_first d = record { before = []; counted = refl; path = path_none d }
+  rows_first d = grind (arith, path_none)
 
   module _ {p q : At} {count : ℕ} where
     -- more of the next one
@@ -388,9 +388,7 @@ pub rows_ran : {R W : Type 0} {columns : List Column} {p : At} {old new : Rows R
     → N.RowsPut remaining contents old.table.now from old.payload.now new.payload.now old.sink.now new.sink.now run
     → RowsHere remaining contents columns p old from count → RowsHere remaining contents columns p new run.ahead (count + run.rows)
 rows_ran {columns = columns} {old = old} remaining contents run kept knows put x =
-    let ran = put columns knows x.0 in
-    let there = rowing_run x.1 (λ cells is. ran.1 old.table.now.charset cells refl is) in
-    rw kept.same.3 (ran.0, there)
+    grind (arith, rowing_run, there)
 
 -- a write of its text failed
 pub rows_broke : {R W : Type 0} {columns : List Column} {p : At} {old : Rows R W} {from : Ahead} {count : ℕ} {failed : Bool} {stop : Stop}

@@ -105,8 +105,8 @@ pub record NearsCells (charset : Charset) (start : RowPart) (left : List (Column
 -- some columns are left, so the line doesn't end there
 all_ahead : (charset : Charset) (columns : List Column) (nulls : ℕ → Bool) → 0 < length columns
     → nulls_ahead 0 (marked columns nulls 0) ≡ row_so_far (next_cell charset [] (marked columns nulls 0))
-all_ahead charset [] nulls some = absurd (omega arith)
-all_ahead charset (c ∷ cs) nulls some = nulls_text charset [] ((c, nulls 0) ∷ marked cs nulls 1)
+all_ahead charset [] nulls some = grind arith
+all_ahead charset (c ∷ cs) nulls some = grind (arith, nulls_text)
 
 -- the bitmap was read
 pub bitmap_nears : {charset : Charset} {p : At} {b : Seen} {place' : ℕ} (columns : List Column) (bitmap : List ℕ) → 0 < length columns
@@ -233,7 +233,7 @@ module _ {charset : Charset} {start : RowPart} {ks : List (Column × Bool)} {p q
 -- before the first column of a ROW, and after the last one of a row
 pub row_begins : {charset : Charset} {p : At} (columns : List Column) → p.held.delivered ≤ 2 ^ 64 - 1
     → Reads charset (N.row_start charset columns) (coming columns 0) p p 0
-row_begins columns d = record { cells = []; counted = refl; path = path_none d }
+row_begins columns d = grind (arith, path_none)
 
 pub row_ends : {charset : Charset} {start : RowPart} {p q : At} {column : ℕ} → Reads charset start [] p q column
     → N.ReadsRow charset start p.seen q.seen p.place q.place p.held q.held

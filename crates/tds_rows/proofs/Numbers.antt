@@ -37,7 +37,7 @@ number_stops {column = column} {place = place} {s = s} {a = a} {b = b} {stop = s
     let r = x.reads in
     N.subst (λ t. N.StopsReading (cell column) s a b place s t) (ap (λ q. record { fault = stop.fault; place = q }) (sym x.stands))
     (N.refused_at_once _ s a b _ _ _ (omega arith) (r.whole ∙ sym is) (first _ x.n _ r.number x.first) r.takes r.between)
-number_stops some is end first (N.inr x) = N.cut_at_once _ _ _ _ _ _ _ _ (let few = x.fewer in omega arith) x.ends (N.began_is_cut _ _ _ _ end x.stop_is)
+number_stops some is end first (N.inr x) = grind arith
 
 total_same : (column : ℕ) (c : N.Conversion) (size n : ℕ) (e : List ℕ) → size ≡ unit c → N.little e ≡ n
     → N.cell_fault column (Total c) e ≡ N.total_fault column size n
@@ -68,10 +68,10 @@ module _ {column : ℕ} (c : N.Conversion) {size : ℕ} (unit_is : size ≡ unit
   module _ {a b : Seen} {place place' : ℕ} {answer : Option (Option ℕ)} (x : (n : ℕ) × N.ReadsNumber 8 a b place place' n
       × (N.total_fault column size n ≡ None) × (answer ≡ N.total_of n)) where
     pub total_none : answer ≡ None → Next column (Total c) a b place place' (N.WholeCell N.Null)
-    total_none is = grind (arith, next_by, total_same, N.choose_true)
+    total_none is = grind arith
 
     pub total_start : {t : Option ℕ} → answer ≡ Some t → Next column (Total c) a b place place' (ChunkLength c t [])
-    total_start is = grind (arith, total_same)
+    total_start is = grind arith
 
 -- ---- the length of a chunk
 
@@ -84,7 +84,7 @@ module _ {column : ℕ} (c : N.Conversion) {size : ℕ} (unit_is : size ≡ unit
     module _ {n place' : ℕ} (x : N.ReadsNumber 4 a b place place' n) (free : N.chunk_length_fault column size total sum n ≡ None) where
       -- the terminator was read, after content that is whole
       pub chunk_end : n ≡ 0 → N.is_fit c content ≡ N.true → Next column (ChunkLength c total content) a b place place' (N.WholeCell (N.DataCell c content))
-      chunk_end none fit = grind (arith, unless_true, N.choose_true)
+      chunk_end none fit = grind arith
 
       -- after content that isn't, it is refused
       pub chunk_unfit : n ≡ 0 → N.is_fit c content ≡ N.false
@@ -95,12 +95,12 @@ module _ {column : ℕ} (c : N.Conversion) {size : ℕ} (unit_is : size ≡ unit
 
       -- the length of a chunk was read
       pub chunk_start : n ≢ 0 → Next column (ChunkLength c total content) a b place place' (chunk_left c total n content)
-      chunk_start some = grind (arith, N.ne_eqb, N.choose_false)
+      chunk_start some = grind arith
 
 -- ---- where a call stops with the fault of a device, that device failed in it
 
 pub same_failures : {a b c d : ℕ} → a ≡ c → b ≡ d → ◌≡◌ {A = N.Failures} (record { reads = a; writes = b }) (record { reads = c; writes = d })
-same_failures e f = λ i. record { reads = e i; writes = f i }
+same_failures e f = cc
 
 pub stops_after : (a b c : N.Failures) (stop : Stop) → b ≡ a → N.StopBlames b c stop → N.StopBlames a c stop
 stops_after a b c stop e h = rw (← e) h
@@ -112,7 +112,7 @@ abbrev pub ReadBlames : ℕ → ℕ → Stop → Type 0
 ReadBlames old new stop = (stop.fault ≡ N.WriteFailed → ⊥) × (stop.fault ≡ N.ReadFailed → new ≡ N.one_more old)
 
 pub read_stops : (old new : N.Failures) (stop : Stop) → ReadBlames old.reads new.reads stop → N.StopBlames old new stop
-read_stops old new stop h = (h.1, λ e. absurd (h.0 e))
+read_stops old new stop h = grind arith
 
 -- a fault that names no device
 abbrev NoDevice : Option Fault → Type 0

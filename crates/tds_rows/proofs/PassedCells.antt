@@ -76,7 +76,7 @@ module _ {c : Conversion} {state : ℕ → List ℕ → CellPart} {Good : List �
 -- a scalar's cell stops as any
 pub scalar_stops : {from : CellPart} {a b : Seen} {place : ℕ} {stop : Stop} → N.StallsCell from return_column a b place stop
     → N.StopsPassing from a b place stop
-scalar_stops x = record { at = x.at; stops = x.stops }
+scalar_stops x = grind arith
 
 -- what is written of a cell is its spelling
 written_spelt : {from : CellPart} {last : N.Bool} {bytes text : List ℕ} → N.WritesCell from return_column last bytes text → (value : Cell)
@@ -103,7 +103,7 @@ scalar_whole charset kind bytes scalar whole good = go _ refl
 -- nothing was passed over
 pub passes_none : {n : ℕ} {a : Seen} {place : ℕ} → n ≡ 0 → N.IsBetween a → PassesData n a a place place
 passes_none {n = n} {a = a} none between =
-    record { bytes = []; counted = sym none; takes = N.Takes-none a n; between = between; place_is = omega arith }
+    grind arith
 
 -- a piece more was
 pub passes_more : {m n k : ℕ} {a b d : Seen} {place middle place' : ℕ} → k ≡ m + n → PassesData m a b place middle → PassesData n b d middle place'
@@ -210,7 +210,7 @@ module _ {c : Conversion} {size : ℕ} (any : AnyData c size) where
       (x : N.ReadsNumber 4 a b place place' n) (free : N.chunk_length_fault return_column size total sum n ≡ N.None) (is : k ≡ n) where
     -- the terminator was read
     pub end_steps : k ≡ 0 → StepsOver (ChunkLength c total content) (N.WholeCell (N.DataCell c content)) a b place place'
-    end_steps ends = grind (arith, steps_of, chunk_end, counted, content)
+    end_steps ends = grind (arith, steps_of)
 
     -- the length of a chunk was read
     pub chunk_steps : k ≢ 0 → StepsOver (ChunkLength c total content) (chunk_left c total k content) a b place place'

@@ -26,7 +26,7 @@ pub record Path {S : Type 0} (g : Grammar S Fault) (text : S → List ℕ) (s : 
 
 module _ {S : Type 0} {g : Grammar S Fault} {text : S → List ℕ} where
   pub writes_none : {s : S} → Writes g text s [] [] s
-  writes_none = record { spelt = N.Spelt-none _ _; text_is = N.append-nil _ }
+  writes_none = search N.rules
 
   pub writes_both : {s t u : S} {a b p q : List ℕ} → Writes g text s a p t → Writes g text t b q u → Writes g text s (a ++ b) (p ++ q) u
   writes_both x y = grind (arith, N.Spelt-append, N.append_assoc)
@@ -67,9 +67,9 @@ module _ {S : Type 0} {g : Grammar S Fault} {text : S → List ℕ} where
 pub writes_inside : {S T : Type 0} {small : Grammar S Fault} {big : Grammar T Fault} {lift : S → T} {text : S → List ℕ} {whole : T
     → List ℕ} {s t : S} {a p : List ℕ} (front : List ℕ) → N.Inside small big lift → ((s : S) → front ++ text s ≡ whole (lift s))
     → Writes small text s a p t → Writes big whole (lift s) a p (lift t)
-writes_inside {whole = whole} front is text_is x = grind (arith, N.common_steps, whole, N.Inside-Spelt, N.added_inside)
+writes_inside {whole = whole} front is text_is x = grind (arith, N.common_steps, whole, N.Inside-Spelt)
 
 -- what is known of all bytes and what they make
 pub path_map : {S T : Type 0} {g : Grammar S Fault} {k : Grammar T Fault} {text : S → List ℕ} {whole : T → List ℕ} {s t : S} {u v : T} {p q : At}
     → ((a m : List ℕ) → Writes g text s a m t → Writes k whole u a m v) → Path g text s p q t → Path k whole u p q v
-path_map f x = record { bytes = x.bytes; made = x.made; writes = f _ _ x.writes; takes = x.takes; puts = x.puts; place_is = x.place_is }
+path_map f x = search N.rules

@@ -100,8 +100,8 @@ module _ (charset : Charset) (cells : List Cell) (ks : List (Column × Bool)) wh
 
 some_bytes : (column : ℕ) (from : CellPart) (v : Cell) (es : List (List ℕ)) → (from ≡ WholeCell v → ⊥) → N.Leads (cell column) from es (WholeCell v)
     → 0 < length (N.concat es)
-some_bytes column from v [] before h = absurd (before h)
-some_bytes column from v (e ∷ es) before h = omega (arith, N.length-append e (N.concat es))
+some_bytes column from v [] before h = grind arith
+some_bytes column from v (e ∷ es) before h = grind (arith, N.length-append)
 
 -- a cell that was read has some bytes
 pub cell_some : {column : ℕ} {last : Bool} {p q : At} (charset : Charset) (kind : Kind) → PutsAt charset kind column last p q → p.place < q.place
@@ -154,7 +154,7 @@ nulls_text charset cells ((k, true) ∷ ks) =
     ap (λ l. l ++ (N.in_line (length cells) (ends ks) N.null_field ++ tail)) (append-nil (joined (map field cells)))
     ∙ sym (N.append_assoc (joined (map field cells)) _ tail)
     ∙ one_more cells N.Null ks _ (nulls_text charset (cells ++ N.Null ∷ []) ks)
-nulls_text charset cells ((k, false) ∷ ks) = grind (arith, append-nil)
+nulls_text charset cells ((k, false) ∷ ks) = search N.rules
 
 -- ---- a cell's text in its line
 

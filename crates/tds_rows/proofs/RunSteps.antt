@@ -52,9 +52,9 @@ whole_some kind bytes = grind arith
 -- what doesn't fill a block isn't delivered, so no write of it fails
 pub fills_no_block : (h j : N.Held) (piece : List ℕ) (stop : Stop) → length h.waiting + length piece < 4096 → N.Breaks h j piece stop → ⊥
 fills_no_block h j piece stop few (sent, blocks, n, adds, most, least, less, whole, is, risen) =
-    let both : length h.waiting + length (take n piece) ≡ length sent + length j.waiting = sym (N.length-append h.waiting (take n piece))
+    let both = sym (N.length-append h.waiting (take n piece))
     ∙ ap length adds.1 ∙ N.length-append sent j.waiting in
-    omega (arith, most, N.length-take n piece)
+    omega (arith, N.length-take n piece)
 
 -- ---- over the ends of rows
 
@@ -64,8 +64,8 @@ lines-append (r ∷ rs) qs = ap (λ l. N.line (N.map N.field r) ++ l) (lines-app
 
 -- some columns are to come, so no line ends there
 start_text : (token : N.RowToken) (charset : Charset) (columns : List Column) → 0 < length columns → row_so_far (N.token_start token charset columns) ≡ []
-start_text PlainRow charset [] some = absurd (omega arith)
-start_text PlainRow charset (c ∷ cs) some = ap (λ o. N.joined (N.with_field [] o)) (start_quiet _ _)
+start_text PlainRow charset [] some = grind arith
+start_text PlainRow charset (c ∷ cs) some = grind arith
 start_text N.NbcRow charset columns some = refl
 
 module _ (token : N.RowToken) (charset : Charset) (all : List Column) (before : List (List Cell)) where
@@ -89,7 +89,7 @@ module _ (token : N.RowToken) (charset : Charset) (all : List Column) (before : 
 cell_writes : {column : ℕ} {last : Bool} {bytes made : List ℕ} (kind : Kind) (sh : N.Shape)
     → (x : N.WritesWhole (cell_start kind sh) column last bytes made)
     → Writes (cell column) (N.cell_so_far column last) (cell_start kind sh) bytes made (N.WholeCell x.value)
-cell_writes {column = column} {last = last} {made = made} kind sh x = grind (arith, quiet_text, start_quiet)
+cell_writes {column = column} {last = last} {made = made} kind sh x = grind arith
 
 -- a cell after these, in its row
 after_more : {bytes made : List ℕ} {v : Cell} (charset : Charset) (cells : List Cell) (c : Column) (left : List Column)
@@ -131,7 +131,7 @@ module _ {charset : Charset} {all : List Column} {cells : List Cell} {from : ℕ
   -- so many columns
   pub marked_cells : (n : ℕ) (b q : List ℕ) → length cells ≡ from → N.WritesMarked charset all (λ k. false) from n b q
       → WritesCells charset all cells from (from + n) b q
-  marked_cells N.zero b q counted w = rw (w.0, w.1, N.add-zero from) (record { more = cells; counted = counted; writes = writes_none })
+  marked_cells N.zero b q counted w = search N.rules
   marked_cells (N.suc n) b q counted w =
       let y = column_cells _ (marked_cells n _ _ counted w.6) w.7 in
       let further : (from + n) + 1 ≡ from + N.suc n = omega arith in
@@ -179,7 +179,7 @@ module _ (charset : Charset) (all : List Column) (before : List (List Cell)) whe
   rows_among_rows = grind (arith, N.append_assoc)
 
   rows_after_text : (p : N.RowsPart) → lines before ++ rows_so_far p ≡ rows_so_far (after_rows p)
-  rows_after_text p = grind (arith, N.append_assoc, before, lines-append)
+  rows_after_text p = grind (arith, N.append_assoc, lines-append)
 
   pub rows_after : {p q : N.RowsPart} {bytes made : List ℕ} → Writes (rows PlainRow charset all) rows_so_far p bytes made q
       → Writes (rows PlainRow charset all) rows_so_far (after_rows p) bytes made (after_rows q)

@@ -20,6 +20,6 @@ module _ (column : ℕ) (kind : N.Kind) (c : N.Conversion) (last : N.Bool) (byte
       let whole = N.length-take-le n (drop 2 bytes) (omega (arith, N.length-drop 2 bytes)) in
       let a : N.slice_index bytes 0 ≡ length d % 256 = omega arith in
       let b : N.slice_index bytes 1 ≡ length d / 256 = omega arith in
-      let front : take 2 bytes ≡ length d % 256 ∷ length d / 256 ∷ [] = grind arith ∙ (λ i. a i ∷ b i ∷ []) in
+      let front = grind arith ∙ (λ i. a i ∷ b i ∷ []) in
       let spells : N.SpellsShort d _ = record { counted = N.take-add 2 n bytes ∙ N.ap (λ l. l ++ d) front; least = omega arith } in
       record { value = N.DataCell c d; spelt = cell_is_read column kind (N.LongShape c N.Short) _ _ tt (N.refl, fit, spells); text_is = is }

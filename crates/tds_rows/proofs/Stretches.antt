@@ -13,7 +13,7 @@ module _ (charset : N.Charset) (columns : List N.Column) where
   -- so many columns, and then so many more
   marked_both : (nulls : ℕ → Bool) (from n m : ℕ) (a b p q : List ℕ) → N.WritesMarked charset columns nulls from n a p
       → N.WritesMarked charset columns nulls (from + n) m b q → N.WritesMarked charset columns nulls from (n + m) (a ++ b) (p ++ q)
-  marked_both nulls from n N.zero a b p q x y = grind (arith, N.append-nil)
+  marked_both nulls from n N.zero a b p q x y = search N.rules
   marked_both nulls from n (suc m) a b p q x y =
       let at : (from + n) + m ≡ from + (n + m) = omega arith in
       let counted : suc _ ≡ n + suc m = omega arith in

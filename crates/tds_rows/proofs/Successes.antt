@@ -30,7 +30,6 @@ module _ {S : Type 0} (g : Grammar S Fault) (from to : S) (a b : Seen) (front mo
   refused_there : (at : S) (bytes : List ℕ) (fault : Fault) → Spelt g from bytes at → N.RefusesNext g a b bytes at fault → at ≡ to
   refused_there at bytes fault spelt x =
       let e = x.element in
-      let some = x.some in
       let whole = x.whole in
       let c = came _ _ x.takes.1.0 (λ zs. ap (λ c. c.bytes) (x.takes.1.1 zs)) in
       let rest = e ++ (x.ahead ++ c.0) in
@@ -88,7 +87,7 @@ pub streaming_succeeds : {S R W U : Type 0} {from to : S} {bytes : List ℕ} (g 
     → N.MatchResult result P (λ stop. N.StopsStreaming g text from (N.seen remaining old) (N.seen remaining new) old.place (N.held contents sink)
     (N.held contents sink') sink'.failed stop) → Spelt g from bytes to → g.size to ≡ 0
     → N.SucceedsOn remaining old new sink sink' result (bytes ++ more)
-streaming_succeeds g text remaining contents old new sink sink' (Ok x) more P put spelt none = λ brings reads writes. refl
+streaming_succeeds g text remaining contents old new sink sink' (Ok x) more P put spelt none = grind arith
 streaming_succeeds g text remaining contents old new sink sink' (Err stop) more P put spelt none =
     λ brings reads writes. absurd (none_stops _ _ _ _ _ more brings spelt none reads writes put)
 
@@ -96,7 +95,7 @@ pub value_passes : {R U : Type 0} (remaining : R → Option (List ℕ)) (kind : 
     (bytes more : List ℕ)
     → N.CellPassed remaining (N.cell_start kind (N.shape N.return_charset kind)) old new result → N.SpellsCell kind (N.shape N.return_charset kind) value bytes
     → N.ReadsOn remaining old new result (bytes ++ more)
-value_passes remaining kind old new (Ok x) value bytes more passed spelt = λ brings reads. refl
+value_passes remaining kind old new (Ok x) value bytes more passed spelt = grind arith
 value_passes remaining kind old new (Err stop) value bytes more passed spelt = λ brings reads.
     let read = cell_is_read _ _ _ _ _ (shape-HasBytes N.return_charset _) spelt in
     absurd (none_stops_reading _ _ _ _ _ brings read refl reads passed.stops)
@@ -168,6 +167,6 @@ module _ (token : N.RowToken) (charset : N.Charset) (columns : List N.Column) (s
       (result : N.Result ℕ Stop) (first : List Cell) (later : List (List Cell)) (bytes more : List ℕ)
       → N.RowsRead remaining contents token charset columns old new before after result → N.SpellsRows token charset columns first later bytes
       → N.BeginNoRow token more → N.SucceedsOn remaining old new before after result (bytes ++ more)
-  rows_succeed remaining contents old new before after (Ok n) first later bytes more read spelt none = λ brings reads writes. refl
+  rows_succeed remaining contents old new before after (Ok n) first later bytes more read spelt none = grind arith
   rows_succeed remaining contents old new before after (Err stop) first later bytes more read spelt none =
       λ brings reads writes. absurd (rows_stop_not first later bytes more brings spelt none reads writes read)

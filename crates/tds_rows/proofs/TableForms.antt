@@ -43,7 +43,7 @@ module _ (table : N.Table) (from : N.Ahead) (end : ℕ) (forms : List Form) (wit
         → (to : N.Ahead) (bytes text : List ℕ) (run : N.FormsRun) → to.column ≡ from.column + run.cells → N.IsAhead table columns to
         → N.FormsWritten table.charset forms from.column ends bytes text run
         → N.RunsMarked table columns (λ k. N.false) from to (take run.used bytes) (take run.made text)
-    forms_between columns knows is to bytes text run further there x = grind (arith, N.length-drop, N.nat_tests)
+    forms_between columns knows is to bytes text run further there x = grind (arith, N.length-drop)
 
   -- the first was left
   pub first_left : (bytes : List ℕ) (room : ℕ) → N.FirstLeft table.charset forms bytes room

@@ -22,13 +22,7 @@ rows_begin = grind (arith, rows_none)
 -- the token byte of a ROW is next
 begins_at : (used : ℕ) (bytes : List ℕ) → N.BeginsRow (take (length bytes - used) (drop used bytes)) → (used < length bytes)
     × (N.get_or bytes used 0 ≡ 0xD1)
-begins_at used bytes begins = go _ N.refl
-  where
-    go : (rest : List ℕ) → drop used bytes ≡ rest → (used < length bytes) × (N.get_or bytes used 0 ≡ 0xD1)
-    go [] e = absurd (rw (N.all_after bytes used, e) at begins)
-    go (byte ∷ rest) e =
-        let within : used < length bytes = omega (arith, N.length-drop used bytes, ap length e) in
-        (within, ap (λ l. N.get_or l 0 0) (N.sym (N.drop_more bytes used 0 within) ∙ e) ∙ (rw (N.all_after bytes used, e) at begins))
+begins_at used bytes begins = grind (arith, N.all_after, N.drop_more, N.length-drop)
 
 -- one row more, after its token byte
 pub row_begun : {table : Table} {from start : Ahead} {bytes to : List ℕ} {run : N.RowsRun} → 0 < table.count → table.count ≤ run.ahead.column
@@ -65,7 +59,7 @@ pub rows_more : {table : Table} {from : Ahead} {bytes to : List ℕ} {run : N.Ro
     → RowsRan table from bytes (take run.made to ++ (text ++ rest))
     (record { used = run.used + cells.used; made = run.made + cells.made; rows = run.rows; ahead = cells.ahead })
 rows_more {from = from} {bytes = bytes} {to = to} {run = run} text rest some within fits gives x = record {
-  used = omega (arith, N.length-take (length bytes - run.used) (drop run.used bytes), N.length-drop run.used bytes);
+  used = omega (arith, N.length-take (length bytes - run.used) (drop run.used bytes));
   made = omega (arith, N.length-append (take run.made to) (text ++ rest), N.length-append text rest, N.length-take-le run.made to x.made);
   few = omega arith;
   writes = λ columns knows is. (let y = x.writes columns knows is in more_in_rows from _ _ _ _ _ _ _ _ x.made fits y (gives columns knows y.0));
@@ -121,7 +115,7 @@ pub rows_further : {table : Table} {from : Ahead} {bytes to : List ℕ} {run mor
     → RowsRan table from bytes (take run.made to ++ (text ++ rest))
     (record { used = run.used + more.used; made = run.made + more.made; rows = run.rows + more.rows; ahead = run.ahead })
 rows_further {bytes = bytes} {to = to} {run = run} {more = more} text rest is x y = record {
-  used = omega (arith, N.length-take (length bytes - run.used) (drop run.used bytes), N.length-drop run.used bytes);
+  used = omega (arith, N.length-take (length bytes - run.used) (drop run.used bytes));
   made = omega (arith, N.length-append (take run.made to) (text ++ rest), N.length-append text rest, N.length-take-le run.made to x.made);
   few = omega arith;
   writes = λ columns knows ahead. (let u = x.writes columns knows ahead in let v = y.writes columns knows u.0 in (

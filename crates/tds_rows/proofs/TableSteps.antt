@@ -11,14 +11,14 @@ pub next_column : (columns : List Column) (k : ℕ) (c : Column) (rest : List Co
     × ((get_or columns k c ≡ c) × (drop (k + 1) columns ≡ rest))
 next_column columns k c rest h =
     let within : k < length columns = omega (arith, N.length-drop k columns, ap length h) in
-    let more : get_or columns k c ∷ drop (k + 1) columns ≡ c ∷ rest = sym (N.drop_more columns k c within) ∙ h in
+    let more = sym (N.drop_more columns k c within) ∙ h in
     (within, (ap (λ (l : List Column). get_or l 0 c) more, ap (drop 1) more))
 
 -- one column more is known
 pub first_more : (forms : List Form) (columns : List Column) (k : ℕ) (f : Form) (c : Column) (rest : List Column) → k < length forms
     → map (λ f. f.kind) (take k forms) ≡ N.kinds (take k columns) → drop k columns ≡ c ∷ rest → f.kind ≡ c.kind
     → map (λ f. f.kind) (take (k + 1) (N.slice_set forms k f)) ≡ N.kinds (take (k + 1) columns)
-first_more forms columns k f c rest within first h is = grind (arith, N.common_steps, next_column, N.take_more_set, N.map-append, N.take_more)
+first_more forms columns k f c rest within first h is = grind (arith, N.common_steps, next_column, N.map-append, N.take_more)
 
 -- the kind of a column that is known
 pub known_kind : (forms : List Form) (columns : List Column) (n k : ℕ) (f : Form) (c : Column)
@@ -57,7 +57,7 @@ module _ {table : N.Table} {columns : List Column} {old new : Ahead} (knows : N.
   after_walked further some beyond steps =
       record {
         counted = omega arith;
-        within = λ most. absurd (omega (arith, beyond, further));
+        within = λ most. absurd (omega (arith, beyond));
         beyond = λ _. steps ∙ ap (drop 1) (is.beyond beyond) ∙ N.drop-drop 1 old.column columns
             ∙ ap (λ (n : ℕ). drop n columns) (omega arith);
       }
@@ -84,7 +84,7 @@ last_one columns (d ∷ ds) c k n whole next = N.ne_eqb (k + 1) n (λ e. omega (
 
 -- none is next where as many as there are lie before
 pub none_next : (columns : List Column) (k n : ℕ) → n ≡ length columns → n ≤ k → drop k columns ≡ []
-none_next columns k n whole all = N.drop_all k columns (omega arith)
+none_next columns k n whole all = grind (arith, N.drop_all)
 
 -- before the row's end the next column is ahead, of some kind
 pub next_any : (columns : List Column) (at : Ahead) (n : ℕ) → n ≡ length columns → at.column < n → (kind : Kind) × N.NextColumn columns at kind
@@ -102,8 +102,8 @@ next_any columns at n whole some =
 
 -- as many lie before where the place is the row's end
 pub all_before : (k n : ℕ) → N.true ≡ (k == n) → n ≤ k
-all_before k n is = omega (arith, N.eq_true k n (sym is))
+all_before k n is = grind arith
 
 -- none is next at the row's end
 pub at_end : (columns : List Column) (k n : ℕ) → n ≡ length columns → (k == n) ≡ N.true → drop k columns ≡ []
-at_end columns k n whole is = none_next columns k n whole (omega (arith, N.eq_true k n is))
+at_end columns k n whole is = grind (arith, N.eq_true, none_next)
