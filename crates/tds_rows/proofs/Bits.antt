@@ -30,7 +30,7 @@ module _ (bitmap : List ℕ) (at : ℕ) where
       let within : at % 8 + t < 8 = elim (dec_le (at % 8 + t + 1) 8) [
         | yes lt ↦ omega arith
         | no above ↦
-            let none : bit_at bits t ≡ 0 = rw (div-div-eq-div-mul, ← pow-add) (bit_at_above (slice_index bitmap (at / 8)) 8 _ fits (omega arith)) in
+            let none : bit_at bits t ≡ 0 = rw (div-div-eq-div-mul, ← pow-add) (bit_at_above _ 8 _ fits (omega arith)) in
             absurd (omega arith)
       ] in (
         λ k least most.

@@ -14,9 +14,9 @@ fixed_written column kind n last bytes text some within x = record {
   at = N.ScalarBytes kind n;
   element = take n bytes;
   joined = refl;
-  spelt = N.Spelt-none _ _;
+  spelt = grind arith;
   next = grind (arith, N.common_steps);
-  whole = ap N.value_part x.1;
+  whole = cc;
   quiet = refl;
   text_is = x.2;
 }
@@ -32,8 +32,8 @@ null_written column kind last bytes text within is text_is = rw (first_of _ 0 wi
   at = N.ScalarLength kind;
   element = 0 ∷ [];
   joined = refl;
-  spelt = N.Spelt-none _ _;
-  next = record { some = omega arith; whole = refl; free = refl };
+  spelt = grind arith;
+  next = grind arith;
   whole = refl;
   quiet = refl;
   text_is = text_is;
@@ -43,10 +43,10 @@ counted_written : (column : ℕ) (kind : Kind) (n : ℕ) (last : Bool) (bytes te
     → N.IsValueText kind column last (take n (drop 1 bytes)) text
     → WritesCell (N.ScalarLength kind) column last (take (1 + n) bytes) text
 counted_written column kind n last bytes text is some within x =
-    let whole = N.length-take-le n (drop 1 bytes) (grind arith) in
+    let whole = N.length-take-le n _ (grind arith) in
     let good = ap (N.is_length_allowed kind) (sym whole) ∙ read_allowed kind _ x.0 x.1 in
     let yes = ap (λ v. v || N.is_length_allowed kind n) (N.ne_eqb n 0 some) ∙ good in
-    let to : (N.cell column).add (N.ScalarLength kind) (n ∷ []) ≡ N.ScalarBytes kind n = N.choose_false _ _ _ (N.ne_eqb n 0 some) in
+    let to : (N.cell column).add (N.ScalarLength kind) (n ∷ []) ≡ N.ScalarBytes kind n = grind arith in
     record {
       value = N.ScalarCell x.0;
       front = n ∷ [];
@@ -54,9 +54,9 @@ counted_written column kind n last bytes text is some within x =
       element = take n _;
       joined = sym (N.take-add 1 n bytes ∙ ap (λ l. l ++ take n (drop 1 bytes)) (first_of bytes n (omega arith) is));
       spelt = rw to at (N.Spelt-one (N.cell column) (N.ScalarLength kind) (n ∷ [])
-          (record { some = omega arith; whole = refl; free = ap (λ v. N.unless v (N.BadValueLength column)) yes }));
+          (record { some = omega arith; whole = refl; free = cc }));
       next = grind arith;
-      whole = ap N.value_part x.1;
+      whole = cc;
       quiet = refl;
       text_is = x.2;
     }
@@ -119,10 +119,10 @@ module _ (h j : N.Held) (room written : List ℕ) (n : ℕ) (whole : length writ
   lent = N.overwritten (length h.waiting) written (h.waiting ++ room)
 
   before : take n lent ≡ h.waiting
-  before = grind (arith, N.spare_before, lent)
+  before = grind (arith, N.spare_before)
 
   after : drop n lent ≡ written
-  after = grind (arith, N.spare_written, lent)
+  after = grind (arith, N.spare_written)
 
   abbrev lent_held : N.Held
   lent_held = record h { waiting = take n lent }

@@ -30,7 +30,7 @@ module _ (column : ℕ) where
   counted_cell : (kind : Kind) (v : N.ScalarValue) (value : List ℕ) → 0 < length value → N.is_length_allowed kind (length value) ≡ true
       → N.read_of kind value ≡ Ok v → Spelt (cell column) (N.ScalarLength kind) (length value ∷ value) (WholeCell (N.ScalarCell v))
   counted_cell kind v value some allowed h =
-      let head : Spelt (cell column) (N.ScalarLength kind) (length value ∷ []) (N.ScalarBytes kind (length value)) =
+      let head : Spelt _ _ (length value ∷ []) _ =
       Spelt-step _ _ _ _ (omega arith) refl (unless_true _ _ (N.or_right _ _ allowed))
       (N.choose_false _ _ _ (ne_eqb (length value) 0 (λ e. omega arith))) in
       Spelt-append _ _ _ _ _ _ head (fixed_cell _ _ v _ some refl h)
@@ -53,7 +53,7 @@ module _ (column : ℕ) where
   short_length c n less even =
       let l = N.little-two n in
       Spelt-step _ _ _ _ (omega arith) refl (unless_true _ _
-      (N.or_right (little (n % 256 ∷ n / 256 ∷ []) == 0xFFFF) (little (n % 256 ∷ n / 256 ∷ []) % unit c == 0) (rw l (rw even))))
+      (N.or_right (little (n % 256 ∷ n / 256 ∷ []) == 0xFFFF) _ (rw l (rw even))))
       (rw l (N.choose_false _ _ _ (ne_eqb n 0xFFFF (λ e. omega arith))))
 
   short_cell : (c : Conversion) (d bytes : List ℕ) → is_fit c d ≡ true → N.SpellsShort d bytes
@@ -82,7 +82,7 @@ module _ (column : ℕ) where
   chunk_cell c total d [] bytes more f w s = grind arith
   chunk_cell c total d (x ∷ xs) bytes more f w s =
       let n = s.counted in
-      let head : Spelt (cell column) (N.ChunkLength c total d) s.header (N.ChunkData c total (length xs) d) =
+      let head : Spelt _ (N.ChunkLength c total d) s.header (N.ChunkData c total _ d) =
       Spelt-step _ _ _ _ (omega arith) s.four
       (rw n (N.choose_false _ _ _ (ne_eqb (suc (length xs)) 0 (λ q. omega arith)) ∙ unless_true _ _ w)) (rw n (search N.rules)) in
       rw (N.sym s.spelt) at (Spelt-append _ _ _ _ _ _ head (chunk_data c _ d x _ _ f))

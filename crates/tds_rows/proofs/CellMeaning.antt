@@ -37,7 +37,7 @@ end_chunks [] bytes h = cc
 end_chunks (x ∷ ds) bytes h = (
   h.0,
   h.1 ++ 0 ∷ 0 ∷ 0 ∷ 0 ∷ [],
-  ap (λ v. v ++ 0 ∷ 0 ∷ 0 ∷ 0 ∷ []) h.2 ∙ append_assoc h.0 h.1 (0 ∷ 0 ∷ 0 ∷ 0 ∷ []),
+  ap (λ v. v ++ 0 ∷ 0 ∷ 0 ∷ 0 ∷ []) h.2 ∙ append_assoc h.0 h.1 _,
   h.3,
   end_chunks ds h.1 h.4,
 )
@@ -125,10 +125,10 @@ module _ (column : ℕ) (kind : Kind) where
           chunks = m;
           header = e;
           part = [];
-          spelt = ap (λ v. b ++ v) (sym (N.append-nil e));
+          spelt = search N.rules;
           four = four;
           counted = omega arith;
-          all = sym (N.append-nil d);
+          all = search N.rules;
         },
       ))
 
@@ -138,18 +138,18 @@ module _ (column : ℕ) (kind : Kind) where
       let la = N.length-append m.part (x ∷ []) in
       let spelt = ap (λ v. v ++ x ∷ []) m.spelt ∙ append_assoc m.whole _ _ ∙ ap (λ v. m.whole ++ v) (append_assoc m.header m.part _) in
       let all = ap (λ v. v ++ x ∷ []) m.all ∙ append_assoc m.before m.part _ in
-      N.choose (λ p. CellMeans kind (LongShape c Chunked) p (b ++ x ∷ [])) (left == 0) _ _ (λ z.
+      N.choose (λ p. CellMeans kind (LongShape c Chunked) p (b ++ x ∷ [])) _ _ _ (λ z.
       let zero' = N.eq_true left 0 z in
-      let one : N.SpellsChunk _ _ = record { header = m.header; spelt = refl; four = m.four; counted = omega arith; some = omega arith } in (
+      let one : N.SpellsChunk _ _ = grind arith in (
         refl,
         record {
           first = m.chunks.first;
-          chunks = m.chunks.chunks ++ (m.part ++ x ∷ []) ∷ [];
-          rest = m.chunks.rest ++ (m.header ++ (m.part ++ x ∷ []));
+          chunks = m.chunks.chunks ++ _ ∷ [];
+          rest = m.chunks.rest ++ _;
           spelt = spelt ∙ ap (λ v. v ++ (m.header ++ (m.part ++ x ∷ []))) m.chunks.spelt ∙ append_assoc m.chunks.first _ _;
-          eight = m.chunks.eight;
-          total_is = m.chunks.total_is;
-          below = m.chunks.below;
+          eight = cc;
+          total_is = cc;
+          below = omega arith;
           begun = more_chunks _ _ _ _ m.chunks.begun one;
           all = N.concat-append m.chunks.chunks _ ∙ ap (λ v. v ++ N.concat ((m.part ++ x ∷ []) ∷ [])) m.chunks.all
               ∙ ap (λ v. m.before ++ v) (N.append-nil _) ∙ sym all;

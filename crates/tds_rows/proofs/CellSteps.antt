@@ -65,8 +65,7 @@ module _ {column n place : ℕ} {kind : Kind} {a b : Seen} where
       let p = N.reads_one _ _ a b (n ∷ []) _ (record {
         some = omega arith;
         whole = refl;
-        free = ap (λ v. N.unless v (N.BadValueLength column))
-            (ap (λ v. v || N.is_length_allowed kind n) (N.ne_eqb n 0 some) ∙ good);
+        free = grind arith;
       }) takes (N.choose_false _ _ _ (N.ne_eqb n 0 some)) in
       record { at = x.at; stops = N.stops_after _ _ _ a b _ place x.at _ p (rw at at x.stops); quiet = x.quiet }
 

@@ -20,15 +20,15 @@ module _ (forms : List Form) (ends : Bool) (columns : List Column) (next : N.Are
   -- the column after this many is the last where the forms say so
   last_of : (k : ℕ) (c : Column) (rest : List Column) → k < length forms → drop k columns ≡ c ∷ rest
       → (ends && (k + 1 == length forms)) ≡ N.is_last_column rest
-  last_of k c rest within step = go (length forms == length columns) refl
+  last_of k c rest within step = go _ refl
     where
       go : (b : Bool) → (length forms == length columns) ≡ b → (ends && (k + 1 == length forms)) ≡ N.is_last_column rest
       go N.true e = ap (λ v. v && (k + 1 == length forms)) (next.ends_are ∙ e)
-          ∙ last_one columns rest c k (length forms) (N.eq_true (length forms) (length columns) e) step
-      go false e = ap (λ v. v && (k + 1 == length forms)) (next.ends_are ∙ e) ∙ not_last rest (more (N.eq_false (length forms) (length columns) e))
+          ∙ last_one columns rest c k _ (N.eq_true _ _ e) step
+      go false e = ap (λ v. v && (k + 1 == length forms)) (next.ends_are ∙ e) ∙ not_last rest (more (N.eq_false _ _ e))
         where
           more : length forms ≢ length columns → 0 < length rest
-          more isnt = omega (arith, few, isnt, ap length step, N.length-drop k columns)
+          more isnt = omega (arith, few, ap length step, N.length-drop k columns)
 
   module _ (k : ℕ) (d : Form) (within : k < length forms) where
     abbrev next_column : Column
@@ -38,14 +38,14 @@ module _ (forms : List Form) (ends : Bool) (columns : List Column) (next : N.Are
     step = grind (arith, N.drop_more, few)
 
     kind_is : (get_or forms k d).kind ≡ next_column.kind
-    kind_is = known_kind _ _ _ k d _ (ap (N.map (λ f. f.kind)) (N.take_all (length forms) forms (omega arith))
+    kind_is = known_kind _ _ _ k d _ (ap (N.map _) (N.take_all _ forms (omega arith))
         ∙ next.kinds_are) within (omega arith) (omega (arith, few))
 
     -- the cell after this many
     next_cell : (charset : Charset) (all : List Column) (column : ℕ) (bytes text : List ℕ) → columns ≡ drop column all
         → N.WritesKind charset (get_or forms k d).kind (column + k) (ends && (k + 1 == length forms)) bytes text
         → N.WritesColumn charset all (λ k. false) (column + k) bytes text
-    next_cell charset all column bytes text is x = grind (arith, N.drop-drop, kind_is, last_of, next_column, step)
+    next_cell charset all column bytes text is x = grind (arith, N.drop-drop, kind_is, last_of, step)
 
 -- some forms have a first
 pub some_first : (forms : List Form) → 0 < length forms → (form : Form) × (rest : List Form) × (forms ≡ form ∷ rest)
@@ -63,16 +63,16 @@ module _ (charset : Charset) (forms : List Form) (column : ℕ) (ends : Bool) (c
         → (x : N.WritesForms charset forms column (suc n) bytes text) → N.WritesMarked charset columns (λ k. false) column n x.0 x.2
         → N.WritesMarked charset columns (λ k. false) column (suc n) bytes (text ++ end_after (closes m))
     one_more d n bytes text is few x w =
-        let last = closes (n + 1) in
+        let last = closes _ in
         rw is (
           x.0,
           x.1,
           x.2,
-          N.in_line (column + n) last x.3,
+          N.in_line _ last x.3,
           x.4,
           ap (λ l. l ++ end_after last) x.5 ∙ N.append_assoc x.2 _ _,
           w,
-          next_cell _ _ _ next n d (omega arith) _ _ _ _ _ refl (x.7 d (column + n) last),
+          next_cell _ _ _ next n d (omega arith) _ _ _ _ _ refl (x.7 d _ last),
         )
 
     not_closed : (n : ℕ) → n < length forms → closes n ≡ false
@@ -99,10 +99,10 @@ module _ (charset : Charset) (forms : List Form) (column : ℕ) (ends : Bool) (c
 pub before_comma : (made column : ℕ) (to fields : List ℕ) → 0 < column → made ≤ length to → take made to ≡ fields ++ after_comma column []
     → take (made - 1) to ≡ fields
 before_comma made column to fields some within is =
-    let comma = is ∙ ap (λ l. fields ++ l) (sym (after_some_column column [] (λ e. omega (arith, e)))) in
-    let counted : length fields ≡ made - 1 = omega (arith, sym (N.length-take-le made to within) ∙ ap length comma ∙ N.length-append fields (44 ∷ [])) in
-    sym (N.take-take (made - 1) made to (omega arith)) ∙ ap (take (made - 1)) comma
-    ∙ N.take-append-le (made - 1) fields (44 ∷ []) (omega arith) ∙ N.take_all (made - 1) fields (omega arith)
+    let comma = is ∙ ap (λ l. fields ++ l) (sym (after_some_column column [] (λ e. omega arith))) in
+    let counted : length fields ≡ made - 1 = omega (arith, sym (N.length-take-le made to within) ∙ ap length comma ∙ N.length-append fields _) in
+    sym (N.take-take _ made to (omega arith)) ∙ ap (take _) comma
+    ∙ N.take-append-le _ fields _ (omega arith) ∙ N.take_all _ fields (omega arith)
 
 module _ (charset : Charset) (forms : List Form) (column : ℕ) (bytes : List ℕ) where
   -- one cell more
@@ -112,16 +112,16 @@ module _ (charset : Charset) (forms : List Form) (column : ℕ) (bytes : List �
       → N.FieldsWritten charset forms column bytes (N.slice_set (take made to ++ (text ++ rest)) (made + m) 44)
       (record { cells = k + 1; used = now; made = made + m + 1 })
   fields_more to text rest k used u now made m d further within some there wrote (fields, x, is) =
-      let read = take u (take (length bytes - used) (drop used bytes)) in
+      let read = take u _ in
       let field = take m text in
-      let all = take made to ++ (text ++ rest) in
+      let all = take made to ++ _ in
       let here : made + m < length all = omega (arith, N.length-append (take made to) (text ++ rest), N.length-append text rest, N.length-take-le made to within) in
       let is' =
-      N.take_more_set all (made + m) 44 here ∙ ap (λ l. l ++ 44 ∷ []) (made_more made m to text rest within (omega arith)
-      ∙ ap (λ l. l ++ field) is ∙ N.append_assoc fields (after_comma (column + k) []) field
-      ∙ ap (λ l. fields ++ l) (sym (after_append (column + k) [] field)))
+      N.take_more_set all _ 44 here ∙ ap (λ l. l ++ 44 ∷ []) (made_more made m to text rest within (omega arith)
+      ∙ ap (λ l. l ++ field) is ∙ N.append_assoc fields _ field
+      ∙ ap (λ l. fields ++ l) (sym (after_append _ [] field)))
       ∙ ap (λ l. (fields ++ after_comma (column + k) field) ++ l) (after_some_column (column + (k + 1)) [] (λ e. omega arith)) in
-      let written : N.WritesForms charset forms column (suc k) (take (used + u) bytes) (fields ++ after_comma (column + k) field) =
+      let written : N.WritesForms charset forms column (suc k) _ _ =
       (take used bytes, read, fields, field, used_more used u bytes, refl, x, λ form. rw (N.get_or_default forms k d form there) at wrote) in
       let next : suc k ≡ k + 1 = omega arith in
       rw further (fields ++ after_comma (column + k) field, rw (← next) written, is')
@@ -131,13 +131,13 @@ module _ (charset : Charset) (forms : List Form) (column : ℕ) (bytes : List �
       → N.WritesForms charset forms column 1 (take used bytes) fields → take made to ≡ fields ++ end_after (ends && (1 == length forms))
       → N.FirstWritten charset forms column ends bytes to (record { cells = 1; used = used; made = made })
   first_alone ends to used made fields size (front, rest, before, field, b, t, x, y) is = λ form others are.
-      let last = ends && (1 == length forms) in
+      let last = ends && _ in
       let read = sym (b ∙ ap (λ l. l ++ rest) x.0) in
       let text =
       ap (λ l. l ++ end_after last) (ap (λ (n : ℕ). after_comma n field) (let n : column ≡ column + 0 = omega arith in n)
       ∙ sym (t ∙ ap (λ l. l ++ after_comma (column + 0) field) x.1)) ∙ sym is in
       let kind_is = ap (λ (l : List Form). (get_or l 0 form).kind) are in
-      record { size = size form others are; writes = rw kind_is at (rw text at (rw read at (y form column last))) }
+      record { size = search N.rules; writes = rw kind_is at (rw text at (rw read at (y form column last))) }
 
 -- the bytes of the first cell were used
 first_used : (forms : List Form) (bytes : List ℕ) (used u k : ℕ) (d : Form) → k ≡ 0 → used ≡ 0
@@ -148,7 +148,7 @@ first_used forms bytes used u k d first none size form others are = grind (arith
 pub left_after : (bytes rest : List ℕ) (u : ℕ) → length rest ≤ length bytes → rest ≡ drop (length bytes - length rest) bytes → u ≤ length rest
     → (length bytes - length (take (length rest - u) (drop u rest)) ≡ (length bytes - length rest) + u)
     × (take (length rest - u) (drop u rest) ≡ drop ((length bytes - length rest) + u) bytes)
-left_after bytes rest u within is some = grind (arith, N.all_after, N.drop-drop, N.length-drop, N.length-take)
+left_after bytes rest u within is some = grind (arith, N.all_after, N.drop-drop, N.length-drop)
 
 -- ---- a run so far
 
@@ -173,9 +173,9 @@ fields_step {forms = forms} {bytes = bytes} {cells = cells} {used = used} u m d 
       few = omega arith;
       taken = omega arith;
       fits = omega arith;
-      begun = λ never. absurd (omega arith);
-      some = λ _. omega (arith, more);
-      further = λ _. (omega arith, omega arith);
+      begun = omega arith;
+      some = omega arith;
+      further = omega arith;
       one = λ first. let begun = x.begun (omega arith) in
           rw further (first_used forms bytes used u cells d (omega arith) begun.0 whole);
     }
@@ -187,11 +187,11 @@ pub fields_run : {charset : Charset} {forms : List Form} {column : ℕ} {ends : 
     → N.RunsForms charset forms column ends bytes room new (record run { made = made })
 fields_run {charset = charset} {forms = forms} {column = column} {ends = ends} {bytes = bytes} {text = text} {run = run} room made new some x fits is =
     let (fields, wrote, there) = x.fields in
-    let before = before_comma run.made (column + run.cells) text fields (omega arith) x.within.made there in
-    let text_is = is ∙ ap (λ l. l ++ end_after (ends && (run.cells == length forms))) before in
+    let before = before_comma run.made _ text fields (omega arith) x.within.made there in
+    let text_is = is ∙ ap (λ l. l ++ end_after _) before in
     record {
-      within = record { cells = x.within.cells; used = x.within.used; made = fits; some = x.within.some; none = x.within.none };
-      ends = λ none. absurd (omega (arith, none));
+      within = omega arith;
+      ends = grind arith;
       one = λ alone.
           let one = N.subst (λ (n : ℕ). N.WritesForms charset forms column n (take run.used bytes) fields) alone wrote in
           let first = first_alone charset forms column bytes ends new run.used made fields (x.one alone) one

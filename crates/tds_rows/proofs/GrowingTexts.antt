@@ -26,14 +26,14 @@ grows_under x a b h = grind (arith, N.append_assoc)
 pub joined_more : (fs gs : List (List ℕ)) → Grows (joined fs) (joined (fs ++ gs))
 joined_more [] gs = grind arith
 joined_more (f ∷ []) [] = grows_same f
-joined_more (f ∷ []) (g ∷ gs) = (N.codes "," ++ joined (g ∷ gs), N.sym (N.append_assoc f _ (joined (g ∷ gs))))
-joined_more (f ∷ h ∷ fs) gs = grows_under _ (joined (h ∷ fs)) (joined (h ∷ (fs ++ gs))) (joined_more (h ∷ fs) gs)
+joined_more (f ∷ []) (g ∷ gs) = (N.codes "," ++ joined (g ∷ gs), N.sym (N.append_assoc f _ _))
+joined_more (f ∷ h ∷ fs) gs = grows_under _ _ _ (joined_more (h ∷ fs) gs)
 
 -- more of the last field
 joined_last : (fs : List (List ℕ)) (a b : List ℕ) → Grows a b → Grows (joined (fs ++ a ∷ [])) (joined (fs ++ b ∷ []))
 joined_last [] a b h = h
 joined_last (f ∷ []) a b h = grows_under _ a b h
-joined_last (f ∷ g ∷ fs) a b h = grows_under _ (joined (g ∷ (fs ++ a ∷ []))) (joined (g ∷ (fs ++ b ∷ []))) (joined_last (g ∷ fs) a b h)
+joined_last (f ∷ g ∷ fs) a b h = grows_under _ _ _ (joined_last (g ∷ fs) a b h)
 
 -- the text of a field that may not be there yet
 abbrev pub OptionGrows : Option (List ℕ) → Option (List ℕ) → Type 0
@@ -56,7 +56,7 @@ open_more c a b h = grind (arith, N.open_grows, N.begun_by_test)
 
 -- the end of the data
 long_grows : (c : N.Conversion) (a : List ℕ) → N.is_fit c a ≡ true → Grows (open_field c a) (N.long_field c a)
-long_grows c a h = (N.conversion_text c (N.conversion_rest c a) ++ N.closing (N.is_quoted c), N.open_closes c a h)
+long_grows c a h = (N.conversion_text c _ ++ N.closing _, N.open_closes c a h)
 
 -- ---- a cell
 
@@ -72,7 +72,7 @@ end_fit column c total content n h z = grind arith
 module _ (column : ℕ) where
   -- each element of a cell adds to its text
   pub cell_grows : (p : N.CellPart) (e : List ℕ) → N.IsNext (N.cell column) p e → OptionGrows (N.field_so_far p) (N.field_so_far (N.cell_add p e))
-  cell_grows p e n = grind (arith, N.common_steps, grows_same, unless_none, open_more, N.choose, long_grows, last_fit)
+  cell_grows p e n = grind (arith, N.common_steps, unless_none, open_more, N.choose, long_grows, last_fit)
 
 -- ---- a row
 

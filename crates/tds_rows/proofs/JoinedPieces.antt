@@ -11,7 +11,7 @@ module _ {fit begins : List ℕ → Type 0} {rest text : List ℕ → List ℕ} 
     (suits : N.Suits fit begins rest text size quoted c) where
   module _ (content : List ℕ) {old : List ℕ} (is : old ≡ conversion_rest c content) (begun : BeginsData c content) where
     begun_with : (piece : List ℕ) → begins (old ++ piece) → BeginsData c (content ++ piece)
-    begun_with piece h = (joins_by_name c).outward content piece (rw (← is) ((suits.begins_is (old ++ piece)).0 h))
+    begun_with piece h = (joins_by_name c).outward content piece (rw (← is) ((suits.begins_is _).0 h))
 
     -- a piece was taken
     pub piece_taken : {new piece : List ℕ} {p q : At} → 0 < length piece → Takes p.seen q.seen piece 1 → IsBetween q.seen
@@ -27,7 +27,7 @@ module _ {fit begins : List ℕ → Type 0} {rest text : List ℕ → List ℕ} 
           between = between;
           place_is = at;
           begun = all;
-          puts = subst (Puts p.held q.held) (grind arith) x.put;
+          puts = grind arith;
           kept_is = x.withheld ∙ suits.rest_is _ ∙ ap (λ o. conversion_rest c (o ++ piece)) is ∙ sym ((joins_by_name c).keeps content piece all);
         }
 
@@ -50,11 +50,11 @@ module _ {fit begins : List ℕ → Type 0} {rest text : List ℕ → List ℕ} 
           between = between;
           begun = begun_with good x.good.begun;
           no_text = λ so.
-              let inward = (joins_by_name c).inward content (good ++ bad ∷ [])
-              (subst (BeginsData c) (N.append_assoc content good (bad ∷ [])) so) in
+              let inward = (joins_by_name c).inward content _
+              (subst (BeginsData c) (N.append_assoc content good _) so) in
               x.bad ((suits.begins_is _).1 (rw (is, N.take_more piece _ 0 within) inward));
-          puts = subst (Puts h _) (grind arith) x.good.put;
-          stop_is = ap (λ n. record { fault = N.BadText column; place = N.Payload (place + n) }) (sym len);
+          puts = grind arith;
+          stop_is = cc;
         }
 
     -- a write of its text failed
@@ -71,8 +71,7 @@ module _ {fit begins : List ℕ → Type 0} {rest text : List ℕ → List ℕ} 
           takes = rw (N.take-append-drop f.taken piece) takes;
           between = between;
           begun = (joins_by_name c).outward content good (rw (← is) f.begun);
-          breaks = subst (λ l. N.Breaks h i l stop) (grind arith ∙ sym f.same ∙ ap (λ o. emit (conversion_rest c) (N.conversion_text c) (o ++ good)) is)
-              breaks;
+          breaks = grind arith;
         }
 
     -- the fault of a push
@@ -126,9 +125,9 @@ module _ (c : Conversion) (content : List ℕ) (begun : BeginsData c content) wh
       let e = emit (conversion_rest c) (N.conversion_text c) in
       let laws = joins_by_name c in
       let regroup = N.append_assoc content more piece in
-      let front = laws.front (content ++ more) piece all in
+      let front = laws.front _ piece all in
       N.append_cancel_left _ _ _
-      (sym (N.append_assoc (e content) (added_text c content more) (added_text c (content ++ more) piece))
+      (sym (N.append_assoc (e content) _ _)
       ∙ ap (λ l. l ++ added_text c (content ++ more) piece) (sym (laws.emits content more front)) ∙ sym (laws.emits (content ++ more) piece all)
       ∙ ap e regroup ∙ laws.emits content (more ++ piece) (subst (BeginsData c) regroup all))
 
@@ -136,10 +135,10 @@ module _ (c : Conversion) (content : List ℕ) (begun : BeginsData c content) wh
   fills_none : {p : At} → IsBetween p.seen → length p.held.waiting < 4096 → p.held.delivered ≤ 2 ^ 64 - 1
       → N.FillsData c content p.seen p.seen p.place p.place p.held p.held []
   fills_none between few delivered = record {
-    takes = N.Takes-none _ 0;
+    takes = grind arith;
     between = between;
     place_is = omega arith;
-    begun = rw (sym (N.append-nil content)) at begun;
+    begun = search N.rules;
     puts = rw added_none (N.Puts-none _ delivered);
     few = few;
     delivered = delivered;
@@ -171,7 +170,7 @@ pub record Filled (c : Conversion) (content kept : List ℕ) (p q : At) (n left 
 pub filled_none : {c : Conversion} {content kept : List ℕ} {n : ℕ} {p : At} → BeginsData c content → kept ≡ conversion_rest c content
     → IsBetween p.seen → length p.held.waiting < 4096 → p.held.delivered ≤ 2 ^ 64 - 1 → Filled c content kept p p n n
 filled_none begun is between few delivered =
-    record { more = []; fills = fills_none _ _ begun between few delivered; counted = omega arith; kept_is = rw (N.append-nil _) is }
+    record { more = []; fills = fills_none _ _ begun between few delivered; counted = omega arith; kept_is = search N.rules }
 
 module _ {c : Conversion} {content kept : List ℕ} {p q : At} {n left : ℕ} (begun : BeginsData c content) (x : Filled c content kept p q n left) where
   pub filled_more : {kept' : List ℕ} {r : At} (k : ℕ) → k ≤ left → length r.held.waiting < 4096 → r.held.delivered ≤ 2 ^ 64 - 1
@@ -195,7 +194,7 @@ module _ {c : Conversion} {content kept : List ℕ} {p q : At} {n left : ℕ} (b
         between = q.held;
         fewer = omega arith;
         fills = x.fills;
-        stops = rw (← rest) y;
+        stops = grind arith;
       }
 
 -- the end of content that is whole was put, or a write of it failed

@@ -23,7 +23,7 @@ int4_set forms k f false one before within is both = cc
 
 -- a part of whole numbers of four bytes
 pub int4_part : (forms : List Form) (k n : ℕ) → N.AreInt4 forms → n ≤ length (N.drop k forms) → N.AreInt4 (N.take n (N.drop k forms))
-int4_part forms k n all fits j d here = grind (arith, N.common_steps, N.length-drop)
+int4_part forms k n all fits j d here = grind (arith, N.common_steps)
 
 -- ---- a value that is there
 

@@ -26,7 +26,7 @@ pub record HoldsContent (column : ℕ) (c : Conversion) (state : ℕ → List �
 snoc_of : (l : List ℕ) → 0 < length l → (p : List ℕ) × (x : ℕ) × (l ≡ p ++ x ∷ [])
 snoc_of [] some = grind arith
 snoc_of (x ∷ []) some = ([], x, refl)
-snoc_of (x ∷ y ∷ l) some = let r = snoc_of (y ∷ l) (omega arith) in (x ∷ r.0, r.1, ap (λ t. x ∷ t) r.2)
+snoc_of (x ∷ y ∷ l) some = let r = snoc_of _ (omega arith) in (x ∷ r.0, r.1, ap (λ t. x ∷ t) r.2)
 
 no_text_false : (c : Conversion) (l : List ℕ) (b : Bool) → N.is_begun c l ≡ b → (BeginsData c l → ⊥) → b ≡ false
 no_text_false c l b is h = grind (arith, N.begun_by_test)
@@ -46,7 +46,7 @@ module _ {column : ℕ} {c : Conversion} {state : ℕ → List ℕ → N.CellPar
       let good_one : k ≡ 0 → Good _ = λ none. subst (λ l. Good (d ++ x ∷ l)) (N.nil_of_length xs (omega arith)) (good (omega arith) (omega arith)) in
       let regroup = sym (append_assoc d _ xs) in
       let more_begun = subst (BeginsData c) regroup begun in
-      let more = content_spelt (d ++ x ∷ []) xs k r refl more_begun (λ none some. subst Good regroup (good none (omega arith))) in
+      let more = content_spelt _ xs k r refl more_begun (λ none some. subst Good regroup (good none (omega arith))) in
       let one = N.Spelt-step _ _ _ _ (omega arith) (sym (holds.size k d))
       (holds.free k d x ((N.begun_by_test c _).1 ((N.joins_by_name c).front _ xs more_begun)) good_one) (holds.add k d x) in
       rw (next, regroup) (N.Spelt-append _ _ _ _ xs _ one more)
@@ -113,7 +113,7 @@ module _ {column : ℕ} {c : Conversion} {state : ℕ → List ℕ → N.CellPar
                 element = y ∷ [];
                 ahead = ahead;
                 some = omega arith;
-                whole = sym (holds.size r _);
+                whole = omega arith;
                 first = bad;
                 takes = N.Takes-more a _ ((good ++ y ∷ []) ++ ahead) 1 _ (omega (arith, N.length-append good (y ∷ []))) (rw append_assoc takes);
                 between = between;
@@ -140,7 +140,7 @@ module _ {column : ℕ} {c : Conversion} {state : ℕ → List ℕ → N.CellPar
     piece_refused : N.RefusesData c d column (suc r) a b place h i stop → Stopped false
     piece_refused x =
         let no = no_text_false c _ _ refl x.no_text in
-        rw x.stop_is (byte_refused d _ _ _ _ _ (omega arith) x.begun (holds.bad (r - length x.good) (d ++ x.good) x.bad no) x.takes
+        rw x.stop_is (byte_refused d _ _ _ _ _ (omega arith) x.begun (holds.bad (r - length x.good) _ x.bad no) x.takes
         x.between x.puts)
 
     -- a write of the text of a piece failed, whose bytes lead to a state
@@ -148,7 +148,7 @@ module _ {column : ℕ} {c : Conversion} {state : ℕ → List ℕ → N.CellPar
         → cell_so_far column last (state (suc r) d) ++ added ≡ cell_so_far column last to → N.Breaks h i added stop → Stopped true
     broken good ahead added to spelt takes between text_is breaks =
         let x = N.breaks_somewhere _ _ (line_grows column last) _ a b h i _ between to _ _ _ spelt takes few delivered text_is breaks in
-        record { at = x.0; cause = inr (x.1, refl) }
+        record { at = x.0; cause = grind arith }
 
     piece_broken_at : (ahead p : List ℕ) (x : ℕ) → length (p ++ x ∷ []) ≡ suc r → N.Takes a b ((p ++ x ∷ []) ++ ahead) 1 → N.IsBetween b
         → BeginsData c (d ++ (p ++ x ∷ [])) → N.Breaks h i (added_text c d (p ++ x ∷ [])) stop → Stopped true
@@ -169,7 +169,7 @@ module _ {column : ℕ} {c : Conversion} {state : ℕ → List ℕ → N.CellPar
     piece_broken : N.BreaksData c d (suc r) a b h i stop → Stopped true
     piece_broken x =
         elim (N.cases_lt (length x.good) (suc r)) [
-          | inl less ↦ broken x.good x.ahead _ _ (front_spelt d x.good (r - length x.good) (omega arith) x.begun) x.takes x.between
+          | inl less ↦ broken x.good x.ahead _ _ (front_spelt d x.good _ (omega arith) x.begun) x.takes x.between
               (text_grown d x.good r (r - length x.good) x.begun) x.breaks
           | inr more ↦
               (let all : length x.good ≡ suc r = omega arith in
@@ -206,7 +206,7 @@ module _ {column : ℕ} {c : Conversion} {state : ℕ → List ℕ → N.CellPar
 
     front_path : Path (cell column) (cell_so_far column last) (state m d) p (record { seen = x.middle; place = x.there; held = x.between })
         (state (suc last_left) (d ++ x.front))
-    front_path = grind (arith, fills_path, last_left)
+    front_path = grind (arith, fills_path)
 
     last_spelt : Good all_content → Spelt (cell column) (state (suc last_left) (d ++ x.front)) x.takes.piece (state 0 all_content)
     last_spelt good = grind (arith, content_spelt)
@@ -220,7 +220,7 @@ module _ {column : ℕ} {c : Conversion} {state : ℕ → List ℕ → N.CellPar
           bytes = x.takes.piece;
           made = added_text c _ _ ++ tail;
           writes = record { spelt = last_spelt good; text_is = text_closed _ _ tail _ x.takes.begun whole };
-          takes = N.Takes-more x.middle q.seen _ 1 _ (omega arith) x.takes.takes;
+          takes = grind arith;
           puts = N.Puts-trans _ q.held _ _ _ x.takes.puts puts;
           place_is = omega arith;
         })
@@ -245,7 +245,7 @@ module _ {column : ℕ} {c : Conversion} {state : ℕ → List ℕ → N.CellPar
         let f = s.0 in
         let y = s.1 in
         let len : length x.takes.piece ≡ length f + 1 = ap length s.2 ∙ N.length-append f _ in
-        let same : e ++ (f ++ y ∷ []) ≡ (e ++ f) ++ y ∷ [] = sym (append_assoc e f _) in
+        let same : e ++ _ ≡ _ ++ y ∷ [] = sym (append_assoc e f _) in
         let begun = rw s.2 at x.takes.begun in
         let unfit_here = rw (s.2, same) at unfit in
         let adds = adds_none e f y begun (N.unfit_adds_none c _ y unfit_here) in
@@ -271,18 +271,16 @@ module _ (column : ℕ) (c : Conversion) where
       let rest = N.conversion_text c _ in
       let close = N.closing _ in
       ap (λ l. after_comma column (open_field c d) ++ l) (sym (append_assoc rest close _)) ∙ sym (append_assoc _ (rest ++ close) _)
-      ∙ ap (λ l. l ++ N.end_after last) (sym (after_append column _ (rest ++ close)) ∙ ap (after_comma column) (N.open_closes c d fit))
+      ∙ ap (λ l. l ++ N.end_after last) (sym (after_append column _ _) ∙ ap (after_comma column) (N.open_closes c d fit))
 
   pub short_holds : HoldsContent column c (short_left c) (λ d. is_fit c d ≡ true)
   short_holds = record {
-    size = λ r d. ap N.cell_size (short_next c r d);
-    end = λ r d. ap N.cell_end (short_next c r d);
-    text = λ r d. ap N.field_so_far (short_next c r d);
-    add = λ r d x. ap (λ s. N.cell_add s (x ∷ [])) (short_next c r d);
-    free = λ r d x begun fit. ap (λ s. cell_fault column s (x ∷ [])) (short_next c r d)
-        ∙ unless_true _ _ (grind (arith, N.or_left, N.test_lt));
-    bad = λ r d x no. ap (λ s. cell_fault column s (x ∷ [])) (short_next c r d)
-        ∙ ap (λ b. N.unless (b && (N.nat_lt 0 r || is_fit c (d ++ x ∷ []))) (BadText column)) no;
+    size = grind arith;
+    end = grind arith;
+    text = grind arith;
+    add = grind arith;
+    free = grind arith;
+    bad = grind arith;
     ends = λ d x. fit_or_none d x _ refl;
     whole = λ last d fit. (N.ending c _ last d, ending_text last d fit);
   }

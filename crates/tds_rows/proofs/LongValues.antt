@@ -30,7 +30,7 @@ none_begins c = grind arith
 -- a cell was read to its end
 pub field_of : {column : ℕ} {last : Bool} {s : CellPart} {p q : At} {value : N.Cell}
     → Path (cell column) (cell_so_far column last) s p q (N.WholeCell value) → PutsField s column last p.seen q.seen p.place q.place p.held q.held
-field_of {value = value} x = record { value = value; streams = streams_of x; place_is = x.place_is }
+field_of {value = value} x = record { value = value; streams = grind arith; place_is = x.place_is }
 
 -- what was read and put, and then the rest of the field
 pub field_puts : {column : ℕ} {last : Bool} {s t : CellPart} {p q r : At} → Path (cell column) (cell_so_far column last) s p q t
@@ -67,15 +67,15 @@ module _ {column place' : ℕ} {s t : CellPart} {p : At} {b : Seen} (last : Bool
         bytes = [];
         element = x.element;
         ahead = [];
-        spelt = N.Spelt-none _ s;
+        spelt = grind arith;
         next = x.next;
-        takes = rw (append-nil _) x.takes;
+        takes = search N.rules;
         between = x.between;
         middle = p.held;
         few = few;
         puts = ([], append-nil _, N.Puts-none _ delivered);
         more = part ++ rest;
-        text_is = text_is ∙ ap (cell_so_far column last) (sym x.to);
+        text_is = cc;
         breaks = N.Breaks-longer _ _ _ _ _ breaks;
       },
       broken,
@@ -99,14 +99,14 @@ null_puts {column = column} last contents h k (N.Err e) x silent writing puts =
 module _ (column : ℕ) (last : Bool) (c : Conversion) where
   -- the text that comes with the length
   pub short_open : (n : ℕ) → 0 < n → after_comma column (opening (is_quoted c)) ≡ cell_so_far column last (short_left c n [])
-  short_open n some = grind (arith, open_none, text_at)
+  short_open n some = grind (arith, open_none)
 
   empty_open : after_comma column (opening (is_quoted c)) ++ ending c (is_quoted c) last [] ≡ cell_so_far column last (short_left c 0 [])
   empty_open = grind (arith, open_none, ending_text, N.no_data_is_fit)
 
   pub short_text : (n : ℕ) → (q : List ℕ) × (after_comma column (opening (is_quoted c)) ++ q ≡ cell_so_far column last (short_left c n []))
   short_text N.zero = grind (arith, empty_open)
-  short_text (N.suc n) = grind (arith, append-nil, short_open)
+  short_text (N.suc n) = grind (arith, short_open)
 
   -- the value has no bytes, and its end was put, or that stopped
   pub empty_puts : {p : At} {b : Seen} {place' n : ℕ} {j : Held} (i : Held) → Next column (N.ShortLength c) p.seen b p.place place' (short_left c n [])
@@ -132,7 +132,7 @@ module _ (column : ℕ) (last : Bool) (c : Conversion) where
     pub short_whole : {k : Held} → N.IsFit c all → Puts q.held k (ending c (is_quoted c) last all)
         → PutsField (short_left c n []) column last p.seen q.seen p.place q.place p.held k
     short_whole fit puts = let good = (fit_by_test c all).1 fit in
-        field_of (ends_path last (short_holds column c) x (ending c (is_quoted c) last all) good (ending_text column c last all good) puts)
+        field_of (ends_path last (short_holds column c) x _ good (ending_text column c last all good) puts)
 
     pub short_end_stops : {k : Held} {failed : Bool} {stop : Stop} → N.StopsEnding c (is_quoted c) last all column (q.place - 1) q.held k failed stop
         → StopsField (short_left c n []) column last p.seen q.seen p.place p.held k failed stop
@@ -157,7 +157,7 @@ pub record Streamed (column : ℕ) (last : Bool) (c : Conversion) (total : Optio
 
 pub streamed_none : {column : ℕ} {last : Bool} {c : Conversion} {total : Option ℕ} {kept : List ℕ} {p : At} → kept ≡ N.conversion_rest c []
     → p.held.delivered ≤ 2 ^ 64 - 1 → Streamed column last c total kept 0 p p
-streamed_none is delivered = grind (arith, none_begins, path_none)
+streamed_none is delivered = grind (arith, path_none)
 
 module _ {column : ℕ} {last : Bool} {c : Conversion} {total : Option ℕ} {kept : List ℕ} {sum : ℕ} {p q : At} (size : ℕ) (unit_is : size ≡ N.unit c)
     (x : Streamed column last c total kept sum p q) {d : Seen} {there n : ℕ} (y : N.ReadsNumber 4 q.seen d q.place there n)
@@ -194,9 +194,9 @@ module _ {column : ℕ} {last : Bool} {c : Conversion} {total : Option ℕ} {kep
       → N.EndsData c x.content kept' d r.seen there r.place q.held r.held n → Streamed column last c total kept' (sum + n) p r
   streamed_more {r = r} some delivered most z =
       record {
-        content = (x.content ++ z.front) ++ z.takes.piece;
+        content = _ ++ z.takes.piece;
         counted = omega (arith, N.length-append (x.content ++ z.front) z.takes.piece, N.length-append x.content z.front);
-        begun = z.takes.begun;
-        kept_is = z.takes.kept_is;
+        begun = grind arith;
+        kept_is = cc;
         path = path_both (chunk_path some delivered) (ends_path last (chunk_holds column c total) z [] tt (append-nil _) (N.Puts-none r.held most));
       }

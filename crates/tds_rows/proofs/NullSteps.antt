@@ -32,7 +32,7 @@ module _ (charset : Charset) (cells : List Cell) (ks : List (Column × Bool)) wh
   breaks_there {at = at} {j = j} {stop = stop} some x =
       let is = cell_in_row charset cells ks in
       let begun = begun_text charset cells ks in
-      let grows = line_grows _ (ends ks) in
+      let grows = line_grows _ _ in
       let size = N.next_some small at x.element x.next in
       let to = N.cell_add at x.element in
       let rest = rest_of charset cells ks to in
@@ -41,7 +41,7 @@ module _ (charset : Charset) (cells : List Cell) (ks : List (Column × Bool)) wh
         element = x.element;
         ahead = x.ahead;
         spelt = N.Inside-Spelt _ _ up is _ _ _ x.spelt;
-        next = N.next_inside _ _ up is _ _ size x.next;
+        next = grind arith;
         takes = x.takes;
         between = x.between;
         middle = x.middle;
@@ -65,7 +65,7 @@ module _ (charset : Charset) (cells : List Cell) (ks : List (Column × Bool)) wh
             N.stops_inside _ _ up is _ _ _ _ _ _ (same_end charset cells ks x.at (N.stops_size _ _ _ _ _ _ _ y.0)) y.0,
             (
               y.1.0,
-              N.added_between _ _ up is text row_so_far front (begun_text charset cells ks) (line_grows _ (ends ks)) _ _ _ some
+              N.added_between _ _ up is text row_so_far front (begun_text charset cells ks) (line_grows _ _) _ _ _ some
                   (N.stops_size _ _ _ _ _ _ _ y.0) y.1.1,
               y.1.2,
             ),
@@ -115,7 +115,7 @@ pub bitmap_nears : {charset : Charset} {p : At} {b : Seen} {place' : ℕ} (colum
     → place' ≡ p.place + length bitmap → NearsCells charset (N.nbc_row_start columns) (marked columns (N.bit bitmap) 0) p
     (record { seen = b; place = place'; held = p.held }) 0
 bitmap_nears {p = p} columns bitmap some whole takes between few d at =
-    let next : N.IsNext _ _ bitmap = record { some = omega arith; whole = whole; free = refl } in
+    let next : N.IsNext _ _ bitmap = grind arith in
     record {
       cells = [];
       counted = refl;
@@ -161,7 +161,7 @@ module _ {charset : Charset} {start : RowPart} {c : Column} {ks : List (Column �
       let read = n.bytes ++ n.element in
       let broken = N.nears_breaks _ _ _ _ _ _ _ _ _ _ _ _ _ n refl breaks in
       let y = broken.1 in
-      let both = N.Takes-trans p.seen q.seen d read rest (length read) 0 (omega arith) n.takes takes in
+      let both = N.Takes-trans p.seen q.seen d read rest _ 0 (omega arith) n.takes takes in
       record {
         at = broken.0;
         cause = inr (
@@ -171,7 +171,7 @@ module _ {charset : Charset} {start : RowPart} {c : Column} {ks : List (Column �
             ahead = rest;
             spelt = y.spelt;
             next = y.next;
-            takes = rw N.add-zero at both;
+            takes = grind arith;
             between = between;
             middle = y.middle;
             few = y.few;
@@ -206,7 +206,7 @@ module _ {charset : Charset} {start : RowPart} {c : Column} {ks : List (Column �
       let begin = N.cell_start c.kind _ in
       let tail = nulls_ahead _ ks in
       let whole =
-      N.nears_inside _ _ _ (cell_in_row charset x.cells ks) _ _ _ (begun_text charset x.cells ks) (line_grows n (ends ks)) begin _ _ _ _ _ tail
+      N.nears_inside _ _ _ (cell_in_row charset x.cells ks) _ _ _ (begun_text charset x.cells ks) (line_grows n _) begin _ _ _ _ _ tail
       z.streams some between few (part_text charset x.cells ks (N.WholeCell z.value)) in
       let begun = rw (sym (begins_open charset x.cells ks c.kind (N.shape charset c.kind))) at x.path in
       let near : NearsCells charset start ks p r _ = record {
@@ -227,7 +227,7 @@ module _ {charset : Charset} {start : RowPart} {ks : List (Column × Bool)} {p q
         cells = x.cells;
         counted = x.counted;
         path = path_of
-            (N.nears_done _ _ start p.seen q.seen p.held q.held q.held (next_cell charset x.cells ks) _ x.nears last) x.place_is;
+            (N.nears_done _ _ start p.seen q.seen p.held q.held q.held _ _ x.nears last) x.place_is;
       }
 
 -- before the first column of a ROW, and after the last one of a row
@@ -237,4 +237,4 @@ row_begins columns d = grind (arith, path_none)
 
 pub row_ends : {charset : Charset} {start : RowPart} {p q : At} {column : ℕ} → Reads charset start [] p q column
     → N.ReadsRow charset start p.seen q.seen p.place q.place p.held q.held
-row_ends x = record { cells = x.cells; streams = streams_of x.path; place_is = x.path.place_is }
+row_ends x = record { cells = x.cells; streams = grind arith; place_is = cc }

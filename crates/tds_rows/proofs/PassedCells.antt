@@ -14,7 +14,7 @@ use Rattle.tds_rows.proofs.{
 
 -- no element was read
 step_none : {s : CellPart} {a : Seen} {place : ℕ} → N.IsBetween a → StepsOver s s a a place place
-step_none between = record { reads = N.reads_none _ _ _; between = between; place_is = sym (N.add_none _) }
+step_none between = record { reads = grind arith; between = between; place_is = omega arith }
 
 steps_both : {s t u : CellPart} {a b d : Seen} {place middle place' : ℕ} → StepsOver s t a b place middle → StepsOver t u b d middle place'
     → StepsOver s u a d place place'
@@ -45,8 +45,7 @@ module _ {c : Conversion} {state : ℕ → List ℕ → CellPart} {Good : List �
     reads = record {
       bytes = x.bytes;
       spelt = content_spelt true holds d x.bytes _ 0 (omega arith) (begins _) (λ _ _. good);
-      takes = rw
-          (sym x.counted) at x.takes;
+      takes = grind arith;
     };
     between = x.between;
     place_is = omega arith;
@@ -65,8 +64,8 @@ module _ {c : Conversion} {state : ℕ → List ℕ → CellPart} {Good : List �
             part = [];
             cut = omega arith;
             own = x.own;
-            ends = rw (sym (N.append-nil x.bytes)) at x.ends;
-            stop_is = N.began_is_cut (place + length x.bytes) _ x.own _ (holds.end (m - length x.bytes - 1) _) x.stop_is;
+            ends = search N.rules;
+            stop_is = N.began_is_cut _ _ x.own _ (holds.end (m - length x.bytes - 1) _) x.stop_is;
           });
         };
       }

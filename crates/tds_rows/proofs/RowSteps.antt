@@ -68,13 +68,13 @@ module _ (kind : Kind) (s : N.Shape) (column : ℕ) (last : Bool) where
     ahead = [];
     spelt = r.spelt;
     next = r.next;
-    takes = rw (append-nil _) r.takes;
+    takes = search N.rules;
     between = r.between;
     middle = h;
     few = few;
     puts = none_put _ h r.quiet d;
     more = text;
-    text_is = ap (λ l. l ++ text) (quiet_text _ _ _ r.quiet) ∙ r.text_is ∙ ap (cell_so_far column last) (sym r.whole);
+    text_is = grind arith;
     breaks = x;
   }
 
@@ -151,9 +151,9 @@ pub nulls_text : (charset : Charset) (cells : List Cell) (ks : List (Column × B
 nulls_text charset cells [] = append-nil _
 nulls_text charset cells ((k, true) ∷ ks) =
     let tail = nulls_ahead _ ks in
-    ap (λ l. l ++ (N.in_line (length cells) (ends ks) N.null_field ++ tail)) (append-nil (joined (map field cells)))
-    ∙ sym (N.append_assoc (joined (map field cells)) _ tail)
-    ∙ one_more cells N.Null ks _ (nulls_text charset (cells ++ N.Null ∷ []) ks)
+    ap (λ l. l ++ (N.in_line (length cells) (ends ks) N.null_field ++ tail)) (append-nil _)
+    ∙ sym (N.append_assoc _ _ tail)
+    ∙ one_more cells N.Null ks _ (nulls_text charset _ ks)
 nulls_text charset cells ((k, false) ∷ ks) = search N.rules
 
 -- ---- a cell's text in its line

@@ -52,7 +52,7 @@ whole_some kind bytes = grind arith
 -- what doesn't fill a block isn't delivered, so no write of it fails
 pub fills_no_block : (h j : N.Held) (piece : List ℕ) (stop : Stop) → length h.waiting + length piece < 4096 → N.Breaks h j piece stop → ⊥
 fills_no_block h j piece stop few (sent, blocks, n, adds, most, least, less, whole, is, risen) =
-    let both = sym (N.length-append h.waiting (take n piece))
+    let both = sym (N.length-append h.waiting _)
     ∙ ap length adds.1 ∙ N.length-append sent j.waiting in
     omega (arith, N.length-take n piece)
 
@@ -60,7 +60,7 @@ fills_no_block h j piece stop few (sent, blocks, n, adds, most, least, less, who
 
 pub lines-append : (rs qs : List (List Cell)) → lines (rs ++ qs) ≡ lines rs ++ lines qs
 lines-append [] qs = refl
-lines-append (r ∷ rs) qs = ap (λ l. N.line (N.map N.field r) ++ l) (lines-append rs qs) ∙ sym (N.append_assoc (N.line (N.map N.field r)) (lines rs) (lines qs))
+lines-append (r ∷ rs) qs = ap (λ l. N.line (N.map N.field r) ++ l) (lines-append rs qs) ∙ sym (N.append_assoc _ (lines rs) (lines qs))
 
 -- some columns are to come, so no line ends there
 start_text : (token : N.RowToken) (charset : Charset) (columns : List Column) → 0 < length columns → row_so_far (N.token_start token charset columns) ≡ []
@@ -99,7 +99,7 @@ after_more : {bytes made : List ℕ} {v : Cell} (charset : Charset) (cells : Lis
 after_more {bytes = bytes} {made = made} {v = v} charset cells c left x =
     let n = length cells + 1 in
     N.subst (λ (k : ℕ). Writes (row charset) row_so_far (after_cells charset cells (c ∷ left)) bytes made
-    (N.next_cell charset (cells ++ v ∷ []) (coming left k))) (sym (N.length-append cells (v ∷ [])))
+    (N.next_cell charset (cells ++ v ∷ []) (coming left k))) (sym (N.length-append cells _))
     (row_cell _ _ _ c (none_ahead _ n) (rw (ends_marked _ (λ k. false) n) at x))
 
 pub rows_none : {charset : Charset} {all : List Column} {cells : List Cell} {columns : List Column} {column : ℕ} → length cells ≡ column
@@ -118,7 +118,7 @@ module _ {charset : Charset} {all : List Column} {cells : List Cell} {from : ℕ
       → WritesCells charset all cells from (at + 1) (a ++ b) (p ++ q)
   column_cells {b = b} {q = q} at x w =
       let z = rw (sym x.counted) at w.writes in
-      let one = after_more charset x.more w.column w.left (cell_writes w.column.kind (shape charset w.column.kind) z) in
+      let one = after_more charset x.more w.column w.left (cell_writes w.column.kind _ z) in
       let after = λ (l : List Column). after_cells charset (x.more ++ z.value ∷ []) l in
       let next = N.subst (λ l. Writes (row charset) row_so_far (after_cells charset x.more (w.column ∷ w.left)) b q (after l))
       (sym (next_column all at w.column w.left w.next).1.1) one in
@@ -146,7 +146,7 @@ module _ {charset : Charset} {all : List Column} {cells : List Cell} {columns : 
       record {
         before = x.before;
         more = y.more;
-        rows_counted = x.rows_counted;
+        rows_counted = cc;
         counted = y.counted;
         writes = writes_both x.writes (row_among PlainRow charset all x.before y.writes);
       }
@@ -208,7 +208,7 @@ whole_puts charset kind column last p q bytes text x takes at puts =
     let writes = cell_writes _ _ x in
     record {
       value = x.value;
-      streams = record { bytes = bytes; spelt = writes.spelt; takes = takes; puts = (text, writes.text_is, puts) };
+      streams = grind arith;
       place_is = at;
     }
 
@@ -219,9 +219,9 @@ pub whole_breaks : {bytes text : List ℕ} {a b : N.Seen} {place : ℕ} {h j : N
     → StopsCell charset kind column last a b place h j failed stop
 whole_breaks {bytes = bytes} {a = a} {b = b} {h = h} {j = j} {stop = stop} charset kind column last rest x takes between few delivered breaks failed =
     let writes = cell_writes _ _ x in
-    let broken = N.breaks_somewhere (cell column) (N.cell_so_far column last) (line_grows column last) _ a b h j stop between _ bytes rest _ writes.spelt
-    (N.Takes-more a b (bytes ++ rest) 0 1 (omega arith) takes) few delivered writes.text_is breaks in
-    record { at = broken.0; cause = N.inr (broken.1, failed) }
+    let broken = N.breaks_somewhere _ _ (line_grows column last) _ a b h j stop between _ bytes rest _ writes.spelt
+    (N.Takes-more a b _ 0 1 (omega arith) takes) few delivered writes.text_is breaks in
+    record { at = broken.0; cause = grind arith }
 
 -- it was put at once
 pub put_whole : {W U : Type 0} {column place' : ℕ} {last : Bool} {bytes text : List ℕ} (r : N.Result U Stop) (charset : Charset) (kind : Kind)

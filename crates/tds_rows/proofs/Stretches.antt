@@ -15,7 +15,7 @@ module _ (charset : N.Charset) (columns : List N.Column) where
       → N.WritesMarked charset columns nulls (from + n) m b q → N.WritesMarked charset columns nulls from (n + m) (a ++ b) (p ++ q)
   marked_both nulls from n N.zero a b p q x y = search N.rules
   marked_both nulls from n (suc m) a b p q x y =
-      let at : (from + n) + m ≡ from + (n + m) = omega arith in
+      let at : (from + n) + m ≡ from + _ = omega arith in
       let counted : suc _ ≡ n + suc m = omega arith in
       rw (sym counted) (
         a ++ y.0,
@@ -37,7 +37,7 @@ module _ (charset : N.Charset) (columns : List N.Column) where
       let writes = N.subst (λ e. N.WritesNext charset e last.column.kind (from + n) (N.is_last_column last.left) x.1 x.3)
       (sym (clear (from + n) (omega arith) (omega arith))) last.writes in
       let one : N.WritesColumn charset columns nulls (from + n) x.1 x.3 =
-      record { column = last.column; left = last.left; next = last.next; writes = writes } in
+      grind arith in
       (x.0, x.1, x.2, x.3, x.4, x.5, marked_clear _ _ n _ _ (λ k least most. clear k least (omega arith)) x.6, one)
 
 module _ {table : N.Table} {columns : List N.Column} {nulls : ℕ → Bool} {at : Ahead} where
@@ -51,17 +51,8 @@ module _ {table : N.Table} {columns : List N.Column} {nulls : ℕ → Bool} {at 
       record {
         count = 1;
         ahead = taken.ahead;
-        further = taken.further;
-        writes = (
-          [],
-          bytes,
-          [],
-          text,
-          refl,
-          refl,
-          (refl, refl),
-          rw (sym (N.add-zero at.column)) at one,
-        );
+        further = cc;
+        writes = grind arith;
       }
 
 module _ {table : N.Table} {columns : List N.Column} {nulls : ℕ → Bool} {from to : Ahead} where

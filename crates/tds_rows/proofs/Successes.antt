@@ -33,7 +33,7 @@ module _ {S : Type 0} (g : Grammar S Fault) (from to : S) (a b : Seen) (front mo
       let whole = x.whole in
       let c = came _ _ x.takes.1.0 (λ zs. ap (λ c. c.bytes) (x.takes.1.1 zs)) in
       let rest = e ++ (x.ahead ++ c.0) in
-      let all = c.1 ∙ N.append_assoc (bytes ++ e) x.ahead c.0 ∙ N.append_assoc bytes e _ in
+      let all = c.1 ∙ N.append_assoc _ x.ahead c.0 ∙ N.append_assoc bytes e _ in
       let refused : N.IsRefused g at rest fault = record {
         some = omega arith;
         whole = omega (arith, N.length-append e (x.ahead ++ c.0));
@@ -130,9 +130,9 @@ module _ (token : N.RowToken) (charset : N.Charset) (columns : List N.Column) (s
   rows_are_read before first (next ∷ later) bytes h =
       let byte = N.token_byte token in
       let from = begun_after before in
-      let there = begun_after (before ++ first ∷ []) in
+      let there = begun_after _ in
       let t = rows_are_read (before ++ first ∷ []) next later h.1 h.4 in
-      let one = N.Spelt-append all_rows from h.0 (among before _) (byte ∷ []) there (row_of_rows before first h.0 h.3)
+      let one = N.Spelt-append all_rows from h.0 _ _ there (row_of_rows before first h.0 h.3)
       (row_token token charset columns before first some_columns).spelt in
       (t.0, t.1, rw (N.append_assoc, ← h.2) at (N.Spelt-append all_rows from _ there h.1 _ one t.2))
 
@@ -151,11 +151,11 @@ module _ (token : N.RowToken) (charset : N.Charset) (columns : List N.Column) (s
     | inl y ↦
         (let t = rows_are_read [] first later front spelt in
         let at = x.stops.at in
-        let some = N.stops_size _ x.part x.middle _ (place + length _) at stop y.0 in
-        let among_rows = N.stops_inside _ all_rows _ (row_among_rows token charset columns x.earlier) x.part x.middle _ (place + length _) at stop
+        let some = N.stops_size _ x.part x.middle _ _ at stop y.0 in
+        let among_rows = N.stops_inside _ all_rows _ (row_among_rows token charset columns x.earlier) x.part x.middle _ _ at stop
         (grind arith) y.0 in
         let all = N.stops_after all_rows _ _ _ x.middle _ place _ stop
-        (record { bytes = x.streams.bytes; spelt = x.streams.spelt; takes = x.streams.takes }) among_rows in
+        (record { bytes = x.streams.bytes; spelt = grind arith; takes = grind arith }) among_rows in
         let same = stopped_there all_rows _ _ _ _ front more brings (longest_rows _ t.0 t.1 front more t.2 none) reads place _ stop all in
         omega (arith, ap (N.row charset).size (ap (λ p. p.at) same)))
     | inr y ↦

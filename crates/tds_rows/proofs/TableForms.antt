@@ -7,18 +7,18 @@ pub known_ahead : (table : N.Table) (at : N.Ahead) (end : ℕ) (n : ℕ) → N.A
     → at.column + n ≤ end → at.column + n ≤ table.known → table.known ≤ table.count → N.AreAhead table at end (take n (drop at.column table.forms))
 known_ahead table at end n laid fits some within known few =
     let k = at.column in
-    let len = N.length-take-le n (drop k table.forms) (grind (arith, N.length-drop)) in
+    let len = N.length-take-le n _ (grind (arith, N.length-drop)) in
     record {
       laid = grind (arith, N.common_steps);
       some = omega arith;
       within = omega arith;
-      known = inl (omega arith);
+      known = grind arith;
       next = λ columns knows ahead.
           let first =
-          ap (N.map (λ f. f.kind)) (sym (N.take-take _ _ _ known)) ∙ sym (N.take-map (λ f. f.kind) _ _) ∙ ap (take _) knows.first
-          ∙ N.take-map (λ c. c.kind) _ _ ∙ ap N.kinds (N.take-take _ _ columns known) in
+          ap (N.map _) (sym (N.take-take _ _ _ known)) ∙ sym (N.take-map _ _ _) ∙ ap (take _) knows.first
+          ∙ N.take-map _ _ _ ∙ ap N.kinds (N.take-take _ _ columns known) in
           let forms_are =
-          ap (N.map (λ f. f.kind)) (sym (N.drop-take k n _)) ∙ sym (N.drop-map (λ f. f.kind) k _) ∙ ap (drop k) first ∙ N.drop-map (λ c. c.kind) k _
+          ap (N.map _) (sym (N.drop-take k n _)) ∙ sym (N.drop-map _ k _) ∙ ap (drop k) first ∙ N.drop-map _ k _
           ∙ ap N.kinds (N.drop-take k n columns) in
           forms_are ∙ ap (λ m. N.kinds (take m (drop k columns))) (sym len);
     }

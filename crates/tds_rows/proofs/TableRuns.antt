@@ -22,7 +22,7 @@ rows_begin = grind (arith, rows_none)
 -- the token byte of a ROW is next
 begins_at : (used : ℕ) (bytes : List ℕ) → N.BeginsRow (take (length bytes - used) (drop used bytes)) → (used < length bytes)
     × (N.get_or bytes used 0 ≡ 0xD1)
-begins_at used bytes begins = grind (arith, N.all_after, N.drop_more, N.length-drop)
+begins_at used bytes begins = grind (arith, N.all_after, N.drop_more)
 
 -- one row more, after its token byte
 pub row_begun : {table : Table} {from start : Ahead} {bytes to : List ℕ} {run : N.RowsRun} → 0 < table.count → table.count ≤ run.ahead.column
@@ -78,9 +78,9 @@ pub runs_rows : {charset : N.Charset} {all : List Column} {cells : List Cell} {c
 runs_rows {bytes = bytes} {made = made} x takes puts at = record {
   before = x.before;
   more = x.more;
-  rows_counted = x.rows_counted;
+  rows_counted = cc;
   counted = x.counted;
-  streams = record { bytes = bytes; spelt = x.writes.spelt; takes = takes; puts = (made, x.writes.text_is, puts) };
+  streams = grind arith;
   place_is = at;
 }
 
@@ -100,9 +100,9 @@ pub run_breaks : {table : Table} {columns : List Column} {from : Ahead} {a b : N
     → N.RowStops table.charset (N.after_cells table.charset cells (drop from.column columns)) a b place h j failed stop
 run_breaks {table = table} {a = a} {b = b} {h = h} {j = j} {stop = stop} cells y counted few delivered =
     let x = marked_cells {charset = table.charset} {cells = cells} y.runs.count y.bytes _ counted y.runs.writes in
-    let broken = N.breaks_somewhere (N.row table.charset) N.row_so_far (row_grows table.charset) _ a b h j stop y.between _ y.bytes [] _ x.writes.spelt
+    let broken = N.breaks_somewhere _ N.row_so_far (row_grows table.charset) _ a b h j stop y.between _ y.bytes [] _ x.writes.spelt
     (rw N.append-nil (N.Takes-more a b y.bytes 0 1 (omega arith) y.takes)) few delivered x.writes.text_is y.breaks in
-    record { at = broken.0; cause = N.inr (broken.1, y.failed_is) }
+    record { at = broken.0; cause = grind arith }
 
 -- what stands after what was made may be another
 pub rows_kept : {table : Table} {from : Ahead} {bytes to : List ℕ} {run : N.RowsRun} (new : List ℕ) → length new ≡ length to

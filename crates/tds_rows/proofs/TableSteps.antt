@@ -18,17 +18,17 @@ next_column columns k c rest h =
 pub first_more : (forms : List Form) (columns : List Column) (k : ℕ) (f : Form) (c : Column) (rest : List Column) → k < length forms
     → map (λ f. f.kind) (take k forms) ≡ N.kinds (take k columns) → drop k columns ≡ c ∷ rest → f.kind ≡ c.kind
     → map (λ f. f.kind) (take (k + 1) (N.slice_set forms k f)) ≡ N.kinds (take (k + 1) columns)
-first_more forms columns k f c rest within first h is = grind (arith, N.common_steps, next_column, N.map-append, N.take_more)
+first_more forms columns k f c rest within first h is = grind (arith, N.common_steps, next_column, N.take_more)
 
 -- the kind of a column that is known
 pub known_kind : (forms : List Form) (columns : List Column) (n k : ℕ) (f : Form) (c : Column)
     → map (λ f. f.kind) (take n forms) ≡ N.kinds (take n columns) → k < n → n ≤ length forms → k < length columns
     → (get_or forms k f).kind ≡ (get_or columns k c).kind
 known_kind forms columns n k f c first known some within =
-    let one : k < length (take n forms) = omega (arith, N.length-take n forms) in
-    ap (λ (f : Form). f.kind) (sym (N.get_or-take n forms k f known)) ∙ sym (N.get_or-map (λ f. f.kind) (take n forms) k f f.kind one)
+    let one : k < length _ = omega (arith, N.length-take n forms) in
+    ap (λ (f : Form). f.kind) (sym (N.get_or-take n forms k f known)) ∙ sym (N.get_or-map _ _ k f f.kind one)
     ∙ ap (λ l. get_or l k f.kind) first
-    ∙ N.get_or-map (λ c. c.kind) (take n columns) k c f.kind (omega (arith, N.length-take n columns))
+    ∙ N.get_or-map _ _ k c f.kind (omega (arith, N.length-take n columns))
     ∙ ap (λ (c : Column). c.kind) (N.get_or-take n columns k c known)
 
 module _ (table : N.Table) (columns : List Column) (at : Ahead) (kind : Kind) (knows : N.Knows table columns) (is : IsAhead table columns at) where
@@ -37,10 +37,10 @@ module _ (table : N.Table) (columns : List Column) (at : Ahead) (kind : Kind) (k
       → kind ≡ (get_or table.forms at.column d).kind → N.NextColumn columns at kind
   next_known d some known fits is_kind =
       let within : at.column < length columns = omega arith in
-      let c : Column = record { kind = kind; name = [] } in
+      let c : Column = grind arith in
       record {
         column = get_or columns at.column c;
-        rest = drop (at.column + 1) columns;
+        rest = drop _ columns;
         next = N.drop_more columns at.column c within;
         kind = is_kind ∙ known_kind _ _ _ _ d c knows.first known fits within;
       }
@@ -57,7 +57,7 @@ module _ {table : N.Table} {columns : List Column} {old new : Ahead} (knows : N.
   after_walked further some beyond steps =
       record {
         counted = omega arith;
-        within = λ most. absurd (omega (arith, beyond));
+        within = grind arith;
         beyond = λ _. steps ∙ ap (drop 1) (is.beyond beyond) ∙ N.drop-drop 1 old.column columns
             ∙ ap (λ (n : ℕ). drop n columns) (omega arith);
       }
@@ -79,8 +79,8 @@ not_end columns k n whole within isnt = grind arith
 -- a column is the last one where as many as there are lie before what is after it
 pub last_one : (columns rest : List Column) (c : Column) (k n : ℕ) → n ≡ length columns → drop k columns ≡ c ∷ rest
     → (k + 1 == n) ≡ N.is_last_column rest
-last_one columns [] c k n whole next = N.eq-eqb (k + 1) n (omega (arith, N.length-drop k columns, ap length next))
-last_one columns (d ∷ ds) c k n whole next = N.ne_eqb (k + 1) n (λ e. omega (arith, N.length-drop k columns, ap length next))
+last_one columns [] c k n whole next = N.eq-eqb _ n (omega (arith, N.length-drop k columns, ap length next))
+last_one columns (d ∷ ds) c k n whole next = N.ne_eqb _ n (λ e. omega (arith, N.length-drop k columns, ap length next))
 
 -- none is next where as many as there are lie before
 pub none_next : (columns : List Column) (k n : ℕ) → n ≡ length columns → n ≤ k → drop k columns ≡ []
@@ -89,12 +89,12 @@ none_next columns k n whole all = grind (arith, N.drop_all)
 -- before the row's end the next column is ahead, of some kind
 pub next_any : (columns : List Column) (at : Ahead) (n : ℕ) → n ≡ length columns → at.column < n → (kind : Kind) × N.NextColumn columns at kind
 next_any columns at n whole some =
-    let c : Column = record { kind = N.Int4; name = [] } in
+    let c : Column = grind arith in
     let column = get_or columns at.column c in (
       column.kind,
       record {
         column = column;
-        rest = drop (at.column + 1) columns;
+        rest = drop _ columns;
         next = N.drop_more columns at.column c (omega arith);
         kind = N.refl;
       },
@@ -106,4 +106,4 @@ all_before k n is = grind arith
 
 -- none is next at the row's end
 pub at_end : (columns : List Column) (k n : ℕ) → n ≡ length columns → (k == n) ≡ N.true → drop k columns ≡ []
-at_end columns k n whole is = grind (arith, N.eq_true, none_next)
+at_end columns k n whole is = grind (arith, none_next)

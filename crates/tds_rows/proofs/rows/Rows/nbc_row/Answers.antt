@@ -46,13 +46,10 @@ loop-at-init g c =
     }
 
 pub returns-in_err-at-clause-row : goal.returns-in_err-at-clause-row
-returns-in_err-at-clause-row g c = λ columns known.
+returns-in_err-at-clause-row g c =
     let l = c.loop-at in
-    let knows = rw (sym l.invariant.stays.same.3) at known in
-    let near = l.invariant.reads columns knows in
-    let stops = run_stops g.R.Read.remaining g.W.Write.contents columns _ _ _ c.put_nulls.new.self l.invariant.stays.in_row
-    (rw c.bytes.ensures.value at (c.in_err-at.ensures.cells columns knows near.0)) near in
-    N.passed _ _ _ _ c.from_residual-in_err-at.ensures.1 (rw l.invariant.stays.same.3 at stops)
+    rw (← l.invariant.stays.same.3) (λ columns knows. N.passed _ _ _ _ c.from_residual-in_err-at.ensures.1
+    (run_stops l.invariant.stays.in_row l.invariant.reads (rw c.bytes.ensures.value at c.in_err-at.ensures) columns knows))
 
 pub returns-in_err-at-clause-leaves : goal.returns-in_err-at-clause-leaves
 returns-in_err-at-clause-leaves g c = grind (arith, N.common_steps, leaves_after)
@@ -67,19 +64,16 @@ put_next-requires g c =
     }
 
 pub returns-in_err-put_next-clause-row : goal.returns-in_err-put_next-clause-row
-returns-in_err-put_next-clause-row g c = λ columns known.
+returns-in_err-put_next-clause-row g c =
     let l = c.loop-at in
-    let run = c.in_ok-at.ensures in
-    let kept = stays_after c.loop-at.invariant.stays.in_row run.leaves in
-    let knows = rw (sym l.invariant.stays.same.3) at known in
-    let there = rw (sym kept.same.3) at knows in
-    let near = run_near g.R.Read.remaining g.W.Write.contents columns _ _ _ l.invariant.stays.in_row kept knows
-    (rw c.bytes.ensures.value at run.cells) (l.invariant.reads columns knows) in
-    let taken = c.in-Some.ensures.taken columns there near.0 in
+    let kept = stays_after l.invariant.stays.in_row c.in_ok-at.ensures.leaves in
+    let nears = run_near l.invariant.stays.in_row l.invariant.reads (rw c.bytes.ensures.value at c.in_ok-at.ensures) in
     let is = rw c.bytes-in-loop-at.ensures.value at (sym c.is_null-null.ensures) in
-    let stops = next_stops g.R.Read.remaining g.W.Write.contents c.put_nulls.new.self c.put_next.new.self _ there taken _ _ kept.in_row near _ _ _ is
-    c.in_err-put_next.ensures.cell in
-    N.passed _ _ _ _ c.from_residual-in_err-put_next.ensures.1 (rw (kept.same.3 ∙ l.invariant.stays.same.3) at stops)
+    rw (← (kept.same.3 ∙ l.invariant.stays.same.3)) (λ columns knows.
+    let near = nears columns knows in
+    N.passed _ _ _ _ c.from_residual-in_err-put_next.ensures.1
+    (next_stops g.R.Read.remaining g.W.Write.contents c.put_nulls.new.self c.put_next.new.self _ knows (c.in-Some.ensures.taken columns knows near.0) _
+    kept.in_row near _ _ _ is c.in_err-put_next.ensures.cell))
 
 pub returns-in_err-put_next-clause-leaves : goal.returns-in_err-put_next-clause-leaves
 returns-in_err-put_next-clause-leaves g c =
@@ -90,32 +84,26 @@ returns-in_err-put_next-clause-leaves g c =
 pub loop-at-preserved : goal.loop-at-preserved
 loop-at-preserved g c =
     let l = c.loop-at in
-    let run = c.in_ok-at.ensures in
-    let kept = stays_after c.loop-at.invariant.stays.in_row run.leaves in
+    let kept = stays_after l.invariant.stays.in_row c.in_ok-at.ensures.leaves in
     let done = c.in_ok-put_next.ensures in
-    let same = done.leaves.same.3 ∙ kept.same.3 in
+    let nears = run_near l.invariant.stays.in_row l.invariant.reads (rw c.bytes.ensures.value at c.in_ok-at.ensures) in
+    let is = rw c.bytes-in-loop-at.ensures.value at (sym c.is_null-null.ensures) in
     record {
       stays = stays_on (stays_on l.invariant.stays kept) (stays_after kept.in_row done.leaves);
-      knows = rw (sym same) at l.invariant.knows;
+      knows = rw (sym (done.leaves.same.3 ∙ kept.same.3)) at l.invariant.knows;
       fits = search arith;
       reads = λ columns known.
-          let there = rw done.leaves.same.3 at known in
-          let knows = rw kept.same.3 at there in
-          let near = run_near g.R.Read.remaining g.W.Write.contents columns _ _ _ l.invariant.stays.in_row kept knows
-          (rw c.bytes.ensures.value at run.cells) (l.invariant.reads columns knows) in
-          let taken = c.in-Some.ensures.taken columns there near.0 in
-          let is = rw c.bytes-in-loop-at.ensures.value at (sym c.is_null-null.ensures) in
-          next_nears g.R.Read.remaining g.W.Write.contents c.put_nulls.new.self c.put_next.new.self _ there taken _ _ kept.in_row near _ _ is done.leaves
-          done.cell;
+          let knows = rw done.leaves.same.3 at known in
+          let near = nears columns knows in
+          next_nears g.R.Read.remaining g.W.Write.contents c.put_nulls.new.self c.put_next.new.self _ knows
+          (c.in-Some.ensures.taken columns knows near.0) _ kept.in_row near _ _ is done.leaves done.cell;
     }
 
 pub returns-in_default-clause-row : goal.returns-in_default-clause-row
-returns-in_default-clause-row g c = λ columns known.
+returns-in_default-clause-row g c =
     let l = c.loop-at in
-    let run = c.in_ok-at.ensures in
-    let kept = stays_after c.loop-at.invariant.stays.in_row run.leaves in
-    let knows = rw (sym l.invariant.stays.same.3) at known in
-    let near = run_near g.R.Read.remaining g.W.Write.contents columns _ _ _ l.invariant.stays.in_row kept knows
-    (rw c.bytes.ensures.value at run.cells) (l.invariant.reads columns knows) in
-    let none = c.in_default.ensures.taken columns (rw (sym kept.same.3) at knows) near.0 in
-    rw (kept.same.3 ∙ l.invariant.stays.same.3) at (row_ends (all_put refl kept.in_row.sink.ready.2 (rw none at near.1)))
+    let kept = stays_after l.invariant.stays.in_row c.in_ok-at.ensures.leaves in
+    let nears = run_near l.invariant.stays.in_row l.invariant.reads (rw c.bytes.ensures.value at c.in_ok-at.ensures) in
+    rw (← (kept.same.3 ∙ l.invariant.stays.same.3)) (λ columns knows.
+    let near = nears columns knows in
+    row_ends (all_put refl kept.in_row.sink.ready.2 (rw (c.in_default.ensures.taken columns knows near.0) at near.1)))

@@ -1,15 +1,13 @@
 use Rattle.tds_rows.proofs.rows.Rows.nbc_row.Given as goal
 use Rattle.tds_rows.proofs.Words as N
-use Rattle.tds_rows.proofs.{Words.{◌*◌, ◌≤◌, ◌-◌}, NextSteps.NearsHere, Paths.here}
+use Rattle.tds_rows.proofs.{Words.{◌*◌, ◌≤◌, ◌-◌}, NextSteps.NearsAll, Paths.here}
 
 abbrev pub invariant-loop-at : goal.invariant-loop-at
 invariant-loop-at g l = record {
   stays : N.StaysInRow l.fn.self l.self;
   knows : N.KnowsSome l.self.table.now;
   fits : l.self.table.now.count ≤ 8 * N.length l.bitmap.bytes;
-  reads : (columns : N.List N.Column) → N.Knows l.self.table.now columns
-      → NearsHere g.R.Read.remaining g.W.Write.contents columns (N.bit l.bitmap.bytes) (N.nbc_row_start columns)
-      (here g.R.Read.remaining g.W.Write.contents l.fn.self) l.self l.ahead;
+  reads : NearsAll g.R.Read.remaining g.W.Write.contents (N.bit l.bitmap.bytes) (here g.R.Read.remaining g.W.Write.contents l.fn.self) l.self l.ahead;
 }
 
 abbrev pub decreases-loop-at : goal.decreases-loop-at
