@@ -1,9 +1,6 @@
 -- Cells by how their values are laid out.
 use Rattle.tds_rows.proofs.Words as N
-use Rattle.tds_rows.proofs.{
-  Words.{◌≤◌, ◌&&◌, ◌≡◌, ℕ, ◌<◌, true, false, List, length, refl, arith, ◌==◌, Kind, Form, Layout, Each, ◌+◌, inl},
-  CellSteps.fixed_some,
-}
+use Rattle.tds_rows.proofs.{Words.{◌≤◌, ◌&&◌, ◌≡◌, ℕ, ◌<◌, true, false, List, length, refl, arith, ◌==◌, Kind, Form, Layout, Each, ◌+◌, inl}}
 use Rattle.tds_rows.specs.declared.cell.layout.Layout.TheVariants.{Chunked, Counted, Fixed, Short as ShortLayout}
 
 -- the same form many times

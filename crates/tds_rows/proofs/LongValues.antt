@@ -1,12 +1,6 @@
 -- Long values, element after element: their lengths, the content between, and the end.
 use Rattle.tds_rows.proofs.Words as N
-use Rattle.tds_rows.proofs.{
-  Words.{◌≡◌, ◌∙◌, inl, inr, ℕ, ◌-◌, ◌^◌, ◌<◌, ◌≤◌, Bool, List, [], ◌∷◌, ◌++◌, length, sym, ap, arith, append-nil, Option, Stop, Seen, Conversion},
-  Words.{is_quoted, after_comma, Held, Puts, held, fit_by_test, CellPart, cell, PutsField, StopsField, cell_so_far, ending, opening, ◌≢◌, ◌+◌, ChunkLength},
-  LongSteps.{ending_text, ends_break, ends_path, ends_refused, short_holds, short_refused, text_at, chunk_holds},
-  Numbers.{Next, short_left, chunk_end, chunk_start, chunk_unfit, chunk_left},
-  Paths.{At, Path, path_both, path_of, streams_of, path_none, path_stops},
-}
+use Rattle.tds_rows.proofs.{Words.{◌≡◌, ◌∙◌, inl, inr, ℕ, ◌-◌, ◌^◌, ◌<◌, ◌≤◌, Bool, List, [], ◌∷◌, ◌++◌, length, sym, ap, arith, append-nil, Option, Stop, Seen, Conversion}, Words.{is_quoted, after_comma, Held, Puts, held, fit_by_test, CellPart, cell, PutsField, StopsField, cell_so_far, ending, opening, ◌≢◌, ◌+◌, ChunkLength}, LongSteps.{ending_text, ends_break, ends_path, ends_refused, short_holds, short_refused, chunk_holds}, Numbers.{Next, short_left, chunk_end, chunk_start, chunk_unfit, chunk_left}, Paths.{At, Path, path_both, path_of, path_none, path_stops}}
 
 -- ---- no content
 

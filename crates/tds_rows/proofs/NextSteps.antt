@@ -1,15 +1,6 @@
 -- The next cells of a row, those of a run or one, NULL or not, and rows one after another.
 use Rattle.tds_rows.proofs.Words as N
-use Rattle.tds_rows.proofs.{
-  Words.{arith, ◌≡◌, ◌+◌, ℕ, Bool, true, false, List, ◌∷◌, drop, refl, sym, Err, Ok, Option, ◌==◌, Stop, seen, Column, held, Rows, Ahead, IsInRow},
-  Words.{StaysInRow, RowStops, RowPart, marked, ◌∙◌, ◌-◌, ◌^◌, ◌≤◌, ◌<◌, [], ◌++◌, length, ap, before, Seen, Takes, Held, Puts, Charset, Cell, rows},
-  NullSteps.{NearsCells, all_put, cell_nears, cell_stops, null_breaks, null_nears, cell_path, marked_stops},
-  RowSteps.{ends, ends_marked, coming, nulls_ahead, PutsAt, StopsAt, none_ahead, cell_some},
-  Paths.{At, here, Path, path_both, path_map, path_none, path_of, streams_of},
-  TableSteps.{last_one, next_column},
-  RunSteps.{fills_no_block, rows_after, whole_breaks, whole_puts, row_among, row_token},
-  TableRuns.run_breaks,
-}
+use Rattle.tds_rows.proofs.{Words.{arith, ◌≡◌, ◌+◌, ℕ, Bool, true, false, List, ◌∷◌, drop, refl, sym, Err, Ok, Option, ◌==◌, Stop, seen, Column, held, Rows, Ahead, IsInRow}, Words.{StaysInRow, RowStops, RowPart, marked, ◌∙◌, ◌-◌, ◌^◌, ◌≤◌, ◌<◌, [], ◌++◌, length, ap, before, Seen, Takes, Held, Puts, Charset, Cell, rows}, NullSteps.{NearsCells, all_put, cell_nears, cell_stops, null_breaks, null_nears, cell_path, marked_stops}, RowSteps.{ends, ends_marked, coming, nulls_ahead, PutsAt, StopsAt, none_ahead, cell_some}, Paths.{At, here, Path, path_both, path_map, path_none, path_of}, TableSteps.{last_one, next_column}, RunSteps.{rows_after, whole_breaks, whole_puts, row_among, row_token}, TableRuns.run_breaks}
 
 -- text that doesn't fill the block waits
 pub all_waits : (h j : Held) (text : List ℕ) → Puts h j text → length h.waiting + length text < 4096

@@ -1,14 +1,6 @@
 -- The value of a RETURNVALUE, as it is passed over.
 use Rattle.tds_rows.proofs.Words as N
-use Rattle.tds_rows.proofs.{
-  Words.{◌≢◌, ◌≡◌, ◌∙◌, ℕ, ◌+◌, ◌-◌, ◌%◌, ◌<◌, ◌≤◌, true, List, [], ◌++◌, length, refl, sym, arith, Option, Stop, Seen, Conversion, Cell, CellPart},
-  Words.{ChunkLength, shape, return_column, AnyData, PassesData, StepsOver},
-  BufferedCells.{null_cell, value_cell},
-  RunSteps.whole_of,
-  LongSteps.{HoldsContent, content_spelt, chunk_holds, short_holds},
-  CellMeaning.is_ok_value,
-  Numbers.{Next, chunk_end, chunk_start, chunk_left, short_left},
-}
+use Rattle.tds_rows.proofs.{Words.{◌≢◌, ◌≡◌, ◌∙◌, ℕ, ◌+◌, ◌-◌, ◌%◌, ◌<◌, ◌≤◌, true, List, [], ◌++◌, length, refl, sym, arith, Option, Stop, Seen, Conversion, Cell, CellPart}, Words.{ChunkLength, shape, return_column, AnyData, PassesData, StepsOver}, BufferedCells.{null_cell, value_cell}, RunSteps.whole_of, LongSteps.{HoldsContent, content_spelt, chunk_holds, short_holds}, CellMeaning.is_ok_value, Numbers.{Next, chunk_start, chunk_left, short_left}}
 
 -- ---- elements
 

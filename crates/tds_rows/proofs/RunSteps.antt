@@ -1,6 +1,6 @@
 -- The cells of a run, as they are written one after another.
 use Rattle.tds_rows.proofs.Words as N
-use Rattle.tds_rows.proofs.{Words.{false, ◌≡◌, ◌∙◌, ℕ, ◌+◌, ◌-◌, ◌≤◌, ◌<◌, Bool, List, [], ◌∷◌, ◌++◌, length, take, drop, refl, sym, ap, arith, true, Stop, held, Column, Charset}, Words.{Cell, cell, cell_start, shape, PlainRow, row, row_so_far, Writes, WritesRows, after_cells, lines, rows, rows_so_far, Kind, ◌^◌}, NullSteps.row_cell, RowSteps.{coming, ends_marked, line_grows, none_ahead, quiet_text, start_quiet, PutsCell, StopsCell}, Paths.{At, writes_both, writes_inside, writes_none}, TableSteps.next_column}
+use Rattle.tds_rows.proofs.{Words.{false, ◌≡◌, ◌∙◌, ℕ, ◌+◌, ◌-◌, ◌≤◌, ◌<◌, Bool, List, [], ◌∷◌, ◌++◌, length, take, drop, refl, sym, ap, arith, true, Stop, held, Column, Charset}, Words.{Cell, cell, cell_start, shape, PlainRow, row, row_so_far, Writes, WritesRows, after_cells, lines, rows, rows_so_far, Kind, ◌^◌}, NullSteps.row_cell, RowSteps.{coming, ends_marked, line_grows, none_ahead, PutsCell, StopsCell}, Paths.{At, writes_both, writes_inside, writes_none}, TableSteps.next_column}
 
 -- ---- cells of a row
 
