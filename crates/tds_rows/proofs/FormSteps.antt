@@ -1,14 +1,14 @@
 -- Runs over cells by their forms, a cell after those that were written.
 use Rattle.tds_rows.proofs.Words as N
+use Rattle.tds_rows.specs.FormRuns.{IsLatest, NumbersWithin}
+use Rattle.tds_rows.specs.declared.run.forms.Latest.{Latest}
 use Rattle.tds_rows.proofs.{
   Words.{◌⊎◌, ◌≡◌, ◌≢◌, ◌∙◌, ℕ, suc, ◌+◌, ◌-◌, ◌<◌, ◌≤◌, Bool, false, List, [], ◌∷◌, ◌++◌, length, take, drop, get_or, refl, ◌*◌, sym, ap, arith, ◌==◌},
   Words.{◌&&◌, Column, after_comma, end_after, Charset, Form},
-  LineTexts.{after_some_column, after_append},
+  RowSteps.{after_some_column, after_append},
   RunSteps.{made_more, used_more, whole_some},
   TableSteps.{known_kind, last_one},
 }
-use Rattle.tds_rows.specs.FormRuns.{IsLatest, NumbersWithin}
-use Rattle.tds_rows.specs.declared.run.forms.Latest.{Latest}
 
 not_last : (rest : List Column) → 0 < length rest → false ≡ N.is_last_column rest
 not_last rest some = grind arith

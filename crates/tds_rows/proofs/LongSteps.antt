@@ -1,6 +1,13 @@
 -- Long values, in the grammar of a cell: the text of its parts, and the pieces of its content.
 use Rattle.tds_rows.proofs.Words as N
-use Rattle.tds_rows.proofs.{Words.{◌≡◌, ◌∙◌, ◌⊎◌, inl, inr, ℕ, suc, ◌+◌, ◌-◌, ◌^◌, ◌<◌, ◌≤◌, Bool, true, false, List, [], ◌∷◌, ◌++◌, length, refl, sym, ap, subst, arith}, Words.{append_assoc, Some, ◌&&◌, ◌||◌, BadText, Stop, Spelt, Seen, BeginsData, Conversion, is_fit, open_field, after_comma, Held, cell, cell_fault}, Words.{cell_so_far, added_text}, Paths.{At, Path, path_both, path_stops}, RowSteps.{line_grows}, LineTexts.after_append, Numbers.{chunk_left, short_left}}
+use Rattle.tds_rows.proofs.{
+  Words.{◌≡◌, ◌∙◌, ◌⊎◌, inl, inr, ℕ, suc, ◌+◌, ◌-◌, ◌^◌, ◌<◌, ◌≤◌, Bool, true, false, List, [], ◌∷◌, ◌++◌, length, refl, sym, ap, subst, arith},
+  Words.{append_assoc, Some, ◌&&◌, ◌||◌, BadText, Stop, Spelt, Seen, BeginsData, Conversion, is_fit, open_field, after_comma, Held, cell, cell_fault},
+  Words.{cell_so_far, added_text},
+  Paths.{At, Path, path_both, path_stops},
+  RowSteps.{line_grows, after_append},
+  Numbers.{chunk_left, short_left},
+}
 
 -- ---- content, byte by byte
 

@@ -1,6 +1,29 @@
 -- The cells of a row, as they are read one after another and their text is put.
 use Rattle.tds_rows.proofs.Words as N
-use Rattle.tds_rows.proofs.{Words.{◌≡◌, ◌∙◌, ℕ, ◌+◌, ◌^◌, ◌-◌, ◌<◌, ◌≤◌, Bool, false, List, [], ◌∷◌, ◌++◌, length, sym, ap, arith, append-nil, None, map, Kind, Stop, Seen, Column}, Words.{joined, Held, Charset, Cell, CellPart, WholeCell, cell, cell_start, field, cell_so_far, true, Some, opened}, Paths.At, LineTexts.joined_snoc, GrowingTexts.{Grows, OptionGrows, cell_grows, grows_all, grows_same, grows_trans}}
+use Rattle.tds_rows.proofs.{
+  Words.{◌≡◌, ◌∙◌, ℕ, ◌+◌, ◌^◌, ◌-◌, ◌<◌, ◌≤◌, Bool, false, List, [], ◌∷◌, ◌++◌, length, sym, ap, arith, append-nil, None, map, Kind, Stop, Seen, Column},
+  Words.{joined, Held, Charset, Cell, CellPart, WholeCell, cell, cell_start, field, cell_so_far, true, Some, opened, ◌≢◌},
+  Paths.At,
+  GrowingTexts.{Grows, OptionGrows, cell_grows, grows_all, grows_same, grows_trans},
+}
+
+-- ---- fields in their line
+
+-- a field after a comma
+pub after_some_column : (column : ℕ) (text : List ℕ) → column ≢ 0 → 44 ∷ text ≡ N.after_comma column text
+after_some_column column text h = grind N.arith
+
+-- more after a field
+pub after_append : (column : ℕ) (a b : List ℕ) → N.after_comma column (a ++ b) ≡ N.after_comma column a ++ b
+after_append column a b = grind N.arith
+
+-- one field more
+pub joined_snoc : (fields : List (List ℕ)) (f : List ℕ) → N.joined fields ++ N.after_comma (N.length fields) f ≡ N.joined (fields ++ f ∷ [])
+joined_snoc [] f = N.refl
+joined_snoc (g ∷ []) f = N.sym (N.append_assoc g _ f)
+joined_snoc (g ∷ h ∷ gs) f = grind (N.arith, N.append_assoc, (joined_snoc (h ∷ gs) f))
+
+-- ---- cells that are read
 
 -- A cell was read, of those whose text comes with the last element alone, and this is its text in its line.
 pub record ReadsCell (from : CellPart) (column : ℕ) (last : Bool) (old new : Seen) (place place' : ℕ) (text : List ℕ) : Type 0 where

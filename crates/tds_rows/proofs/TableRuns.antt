@@ -1,11 +1,13 @@
 -- Runs of cells over the columns that a table knows: more cells after those that were written.
 use Rattle.tds_rows.proofs.Words as N
 use Rattle.tds_rows.proofs.{
-  Words.{arith, false, [], ◌∷◌, ◌≡◌, ◌∙◌, ap, ℕ, ◌+◌, ◌-◌, ◌<◌, ◌≤◌, List, ◌++◌, length, take, drop, Column, Ahead, RowsRan, Table, Cell, ◌^◌},
+  Words.{arith, false, [], ◌∷◌, ◌≡◌, ◌∙◌, ap, ℕ, ◌+◌, ◌-◌, ◌<◌, ◌≤◌, List, ◌++◌, length, take, drop, Column, Ahead, RowsRan, Table, Cell, ◌^◌, suc, Bool},
+  Words.{refl, sym, RunsMarked, inl, ◌⊎◌, ◌==◌, Form},
   GrowingTexts.row_grows,
   Paths.At,
   TableSteps.none_next,
   RunSteps.{made_more, marked_cells, marked_writes, rows_both, rows_none, rows_onward, used_more},
+  FormSteps.some_first,
 }
 
 -- Between two places of rows, over the ends of so many, these bytes are their cells, and this is their text.
@@ -126,3 +128,140 @@ rows_further {bytes = bytes} {to = to} {run = run} {more = more} text rest is x 
     ) (rows_both w (rw is at (v.1 charset w.more set w.counted)))),
   ));
 }
+
+-- ---- the cells of an NBCROW
+
+-- no column is NULL by its bit
+abbrev pub none_null : ℕ → Bool
+none_null k = false
+
+module _ (charset : N.Charset) (columns : List N.Column) where
+  -- so many columns, and then so many more
+  marked_both : (nulls : ℕ → Bool) (from n m : ℕ) (a b p q : List ℕ) → N.WritesMarked charset columns nulls from n a p
+      → N.WritesMarked charset columns nulls (from + n) m b q → N.WritesMarked charset columns nulls from (n + m) (a ++ b) (p ++ q)
+  marked_both nulls from n N.zero a b p q x y = search N.rules
+  marked_both nulls from n (suc m) a b p q x y =
+      let at : (from + n) + m ≡ from + _ = omega arith in
+      let counted : suc _ ≡ n + suc m = omega arith in
+      rw (sym counted) (
+        a ++ y.0,
+        y.1,
+        p ++ y.2,
+        y.3,
+        ap (λ l. a ++ l) y.4 ∙ sym (N.append_assoc a y.0 y.1),
+        ap (λ l. p ++ l) y.5 ∙ sym (N.append_assoc p y.2 y.3),
+        marked_both nulls from n m a y.0 p y.2 x y.6,
+        rw at at y.7,
+      )
+
+  -- columns whose bits are clear
+  pub marked_clear : (nulls : ℕ → Bool) (from n : ℕ) (bytes text : List ℕ) → ((k : ℕ) → from ≤ k → k < from + n → nulls k ≡ false)
+      → N.WritesMarked charset columns none_null from n bytes text → N.WritesMarked charset columns nulls from n bytes text
+  marked_clear nulls from N.zero bytes text clear x = x
+  marked_clear nulls from (suc n) bytes text clear x =
+      let last = x.7 in
+      let writes = N.subst (λ e. N.WritesNext charset e last.column.kind (from + n) (N.is_last_column last.left) x.1 x.3)
+      (sym (clear (from + n) (omega arith) (omega arith))) last.writes in
+      let one : N.WritesColumn charset columns nulls (from + n) x.1 x.3 =
+      grind arith in
+      (x.0, x.1, x.2, x.3, x.4, x.5, marked_clear _ _ n _ _ (λ k least most. clear k least (omega arith)) x.6, one)
+
+module _ {table : N.Table} {columns : List N.Column} {nulls : ℕ → Bool} {at : Ahead} where
+  -- one cell
+  pub runs_column : {after : Ahead} {kind : N.Kind} {last : Bool} {bytes text : List ℕ} → N.TakesColumn table columns at after kind
+      → last ≡ N.is_last_column (drop after.column columns) → N.WritesNext table.charset (nulls at.column) kind at.column last bytes text
+      → RunsMarked table columns nulls at after bytes text
+  runs_column {bytes = bytes} {text = text} taken end cell =
+      let one : N.WritesColumn _ columns nulls _ bytes text =
+      record { column = taken.column; left = drop _ columns; next = taken.next; writes = rw (taken.kind, end) at cell } in
+      record {
+        count = 1;
+        ahead = taken.ahead;
+        further = cc;
+        writes = grind arith;
+      }
+
+module _ {table : N.Table} {columns : List N.Column} {nulls : ℕ → Bool} {from to : Ahead} where
+  -- a run over columns whose bits are clear
+  pub runs_clear : {bytes text : List ℕ} → ((k : ℕ) → from.column ≤ k → k < to.column → nulls k ≡ false)
+      → RunsMarked table columns none_null from to bytes text → RunsMarked table columns nulls from to bytes text
+  runs_clear clear x = grind (arith, marked_clear)
+
+  -- more cells, in the bytes that are left and after what was made
+  pub runs_more : (at : Ahead) (used u made m : ℕ) (bytes text new rest : List ℕ) → made ≤ N.length text → m ≤ N.length new
+      → RunsMarked table columns nulls from at (take used bytes) (take made text)
+      → RunsMarked table columns nulls at to (take u (take (N.length bytes - used) (drop used bytes))) (take m new)
+      → RunsMarked table columns nulls from to (take (used + u) bytes) (take (made + m) (take made text ++ (new ++ rest)))
+  runs_more at used u made m bytes text new rest within some x y = record {
+    count = x.count + y.count;
+    ahead = y.ahead;
+    further = omega arith;
+    writes = rw (used_more, made_more) (marked_both _ _ _ _ _ _ _ _ _ _ x.writes (rw x.further at y.writes));
+  }
+
+-- a run ended before a column whose bit is clear
+pub ends_clear : (table : N.Table) (nulls : ℕ → Bool) (at : Ahead) (bytes : List ℕ) (room : ℕ) → nulls at.column ≡ false → N.RunEnds table at bytes room
+    → N.EndsLeft table nulls at bytes room
+ends_clear table nulls at bytes room clear x =
+    λ columns column left knows ahead next. elim (x columns column left knows ahead next) [ N.inl few ↦ N.inl few | N.inr y ↦ N.inr (clear, y.1) ]
+
+-- ---- the forms of the next columns
+
+-- those that a table knows, from a place in a row on
+pub known_ahead : (table : N.Table) (at : N.Ahead) (end : ℕ) (n : ℕ) → N.AreLaidOut table.charset table.forms → table.known ≤ N.length table.forms → 0 < n
+    → at.column + n ≤ end → at.column + n ≤ table.known → table.known ≤ table.count → N.AreAhead table at end (take n (drop at.column table.forms))
+known_ahead table at end n laid fits some within known few =
+    let k = at.column in
+    let len = N.length-take-le n _ (grind (arith, N.length-drop)) in
+    record {
+      laid = grind (arith, N.common_steps);
+      some = omega arith;
+      within = omega arith;
+      known = grind arith;
+      next = λ columns knows ahead.
+          let first =
+          ap (N.map _) (sym (N.take-take _ _ _ known)) ∙ sym (N.take-map _ _ _) ∙ ap (take _) knows.first
+          ∙ N.take-map _ _ _ ∙ ap N.kinds (N.take-take _ _ columns known) in
+          let forms_are =
+          ap (N.map _) (sym (N.drop-take k n _)) ∙ sym (N.drop-map _ k _) ∙ ap (drop k) first ∙ N.drop-map _ k _
+          ∙ ap N.kinds (N.drop-take k n columns) in
+          forms_are ∙ ap (λ m. N.kinds (take m (drop k columns))) (sym len);
+    }
+
+-- no cell was written where no byte was used
+pub none_written : (cells used : ℕ) → (0 < cells → 0 < used) → used ≡ 0 → cells ≡ 0
+none_written cells used some none = grind arith
+
+-- some were where some bytes were
+pub some_written : (cells used : ℕ) → (cells ≡ 0 → used ≡ 0) → 0 < used → 0 < cells
+some_written cells used none some = grind arith
+
+module _ (table : N.Table) (from : N.Ahead) (end : ℕ) (forms : List Form) (within : end ≤ table.count) (ahead : N.AreAhead table from end forms) where
+  -- the first is that of the next column
+  pub first_next : (form : Form) (rest : List Form) → forms ≡ form ∷ rest → (columns : List Column) → N.Knows table columns → N.IsAhead table columns from
+      → N.NextColumn columns from form.kind
+  first_next form rest are columns knows is = grind arith
+
+  module _ (ends : N.Bool) (end_is : ends ≡ (from.column + N.length forms == table.count)) where
+    -- what was written by them is between two places of the row
+    pub forms_between : (columns : List Column) → N.Knows table columns → N.IsAhead table columns from
+        → (to : N.Ahead) (bytes text : List ℕ) (run : N.FormsRun) → to.column ≡ from.column + run.cells → N.IsAhead table columns to
+        → N.FormsWritten table.charset forms from.column ends bytes text run
+        → N.RunsMarked table columns (λ k. N.false) from to (take run.used bytes) (take run.made text)
+    forms_between columns knows is to bytes text run further there x = grind (arith, N.length-drop)
+
+  -- the first was left
+  pub first_left : (bytes : List ℕ) (room : ℕ) → N.FirstLeft table.charset forms bytes room
+      → (columns : List Column) (column : Column) (left : List Column) → N.Knows table columns → N.IsAhead table columns from
+      → drop from.column columns ≡ column ∷ left
+      → (room < N.CELL_ROOM) ⊎ ((N.false ≡ N.false) × N.IsLeft table.charset column.kind bytes room)
+  first_left bytes room x columns column left knows is step =
+      let first = some_first _ ahead.some in
+      let n = first_next _ _ first.2 columns knows is in
+      elim (x first.0 first.1 first.2) [
+        | inl few ↦ inl few
+        | N.inr y ↦ N.inr (
+          N.refl,
+          rw (n.kind ∙ ap (λ r. (N.get_or r 0 column).kind) (sym n.next ∙ step)) at y,
+        )
+      ]

@@ -1,4 +1,4 @@
 use Rattle.tds_rows.proofs.Words as N
 
 pub returns-clause-piece : Rattle.tds_rows.proofs.cell.passed.pass_piece.Goals.returns-clause-piece
-returns-clause-piece g c = grind (N.arith, N.common_steps, N.length-take-le, N.Takes-more, N.seen)
+returns-clause-piece g c = grind (N.arith, N.common_steps, N.length-take-le, N.seen)

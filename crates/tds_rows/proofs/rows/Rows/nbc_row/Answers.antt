@@ -16,10 +16,9 @@ returns-in_err-take_into-clause-row g c = λ columns known.
 
 pub loop-at-init : goal.loop-at-init
 loop-at-init g c =
-    let old = c.args.self.now in
     let sink = c.requires.some.in_row.sink in
     let x = c.in_ok-take_into.ensures.gives in
-    let bytes : c.take_into.new.area.bytes ≡ x.element = ap (λ (s : N.Space). s.bytes) x.stands
+    let bytes = ap (λ (s : N.Space). s.bytes) x.stands
     ∙ ap (λ (l : N.List N.ℕ). l ++ x.element) c.requires.awaits.empty in
     record {
       stays = record {
@@ -34,14 +33,14 @@ loop-at-init g c =
         small = record { room = refl; bound = omega arith };
       };
       knows = c.requires.some.knows;
-      fits = omega (arith, ap length bytes, x.whole, c.bitmap_size.ensures.value, c.count.ensures);
+      fits = omega (arith, ap length bytes, x.whole, c.count.ensures);
       reads = λ columns knows.
-          let whole : length x.element ≡ N.bitmap_length (length columns) = x.whole ∙ c.bitmap_size.ensures.value
+          let whole = x.whole ∙ c.bitmap_size.ensures.value
           ∙ ap N.bitmap_length (c.count.ensures ∙ knows.counted) in
-          let some : 0 < length columns = omega (arith, c.requires.some.knows.2, knows.counted) in
+          let some : 0 < length columns = omega (arith, knows.counted) in
           let taken = rw (sym x.whole) at x.takes in
           let near = bitmap_nears columns x.element some whole taken x.between (sink.ready.1 sink.writing) sink.ready.2
-          (omega (arith, x.whole, c.in_ok-take_into.ensures.place)) in
+          (omega (arith, c.in_ok-take_into.ensures.place)) in
           (c.start-ahead.ensures.ahead columns knows, rw (c.start-ahead.ensures.first, bytes) near);
     }
 
@@ -52,7 +51,7 @@ returns-in_err-at-clause-row g c =
     (run_stops l.invariant.stays.in_row l.invariant.reads (rw c.bytes.ensures.value at c.in_err-at.ensures) columns knows))
 
 pub returns-in_err-at-clause-leaves : goal.returns-in_err-at-clause-leaves
-returns-in_err-at-clause-leaves g c = grind (arith, N.common_steps, leaves_after)
+returns-in_err-at-clause-leaves g c = grind (arith, N.common_steps)
 
 pub put_next-requires : goal.put_next-requires
 put_next-requires g c =

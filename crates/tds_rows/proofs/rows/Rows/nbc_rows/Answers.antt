@@ -46,7 +46,7 @@ loop-ended-preserved g c =
     record {
       stays = stays_on (stays_on l.invariant.stays (stays_after l.invariant.stays.in_row done.leaves)) kept;
       knows = rw (sym same) at known;
-      room = search (arith, rules);
+      room = search arith;
       few = omega (arith, (done.row known.0 known.1).place_is);
       reads = rw same (λ columns knows.
           let read = rows_row (l.invariant.reads columns knows) (done.row columns knows) in
@@ -58,7 +58,6 @@ pub loop-ended-smaller : goal.loop-ended-smaller
 loop-ended-smaller g c =
     let l = c.loop-ended in
     let done = c.in_ok-nbc_row.ensures in
-    let kept = c.take_token.ensures.stays in
     let taken = c.if-not-take_token.ensures.token NbcRow refl in
     let known = l.invariant.knows in
     omega (arith, (done.row known.0 known.1).place_is)

@@ -4,18 +4,18 @@ use Rattle.tds_rows.proofs.{Words.{[], arith}, Paths.here, TableRuns.{marked_row
 
 pub returns-in_err-ahead : goal.returns-in_err-ahead
 returns-in_err-ahead g c =
-    let read = c.in_err-ahead.ensures.run (λ k. N.false) c.args.from (rw c.buffered-bytes.ensures at c.run_cells-run.ensures.cells) in
+    let read = c.in_err-ahead.ensures.run _ c.args.from (rw c.buffered-bytes.ensures at c.run_cells-run.ensures.cells) in
     record {
-      leaves = search (arith, read.leaves);
+      leaves = search arith;
       place = search arith;
       cells = N.passed _ _ _ _ c.from_residual.ensures.1 read.cells;
     }
 
 pub returns : goal.returns
 returns g c =
-    let read = c.in_ok-ahead.ensures.run (λ k. N.false) c.args.from (rw c.buffered-bytes.ensures at c.run_cells-run.ensures.cells) in
+    let read = c.in_ok-ahead.ensures.run _ c.args.from (rw c.buffered-bytes.ensures at c.run_cells-run.ensures.cells) in
     record {
-      leaves = search (arith, read.leaves);
+      leaves = search arith;
       place = search arith;
       cells = λ columns knows ahead. marked_rows {p = here g.R.Read.remaining g.W.Write.contents c.args.self.now}
           {q = here g.R.Read.remaining g.W.Write.contents c.put_made.new.self} (read.cells columns knows ahead);

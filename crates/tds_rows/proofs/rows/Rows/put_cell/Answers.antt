@@ -6,11 +6,11 @@ pub returns-in-Some : goal.returns-in-Some
 returns-in-Some g c =
     let old = c.args.self.now in
     let n = c.in-Some.cell.used in
-    let lies : n ≤ N.length (N.buffered old.payload.now) = search (N.arith, N.rules) in
-    let at : c.consume.new.self.place ≡ old.payload.now.place + N.length (N.take n (N.buffered old.payload.now)) =
+    let lies : n ≤ N.length (N.buffered old.payload.now) = search N.arith in
+    let at : c.consume.new.self.place ≡ old.payload.now.place + N.length _ =
     omega (N.arith, ap (λ p. p.place) c.consume.ensures.rest, N.length-take n (N.buffered old.payload.now)) in
     record {
-      leaves = search (N.arith, N.rules);
+      leaves = search N.arith;
       cell = λ last next.
           let end = last_one _ _ _ _ _ next.knows.counted next.next ∙ sym next.last in
           let alone = rw (end, c.buffered.ensures) at c.in-Some.ensures.cell in
@@ -25,7 +25,7 @@ returns-in-Short g c = record {
   cell = λ last next.
       let kind = c.args.form.now.kind in
       let end = c.is_last-last.ensures ∙ last_one _ _ _ _ _ next.knows.counted next.next ∙ sym next.last in
-      let start : N.long_start (N.conversion_of c.in-Short.content) N.Short ≡ N.cell_start kind (N.shape c.args.self.now.table.now.charset kind) =
+      let start =
       sym (ap (N.cell_start kind) (c.requires.laid ∙ ap N.shape_of_layout c.in-Short.is)) in
       rw start at (rw end at c.put_joined.ensures.field);
 }
@@ -36,7 +36,7 @@ returns-in-Chunked g c = record {
   cell = λ last next.
       let kind = c.args.form.now.kind in
       let end = c.is_last-last.ensures ∙ last_one _ _ _ _ _ next.knows.counted next.next ∙ sym next.last in
-      let start : N.long_start (N.conversion_of c.in-Chunked.content) N.Chunked ≡ N.cell_start kind (N.shape c.args.self.now.table.now.charset kind) =
+      let start =
       sym (ap (N.cell_start kind) (c.requires.laid ∙ ap N.shape_of_layout c.in-Chunked.is)) in
       rw start at (rw end at c.put_joined-in-Chunked.ensures.field);
 }

@@ -5,9 +5,9 @@ use Rattle.tds_rows.proofs.{Words.{◌≡◌, ◌+◌, ◌≤◌}, BufferedCells
 pub returns-clause-rows : goal.returns-clause-rows
 returns-clause-rows g c = λ columns knows ahead.
     let run = c.run_rows-run.result in
-    let bytes = N.take run.used (N.buffered c.args.self.now.payload.now) in
-    let lies : run.used ≤ N.length (N.buffered c.args.self.now.payload.now) = search (N.arith, N.rules) in
-    let takes = N.Takes-more (N.seen g.R.Read.remaining c.args.self.now.payload.now) (N.seen g.R.Read.remaining c.consume.new.self) bytes 0 (N.length bytes)
+    let bytes = N.take run.used _ in
+    let lies : run.used ≤ N.length (N.buffered c.args.self.now.payload.now) = search N.arith in
+    let takes = N.Takes-more (N.seen g.R.Read.remaining c.args.self.now.payload.now) _ bytes 0 _
     (omega N.arith) c.consume.ensures.gives in
     let at : c.consume.new.self.place ≡ c.args.self.now.payload.now.place + N.length bytes =
     omega (N.arith, N.ap (λ p. p.place) c.consume.ensures.rest, N.length-take run.used (N.buffered c.args.self.now.payload.now)) in

@@ -21,7 +21,7 @@ returns-in_err-put_cell-clause-row g c =
     rw (← l.invariant.stays.same.3) (λ columns knows.
     let reads = l.invariant.reads columns knows in
     let taken = c.in-Some.ensures.taken columns knows reads.0 in
-    passed _ _ _ _ c.from_residual.ensures.1 (cell_stops (rw taken.next at reads.1) (cell_read (λ k. false) c.in_err-put_cell.ensures knows reads.0 taken)))
+    passed _ _ _ _ c.from_residual.ensures.1 (cell_stops (rw taken.next at reads.1) (cell_read _ c.in_err-put_cell.ensures knows reads.0 taken)))
 
 pub loop-form-preserved : goal.loop-form-preserved
 loop-form-preserved g c =
@@ -32,8 +32,8 @@ loop-form-preserved g c =
       reads = rw done.leaves.same.3 (λ columns knows.
           let reads = l.invariant.reads columns knows in
           let taken = c.in-Some.ensures.taken columns knows reads.0 in
-          let y = cell_read (λ k. false) done knows reads.0 taken in
-          (taken.ahead, rw (sym taken.further) at (cell_reads (none_ahead (drop c.in-Some.after.column columns) _) (rw taken.next at reads.1) y)));
+          let y = cell_read _ done knows reads.0 taken in
+          (taken.ahead, rw (sym taken.further) at (cell_reads (none_ahead _ _) (rw taken.next at reads.1) y)));
     }
 
 pub returns-clause-row : goal.returns-clause-row

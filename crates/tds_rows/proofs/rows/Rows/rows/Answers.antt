@@ -29,7 +29,7 @@ loop-run-preserved-then-run-gt0 g c =
     record {
       stays = stays_on l.invariant.stays (stays_after l.invariant.stays.in_row run.leaves);
       knows = rw (sym run.leaves.same.3) at l.invariant.knows;
-      few = omega (arith, run.place);
+      few = omega arith;
       reads = rows_ran l.invariant.reads run;
     }
 
@@ -64,7 +64,7 @@ loop-run-preserved g c =
     record {
       stays = stays_on (stays_on l.invariant.stays kept) (stays_after kept.in_row done.leaves);
       knows = rw (sym done.leaves.same.3) at known;
-      few = omega (arith, run.place, cell_further reads c.in-Some.ensures.taken done known.0 known.1);
+      few = omega (arith, cell_further reads c.in-Some.ensures.taken done known.0 known.1);
       reads = rows_cell reads c.in-Some.ensures.taken done;
     }
 
@@ -81,7 +81,7 @@ loop-run-preserved-in_default g c =
     record {
       stays = stays_on (stays_on l.invariant.stays kept) took.stays;
       knows = rw (sym same) at known;
-      few = omega (arith, run.place, taken.1);
+      few = omega (arith, taken.1);
       reads = rw same (λ columns knows.
           let x = rows_ran l.invariant.reads run columns knows in
           let whole = rows_whole (rw (c.in_default.ensures.taken columns knows x.0) at x.1).rows in
@@ -96,7 +96,7 @@ loop-run-smaller-in_default g c =
     let kept = stays_after c.loop-run.invariant.stays.in_row c.in_ok-run.ensures.leaves in
     let took = c.take_token.ensures.stays in
     let taken = c.if-not-take_token.ensures.token PlainRow refl in
-    omega (arith, c.in_ok-run.ensures.place, took.in_row.payload.sound.place, took.in_row.payload.sound.wire, took.payload.3, kept.payload.3)
+    omega (arith, c.in_ok-run.ensures.place, took.in_row.payload.sound.wire, took.payload.3, kept.payload.3)
 
 pub loop-run-smaller : goal.loop-run-smaller
 loop-run-smaller g c =
@@ -105,12 +105,4 @@ loop-run-smaller g c =
     let known = rw (sym run.leaves.same.3) at l.invariant.knows in
     let kept = stays_after l.invariant.stays.in_row run.leaves in
     let done = c.in_ok-put_cell.ensures in
-    omega (
-      arith,
-      cell_further (rows_ran l.invariant.reads run) c.in-Some.ensures.taken done known.0 known.1,
-      run.place,
-      done.leaves.payload.sound.place,
-      done.leaves.payload.sound.wire,
-      done.leaves.payload.same.3,
-      kept.payload.3,
-    )
+    omega (arith, cell_further (rows_ran l.invariant.reads run) c.in-Some.ensures.taken done known.0 known.1, run.place, done.leaves.payload.sound.wire, done.leaves.payload.same.3, kept.payload.3)

@@ -1,12 +1,11 @@
 use Rattle.tds_rows.proofs.table.Table.run_known.Goals as goal
-use borrow.Rule.Slice.PartMut.{post_of, put_mid, same_len_mid}
 use Rattle.tds_rows.proofs.Words as N
+use borrow.Rule.Slice.PartMut.{post_of, put_mid, same_len_mid}
 use Rattle.tds_rows.proofs.{
   Words.{[], ◌∷◌, arith, ◌≡◌, ◌∙◌, ◌+◌, ◌-◌, length},
   table.Table.run_known.Goals.{in_default+then-not-row_follows, in-Some+then-run-eq0},
   RunSteps.made_same,
-  TableForms.{first_left, forms_between},
-  TableRuns.{row_begun, rows_begin, rows_further, rows_kept, rows_more},
+  TableRuns.{first_left, forms_between, row_begun, rows_begin, rows_further, rows_kept, rows_more},
   TableSteps.none_next,
 }
 
@@ -36,16 +35,16 @@ returns-clause-ends g c = λ columns column left knows ahead step.
     let bytes = c.args.bytes.now in
     let made = l.made + whole.result.made in
     let mid = put_mid l.made (length l.to - l.made) l.to whole.new.to in
-    let same = same_len_mid l.made (length l.to - l.made) l.to whole.new.to (search (arith, N.rules)) in
+    let same = same_len_mid l.made (length l.to - l.made) l.to whole.new.to (search arith) in
     elim c.match-rest_of_row.branch [
-      | in_default+then-not-row_follows w ↦ absurd (let e : column ∷ left ≡ [] = N.sym step
+      | in_default+then-not-row_follows w ↦ absurd (let e = N.sym step
           ∙ none_next _ _ _ knows.counted w.in_default.ensures.ahead in omega (arith, N.ap length e))
       | in-Some+then-run-eq0 w ↦ (let run = w.run_forms-run in
           let left = first_left _ _ _ _ (omega arith) w.in-Some.ensures.ahead _ _ (run.ensures.ends w.if-run-eq0.true) _
           _ _ knows ahead step in
           let room : length (N.take (length mid - made) (N.drop made mid)) ≡ length c.args.to.now - made =
-          omega (arith, same, N.length-take (length mid - made) (N.drop made mid), N.length-drop made mid) in
-          rw room at (rw (N.all_after bytes (l.used + whole.result.used)) at left))
+          omega (arith, same, N.length-drop made mid) in
+          rw room at (rw (N.all_after bytes _) at left))
     ]
 
 pub returns-clause-rows : goal.returns-clause-rows
@@ -53,10 +52,10 @@ returns-clause-rows g c =
     let l = c.loop-forms in
     let whole = c.run_whole-whole in
     let made = l.made + whole.result.made in
-    let mid = put_mid l.made (length l.to - l.made) l.to whole.new.to in
-    let ran = rows_further whole.new.to (post_of l.made (length l.to - l.made) l.to) whole.ensures.ahead l.invariant whole.ensures.rows in
+    let mid = put_mid l.made _ l.to whole.new.to in
+    let ran = rows_further whole.new.to _ whole.ensures.ahead l.invariant whole.ensures.rows in
     elim c.match-rest_of_row.branch [
       | in_default+then-not-row_follows w ↦ rw w.to-is ran
-      | in-Some+then-run-eq0 w ↦ rw w.to-is (rows_kept _ (same_len_mid made (length mid - made) mid w.run_forms-run.new.to (search arith))
+      | in-Some+then-run-eq0 w ↦ rw w.to-is (rows_kept _ (same_len_mid made _ mid w.run_forms-run.new.to (search arith))
           (made_same made mid _ ran.made) ran)
     ]

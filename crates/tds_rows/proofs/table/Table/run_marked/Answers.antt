@@ -3,7 +3,7 @@ use Rattle.tds_rows.proofs.Words as N
 use Rattle.tds_rows.proofs.{
   Words.{[], ℕ, ◌≡◌, ◌∙◌, ◌-◌, ◌<◌, ◌≤◌, ◌∷◌, ap, length, drop, arith},
   table.Table.run_marked.Goals.{else-loop-to-test, then-loop-to-test+else-ahead-count, then-loop-to-test+then-ahead-count+else-end-ahead+then-cells-eq0},
-  Stretches.{ends_clear, runs_clear, runs_column, runs_more},
+  TableRuns.{ends_clear, runs_clear, runs_column, runs_more},
   TableSteps.{last_one, next_any, none_next, takes},
 }
 
@@ -23,13 +23,12 @@ loop-to-preserved-then-end-ahead g c =
       used = l.invariant.used;
       made = search arith;
       most = search arith;
-      clear = λ k least most. absurd (omega (arith, most, at));
+      clear = λ k least most. absurd (omega (arith, at));
       writes = λ columns knows ahead.
           let ran = l.invariant.writes columns knows ahead in
           let some : l.ahead.column < c.args.self.now.count = omega arith in
           let one = next_any _ _ _ knows.counted some in
           let taken = takes _ _ _ _ _ one.1 c.step.ensures.further (c.step.ensures.ahead columns knows ran.ahead) in
-          let left = drop c.step.new.at.column columns in
           let last = c.is_last.ensures ∙ last_one _ _ _ _ _ knows.counted taken.next in
           let line = c.write_null-made.ensures.text
           ∙ ap (λ (k : ℕ). N.in_line k c.is_last.result N.null_field) at ∙ ap (λ (e : N.Bool). N.in_line l.ahead.column e N.null_field) last in
@@ -50,7 +49,7 @@ loop-to-preserved g c =
       used = search arith;
       made = search arith;
       most = search arith;
-      clear = λ k least most. end.ensures.clear k (omega (arith, least)) most;
+      clear = λ k least most. end.ensures.clear k (omega arith) most;
       writes = λ columns knows ahead.
           let x = l.invariant.writes columns knows ahead in
           let y = runs_clear (λ k least most. end.ensures.clear k least (omega arith)) (ran.ensures.cells columns knows x.ahead) in
@@ -67,10 +66,10 @@ returns-clause-ends g c =
         | else-loop-to-test w ↦ N.inl (omega arith)
         | then-loop-to-test+else-ahead-count w ↦ absurd
             (let none = none_next _ _ _ knows.counted (omega arith) in
-            let e : column ∷ left ≡ [] = N.sym step ∙ none in omega (arith, ap length e))
+            let e = N.sym step ∙ none in omega (arith, ap length e))
         | then-loop-to-test+then-ahead-count+else-end-ahead+then-cells-eq0 w ↦ (let lent = N.take (length l.to - l.made) (drop l.made l.to) in
             let room : length lent ≡ length c.args.to.now - l.made =
-            omega (arith, N.length-take (length l.to - l.made) (drop l.made l.to), N.length-drop l.made l.to) in
+            omega (arith, N.length-drop l.made l.to) in
             let end = w.clear_end-end.ensures in
             let before : l.ahead.column < w.clear_end-end.result = omega arith in
             let run = rw room at (rw (N.all_after c.args.bytes.now l.used) at (w.run_cells-cells.ensures.ends w.if-cells-eq0.true before)) in

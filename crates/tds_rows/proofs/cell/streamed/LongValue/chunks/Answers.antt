@@ -34,7 +34,7 @@ returns-then-n-eq0-clause-field g c = λ conversion suits.
     let l = c.loop-n in
     let x = l.invariant.streamed conversion suits in
     let r = c.in_ok-n.ensures.length in
-    let none : r.0 ≡ 0 = sym r.3 ∙ c.if-n-eq0.true in
+    let none = sym r.3 ∙ c.if-n-eq0.true in
     let free = rw (c.UNIT.ensures, l.invariant.value.3) at r.2 in
     let ended = rw (l.invariant.value.3, l.invariant.value.4, c.place-place.ensures, suits.quoted_is) at
     (c.put_end.ensures.end conversion x.content suits x.kept_is x.begun) in
@@ -66,7 +66,7 @@ loop-n-preserved g c =
       same_sink = search rules;
       begun = done.leaves.begun;
       calm = done.blames ∙ same_failures c.in_ok-n.ensures.length.1.takes.4.0 refl ∙ l.invariant.calm;
-      few = omega (arith, done.place, (c.in_ok-n.ensures.length).1.place_is);
+      few = omega (arith, (c.in_ok-n.ensures.length).1.place_is);
       streamed = λ conversion suits.
           let x = l.invariant.streamed conversion suits in
           let r = c.in_ok-n.ensures.length in
@@ -77,4 +77,4 @@ loop-n-preserved g c =
     }
 
 pub returns-in_err-n-clause-blames : goal.returns-in_err-n-clause-blames
-returns-in_err-n-clause-blames g c = grind (arith, stops_after, read_stops, length_blames, chunk_blames)
+returns-in_err-n-clause-blames g c = grind (arith, stops_after, read_stops, length_blames)

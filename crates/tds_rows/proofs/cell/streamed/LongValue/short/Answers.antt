@@ -55,4 +55,4 @@ returns-clause-field g c = λ conversion suits.
     (λ stop z. path_stops start (short_end_stops _ _ _ y z)))
 
 pub returns-in_err-n-clause-blames : goal.returns-in_err-n-clause-blames
-returns-in_err-n-clause-blames g c = grind (arith, read_stops, length_blames, short_blames)
+returns-in_err-n-clause-blames g c = grind (arith, read_stops, length_blames)
