@@ -24,7 +24,7 @@ BeginsChunks (d ∷ ds) bytes = (front : List ℕ) × (rest : List ℕ) × (byte
 more_chunks : (ds : List (List ℕ)) (bytes d front : List ℕ) → BeginsChunks ds bytes → N.SpellsChunk d front
     → BeginsChunks (ds ++ d ∷ []) (bytes ++ front)
 more_chunks [] bytes d front h s = search N.rules
-more_chunks (x ∷ ds) bytes d front h s = (
+more_chunks (x ∷ ds) _ d front h s = (
   h.0,
   h.1 ++ front,
   ap (λ v. v ++ front) h.2 ∙ append_assoc h.0 h.1 front,
@@ -34,7 +34,7 @@ more_chunks (x ∷ ds) bytes d front h s = (
 
 end_chunks : (ds : List (List ℕ)) (bytes : List ℕ) → BeginsChunks ds bytes → N.SpellsChunks ds (bytes ++ 0 ∷ 0 ∷ 0 ∷ 0 ∷ [])
 end_chunks [] bytes h = cc
-end_chunks (x ∷ ds) bytes h = (
+end_chunks (x ∷ ds) _ h = (
   h.0,
   h.1 ++ 0 ∷ 0 ∷ 0 ∷ 0 ∷ [],
   ap (λ v. v ++ 0 ∷ 0 ∷ 0 ∷ 0 ∷ []) h.2 ∙ append_assoc h.0 h.1 _,
@@ -78,22 +78,22 @@ CellMeans kind (LongShape c Chunked) (N.ChunkLength c' total d) b = (c' ≡ c) �
 CellMeans kind (LongShape c Chunked) (N.ChunkData c' total left d) b = (c' ≡ c) × ChunkMeans total left d b
 CellMeans kind sh part b = ⊥
 
-pub is_ok_value : (r : N.Result N.ScalarValue N.ValueFault) → N.is_ok r ≡ true → (v : N.ScalarValue) × (r ≡ Ok v)
-is_ok_value r h = grind arith
+pub is_ok_value : {r : N.Result N.ScalarValue N.ValueFault} → N.is_ok r ≡ true → (v : N.ScalarValue) × (r ≡ Ok v)
+is_ok_value h = grind arith
 
 -- a test that gave no fault passed, and nor did what follows it
-pub guard_none : (b : N.Bool) (o : Option N.Fault) (f : N.Fault) → (if b then o else N.Some f) ≡ None → (b ≡ true) × (o ≡ None)
-guard_none b o f h = grind arith
+pub guard_none : {b : N.Bool} {o : Option N.Fault} (f : N.Fault) → (if b then o else N.Some f) ≡ None → (b ≡ true) × (o ≡ None)
+guard_none f h = grind arith
 
 module _ (column : ℕ) (kind : Kind) where
   value_means : (sh : Shape) (e b : List ℕ) → N.is_ok (N.read_of kind e) ≡ true
       → ((v : N.ScalarValue) → N.read_of kind e ≡ Ok v → N.SpellsCell kind sh (N.ScalarCell v) b) → CellMeans kind sh (N.value_part (N.read_of kind e)) b
-  value_means sh e b h k = grind arith
+  value_means _ e b h k = grind arith
 
-  short_means : (c : N.Conversion) (n left : ℕ) (d : List ℕ) (b : List ℕ) (x : ℕ) → n ≡ length d + (left + 1) → n < 65535
+  short_means : (c : N.Conversion) {n : ℕ} (left : ℕ) {d b : List ℕ} (x : ℕ) → n ≡ length d + (left + 1) → n < 65535
       → b ≡ (n % 256 ∷ n / 256 ∷ []) ++ d → (N.is_begun c (d ++ x ∷ []) && (N.nat_lt 0 left || N.is_fit c (d ++ x ∷ []))) ≡ true
       → CellMeans kind (LongShape c Short) (cell_add (N.ShortData c left d) (x ∷ [])) (b ++ x ∷ [])
-  short_means c n left d b x count less is free = grind (arith, N.length-append)
+  short_means c _ x count less is free = grind (arith, N.length-append)
 
   chunk_means : (c : N.Conversion) (total : Option ℕ) (d b e : List ℕ) → length e ≡ 4 → ChunksMean total d b
       → N.chunk_fault column c total d (little e) ≡ None → CellMeans kind (LongShape c Chunked) (cell_add (N.ChunkLength c total d) e) (b ++ e)
@@ -103,7 +103,7 @@ module _ (column : ℕ) (kind : Kind) where
       ∙ free in
       let e0 : e ≡ 0 ∷ 0 ∷ 0 ∷ 0 ∷ [] = grind (arith, N.common_steps) in (
         refl,
-        unless_none _ _ (guard_none _ _ _ (guard_none _ _ _ end).1).1,
+        unless_none _ _ (guard_none _ (guard_none _ end).1).1,
         record {
           total = m.first;
           rest = m.rest ++ e;
@@ -134,7 +134,7 @@ module _ (column : ℕ) (kind : Kind) where
 
   data_means : (c : N.Conversion) (total : Option ℕ) (left : ℕ) (d b : List ℕ) (x : ℕ) → ChunkMeans total left d b
       → CellMeans kind (LongShape c Chunked) (cell_add (N.ChunkData c total left d) (x ∷ [])) (b ++ x ∷ [])
-  data_means c total left d b x m =
+  data_means c _ left d b x m =
       let la = N.length-append m.part (x ∷ []) in
       let spelt = ap (λ v. v ++ x ∷ []) m.spelt ∙ append_assoc m.whole _ _ ∙ ap (λ v. m.whole ++ v) (append_assoc m.header m.part _) in
       let all = ap (λ v. v ++ x ∷ []) m.all ∙ append_assoc m.before m.part _ in
@@ -178,14 +178,14 @@ module _ (column : ℕ) (kind : Kind) where
   -- each element keeps the meaning
   pub cell_step : (sh : Shape) (p : N.CellPart) (b e : List ℕ) → AreBytes e → CellMeans kind sh p b → N.IsNext (N.cell column) p e
       → CellMeans kind sh (cell_add p e) (b ++ e)
-  cell_step sh p b e bytes h n = grind (arith, N.one_byte, chunk_means, data_means, short_length_means, short_means, total_means, unless_none, value_means)
+  cell_step _ p b e bytes h n = grind (arith, N.one_byte, chunk_means, data_means, short_length_means, short_means, total_means, unless_none, value_means)
 
 pub start_means : (kind : Kind) (sh : Shape) → CellMeans kind sh (N.cell_start kind sh) []
-start_means kind sh = grind arith
+start_means _ _ = grind arith
 
 -- What is read as a cell spells it.
-pub cell_is_spelt : {x : N.Cell} {bytes : List ℕ} (column : ℕ) (kind : Kind) (sh : Shape) → AreBytes bytes
+pub cell_is_spelt : {x : N.Cell} {bytes : List ℕ} {column : ℕ} (kind : Kind) (sh : Shape) → AreBytes bytes
     → N.Spelt (N.cell column) (N.cell_start kind sh) bytes (N.WholeCell x) → N.SpellsCell kind sh x bytes
-cell_is_spelt column kind sh are h = N.Spelt-induct _ (λ p b. AreBytes b
+cell_is_spelt kind sh are h = N.Spelt-induct _ (λ p b. AreBytes b
     → CellMeans kind sh p b) (λ p b e m n all. cell_step _ _ _ p b e (N.AreBytes-back b e all) (m (N.AreBytes-front b e all)) n) _ (λ _. start_means _ _)
     _ _ h are

@@ -6,16 +6,16 @@ use Rattle.tds_rows.proofs.{
 }
 
 pub scalar_shape : (charset : N.Charset) (kind : Kind) → N.is_scalar kind ≡ true → N.shape charset kind ≡ N.shape_of_length (fixed_length kind)
-scalar_shape charset kind h = grind arith
+scalar_shape _ _ h = grind arith
 
 -- the values of a kind of fixed length have some bytes
 pub fixed_some : (kind : Kind) (n : ℕ) → fixed_length kind ≡ Some n → 0 < n
-fixed_some kind n h = grind arith
+fixed_some _ n h = grind arith
 
 -- the next element of a cell is cut
 pub cell_cut : {column n place : ℕ} {s : N.CellPart} {a b : Seen} {stop : Stop} (part : List ℕ) (own : Stop) → N.field_so_far s ≡ None → N.cell_size s ≡ n
     → N.cell_end s ≡ Some N.MessageEnded → length part < n → N.Ends a b part own → stop ≡ N.began_at place own → StallsCell s column a b place stop
-cell_cut {s = s} part own quiet size end fewer ends is = grind arith
+cell_cut _ _ quiet size end fewer ends is = grind arith
 
 -- a value whose bytes were read is refused
 value_stalls : {column n place : ℕ} {kind : Kind} {a b : Seen} (bytes : List ℕ) → 0 < n → length bytes ≡ n → is_ok (N.read_of kind bytes) ≡ N.false
@@ -93,8 +93,8 @@ counted_gathers {column = column} {n = n} {place = place} {kind = kind} {a = a} 
 -- ---- cells that are read into an area
 
 -- what an empty area gets stands there alone
-stands_alone : (before after : Space) (element : List ℕ) → before.bytes ≡ [] → after ≡ N.appended before element → after.bytes ≡ element
-stands_alone before after element none is = grind arith
+stands_alone : (before : Space) {after : Space} {element : List ℕ} → before.bytes ≡ [] → after ≡ N.appended before element → after.bytes ≡ element
+stands_alone _ none is = grind arith
 
 -- a cell that has no length before its value was read into an empty area, or it is cut
 pub fixed_taken : {U : Type 0} {stopped : N.Option Stop} {n place' : ℕ} (result : N.Result U Stop) (column : ℕ) (kind : Kind) (a b : Seen) (place : ℕ)
@@ -102,9 +102,9 @@ pub fixed_taken : {U : Type 0} {stopped : N.Option Stop} {n place' : ℕ} (resul
     → N.MatchResult result (λ _. N.TakesInto a b before after n) (λ stop. stopped ≡ None → N.EndsInto a b before after place n stop)
     → N.MatchResult result (λ _. N.GathersCell kind (ScalarBytes kind n) column a b place place' after.bytes)
     (λ stop. StallsCell (ScalarBytes kind n) column a b place stop)
-fixed_taken (Ok u) column kind a b place before after is none going at x =
-    rw (stands_alone _ _ _ none x.stands) (fixed_gathers _ is x.whole x.takes x.between at)
-fixed_taken (N.Err stop) column kind a b place before after is none going at x = let e = x going in cell_cut _ _ refl refl refl e.fewer e.ends e.stop_is
+fixed_taken (Ok u) _ _ a b _ _ _ is none _ at x =
+    rw (stands_alone _ none x.stands) (fixed_gathers _ is x.whole x.takes x.between at)
+fixed_taken (N.Err stop) _ _ a b _ _ _ _ _ going at x = let e = x going in cell_cut _ _ refl refl refl e.fewer e.ends e.stop_is
 
 -- the length that an empty area got
 pub length_taken : {a b : Seen} {before after : Space} {n : ℕ} → before.bytes ≡ [] → N.slice_index after.bytes 0 ≡ n → N.TakesInto a b before after 1
@@ -118,16 +118,16 @@ pub counted_taken : {U : Type 0} {stopped : N.Option Stop} {n middle place' : �
     → N.MatchResult result (λ _. N.TakesInto b d before after n) (λ stop. stopped ≡ None → N.EndsInto b d before after middle n stop)
     → N.MatchResult result (λ _. N.GathersCell kind (ScalarLength kind) column a d place place' after.bytes)
     (λ stop. StallsCell (ScalarLength kind) column a d place stop)
-counted_taken (Ok u) column kind a b d place before after is first some good takes at going there x =
+counted_taken (Ok u) _ _ a b d _ _ _ is first some good takes at going there x =
     rw (ap (λ s. s.bytes) x.stands ∙ ap (λ l. l ++ x.element) first) (counted_gathers b _ is some good takes at x.whole x.takes x.between there)
-counted_taken (N.Err stop) column kind a b d place before after is first some good takes at going there x =
+counted_taken (N.Err stop) _ _ a b d _ _ _ _ _ some good takes at going there x =
     let e = x going in
     length_then some good takes at (cell_cut e.part e.own refl refl refl e.fewer e.ends e.stop_is)
 
 -- from the shape of a scalar kind on
-pub scalar_start : (charset : N.Charset) (kind : Kind) (o : N.Option ℕ) → N.is_scalar kind ≡ true → fixed_length kind ≡ o
+pub scalar_start : (charset : N.Charset) (kind : Kind) {o : N.Option ℕ} → N.is_scalar kind ≡ true → fixed_length kind ≡ o
     → N.cell_start kind (N.shape_of_length o) ≡ N.cell_start kind (N.shape charset kind)
-scalar_start charset kind o scalar is = grind arith
+scalar_start _ _ scalar is = grind arith
 
 -- a cell whose bytes were gathered, and that is left, stops at its value
 pub left_stalls : {kind : Kind} {from : N.CellPart} {column : ℕ} {a b : Seen} {place place' : ℕ} {bytes : List ℕ}

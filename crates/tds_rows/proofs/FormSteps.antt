@@ -11,7 +11,7 @@ use Rattle.tds_rows.proofs.{
 }
 
 not_last : (rest : List Column) → 0 < length rest → false ≡ N.is_last_column rest
-not_last rest some = grind arith
+not_last _ some = grind arith
 
 module _ (forms : List Form) (ends : Bool) (columns : List Column) (next : N.AreNext forms ends columns) where
   few : length forms ≤ length columns
@@ -42,15 +42,15 @@ module _ (forms : List Form) (ends : Bool) (columns : List Column) (next : N.Are
         ∙ next.kinds_are) within (omega arith) (omega (arith, few))
 
     -- the cell after this many
-    next_cell : (charset : Charset) (all : List Column) (column : ℕ) (bytes text : List ℕ) → columns ≡ drop column all
+    next_cell : {charset : Charset} {all : List Column} (column : ℕ) {bytes text : List ℕ} → columns ≡ drop column all
         → N.WritesKind charset (get_or forms k d).kind (column + k) (ends && (k + 1 == length forms)) bytes text
         → N.WritesColumn charset all (λ k. false) (column + k) bytes text
-    next_cell charset all column bytes text is x = grind (arith, N.drop-drop, kind_is, last_of, step)
+    next_cell _ is x = grind (arith, N.drop-drop, kind_is, last_of, step)
 
 -- some forms have a first
 pub some_first : (forms : List Form) → 0 < length forms → (form : Form) × (rest : List Form) × (forms ≡ form ∷ rest)
 some_first [] some = grind arith
-some_first (f ∷ fs) some = (f, fs, refl)
+some_first (f ∷ fs) _ = (f, fs, refl)
 
 module _ (charset : Charset) (forms : List Form) (column : ℕ) (ends : Bool) (columns : List Column) (next : N.AreNext forms ends (drop column columns))
   where
@@ -62,7 +62,7 @@ module _ (charset : Charset) (forms : List Form) (column : ℕ) (ends : Bool) (c
     one_more : {m : ℕ} (d : Form) (n : ℕ) (bytes text : List ℕ) → m ≡ n + 1 → m ≤ length forms
         → (x : N.WritesForms charset forms column (suc n) bytes text) → N.WritesMarked charset columns (λ k. false) column n x.0 x.2
         → N.WritesMarked charset columns (λ k. false) column (suc n) bytes (text ++ end_after (closes m))
-    one_more d n bytes text is few x w =
+    one_more d n _ _ is few x w =
         let last = closes _ in
         rw is (
           x.0,
@@ -72,26 +72,26 @@ module _ (charset : Charset) (forms : List Form) (column : ℕ) (ends : Bool) (c
           x.4,
           ap (λ l. l ++ end_after last) x.5 ∙ N.append_assoc x.2 _ _,
           w,
-          next_cell _ _ _ next n d (omega arith) _ _ _ _ _ refl (x.7 d _ last),
+          next_cell _ _ _ next n d (omega arith) _ refl (x.7 d _ last),
         )
 
-    not_closed : (n : ℕ) → n < length forms → closes n ≡ false
-    not_closed n few = grind arith
+    not_closed : {n : ℕ} → n < length forms → closes n ≡ false
+    not_closed few = grind arith
 
     -- the fields of cells before the last are their text
     earlier : (d : Form) (n : ℕ) (bytes text : List ℕ) → n < length forms → N.WritesForms charset forms column n bytes text
         → N.WritesMarked charset columns (λ k. false) column n bytes text
-    earlier d N.zero bytes text few x = x
-    earlier d (suc n) bytes text few x = rw (
-      not_closed _ few,
+    earlier d N.zero _ _ _ x = x
+    earlier d (suc n) _ _ few x = rw (
+      not_closed few,
       N.append-nil,
     ) at (one_more {m = suc n} d n _ _ (omega arith) (omega arith) x (earlier d n _ _ (omega arith) x.6))
 
     -- the fields of some cells are the text of a run over them
     pub run_marked : (cells : ℕ) (bytes fields : List ℕ) → 0 < cells → cells ≤ length forms → N.WritesForms charset forms column cells bytes fields
         → N.WritesMarked charset columns (λ k. false) column cells bytes (fields ++ end_after (closes cells))
-    run_marked N.zero bytes fields some few x = grind arith
-    run_marked (suc n) bytes fields some few x =
+    run_marked N.zero _ _ some _ x = grind arith
+    run_marked (suc n) bytes fields _ few x =
         let d = (some_first forms (omega arith)).0 in
         one_more d n bytes fields (omega arith) few x (earlier d n x.0 x.2 (omega arith) x.6)
 
@@ -99,7 +99,7 @@ module _ (charset : Charset) (forms : List Form) (column : ℕ) (ends : Bool) (c
 pub before_comma : (made column : ℕ) (to fields : List ℕ) → 0 < column → made ≤ length to → take made to ≡ fields ++ after_comma column []
     → take (made - 1) to ≡ fields
 before_comma made column to fields some within is =
-    let comma = is ∙ ap (λ l. fields ++ l) (sym (after_some_column column [] (λ e. omega arith))) in
+    let comma = is ∙ ap (λ l. fields ++ l) (sym (after_some_column column (λ e. omega arith))) in
     let counted : length fields ≡ made - 1 = omega (arith, sym (N.length-take-le made to within) ∙ ap length comma ∙ N.length-append fields _) in
     sym (N.take-take _ made to (omega arith)) ∙ ap (take _) comma
     ∙ N.take-append-le _ fields _ (omega arith) ∙ N.take_all _ fields (omega arith)
@@ -111,7 +111,7 @@ module _ (charset : Charset) (forms : List Form) (column : ℕ) (bytes : List �
       → N.FieldsWritten charset forms column bytes to (record { cells = k; used = used; made = made })
       → N.FieldsWritten charset forms column bytes (N.slice_set (take made to ++ (text ++ rest)) (made + m) 44)
       (record { cells = k + 1; used = now; made = made + m + 1 })
-  fields_more to text rest k used u now made m d further within some there wrote (fields, x, is) =
+  fields_more to text rest k used u _ made m d further within some there wrote (fields, x, is) =
       let read = take u _ in
       let field = take m text in
       let all = take made to ++ _ in
@@ -120,7 +120,7 @@ module _ (charset : Charset) (forms : List Form) (column : ℕ) (bytes : List �
       N.take_more_set all _ 44 here ∙ ap (λ l. l ++ 44 ∷ []) (made_more made m to text rest within (omega arith)
       ∙ ap (λ l. l ++ field) is ∙ N.append_assoc fields _ field
       ∙ ap (λ l. fields ++ l) (sym (after_append _ [] field)))
-      ∙ ap (λ l. (fields ++ after_comma (column + k) field) ++ l) (after_some_column (column + (k + 1)) [] (λ e. omega arith)) in
+      ∙ ap (λ l. (fields ++ after_comma (column + k) field) ++ l) (after_some_column (column + (k + 1)) (λ e. omega arith)) in
       let written : N.WritesForms charset forms column (suc k) _ _ =
       (take used bytes, read, fields, field, used_more used u bytes, refl, x, λ form. rw (N.get_or_default forms k d form there) at wrote) in
       let next : suc k ≡ k + 1 = omega arith in
@@ -130,7 +130,7 @@ module _ (charset : Charset) (forms : List Form) (column : ℕ) (bytes : List �
   pub first_alone : (ends : Bool) (to : List ℕ) (used made : ℕ) (fields : List ℕ) → N.FirstUsed forms bytes used
       → N.WritesForms charset forms column 1 (take used bytes) fields → take made to ≡ fields ++ end_after (ends && (1 == length forms))
       → N.FirstWritten charset forms column ends bytes to (record { cells = 1; used = used; made = made })
-  first_alone ends to used made fields size (front, rest, before, field, b, t, x, y) is = λ form others are.
+  first_alone ends _ _ _ _ size (front, rest, before, field, b, t, x, y) is = λ form others are.
       let last = ends && _ in
       let read = sym (b ∙ ap (λ l. l ++ rest) x.0) in
       let text =
@@ -142,13 +142,13 @@ module _ (charset : Charset) (forms : List Form) (column : ℕ) (bytes : List �
 -- the bytes of the first cell were used
 first_used : (forms : List Form) (bytes : List ℕ) (used u k : ℕ) (d : Form) → k ≡ 0 → used ≡ 0
     → u ≡ N.whole_size (get_or forms k d).kind (take (length bytes - used) (drop used bytes)) → N.FirstUsed forms bytes (used + u)
-first_used forms bytes used u k d first none size form others are = grind (arith, N.all_after)
+first_used _ _ _ u k d first none size _ _ are = grind (arith, N.all_after)
 
 -- what is left of the bytes, after some more of them
 pub left_after : (bytes rest : List ℕ) (u : ℕ) → length rest ≤ length bytes → rest ≡ drop (length bytes - length rest) bytes → u ≤ length rest
     → (length bytes - length (take (length rest - u) (drop u rest)) ≡ (length bytes - length rest) + u)
     × (take (length rest - u) (drop u rest) ≡ drop ((length bytes - length rest) + u) bytes)
-left_after bytes rest u within is some = grind (arith, N.all_after, N.drop-drop, N.length-drop)
+left_after _ _ u _ is some = grind (arith, N.all_after, N.drop-drop, N.length-drop)
 
 -- ---- a run so far
 
@@ -185,7 +185,7 @@ pub fields_run : {charset : Charset} {forms : List Form} {column : ℕ} {ends : 
     (new : List ℕ) → 0 < run.cells → N.WritesFields charset forms column bytes text run → made ≤ room
     → take made new ≡ take (run.made - 1) text ++ end_after (ends && (run.cells == length forms))
     → N.RunsForms charset forms column ends bytes room new (record run { made = made })
-fields_run {charset = charset} {forms = forms} {column = column} {ends = ends} {bytes = bytes} {text = text} {run = run} room made new some x fits is =
+fields_run {charset = charset} {forms = forms} {column = column} {ends = ends} {bytes = bytes} {text = text} {run = run} _ made new some x fits is =
     let (fields, wrote, there) = x.fields in
     let before = before_comma run.made _ text fields (omega arith) x.within.made there in
     let text_is = is ∙ ap (λ l. l ++ end_after _) before in
@@ -202,19 +202,19 @@ fields_run {charset = charset} {forms = forms} {column = column} {ends = ends} {
 
 -- a cell of at most five bytes leaves five for each of the others
 pub bytes_step : (n k used u size : ℕ) → k < n → u ≤ 5 → used + 5 * (n - k) ≤ size → used + u + 5 * (n - (k + 1)) ≤ size
-bytes_step n k used u size some few within = omega arith
+bytes_step n k _ u _ some few within = omega arith
 
 -- its field, of at most 11, and the comma after it leave room for those of the others
 pub room_step : (n k made m room more : ℕ) → more ≡ room → k < n → m ≤ 11 → made + 12 * (n - k) + 25 ≤ room
     → made + m + 1 + 12 * (n - (k + 1)) + 25 ≤ more
-room_step n k made m room more same some few within = omega arith
+room_step n k _ m _ _ same some few within = omega arith
 
 -- ---- a cell that is left
 
 -- with less room too
-pub left_less : (charset : Charset) (kind : N.Kind) (bytes : List ℕ) (fewer room : ℕ) → fewer ≤ room → N.IsLeft charset kind bytes room
+pub left_less : (charset : Charset) (kind : N.Kind) (bytes : List ℕ) {fewer room : ℕ} → fewer ≤ room → N.IsLeft charset kind bytes room
     → N.IsLeft charset kind bytes fewer
-left_less charset kind bytes fewer room less h6 = grind arith
+left_less _ _ _ less h6 = grind arith
 
 -- ---- rows of numbers
 

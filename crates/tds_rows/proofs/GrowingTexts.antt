@@ -1,6 +1,9 @@
 -- What a text that grows is, and what the cells and rows that are read add to it.
 use Rattle.tds_rows.proofs.Words as N
-use Rattle.tds_rows.proofs.{Words.{◌≡◌, ℕ, Bool, true, List, [], ◌∷◌, ◌++◌, ◌∙◌, arith, Option, Some, None, ◌==◌, ◌||◌, map, joined, open_field, Cell, field}, CellMeaning.{unless_none}}
+use Rattle.tds_rows.proofs.{
+  Words.{◌≡◌, ℕ, Bool, true, List, [], ◌∷◌, ◌++◌, ◌∙◌, arith, Option, Some, None, ◌==◌, ◌||◌, map, joined, open_field, Cell, field},
+  CellMeaning.unless_none,
+}
 
 -- the second text begins with the first
 abbrev pub Grows : List ℕ → List ℕ → Type 0
@@ -43,10 +46,10 @@ OptionGrows (Some a) (Some b) = Grows a b
 
 -- more of the field that is read
 with_field_grows : (cells : List Cell) (a b : Option (List ℕ)) → OptionGrows a b → Grows (joined (N.with_field cells a)) (joined (N.with_field cells b))
-with_field_grows cells None None h = grows_same _
-with_field_grows cells None (Some b) h = grind (arith, joined_more)
-with_field_grows cells (Some a) None h = absurd h
-with_field_grows cells (Some a) (Some b) h = grind (arith, joined_last)
+with_field_grows _ None None h = grows_same _
+with_field_grows _ None (Some b) h = grind (arith, joined_more)
+with_field_grows _ (Some a) None h = absurd h
+with_field_grows _ (Some a) (Some b) h = grind (arith, joined_last)
 
 -- ---- a field
 
@@ -62,12 +65,12 @@ long_grows c a h = (N.conversion_text c _ ++ N.closing _, N.open_closes c a h)
 
 -- the last byte of a short value leaves it fit
 pub last_fit : (left : ℕ) (b : Bool) → (N.nat_lt 0 left || b) ≡ true → (left == 0) ≡ true → b ≡ true
-last_fit left b h z = grind arith
+last_fit _ b h z = grind arith
 
 -- what ends the chunks leaves the data fit
 pub end_fit : (column : ℕ) (c : N.Conversion) (total : Option ℕ) (content : List ℕ) (n : ℕ) → N.chunk_fault column c total content n ≡ None
     → (n == 0) ≡ true → N.is_fit c content ≡ true
-end_fit column c total content n h z = grind arith
+end_fit _ c _ _ n h z = grind arith
 
 module _ (column : ℕ) where
   -- each element of a cell adds to its text
@@ -79,19 +82,19 @@ module _ (column : ℕ) where
 module _ (charset : N.Charset) where
   -- the cells to come begin
   next_grows : (cells : List Cell) (ks : List (N.Column × Bool)) → Grows (joined (map field cells)) (N.row_so_far (N.next_cell charset cells ks))
-  next_grows cells [] = grind arith
+  next_grows _ [] = grind arith
   next_grows cells ((k, true) ∷ ks) = grows_trans _ _ _
       (rw (N.sym (N.map-append field cells (N.Null ∷ []))) at (joined_more (map field cells) (N.null_field ∷ []))) (next_grows _ ks)
-  next_grows cells ((k, N.false) ∷ ks) = search N.rules
+  next_grows _ ((k, N.false) ∷ ks) = search N.rules
 
   -- a cell in its row
   with_cell_grows : (cells : List Cell) (ks : List (N.Column × Bool)) (p : N.CellPart)
       → Grows (joined (N.with_field cells (N.field_so_far p))) (N.row_so_far (N.with_cell charset cells ks p))
   with_cell_grows cells ks (N.WholeCell c) = rw N.map-append at (next_grows (cells ++ c ∷ []) ks)
-  with_cell_grows cells ks (N.ShortData c left content) = search N.rules
-  with_cell_grows cells ks (N.ChunkLength c total content) = search N.rules
-  with_cell_grows cells ks (N.ChunkData c total left content) = search N.rules
-  with_cell_grows cells ks p = search N.rules
+  with_cell_grows _ _ (N.ShortData c left content) = search N.rules
+  with_cell_grows _ _ (N.ChunkLength c total content) = search N.rules
+  with_cell_grows _ _ (N.ChunkData c total left content) = search N.rules
+  with_cell_grows _ _ p = search N.rules
 
   -- each element of a row adds to its text
   pub row_grows : (p : N.RowPart) (e : List ℕ) → N.IsNext (N.row charset) p e → Grows (N.row_so_far p) (N.row_so_far (N.row_add charset p e))

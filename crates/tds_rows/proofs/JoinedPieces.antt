@@ -17,7 +17,7 @@ module _ {fit begins : List ℕ → Type 0} {rest text : List ℕ → List ℕ} 
     pub piece_taken : {new piece : List ℕ} {p q : At} → 0 < length piece → Takes p.seen q.seen piece 1 → IsBetween q.seen
         → q.place ≡ p.place + length piece → N.TakesPiece begins rest text old new p.held q.held piece
         → N.TakesData c content new p.seen q.seen p.place q.place p.held q.held (length piece)
-    piece_taken {piece = piece} {p = p} {q = q} some takes between at x =
+    piece_taken {piece = piece} some takes between at x =
         let all = begun_with piece x.begun in
         record {
           piece = piece;
@@ -35,7 +35,7 @@ module _ {fit begins : List ℕ → Type 0} {rest text : List ℕ → List ℕ} 
     piece_bad : {new : List ℕ} {k : ℕ} {h i : Held} {column most : ℕ} {a b : Seen} {place : ℕ} (piece : List ℕ) → length piece ≤ most
         → Takes a b piece 1 → IsBetween b → N.TakesUpTo begins rest text old new h i piece k
         → N.RefusesData c content column most a b place h i (record { fault = N.BadText column; place = N.Payload (place + k) })
-    piece_bad {k = k} {h = h} {column = column} {a = a} {b = b} {place = place} piece short takes between x =
+    piece_bad {k = k} {a = a} {b = b} piece short takes between x =
         let within = x.within in
         let len = N.length-take-le k piece (omega arith) in
         let good = N.take _ piece in
@@ -60,7 +60,7 @@ module _ {fit begins : List ℕ → Type 0} {rest text : List ℕ → List ℕ} 
     -- a write of its text failed
     piece_breaks : {most : ℕ} {a b : Seen} {h i : Held} {stop : Stop} (piece : List ℕ) → length piece ≤ most → Takes a b piece 1 → IsBetween b
         → begins old → N.Breaks h i (emit rest text (old ++ piece)) stop → N.BreaksData c content most a b h i stop
-    piece_breaks {h = h} {i = i} {stop = stop} piece short takes between begins_old breaks =
+    piece_breaks piece short takes between begins_old breaks =
         let f = N.begun_front c old piece ((suits.begins_is old).0 begins_old) in
         let good = N.take f.taken piece in
         let within = f.within in
@@ -79,10 +79,10 @@ module _ {fit begins : List ℕ → Type 0} {rest text : List ℕ → List ℕ} 
         → length piece ≤ most → Takes a b piece 1 → IsBetween b → begins old → before ≡ N.false → after ≡ N.is_stopped {U = Unit {0}} (Err fault)
         → N.Pushes {U = Unit {0}} begins rest text old new h i before piece (Err fault)
         → N.StopsData c content column most a b place h i after (N.join_stop column place fault)
-    push_stops new piece (N.Stopped stop) short takes between begins_old going failed x =
+    push_stops _ _ (N.Stopped stop) short takes between begins_old going failed x =
         grind (arith, piece_breaks)
-    push_stops new piece N.Odd short takes between begins_old going failed x = absurd x
-    push_stops new piece (join_faults.BadText k) short takes between begins_old going failed x =
+    push_stops _ _ N.Odd _ _ _ _ _ _ x = absurd x
+    push_stops _ piece (join_faults.BadText k) short takes between _ _ failed x =
         inr (inl (piece_bad piece short takes between x, failed))
 
     -- ---- the end
@@ -103,11 +103,11 @@ module _ {fit begins : List ℕ → Type 0} {rest text : List ℕ → List ℕ} 
     pub end_stops : {column place : ℕ} {h i : Held} {before after : Bool} (new : List ℕ) (unit' : ℕ) (last : Bool) (fault : N.JoinFault)
         → before ≡ N.false → after ≡ N.is_stopped {U = Unit {0}} (Err fault) → N.EndsBy {U = Unit {0}} unit' fit text old new h i before (Err fault)
         → N.StopsEnding c quoted last content column place h i after (N.join_stop column place fault)
-    end_stops {h = h} {i = i} new unit' last (N.Stopped stop) going failed x =
+    end_stops _ _ _ (N.Stopped stop) going failed x =
         grind (arith, N.common_steps, fit_whole)
-    end_stops {column = column} {place = place} new unit' last N.Odd going failed x =
+    end_stops {column = column} {place = place} _ _ _ N.Odd _ failed x =
         inr (end_part x.0, x.0.put, ap (λ n. record { fault = N.BadText column; place = N.Payload n }) (omega arith), failed)
-    end_stops {column = column} {place = place} new unit' last (join_faults.BadText k) going failed x =
+    end_stops {column = column} {place = place} _ _ _ (join_faults.BadText k) _ failed x =
         inr (end_part x.0, x.0.put, ap (λ n. record { fault = N.BadText column; place = N.Payload n }) (omega arith), failed)
 
 -- ---- piece after piece
@@ -173,9 +173,9 @@ filled_none begun is between few delivered =
     record { more = []; fills = fills_none _ _ begun between few delivered; counted = omega arith; kept_is = search N.rules }
 
 module _ {c : Conversion} {content kept : List ℕ} {p q : At} {n left : ℕ} (begun : BeginsData c content) (x : Filled c content kept p q n left) where
-  pub filled_more : {kept' : List ℕ} {r : At} (k : ℕ) → k ≤ left → length r.held.waiting < 4096 → r.held.delivered ≤ 2 ^ 64 - 1
+  pub filled_more : {kept' : List ℕ} {r : At} {k : ℕ} → k ≤ left → length r.held.waiting < 4096 → r.held.delivered ≤ 2 ^ 64 - 1
       → N.TakesData c (content ++ x.more) kept' q.seen r.seen q.place r.place q.held r.held k → Filled c content kept' p r n (left - k)
-  filled_more k most few delivered y = record {
+  filled_more most few delivered y = record {
     more = x.more ++ y.piece;
     fills = fills_more c content begun few delivered x.fills y;
     counted = omega (arith, N.length-append x.more y.piece);
@@ -185,7 +185,7 @@ module _ {c : Conversion} {content kept : List ℕ} {p q : At} {n left : ℕ} (b
   pub filled_stops : {column : ℕ} {d : Seen} {j : Held} {failed : Bool} {stop : Stop} → 0 < left
       → N.StopsData c (content ++ x.more) column left q.seen d q.place q.held j failed stop
       → N.StopsFilling c content column n p.seen d p.place p.held j failed stop
-  filled_stops {failed = failed} some y =
+  filled_stops some y =
       let rest : left ≡ n - length x.more = omega arith in
       record {
         front = x.more;
@@ -202,5 +202,5 @@ pub end_puts : {W U : Type 0} (contents : W → N.Option (List ℕ)) (c : Conver
     (a b d : N.Sink W) (r : N.Result U Stop)
     → IsFit c content × Puts (N.held contents a) (N.held contents b) (N.conversion_text c (conversion_rest c content)) → b.failed ≡ N.false
     → N.PutsPiece contents b d (N.closing quoted ++ N.end_after last) r → N.EndPut contents c quoted last content column place a d r
-end_puts contents c quoted last content column place a b d (N.Ok u) x going y = (x.0, N.Puts-trans _ _ _ _ _ x.1 y.gives)
-end_puts contents c quoted last content column place a b d (Err e) x going y = inl (x.0, N.Breaks-after _ _ _ _ _ e x.1 (y.gives going), y.failed)
+end_puts _ c _ _ _ _ _ a b d (N.Ok u) x _ y = (x.0, N.Puts-trans _ _ _ _ _ x.1 y.gives)
+end_puts _ c _ _ _ _ _ a b d (Err e) x going y = inl (x.0, N.Breaks-after _ _ _ _ _ e x.1 (y.gives going), y.failed)

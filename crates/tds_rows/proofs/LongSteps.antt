@@ -32,11 +32,11 @@ pub record HoldsContent (column : ℕ) (c : Conversion) (state : ℕ → List �
 -- a list that isn't empty has a last number
 snoc_of : (l : List ℕ) → 0 < length l → (p : List ℕ) × (x : ℕ) × (l ≡ p ++ x ∷ [])
 snoc_of [] some = grind arith
-snoc_of (x ∷ []) some = ([], x, refl)
-snoc_of (x ∷ y ∷ l) some = let r = snoc_of _ (omega arith) in (x ∷ r.0, r.1, ap (λ t. x ∷ t) r.2)
+snoc_of (x ∷ []) _ = ([], x, refl)
+snoc_of (x ∷ y ∷ l) _ = let r = snoc_of _ (omega arith) in (x ∷ r.0, r.1, ap (λ t. x ∷ t) r.2)
 
-no_text_false : (c : Conversion) (l : List ℕ) (b : Bool) → N.is_begun c l ≡ b → (BeginsData c l → ⊥) → b ≡ false
-no_text_false c l b is h = grind (arith, N.begun_by_test)
+no_text_false : (c : Conversion) (l : List ℕ) {b : Bool} → N.is_begun c l ≡ b → (BeginsData c l → ⊥) → b ≡ false
+no_text_false c l is h = grind (arith, N.begun_by_test)
 
 module _ {column : ℕ} {c : Conversion} {state : ℕ → List ℕ → N.CellPart} {Good : List ℕ
     → Type 0} (last : Bool) (holds : HoldsContent column c state Good) where
@@ -61,23 +61,23 @@ module _ {column : ℕ} {c : Conversion} {state : ℕ → List ℕ → N.CellPar
   -- and where more follow
   front_spelt : {m : ℕ} (d bytes : List ℕ) (r : ℕ) → m ≡ length bytes + suc r → BeginsData c (d ++ bytes)
       → Spelt (cell column) (state m d) bytes (state (suc r) (d ++ bytes))
-  front_spelt d bytes r is begun = grind (arith, content_spelt)
+  front_spelt d _ r is begun = grind (arith, content_spelt)
 
   -- what some content adds to the open field
   text_more : (d more : List ℕ) → BeginsData c (d ++ more)
       → after_comma column (open_field c d) ++ added_text c d more ≡ after_comma column (open_field c (d ++ more))
-  text_more d more begun = grind (arith, N.open_grows)
+  text_more d _ begun = grind (arith, N.open_grows)
 
   -- what some content adds to the text, where more follows
   text_grown : (d more : List ℕ) (r r' : ℕ) → BeginsData c (d ++ more)
       → cell_so_far column last (state (suc r) d) ++ added_text c d more ≡ cell_so_far column last (state (suc r') (d ++ more))
-  text_grown d more r r' begun = grind (arith, text_more)
+  text_grown d _ r _ begun = grind (arith, text_more)
 
   -- and where none does
   text_closed : (d more tail : List ℕ) (r : ℕ) → BeginsData c (d ++ more)
       → after_comma column (open_field c (d ++ more)) ++ tail ≡ cell_so_far column last (state 0 (d ++ more))
       → cell_so_far column last (state (suc r) d) ++ (added_text c d more ++ tail) ≡ cell_so_far column last (state 0 (d ++ more))
-  text_closed d more tail r begun whole = grind (arith, append_assoc, text_more)
+  text_closed d _ _ r begun whole = grind (arith, append_assoc, text_more)
 
   -- bytes were read and their text put, and more follow
   fills_path : {d more : List ℕ} {p q : At} (m r : ℕ) → m ≡ length more + suc r → N.FillsData c d p.seen q.seen p.place q.place p.held q.held more
@@ -107,7 +107,7 @@ module _ {column : ℕ} {c : Conversion} {state : ℕ → List ℕ → N.CellPar
       → cell_fault column (state (suc r) (d ++ good)) (y ∷ []) ≡ Some (BadText column) → N.Takes a b (good ++ y ∷ ahead) 1 → N.IsBetween b
       → N.Puts h i (added_text c d good)
       → N.StopsField (state m d) column last a b place h i false (record { fault = BadText column; place = N.Payload (place + length good) })
-  byte_refused {a = a} {m = m} d good ahead y r place is begun bad takes between puts =
+  byte_refused {a = a} {m = m} d good ahead y r _ is begun bad takes between puts =
       let next : suc (length good + r) ≡ m = omega arith in
       record {
         at = state _ _;
@@ -146,37 +146,37 @@ module _ {column : ℕ} {c : Conversion} {state : ℕ → List ℕ → N.CellPar
 
     piece_refused : N.RefusesData c d column (suc r) a b place h i stop → Stopped false
     piece_refused x =
-        let no = no_text_false c _ _ refl x.no_text in
+        let no = no_text_false c _ refl x.no_text in
         rw x.stop_is (byte_refused d _ _ _ _ _ (omega arith) x.begun (holds.bad (r - length x.good) _ x.bad no) x.takes
         x.between x.puts)
 
     -- a write of the text of a piece failed, whose bytes lead to a state
-    broken : (good ahead added : List ℕ) (to : N.CellPart) → Spelt (cell column) (state (suc r) d) good to → N.Takes a b (good ++ ahead) 1 → N.IsBetween b
+    broken : (good ahead added : List ℕ) {to : N.CellPart} → Spelt (cell column) (state (suc r) d) good to → N.Takes a b (good ++ ahead) 1 → N.IsBetween b
         → cell_so_far column last (state (suc r) d) ++ added ≡ cell_so_far column last to → N.Breaks h i added stop → Stopped true
-    broken good ahead added to spelt takes between text_is breaks =
+    broken _ _ _ {to} spelt takes between text_is breaks =
         let x = N.breaks_somewhere _ _ (line_grows column last) _ a b h i _ between to _ _ _ spelt takes few delivered text_is breaks in
         record { at = x.0; cause = grind arith }
 
     piece_broken_at : (ahead p : List ℕ) (x : ℕ) → length (p ++ x ∷ []) ≡ suc r → N.Takes a b ((p ++ x ∷ []) ++ ahead) 1 → N.IsBetween b
         → BeginsData c (d ++ (p ++ x ∷ [])) → N.Breaks h i (added_text c d (p ++ x ∷ [])) stop → Stopped true
-    piece_broken_at ahead p x all takes between begun breaks =
+    piece_broken_at _ p x all takes between begun breaks =
         let same = sym (append_assoc d p _) in
         elim (holds.ends _ x) [
           | inl whole ↦
               (let fine = subst Good (sym same) whole in
               let w = holds.whole last _ fine in
-              broken _ _ _ _ (content_spelt d _ _ 0 (omega arith) begun (λ _ _. fine)) takes between (text_closed d _ _ r begun w.1)
+              broken _ _ _ (content_spelt d _ _ 0 (omega arith) begun (λ _ _. fine)) takes between (text_closed d _ _ r begun w.1)
               (N.Breaks-longer h i _ _ _ breaks))
           | inr none ↦
               (let front = (N.joins_by_name c).front _ _ (subst (BeginsData c) same begun) in
-              broken p _ _ _ (front_spelt d p 0 (omega (arith, N.length-append p (x ∷ []))) front) (rw append_assoc at takes) between
+              broken p _ _ (front_spelt d p 0 (omega (arith, N.length-append p (x ∷ []))) front) (rw append_assoc at takes) between
               (text_grown d p r 0 front) (rw (adds_none d p x begun none) at breaks))
         ]
 
     piece_broken : N.BreaksData c d (suc r) a b h i stop → Stopped true
     piece_broken x =
         elim (N.cases_lt (length x.good) (suc r)) [
-          | inl less ↦ broken x.good x.ahead _ _ (front_spelt d x.good _ (omega arith) x.begun) x.takes x.between
+          | inl less ↦ broken x.good x.ahead _ (front_spelt d x.good _ (omega arith) x.begun) x.takes x.between
               (text_grown d x.good r (r - length x.good) x.begun) x.breaks
           | inr more ↦
               (let all : length x.good ≡ suc r = omega arith in
@@ -185,10 +185,10 @@ module _ {column : ℕ} {c : Conversion} {state : ℕ → List ℕ → N.CellPar
         ]
 
     -- the next piece stopped
-    piece_stops : (failed : Bool) → N.StopsData c d column (suc r) a b place h i failed stop → Stopped failed
-    piece_stops failed (inl x) = rw x.1 (piece_cut x.0)
-    piece_stops failed (inr (inl x)) = rw x.1 (piece_refused x.0)
-    piece_stops failed (inr (inr x)) = rw x.1 (piece_broken x.0)
+    piece_stops : {failed : Bool} → N.StopsData c d column (suc r) a b place h i failed stop → Stopped failed
+    piece_stops (inl x) = rw x.1 (piece_cut x.0)
+    piece_stops (inr (inl x)) = rw x.1 (piece_refused x.0)
+    piece_stops (inr (inr x)) = rw x.1 (piece_broken x.0)
 
   -- the content stopped in one of its pieces
   pub filling_stops : {d : List ℕ} {m : ℕ} {p : At} {b : Seen} {i : Held} {failed : Bool} {stop : Stop}
@@ -196,7 +196,7 @@ module _ {column : ℕ} {c : Conversion} {state : ℕ → List ℕ → N.CellPar
   filling_stops {m = m} x =
       let r = m - length x.front - 1 in
       let left : m - length x.front ≡ suc r = omega arith in
-      path_stops (fills_path m r (omega arith) x.fills) (piece_stops _ _ _ _ x.there _ _ _ x.fills.few x.fills.delivered _ (rw left at x.stops))
+      path_stops (fills_path m r (omega arith) x.fills) (piece_stops _ _ _ _ x.there _ _ _ x.fills.few x.fills.delivered (rw left at x.stops))
 
   -- ---- the last piece
 
@@ -236,9 +236,9 @@ module _ {column : ℕ} {c : Conversion} {state : ℕ → List ℕ → N.CellPar
     pub ends_break : {j : Held} {stop : Stop} (tail : List ℕ) → Good all_content
         → after_comma column (open_field c all_content) ++ tail ≡ cell_so_far column last (state 0 all_content) → N.Breaks q.held j tail stop
         → N.StopsField (state m d) column last p.seen q.seen p.place p.held j true stop
-    ends_break tail good whole breaks =
+    ends_break _ good whole breaks =
         let taken = rw (sym (N.append-nil x.takes.piece)) at x.takes.takes in
-        path_stops front_path (broken _ _ _ _ _ _ _ _ x.fills.few x.fills.delivered _ [] _ _ (last_spelt good) taken x.takes.between
+        path_stops front_path (broken _ _ _ _ _ _ _ _ x.fills.few x.fills.delivered _ [] _ (last_spelt good) taken x.takes.between
         (text_closed _ _ _ _ x.takes.begun whole) (N.Breaks-after _ _ _ _ _ _ x.takes.puts breaks))
 
     -- where the content isn't whole, its last byte is refused
@@ -263,13 +263,13 @@ module _ {column : ℕ} {c : Conversion} {state : ℕ → List ℕ → N.CellPar
 
 -- ---- the content of a short value, and of a chunk
 
-short_next : (c : Conversion) (r : ℕ) (d : List ℕ) → short_left c (suc r) d ≡ N.ShortData c r d
-short_next c r d = grind arith
+short_next : {c : Conversion} {r : ℕ} {d : List ℕ} → short_left c (suc r) d ≡ N.ShortData c r d
+short_next = grind arith
 
 module _ (column : ℕ) (c : Conversion) where
-  fit_or_none : (d : List ℕ) (x : ℕ) (b : Bool) → is_fit c (d ++ x ∷ []) ≡ b → (is_fit c (d ++ x ∷ []) ≡ true)
+  fit_or_none : (d : List ℕ) (x : ℕ) {b : Bool} → is_fit c (d ++ x ∷ []) ≡ b → (is_fit c (d ++ x ∷ []) ≡ true)
       ⊎ (emitted c (d ++ x ∷ []) ≡ emitted c d)
-  fit_or_none d x b is = grind (arith, N.unfit_adds_none)
+  fit_or_none d x _ = grind (arith, N.unfit_adds_none)
 
   -- the end of a value that is whole
   pub ending_text : (last : Bool) (d : List ℕ) → is_fit c d ≡ true
@@ -288,7 +288,7 @@ module _ (column : ℕ) (c : Conversion) where
     add = grind arith;
     free = grind arith;
     bad = grind arith;
-    ends = λ d x. fit_or_none d x _ refl;
+    ends = λ d x. fit_or_none d x refl;
     whole = λ last d fit. (N.ending c _ last d, ending_text last d fit);
   }
 
@@ -297,4 +297,4 @@ module _ (column : ℕ) (c : Conversion) where
   short_refused e y unfit = grind arith
 
   pub chunk_holds : (total : N.Option ℕ) → HoldsContent column c (chunk_left c total) (λ _. Unit {0})
-  chunk_holds total = search N.rules
+  chunk_holds _ = search N.rules

@@ -1,6 +1,12 @@
 -- Long values, element after element: their lengths, the content between, and the end.
 use Rattle.tds_rows.proofs.Words as N
-use Rattle.tds_rows.proofs.{Words.{◌≡◌, ◌∙◌, inl, inr, ℕ, ◌-◌, ◌^◌, ◌<◌, ◌≤◌, Bool, List, [], ◌∷◌, ◌++◌, length, sym, ap, arith, append-nil, Option, Stop, Seen, Conversion}, Words.{is_quoted, after_comma, Held, Puts, held, fit_by_test, CellPart, cell, PutsField, StopsField, cell_so_far, ending, opening, ◌≢◌, ◌+◌, ChunkLength}, LongSteps.{ending_text, ends_break, ends_path, ends_refused, short_holds, short_refused, chunk_holds}, Numbers.{Next, short_left, chunk_end, chunk_start, chunk_unfit, chunk_left}, Paths.{At, Path, path_both, path_of, path_none, path_stops}}
+use Rattle.tds_rows.proofs.{
+  Words.{◌≡◌, ◌∙◌, inl, inr, ℕ, ◌-◌, ◌^◌, ◌<◌, ◌≤◌, Bool, List, [], ◌∷◌, ◌++◌, length, sym, ap, arith, append-nil, Option, Stop, Seen, Conversion},
+  Words.{is_quoted, after_comma, Held, Puts, held, fit_by_test, CellPart, cell, PutsField, StopsField, cell_so_far, ending, opening, ◌≢◌, ◌+◌, ChunkLength},
+  LongSteps.{ending_text, ends_break, ends_path, ends_refused, short_holds, short_refused, chunk_holds},
+  Numbers.{Next, short_left, chunk_end, chunk_start, chunk_unfit, chunk_left},
+  Paths.{At, Path, path_both, path_of, path_none, path_stops},
+}
 
 -- ---- no content
 
@@ -34,7 +40,7 @@ field_puts x y = field_of (path_both x (path_of y.streams y.place_is))
 -- the reading stopped before any text
 pub reading_stops : {column place : ℕ} {s : CellPart} {a b : Seen} {h : Held} {failed : Bool} {stop : Stop} (last : Bool) → h.delivered ≤ 2 ^ 64 - 1
     → failed ≡ N.false → N.StopsReading (cell column) s a b place s stop → StopsField s column last a b place h h failed stop
-reading_stops {s = s} last delivered going x = record { at = s; cause = inl (x, ([], append-nil _, N.Puts-none _ delivered), going) }
+reading_stops {s = s} _ delivered going x = record { at = s; cause = inl (x, ([], append-nil _, N.Puts-none _ delivered), going) }
 
 module _ {column place' : ℕ} {s t : CellPart} {p : At} {b : Seen} (last : Bool) (x : Next column s p.seen b p.place place' t) where
   -- an element was read, and its text put
@@ -82,9 +88,9 @@ pub null_puts : {column place place' : ℕ} {s : CellPart} {a b : Seen} {W U : T
     → N.IsWriting h → N.PutsPiece contents h k (N.in_line column last N.null_field) r
     → N.MatchResult r (λ _. PutsField s column last a b place place' (held contents h) (held contents k))
     (λ stop. StopsField s column last a b place (held contents h) (held contents k) k.failed stop)
-null_puts {column = column} last contents h k (N.Ok u) x silent writing puts =
+null_puts {column = column} last _ h k (N.Ok u) x silent _ puts =
     field_of (next_path last x _ (ap (λ l. l ++ N.in_line column last N.null_field) silent) puts.gives)
-null_puts {column = column} last contents h k (N.Err e) x silent writing puts =
+null_puts {column = column} last _ h k (N.Err e) x silent writing puts =
     next_breaks last x _ [] (writing.ready.1 writing.writing) writing.ready.2 puts.failed
     (ap (λ l. l ++ (N.in_line column last N.null_field ++ [])) silent ∙ append-nil _) (puts.gives writing.writing)
 
@@ -92,8 +98,8 @@ null_puts {column = column} last contents h k (N.Err e) x silent writing puts =
 
 module _ (column : ℕ) (last : Bool) (c : Conversion) where
   -- the text that comes with the length
-  pub short_open : (n : ℕ) → 0 < n → after_comma column (opening (is_quoted c)) ≡ cell_so_far column last (short_left c n [])
-  short_open n some = grind (arith, open_none)
+  pub short_open : {n : ℕ} → 0 < n → after_comma column (opening (is_quoted c)) ≡ cell_so_far column last (short_left c n [])
+  short_open some = grind (arith, open_none)
 
   empty_open : after_comma column (opening (is_quoted c)) ++ ending c (is_quoted c) last [] ≡ cell_so_far column last (short_left c 0 [])
   empty_open = grind (arith, open_none, ending_text, N.no_data_is_fit)
@@ -108,15 +114,15 @@ module _ (column : ℕ) (last : Bool) (c : Conversion) where
       → PutsField (N.ShortLength c) column last p.seen b p.place place' p.held j
   empty_puts {p = p} i x none opened ended = field_of (next_path last (rw none at x) _ empty_open (N.Puts-trans p.held i _ _ _ opened ended))
 
-  pub empty_stops : {p : At} {b : Seen} {place' n : ℕ} {j : Held} {failed : Bool} {stop : Stop} (i : Held) (there : ℕ)
+  pub empty_stops : {p : At} {b : Seen} {place' n : ℕ} {j : Held} {failed : Bool} {stop : Stop} {i : Held} {there : ℕ}
       → Next column (N.ShortLength c) p.seen b p.place place' (short_left c n []) → n ≡ 0 → Puts p.held i (after_comma column (opening (is_quoted c)))
       → length p.held.waiting < 4096 → p.held.delivered ≤ 2 ^ 64 - 1
       → N.StopsEnding c (is_quoted c) last [] column there i j failed stop
       → StopsField (N.ShortLength c) column last p.seen b p.place p.held j failed stop
-  empty_stops {p = p} i there x none opened few delivered (inl y) =
+  empty_stops {p = p} {i} x none opened few delivered (inl y) =
       let text = after_comma column _ ++ ending c _ last [] in
       next_breaks last (rw none at x) text [] few delivered y.2 (append-nil text ∙ empty_open) (N.Breaks-after p.held i _ _ _ _ opened y.1)
-  empty_stops i there x none opened few delivered (inr y) = grind arith
+  empty_stops x _ _ _ _ (inr y) = grind arith
 
   -- the value has some bytes: its end was put, or that stopped
   module _ {kept : List ℕ} {n : ℕ} {p q : At} (x : N.EndsData c [] kept p.seen q.seen p.place q.place p.held q.held n) where
@@ -139,7 +145,7 @@ module _ (column : ℕ) (last : Bool) (c : Conversion) where
 -- the text that comes with the total
 pub total_text : (column : ℕ) (last : Bool) (c : Conversion) (t : Option ℕ)
     → after_comma column (opening (is_quoted c)) ≡ cell_so_far column last (ChunkLength c t [])
-total_text column last c t = grind (arith, open_none)
+total_text _ _ c t = grind (arith, open_none)
 
 -- Chunks were read and their text put; so many bytes of content stand before the next length.
 pub record Streamed (column : ℕ) (last : Bool) (c : Conversion) (total : Option ℕ) (kept : List ℕ) (sum : ℕ) (p q : At) : Type 0 where
@@ -172,7 +178,7 @@ module _ {column : ℕ} {last : Bool} {c : Conversion} {total : Option ℕ} {kep
       let tail = ending c _ last _ in
       path_stops x.path (next_breaks last (chunk_end c unit_is x.counted y free none good) tail [] few delivered z.2
       (ap (λ l. cell_so_far column last (ChunkLength c total x.content) ++ l) (append-nil tail) ∙ ending_text column c last _ good) z.1)
-  chunks_end_stops few delivered none (inr z) =
+  chunks_end_stops _ delivered none (inr z) =
       path_stops x.path (rw (z.1, z.2) (reading_stops last delivered z.3 (chunk_unfit c unit_is x.counted y free none (grind (arith, fit_by_test)))))
 
   -- the length of a chunk was read

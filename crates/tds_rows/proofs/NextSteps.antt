@@ -1,6 +1,15 @@
 -- The next cells of a row, those of a run or one, NULL or not, and rows one after another.
 use Rattle.tds_rows.proofs.Words as N
-use Rattle.tds_rows.proofs.{Words.{arith, ◌≡◌, ◌+◌, ℕ, Bool, true, false, List, ◌∷◌, drop, refl, sym, Err, Ok, Option, ◌==◌, Stop, seen, Column, held, Rows, Ahead, IsInRow}, Words.{StaysInRow, RowStops, RowPart, marked, ◌∙◌, ◌-◌, ◌^◌, ◌≤◌, ◌<◌, [], ◌++◌, length, ap, before, Seen, Takes, Held, Puts, Charset, Cell, rows}, NullSteps.{NearsCells, all_put, cell_nears, cell_stops, null_breaks, null_nears, cell_path, marked_stops}, RowSteps.{ends, ends_marked, coming, nulls_ahead, PutsAt, StopsAt, none_ahead, cell_some}, Paths.{At, here, Path, path_both, path_map, path_none, path_of}, TableSteps.{last_one, next_column}, RunSteps.{rows_after, whole_breaks, whole_puts, row_among, row_token}, TableRuns.run_breaks}
+use Rattle.tds_rows.proofs.{
+  Words.{arith, ◌≡◌, ◌+◌, ℕ, Bool, true, false, List, ◌∷◌, drop, refl, sym, Err, Ok, Option, ◌==◌, Stop, seen, Column, held, Rows, Ahead, IsInRow},
+  Words.{StaysInRow, RowStops, RowPart, marked, ◌∙◌, ◌-◌, ◌^◌, ◌≤◌, ◌<◌, [], ◌++◌, length, ap, before, Seen, Takes, Held, Puts, Charset, Cell, rows},
+  NullSteps.{NearsCells, all_put, cell_nears, cell_stops, null_breaks, null_nears, cell_path, marked_stops},
+  RowSteps.{ends, ends_marked, coming, nulls_ahead, PutsAt, StopsAt, none_ahead, cell_some},
+  Paths.{At, here, Path, path_both, path_map, path_none, path_of},
+  TableSteps.{last_one, next_column},
+  RunSteps.{rows_after, whole_breaks, whole_puts, row_among, row_token},
+  TableRuns.run_breaks,
+}
 
 -- text that doesn't fill the block waits
 pub all_waits : (h j : Held) (text : List ℕ) → Puts h j text → length h.waiting + length text < 4096
@@ -77,7 +86,7 @@ module _ (charset : Charset) (start : RowPart) (columns : List Column) (nulls : 
   column_nears : (at : ℕ) (q r : At) (bytes text : List ℕ) → N.WritesColumn charset columns nulls at bytes text → Passes q r bytes text → Near at q
       → Near (at + 1) r
   column_nears at q r bytes text w y x =
-      rw (next_column columns at w.column w.left w.next).1.1 (go _ w.writes (rw w.next at x))
+      rw (next_column columns at w.next).1.1 (go _ w.writes (rw w.next at x))
     where
       go : (null : Bool) → N.WritesNext charset null w.column.kind at (N.is_last_column w.left) bytes text
           → NearsCells charset start ((w.column, null) ∷ marked w.left nulls (at + 1)) p q at
@@ -93,9 +102,9 @@ module _ (charset : Charset) (start : RowPart) (columns : List Column) (nulls : 
   -- so many columns more
   marked_nears : (from n : ℕ) (q r : At) (bytes text : List ℕ) → N.WritesMarked charset columns nulls from n bytes text → Passes q r bytes text
       → Near from q → Near (from + n) r
-  marked_nears from N.zero q r bytes text w y x = let y' = rw (w.0, w.1) at y in
+  marked_nears from N.zero q r _ _ w y x = let y' = rw (w.0, w.1) at y in
       rw (N.add-zero from) (nears_same y'.puts (nears_onward y' x))
-  marked_nears from (N.suc n) q r bytes text w y x =
+  marked_nears _ (N.suc n) q r _ _ w y x =
       let t = passes_apart q r _ _ _ _ (rw (w.4, w.5) at y) in
       let z = column_nears _ _ r _ _ w.7 t.2 (marked_nears _ n q _ _ _ w.6 t.1 x) in
       N.subst (λ (k : ℕ). Near k r) (omega arith) z
@@ -111,15 +120,15 @@ module _ (charset : Charset) (start : RowPart) (columns : List Column) (nulls : 
       go true v z = null_breaks rest (rw v.0 at takes) between z (rw (v.1, ends_marked w.left nulls (at + 1)) at breaks)
       go false v z = cell_stops (all_put refl delivered z)
           (rw (ends_marked w.left nulls (at + 1)) at (whole_breaks {a = q.seen} {b = d} {place = q.place} {h = q.held} {j = j} {stop = stop} charset _
-          at _ rest v takes between few delivered breaks refl))
+          rest v takes between few delivered breaks refl))
 
   -- a write of the text of so many columns failed
   marked_breaks : (from n : ℕ) (q : At) (d : Seen) (j : Held) (stop : Stop) (bytes rest text : List ℕ)
       → N.WritesMarked charset columns nulls from n bytes text → Takes q.seen d (bytes ++ rest) 0 → N.IsBetween d → length q.held.waiting < 4096
       → q.held.delivered ≤ 2 ^ 64 - 1 → N.Breaks q.held j text stop → Near from q → RowStops charset start p.seen d p.place p.held j true stop
-  marked_breaks from N.zero q d j stop bytes rest text w takes between few delivered breaks x =
+  marked_breaks _ N.zero q d j _ _ _ _ w _ _ few _ breaks x =
       grind (arith, N.common_steps)
-  marked_breaks from (N.suc n) q d j stop bytes rest text (front, back, first, more, joined, text_is, before, last) takes between few delivered breaks x =
+  marked_breaks from (N.suc n) q d j stop _ rest _ (front, back, first, more, joined, text_is, before, last) takes between few delivered breaks x =
       let read = rw (joined, N.append_assoc front back rest) at takes in
       elim (N.Breaks_split q.held j first more stop (rw text_is at breaks)) [
         | N.inl broken ↦ marked_breaks from n q d j stop front _ first before read between few delivered broken x
@@ -227,7 +236,7 @@ module _ {R W : Type 0} (remaining : R → Option (List ℕ)) (contents : W → 
   module _ (p : At) (in_row : IsInRow old) (before : NearsHere remaining contents columns nulls p old at) where
     left_here : (null : Bool) → nulls at.column ≡ null
         → NearsCells old.table.now.charset (N.nbc_row_start columns) ((taken.column, null) ∷ left) p (here remaining contents old) at.column
-    left_here null is = grind arith
+    left_here _ is = grind arith
 
     there : {U : Type 0} {u : U} → N.LeavesRows old new (Ok u)
         → NearsCells old.table.now.charset (N.nbc_row_start columns) left p (here remaining contents new) (at.column + 1)
@@ -243,13 +252,13 @@ module _ {R W : Type 0} (remaining : R → Option (List ℕ)) (contents : W → 
         (all_put refl in_row.sink.ready.2 (left_here false is)) (cell_read nulls y knows before.0 taken))
 
     -- it stopped
-    pub next_stops : (U : Type 0) (stop : Stop) (null : Bool) → nulls at.column ≡ null
+    pub next_stops : (U : Type 0) {stop : Stop} (null : Bool) → nulls at.column ≡ null
         → N.NextRead {U = U} remaining contents at kind null old new (Err stop)
         → RowStops old.table.now.charset (N.nbc_row_start columns) p.seen (seen remaining new.payload.now) p.place p.held (held contents new.sink.now)
         new.sink.now.failed stop
-    next_stops U stop true is y = rw (y.0, y.1.failed) (null_breaks [] (N.Takes-none _ 0)
+    next_stops U true is y = rw (y.0, y.1.failed) (null_breaks [] (N.Takes-none _ 0)
         (N.between_of remaining old.payload.now in_row.payload.going) (left_here _ is) (rw last_is at (y.1.gives in_row.sink.writing)))
-    next_stops U stop false is y = cell_stops (all_put refl in_row.sink.ready.2 (left_here _ is)) (cell_read nulls y knows before.0 taken)
+    next_stops U false is y = cell_stops (all_put refl in_row.sink.ready.2 (left_here _ is)) (cell_read nulls y knows before.0 taken)
 
 -- ---- rows, one after another
 
@@ -353,7 +362,7 @@ module _ {charset : Charset} {all : List Column} {p q : At} {column count : ℕ}
     pub rowing_cell : {r : At} → nulls_ahead (column + 1) ks ≡ [] → Rowing charset all ((c, false) ∷ ks) p q column count
         → PutsAt charset c.kind column (ends ks) q r → Rowing charset all ks p r (column + 1) count
     rowing_cell none x y =
-        let one = cell_path _ c _ x.counted none y in
+        let one = cell_path _ c x.counted none y in
         record { cells = x.cells ++ one.0 ∷ []; counted = omega (arith, N.length-append x.cells (one.0 ∷ [])); rows = rows_on x.rows one.1 }
 
     -- a cell that stopped

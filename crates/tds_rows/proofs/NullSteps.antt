@@ -105,8 +105,8 @@ pub record NearsCells (charset : Charset) (start : RowPart) (left : List (Column
 -- some columns are left, so the line doesn't end there
 all_ahead : (charset : Charset) (columns : List Column) (nulls : ℕ → Bool) → 0 < length columns
     → nulls_ahead 0 (marked columns nulls 0) ≡ row_so_far (next_cell charset [] (marked columns nulls 0))
-all_ahead charset [] nulls some = grind arith
-all_ahead charset (c ∷ cs) nulls some = grind (arith, nulls_text)
+all_ahead _ [] nulls some = grind arith
+all_ahead _ (c ∷ cs) _ _ = grind (arith, nulls_text)
 
 -- the bitmap was read
 pub bitmap_nears : {charset : Charset} {p : At} {b : Seen} {place' : ℕ} (columns : List Column) (bitmap : List ℕ) → 0 < length columns
@@ -114,7 +114,7 @@ pub bitmap_nears : {charset : Charset} {p : At} {b : Seen} {place' : ℕ} (colum
     → p.held.delivered ≤ 2 ^ 64 - 1
     → place' ≡ p.place + length bitmap → NearsCells charset (N.nbc_row_start columns) (marked columns (N.bit bitmap) 0) p
     (record { seen = b; place = place'; held = p.held }) 0
-bitmap_nears {p = p} columns bitmap some whole takes between few d at =
+bitmap_nears {p = p} _ bitmap some whole takes between few d at =
     let next : N.IsNext _ _ bitmap = grind arith in
     record {
       cells = [];
@@ -127,14 +127,14 @@ bitmap_nears {p = p} columns bitmap some whole takes between few d at =
 pub bitmap_cut : {columns : List Column} {a b : Seen} {place : ℕ} {h : Held} {stop : Stop} (charset : Charset) (part : List ℕ) (own : Stop)
     → length part < N.bitmap_length (length columns) → N.Ends a b part own → stop ≡ N.began_at place own → h.delivered ≤ 2 ^ 64 - 1
     → N.RowStops charset (N.nbc_row_start columns) a b place h h false stop
-bitmap_cut charset part own fewer ended is d =
+bitmap_cut _ _ _ fewer ended is d =
     record { at = N.Bitmap _; cause = inl (N.cut_at_once _ _ _ _ _ _ _ _ fewer ended (N.began_is_cut _ _ _ _ refl is), ([], refl, N.Puts-none _ d), refl) }
 
 -- a cell was read and its text put, in its row, and no NULL by its bit is after it
-pub cell_path : {ks : List (Column × Bool)} {column : ℕ} {p q : At} (charset : Charset) (c : Column) (cells : List Cell) → length cells ≡ column
+pub cell_path : {ks : List (Column × Bool)} {column : ℕ} {p q : At} (charset : Charset) (c : Column) {cells : List Cell} → length cells ≡ column
     → nulls_ahead (column + 1) ks ≡ [] → PutsAt charset c.kind column (ends ks) p q
     → (v : Cell) × Path (row charset) row_so_far (next_cell charset cells ((c, false) ∷ ks)) p q (next_cell charset (cells ++ v ∷ []) ks)
-cell_path charset c cells counted none y =
+cell_path _ c counted none y =
     let z = rw (sym counted) at y in
     (z.value, path_map (λ a m. row_cell _ _ _ c (rw counted none)) (path_of z.streams z.place_is))
 
@@ -188,7 +188,7 @@ module _ {charset : Charset} {start : RowPart} {c : Column} {ks : List (Column �
   pub cell_reads : {r : At} → nulls_ahead (column + 1) ks ≡ [] → Reads charset start ((c, false) ∷ ks) p q column
       → PutsAt charset c.kind column (ends ks) q r → Reads charset start ks p r (column + 1)
   cell_reads none x y =
-      let one = cell_path _ c _ x.counted none y in
+      let one = cell_path _ c x.counted none y in
       record { cells = x.cells ++ one.0 ∷ []; counted = omega (arith, N.length-append x.cells (one.0 ∷ [])); path = path_both x.path one.1 }
 
   -- it stopped the row
@@ -233,7 +233,7 @@ module _ {charset : Charset} {start : RowPart} {ks : List (Column × Bool)} {p q
 -- before the first column of a ROW, and after the last one of a row
 pub row_begins : {charset : Charset} {p : At} (columns : List Column) → p.held.delivered ≤ 2 ^ 64 - 1
     → Reads charset (N.row_start charset columns) (coming columns 0) p p 0
-row_begins columns d = grind (arith, path_none)
+row_begins _ d = grind (arith, path_none)
 
 pub row_ends : {charset : Charset} {start : RowPart} {p q : At} {column : ℕ} → Reads charset start [] p q column
     → N.ReadsRow charset start p.seen q.seen p.place q.place p.held q.held

@@ -1,7 +1,10 @@
 -- The numbers of a long value, its length or total and those of its chunks, as elements of its cell: how each is judged, and where it leads.
 use Rattle.tds_rows.proofs.Words as N
-use Rattle.tds_rows.proofs.{Words.{◌-◌, if◌then◌else◌, ◌≡◌, ◌≢◌, ◌∙◌, ◌⊎◌, ℕ, ◌+◌, ◌<◌, List, [], refl, sym, ap, arith, Option, Some, None, ◌==◌, Fault, Stop, Seen, unit, CellPart}, Words.{ChunkLength, Total, cell}}
 use Rattle.tds_packet.specs.declared.payload.Payload.{Payload as Input}
+use Rattle.tds_rows.proofs.{
+  Words.{◌-◌, if◌then◌else◌, ◌≡◌, ◌≢◌, ◌∙◌, ◌⊎◌, ℕ, ◌+◌, ◌<◌, List, [], refl, sym, ap, arith, Option, Some, None, ◌==◌, Fault, Stop, Seen, unit, CellPart},
+  Words.{ChunkLength, Total, cell},
+}
 
 -- within a short value: this many bytes follow its data so far
 abbrev pub short_left : N.Conversion → ℕ → List ℕ → CellPart
@@ -29,15 +32,15 @@ next_by some is x free to = grind arith
 number_stops : {column size place : ℕ} {s : CellPart} {fault : ℕ → Option Fault} {a b : Seen} {stop : Stop} → 0 < size → N.cell_size s ≡ size
     → N.cell_end s ≡ Some N.MessageEnded → ((e : List ℕ) (n : ℕ) (f : Fault) → N.little e ≡ n → fault n ≡ Some f → N.cell_fault column s e ≡ Some f)
     → N.RefusesNumber size fault a b place stop ⊎ N.CutsNumber size a b place stop → N.StopsReading (cell column) s a b place s stop
-number_stops {column = column} {place = place} {s = s} {a = a} {b = b} {stop = stop} some is end first (N.inl x) =
+number_stops {column = column} {place = place} {s = s} {a = a} {b = b} {stop = stop} some is _ first (N.inl x) =
     let r = x.reads in
     N.subst (λ t. N.StopsReading (cell column) s a b place s t) (ap (λ q. record { fault = stop.fault; place = q }) (sym x.stands))
     (N.refused_at_once _ s a b _ _ _ (omega arith) (r.whole ∙ sym is) (first _ x.n _ r.number x.first) r.takes r.between)
-number_stops some is end first (N.inr x) = grind arith
+number_stops _ is end _ (N.inr x) = grind arith
 
-total_same : (column : ℕ) (c : N.Conversion) (size n : ℕ) (e : List ℕ) → size ≡ unit c → N.little e ≡ n
+total_same : (column : ℕ) (c : N.Conversion) {size n : ℕ} (e : List ℕ) → size ≡ unit c → N.little e ≡ n
     → N.cell_fault column (Total c) e ≡ N.total_fault column size n
-total_same column c size n e unit_is is = grind arith
+total_same _ c e unit_is is = grind arith
 
 -- ---- the length of a short value
 
@@ -98,8 +101,8 @@ module _ {column : ℕ} (c : N.Conversion) {size : ℕ} (unit_is : size ≡ unit
 pub same_failures : {a b c d : ℕ} → a ≡ c → b ≡ d → ◌≡◌ {A = N.Failures} (record { reads = a; writes = b }) (record { reads = c; writes = d })
 same_failures e f = cc
 
-pub stops_after : (a b c : N.Failures) (stop : Stop) → b ≡ a → N.StopBlames b c stop → N.StopBlames a c stop
-stops_after a b c stop e h = rw (← e) h
+pub stops_after : {a b c : N.Failures} (stop : Stop) → b ≡ a → N.StopBlames b c stop → N.StopBlames a c stop
+stops_after _ e h = rw (← e) h
 
 -- ---- the reader
 
@@ -108,7 +111,7 @@ abbrev pub ReadBlames : ℕ → ℕ → Stop → Type 0
 ReadBlames old new stop = (stop.fault ≡ N.WriteFailed → ⊥) × (stop.fault ≡ N.ReadFailed → new ≡ N.one_more old)
 
 pub read_stops : (old new : N.Failures) (stop : Stop) → ReadBlames old.reads new.reads stop → N.StopBlames old new stop
-read_stops old new stop h = grind arith
+read_stops _ _ _ h = grind arith
 
 -- a fault that names no device
 abbrev NoDevice : Option Fault → Type 0
@@ -116,21 +119,21 @@ NoDevice None = N.⊤
 NoDevice (Some fault) = (fault ≡ N.WriteFailed → ⊥) × (fault ≡ N.ReadFailed → ⊥)
 
 pub short_blames : (column size n : ℕ) → NoDevice (N.short_fault column size n)
-short_blames column size n = grind arith
+short_blames _ _ n = grind arith
 
 pub total_blames : (column size n : ℕ) → NoDevice (N.total_fault column size n)
-total_blames column size n = grind arith
+total_blames _ _ n = grind arith
 
 pub chunk_blames : (column size : ℕ) (total : Option ℕ) (sum n : ℕ) → NoDevice (N.chunk_length_fault column size total sum n)
-chunk_blames column size total sum n = grind arith
+chunk_blames _ _ _ _ n = grind arith
 
 -- a length that was refused or cut
-pub length_blames : {R : Type 0} {size : ℕ} {b : Seen} {stop : Stop} (remaining : R → Option (List ℕ)) (fault : ℕ → Option Fault) (old : Input R)
+pub length_blames : {R : Type 0} {size : ℕ} {b : Seen} {stop : Stop} (remaining : R → Option (List ℕ)) {fault : ℕ → Option Fault} (old : Input R)
     → old.stopped ≡ None → ((n : ℕ) → NoDevice (fault n))
     → N.RefusesNumber size fault (N.seen remaining old) b old.place stop ⊎ N.CutsNumber size (N.seen remaining old) b old.place stop
     → ReadBlames old.from.now.failures b.failures stop
-length_blames remaining fault old going none (N.inl x) = grind arith
-length_blames {b = b} remaining fault old going none (N.inr x) =
+length_blames _ _ _ none (N.inl x) = grind arith
+length_blames {b = b} remaining old going _ (N.inr x) =
     let h = N.ends_blame remaining old b x.part x.own going x.ends in
     let is = ap (λ s. s.fault) x.stop_is in
     (λ e. h.0 (sym is ∙ e), λ e. h.1 (sym is ∙ e))

@@ -1,6 +1,14 @@
 -- The value of a RETURNVALUE, as it is passed over.
 use Rattle.tds_rows.proofs.Words as N
-use Rattle.tds_rows.proofs.{Words.{◌≢◌, ◌≡◌, ◌∙◌, ℕ, ◌+◌, ◌-◌, ◌%◌, ◌<◌, ◌≤◌, true, List, [], ◌++◌, length, refl, sym, arith, Option, Stop, Seen, Conversion, Cell, CellPart}, Words.{ChunkLength, shape, return_column, AnyData, PassesData, StepsOver}, BufferedCells.{null_cell, value_cell}, RunSteps.whole_of, LongSteps.{HoldsContent, content_spelt, chunk_holds, short_holds}, CellMeaning.is_ok_value, Numbers.{Next, chunk_start, chunk_left, short_left}}
+use Rattle.tds_rows.proofs.{
+  Words.{◌≢◌, ◌≡◌, ◌∙◌, ℕ, ◌+◌, ◌-◌, ◌%◌, ◌<◌, ◌≤◌, true, List, [], ◌++◌, length, refl, sym, arith, Option, Stop, Seen, Conversion, Cell, CellPart},
+  Words.{ChunkLength, shape, return_column, AnyData, PassesData, StepsOver},
+  BufferedCells.{null_cell, value_cell},
+  RunSteps.whole_of,
+  LongSteps.{HoldsContent, content_spelt, chunk_holds, short_holds},
+  CellMeaning.is_ok_value,
+  Numbers.{Next, chunk_start, chunk_left, short_left},
+}
 
 -- ---- elements
 
@@ -45,7 +53,7 @@ module _ {c : Conversion} {state : ℕ → List ℕ → CellPart} {Good : List �
 
   -- the payload stopped in it
   data_stops : {m : ℕ} {a b : Seen} {place : ℕ} {stop : Stop} (d : List ℕ) → N.CutsPassing m a b place stop → N.StopsPassing (state m d) a b place stop
-  data_stops {m = m} {place = place} d x =
+  data_stops {m = m} d x =
       let at = state _ _ in
       record {
         at = at;
@@ -85,7 +93,7 @@ scalar_whole charset kind bytes scalar whole good = go _ refl
         let x = null_cell charset kind _ true bytes _ scalar _ refl e (omega arith) refl in
         rw (N.take_all (N.value_start kind + 0) bytes (omega arith)) at (written_spelt x)
     go _ e =
-        let v = is_ok_value _ (good (omega arith)) in
+        let v = is_ok_value (good (omega arith)) in
         let x = value_cell charset kind _ true bytes _ scalar _ _ refl refl (λ z. omega arith) (omega arith) (v.0, v.1, refl) in
         rw (N.take_all (N.value_start kind + N.value_length kind bytes) bytes (omega arith)) at (written_spelt x)
 
@@ -93,7 +101,7 @@ scalar_whole charset kind bytes scalar whole good = go _ refl
 
 -- nothing was passed over
 pub passes_none : {n : ℕ} {a : Seen} {place : ℕ} → n ≡ 0 → N.IsBetween a → PassesData n a a place place
-passes_none {n = n} {a = a} none between =
+passes_none none between =
     grind arith
 
 -- a piece more was
@@ -122,7 +130,7 @@ cuts_more {m = m} {a = a} {b = b} {d = d} sum x y = record {
 pub scalar_passes : {kind : N.Kind} {a b : Seen} {place place' : ℕ} {bytes : List ℕ} (charset : N.Charset) → N.is_scalar kind ≡ true
     → N.GathersCell kind (N.cell_start kind (shape charset kind)) return_column a b place place' bytes → N.IsGoodValue kind bytes
     → N.PassesCell (N.cell_start kind (shape charset kind)) a b place place'
-scalar_passes {bytes = bytes} charset scalar x good =
+scalar_passes {bytes = bytes} _ scalar x good =
     let v = scalar_whole _ _ _ scalar x.whole good in
     record {
       value = v.0;

@@ -67,7 +67,7 @@ module _ {S : Type 0} {g : Grammar S Fault} {text : S → List ℕ} where
 pub writes_inside : {S T : Type 0} {small : Grammar S Fault} {big : Grammar T Fault} {lift : S → T} {text : S → List ℕ} {whole : T
     → List ℕ} {s t : S} {a p : List ℕ} (front : List ℕ) → N.Inside small big lift → ((s : S) → front ++ text s ≡ whole (lift s))
     → Writes small text s a p t → Writes big whole (lift s) a p (lift t)
-writes_inside {whole = whole} front is text_is x = grind (arith, N.common_steps, N.Inside-Spelt)
+writes_inside _ is text_is x = grind (arith, N.common_steps, N.Inside-Spelt)
 
 -- what is known of all bytes and what they make
 pub path_map : {S T : Type 0} {g : Grammar S Fault} {k : Grammar T Fault} {text : S → List ℕ} {whole : T → List ℕ} {s t : S} {u v : T} {p q : At}

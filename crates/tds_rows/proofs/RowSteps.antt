@@ -10,12 +10,12 @@ use Rattle.tds_rows.proofs.{
 -- ---- fields in their line
 
 -- a field after a comma
-pub after_some_column : (column : ℕ) (text : List ℕ) → column ≢ 0 → 44 ∷ text ≡ N.after_comma column text
-after_some_column column text h = grind N.arith
+pub after_some_column : (column : ℕ) {text : List ℕ} → column ≢ 0 → 44 ∷ text ≡ N.after_comma column text
+after_some_column _ h = grind N.arith
 
 -- more after a field
 pub after_append : (column : ℕ) (a b : List ℕ) → N.after_comma column (a ++ b) ≡ N.after_comma column a ++ b
-after_append column a b = grind N.arith
+after_append _ a b = grind N.arith
 
 -- one field more
 pub joined_snoc : (fields : List (List ℕ)) (f : List ℕ) → N.joined fields ++ N.after_comma (N.length fields) f ≡ N.joined (fields ++ f ∷ [])
@@ -59,11 +59,11 @@ StopsAt charset kind column last p d j failed stop = StopsCell charset kind colu
 
 -- before its first element a cell has no text
 pub start_quiet : (kind : Kind) (s : N.Shape) → N.field_so_far (cell_start kind s) ≡ None
-start_quiet kind s = grind arith
+start_quiet _ s = grind arith
 
 -- it has no text yet
 pub quiet_text : (column : ℕ) (last : Bool) (at : CellPart) → N.field_so_far at ≡ None → cell_so_far column last at ≡ []
-quiet_text column last at h = grind arith
+quiet_text _ _ at h = grind arith
 
 module _ (kind : Kind) (s : N.Shape) (column : ℕ) (last : Bool) where
   none_put : (at : CellPart) (h : Held) → N.field_so_far at ≡ None → h.delivered ≤ 2 ^ 64 - 1
@@ -109,11 +109,11 @@ module _ (kind : Kind) (s : N.Shape) (column : ℕ) (last : Bool) where
 -- ---- a cell in its row
 
 pub fields_more : (cells : List Cell) (v : List ℕ) → joined (map field cells) ++ N.after_comma (length cells) v ≡ joined (map field cells ++ v ∷ [])
-fields_more cells v = grind (arith, N.length-map, joined_snoc)
+fields_more _ v = grind (arith, N.length-map, joined_snoc)
 
 pub cell_more : (cells : List Cell) (v : Cell)
     → joined (map field cells) ++ N.after_comma (length cells) (field v) ≡ joined (map field (cells ++ v ∷ []))
-cell_more cells v = grind (arith, fields_more, N.map-append)
+cell_more _ v = grind (arith, fields_more, N.map-append)
 
 -- the columns to come, each with whether it is NULL by its bit
 module _ (charset : Charset) (cells : List Cell) (ks : List (Column × Bool)) where
@@ -123,12 +123,12 @@ module _ (charset : Charset) (cells : List Cell) (ks : List (Column × Bool)) wh
 
 some_bytes : (column : ℕ) (from : CellPart) (v : Cell) (es : List (List ℕ)) → (from ≡ WholeCell v → ⊥) → N.Leads (cell column) from es (WholeCell v)
     → 0 < length (N.concat es)
-some_bytes column from v [] before h = grind arith
-some_bytes column from v (e ∷ es) before h = grind (arith, N.length-append)
+some_bytes _ _ v [] before h = grind arith
+some_bytes _ _ v (e ∷ es) _ h = grind (arith, N.length-append)
 
 -- a cell that was read has some bytes
 pub cell_some : {column : ℕ} {last : Bool} {p q : At} (charset : Charset) (kind : Kind) → PutsAt charset kind column last p q → p.place < q.place
-cell_some charset kind y =
+cell_some _ _ y =
     let spelt = y.streams.spelt in
     let some = some_bytes _ _ y.value _ (grind arith) spelt.leads in
     omega (arith, ap length spelt.joined)
@@ -142,7 +142,7 @@ ends (k ∷ ks) = false
 
 -- so it is where no column is left
 pub ends_marked : (columns : List Column) (nulls : ℕ → Bool) (n : ℕ) → N.is_last_column columns ≡ ends (N.marked columns nulls n)
-ends_marked columns nulls n = grind arith
+ends_marked _ _ n = grind arith
 
 -- no column is NULL by its bit
 abbrev pub coming : List Column → ℕ → List (Column × Bool)
@@ -159,10 +159,10 @@ none_ahead [] n = N.refl
 none_ahead (c ∷ cs) n = N.refl
 
 -- one more whole cell, and what is known of the text after it
-one_more : (cells : List Cell) (v : Cell) (ks : List (Column × Bool)) (text : List ℕ)
+one_more : (cells : List Cell) (v : Cell) (ks : List (Column × Bool)) {text : List ℕ}
     → (joined (map field (cells ++ v ∷ [])) ++ N.end_after (ends ks)) ++ nulls_ahead (length (cells ++ v ∷ [])) ks ≡ text
     → (joined (map field cells) ++ N.in_line (length cells) (ends ks) (field v)) ++ nulls_ahead (length cells + 1) ks ≡ text
-one_more cells v ks text is =
+one_more cells v ks is =
     let begun =
     sym (N.append_assoc (joined (map field cells)) _ _) ∙ ap (λ l. l ++ N.end_after (ends ks)) (cell_more cells v) in
     ap (λ l. l ++ nulls_ahead (length cells + 1) ks) begun
@@ -171,13 +171,13 @@ one_more cells v ks text is =
 -- a row's text so far is that of its whole cells, the end of the line where no column follows, and that of the NULLs to come
 pub nulls_text : (charset : Charset) (cells : List Cell) (ks : List (Column × Bool))
     → (joined (map field cells) ++ N.end_after (ends ks)) ++ nulls_ahead (length cells) ks ≡ N.row_so_far (N.next_cell charset cells ks)
-nulls_text charset cells [] = append-nil _
+nulls_text _ _ [] = append-nil _
 nulls_text charset cells ((k, true) ∷ ks) =
     let tail = nulls_ahead _ ks in
     ap (λ l. l ++ (N.in_line (length cells) (ends ks) N.null_field ++ tail)) (append-nil _)
     ∙ sym (N.append_assoc _ _ tail)
-    ∙ one_more cells N.Null ks _ (nulls_text charset _ ks)
-nulls_text charset cells ((k, false) ∷ ks) = search N.rules
+    ∙ one_more cells N.Null ks (nulls_text charset _ ks)
+nulls_text _ _ ((k, false) ∷ ks) = search N.rules
 
 -- ---- a cell's text in its line
 

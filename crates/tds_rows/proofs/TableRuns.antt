@@ -24,7 +24,7 @@ rows_begin = grind (arith, rows_none)
 -- the token byte of a ROW is next
 begins_at : (used : ℕ) (bytes : List ℕ) → N.BeginsRow (take (length bytes - used) (drop used bytes)) → (used < length bytes)
     × (N.get_or bytes used 0 ≡ 0xD1)
-begins_at used bytes begins = grind (arith, N.all_after, N.drop_more)
+begins_at _ _ begins = grind (arith, N.all_after, N.drop_more)
 
 -- one row more, after its token byte
 pub row_begun : {table : Table} {from start : Ahead} {bytes to : List ℕ} {run : N.RowsRun} → 0 < table.count → table.count ≤ run.ahead.column
@@ -40,7 +40,7 @@ row_begun {bytes = bytes} {run = run} some at (begins, first) ahead x =
       few = omega arith;
       writes = λ columns knows is.
           let y = x.writes columns knows is in
-          let none = none_next columns run.ahead.column _ knows.counted at in (
+          let none = none_next columns run.ahead.column knows.counted at in (
             ahead columns knows y.0,
             λ charset cells set counted. rw first
                 (rows_onward run.used bytes (omega arith) none within byte (y.1 charset cells set counted)),
@@ -48,11 +48,11 @@ row_begun {bytes = bytes} {run = run} some at (begins, first) ahead x =
     }
 
 -- more cells of the last row, in the bytes that are left and after what was made
-pub more_in_rows : {table : Table} {columns : List Column} {old new : Ahead} {count : ℕ} (from : Ahead) (used u made m : ℕ)
+pub more_in_rows : {table : Table} {columns : List Column} {old new : Ahead} {count : ℕ} (from : Ahead) (used u : ℕ) {made m : ℕ}
     (bytes to text rest : List ℕ) → made ≤ length to → m ≤ length text → RowsBetween table columns from old count (take used bytes) (take made to)
     → N.RunsMarked table columns (λ k. false) old new (take u (take (length bytes - used) (drop used bytes))) (take m text)
     → RowsBetween table columns from new count (take (used + u) bytes) (take (made + m) (take made to ++ (text ++ rest)))
-more_in_rows from used u made m bytes to text rest within some x y = grind (arith, used_more, made_more, marked_writes)
+more_in_rows _ _ u _ _ _ _ within some x y = grind (arith, used_more, made_more, marked_writes)
 
 -- the same of what a run over rows has done
 pub rows_more : {table : Table} {from : Ahead} {bytes to : List ℕ} {run : N.RowsRun} {cells : N.CellRun} (text rest : List ℕ) → 0 < cells.used
@@ -60,11 +60,11 @@ pub rows_more : {table : Table} {from : Ahead} {bytes to : List ℕ} {run : N.Ro
     → N.CellsWritten table run.ahead (take (length bytes - run.used) (drop run.used bytes)) text cells → RowsRan table from bytes to run
     → RowsRan table from bytes (take run.made to ++ (text ++ rest))
     (record { used = run.used + cells.used; made = run.made + cells.made; rows = run.rows; ahead = cells.ahead })
-rows_more {from = from} {bytes = bytes} {to = to} {run = run} text rest some within fits gives x = record {
+rows_more {from = from} {bytes = bytes} {to = to} {run = run} text rest _ within fits gives x = record {
   used = omega (arith, N.length-take (length bytes - run.used) (drop run.used bytes));
   made = omega (arith, N.length-append (take run.made to) (text ++ rest), N.length-append text rest, N.length-take-le run.made to x.made);
   few = omega arith;
-  writes = λ columns knows is. (let y = x.writes columns knows is in more_in_rows from _ _ _ _ _ _ _ _ x.made fits y (gives columns knows y.0));
+  writes = λ columns knows is. (let y = x.writes columns knows is in more_in_rows from _ _ _ _ _ _ x.made fits y (gives columns knows y.0));
 }
 
 -- the cells of a run within a row, none of which is NULL by its bit
@@ -77,7 +77,7 @@ pub runs_rows : {charset : N.Charset} {all : List Column} {cells : List Cell} {c
     {p q : At} → N.WritesRows charset all cells columns left column count bytes made → N.Takes p.seen q.seen bytes (length bytes)
     → N.Puts p.held q.held made → q.place ≡ p.place + length bytes
     → N.RunsRows charset all cells columns left column count p.seen q.seen p.place q.place p.held q.held
-runs_rows {bytes = bytes} {made = made} x takes puts at = record {
+runs_rows x takes puts at = record {
   before = x.before;
   more = x.more;
   rows_counted = cc;
@@ -107,9 +107,9 @@ run_breaks {table = table} {a = a} {b = b} {h = h} {j = j} {stop = stop} cells y
     record { at = broken.0; cause = grind arith }
 
 -- what stands after what was made may be another
-pub rows_kept : {table : Table} {from : Ahead} {bytes to : List ℕ} {run : N.RowsRun} (new : List ℕ) → length new ≡ length to
+pub rows_kept : {table : Table} {from : Ahead} {bytes to : List ℕ} {run : N.RowsRun} {new : List ℕ} → length new ≡ length to
     → take run.made new ≡ take run.made to → RowsRan table from bytes to run → RowsRan table from bytes new run
-rows_kept new same is x = grind arith
+rows_kept same is x = grind arith
 
 -- a run, and then another that ended where it began
 pub rows_further : {table : Table} {from : Ahead} {bytes to : List ℕ} {run more : N.RowsRun} (text rest : List ℕ) → more.ahead ≡ run.ahead
@@ -139,7 +139,7 @@ module _ (charset : N.Charset) (columns : List N.Column) where
   -- so many columns, and then so many more
   marked_both : (nulls : ℕ → Bool) (from n m : ℕ) (a b p q : List ℕ) → N.WritesMarked charset columns nulls from n a p
       → N.WritesMarked charset columns nulls (from + n) m b q → N.WritesMarked charset columns nulls from (n + m) (a ++ b) (p ++ q)
-  marked_both nulls from n N.zero a b p q x y = search N.rules
+  marked_both _ _ n N.zero a b p q x y = search N.rules
   marked_both nulls from n (suc m) a b p q x y =
       let at : (from + n) + m ≡ from + _ = omega arith in
       let counted : suc _ ≡ n + suc m = omega arith in
@@ -157,8 +157,8 @@ module _ (charset : N.Charset) (columns : List N.Column) where
   -- columns whose bits are clear
   pub marked_clear : (nulls : ℕ → Bool) (from n : ℕ) (bytes text : List ℕ) → ((k : ℕ) → from ≤ k → k < from + n → nulls k ≡ false)
       → N.WritesMarked charset columns none_null from n bytes text → N.WritesMarked charset columns nulls from n bytes text
-  marked_clear nulls from N.zero bytes text clear x = x
-  marked_clear nulls from (suc n) bytes text clear x =
+  marked_clear _ _ N.zero _ _ _ x = x
+  marked_clear nulls from (suc n) _ _ clear x =
       let last = x.7 in
       let writes = N.subst (λ e. N.WritesNext charset e last.column.kind (from + n) (N.is_last_column last.left) x.1 x.3)
       (sym (clear (from + n) (omega arith) (omega arith))) last.writes in
@@ -202,7 +202,7 @@ module _ {table : N.Table} {columns : List N.Column} {nulls : ℕ → Bool} {fro
 -- a run ended before a column whose bit is clear
 pub ends_clear : (table : N.Table) (nulls : ℕ → Bool) (at : Ahead) (bytes : List ℕ) (room : ℕ) → nulls at.column ≡ false → N.RunEnds table at bytes room
     → N.EndsLeft table nulls at bytes room
-ends_clear table nulls at bytes room clear x =
+ends_clear _ _ at bytes room clear x =
     λ columns column left knows ahead next. elim (x columns column left knows ahead next) [ N.inl few ↦ N.inl few | N.inr y ↦ N.inr (clear, y.1) ]
 
 -- ---- the forms of the next columns
@@ -210,7 +210,7 @@ ends_clear table nulls at bytes room clear x =
 -- those that a table knows, from a place in a row on
 pub known_ahead : (table : N.Table) (at : N.Ahead) (end : ℕ) (n : ℕ) → N.AreLaidOut table.charset table.forms → table.known ≤ N.length table.forms → 0 < n
     → at.column + n ≤ end → at.column + n ≤ table.known → table.known ≤ table.count → N.AreAhead table at end (take n (drop at.column table.forms))
-known_ahead table at end n laid fits some within known few =
+known_ahead _ at end n laid fits some within known few =
     let k = at.column in
     let len = N.length-take-le n _ (grind (arith, N.length-drop)) in
     record {
@@ -229,18 +229,18 @@ known_ahead table at end n laid fits some within known few =
     }
 
 -- no cell was written where no byte was used
-pub none_written : (cells used : ℕ) → (0 < cells → 0 < used) → used ≡ 0 → cells ≡ 0
-none_written cells used some none = grind arith
+pub none_written : {cells used : ℕ} → (0 < cells → 0 < used) → used ≡ 0 → cells ≡ 0
+none_written some none = grind arith
 
 -- some were where some bytes were
-pub some_written : (cells used : ℕ) → (cells ≡ 0 → used ≡ 0) → 0 < used → 0 < cells
-some_written cells used none some = grind arith
+pub some_written : {cells used : ℕ} → (cells ≡ 0 → used ≡ 0) → 0 < used → 0 < cells
+some_written none some = grind arith
 
 module _ (table : N.Table) (from : N.Ahead) (end : ℕ) (forms : List Form) (within : end ≤ table.count) (ahead : N.AreAhead table from end forms) where
   -- the first is that of the next column
-  pub first_next : (form : Form) (rest : List Form) → forms ≡ form ∷ rest → (columns : List Column) → N.Knows table columns → N.IsAhead table columns from
+  pub first_next : {form : Form} {rest : List Form} → forms ≡ form ∷ rest → (columns : List Column) → N.Knows table columns → N.IsAhead table columns from
       → N.NextColumn columns from form.kind
-  first_next form rest are columns knows is = grind arith
+  first_next are _ knows is = grind arith
 
   module _ (ends : N.Bool) (end_is : ends ≡ (from.column + N.length forms == table.count)) where
     -- what was written by them is between two places of the row
@@ -248,16 +248,16 @@ module _ (table : N.Table) (from : N.Ahead) (end : ℕ) (forms : List Form) (wit
         → (to : N.Ahead) (bytes text : List ℕ) (run : N.FormsRun) → to.column ≡ from.column + run.cells → N.IsAhead table columns to
         → N.FormsWritten table.charset forms from.column ends bytes text run
         → N.RunsMarked table columns (λ k. N.false) from to (take run.used bytes) (take run.made text)
-    forms_between columns knows is to bytes text run further there x = grind (arith, N.length-drop)
+    forms_between _ knows is _ _ _ _ further there x = grind (arith, N.length-drop)
 
   -- the first was left
-  pub first_left : (bytes : List ℕ) (room : ℕ) → N.FirstLeft table.charset forms bytes room
+  pub first_left : {bytes : List ℕ} {room : ℕ} → N.FirstLeft table.charset forms bytes room
       → (columns : List Column) (column : Column) (left : List Column) → N.Knows table columns → N.IsAhead table columns from
       → drop from.column columns ≡ column ∷ left
       → (room < N.CELL_ROOM) ⊎ ((N.false ≡ N.false) × N.IsLeft table.charset column.kind bytes room)
-  first_left bytes room x columns column left knows is step =
+  first_left x columns column _ knows is step =
       let first = some_first _ ahead.some in
-      let n = first_next _ _ first.2 columns knows is in
+      let n = first_next first.2 columns knows is in
       elim (x first.0 first.1 first.2) [
         | inl few ↦ inl few
         | N.inr y ↦ N.inr (

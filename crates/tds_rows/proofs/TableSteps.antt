@@ -7,18 +7,18 @@ use Rattle.tds_rows.proofs.{
 use Rattle.tds_columns.specs.declared.walk.Column as walks
 
 -- what is ahead begins with the next column
-pub next_column : (columns : List Column) (k : ℕ) (c : Column) (rest : List Column) → drop k columns ≡ c ∷ rest → (k < length columns)
+pub next_column : (columns : List Column) (k : ℕ) {c : Column} {rest : List Column} → drop k columns ≡ c ∷ rest → (k < length columns)
     × ((get_or columns k c ≡ c) × (drop (k + 1) columns ≡ rest))
-next_column columns k c rest h =
+next_column columns k {c} h =
     let within : k < length columns = omega (arith, N.length-drop k columns, ap length h) in
     let more = sym (N.drop_more columns k c within) ∙ h in
     (within, (ap (λ (l : List Column). get_or l 0 c) more, ap (drop 1) more))
 
 -- one column more is known
-pub first_more : (forms : List Form) (columns : List Column) (k : ℕ) (f : Form) (c : Column) (rest : List Column) → k < length forms
+pub first_more : (forms : List Form) (columns : List Column) (k : ℕ) (f : Form) {c : Column} {rest : List Column} → k < length forms
     → map (λ f. f.kind) (take k forms) ≡ N.kinds (take k columns) → drop k columns ≡ c ∷ rest → f.kind ≡ c.kind
     → map (λ f. f.kind) (take (k + 1) (N.slice_set forms k f)) ≡ N.kinds (take (k + 1) columns)
-first_more forms columns k f c rest within first h is = grind (arith, N.common_steps, next_column, N.take_more)
+first_more _ _ k f within first h is = grind (arith, N.common_steps, next_column, N.take_more)
 
 -- the kind of a column that is known
 pub known_kind : (forms : List Form) (columns : List Column) (n k : ℕ) (f : Form) (c : Column)
@@ -35,7 +35,7 @@ module _ (table : N.Table) (columns : List Column) (at : Ahead) (kind : Kind) (k
   -- a column that the table knows is next
   pub next_known : (d : Form) → at.column < table.count → at.column < table.known → table.known ≤ length table.forms
       → kind ≡ (get_or table.forms at.column d).kind → N.NextColumn columns at kind
-  next_known d some known fits is_kind =
+  next_known d _ known fits is_kind =
       let within : at.column < length columns = omega arith in
       let c : Column = grind arith in
       record {
@@ -49,7 +49,7 @@ module _ {table : N.Table} {columns : List Column} {old new : Ahead} (knows : N.
   -- the place after columns that the table knows
   pub after_known : {cells : ℕ} → new.column ≡ old.column + cells → old.column + cells ≤ table.count → (cells ≡ 0)
       ⊎ (old.column + cells ≤ table.known) → columns_left new.walk ≡ columns_left old.walk → IsAhead table columns new
-  after_known further within known same = grind arith
+  after_known further _ known same = grind arith
 
   -- the place after a column that the walk gives
   pub after_walked : new.column ≡ old.column + 1 → old.column + 1 ≤ table.count → table.known ≤ old.column
@@ -65,16 +65,16 @@ module _ {table : N.Table} {columns : List Column} {old new : Ahead} (knows : N.
 -- what a walk leaves after its next column
 pub walk_after : (walk new : N.Walk) (column : N.Option walks.Column) → N.YieldsFirstBy N.column_value columns_left walk column new
     → columns_left new ≡ drop 1 (columns_left walk)
-walk_after walk new column y = grind arith
+walk_after _ _ _ y = grind arith
 
 -- the next column was taken
-pub takes : (table : N.Table) (columns : List Column) (old new : Ahead) (kind : Kind) → N.NextColumn columns old kind → new.column ≡ old.column + 1
+pub takes : {table : N.Table} {columns : List Column} {old new : Ahead} {kind : Kind} → N.NextColumn columns old kind → new.column ≡ old.column + 1
     → IsAhead table columns new → N.TakesColumn table columns old new kind
-takes table columns old new kind x further ahead = grind (arith, next_column)
+takes x further ahead = grind (arith, next_column)
 
 -- a place in a row that isn't at its end is before it
-pub not_end : (columns : List Column) (k n : ℕ) → n ≡ length columns → k ≤ length columns → (k == n) ≡ N.false → k < n
-not_end columns k n whole within isnt = grind arith
+pub not_end : (columns : List Column) {k n : ℕ} → n ≡ length columns → k ≤ length columns → (k == n) ≡ N.false → k < n
+not_end _ whole within isnt = grind arith
 
 -- a column is the last one where as many as there are lie before what is after it
 pub last_one : (columns rest : List Column) (c : Column) (k n : ℕ) → n ≡ length columns → drop k columns ≡ c ∷ rest
@@ -83,8 +83,8 @@ last_one columns [] c k n whole next = N.eq-eqb _ n (omega (arith, N.length-drop
 last_one columns (d ∷ ds) c k n whole next = N.ne_eqb _ n (λ e. omega (arith, N.length-drop k columns, ap length next))
 
 -- none is next where as many as there are lie before
-pub none_next : (columns : List Column) (k n : ℕ) → n ≡ length columns → n ≤ k → drop k columns ≡ []
-none_next columns k n whole all = grind (arith, N.drop_all)
+pub none_next : (columns : List Column) (k : ℕ) {n : ℕ} → n ≡ length columns → n ≤ k → drop k columns ≡ []
+none_next _ k whole all = grind (arith, N.drop_all)
 
 -- before the row's end the next column is ahead, of some kind
 pub next_any : (columns : List Column) (at : Ahead) (n : ℕ) → n ≡ length columns → at.column < n → (kind : Kind) × N.NextColumn columns at kind
@@ -101,9 +101,9 @@ next_any columns at n whole some =
     )
 
 -- as many lie before where the place is the row's end
-pub all_before : (k n : ℕ) → N.true ≡ (k == n) → n ≤ k
-all_before k n is = grind arith
+pub all_before : {k n : ℕ} → N.true ≡ (k == n) → n ≤ k
+all_before is = grind arith
 
 -- none is next at the row's end
 pub at_end : (columns : List Column) (k n : ℕ) → n ≡ length columns → (k == n) ≡ N.true → drop k columns ≡ []
-at_end columns k n whole is = grind (arith, none_next)
+at_end _ k n whole is = grind (arith, none_next)

@@ -10,6 +10,6 @@ returns-clause-row g c = λ _ _.
 
 pub returns-clause-succeeds : goal.returns-clause-succeeds
 returns-clause-succeeds g c = λ going writing cells bytes more spelt.
-    streaming_succeeds _ row_so_far g.R.Read.remaining g.W.Write.contents c.args.payload.now c.payload-1.given.0 c.args.sink.now
+    streaming_succeeds row_so_far g.R.Read.remaining g.W.Write.contents c.args.payload.now c.payload-1.given.0 c.args.sink.now
     c.sink-1.given.0 _ _ _
     (returns-clause-row g c going writing) (row_is_read _ _ _ _ spelt) refl

@@ -2,6 +2,6 @@ use Rattle.tds_rows.proofs.{Words.{false, refl, cell, cell_so_far}, Successes.{s
 
 pub returns-clause-succeeds : Rattle.tds_rows.proofs.cell.streamed.stream_value.Goals.returns-clause-succeeds
 returns-clause-succeeds g c = λ going writing conversion suits kind value bytes more spelt.
-    streaming_succeeds _ _ g.R.Read.remaining g.W.Write.contents c.args.payload.now c.stream_long.new.payload
+    streaming_succeeds _ g.R.Read.remaining g.W.Write.contents c.args.payload.now c.stream_long.new.payload
     c.args.sink.now c.stream_long.new.sink _ _ _
     (c.stream_long.ensures.field conversion suits) (long_is_read _ kind _ _ _ _ spelt) refl

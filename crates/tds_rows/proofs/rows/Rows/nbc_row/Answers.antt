@@ -72,7 +72,7 @@ returns-in_err-put_next-clause-row g c =
     let near = nears columns knows in
     N.passed _ _ _ _ c.from_residual-in_err-put_next.ensures.1
     (next_stops g.R.Read.remaining g.W.Write.contents c.put_nulls.new.self c.put_next.new.self _ knows (c.in-Some.ensures.taken columns knows near.0) _
-    kept.in_row near _ _ _ is c.in_err-put_next.ensures.cell))
+    kept.in_row near _ _ is c.in_err-put_next.ensures.cell))
 
 pub returns-in_err-put_next-clause-leaves : goal.returns-in_err-put_next-clause-leaves
 returns-in_err-put_next-clause-leaves g c =

@@ -18,12 +18,12 @@ loop-known-preserved c =
     let inv = c.loop-known.invariant in
     let step = sym inv.rest ∙ c.in-Some.ensures.steps in
     let columns = N.columns_of c.args.columns.bytes.now in
-    let next = next_column columns c.loop-known.known _ _ step in
+    let next = next_column columns c.loop-known.known step in
     record {
       most = search arith;
       few = omega arith;
       whole = search (arith, N.rules);
-      first = first_more c.loop-known.forms columns c.loop-known.known c.of.result _ _
+      first = first_more c.loop-known.forms columns c.loop-known.known c.of.result
           (omega arith) inv.first step c.of.ensures.kind;
       laid = each_set (λ f. N.IsLaidOut c.args.charset f.kind f.layout) c.loop-known.forms c.loop-known.known c.of.result inv.laid
           (omega arith) c.of.ensures.laid;

@@ -38,9 +38,9 @@ returns-clause-ends g c = λ columns column left knows ahead step.
     let same = same_len_mid l.made (length l.to - l.made) l.to whole.new.to (search arith) in
     elim c.match-rest_of_row.branch [
       | in_default+then-not-row_follows w ↦ absurd (let e = N.sym step
-          ∙ none_next _ _ _ knows.counted w.in_default.ensures.ahead in omega (arith, N.ap length e))
+          ∙ none_next _ _ knows.counted w.in_default.ensures.ahead in omega (arith, N.ap length e))
       | in-Some+then-run-eq0 w ↦ (let run = w.run_forms-run in
-          let left = first_left _ _ _ _ (omega arith) w.in-Some.ensures.ahead _ _ (run.ensures.ends w.if-run-eq0.true) _
+          let left = first_left _ _ _ _ (omega arith) w.in-Some.ensures.ahead (run.ensures.ends w.if-run-eq0.true) _
           _ _ knows ahead step in
           let room : length (N.take (length mid - made) (N.drop made mid)) ≡ length c.args.to.now - made =
           omega (arith, same, N.length-drop made mid) in
@@ -56,6 +56,6 @@ returns-clause-rows g c =
     let ran = rows_further whole.new.to _ whole.ensures.ahead l.invariant whole.ensures.rows in
     elim c.match-rest_of_row.branch [
       | in_default+then-not-row_follows w ↦ rw w.to-is ran
-      | in-Some+then-run-eq0 w ↦ rw w.to-is (rows_kept _ (same_len_mid made _ mid w.run_forms-run.new.to (search arith))
+      | in-Some+then-run-eq0 w ↦ rw w.to-is (rows_kept (same_len_mid made _ mid w.run_forms-run.new.to (search arith))
           (made_same made mid _ ran.made) ran)
     ]

@@ -28,7 +28,7 @@ loop-to-preserved-then-end-ahead g c =
           let ran = l.invariant.writes columns knows ahead in
           let some : l.ahead.column < c.args.self.now.count = omega arith in
           let one = next_any _ _ _ knows.counted some in
-          let taken = takes _ _ _ _ _ one.1 c.step.ensures.further (c.step.ensures.ahead columns knows ran.ahead) in
+          let taken = takes one.1 c.step.ensures.further (c.step.ensures.ahead columns knows ran.ahead) in
           let last = c.is_last.ensures ∙ last_one _ _ _ _ _ knows.counted taken.next in
           let line = c.write_null-made.ensures.text
           ∙ ap (λ (k : ℕ). N.in_line k c.is_last.result N.null_field) at ∙ ap (λ (e : N.Bool). N.in_line l.ahead.column e N.null_field) last in
@@ -65,7 +65,7 @@ returns-clause-ends g c =
       left = λ columns column left knows ahead step. elim c.loop-to-test.branch [
         | else-loop-to-test w ↦ N.inl (omega arith)
         | then-loop-to-test+else-ahead-count w ↦ absurd
-            (let none = none_next _ _ _ knows.counted (omega arith) in
+            (let none = none_next _ _ knows.counted (omega arith) in
             let e = N.sym step ∙ none in omega (arith, ap length e))
         | then-loop-to-test+then-ahead-count+else-end-ahead+then-cells-eq0 w ↦ (let lent = N.take (length l.to - l.made) (drop l.made l.to) in
             let room : length lent ≡ length c.args.to.now - l.made =

@@ -51,9 +51,9 @@ returns-clause-rows c =
     elim c.loop-used-test.branch [
       | else-loop-used-test w ↦ rw w.to-is l.invariant.ran
       | then-loop-used-test+else-made-latest w ↦ rw w.to-is l.invariant.ran
-      | row_refused w ↦ rw w.to-is (rows_kept _ (search arith) (made_same _ _ _ l.invariant.ran.made) l.invariant.ran)
+      | row_refused w ↦ rw w.to-is (rows_kept (search arith) (made_same _ _ _ l.invariant.ran.made) l.invariant.ran)
       | row_last w ↦
-          rw w.to-is (rows_kept _ (search arith) (made_same _ _ _ l.invariant.ran.made) l.invariant.ran)
+          rw w.to-is (rows_kept (search arith) (made_same _ _ _ l.invariant.ran.made) l.invariant.ran)
     ]
 
 pub returns-clause-ends : goal.returns-clause-ends

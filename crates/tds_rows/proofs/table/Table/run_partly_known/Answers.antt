@@ -6,7 +6,7 @@ pub loop-run-init : goal.loop-run-init
 loop-run-init c = rw c.none-run.ensures rows_begin
 
 pub loop-run-preserved-then-is_end : goal.loop-run-preserved-then-is_end
-loop-run-preserved-then-is_end c = row_begun c.requires.some (all_before _ _ (N.sym c.if-is_end.true ∙ c.is_end.ensures))
+loop-run-preserved-then-is_end c = row_begun c.requires.some (all_before (N.sym c.if-is_end.true ∙ c.is_end.ensures))
     (c.row_follows.ensures.begins (search N.rules), c.start-run.ensures.first)
     (λ columns knows is. c.start-run.ensures.ahead columns knows) c.loop-run.invariant
 
@@ -20,6 +20,6 @@ returns-then-cells-eq0-clause-ends c = λ columns column left knows ahead step.
     let lent = N.take (N.length l.to - l.run.made) (N.drop l.run.made l.to) in
     let room : N.length lent ≡ N.length c.args.to.now - l.run.made =
     omega arith in
-    let before = not_end _ _ _ knows.counted ahead.counted (N.sym c.is_end.ensures ∙ c.if-is_end.false) in
+    let before = not_end _ knows.counted ahead.counted (N.sym c.is_end.ensures ∙ c.if-is_end.false) in
     rw room at (rw (N.all_after c.args.bytes.now l.run.used) at (c.run_cells-cells.ensures.ends c.if-cells-eq0.true (omega arith)))
     columns column left knows ahead step

@@ -38,7 +38,7 @@ returns-in_ok-put_opening-in-Some-clause-field g c = λ conversion suits. rw c.i
 pub returns-in_err-total-in-Chunked-clause-blames : goal.returns-in_err-total-in-Chunked-clause-blames
 returns-in_err-total-in-Chunked-clause-blames g c =
     N.passed _ _ _ _ c.from_residual.ensures.1 (read_stops _ _ c.in_err-total-in-Chunked.field-0.0
-    (length_blames g.R.Read.remaining _ c.args.self.now.payload.now c.requires.joining.payload.going
+    (length_blames g.R.Read.remaining c.args.self.now.payload.now c.requires.joining.payload.going
     (total_blames c.args.self.now.column c.UNIT.result) c.in_err-total-in-Chunked.ensures.length))
 
 pub returns-in-Short-clause-field : goal.returns-in-Short-clause-field

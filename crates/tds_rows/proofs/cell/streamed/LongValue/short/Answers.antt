@@ -1,5 +1,11 @@
 use Rattle.tds_rows.proofs.cell.streamed.LongValue.short.Goals as goal
-use Rattle.tds_rows.proofs.{Words.{◌∙◌, ◌<◌, ◌++◌, [], arith, refl, sym, MatchResult-weaker, passed}, Numbers.{length_blames, read_stops, short_blames, short_none, short_start, short_stops}, LongValues.{empty_puts, empty_stops, field_puts, next_breaks, next_path, none_begins, null_puts, reading_stops, rest_none, short_end_stops, short_open}, LongValues.{short_text, short_whole}, LongSteps.{filling_stops, short_holds}, Paths.path_stops}
+use Rattle.tds_rows.proofs.{
+  Words.{◌∙◌, ◌<◌, ◌++◌, [], arith, refl, sym, MatchResult-weaker, passed},
+  Numbers.{length_blames, read_stops, short_blames, short_none, short_start, short_stops},
+  LongValues.{empty_puts, empty_stops, field_puts, next_breaks, next_path, none_begins, null_puts, reading_stops, rest_none, short_end_stops, short_open, short_text, short_whole},
+  LongSteps.{filling_stops, short_holds},
+  Paths.path_stops,
+}
 
 pub returns-in_err-n-clause-field : goal.returns-in_err-n-clause-field
 returns-in_err-n-clause-field g c = λ conversion suits.
@@ -28,7 +34,7 @@ returns-then-n-eq0-clause-field g c = λ conversion suits.
     let opened = rw (c.QUOTED.ensures ∙ suits.quoted_is) at c.in_ok-put_opening.ensures.gives in
     let ended = rw suits.quoted_is at (c.put_end.ensures.end conversion [] suits (c.requires.withheld_none ∙ sym (rest_none _)) (none_begins _)) in
     rw c.put_end.ensures.payload (MatchResult-weaker c.put_end.result ended (λ _ y. empty_puts _ _ _ _ x c.if-n-eq0.true opened y.1)
-    (λ stop y. empty_stops _ _ _ _ _ x c.if-n-eq0.true opened (sink.ready.1 sink.writing) sink.ready.2 y))
+    (λ stop y. empty_stops _ _ _ x c.if-n-eq0.true opened (sink.ready.1 sink.writing) sink.ready.2 y))
 
 pub returns-in_err-push_data-clause-field : goal.returns-in_err-push_data-clause-field
 returns-in_err-push_data-clause-field g c = λ conversion suits.
@@ -37,7 +43,7 @@ returns-in_err-push_data-clause-field g c = λ conversion suits.
     let some : 0 < c.in-Some.n = search arith in
     let stops = c.in_err-push_data.ensures.data conversion [] suits (c.requires.withheld_none ∙ sym (rest_none _)) (none_begins _) in
     passed _ _ _ _ c.from_residual-in_err-push_data.ensures.1
-    (path_stops (next_path c.args.self.now.last x _ (short_open c.args.self.now.column c.args.self.now.last conversion _ some) opened)
+    (path_stops (next_path c.args.self.now.last x _ (short_open c.args.self.now.column c.args.self.now.last conversion some) opened)
     (filling_stops _ (short_holds _ conversion) stops))
 
 pub returns-clause-field : goal.returns-clause-field
@@ -45,7 +51,7 @@ returns-clause-field g c = λ conversion suits.
     let x = short_start _ (c.UNIT.ensures ∙ suits.unit_is) c.in_ok-n.ensures.length c.in-Some.is in
     let opened = rw (c.QUOTED.ensures ∙ suits.quoted_is) at c.in_ok-put_opening.ensures.gives in
     let some : 0 < c.in-Some.n = search arith in
-    let start = next_path c.args.self.now.last x _ (short_open c.args.self.now.column c.args.self.now.last conversion _ some) opened in
+    let start = next_path c.args.self.now.last x _ (short_open c.args.self.now.column c.args.self.now.last conversion some) opened in
     let y = c.in_ok-push_data.ensures.data conversion [] suits (c.requires.withheld_none ∙ sym (rest_none _)) (none_begins _) in
     let all = y.front ++ y.takes.piece in
     let same = c.in_ok-push_data.ensures.leaves.same in
