@@ -198,9 +198,9 @@ module _ {c : Conversion} {content kept : List ℕ} {p q : At} {n left : ℕ} (b
       }
 
 -- the end of content that is whole was put, or a write of it failed
-pub end_puts : {W U : Type 0} (contents : W → N.Option (List ℕ)) (c : Conversion) (quoted last : Bool) (content : List ℕ) (column place : ℕ)
-    (a b d : N.Sink W) (r : N.Result U Stop)
+pub end_puts : {W U : Type 0} {contents : W → N.Option (List ℕ)} {b d : N.Sink W} {r : N.Result U Stop} (c : Conversion) (quoted last : Bool)
+    (content : List ℕ) (column place : ℕ) (a : N.Sink W)
     → IsFit c content × Puts (N.held contents a) (N.held contents b) (N.conversion_text c (conversion_rest c content)) → b.failed ≡ N.false
     → N.PutsPiece contents b d (N.closing quoted ++ N.end_after last) r → N.EndPut contents c quoted last content column place a d r
-end_puts _ c _ _ _ _ _ a b d (N.Ok u) x _ y = (x.0, N.Puts-trans _ _ _ _ _ x.1 y.gives)
-end_puts _ c _ _ _ _ _ a b d (Err e) x going y = inl (x.0, N.Breaks-after _ _ _ _ _ e x.1 (y.gives going), y.failed)
+end_puts {r = N.Ok u} c _ _ _ _ _ a x _ y = (x.0, N.Puts-trans _ _ _ _ _ x.1 y.gives)
+end_puts {r = Err e} c _ _ _ _ _ a x going y = inl (x.0, N.Breaks-after _ _ _ _ _ e x.1 (y.gives going), y.failed)

@@ -230,13 +230,13 @@ whole_breaks {bytes = bytes} {a = a} {b = b} {h = h} {j = j} {stop = stop} _ _ {
     record { at = broken.0; cause = grind arith }
 
 -- it was put at once
-pub put_whole : {W U : Type 0} {column place' : ℕ} {last : Bool} {bytes text : List ℕ} (r : N.Result U Stop) (charset : Charset) (kind : Kind)
-    (a b : N.Seen) (place : ℕ) (contents : W → N.Option (List ℕ)) (old new : N.Sink W) → N.IsWriting old → N.IsBetween b
+pub put_whole : {W U : Type 0} {column place' : ℕ} {last : Bool} {bytes text : List ℕ} {contents : W → N.Option (List ℕ)} {old new : N.Sink W}
+    {r : N.Result U Stop} (charset : Charset) (kind : Kind) (a b : N.Seen) (place : ℕ) → N.IsWriting old → N.IsBetween b
     → N.WritesWhole (cell_start kind (shape charset kind)) column last bytes text → N.Takes a b bytes 0 → place' ≡ place + length bytes
     → N.PutsPiece contents old new text r
     → N.MatchResult r (λ _. PutsCell charset kind column last a b place place' (held contents old) (held contents new))
     (λ stop. StopsCell charset kind column last a b place (held contents old) (held contents new) new.failed stop)
-put_whole {bytes = bytes} (N.Ok u) _ _ a b _ _ _ _ _ _ x takes at puts =
+put_whole {bytes = bytes} {r = N.Ok u} _ _ a b _ _ _ x takes at puts =
     whole_puts _ _ _ _ _ _ _ _ x (N.Takes-more a b bytes 0 _ (omega arith) takes) at puts.gives
-put_whole (N.Err stop) _ _ a b _ _ _ _ going between x takes at puts =
+put_whole {r = N.Err stop} _ _ a b _ going between x takes at puts =
     whole_breaks _ _ [] x (rw N.append-nil takes) between (going.ready.1 going.writing) going.ready.2 (puts.gives going.writing) puts.failed

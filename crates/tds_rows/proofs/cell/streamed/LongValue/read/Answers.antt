@@ -14,7 +14,7 @@ returns-in_err-total-in-Chunked-clause-field g c = λ conversion suits. rw c.in-
 
 pub returns-in-None-clause-field : goal.returns-in-None-clause-field
 returns-in-None-clause-field g c = λ conversion suits. rw c.in-Chunked.is (
-    null_puts c.args.self.now.last g.W.Write.contents c.args.self.now.sink.now c.put_null.new.sink c.put_null.result
+    null_puts c.args.self.now.last
     (total_none conversion (c.UNIT.ensures ∙ suits.unit_is) c.in_ok-total-in-Chunked.ensures.length c.in-None.is) N.refl c.requires.joining.sink
     c.put_null.ensures)
 

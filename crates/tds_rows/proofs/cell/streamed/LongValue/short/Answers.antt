@@ -14,7 +14,7 @@ returns-in_err-n-clause-field g c = λ conversion suits.
 
 pub returns-in_default-clause-field : goal.returns-in_default-clause-field
 returns-in_default-clause-field g c = λ conversion suits.
-    null_puts c.args.self.now.last g.W.Write.contents c.args.self.now.sink.now c.put_null.new.sink c.put_null.result
+    null_puts c.args.self.now.last
     (short_none conversion (c.UNIT.ensures ∙ suits.unit_is) c.in_ok-n.ensures.length c.in_default.is) refl c.requires.joining.sink
     c.put_null.ensures
 
