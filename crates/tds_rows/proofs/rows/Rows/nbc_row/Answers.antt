@@ -71,7 +71,7 @@ returns-in_err-put_next-clause-row g c =
     rw (← (kept.same.3 ∙ l.invariant.stays.same.3)) (λ columns knows.
     let near = nears columns knows in
     N.passed _ _ _ _ c.from_residual-in_err-put_next.ensures.1
-    (next_stops g.R.Read.remaining g.W.Write.contents c.put_nulls.new.self c.put_next.new.self _ knows (c.in-Some.ensures.taken columns knows near.0) _
+    (next_stops _ _ _ _ _ knows (c.in-Some.ensures.taken columns knows near.0) _
     kept.in_row near _ _ is c.in_err-put_next.ensures.cell))
 
 pub returns-in_err-put_next-clause-leaves : goal.returns-in_err-put_next-clause-leaves
@@ -94,7 +94,7 @@ loop-at-preserved g c =
       reads = λ columns known.
           let knows = rw done.leaves.same.3 at known in
           let near = nears columns knows in
-          next_nears g.R.Read.remaining g.W.Write.contents c.put_nulls.new.self c.put_next.new.self _ knows
+          next_nears _ _ _ _ _ knows
           (c.in-Some.ensures.taken columns knows near.0) _ kept.in_row near _ _ is done.leaves done.cell;
     }
 

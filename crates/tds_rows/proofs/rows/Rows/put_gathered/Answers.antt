@@ -42,7 +42,7 @@ returns g c = record {
       let x = rw (sym c.bytes.ensures.value) at (c.in_ok-gather_scalar.ensures.cell charset) in
       let all =
       take_all c.in-Some.cell.used bytes (omega (arith, scalar_whole kind bytes c.requires.scalar)) in
-      let reads = cell_reads c.args.at.column last bytes
+      let reads = cell_reads _ last bytes
       (rw all at (alone.writes.at_once c.requires.scalar charset)) x.takes x.between x.place_is in
       cell_put charset kind c.requires.next.in_row.sink reads c.put.ensures;
 }

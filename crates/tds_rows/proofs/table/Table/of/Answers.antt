@@ -8,8 +8,8 @@ loop-known-init c = record {
   few = search arith;
   whole = search arith;
   first = search arith;
-  laid = each_all (λ f. N.IsLaidOut c.args.charset f.kind f.layout) 64 c.of-forms.result c.of-forms.ensures.laid;
-  numbers = λ _. each_all (λ f. N.IsInt4 f.kind) 64 c.of-forms.result (ap N.is_int4 c.of-forms.ensures.kind);
+  laid = each_all (λ f. N.IsLaidOut c.args.charset f.kind f.layout) 64 _ c.of-forms.ensures.laid;
+  numbers = λ _. each_all (λ f. N.IsInt4 f.kind) 64 _ (ap N.is_int4 c.of-forms.ensures.kind);
   rest = search arith;
 }
 
@@ -18,16 +18,16 @@ loop-known-preserved c =
     let inv = c.loop-known.invariant in
     let step = sym inv.rest ∙ c.in-Some.ensures.steps in
     let columns = N.columns_of c.args.columns.bytes.now in
-    let next = next_column columns c.loop-known.known step in
+    let next = next_column columns _ step in
     record {
       most = search arith;
       few = omega arith;
       whole = search (arith, N.rules);
-      first = first_more c.loop-known.forms columns c.loop-known.known c.of.result
+      first = first_more _ columns _ c.of.result
           (omega arith) inv.first step c.of.ensures.kind;
-      laid = each_set (λ f. N.IsLaidOut c.args.charset f.kind f.layout) c.loop-known.forms c.loop-known.known c.of.result inv.laid
+      laid = each_set (λ f. N.IsLaidOut c.args.charset f.kind f.layout) _ _ c.of.result inv.laid
           (omega arith) c.of.ensures.laid;
-      numbers = int4_set c.loop-known.forms c.loop-known.known c.of.result c.loop-known.only_numbers c.is_int4.result inv.numbers
+      numbers = int4_set _ _ c.of.result _ c.is_int4.result inv.numbers
           (omega arith) (c.is_int4.ensures ∙ ap N.is_int4 (sym c.of.ensures.kind));
       rest = sym next.1.1;
     }

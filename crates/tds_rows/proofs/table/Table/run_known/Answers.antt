@@ -56,6 +56,6 @@ returns-clause-rows g c =
     let ran = rows_further whole.new.to _ whole.ensures.ahead l.invariant whole.ensures.rows in
     elim c.match-rest_of_row.branch [
       | in_default+then-not-row_follows w ↦ rw w.to-is ran
-      | in-Some+then-run-eq0 w ↦ rw w.to-is (rows_kept (same_len_mid made _ mid w.run_forms-run.new.to (search arith))
+      | in-Some+then-run-eq0 w ↦ rw w.to-is (rows_kept (same_len_mid made _ mid _ (search arith))
           (made_same made mid _ ran.made) ran)
     ]

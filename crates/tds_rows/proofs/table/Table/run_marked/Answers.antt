@@ -72,7 +72,7 @@ returns-clause-ends g c =
             omega (arith, N.length-drop l.made l.to) in
             let end = w.clear_end-end.ensures in
             let before : l.ahead.column < w.clear_end-end.result = omega arith in
-            let run = rw room at (rw (N.all_after c.args.bytes.now l.used) at (w.run_cells-cells.ensures.ends w.if-cells-eq0.true before)) in
-            ends_clear _ (N.bit c.args.bitmap.now) _ _ _ (end.clear l.ahead.column (omega arith) before) run columns column left knows ahead step)
+            let run = rw room at (rw (N.all_after _ l.used) at (w.run_cells-cells.ensures.ends w.if-cells-eq0.true before)) in
+            ends_clear _ (N.bit _) _ _ _ (end.clear _ (omega arith) before) run columns column left knows ahead step)
       ];
     }

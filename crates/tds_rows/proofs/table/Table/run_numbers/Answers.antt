@@ -71,7 +71,7 @@ returns-clause-ends c =
       | row_last w ↦ (let run = w.in-Some-run_row.run' in
           let last =
           rw (N.all_after bytes _, sym (N.drop-drop run.used l.used bytes)) at (w.row_follows.ensures.other w.if-not-row_follows.true) in
-          let alone : IsLastRow c.row-row.result.now _ = record {
+          let alone : IsLastRow _ _ = record {
             run = run;
             whole = w.in-Some-run_row.ensures.whole;
             room = length _;

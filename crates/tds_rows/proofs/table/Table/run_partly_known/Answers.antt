@@ -21,5 +21,5 @@ returns-then-cells-eq0-clause-ends c = λ columns column left knows ahead step.
     let room : N.length lent ≡ N.length c.args.to.now - l.run.made =
     omega arith in
     let before = not_end _ knows.counted ahead.counted (N.sym c.is_end.ensures ∙ c.if-is_end.false) in
-    rw room at (rw (N.all_after c.args.bytes.now l.run.used) at (c.run_cells-cells.ensures.ends c.if-cells-eq0.true (omega arith)))
+    rw room at (rw (N.all_after _ l.run.used) at (c.run_cells-cells.ensures.ends c.if-cells-eq0.true (omega arith)))
     columns column left knows ahead step

@@ -11,7 +11,7 @@ returns-clause-ahead c = λ columns knows ahead.
     elim c.if-cells-gt0.branch [
       | then-cells-gt0+then-at-self w ↦ (let one : c.args.cells ≡ 1 = omega arith in
           after_walked knows ahead (omega (arith, ap (λ a. a.column) w.at-is)) (omega arith) w.if-at-self.true
-          (ap (λ a. columns_left a.walk) w.at-is ∙ walk_after at.walk w.next.new.self w.next.result w.next.ensures.steps))
+          (ap (λ a. columns_left a.walk) w.at-is ∙ walk_after at.walk w.next.new.self _ w.next.ensures.steps))
       | else-cells-gt0 w ↦ (let few : _ ⊎ _ = elim w.else-cells-gt0.branch [
         | else-cells-gt0-via-then-cells-gt0+else-at-self x ↦ inr (omega arith)
         | else-cells-gt0-via-else-cells-gt0 x ↦ inl (omega arith)

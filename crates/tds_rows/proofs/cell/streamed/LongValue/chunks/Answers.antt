@@ -26,7 +26,7 @@ returns-in_err-n-clause-field g c = λ conversion suits.
     let l = c.loop-n in
     let x = l.invariant.streamed conversion suits in
     let y = rw (c.UNIT.ensures, l.invariant.value.3) at c.in_err-n.ensures.length in
-    let stops = reading_stops c.args.self.now.last l.invariant.writing.ready.2 l.invariant.writing.writing (chunk_stops _ suits.unit_is x.counted y) in
+    let stops = reading_stops _ l.invariant.writing.ready.2 l.invariant.writing.writing (chunk_stops _ suits.unit_is x.counted y) in
     passed _ _ _ _ c.from_residual.ensures.1 (path_stops x.path stops)
 
 pub returns-then-n-eq0-clause-field : goal.returns-then-n-eq0-clause-field
@@ -38,7 +38,7 @@ returns-then-n-eq0-clause-field g c = λ conversion suits.
     let free = rw (c.UNIT.ensures, l.invariant.value.3) at r.2 in
     let ended = rw (l.invariant.value.3, l.invariant.value.4, c.place-place.ensures, suits.quoted_is) at
     (c.put_end.ensures.end conversion x.content suits x.kept_is x.begun) in
-    rw c.put_end.ensures.payload (MatchResult-weaker c.put_end.result ended (λ _ y. chunks_whole _ suits.unit_is x r.1 free none y.0 y.1)
+    rw c.put_end.ensures.payload (MatchResult-weaker _ ended (λ _ y. chunks_whole _ suits.unit_is x r.1 free none y.0 y.1)
     (λ stop y. chunks_end_stops _ suits.unit_is x r.1 free (l.invariant.writing.ready.1 l.invariant.writing.writing) l.invariant.writing.ready.2 none
     y))
 

@@ -20,7 +20,7 @@ returns-in-Ok-clause-piece g c = λ conversion content suits is begun.
 pub returns-in-Err-clause-piece : goal.returns-in-Err-clause-piece
 returns-in-Err-clause-piece g c = λ conversion content suits is begun.
     let k = N.at_ok _ _ _ _ c.in_ok-piece.was c.piece.follows.holds-at-none.2 in
-    rw (c.join_stop.ensures, c.place-place.ensures) (push_stops suits _ is begun _ _ c.in-Err.fault
+    rw (c.join_stop.ensures, c.place-place.ensures) (push_stops suits _ is begun _ _ _
     (omega (N.arith, c.in_ok-piece.ensures.len.1)) k.0 k.1 c.requires.joining.begun c.requires.joining.sink.writing
     c.in-Err.ensures.failed c.in-Err.ensures.gives)
 

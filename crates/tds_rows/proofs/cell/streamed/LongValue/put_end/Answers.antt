@@ -9,4 +9,4 @@ returns-in-Ok-clause-end g c = λ conversion content suits is begun.
 
 pub returns-in-Err-clause-end : goal.returns-in-Err-clause-end
 returns-in-Err-clause-end g c = λ conversion content suits is begun.
-    rw c.join_stop.ensures (end_stops suits _ is begun _ _ _ c.in-Err.fault c.requires.writing c.in-Err.ensures.failed c.in-Err.ensures.gives)
+    rw c.join_stop.ensures (end_stops suits _ is begun _ _ _ _ c.requires.writing c.in-Err.ensures.failed c.in-Err.ensures.gives)
