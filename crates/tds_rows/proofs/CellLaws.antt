@@ -1,8 +1,8 @@
 -- What a cell's spelling is read as.
 use Rattle.tds_rows.proofs.Words as N
 use Rattle.tds_rows.proofs.{
-  Words.{◌≡◌, ◌⊎◌, ℕ, suc, ◌+◌, ◌-◌, ◌/◌, ◌%◌, ◌<◌, ◌≤◌, true, List, [], ◌∷◌, ◌++◌, length, refl, ◌∙◌, ap, arith, Ok, Option, Some, ◌==◌, ◌||◌},
-  Words.{if◌then◌else◌, concat, ne_eqb, Kind, little, Conversion, unit, is_fit, Spelt, Spelt-step, Spelt-append, Null, DataCell, Total, WholeCell, cell},
+  Words.{◌≡◌, ◌⊎◌, ℕ, ◌+◌, ◌-◌, ◌/◌, ◌%◌, ◌<◌, ◌≤◌, true, List, [], ◌∷◌, ◌++◌, length, refl, ◌∙◌, ap, arith, Ok, Option, Some, ◌==◌, ◌||◌, if◌then◌else◌},
+  Words.{concat, ne_eqb, Kind, little, Conversion, unit, is_fit, Spelt, Spelt-step, Spelt-append, Null, DataCell, Total, WholeCell, cell},
 }
 
 -- a fixed shape has bytes
@@ -41,7 +41,7 @@ module _ (column : ℕ) where
   short_data c d x [] h = Spelt-step _ _ _ _ (omega arith) refl
       (unless_true _ (N.and_from _ _ (N.fit_begins c _ [] (ap (is_fit c) (N.append-nil _) ∙ h)) h)) refl
   short_data c d x (y ∷ ys) h =
-      let left = N.or_left _ _ (N.test_lt 0 (suc (length ys)) (omega arith)) in
+      let left = N.or_left _ _ (N.test_lt 0 (N.suc (length ys)) (omega arith)) in
       let k : is_fit c _ ≡ true = rw N.append_assoc h in
       let one = Spelt-step _ _ _ _ (omega arith) refl
       (unless_true _ (N.and_from _ _ (N.fit_begins c _ _ k) left)) (search N.rules) in
@@ -84,7 +84,7 @@ module _ (column : ℕ) where
       let n = s.counted in
       let head : Spelt _ (N.ChunkLength c total d) s.header (N.ChunkData c total _ d) =
       Spelt-step _ _ _ _ (omega arith) s.four
-      (rw n (N.choose_false _ _ _ (ne_eqb (suc (length xs)) 0 (λ q. omega arith)) ∙ unless_true _ w)) (rw n (search N.rules)) in
+      (rw n (N.choose_false _ _ _ (ne_eqb (N.suc (length xs)) 0 (λ q. omega arith)) ∙ unless_true _ w)) (rw n (search N.rules)) in
       rw (N.sym s.spelt) at (Spelt-append _ _ _ _ _ _ head (chunk_data c _ d x _ _ f))
 
   -- the chunks and the terminator

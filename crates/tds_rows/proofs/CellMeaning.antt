@@ -1,7 +1,7 @@
 -- What the bytes that lead to a part of a cell spell.
 use Rattle.tds_rows.proofs.Words as N
 use Rattle.tds_rows.proofs.{
-  Words.{◌≡◌, ℕ, ◌+◌, ◌/◌, ◌%◌, ◌^◌, ◌<◌, true, List, [], ◌∷◌, ◌++◌, length, refl, sym, ◌∙◌, ap, append_assoc, arith, Ok, Option, None, ◌==◌, ◌&&◌, ◌||◌},
+  Words.{◌≡◌, ℕ, ◌+◌, ◌/◌, ◌%◌, ◌^◌, ◌<◌, true, List, [], ◌∷◌, ◌++◌, length, refl, ◌∙◌, ap, append_assoc, arith, Ok, Option, None, ◌==◌, ◌&&◌, ◌||◌},
   Words.{if◌then◌else◌, Kind, Short, Chunked, little, AreBytes, Shape, LongShape, cell_add},
 }
 
@@ -99,7 +99,7 @@ module _ (column : ℕ) (kind : Kind) where
       → N.chunk_fault column c total d (little e) ≡ None → CellMeans kind (LongShape c Chunked) (cell_add (N.ChunkLength c total d) e) (b ++ e)
   chunk_means c total d b e four m free =
       N.choose (λ p. CellMeans kind (LongShape c Chunked) p (b ++ e)) _ _ _ (λ z.
-      let end = sym (ap (λ t. (if t then N.end_of_chunks column c total d else N.unless (N.within_total total (length d + little e)) (N.PlpLength column))) z)
+      let end = N.sym (ap (λ t. (if t then N.end_of_chunks column c total d else N.unless (N.within_total total (length d + little e)) (N.PlpLength column))) z)
       ∙ free in
       let e0 : e ≡ 0 ∷ 0 ∷ 0 ∷ 0 ∷ [] = grind (arith, N.common_steps) in (
         refl,
@@ -152,7 +152,7 @@ module _ (column : ℕ) (kind : Kind) where
           below = omega arith;
           begun = more_chunks _ _ _ _ m.chunks.begun one;
           all = N.concat-append m.chunks.chunks _ ∙ ap (λ v. v ++ N.concat ((m.part ++ x ∷ []) ∷ [])) m.chunks.all
-              ∙ ap (λ v. m.before ++ v) (N.append-nil _) ∙ sym all;
+              ∙ ap (λ v. m.before ++ v) (N.append-nil _) ∙ N.sym all;
         },
       )) (λ z. let some = N.eq_false left 0 z in (
         refl,

@@ -1,14 +1,14 @@
 -- Runs over cells by their forms, a cell after those that were written.
 use Rattle.tds_rows.proofs.Words as N
-use Rattle.tds_rows.specs.FormRuns.{IsLatest, NumbersWithin}
-use Rattle.tds_rows.specs.declared.run.forms.Latest.{Latest}
 use Rattle.tds_rows.proofs.{
   Words.{◌⊎◌, ◌≡◌, ◌≢◌, ◌∙◌, ℕ, suc, ◌+◌, ◌-◌, ◌<◌, ◌≤◌, Bool, false, List, [], ◌∷◌, ◌++◌, length, take, drop, get_or, refl, ◌*◌, sym, ap, arith, ◌==◌},
-  Words.{◌&&◌, Column, after_comma, end_after, Charset, Form},
+  Words.{◌&&◌, Column, end_after, Charset, Form},
   RowSteps.{after_some_column, after_append},
-  RunSteps.{made_more, used_more, whole_some},
+  RunSteps.{made_more, used_more, whole_some, unused},
   TableSteps.{known_kind, last_one},
 }
+use Rattle.tds_rows.specs.FormRuns.{IsLatest, NumbersWithin}
+use Rattle.tds_rows.specs.declared.run.forms.Latest.{Latest}
 
 not_last : (rest : List Column) → 0 < length rest → false ≡ N.is_last_column rest
 not_last _ some = grind arith
@@ -96,7 +96,7 @@ module _ (charset : Charset) (forms : List Form) (column : ℕ) (ends : Bool) (c
         one_more d n bytes fields (omega arith) few x (earlier d n x.0 x.2 (omega arith) x.6)
 
 -- what stands before the comma of the next cell
-pub before_comma : (made column : ℕ) (to fields : List ℕ) → 0 < column → made ≤ length to → take made to ≡ fields ++ after_comma column []
+pub before_comma : (made column : ℕ) (to fields : List ℕ) → 0 < column → made ≤ length to → take made to ≡ fields ++ N.after_comma column []
     → take (made - 1) to ≡ fields
 before_comma made column to fields some within is =
     let comma = is ∙ ap (λ l. fields ++ l) (sym (after_some_column column (λ e. omega arith))) in
@@ -107,7 +107,7 @@ before_comma made column to fields some within is =
 module _ (charset : Charset) (forms : List Form) (column : ℕ) (bytes : List ℕ) where
   -- one cell more
   pub fields_more : (to text rest : List ℕ) (k used u now made m : ℕ) (d : Form) → now ≡ used + u → made ≤ length to → m < length text
-      → k < length forms → N.WritesField charset (get_or forms k d).kind (take u (take (length bytes - used) (drop used bytes))) (take m text)
+      → k < length forms → N.WritesField charset (get_or forms k d).kind (take u (unused used bytes)) (take m text)
       → N.FieldsWritten charset forms column bytes to (record { cells = k; used = used; made = made })
       → N.FieldsWritten charset forms column bytes (N.slice_set (take made to ++ (text ++ rest)) (made + m) 44)
       (record { cells = k + 1; used = now; made = made + m + 1 })
@@ -120,11 +120,11 @@ module _ (charset : Charset) (forms : List Form) (column : ℕ) (bytes : List �
       N.take_more_set all _ 44 here ∙ ap (λ l. l ++ 44 ∷ []) (made_more made m to text rest within (omega arith)
       ∙ ap (λ l. l ++ field) is ∙ N.append_assoc fields _ field
       ∙ ap (λ l. fields ++ l) (sym (after_append _ [] field)))
-      ∙ ap (λ l. (fields ++ after_comma (column + k) field) ++ l) (after_some_column (column + (k + 1)) (λ e. omega arith)) in
+      ∙ ap (λ l. (fields ++ N.after_comma (column + k) field) ++ l) (after_some_column (column + (k + 1)) (λ e. omega arith)) in
       let written : N.WritesForms charset forms column (suc k) _ _ =
       (take used bytes, read, fields, field, used_more used u bytes, refl, x, λ form. rw (N.get_or_default forms k d form there) at wrote) in
       let next : suc k ≡ k + 1 = omega arith in
-      rw further (fields ++ after_comma (column + k) field, rw (← next) written, is')
+      rw further (fields ++ N.after_comma (column + k) field, rw (← next) written, is')
 
   -- the first alone
   pub first_alone : (ends : Bool) (to : List ℕ) (used made : ℕ) (fields : List ℕ) → N.FirstUsed forms bytes used
@@ -134,20 +134,20 @@ module _ (charset : Charset) (forms : List Form) (column : ℕ) (bytes : List �
       let last = ends && _ in
       let read = sym (b ∙ ap (λ l. l ++ rest) x.0) in
       let text =
-      ap (λ l. l ++ end_after last) (ap (λ (n : ℕ). after_comma n field) (let n : column ≡ column + 0 = omega arith in n)
-      ∙ sym (t ∙ ap (λ l. l ++ after_comma (column + 0) field) x.1)) ∙ sym is in
+      ap (λ l. l ++ end_after last) (ap (λ (n : ℕ). N.after_comma n field) (let n : column ≡ column + 0 = omega arith in n)
+      ∙ sym (t ∙ ap (λ l. l ++ N.after_comma (column + 0) field) x.1)) ∙ sym is in
       let kind_is = ap (λ (l : List Form). (get_or l 0 form).kind) are in
       record { size = search N.rules; writes = rw kind_is at (rw text at (rw read at (y form column last))) }
 
 -- the bytes of the first cell were used
 first_used : (forms : List Form) (bytes : List ℕ) (used u k : ℕ) (d : Form) → k ≡ 0 → used ≡ 0
-    → u ≡ N.whole_size (get_or forms k d).kind (take (length bytes - used) (drop used bytes)) → N.FirstUsed forms bytes (used + u)
+    → u ≡ N.whole_size (get_or forms k d).kind (unused used bytes) → N.FirstUsed forms bytes (used + u)
 first_used _ _ _ u k d first none size _ _ are = grind (arith, N.all_after)
 
 -- what is left of the bytes, after some more of them
 pub left_after : (bytes rest : List ℕ) (u : ℕ) → length rest ≤ length bytes → rest ≡ drop (length bytes - length rest) bytes → u ≤ length rest
-    → (length bytes - length (take (length rest - u) (drop u rest)) ≡ (length bytes - length rest) + u)
-    × (take (length rest - u) (drop u rest) ≡ drop ((length bytes - length rest) + u) bytes)
+    → (length bytes - length (unused u rest) ≡ (length bytes - length rest) + u)
+    × (unused u rest ≡ drop ((length bytes - length rest) + u) bytes)
 left_after _ _ u _ is some = grind (arith, N.all_after, N.drop-drop, N.length-drop)
 
 -- ---- a run so far
@@ -165,10 +165,10 @@ pub record FieldsAt (forms : List Form) (bytes : List ℕ) (room cells used made
 -- one cell more, and the comma after it
 pub fields_step : {forms : List Form} {bytes : List ℕ} {room more_room cells used now made : ℕ} (u m : ℕ) (d : Form)
     → FieldsAt forms bytes room cells used made → now ≡ used + u → more_room ≡ room → cells < length forms → u ≤ length bytes - used → made + m + 2 ≤ room
-    → u ≡ N.whole_size (get_or forms cells d).kind (take (length bytes - used) (drop used bytes))
+    → u ≡ N.whole_size (get_or forms cells d).kind (unused used bytes)
     → FieldsAt forms bytes more_room (cells + 1) now (made + m + 1)
 fields_step {forms = forms} {bytes = bytes} {cells = cells} {used = used} u m d x further same there within fits whole =
-    let more = whole_some (get_or forms cells d).kind (take (length bytes - used) (drop used bytes)) in
+    let more = whole_some (get_or forms cells d).kind (unused used bytes) in
     record {
       few = omega arith;
       taken = omega arith;

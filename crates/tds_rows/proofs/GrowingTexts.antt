@@ -1,7 +1,7 @@
 -- What a text that grows is, and what the cells and rows that are read add to it.
 use Rattle.tds_rows.proofs.Words as N
 use Rattle.tds_rows.proofs.{
-  Words.{◌≡◌, ℕ, Bool, true, List, [], ◌∷◌, ◌++◌, ◌∙◌, arith, Option, Some, None, ◌==◌, ◌||◌, map, joined, open_field, Cell, field},
+  Words.{◌≡◌, ℕ, Bool, true, List, [], ◌∷◌, ◌++◌, ◌∙◌, arith, Option, Some, None, ◌==◌, ◌||◌, joined, Cell, rules},
   CellMeaning.unless_none,
 }
 
@@ -11,7 +11,7 @@ Grows a b = (more : List ℕ) × (a ++ more ≡ b)
 
 -- a text grows to itself
 pub grows_same : (a : List ℕ) → Grows a a
-grows_same a = search N.rules
+grows_same a = search rules
 
 -- the empty text grows to any
 pub grows_all : (b : List ℕ) → Grows [] b
@@ -54,11 +54,11 @@ with_field_grows _ (Some a) (Some b) h = grind (arith, joined_last)
 -- ---- a field
 
 -- more data
-open_more : (c : N.Conversion) (a b : List ℕ) → N.is_begun c (a ++ b) ≡ true → Grows (open_field c a) (open_field c (a ++ b))
+open_more : (c : N.Conversion) (a b : List ℕ) → N.is_begun c (a ++ b) ≡ true → Grows (N.open_field c a) (N.open_field c (a ++ b))
 open_more c a b h = grind (arith, N.open_grows, N.begun_by_test)
 
 -- the end of the data
-long_grows : (c : N.Conversion) (a : List ℕ) → N.is_fit c a ≡ true → Grows (open_field c a) (N.long_field c a)
+long_grows : (c : N.Conversion) (a : List ℕ) → N.is_fit c a ≡ true → Grows (N.open_field c a) (N.long_field c a)
 long_grows c a h = (N.conversion_text c _ ++ N.closing _, N.open_closes c a h)
 
 -- ---- a cell
@@ -81,20 +81,20 @@ module _ (column : ℕ) where
 
 module _ (charset : N.Charset) where
   -- the cells to come begin
-  next_grows : (cells : List Cell) (ks : List (N.Column × Bool)) → Grows (joined (map field cells)) (N.row_so_far (N.next_cell charset cells ks))
+  next_grows : (cells : List Cell) (ks : List (N.Column × Bool)) → Grows (joined (N.map N.field cells)) (N.row_so_far (N.next_cell charset cells ks))
   next_grows _ [] = grind arith
   next_grows cells ((k, true) ∷ ks) = grows_trans _ _ _
-      (rw (N.sym (N.map-append field cells (N.Null ∷ []))) at (joined_more (map field cells) (N.null_field ∷ []))) (next_grows _ ks)
-  next_grows _ ((k, N.false) ∷ ks) = search N.rules
+      (rw (N.sym (N.map-append N.field cells (N.Null ∷ []))) at (joined_more (N.map N.field cells) (N.null_field ∷ []))) (next_grows _ ks)
+  next_grows _ ((k, N.false) ∷ ks) = search rules
 
   -- a cell in its row
   with_cell_grows : (cells : List Cell) (ks : List (N.Column × Bool)) (p : N.CellPart)
       → Grows (joined (N.with_field cells (N.field_so_far p))) (N.row_so_far (N.with_cell charset cells ks p))
   with_cell_grows cells ks (N.WholeCell c) = rw N.map-append at (next_grows (cells ++ c ∷ []) ks)
-  with_cell_grows _ _ (N.ShortData c left content) = search N.rules
-  with_cell_grows _ _ (N.ChunkLength c total content) = search N.rules
-  with_cell_grows _ _ (N.ChunkData c total left content) = search N.rules
-  with_cell_grows _ _ p = search N.rules
+  with_cell_grows _ _ (N.ShortData c left content) = search rules
+  with_cell_grows _ _ (N.ChunkLength c total content) = search rules
+  with_cell_grows _ _ (N.ChunkData c total left content) = search rules
+  with_cell_grows _ _ p = search rules
 
   -- each element of a row adds to its text
   pub row_grows : (p : N.RowPart) (e : List ℕ) → N.IsNext (N.row charset) p e → Grows (N.row_so_far p) (N.row_so_far (N.row_add charset p e))

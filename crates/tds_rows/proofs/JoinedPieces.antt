@@ -1,9 +1,9 @@
 -- What joiners do with the pieces of some content, in the words of their conversion.
 use Rattle.tds_rows.proofs.Words as N
 use Rattle.tds_rows.proofs.{
-  Words.{◌≡◌, ◌∙◌, ℕ, ◌+◌, ◌-◌, ◌^◌, ◌<◌, ◌≤◌, Bool, List, [], ◌∷◌, ◌++◌, length, inl, inr, sym, ap, subst, arith, Err, Stop, Seen, Takes, IsBetween},
-  Words.{BeginsData, Conversion, IsFit, conversion_rest, emit, Held, Puts, joins_by_name, added_text},
-  Paths.At,
+  Words.{◌≡◌, ◌∙◌, ℕ, ◌+◌, ◌-◌, ◌^◌, ◌<◌, ◌≤◌, Bool, List, [], ◌∷◌, ◌++◌, length, inr, sym, ap, subst, arith, Err, Stop, Seen, Takes, IsBetween},
+  Words.{BeginsData, Conversion, IsFit, conversion_rest, emit, Held, joins_by_name},
+  Paths.{At, over},
 }
 use Rattle.tds_csv.specs.declared.joiners.JoinFault.TheVariants as join_faults
 
@@ -16,7 +16,7 @@ module _ {fit begins : List ℕ → Type 0} {rest text : List ℕ → List ℕ} 
     -- a piece was taken
     pub piece_taken : {new piece : List ℕ} {p q : At} → 0 < length piece → Takes p.seen q.seen piece 1 → IsBetween q.seen
         → q.place ≡ p.place + length piece → N.TakesPiece begins rest text old new p.held q.held piece
-        → N.TakesData c content new p.seen q.seen p.place q.place p.held q.held (length piece)
+        → over (N.TakesData c content new) p q (length piece)
     piece_taken {piece = piece} some takes between at x =
         let all = begun_with piece x.begun in
         record {
@@ -83,7 +83,7 @@ module _ {fit begins : List ℕ → Type 0} {rest text : List ℕ → List ℕ} 
         grind (arith, piece_breaks)
     push_stops _ _ N.Odd _ _ _ _ _ _ x = absurd x
     push_stops _ piece (join_faults.BadText k) short takes between _ _ failed x =
-        inr (inl (piece_bad piece short takes between x, failed))
+        inr (N.inl (piece_bad piece short takes between x, failed))
 
     -- ---- the end
 
@@ -92,7 +92,7 @@ module _ {fit begins : List ℕ → Type 0} {rest text : List ℕ → List ℕ} 
 
     -- the content is whole
     pub end_whole : {new : List ℕ} {h i : Held} → N.Completes fit text old new h i → IsFit c content
-        × Puts h i (N.conversion_text c (conversion_rest c content))
+        × N.Puts h i (N.conversion_text c (conversion_rest c content))
     end_whole x = grind (arith, fit_whole)
 
     -- it isn't
@@ -113,14 +113,14 @@ module _ {fit begins : List ℕ → Type 0} {rest text : List ℕ → List ℕ} 
 -- ---- piece after piece
 
 module _ (c : Conversion) (content : List ℕ) (begun : BeginsData c content) where
-  added_none : added_text c content [] ≡ []
+  added_none : N.added_text c content [] ≡ []
   added_none =
       N.append_cancel_left _ _ []
       (sym ((joins_by_name c).emits content [] (subst (BeginsData c) (sym (N.append-nil content)) begun))
       ∙ ap (emit (conversion_rest c) (N.conversion_text c)) (N.append-nil content) ∙ sym (N.append-nil _))
 
   added_both : (more piece : List ℕ) → BeginsData c ((content ++ more) ++ piece)
-      → added_text c content more ++ added_text c (content ++ more) piece ≡ added_text c content (more ++ piece)
+      → N.added_text c content more ++ N.added_text c (content ++ more) piece ≡ N.added_text c content (more ++ piece)
   added_both more piece all =
       let e = emit (conversion_rest c) (N.conversion_text c) in
       let laws = joins_by_name c in
@@ -128,12 +128,12 @@ module _ (c : Conversion) (content : List ℕ) (begun : BeginsData c content) wh
       let front = laws.front _ piece all in
       N.append_cancel_left _ _ _
       (sym (N.append_assoc (e content) _ _)
-      ∙ ap (λ l. l ++ added_text c (content ++ more) piece) (sym (laws.emits content more front)) ∙ sym (laws.emits (content ++ more) piece all)
+      ∙ ap (λ l. l ++ N.added_text c (content ++ more) piece) (sym (laws.emits content more front)) ∙ sym (laws.emits (content ++ more) piece all)
       ∙ ap e regroup ∙ laws.emits content (more ++ piece) (subst (BeginsData c) regroup all))
 
   -- nothing was read
   fills_none : {p : At} → IsBetween p.seen → length p.held.waiting < 4096 → p.held.delivered ≤ 2 ^ 64 - 1
-      → N.FillsData c content p.seen p.seen p.place p.place p.held p.held []
+      → over (N.FillsData c content) p p []
   fills_none between few delivered = record {
     takes = grind arith;
     between = between;
@@ -146,9 +146,9 @@ module _ (c : Conversion) (content : List ℕ) (begun : BeginsData c content) wh
 
   -- a piece more was read
   fills_more : {kept more : List ℕ} {n : ℕ} {p q r : At} → length r.held.waiting < 4096 → r.held.delivered ≤ 2 ^ 64 - 1
-      → N.FillsData c content p.seen q.seen p.place q.place p.held q.held more
-      → (x : N.TakesData c (content ++ more) kept q.seen r.seen q.place r.place q.held r.held n)
-      → N.FillsData c content p.seen r.seen p.place r.place p.held r.held (more ++ x.piece)
+      → over (N.FillsData c content) p q more
+      → (x : over (N.TakesData c (content ++ more) kept) q r n)
+      → over (N.FillsData c content) p r (more ++ x.piece)
   fills_more {more = more} {p = p} {q = q} {r = r} few delivered y x =
       record {
         takes = N.takes_both p.seen q.seen r.seen more x.piece y.takes (N.Takes-more q.seen r.seen x.piece 1 _ (omega arith) x.takes);
@@ -163,7 +163,7 @@ module _ (c : Conversion) (content : List ℕ) (begun : BeginsData c content) wh
 -- Some of the content was read, piece by piece, and so much of it is left.
 pub record Filled (c : Conversion) (content kept : List ℕ) (p q : At) (n left : ℕ) : Type 0 where
   pub more : List ℕ
-  pub fills : N.FillsData c content p.seen q.seen p.place q.place p.held q.held more
+  pub fills : over (N.FillsData c content) p q more
   pub counted : length more + left ≡ n
   pub kept_is : kept ≡ conversion_rest c (content ++ more)
 
@@ -174,7 +174,7 @@ filled_none begun is between few delivered =
 
 module _ {c : Conversion} {content kept : List ℕ} {p q : At} {n left : ℕ} (begun : BeginsData c content) (x : Filled c content kept p q n left) where
   pub filled_more : {kept' : List ℕ} {r : At} {k : ℕ} → k ≤ left → length r.held.waiting < 4096 → r.held.delivered ≤ 2 ^ 64 - 1
-      → N.TakesData c (content ++ x.more) kept' q.seen r.seen q.place r.place q.held r.held k → Filled c content kept' p r n (left - k)
+      → over (N.TakesData c (content ++ x.more) kept') q r k → Filled c content kept' p r n (left - k)
   filled_more most few delivered y = record {
     more = x.more ++ y.piece;
     fills = fills_more c content begun few delivered x.fills y;
@@ -200,7 +200,7 @@ module _ {c : Conversion} {content kept : List ℕ} {p q : At} {n left : ℕ} (b
 -- the end of content that is whole was put, or a write of it failed
 pub end_puts : {W U : Type 0} {contents : W → N.Option (List ℕ)} {b d : N.Sink W} {r : N.Result U Stop} (c : Conversion) (quoted last : Bool)
     (content : List ℕ) (column place : ℕ) (a : N.Sink W)
-    → IsFit c content × Puts (N.held contents a) (N.held contents b) (N.conversion_text c (conversion_rest c content)) → b.failed ≡ N.false
+    → IsFit c content × N.Puts (N.held contents a) (N.held contents b) (N.conversion_text c (conversion_rest c content)) → b.failed ≡ N.false
     → N.PutsPiece contents b d (N.closing quoted ++ N.end_after last) r → N.EndPut contents c quoted last content column place a d r
 end_puts {r = N.Ok u} c _ _ _ _ _ a x _ y = (x.0, N.Puts-trans _ _ _ _ _ x.1 y.gives)
-end_puts {r = Err e} c _ _ _ _ _ a x going y = inl (x.0, N.Breaks-after _ _ _ _ _ e x.1 (y.gives going), y.failed)
+end_puts {r = Err e} c _ _ _ _ _ a x going y = N.inl (x.0, N.Breaks-after _ _ _ _ _ e x.1 (y.gives going), y.failed)

@@ -1,6 +1,6 @@
 -- Cells by how their values are laid out.
 use Rattle.tds_rows.proofs.Words as N
-use Rattle.tds_rows.proofs.{Words.{◌≤◌, ◌&&◌, ◌≡◌, ℕ, ◌<◌, true, false, List, length, refl, arith, ◌==◌, Kind, Form, Layout, Each, ◌+◌, inl}}
+use Rattle.tds_rows.proofs.Words.{◌≤◌, ◌&&◌, ◌≡◌, ℕ, ◌<◌, true, List, length, arith, ◌==◌, Kind, Form, Layout, Each, ◌+◌}
 use Rattle.tds_rows.specs.declared.cell.layout.Layout.TheVariants.{Chunked, Counted, Fixed, Short as ShortLayout}
 
 -- the same form many times
@@ -15,8 +15,8 @@ each_set P _ k f all _ is j d here = search N.rules
 pub int4_set : (forms : List Form) (k : ℕ) (f : Form) (all one : N.Bool) → (all ≡ true → N.AreInt4 forms) → k < length forms → one ≡ N.is_int4 f.kind
     → (all && one) ≡ true → N.AreInt4 (N.slice_set forms k f)
 int4_set _ k f true true before _ is _ = search N.rules
-int4_set _ k f true false _ _ _ both = cc
-int4_set _ k f false _ _ _ _ both = cc
+int4_set _ k f true N.false _ _ _ both = cc
+int4_set _ k f N.false _ _ _ _ both = cc
 
 -- a part of whole numbers of four bytes
 pub int4_part : (forms : List Form) (k n : ℕ) → N.AreInt4 forms → n ≤ length (N.drop k forms) → N.AreInt4 (N.take n (N.drop k forms))
@@ -40,7 +40,7 @@ module _ (charset : N.Charset) (kind : Kind) where
   value_there l _ _ n laid h = grind arith
 
   -- a kind whose values have contents is a long one
-  is_long_kind : {c : N.Conversion} {r : N.Reach} → N.shape charset kind ≡ N.LongShape c r → N.is_scalar kind ≡ false
+  is_long_kind : {c : N.Conversion} {r : N.Reach} → N.shape charset kind ≡ N.LongShape c r → N.is_scalar kind ≡ N.false
   is_long_kind is = grind arith
 
   -- ---- a cell that is left, and a short value

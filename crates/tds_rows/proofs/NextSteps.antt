@@ -2,10 +2,11 @@
 use Rattle.tds_rows.proofs.Words as N
 use Rattle.tds_rows.proofs.{
   Words.{arith, ◌≡◌, ◌+◌, ℕ, Bool, true, false, List, ◌∷◌, drop, refl, sym, Err, Ok, Option, ◌==◌, Stop, seen, Column, held, Rows, Ahead, IsInRow},
-  Words.{StaysInRow, RowStops, RowPart, marked, ◌∙◌, ◌-◌, ◌^◌, ◌≤◌, ◌<◌, [], ◌++◌, length, ap, before, Seen, Takes, Held, Puts, Charset, Cell, rows},
+  Words.{StaysInRow, RowStops, RowPart, marked, ◌∙◌, ◌-◌, ◌^◌, ◌≤◌, ◌<◌, [], ◌++◌, length, ap, before, Seen, Takes, Held, Puts, Charset, Cell, rows, Kind},
+  Words.Knows,
   NullSteps.{NearsCells, all_put, cell_nears, cell_stops, null_breaks, null_nears, cell_path, marked_stops},
   RowSteps.{ends, ends_marked, coming, nulls_ahead, PutsAt, StopsAt, none_ahead, cell_some},
-  Paths.{At, here, Path, path_both, path_map, path_none, path_of},
+  Paths.{At, here, Path, path_both, path_map, path_none, path_of, over},
   TableSteps.{last_one, next_column},
   RunSteps.{rows_after, whole_breaks, whole_puts, row_among, row_token},
   TableRuns.run_breaks,
@@ -170,7 +171,7 @@ NearsHere remaining contents columns nulls p rows at = N.IsAhead rows.table.now 
 -- So it is whatever columns the table knows.
 abbrev pub NearsAll : {R W : Type 0} → (R → Option (List ℕ)) → (W → Option (List ℕ)) → (ℕ → Bool) → At → Rows R W → Ahead → Type 0
 NearsAll remaining contents nulls p rows at =
-    (columns : List Column) → N.Knows rows.table.now columns → NearsHere remaining contents columns nulls p rows at
+    (columns : List Column) → Knows rows.table.now columns → NearsHere remaining contents columns nulls p rows at
 
 module _ {R W : Type 0} {remaining : R → Option (List ℕ)} {contents : W → Option (List ℕ)} {old new : Rows R W} {nulls : ℕ → Bool} {p : At} {from : Ahead}
     (in_row : IsInRow old) (nears : NearsAll remaining contents nulls p old from) where
@@ -195,7 +196,7 @@ module _ {R W : Type 0} {remaining : R → Option (List ℕ)} {contents : W → 
 
   -- a write of their text failed
   pub run_stops : {stop : Stop} → N.MarkedRead remaining contents nulls from old new (Err stop) → (columns : List Column)
-      → N.Knows old.table.now columns
+      → Knows old.table.now columns
       → RowStops old.table.now.charset (N.nbc_row_start columns) p.seen (seen remaining new.payload.now) p.place p.held (held contents new.sink.now)
       new.sink.now.failed stop
   run_stops {stop = stop} x columns knows =
@@ -207,8 +208,8 @@ module _ {R W : Type 0} {remaining : R → Option (List ℕ)} {contents : W → 
 
 -- the next cell was read, or it stopped
 pub cell_read : {R W U : Type 0} {remaining : R → Option (List ℕ)} {contents : W → Option (List ℕ)} {old new : Rows R W} {at after : Ahead}
-    {kind : N.Kind} {result : N.Result U Stop} {columns : List Column} (nulls : ℕ → Bool) → N.CellRead remaining contents at kind old new result
-    → N.Knows old.table.now columns → N.IsAhead old.table.now columns at → (taken : N.TakesColumn old.table.now columns at after kind)
+    {kind : Kind} {result : N.Result U Stop} {columns : List Column} (nulls : ℕ → Bool) → N.CellRead remaining contents at kind old new result
+    → Knows old.table.now columns → N.IsAhead old.table.now columns at → (taken : N.TakesColumn old.table.now columns at after kind)
     → N.KindRead remaining contents at.column (ends (marked (drop after.column columns) nulls (at.column + 1))) taken.column.kind old new result
 cell_read {at = at} {kind = kind} {columns = columns} nulls x knows ahead taken =
     let next : N.IsNextKind _ at kind (N.is_last_column _) =
@@ -225,7 +226,7 @@ cell_read {at = at} {kind = kind} {columns = columns} nulls x knows ahead taken 
     rw (taken.kind, ends_marked _ nulls (at.column + 1)) at (x.cell _ next)
 
 module _ {R W : Type 0} (remaining : R → Option (List ℕ)) (contents : W → Option (List ℕ)) (old new : Rows R W) {columns : List Column} (nulls : ℕ
-    → Bool) {at after : Ahead} {kind : N.Kind} (knows : N.Knows old.table.now columns)
+    → Bool) {at after : Ahead} {kind : Kind} (knows : Knows old.table.now columns)
     (taken : N.TakesColumn old.table.now columns at after kind) where
   abbrev left : List (Column × Bool)
   left = marked (drop after.column columns) nulls (at.column + 1)
@@ -292,7 +293,7 @@ module _ {token : N.RowToken} {charset : Charset} {all : List Column} where
 
     -- all of it
     pub rows_whole : {cells : List Cell} → RowsAt token charset all p q count (N.WholeRow cells)
-        → N.ReadsRows token charset all (count + 1) p.seen q.seen p.place q.place p.held q.held
+        → over (N.ReadsRows token charset all (count + 1)) p q
     rows_whole {cells = cells} x = record {
       earlier = x.before;
       last = cells;
@@ -338,7 +339,7 @@ module _ {charset : Charset} {all : List Column} {p q : At} {column count : ℕ}
   -- a run
   rowing_run : {left left' : List Column} {column' count' : ℕ} {r : At} → Rowing charset all (coming left column) p q column count
       → ((cells : List Cell) → length cells ≡ column
-      → N.RunsRows charset all cells left left' column' count' q.seen r.seen q.place r.place q.held r.held)
+      → over (N.RunsRows charset all cells left left' column' count') q r)
       → Rowing charset all (coming left' column') p r column' (count + count')
   rowing_run x f =
       let y = f x.cells x.counted in
@@ -372,7 +373,7 @@ module _ {charset : Charset} {all : List Column} {p q : At} {column count : ℕ}
 
 -- The reading of ROWs stands at this place of the last one, whatever columns the table knows.
 abbrev pub RowsHere : {R W : Type 0} → (R → Option (List ℕ)) → (W → Option (List ℕ)) → At → Rows R W → Ahead → ℕ → Type 0
-RowsHere remaining contents p rows at count = (columns : List Column) → N.Knows rows.table.now columns
+RowsHere remaining contents p rows at count = (columns : List Column) → Knows rows.table.now columns
     → N.IsAhead rows.table.now columns at × Rowing rows.table.now.charset columns (coming (drop at.column columns) at.column) p
     (here remaining contents rows) at.column count
 
@@ -388,7 +389,7 @@ module _ {R W : Type 0} {remaining : R → Option (List ℕ)} {contents : W → 
 
   -- a write of its text failed
   pub rows_broke : {stop : Stop} → IsInRow old → N.RunRead remaining contents from old new (Err stop) → (columns : List Column)
-      → N.Knows old.table.now columns
+      → Knows old.table.now columns
       → N.RowsStop N.PlainRow old.table.now.charset columns p.seen (seen remaining new.payload.now) p.place p.held (held contents new.sink.now)
       new.sink.now.failed stop
   rows_broke in_row x columns knows =
@@ -397,7 +398,7 @@ module _ {R W : Type 0} {remaining : R → Option (List ℕ)} {contents : W → 
       rows_stop y.1.rows (rw y.1.counted at (run_breaks {place = old.payload.now.place} y.1.cells (x.cells columns knows y.0) y.1.counted
       (sink.ready.1 sink.writing) sink.ready.2))
 
-  module _ {after : Ahead} {kind : N.Kind} (taken : (columns : List Column) → N.Knows old.table.now columns → N.IsAhead old.table.now columns from
+  module _ {after : Ahead} {kind : Kind} (taken : (columns : List Column) → Knows old.table.now columns → N.IsAhead old.table.now columns from
       → N.TakesColumn old.table.now columns from after kind) {U : Type 0} where
     -- after a cell
     pub rows_cell : {u : U} → N.CellRead remaining contents from kind old new (Ok u) → RowsHere remaining contents p new after count
@@ -413,7 +414,7 @@ module _ {R W : Type 0} {remaining : R → Option (List ℕ)} {contents : W → 
         )
 
     -- which has some bytes
-    pub cell_further : {u : U} → N.CellRead remaining contents from kind old new (Ok u) → (columns : List Column) → N.Knows old.table.now columns
+    pub cell_further : {u : U} → N.CellRead remaining contents from kind old new (Ok u) → (columns : List Column) → Knows old.table.now columns
         → old.payload.now.place < new.payload.now.place
     cell_further x columns knows =
         let y = reads columns knows in
@@ -421,7 +422,7 @@ module _ {R W : Type 0} {remaining : R → Option (List ℕ)} {contents : W → 
 
     -- it stopped
     pub rows_stopped : {stop : Stop} → N.CellRead {U = U} remaining contents from kind old new (Err stop) → (columns : List Column)
-        → N.Knows old.table.now columns
+        → Knows old.table.now columns
         → N.RowsStop N.PlainRow old.table.now.charset columns p.seen (seen remaining new.payload.now) p.place p.held (held contents new.sink.now)
         new.sink.now.failed stop
     rows_stopped x columns knows =

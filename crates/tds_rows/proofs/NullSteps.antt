@@ -2,10 +2,10 @@
 use Rattle.tds_rows.proofs.Words as N
 use Rattle.tds_rows.proofs.{
   Words.{◌≡◌, ◌∙◌, inl, inr, ℕ, ◌+◌, ◌-◌, ◌^◌, ◌<◌, ◌≤◌, Bool, true, false, List, [], ◌∷◌, ◌++◌, length, refl, sym, arith, Stop, Seen, Column, Held},
-  Words.{Charset, Cell, CellPart, RowPart, marked, next_cell, row, row_so_far},
+  Words.{Charset, Cell, CellPart, RowPart, next_cell, row, row_so_far},
   RowSteps.{begun_text, coming, ends, line_grows, nulls_ahead, nulls_text, part_text, rest_of, PutsAt, StopsAt, cell_some, same_end, StopsCell},
   RowLaws.{begins_open, cell_in_row},
-  Paths.{At, Path, path_both, path_map, path_none, path_of, path_stops, streams_of, writes_inside},
+  Paths.{At, Path, path_both, path_map, path_none, path_of, path_stops, streams_of, writes_inside, over},
 }
 
 -- ---- a cell in its row, with the NULLs after it
@@ -104,7 +104,7 @@ pub record NearsCells (charset : Charset) (start : RowPart) (left : List (Column
 
 -- some columns are left, so the line doesn't end there
 all_ahead : (charset : Charset) (columns : List Column) (nulls : ℕ → Bool) → 0 < length columns
-    → nulls_ahead 0 (marked columns nulls 0) ≡ row_so_far (next_cell charset [] (marked columns nulls 0))
+    → nulls_ahead 0 (N.marked columns nulls 0) ≡ row_so_far (next_cell charset [] (N.marked columns nulls 0))
 all_ahead _ [] nulls some = grind arith
 all_ahead _ (c ∷ cs) _ _ = grind (arith, nulls_text)
 
@@ -112,7 +112,7 @@ all_ahead _ (c ∷ cs) _ _ = grind (arith, nulls_text)
 pub bitmap_nears : {charset : Charset} {p : At} {b : Seen} {place' : ℕ} (columns : List Column) (bitmap : List ℕ) → 0 < length columns
     → length bitmap ≡ N.bitmap_length (length columns) → N.Takes p.seen b bitmap (length bitmap) → N.IsBetween b → length p.held.waiting < 4096
     → p.held.delivered ≤ 2 ^ 64 - 1
-    → place' ≡ p.place + length bitmap → NearsCells charset (N.nbc_row_start columns) (marked columns (N.bit bitmap) 0) p
+    → place' ≡ p.place + length bitmap → NearsCells charset (N.nbc_row_start columns) (N.marked columns (N.bit bitmap) 0) p
     (record { seen = b; place = place'; held = p.held }) 0
 bitmap_nears {p = p} _ bitmap some whole takes between few d at =
     let next : N.IsNext _ _ bitmap = grind arith in
@@ -236,5 +236,5 @@ pub row_begins : {charset : Charset} {p : At} (columns : List Column) → p.held
 row_begins _ d = grind (arith, path_none)
 
 pub row_ends : {charset : Charset} {start : RowPart} {p q : At} {column : ℕ} → Reads charset start [] p q column
-    → N.ReadsRow charset start p.seen q.seen p.place q.place p.held q.held
+    → over (N.ReadsRow charset start) p q
 row_ends x = record { cells = x.cells; streams = grind arith; place_is = cc }

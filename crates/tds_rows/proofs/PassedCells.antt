@@ -1,11 +1,11 @@
 -- The value of a RETURNVALUE, as it is passed over.
 use Rattle.tds_rows.proofs.Words as N
 use Rattle.tds_rows.proofs.{
-  Words.{◌≢◌, ◌≡◌, ◌∙◌, ℕ, ◌+◌, ◌-◌, ◌%◌, ◌<◌, ◌≤◌, true, List, [], ◌++◌, length, refl, sym, arith, Option, Stop, Seen, Conversion, Cell, CellPart},
-  Words.{ChunkLength, shape, return_column, AnyData, PassesData, StepsOver},
+  Words.{◌≢◌, ◌≡◌, ◌∙◌, ℕ, ◌+◌, ◌-◌, ◌%◌, ◌<◌, ◌≤◌, true, List, [], ◌++◌, length, refl, arith, Option, Stop, Seen, Conversion, Cell, CellPart, ChunkLength},
+  Words.{shape, return_column, AnyData, PassesData, StepsOver},
   BufferedCells.{null_cell, value_cell},
   RunSteps.whole_of,
-  LongSteps.{HoldsContent, content_spelt, chunk_holds, short_holds},
+  LongValues.{HoldsContent, content_spelt, chunk_holds, short_holds},
   CellMeaning.is_ok_value,
   Numbers.{Next, chunk_start, chunk_left, short_left},
 }
@@ -213,7 +213,7 @@ module _ {c : Conversion} {size : ℕ} (any : AnyData c size) where
 
     -- the length of a chunk was read
     pub chunk_steps : k ≢ 0 → StepsOver (ChunkLength c total content) (chunk_left c total k content) a b place place'
-    chunk_steps some = rw (sym is) at (steps_of (chunk_start c (sym any.unit_is) counted x free (λ e. some (is ∙ e))))
+    chunk_steps some = rw (N.sym is) at (steps_of (chunk_start c (N.sym any.unit_is) counted x free (λ e. some (is ∙ e))))
 
 -- ---- the data of a RETURNVALUE may be any bytes
 

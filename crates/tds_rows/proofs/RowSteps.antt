@@ -1,9 +1,9 @@
 -- The cells of a row, as they are read one after another and their text is put.
 use Rattle.tds_rows.proofs.Words as N
 use Rattle.tds_rows.proofs.{
-  Words.{◌≡◌, ◌∙◌, ℕ, ◌+◌, ◌^◌, ◌-◌, ◌<◌, ◌≤◌, Bool, false, List, [], ◌∷◌, ◌++◌, length, sym, ap, arith, append-nil, None, map, Kind, Stop, Seen, Column},
-  Words.{joined, Held, Charset, Cell, CellPart, WholeCell, cell, cell_start, field, cell_so_far, true, Some, opened, ◌≢◌},
-  Paths.At,
+  Words.{◌≡◌, ◌∙◌, ℕ, ◌+◌, ◌^◌, ◌-◌, ◌<◌, ◌≤◌, Bool, false, List, [], ◌∷◌, ◌++◌, length, sym, ap, arith, None, map, Kind, Stop, Seen, Column, joined, Held},
+  Words.{Charset, Cell, CellPart, WholeCell, cell, cell_start, field, cell_so_far, true, Some, opened, ◌≢◌, refl},
+  Paths.{At, over},
   GrowingTexts.{Grows, OptionGrows, cell_grows, grows_all, grows_same, grows_trans},
 }
 
@@ -11,17 +11,17 @@ use Rattle.tds_rows.proofs.{
 
 -- a field after a comma
 pub after_some_column : (column : ℕ) {text : List ℕ} → column ≢ 0 → 44 ∷ text ≡ N.after_comma column text
-after_some_column _ h = grind N.arith
+after_some_column _ h = grind arith
 
 -- more after a field
 pub after_append : (column : ℕ) (a b : List ℕ) → N.after_comma column (a ++ b) ≡ N.after_comma column a ++ b
-after_append _ a b = grind N.arith
+after_append _ a b = grind arith
 
 -- one field more
-pub joined_snoc : (fields : List (List ℕ)) (f : List ℕ) → N.joined fields ++ N.after_comma (N.length fields) f ≡ N.joined (fields ++ f ∷ [])
-joined_snoc [] f = N.refl
-joined_snoc (g ∷ []) f = N.sym (N.append_assoc g _ f)
-joined_snoc (g ∷ h ∷ gs) f = grind (N.arith, N.append_assoc, (joined_snoc (h ∷ gs) f))
+pub joined_snoc : (fields : List (List ℕ)) (f : List ℕ) → joined fields ++ N.after_comma (length fields) f ≡ joined (fields ++ f ∷ [])
+joined_snoc [] f = refl
+joined_snoc (g ∷ []) f = sym (N.append_assoc g _ f)
+joined_snoc (g ∷ h ∷ gs) f = grind (arith, N.append_assoc, (joined_snoc (h ∷ gs) f))
 
 -- ---- cells that are read
 
@@ -50,7 +50,7 @@ StopsCell charset kind = N.StopsField (cell_start kind (N.shape charset kind))
 
 -- A cell of a kind was read and its text put, from one place to another; or it stopped so.
 abbrev pub PutsAt : Charset → Kind → ℕ → Bool → At → At → Type 0
-PutsAt charset kind column last p q = PutsCell charset kind column last p.seen q.seen p.place q.place p.held q.held
+PutsAt charset kind column last p q = over (PutsCell charset kind column last) p q
 
 abbrev pub StopsAt : Charset → Kind → ℕ → Bool → At → Seen → Held → Bool → Stop → Type 0
 StopsAt charset kind column last p d j failed stop = StopsCell charset kind column last p.seen d p.place p.held j failed stop
@@ -155,8 +155,8 @@ nulls_ahead n ((k, true) ∷ ks) = N.in_line n (ends ks) N.null_field ++ nulls_a
 nulls_ahead n ((k, false) ∷ ks) = []
 
 pub none_ahead : (left : List Column) (n : ℕ) → nulls_ahead n (coming left n) ≡ []
-none_ahead [] n = N.refl
-none_ahead (c ∷ cs) n = N.refl
+none_ahead [] n = refl
+none_ahead (c ∷ cs) n = refl
 
 -- one more whole cell, and what is known of the text after it
 one_more : (cells : List Cell) (v : Cell) (ks : List (Column × Bool)) {text : List ℕ}
@@ -171,10 +171,10 @@ one_more cells v ks is =
 -- a row's text so far is that of its whole cells, the end of the line where no column follows, and that of the NULLs to come
 pub nulls_text : (charset : Charset) (cells : List Cell) (ks : List (Column × Bool))
     → (joined (map field cells) ++ N.end_after (ends ks)) ++ nulls_ahead (length cells) ks ≡ N.row_so_far (N.next_cell charset cells ks)
-nulls_text _ _ [] = append-nil _
+nulls_text _ _ [] = N.append-nil _
 nulls_text charset cells ((k, true) ∷ ks) =
     let tail = nulls_ahead _ ks in
-    ap (λ l. l ++ (N.in_line (length cells) (ends ks) N.null_field ++ tail)) (append-nil _)
+    ap (λ l. l ++ (N.in_line (length cells) (ends ks) N.null_field ++ tail)) (N.append-nil _)
     ∙ sym (N.append_assoc _ _ tail)
     ∙ one_more cells N.Null ks (nulls_text charset _ ks)
 nulls_text _ _ ((k, false) ∷ ks) = search N.rules
@@ -216,8 +216,8 @@ module _ (charset : Charset) (cells : List Cell) (ks : List (Column × Bool)) wh
 
   -- the text so far of the row is that of the whole cells, that of the next one, and that of the NULLs after it
   pub part_text : (at : CellPart) → (joined (map field cells) ++ cell_so_far (length cells) (ends ks) at) ++ rest_of at ≡ N.row_so_far (up at)
-  part_text at = grind (arith, append-nil, nulls_text, one_more, fields_more)
+  part_text at = grind (arith, N.append-nil, nulls_text, one_more, fields_more)
 
   -- there are none after it while it is open
   pub begun_text : (at : CellPart) → 0 < N.cell_size at → joined (map field cells) ++ cell_so_far (length cells) (ends ks) at ≡ N.row_so_far (up at)
-  begun_text at some = grind (arith, append-nil, (part_text at))
+  begun_text at some = grind (arith, N.append-nil, (part_text at))

@@ -2,10 +2,10 @@
 use Rattle.tds_rows.proofs.Words as N
 use Rattle.tds_rows.proofs.{
   Words.{false, ◌≡◌, ◌∙◌, ℕ, ◌+◌, ◌-◌, ◌≤◌, ◌<◌, Bool, List, [], ◌∷◌, ◌++◌, length, take, drop, refl, sym, ap, arith, true, Stop, held, Column, Charset},
-  Words.{Cell, cell, cell_start, shape, PlainRow, row, row_so_far, Writes, WritesRows, after_cells, lines, rows, rows_so_far, Kind, ◌^◌},
+  Words.{Cell, cell_start, shape, PlainRow, row, row_so_far, Writes, WritesRows, after_cells, lines, rows, rows_so_far, Kind, ◌^◌},
   NullSteps.row_cell,
   RowSteps.{coming, ends_marked, line_grows, none_ahead, PutsCell, StopsCell},
-  Paths.{At, writes_both, writes_inside, writes_none},
+  Paths.{At, writes_both, writes_inside, writes_none, over},
   TableSteps.next_column,
 }
 
@@ -31,8 +31,12 @@ pub made_more : (made m : ℕ) (to new rest : List ℕ) → made ≤ length to �
     → take (made + m) (take made to ++ (new ++ rest)) ≡ take made to ++ take m new
 made_more _ m _ _ _ within some = grind (arith, N.length-take-le, N.take-append-add, N.take-append-le)
 
+-- the bytes that are left after so many
+abbrev pub unused : ℕ → List ℕ → List ℕ
+unused used bytes = take (length bytes - used) (drop used bytes)
+
 -- what is used after what was used
-pub used_more : (used u : ℕ) (bytes : List ℕ) → take (used + u) bytes ≡ take used bytes ++ take u (take (length bytes - used) (drop used bytes))
+pub used_more : (used u : ℕ) (bytes : List ℕ) → take (used + u) bytes ≡ take used bytes ++ take u (unused used bytes)
 used_more _ u _ = grind (arith, N.take-add, N.all_after)
 
 -- what is written after what was made leaves it as it was
@@ -95,12 +99,12 @@ module _ (token : N.RowToken) (charset : Charset) (all : List Column) (before : 
 -- a cell that lies whole, by itself
 cell_writes : {column : ℕ} {last : Bool} {bytes made : List ℕ} (kind : Kind) (sh : N.Shape)
     → (x : N.WritesWhole (cell_start kind sh) column last bytes made)
-    → Writes (cell column) (N.cell_so_far column last) (cell_start kind sh) bytes made (N.WholeCell x.value)
+    → Writes (N.cell column) (N.cell_so_far column last) (cell_start kind sh) bytes made (N.WholeCell x.value)
 cell_writes _ _ x = grind arith
 
 -- a cell after these, in its row
 after_more : {bytes made : List ℕ} {v : Cell} (charset : Charset) (cells : List Cell) (c : Column) (left : List Column)
-    → Writes (cell (length cells)) (N.cell_so_far (length cells) (N.is_last_column left)) (cell_start c.kind (shape charset c.kind)) bytes made
+    → Writes (N.cell (length cells)) (N.cell_so_far (length cells) (N.is_last_column left)) (cell_start c.kind (shape charset c.kind)) bytes made
     (N.WholeCell v)
     → Writes (row charset) row_so_far (after_cells charset cells (c ∷ left)) bytes made (after_cells charset (cells ++ v ∷ []) left)
 after_more {bytes = bytes} {made = made} {v = v} charset cells c left x =
@@ -210,7 +214,7 @@ rows_both {charset = charset} {all = all} x y = record {
 pub whole_puts : (charset : Charset) (kind : Kind) (column : ℕ) (last : Bool) (p q : At) (bytes text : List ℕ)
     → N.WritesWhole (cell_start kind (shape charset kind)) column last bytes text
     → N.Takes p.seen q.seen bytes (length bytes) → q.place ≡ p.place + length bytes → N.Puts p.held q.held text
-    → PutsCell charset kind column last p.seen q.seen p.place q.place p.held q.held
+    → over (PutsCell charset kind column last) p q
 whole_puts _ _ _ _ p q _ _ x takes at puts =
     let writes = cell_writes _ _ x in
     record {

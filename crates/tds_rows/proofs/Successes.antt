@@ -1,8 +1,8 @@
 -- A call that reads what comes whole stops only where a device fails.
 use Rattle.tds_rows.proofs.Words as N
 use Rattle.tds_rows.proofs.{
-  Words.{◌≡◌, ◌∙◌, inl, inr, ℕ, ◌+◌, ◌<◌, List, [], ◌∷◌, ◌++◌, length, refl, sym, ap, arith, Ok, Err, Option, Some, if◌then◌else◌, Rose, Fault, Stop},
-  Words.{before, Grammar, Spelt, Seen, Cell, Brings},
+  Words.{◌≡◌, ◌∙◌, inl, inr, ℕ, ◌+◌, ◌<◌, List, [], ◌∷◌, ◌++◌, length, sym, ap, arith, Ok, Err, Option, Some, if◌then◌else◌, Rose, Fault, Stop, before},
+  Words.{Grammar, Spelt, Seen, Cell, Brings},
   CellLaws.cell_is_read,
   RowLaws.{nbc_row_is_read, row_is_read, shape-HasBytes},
   RunSteps.{row_token, row_among_rows},
@@ -98,7 +98,7 @@ pub value_passes : {R U : Type 0} (remaining : R → Option (List ℕ)) (kind : 
 value_passes _ _ _ _ (Ok x) _ _ _ _ _ = grind arith
 value_passes _ _ _ _ (Err stop) _ _ _ passed spelt = λ brings reads.
     let read = cell_is_read _ _ _ _ _ (shape-HasBytes N.return_charset _) spelt in
-    absurd (none_stops_reading _ _ _ _ _ brings read refl reads passed.stops)
+    absurd (none_stops_reading _ _ _ _ _ brings read N.refl reads passed.stops)
 
 pub long_is_read : (column : ℕ) (kind : N.Kind) (c : N.Conversion) (reach : N.Reach) (value : Cell) (bytes : List ℕ)
     → N.SpellsCell kind (N.LongShape c reach) value bytes → Spelt (N.cell column) (N.long_start c reach) bytes (N.WholeCell value)

@@ -1,7 +1,7 @@
 use Rattle.tds_rows.proofs.rows.Rows.nbc_row.Goals as goal
 use Rattle.tds_rows.proofs.Words as N
 use Rattle.tds_rows.proofs.{
-  Words.{◌<◌, length, refl, sym, arith, ◌∙◌, ◌≡◌, ap, ◌++◌},
+  Words.{◌<◌, refl, sym, arith, ◌∙◌, ◌≡◌, ap, ◌++◌},
   NextSteps.{next_nears, next_stops, run_near, run_stops, leaves_after, stays_after, stays_on},
   NullSteps.{all_put, bitmap_cut, bitmap_nears, row_ends},
 }
@@ -33,11 +33,11 @@ loop-at-init g c =
         small = record { room = refl; bound = omega arith };
       };
       knows = c.requires.some.knows;
-      fits = omega (arith, ap length bytes, x.whole, c.count.ensures);
+      fits = omega (arith, ap N.length bytes, x.whole, c.count.ensures);
       reads = λ columns knows.
           let whole = x.whole ∙ c.bitmap_size.ensures.value
           ∙ ap N.bitmap_length (c.count.ensures ∙ knows.counted) in
-          let some : 0 < length columns = omega (arith, knows.counted) in
+          let some : 0 < N.length columns = omega (arith, knows.counted) in
           let taken = rw (sym x.whole) at x.takes in
           let near = bitmap_nears columns x.element some whole taken x.between (sink.ready.1 sink.writing) sink.ready.2
           (omega (arith, c.in_ok-take_into.ensures.place)) in

@@ -1,13 +1,12 @@
 use Rattle.tds_rows.proofs.rows.Rows.nbc_row.Given as goal
-use Rattle.tds_rows.proofs.Words as N
-use Rattle.tds_rows.proofs.{Words.{◌*◌, ◌≤◌, ◌-◌}, NextSteps.NearsAll, Paths.here}
+use Rattle.tds_rows.proofs.{Words.{◌*◌, ◌≤◌, ◌-◌, KnowsSome, StaysInRow, bit, length}, NextSteps.NearsAll, Paths.here}
 
 abbrev pub invariant-loop-at : goal.invariant-loop-at
 invariant-loop-at g l = record {
-  stays : N.StaysInRow l.fn.self l.self;
-  knows : N.KnowsSome l.self.table.now;
-  fits : l.self.table.now.count ≤ 8 * N.length l.bitmap.bytes;
-  reads : NearsAll g.R.Read.remaining g.W.Write.contents (N.bit l.bitmap.bytes) (here g.R.Read.remaining g.W.Write.contents l.fn.self) l.self l.ahead;
+  stays : StaysInRow l.fn.self l.self;
+  knows : KnowsSome l.self.table.now;
+  fits : l.self.table.now.count ≤ 8 * length l.bitmap.bytes;
+  reads : NearsAll g.R.Read.remaining g.W.Write.contents (bit l.bitmap.bytes) (here g.R.Read.remaining g.W.Write.contents l.fn.self) l.self l.ahead;
 }
 
 abbrev pub decreases-loop-at : goal.decreases-loop-at

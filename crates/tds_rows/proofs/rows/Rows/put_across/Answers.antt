@@ -1,6 +1,5 @@
 use Rattle.tds_rows.proofs.rows.Rows.put_across.Goals as goal
-use Rattle.tds_rows.proofs.Words as N
-use Rattle.tds_rows.proofs.{Words.{[], arith}, Paths.here, TableRuns.{marked_rows, rows_begin, runs_rows}}
+use Rattle.tds_rows.proofs.{Words.{[], arith, Puts-none, Takes-none, add-zero, passed, sym}, Paths.here, TableRuns.{marked_rows, rows_begin, runs_rows}}
 
 pub returns-in_err-ahead : goal.returns-in_err-ahead
 returns-in_err-ahead g c =
@@ -8,7 +7,7 @@ returns-in_err-ahead g c =
     record {
       leaves = search arith;
       place = search arith;
-      cells = N.passed _ _ _ _ c.from_residual.ensures.1 read.cells;
+      cells = passed _ _ _ _ c.from_residual.ensures.1 read.cells;
     }
 
 pub returns : goal.returns
@@ -28,11 +27,11 @@ returns-then-is_end g c =
     let begin = rows_begin {bytes = []} {to = []} in
     rw c.none.ensures (record {
       leaves = search arith;
-      place = (N.sym (N.add-zero _), omega arith);
+      place = (sym (add-zero _), omega arith);
       cells = λ columns knows ahead.
           let ran = begin.writes columns knows ahead in (
             ran.0,
-            λ charset cells set is. runs_rows {p = at} {q = at} (ran.1 charset cells set is) (N.Takes-none at.seen 0)
-                (N.Puts-none at.held c.requires.sink.ready.2) (N.sym (N.add-zero _)),
+            λ charset cells set is. runs_rows {p = at} {q = at} (ran.1 charset cells set is) (Takes-none at.seen 0)
+                (Puts-none at.held c.requires.sink.ready.2) (sym (add-zero _)),
           );
     })

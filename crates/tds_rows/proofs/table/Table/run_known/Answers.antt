@@ -1,8 +1,8 @@
 use Rattle.tds_rows.proofs.table.Table.run_known.Goals as goal
-use Rattle.tds_rows.proofs.Words as N
 use borrow.Rule.Slice.PartMut.{post_of, put_mid, same_len_mid}
+use Rattle.tds_rows.proofs.Words as N
 use Rattle.tds_rows.proofs.{
-  Words.{[], ◌∷◌, arith, ◌≡◌, ◌∙◌, ◌+◌, ◌-◌, length},
+  Words.{◌∷◌, arith, ◌≡◌, ◌∙◌, ◌+◌, ◌-◌, length},
   table.Table.run_known.Goals.{in_default+then-not-row_follows, in-Some+then-run-eq0},
   RunSteps.made_same,
   TableRuns.{first_left, forms_between, row_begun, rows_begin, rows_further, rows_kept, rows_more},

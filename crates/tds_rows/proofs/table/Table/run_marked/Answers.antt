@@ -1,7 +1,7 @@
 use Rattle.tds_rows.proofs.table.Table.run_marked.Goals as goal
 use Rattle.tds_rows.proofs.Words as N
 use Rattle.tds_rows.proofs.{
-  Words.{[], ℕ, ◌≡◌, ◌∙◌, ◌-◌, ◌<◌, ◌≤◌, ◌∷◌, ap, length, drop, arith},
+  Words.{ℕ, ◌≡◌, ◌∙◌, ◌-◌, ◌<◌, ◌≤◌, ◌∷◌, ap, length, arith},
   table.Table.run_marked.Goals.{else-loop-to-test, then-loop-to-test+else-ahead-count, then-loop-to-test+then-ahead-count+else-end-ahead+then-cells-eq0},
   TableRuns.{ends_clear, runs_clear, runs_column, runs_more},
   TableSteps.{last_one, next_any, none_next, takes},
@@ -67,7 +67,7 @@ returns-clause-ends g c =
         | then-loop-to-test+else-ahead-count w ↦ absurd
             (let none = none_next _ _ knows.counted (omega arith) in
             let e = N.sym step ∙ none in omega (arith, ap length e))
-        | then-loop-to-test+then-ahead-count+else-end-ahead+then-cells-eq0 w ↦ (let lent = N.take (length l.to - l.made) (drop l.made l.to) in
+        | then-loop-to-test+then-ahead-count+else-end-ahead+then-cells-eq0 w ↦ (let lent = N.take (length l.to - l.made) (N.drop l.made l.to) in
             let room : length lent ≡ length c.args.to.now - l.made =
             omega (arith, N.length-drop l.made l.to) in
             let end = w.clear_end-end.ensures in

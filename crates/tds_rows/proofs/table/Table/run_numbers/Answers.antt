@@ -1,8 +1,8 @@
 use Rattle.tds_rows.proofs.table.Table.run_numbers.Goals as goal
-use Rattle.tds_rows.proofs.Words as N
 use Rattle.tds_rows.specs.FormRuns.{IsLastRow}
+use Rattle.tds_rows.proofs.Words as N
 use Rattle.tds_rows.proofs.{
-  Words.{inl, ap, refl, inr, arith, rules, sym, ◌≡◌, ◌+◌, ◌-◌, ◌<◌, length, take, drop},
+  Words.{inl, ap, refl, inr, arith, sym, ◌≡◌, ◌+◌, ◌-◌, ◌<◌, length},
   table.Table.run_numbers.Goals.{else-loop-used-test, then-loop-used-test+else-made-latest, then-loop-used-test+then-made-latest+in_default-run_row as row_refused, then-loop-used-test+then-made-latest+in-Some-run_row+then-not-row_follows as row_last},
   FormSteps.too_late,
   RunSteps.made_same,
@@ -25,20 +25,20 @@ loop-used-preserved c =
     let text = c.run_row.new.to in
     let end = record from { column = table.count } in
     let known = c.requires.known in
-    let counted : run.cells ≡ table.count = search (arith, rules) in
+    let counted : run.cells ≡ table.count = search (arith, N.rules) in
     let forms = known_ahead table from table.count table.known table.laid (search arith) (omega arith)
     (omega arith) (omega arith) table.few in
-    let rest = take _ _ in
-    let wrote = N.subst (λ (n : N.ℕ). N.FormsWritten table.charset (take table.known (drop n table.forms)) n N.true rest text run)
+    let rest = N.take _ _ in
+    let wrote = N.subst (λ (n : N.ℕ). N.FormsWritten table.charset (N.take table.known (N.drop n table.forms)) n N.true rest text run)
     (sym c.requires.first) (rw c.row-row.ensures.row at (row.row table.charset).cells) in
     let cells = rows_more {cells = record { used = run.used; made = run.made; ahead = end }} text _
     (row.within.some (omega arith)) (search arith) (search arith) (λ columns knows is.
-    forms_between table from table.count _ (omega arith) forms N.true (sym (N.eq-eqb _ _ (omega (arith, N.length-take table.known (drop from.column table.forms), N.length-drop from.column table.forms)))) columns knows is end _ _ run
+    forms_between table from table.count _ (omega arith) forms N.true (sym (N.eq-eqb _ _ (omega (arith, N.length-take table.known (N.drop from.column table.forms), N.length-drop from.column table.forms)))) columns knows is end _ _ run
     (omega arith) (after_known {old = from} {new = end} knows is {cells = table.count} (omega arith)
     (omega arith) (inr (omega arith)) refl) wrote) c.loop-used.invariant.ran in
     record {
       same = search arith;
-      ran = row_begun known.1 (omega arith) (c.row_follows.ensures.begins (search rules), c.requires.first) (λ columns knows is. record {
+      ran = row_begun known.1 (omega arith) (c.row_follows.ensures.begins (search N.rules), c.requires.first) (λ columns knows is. record {
         counted = omega arith;
         within = λ _. is.within (omega arith);
         beyond = λ none. absurd (omega (arith, none));
