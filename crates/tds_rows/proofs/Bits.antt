@@ -1,7 +1,7 @@
 -- The bits of a bitmap that lie in one byte.
 use Rattle.std.specs.{Int.{bit_at, trailing_zeros}, Prelude.{slice_index}}
 use Rattle.std.proofs.{Common.{w8}, Math.Nat.{div-div-eq-div-mul}, Math.Decide.{dec_le}}
-use Rattle.std.proofs.lemmas.Nat.{pow-add, shr_le, Bits.{bit_at-trailing_zeros, bit_at-zero, bit_at_above}}
+use Rattle.std.proofs.lemmas.Nat.{pow-add, Bits.{bit_at-trailing_zeros, bit_at-zero, bit_at_above}}
 use Rattle.tds_rows.proofs.Words.{◌≡◌, ◌==◌, ◌+◌, ◌-◌, ◌*◌, ◌/◌, ◌%◌, ◌^◌, ◌<◌, ℕ, true, List, AreClear, arith, bit, refl}
 
 module _ (bitmap : List ℕ) (at : ℕ) where
@@ -30,7 +30,7 @@ module _ (bitmap : List ℕ) (at : ℕ) where
       let within : at % 8 + t < 8 = elim (dec_le (at % 8 + t + 1) 8) [
         | yes lt ↦ omega arith
         | no above ↦
-            let none : bit_at bits t ≡ 0 = rw (div-div-eq-div-mul, ← pow-add) (bit_at_above (slice_index bitmap (at / 8)) 8 _ fits (omega arith)) in
+            let none : bit_at bits t ≡ 0 = rw (div-div-eq-div-mul, ← pow-add) (bit_at_above _ 8 _ fits (omega arith)) in
             absurd (omega arith)
       ] in (
         λ k least most.

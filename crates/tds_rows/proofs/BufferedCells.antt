@@ -1,44 +1,44 @@
 -- Cells whose bytes lie together, and the room that a sink lends for their text.
 use Rattle.tds_rows.proofs.Words as N
 use Rattle.tds_rows.proofs.{
-  Words.{◌≡◌, ◌≢◌, ◌∙◌, ℕ, ◌+◌, ◌-◌, ◌<◌, ◌≤◌, Bool, true, false, List, [], ◌++◌, length, take, drop, Result, Ok, Err, inr, refl, sym, ap, arith, ◌∷◌},
-  Words.{length-drop, None, Some, Option, ◌||◌, Kind, held, cell, shape, value_length, WritesCell},
-  CellSteps.{fixed_some, scalar_shape},
+  Words.{◌≡◌, ◌≢◌, ◌∙◌, ℕ, ◌+◌, ◌-◌, ◌<◌, ◌≤◌, Bool, true, List, [], ◌++◌, length, take, drop, Ok, refl, sym, ap, arith, ◌∷◌, ◌||◌, Kind, held, shape},
+  Words.WritesCell,
+  CellSteps.scalar_shape,
   RowSteps.{ReadsCell, at_once_breaks, at_once_streams, PutsCell, StopsCell},
 }
 
 -- a value that is read has a length that is allowed
 read_allowed : (kind : Kind) (bytes : List ℕ) (value : N.ScalarValue) → N.read_of kind bytes ≡ Ok value → N.is_length_allowed kind (length bytes) ≡ true
-read_allowed kind bytes value h = grind arith
+read_allowed _ _ _ h = grind arith
 
 fixed_written : (column : ℕ) (kind : Kind) (n : ℕ) (last : Bool) (bytes text : List ℕ) → 0 < n → n ≤ length bytes
     → N.IsValueText kind column last (take n bytes) text → WritesCell (N.ScalarBytes kind n) column last (take n bytes) text
-fixed_written column kind n last bytes text some within x = record {
+fixed_written _ kind n _ bytes _ some within x = record {
   value = N.ScalarCell x.0;
   front = [];
   at = N.ScalarBytes kind n;
   element = take n bytes;
   joined = refl;
-  spelt = N.Spelt-none _ _;
+  spelt = grind arith;
   next = grind (arith, N.common_steps);
-  whole = ap N.value_part x.1;
+  whole = cc;
   quiet = refl;
   text_is = x.2;
 }
 
 first_of : (bytes : List ℕ) (n : ℕ) → 1 ≤ length bytes → N.slice_index bytes 0 ≡ n → take 1 bytes ≡ n ∷ []
-first_of bytes n h is = grind arith
+first_of _ n h is = grind arith
 
-null_written : (column : ℕ) (kind : Kind) (last : Bool) (bytes text : List ℕ) → 1 ≤ length bytes → N.slice_index bytes 0 ≡ 0
+null_written : {column : ℕ} {kind : Kind} {last : Bool} (bytes : List ℕ) {text : List ℕ} → 1 ≤ length bytes → N.slice_index bytes 0 ≡ 0
     → text ≡ N.in_line column last N.null_field → WritesCell (N.ScalarLength kind) column last (take 1 bytes) text
-null_written column kind last bytes text within is text_is = rw (first_of _ 0 within is) (record {
+null_written {kind} _ within is text_is = rw (first_of _ 0 within is) (record {
   value = N.Null;
   front = [];
   at = N.ScalarLength kind;
   element = 0 ∷ [];
   joined = refl;
-  spelt = N.Spelt-none _ _;
-  next = record { some = omega arith; whole = refl; free = refl };
+  spelt = grind arith;
+  next = grind arith;
   whole = refl;
   quiet = refl;
   text_is = text_is;
@@ -47,44 +47,44 @@ null_written column kind last bytes text within is text_is = rw (first_of _ 0 wi
 counted_written : (column : ℕ) (kind : Kind) (n : ℕ) (last : Bool) (bytes text : List ℕ) → N.slice_index bytes 0 ≡ n → n ≢ 0 → 1 + n ≤ length bytes
     → N.IsValueText kind column last (take n (drop 1 bytes)) text
     → WritesCell (N.ScalarLength kind) column last (take (1 + n) bytes) text
-counted_written column kind n last bytes text is some within x =
-    let whole = N.length-take-le n (drop 1 bytes) (grind arith) in
+counted_written column kind n _ bytes _ is some within x =
+    let whole = N.length-take-le n _ (grind arith) in
     let good = ap (N.is_length_allowed kind) (sym whole) ∙ read_allowed kind _ x.0 x.1 in
     let yes = ap (λ v. v || N.is_length_allowed kind n) (N.ne_eqb n 0 some) ∙ good in
-    let to : (cell column).add (N.ScalarLength kind) (n ∷ []) ≡ N.ScalarBytes kind n = N.choose_false _ _ _ (N.ne_eqb n 0 some) in
+    let to : (N.cell column).add (N.ScalarLength kind) (n ∷ []) ≡ N.ScalarBytes kind n = grind arith in
     record {
       value = N.ScalarCell x.0;
       front = n ∷ [];
       at = N.ScalarBytes kind n;
       element = take n _;
       joined = sym (N.take-add 1 n bytes ∙ ap (λ l. l ++ take n (drop 1 bytes)) (first_of bytes n (omega arith) is));
-      spelt = rw to at (N.Spelt-one (cell column) (N.ScalarLength kind) (n ∷ [])
-          (record { some = omega arith; whole = refl; free = ap (λ v. N.unless v (N.BadValueLength column)) yes }));
+      spelt = rw to at (N.Spelt-one (N.cell column) (N.ScalarLength kind) (n ∷ [])
+          (record { some = omega arith; whole = refl; free = cc }));
       next = grind arith;
-      whole = ap N.value_part x.1;
+      whole = cc;
       quiet = refl;
       text_is = x.2;
     }
 
 module _ (charset : N.Charset) (kind : Kind) (column : ℕ) (last : Bool) (bytes text : List ℕ) (scalar : N.is_scalar kind ≡ true) where
   -- NULL at the front of these bytes
-  pub null_cell : (start : ℕ) → start ≡ N.value_start kind → value_length kind bytes ≡ 0 → start + 0 ≤ length bytes
+  pub null_cell : (start : ℕ) → start ≡ N.value_start kind → N.value_length kind bytes ≡ 0 → start + 0 ≤ length bytes
       → text ≡ N.in_line column last N.null_field → WritesCell (N.cell_start kind (shape charset kind)) column last (take (start + 0) bytes) text
-  null_cell start at none within is = grind (arith, null_written, scalar_shape)
+  null_cell _ at none within is = grind (arith, null_written)
 
   -- a value there
-  pub value_cell : (start n : ℕ) → start ≡ N.value_start kind → n ≡ value_length kind bytes → n ≢ 0 → start + n ≤ length bytes
+  pub value_cell : (start n : ℕ) → start ≡ N.value_start kind → n ≡ N.value_length kind bytes → n ≢ 0 → start + n ≤ length bytes
       → N.IsValueText kind column last (take n (drop start bytes)) text
       → WritesCell (N.cell_start kind (shape charset kind)) column last (take (start + n) bytes) text
   value_cell start n at many some within is = go _ refl
     where
-      go : (o : Option ℕ) → N.fixed_length kind ≡ o → WritesCell (N.cell_start kind (shape charset kind)) column last (take (start + n) bytes) text
-      go (Some m) e =
+      go : (o : N.Option ℕ) → N.fixed_length kind ≡ o → WritesCell (N.cell_start kind (shape charset kind)) column last (take (start + n) bytes) text
+      go (N.Some m) e =
           let none = at ∙ ap N.start_after e in
           let all = many ∙ ap (λ o. N.length_after o bytes) e in
           let whole : start + n ≡ m = omega arith in
           rw (scalar_shape, e, whole) (fixed_written column kind m last bytes text (omega arith) (omega arith) (rw (none, all) at is))
-      go None e =
+      go N.None e =
           let one = at ∙ ap N.start_after e in
           rw (scalar_shape, e, one) (counted_written column kind n last bytes text (sym (ap (λ o. N.length_after o bytes) e)
           ∙ sym many) some (omega arith) (rw one at is))
@@ -92,29 +92,29 @@ module _ (charset : N.Charset) (kind : Kind) (column : ℕ) (last : Bool) (bytes
 -- a whole number of four bytes is read alike in each of its kinds
 pub int4_reads : (kind : Kind) (bytes : List ℕ) → N.IsInt4 kind → length bytes ≡ 4 → (N.is_scalar kind ≡ true)
     × (N.read_of kind bytes ≡ N.read_of (N.IntN 4) bytes)
-int4_reads kind bytes number four = grind arith
+int4_reads _ _ number _ = grind arith
 
 -- its kinds are scalar ones
 pub int4_scalar : (kind : Kind) → N.IsInt4 kind → N.is_scalar kind ≡ true
-int4_scalar kind number = grind arith
+int4_scalar _ number = grind arith
 
 -- one that may be NULL comes after its length
 pub int4_start : {kind : Kind} {n : ℕ} → N.IsInt4 kind → kind ≡ N.IntN n → (bytes : List ℕ) → (N.is_scalar kind ≡ true)
-    × ((1 ≡ N.value_start kind) × (value_length kind bytes ≡ N.slice_index bytes 0))
-int4_start number is bytes = grind arith
+    × ((1 ≡ N.value_start kind) × (N.value_length kind bytes ≡ N.slice_index bytes 0))
+int4_start _ is _ = grind arith
 
 -- a cell whose value is refused is left
-pub refused_left : (kind : Kind) (bytes : List ℕ) (start n : ℕ) → start ≡ N.value_start kind → n ≡ value_length kind bytes → n ≢ 0
-    → N.is_ok (N.read_of kind (take ((start + n) - start) (drop start bytes))) ≡ false → N.IsScalarLeft kind bytes
+pub refused_left : (kind : Kind) (bytes : List ℕ) (start n : ℕ) → start ≡ N.value_start kind → n ≡ N.value_length kind bytes → n ≢ 0
+    → N.is_ok (N.read_of kind (take ((start + n) - start) (drop start bytes))) ≡ N.false → N.IsScalarLeft kind bytes
 refused_left kind bytes start n at many some bad =
-    let after : (start + n) - start ≡ value_length kind bytes = omega arith in
-    inr (omega arith, rw (after, at) at bad)
+    let after : (start + n) - start ≡ N.value_length kind bytes = omega arith in
+    N.inr (omega arith, rw (after, at) at bad)
 
 -- bytes that are a cell were read
-pub cell_reads : (from : N.CellPart) (column : ℕ) (last : Bool) (a b : N.Seen) (place place' : ℕ) (bytes text : List ℕ)
+pub cell_reads : {from : N.CellPart} (column : ℕ) (last : Bool) {a b : N.Seen} {place place' : ℕ} (bytes : List ℕ) {text : List ℕ}
     → WritesCell from column last bytes text → N.Takes a b bytes (length bytes) → N.IsBetween b → place' ≡ place + length bytes
     → ReadsCell from column last a b place place' text
-cell_reads from column last a b place place' bytes text x takes between at = grind arith
+cell_reads _ _ _ x takes between = grind arith
 
 -- ---- what is written into the room that a sink lends
 
@@ -124,29 +124,29 @@ module _ (h j : N.Held) (room written : List ℕ) (n : ℕ) (whole : length writ
   lent = N.overwritten (length h.waiting) written (h.waiting ++ room)
 
   before : take n lent ≡ h.waiting
-  before = ap (λ k. take k lent) at ∙ N.spare_before _ _ _ whole
+  before = grind (arith, N.spare_before)
 
   after : drop n lent ≡ written
-  after = ap (λ k. drop k lent) at ∙ N.spare_written h.waiting _ _ whole
+  after = grind (arith, N.spare_written)
 
   abbrev lent_held : N.Held
   lent_held = record h { waiting = take n lent }
 
   same : lent_held ≡ h
-  same = ap (λ (w : List ℕ). record h { waiting = w }) before
+  same = grind (arith, before)
 
   -- the text of a cell that was written there was put
   pub kept_text : (made : ℕ) → N.Puts lent_held j (take made (drop n lent)) → N.Puts h j (take made written)
-  kept_text made x = grind (arith, after, same)
+  kept_text _ x = grind (arith, after, same)
 
 -- a cell whose text comes at once was read, and the text put by one call of the sink, or a write of it failed
-pub put_cell : {W U : Type 0} {column place place' : ℕ} {last : Bool} {a b : N.Seen} {text : List ℕ} (r : Result U N.Stop) (charset : N.Charset)
-    (kind : Kind) (contents : W → Option (List ℕ)) (old new : N.Sink W) → N.IsWriting old
+pub put_cell : {W U : Type 0} {column place place' : ℕ} {last : Bool} {a b : N.Seen} {text : List ℕ} {r : N.Result U N.Stop} (charset : N.Charset)
+    (kind : Kind) {contents : W → N.Option (List ℕ)} {old new : N.Sink W} → N.IsWriting old
     → ReadsCell (N.cell_start kind (shape charset kind)) column last a b place place' text → N.PutsPiece contents old new text r
     → N.MatchResult r (λ _. PutsCell charset kind column last a b place place' (held contents old) (held contents new))
     (λ stop. StopsCell charset kind column last a b place (held contents old) (held contents new) new.failed stop)
-put_cell (Ok u) charset kind contents old new going y x =
+put_cell {r = Ok u} _ kind _ y x =
     record { value = y.value; streams = at_once_streams kind _ _ _ y x.gives; place_is = y.place_is }
-put_cell (Err stop) charset kind contents old new going y x =
+put_cell {r = N.Err stop} _ kind going y x =
     let breaks = at_once_breaks kind _ _ _ going.ready.2 (going.ready.1 going.writing) y (x.gives going.writing) in
-    record { at = y.at; cause = inr (breaks, x.failed) }
+    record { at = y.at; cause = N.inr (breaks, x.failed) }

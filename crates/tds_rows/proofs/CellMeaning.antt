@@ -1,12 +1,12 @@
 -- What the bytes that lead to a part of a cell spell.
 use Rattle.tds_rows.proofs.Words as N
 use Rattle.tds_rows.proofs.{
-  Words.{◌≡◌, ℕ, ◌+◌, ◌/◌, ◌%◌, ◌^◌, ◌<◌, Bool, true, List, [], ◌∷◌, ◌++◌, length, refl, sym, ◌∙◌, ap, append_assoc, arith, Result, Ok, Option, Some, None},
-  Words.{◌==◌, ◌&&◌, ◌||◌, if◌then◌else◌, Kind, Short, Chunked, little, AreBytes, Shape, LongShape, cell_add},
+  Words.{◌≡◌, ℕ, ◌+◌, ◌/◌, ◌%◌, ◌^◌, ◌<◌, true, List, [], ◌∷◌, ◌++◌, length, refl, ◌∙◌, ap, append_assoc, arith, Ok, Option, None, ◌==◌, ◌&&◌, ◌||◌},
+  Words.{if◌then◌else◌, Kind, Short, Chunked, little, AreBytes, Shape, LongShape, cell_add},
 }
 
 -- a test that gave no fault passed
-pub unless_none : (b : Bool) (f : N.Fault) → N.unless b f ≡ None → b ≡ true
+pub unless_none : (b : N.Bool) (f : N.Fault) → N.unless b f ≡ None → b ≡ true
 unless_none b f h = grind arith
 
 eight_below : (e : List ℕ) → length e ≡ 8 → AreBytes e → little e < 2 ^ 64
@@ -14,7 +14,7 @@ eight_below e l k = grind (arith, N.common_steps)
 
 eight_ones : (e : List ℕ) → length e ≡ 8 → AreBytes e → little e ≡ N.null_total → e ≡ N.replicate 8 255
 eight_ones (a ∷ b ∷ c ∷ d ∷ e ∷ f ∷ g ∷ h ∷ []) l k n = grind arith
-eight_ones e l k n = absurd (omega arith)
+eight_ones e l k n = cc
 
 -- chunks so far, without the terminator
 abbrev pub BeginsChunks : List (List ℕ) → List ℕ → Type 0
@@ -23,8 +23,8 @@ BeginsChunks (d ∷ ds) bytes = (front : List ℕ) × (rest : List ℕ) × (byte
 
 more_chunks : (ds : List (List ℕ)) (bytes d front : List ℕ) → BeginsChunks ds bytes → N.SpellsChunk d front
     → BeginsChunks (ds ++ d ∷ []) (bytes ++ front)
-more_chunks [] bytes d front h s = (front, [], ap (λ v. v ++ front) h ∙ sym (N.append-nil front), s, refl)
-more_chunks (x ∷ ds) bytes d front h s = (
+more_chunks [] bytes d front h s = search N.rules
+more_chunks (x ∷ ds) _ d front h s = (
   h.0,
   h.1 ++ front,
   ap (λ v. v ++ front) h.2 ∙ append_assoc h.0 h.1 front,
@@ -33,11 +33,11 @@ more_chunks (x ∷ ds) bytes d front h s = (
 )
 
 end_chunks : (ds : List (List ℕ)) (bytes : List ℕ) → BeginsChunks ds bytes → N.SpellsChunks ds (bytes ++ 0 ∷ 0 ∷ 0 ∷ 0 ∷ [])
-end_chunks [] bytes h = ap (λ v. v ++ 0 ∷ 0 ∷ 0 ∷ 0 ∷ []) h
-end_chunks (x ∷ ds) bytes h = (
+end_chunks [] bytes h = cc
+end_chunks (x ∷ ds) _ h = (
   h.0,
   h.1 ++ 0 ∷ 0 ∷ 0 ∷ 0 ∷ [],
-  ap (λ v. v ++ 0 ∷ 0 ∷ 0 ∷ 0 ∷ []) h.2 ∙ append_assoc h.0 h.1 (0 ∷ 0 ∷ 0 ∷ 0 ∷ []),
+  ap (λ v. v ++ 0 ∷ 0 ∷ 0 ∷ 0 ∷ []) h.2 ∙ append_assoc h.0 h.1 _,
   h.3,
   end_chunks ds h.1 h.4,
 )
@@ -78,33 +78,32 @@ CellMeans kind (LongShape c Chunked) (N.ChunkLength c' total d) b = (c' ≡ c) �
 CellMeans kind (LongShape c Chunked) (N.ChunkData c' total left d) b = (c' ≡ c) × ChunkMeans total left d b
 CellMeans kind sh part b = ⊥
 
-pub is_ok_value : (r : Result N.ScalarValue N.ValueFault) → N.is_ok r ≡ true → (v : N.ScalarValue) × (r ≡ Ok v)
-is_ok_value r h = grind arith
+pub is_ok_value : {r : N.Result N.ScalarValue N.ValueFault} → N.is_ok r ≡ true → (v : N.ScalarValue) × (r ≡ Ok v)
+is_ok_value h = grind arith
 
 -- a test that gave no fault passed, and nor did what follows it
-pub guard_none : (b : Bool) (o : Option N.Fault) (f : N.Fault) → (if b then o else Some f) ≡ None → (b ≡ true) × (o ≡ None)
-guard_none b o f h = (grind arith, grind arith)
+pub guard_none : {b : N.Bool} {o : Option N.Fault} (f : N.Fault) → (if b then o else N.Some f) ≡ None → (b ≡ true) × (o ≡ None)
+guard_none f h = grind arith
 
 module _ (column : ℕ) (kind : Kind) where
   value_means : (sh : Shape) (e b : List ℕ) → N.is_ok (N.read_of kind e) ≡ true
       → ((v : N.ScalarValue) → N.read_of kind e ≡ Ok v → N.SpellsCell kind sh (N.ScalarCell v) b) → CellMeans kind sh (N.value_part (N.read_of kind e)) b
-  value_means sh e b h k = grind arith
+  value_means _ e b h k = grind arith
 
-  short_means : (c : N.Conversion) (n left : ℕ) (d : List ℕ) (b : List ℕ) (x : ℕ) → n ≡ length d + (left + 1) → n < 65535
+  short_means : (c : N.Conversion) {n : ℕ} (left : ℕ) {d b : List ℕ} (x : ℕ) → n ≡ length d + (left + 1) → n < 65535
       → b ≡ (n % 256 ∷ n / 256 ∷ []) ++ d → (N.is_begun c (d ++ x ∷ []) && (N.nat_lt 0 left || N.is_fit c (d ++ x ∷ []))) ≡ true
       → CellMeans kind (LongShape c Short) (cell_add (N.ShortData c left d) (x ∷ [])) (b ++ x ∷ [])
-  short_means c n left d b x count less is free = grind (arith, N.length-append)
+  short_means c _ x count less is free = grind (arith, N.length-append)
 
   chunk_means : (c : N.Conversion) (total : Option ℕ) (d b e : List ℕ) → length e ≡ 4 → ChunksMean total d b
       → N.chunk_fault column c total d (little e) ≡ None → CellMeans kind (LongShape c Chunked) (cell_add (N.ChunkLength c total d) e) (b ++ e)
   chunk_means c total d b e four m free =
       N.choose (λ p. CellMeans kind (LongShape c Chunked) p (b ++ e)) _ _ _ (λ z.
-      let zero' = N.eq_true _ 0 z in
-      let end = sym (ap (λ t. (if t then N.end_of_chunks column c total d else N.unless (N.within_total total (length d + little e)) (N.PlpLength column))) z)
+      let end = N.sym (ap (λ t. (if t then N.end_of_chunks column c total d else N.unless (N.within_total total (length d + little e)) (N.PlpLength column))) z)
       ∙ free in
       let e0 : e ≡ 0 ∷ 0 ∷ 0 ∷ 0 ∷ [] = grind (arith, N.common_steps) in (
         refl,
-        unless_none _ _ (guard_none _ _ _ (guard_none _ _ _ end).1).1,
+        unless_none _ _ (guard_none _ (guard_none _ end).1).1,
         record {
           total = m.first;
           rest = m.rest ++ e;
@@ -126,35 +125,34 @@ module _ (column : ℕ) (kind : Kind) where
           chunks = m;
           header = e;
           part = [];
-          spelt = ap (λ v. b ++ v) (sym (N.append-nil e));
+          spelt = search N.rules;
           four = four;
           counted = omega arith;
-          all = sym (N.append-nil d);
+          all = search N.rules;
         },
       ))
 
   data_means : (c : N.Conversion) (total : Option ℕ) (left : ℕ) (d b : List ℕ) (x : ℕ) → ChunkMeans total left d b
       → CellMeans kind (LongShape c Chunked) (cell_add (N.ChunkData c total left d) (x ∷ [])) (b ++ x ∷ [])
-  data_means c total left d b x m =
+  data_means c _ left d b x m =
       let la = N.length-append m.part (x ∷ []) in
-      let counted = m.counted in
       let spelt = ap (λ v. v ++ x ∷ []) m.spelt ∙ append_assoc m.whole _ _ ∙ ap (λ v. m.whole ++ v) (append_assoc m.header m.part _) in
       let all = ap (λ v. v ++ x ∷ []) m.all ∙ append_assoc m.before m.part _ in
-      N.choose (λ p. CellMeans kind (LongShape c Chunked) p (b ++ x ∷ [])) (left == 0) _ _ (λ z.
+      N.choose (λ p. CellMeans kind (LongShape c Chunked) p (b ++ x ∷ [])) _ _ _ (λ z.
       let zero' = N.eq_true left 0 z in
-      let one : N.SpellsChunk _ _ = record { header = m.header; spelt = refl; four = m.four; counted = omega arith; some = omega arith } in (
+      let one : N.SpellsChunk _ _ = grind arith in (
         refl,
         record {
           first = m.chunks.first;
-          chunks = m.chunks.chunks ++ (m.part ++ x ∷ []) ∷ [];
-          rest = m.chunks.rest ++ (m.header ++ (m.part ++ x ∷ []));
+          chunks = m.chunks.chunks ++ _ ∷ [];
+          rest = m.chunks.rest ++ _;
           spelt = spelt ∙ ap (λ v. v ++ (m.header ++ (m.part ++ x ∷ []))) m.chunks.spelt ∙ append_assoc m.chunks.first _ _;
-          eight = m.chunks.eight;
-          total_is = m.chunks.total_is;
-          below = m.chunks.below;
+          eight = cc;
+          total_is = cc;
+          below = omega arith;
           begun = more_chunks _ _ _ _ m.chunks.begun one;
           all = N.concat-append m.chunks.chunks _ ∙ ap (λ v. v ++ N.concat ((m.part ++ x ∷ []) ∷ [])) m.chunks.all
-              ∙ ap (λ v. m.before ++ v) (N.append-nil _) ∙ sym all;
+              ∙ ap (λ v. m.before ++ v) (N.append-nil _) ∙ N.sym all;
         },
       )) (λ z. let some = N.eq_false left 0 z in (
         refl,
@@ -180,24 +178,14 @@ module _ (column : ℕ) (kind : Kind) where
   -- each element keeps the meaning
   pub cell_step : (sh : Shape) (p : N.CellPart) (b e : List ℕ) → AreBytes e → CellMeans kind sh p b → N.IsNext (N.cell column) p e
       → CellMeans kind sh (cell_add p e) (b ++ e)
-  cell_step sh p b e bytes h n = grind (
-    arith,
-    chunk_means,
-    data_means,
-    N.one_byte,
-    short_length_means,
-    short_means,
-    total_means,
-    unless_none,
-    value_means,
-  )
+  cell_step _ p b e bytes h n = grind (arith, N.one_byte, chunk_means, data_means, short_length_means, short_means, total_means, unless_none, value_means)
 
 pub start_means : (kind : Kind) (sh : Shape) → CellMeans kind sh (N.cell_start kind sh) []
-start_means kind sh = grind arith
+start_means _ _ = grind arith
 
 -- What is read as a cell spells it.
-pub cell_is_spelt : {x : N.Cell} {bytes : List ℕ} (column : ℕ) (kind : Kind) (sh : Shape) → AreBytes bytes
+pub cell_is_spelt : {x : N.Cell} {bytes : List ℕ} {column : ℕ} (kind : Kind) (sh : Shape) → AreBytes bytes
     → N.Spelt (N.cell column) (N.cell_start kind sh) bytes (N.WholeCell x) → N.SpellsCell kind sh x bytes
-cell_is_spelt column kind sh are h = N.Spelt-induct _ (λ p b. AreBytes b
+cell_is_spelt kind sh are h = N.Spelt-induct _ (λ p b. AreBytes b
     → CellMeans kind sh p b) (λ p b e m n all. cell_step _ _ _ p b e (N.AreBytes-back b e all) (m (N.AreBytes-front b e all)) n) _ (λ _. start_means _ _)
     _ _ h are

@@ -1,28 +1,24 @@
 -- The cells of scalar kinds, as they are read.
 use Rattle.tds_rows.proofs.Words as N
 use Rattle.tds_rows.proofs.{
-  Words.{◌≡◌, ◌≢◌, ◌∙◌, ℕ, ◌+◌, ◌<◌, true, false, List, [], ◌∷◌, ◌++◌, length, take, drop, refl, sym, ap, subst, arith, Result, Ok, Err, Option, Some, None},
-  Words.{◌||◌, is_ok, if◌then◌else◌, Kind, fixed_length, Space, BadValue, Stop, Seen, Takes, ScalarBytes, ScalarLength, StallsCell, value_bytes, Payload},
+  Words.{◌≡◌, ◌≢◌, ◌∙◌, ℕ, ◌+◌, ◌<◌, true, List, [], ◌∷◌, ◌++◌, length, refl, sym, ap, arith, Ok, Some, None, ◌||◌, is_ok, if◌then◌else◌, Kind},
+  Words.{fixed_length, Space, BadValue, Stop, Seen, Takes, ScalarBytes, ScalarLength, StallsCell, Payload},
 }
 
 pub scalar_shape : (charset : N.Charset) (kind : Kind) → N.is_scalar kind ≡ true → N.shape charset kind ≡ N.shape_of_length (fixed_length kind)
-scalar_shape charset kind h = grind (arith, N.common_steps)
+scalar_shape _ _ h = grind arith
 
 -- the values of a kind of fixed length have some bytes
 pub fixed_some : (kind : Kind) (n : ℕ) → fixed_length kind ≡ Some n → 0 < n
-fixed_some kind n h = grind (arith, N.common_steps)
+fixed_some _ n h = grind arith
 
 -- the next element of a cell is cut
 pub cell_cut : {column n place : ℕ} {s : N.CellPart} {a b : Seen} {stop : Stop} (part : List ℕ) (own : Stop) → N.field_so_far s ≡ None → N.cell_size s ≡ n
     → N.cell_end s ≡ Some N.MessageEnded → length part < n → N.Ends a b part own → stop ≡ N.began_at place own → StallsCell s column a b place stop
-cell_cut {s = s} part own quiet size end fewer ends is = record {
-  at = s;
-  stops = N.cut_at_once _ s _ _ _ _ _ _ (omega (arith, fewer, size)) ends (N.began_is_cut _ _ _ _ end is);
-  quiet = quiet;
-}
+cell_cut _ _ quiet size end fewer ends is = grind arith
 
 -- a value whose bytes were read is refused
-value_stalls : {column n place : ℕ} {kind : Kind} {a b : Seen} (bytes : List ℕ) → 0 < n → length bytes ≡ n → is_ok (N.read_of kind bytes) ≡ false
+value_stalls : {column n place : ℕ} {kind : Kind} {a b : Seen} (bytes : List ℕ) → 0 < n → length bytes ≡ n → is_ok (N.read_of kind bytes) ≡ N.false
     → Takes a b bytes (length bytes) → N.IsBetween b
     → StallsCell (ScalarBytes kind n) column a b place (record { fault = BadValue column; place = Payload place })
 value_stalls {column = column} bytes some whole bad takes between = record {
@@ -42,9 +38,9 @@ fixed_gathers {column = column} {n = n} {place = place} {kind = kind} {a = a} {b
       between = between;
       place_is = omega arith;
       refused = λ some bad.
-          let all : value_bytes kind bytes ≡ bytes = (λ i. take (N.length_after (is i) bytes) (drop (N.start_after (is i)) bytes))
+          let all = (λ i. N.take (N.length_after (is i) bytes) (N.drop (N.start_after (is i)) bytes))
           ∙ N.take_all n bytes (omega arith) in
-          subst (λ k. StallsCell (ScalarBytes kind n) column a b place (record { fault = BadValue column; place = Payload k }))
+          N.subst (λ k. StallsCell (ScalarBytes kind n) column a b place (record { fault = BadValue column; place = Payload k }))
           (omega (arith, ap N.start_after is))
           (value_stalls bytes (fixed_some kind n is) whole (ap (λ l. is_ok (N.read_of kind l)) (sym all) ∙ bad) taken between);
     }
@@ -52,7 +48,7 @@ fixed_gathers {column = column} {n = n} {place = place} {kind = kind} {a = a} {b
 -- ---- the length before it
 
 module _ {column n place : ℕ} {kind : Kind} {a b : Seen} where
-  pub length_refused : n ≢ 0 → N.is_length_allowed kind n ≡ false → Takes a b (n ∷ []) 1 → N.IsBetween b
+  pub length_refused : n ≢ 0 → N.is_length_allowed kind n ≡ N.false → Takes a b (n ∷ []) 1 → N.IsBetween b
       → StallsCell (ScalarLength kind) column a b place (record { fault = N.BadValueLength column; place = Payload place })
   length_refused some bad takes between =
       record {
@@ -69,8 +65,7 @@ module _ {column n place : ℕ} {kind : Kind} {a b : Seen} where
       let p = N.reads_one _ _ a b (n ∷ []) _ (record {
         some = omega arith;
         whole = refl;
-        free = ap (λ v. N.unless v (N.BadValueLength column))
-            (ap (λ v. v || N.is_length_allowed kind n) (N.ne_eqb n 0 some) ∙ good);
+        free = grind arith;
       }) takes (N.choose_false _ _ _ (N.ne_eqb n 0 some)) in
       record { at = x.at; stops = N.stops_after _ _ _ a b _ place x.at _ p (rw at at x.stops); quiet = x.quiet }
 
@@ -87,9 +82,9 @@ counted_gathers {column = column} {n = n} {place = place} {kind = kind} {a = a} 
       between = between;
       place_is = omega arith;
       refused = λ more bad.
-          let all : value_bytes kind _ ≡ value = (λ i. take (N.length_after (is i) (n ∷ value)) (drop (N.start_after (is i)) (n ∷ value)))
+          let all = (λ i. N.take (N.length_after (is i) (n ∷ value)) (N.drop (N.start_after (is i)) (n ∷ value)))
           ∙ N.take_all n value (omega arith) in
-          subst (λ k. StallsCell (ScalarLength kind) column a d place (record { fault = BadValue column; place = Payload k }))
+          N.subst (λ k. StallsCell (ScalarLength kind) column a d place (record { fault = BadValue column; place = Payload k }))
           (omega (arith, ap N.start_after is))
           (length_then some good first refl (value_stalls value (omega arith) whole (ap (λ l. is_ok (N.read_of kind l)) (sym all)
           ∙ bad) taken between));
@@ -98,41 +93,41 @@ counted_gathers {column = column} {n = n} {place = place} {kind = kind} {a = a} 
 -- ---- cells that are read into an area
 
 -- what an empty area gets stands there alone
-stands_alone : (before after : Space) (element : List ℕ) → before.bytes ≡ [] → after ≡ N.appended before element → after.bytes ≡ element
-stands_alone before after element none is = grind (arith, N.common_steps)
+stands_alone : (before : Space) {after : Space} {element : List ℕ} → before.bytes ≡ [] → after ≡ N.appended before element → after.bytes ≡ element
+stands_alone _ none is = grind arith
 
 -- a cell that has no length before its value was read into an empty area, or it is cut
-pub fixed_taken : {U : Type 0} {stopped : Option Stop} {n place' : ℕ} (result : Result U Stop) (column : ℕ) (kind : Kind) (a b : Seen) (place : ℕ)
+pub fixed_taken : {U : Type 0} {stopped : N.Option Stop} {n place' : ℕ} (result : N.Result U Stop) (column : ℕ) (kind : Kind) (a b : Seen) (place : ℕ)
     (before after : Space) → fixed_length kind ≡ Some n → before.bytes ≡ [] → stopped ≡ None → place' ≡ (if is_ok result then place + n else place)
     → N.MatchResult result (λ _. N.TakesInto a b before after n) (λ stop. stopped ≡ None → N.EndsInto a b before after place n stop)
     → N.MatchResult result (λ _. N.GathersCell kind (ScalarBytes kind n) column a b place place' after.bytes)
     (λ stop. StallsCell (ScalarBytes kind n) column a b place stop)
-fixed_taken (Ok u) column kind a b place before after is none going at x =
-    rw (stands_alone _ _ _ none x.stands) (fixed_gathers _ is x.whole x.takes x.between at)
-fixed_taken (Err stop) column kind a b place before after is none going at x = let e = x going in cell_cut _ _ refl refl refl e.fewer e.ends e.stop_is
+fixed_taken (Ok u) _ _ a b _ _ _ is none _ at x =
+    rw (stands_alone _ none x.stands) (fixed_gathers _ is x.whole x.takes x.between at)
+fixed_taken (N.Err stop) _ _ a b _ _ _ _ _ going at x = let e = x going in cell_cut _ _ refl refl refl e.fewer e.ends e.stop_is
 
 -- the length that an empty area got
 pub length_taken : {a b : Seen} {before after : Space} {n : ℕ} → before.bytes ≡ [] → N.slice_index after.bytes 0 ≡ n → N.TakesInto a b before after 1
     → (after.bytes ≡ n ∷ []) × (Takes a b (n ∷ []) 1)
-length_taken none is x = grind (arith, N.common_steps, stands_alone)
+length_taken none is x = grind (arith, N.common_steps)
 
 -- the value after a length that is allowed was read into the area that has the length, or it is cut
-pub counted_taken : {U : Type 0} {stopped : Option Stop} {n middle place' : ℕ} (result : Result U Stop) (column : ℕ) (kind : Kind) (a b d : Seen)
+pub counted_taken : {U : Type 0} {stopped : N.Option Stop} {n middle place' : ℕ} (result : N.Result U Stop) (column : ℕ) (kind : Kind) (a b d : Seen)
     (place : ℕ) (before after : Space) → fixed_length kind ≡ None → before.bytes ≡ n ∷ [] → n ≢ 0 → N.is_length_allowed kind n ≡ true
     → Takes a b (n ∷ []) 1 → middle ≡ place + 1 → stopped ≡ None → place' ≡ (if is_ok result then middle + n else middle)
     → N.MatchResult result (λ _. N.TakesInto b d before after n) (λ stop. stopped ≡ None → N.EndsInto b d before after middle n stop)
     → N.MatchResult result (λ _. N.GathersCell kind (ScalarLength kind) column a d place place' after.bytes)
     (λ stop. StallsCell (ScalarLength kind) column a d place stop)
-counted_taken (Ok u) column kind a b d place before after is first some good takes at going there x =
+counted_taken (Ok u) _ _ a b d _ _ _ is first some good takes at going there x =
     rw (ap (λ s. s.bytes) x.stands ∙ ap (λ l. l ++ x.element) first) (counted_gathers b _ is some good takes at x.whole x.takes x.between there)
-counted_taken (Err stop) column kind a b d place before after is first some good takes at going there x =
+counted_taken (N.Err stop) _ _ a b d _ _ _ _ _ some good takes at going there x =
     let e = x going in
     length_then some good takes at (cell_cut e.part e.own refl refl refl e.fewer e.ends e.stop_is)
 
 -- from the shape of a scalar kind on
-pub scalar_start : (charset : N.Charset) (kind : Kind) (o : Option ℕ) → N.is_scalar kind ≡ true → fixed_length kind ≡ o
+pub scalar_start : (charset : N.Charset) (kind : Kind) {o : N.Option ℕ} → N.is_scalar kind ≡ true → fixed_length kind ≡ o
     → N.cell_start kind (N.shape_of_length o) ≡ N.cell_start kind (N.shape charset kind)
-scalar_start charset kind o scalar is = grind (arith, N.common_steps, scalar_shape)
+scalar_start _ _ scalar is = grind arith
 
 -- a cell whose bytes were gathered, and that is left, stops at its value
 pub left_stalls : {kind : Kind} {from : N.CellPart} {column : ℕ} {a b : Seen} {place place' : ℕ} {bytes : List ℕ}

@@ -1,61 +1,56 @@
 -- Runs over cells by their forms, a cell after those that were written.
-use Rattle.tds_rows.specs.FormRuns.{IsLatest, NumbersWithin}
-use Rattle.tds_rows.specs.declared.run.forms.Latest.{Latest}
 use Rattle.tds_rows.proofs.Words as N
 use Rattle.tds_rows.proofs.{
-  Words.{◌⊎◌, ◌≡◌, ◌≢◌, ◌∙◌, ℕ, zero, suc, ◌+◌, ◌-◌, ◌<◌, ◌≤◌, Bool, false, List, [], ◌∷◌, ◌++◌, length, take, drop, get_or, refl, ◌*◌, sym, ap, arith, ◌==◌},
-  Words.{◌&&◌, map, slice_set, Column, after_comma, end_after, in_line, Charset, Form, subst, true},
-  LineTexts.{after_some_column, after_append},
-  RunSteps.{made_more, used_more, whole_some},
+  Words.{◌⊎◌, ◌≡◌, ◌≢◌, ◌∙◌, ℕ, suc, ◌+◌, ◌-◌, ◌<◌, ◌≤◌, Bool, false, List, [], ◌∷◌, ◌++◌, length, take, drop, get_or, refl, ◌*◌, sym, ap, arith, ◌==◌},
+  Words.{◌&&◌, Column, end_after, Charset, Form},
+  RowSteps.{after_some_column, after_append},
+  RunSteps.{made_more, used_more, whole_some, unused},
   TableSteps.{known_kind, last_one},
 }
+use Rattle.tds_rows.specs.FormRuns.{IsLatest, NumbersWithin}
+use Rattle.tds_rows.specs.declared.run.forms.Latest.{Latest}
 
 not_last : (rest : List Column) → 0 < length rest → false ≡ N.is_last_column rest
-not_last rest some = grind arith
+not_last _ some = grind arith
 
 module _ (forms : List Form) (ends : Bool) (columns : List Column) (next : N.AreNext forms ends columns) where
   few : length forms ≤ length columns
-  few = grind (arith, N.common_steps, N.length-map, N.length-take)
+  few = grind (arith, N.length-map, N.length-take)
 
   -- the column after this many is the last where the forms say so
   last_of : (k : ℕ) (c : Column) (rest : List Column) → k < length forms → drop k columns ≡ c ∷ rest
       → (ends && (k + 1 == length forms)) ≡ N.is_last_column rest
-  last_of k c rest within step = go (length forms == length columns) refl
+  last_of k c rest within step = go _ refl
     where
       go : (b : Bool) → (length forms == length columns) ≡ b → (ends && (k + 1 == length forms)) ≡ N.is_last_column rest
-      go true e = ap (λ v. v && (k + 1 == length forms)) (next.ends_are ∙ e)
-          ∙ last_one columns rest c k (length forms) (N.eq_true (length forms) (length columns) e) step
-      go false e = ap (λ v. v && (k + 1 == length forms)) (next.ends_are ∙ e) ∙ not_last rest (more (N.eq_false (length forms) (length columns) e))
+      go N.true e = ap (λ v. v && (k + 1 == length forms)) (next.ends_are ∙ e)
+          ∙ last_one columns rest c k _ (N.eq_true _ _ e) step
+      go false e = ap (λ v. v && (k + 1 == length forms)) (next.ends_are ∙ e) ∙ not_last rest (more (N.eq_false _ _ e))
         where
           more : length forms ≢ length columns → 0 < length rest
-          more isnt = omega (arith, few, isnt, within, ap length step, N.length-drop k columns)
+          more isnt = omega (arith, few, ap length step, N.length-drop k columns)
 
   module _ (k : ℕ) (d : Form) (within : k < length forms) where
     abbrev next_column : Column
     next_column = get_or columns k (record { kind = d.kind; name = [] })
 
     step : drop k columns ≡ next_column ∷ drop (k + 1) columns
-    step = N.drop_more columns k (record { kind = d.kind; name = [] }) (omega (arith, few, within))
+    step = grind (arith, N.drop_more, few)
 
     kind_is : (get_or forms k d).kind ≡ next_column.kind
-    kind_is = known_kind _ _ _ k d _ (ap (map (λ f. f.kind)) (N.take_all (length forms) forms (omega arith))
-        ∙ next.kinds_are) within (omega arith) (omega (arith, few, within))
+    kind_is = known_kind _ _ _ k d _ (ap (N.map _) (N.take_all _ forms (omega arith))
+        ∙ next.kinds_are) within (omega arith) (omega (arith, few))
 
     -- the cell after this many
-    next_cell : (charset : Charset) (all : List Column) (column : ℕ) (bytes text : List ℕ) → columns ≡ drop column all
+    next_cell : {charset : Charset} {all : List Column} (column : ℕ) {bytes text : List ℕ} → columns ≡ drop column all
         → N.WritesKind charset (get_or forms k d).kind (column + k) (ends && (k + 1 == length forms)) bytes text
         → N.WritesColumn charset all (λ k. false) (column + k) bytes text
-    next_cell charset all column bytes text is x = record {
-      column = next_column;
-      left = drop (k + 1) columns;
-      next = ap (λ (n : ℕ). drop n all) (omega arith) ∙ sym (N.drop-drop k column all) ∙ ap (drop k) (sym is) ∙ step;
-      writes = rw (kind_is, last_of k _ _ within step) at x.whole;
-    }
+    next_cell _ is x = grind (arith, N.drop-drop, kind_is, last_of, step)
 
 -- some forms have a first
 pub some_first : (forms : List Form) → 0 < length forms → (form : Form) × (rest : List Form) × (forms ≡ form ∷ rest)
-some_first [] some = absurd (omega (arith, some))
-some_first (f ∷ fs) some = (f, fs, refl)
+some_first [] some = grind arith
+some_first (f ∷ fs) _ = (f, fs, refl)
 
 module _ (charset : Charset) (forms : List Form) (column : ℕ) (ends : Bool) (columns : List Column) (next : N.AreNext forms ends (drop column columns))
   where
@@ -67,99 +62,93 @@ module _ (charset : Charset) (forms : List Form) (column : ℕ) (ends : Bool) (c
     one_more : {m : ℕ} (d : Form) (n : ℕ) (bytes text : List ℕ) → m ≡ n + 1 → m ≤ length forms
         → (x : N.WritesForms charset forms column (suc n) bytes text) → N.WritesMarked charset columns (λ k. false) column n x.0 x.2
         → N.WritesMarked charset columns (λ k. false) column (suc n) bytes (text ++ end_after (closes m))
-    one_more d n bytes text is few x w =
-        let last = closes (n + 1) in
+    one_more d n _ _ is few x w =
+        let last = closes _ in
         rw is (
           x.0,
           x.1,
           x.2,
-          in_line (column + n) last x.3,
+          N.in_line _ last x.3,
           x.4,
           ap (λ l. l ++ end_after last) x.5 ∙ N.append_assoc x.2 _ _,
           w,
-          next_cell _ _ _ next n d (omega arith) _ _ _ _ _ refl (x.7 d (column + n) last),
+          next_cell _ _ _ next n d (omega arith) _ refl (x.7 d _ last),
         )
 
-    not_closed : (n : ℕ) → n < length forms → closes n ≡ false
-    not_closed n few = grind (arith, N.nat_tests)
+    not_closed : {n : ℕ} → n < length forms → closes n ≡ false
+    not_closed few = grind arith
 
     -- the fields of cells before the last are their text
     earlier : (d : Form) (n : ℕ) (bytes text : List ℕ) → n < length forms → N.WritesForms charset forms column n bytes text
         → N.WritesMarked charset columns (λ k. false) column n bytes text
-    earlier d zero bytes text few x = x
-    earlier d (suc n) bytes text few x = rw (
-      not_closed _ few,
+    earlier d N.zero _ _ _ x = x
+    earlier d (suc n) _ _ few x = rw (
+      not_closed few,
       N.append-nil,
     ) at (one_more {m = suc n} d n _ _ (omega arith) (omega arith) x (earlier d n _ _ (omega arith) x.6))
 
     -- the fields of some cells are the text of a run over them
     pub run_marked : (cells : ℕ) (bytes fields : List ℕ) → 0 < cells → cells ≤ length forms → N.WritesForms charset forms column cells bytes fields
         → N.WritesMarked charset columns (λ k. false) column cells bytes (fields ++ end_after (closes cells))
-    run_marked zero bytes fields some few x = absurd (omega (arith, some))
-    run_marked (suc n) bytes fields some few x =
-        let d = (some_first forms (omega (arith, few))).0 in
+    run_marked N.zero _ _ some _ x = grind arith
+    run_marked (suc n) bytes fields _ few x =
+        let d = (some_first forms (omega arith)).0 in
         one_more d n bytes fields (omega arith) few x (earlier d n x.0 x.2 (omega arith) x.6)
 
 -- what stands before the comma of the next cell
-pub before_comma : (made column : ℕ) (to fields : List ℕ) → 0 < column → made ≤ length to → take made to ≡ fields ++ after_comma column []
+pub before_comma : (made column : ℕ) (to fields : List ℕ) → 0 < column → made ≤ length to → take made to ≡ fields ++ N.after_comma column []
     → take (made - 1) to ≡ fields
 before_comma made column to fields some within is =
-    let comma : take made to ≡ fields ++ 44 ∷ [] = is ∙ ap (λ l. fields ++ l) (sym (after_some_column column [] (λ e. omega (arith, e, some)))) in
-    let counted : length fields ≡ made - 1 = omega (arith, sym (N.length-take-le made to within) ∙ ap length comma ∙ N.length-append fields (44 ∷ [])) in
-    sym (N.take-take (made - 1) made to (omega arith)) ∙ ap (take (made - 1)) comma
-    ∙ N.take-append-le (made - 1) fields (44 ∷ []) (omega (arith, counted)) ∙ N.take_all (made - 1) fields (omega (arith, counted))
+    let comma = is ∙ ap (λ l. fields ++ l) (sym (after_some_column column (λ e. omega arith))) in
+    let counted : length fields ≡ made - 1 = omega (arith, sym (N.length-take-le made to within) ∙ ap length comma ∙ N.length-append fields _) in
+    sym (N.take-take _ made to (omega arith)) ∙ ap (take _) comma
+    ∙ N.take-append-le _ fields _ (omega arith) ∙ N.take_all _ fields (omega arith)
 
 module _ (charset : Charset) (forms : List Form) (column : ℕ) (bytes : List ℕ) where
   -- one cell more
   pub fields_more : (to text rest : List ℕ) (k used u now made m : ℕ) (d : Form) → now ≡ used + u → made ≤ length to → m < length text
-      → k < length forms → N.WritesField charset (get_or forms k d).kind (take u (take (length bytes - used) (drop used bytes))) (take m text)
+      → k < length forms → N.WritesField charset (get_or forms k d).kind (take u (unused used bytes)) (take m text)
       → N.FieldsWritten charset forms column bytes to (record { cells = k; used = used; made = made })
-      → N.FieldsWritten charset forms column bytes (slice_set (take made to ++ (text ++ rest)) (made + m) 44)
+      → N.FieldsWritten charset forms column bytes (N.slice_set (take made to ++ (text ++ rest)) (made + m) 44)
       (record { cells = k + 1; used = now; made = made + m + 1 })
-  fields_more to text rest k used u now made m d further within some there wrote (fields, x, is) =
-      let read = take u (take (length bytes - used) (drop used bytes)) in
+  fields_more to text rest k used u _ made m d further within some there wrote (fields, x, is) =
+      let read = take u _ in
       let field = take m text in
-      let all = take made to ++ (text ++ rest) in
-      let here : made + m < length all = omega (
-        arith,
-        some,
-        N.length-append (take made to) (text ++ rest),
-        N.length-append text rest,
-        N.length-take-le made to within,
-      ) in
-      let is' : take (made + m + 1) (slice_set all (made + m) 44) ≡ (fields ++ after_comma (column + k) field) ++ after_comma (column + (k + 1)) [] =
-      N.take_more_set all (made + m) 44 here ∙ ap (λ l. l ++ 44 ∷ []) (made_more made m to text rest within (omega (arith, some))
-      ∙ ap (λ l. l ++ field) is ∙ N.append_assoc fields (after_comma (column + k) []) field
-      ∙ ap (λ l. fields ++ l) (sym (after_append (column + k) [] field)))
-      ∙ ap (λ l. (fields ++ after_comma (column + k) field) ++ l) (after_some_column (column + (k + 1)) [] (λ e. omega (arith, e))) in
-      let written : N.WritesForms charset forms column (suc k) (take (used + u) bytes) (fields ++ after_comma (column + k) field) =
+      let all = take made to ++ _ in
+      let here : made + m < length all = omega (arith, N.length-append (take made to) (text ++ rest), N.length-append text rest, N.length-take-le made to within) in
+      let is' =
+      N.take_more_set all _ 44 here ∙ ap (λ l. l ++ 44 ∷ []) (made_more made m to text rest within (omega arith)
+      ∙ ap (λ l. l ++ field) is ∙ N.append_assoc fields _ field
+      ∙ ap (λ l. fields ++ l) (sym (after_append _ [] field)))
+      ∙ ap (λ l. (fields ++ N.after_comma (column + k) field) ++ l) (after_some_column (column + (k + 1)) (λ e. omega arith)) in
+      let written : N.WritesForms charset forms column (suc k) _ _ =
       (take used bytes, read, fields, field, used_more used u bytes, refl, x, λ form. rw (N.get_or_default forms k d form there) at wrote) in
       let next : suc k ≡ k + 1 = omega arith in
-      rw further (fields ++ after_comma (column + k) field, rw (← next) written, is')
+      rw further (fields ++ N.after_comma (column + k) field, rw (← next) written, is')
 
   -- the first alone
   pub first_alone : (ends : Bool) (to : List ℕ) (used made : ℕ) (fields : List ℕ) → N.FirstUsed forms bytes used
       → N.WritesForms charset forms column 1 (take used bytes) fields → take made to ≡ fields ++ end_after (ends && (1 == length forms))
       → N.FirstWritten charset forms column ends bytes to (record { cells = 1; used = used; made = made })
-  first_alone ends to used made fields size (front, rest, before, field, b, t, x, y) is = λ form others are.
-      let last = ends && (1 == length forms) in
-      let read : rest ≡ take used bytes = sym (b ∙ ap (λ l. l ++ rest) x.0) in
-      let text : in_line column last field ≡ take made to =
-      ap (λ l. l ++ end_after last) (ap (λ (n : ℕ). after_comma n field) (let n : column ≡ column + 0 = omega arith in n)
-      ∙ sym (t ∙ ap (λ l. l ++ after_comma (column + 0) field) x.1)) ∙ sym is in
-      let kind_is : (get_or forms 0 form).kind ≡ form.kind = ap (λ (l : List Form). (get_or l 0 form).kind) are in
-      record { size = size form others are; writes = rw kind_is at (rw text at (rw read at (y form column last))) }
+  first_alone ends _ _ _ _ size (front, rest, before, field, b, t, x, y) is = λ form others are.
+      let last = ends && _ in
+      let read = sym (b ∙ ap (λ l. l ++ rest) x.0) in
+      let text =
+      ap (λ l. l ++ end_after last) (ap (λ (n : ℕ). N.after_comma n field) (let n : column ≡ column + 0 = omega arith in n)
+      ∙ sym (t ∙ ap (λ l. l ++ N.after_comma (column + 0) field) x.1)) ∙ sym is in
+      let kind_is = ap (λ (l : List Form). (get_or l 0 form).kind) are in
+      record { size = search N.rules; writes = rw kind_is at (rw text at (rw read at (y form column last))) }
 
 -- the bytes of the first cell were used
 first_used : (forms : List Form) (bytes : List ℕ) (used u k : ℕ) (d : Form) → k ≡ 0 → used ≡ 0
-    → u ≡ N.whole_size (get_or forms k d).kind (take (length bytes - used) (drop used bytes)) → N.FirstUsed forms bytes (used + u)
-first_used forms bytes used u k d first none size form others are = grind (arith, N.all_after)
+    → u ≡ N.whole_size (get_or forms k d).kind (unused used bytes) → N.FirstUsed forms bytes (used + u)
+first_used _ _ _ u k d first none size _ _ are = grind (arith, N.all_after)
 
 -- what is left of the bytes, after some more of them
 pub left_after : (bytes rest : List ℕ) (u : ℕ) → length rest ≤ length bytes → rest ≡ drop (length bytes - length rest) bytes → u ≤ length rest
-    → (length bytes - length (take (length rest - u) (drop u rest)) ≡ (length bytes - length rest) + u)
-    × (take (length rest - u) (drop u rest) ≡ drop ((length bytes - length rest) + u) bytes)
-left_after bytes rest u within is some = grind (arith, N.common_steps, some, N.length-take, N.length-drop, N.all_after, N.drop-drop)
+    → (length bytes - length (unused u rest) ≡ (length bytes - length rest) + u)
+    × (unused u rest ≡ drop ((length bytes - length rest) + u) bytes)
+left_after _ _ u _ is some = grind (arith, N.all_after, N.drop-drop, N.length-drop)
 
 -- ---- a run so far
 
@@ -176,19 +165,19 @@ pub record FieldsAt (forms : List Form) (bytes : List ℕ) (room cells used made
 -- one cell more, and the comma after it
 pub fields_step : {forms : List Form} {bytes : List ℕ} {room more_room cells used now made : ℕ} (u m : ℕ) (d : Form)
     → FieldsAt forms bytes room cells used made → now ≡ used + u → more_room ≡ room → cells < length forms → u ≤ length bytes - used → made + m + 2 ≤ room
-    → u ≡ N.whole_size (get_or forms cells d).kind (take (length bytes - used) (drop used bytes))
+    → u ≡ N.whole_size (get_or forms cells d).kind (unused used bytes)
     → FieldsAt forms bytes more_room (cells + 1) now (made + m + 1)
 fields_step {forms = forms} {bytes = bytes} {cells = cells} {used = used} u m d x further same there within fits whole =
-    let more = whole_some (get_or forms cells d).kind (take (length bytes - used) (drop used bytes)) in
+    let more = whole_some (get_or forms cells d).kind (unused used bytes) in
     record {
       few = omega arith;
-      taken = omega (arith, x.taken);
+      taken = omega arith;
       fits = omega arith;
-      begun = λ never. absurd (omega (arith, never));
-      some = λ _. omega (arith, more, whole);
-      further = λ _. (omega arith, omega arith);
-      one = λ first. let begun = x.begun (omega (arith, first)) in
-          rw further (first_used forms bytes used u cells d (omega (arith, first)) begun.0 whole);
+      begun = omega arith;
+      some = omega arith;
+      further = omega arith;
+      one = λ first. let begun = x.begun (omega arith) in
+          rw further (first_used forms bytes used u cells d (omega arith) begun.0 whole);
     }
 
 -- the run is over once the end of the line, or nothing, stands over the last comma
@@ -196,15 +185,15 @@ pub fields_run : {charset : Charset} {forms : List Form} {column : ℕ} {ends : 
     (new : List ℕ) → 0 < run.cells → N.WritesFields charset forms column bytes text run → made ≤ room
     → take made new ≡ take (run.made - 1) text ++ end_after (ends && (run.cells == length forms))
     → N.RunsForms charset forms column ends bytes room new (record run { made = made })
-fields_run {charset = charset} {forms = forms} {column = column} {ends = ends} {bytes = bytes} {text = text} {run = run} room made new some x fits is =
+fields_run {charset = charset} {forms = forms} {column = column} {ends = ends} {bytes = bytes} {text = text} {run = run} _ made new some x fits is =
     let (fields, wrote, there) = x.fields in
-    let before = before_comma run.made (column + run.cells) text fields (omega (arith, some)) x.within.made there in
-    let text_is = is ∙ ap (λ l. l ++ end_after (ends && (run.cells == length forms))) before in
+    let before = before_comma run.made _ text fields (omega arith) x.within.made there in
+    let text_is = is ∙ ap (λ l. l ++ end_after _) before in
     record {
-      within = record { cells = x.within.cells; used = x.within.used; made = fits; some = x.within.some; none = x.within.none };
-      ends = λ none. absurd (omega (arith, some, none));
+      within = omega arith;
+      ends = grind arith;
       one = λ alone.
-          let one = subst (λ (n : ℕ). N.WritesForms charset forms column n (take run.used bytes) fields) alone wrote in
+          let one = N.subst (λ (n : ℕ). N.WritesForms charset forms column n (take run.used bytes) fields) alone wrote in
           let first = first_alone charset forms column bytes ends new run.used made fields (x.one alone) one
           (text_is ∙ ap (λ (n : ℕ). fields ++ end_after (ends && (n == length forms))) alone) in
           first;
@@ -213,19 +202,19 @@ fields_run {charset = charset} {forms = forms} {column = column} {ends = ends} {
 
 -- a cell of at most five bytes leaves five for each of the others
 pub bytes_step : (n k used u size : ℕ) → k < n → u ≤ 5 → used + 5 * (n - k) ≤ size → used + u + 5 * (n - (k + 1)) ≤ size
-bytes_step n k used u size some few within = omega arith
+bytes_step n k _ u _ some few within = omega arith
 
 -- its field, of at most 11, and the comma after it leave room for those of the others
 pub room_step : (n k made m room more : ℕ) → more ≡ room → k < n → m ≤ 11 → made + 12 * (n - k) + 25 ≤ room
     → made + m + 1 + 12 * (n - (k + 1)) + 25 ≤ more
-room_step n k made m room more same some few within = omega arith
+room_step n k _ m _ _ same some few within = omega arith
 
 -- ---- a cell that is left
 
 -- with less room too
-pub left_less : (charset : Charset) (kind : N.Kind) (bytes : List ℕ) (fewer room : ℕ) → fewer ≤ room → N.IsLeft charset kind bytes room
+pub left_less : (charset : Charset) (kind : N.Kind) (bytes : List ℕ) {fewer room : ℕ} → fewer ≤ room → N.IsLeft charset kind bytes room
     → N.IsLeft charset kind bytes fewer
-left_less charset kind bytes fewer room less h6 = grind (arith, N.common_steps)
+left_less _ _ _ less h6 = grind arith
 
 -- ---- rows of numbers
 

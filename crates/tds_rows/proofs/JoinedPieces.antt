@@ -1,33 +1,33 @@
 -- What joiners do with the pieces of some content, in the words of their conversion.
-use Rattle.tds_csv.specs.declared.joiners.JoinFault.TheVariants as join_faults
 use Rattle.tds_rows.proofs.Words as N
 use Rattle.tds_rows.proofs.{
-  Words.{◌≡◌, ◌∙◌, ℕ, ◌+◌, ◌-◌, ◌^◌, ◌<◌, ◌≤◌, Bool, false, List, [], ◌∷◌, ◌++◌, length, take, drop, inl, inr, refl, sym, ap, subst, arith, Result, Ok, Err},
-  Words.{Option, Stop, Seen, Takes, IsBetween, BeginsData, Conversion, IsFit, conversion_rest, emit, Held, Puts, joins_by_name, added_text},
-  Paths.At,
+  Words.{◌≡◌, ◌∙◌, ℕ, ◌+◌, ◌-◌, ◌^◌, ◌<◌, ◌≤◌, Bool, List, [], ◌∷◌, ◌++◌, length, inr, sym, ap, subst, arith, Err, Stop, Seen, Takes, IsBetween},
+  Words.{BeginsData, Conversion, IsFit, conversion_rest, emit, Held, joins_by_name},
+  Paths.{At, over},
 }
+use Rattle.tds_csv.specs.declared.joiners.JoinFault.TheVariants as join_faults
 
 module _ {fit begins : List ℕ → Type 0} {rest text : List ℕ → List ℕ} {size : ℕ} {quoted : Bool} {c : Conversion}
     (suits : N.Suits fit begins rest text size quoted c) where
   module _ (content : List ℕ) {old : List ℕ} (is : old ≡ conversion_rest c content) (begun : BeginsData c content) where
     begun_with : (piece : List ℕ) → begins (old ++ piece) → BeginsData c (content ++ piece)
-    begun_with piece h = (joins_by_name c).outward content piece (rw (← is) ((suits.begins_is (old ++ piece)).0 h))
+    begun_with piece h = (joins_by_name c).outward content piece (rw (← is) ((suits.begins_is _).0 h))
 
     -- a piece was taken
     pub piece_taken : {new piece : List ℕ} {p q : At} → 0 < length piece → Takes p.seen q.seen piece 1 → IsBetween q.seen
         → q.place ≡ p.place + length piece → N.TakesPiece begins rest text old new p.held q.held piece
-        → N.TakesData c content new p.seen q.seen p.place q.place p.held q.held (length piece)
-    piece_taken {piece = piece} {p = p} {q = q} some takes between at x =
+        → over (N.TakesData c content new) p q (length piece)
+    piece_taken {piece = piece} some takes between at x =
         let all = begun_with piece x.begun in
         record {
           piece = piece;
-          counted = refl;
+          counted = N.refl;
           some = some;
           takes = takes;
           between = between;
           place_is = at;
           begun = all;
-          puts = subst (Puts p.held q.held) (grind arith) x.put;
+          puts = grind arith;
           kept_is = x.withheld ∙ suits.rest_is _ ∙ ap (λ o. conversion_rest c (o ++ piece)) is ∙ sym ((joins_by_name c).keeps content piece all);
         }
 
@@ -35,56 +35,55 @@ module _ {fit begins : List ℕ → Type 0} {rest text : List ℕ → List ℕ} 
     piece_bad : {new : List ℕ} {k : ℕ} {h i : Held} {column most : ℕ} {a b : Seen} {place : ℕ} (piece : List ℕ) → length piece ≤ most
         → Takes a b piece 1 → IsBetween b → N.TakesUpTo begins rest text old new h i piece k
         → N.RefusesData c content column most a b place h i (record { fault = N.BadText column; place = N.Payload (place + k) })
-    piece_bad {k = k} {h = h} {column = column} {a = a} {b = b} {place = place} piece short takes between x =
+    piece_bad {k = k} {a = a} {b = b} piece short takes between x =
         let within = x.within in
         let len = N.length-take-le k piece (omega arith) in
-        let good = take _ piece in
+        let good = N.take _ piece in
         let bad = N.get_or piece _ 0 in
         let split = sym (N.take-append-drop _ piece) ∙ ap (λ l. good ++ l) (N.drop_more piece _ 0 within) in
         record {
           good = good;
           bad = bad;
-          ahead = drop _ piece;
+          ahead = N.drop _ piece;
           within = omega arith;
           takes = subst (λ l. Takes a b l 1) split takes;
           between = between;
           begun = begun_with good x.good.begun;
           no_text = λ so.
-              let inward : BeginsData c _ = (joins_by_name c).inward content (good ++ bad ∷ [])
-              (subst (BeginsData c) (N.append_assoc content good (bad ∷ [])) so) in
+              let inward = (joins_by_name c).inward content _
+              (subst (BeginsData c) (N.append_assoc content good _) so) in
               x.bad ((suits.begins_is _).1 (rw (is, N.take_more piece _ 0 within) inward));
-          puts = subst (Puts h _) (grind arith) x.good.put;
-          stop_is = ap (λ n. record { fault = N.BadText column; place = N.Payload (place + n) }) (sym len);
+          puts = grind arith;
+          stop_is = cc;
         }
 
     -- a write of its text failed
     piece_breaks : {most : ℕ} {a b : Seen} {h i : Held} {stop : Stop} (piece : List ℕ) → length piece ≤ most → Takes a b piece 1 → IsBetween b
         → begins old → N.Breaks h i (emit rest text (old ++ piece)) stop → N.BreaksData c content most a b h i stop
-    piece_breaks {h = h} {i = i} {stop = stop} piece short takes between begins_old breaks =
+    piece_breaks piece short takes between begins_old breaks =
         let f = N.begun_front c old piece ((suits.begins_is old).0 begins_old) in
-        let good = take f.taken piece in
+        let good = N.take f.taken piece in
         let within = f.within in
         record {
           good = good;
-          ahead = drop f.taken piece;
+          ahead = N.drop f.taken piece;
           within = omega (arith, N.length-take-le f.taken piece within);
           takes = rw (N.take-append-drop f.taken piece) takes;
           between = between;
           begun = (joins_by_name c).outward content good (rw (← is) f.begun);
-          breaks = subst (λ l. N.Breaks h i l stop) (grind arith ∙ sym f.same ∙ ap (λ o. emit (conversion_rest c) (N.conversion_text c) (o ++ good)) is)
-              breaks;
+          breaks = grind arith;
         }
 
     -- the fault of a push
     pub push_stops : {column most : ℕ} {a b : Seen} {place : ℕ} {h i : Held} {before after : Bool} (new piece : List ℕ) (fault : N.JoinFault)
-        → length piece ≤ most → Takes a b piece 1 → IsBetween b → begins old → before ≡ false → after ≡ N.is_stopped {U = Unit {0}} (Err fault)
+        → length piece ≤ most → Takes a b piece 1 → IsBetween b → begins old → before ≡ N.false → after ≡ N.is_stopped {U = Unit {0}} (Err fault)
         → N.Pushes {U = Unit {0}} begins rest text old new h i before piece (Err fault)
         → N.StopsData c content column most a b place h i after (N.join_stop column place fault)
-    push_stops new piece (N.Stopped stop) short takes between begins_old going failed x =
-        inr (inr (piece_breaks piece short takes between begins_old (x going), failed))
-    push_stops new piece N.Odd short takes between begins_old going failed x = absurd x
-    push_stops new piece (join_faults.BadText k) short takes between begins_old going failed x =
-        inr (inl (piece_bad piece short takes between x, failed))
+    push_stops _ _ (N.Stopped stop) short takes between begins_old going failed x =
+        grind (arith, piece_breaks)
+    push_stops _ _ N.Odd _ _ _ _ _ _ x = absurd x
+    push_stops _ piece (join_faults.BadText k) short takes between _ _ failed x =
+        inr (N.inl (piece_bad piece short takes between x, failed))
 
     -- ---- the end
 
@@ -93,7 +92,7 @@ module _ {fit begins : List ℕ → Type 0} {rest text : List ℕ → List ℕ} 
 
     -- the content is whole
     pub end_whole : {new : List ℕ} {h i : Held} → N.Completes fit text old new h i → IsFit c content
-        × Puts h i (N.conversion_text c (conversion_rest c content))
+        × N.Puts h i (N.conversion_text c (conversion_rest c content))
     end_whole x = grind (arith, fit_whole)
 
     -- it isn't
@@ -102,45 +101,44 @@ module _ {fit begins : List ℕ → Type 0} {rest text : List ℕ → List ℕ} 
 
     -- the fault of an end
     pub end_stops : {column place : ℕ} {h i : Held} {before after : Bool} (new : List ℕ) (unit' : ℕ) (last : Bool) (fault : N.JoinFault)
-        → before ≡ false → after ≡ N.is_stopped {U = Unit {0}} (Err fault) → N.EndsBy {U = Unit {0}} unit' fit text old new h i before (Err fault)
+        → before ≡ N.false → after ≡ N.is_stopped {U = Unit {0}} (Err fault) → N.EndsBy {U = Unit {0}} unit' fit text old new h i before (Err fault)
         → N.StopsEnding c quoted last content column place h i after (N.join_stop column place fault)
-    end_stops {h = h} {i = i} new unit' last (N.Stopped stop) going failed x =
-        let breaks = subst (λ l. N.Breaks h i l stop) (suits.text_is old ∙ ap (N.conversion_text c) is) (x going).1 in
-        inl (fit_whole (x going).0, N.Breaks-longer h i _ _ stop breaks, failed)
-    end_stops {column = column} {place = place} new unit' last N.Odd going failed x =
+    end_stops _ _ _ (N.Stopped stop) going failed x =
+        grind (arith, N.common_steps, fit_whole)
+    end_stops {column = column} {place = place} _ _ _ N.Odd _ failed x =
         inr (end_part x.0, x.0.put, ap (λ n. record { fault = N.BadText column; place = N.Payload n }) (omega arith), failed)
-    end_stops {column = column} {place = place} new unit' last (join_faults.BadText k) going failed x =
+    end_stops {column = column} {place = place} _ _ _ (join_faults.BadText k) _ failed x =
         inr (end_part x.0, x.0.put, ap (λ n. record { fault = N.BadText column; place = N.Payload n }) (omega arith), failed)
 
 -- ---- piece after piece
 
 module _ (c : Conversion) (content : List ℕ) (begun : BeginsData c content) where
-  added_none : added_text c content [] ≡ []
+  added_none : N.added_text c content [] ≡ []
   added_none =
       N.append_cancel_left _ _ []
       (sym ((joins_by_name c).emits content [] (subst (BeginsData c) (sym (N.append-nil content)) begun))
       ∙ ap (emit (conversion_rest c) (N.conversion_text c)) (N.append-nil content) ∙ sym (N.append-nil _))
 
   added_both : (more piece : List ℕ) → BeginsData c ((content ++ more) ++ piece)
-      → added_text c content more ++ added_text c (content ++ more) piece ≡ added_text c content (more ++ piece)
+      → N.added_text c content more ++ N.added_text c (content ++ more) piece ≡ N.added_text c content (more ++ piece)
   added_both more piece all =
       let e = emit (conversion_rest c) (N.conversion_text c) in
       let laws = joins_by_name c in
       let regroup = N.append_assoc content more piece in
-      let front = laws.front (content ++ more) piece all in
+      let front = laws.front _ piece all in
       N.append_cancel_left _ _ _
-      (sym (N.append_assoc (e content) (added_text c content more) (added_text c (content ++ more) piece))
-      ∙ ap (λ l. l ++ added_text c (content ++ more) piece) (sym (laws.emits content more front)) ∙ sym (laws.emits (content ++ more) piece all)
+      (sym (N.append_assoc (e content) _ _)
+      ∙ ap (λ l. l ++ N.added_text c (content ++ more) piece) (sym (laws.emits content more front)) ∙ sym (laws.emits (content ++ more) piece all)
       ∙ ap e regroup ∙ laws.emits content (more ++ piece) (subst (BeginsData c) regroup all))
 
   -- nothing was read
   fills_none : {p : At} → IsBetween p.seen → length p.held.waiting < 4096 → p.held.delivered ≤ 2 ^ 64 - 1
-      → N.FillsData c content p.seen p.seen p.place p.place p.held p.held []
+      → over (N.FillsData c content) p p []
   fills_none between few delivered = record {
-    takes = N.Takes-none _ 0;
+    takes = grind arith;
     between = between;
     place_is = omega arith;
-    begun = rw (sym (N.append-nil content)) at begun;
+    begun = search N.rules;
     puts = rw added_none (N.Puts-none _ delivered);
     few = few;
     delivered = delivered;
@@ -148,9 +146,9 @@ module _ (c : Conversion) (content : List ℕ) (begun : BeginsData c content) wh
 
   -- a piece more was read
   fills_more : {kept more : List ℕ} {n : ℕ} {p q r : At} → length r.held.waiting < 4096 → r.held.delivered ≤ 2 ^ 64 - 1
-      → N.FillsData c content p.seen q.seen p.place q.place p.held q.held more
-      → (x : N.TakesData c (content ++ more) kept q.seen r.seen q.place r.place q.held r.held n)
-      → N.FillsData c content p.seen r.seen p.place r.place p.held r.held (more ++ x.piece)
+      → over (N.FillsData c content) p q more
+      → (x : over (N.TakesData c (content ++ more) kept) q r n)
+      → over (N.FillsData c content) p r (more ++ x.piece)
   fills_more {more = more} {p = p} {q = q} {r = r} few delivered y x =
       record {
         takes = N.takes_both p.seen q.seen r.seen more x.piece y.takes (N.Takes-more q.seen r.seen x.piece 1 _ (omega arith) x.takes);
@@ -165,19 +163,19 @@ module _ (c : Conversion) (content : List ℕ) (begun : BeginsData c content) wh
 -- Some of the content was read, piece by piece, and so much of it is left.
 pub record Filled (c : Conversion) (content kept : List ℕ) (p q : At) (n left : ℕ) : Type 0 where
   pub more : List ℕ
-  pub fills : N.FillsData c content p.seen q.seen p.place q.place p.held q.held more
+  pub fills : over (N.FillsData c content) p q more
   pub counted : length more + left ≡ n
   pub kept_is : kept ≡ conversion_rest c (content ++ more)
 
 pub filled_none : {c : Conversion} {content kept : List ℕ} {n : ℕ} {p : At} → BeginsData c content → kept ≡ conversion_rest c content
     → IsBetween p.seen → length p.held.waiting < 4096 → p.held.delivered ≤ 2 ^ 64 - 1 → Filled c content kept p p n n
 filled_none begun is between few delivered =
-    record { more = []; fills = fills_none _ _ begun between few delivered; counted = omega arith; kept_is = rw (N.append-nil _) is }
+    record { more = []; fills = fills_none _ _ begun between few delivered; counted = omega arith; kept_is = search N.rules }
 
 module _ {c : Conversion} {content kept : List ℕ} {p q : At} {n left : ℕ} (begun : BeginsData c content) (x : Filled c content kept p q n left) where
-  pub filled_more : {kept' : List ℕ} {r : At} (k : ℕ) → k ≤ left → length r.held.waiting < 4096 → r.held.delivered ≤ 2 ^ 64 - 1
-      → N.TakesData c (content ++ x.more) kept' q.seen r.seen q.place r.place q.held r.held k → Filled c content kept' p r n (left - k)
-  filled_more k most few delivered y = record {
+  pub filled_more : {kept' : List ℕ} {r : At} {k : ℕ} → k ≤ left → length r.held.waiting < 4096 → r.held.delivered ≤ 2 ^ 64 - 1
+      → over (N.TakesData c (content ++ x.more) kept') q r k → Filled c content kept' p r n (left - k)
+  filled_more most few delivered y = record {
     more = x.more ++ y.piece;
     fills = fills_more c content begun few delivered x.fills y;
     counted = omega (arith, N.length-append x.more y.piece);
@@ -187,7 +185,7 @@ module _ {c : Conversion} {content kept : List ℕ} {p q : At} {n left : ℕ} (b
   pub filled_stops : {column : ℕ} {d : Seen} {j : Held} {failed : Bool} {stop : Stop} → 0 < left
       → N.StopsData c (content ++ x.more) column left q.seen d q.place q.held j failed stop
       → N.StopsFilling c content column n p.seen d p.place p.held j failed stop
-  filled_stops {failed = failed} some y =
+  filled_stops some y =
       let rest : left ≡ n - length x.more = omega arith in
       record {
         front = x.more;
@@ -196,13 +194,13 @@ module _ {c : Conversion} {content kept : List ℕ} {p q : At} {n left : ℕ} (b
         between = q.held;
         fewer = omega arith;
         fills = x.fills;
-        stops = rw (← rest) y;
+        stops = grind arith;
       }
 
 -- the end of content that is whole was put, or a write of it failed
-pub end_puts : {W U : Type 0} (contents : W → Option (List ℕ)) (c : Conversion) (quoted last : Bool) (content : List ℕ) (column place : ℕ)
-    (a b d : N.Sink W) (r : Result U Stop)
-    → IsFit c content × Puts (N.held contents a) (N.held contents b) (N.conversion_text c (conversion_rest c content)) → b.failed ≡ false
+pub end_puts : {W U : Type 0} {contents : W → N.Option (List ℕ)} {b d : N.Sink W} {r : N.Result U Stop} (c : Conversion) (quoted last : Bool)
+    (content : List ℕ) (column place : ℕ) (a : N.Sink W)
+    → IsFit c content × N.Puts (N.held contents a) (N.held contents b) (N.conversion_text c (conversion_rest c content)) → b.failed ≡ N.false
     → N.PutsPiece contents b d (N.closing quoted ++ N.end_after last) r → N.EndPut contents c quoted last content column place a d r
-end_puts contents c quoted last content column place a b d (Ok u) x going y = (x.0, N.Puts-trans _ _ _ _ _ x.1 y.gives)
-end_puts contents c quoted last content column place a b d (Err e) x going y = inl (x.0, N.Breaks-after _ _ _ _ _ e x.1 (y.gives going), y.failed)
+end_puts {r = N.Ok u} c _ _ _ _ _ a x _ y = (x.0, N.Puts-trans _ _ _ _ _ x.1 y.gives)
+end_puts {r = Err e} c _ _ _ _ _ a x going y = N.inl (x.0, N.Breaks-after _ _ _ _ _ e x.1 (y.gives going), y.failed)

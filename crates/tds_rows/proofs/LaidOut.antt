@@ -1,10 +1,6 @@
 -- Cells by how their values are laid out.
 use Rattle.tds_rows.proofs.Words as N
-use Rattle.tds_rows.proofs.{
-  Words.{◌≤◌, ◌&&◌, sym, take, drop, ◌≡◌, ℕ, ◌<◌, Bool, true, false, List, length, refl, arith, ◌==◌, Kind, Form, Layout, Each, ◌+◌, Option, Some, None, inl},
-  Words.{inr},
-  CellSteps.fixed_some,
-}
+use Rattle.tds_rows.proofs.Words.{◌≤◌, ◌&&◌, ◌≡◌, ℕ, ◌<◌, true, List, length, arith, ◌==◌, Kind, Form, Layout, Each, ◌+◌}
 use Rattle.tds_rows.specs.declared.cell.layout.Layout.TheVariants.{Chunked, Counted, Fixed, Short as ShortLayout}
 
 -- the same form many times
@@ -13,64 +9,56 @@ each_all P n f is k d here = grind (arith, N.get_or-replicate, N.length-replicat
 
 -- one more form of many
 pub each_set : (P : Form → Type 0) (forms : List Form) (k : ℕ) (f : Form) → Each P forms → k < length forms → P f → Each P (N.slice_set forms k f)
-each_set P forms k f all within is j d here = go _ refl
-  where
-    go : (b : Bool) → (j == k) ≡ b → P (N.get_or (N.slice_set forms k f) j d)
-    go true e = rw (N.get_or-set_at forms k j f d (N.eq_true j k e) within) is
-    go false e = rw (N.get_or-set_other forms k j f d (N.eq_false j k e)) (all j d (omega (arith, N.length-set forms k f, here)))
+each_set P _ k f all _ is j d here = search N.rules
 
 -- one more whole number of four bytes, or a form of another kind
-pub int4_set : (forms : List Form) (k : ℕ) (f : Form) (all one : Bool) → (all ≡ true → N.AreInt4 forms) → k < length forms → one ≡ N.is_int4 f.kind
+pub int4_set : (forms : List Form) (k : ℕ) (f : Form) (all one : N.Bool) → (all ≡ true → N.AreInt4 forms) → k < length forms → one ≡ N.is_int4 f.kind
     → (all && one) ≡ true → N.AreInt4 (N.slice_set forms k f)
-int4_set forms k f true true before within is both = each_set (λ f. N.IsInt4 f.kind) forms k f (before refl) within (sym is)
-int4_set forms k f true false before within is both = absurd (N.false≢true both)
-int4_set forms k f false one before within is both = absurd (N.false≢true both)
+int4_set _ k f true true before _ is _ = search N.rules
+int4_set _ k f true N.false _ _ _ both = cc
+int4_set _ k f N.false _ _ _ _ both = cc
 
 -- a part of whole numbers of four bytes
-pub int4_part : (forms : List Form) (k n : ℕ) → N.AreInt4 forms → n ≤ length (drop k forms) → N.AreInt4 (take n (drop k forms))
-int4_part forms k n all fits j d here = grind (arith, N.common_steps, N.length-drop, N.length-take-le)
+pub int4_part : (forms : List Form) (k n : ℕ) → N.AreInt4 forms → n ≤ length (N.drop k forms) → N.AreInt4 (N.take n (N.drop k forms))
+int4_part _ k n all _ j d here = grind (arith, N.common_steps)
 
 -- ---- a value that is there
 
 -- at once
 pub fixed_there : {l : Layout} (bytes : List ℕ) {start : ℕ × ℕ} {n : ℕ} → l ≡ Fixed n → start ≡ (0, n) → N.HasValueAt l bytes start.0 start.1
-fixed_there bytes is there = grind arith
+fixed_there _ is there = grind arith
 
 -- after a length of one byte
 pub counted_there : {l : Layout} (bytes : List ℕ) {start : ℕ × ℕ} → l ≡ Counted → start ≡ (1, N.slice_index bytes 0)
     → N.HasValueAt l bytes start.0 start.1
-counted_there bytes is there = grind arith
+counted_there _ is there = grind arith
 
 module _ (charset : N.Charset) (kind : Kind) where
   -- it is that of a scalar kind
   pub value_there : (l : Layout) (bytes : List ℕ) (start n : ℕ) → N.IsLaidOut charset kind l → N.HasValueAt l bytes start n → (N.is_scalar kind ≡ true)
       × ((start ≡ N.value_start kind) × (n ≡ N.value_length kind bytes))
-  value_there l bytes start n laid h = grind arith
+  value_there l _ _ n laid h = grind arith
 
   -- a kind whose values have contents is a long one
-  is_long_kind : (c : N.Conversion) (r : N.Reach) → N.shape charset kind ≡ N.LongShape c r → N.is_scalar kind ≡ false
-  is_long_kind c r is = grind arith
+  is_long_kind : {c : N.Conversion} {r : N.Reach} → N.shape charset kind ≡ N.LongShape c r → N.is_scalar kind ≡ N.false
+  is_long_kind is = grind arith
 
   -- ---- a cell that is left, and a short value
 
   -- how many bytes its cell has
   pub short_whole : (content : N.Content) (bytes : List ℕ) → N.IsLaidOut charset kind (ShortLayout content) → N.short_size bytes ≡ N.whole_size kind bytes
-  short_whole content bytes laid = grind arith
+  short_whole _ _ laid = grind arith
 
 -- a scalar cell has some bytes
 scalar_some : (kind : Kind) (bytes : List ℕ) → 0 < N.scalar_size kind bytes
-scalar_some kind bytes = go (N.fixed_length kind) refl
-  where
-    go : (o : Option ℕ) → N.fixed_length kind ≡ o → 0 < N.start_after o + N.length_after o bytes
-    go (Some n) is = omega (arith, fixed_some kind n is)
-    go None is = omega arith
+scalar_some _ _ = grind arith
 
 -- where there are no bytes, a cell is left
 pub empty_left : (charset : N.Charset) (kind : Kind) (l : Layout) (bytes : List ℕ) (room : ℕ) → N.IsLaidOut charset kind l
     → ((content : N.Content) → l ≡ ShortLayout content → ⊥) → length bytes ≡ 0 → N.IsLeft charset kind bytes room
-empty_left charset kind (Fixed n) bytes room laid other none =
-    inl ((value_there charset kind (Fixed n) bytes 0 n laid (refl, refl)).0, inl (omega (arith, scalar_some kind bytes)))
-empty_left charset kind Counted bytes room laid other none =
-    inl ((value_there charset kind Counted bytes 1 (N.slice_index bytes 0) laid (refl, refl)).0, inl (omega (arith, scalar_some kind bytes)))
-empty_left charset kind (ShortLayout content) bytes room laid other none = absurd (other content refl)
-empty_left charset kind (Chunked content) bytes room laid other none = grind (arith, N.common_steps, is_long_kind)
+empty_left _ _ (Fixed n) _ _ _ _ none =
+    grind arith
+empty_left _ _ Counted _ _ _ _ none =
+    grind arith
+empty_left _ _ (ShortLayout content) _ _ _ _ none = grind arith
+empty_left _ _ (Chunked content) _ room laid other none = grind arith

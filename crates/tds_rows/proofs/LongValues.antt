@@ -1,13 +1,303 @@
--- Long values, element after element: their lengths, the content between, and the end.
+-- Long values, in the grammar of a cell: the text of their parts, the pieces of their content, and their lengths and ends.
 use Rattle.tds_rows.proofs.Words as N
 use Rattle.tds_rows.proofs.{
-  Words.{◌≡◌, ◌∙◌, inl, inr, ℕ, zero, suc, ◌-◌, ◌^◌, ◌<◌, ◌≤◌, Bool, true, false, List, [], ◌∷◌, ◌++◌, length, sym, ap, arith, append-nil, Result, Ok, Err},
-  Words.{Option, take-nil, Stop, Seen, Conversion, HexDigits, Utf16Text, Utf8Text, Windows1252Text, is_quoted, after_comma, Held, Puts, held, fit_by_test},
-  Words.{CellPart, cell, PutsField, StopsField, cell_so_far, ending, opening, ◌≢◌, ◌+◌, refl, None, ChunkLength},
-  LongSteps.{ending_text, ends_break, ends_path, ends_refused, short_holds, short_refused, text_at, chunk_holds},
+  Words.{◌≡◌, ◌∙◌, inl, inr, ℕ, ◌-◌, ◌^◌, ◌<◌, ◌≤◌, Bool, List, [], ◌∷◌, ◌++◌, length, sym, ap, arith, append-nil, Option, Stop, Seen, Conversion},
+  Words.{is_quoted, after_comma, Held, Puts, held, CellPart, cell, PutsField, StopsField, cell_so_far, ending, opening, ◌≢◌, ◌+◌, ChunkLength, ◌⊎◌, suc},
+  Words.{true, false, refl, subst, append_assoc, Some, ◌&&◌, ◌||◌, BadText, Spelt, BeginsData, is_fit, open_field, added_text, Breaks},
   Numbers.{Next, short_left, chunk_end, chunk_start, chunk_unfit, chunk_left},
-  Paths.{At, Path, path_both, path_of, streams_of, path_none, path_stops},
+  Paths.{At, Path, path_both, path_of, path_none, path_stops, over},
+  RowSteps.{line_grows, after_append},
 }
+
+-- ---- content, byte by byte
+
+-- the text of what of some content isn't withheld
+abbrev pub emitted : Conversion → List ℕ → List ℕ
+emitted c = N.emit (N.conversion_rest c) (N.conversion_text c)
+
+-- The states of the bytes of some content, by how many follow and what was read: each next byte is an element, and free of faults where text begins
+-- so, and where the content is good at its end.
+pub record HoldsContent (column : ℕ) (c : Conversion) (state : ℕ → List ℕ → CellPart) (Good : List ℕ → Type 0) : Type 0 where
+  pub size : (r : ℕ) (d : List ℕ) → N.cell_size (state (suc r) d) ≡ 1
+  pub end : (r : ℕ) (d : List ℕ) → N.cell_end (state (suc r) d) ≡ Some N.MessageEnded
+  pub text : (r : ℕ) (d : List ℕ) → N.field_so_far (state (suc r) d) ≡ Some (open_field c d)
+  pub add : (r : ℕ) (d : List ℕ) (x : ℕ) → N.cell_add (state (suc r) d) (x ∷ []) ≡ state r (d ++ x ∷ [])
+  pub free : (r : ℕ) (d : List ℕ) (x : ℕ) → N.is_begun c (d ++ x ∷ []) ≡ true → (r ≡ 0 → Good (d ++ x ∷ []))
+      → N.cell_fault column (state (suc r) d) (x ∷ []) ≡ N.None
+  pub bad : (r : ℕ) (d : List ℕ) (x : ℕ) → N.is_begun c (d ++ x ∷ []) ≡ false → N.cell_fault column (state (suc r) d) (x ∷ []) ≡ Some (BadText column)
+  pub ends : (d : List ℕ) (x : ℕ) → Good (d ++ x ∷ []) ⊎ (emitted c (d ++ x ∷ []) ≡ emitted c d)
+  pub whole : (last : Bool) (d : List ℕ) → Good d → (more : List ℕ)
+      × (after_comma column (open_field c d) ++ more ≡ cell_so_far column last (state 0 d))
+
+-- a list that isn't empty has a last number
+snoc_of : (l : List ℕ) → 0 < length l → (p : List ℕ) × (x : ℕ) × (l ≡ p ++ x ∷ [])
+snoc_of [] some = grind arith
+snoc_of (x ∷ []) _ = ([], x, refl)
+snoc_of (x ∷ y ∷ l) _ = let r = snoc_of _ (omega arith) in (x ∷ r.0, r.1, ap (λ t. x ∷ t) r.2)
+
+no_text_false : (c : Conversion) (l : List ℕ) {b : Bool} → N.is_begun c l ≡ b → (BeginsData c l → ⊥) → b ≡ false
+no_text_false c l is h = grind (arith, N.begun_by_test)
+
+module _ {column : ℕ} {c : Conversion} {state : ℕ → List ℕ → CellPart} {Good : List ℕ
+    → Type 0} (last : Bool) (holds : HoldsContent column c state Good) where
+  pub text_at : (r : ℕ) (d : List ℕ) → cell_so_far column last (state (suc r) d) ≡ after_comma column (open_field c d)
+  text_at r d = grind arith
+
+  -- the bytes of some content are elements
+  pub content_spelt : (d bytes : List ℕ) (m r : ℕ) → m ≡ length bytes + r → BeginsData c (d ++ bytes) → (r ≡ 0 → 0 < length bytes → Good (d ++ bytes))
+      → Spelt (cell column) (state m d) bytes (state r (d ++ bytes))
+  content_spelt d [] m r is begun good = search N.rules
+  content_spelt d (x ∷ xs) m r is begun good =
+      let k = length xs + r in
+      let next : m ≡ suc k = omega arith in
+      let good_one : k ≡ 0 → Good _ = λ none. subst (λ l. Good (d ++ x ∷ l)) (N.nil_of_length xs (omega arith)) (good (omega arith) (omega arith)) in
+      let regroup = sym (append_assoc d _ xs) in
+      let more_begun = subst (BeginsData c) regroup begun in
+      let more = content_spelt _ xs k r refl more_begun (λ none some. subst Good regroup (good none (omega arith))) in
+      let one = N.Spelt-step _ _ _ _ (omega arith) (sym (holds.size k d))
+      (holds.free k d x ((N.begun_by_test c _).1 ((N.joins_by_name c).front _ xs more_begun)) good_one) (holds.add k d x) in
+      rw (next, regroup) (N.Spelt-append _ _ _ _ xs _ one more)
+
+  -- and where more follow
+  front_spelt : {m : ℕ} (d bytes : List ℕ) (r : ℕ) → m ≡ length bytes + suc r → BeginsData c (d ++ bytes)
+      → Spelt (cell column) (state m d) bytes (state (suc r) (d ++ bytes))
+  front_spelt d _ r is begun = grind (arith, content_spelt)
+
+  -- what some content adds to the open field
+  text_more : (d more : List ℕ) → BeginsData c (d ++ more)
+      → after_comma column (open_field c d) ++ added_text c d more ≡ after_comma column (open_field c (d ++ more))
+  text_more d _ begun = grind (arith, N.open_grows)
+
+  -- what some content adds to the text, where more follows
+  text_grown : (d more : List ℕ) (r r' : ℕ) → BeginsData c (d ++ more)
+      → cell_so_far column last (state (suc r) d) ++ added_text c d more ≡ cell_so_far column last (state (suc r') (d ++ more))
+  text_grown d _ r _ begun = grind (arith, text_more)
+
+  -- and where none does
+  text_closed : (d more tail : List ℕ) (r : ℕ) → BeginsData c (d ++ more)
+      → after_comma column (open_field c (d ++ more)) ++ tail ≡ cell_so_far column last (state 0 (d ++ more))
+      → cell_so_far column last (state (suc r) d) ++ (added_text c d more ++ tail) ≡ cell_so_far column last (state 0 (d ++ more))
+  text_closed d _ _ r begun whole = grind (arith, append_assoc, text_more)
+
+  -- bytes were read and their text put, and more follow
+  fills_path : {d more : List ℕ} {p q : At} (m r : ℕ) → m ≡ length more + suc r → over (N.FillsData c d) p q more
+      → Path (cell column) (cell_so_far column last) (state m d) p q (state (suc r) (d ++ more))
+  fills_path {more = more} m r is x =
+      let next : suc (length more + r) ≡ m = omega arith in
+      record {
+        bytes = more;
+        made = added_text c _ more;
+        writes = record { spelt = front_spelt _ more r is x.begun; text_is = rw next at (text_grown _ more (length more + r) r x.begun) };
+        takes = x.takes;
+        puts = x.puts;
+        place_is = x.place_is;
+      }
+
+  -- what the last byte adds to the text, where it isn't good there
+  adds_none : (d p : List ℕ) (x : ℕ) → BeginsData c (d ++ (p ++ x ∷ [])) → emitted c ((d ++ p) ++ x ∷ []) ≡ emitted c (d ++ p)
+      → added_text c d (p ++ x ∷ []) ≡ added_text c d p
+  adds_none d p x begun same =
+      let laws = N.joins_by_name c in
+      let regroup = sym (append_assoc d p _) in
+      N.append_cancel_left _ _ _ (sym (laws.emits d _ begun) ∙ ap (emitted c) regroup ∙ same
+      ∙ laws.emits d p (laws.front _ _ (subst (BeginsData c) regroup begun)))
+
+  -- the byte after some that are good is refused
+  byte_refused : {a b : Seen} {h i : Held} {m : ℕ} (d good ahead : List ℕ) (y r place : ℕ) → m ≡ length good + suc r → BeginsData c (d ++ good)
+      → N.cell_fault column (state (suc r) (d ++ good)) (y ∷ []) ≡ Some (BadText column) → N.Takes a b (good ++ y ∷ ahead) 1 → N.IsBetween b
+      → Puts h i (added_text c d good)
+      → StopsField (state m d) column last a b place h i false (record { fault = BadText column; place = N.Payload (place + length good) })
+  byte_refused {a = a} {m = m} d good ahead y r _ is begun bad takes between puts =
+      let next : suc (length good + r) ≡ m = omega arith in
+      record {
+        at = state _ _;
+        cause = inl (
+          record {
+            bytes = good;
+            spelt = front_spelt d good r is begun;
+            cause = inl (
+              record {
+                element = y ∷ [];
+                ahead = ahead;
+                some = omega arith;
+                whole = omega arith;
+                first = bad;
+                takes = N.Takes-more a _ ((good ++ y ∷ []) ++ ahead) 1 _ (omega (arith, N.length-append good (y ∷ []))) (rw append_assoc takes);
+                between = between;
+              },
+              refl,
+            );
+          },
+          (added_text c d good, rw next at (text_grown d good (length good + r) r begun), puts),
+          refl,
+        );
+      }
+
+  module _ (d : List ℕ) (r : ℕ) (a b : Seen) (place : ℕ) (h i : Held) (stop : Stop) (few : length h.waiting < 4096)
+      (delivered : h.delivered ≤ 2 ^ 64 - 1) where
+    abbrev Stopped : Bool → Type 0
+    Stopped failed = StopsField (state (suc r) d) column last a b place h i failed stop
+
+    piece_cut : N.CutsData a b place h i stop → Stopped false
+    piece_cut x =
+        let at = state _ d in
+        let stops = N.cut_at_once _ _ a b _ _ _ _ (omega arith) x.ends (N.began_is_cut _ _ _ _ (holds.end r d) x.stop_is) in
+        rw x.same (record { at = at; cause = inl (stops, ([], append-nil _, N.Puts-none h delivered), refl) })
+
+    piece_refused : N.RefusesData c d column (suc r) a b place h i stop → Stopped false
+    piece_refused x =
+        let no = no_text_false c _ refl x.no_text in
+        rw x.stop_is (byte_refused d _ _ _ _ _ (omega arith) x.begun (holds.bad (r - length x.good) _ x.bad no) x.takes
+        x.between x.puts)
+
+    -- a write of the text of a piece failed, whose bytes lead to a state
+    broken : (good ahead added : List ℕ) {to : CellPart} → Spelt (cell column) (state (suc r) d) good to → N.Takes a b (good ++ ahead) 1 → N.IsBetween b
+        → cell_so_far column last (state (suc r) d) ++ added ≡ cell_so_far column last to → Breaks h i added stop → Stopped true
+    broken _ _ _ {to} spelt takes between text_is breaks =
+        let x = N.breaks_somewhere _ _ (line_grows column last) _ a b h i _ between to _ _ _ spelt takes few delivered text_is breaks in
+        record { at = x.0; cause = grind arith }
+
+    piece_broken_at : (ahead p : List ℕ) (x : ℕ) → length (p ++ x ∷ []) ≡ suc r → N.Takes a b ((p ++ x ∷ []) ++ ahead) 1 → N.IsBetween b
+        → BeginsData c (d ++ (p ++ x ∷ [])) → Breaks h i (added_text c d (p ++ x ∷ [])) stop → Stopped true
+    piece_broken_at _ p x all takes between begun breaks =
+        let same = sym (append_assoc d p _) in
+        elim (holds.ends _ x) [
+          | inl whole ↦
+              (let fine = subst Good (sym same) whole in
+              let w = holds.whole last _ fine in
+              broken _ _ _ (content_spelt d _ _ 0 (omega arith) begun (λ _ _. fine)) takes between (text_closed d _ _ r begun w.1)
+              (N.Breaks-longer h i _ _ _ breaks))
+          | inr none ↦
+              (let front = (N.joins_by_name c).front _ _ (subst (BeginsData c) same begun) in
+              broken p _ _ (front_spelt d p 0 (omega (arith, N.length-append p (x ∷ []))) front) (rw append_assoc at takes) between
+              (text_grown d p r 0 front) (rw (adds_none d p x begun none) at breaks))
+        ]
+
+    piece_broken : N.BreaksData c d (suc r) a b h i stop → Stopped true
+    piece_broken x =
+        elim (N.cases_lt (length x.good) (suc r)) [
+          | inl less ↦ broken x.good x.ahead _ (front_spelt d x.good _ (omega arith) x.begun) x.takes x.between
+              (text_grown d x.good r (r - length x.good) x.begun) x.breaks
+          | inr more ↦
+              (let all : length x.good ≡ suc r = omega arith in
+              let s = snoc_of x.good (omega arith) in
+              piece_broken_at x.ahead s.0 s.1 (rw s.2 at all) (rw s.2 at x.takes) x.between (rw s.2 at x.begun) (rw s.2 at x.breaks))
+        ]
+
+    -- the next piece stopped
+    piece_stops : {failed : Bool} → N.StopsData c d column (suc r) a b place h i failed stop → Stopped failed
+    piece_stops (inl x) = rw x.1 (piece_cut x.0)
+    piece_stops (inr (inl x)) = rw x.1 (piece_refused x.0)
+    piece_stops (inr (inr x)) = rw x.1 (piece_broken x.0)
+
+  -- the content stopped in one of its pieces
+  pub filling_stops : {d : List ℕ} {m : ℕ} {p : At} {b : Seen} {i : Held} {failed : Bool} {stop : Stop}
+      → N.StopsFilling c d column m p.seen b p.place p.held i failed stop → StopsField (state m d) column last p.seen b p.place p.held i failed stop
+  filling_stops {m = m} x =
+      let r = m - length x.front - 1 in
+      let left : m - length x.front ≡ suc r = omega arith in
+      path_stops (fills_path m r (omega arith) x.fills) (piece_stops _ _ _ _ x.there _ _ _ x.fills.few x.fills.delivered (rw left at x.stops))
+
+  -- ---- the last piece
+
+  module _ {d kept : List ℕ} {m : ℕ} {p q : At} (x : over (N.EndsData c d kept) p q m) where
+    -- all of the content
+    abbrev all_content : List ℕ
+    all_content = (d ++ x.front) ++ x.takes.piece
+
+    abbrev last_left : ℕ
+    last_left = x.last - 1
+
+    last_split : x.last ≡ suc last_left
+    last_split = omega arith
+
+    front_path : Path (cell column) (cell_so_far column last) (state m d) p (record { seen = x.middle; place = x.there; held = x.between })
+        (state (suc last_left) (d ++ x.front))
+    front_path = grind (arith, fills_path)
+
+    last_spelt : Good all_content → Spelt (cell column) (state (suc last_left) (d ++ x.front)) x.takes.piece (state 0 all_content)
+    last_spelt good = grind (arith, content_spelt)
+
+    -- all of it was read and its text put, and what ends it
+    pub ends_path : {j : Held} (tail : List ℕ) → Good all_content
+        → after_comma column (open_field c all_content) ++ tail ≡ cell_so_far column last (state 0 all_content) → Puts q.held j tail
+        → Path (cell column) (cell_so_far column last) (state m d) p (record q { held = j }) (state 0 all_content)
+    ends_path tail good whole puts =
+        path_both front_path (record {
+          bytes = x.takes.piece;
+          made = added_text c _ _ ++ tail;
+          writes = record { spelt = last_spelt good; text_is = text_closed _ _ tail _ x.takes.begun whole };
+          takes = grind arith;
+          puts = N.Puts-trans _ q.held _ _ _ x.takes.puts puts;
+          place_is = omega arith;
+        })
+
+    -- a write of what ends it failed
+    pub ends_break : {j : Held} {stop : Stop} (tail : List ℕ) → Good all_content
+        → after_comma column (open_field c all_content) ++ tail ≡ cell_so_far column last (state 0 all_content) → Breaks q.held j tail stop
+        → StopsField (state m d) column last p.seen q.seen p.place p.held j true stop
+    ends_break _ good whole breaks =
+        let taken = rw (sym (append-nil x.takes.piece)) at x.takes.takes in
+        path_stops front_path (broken _ _ _ _ _ _ _ _ x.fills.few x.fills.delivered _ [] _ (last_spelt good) taken x.takes.between
+        (text_closed _ _ _ _ x.takes.begun whole) (N.Breaks-after _ _ _ _ _ _ x.takes.puts breaks))
+
+    -- where the content isn't whole, its last byte is refused
+    pub ends_refused : ((e : List ℕ) (y : ℕ) → is_fit c (e ++ y ∷ []) ≡ false → N.cell_fault column (state 1 e) (y ∷ []) ≡ Some (BadText column))
+        → is_fit c all_content ≡ false
+        → StopsField (state m d) column last p.seen q.seen p.place p.held q.held false
+        (record { fault = BadText column; place = N.Payload (q.place - 1) })
+    ends_refused bad unfit =
+        let s = snoc_of _ (omega arith) in
+        let e = d ++ x.front in
+        let f = s.0 in
+        let y = s.1 in
+        let len : length x.takes.piece ≡ length f + 1 = ap length s.2 ∙ N.length-append f _ in
+        let same : e ++ _ ≡ _ ++ y ∷ [] = sym (append_assoc e f _) in
+        let begun = rw s.2 at x.takes.begun in
+        let unfit_here = rw (s.2, same) at unfit in
+        let adds = adds_none e f y begun (N.unfit_adds_none c _ y unfit_here) in
+        let stands : x.there + length f ≡ q.place - 1 = omega arith in
+        path_stops front_path (rw stands at (byte_refused {a = x.middle} {h = x.between} {i = q.held} {m = suc last_left} e f [] y 0 x.there
+        (omega arith) ((N.joins_by_name c).front _ _ (rw same at begun)) (bad _ y unfit_here) (rw s.2 at x.takes.takes)
+        x.takes.between (rw (s.2, adds) at x.takes.puts)))
+
+-- ---- the content of a short value, and of a chunk
+
+short_next : {c : Conversion} {r : ℕ} {d : List ℕ} → short_left c (suc r) d ≡ N.ShortData c r d
+short_next = grind arith
+
+module _ (column : ℕ) (c : Conversion) where
+  fit_or_none : (d : List ℕ) (x : ℕ) {b : Bool} → is_fit c (d ++ x ∷ []) ≡ b → (is_fit c (d ++ x ∷ []) ≡ true)
+      ⊎ (emitted c (d ++ x ∷ []) ≡ emitted c d)
+  fit_or_none d x _ = grind (arith, N.unfit_adds_none)
+
+  -- the end of a value that is whole
+  pub ending_text : (last : Bool) (d : List ℕ) → is_fit c d ≡ true
+      → after_comma column (open_field c d) ++ ending c (is_quoted c) last d ≡ N.in_line column last (N.long_field c d)
+  ending_text last d fit =
+      let rest = N.conversion_text c _ in
+      let close = N.closing _ in
+      ap (λ l. after_comma column (open_field c d) ++ l) (sym (append_assoc rest close _)) ∙ sym (append_assoc _ (rest ++ close) _)
+      ∙ ap (λ l. l ++ N.end_after last) (sym (after_append column _ _) ∙ ap (after_comma column) (N.open_closes c d fit))
+
+  pub short_holds : HoldsContent column c (short_left c) (λ d. is_fit c d ≡ true)
+  short_holds = record {
+    size = grind arith;
+    end = grind arith;
+    text = grind arith;
+    add = grind arith;
+    free = grind arith;
+    bad = grind arith;
+    ends = λ d x. fit_or_none d x refl;
+    whole = λ last d fit. (ending c _ last d, ending_text last d fit);
+  }
+
+  -- where the content isn't whole, its last byte is refused
+  pub short_refused : (e : List ℕ) (y : ℕ) → is_fit c (e ++ y ∷ []) ≡ false → N.cell_fault column (short_left c 1 e) (y ∷ []) ≡ Some (BadText column)
+  short_refused e y unfit = grind arith
+
+  pub chunk_holds : (total : Option ℕ) → HoldsContent column c (chunk_left c total) (λ _. Unit {0})
+  chunk_holds _ = search N.rules
 
 -- ---- no content
 
@@ -17,31 +307,31 @@ rest_none c = grind (arith, N.drop-nil)
 emit_none : (c : Conversion) → N.emit (N.conversion_rest c) (N.conversion_text c) [] ≡ []
 emit_none c = grind (arith, N.hex-nil, N.text_nil)
 
-open_none : (c : Conversion) → opening (is_quoted c) ≡ N.open_field c []
-open_none HexDigits = sym (append-nil N.binary_mark) ∙ ap (λ l. N.binary_mark ++ l) (sym (emit_none HexDigits))
-open_none Utf16Text = ap (λ l. N.quote ∷ l) (sym (emit_none Utf16Text))
-open_none Windows1252Text = ap (λ l. N.quote ∷ l) (sym (emit_none Windows1252Text))
-open_none Utf8Text = ap (λ l. N.quote ∷ l) (sym (emit_none Utf8Text))
+open_none : (c : Conversion) → opening (is_quoted c) ≡ open_field c []
+open_none N.HexDigits = sym (append-nil N.binary_mark) ∙ ap (λ l. N.binary_mark ++ l) (sym (emit_none N.HexDigits))
+open_none N.Utf16Text = ap (λ l. N.quote ∷ l) (sym (emit_none N.Utf16Text))
+open_none N.Windows1252Text = cc
+open_none N.Utf8Text = grind arith
 
-pub none_begins : (c : Conversion) → N.BeginsData c []
-none_begins c = (N.begun_by_test c []).0 (N.fit_begins c [] [] (N.no_data_is_fit c))
+pub none_begins : (c : Conversion) → BeginsData c []
+none_begins c = grind arith
 
 -- ---- parts of a field, one after the other
 
 -- a cell was read to its end
 pub field_of : {column : ℕ} {last : Bool} {s : CellPart} {p q : At} {value : N.Cell}
-    → Path (cell column) (cell_so_far column last) s p q (N.WholeCell value) → PutsField s column last p.seen q.seen p.place q.place p.held q.held
-field_of {value = value} x = record { value = value; streams = streams_of x; place_is = x.place_is }
+    → Path (cell column) (cell_so_far column last) s p q (N.WholeCell value) → over (PutsField s column last) p q
+field_of {value = value} x = record { value = value; streams = grind arith; place_is = x.place_is }
 
 -- what was read and put, and then the rest of the field
 pub field_puts : {column : ℕ} {last : Bool} {s t : CellPart} {p q r : At} → Path (cell column) (cell_so_far column last) s p q t
-    → PutsField t column last q.seen r.seen q.place r.place q.held r.held → PutsField s column last p.seen r.seen p.place r.place p.held r.held
+    → over (PutsField t column last) q r → over (PutsField s column last) p r
 field_puts x y = field_of (path_both x (path_of y.streams y.place_is))
 
 -- the reading stopped before any text
 pub reading_stops : {column place : ℕ} {s : CellPart} {a b : Seen} {h : Held} {failed : Bool} {stop : Stop} (last : Bool) → h.delivered ≤ 2 ^ 64 - 1
     → failed ≡ false → N.StopsReading (cell column) s a b place s stop → StopsField s column last a b place h h failed stop
-reading_stops {s = s} last delivered going x = record { at = s; cause = inl (x, ([], append-nil _, N.Puts-none _ delivered), going) }
+reading_stops {s = s} _ delivered going x = record { at = s; cause = inl (x, ([], append-nil _, N.Puts-none _ delivered), going) }
 
 module _ {column place' : ℕ} {s t : CellPart} {p : At} {b : Seen} (last : Bool) (x : Next column s p.seen b p.place place' t) where
   -- an element was read, and its text put
@@ -59,7 +349,7 @@ module _ {column place' : ℕ} {s t : CellPart} {p : At} {b : Seen} (last : Bool
 
   -- a write of it failed
   pub next_breaks : {j : Held} {failed : Bool} {stop : Stop} (part rest : List ℕ) → length p.held.waiting < 4096 → p.held.delivered ≤ 2 ^ 64 - 1
-      → failed ≡ true → cell_so_far column last s ++ (part ++ rest) ≡ cell_so_far column last t → N.Breaks p.held j part stop
+      → failed ≡ true → cell_so_far column last s ++ (part ++ rest) ≡ cell_so_far column last t → Breaks p.held j part stop
       → StopsField s column last p.seen b p.place p.held j failed stop
   next_breaks part rest few delivered broken text_is breaks = record {
     at = s;
@@ -68,15 +358,15 @@ module _ {column place' : ℕ} {s t : CellPart} {p : At} {b : Seen} (last : Bool
         bytes = [];
         element = x.element;
         ahead = [];
-        spelt = N.Spelt-none _ s;
+        spelt = grind arith;
         next = x.next;
-        takes = rw (append-nil _) x.takes;
+        takes = search N.rules;
         between = x.between;
         middle = p.held;
         few = few;
         puts = ([], append-nil _, N.Puts-none _ delivered);
         more = part ++ rest;
-        text_is = text_is ∙ ap (cell_so_far column last) (sym x.to);
+        text_is = cc;
         breaks = N.Breaks-longer _ _ _ _ _ breaks;
       },
       broken,
@@ -84,14 +374,14 @@ module _ {column place' : ℕ} {s t : CellPart} {p : At} {b : Seen} (last : Bool
   }
 
 -- NULL was put, or a write of it failed
-pub null_puts : {column place place' : ℕ} {s : CellPart} {a b : Seen} {W U : Type 0} (last : Bool) (contents : W
-    → Option (List ℕ)) (h k : N.Sink W) (r : Result U Stop) → Next column s a b place place' (N.WholeCell N.Null) → cell_so_far column last s ≡ []
+pub null_puts : {column place place' : ℕ} {s : CellPart} {a b : Seen} {W U : Type 0} {contents : W
+    → Option (List ℕ)} {h k : N.Sink W} {r : N.Result U Stop} (last : Bool) → Next column s a b place place' (N.WholeCell N.Null) → cell_so_far column last s ≡ []
     → N.IsWriting h → N.PutsPiece contents h k (N.in_line column last N.null_field) r
     → N.MatchResult r (λ _. PutsField s column last a b place place' (held contents h) (held contents k))
     (λ stop. StopsField s column last a b place (held contents h) (held contents k) k.failed stop)
-null_puts {column = column} last contents h k (Ok u) x silent writing puts =
+null_puts {column = column} {r = N.Ok u} last x silent _ puts =
     field_of (next_path last x _ (ap (λ l. l ++ N.in_line column last N.null_field) silent) puts.gives)
-null_puts {column = column} last contents h k (Err e) x silent writing puts =
+null_puts {column = column} {r = N.Err e} last x silent writing puts =
     next_breaks last x _ [] (writing.ready.1 writing.writing) writing.ready.2 puts.failed
     (ap (λ l. l ++ (N.in_line column last N.null_field ++ [])) silent ∙ append-nil _) (puts.gives writing.writing)
 
@@ -99,15 +389,15 @@ null_puts {column = column} last contents h k (Err e) x silent writing puts =
 
 module _ (column : ℕ) (last : Bool) (c : Conversion) where
   -- the text that comes with the length
-  pub short_open : (n : ℕ) → 0 < n → after_comma column (opening (is_quoted c)) ≡ cell_so_far column last (short_left c n [])
-  short_open n some = grind (arith, open_none, short_holds, text_at)
+  pub short_open : {n : ℕ} → 0 < n → after_comma column (opening (is_quoted c)) ≡ cell_so_far column last (short_left c n [])
+  short_open some = grind (arith, open_none)
 
   empty_open : after_comma column (opening (is_quoted c)) ++ ending c (is_quoted c) last [] ≡ cell_so_far column last (short_left c 0 [])
   empty_open = grind (arith, open_none, ending_text, N.no_data_is_fit)
 
   pub short_text : (n : ℕ) → (q : List ℕ) × (after_comma column (opening (is_quoted c)) ++ q ≡ cell_so_far column last (short_left c n []))
-  short_text zero = (ending c _ last [], empty_open)
-  short_text (suc n) = ([], append-nil _ ∙ short_open _ (omega arith))
+  short_text N.zero = grind (arith, empty_open)
+  short_text (suc n) = grind (arith, short_open)
 
   -- the value has no bytes, and its end was put, or that stopped
   pub empty_puts : {p : At} {b : Seen} {place' n : ℕ} {j : Held} (i : Held) → Next column (N.ShortLength c) p.seen b p.place place' (short_left c n [])
@@ -115,59 +405,59 @@ module _ (column : ℕ) (last : Bool) (c : Conversion) where
       → PutsField (N.ShortLength c) column last p.seen b p.place place' p.held j
   empty_puts {p = p} i x none opened ended = field_of (next_path last (rw none at x) _ empty_open (N.Puts-trans p.held i _ _ _ opened ended))
 
-  pub empty_stops : {p : At} {b : Seen} {place' n : ℕ} {j : Held} {failed : Bool} {stop : Stop} (i : Held) (there : ℕ)
+  pub empty_stops : {p : At} {b : Seen} {place' n : ℕ} {j : Held} {failed : Bool} {stop : Stop} {i : Held} {there : ℕ}
       → Next column (N.ShortLength c) p.seen b p.place place' (short_left c n []) → n ≡ 0 → Puts p.held i (after_comma column (opening (is_quoted c)))
       → length p.held.waiting < 4096 → p.held.delivered ≤ 2 ^ 64 - 1
       → N.StopsEnding c (is_quoted c) last [] column there i j failed stop
       → StopsField (N.ShortLength c) column last p.seen b p.place p.held j failed stop
-  empty_stops {p = p} i there x none opened few delivered (inl y) =
+  empty_stops {p = p} {i} x none opened few delivered (inl y) =
       let text = after_comma column _ ++ ending c _ last [] in
       next_breaks last (rw none at x) text [] few delivered y.2 (append-nil text ∙ empty_open) (N.Breaks-after p.held i _ _ _ _ opened y.1)
-  empty_stops i there x none opened few delivered (inr y) = absurd (y.0 ((fit_by_test c []).0 (N.no_data_is_fit c)))
+  empty_stops x _ _ _ _ (inr y) = grind arith
 
   -- the value has some bytes: its end was put, or that stopped
-  module _ {kept : List ℕ} {n : ℕ} {p q : At} (x : N.EndsData c [] kept p.seen q.seen p.place q.place p.held q.held n) where
+  module _ {kept : List ℕ} {n : ℕ} {p q : At} (x : over (N.EndsData c [] kept) p q n) where
     abbrev all : List ℕ
     all = x.front ++ x.takes.piece
 
     pub short_whole : {k : Held} → N.IsFit c all → Puts q.held k (ending c (is_quoted c) last all)
         → PutsField (short_left c n []) column last p.seen q.seen p.place q.place p.held k
-    short_whole fit puts = let good = (fit_by_test c all).1 fit in
-        field_of (ends_path last (short_holds column c) x (ending c (is_quoted c) last all) good (ending_text column c last all good) puts)
+    short_whole fit puts = let good = (N.fit_by_test c all).1 fit in
+        field_of (ends_path last (short_holds column c) x _ good (ending_text column c last all good) puts)
 
     pub short_end_stops : {k : Held} {failed : Bool} {stop : Stop} → N.StopsEnding c (is_quoted c) last all column (q.place - 1) q.held k failed stop
         → StopsField (short_left c n []) column last p.seen q.seen p.place p.held k failed stop
-    short_end_stops (inl z) = let good = (fit_by_test c all).1 z.0 in
+    short_end_stops (inl z) = let good = (N.fit_by_test c all).1 z.0 in
         rw z.2 (ends_break last (short_holds column c) x _ good (ending_text column c last all good) z.1)
-    short_end_stops (inr z) = rw (z.3, z.2, z.1) (ends_refused last (short_holds column c) x (short_refused column c) (grind (arith, fit_by_test)))
+    short_end_stops (inr z) = rw (z.3, z.2, z.1) (ends_refused last (short_holds column c) x (short_refused column c) (grind (arith, N.fit_by_test)))
 
 -- ---- values in chunks
 
 -- the text that comes with the total
 pub total_text : (column : ℕ) (last : Bool) (c : Conversion) (t : Option ℕ)
     → after_comma column (opening (is_quoted c)) ≡ cell_so_far column last (ChunkLength c t [])
-total_text column last c t = ap (after_comma column) (open_none c)
+total_text _ _ c t = grind (arith, open_none)
 
 -- Chunks were read and their text put; so many bytes of content stand before the next length.
 pub record Streamed (column : ℕ) (last : Bool) (c : Conversion) (total : Option ℕ) (kept : List ℕ) (sum : ℕ) (p q : At) : Type 0 where
   pub content : List ℕ
   pub counted : length content ≡ sum
-  pub begun : N.BeginsData c content
+  pub begun : BeginsData c content
   pub kept_is : kept ≡ N.conversion_rest c content
   pub path : Path (cell column) (cell_so_far column last) (ChunkLength c total []) p q (ChunkLength c total content)
 
 pub streamed_none : {column : ℕ} {last : Bool} {c : Conversion} {total : Option ℕ} {kept : List ℕ} {p : At} → kept ≡ N.conversion_rest c []
     → p.held.delivered ≤ 2 ^ 64 - 1 → Streamed column last c total kept 0 p p
-streamed_none is delivered = record { content = []; counted = refl; begun = none_begins _; kept_is = is; path = path_none delivered }
+streamed_none is delivered = grind (arith, path_none)
 
 module _ {column : ℕ} {last : Bool} {c : Conversion} {total : Option ℕ} {kept : List ℕ} {sum : ℕ} {p q : At} (size : ℕ) (unit_is : size ≡ N.unit c)
     (x : Streamed column last c total kept sum p q) {d : Seen} {there n : ℕ} (y : N.ReadsNumber 4 q.seen d q.place there n)
-    (free : N.chunk_length_fault column size total sum n ≡ None) where
+    (free : N.chunk_length_fault column size total sum n ≡ N.None) where
   -- the terminator was read, and the end put
   pub chunks_whole : {j : Held} → n ≡ 0 → N.IsFit c x.content → Puts q.held j (ending c (is_quoted c) last x.content)
       → PutsField (ChunkLength c total []) column last p.seen d p.place there p.held j
   chunks_whole none fit puts =
-      let good = (fit_by_test c x.content).1 fit in
+      let good = (N.fit_by_test c x.content).1 fit in
       field_of (path_both x.path (next_path last (chunk_end c unit_is x.counted y free none good) _ (ending_text column c last x.content good) puts))
 
   -- the end stopped
@@ -175,12 +465,12 @@ module _ {column : ℕ} {last : Bool} {c : Conversion} {total : Option ℕ} {kep
       → N.StopsEnding c (is_quoted c) last x.content column q.place q.held j failed stop
       → StopsField (ChunkLength c total []) column last p.seen d p.place p.held j failed stop
   chunks_end_stops few delivered none (inl z) =
-      let good = (fit_by_test c _).1 z.0 in
+      let good = (N.fit_by_test c _).1 z.0 in
       let tail = ending c _ last _ in
       path_stops x.path (next_breaks last (chunk_end c unit_is x.counted y free none good) tail [] few delivered z.2
       (ap (λ l. cell_so_far column last (ChunkLength c total x.content) ++ l) (append-nil tail) ∙ ending_text column c last _ good) z.1)
-  chunks_end_stops few delivered none (inr z) =
-      path_stops x.path (rw (z.1, z.2) (reading_stops last delivered z.3 (chunk_unfit c unit_is x.counted y free none (grind (arith, fit_by_test)))))
+  chunks_end_stops _ delivered none (inr z) =
+      path_stops x.path (rw (z.1, z.2) (reading_stops last delivered z.3 (chunk_unfit c unit_is x.counted y free none (grind (arith, N.fit_by_test)))))
 
   -- the length of a chunk was read
   pub chunk_path : n ≢ 0 → q.held.delivered ≤ 2 ^ 64 - 1
@@ -195,9 +485,9 @@ module _ {column : ℕ} {last : Bool} {c : Conversion} {total : Option ℕ} {kep
       → N.EndsData c x.content kept' d r.seen there r.place q.held r.held n → Streamed column last c total kept' (sum + n) p r
   streamed_more {r = r} some delivered most z =
       record {
-        content = (x.content ++ z.front) ++ z.takes.piece;
+        content = _ ++ z.takes.piece;
         counted = omega (arith, N.length-append (x.content ++ z.front) z.takes.piece, N.length-append x.content z.front);
-        begun = z.takes.begun;
-        kept_is = z.takes.kept_is;
+        begun = grind arith;
+        kept_is = cc;
         path = path_both (chunk_path some delivered) (ends_path last (chunk_holds column c total) z [] tt (append-nil _) (N.Puts-none r.held most));
       }

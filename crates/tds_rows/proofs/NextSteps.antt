@@ -1,14 +1,14 @@
 -- The next cells of a row, those of a run or one, NULL or not, and rows one after another.
 use Rattle.tds_rows.proofs.Words as N
 use Rattle.tds_rows.proofs.{
-  Words.{arith, ◌≡◌, ◌+◌, ℕ, Bool, true, false, List, ◌∷◌, drop, refl, sym, Err, Ok, Result, Option, ◌==◌, Stop, seen, Column, held, Rows, Ahead},
-  Words.{is_last_column, IsInRow, StaysInRow, RowStops, RowPart, marked, ◌∙◌, zero, suc, ◌-◌, ◌^◌, ◌≤◌, ◌<◌, [], ◌++◌, length, ap, subst, Coming, before, Seen},
-  Words.{Takes, Held, Puts, Charset, Cell, rows, rows_so_far, rows_start, inl, inr},
+  Words.{arith, ◌≡◌, ◌+◌, ℕ, Bool, true, false, List, ◌∷◌, drop, refl, sym, Err, Ok, Option, ◌==◌, Stop, seen, Column, held, Rows, Ahead, IsInRow},
+  Words.{StaysInRow, RowStops, RowPart, marked, ◌∙◌, ◌-◌, ◌^◌, ◌≤◌, ◌<◌, [], ◌++◌, length, ap, before, Seen, Takes, Held, Puts, Charset, Cell, rows, Kind},
+  Words.Knows,
   NullSteps.{NearsCells, all_put, cell_nears, cell_stops, null_breaks, null_nears, cell_path, marked_stops},
-  RowSteps.{ends, ends_marked, coming, nulls_ahead, PutsAt, StopsAt},
-  Paths.{At, here, Path, path_both, path_map, path_none, path_of, streams_of},
+  RowSteps.{ends, ends_marked, coming, nulls_ahead, PutsAt, StopsAt, none_ahead, cell_some},
+  Paths.{At, here, Path, path_both, path_map, path_none, path_of, over},
   TableSteps.{last_one, next_column},
-  RunSteps.{fills_no_block, rows_after, whole_breaks, whole_puts, row_among, row_token},
+  RunSteps.{rows_after, whole_breaks, whole_puts, row_among, row_token},
   TableRuns.run_breaks,
 }
 
@@ -31,7 +31,7 @@ pub record Passes (p q : At) (bytes text : List ℕ) : Type 0 where
 -- what was handed out, in two parts
 takes_apart : (a c : Seen) (x y : List ℕ) → Takes a c (x ++ y) 0 → (b : Seen) × Takes a b x 0 × Takes b c y 0 × (N.IsBetween c → N.IsBetween b)
 takes_apart a c x y takes =
-    let f : Coming → List ℕ → Coming = λ c l. record { bytes = l; stop = c.stop; rest = c.rest } in (
+    let f : N.Coming → List ℕ → N.Coming = λ c l. record { bytes = l; stop = c.stop; rest = c.rest } in (
       record { left = c.left; future = λ zs. before y _; wire = c.wire; failures = c.failures },
       (
         takes.0,
@@ -50,7 +50,7 @@ passes_apart p q a b m n x =
     let t = takes_apart p.seen q.seen a b x.takes in
     let h = N.Puts_split _ _ m n x.few x.puts in (
       record { seen = t.0; place = p.place + length a; held = h.0 },
-      record { takes = t.1; between = t.3 x.between; puts = h.2; few = h.1; delivered = x.delivered; place_is = refl },
+      record { takes = t.1; between = grind arith; puts = h.2; few = h.1; delivered = x.delivered; place_is = refl },
       record { takes = t.2; between = x.between; puts = h.3; few = x.few; delivered = h.4; place_is = omega (arith, N.length-append a b) },
     )
 
@@ -65,23 +65,7 @@ module _ {charset : Charset} {start : RowPart} {left : List (Column × Bool)} {p
       record {
         cells = x.cells;
         counted = x.counted;
-        nears = record {
-          bytes = n.bytes;
-          element = n.element;
-          at = n.at;
-          spelt = n.spelt;
-          next = n.next;
-          to_is = n.to_is;
-          takes = takes;
-          between = y.between;
-          middle = n.middle;
-          few = n.few;
-          puts = n.puts;
-          part = n.part;
-          text_is =
-              n.text_is;
-          half = n.half;
-        };
+        nears = grind arith;
         place_is = omega arith;
       }
 
@@ -103,28 +87,28 @@ module _ (charset : Charset) (start : RowPart) (columns : List Column) (nulls : 
   column_nears : (at : ℕ) (q r : At) (bytes text : List ℕ) → N.WritesColumn charset columns nulls at bytes text → Passes q r bytes text → Near at q
       → Near (at + 1) r
   column_nears at q r bytes text w y x =
-      rw (next_column columns at w.column w.left w.next).1.1 (go _ w.writes (rw w.next at x))
+      rw (next_column columns at w.next).1.1 (go _ w.writes (rw w.next at x))
     where
-      go : (null : Bool) → N.WritesNext charset null w.column.kind at (is_last_column w.left) bytes text
+      go : (null : Bool) → N.WritesNext charset null w.column.kind at (N.is_last_column w.left) bytes text
           → NearsCells charset start ((w.column, null) ∷ marked w.left nulls (at + 1)) p q at
           → NearsCells charset start (marked w.left nulls (at + 1)) p r (at + 1)
       go true v z =
           let y' = rw (v.0, v.1, ends_marked w.left nulls (at + 1)) at y in
           null_nears (nears_onward y' z) y'.puts
       go false v z =
-          let put = whole_puts charset _ at (is_last_column w.left) q r bytes text v (N.Takes-more q.seen r.seen bytes 0 _ (omega arith) y.takes)
+          let put = whole_puts charset _ at _ q r bytes text v (N.Takes-more q.seen r.seen bytes 0 _ (omega arith) y.takes)
           y.place_is y.puts in
           cell_nears y.between y.few (all_put refl y.delivered z) (rw (ends_marked w.left nulls (at + 1)) at put)
 
   -- so many columns more
   marked_nears : (from n : ℕ) (q r : At) (bytes text : List ℕ) → N.WritesMarked charset columns nulls from n bytes text → Passes q r bytes text
       → Near from q → Near (from + n) r
-  marked_nears from zero q r bytes text w y x = let y' = rw (w.0, w.1) at y in
+  marked_nears from N.zero q r _ _ w y x = let y' = rw (w.0, w.1) at y in
       rw (N.add-zero from) (nears_same y'.puts (nears_onward y' x))
-  marked_nears from (suc n) q r bytes text w y x =
+  marked_nears _ (N.suc n) q r _ _ w y x =
       let t = passes_apart q r _ _ _ _ (rw (w.4, w.5) at y) in
       let z = column_nears _ _ r _ _ w.7 t.2 (marked_nears _ n q _ _ _ w.6 t.1 x) in
-      subst (λ (k : ℕ). Near k r) (omega arith) z
+      N.subst (λ (k : ℕ). Near k r) (omega arith) z
 
   -- a write of the text of a column failed, after more was read
   column_breaks : (at : ℕ) (q : At) (d : Seen) (j : Held) (stop : Stop) (bytes rest text : List ℕ) → N.WritesColumn charset columns nulls at bytes text
@@ -132,29 +116,29 @@ module _ (charset : Charset) (start : RowPart) (columns : List Column) (nulls : 
       → Near at q → RowStops charset start p.seen d p.place p.held j true stop
   column_breaks at q d j stop bytes rest text w takes between few delivered breaks x = go _ w.writes (rw w.next at x)
     where
-      go : (null : Bool) → N.WritesNext charset null w.column.kind at (is_last_column w.left) bytes text
+      go : (null : Bool) → N.WritesNext charset null w.column.kind at (N.is_last_column w.left) bytes text
           → NearsCells charset start ((w.column, null) ∷ marked w.left nulls (at + 1)) p q at → RowStops charset start p.seen d p.place p.held j true stop
       go true v z = null_breaks rest (rw v.0 at takes) between z (rw (v.1, ends_marked w.left nulls (at + 1)) at breaks)
       go false v z = cell_stops (all_put refl delivered z)
           (rw (ends_marked w.left nulls (at + 1)) at (whole_breaks {a = q.seen} {b = d} {place = q.place} {h = q.held} {j = j} {stop = stop} charset _
-          at (is_last_column w.left) rest v takes between few delivered breaks refl))
+          rest v takes between few delivered breaks refl))
 
   -- a write of the text of so many columns failed
   marked_breaks : (from n : ℕ) (q : At) (d : Seen) (j : Held) (stop : Stop) (bytes rest text : List ℕ)
       → N.WritesMarked charset columns nulls from n bytes text → Takes q.seen d (bytes ++ rest) 0 → N.IsBetween d → length q.held.waiting < 4096
       → q.held.delivered ≤ 2 ^ 64 - 1 → N.Breaks q.held j text stop → Near from q → RowStops charset start p.seen d p.place p.held j true stop
-  marked_breaks from zero q d j stop bytes rest text w takes between few delivered breaks x =
-      absurd (fills_no_block q.held j text stop (omega (arith, ap length w.1)) breaks)
-  marked_breaks from (suc n) q d j stop bytes rest text (front, back, first, more, joined, text_is, before, last) takes between few delivered breaks x =
+  marked_breaks _ N.zero q d j _ _ _ _ w _ _ few _ breaks x =
+      grind (arith, N.common_steps)
+  marked_breaks from (N.suc n) q d j stop _ rest _ (front, back, first, more, joined, text_is, before, last) takes between few delivered breaks x =
       let read = rw (joined, N.append_assoc front back rest) at takes in
       elim (N.Breaks_split q.held j first more stop (rw text_is at breaks)) [
-        | inl broken ↦ marked_breaks from n q d j stop front (back ++ rest) first before read between few delivered broken x
-        | inr m ↦
-            let t = takes_apart q.seen d front (back ++ rest) read in
+        | N.inl broken ↦ marked_breaks from n q d j stop front _ first before read between few delivered broken x
+        | N.inr m ↦
+            let t = takes_apart q.seen d front _ read in
             let there : At = record { seen = t.0; place = q.place + length front; held = m.0 } in
             let near = marked_nears from n q there front first before
             (record { takes = t.1; between = t.3 between; puts = m.2; few = m.1; delivered = delivered; place_is = refl }) x in
-            column_breaks (from + n) there d j stop back rest more last t.2 between m.1 m.4 m.3 near
+            column_breaks _ there d j stop back rest more last t.2 between m.1 m.4 m.3 near
       ]
 
 -- ---- a reading of rows, from call to call
@@ -178,93 +162,104 @@ leaves_after x y = grind arith
 
 -- ---- the next cell
 
-module _ {R W : Type 0} (remaining : R → Option (List ℕ)) (contents : W → Option (List ℕ)) (columns : List Column) (nulls : ℕ
-    → Bool) (start : RowPart) (p : At) where
-  -- The cells before a place were read and their text put, but for that of the NULLs by their bit from there on.
-  abbrev pub NearsHere : Rows R W → Ahead → Type 0
-  NearsHere rows at = N.IsAhead rows.table.now columns at
-      × NearsCells rows.table.now.charset start (marked (drop at.column columns) nulls at.column) p (here remaining contents rows) at.column
+-- The cells of an NBCROW before a place were read and their text put, but for that of the NULLs by their bit from there on.
+abbrev pub NearsHere : {R W : Type 0} → (R → Option (List ℕ)) → (W → Option (List ℕ)) → List Column → (ℕ → Bool) → At → Rows R W → Ahead → Type 0
+NearsHere remaining contents columns nulls p rows at = N.IsAhead rows.table.now columns at
+    × NearsCells rows.table.now.charset (N.nbc_row_start columns) (marked (drop at.column columns) nulls at.column) p (here remaining contents rows)
+    at.column
 
-  -- the cells of a run are read, and after them the table is the same
-  pub run_near : {old new : Rows R W} {from to : Ahead} → IsInRow old → StaysInRow old new → N.Knows old.table.now columns
-      → N.MarkedPut remaining contents old.table.now nulls from old.payload.now new.payload.now old.sink.now new.sink.now to → NearsHere old from
-      → NearsHere new to
-  run_near {old = old} {new = new} {from = from} x kept knows f near =
-      let put = f columns knows near.0 in
+-- So it is whatever columns the table knows.
+abbrev pub NearsAll : {R W : Type 0} → (R → Option (List ℕ)) → (W → Option (List ℕ)) → (ℕ → Bool) → At → Rows R W → Ahead → Type 0
+NearsAll remaining contents nulls p rows at =
+    (columns : List Column) → Knows rows.table.now columns → NearsHere remaining contents columns nulls p rows at
+
+module _ {R W : Type 0} {remaining : R → Option (List ℕ)} {contents : W → Option (List ℕ)} {old new : Rows R W} {nulls : ℕ → Bool} {p : At} {from : Ahead}
+    (in_row : IsInRow old) (nears : NearsAll remaining contents nulls p old from) where
+  -- the cells of a run are read
+  pub run_near : {to : Ahead} → N.MarkedRead remaining contents nulls from old new (Ok to) → NearsAll remaining contents nulls p new to
+  run_near x columns known =
+      let kept = stays_after in_row x.leaves in
+      let knows = rw kept.same.3 at known in
+      let near = nears columns knows in
+      let put = x.cells columns knows near.0 in
       let sink = kept.in_row.sink in
-      let more = marked_nears _ start columns nulls p from.column put.runs.count (here remaining contents old) (here remaining contents new) _ _
+      let more = marked_nears _ _ columns nulls p from.column put.runs.count (here remaining contents old) (here remaining contents new) _ _
       put.runs.writes (record {
         takes = put.takes;
         between = N.between_of remaining new.payload.now kept.in_row.payload.going;
         puts = put.puts;
         few = sink.ready.1 sink.writing;
-        delivered = x.sink.ready.2;
+        delivered = in_row.sink.ready.2;
         place_is = put.place_is;
       }) near.1 in
       rw kept.same.3 (put.runs.ahead, rw put.runs.further more)
 
   -- a write of their text failed
-  pub run_stops : {old : Rows R W} (new : Rows R W) {from : Ahead} {failed : Bool} {stop : Stop} → IsInRow old
-      → N.BreaksMarked old.table.now columns nulls from (seen remaining old.payload.now) (seen remaining new.payload.now) (held contents old.sink.now)
-      (held contents new.sink.now) failed stop → NearsHere old from
-      → RowStops old.table.now.charset start p.seen (seen remaining new.payload.now) p.place p.held (held contents new.sink.now) failed stop
-  run_stops {old = old} new {stop = stop} x y near =
-      let sink = x.sink in
-      rw y.failed_is (marked_breaks _ start columns nulls p _ y.runs.count (here remaining contents old) _ _ stop y.bytes [] y.text y.runs.writes
+  pub run_stops : {stop : Stop} → N.MarkedRead remaining contents nulls from old new (Err stop) → (columns : List Column)
+      → Knows old.table.now columns
+      → RowStops old.table.now.charset (N.nbc_row_start columns) p.seen (seen remaining new.payload.now) p.place p.held (held contents new.sink.now)
+      new.sink.now.failed stop
+  run_stops {stop = stop} x columns knows =
+      let near = nears columns knows in
+      let y = x.cells columns knows near.0 in
+      let sink = in_row.sink in
+      rw y.failed_is (marked_breaks _ _ columns nulls p _ y.runs.count (here remaining contents old) _ _ stop y.bytes [] y.text y.runs.writes
       (rw N.append-nil y.takes) y.between (sink.ready.1 sink.writing) sink.ready.2 y.breaks near.1)
 
+-- the next cell was read, or it stopped
+pub cell_read : {R W U : Type 0} {remaining : R → Option (List ℕ)} {contents : W → Option (List ℕ)} {old new : Rows R W} {at after : Ahead}
+    {kind : Kind} {result : N.Result U Stop} {columns : List Column} (nulls : ℕ → Bool) → N.CellRead remaining contents at kind old new result
+    → Knows old.table.now columns → N.IsAhead old.table.now columns at → (taken : N.TakesColumn old.table.now columns at after kind)
+    → N.KindRead remaining contents at.column (ends (marked (drop after.column columns) nulls (at.column + 1))) taken.column.kind old new result
+cell_read {at = at} {kind = kind} {columns = columns} nulls x knows ahead taken =
+    let next : N.IsNextKind _ at kind (N.is_last_column _) =
+    record {
+      columns = columns;
+      knows = knows;
+      ahead = ahead;
+      column = taken.column;
+      rest = drop _ columns;
+      next = taken.next;
+      kind = taken.kind;
+      last = refl;
+    } in
+    rw (taken.kind, ends_marked _ nulls (at.column + 1)) at (x.cell _ next)
+
 module _ {R W : Type 0} (remaining : R → Option (List ℕ)) (contents : W → Option (List ℕ)) (old new : Rows R W) {columns : List Column} (nulls : ℕ
-    → Bool) {at after : Ahead} {kind : N.Kind} (knows : N.Knows old.table.now columns)
+    → Bool) {at after : Ahead} {kind : Kind} (knows : Knows old.table.now columns)
     (taken : N.TakesColumn old.table.now columns at after kind) where
   abbrev left : List (Column × Bool)
   left = marked (drop after.column columns) nulls (at.column + 1)
 
   last_is : (at.column + 1 == old.table.now.count) ≡ ends left
-  last_is = grind (arith, last_one, after, ends_marked)
+  last_is = grind (arith, last_one)
 
-  -- the next cell was read, or it stopped
-  pub cell_read : {U : Type 0} (result : Result U Stop) → N.IsAhead old.table.now columns at → N.CellRead remaining contents at kind old new result
-      → N.KindRead remaining contents at.column (ends left) taken.column.kind old new result
-  cell_read result ahead x =
-      let next : N.IsNextKind _ at kind (is_last_column _) =
-      record {
-        columns = columns;
-        knows = knows;
-        ahead = ahead;
-        column = taken.column;
-        rest = drop _ columns;
-        next = taken.next;
-        kind = taken.kind;
-        last = refl;
-      } in
-      rw (taken.kind, ends_marked _ nulls (at.column + 1)) at (x.cell _ next)
-
-  module _ (start : RowPart) (p : At) (in_row : IsInRow old) (before : NearsHere remaining contents columns nulls start p old at) where
+  module _ (p : At) (in_row : IsInRow old) (before : NearsHere remaining contents columns nulls p old at) where
     left_here : (null : Bool) → nulls at.column ≡ null
-        → NearsCells old.table.now.charset start ((taken.column, null) ∷ left) p (here remaining contents old) at.column
-    left_here null is = rw is at (rw taken.next at before.1)
+        → NearsCells old.table.now.charset (N.nbc_row_start columns) ((taken.column, null) ∷ left) p (here remaining contents old) at.column
+    left_here _ is = grind arith
 
     there : {U : Type 0} {u : U} → N.LeavesRows old new (Ok u)
-        → NearsCells old.table.now.charset start left p (here remaining contents new) (at.column + 1)
-        → NearsHere remaining contents columns nulls start p new after
-    there leaves x = rw leaves.same.3 (taken.ahead, rw (sym taken.further) at x)
+        → NearsCells old.table.now.charset (N.nbc_row_start columns) left p (here remaining contents new) (at.column + 1)
+        → NearsHere remaining contents columns nulls p new after
+    there leaves x = grind arith
 
     -- it was put
     pub next_nears : {U : Type 0} (u : U) (null : Bool) → nulls at.column ≡ null → N.LeavesRows old new (Ok u)
-        → N.NextRead remaining contents at kind null old new (Ok u) → NearsHere remaining contents columns nulls start p new after
+        → N.NextRead remaining contents at kind null old new (Ok u) → NearsHere remaining contents columns nulls p new after
     next_nears u true is leaves y = there leaves (rw y.0 (null_nears (left_here true is) (rw last_is at y.1.gives)))
     next_nears u false is leaves y =
         there leaves (cell_nears (N.between_of remaining new.payload.now leaves.payload.going) (leaves.sink.ready.1 leaves.sink.writing)
-        (all_put refl in_row.sink.ready.2 (left_here false is)) (cell_read (Ok u) before.0 y))
+        (all_put refl in_row.sink.ready.2 (left_here false is)) (cell_read nulls y knows before.0 taken))
 
     -- it stopped
-    pub next_stops : (U : Type 0) (stop : Stop) (null : Bool) → nulls at.column ≡ null
+    pub next_stops : (U : Type 0) {stop : Stop} (null : Bool) → nulls at.column ≡ null
         → N.NextRead {U = U} remaining contents at kind null old new (Err stop)
-        → RowStops old.table.now.charset start p.seen (seen remaining new.payload.now) p.place p.held (held contents new.sink.now) new.sink.now.failed
-        stop
-    next_stops U stop true is y = rw (y.0, y.1.failed) (null_breaks [] (N.Takes-none _ 0)
+        → RowStops old.table.now.charset (N.nbc_row_start columns) p.seen (seen remaining new.payload.now) p.place p.held (held contents new.sink.now)
+        new.sink.now.failed stop
+    next_stops U true is y = rw (y.0, y.1.failed) (null_breaks [] (N.Takes-none _ 0)
         (N.between_of remaining old.payload.now in_row.payload.going) (left_here _ is) (rw last_is at (y.1.gives in_row.sink.writing)))
-    next_stops U stop false is y = cell_stops (all_put refl in_row.sink.ready.2 (left_here _ is)) (cell_read {U = U} (Err stop) before.0 y)
+    next_stops U false is y = cell_stops (all_put refl in_row.sink.ready.2 (left_here _ is)) (cell_read nulls y knows before.0 taken)
 
 -- ---- rows, one after another
 
@@ -272,11 +267,11 @@ module _ {R W : Type 0} (remaining : R → Option (List ℕ)) (contents : W → 
 pub record RowsAt (token : N.RowToken) (charset : Charset) (all : List Column) (p q : At) (count : ℕ) (part : RowPart) : Type 0 where
   pub before : List (List Cell)
   pub counted : length before ≡ count
-  pub path : Path (rows token charset all) rows_so_far (rows_start token charset all) p q (record { before = before; at = part })
+  pub path : Path (rows token charset all) N.rows_so_far (N.rows_start token charset all) p q (record { before = before; at = part })
 
 module _ {token : N.RowToken} {charset : Charset} {all : List Column} where
   pub rows_first : {p : At} → p.held.delivered ≤ 2 ^ 64 - 1 → RowsAt token charset all p p 0 (N.token_start token charset all)
-  rows_first d = record { before = []; counted = refl; path = path_none d }
+  rows_first d = grind (arith, path_none)
 
   module _ {p q : At} {count : ℕ} where
     -- more of the next one
@@ -292,20 +287,19 @@ module _ {token : N.RowToken} {charset : Charset} {all : List Column} where
       part = part;
       middle = q.seen;
       between = q.held;
-      streams = streams_of x.path;
-      stops = rw
-          x.path.place_is at y;
+      streams = grind arith;
+      stops = grind arith;
     }
 
     -- all of it
     pub rows_whole : {cells : List Cell} → RowsAt token charset all p q count (N.WholeRow cells)
-        → N.ReadsRows token charset all (count + 1) p.seen q.seen p.place q.place p.held q.held
+        → over (N.ReadsRows token charset all (count + 1)) p q
     rows_whole {cells = cells} x = record {
       earlier = x.before;
       last = cells;
       counted = omega arith;
-      streams = streams_of x.path;
-      place_is = x.path.place_is;
+      streams = grind arith;
+      place_is = cc;
     }
 
   -- a whole row that was read by itself
@@ -345,7 +339,7 @@ module _ {charset : Charset} {all : List Column} {p q : At} {column count : ℕ}
   -- a run
   rowing_run : {left left' : List Column} {column' count' : ℕ} {r : At} → Rowing charset all (coming left column) p q column count
       → ((cells : List Cell) → length cells ≡ column
-      → N.RunsRows charset all cells left left' column' count' q.seen r.seen q.place r.place q.held r.held)
+      → over (N.RunsRows charset all cells left left' column' count') q r)
       → Rowing charset all (coming left' column') p r column' (count + count')
   rowing_run x f =
       let y = f x.cells x.counted in
@@ -369,7 +363,7 @@ module _ {charset : Charset} {all : List Column} {p q : At} {column count : ℕ}
     pub rowing_cell : {r : At} → nulls_ahead (column + 1) ks ≡ [] → Rowing charset all ((c, false) ∷ ks) p q column count
         → PutsAt charset c.kind column (ends ks) q r → Rowing charset all ks p r (column + 1) count
     rowing_cell none x y =
-        let one = cell_path _ c _ x.counted none y in
+        let one = cell_path _ c x.counted none y in
         record { cells = x.cells ++ one.0 ∷ []; counted = omega (arith, N.length-append x.cells (one.0 ∷ [])); rows = rows_on x.rows one.1 }
 
     -- a cell that stopped
@@ -377,28 +371,61 @@ module _ {charset : Charset} {all : List Column} {p q : At} {column count : ℕ}
         → StopsAt charset c.kind column (ends ks) q d j failed stop → N.RowsStop N.PlainRow charset all p.seen d p.place p.held j failed stop
     rowing_stop x y = rows_stop x.rows (marked_stops _ _ _ c (rw (sym x.counted) at y))
 
--- The reading of ROWs stands at this place of the last one.
-abbrev pub RowsHere : {R W : Type 0} → (R → Option (List ℕ)) → (W → Option (List ℕ)) → List Column → At → Rows R W → Ahead → ℕ → Type 0
-RowsHere remaining contents columns p rows at count =
-    N.IsAhead rows.table.now columns at × Rowing rows.table.now.charset columns (coming (drop at.column columns) at.column) p
+-- The reading of ROWs stands at this place of the last one, whatever columns the table knows.
+abbrev pub RowsHere : {R W : Type 0} → (R → Option (List ℕ)) → (W → Option (List ℕ)) → At → Rows R W → Ahead → ℕ → Type 0
+RowsHere remaining contents p rows at count = (columns : List Column) → Knows rows.table.now columns
+    → N.IsAhead rows.table.now columns at × Rowing rows.table.now.charset columns (coming (drop at.column columns) at.column) p
     (here remaining contents rows) at.column count
 
--- after a run
-pub rows_ran : {R W : Type 0} {columns : List Column} {p : At} {old new : Rows R W} {from : Ahead} {count : ℕ} (remaining : R
-    → Option (List ℕ)) (contents : W → Option (List ℕ)) (run : N.RowsRun) → StaysInRow old new → N.Knows old.table.now columns
-    → N.RowsPut remaining contents old.table.now from old.payload.now new.payload.now old.sink.now new.sink.now run
-    → RowsHere remaining contents columns p old from count → RowsHere remaining contents columns p new run.ahead (count + run.rows)
-rows_ran {columns = columns} {old = old} remaining contents run kept knows put x =
-    let ran = put columns knows x.0 in
-    let there = rowing_run x.1 (λ cells is. ran.1 old.table.now.charset cells refl is) in
-    rw kept.same.3 (ran.0, there)
+module _ {R W : Type 0} {remaining : R → Option (List ℕ)} {contents : W → Option (List ℕ)} {p : At} {old new : Rows R W} {from : Ahead} {count : ℕ}
+    (reads : RowsHere remaining contents p old from count) where
+  -- after a run
+  pub rows_ran : {run : N.RowsRun} → N.RunRead remaining contents from old new (Ok run) → RowsHere remaining contents p new run.ahead (count + run.rows)
+  rows_ran x columns known =
+      let same = x.leaves.same.3 in
+      let y = reads columns (rw same at known) in
+      let ran = x.cells columns (rw same at known) y.0 in
+      rw same (ran.0, rowing_run y.1 (λ cells is. ran.1 old.table.now.charset cells refl is))
 
--- a write of its text failed
-pub rows_broke : {R W : Type 0} {columns : List Column} {p : At} {old : Rows R W} {from : Ahead} {count : ℕ} {failed : Bool} {stop : Stop}
-    (remaining : R → Option (List ℕ)) (contents : W → Option (List ℕ)) (new : Rows R W) → IsInRow old
-    → N.BreaksMarked old.table.now columns (λ k. false) from (seen remaining old.payload.now) (seen remaining new.payload.now) (held contents old.sink.now)
-    (held contents new.sink.now) failed stop → RowsHere remaining contents columns p old from count
-    → N.RowsStop N.PlainRow old.table.now.charset columns p.seen (seen remaining new.payload.now) p.place p.held (held contents new.sink.now) failed stop
-rows_broke {old = old} remaining contents new in_row y x =
-    let sink = in_row.sink in
-    rows_stop x.1.rows (rw x.1.counted at (run_breaks {place = old.payload.now.place} x.1.cells y x.1.counted (sink.ready.1 sink.writing) sink.ready.2))
+  -- a write of its text failed
+  pub rows_broke : {stop : Stop} → IsInRow old → N.RunRead remaining contents from old new (Err stop) → (columns : List Column)
+      → Knows old.table.now columns
+      → N.RowsStop N.PlainRow old.table.now.charset columns p.seen (seen remaining new.payload.now) p.place p.held (held contents new.sink.now)
+      new.sink.now.failed stop
+  rows_broke in_row x columns knows =
+      let sink = in_row.sink in
+      let y = reads columns knows in
+      rows_stop y.1.rows (rw y.1.counted at (run_breaks {place = old.payload.now.place} y.1.cells (x.cells columns knows y.0) y.1.counted
+      (sink.ready.1 sink.writing) sink.ready.2))
+
+  module _ {after : Ahead} {kind : Kind} (taken : (columns : List Column) → Knows old.table.now columns → N.IsAhead old.table.now columns from
+      → N.TakesColumn old.table.now columns from after kind) {U : Type 0} where
+    -- after a cell
+    pub rows_cell : {u : U} → N.CellRead remaining contents from kind old new (Ok u) → RowsHere remaining contents p new after count
+    rows_cell x columns known =
+        let same = x.leaves.same.3 in
+        let knows = rw same at known in
+        let y = reads columns knows in
+        let t = taken columns knows y.0 in
+        rw same (
+          t.ahead,
+          rw (sym t.further) at (rowing_cell (none_ahead (drop after.column columns) _) (rw t.next at y.1)
+              (cell_read (λ k. false) x knows y.0 t)),
+        )
+
+    -- which has some bytes
+    pub cell_further : {u : U} → N.CellRead remaining contents from kind old new (Ok u) → (columns : List Column) → Knows old.table.now columns
+        → old.payload.now.place < new.payload.now.place
+    cell_further x columns knows =
+        let y = reads columns knows in
+        cell_some _ _ (cell_read (λ k. false) x knows y.0 (taken columns knows y.0))
+
+    -- it stopped
+    pub rows_stopped : {stop : Stop} → N.CellRead {U = U} remaining contents from kind old new (Err stop) → (columns : List Column)
+        → Knows old.table.now columns
+        → N.RowsStop N.PlainRow old.table.now.charset columns p.seen (seen remaining new.payload.now) p.place p.held (held contents new.sink.now)
+        new.sink.now.failed stop
+    rows_stopped x columns knows =
+        let y = reads columns knows in
+        let t = taken columns knows y.0 in
+        rowing_stop (rw t.next at y.1) (cell_read (λ k. false) x knows y.0 t)

@@ -1,11 +1,11 @@
 -- Rows with NULLs by their bit, column after column, as they are read and their text is put.
 use Rattle.tds_rows.proofs.Words as N
 use Rattle.tds_rows.proofs.{
-  Words.{◌≡◌, ◌∙◌, inl, inr, ℕ, ◌+◌, ◌-◌, ◌^◌, ◌<◌, ◌≤◌, Bool, true, false, List, [], ◌∷◌, ◌++◌, length, refl, sym, ap, arith, map, Stop, Seen, Column, joined},
-  Words.{Held, Charset, Cell, CellPart, RowPart, marked, next_cell, row, row_so_far},
+  Words.{◌≡◌, ◌∙◌, inl, inr, ℕ, ◌+◌, ◌-◌, ◌^◌, ◌<◌, ◌≤◌, Bool, true, false, List, [], ◌∷◌, ◌++◌, length, refl, sym, arith, Stop, Seen, Column, Held},
+  Words.{Charset, Cell, CellPart, RowPart, next_cell, row, row_so_far},
   RowSteps.{begun_text, coming, ends, line_grows, nulls_ahead, nulls_text, part_text, rest_of, PutsAt, StopsAt, cell_some, same_end, StopsCell},
   RowLaws.{begins_open, cell_in_row},
-  Paths.{At, Path, path_both, path_map, path_none, path_of, path_stops, streams_of, writes_inside},
+  Paths.{At, Path, path_both, path_map, path_none, path_of, path_stops, streams_of, writes_inside, over},
 }
 
 -- ---- a cell in its row, with the NULLs after it
@@ -24,7 +24,7 @@ module _ (charset : Charset) (cells : List Cell) (ks : List (Column × Bool)) wh
   text = N.cell_so_far (length cells) (ends ks)
 
   abbrev front : List ℕ
-  front = joined (map N.field cells)
+  front = N.joined (N.map N.field cells)
 
   -- a write of the cell's text failed, and so one of the row's
   breaks_there : {from at : CellPart} {b d : Seen} {i j : Held} {stop : Stop} → 0 < N.cell_size from → N.BreaksStreaming small text from b d i j at stop
@@ -32,7 +32,7 @@ module _ (charset : Charset) (cells : List Cell) (ks : List (Column × Bool)) wh
   breaks_there {at = at} {j = j} {stop = stop} some x =
       let is = cell_in_row charset cells ks in
       let begun = begun_text charset cells ks in
-      let grows = line_grows _ (ends ks) in
+      let grows = line_grows _ _ in
       let size = N.next_some small at x.element x.next in
       let to = N.cell_add at x.element in
       let rest = rest_of charset cells ks to in
@@ -41,7 +41,7 @@ module _ (charset : Charset) (cells : List Cell) (ks : List (Column × Bool)) wh
         element = x.element;
         ahead = x.ahead;
         spelt = N.Inside-Spelt _ _ up is _ _ _ x.spelt;
-        next = N.next_inside _ _ up is _ _ size x.next;
+        next = grind arith;
         takes = x.takes;
         between = x.between;
         middle = x.middle;
@@ -49,7 +49,7 @@ module _ (charset : Charset) (cells : List Cell) (ks : List (Column × Bool)) wh
         puts = (x.puts.0, N.added_between _ _ up is text row_so_far front begun grows _ _ _ some size x.puts.1, x.puts.2);
         more = x.more ++ rest;
         text_is = N.tail_after _ _ up is text row_so_far front begun grows at to _ rest size x.text_is (part_text charset cells ks to)
-            ∙ ap row_so_far (sym (is.add at x.element size));
+            ∙ N.ap row_so_far (sym (is.add at x.element size));
         breaks = N.Breaks-longer x.middle j x.more rest stop x.breaks;
       }
 
@@ -65,7 +65,7 @@ module _ (charset : Charset) (cells : List Cell) (ks : List (Column × Bool)) wh
             N.stops_inside _ _ up is _ _ _ _ _ _ (same_end charset cells ks x.at (N.stops_size _ _ _ _ _ _ _ y.0)) y.0,
             (
               y.1.0,
-              N.added_between _ _ up is text row_so_far front (begun_text charset cells ks) (line_grows _ (ends ks)) _ _ _ some
+              N.added_between _ _ up is text row_so_far front (begun_text charset cells ks) (line_grows _ _) _ _ _ some
                   (N.stops_size _ _ _ _ _ _ _ y.0) y.1.1,
               y.1.2,
             ),
@@ -104,18 +104,18 @@ pub record NearsCells (charset : Charset) (start : RowPart) (left : List (Column
 
 -- some columns are left, so the line doesn't end there
 all_ahead : (charset : Charset) (columns : List Column) (nulls : ℕ → Bool) → 0 < length columns
-    → nulls_ahead 0 (marked columns nulls 0) ≡ row_so_far (next_cell charset [] (marked columns nulls 0))
-all_ahead charset [] nulls some = absurd (omega arith)
-all_ahead charset (c ∷ cs) nulls some = nulls_text charset [] ((c, nulls 0) ∷ marked cs nulls 1)
+    → nulls_ahead 0 (N.marked columns nulls 0) ≡ row_so_far (next_cell charset [] (N.marked columns nulls 0))
+all_ahead _ [] nulls some = grind arith
+all_ahead _ (c ∷ cs) _ _ = grind (arith, nulls_text)
 
 -- the bitmap was read
 pub bitmap_nears : {charset : Charset} {p : At} {b : Seen} {place' : ℕ} (columns : List Column) (bitmap : List ℕ) → 0 < length columns
     → length bitmap ≡ N.bitmap_length (length columns) → N.Takes p.seen b bitmap (length bitmap) → N.IsBetween b → length p.held.waiting < 4096
     → p.held.delivered ≤ 2 ^ 64 - 1
-    → place' ≡ p.place + length bitmap → NearsCells charset (N.nbc_row_start columns) (marked columns (N.bit bitmap) 0) p
+    → place' ≡ p.place + length bitmap → NearsCells charset (N.nbc_row_start columns) (N.marked columns (N.bit bitmap) 0) p
     (record { seen = b; place = place'; held = p.held }) 0
-bitmap_nears {p = p} columns bitmap some whole takes between few d at =
-    let next : N.IsNext _ _ bitmap = record { some = omega arith; whole = whole; free = refl } in
+bitmap_nears {p = p} _ bitmap some whole takes between few d at =
+    let next : N.IsNext _ _ bitmap = grind arith in
     record {
       cells = [];
       counted = refl;
@@ -127,14 +127,14 @@ bitmap_nears {p = p} columns bitmap some whole takes between few d at =
 pub bitmap_cut : {columns : List Column} {a b : Seen} {place : ℕ} {h : Held} {stop : Stop} (charset : Charset) (part : List ℕ) (own : Stop)
     → length part < N.bitmap_length (length columns) → N.Ends a b part own → stop ≡ N.began_at place own → h.delivered ≤ 2 ^ 64 - 1
     → N.RowStops charset (N.nbc_row_start columns) a b place h h false stop
-bitmap_cut charset part own fewer ended is d =
+bitmap_cut _ _ _ fewer ended is d =
     record { at = N.Bitmap _; cause = inl (N.cut_at_once _ _ _ _ _ _ _ _ fewer ended (N.began_is_cut _ _ _ _ refl is), ([], refl, N.Puts-none _ d), refl) }
 
 -- a cell was read and its text put, in its row, and no NULL by its bit is after it
-pub cell_path : {ks : List (Column × Bool)} {column : ℕ} {p q : At} (charset : Charset) (c : Column) (cells : List Cell) → length cells ≡ column
+pub cell_path : {ks : List (Column × Bool)} {column : ℕ} {p q : At} (charset : Charset) (c : Column) {cells : List Cell} → length cells ≡ column
     → nulls_ahead (column + 1) ks ≡ [] → PutsAt charset c.kind column (ends ks) p q
     → (v : Cell) × Path (row charset) row_so_far (next_cell charset cells ((c, false) ∷ ks)) p q (next_cell charset (cells ++ v ∷ []) ks)
-cell_path charset c cells counted none y =
+cell_path _ c counted none y =
     let z = rw (sym counted) at y in
     (z.value, path_map (λ a m. row_cell _ _ _ c (rw counted none)) (path_of z.streams z.place_is))
 
@@ -161,7 +161,7 @@ module _ {charset : Charset} {start : RowPart} {c : Column} {ks : List (Column �
       let read = n.bytes ++ n.element in
       let broken = N.nears_breaks _ _ _ _ _ _ _ _ _ _ _ _ _ n refl breaks in
       let y = broken.1 in
-      let both = N.Takes-trans p.seen q.seen d read rest (length read) 0 (omega arith) n.takes takes in
+      let both = N.Takes-trans p.seen q.seen d read rest _ 0 (omega arith) n.takes takes in
       record {
         at = broken.0;
         cause = inr (
@@ -171,7 +171,7 @@ module _ {charset : Charset} {start : RowPart} {c : Column} {ks : List (Column �
             ahead = rest;
             spelt = y.spelt;
             next = y.next;
-            takes = rw N.add-zero at both;
+            takes = grind arith;
             between = between;
             middle = y.middle;
             few = y.few;
@@ -188,7 +188,7 @@ module _ {charset : Charset} {start : RowPart} {c : Column} {ks : List (Column �
   pub cell_reads : {r : At} → nulls_ahead (column + 1) ks ≡ [] → Reads charset start ((c, false) ∷ ks) p q column
       → PutsAt charset c.kind column (ends ks) q r → Reads charset start ks p r (column + 1)
   cell_reads none x y =
-      let one = cell_path _ c _ x.counted none y in
+      let one = cell_path _ c x.counted none y in
       record { cells = x.cells ++ one.0 ∷ []; counted = omega (arith, N.length-append x.cells (one.0 ∷ [])); path = path_both x.path one.1 }
 
   -- it stopped the row
@@ -206,7 +206,7 @@ module _ {charset : Charset} {start : RowPart} {c : Column} {ks : List (Column �
       let begin = N.cell_start c.kind _ in
       let tail = nulls_ahead _ ks in
       let whole =
-      N.nears_inside _ _ _ (cell_in_row charset x.cells ks) _ _ _ (begun_text charset x.cells ks) (line_grows n (ends ks)) begin _ _ _ _ _ tail
+      N.nears_inside _ _ _ (cell_in_row charset x.cells ks) _ _ _ (begun_text charset x.cells ks) (line_grows n _) begin _ _ _ _ _ tail
       z.streams some between few (part_text charset x.cells ks (N.WholeCell z.value)) in
       let begun = rw (sym (begins_open charset x.cells ks c.kind (N.shape charset c.kind))) at x.path in
       let near : NearsCells charset start ks p r _ = record {
@@ -227,14 +227,14 @@ module _ {charset : Charset} {start : RowPart} {ks : List (Column × Bool)} {p q
         cells = x.cells;
         counted = x.counted;
         path = path_of
-            (N.nears_done _ _ start p.seen q.seen p.held q.held q.held (next_cell charset x.cells ks) _ x.nears last) x.place_is;
+            (N.nears_done _ _ start p.seen q.seen p.held q.held q.held _ _ x.nears last) x.place_is;
       }
 
 -- before the first column of a ROW, and after the last one of a row
 pub row_begins : {charset : Charset} {p : At} (columns : List Column) → p.held.delivered ≤ 2 ^ 64 - 1
     → Reads charset (N.row_start charset columns) (coming columns 0) p p 0
-row_begins columns d = record { cells = []; counted = refl; path = path_none d }
+row_begins _ d = grind (arith, path_none)
 
 pub row_ends : {charset : Charset} {start : RowPart} {p q : At} {column : ℕ} → Reads charset start [] p q column
-    → N.ReadsRow charset start p.seen q.seen p.place q.place p.held q.held
-row_ends x = record { cells = x.cells; streams = streams_of x.path; place_is = x.path.place_is }
+    → over (N.ReadsRow charset start) p q
+row_ends x = record { cells = x.cells; streams = grind arith; place_is = cc }

@@ -1,11 +1,10 @@
 -- The numbers of a long value, its length or total and those of its chunks, as elements of its cell: how each is judged, and where it leads.
 use Rattle.tds_rows.proofs.Words as N
-use Rattle.tds_rows.proofs.{
-  Words.{null_total, ◌-◌, if◌then◌else◌, ◌≡◌, ◌≢◌, ◌∙◌, ◌⊎◌, inl, inr, ℕ, ◌+◌, ◌<◌, true, false, List, [], length, refl, sym, ap, subst, arith, Option, Some},
-  Words.{None, ◌==◌, Fault, Stop, Seen, unit, CellPart, ChunkLength, Total, cell, ⊤},
-  CellLaws.unless_true,
-}
 use Rattle.tds_packet.specs.declared.payload.Payload.{Payload as Input}
+use Rattle.tds_rows.proofs.{
+  Words.{◌-◌, if◌then◌else◌, ◌≡◌, ◌≢◌, ◌∙◌, ◌⊎◌, ℕ, ◌+◌, ◌<◌, List, [], refl, sym, ap, arith, Option, Some, None, ◌==◌, Fault, Stop, Seen, unit, CellPart},
+  Words.{ChunkLength, Total, cell},
+}
 
 -- within a short value: this many bytes follow its data so far
 abbrev pub short_left : N.Conversion → ℕ → List ℕ → CellPart
@@ -20,9 +19,9 @@ pub record Next (column : ℕ) (s : CellPart) (a b : Seen) (place place' : ℕ) 
   pub element : List ℕ
   pub next : N.IsNext (cell column) s element
   pub to : N.cell_add s element ≡ t
-  pub takes : N.Takes a b element (length element)
+  pub takes : N.Takes a b element (N.length element)
   pub between : N.IsBetween b
-  pub place_is : place' ≡ place + length element
+  pub place_is : place' ≡ place + N.length element
 
 -- a number was read, where one of so many bytes is next
 next_by : {column size place place' n : ℕ} {s t : CellPart} {a b : Seen} → 0 < size → N.cell_size s ≡ size → (x : N.ReadsNumber size a b place place' n)
@@ -33,15 +32,15 @@ next_by some is x free to = grind arith
 number_stops : {column size place : ℕ} {s : CellPart} {fault : ℕ → Option Fault} {a b : Seen} {stop : Stop} → 0 < size → N.cell_size s ≡ size
     → N.cell_end s ≡ Some N.MessageEnded → ((e : List ℕ) (n : ℕ) (f : Fault) → N.little e ≡ n → fault n ≡ Some f → N.cell_fault column s e ≡ Some f)
     → N.RefusesNumber size fault a b place stop ⊎ N.CutsNumber size a b place stop → N.StopsReading (cell column) s a b place s stop
-number_stops {column = column} {place = place} {s = s} {a = a} {b = b} {stop = stop} some is end first (inl x) =
+number_stops {column = column} {place = place} {s = s} {a = a} {b = b} {stop = stop} some is _ first (N.inl x) =
     let r = x.reads in
-    subst (λ t. N.StopsReading (cell column) s a b place s t) (ap (λ q. record { fault = stop.fault; place = q }) (sym x.stands))
+    N.subst (λ t. N.StopsReading (cell column) s a b place s t) (ap (λ q. record { fault = stop.fault; place = q }) (sym x.stands))
     (N.refused_at_once _ s a b _ _ _ (omega arith) (r.whole ∙ sym is) (first _ x.n _ r.number x.first) r.takes r.between)
-number_stops some is end first (inr x) = N.cut_at_once _ _ _ _ _ _ _ _ (let few = x.fewer in omega arith) x.ends (N.began_is_cut _ _ _ _ end x.stop_is)
+number_stops _ is end _ (N.inr x) = grind arith
 
-total_same : (column : ℕ) (c : N.Conversion) (size n : ℕ) (e : List ℕ) → size ≡ unit c → N.little e ≡ n
+total_same : (column : ℕ) (c : N.Conversion) {size n : ℕ} (e : List ℕ) → size ≡ unit c → N.little e ≡ n
     → N.cell_fault column (Total c) e ≡ N.total_fault column size n
-total_same column c size n e unit_is is = grind arith
+total_same _ c e unit_is is = grind arith
 
 -- ---- the length of a short value
 
@@ -68,26 +67,26 @@ module _ {column : ℕ} (c : N.Conversion) {size : ℕ} (unit_is : size ≡ unit
   module _ {a b : Seen} {place place' : ℕ} {answer : Option (Option ℕ)} (x : (n : ℕ) × N.ReadsNumber 8 a b place place' n
       × (N.total_fault column size n ≡ None) × (answer ≡ N.total_of n)) where
     pub total_none : answer ≡ None → Next column (Total c) a b place place' (N.WholeCell N.Null)
-    total_none is = grind (arith, next_by, total_same, N.choose_true)
+    total_none is = grind arith
 
     pub total_start : {t : Option ℕ} → answer ≡ Some t → Next column (Total c) a b place place' (ChunkLength c t [])
-    total_start is = grind (arith, total_same)
+    total_start is = grind arith
 
 -- ---- the length of a chunk
 
 module _ {column : ℕ} (c : N.Conversion) {size : ℕ} (unit_is : size ≡ unit c) {total : Option ℕ} where
-  module _ {content : List ℕ} {sum : ℕ} (counted : length content ≡ sum) {a b : Seen} {place : ℕ} where
+  module _ {content : List ℕ} {sum : ℕ} (counted : N.length content ≡ sum) {a b : Seen} {place : ℕ} where
     pub chunk_stops : {stop : Stop} → N.RefusesNumber 4 (λ n. N.chunk_length_fault column size total sum n) a b place stop ⊎ N.CutsNumber 4 a b place stop
         → N.StopsReading (cell column) (ChunkLength c total content) a b place (ChunkLength c total content) stop
     chunk_stops x = number_stops (omega arith) refl refl (λ e n f is first. grind arith) x
 
     module _ {n place' : ℕ} (x : N.ReadsNumber 4 a b place place' n) (free : N.chunk_length_fault column size total sum n ≡ None) where
       -- the terminator was read, after content that is whole
-      pub chunk_end : n ≡ 0 → N.is_fit c content ≡ true → Next column (ChunkLength c total content) a b place place' (N.WholeCell (N.DataCell c content))
-      chunk_end none fit = grind (arith, unless_true, N.choose_true)
+      pub chunk_end : n ≡ 0 → N.is_fit c content ≡ N.true → Next column (ChunkLength c total content) a b place place' (N.WholeCell (N.DataCell c content))
+      chunk_end none fit = grind arith
 
       -- after content that isn't, it is refused
-      pub chunk_unfit : n ≡ 0 → N.is_fit c content ≡ false
+      pub chunk_unfit : n ≡ 0 → N.is_fit c content ≡ N.false
           → N.StopsReading (cell column) (ChunkLength c total content) a b place (ChunkLength c total content)
           (record { fault = N.BadText column; place = N.Payload place })
       chunk_unfit none unfit = N.refused_at_once _ _ a b place _ _ (omega arith) x.whole (grind arith ∙ ap (λ f. N.unless f (N.BadText column)) unfit)
@@ -95,15 +94,15 @@ module _ {column : ℕ} (c : N.Conversion) {size : ℕ} (unit_is : size ≡ unit
 
       -- the length of a chunk was read
       pub chunk_start : n ≢ 0 → Next column (ChunkLength c total content) a b place place' (chunk_left c total n content)
-      chunk_start some = grind (arith, N.ne_eqb, N.choose_false)
+      chunk_start some = grind arith
 
 -- ---- where a call stops with the fault of a device, that device failed in it
 
 pub same_failures : {a b c d : ℕ} → a ≡ c → b ≡ d → ◌≡◌ {A = N.Failures} (record { reads = a; writes = b }) (record { reads = c; writes = d })
-same_failures e f = λ i. record { reads = e i; writes = f i }
+same_failures e f = cc
 
-pub stops_after : (a b c : N.Failures) (stop : Stop) → b ≡ a → N.StopBlames b c stop → N.StopBlames a c stop
-stops_after a b c stop e h = rw (← e) h
+pub stops_after : {a b c : N.Failures} (stop : Stop) → b ≡ a → N.StopBlames b c stop → N.StopBlames a c stop
+stops_after _ e h = rw (← e) h
 
 -- ---- the reader
 
@@ -112,29 +111,29 @@ abbrev pub ReadBlames : ℕ → ℕ → Stop → Type 0
 ReadBlames old new stop = (stop.fault ≡ N.WriteFailed → ⊥) × (stop.fault ≡ N.ReadFailed → new ≡ N.one_more old)
 
 pub read_stops : (old new : N.Failures) (stop : Stop) → ReadBlames old.reads new.reads stop → N.StopBlames old new stop
-read_stops old new stop h = (h.1, λ e. absurd (h.0 e))
+read_stops _ _ _ h = grind arith
 
 -- a fault that names no device
 abbrev NoDevice : Option Fault → Type 0
-NoDevice None = ⊤
+NoDevice None = N.⊤
 NoDevice (Some fault) = (fault ≡ N.WriteFailed → ⊥) × (fault ≡ N.ReadFailed → ⊥)
 
 pub short_blames : (column size n : ℕ) → NoDevice (N.short_fault column size n)
-short_blames column size n = grind arith
+short_blames _ _ n = grind arith
 
 pub total_blames : (column size n : ℕ) → NoDevice (N.total_fault column size n)
-total_blames column size n = grind arith
+total_blames _ _ n = grind arith
 
 pub chunk_blames : (column size : ℕ) (total : Option ℕ) (sum n : ℕ) → NoDevice (N.chunk_length_fault column size total sum n)
-chunk_blames column size total sum n = grind arith
+chunk_blames _ _ _ _ n = grind arith
 
 -- a length that was refused or cut
-pub length_blames : {R : Type 0} {size : ℕ} {b : Seen} {stop : Stop} (remaining : R → Option (List ℕ)) (fault : ℕ → Option Fault) (old : Input R)
+pub length_blames : {R : Type 0} {size : ℕ} {b : Seen} {stop : Stop} (remaining : R → Option (List ℕ)) {fault : ℕ → Option Fault} (old : Input R)
     → old.stopped ≡ None → ((n : ℕ) → NoDevice (fault n))
     → N.RefusesNumber size fault (N.seen remaining old) b old.place stop ⊎ N.CutsNumber size (N.seen remaining old) b old.place stop
     → ReadBlames old.from.now.failures b.failures stop
-length_blames remaining fault old going none (inl x) = grind arith
-length_blames {b = b} remaining fault old going none (inr x) =
+length_blames _ _ _ none (N.inl x) = grind arith
+length_blames {b = b} remaining old going _ (N.inr x) =
     let h = N.ends_blame remaining old b x.part x.own going x.ends in
     let is = ap (λ s. s.fault) x.stop_is in
     (λ e. h.0 (sym is ∙ e), λ e. h.1 (sym is ∙ e))

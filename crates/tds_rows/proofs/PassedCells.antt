@@ -1,20 +1,20 @@
 -- The value of a RETURNVALUE, as it is passed over.
 use Rattle.tds_rows.proofs.Words as N
 use Rattle.tds_rows.proofs.{
-  Words.{◌≢◌, Some, None, ◌≡◌, ◌∙◌, inr, ℕ, ◌+◌, ◌-◌, ◌%◌, ◌<◌, ◌≤◌, Bool, true, List, [], ◌++◌, length, refl, sym, ap, subst, arith, Option, Stop, Seen},
-  Words.{Conversion, Cell, CellPart, ChunkLength, shape, return_column, AnyData, PassesData, StepsOver, zero},
+  Words.{◌≢◌, ◌≡◌, ◌∙◌, ℕ, ◌+◌, ◌-◌, ◌%◌, ◌<◌, ◌≤◌, true, List, [], ◌++◌, length, refl, arith, Option, Stop, Seen, Conversion, Cell, CellPart, ChunkLength},
+  Words.{shape, return_column, AnyData, PassesData, StepsOver},
   BufferedCells.{null_cell, value_cell},
   RunSteps.whole_of,
-  LongSteps.{HoldsContent, content_spelt, chunk_holds, short_holds},
+  LongValues.{HoldsContent, content_spelt, chunk_holds, short_holds},
   CellMeaning.is_ok_value,
-  Numbers.{Next, chunk_end, chunk_start, chunk_left, short_left},
+  Numbers.{Next, chunk_start, chunk_left, short_left},
 }
 
 -- ---- elements
 
 -- no element was read
 step_none : {s : CellPart} {a : Seen} {place : ℕ} → N.IsBetween a → StepsOver s s a a place place
-step_none between = record { reads = N.reads_none _ _ _; between = between; place_is = sym (N.add_none _) }
+step_none between = record { reads = grind arith; between = between; place_is = omega arith }
 
 steps_both : {s t u : CellPart} {a b d : Seen} {place middle place' : ℕ} → StepsOver s t a b place middle → StepsOver t u b d middle place'
     → StepsOver s u a d place place'
@@ -45,8 +45,7 @@ module _ {c : Conversion} {state : ℕ → List ℕ → CellPart} {Good : List �
     reads = record {
       bytes = x.bytes;
       spelt = content_spelt true holds d x.bytes _ 0 (omega arith) (begins _) (λ _ _. good);
-      takes = rw
-          (sym x.counted) at x.takes;
+      takes = grind arith;
     };
     between = x.between;
     place_is = omega arith;
@@ -54,19 +53,19 @@ module _ {c : Conversion} {state : ℕ → List ℕ → CellPart} {Good : List �
 
   -- the payload stopped in it
   data_stops : {m : ℕ} {a b : Seen} {place : ℕ} {stop : Stop} (d : List ℕ) → N.CutsPassing m a b place stop → N.StopsPassing (state m d) a b place stop
-  data_stops {m = m} {place = place} d x =
+  data_stops {m = m} d x =
       let at = state _ _ in
       record {
         at = at;
         stops = record {
           bytes = x.bytes;
           spelt = content_spelt true holds d x.bytes m _ (omega arith) (begins _) (λ none _. absurd (omega arith));
-          cause = inr (record {
+          cause = N.inr (record {
             part = [];
             cut = omega arith;
             own = x.own;
-            ends = rw (sym (N.append-nil x.bytes)) at x.ends;
-            stop_is = N.began_is_cut (place + length x.bytes) _ x.own _ (holds.end (m - length x.bytes - 1) _) x.stop_is;
+            ends = search N.rules;
+            stop_is = N.began_is_cut _ _ x.own _ (holds.end (m - length x.bytes - 1) _) x.stop_is;
           });
         };
       }
@@ -76,10 +75,10 @@ module _ {c : Conversion} {state : ℕ → List ℕ → CellPart} {Good : List �
 -- a scalar's cell stops as any
 pub scalar_stops : {from : CellPart} {a b : Seen} {place : ℕ} {stop : Stop} → N.StallsCell from return_column a b place stop
     → N.StopsPassing from a b place stop
-scalar_stops x = record { at = x.at; stops = x.stops }
+scalar_stops x = grind arith
 
 -- what is written of a cell is its spelling
-written_spelt : {from : CellPart} {last : Bool} {bytes text : List ℕ} → N.WritesCell from return_column last bytes text → (value : Cell)
+written_spelt : {from : CellPart} {last : N.Bool} {bytes text : List ℕ} → N.WritesCell from return_column last bytes text → (value : Cell)
     × N.Spelt N.return_cell from bytes (N.WholeCell value)
 written_spelt x = let whole = whole_of x in (whole.value, whole.spelt)
 
@@ -90,11 +89,11 @@ pub scalar_whole : (charset : N.Charset) (kind : N.Kind) (bytes : List ℕ) → 
 scalar_whole charset kind bytes scalar whole good = go _ refl
   where
     go : (n : ℕ) → N.value_length kind bytes ≡ n → (value : Cell) × N.Spelt N.return_cell (N.cell_start kind (shape charset kind)) bytes (N.WholeCell value)
-    go zero e =
+    go N.zero e =
         let x = null_cell charset kind _ true bytes _ scalar _ refl e (omega arith) refl in
         rw (N.take_all (N.value_start kind + 0) bytes (omega arith)) at (written_spelt x)
     go _ e =
-        let v = is_ok_value _ (good (omega arith)) in
+        let v = is_ok_value (good (omega arith)) in
         let x = value_cell charset kind _ true bytes _ scalar _ _ refl refl (λ z. omega arith) (omega arith) (v.0, v.1, refl) in
         rw (N.take_all (N.value_start kind + N.value_length kind bytes) bytes (omega arith)) at (written_spelt x)
 
@@ -102,8 +101,8 @@ scalar_whole charset kind bytes scalar whole good = go _ refl
 
 -- nothing was passed over
 pub passes_none : {n : ℕ} {a : Seen} {place : ℕ} → n ≡ 0 → N.IsBetween a → PassesData n a a place place
-passes_none {n = n} {a = a} none between =
-    record { bytes = []; counted = sym none; takes = N.Takes-none a n; between = between; place_is = omega arith }
+passes_none none between =
+    grind arith
 
 -- a piece more was
 pub passes_more : {m n k : ℕ} {a b d : Seen} {place middle place' : ℕ} → k ≡ m + n → PassesData m a b place middle → PassesData n b d middle place'
@@ -111,7 +110,7 @@ pub passes_more : {m n k : ℕ} {a b d : Seen} {place middle place' : ℕ} → k
 passes_more {m = m} {n = n} {a = a} {b = b} {d = d} sum x y = record {
   bytes = x.bytes ++ y.bytes;
   counted = omega (arith, N.length-append x.bytes y.bytes);
-  takes = subst (λ j. N.Takes a d (x.bytes ++ y.bytes) j) (omega arith) (N.Takes-trans a b d _ _ m n (omega arith) x.takes y.takes);
+  takes = N.subst (λ j. N.Takes a d (x.bytes ++ y.bytes) j) (omega arith) (N.Takes-trans a b d _ _ m n (omega arith) x.takes y.takes);
   between = y.between;
   place_is = omega arith;
 }
@@ -124,14 +123,14 @@ cuts_more {m = m} {a = a} {b = b} {d = d} sum x y = record {
   own = y.own;
   fewer = omega (arith, N.length-append x.bytes y.bytes);
   ends = N.Ends-after a b d _ _ m _ x.takes y.ends;
-  stop_is = y.stop_is ∙ ap (λ j. N.began_at j y.own) (omega (arith, N.length-append x.bytes y.bytes));
+  stop_is = y.stop_is ∙ N.ap (λ j. N.began_at j y.own) (omega (arith, N.length-append x.bytes y.bytes));
 }
 
 -- a scalar cell whose value isn't refused was read
 pub scalar_passes : {kind : N.Kind} {a b : Seen} {place place' : ℕ} {bytes : List ℕ} (charset : N.Charset) → N.is_scalar kind ≡ true
     → N.GathersCell kind (N.cell_start kind (shape charset kind)) return_column a b place place' bytes → N.IsGoodValue kind bytes
     → N.PassesCell (N.cell_start kind (shape charset kind)) a b place place'
-scalar_passes {bytes = bytes} charset scalar x good =
+scalar_passes {bytes = bytes} _ scalar x good =
     let v = scalar_whole _ _ _ scalar x.whole good in
     record {
       value = v.0;
@@ -202,19 +201,19 @@ steps_of x = record { reads = N.reads_one _ _ _ _ _ _ x.next x.takes x.to; betwe
 module _ {c : Conversion} {size : ℕ} (any : AnyData c size) where
   -- a short value has whole units
   pub short_even : {a b : Seen} {place place' k : ℕ} {answer : Option ℕ}
-      → ((n : ℕ) × N.ReadsNumber 2 a b place place' n × (N.short_fault return_column size n ≡ None) × (answer ≡ N.short_length n)) → answer ≡ Some k
+      → ((n : ℕ) × N.ReadsNumber 2 a b place place' n × (N.short_fault return_column size n ≡ N.None) × (answer ≡ N.short_length n)) → answer ≡ N.Some k
       → k % size ≡ 0
   short_even x is = grind arith
 
   module _ {total : Option ℕ} {content : List ℕ} {sum n k place place' : ℕ} {a b : Seen} (counted : length content ≡ sum)
-      (x : N.ReadsNumber 4 a b place place' n) (free : N.chunk_length_fault return_column size total sum n ≡ None) (is : k ≡ n) where
+      (x : N.ReadsNumber 4 a b place place' n) (free : N.chunk_length_fault return_column size total sum n ≡ N.None) (is : k ≡ n) where
     -- the terminator was read
     pub end_steps : k ≡ 0 → StepsOver (ChunkLength c total content) (N.WholeCell (N.DataCell c content)) a b place place'
-    end_steps ends = grind (arith, steps_of, chunk_end, counted, content)
+    end_steps ends = grind (arith, steps_of)
 
     -- the length of a chunk was read
     pub chunk_steps : k ≢ 0 → StepsOver (ChunkLength c total content) (chunk_left c total k content) a b place place'
-    chunk_steps some = rw (sym is) at (steps_of (chunk_start c (sym any.unit_is) counted x free (λ e. some (is ∙ e))))
+    chunk_steps some = rw (N.sym is) at (steps_of (chunk_start c (N.sym any.unit_is) counted x free (λ e. some (is ∙ e))))
 
 -- ---- the data of a RETURNVALUE may be any bytes
 

@@ -1,32 +1,36 @@
 -- What bytes make by a grammar, and how a call that reads them and puts what they make goes from place to place.
 use Rattle.tds_rows.proofs.Words as N
-use Rattle.tds_rows.proofs.Words.{◌≡◌, ℕ, ◌+◌, ◌-◌, ◌^◌, ◌≤◌, Bool, List, [], ◌++◌, length, arith, Fault, Grammar, Option, seen, held, Writes}
+use Rattle.tds_rows.proofs.Words.{◌≡◌, ℕ, ◌+◌, ◌-◌, ◌^◌, ◌≤◌, List, [], ◌++◌, arith, Fault, Grammar, Option, Writes, Held, Seen}
 use Rattle.tds_packet.specs.declared.payload.Payload.{Payload}
 
 -- where a reading stands: what the payload is seen to give, how many of its bytes were read, and what the sink holds
 pub record At : Type 0 where
-  pub seen : N.Seen
+  pub seen : Seen
   pub place : ℕ
-  pub held : N.Held
+  pub held : Held
 
 abbrev pub at_of : {R W : Type 0} → (R → Option (List ℕ)) → (W → Option (List ℕ)) → Payload R → N.Sink W → At
-at_of remaining contents payload sink = record { seen = seen remaining payload; place = payload.place; held = held contents sink }
+at_of remaining contents payload sink = record { seen = N.seen remaining payload; place = payload.place; held = N.held contents sink }
 
 abbrev pub here : {R W : Type 0} → (R → Option (List ℕ)) → (W → Option (List ℕ)) → N.Rows R W → At
 here remaining contents rows = at_of remaining contents rows.payload.now rows.sink.now
+
+-- a relation between two places
+abbrev pub over : {T : Type 1} → (Seen → Seen → ℕ → ℕ → Held → Held → T) → At → At → T
+over f p q = f p.seen q.seen p.place q.place p.held q.held
 
 -- From one place to another bytes were read, and what they make was put.
 pub record Path {S : Type 0} (g : Grammar S Fault) (text : S → List ℕ) (s : S) (p q : At) (t : S) : Type 0 where
   pub bytes : List ℕ
   pub made : List ℕ
   pub writes : Writes g text s bytes made t
-  pub takes : N.Takes p.seen q.seen bytes (length bytes)
+  pub takes : N.Takes p.seen q.seen bytes (N.length bytes)
   pub puts : N.Puts p.held q.held made
-  pub place_is : q.place ≡ p.place + length bytes
+  pub place_is : q.place ≡ p.place + N.length bytes
 
 module _ {S : Type 0} {g : Grammar S Fault} {text : S → List ℕ} where
   pub writes_none : {s : S} → Writes g text s [] [] s
-  writes_none = record { spelt = N.Spelt-none _ _; text_is = N.append-nil _ }
+  writes_none = search N.rules
 
   pub writes_both : {s t u : S} {a b p q : List ℕ} → Writes g text s a p t → Writes g text t b q u → Writes g text s (a ++ b) (p ++ q) u
   writes_both x y = grind (arith, N.Spelt-append, N.append_assoc)
@@ -34,7 +38,7 @@ module _ {S : Type 0} {g : Grammar S Fault} {text : S → List ℕ} where
   abbrev pub streams_of : {s t : S} {p q : At} → Path g text s p q t → N.Streams g text s p.seen q.seen p.held q.held t
   streams_of x = record { bytes = x.bytes; spelt = x.writes.spelt; takes = x.takes; puts = (x.made, x.writes.text_is, x.puts) }
 
-  abbrev pub path_of : {s t : S} {p q : At} → (x : N.Streams g text s p.seen q.seen p.held q.held t) → q.place ≡ p.place + length x.bytes
+  abbrev pub path_of : {s t : S} {p q : At} → (x : N.Streams g text s p.seen q.seen p.held q.held t) → q.place ≡ p.place + N.length x.bytes
       → Path g text s p q t
   path_of x at = record {
     bytes = x.bytes;
@@ -59,7 +63,7 @@ module _ {S : Type 0} {g : Grammar S Fault} {text : S → List ℕ} where
   }
 
   -- a call that stops after one that doesn't
-  pub path_stops : {s t : S} {p q : At} {d : N.Seen} {j : N.Held} {failed : Bool} {stop : N.Stop} → Path g text s p q t
+  pub path_stops : {s t : S} {p q : At} {d : Seen} {j : Held} {failed : N.Bool} {stop : N.Stop} → Path g text s p q t
       → N.StopsStreaming g text t q.seen d q.place q.held j failed stop → N.StopsStreaming g text s p.seen d p.place p.held j failed stop
   path_stops {p = p} x y = N.streaming_after _ _ _ _ _ _ _ _ _ _ p.place _ _ (streams_of x) (rw x.place_is at y)
 
@@ -67,9 +71,9 @@ module _ {S : Type 0} {g : Grammar S Fault} {text : S → List ℕ} where
 pub writes_inside : {S T : Type 0} {small : Grammar S Fault} {big : Grammar T Fault} {lift : S → T} {text : S → List ℕ} {whole : T
     → List ℕ} {s t : S} {a p : List ℕ} (front : List ℕ) → N.Inside small big lift → ((s : S) → front ++ text s ≡ whole (lift s))
     → Writes small text s a p t → Writes big whole (lift s) a p (lift t)
-writes_inside {whole = whole} front is text_is x = grind (arith, N.common_steps, whole, N.Inside-Spelt, N.added_inside)
+writes_inside _ is text_is x = grind (arith, N.common_steps, N.Inside-Spelt)
 
 -- what is known of all bytes and what they make
 pub path_map : {S T : Type 0} {g : Grammar S Fault} {k : Grammar T Fault} {text : S → List ℕ} {whole : T → List ℕ} {s t : S} {u v : T} {p q : At}
     → ((a m : List ℕ) → Writes g text s a m t → Writes k whole u a m v) → Path g text s p q t → Path k whole u p q v
-path_map f x = record { bytes = x.bytes; made = x.made; writes = f _ _ x.writes; takes = x.takes; puts = x.puts; place_is = x.place_is }
+path_map f x = search N.rules

@@ -1,12 +1,29 @@
 -- The cells of a row, as they are read one after another and their text is put.
 use Rattle.tds_rows.proofs.Words as N
 use Rattle.tds_rows.proofs.{
-  Words.{◌≡◌, ◌∙◌, ℕ, ◌+◌, ◌^◌, ◌-◌, ◌<◌, ◌≤◌, Bool, false, List, [], ◌∷◌, ◌++◌, length, sym, ap, arith, append-nil, None, map, Kind, Stop, Seen, Column},
-  Words.{joined, Held, Charset, Cell, CellPart, WholeCell, cell, cell_start, field, cell_so_far, true, refl, Option, Some, opened},
-  Paths.At,
-  LineTexts.joined_snoc,
-  GrowingTexts.{Grows, OptionGrows, cell_grows, grows_all, grows_same, grows_trans, grows_under},
+  Words.{◌≡◌, ◌∙◌, ℕ, ◌+◌, ◌^◌, ◌-◌, ◌<◌, ◌≤◌, Bool, false, List, [], ◌∷◌, ◌++◌, length, sym, ap, arith, None, map, Kind, Stop, Seen, Column, joined, Held},
+  Words.{Charset, Cell, CellPart, WholeCell, cell, cell_start, field, cell_so_far, true, Some, opened, ◌≢◌, refl},
+  Paths.{At, over},
+  GrowingTexts.{Grows, OptionGrows, cell_grows, grows_all, grows_same, grows_trans},
 }
+
+-- ---- fields in their line
+
+-- a field after a comma
+pub after_some_column : (column : ℕ) {text : List ℕ} → column ≢ 0 → 44 ∷ text ≡ N.after_comma column text
+after_some_column _ h = grind arith
+
+-- more after a field
+pub after_append : (column : ℕ) (a b : List ℕ) → N.after_comma column (a ++ b) ≡ N.after_comma column a ++ b
+after_append _ a b = grind arith
+
+-- one field more
+pub joined_snoc : (fields : List (List ℕ)) (f : List ℕ) → joined fields ++ N.after_comma (length fields) f ≡ joined (fields ++ f ∷ [])
+joined_snoc [] f = refl
+joined_snoc (g ∷ []) f = sym (N.append_assoc g _ f)
+joined_snoc (g ∷ h ∷ gs) f = grind (arith, N.append_assoc, (joined_snoc (h ∷ gs) f))
+
+-- ---- cells that are read
 
 -- A cell was read, of those whose text comes with the last element alone, and this is its text in its line.
 pub record ReadsCell (from : CellPart) (column : ℕ) (last : Bool) (old new : Seen) (place place' : ℕ) (text : List ℕ) : Type 0 where
@@ -33,7 +50,7 @@ StopsCell charset kind = N.StopsField (cell_start kind (N.shape charset kind))
 
 -- A cell of a kind was read and its text put, from one place to another; or it stopped so.
 abbrev pub PutsAt : Charset → Kind → ℕ → Bool → At → At → Type 0
-PutsAt charset kind column last p q = PutsCell charset kind column last p.seen q.seen p.place q.place p.held q.held
+PutsAt charset kind column last p q = over (PutsCell charset kind column last) p q
 
 abbrev pub StopsAt : Charset → Kind → ℕ → Bool → At → Seen → Held → Bool → Stop → Type 0
 StopsAt charset kind column last p d j failed stop = StopsCell charset kind column last p.seen d p.place p.held j failed stop
@@ -42,11 +59,11 @@ StopsAt charset kind column last p d j failed stop = StopsCell charset kind colu
 
 -- before its first element a cell has no text
 pub start_quiet : (kind : Kind) (s : N.Shape) → N.field_so_far (cell_start kind s) ≡ None
-start_quiet kind s = grind arith
+start_quiet _ s = grind arith
 
 -- it has no text yet
 pub quiet_text : (column : ℕ) (last : Bool) (at : CellPart) → N.field_so_far at ≡ None → cell_so_far column last at ≡ []
-quiet_text column last at h = grind arith
+quiet_text _ _ at h = grind arith
 
 module _ (kind : Kind) (s : N.Shape) (column : ℕ) (last : Bool) where
   none_put : (at : CellPart) (h : Held) → N.field_so_far at ≡ None → h.delivered ≤ 2 ^ 64 - 1
@@ -74,13 +91,13 @@ module _ (kind : Kind) (s : N.Shape) (column : ℕ) (last : Bool) where
     ahead = [];
     spelt = r.spelt;
     next = r.next;
-    takes = rw (append-nil _) r.takes;
+    takes = search N.rules;
     between = r.between;
     middle = h;
     few = few;
     puts = none_put _ h r.quiet d;
     more = text;
-    text_is = ap (λ l. l ++ text) (quiet_text _ _ _ r.quiet) ∙ r.text_is ∙ ap (cell_so_far column last) (sym r.whole);
+    text_is = grind arith;
     breaks = x;
   }
 
@@ -92,11 +109,11 @@ module _ (kind : Kind) (s : N.Shape) (column : ℕ) (last : Bool) where
 -- ---- a cell in its row
 
 pub fields_more : (cells : List Cell) (v : List ℕ) → joined (map field cells) ++ N.after_comma (length cells) v ≡ joined (map field cells ++ v ∷ [])
-fields_more cells v = grind (arith, N.length-map, joined_snoc)
+fields_more _ v = grind (arith, N.length-map, joined_snoc)
 
 pub cell_more : (cells : List Cell) (v : Cell)
     → joined (map field cells) ++ N.after_comma (length cells) (field v) ≡ joined (map field (cells ++ v ∷ []))
-cell_more cells v = grind (arith, fields_more, N.map-append)
+cell_more _ v = grind (arith, fields_more, N.map-append)
 
 -- the columns to come, each with whether it is NULL by its bit
 module _ (charset : Charset) (cells : List Cell) (ks : List (Column × Bool)) where
@@ -106,12 +123,12 @@ module _ (charset : Charset) (cells : List Cell) (ks : List (Column × Bool)) wh
 
 some_bytes : (column : ℕ) (from : CellPart) (v : Cell) (es : List (List ℕ)) → (from ≡ WholeCell v → ⊥) → N.Leads (cell column) from es (WholeCell v)
     → 0 < length (N.concat es)
-some_bytes column from v [] before h = absurd (before h)
-some_bytes column from v (e ∷ es) before h = omega (arith, N.length-append e (N.concat es))
+some_bytes _ _ v [] before h = grind arith
+some_bytes _ _ v (e ∷ es) _ h = grind (arith, N.length-append)
 
 -- a cell that was read has some bytes
 pub cell_some : {column : ℕ} {last : Bool} {p q : At} (charset : Charset) (kind : Kind) → PutsAt charset kind column last p q → p.place < q.place
-cell_some charset kind y =
+cell_some _ _ y =
     let spelt = y.streams.spelt in
     let some = some_bytes _ _ y.value _ (grind arith) spelt.leads in
     omega (arith, ap length spelt.joined)
@@ -125,7 +142,7 @@ ends (k ∷ ks) = false
 
 -- so it is where no column is left
 pub ends_marked : (columns : List Column) (nulls : ℕ → Bool) (n : ℕ) → N.is_last_column columns ≡ ends (N.marked columns nulls n)
-ends_marked columns nulls n = grind arith
+ends_marked _ _ n = grind arith
 
 -- no column is NULL by its bit
 abbrev pub coming : List Column → ℕ → List (Column × Bool)
@@ -142,10 +159,10 @@ none_ahead [] n = refl
 none_ahead (c ∷ cs) n = refl
 
 -- one more whole cell, and what is known of the text after it
-one_more : (cells : List Cell) (v : Cell) (ks : List (Column × Bool)) (text : List ℕ)
+one_more : (cells : List Cell) (v : Cell) (ks : List (Column × Bool)) {text : List ℕ}
     → (joined (map field (cells ++ v ∷ [])) ++ N.end_after (ends ks)) ++ nulls_ahead (length (cells ++ v ∷ [])) ks ≡ text
     → (joined (map field cells) ++ N.in_line (length cells) (ends ks) (field v)) ++ nulls_ahead (length cells + 1) ks ≡ text
-one_more cells v ks text is =
+one_more cells v ks is =
     let begun =
     sym (N.append_assoc (joined (map field cells)) _ _) ∙ ap (λ l. l ++ N.end_after (ends ks)) (cell_more cells v) in
     ap (λ l. l ++ nulls_ahead (length cells + 1) ks) begun
@@ -154,18 +171,18 @@ one_more cells v ks text is =
 -- a row's text so far is that of its whole cells, the end of the line where no column follows, and that of the NULLs to come
 pub nulls_text : (charset : Charset) (cells : List Cell) (ks : List (Column × Bool))
     → (joined (map field cells) ++ N.end_after (ends ks)) ++ nulls_ahead (length cells) ks ≡ N.row_so_far (N.next_cell charset cells ks)
-nulls_text charset cells [] = append-nil _
+nulls_text _ _ [] = N.append-nil _
 nulls_text charset cells ((k, true) ∷ ks) =
     let tail = nulls_ahead _ ks in
-    ap (λ l. l ++ (N.in_line (length cells) (ends ks) N.null_field ++ tail)) (append-nil (joined (map field cells)))
-    ∙ sym (N.append_assoc (joined (map field cells)) _ tail)
-    ∙ one_more cells N.Null ks _ (nulls_text charset (cells ++ N.Null ∷ []) ks)
-nulls_text charset cells ((k, false) ∷ ks) = grind (arith, append-nil)
+    ap (λ l. l ++ (N.in_line (length cells) (ends ks) N.null_field ++ tail)) (N.append-nil _)
+    ∙ sym (N.append_assoc _ _ tail)
+    ∙ one_more cells N.Null ks (nulls_text charset _ ks)
+nulls_text _ _ ((k, false) ∷ ks) = search N.rules
 
 -- ---- a cell's text in its line
 
 module _ (column : ℕ) (last : Bool) where
-  opened_grows : (a b : Option (List ℕ)) → OptionGrows a b → Grows (opened column a) (opened column b)
+  opened_grows : (a b : N.Option (List ℕ)) → OptionGrows a b → Grows (opened column a) (opened column b)
   opened_grows None b h = grows_all _
   opened_grows (Some a) None h = absurd h
   opened_grows (Some a) (Some b) h = grind arith
@@ -199,8 +216,8 @@ module _ (charset : Charset) (cells : List Cell) (ks : List (Column × Bool)) wh
 
   -- the text so far of the row is that of the whole cells, that of the next one, and that of the NULLs after it
   pub part_text : (at : CellPart) → (joined (map field cells) ++ cell_so_far (length cells) (ends ks) at) ++ rest_of at ≡ N.row_so_far (up at)
-  part_text at = grind (arith, append-nil, nulls_text, one_more, fields_more)
+  part_text at = grind (arith, N.append-nil, nulls_text, one_more, fields_more)
 
   -- there are none after it while it is open
   pub begun_text : (at : CellPart) → 0 < N.cell_size at → joined (map field cells) ++ cell_so_far (length cells) (ends ks) at ≡ N.row_so_far (up at)
-  begun_text at some = grind (arith, append-nil, (part_text at))
+  begun_text at some = grind (arith, N.append-nil, (part_text at))

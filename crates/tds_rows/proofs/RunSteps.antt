@@ -1,13 +1,11 @@
 -- The cells of a run, as they are written one after another.
 use Rattle.tds_rows.proofs.Words as N
 use Rattle.tds_rows.proofs.{
-  Words.{false, zero, suc, ◌≡◌, ◌∙◌, ℕ, ◌+◌, ◌-◌, ◌≤◌, ◌<◌, Bool, List, [], ◌∷◌, ◌++◌, length, take, drop, refl, sym, ap, subst, arith, Result, Ok, Err, true},
-  Words.{Stop, map, Option, held, Column, Charset, Cell, cell, cell_start, shape, PlainRow, row, row_so_far, Writes, WritesRows, after_cells, lines, rows},
-  Words.{rows_so_far, Kind, ◌^◌, inr},
-  CellSteps.fixed_some,
+  Words.{false, ◌≡◌, ◌∙◌, ℕ, ◌+◌, ◌-◌, ◌≤◌, ◌<◌, Bool, List, [], ◌∷◌, ◌++◌, length, take, drop, refl, sym, ap, arith, true, Stop, held, Column, Charset},
+  Words.{Cell, cell_start, shape, PlainRow, row, row_so_far, Writes, WritesRows, after_cells, lines, rows, rows_so_far, Kind, ◌^◌},
   NullSteps.row_cell,
-  RowSteps.{coming, ends_marked, line_grows, none_ahead, quiet_text, start_quiet, PutsCell, StopsCell},
-  Paths.{At, writes_both, writes_inside, writes_none},
+  RowSteps.{coming, ends_marked, line_grows, none_ahead, PutsCell, StopsCell},
+  Paths.{At, writes_both, writes_inside, writes_none, over},
   TableSteps.next_column,
 }
 
@@ -26,56 +24,60 @@ whole_of x = record {
 -- a scalar cell, in any set
 pub writes_scalar : (set : Charset) (kind : Kind) (column : ℕ) (last : Bool) (bytes made : List ℕ)
     → ((any : Charset) → N.WritesCell (cell_start kind (shape any kind)) column last bytes made) → N.WritesKind set kind column last bytes made
-writes_scalar set kind column last bytes made x = grind (arith, whole_of)
+writes_scalar _ _ _ _ _ _ x = grind (arith, whole_of)
 
 -- what is made after what was made
 pub made_more : (made m : ℕ) (to new rest : List ℕ) → made ≤ length to → m ≤ length new
     → take (made + m) (take made to ++ (new ++ rest)) ≡ take made to ++ take m new
-made_more made m to new rest within some = grind (arith, N.length-take-le, N.take-append-add, N.take-append-le)
+made_more _ m _ _ _ within some = grind (arith, N.length-take-le, N.take-append-add, N.take-append-le)
+
+-- the bytes that are left after so many
+abbrev pub unused : ℕ → List ℕ → List ℕ
+unused used bytes = take (length bytes - used) (drop used bytes)
 
 -- what is used after what was used
-pub used_more : (used u : ℕ) (bytes : List ℕ) → take (used + u) bytes ≡ take used bytes ++ take u (take (length bytes - used) (drop used bytes))
-used_more used u bytes = grind (arith, N.take-add, N.all_after)
+pub used_more : (used u : ℕ) (bytes : List ℕ) → take (used + u) bytes ≡ take used bytes ++ take u (unused used bytes)
+used_more _ u _ = grind (arith, N.take-add, N.all_after)
 
 -- what is written after what was made leaves it as it was
 pub made_same : (made : ℕ) (to rest : List ℕ) → made ≤ length to → take made (take made to ++ rest) ≡ take made to
-made_same made to rest within = grind (arith, N.take-append-le, N.length-take-le, N.take_all)
+made_same _ _ _ within = grind (arith, N.take-append-le, N.length-take-le, N.take_all)
 
 -- ---- the size of a cell
 
 -- how many bytes it has
 pub scalar_whole : (kind : Kind) (bytes : List ℕ) → N.is_scalar kind ≡ true → N.whole_size kind bytes ≡ N.scalar_size kind bytes
-scalar_whole kind bytes h = grind arith
+scalar_whole _ _ h = grind arith
 
 -- it is left as a scalar cell is
 pub scalar_left : (set : Charset) (kind : Kind) (bytes : List ℕ) (room : ℕ) → N.is_scalar kind ≡ true → N.IsLeft set kind bytes room
     → N.IsScalarLeft kind bytes
-scalar_left set kind bytes room scalar h5 = grind arith
+scalar_left _ _ _ _ scalar h5 = grind arith
 
 -- a cell has some bytes
 pub whole_some : (kind : Kind) (bytes : List ℕ) → 0 < N.whole_size kind bytes
-whole_some kind bytes = grind arith
+whole_some _ _ = grind arith
 
 -- ---- a run between a payload and a sink
 
 -- what doesn't fill a block isn't delivered, so no write of it fails
 pub fills_no_block : (h j : N.Held) (piece : List ℕ) (stop : Stop) → length h.waiting + length piece < 4096 → N.Breaks h j piece stop → ⊥
-fills_no_block h j piece stop few (sent, blocks, n, adds, most, least, less, whole, is, risen) =
-    let both : length h.waiting + length (take n piece) ≡ length sent + length j.waiting = sym (N.length-append h.waiting (take n piece))
+fills_no_block h j piece _ few (sent, blocks, n, adds, most, least, less, whole, is, risen) =
+    let both = sym (N.length-append h.waiting _)
     ∙ ap length adds.1 ∙ N.length-append sent j.waiting in
-    omega (arith, most, N.length-take n piece)
+    omega (arith, N.length-take n piece)
 
 -- ---- over the ends of rows
 
 pub lines-append : (rs qs : List (List Cell)) → lines (rs ++ qs) ≡ lines rs ++ lines qs
 lines-append [] qs = refl
-lines-append (r ∷ rs) qs = ap (λ l. N.line (map N.field r) ++ l) (lines-append rs qs) ∙ sym (N.append_assoc (N.line (map N.field r)) (lines rs) (lines qs))
+lines-append (r ∷ rs) qs = ap (λ l. N.line (N.map N.field r) ++ l) (lines-append rs qs) ∙ sym (N.append_assoc _ (lines rs) (lines qs))
 
 -- some columns are to come, so no line ends there
 start_text : (token : N.RowToken) (charset : Charset) (columns : List Column) → 0 < length columns → row_so_far (N.token_start token charset columns) ≡ []
-start_text PlainRow charset [] some = absurd (omega arith)
-start_text PlainRow charset (c ∷ cs) some = ap (λ o. N.joined (N.with_field [] o)) (start_quiet _ _)
-start_text N.NbcRow charset columns some = refl
+start_text PlainRow _ [] some = grind arith
+start_text PlainRow _ (c ∷ cs) _ = grind arith
+start_text N.NbcRow _ _ _ = refl
 
 module _ (token : N.RowToken) (charset : Charset) (all : List Column) (before : List (List Cell)) where
   pub row_among_rows : N.Inside (row charset) (rows token charset all) (λ p. record { before = before; at = p })
@@ -90,25 +92,25 @@ module _ (token : N.RowToken) (charset : Charset) (all : List Column) (before : 
   pub row_token : (cells : List Cell) → 0 < length all
       → Writes (rows token charset all) rows_so_far (record { before = before; at = N.WholeRow cells }) (N.token_byte token ∷ []) []
       (record { before = before ++ cells ∷ []; at = N.token_start token charset all })
-  row_token cells some = grind (arith, N.Spelt-one, N.append-nil, lines-append, start_text)
+  row_token _ some = grind (arith, N.Spelt-one, N.append-nil, lines-append, start_text)
 
 -- ---- cells of the last row
 
 -- a cell that lies whole, by itself
 cell_writes : {column : ℕ} {last : Bool} {bytes made : List ℕ} (kind : Kind) (sh : N.Shape)
     → (x : N.WritesWhole (cell_start kind sh) column last bytes made)
-    → Writes (cell column) (N.cell_so_far column last) (cell_start kind sh) bytes made (N.WholeCell x.value)
-cell_writes {column = column} {last = last} {made = made} kind sh x = grind (arith, quiet_text, start_quiet)
+    → Writes (N.cell column) (N.cell_so_far column last) (cell_start kind sh) bytes made (N.WholeCell x.value)
+cell_writes _ _ x = grind arith
 
 -- a cell after these, in its row
 after_more : {bytes made : List ℕ} {v : Cell} (charset : Charset) (cells : List Cell) (c : Column) (left : List Column)
-    → Writes (cell (length cells)) (N.cell_so_far (length cells) (N.is_last_column left)) (cell_start c.kind (shape charset c.kind)) bytes made
+    → Writes (N.cell (length cells)) (N.cell_so_far (length cells) (N.is_last_column left)) (cell_start c.kind (shape charset c.kind)) bytes made
     (N.WholeCell v)
     → Writes (row charset) row_so_far (after_cells charset cells (c ∷ left)) bytes made (after_cells charset (cells ++ v ∷ []) left)
 after_more {bytes = bytes} {made = made} {v = v} charset cells c left x =
     let n = length cells + 1 in
-    subst (λ (k : ℕ). Writes (row charset) row_so_far (after_cells charset cells (c ∷ left)) bytes made
-    (N.next_cell charset (cells ++ v ∷ []) (coming left k))) (sym (N.length-append cells (v ∷ [])))
+    N.subst (λ (k : ℕ). Writes (row charset) row_so_far (after_cells charset cells (c ∷ left)) bytes made
+    (N.next_cell charset (cells ++ v ∷ []) (coming left k))) (sym (N.length-append cells _))
     (row_cell _ _ _ c (none_ahead _ n) (rw (ends_marked _ (λ k. false) n) at x))
 
 pub rows_none : {charset : Charset} {all : List Column} {cells : List Cell} {columns : List Column} {column : ℕ} → length cells ≡ column
@@ -127,10 +129,10 @@ module _ {charset : Charset} {all : List Column} {cells : List Cell} {from : ℕ
       → WritesCells charset all cells from (at + 1) (a ++ b) (p ++ q)
   column_cells {b = b} {q = q} at x w =
       let z = rw (sym x.counted) at w.writes in
-      let one = after_more charset x.more w.column w.left (cell_writes w.column.kind (shape charset w.column.kind) z) in
+      let one = after_more charset x.more w.column w.left (cell_writes w.column.kind _ z) in
       let after = λ (l : List Column). after_cells charset (x.more ++ z.value ∷ []) l in
-      let next = subst (λ l. Writes (row charset) row_so_far (after_cells charset x.more (w.column ∷ w.left)) b q (after l))
-      (sym (next_column all at w.column w.left w.next).1.1) one in
+      let next = N.subst (λ l. Writes (row charset) row_so_far (after_cells charset x.more (w.column ∷ w.left)) b q (after l))
+      (sym (next_column all at w.next).1.1) one in
       record {
         more = x.more ++ z.value ∷ [];
         counted = omega (arith, N.length-append x.more (z.value ∷ []));
@@ -140,10 +142,10 @@ module _ {charset : Charset} {all : List Column} {cells : List Cell} {from : ℕ
   -- so many columns
   pub marked_cells : (n : ℕ) (b q : List ℕ) → length cells ≡ from → N.WritesMarked charset all (λ k. false) from n b q
       → WritesCells charset all cells from (from + n) b q
-  marked_cells zero b q counted w = rw (w.0, w.1, N.add-zero from) (record { more = cells; counted = counted; writes = writes_none })
-  marked_cells (suc n) b q counted w =
+  marked_cells N.zero b q counted w = search N.rules
+  marked_cells (N.suc n) b q counted w =
       let y = column_cells _ (marked_cells n _ _ counted w.6) w.7 in
-      let further : (from + n) + 1 ≡ from + suc n = omega arith in
+      let further : (from + n) + 1 ≡ from + N.suc n = omega arith in
       rw (w.4, w.5) (rw further at y)
 
 module _ {charset : Charset} {all : List Column} {cells : List Cell} {columns : List Column} {count : ℕ} where
@@ -155,7 +157,7 @@ module _ {charset : Charset} {all : List Column} {cells : List Cell} {columns : 
       record {
         before = x.before;
         more = y.more;
-        rows_counted = x.rows_counted;
+        rows_counted = cc;
         counted = y.counted;
         writes = writes_both x.writes (row_among PlainRow charset all x.before y.writes);
       }
@@ -175,7 +177,7 @@ module _ {charset : Charset} {all : List Column} {cells : List Cell} {columns : 
       → N.get_or bytes used 0 ≡ 0xD1
       → WritesRows charset all cells columns left column count (take used bytes) p
       → WritesRows charset all cells columns all 0 (count + 1) (take (used + 1) bytes) p
-  rows_onward used bytes some none within is x = grind (arith, rows_next, N.take_more)
+  rows_onward _ _ some none within is x = grind (arith, rows_next, N.take_more)
 
 -- ---- rows after rows
 
@@ -188,7 +190,7 @@ module _ (charset : Charset) (all : List Column) (before : List (List Cell)) whe
   rows_among_rows = grind (arith, N.append_assoc)
 
   rows_after_text : (p : N.RowsPart) → lines before ++ rows_so_far p ≡ rows_so_far (after_rows p)
-  rows_after_text p = grind (arith, N.append_assoc, before, lines-append)
+  rows_after_text p = grind (arith, N.append_assoc, lines-append)
 
   pub rows_after : {p q : N.RowsPart} {bytes made : List ℕ} → Writes (rows PlainRow charset all) rows_so_far p bytes made q
       → Writes (rows PlainRow charset all) rows_so_far (after_rows p) bytes made (after_rows q)
@@ -212,34 +214,33 @@ rows_both {charset = charset} {all = all} x y = record {
 pub whole_puts : (charset : Charset) (kind : Kind) (column : ℕ) (last : Bool) (p q : At) (bytes text : List ℕ)
     → N.WritesWhole (cell_start kind (shape charset kind)) column last bytes text
     → N.Takes p.seen q.seen bytes (length bytes) → q.place ≡ p.place + length bytes → N.Puts p.held q.held text
-    → PutsCell charset kind column last p.seen q.seen p.place q.place p.held q.held
-whole_puts charset kind column last p q bytes text x takes at puts =
+    → over (PutsCell charset kind column last) p q
+whole_puts _ _ _ _ p q _ _ x takes at puts =
     let writes = cell_writes _ _ x in
     record {
       value = x.value;
-      streams = record { bytes = bytes; spelt = writes.spelt; takes = takes; puts = (text, writes.text_is, puts) };
+      streams = grind arith;
       place_is = at;
     }
 
 -- its bytes and more were passed over, and a write of its text failed
-pub whole_breaks : {bytes text : List ℕ} {a b : N.Seen} {place : ℕ} {h j : N.Held} {failed : Bool} {stop : Stop} (charset : Charset) (kind : Kind) (column
-    : ℕ) (last : Bool) (rest : List ℕ) → N.WritesWhole (cell_start kind (shape charset kind)) column last bytes text
+pub whole_breaks : {bytes text : List ℕ} {a b : N.Seen} {place : ℕ} {h j : N.Held} {failed : Bool} {stop : Stop} (charset : Charset) (kind : Kind) {column : ℕ} {last : Bool} (rest : List ℕ) → N.WritesWhole (cell_start kind (shape charset kind)) column last bytes text
     → N.Takes a b (bytes ++ rest) 0 → N.IsBetween b → length h.waiting < 4096 → h.delivered ≤ 2 ^ 64 - 1 → N.Breaks h j text stop → failed ≡ true
     → StopsCell charset kind column last a b place h j failed stop
-whole_breaks {bytes = bytes} {a = a} {b = b} {h = h} {j = j} {stop = stop} charset kind column last rest x takes between few delivered breaks failed =
+whole_breaks {bytes = bytes} {a = a} {b = b} {h = h} {j = j} {stop = stop} _ _ {column} {last} rest x takes between few delivered breaks failed =
     let writes = cell_writes _ _ x in
-    let broken = N.breaks_somewhere (cell column) (N.cell_so_far column last) (line_grows column last) _ a b h j stop between _ bytes rest _ writes.spelt
-    (N.Takes-more a b (bytes ++ rest) 0 1 (omega arith) takes) few delivered writes.text_is breaks in
-    record { at = broken.0; cause = inr (broken.1, failed) }
+    let broken = N.breaks_somewhere _ _ (line_grows column last) _ a b h j stop between _ bytes rest _ writes.spelt
+    (N.Takes-more a b _ 0 1 (omega arith) takes) few delivered writes.text_is breaks in
+    record { at = broken.0; cause = grind arith }
 
 -- it was put at once
-pub put_whole : {W U : Type 0} {column place' : ℕ} {last : Bool} {bytes text : List ℕ} (r : Result U Stop) (charset : Charset) (kind : Kind)
-    (a b : N.Seen) (place : ℕ) (contents : W → Option (List ℕ)) (old new : N.Sink W) → N.IsWriting old → N.IsBetween b
+pub put_whole : {W U : Type 0} {column place' : ℕ} {last : Bool} {bytes text : List ℕ} {contents : W → N.Option (List ℕ)} {old new : N.Sink W}
+    {r : N.Result U Stop} (charset : Charset) (kind : Kind) (a b : N.Seen) (place : ℕ) → N.IsWriting old → N.IsBetween b
     → N.WritesWhole (cell_start kind (shape charset kind)) column last bytes text → N.Takes a b bytes 0 → place' ≡ place + length bytes
     → N.PutsPiece contents old new text r
     → N.MatchResult r (λ _. PutsCell charset kind column last a b place place' (held contents old) (held contents new))
     (λ stop. StopsCell charset kind column last a b place (held contents old) (held contents new) new.failed stop)
-put_whole {bytes = bytes} (Ok u) charset kind a b place contents old new going between x takes at puts =
+put_whole {bytes = bytes} {r = N.Ok u} _ _ a b _ _ _ x takes at puts =
     whole_puts _ _ _ _ _ _ _ _ x (N.Takes-more a b bytes 0 _ (omega arith) takes) at puts.gives
-put_whole (Err stop) charset kind a b place contents old new going between x takes at puts =
-    whole_breaks _ _ _ _ [] x (rw N.append-nil takes) between (going.ready.1 going.writing) going.ready.2 (puts.gives going.writing) puts.failed
+put_whole {r = N.Err stop} _ _ a b _ going between x takes at puts =
+    whole_breaks _ _ [] x (rw N.append-nil takes) between (going.ready.1 going.writing) going.ready.2 (puts.gives going.writing) puts.failed

@@ -1,8 +1,8 @@
 -- A call that reads what comes whole stops only where a device fails.
 use Rattle.tds_rows.proofs.Words as N
 use Rattle.tds_rows.proofs.{
-  Words.{◌≡◌, ◌∙◌, inl, inr, ℕ, ◌+◌, ◌<◌, Bool, List, [], ◌∷◌, ◌++◌, length, take, refl, sym, ap, subst, arith, Result, Ok, Err, Option, Some, None},
-  Words.{if◌then◌else◌, nat_tests, Rose, Fault, Stop, before, Grammar, Spelt, Seen, Cell, Brings},
+  Words.{◌≡◌, ◌∙◌, inl, inr, ℕ, ◌+◌, ◌<◌, List, [], ◌∷◌, ◌++◌, length, sym, ap, arith, Ok, Err, Option, Some, if◌then◌else◌, Rose, Fault, Stop, before},
+  Words.{Grammar, Spelt, Seen, Cell, Brings},
   CellLaws.cell_is_read,
   RowLaws.{nbc_row_is_read, row_is_read, shape-HasBytes},
   RunSteps.{row_token, row_among_rows},
@@ -18,27 +18,26 @@ rose f = grind arith
 -- what is left, where it is told
 left_of : (input read : List ℕ) (new : Option (List ℕ)) → N.Consumes (Some input) new read → (left : List ℕ) × (new ≡ Some left)
     × (input ≡ read ++ left)
-left_of input read new h = grind arith
+left_of _ _ _ h = grind arith
 
 module _ {S : Type 0} (g : Grammar S Fault) (from to : S) (a b : Seen) (front more : List ℕ) (brings : Brings a (front ++ more))
     (last : N.Longest g from (front ++ more) (length front) to) (calm : Rose a.failures b.failures → ⊥) where
   -- what was read is the beginning of what comes
   came : (read : List ℕ) (bytes : List ℕ) → N.Consumes a.left b.left read
       → ((zs : List ℕ) → (a.future (read ++ zs)).bytes ≡ bytes ++ (b.future zs).bytes) → (rest : List ℕ) × (front ++ more ≡ bytes ++ rest)
-  came read bytes taken gives = grind arith
+  came _ _ taken gives = grind arith
 
   refused_there : (at : S) (bytes : List ℕ) (fault : Fault) → Spelt g from bytes at → N.RefusesNext g a b bytes at fault → at ≡ to
   refused_there at bytes fault spelt x =
       let e = x.element in
-      let some = x.some in
       let whole = x.whole in
       let c = came _ _ x.takes.1.0 (λ zs. ap (λ c. c.bytes) (x.takes.1.1 zs)) in
       let rest = e ++ (x.ahead ++ c.0) in
-      let all = c.1 ∙ N.append_assoc (bytes ++ e) x.ahead c.0 ∙ N.append_assoc bytes e _ in
+      let all = c.1 ∙ N.append_assoc _ x.ahead c.0 ∙ N.append_assoc bytes e _ in
       let refused : N.IsRefused g at rest fault = record {
         some = omega arith;
         whole = omega (arith, N.length-append e (x.ahead ++ c.0));
-        first = ap (λ k. g.fault at (take k rest)) (sym whole) ∙ ap (g.fault at) (N.take-append_seam e _) ∙ x.first;
+        first = ap (λ k. g.fault at (N.take k rest)) (sym whole) ∙ ap (g.fault at) (N.take-append_seam e _) ∙ x.first;
       } in
       (N.one_longest g _ _ _ _ _ _ (rw (← all) at (N.longest_refused g _ _ _ _ _ spelt refused)) last).1
 
@@ -50,12 +49,12 @@ module _ {S : Type 0} (g : Grammar S Fault) (from to : S) (a b : Seen) (front mo
 
   -- a reading that stops does so at the end of what comes
   stopped_there : (place : ℕ) (at : S) (stop : Stop) → N.StopsReading g from a b place at stop → at ≡ to
-  stopped_there place at stop x = elim x.cause [ inl y ↦ refused_there _ _ _ x.spelt y.0 | inr y ↦ cut_there _ _ _ _ x.spelt y ]
+  stopped_there _ at stop x = elim x.cause [ inl y ↦ refused_there _ _ _ x.spelt y.0 | inr y ↦ cut_there _ _ _ _ x.spelt y ]
 
 -- a state at which nothing follows is the end of what comes
 longest_end : {S : Type 0} (g : Grammar S Fault) (from to : S) (front more : List ℕ) → Spelt g from front to → g.size to ≡ 0
     → N.Longest g from (front ++ more) (length front) to
-longest_end g from to front more spelt none = N.longest_at g _ _ _ _ spelt (λ d other some within k.
+longest_end g _ _ _ more spelt none = N.longest_at g _ _ _ _ spelt (λ d other some within k.
     let e = N.no_further g _ _ _ _ _ spelt (λ i a b. omega arith) k in
     omega (arith, ap length e, N.length-take-le d more within))
 
@@ -69,37 +68,37 @@ none_stops_reading {stop = stop} g from to front more brings spelt none reads x 
     omega (arith, ap g.size there)
 
 -- a call that reads whole elements to a state at which nothing follows, and puts their text, doesn't stop
-pub none_stops : {S : Type 0} {a b : Seen} {place : ℕ} {h i : N.Held} {failed : Bool} {stop : Stop} (g : Grammar S Fault) (text : S
-    → List ℕ) (from to : S) (front more : List ℕ) → Brings a (front ++ more) → Spelt g from front to → g.size to ≡ 0
+pub none_stops : {S : Type 0} {a b : Seen} {place : ℕ} {h i : N.Held} {failed : N.Bool} {stop : Stop} {g : Grammar S Fault} {text : S
+    → List ℕ} {from to : S} {front : List ℕ} (more : List ℕ) → Brings a (front ++ more) → Spelt g from front to → g.size to ≡ 0
     → (Rose a.failures b.failures → ⊥) → (Rose h.failures i.failures → ⊥) → N.StopsStreaming g text from a b place h i failed stop → ⊥
-none_stops g text from to front more brings spelt none reads writes x = elim x.cause [
+none_stops {g} _ brings spelt none reads writes x = elim x.cause [
   | inl y ↦ none_stops_reading g _ _ _ _ brings spelt none reads y.0
   | inr y ↦
       (let z = y.0 in
-      writes (subst (Rose _) (sym (z.breaks.9.0 ∙ ap N.one_more z.puts.2.4.0)) (rose _)))
+      writes (N.subst (Rose _) (sym (z.breaks.9.0 ∙ ap N.one_more z.puts.2.4.0)) (rose _)))
 ]
 
 -- ---- the calls
 
 -- one that reads to such a state and puts the text succeeds
-pub streaming_succeeds : {S R W U : Type 0} {from to : S} {bytes : List ℕ} (g : Grammar S Fault) (text : S → List ℕ) (remaining : R
-    → Option (List ℕ)) (contents : W → Option (List ℕ)) (old new : Payload R) (sink sink' : N.Sink W) (result : Result U Stop) (more : List ℕ) (P : U
+pub streaming_succeeds : {S R W U : Type 0} {from to : S} {bytes : List ℕ} {g : Grammar S Fault} (text : S → List ℕ) (remaining : R
+    → Option (List ℕ)) (contents : W → Option (List ℕ)) (old new : Payload R) (sink sink' : N.Sink W) (result : N.Result U Stop) (more : List ℕ) (P : U
     → Type 0)
     → N.MatchResult result P (λ stop. N.StopsStreaming g text from (N.seen remaining old) (N.seen remaining new) old.place (N.held contents sink)
     (N.held contents sink') sink'.failed stop) → Spelt g from bytes to → g.size to ≡ 0
     → N.SucceedsOn remaining old new sink sink' result (bytes ++ more)
-streaming_succeeds g text remaining contents old new sink sink' (Ok x) more P put spelt none = λ brings reads writes. refl
-streaming_succeeds g text remaining contents old new sink sink' (Err stop) more P put spelt none =
-    λ brings reads writes. absurd (none_stops _ _ _ _ _ more brings spelt none reads writes put)
+streaming_succeeds _ _ _ _ _ _ _ (Ok x) _ P _ _ _ = grind arith
+streaming_succeeds _ _ _ _ _ _ _ (Err stop) more P put spelt none =
+    λ brings reads writes. absurd (none_stops more brings spelt none reads writes put)
 
-pub value_passes : {R U : Type 0} (remaining : R → Option (List ℕ)) (kind : N.Kind) (old new : Payload R) (result : Result U Stop) (value : Cell)
+pub value_passes : {R U : Type 0} (remaining : R → Option (List ℕ)) (kind : N.Kind) (old new : Payload R) (result : N.Result U Stop) (value : Cell)
     (bytes more : List ℕ)
     → N.CellPassed remaining (N.cell_start kind (N.shape N.return_charset kind)) old new result → N.SpellsCell kind (N.shape N.return_charset kind) value bytes
     → N.ReadsOn remaining old new result (bytes ++ more)
-value_passes remaining kind old new (Ok x) value bytes more passed spelt = λ brings reads. refl
-value_passes remaining kind old new (Err stop) value bytes more passed spelt = λ brings reads.
+value_passes _ _ _ _ (Ok x) _ _ _ _ _ = grind arith
+value_passes _ _ _ _ (Err stop) _ _ _ passed spelt = λ brings reads.
     let read = cell_is_read _ _ _ _ _ (shape-HasBytes N.return_charset _) spelt in
-    absurd (none_stops_reading _ _ _ _ _ brings read refl reads passed.stops)
+    absurd (none_stops_reading _ _ _ _ _ brings read N.refl reads passed.stops)
 
 pub long_is_read : (column : ℕ) (kind : N.Kind) (c : N.Conversion) (reach : N.Reach) (value : Cell) (bytes : List ℕ)
     → N.SpellsCell kind (N.LongShape c reach) value bytes → Spelt (N.cell column) (N.long_start c reach) bytes (N.WholeCell value)
@@ -120,7 +119,7 @@ module _ (token : N.RowToken) (charset : N.Charset) (columns : List N.Column) (s
 
   row_of_rows : (before : List (List Cell)) (cells : List Cell) (bytes : List ℕ) → N.SpellsRowAs token charset columns cells bytes
       → Spelt all_rows (begun_after before) bytes (among before (N.WholeRow cells))
-  row_of_rows before cells bytes h = N.Inside-Spelt _ all_rows _ (row_among_rows token charset columns before) _ bytes _
+  row_of_rows before _ bytes h = N.Inside-Spelt _ all_rows _ (row_among_rows token charset columns before) _ bytes _
       (grind (arith, nbc_row_is_read, row_is_read))
 
   -- rows that are spelt are read as rows
@@ -128,12 +127,12 @@ module _ (token : N.RowToken) (charset : N.Charset) (columns : List N.Column) (s
       → N.SpellsRows token charset columns first later bytes
       → (earlier : List (List Cell)) × (last : List Cell) × Spelt all_rows (begun_after before) bytes (among earlier (N.WholeRow last))
   rows_are_read before first [] bytes h = (before, first, row_of_rows before first bytes h)
-  rows_are_read before first (next ∷ later) bytes h =
+  rows_are_read before first (next ∷ later) _ h =
       let byte = N.token_byte token in
       let from = begun_after before in
-      let there = begun_after (before ++ first ∷ []) in
+      let there = begun_after _ in
       let t = rows_are_read (before ++ first ∷ []) next later h.1 h.4 in
-      let one = N.Spelt-append all_rows from h.0 (among before _) (byte ∷ []) there (row_of_rows before first h.0 h.3)
+      let one = N.Spelt-append all_rows from h.0 _ _ there (row_of_rows before first h.0 h.3)
       (row_token token charset columns before first some_columns).spelt in
       (t.0, t.1, rw (N.append_assoc, ← h.2) at (N.Spelt-append all_rows from _ there h.1 _ one t.2))
 
@@ -141,33 +140,33 @@ module _ (token : N.RowToken) (charset : N.Charset) (columns : List N.Column) (s
   longest_rows : (from : N.RowsPart) (earlier : List (List Cell)) (last : List Cell) (front more : List ℕ)
       → Spelt all_rows from front (among earlier (N.WholeRow last)) → N.BeginNoRow token more
       → N.Longest all_rows from (front ++ more) (length front) (among earlier (N.WholeRow last))
-  longest_rows from earlier last front [] spelt none = N.longest_cut _ _ _ _ _ spelt (omega arith)
-  longest_rows from earlier last front (byte ∷ more) spelt none = N.longest_refused _ _ _ _ _ _ spelt
-      (record { some = omega arith; whole = omega arith; first = ap (λ b. if b then None else Some (N.RefusedToken byte)) none })
+  longest_rows _ _ _ _ [] spelt none = N.longest_cut _ _ _ _ _ spelt (omega arith)
+  longest_rows _ _ _ _ (byte ∷ more) spelt none = N.longest_refused _ _ _ _ _ _ spelt
+      (record { some = omega arith; whole = omega arith; first = ap (λ b. if b then N.None else Some (N.RefusedToken byte)) none })
 
-  rows_stop_not : {a b : Seen} {place : ℕ} {h i : N.Held} {failed : Bool} {stop : Stop} (first : List Cell) (later : List (List Cell))
+  rows_stop_not : {a b : Seen} {place : ℕ} {h i : N.Held} {failed : N.Bool} {stop : Stop} (first : List Cell) (later : List (List Cell))
       (front more : List ℕ) → Brings a (front ++ more) → N.SpellsRows token charset columns first later front → N.BeginNoRow token more
       → (Rose a.failures b.failures → ⊥) → (Rose h.failures i.failures → ⊥) → N.RowsStop token charset columns a b place h i failed stop → ⊥
   rows_stop_not {place = place} {stop = stop} first later front more brings spelt none reads writes x = elim x.stops.cause [
     | inl y ↦
         (let t = rows_are_read [] first later front spelt in
         let at = x.stops.at in
-        let some = N.stops_size _ x.part x.middle _ (place + length _) at stop y.0 in
-        let among_rows = N.stops_inside _ all_rows _ (row_among_rows token charset columns x.earlier) x.part x.middle _ (place + length _) at stop
+        let some = N.stops_size _ x.part x.middle _ _ at stop y.0 in
+        let among_rows = N.stops_inside _ all_rows _ (row_among_rows token charset columns x.earlier) x.part x.middle _ _ at stop
         (grind arith) y.0 in
         let all = N.stops_after all_rows _ _ _ x.middle _ place _ stop
-        (record { bytes = x.streams.bytes; spelt = x.streams.spelt; takes = x.streams.takes }) among_rows in
+        (record { bytes = x.streams.bytes; spelt = grind arith; takes = grind arith }) among_rows in
         let same = stopped_there all_rows _ _ _ _ front more brings (longest_rows _ t.0 t.1 front more t.2 none) reads place _ stop all in
         omega (arith, ap (N.row charset).size (ap (λ p. p.at) same)))
     | inr y ↦
         (let z = y.0 in
-        writes (subst (Rose _) (sym (z.breaks.9.0 ∙ ap N.one_more (z.puts.2.4.0 ∙ x.streams.puts.2.4.0))) (rose _)))
+        writes (N.subst (Rose _) (sym (z.breaks.9.0 ∙ ap N.one_more (z.puts.2.4.0 ∙ x.streams.puts.2.4.0))) (rose _)))
   ]
 
   pub rows_succeed : {R W : Type 0} (remaining : R → Option (List ℕ)) (contents : W → Option (List ℕ)) (old new : Payload R) (before after : N.Sink W)
-      (result : Result ℕ Stop) (first : List Cell) (later : List (List Cell)) (bytes more : List ℕ)
+      (result : N.Result ℕ Stop) (first : List Cell) (later : List (List Cell)) (bytes more : List ℕ)
       → N.RowsRead remaining contents token charset columns old new before after result → N.SpellsRows token charset columns first later bytes
       → N.BeginNoRow token more → N.SucceedsOn remaining old new before after result (bytes ++ more)
-  rows_succeed remaining contents old new before after (Ok n) first later bytes more read spelt none = λ brings reads writes. refl
-  rows_succeed remaining contents old new before after (Err stop) first later bytes more read spelt none =
+  rows_succeed _ _ _ _ _ _ (Ok n) _ _ _ _ _ _ _ = grind arith
+  rows_succeed _ _ _ _ _ _ (Err stop) first later bytes more read spelt none =
       λ brings reads writes. absurd (rows_stop_not first later bytes more brings spelt none reads writes read)

@@ -1,17 +1,18 @@
 -- Runs of cells over the columns that a table knows: more cells after those that were written.
 use Rattle.tds_rows.proofs.Words as N
 use Rattle.tds_rows.proofs.{
-  Words.{arith, false, [], ◌∷◌, ◌≡◌, ◌∙◌, ap, refl, ℕ, ◌+◌, ◌-◌, ◌<◌, ◌≤◌, List, ◌++◌, length, take, drop, sym, Column, Ahead, RowsRan, Table, Cell, ◌^◌, inr},
-  Words.{Bool},
+  Words.{arith, false, ◌∷◌, ◌≡◌, ◌∙◌, ap, ℕ, ◌+◌, ◌-◌, ◌<◌, ◌≤◌, List, ◌++◌, length, take, drop, Column, Ahead, RowsRan, Table, Cell, ◌^◌, suc, Bool, sym},
+  Words.{RunsMarked, inl, ◌⊎◌, ◌==◌, Form, IsAhead, Knows, inr},
   GrowingTexts.row_grows,
-  Paths.At,
+  Paths.{At, over},
   TableSteps.none_next,
-  RunSteps.{made_more, marked_cells, marked_writes, rows_both, rows_none, rows_onward, used_more},
+  RunSteps.{made_more, marked_cells, marked_writes, rows_both, rows_none, rows_onward, used_more, unused},
+  FormSteps.some_first,
 }
 
 -- Between two places of rows, over the ends of so many, these bytes are their cells, and this is their text.
 abbrev pub RowsBetween : Table → List Column → Ahead → Ahead → ℕ → List ℕ → List ℕ → Type 0
-RowsBetween table columns old new count bytes text = N.IsAhead table columns new
+RowsBetween table columns old new count bytes text = IsAhead table columns new
     × ((charset : N.Charset) (cells : List Cell) → table.charset ≡ charset → length cells ≡ old.column
     → N.WritesRows charset columns cells (drop old.column columns) (drop new.column columns) new.column count bytes text)
 
@@ -21,20 +22,14 @@ pub rows_begin : {table : Table} {from : Ahead} {bytes to : List ℕ}
 rows_begin = grind (arith, rows_none)
 
 -- the token byte of a ROW is next
-begins_at : (used : ℕ) (bytes : List ℕ) → N.BeginsRow (take (length bytes - used) (drop used bytes)) → (used < length bytes)
+begins_at : (used : ℕ) (bytes : List ℕ) → N.BeginsRow (unused used bytes) → (used < length bytes)
     × (N.get_or bytes used 0 ≡ 0xD1)
-begins_at used bytes begins = go _ refl
-  where
-    go : (rest : List ℕ) → drop used bytes ≡ rest → (used < length bytes) × (N.get_or bytes used 0 ≡ 0xD1)
-    go [] e = absurd (rw (N.all_after bytes used, e) at begins)
-    go (byte ∷ rest) e =
-        let within : used < length bytes = omega (arith, N.length-drop used bytes, ap length e) in
-        (within, ap (λ l. N.get_or l 0 0) (sym (N.drop_more bytes used 0 within) ∙ e) ∙ (rw (N.all_after bytes used, e) at begins))
+begins_at _ _ begins = grind (arith, N.all_after, N.drop_more)
 
 -- one row more, after its token byte
 pub row_begun : {table : Table} {from start : Ahead} {bytes to : List ℕ} {run : N.RowsRun} → 0 < table.count → table.count ≤ run.ahead.column
-    → N.BeginsRow (take (length bytes - run.used) (drop run.used bytes)) × (start.column ≡ 0)
-    → ((columns : List Column) → N.Knows table columns → N.IsAhead table columns run.ahead → N.IsAhead table columns start)
+    → N.BeginsRow (unused run.used bytes) × (start.column ≡ 0)
+    → ((columns : List Column) → Knows table columns → IsAhead table columns run.ahead → IsAhead table columns start)
     → RowsRan table from bytes to run → RowsRan table from bytes to
     (record { used = run.used + 1; made = run.made; rows = run.rows + 1; ahead = start })
 row_begun {bytes = bytes} {run = run} some at (begins, first) ahead x =
@@ -45,7 +40,7 @@ row_begun {bytes = bytes} {run = run} some at (begins, first) ahead x =
       few = omega arith;
       writes = λ columns knows is.
           let y = x.writes columns knows is in
-          let none = none_next columns run.ahead.column _ knows.counted at in (
+          let none = none_next columns run.ahead.column knows.counted at in (
             ahead columns knows y.0,
             λ charset cells set counted. rw first
                 (rows_onward run.used bytes (omega arith) none within byte (y.1 charset cells set counted)),
@@ -53,49 +48,49 @@ row_begun {bytes = bytes} {run = run} some at (begins, first) ahead x =
     }
 
 -- more cells of the last row, in the bytes that are left and after what was made
-pub more_in_rows : {table : Table} {columns : List Column} {old new : Ahead} {count : ℕ} (from : Ahead) (used u made m : ℕ)
+pub more_in_rows : {table : Table} {columns : List Column} {old new : Ahead} {count : ℕ} (from : Ahead) (used u : ℕ) {made m : ℕ}
     (bytes to text rest : List ℕ) → made ≤ length to → m ≤ length text → RowsBetween table columns from old count (take used bytes) (take made to)
-    → N.RunsMarked table columns (λ k. false) old new (take u (take (length bytes - used) (drop used bytes))) (take m text)
+    → RunsMarked table columns (λ k. false) old new (take u (unused used bytes)) (take m text)
     → RowsBetween table columns from new count (take (used + u) bytes) (take (made + m) (take made to ++ (text ++ rest)))
-more_in_rows from used u made m bytes to text rest within some x y = grind (arith, used_more, made_more, marked_writes)
+more_in_rows _ _ u _ _ _ _ within some x y = grind (arith, used_more, made_more, marked_writes)
 
 -- the same of what a run over rows has done
 pub rows_more : {table : Table} {from : Ahead} {bytes to : List ℕ} {run : N.RowsRun} {cells : N.CellRun} (text rest : List ℕ) → 0 < cells.used
-    → cells.used ≤ length (take (length bytes - run.used) (drop run.used bytes)) → cells.made ≤ length text
-    → N.CellsWritten table run.ahead (take (length bytes - run.used) (drop run.used bytes)) text cells → RowsRan table from bytes to run
+    → cells.used ≤ length (unused run.used bytes) → cells.made ≤ length text
+    → N.CellsWritten table run.ahead (unused run.used bytes) text cells → RowsRan table from bytes to run
     → RowsRan table from bytes (take run.made to ++ (text ++ rest))
     (record { used = run.used + cells.used; made = run.made + cells.made; rows = run.rows; ahead = cells.ahead })
-rows_more {from = from} {bytes = bytes} {to = to} {run = run} text rest some within fits gives x = record {
-  used = omega (arith, N.length-take (length bytes - run.used) (drop run.used bytes), N.length-drop run.used bytes);
+rows_more {from = from} {bytes = bytes} {to = to} {run = run} text rest _ within fits gives x = record {
+  used = omega (arith, N.length-take (length bytes - run.used) (drop run.used bytes));
   made = omega (arith, N.length-append (take run.made to) (text ++ rest), N.length-append text rest, N.length-take-le run.made to x.made);
   few = omega arith;
-  writes = λ columns knows is. (let y = x.writes columns knows is in more_in_rows from _ _ _ _ _ _ _ _ x.made fits y (gives columns knows y.0));
+  writes = λ columns knows is. (let y = x.writes columns knows is in more_in_rows from _ _ _ _ _ _ x.made fits y (gives columns knows y.0));
 }
 
 -- the cells of a run within a row, none of which is NULL by its bit
 pub marked_in_rows : {table : Table} {columns : List Column} {from to : Ahead} {bytes text : List ℕ}
-    → N.RunsMarked table columns (λ k. false) from to bytes text → RowsBetween table columns from to 0 bytes text
+    → RunsMarked table columns (λ k. false) from to bytes text → RowsBetween table columns from to 0 bytes text
 marked_in_rows y = (y.ahead, λ charset cells set is. rw y.further (marked_writes _ y.count _ _ (rows_none is) (rw set at y.writes)))
 
 -- what was written of rows was read and put
 pub runs_rows : {charset : N.Charset} {all : List Column} {cells : List Cell} {columns left : List Column} {column count : ℕ} {bytes made : List ℕ}
     {p q : At} → N.WritesRows charset all cells columns left column count bytes made → N.Takes p.seen q.seen bytes (length bytes)
     → N.Puts p.held q.held made → q.place ≡ p.place + length bytes
-    → N.RunsRows charset all cells columns left column count p.seen q.seen p.place q.place p.held q.held
-runs_rows {bytes = bytes} {made = made} x takes puts at = record {
+    → over (N.RunsRows charset all cells columns left column count) p q
+runs_rows x takes puts at = record {
   before = x.before;
   more = x.more;
-  rows_counted = x.rows_counted;
+  rows_counted = cc;
   counted = x.counted;
-  streams = record { bytes = bytes; spelt = x.writes.spelt; takes = takes; puts = (made, x.writes.text_is, puts) };
+  streams = grind arith;
   place_is = at;
 }
 
 -- the cells of a run within a row were read and put
 pub marked_rows : {table : Table} {columns : List Column} {from to : Ahead} {p q : At}
-    → N.PutsMarked table columns (λ k. false) from to p.seen q.seen p.place q.place p.held q.held
-    → N.IsAhead table columns to × ((charset : N.Charset) (cells : List Cell) → table.charset ≡ charset → length cells ≡ from.column
-    → N.RunsRows charset columns cells (drop from.column columns) (drop to.column columns) to.column 0 p.seen q.seen p.place q.place p.held q.held)
+    → over (N.PutsMarked table columns (λ k. false) from to) p q
+    → IsAhead table columns to × ((charset : N.Charset) (cells : List Cell) → table.charset ≡ charset → length cells ≡ from.column
+    → over (N.RunsRows charset columns cells (drop from.column columns) (drop to.column columns) to.column 0) p q)
 marked_rows {p = p} {q = q} x =
     let ran = marked_in_rows x.runs in
     (ran.0, λ charset cells set is. runs_rows (ran.1 charset cells set is) (N.Takes-more p.seen q.seen x.bytes 0 _ (omega arith) x.takes) x.puts x.place_is)
@@ -107,22 +102,22 @@ pub run_breaks : {table : Table} {columns : List Column} {from : Ahead} {a b : N
     → N.RowStops table.charset (N.after_cells table.charset cells (drop from.column columns)) a b place h j failed stop
 run_breaks {table = table} {a = a} {b = b} {h = h} {j = j} {stop = stop} cells y counted few delivered =
     let x = marked_cells {charset = table.charset} {cells = cells} y.runs.count y.bytes _ counted y.runs.writes in
-    let broken = N.breaks_somewhere (N.row table.charset) N.row_so_far (row_grows table.charset) _ a b h j stop y.between _ y.bytes [] _ x.writes.spelt
+    let broken = N.breaks_somewhere _ N.row_so_far (row_grows table.charset) _ a b h j stop y.between _ y.bytes N.[] _ x.writes.spelt
     (rw N.append-nil (N.Takes-more a b y.bytes 0 1 (omega arith) y.takes)) few delivered x.writes.text_is y.breaks in
-    record { at = broken.0; cause = inr (broken.1, y.failed_is) }
+    record { at = broken.0; cause = grind arith }
 
 -- what stands after what was made may be another
-pub rows_kept : {table : Table} {from : Ahead} {bytes to : List ℕ} {run : N.RowsRun} (new : List ℕ) → length new ≡ length to
+pub rows_kept : {table : Table} {from : Ahead} {bytes to : List ℕ} {run : N.RowsRun} {new : List ℕ} → length new ≡ length to
     → take run.made new ≡ take run.made to → RowsRan table from bytes to run → RowsRan table from bytes new run
-rows_kept new same is x = grind arith
+rows_kept same is x = grind arith
 
 -- a run, and then another that ended where it began
 pub rows_further : {table : Table} {from : Ahead} {bytes to : List ℕ} {run more : N.RowsRun} (text rest : List ℕ) → more.ahead ≡ run.ahead
-    → RowsRan table from bytes to run → RowsRan table run.ahead (take (length bytes - run.used) (drop run.used bytes)) text more
+    → RowsRan table from bytes to run → RowsRan table run.ahead (unused run.used bytes) text more
     → RowsRan table from bytes (take run.made to ++ (text ++ rest))
     (record { used = run.used + more.used; made = run.made + more.made; rows = run.rows + more.rows; ahead = run.ahead })
 rows_further {bytes = bytes} {to = to} {run = run} {more = more} text rest is x y = record {
-  used = omega (arith, N.length-take (length bytes - run.used) (drop run.used bytes), N.length-drop run.used bytes);
+  used = omega (arith, N.length-take (length bytes - run.used) (drop run.used bytes));
   made = omega (arith, N.length-append (take run.made to) (text ++ rest), N.length-append text rest, N.length-take-le run.made to x.made);
   few = omega arith;
   writes = λ columns knows ahead. (let u = x.writes columns knows ahead in let v = y.writes columns knows u.0 in (
@@ -133,3 +128,140 @@ rows_further {bytes = bytes} {to = to} {run = run} {more = more} text rest is x 
     ) (rows_both w (rw is at (v.1 charset w.more set w.counted)))),
   ));
 }
+
+-- ---- the cells of an NBCROW
+
+-- no column is NULL by its bit
+abbrev pub none_null : ℕ → Bool
+none_null k = false
+
+module _ (charset : N.Charset) (columns : List Column) where
+  -- so many columns, and then so many more
+  marked_both : (nulls : ℕ → Bool) (from n m : ℕ) (a b p q : List ℕ) → N.WritesMarked charset columns nulls from n a p
+      → N.WritesMarked charset columns nulls (from + n) m b q → N.WritesMarked charset columns nulls from (n + m) (a ++ b) (p ++ q)
+  marked_both _ _ n N.zero a b p q x y = search N.rules
+  marked_both nulls from n (suc m) a b p q x y =
+      let at : (from + n) + m ≡ from + _ = omega arith in
+      let counted : suc _ ≡ n + suc m = omega arith in
+      rw (sym counted) (
+        a ++ y.0,
+        y.1,
+        p ++ y.2,
+        y.3,
+        ap (λ l. a ++ l) y.4 ∙ sym (N.append_assoc a y.0 y.1),
+        ap (λ l. p ++ l) y.5 ∙ sym (N.append_assoc p y.2 y.3),
+        marked_both nulls from n m a y.0 p y.2 x y.6,
+        rw at at y.7,
+      )
+
+  -- columns whose bits are clear
+  pub marked_clear : (nulls : ℕ → Bool) (from n : ℕ) (bytes text : List ℕ) → ((k : ℕ) → from ≤ k → k < from + n → nulls k ≡ false)
+      → N.WritesMarked charset columns none_null from n bytes text → N.WritesMarked charset columns nulls from n bytes text
+  marked_clear _ _ N.zero _ _ _ x = x
+  marked_clear nulls from (suc n) _ _ clear x =
+      let last = x.7 in
+      let writes = N.subst (λ e. N.WritesNext charset e last.column.kind (from + n) (N.is_last_column last.left) x.1 x.3)
+      (sym (clear (from + n) (omega arith) (omega arith))) last.writes in
+      let one : N.WritesColumn charset columns nulls (from + n) x.1 x.3 =
+      grind arith in
+      (x.0, x.1, x.2, x.3, x.4, x.5, marked_clear _ _ n _ _ (λ k least most. clear k least (omega arith)) x.6, one)
+
+module _ {table : Table} {columns : List Column} {nulls : ℕ → Bool} {at : Ahead} where
+  -- one cell
+  pub runs_column : {after : Ahead} {kind : N.Kind} {last : Bool} {bytes text : List ℕ} → N.TakesColumn table columns at after kind
+      → last ≡ N.is_last_column (drop after.column columns) → N.WritesNext table.charset (nulls at.column) kind at.column last bytes text
+      → RunsMarked table columns nulls at after bytes text
+  runs_column {bytes = bytes} {text = text} taken end cell =
+      let one : N.WritesColumn _ columns nulls _ bytes text =
+      record { column = taken.column; left = drop _ columns; next = taken.next; writes = rw (taken.kind, end) at cell } in
+      record {
+        count = 1;
+        ahead = taken.ahead;
+        further = cc;
+        writes = grind arith;
+      }
+
+module _ {table : Table} {columns : List Column} {nulls : ℕ → Bool} {from to : Ahead} where
+  -- a run over columns whose bits are clear
+  pub runs_clear : {bytes text : List ℕ} → ((k : ℕ) → from.column ≤ k → k < to.column → nulls k ≡ false)
+      → RunsMarked table columns none_null from to bytes text → RunsMarked table columns nulls from to bytes text
+  runs_clear clear x = grind (arith, marked_clear)
+
+  -- more cells, in the bytes that are left and after what was made
+  pub runs_more : (at : Ahead) (used u made m : ℕ) (bytes text new rest : List ℕ) → made ≤ length text → m ≤ length new
+      → RunsMarked table columns nulls from at (take used bytes) (take made text)
+      → RunsMarked table columns nulls at to (take u (take (length bytes - used) (drop used bytes))) (take m new)
+      → RunsMarked table columns nulls from to (take (used + u) bytes) (take (made + m) (take made text ++ (new ++ rest)))
+  runs_more at used u made m bytes text new rest within some x y = record {
+    count = x.count + y.count;
+    ahead = y.ahead;
+    further = omega arith;
+    writes = rw (used_more, made_more) (marked_both _ _ _ _ _ _ _ _ _ _ x.writes (rw x.further at y.writes));
+  }
+
+-- a run ended before a column whose bit is clear
+pub ends_clear : (table : Table) (nulls : ℕ → Bool) (at : Ahead) (bytes : List ℕ) (room : ℕ) → nulls at.column ≡ false → N.RunEnds table at bytes room
+    → N.EndsLeft table nulls at bytes room
+ends_clear _ _ at bytes room clear x =
+    λ columns column left knows ahead next. elim (x columns column left knows ahead next) [ inl few ↦ inl few | inr y ↦ inr (clear, y.1) ]
+
+-- ---- the forms of the next columns
+
+-- those that a table knows, from a place in a row on
+pub known_ahead : (table : Table) (at : Ahead) (end : ℕ) (n : ℕ) → N.AreLaidOut table.charset table.forms → table.known ≤ length table.forms → 0 < n
+    → at.column + n ≤ end → at.column + n ≤ table.known → table.known ≤ table.count → N.AreAhead table at end (take n (drop at.column table.forms))
+known_ahead _ at end n laid fits some within known few =
+    let k = at.column in
+    let len = N.length-take-le n _ (grind (arith, N.length-drop)) in
+    record {
+      laid = grind (arith, N.common_steps);
+      some = omega arith;
+      within = omega arith;
+      known = grind arith;
+      next = λ columns knows ahead.
+          let first =
+          ap (N.map _) (sym (N.take-take _ _ _ known)) ∙ sym (N.take-map _ _ _) ∙ ap (take _) knows.first
+          ∙ N.take-map _ _ _ ∙ ap N.kinds (N.take-take _ _ columns known) in
+          let forms_are =
+          ap (N.map _) (sym (N.drop-take k n _)) ∙ sym (N.drop-map _ k _) ∙ ap (drop k) first ∙ N.drop-map _ k _
+          ∙ ap N.kinds (N.drop-take k n columns) in
+          forms_are ∙ ap (λ m. N.kinds (take m (drop k columns))) (sym len);
+    }
+
+-- no cell was written where no byte was used
+pub none_written : {cells used : ℕ} → (0 < cells → 0 < used) → used ≡ 0 → cells ≡ 0
+none_written some none = grind arith
+
+-- some were where some bytes were
+pub some_written : {cells used : ℕ} → (cells ≡ 0 → used ≡ 0) → 0 < used → 0 < cells
+some_written none some = grind arith
+
+module _ (table : Table) (from : Ahead) (end : ℕ) (forms : List Form) (within : end ≤ table.count) (ahead : N.AreAhead table from end forms) where
+  -- the first is that of the next column
+  pub first_next : {form : Form} {rest : List Form} → forms ≡ form ∷ rest → (columns : List Column) → Knows table columns → IsAhead table columns from
+      → N.NextColumn columns from form.kind
+  first_next are _ knows is = grind arith
+
+  module _ (ends : Bool) (end_is : ends ≡ (from.column + length forms == table.count)) where
+    -- what was written by them is between two places of the row
+    pub forms_between : (columns : List Column) → Knows table columns → IsAhead table columns from
+        → (to : Ahead) (bytes text : List ℕ) (run : N.FormsRun) → to.column ≡ from.column + run.cells → IsAhead table columns to
+        → N.FormsWritten table.charset forms from.column ends bytes text run
+        → RunsMarked table columns (λ k. false) from to (take run.used bytes) (take run.made text)
+    forms_between _ knows is _ _ _ _ further there x = grind (arith, N.length-drop)
+
+  -- the first was left
+  pub first_left : {bytes : List ℕ} {room : ℕ} → N.FirstLeft table.charset forms bytes room
+      → (columns : List Column) (column : Column) (left : List Column) → Knows table columns → IsAhead table columns from
+      → drop from.column columns ≡ column ∷ left
+      → (room < N.CELL_ROOM) ⊎ ((false ≡ false) × N.IsLeft table.charset column.kind bytes room)
+  first_left x columns column _ knows is step =
+      let first = some_first _ ahead.some in
+      let n = first_next first.2 columns knows is in
+      elim (x first.0 first.1 first.2) [
+        | inl few ↦ inl few
+        | inr y ↦ inr (
+          N.refl,
+          rw (n.kind ∙ ap (λ r. (N.get_or r 0 column).kind) (sym n.next ∙ step)) at y,
+        )
+      ]

@@ -83,6 +83,7 @@ pub use Rattle.tds_rows.specs.{
   LongCells.{short_length, CutsNumber, total_fault, ending, BreaksData, short_fault, join_stop, opening, FillsData, CutsData, TakesData},
   MarkedRuns.{BreaksMarked, WritesColumn, EndsLeft, MarkedPut, AreClear, PutsMarked, WritesMarked, RunsMarked, WritesNext},
   PassedCells.{CellPassed, StepsOver, StopsPassing, IsGoodValue, CutsPassing, return_cell, PassesData, PassesCell, AnyData},
+  RowRuns.{MarkedRead, RunRead},
   RowReading.{CellRead, KindRead, LeavesRows, IsInRow, StaysInRow, NextRead},
   RowSteps.{ReadsRow, ReadsRows, RowsRead, RowStops, RowsStop},
   Rows.{marked, WholeRow, bitmap_length, row_add, SpellsMarked, bit, RowToken, Bitmap, PlainRow, with_cell, RowPart, SpellsNbcRow, SpellsRow, row, SpellsRowAs},

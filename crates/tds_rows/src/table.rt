@@ -124,6 +124,7 @@ impl<'a> Table<'a> {
     /// What the next cells need, as far as the table knows it, up to column `end` at most. `None` if the table doesn't
     /// know the next one, or if that comes at `end` or later.
     #[inline(always)]
+    #[tactic(auto, using(crate::proofs::TableRuns::known_ahead))]
     pub(crate) fn forms(&self, at: Ahead<'a>, end: u16) -> Option<&[Form]>
         requires { end ≤ self.now.count }
         ensures { MatchOption result ((self.now.known ≤ at.entry.column) ⊎ (end ≤ at.entry.column))
@@ -150,6 +151,7 @@ impl<'a> Table<'a> {
 
     /// What the cells of a row that are ahead need, all of whose columns the table knows. `None` at the row's end.
     #[inline(always)]
+    #[tactic(auto, using(crate::proofs::TableRuns::known_ahead))]
     pub(crate) fn rest_of_row(&self, at: Ahead<'a>) -> Option<&[Form]>
         requires all { self.now.known ≡ self.now.count }
         ensures ahead { MatchOption result (self.now.count ≤ at.entry.column)

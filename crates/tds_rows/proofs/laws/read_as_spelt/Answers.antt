@@ -8,7 +8,7 @@ use Rattle.tds_rows.proofs.{
 
 pub returns-clause-cell : goal.returns-clause-cell
 returns-clause-cell c = λ charset kind column value bytes are.
-    (λ h. cell_is_read _ _ _ _ _ (shape-HasBytes _ _) h, λ k. cell_is_spelt _ _ _ are k)
+    (λ h. cell_is_read _ _ _ _ _ (shape-HasBytes _ _) h, λ k. cell_is_spelt _ _ are k)
 
 pub returns-clause-row : goal.returns-clause-row
 returns-clause-row c = λ charset columns cells bytes are. (λ h. row_is_read _ _ _ _ h, λ k. row_is_spelt _ _ are k)

@@ -3,11 +3,11 @@ use Rattle.tds_rows.proofs.{Words.{refused_for_good, cell, row}, CellLaws.cell_i
 
 pub returns-clause-cell : goal.returns-clause-cell
 returns-clause-cell c = λ charset kind column front rest more at fault value h r k.
-    refused_for_good (cell column) _ _ _ _ fault _ _ h r (cell_is_read _ _ _ _ _ (shape-HasBytes _ _) k)
+    refused_for_good _ _ _ _ _ fault _ _ h r (cell_is_read _ _ _ _ _ (shape-HasBytes _ _) k)
 
 pub returns-clause-row : goal.returns-clause-row
 returns-clause-row c = λ charset columns front rest more at fault cells h r k.
-    refused_for_good (row charset) _ _ _ _ fault _ _ h r (row_is_read _ _ _ _ k)
+    refused_for_good _ _ _ _ _ fault _ _ h r (row_is_read _ _ _ _ k)
 
 pub returns-clause-nbc_row : goal.returns-clause-nbc_row
 returns-clause-nbc_row c = λ charset columns front rest more at fault cells h r k. refused_nbc_row _ _ _ _ _ _ _ _ h r k

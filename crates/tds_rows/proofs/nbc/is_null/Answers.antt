@@ -1,5 +1,4 @@
-use Rattle.tds_rows.proofs.nbc.is_null.Goals as goal
 use Rattle.tds_rows.proofs.Words.{common_steps, arith}
 
-pub returns : goal.returns
+pub returns : Rattle.tds_rows.proofs.nbc.is_null.Goals.returns
 returns c = grind (arith, common_steps)

@@ -3,7 +3,6 @@ use Rattle.tds_rows.proofs.{Words.{rules, columns_of}, Successes.rows_succeed}
 
 pub returns-clause-rows : goal.returns-clause-rows
 returns-clause-rows g c =
-    let x = rw c.of-table.ensures.charset at (c.nbc_rows.ensures.rows (columns_of c.args.columns.bytes.now) c.of-table.ensures.knows) in
     search rules
 
 pub returns-clause-succeeds : goal.returns-clause-succeeds

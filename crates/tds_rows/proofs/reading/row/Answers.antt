@@ -3,13 +3,13 @@ use Rattle.tds_rows.proofs.{Words.{refl, ◌≡◌, rules, columns_of, row, row_
 
 pub returns-clause-row : goal.returns-clause-row
 returns-clause-row g c = λ _ _.
-    let x = rw c.of-table.ensures.charset at (c.row.ensures.row (columns_of c.args.columns.bytes.now) c.of-table.ensures.knows) in
+    let x = rw c.of-table.ensures.charset at (c.row.ensures.row _ c.of-table.ensures.knows) in
     let payload : c.row.new.self.payload.now ≡ c.payload-1.given.0 = search rules in
     let sink : c.row.new.self.sink.now ≡ c.sink-1.given.0 = search rules in
     rw (payload, sink) at x
 
 pub returns-clause-succeeds : goal.returns-clause-succeeds
 returns-clause-succeeds g c = λ going writing cells bytes more spelt.
-    streaming_succeeds (row _) row_so_far g.R.Read.remaining g.W.Write.contents c.args.payload.now c.payload-1.given.0 c.args.sink.now
+    streaming_succeeds row_so_far g.R.Read.remaining g.W.Write.contents c.args.payload.now c.payload-1.given.0 c.args.sink.now
     c.sink-1.given.0 _ _ _
     (returns-clause-row g c going writing) (row_is_read _ _ _ _ spelt) refl

@@ -16,6 +16,6 @@ returns-then-not-length_allowed-clause-cell g c =
 pub returns-clause-cell : goal.returns-clause-cell
 returns-clause-cell g c =
     let taken = length_taken c.requires.gathering.empty (ap (λ l. get_or l 0 0) (sym c.bytes.ensures.value)) c.in_ok-take_into.ensures.gives in
-    counted_taken c.take_into-2.result _ _ _ _ _ _ _ _
+    counted_taken _ _ _ _ _ _ _ _ _
     c.requires.counted taken.0 c.if-n-eq0.false (sym c.length_allowed.ensures ∙ c.if-not-length_allowed.false) taken.1 c.in_ok-take_into.ensures.place
     c.in_ok-take_into.ensures.payload.going c.take_into-2.ensures.place c.take_into-2.ensures.gives

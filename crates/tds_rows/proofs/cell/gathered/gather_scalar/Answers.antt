@@ -1,6 +1,5 @@
-use Rattle.tds_rows.proofs.cell.gathered.gather_scalar.Goals as goal
 use Rattle.tds_rows.proofs.{Words.{◌∙◌, sym, rules}, CellSteps.scalar_start}
 
-pub returns-in-None-clause-cell : goal.returns-in-None-clause-cell
+pub returns-in-None-clause-cell : Rattle.tds_rows.proofs.cell.gathered.gather_scalar.Goals.returns-in-None-clause-cell
 returns-in-None-clause-cell g c = λ charset.
-    rw (sym (scalar_start charset c.args.kind.now _ (search rules) (sym c.fixed_length.ensures ∙ c.in-None.is))) c.gather_counted.ensures.cell
+    rw (sym (scalar_start charset _ (search rules) (sym c.fixed_length.ensures ∙ c.in-None.is))) c.gather_counted.ensures.cell

@@ -19,7 +19,7 @@ returns-in-Some-clause-cell g c = λ kind conversion any.
     let x = steps_of (short_start _ (sym any.unit_is) c.in_ok-n-in-Short.ensures.length c.in-Some.is) in
     let even = short_even any c.in_ok-n-in-Short.ensures.length c.in-Some.is in
     rw c.in-Short.is
-    (MatchResult-weaker c.pass_data.result c.pass_data.ensures.data (λ _ y. short_passes any x even y) (λ stop y. short_cuts any x y))
+    (MatchResult-weaker _ c.pass_data.ensures.data (λ _ y. short_passes any x even y) (λ stop y. short_cuts any x y))
 
 pub returns-in_err-total-in-Chunked-clause-cell : goal.returns-in_err-total-in-Chunked-clause-cell
 returns-in_err-total-in-Chunked-clause-cell g c = λ kind conversion any.
@@ -34,4 +34,4 @@ pub returns-in-Some-2-clause-cell : goal.returns-in-Some-2-clause-cell
 returns-in-Some-2-clause-cell g c = λ kind conversion any.
     let x = steps_of (total_start _ (sym any.unit_is) c.in_ok-total-in-Chunked.ensures.length c.in-Some-2.is) in
     rw c.in-Chunked.is
-    (MatchResult-weaker c.pass_chunks.result (c.pass_chunks.ensures.cell conversion any) (λ _ y. cell_after x y) (λ stop y. stops_after_steps x y))
+    (MatchResult-weaker _ (c.pass_chunks.ensures.cell conversion any) (λ _ y. cell_after x y) (λ stop y. stops_after_steps x y))

@@ -14,15 +14,15 @@ returns-in-Wide-clause-cell g c = λ _. rw c.in-Wide.is (c.pass_long.ensures.cel
 
 pub returns-in-Binary-clause-succeeds : goal.returns-in-Binary-clause-succeeds
 returns-in-Binary-clause-succeeds g c = λ going value bytes more spelt.
-    value_passes g.R.Read.remaining _ c.args.payload.now c.pass_long-in-Binary.new.payload c.pass_long-in-Binary.result value bytes more
+    value_passes g.R.Read.remaining _ c.args.payload.now c.pass_long-in-Binary.new.payload _ value bytes more
     (returns-in-Binary-clause-cell g c going) spelt
 
 pub returns-in-Wide-clause-succeeds : goal.returns-in-Wide-clause-succeeds
 returns-in-Wide-clause-succeeds g c = λ going value bytes more spelt.
-    value_passes g.R.Read.remaining _ c.args.payload.now c.pass_long.new.payload c.pass_long.result value bytes more
+    value_passes g.R.Read.remaining _ c.args.payload.now c.pass_long.new.payload _ value bytes more
     (returns-in-Wide-clause-cell g c going) spelt
 
 pub returns-in_default-kind-clause-succeeds : goal.returns-in_default-kind-clause-succeeds
 returns-in_default-kind-clause-succeeds g c = λ going value bytes more spelt.
-    value_passes g.R.Read.remaining _ c.args.payload.now c.pass_scalar.new.payload c.pass_scalar.result value bytes more c.pass_scalar.ensures.cell
+    value_passes g.R.Read.remaining _ c.args.payload.now c.pass_scalar.new.payload _ value bytes more c.pass_scalar.ensures.cell
     spelt

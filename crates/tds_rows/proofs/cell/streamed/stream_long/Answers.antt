@@ -1,7 +1,6 @@
-use Rattle.tds_rows.proofs.cell.streamed.stream_long.Goals as goal
 use Rattle.tds_rows.proofs.Words.{◌≡◌, rules}
 
-pub returns-clause-field : goal.returns-clause-field
+pub returns-clause-field : Rattle.tds_rows.proofs.cell.streamed.stream_long.Goals.returns-clause-field
 returns-clause-field g c = λ conversion suits.
     let payload : c.read.new.self.payload.now ≡ c.payload-1.given.0 = search rules in
     let sink : c.read.new.self.sink.now ≡ c.sink-1.given.0 = search rules in

@@ -1,6 +1,7 @@
 use Rattle.tds_rows.proofs.rows.Rows.nbc_row.Goals as goal
+use Rattle.tds_rows.proofs.Words as N
 use Rattle.tds_rows.proofs.{
-  Words.{common_steps, ℕ, ◌<◌, List, length, refl, sym, arith, rules, ◌∙◌, ◌≡◌, ap, ◌++◌, passed, passed_on, Space, LeavesRows, bitmap_length},
+  Words.{◌<◌, refl, sym, arith, ◌∙◌, ◌≡◌, ap, ◌++◌},
   NextSteps.{next_nears, next_stops, run_near, run_stops, leaves_after, stays_after, stays_on},
   NullSteps.{all_put, bitmap_cut, bitmap_nears, row_ends},
 }
@@ -9,17 +10,16 @@ pub returns-in_err-take_into-clause-row : goal.returns-in_err-take_into-clause-r
 returns-in_err-take_into-clause-row g c = λ columns known.
     let sink = c.requires.some.in_row.sink in
     let x = c.in_err-take_into.ensures.gives c.requires.some.in_row.payload.going in
-    passed _ _ _ _ c.from_residual.ensures.1 (rw sink.writing
+    N.passed _ _ _ _ c.from_residual.ensures.1 (rw sink.writing
     (bitmap_cut _ x.part x.own (omega arith) x.ends x.stop_is
     sink.ready.2))
 
 pub loop-at-init : goal.loop-at-init
 loop-at-init g c =
-    let old = c.args.self.now in
     let sink = c.requires.some.in_row.sink in
     let x = c.in_ok-take_into.ensures.gives in
-    let bytes : c.take_into.new.area.bytes ≡ x.element = ap (λ (s : Space). s.bytes) x.stands
-    ∙ ap (λ (l : List ℕ). l ++ x.element) c.requires.awaits.empty in
+    let bytes = ap (λ (s : N.Space). s.bytes) x.stands
+    ∙ ap (λ (l : N.List N.ℕ). l ++ x.element) c.requires.awaits.empty in
     record {
       stays = record {
         in_row = record {
@@ -33,28 +33,25 @@ loop-at-init g c =
         small = record { room = refl; bound = omega arith };
       };
       knows = c.requires.some.knows;
-      fits = omega (arith, ap length bytes, x.whole, c.bitmap_size.ensures.value, c.count.ensures);
+      fits = omega (arith, ap N.length bytes, x.whole, c.count.ensures);
       reads = λ columns knows.
-          let whole : length x.element ≡ bitmap_length (length columns) = x.whole ∙ c.bitmap_size.ensures.value
-          ∙ ap bitmap_length (c.count.ensures ∙ knows.counted) in
-          let some : 0 < length columns = omega (arith, c.requires.some.knows.2, knows.counted) in
+          let whole = x.whole ∙ c.bitmap_size.ensures.value
+          ∙ ap N.bitmap_length (c.count.ensures ∙ knows.counted) in
+          let some : 0 < N.length columns = omega (arith, knows.counted) in
           let taken = rw (sym x.whole) at x.takes in
           let near = bitmap_nears columns x.element some whole taken x.between (sink.ready.1 sink.writing) sink.ready.2
-          (omega (arith, x.whole, c.in_ok-take_into.ensures.place)) in
+          (omega (arith, c.in_ok-take_into.ensures.place)) in
           (c.start-ahead.ensures.ahead columns knows, rw (c.start-ahead.ensures.first, bytes) near);
     }
 
 pub returns-in_err-at-clause-row : goal.returns-in_err-at-clause-row
-returns-in_err-at-clause-row g c = λ columns known.
+returns-in_err-at-clause-row g c =
     let l = c.loop-at in
-    let knows = rw (sym l.invariant.stays.same.3) at known in
-    let near = l.invariant.reads columns knows in
-    let stops = run_stops g.R.Read.remaining g.W.Write.contents columns _ _ _ c.put_nulls.new.self l.invariant.stays.in_row
-    (rw c.bytes.ensures.value at (c.in_err-at.ensures.cells columns knows near.0)) near in
-    passed _ _ _ _ c.from_residual-in_err-at.ensures.1 (rw l.invariant.stays.same.3 at stops)
+    rw (← l.invariant.stays.same.3) (λ columns knows. N.passed _ _ _ _ c.from_residual-in_err-at.ensures.1
+    (run_stops l.invariant.stays.in_row l.invariant.reads (rw c.bytes.ensures.value at c.in_err-at.ensures) columns knows))
 
 pub returns-in_err-at-clause-leaves : goal.returns-in_err-at-clause-leaves
-returns-in_err-at-clause-leaves g c = grind (arith, common_steps, leaves_after)
+returns-in_err-at-clause-leaves g c = grind (arith, N.common_steps)
 
 pub put_next-requires : goal.put_next-requires
 put_next-requires g c =
@@ -66,55 +63,46 @@ put_next-requires g c =
     }
 
 pub returns-in_err-put_next-clause-row : goal.returns-in_err-put_next-clause-row
-returns-in_err-put_next-clause-row g c = λ columns known.
+returns-in_err-put_next-clause-row g c =
     let l = c.loop-at in
-    let run = c.in_ok-at.ensures in
-    let kept = stays_after c.loop-at.invariant.stays.in_row run.leaves in
-    let knows = rw (sym l.invariant.stays.same.3) at known in
-    let there = rw (sym kept.same.3) at knows in
-    let near = run_near g.R.Read.remaining g.W.Write.contents columns _ _ _ l.invariant.stays.in_row kept knows
-    (rw c.bytes.ensures.value at run.cells) (l.invariant.reads columns knows) in
-    let taken = c.in-Some.ensures.taken columns there near.0 in
+    let kept = stays_after l.invariant.stays.in_row c.in_ok-at.ensures.leaves in
+    let nears = run_near l.invariant.stays.in_row l.invariant.reads (rw c.bytes.ensures.value at c.in_ok-at.ensures) in
     let is = rw c.bytes-in-loop-at.ensures.value at (sym c.is_null-null.ensures) in
-    let stops = next_stops g.R.Read.remaining g.W.Write.contents c.put_nulls.new.self c.put_next.new.self _ there taken _ _ kept.in_row near _ _ _ is
-    c.in_err-put_next.ensures.cell in
-    passed _ _ _ _ c.from_residual-in_err-put_next.ensures.1 (rw (kept.same.3 ∙ l.invariant.stays.same.3) at stops)
+    rw (← (kept.same.3 ∙ l.invariant.stays.same.3)) (λ columns knows.
+    let near = nears columns knows in
+    N.passed _ _ _ _ c.from_residual-in_err-put_next.ensures.1
+    (next_stops _ _ _ _ _ knows (c.in-Some.ensures.taken columns knows near.0) _
+    kept.in_row near _ _ is c.in_err-put_next.ensures.cell))
 
 pub returns-in_err-put_next-clause-leaves : goal.returns-in_err-put_next-clause-leaves
 returns-in_err-put_next-clause-leaves g c =
-    passed_on _ _ (λ r. LeavesRows c.args.self.now c.put_next.new.self r) c.from_residual-in_err-put_next.ensures.1
+    N.passed_on _ _ (λ r. N.LeavesRows c.args.self.now c.put_next.new.self r) c.from_residual-in_err-put_next.ensures.1
     (leaves_after (stays_on c.loop-at.invariant.stays (stays_after c.loop-at.invariant.stays.in_row c.in_ok-at.ensures.leaves))
     c.in_err-put_next.ensures.leaves)
 
 pub loop-at-preserved : goal.loop-at-preserved
 loop-at-preserved g c =
     let l = c.loop-at in
-    let run = c.in_ok-at.ensures in
-    let kept = stays_after c.loop-at.invariant.stays.in_row run.leaves in
+    let kept = stays_after l.invariant.stays.in_row c.in_ok-at.ensures.leaves in
     let done = c.in_ok-put_next.ensures in
-    let same = done.leaves.same.3 ∙ kept.same.3 in
+    let nears = run_near l.invariant.stays.in_row l.invariant.reads (rw c.bytes.ensures.value at c.in_ok-at.ensures) in
+    let is = rw c.bytes-in-loop-at.ensures.value at (sym c.is_null-null.ensures) in
     record {
       stays = stays_on (stays_on l.invariant.stays kept) (stays_after kept.in_row done.leaves);
-      knows = rw (sym same) at l.invariant.knows;
+      knows = rw (sym (done.leaves.same.3 ∙ kept.same.3)) at l.invariant.knows;
       fits = search arith;
       reads = λ columns known.
-          let there = rw done.leaves.same.3 at known in
-          let knows = rw kept.same.3 at there in
-          let near = run_near g.R.Read.remaining g.W.Write.contents columns _ _ _ l.invariant.stays.in_row kept knows
-          (rw c.bytes.ensures.value at run.cells) (l.invariant.reads columns knows) in
-          let taken = c.in-Some.ensures.taken columns there near.0 in
-          let is = rw c.bytes-in-loop-at.ensures.value at (sym c.is_null-null.ensures) in
-          next_nears g.R.Read.remaining g.W.Write.contents c.put_nulls.new.self c.put_next.new.self _ there taken _ _ kept.in_row near _ _ is done.leaves
-          done.cell;
+          let knows = rw done.leaves.same.3 at known in
+          let near = nears columns knows in
+          next_nears _ _ _ _ _ knows
+          (c.in-Some.ensures.taken columns knows near.0) _ kept.in_row near _ _ is done.leaves done.cell;
     }
 
 pub returns-in_default-clause-row : goal.returns-in_default-clause-row
-returns-in_default-clause-row g c = λ columns known.
+returns-in_default-clause-row g c =
     let l = c.loop-at in
-    let run = c.in_ok-at.ensures in
-    let kept = stays_after c.loop-at.invariant.stays.in_row run.leaves in
-    let knows = rw (sym l.invariant.stays.same.3) at known in
-    let near = run_near g.R.Read.remaining g.W.Write.contents columns _ _ _ l.invariant.stays.in_row kept knows
-    (rw c.bytes.ensures.value at run.cells) (l.invariant.reads columns knows) in
-    let none = c.in_default.ensures.taken columns (rw (sym kept.same.3) at knows) near.0 in
-    rw (kept.same.3 ∙ l.invariant.stays.same.3) at (row_ends (all_put refl kept.in_row.sink.ready.2 (rw none at near.1)))
+    let kept = stays_after l.invariant.stays.in_row c.in_ok-at.ensures.leaves in
+    let nears = run_near l.invariant.stays.in_row l.invariant.reads (rw c.bytes.ensures.value at c.in_ok-at.ensures) in
+    rw (← (kept.same.3 ∙ l.invariant.stays.same.3)) (λ columns knows.
+    let near = nears columns knows in
+    row_ends (all_put refl kept.in_row.sink.ready.2 (rw (c.in_default.ensures.taken columns knows near.0) at near.1)))

@@ -14,19 +14,17 @@ loop-ended-init g c = record {
 }
 
 pub returns-in_err-nbc_row-clause-rows : goal.returns-in_err-nbc_row-clause-rows
-returns-in_err-nbc_row-clause-rows g c = λ columns known.
+returns-in_err-nbc_row-clause-rows g c =
     let l = c.loop-ended in
-    let knows = rw (sym l.invariant.stays.same.3) at known in
-    let stops = rows_stop (l.invariant.reads columns knows) (c.in_err-nbc_row.ensures.row columns knows) in
-    passed _ _ _ _ c.from_residual.ensures.1 (rw l.invariant.stays.same.3 at stops)
+    rw (← l.invariant.stays.same.3) (λ columns knows. passed _ _ _ _ c.from_residual.ensures.1
+    (rows_stop (l.invariant.reads columns knows) (c.in_err-nbc_row.ensures.row columns knows)))
 
 pub returns-then-not-take_token-clause-rows : goal.returns-then-not-take_token-clause-rows
-returns-then-not-take_token-clause-rows g c = λ columns known.
+returns-then-not-take_token-clause-rows g c =
     let l = c.loop-ended in
-    let knows = rw (sym l.invariant.stays.same.3) at known in
-    let read = rows_row (l.invariant.reads columns knows) (c.in_ok-nbc_row.ensures.row columns knows) in
-    let there = rw l.invariant.stays.same.3 at read in
-    rw (sym (c.if-not-take_token.ensures.token NbcRow refl).0, sym c.take_token.ensures.sink) at there
+    rw (← l.invariant.stays.same.3) (λ columns knows.
+    rw (sym (c.if-not-take_token.ensures.token NbcRow refl).0, sym c.take_token.ensures.sink) at
+    (rows_row (l.invariant.reads columns knows) (c.in_ok-nbc_row.ensures.row columns knows)))
 
 pub returns-then-not-take_token-clause-ends : goal.returns-then-not-take_token-clause-ends
 returns-then-not-take_token-clause-ends g c =
@@ -48,7 +46,7 @@ loop-ended-preserved g c =
     record {
       stays = stays_on (stays_on l.invariant.stays (stays_after l.invariant.stays.in_row done.leaves)) kept;
       knows = rw (sym same) at known;
-      room = search (arith, rules);
+      room = search arith;
       few = omega (arith, (done.row known.0 known.1).place_is);
       reads = rw same (λ columns knows.
           let read = rows_row (l.invariant.reads columns knows) (done.row columns knows) in
@@ -60,7 +58,6 @@ pub loop-ended-smaller : goal.loop-ended-smaller
 loop-ended-smaller g c =
     let l = c.loop-ended in
     let done = c.in_ok-nbc_row.ensures in
-    let kept = c.take_token.ensures.stays in
     let taken = c.if-not-take_token.ensures.token NbcRow refl in
     let known = l.invariant.knows in
     omega (arith, (done.row known.0 known.1).place_is)

@@ -1,24 +1,20 @@
 use Rattle.tds_rows.proofs.rows.Rows.put_across.Goals as goal
-use Rattle.tds_rows.proofs.{
-  Words.{[], add-zero, arith, false, passed, Puts-none, rules, sym, Takes-none},
-  Paths.here,
-  TableRuns.{marked_rows, rows_begin, runs_rows},
-}
+use Rattle.tds_rows.proofs.{Words.{[], arith, Puts-none, Takes-none, add-zero, passed, sym}, Paths.here, TableRuns.{marked_rows, rows_begin, runs_rows}}
 
 pub returns-in_err-ahead : goal.returns-in_err-ahead
 returns-in_err-ahead g c =
-    let read = c.in_err-ahead.ensures.run (λ k. false) c.args.from (rw c.buffered-bytes.ensures at c.run_cells-run.ensures.cells) in
+    let read = c.in_err-ahead.ensures.run _ c.args.from (rw c.buffered-bytes.ensures at c.run_cells-run.ensures.cells) in
     record {
-      leaves = search (arith, read.leaves);
+      leaves = search arith;
       place = search arith;
       cells = passed _ _ _ _ c.from_residual.ensures.1 read.cells;
     }
 
 pub returns : goal.returns
 returns g c =
-    let read = c.in_ok-ahead.ensures.run (λ k. false) c.args.from (rw c.buffered-bytes.ensures at c.run_cells-run.ensures.cells) in
+    let read = c.in_ok-ahead.ensures.run _ c.args.from (rw c.buffered-bytes.ensures at c.run_cells-run.ensures.cells) in
     record {
-      leaves = search (arith, read.leaves);
+      leaves = search arith;
       place = search arith;
       cells = λ columns knows ahead. marked_rows {p = here g.R.Read.remaining g.W.Write.contents c.args.self.now}
           {q = here g.R.Read.remaining g.W.Write.contents c.put_made.new.self} (read.cells columns knows ahead);

@@ -1,24 +1,20 @@
 use Rattle.tds_rows.proofs.rows.Rows.put_cell.Goals as goal
-use Rattle.tds_rows.proofs.{
-  Words.{◌≡◌, ◌∙◌, ◌+◌, ◌≤◌, ap, length, sym, take, arith, rules, length-take, buffered, long_start, cell_start, shape, shape_of_layout, conversion_of},
-  Words.{Chunked, Short},
-  RunSteps.put_whole,
-  TableSteps.last_one,
-}
+use Rattle.tds_rows.proofs.Words as N
+use Rattle.tds_rows.proofs.{Words.{◌≡◌, ◌∙◌, ◌+◌, ◌≤◌, ap, sym}, RunSteps.put_whole, TableSteps.last_one}
 
 pub returns-in-Some : goal.returns-in-Some
 returns-in-Some g c =
     let old = c.args.self.now in
     let n = c.in-Some.cell.used in
-    let lies : n ≤ length (buffered old.payload.now) = search (arith, rules) in
-    let at : c.consume.new.self.place ≡ old.payload.now.place + length (take n (buffered old.payload.now)) =
-    omega (arith, ap (λ p. p.place) c.consume.ensures.rest, length-take n (buffered old.payload.now)) in
+    let lies : n ≤ N.length (N.buffered old.payload.now) = search N.arith in
+    let at : c.consume.new.self.place ≡ old.payload.now.place + N.length _ =
+    omega (N.arith, ap (λ p. p.place) c.consume.ensures.rest, N.length-take n (N.buffered old.payload.now)) in
     record {
-      leaves = search (arith, rules);
+      leaves = search N.arith;
       cell = λ last next.
           let end = last_one _ _ _ _ _ next.knows.counted next.next ∙ sym next.last in
           let alone = rw (end, c.buffered.ensures) at c.in-Some.ensures.cell in
-          put_whole c.put.result _ _ _ _ _ g.W.Write.contents old.sink.now c.put.new.self c.requires.in_row.sink
+          put_whole _ _ _ _ _ c.requires.in_row.sink
           (c.consume.ensures.between c.requires.in_row.payload.going) alone.writes.whole c.consume.ensures.gives at c.put.ensures;
     }
 
@@ -29,8 +25,8 @@ returns-in-Short g c = record {
   cell = λ last next.
       let kind = c.args.form.now.kind in
       let end = c.is_last-last.ensures ∙ last_one _ _ _ _ _ next.knows.counted next.next ∙ sym next.last in
-      let start : long_start (conversion_of c.in-Short.content) Short ≡ cell_start kind (shape c.args.self.now.table.now.charset kind) =
-      sym (ap (cell_start kind) (c.requires.laid ∙ ap shape_of_layout c.in-Short.is)) in
+      let start =
+      sym (ap (N.cell_start kind) (c.requires.laid ∙ ap N.shape_of_layout c.in-Short.is)) in
       rw start at (rw end at c.put_joined.ensures.field);
 }
 
@@ -40,7 +36,7 @@ returns-in-Chunked g c = record {
   cell = λ last next.
       let kind = c.args.form.now.kind in
       let end = c.is_last-last.ensures ∙ last_one _ _ _ _ _ next.knows.counted next.next ∙ sym next.last in
-      let start : long_start (conversion_of c.in-Chunked.content) Chunked ≡ cell_start kind (shape c.args.self.now.table.now.charset kind) =
-      sym (ap (cell_start kind) (c.requires.laid ∙ ap shape_of_layout c.in-Chunked.is)) in
+      let start =
+      sym (ap (N.cell_start kind) (c.requires.laid ∙ ap N.shape_of_layout c.in-Chunked.is)) in
       rw start at (rw end at c.put_joined-in-Chunked.ensures.field);
 }

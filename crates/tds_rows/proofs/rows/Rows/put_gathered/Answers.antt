@@ -32,7 +32,7 @@ returns-in_default g c = record {
 
 pub returns : goal.returns
 returns g c = record {
-  leaves = search (arith, rules);
+  leaves = search arith;
   cell = λ last next.
       let kind = c.args.form.now.kind in
       let charset = c.args.self.now.table.now.charset in
@@ -42,7 +42,7 @@ returns g c = record {
       let x = rw (sym c.bytes.ensures.value) at (c.in_ok-gather_scalar.ensures.cell charset) in
       let all =
       take_all c.in-Some.cell.used bytes (omega (arith, scalar_whole kind bytes c.requires.scalar)) in
-      let reads = cell_reads _ c.args.at.column last _ _ _ _ bytes (take c.in-Some.cell.made c.write_alone.new.to)
+      let reads = cell_reads _ last bytes
       (rw all at (alone.writes.at_once c.requires.scalar charset)) x.takes x.between x.place_is in
-      cell_put c.put.result charset kind g.W.Write.contents c.args.self.now.sink.now c.put.new.self c.requires.next.in_row.sink reads c.put.ensures;
+      cell_put charset kind c.requires.next.in_row.sink reads c.put.ensures;
 }

@@ -1,4 +1,2 @@
-use Rattle.tds_rows.proofs.rows.Rows.put_nulls_across.Goals as goal
-
-pub returns : goal.returns
+pub returns : Rattle.tds_rows.proofs.rows.Rows.put_nulls_across.Goals.returns
 returns g c = c.put_made.ensures.run _ _ (rw c.buffered-bytes.ensures at c.run_nulls-run.ensures.cells)

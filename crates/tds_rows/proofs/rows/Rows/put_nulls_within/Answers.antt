@@ -14,13 +14,13 @@ returns-clause-ends g c =
     let written = c.run_nulls-run.new.to in
     let lent = c.spare-spare.result.now in
     let whole = c.run_nulls-run.auto.to in
-    let puts = kept_text h j lent written c.waiting-waiting.result whole c.waiting-waiting.ensures run.made c.commit.ensures.gives in
+    let puts = kept_text h j lent written _ whole c.waiting-waiting.ensures run.made c.commit.ensures.gives in
     let block : length lent + length h.waiting ≡ 4095 =
     omega (arith, c.requires.in_row.sink.ready.1 c.requires.in_row.sink.writing) in
     let text : length (take run.made written) ≡ run.made = omega (arith, length-take run.made written) in
-    let waits = all_waits h j (take run.made written) puts (omega (arith, block, text)) in
-    let room : length lent - run.made ≡ 4095 - length j.waiting = omega (arith, block, text, waits) in
-    let rest = drop-drop run.used old.at old.packet.now.bytes
+    let waits = all_waits h j _ puts (omega (arith, text)) in
+    let room : length lent - run.made ≡ 4095 - length j.waiting = omega (arith, text, waits) in
+    let rest = drop-drop run.used old.at _
     ∙ ap buffered (sym c.consume.ensures.rest) in
     rw room at (rw rest at (rw c.buffered-bytes.ensures at c.run_nulls-run.ensures.ends.left))
 
@@ -28,9 +28,9 @@ pub returns-clause-cells : goal.returns-clause-cells
 returns-clause-cells g c = λ columns knows ahead.
     let run = c.run_nulls-run.result in
     let written = c.run_nulls-run.new.to in
-    let lies : run.used ≤ length (buffered c.args.self.now.payload.now) = search (arith, rules) in
+    let lies : run.used ≤ length (buffered c.args.self.now.payload.now) = search arith in
     record {
-      bytes = take run.used (buffered c.args.self.now.payload.now);
+      bytes = take run.used _;
       text = take run.made written;
       runs = rw c.buffered-bytes.ensures at (c.run_nulls-run.ensures.cells columns knows ahead);
       takes = c.consume.ensures.gives;

@@ -1,20 +1,16 @@
 use Rattle.tds_rows.proofs.rows.Rows.put_within.Goals as goal
-use Rattle.tds_rows.proofs.{
-  Words.{◌≡◌, ap, ◌+◌, ◌≤◌, length, take, arith, rules, length-take, buffered, seen, Takes-more},
-  BufferedCells.kept_text,
-  Paths.{at_of, here},
-  TableRuns.runs_rows,
-}
+use Rattle.tds_rows.proofs.Words as N
+use Rattle.tds_rows.proofs.{Words.{◌≡◌, ◌+◌, ◌≤◌}, BufferedCells.kept_text, Paths.{at_of, here}, TableRuns.runs_rows}
 
 pub returns-clause-rows : goal.returns-clause-rows
 returns-clause-rows g c = λ columns knows ahead.
     let run = c.run_rows-run.result in
-    let bytes = take run.used (buffered c.args.self.now.payload.now) in
-    let lies : run.used ≤ length (buffered c.args.self.now.payload.now) = search (arith, rules) in
-    let takes = Takes-more (seen g.R.Read.remaining c.args.self.now.payload.now) (seen g.R.Read.remaining c.consume.new.self) bytes 0 (length bytes)
-    (omega arith) c.consume.ensures.gives in
-    let at : c.consume.new.self.place ≡ c.args.self.now.payload.now.place + length bytes =
-    omega (arith, ap (λ p. p.place) c.consume.ensures.rest, length-take run.used (buffered c.args.self.now.payload.now)) in
+    let bytes = N.take run.used _ in
+    let lies : run.used ≤ N.length (N.buffered c.args.self.now.payload.now) = search N.arith in
+    let takes = N.Takes-more (N.seen g.R.Read.remaining c.args.self.now.payload.now) _ bytes 0 _
+    (omega N.arith) c.consume.ensures.gives in
+    let at : c.consume.new.self.place ≡ c.args.self.now.payload.now.place + N.length bytes =
+    omega (N.arith, N.ap (λ p. p.place) c.consume.ensures.rest, N.length-take run.used (N.buffered c.args.self.now.payload.now)) in
     let ran = c.run_rows-run.ensures.rows.writes columns knows ahead in
     let puts = kept_text _ _ _ _ _ c.run_rows-run.auto.to c.waiting-waiting.ensures _ c.commit.ensures.gives in (
       ran.0,

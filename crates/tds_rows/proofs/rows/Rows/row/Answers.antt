@@ -1,6 +1,6 @@
 use Rattle.tds_rows.proofs.rows.Rows.row.Goals as goal
 use Rattle.tds_rows.proofs.{
-  Words.{Err, Ok, drop, false, sym, passed},
+  Words.{drop, false, sym, passed},
   NextSteps.{cell_read, stays, stays_after, stays_on},
   NullSteps.{cell_reads, cell_stops, row_begins, row_ends},
   RowSteps.none_ahead,
@@ -16,14 +16,12 @@ loop-form-init g c = record {
 }
 
 pub returns-in_err-put_cell-clause-row : goal.returns-in_err-put_cell-clause-row
-returns-in_err-put_cell-clause-row g c = λ columns known.
+returns-in_err-put_cell-clause-row g c =
     let l = c.loop-form in
-    let knows = rw (sym l.invariant.stays.same.3) at known in
+    rw (← l.invariant.stays.same.3) (λ columns knows.
     let reads = l.invariant.reads columns knows in
     let taken = c.in-Some.ensures.taken columns knows reads.0 in
-    let y = cell_read g.R.Read.remaining g.W.Write.contents l.self c.put_cell.new.self (λ k. false) knows taken {U = Unit {0}} (Err _) reads.0
-    c.in_err-put_cell.ensures in
-    passed _ _ _ _ c.from_residual.ensures.1 (rw l.invariant.stays.same.3 at (cell_stops (rw taken.next at reads.1) y))
+    passed _ _ _ _ c.from_residual.ensures.1 (cell_stops (rw taken.next at reads.1) (cell_read _ c.in_err-put_cell.ensures knows reads.0 taken)))
 
 pub loop-form-preserved : goal.loop-form-preserved
 loop-form-preserved g c =
@@ -34,15 +32,13 @@ loop-form-preserved g c =
       reads = rw done.leaves.same.3 (λ columns knows.
           let reads = l.invariant.reads columns knows in
           let taken = c.in-Some.ensures.taken columns knows reads.0 in
-          let y = cell_read g.R.Read.remaining g.W.Write.contents l.self c.put_cell.new.self (λ k. false) knows taken {U = Unit {0}} (Ok tt) reads.0
-          done in
-          (taken.ahead, rw (sym taken.further) at (cell_reads (none_ahead (drop c.in-Some.after.column columns) _) (rw taken.next at reads.1) y)));
+          let y = cell_read _ done knows reads.0 taken in
+          (taken.ahead, rw (sym taken.further) at (cell_reads (none_ahead _ _) (rw taken.next at reads.1) y)));
     }
 
 pub returns-clause-row : goal.returns-clause-row
-returns-clause-row g c = λ columns known.
+returns-clause-row g c =
     let l = c.loop-form in
-    let knows = rw (sym l.invariant.stays.same.3) at known in
+    rw (← l.invariant.stays.same.3) (λ columns knows.
     let reads = l.invariant.reads columns knows in
-    let none = c.in_default.ensures.taken columns knows reads.0 in
-    rw l.invariant.stays.same.3 at (row_ends (rw none at reads.1))
+    row_ends (rw (c.in_default.ensures.taken columns knows reads.0) at reads.1))

@@ -1,11 +1,12 @@
 use Rattle.tds_rows.proofs.rows.Rows.row.Given as goal
-use Rattle.tds_rows.proofs.{Words.{◌-◌, List, drop, Column, row_start, StaysInRow, IsAhead, Knows}, NullSteps.Reads, RowSteps.coming, Paths.here}
+use Rattle.tds_rows.proofs.Words as N
+use Rattle.tds_rows.proofs.{Words.◌-◌, NullSteps.Reads, RowSteps.coming, Paths.here}
 
 abbrev pub invariant-loop-form : goal.invariant-loop-form
 invariant-loop-form g l = record {
-  stays : StaysInRow l.initial.self l.self;
-  reads : (columns : List Column) → Knows l.self.table.now columns → IsAhead l.self.table.now columns l.at
-      × Reads l.self.table.now.charset (row_start l.self.table.now.charset columns) (coming (drop l.at.column columns) l.at.column)
+  stays : N.StaysInRow l.initial.self l.self;
+  reads : (columns : N.List N.Column) → N.Knows l.self.table.now columns → N.IsAhead l.self.table.now columns l.at
+      × Reads l.self.table.now.charset (N.row_start l.self.table.now.charset columns) (coming (N.drop l.at.column columns) l.at.column)
       (here g.R.Read.remaining g.W.Write.contents l.initial.self) (here g.R.Read.remaining g.W.Write.contents l.self) l.at.column;
 }
 

@@ -1,9 +1,8 @@
-use Rattle.tds_rows.proofs.table.Table.form.Goals as goal
-use Rattle.tds_rows.proofs.{Words.{refl, arith, rules}, TableSteps.next_known}
+use Rattle.tds_rows.proofs.{Words.{refl, arith}, TableSteps.next_known}
 
-pub returns-then-at-self : goal.returns-then-at-self
+pub returns-then-at-self : Rattle.tds_rows.proofs.table.Table.form.Goals.returns-then-at-self
 returns-then-at-self c = record {
-  laid = c.args.self.now.laid c.args.at.column c.index-self-at.result (search arith);
+  laid = c.args.self.now.laid _ _ (search arith);
   next = λ columns knows ahead.
       next_known _ _ _ _ knows ahead _ (search arith) c.if-at-self.true (search arith) refl;
 }

@@ -1,6 +1,9 @@
 use Rattle.tds_rows.proofs.table.Table.of.Goals as goal
-use Rattle.tds_rows.proofs.Words as N
-use Rattle.tds_rows.proofs.{Words.{◌∙◌, ap, sym, arith}, LaidOut.{each_all, each_set, int4_set}, TableSteps.{first_more, next_column}}
+use Rattle.tds_rows.proofs.{
+  Words.{◌∙◌, ap, sym, arith, IsInt4, IsLaidOut, columns_of, is_int4, rules},
+  LaidOut.{each_all, each_set, int4_set},
+  TableSteps.{first_more, next_column},
+}
 
 pub loop-known-init : goal.loop-known-init
 loop-known-init c = record {
@@ -8,8 +11,8 @@ loop-known-init c = record {
   few = search arith;
   whole = search arith;
   first = search arith;
-  laid = each_all (λ f. N.IsLaidOut c.args.charset f.kind f.layout) 64 c.of-forms.result c.of-forms.ensures.laid;
-  numbers = λ _. each_all (λ f. N.IsInt4 f.kind) 64 c.of-forms.result (ap N.is_int4 c.of-forms.ensures.kind);
+  laid = each_all (λ f. IsLaidOut c.args.charset f.kind f.layout) 64 _ c.of-forms.ensures.laid;
+  numbers = λ _. each_all (λ f. IsInt4 f.kind) 64 _ (ap is_int4 c.of-forms.ensures.kind);
   rest = search arith;
 }
 
@@ -17,17 +20,17 @@ pub loop-known-preserved : goal.loop-known-preserved
 loop-known-preserved c =
     let inv = c.loop-known.invariant in
     let step = sym inv.rest ∙ c.in-Some.ensures.steps in
-    let columns = N.columns_of c.args.columns.bytes.now in
-    let next = next_column columns c.loop-known.known (N.column_value c.in-Some.column) (N.columns_left c.next.new.self) step in
+    let columns = columns_of c.args.columns.bytes.now in
+    let next = next_column columns _ step in
     record {
-      most = search (arith, N.rules);
+      most = search arith;
       few = omega arith;
-      whole = search (arith, N.rules);
-      first = first_more c.loop-known.forms columns c.loop-known.known c.of.result (N.column_value c.in-Some.column) (N.columns_left c.next.new.self)
+      whole = search (arith, rules);
+      first = first_more _ columns _ c.of.result
           (omega arith) inv.first step c.of.ensures.kind;
-      laid = each_set (λ f. N.IsLaidOut c.args.charset f.kind f.layout) c.loop-known.forms c.loop-known.known c.of.result inv.laid
+      laid = each_set (λ f. IsLaidOut c.args.charset f.kind f.layout) _ _ c.of.result inv.laid
           (omega arith) c.of.ensures.laid;
-      numbers = int4_set c.loop-known.forms c.loop-known.known c.of.result c.loop-known.only_numbers c.is_int4.result inv.numbers
-          (omega arith) (c.is_int4.ensures ∙ ap N.is_int4 (sym c.of.ensures.kind));
+      numbers = int4_set _ _ c.of.result _ c.is_int4.result inv.numbers
+          (omega arith) (c.is_int4.ensures ∙ ap is_int4 (sym c.of.ensures.kind));
       rest = sym next.1.1;
     }

@@ -1,15 +1,16 @@
 use Rattle.tds_rows.proofs.table.Table.of.Given as goal
-use Rattle.tds_rows.proofs.Words.{◌≡◌, ◌-◌, ◌≤◌, length, take, drop, map, columns_of, columns_left, AreInt4, AreLaidOut, kinds, true}
+use Rattle.tds_rows.proofs.Words as N
+use Rattle.tds_rows.proofs.Words.{◌≡◌, ◌-◌, ◌≤◌}
 
 abbrev pub invariant-loop-known : goal.invariant-loop-known
 invariant-loop-known l = record {
   most : l.known ≤ 64;
-  few : l.known ≤ length (columns_of l.fn.columns.bytes.now);
-  whole : length l.forms ≡ 64;
-  first : map (λ f. f.kind) (take l.known l.forms) ≡ kinds (take l.known (columns_of l.fn.columns.bytes.now));
-  laid : AreLaidOut l.fn.charset l.forms;
-  numbers : l.only_numbers ≡ true → AreInt4 l.forms;
-  rest : columns_left l.rest ≡ drop l.known (columns_of l.fn.columns.bytes.now);
+  few : l.known ≤ N.length (N.columns_of l.fn.columns.bytes.now);
+  whole : N.length l.forms ≡ 64;
+  first : N.map (λ f. f.kind) (N.take l.known l.forms) ≡ N.kinds (N.take l.known (N.columns_of l.fn.columns.bytes.now));
+  laid : N.AreLaidOut l.fn.charset l.forms;
+  numbers : l.only_numbers ≡ N.true → N.AreInt4 l.forms;
+  rest : N.columns_left l.rest ≡ N.drop l.known (N.columns_of l.fn.columns.bytes.now);
 }
 
 abbrev pub decreases-loop-known : goal.decreases-loop-known

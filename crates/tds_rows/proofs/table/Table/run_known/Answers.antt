@@ -1,13 +1,13 @@
 use Rattle.tds_rows.proofs.table.Table.run_known.Goals as goal
+use borrow.Rule.Slice.PartMut.{post_of, put_mid, same_len_mid}
+use Rattle.tds_rows.proofs.Words as N
 use Rattle.tds_rows.proofs.{
-  Words.{[], ◌∷◌, rules, arith, sym, ap, ◌≡◌, ◌∙◌, ◌+◌, ◌-◌, length, take, drop, eq-eqb, length-take, length-drop, all_after},
+  Words.{◌∷◌, arith, ◌≡◌, ◌∙◌, ◌+◌, ◌-◌, length},
   table.Table.run_known.Goals.{in_default+then-not-row_follows, in-Some+then-run-eq0},
   RunSteps.made_same,
-  TableForms.{first_left, forms_between},
-  TableRuns.{row_begun, rows_begin, rows_further, rows_kept, rows_more},
+  TableRuns.{first_left, forms_between, row_begun, rows_begin, rows_further, rows_kept, rows_more},
   TableSteps.none_next,
 }
-use borrow.Rule.Slice.PartMut.{post_of, put_mid, same_len_mid}
 
 pub loop-forms-init : goal.loop-forms-init
 loop-forms-init g c = rows_begin
@@ -15,7 +15,7 @@ loop-forms-init g c = rows_begin
 pub loop-forms-preserved-in_default : goal.loop-forms-preserved-in_default
 loop-forms-preserved-in_default g c =
     let whole = c.run_whole-whole in
-    row_begun c.requires.known.1 c.in_default.ensures.ahead (c.row_follows.ensures.begins (search rules), c.rewind.ensures.first)
+    row_begun c.requires.known.1 c.in_default.ensures.ahead (c.row_follows.ensures.begins (search N.rules), c.rewind.ensures.first)
     c.rewind.ensures.ahead (rows_further whole.new.to _ whole.ensures.ahead c.loop-forms.invariant whole.ensures.rows)
 
 pub loop-forms-preserved : goal.loop-forms-preserved
@@ -24,7 +24,7 @@ loop-forms-preserved g c =
     let run = c.run_forms-run in
     let some = run.ensures.within.some (omega arith) in
     rows_more _ _ some (search arith) (search arith)
-    (λ columns knows is. forms_between _ _ _ _ (omega arith) c.in-Some.ensures.ahead _ (sym (eq-eqb _ _ c.in-Some.ensures.whole)) _ knows is
+    (λ columns knows is. forms_between _ _ _ _ (omega arith) c.in-Some.ensures.ahead _ (N.sym (N.eq-eqb _ _ c.in-Some.ensures.whole)) _ knows is
     _ _ _ run.result c.pass.ensures.further (c.pass.ensures.ahead columns knows is) run.ensures.cells)
     (rows_further whole.new.to _ whole.ensures.ahead c.loop-forms.invariant whole.ensures.rows)
 
@@ -35,16 +35,16 @@ returns-clause-ends g c = λ columns column left knows ahead step.
     let bytes = c.args.bytes.now in
     let made = l.made + whole.result.made in
     let mid = put_mid l.made (length l.to - l.made) l.to whole.new.to in
-    let same = same_len_mid l.made (length l.to - l.made) l.to whole.new.to (search (arith, rules)) in
+    let same = same_len_mid l.made (length l.to - l.made) l.to whole.new.to (search arith) in
     elim c.match-rest_of_row.branch [
-      | in_default+then-not-row_follows w ↦ absurd (let e : column ∷ left ≡ [] = sym step
-          ∙ none_next _ _ _ knows.counted w.in_default.ensures.ahead in omega (arith, ap length e))
+      | in_default+then-not-row_follows w ↦ absurd (let e = N.sym step
+          ∙ none_next _ _ knows.counted w.in_default.ensures.ahead in omega (arith, N.ap length e))
       | in-Some+then-run-eq0 w ↦ (let run = w.run_forms-run in
-          let left = first_left _ _ _ _ (omega arith) w.in-Some.ensures.ahead _ _ (run.ensures.ends w.if-run-eq0.true) _
+          let left = first_left _ _ _ _ (omega arith) w.in-Some.ensures.ahead (run.ensures.ends w.if-run-eq0.true) _
           _ _ knows ahead step in
-          let room : length (take (length mid - made) (drop made mid)) ≡ length c.args.to.now - made =
-          omega (arith, same, length-take (length mid - made) (drop made mid), length-drop made mid) in
-          rw room at (rw (all_after bytes (l.used + whole.result.used)) at left))
+          let room : length (N.take (length mid - made) (N.drop made mid)) ≡ length c.args.to.now - made =
+          omega (arith, same, N.length-drop made mid) in
+          rw room at (rw (N.all_after bytes _) at left))
     ]
 
 pub returns-clause-rows : goal.returns-clause-rows
@@ -52,10 +52,10 @@ returns-clause-rows g c =
     let l = c.loop-forms in
     let whole = c.run_whole-whole in
     let made = l.made + whole.result.made in
-    let mid = put_mid l.made (length l.to - l.made) l.to whole.new.to in
-    let ran = rows_further whole.new.to (post_of l.made (length l.to - l.made) l.to) whole.ensures.ahead l.invariant whole.ensures.rows in
+    let mid = put_mid l.made _ l.to whole.new.to in
+    let ran = rows_further whole.new.to _ whole.ensures.ahead l.invariant whole.ensures.rows in
     elim c.match-rest_of_row.branch [
       | in_default+then-not-row_follows w ↦ rw w.to-is ran
-      | in-Some+then-run-eq0 w ↦ rw w.to-is (rows_kept _ (same_len_mid made (length mid - made) mid w.run_forms-run.new.to (search arith))
+      | in-Some+then-run-eq0 w ↦ rw w.to-is (rows_kept (same_len_mid made _ mid _ (search arith))
           (made_same made mid _ ran.made) ran)
     ]

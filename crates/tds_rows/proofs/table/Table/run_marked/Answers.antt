@@ -1,9 +1,9 @@
 use Rattle.tds_rows.proofs.table.Table.run_marked.Goals as goal
+use Rattle.tds_rows.proofs.Words as N
 use Rattle.tds_rows.proofs.{
-  Words.{add-zero, inl, ℕ, ◌≡◌, ◌∙◌, ◌-◌, ◌<◌, ◌≤◌, Bool, [], ◌∷◌, refl, sym, ap, length, take, drop, subst, arith, rules, true, length-take, length-drop},
-  Words.{all_after, in_line, null_field, bit},
+  Words.{ℕ, ◌≡◌, ◌∙◌, ◌-◌, ◌<◌, ◌≤◌, ◌∷◌, ap, length, arith},
   table.Table.run_marked.Goals.{else-loop-to-test, then-loop-to-test+else-ahead-count, then-loop-to-test+then-ahead-count+else-end-ahead+then-cells-eq0},
-  Stretches.{ends_clear, runs_clear, runs_column, runs_more},
+  TableRuns.{ends_clear, runs_clear, runs_column, runs_more},
   TableSteps.{last_one, next_any, none_next, takes},
 }
 
@@ -11,29 +11,28 @@ use Rattle.tds_rows.proofs.{
 pub loop-to-preserved-then-end-ahead : goal.loop-to-preserved-then-end-ahead
 loop-to-preserved-then-end-ahead g c =
     let l = c.loop-to in
-    let bits = bit c.args.bitmap.now in
+    let bits = N.bit c.args.bitmap.now in
     let end = c.clear_end-end in
     let made = c.write_null-made.result in
     let text = c.write_null-made.new.to in
     let at = c.if-end-ahead.true in
-    let null = subst (λ (k : ℕ). bits k ≡ true) at
+    let null = N.subst (λ (k : ℕ). bits k ≡ N.true) at
     (end.ensures.set (omega arith)) in
     let within : made ≤ length text = search arith in
     record {
       used = l.invariant.used;
       made = search arith;
       most = search arith;
-      clear = λ k least most. absurd (omega (arith, most, at));
+      clear = λ k least most. absurd (omega (arith, at));
       writes = λ columns knows ahead.
           let ran = l.invariant.writes columns knows ahead in
           let some : l.ahead.column < c.args.self.now.count = omega arith in
           let one = next_any _ _ _ knows.counted some in
-          let taken = takes _ _ _ _ _ one.1 c.step.ensures.further (c.step.ensures.ahead columns knows ran.ahead) in
-          let left = drop c.step.new.at.column columns in
+          let taken = takes one.1 c.step.ensures.further (c.step.ensures.ahead columns knows ran.ahead) in
           let last = c.is_last.ensures ∙ last_one _ _ _ _ _ knows.counted taken.next in
           let line = c.write_null-made.ensures.text
-          ∙ ap (λ (k : ℕ). in_line k c.is_last.result null_field) at ∙ ap (λ (e : Bool). in_line l.ahead.column e null_field) last in
-          rw (sym (add-zero l.used)) (runs_more _ _ _ _ _ _ _ _ _ l.invariant.made within ran (runs_column taken refl (rw null (refl, line))));
+          ∙ ap (λ (k : ℕ). N.in_line k c.is_last.result N.null_field) at ∙ ap (λ (e : N.Bool). N.in_line l.ahead.column e N.null_field) last in
+          rw (N.sym (N.add-zero l.used)) (runs_more _ _ _ _ _ _ _ _ _ l.invariant.made within ran (runs_column taken N.refl (rw null (N.refl, line))));
     }
 
 -- a run over columns that aren't
@@ -50,7 +49,7 @@ loop-to-preserved g c =
       used = search arith;
       made = search arith;
       most = search arith;
-      clear = λ k least most. end.ensures.clear k (omega (arith, least)) most;
+      clear = λ k least most. end.ensures.clear k (omega arith) most;
       writes = λ columns knows ahead.
           let x = l.invariant.writes columns knows ahead in
           let y = runs_clear (λ k least most. end.ensures.clear k least (omega arith)) (ran.ensures.cells columns knows x.ahead) in
@@ -64,16 +63,16 @@ returns-clause-ends g c =
       used = l.invariant.used;
       made = omega arith;
       left = λ columns column left knows ahead step. elim c.loop-to-test.branch [
-        | else-loop-to-test w ↦ inl (omega arith)
+        | else-loop-to-test w ↦ N.inl (omega arith)
         | then-loop-to-test+else-ahead-count w ↦ absurd
-            (let none = none_next _ _ _ knows.counted (omega arith) in
-            let e : column ∷ left ≡ [] = sym step ∙ none in omega (arith, ap length e))
-        | then-loop-to-test+then-ahead-count+else-end-ahead+then-cells-eq0 w ↦ (let lent = take (length l.to - l.made) (drop l.made l.to) in
+            (let none = none_next _ _ knows.counted (omega arith) in
+            let e = N.sym step ∙ none in omega (arith, ap length e))
+        | then-loop-to-test+then-ahead-count+else-end-ahead+then-cells-eq0 w ↦ (let lent = N.take (length l.to - l.made) (N.drop l.made l.to) in
             let room : length lent ≡ length c.args.to.now - l.made =
-            omega (arith, length-take (length l.to - l.made) (drop l.made l.to), length-drop l.made l.to) in
+            omega (arith, N.length-drop l.made l.to) in
             let end = w.clear_end-end.ensures in
             let before : l.ahead.column < w.clear_end-end.result = omega arith in
-            let run = rw room at (rw (all_after c.args.bytes.now l.used) at (w.run_cells-cells.ensures.ends w.if-cells-eq0.true before)) in
-            ends_clear _ (bit c.args.bitmap.now) _ _ _ (end.clear l.ahead.column (omega arith) before) run columns column left knows ahead step)
+            let run = rw room at (rw (N.all_after _ l.used) at (w.run_cells-cells.ensures.ends w.if-cells-eq0.true before)) in
+            ends_clear _ (N.bit _) _ _ _ (end.clear _ (omega arith) before) run columns column left knows ahead step)
       ];
     }

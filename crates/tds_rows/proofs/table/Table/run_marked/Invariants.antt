@@ -1,14 +1,15 @@
 use Rattle.tds_rows.proofs.table.Table.run_marked.Given as goal
-use Rattle.tds_rows.proofs.Words.{◌-◌, ◌≤◌, List, length, take, Column, AreClear, RunsMarked, bit, IsAhead, Knows}
+use Rattle.tds_rows.proofs.Words as N
+use Rattle.tds_rows.proofs.Words.{◌-◌, ◌≤◌}
 
 abbrev pub invariant-loop-to : goal.invariant-loop-to
 invariant-loop-to g l = record {
-  used : l.used ≤ length l.fn.bytes;
-  made : l.made ≤ length l.to;
+  used : l.used ≤ N.length l.fn.bytes;
+  made : l.made ≤ N.length l.to;
   most : l.end ≤ l.fn.self.count;
-  clear : AreClear (bit l.fn.bitmap) l.ahead.column l.end;
-  writes : (columns : List Column) → Knows l.fn.self columns → IsAhead l.fn.self columns l.fn.from
-      → RunsMarked l.fn.self columns (bit l.fn.bitmap) l.fn.from l.ahead (take l.used l.fn.bytes) (take l.made l.to);
+  clear : N.AreClear (N.bit l.fn.bitmap) l.ahead.column l.end;
+  writes : (columns : N.List N.Column) → N.Knows l.fn.self columns → N.IsAhead l.fn.self columns l.fn.from
+      → N.RunsMarked l.fn.self columns (N.bit l.fn.bitmap) l.fn.from l.ahead (N.take l.used l.fn.bytes) (N.take l.made l.to);
 }
 
 abbrev pub decreases-loop-to : goal.decreases-loop-to

@@ -1,18 +1,12 @@
 use Rattle.tds_rows.proofs.table.Table.run_numbers.Goals as goal
 use Rattle.tds_rows.specs.FormRuns.{IsLastRow}
+use Rattle.tds_rows.proofs.Words as N
 use Rattle.tds_rows.proofs.{
-  Words.{inl, ap, all_after, drop-drop, BeginsRow, ℕ, subst, length-take, length-drop, FormsWritten, refl, inr, true, arith, rules, sym, ◌≡◌, ◌+◌},
-  Words.{◌-◌, ◌<◌, length, take, drop, eq-eqb, Ahead},
-  table.Table.run_numbers.Goals.{
-    else-loop-used-test,
-    then-loop-used-test+else-made-latest,
-    then-loop-used-test+then-made-latest+in_default-run_row as row_refused,
-    then-loop-used-test+then-made-latest+in-Some-run_row+then-not-row_follows as row_last,
-  },
+  Words.{inl, ap, refl, inr, arith, sym, ◌≡◌, ◌+◌, ◌-◌, ◌<◌, length},
+  table.Table.run_numbers.Goals.{else-loop-used-test, then-loop-used-test+else-made-latest, then-loop-used-test+then-made-latest+in_default-run_row as row_refused, then-loop-used-test+then-made-latest+in-Some-run_row+then-not-row_follows as row_last},
   FormSteps.too_late,
   RunSteps.made_same,
-  TableForms.{forms_between, known_ahead},
-  TableRuns.{row_begun, rows_begin, rows_kept, rows_more},
+  TableRuns.{forms_between, known_ahead, row_begun, rows_begin, rows_kept, rows_more},
   TableSteps.after_known,
 }
 
@@ -29,25 +23,25 @@ loop-used-preserved c =
     let run = c.in-Some-run_row.run' in
     let row = c.in-Some-run_row.ensures in
     let text = c.run_row.new.to in
-    let end : Ahead = record from { column = table.count } in
+    let end = record from { column = table.count } in
     let known = c.requires.known in
-    let counted : run.cells ≡ table.count = search (arith, rules) in
-    let forms = known_ahead table from table.count table.known table.laid (search (arith, rules)) (omega (arith, known))
-    (omega (arith, known)) (omega (arith, known)) table.few in
-    let rest = take (length c.args.bytes.now - c.loop-used.used) (drop c.loop-used.used c.args.bytes.now) in
-    let wrote = subst (λ (n : ℕ). FormsWritten table.charset (take table.known (drop n table.forms)) n true rest text run)
+    let counted : run.cells ≡ table.count = search (arith, N.rules) in
+    let forms = known_ahead table from table.count table.known table.laid (search arith) (omega arith)
+    (omega arith) (omega arith) table.few in
+    let rest = N.take _ _ in
+    let wrote = N.subst (λ (n : N.ℕ). N.FormsWritten table.charset (N.take table.known (N.drop n table.forms)) n N.true rest text run)
     (sym c.requires.first) (rw c.row-row.ensures.row at (row.row table.charset).cells) in
     let cells = rows_more {cells = record { used = run.used; made = run.made; ahead = end }} text _
-    (row.within.some (omega (arith, known))) (search (arith, rules)) (search (arith, rules)) (λ columns knows is.
-    forms_between table from table.count _ (omega arith) forms true (sym (eq-eqb _ _ (omega (arith, known, length-take table.known (drop from.column table.forms), length-drop from.column table.forms)))) columns knows is end _ _ run
+    (row.within.some (omega arith)) (search arith) (search arith) (λ columns knows is.
+    forms_between table from table.count _ (omega arith) forms N.true (sym (N.eq-eqb _ _ (omega (arith, N.length-take table.known (N.drop from.column table.forms), N.length-drop from.column table.forms)))) columns knows is end _ _ run
     (omega arith) (after_known {old = from} {new = end} knows is {cells = table.count} (omega arith)
-    (omega arith) (inr (omega (arith, known))) refl) wrote) c.loop-used.invariant.ran in
+    (omega arith) (inr (omega arith)) refl) wrote) c.loop-used.invariant.ran in
     record {
-      same = search (arith, rules);
-      ran = row_begun known.1 (omega arith) (c.row_follows.ensures.begins (search rules), c.requires.first) (λ columns knows is. record {
+      same = search arith;
+      ran = row_begun known.1 (omega arith) (c.row_follows.ensures.begins (search N.rules), c.requires.first) (λ columns knows is. record {
         counted = omega arith;
-        within = λ _. is.within (omega (arith, known));
-        beyond = λ none. absurd (omega (arith, none, known));
+        within = λ _. is.within (omega arith);
+        beyond = λ none. absurd (omega (arith, none));
       }) cells;
     }
 
@@ -57,9 +51,9 @@ returns-clause-rows c =
     elim c.loop-used-test.branch [
       | else-loop-used-test w ↦ rw w.to-is l.invariant.ran
       | then-loop-used-test+else-made-latest w ↦ rw w.to-is l.invariant.ran
-      | row_refused w ↦ rw w.to-is (rows_kept _ (search arith) (made_same _ _ _ l.invariant.ran.made) l.invariant.ran)
+      | row_refused w ↦ rw w.to-is (rows_kept (search arith) (made_same _ _ _ l.invariant.ran.made) l.invariant.ran)
       | row_last w ↦
-          rw w.to-is (rows_kept _ (search arith) (made_same _ _ _ l.invariant.ran.made) l.invariant.ran)
+          rw w.to-is (rows_kept (search arith) (made_same _ _ _ l.invariant.ran.made) l.invariant.ran)
     ]
 
 pub returns-clause-ends : goal.returns-clause-ends
@@ -68,21 +62,21 @@ returns-clause-ends c =
     let bytes = c.args.bytes.now in
     let row = c.row-row.ensures.row in
     let table = c.args.self.now in
-    let some : 0 < length c.row-row.result.now = omega (arith, ap length row, length-take table.known table.forms) in
-    let late = too_late c.in-Some.ensures some (ap length (sym row)) (length-drop l.used bytes) refl in
+    let some : 0 < length c.row-row.result.now = omega (arith, ap length row, N.length-take table.known table.forms) in
+    let late = too_late c.in-Some.ensures some (ap length (sym row)) (N.length-drop l.used bytes) refl in
     elim c.loop-used-test.branch [
       | else-loop-used-test w ↦ inl (late (inl w.loop-used-test.false))
       | then-loop-used-test+else-made-latest w ↦ inl (late (inr w.if-made-latest.false))
-      | row_refused w ↦ inr (inl (rw (row, all_after bytes l.used) at (w.in_default-run_row.ensures.refused refl)))
+      | row_refused w ↦ inr (inl (rw (row, N.all_after bytes l.used) at (w.in_default-run_row.ensures.refused refl)))
       | row_last w ↦ (let run = w.in-Some-run_row.run' in
-          let last : BeginsRow (drop run.used (drop l.used bytes)) → ⊥ =
-          rw (all_after bytes (l.used + run.used), sym (drop-drop run.used l.used bytes)) at (w.row_follows.ensures.other w.if-not-row_follows.true) in
-          let alone : IsLastRow c.row-row.result.now (drop l.used bytes) = record {
+          let last =
+          rw (N.all_after bytes _, sym (N.drop-drop run.used l.used bytes)) at (w.row_follows.ensures.other w.if-not-row_follows.true) in
+          let alone : IsLastRow _ _ = record {
             run = run;
             whole = w.in-Some-run_row.ensures.whole;
-            room = length (take (length l.to - l.made) (drop l.made l.to));
+            room = length _;
             text = w.run_row.new.to;
-            row = λ charset. rw (all_after bytes l.used) at (w.in-Some-run_row.ensures.row charset);
+            row = λ charset. rw (N.all_after bytes l.used) at (w.in-Some-run_row.ensures.row charset);
             last = last;
           } in
           inr (inr (rw row at alone)))

@@ -1,19 +1,18 @@
-use Rattle.tds_rows.proofs.table.Table.step.Goals as goal
 use Rattle.tds_rows.proofs.{
   Words.{inl, inr, ◌≡◌, ◌∙◌, ◌+◌, ◌⊎◌, ◌≤◌, ap, arith, columns_left},
   table.Table.step.Goals.{then-cells-gt0+then-at-self, else-cells-gt0, else-cells-gt0-via-then-cells-gt0+else-at-self, else-cells-gt0-via-else-cells-gt0},
   TableSteps.{after_known, after_walked, walk_after},
 }
 
-pub returns-clause-ahead : goal.returns-clause-ahead
+pub returns-clause-ahead : Rattle.tds_rows.proofs.table.Table.step.Goals.returns-clause-ahead
 returns-clause-ahead c = λ columns knows ahead.
     let at = c.args.at.now in
     let table = c.args.self.now in
     elim c.if-cells-gt0.branch [
       | then-cells-gt0+then-at-self w ↦ (let one : c.args.cells ≡ 1 = omega arith in
-          after_walked knows ahead (omega (arith, one, ap (λ a. a.column) w.at-is)) (omega (arith, one)) w.if-at-self.true
-          (ap (λ a. columns_left a.walk) w.at-is ∙ walk_after at.walk w.next.new.self w.next.result w.next.ensures.steps))
-      | else-cells-gt0 w ↦ (let few : (c.args.cells ≡ 0) ⊎ (at.column + c.args.cells ≤ table.known) = elim w.else-cells-gt0.branch [
+          after_walked knows ahead (omega (arith, ap (λ a. a.column) w.at-is)) (omega arith) w.if-at-self.true
+          (ap (λ a. columns_left a.walk) w.at-is ∙ walk_after at.walk w.next.new.self _ w.next.ensures.steps))
+      | else-cells-gt0 w ↦ (let few : _ ⊎ _ = elim w.else-cells-gt0.branch [
         | else-cells-gt0-via-then-cells-gt0+else-at-self x ↦ inr (omega arith)
         | else-cells-gt0-via-else-cells-gt0 x ↦ inl (omega arith)
       ] in

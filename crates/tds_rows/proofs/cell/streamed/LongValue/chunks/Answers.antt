@@ -1,8 +1,7 @@
 use Rattle.tds_rows.proofs.cell.streamed.LongValue.chunks.Goals as goal
 use Rattle.tds_rows.proofs.{
   Words.{◌≡◌, ◌∙◌, arith, refl, rules, sym, MatchResult-weaker, passed},
-  LongValues.{chunk_path, chunks_end_stops, chunks_whole, streamed_more, streamed_none, reading_stops, rest_none},
-  LongSteps.{chunk_holds, filling_stops},
+  LongValues.{chunk_path, chunks_end_stops, chunks_whole, streamed_more, streamed_none, reading_stops, rest_none, chunk_holds, filling_stops},
   Numbers.{chunk_stops, chunk_blames, length_blames, read_stops, same_failures, stops_after},
   Paths.path_stops,
 }
@@ -26,7 +25,7 @@ returns-in_err-n-clause-field g c = λ conversion suits.
     let l = c.loop-n in
     let x = l.invariant.streamed conversion suits in
     let y = rw (c.UNIT.ensures, l.invariant.value.3) at c.in_err-n.ensures.length in
-    let stops = reading_stops c.args.self.now.last l.invariant.writing.ready.2 l.invariant.writing.writing (chunk_stops _ suits.unit_is x.counted y) in
+    let stops = reading_stops _ l.invariant.writing.ready.2 l.invariant.writing.writing (chunk_stops _ suits.unit_is x.counted y) in
     passed _ _ _ _ c.from_residual.ensures.1 (path_stops x.path stops)
 
 pub returns-then-n-eq0-clause-field : goal.returns-then-n-eq0-clause-field
@@ -34,11 +33,11 @@ returns-then-n-eq0-clause-field g c = λ conversion suits.
     let l = c.loop-n in
     let x = l.invariant.streamed conversion suits in
     let r = c.in_ok-n.ensures.length in
-    let none : r.0 ≡ 0 = sym r.3 ∙ c.if-n-eq0.true in
+    let none = sym r.3 ∙ c.if-n-eq0.true in
     let free = rw (c.UNIT.ensures, l.invariant.value.3) at r.2 in
     let ended = rw (l.invariant.value.3, l.invariant.value.4, c.place-place.ensures, suits.quoted_is) at
     (c.put_end.ensures.end conversion x.content suits x.kept_is x.begun) in
-    rw c.put_end.ensures.payload (MatchResult-weaker c.put_end.result ended (λ _ y. chunks_whole _ suits.unit_is x r.1 free none y.0 y.1)
+    rw c.put_end.ensures.payload (MatchResult-weaker _ ended (λ _ y. chunks_whole _ suits.unit_is x r.1 free none y.0 y.1)
     (λ stop y. chunks_end_stops _ suits.unit_is x r.1 free (l.invariant.writing.ready.1 l.invariant.writing.writing) l.invariant.writing.ready.2 none
     y))
 
@@ -66,7 +65,7 @@ loop-n-preserved g c =
       same_sink = search rules;
       begun = done.leaves.begun;
       calm = done.blames ∙ same_failures c.in_ok-n.ensures.length.1.takes.4.0 refl ∙ l.invariant.calm;
-      few = omega (arith, done.place, (c.in_ok-n.ensures.length).1.place_is);
+      few = omega (arith, (c.in_ok-n.ensures.length).1.place_is);
       streamed = λ conversion suits.
           let x = l.invariant.streamed conversion suits in
           let r = c.in_ok-n.ensures.length in
@@ -77,4 +76,4 @@ loop-n-preserved g c =
     }
 
 pub returns-in_err-n-clause-blames : goal.returns-in_err-n-clause-blames
-returns-in_err-n-clause-blames g c = grind (arith, stops_after, read_stops, length_blames, chunk_blames)
+returns-in_err-n-clause-blames g c = grind (arith, stops_after, read_stops, length_blames)

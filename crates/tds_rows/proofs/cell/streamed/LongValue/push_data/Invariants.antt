@@ -1,6 +1,6 @@
 use Rattle.tds_rows.proofs.cell.streamed.LongValue.push_data.Given as goal
 use Rattle.tds_rows.proofs.Words as N
-use Rattle.tds_rows.proofs.{Words.{◌≡◌, ◌<◌, ◌+◌, List, ℕ}, JoinedPieces.Filled, Paths.at_of}
+use Rattle.tds_rows.proofs.{Words.{◌≡◌, ◌<◌, ◌+◌}, JoinedPieces.Filled, Paths.at_of}
 
 abbrev pub invariant-loop-left : goal.invariant-loop-left
 invariant-loop-left g l = record {
@@ -13,7 +13,7 @@ invariant-loop-left g l = record {
   some : 0 < l.left;
   calm : N.failures_of l.self.payload.now l.self.sink.now ≡ N.failures_of l.initial.self.payload.now l.initial.self.sink.now;
   place : l.self.payload.now.place + l.left ≡ l.initial.self.payload.now.place + l.n;
-  filled : (c : N.Conversion) (content : List ℕ)
+  filled : (c : N.Conversion) (content : N.List N.ℕ)
       → N.Suits g.J.Joiner.fit g.J.Joiner.begins g.J.Joiner.rest g.J.Joiner.text g.J.Joiner.UNIT g.J.Joiner.QUOTED c
       → g.J.Joiner.withheld l.initial.self.joiner.now ≡ N.conversion_rest c content → N.BeginsData c content
       → Filled c content (g.J.Joiner.withheld l.self.joiner.now) (at_of g.R.Read.remaining g.W.Write.contents l.initial.self.payload.now l.initial.self.sink.now)

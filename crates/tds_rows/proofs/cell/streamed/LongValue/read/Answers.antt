@@ -1,6 +1,6 @@
 use Rattle.tds_rows.proofs.cell.streamed.LongValue.read.Goals as goal
 use Rattle.tds_rows.proofs.{
-  Words.{◌∙◌, [], append-nil, refl, passed, MatchResult-weaker, total_fault},
+  Words.{[], ◌∙◌, MatchResult-weaker, append-nil, passed, refl},
   Numbers.{length_blames, read_stops, total_blames, total_none, total_start, total_stops},
   LongValues.{total_text, field_puts, next_breaks, next_path, null_puts, reading_stops},
   Paths.path_stops,
@@ -13,7 +13,7 @@ returns-in_err-total-in-Chunked-clause-field g c = λ conversion suits. rw c.in-
 
 pub returns-in-None-clause-field : goal.returns-in-None-clause-field
 returns-in-None-clause-field g c = λ conversion suits. rw c.in-Chunked.is (
-    null_puts c.args.self.now.last g.W.Write.contents c.args.self.now.sink.now c.put_null.new.sink c.put_null.result
+    null_puts _
     (total_none conversion (c.UNIT.ensures ∙ suits.unit_is) c.in_ok-total-in-Chunked.ensures.length c.in-None.is) refl c.requires.joining.sink
     c.put_null.ensures)
 
@@ -23,22 +23,22 @@ returns-in_err-put_opening-in-Some-clause-field g c = λ conversion suits. rw c.
     let x = total_start conversion (c.UNIT.ensures ∙ suits.unit_is) c.in_ok-total-in-Chunked.ensures.length c.in-Some.is in
     let breaks = rw (c.QUOTED.ensures ∙ suits.quoted_is) at (c.in_err-put_opening-in-Some.ensures.gives sink.writing) in
     passed _ _ _ _ c.from_residual-in_err-put_opening-in-Some.ensures.1
-    (next_breaks c.args.self.now.last x _ [] (sink.ready.1 sink.writing) sink.ready.2 c.in_err-put_opening-in-Some.ensures.failed (append-nil _
-    ∙ total_text c.args.self.now.column c.args.self.now.last conversion c.in-Some.total) breaks))
+    (next_breaks _ x _ [] (sink.ready.1 sink.writing) sink.ready.2 c.in_err-put_opening-in-Some.ensures.failed (append-nil _
+    ∙ total_text _ c.args.self.now.last conversion c.in-Some.total) breaks))
 
 pub returns-in_ok-put_opening-in-Some-clause-field : goal.returns-in_ok-put_opening-in-Some-clause-field
 returns-in_ok-put_opening-in-Some-clause-field g c = λ conversion suits. rw c.in-Chunked.is (
     let x = total_start conversion (c.UNIT.ensures ∙ suits.unit_is) c.in_ok-total-in-Chunked.ensures.length c.in-Some.is in
     let opened = rw (c.QUOTED.ensures ∙ suits.quoted_is) at c.in_ok-put_opening-in-Some.ensures.gives in
-    let start = next_path c.args.self.now.last x _ (total_text c.args.self.now.column c.args.self.now.last conversion c.in-Some.total) opened in
+    let start = next_path _ x _ (total_text _ c.args.self.now.last conversion c.in-Some.total) opened in
     MatchResult-weaker c.chunks.result (c.chunks.ensures.field conversion suits) (λ _ y. field_puts start y)
     (λ stop y. path_stops start y))
 
 pub returns-in_err-total-in-Chunked-clause-blames : goal.returns-in_err-total-in-Chunked-clause-blames
 returns-in_err-total-in-Chunked-clause-blames g c =
     passed _ _ _ _ c.from_residual.ensures.1 (read_stops _ _ c.in_err-total-in-Chunked.field-0.0
-    (length_blames g.R.Read.remaining (total_fault c.args.self.now.column c.UNIT.result) c.args.self.now.payload.now c.requires.joining.payload.going
-    (total_blames c.args.self.now.column c.UNIT.result) c.in_err-total-in-Chunked.ensures.length))
+    (length_blames g.R.Read.remaining c.args.self.now.payload.now c.requires.joining.payload.going
+    (total_blames _ _) c.in_err-total-in-Chunked.ensures.length))
 
 pub returns-in-Short-clause-field : goal.returns-in-Short-clause-field
 returns-in-Short-clause-field g c = λ conversion suits. rw c.in-Short.is (c.short.ensures.field conversion suits)

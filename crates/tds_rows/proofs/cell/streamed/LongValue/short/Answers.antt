@@ -1,10 +1,8 @@
 use Rattle.tds_rows.proofs.cell.streamed.LongValue.short.Goals as goal
 use Rattle.tds_rows.proofs.{
-  Words.{◌∙◌, ◌<◌, ◌++◌, [], arith, refl, rules, sym, MatchResult-weaker, passed},
+  Words.{◌∙◌, ◌<◌, ◌++◌, [], arith, refl, sym, MatchResult-weaker, passed},
   Numbers.{length_blames, read_stops, short_blames, short_none, short_start, short_stops},
-  LongValues.{empty_puts, empty_stops, field_puts, next_breaks, next_path, none_begins, null_puts, reading_stops, rest_none, short_end_stops, short_open},
-  LongValues.{short_text, short_whole},
-  LongSteps.{filling_stops, short_holds},
+  LongValues.{empty_puts, empty_stops, field_puts, next_breaks, next_path, none_begins, null_puts, reading_stops, rest_none, short_end_stops, short_open, short_text, short_whole, filling_stops, short_holds},
   Paths.path_stops,
 }
 
@@ -15,7 +13,7 @@ returns-in_err-n-clause-field g c = λ conversion suits.
 
 pub returns-in_default-clause-field : goal.returns-in_default-clause-field
 returns-in_default-clause-field g c = λ conversion suits.
-    null_puts c.args.self.now.last g.W.Write.contents c.args.self.now.sink.now c.put_null.new.sink c.put_null.result
+    null_puts _
     (short_none conversion (c.UNIT.ensures ∙ suits.unit_is) c.in_ok-n.ensures.length c.in_default.is) refl c.requires.joining.sink
     c.put_null.ensures
 
@@ -24,7 +22,7 @@ returns-in_err-put_opening-clause-field g c = λ conversion suits.
     let sink = c.requires.joining.sink in
     let x = short_start _ (c.UNIT.ensures ∙ suits.unit_is) c.in_ok-n.ensures.length c.in-Some.is in
     let breaks = rw (c.QUOTED.ensures ∙ suits.quoted_is) at (c.in_err-put_opening.ensures.gives sink.writing) in
-    let rest = short_text c.args.self.now.column c.args.self.now.last conversion c.in-Some.n in
+    let rest = short_text _ _ conversion c.in-Some.n in
     passed _ _ _ _ c.from_residual-in_err-put_opening.ensures.1
     (next_breaks _ x _ rest.0 (sink.ready.1 sink.writing) sink.ready.2 c.in_err-put_opening.ensures.failed rest.1 breaks)
 
@@ -35,7 +33,7 @@ returns-then-n-eq0-clause-field g c = λ conversion suits.
     let opened = rw (c.QUOTED.ensures ∙ suits.quoted_is) at c.in_ok-put_opening.ensures.gives in
     let ended = rw suits.quoted_is at (c.put_end.ensures.end conversion [] suits (c.requires.withheld_none ∙ sym (rest_none _)) (none_begins _)) in
     rw c.put_end.ensures.payload (MatchResult-weaker c.put_end.result ended (λ _ y. empty_puts _ _ _ _ x c.if-n-eq0.true opened y.1)
-    (λ stop y. empty_stops _ _ _ _ _ x c.if-n-eq0.true opened (sink.ready.1 sink.writing) sink.ready.2 y))
+    (λ stop y. empty_stops _ _ _ x c.if-n-eq0.true opened (sink.ready.1 sink.writing) sink.ready.2 y))
 
 pub returns-in_err-push_data-clause-field : goal.returns-in_err-push_data-clause-field
 returns-in_err-push_data-clause-field g c = λ conversion suits.
@@ -44,7 +42,7 @@ returns-in_err-push_data-clause-field g c = λ conversion suits.
     let some : 0 < c.in-Some.n = search arith in
     let stops = c.in_err-push_data.ensures.data conversion [] suits (c.requires.withheld_none ∙ sym (rest_none _)) (none_begins _) in
     passed _ _ _ _ c.from_residual-in_err-push_data.ensures.1
-    (path_stops (next_path c.args.self.now.last x _ (short_open c.args.self.now.column c.args.self.now.last conversion _ some) opened)
+    (path_stops (next_path _ x _ (short_open _ _ conversion some) opened)
     (filling_stops _ (short_holds _ conversion) stops))
 
 pub returns-clause-field : goal.returns-clause-field
@@ -52,14 +50,14 @@ returns-clause-field g c = λ conversion suits.
     let x = short_start _ (c.UNIT.ensures ∙ suits.unit_is) c.in_ok-n.ensures.length c.in-Some.is in
     let opened = rw (c.QUOTED.ensures ∙ suits.quoted_is) at c.in_ok-put_opening.ensures.gives in
     let some : 0 < c.in-Some.n = search arith in
-    let start = next_path c.args.self.now.last x _ (short_open c.args.self.now.column c.args.self.now.last conversion _ some) opened in
+    let start = next_path _ x _ (short_open _ _ conversion some) opened in
     let y = c.in_ok-push_data.ensures.data conversion [] suits (c.requires.withheld_none ∙ sym (rest_none _)) (none_begins _) in
     let all = y.front ++ y.takes.piece in
     let same = c.in_ok-push_data.ensures.leaves.same in
     let ended = rw (same.3, same.4, c.place-last_byte.ensures, suits.quoted_is) at
     (c.put_end-2.ensures.end conversion all suits y.takes.kept_is y.takes.begun) in
-    rw c.put_end-2.ensures.payload (MatchResult-weaker c.put_end-2.result ended (λ _ z. field_puts start (short_whole _ _ _ y z.0 z.1))
+    rw c.put_end-2.ensures.payload (MatchResult-weaker _ ended (λ _ z. field_puts start (short_whole _ _ _ y z.0 z.1))
     (λ stop z. path_stops start (short_end_stops _ _ _ y z)))
 
 pub returns-in_err-n-clause-blames : goal.returns-in_err-n-clause-blames
-returns-in_err-n-clause-blames g c = grind (arith, read_stops, length_blames, short_blames)
+returns-in_err-n-clause-blames g c = grind (arith, read_stops, length_blames)

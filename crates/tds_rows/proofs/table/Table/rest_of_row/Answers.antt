@@ -1,5 +1,0 @@
-use Rattle.tds_rows.proofs.table.Table.rest_of_row.Goals as goal
-use Rattle.tds_rows.proofs.{Words.{arith}, TableForms.known_ahead}
-
-pub returns-clause-ahead : goal.returns-clause-ahead
-returns-clause-ahead c = grind (arith, known_ahead)
