@@ -14,7 +14,7 @@ ghost use Rattle.tds_rows.specs.RowRuns.{IsFurther, MarkedRead, RunRead};
 ghost use Rattle.tds_rows.specs.Tables.{Knows};
 ghost use Rattle.tds_values.specs.Kind as kinds;
 
-use crate::cell::gathered::{gather_scalar, length_size};
+use crate::cell::gathered::{LONGEST_CELL, gather_scalar, length_size};
 use crate::cell::layout::{Form, Layout};
 use crate::cell::streamed::stream_long;
 use crate::cell::whole::CELL_ROOM;
@@ -112,12 +112,15 @@ impl<'r, 't, 'p, 's, 'c, R: Read, W: Write> Rows<'r, 't, 'p, 's, 'c, R, W> {
     }
 
     /// Reads the next cell, whatever its kind, and puts its text: at once, if it is whole in the packet, isn't in chunks and
-    /// has room in a small text.
+    /// has room in a small text. A scalar near the packet's end, which is likely to be cut by it, is gathered.
     #[inline(never)]
     pub(crate) fn put_cell(&mut self, at: Ahead<'c>, form: &Form) -> Result<(), Stop>
         requires { IsAtCell self.old at form.now }
         ensures { CellRead R.remaining W.contents at.entry form.now.kind self.old self.new result }
     {
+        if form.kind.is_scalar() && self.payload.buffered().len() < LONGEST_CELL {
+            return self.put_gathered(at, form);
+        }
         let mut text = [0u8; SHORT_TEXT];
         if let Some(cell) = self
             .table
@@ -237,7 +240,7 @@ impl<'r, 't, 'p, 's, 'c, R: Read, W: Write> Rows<'r, 't, 'p, 's, 'c, R, W> {
             let run = self.put_run(ahead)?;
             ended += run.rows as u64;
             ahead = run.ahead;
-            if run.used > 0 {
+            if run.used > 0 && self.sink.room() <= BLOCK_END {
                 continue;
             }
             let Some((form, after)) = self.table.next(ahead) else {

@@ -13,7 +13,7 @@ returns-in-Some g c =
       leaves = search N.arith;
       cell = λ last next.
           let end = last_one _ _ _ _ _ next.knows.counted next.next ∙ sym next.last in
-          let alone = rw (end, c.buffered.ensures) at c.in-Some.ensures.cell in
+          let alone = rw (end, c.buffered-2.ensures) at c.in-Some.ensures.cell in
           put_whole _ _ _ _ _ c.requires.in_row.sink
           (c.consume.ensures.between c.requires.in_row.payload.going) alone.writes.whole c.consume.ensures.gives at c.put.ensures;
     }

@@ -22,8 +22,8 @@ returns-in_err-run-clause-rows g c =
     rw (← l.invariant.stays.same.3) (λ columns knows.
     passed _ _ _ _ c.from_residual.ensures.1 (rows_broke l.invariant.reads l.invariant.stays.in_row c.in_err-run.ensures columns knows))
 
-pub loop-run-preserved-then-run-gt0 : goal.loop-run-preserved-then-run-gt0
-loop-run-preserved-then-run-gt0 g c =
+pub loop-run-preserved-then-room-le-BLOCK_END : goal.loop-run-preserved-then-room-le-BLOCK_END
+loop-run-preserved-then-room-le-BLOCK_END g c =
     let l = c.loop-run in
     let run = c.in_ok-run.ensures in
     record {
