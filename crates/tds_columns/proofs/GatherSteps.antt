@@ -34,7 +34,8 @@ module _ {room : ℕ} {s : DescriptionPart} {a b : Seen} {before after : Space} 
       → before.bytes ≡ N.description_bytes s → kept.peak ≡ after.peak → kept.bytes ≡ N.description_bytes to
       → Describes room s a b place place' before.peak kept to
   description_read {n = n} t some size free leads at had peak bytes =
-      let within = rw (leads, t.whole) at (spans room s t.element (record { some = omega (arith, t.whole, some); whole = t.whole ∙ N.sym size; free = free })) in
+      let within = rw (leads, t.whole) at (spans room s t.element (record { some = omega (arith, t.whole, some); whole = t.whole ∙ N.sym size; free = free }))
+      in
       record {
         reads = reads_into t some size free leads;
         place_is = rw t.whole at;

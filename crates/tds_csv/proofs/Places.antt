@@ -249,7 +249,8 @@ quad_lanes us ls hs long fits is_low is_high = grind arith
 
 -- what a lane of the second numbers computes
 pub high_lane : (u : ℕ) → u < 65536
-    → cond (top 15 (cond (N.eqb u 34) 65535 0)) 8738 (((u / 4096 + (u / 64 % 64 * 256) % 65536) % 65536 + cond (top 15 (cond (N.leb 2048 u) 65535 0)) 32992 49376)
+    → cond (top 15 (cond (N.eqb u 34) 65535 0)) 8738 (((u / 4096 + (u / 64 % 64 * 256) % 65536) % 65536 + cond (top 15 (cond (N.leb 2048 u) 65535 0)) 32992
+    49376)
     % 65536) ≡ high_quad u
 high_lane = grind arith
 

@@ -91,7 +91,8 @@ plain_itself = grind (arith, N.Characters.of_one)
 pub plain_lanes : (source bytes : List ℕ) (at n : ℕ) → n ≤ 16 → n ≤ N.prefix_len is_plain (chunk at 16 source)
     → take n (drop at bytes) ≡ take n (chunk at 16 source) → take n (chunk at 16 source) ≡ windows_1252.text (take n (drop at bytes))
 plain_lanes source bytes at n few plains same =
-    N.sym (some_itself windows_1252.text N.SingleLaws.windows_1252-append is_plain refl plain_itself n (chunk at 16 source) plains) ∙ N.ap windows_1252.text (N.sym same)
+    N.sym (some_itself windows_1252.text N.SingleLaws.windows_1252-append is_plain refl plain_itself n (chunk at 16 source) plains) ∙ N.ap windows_1252.text
+    (N.sym same)
 
 -- those that were found among the next 32
 pub wide_lanes : (bytes : List ℕ) (at n : ℕ) → n ≤ 32 → n ≡ N.prefix_len is_plain (chunk at 32 bytes)

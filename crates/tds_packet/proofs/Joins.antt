@@ -32,7 +32,8 @@ after_header size limit wire hdr ys e f =
 
 -- a body that is whole, and one that is cut
 whole_at : {last : N.Bool} {len : ℕ} {bs ys : List ℕ} {n : ℕ} → n ≡ length bs
-    → (if N.nat_lt (length (bs ++ ys)) n then N.NoPacket N.InputEnded [] else N.WholePacket (N.take n (bs ++ ys)) last len (N.drop n (bs ++ ys))) ≡ N.WholePacket bs
+    → (if N.nat_lt (length (bs ++ ys)) n then N.NoPacket N.InputEnded [] else N.WholePacket (N.take n (bs ++ ys)) last len
+    (N.drop n (bs ++ ys))) ≡ N.WholePacket bs
     last len ys
 whole_at = grind (arith, N.length-append, N.take-append_seam, N.drop-append_seam)
 

@@ -4,7 +4,10 @@ use N.{◌∙◌, ViewLaws.{all_after, length_columns}}
 
 pub invariant_of-result : goal.invariant_of-result
 invariant_of-result c =
-    record { whole = rw (c.count.ensures.value ∙ length_columns _ (N.drop 2 c.args.self.now.bytes.now), all_after _ 2) (N.and_parts _ _ c.args.self.now.whole).1 }
+    record {
+      whole = rw (c.count.ensures.value ∙ length_columns _ (N.drop 2 c.args.self.now.bytes.now), all_after _ 2)
+          (N.and_parts _ _ c.args.self.now.whole).1;
+    }
 
 pub returns-clause-value : goal.returns-clause-value
 returns-clause-value c = rw (all_after _ 2, c.count.ensures.value, length_columns)

@@ -7,5 +7,10 @@ returns-clause-taken = grind (arith, N.common_steps, N.Singles.plain_lanes, alik
 
 pub put_lanes-requires : goal.put_lanes-requires
 put_lanes-requires c =
-    let room : c.args.at + 16 ≤ N.length c.args.source.now = search arith in
-    (omega arith, (N.length-chunk c.args.at 16 c.args.source.now room, ((omega (arith, run_most N.is_plain c.args.source.now c.args.at 16 room)), (omega arith))))
+    let room : c.args.at + 16 ≤ N.length c.args.source.now = search arith in (
+      omega arith,
+      (
+        N.length-chunk c.args.at 16 c.args.source.now room,
+        ((omega (arith, run_most N.is_plain c.args.source.now c.args.at 16 room)), (omega arith)),
+      ),
+    )

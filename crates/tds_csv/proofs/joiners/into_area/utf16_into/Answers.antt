@@ -11,5 +11,6 @@ loop-at-preserved = grind (N.arith, N.Utf8Laws.added_more)
 
 pub returns : goal.returns
 returns c =
-    N.Utf8Laws.stays_whole c.loop-at.invariant.added (rw (N.Utf16Steps.nil_of_length (N.drop c.loop-at.at c.args.units.now) (omega (N.arith, N.length-drop c.loop-at.at c.args.units.now)))
+    N.Utf8Laws.stays_whole c.loop-at.invariant.added (rw (N.Utf16Steps.nil_of_length (N.drop c.loop-at.at c.args.units.now)
+    (omega (N.arith, N.length-drop c.loop-at.at c.args.units.now)))
     N.Utf16Steps.characters_nil)
