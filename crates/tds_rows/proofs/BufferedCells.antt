@@ -72,7 +72,6 @@ module _ (charset : N.Charset) (kind : Kind) (column : ℕ) (last : Bool) (bytes
       → text ≡ N.in_line column last N.null_field → WritesCell (N.cell_start kind (shape charset kind)) column last (take (start + 0) bytes) text
   null_cell _ at none within is = grind (arith, null_written)
 
-  -- a value there
   pub value_cell : (start n : ℕ) → start ≡ N.value_start kind → n ≡ N.value_length kind bytes → n ≢ 0 → start + n ≤ length bytes
       → N.IsValueText kind column last (take n (drop start bytes)) text
       → WritesCell (N.cell_start kind (shape charset kind)) column last (take (start + n) bytes) text
@@ -94,7 +93,6 @@ pub int4_reads : (kind : Kind) (bytes : List ℕ) → N.IsInt4 kind → length b
     × (N.read_of kind bytes ≡ N.read_of (N.IntN 4) bytes)
 int4_reads _ _ number _ = grind arith
 
--- its kinds are scalar ones
 pub int4_scalar : (kind : Kind) → N.IsInt4 kind → N.is_scalar kind ≡ true
 int4_scalar _ number = grind arith
 

@@ -35,7 +35,6 @@ module _ (column : ℕ) where
       (N.choose_false _ _ _ (ne_eqb (length value) 0 (λ e. omega arith))) in
       Spelt-append _ _ _ _ _ _ head (fixed_cell v some refl h)
 
-  -- the data of a short value, byte by byte
   short_data : (c : Conversion) (d : List ℕ) (x : ℕ) (xs : List ℕ) → is_fit c (d ++ x ∷ xs) ≡ true
       → Spelt (cell column) (N.ShortData c (length xs) d) (x ∷ xs) (WholeCell (DataCell c (d ++ x ∷ xs)))
   short_data c d x [] h = Spelt-step _ _ _ _ (omega arith) refl
@@ -65,7 +64,6 @@ module _ (column : ℕ) where
       (short_length c _ s.least (N.fit_units c _ h)) in
       rw s.counted (Spelt-append _ _ _ _ _ _ head (short_data c [] x xs h))
 
-  -- the data of a chunk, byte by byte
   chunk_data : (c : Conversion) (total : Option ℕ) (d : List ℕ) (x : ℕ) (xs more : List ℕ) → is_fit c ((d ++ x ∷ xs) ++ more) ≡ true
       → Spelt (cell column) (N.ChunkData c total (length xs) d) (x ∷ xs) (N.ChunkLength c total (d ++ x ∷ xs))
   chunk_data c _ d x [] more h = Spelt-step _ _ _ _ (omega arith) refl (unless_true _ (N.fit_begins c _ _ h)) refl
@@ -75,7 +73,6 @@ module _ (column : ℕ) where
       Spelt-append _ _ _ _ _ _ (Spelt-step _ _ _ _ (omega arith) refl (unless_true _ begun) (search N.rules))
       (rw N.append_assoc at (chunk_data c total (d ++ x ∷ []) y ys more k))
 
-  -- one chunk
   chunk_cell : (c : Conversion) (total : Option ℕ) (d content bytes more : List ℕ) → is_fit c ((d ++ content) ++ more) ≡ true
       → N.within_total total (length d + length content) ≡ true → N.SpellsChunk content bytes
       → Spelt (cell column) (N.ChunkLength c total d) bytes (N.ChunkLength c total (d ++ content))
@@ -87,7 +84,6 @@ module _ (column : ℕ) where
       (rw n (N.choose_false _ _ _ (ne_eqb (N.suc (length xs)) 0 (λ q. omega arith)) ∙ unless_true _ w)) (rw n (search N.rules)) in
       rw (N.sym s.spelt) at (Spelt-append _ _ _ _ _ _ head (chunk_data c _ d x _ _ f))
 
-  -- the chunks and the terminator
   chunks_cell : (c : Conversion) (total : Option ℕ) (d : List ℕ) (ds : List (List ℕ)) (bytes : List ℕ)
       → ((n : ℕ) → n ≤ length (d ++ concat ds) → N.within_total total n ≡ true) → N.is_total total (length (d ++ concat ds)) ≡ true
       → is_fit c (d ++ concat ds) ≡ true → N.SpellsChunks ds bytes
@@ -105,7 +101,6 @@ module _ (column : ℕ) where
       let more = rw a at (chunks_cell c total (d ++ x) xs s.1 (rw a w) (rw a t) (rw a f) s.4) in
       rw s.2 (Spelt-append _ _ s.0 _ s.1 _ one more)
 
-  -- the total
   total_cell : (c : Conversion) (total : List ℕ) → length total ≡ 8 → little total < N.null_total
       → (N.nat_le N.unknown_total (little total) || (little total % unit c == 0)) ≡ true
       → Spelt (cell column) (Total c) total (N.ChunkLength c (N.known_total (little total)) [])

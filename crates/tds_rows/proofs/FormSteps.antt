@@ -47,7 +47,6 @@ module _ (forms : List Form) (ends : Bool) (columns : List Column) (next : N.Are
         → N.WritesColumn charset all (λ k. false) (column + k) bytes text
     next_cell _ is x = grind (arith, N.drop-drop, kind_is, last_of, step)
 
--- some forms have a first
 pub some_first : (forms : List Form) → 0 < length forms → (form : Form) × (rest : List Form) × (forms ≡ form ∷ rest)
 some_first [] some = grind arith
 some_first (f ∷ fs) _ = (f, fs, refl)
@@ -105,7 +104,6 @@ before_comma made column to fields some within is =
     ∙ N.take-append-le _ fields _ (omega arith) ∙ N.take_all _ fields (omega arith)
 
 module _ (charset : Charset) (forms : List Form) (column : ℕ) (bytes : List ℕ) where
-  -- one cell more
   pub fields_more : (to text rest : List ℕ) (k used u now made m : ℕ) (d : Form) → now ≡ used + u → made ≤ length to → m < length text
       → k < length forms → N.WritesField charset (get_or forms k d).kind (take u (unused used bytes)) (take m text)
       → N.FieldsWritten charset forms column bytes to (record { cells = k; used = used; made = made })
@@ -126,7 +124,6 @@ module _ (charset : Charset) (forms : List Form) (column : ℕ) (bytes : List �
       let next : suc k ≡ k + 1 = omega arith in
       rw further (fields ++ N.after_comma (column + k) field, rw (← next) written, is')
 
-  -- the first alone
   pub first_alone : (ends : Bool) (to : List ℕ) (used made : ℕ) (fields : List ℕ) → N.FirstUsed forms bytes used
       → N.WritesForms charset forms column 1 (take used bytes) fields → take made to ≡ fields ++ end_after (ends && (1 == length forms))
       → N.FirstWritten charset forms column ends bytes to (record { cells = 1; used = used; made = made })
@@ -209,14 +206,9 @@ pub room_step : (n k made m room more : ℕ) → more ≡ room → k < n → m �
     → made + m + 1 + 12 * (n - (k + 1)) + 25 ≤ more
 room_step n k _ m _ _ same some few within = omega arith
 
--- ---- a cell that is left
-
--- with less room too
 pub left_less : (charset : Charset) (kind : N.Kind) (bytes : List ℕ) {fewer room : ℕ} → fewer ≤ room → N.IsLeft charset kind bytes room
     → N.IsLeft charset kind bytes fewer
 left_less _ _ _ less h6 = grind arith
-
--- ---- rows of numbers
 
 -- a row of some numbers that begins later lacks bytes or room
 pub too_late : {cells n bytes room b r used made : ℕ} {latest : Latest} → IsLatest cells bytes room latest → 0 < cells → n ≡ cells → b ≡ bytes - used

@@ -58,7 +58,6 @@ module _ {column : ℕ} {c : Conversion} {state : ℕ → List ℕ → CellPart}
       (holds.free k d x ((N.begun_by_test c _).1 ((N.joins_by_name c).front _ xs more_begun)) good_one) (holds.add k d x) in
       rw (next, regroup) (N.Spelt-append _ _ _ _ xs _ one more)
 
-  -- and where more follow
   front_spelt : {m : ℕ} (d bytes : List ℕ) (r : ℕ) → m ≡ length bytes + suc r → BeginsData c (d ++ bytes)
       → Spelt (cell column) (state m d) bytes (state (suc r) (d ++ bytes))
   front_spelt d _ r is begun = grind (arith, content_spelt)
@@ -73,7 +72,6 @@ module _ {column : ℕ} {c : Conversion} {state : ℕ → List ℕ → CellPart}
       → cell_so_far column last (state (suc r) d) ++ added_text c d more ≡ cell_so_far column last (state (suc r') (d ++ more))
   text_grown d _ r _ begun = grind (arith, text_more)
 
-  -- and where none does
   text_closed : (d more tail : List ℕ) (r : ℕ) → BeginsData c (d ++ more)
       → after_comma column (open_field c (d ++ more)) ++ tail ≡ cell_so_far column last (state 0 (d ++ more))
       → cell_so_far column last (state (suc r) d) ++ (added_text c d more ++ tail) ≡ cell_so_far column last (state 0 (d ++ more))
@@ -184,7 +182,6 @@ module _ {column : ℕ} {c : Conversion} {state : ℕ → List ℕ → CellPart}
               piece_broken_at x.ahead s.0 s.1 (rw s.2 at all) (rw s.2 at x.takes) x.between (rw s.2 at x.begun) (rw s.2 at x.breaks))
         ]
 
-    -- the next piece stopped
     piece_stops : {failed : Bool} → N.StopsData c d column (suc r) a b place h i failed stop → Stopped failed
     piece_stops (inl x) = rw x.1 (piece_cut x.0)
     piece_stops (inr (inl x)) = rw x.1 (piece_refused x.0)
@@ -201,7 +198,6 @@ module _ {column : ℕ} {c : Conversion} {state : ℕ → List ℕ → CellPart}
   -- ---- the last piece
 
   module _ {d kept : List ℕ} {m : ℕ} {p q : At} (x : over (N.EndsData c d kept) p q m) where
-    -- all of the content
     abbrev all_content : List ℕ
     all_content = (d ++ x.front) ++ x.takes.piece
 
@@ -318,7 +314,6 @@ none_begins c = grind arith
 
 -- ---- parts of a field, one after the other
 
--- a cell was read to its end
 pub field_of : {column : ℕ} {last : Bool} {s : CellPart} {p q : At} {value : N.Cell}
     → Path (cell column) (cell_so_far column last) s p q (N.WholeCell value) → over (PutsField s column last) p q
 field_of {value = value} x = record { value = value; streams = grind arith; place_is = x.place_is }
@@ -460,7 +455,6 @@ module _ {column : ℕ} {last : Bool} {c : Conversion} {total : Option ℕ} {kep
       let good = (N.fit_by_test c x.content).1 fit in
       field_of (path_both x.path (next_path last (chunk_end c unit_is x.counted y free none good) _ (ending_text column c last x.content good) puts))
 
-  -- the end stopped
   pub chunks_end_stops : {j : Held} {failed : Bool} {stop : Stop} → length q.held.waiting < 4096 → q.held.delivered ≤ 2 ^ 64 - 1 → n ≡ 0
       → N.StopsEnding c (is_quoted c) last x.content column q.place q.held j failed stop
       → StopsField (ChunkLength c total []) column last p.seen d p.place p.held j failed stop
@@ -472,7 +466,6 @@ module _ {column : ℕ} {last : Bool} {c : Conversion} {total : Option ℕ} {kep
   chunks_end_stops _ delivered none (inr z) =
       path_stops x.path (rw (z.1, z.2) (reading_stops last delivered z.3 (chunk_unfit c unit_is x.counted y free none (grind (arith, N.fit_by_test)))))
 
-  -- the length of a chunk was read
   pub chunk_path : n ≢ 0 → q.held.delivered ≤ 2 ^ 64 - 1
       → Path (cell column) (cell_so_far column last) (ChunkLength c total []) p (record { seen = d; place = there; held = q.held })
       (chunk_left c total n x.content)
@@ -480,7 +473,6 @@ module _ {column : ℕ} {last : Bool} {c : Conversion} {total : Option ℕ} {kep
       let text : cell_so_far column last (ChunkLength c total _) ++ [] ≡ cell_so_far column last _ = grind (arith, append-nil) in
       path_both x.path (next_path _ (chunk_start c unit_is x.counted y free some) _ text (N.Puts-none _ delivered))
 
-  -- one chunk more was read
   pub streamed_more : {kept' : List ℕ} {r : At} → n ≢ 0 → q.held.delivered ≤ 2 ^ 64 - 1 → r.held.delivered ≤ 2 ^ 64 - 1
       → N.EndsData c x.content kept' d r.seen there r.place q.held r.held n → Streamed column last c total kept' (sum + n) p r
   streamed_more {r = r} some delivered most z =

@@ -191,7 +191,6 @@ module _ {charset : Charset} {start : RowPart} {c : Column} {ks : List (Column �
       let one = cell_path _ c x.counted none y in
       record { cells = x.cells ++ one.0 ∷ []; counted = omega (arith, N.length-append x.cells (one.0 ∷ [])); path = path_both x.path one.1 }
 
-  -- it stopped the row
   pub cell_stops : {d : Seen} {j : Held} {failed : Bool} {stop : Stop} → Reads charset start ((c, false) ∷ ks) p q column
       → StopsAt charset c.kind column (ends ks) q d j failed stop → N.RowStops charset start p.seen d p.place p.held j failed stop
   cell_stops x y = path_stops x.path (marked_stops _ _ _ c (rw (sym x.counted) at y))

@@ -58,8 +58,6 @@ module _ {column : ℕ} (c : N.Conversion) {size : ℕ} (unit_is : size ≡ unit
     pub short_start : {k : ℕ} → answer ≡ Some k → Next column (N.ShortLength c) a b place place' (short_left c k [])
     short_start is = grind arith
 
-  -- ---- the total
-
   pub total_stops : {a b : Seen} {place : ℕ} {stop : Stop} → N.RefusesNumber 8 (N.total_fault column size) a b place stop ⊎ N.CutsNumber 8 a b place stop
       → N.StopsReading (cell column) (Total c) a b place (Total c) stop
   total_stops x = number_stops (omega arith) refl refl (λ e n f is first. grind arith) x
@@ -103,8 +101,6 @@ same_failures e f = cc
 
 pub stops_after : {a b c : N.Failures} (stop : Stop) → b ≡ a → N.StopBlames b c stop → N.StopBlames a c stop
 stops_after _ e h = rw (← e) h
-
--- ---- the reader
 
 -- what a stop of the payload says of its reader
 abbrev pub ReadBlames : ℕ → ℕ → Stop → Type 0

@@ -43,9 +43,6 @@ used_more _ u _ = grind (arith, N.take-add, N.all_after)
 pub made_same : (made : ℕ) (to rest : List ℕ) → made ≤ length to → take made (take made to ++ rest) ≡ take made to
 made_same _ _ _ within = grind (arith, N.take-append-le, N.length-take-le, N.take_all)
 
--- ---- the size of a cell
-
--- how many bytes it has
 pub scalar_whole : (kind : Kind) (bytes : List ℕ) → N.is_scalar kind ≡ true → N.whole_size kind bytes ≡ N.scalar_size kind bytes
 scalar_whole _ _ h = grind arith
 
@@ -124,7 +121,6 @@ pub record WritesCells (charset : Charset) (all : List Column) (cells : List Cel
   pub writes : Writes (row charset) row_so_far (after_cells charset cells (drop from all)) bytes made (after_cells charset more (drop to all))
 
 module _ {charset : Charset} {all : List Column} {cells : List Cell} {from : ℕ} where
-  -- one column more
   column_cells : {a b p q : List ℕ} (at : ℕ) → WritesCells charset all cells from at a p → N.WritesColumn charset all (λ k. false) at b q
       → WritesCells charset all cells from (at + 1) (a ++ b) (p ++ q)
   column_cells {b = b} {q = q} at x w =
@@ -139,7 +135,6 @@ module _ {charset : Charset} {all : List Column} {cells : List Cell} {from : ℕ
         writes = writes_both (rw w.next at x.writes) next;
       }
 
-  -- so many columns
   pub marked_cells : (n : ℕ) (b q : List ℕ) → length cells ≡ from → N.WritesMarked charset all (λ k. false) from n b q
       → WritesCells charset all cells from (from + n) b q
   marked_cells N.zero b q counted w = search N.rules
@@ -149,7 +144,6 @@ module _ {charset : Charset} {all : List Column} {cells : List Cell} {from : ℕ
       rw (w.4, w.5) (rw further at y)
 
 module _ {charset : Charset} {all : List Column} {cells : List Cell} {columns : List Column} {count : ℕ} where
-  -- so many columns more of the last row
   pub marked_writes : {a p : List ℕ} (at n : ℕ) (b q : List ℕ) → WritesRows charset all cells columns (drop at all) at count a p
       → N.WritesMarked charset all (λ k. false) at n b q → WritesRows charset all cells columns (drop (at + n) all) (at + n) count (a ++ b) (p ++ q)
   marked_writes at n b q x w =
@@ -182,7 +176,6 @@ module _ {charset : Charset} {all : List Column} {cells : List Cell} {columns : 
 -- ---- rows after rows
 
 module _ (charset : Charset) (all : List Column) (before : List (List Cell)) where
-  -- rows after these
   abbrev after_rows : N.RowsPart → N.RowsPart
   after_rows p = record { before = before ++ p.before; at = p.at }
 
@@ -216,7 +209,6 @@ pub whole_puts : (charset : Charset) (kind : Kind) (column : ℕ) (last : Bool) 
     → N.Takes p.seen q.seen bytes (length bytes) → q.place ≡ p.place + length bytes → N.Puts p.held q.held text
     → over (PutsCell charset kind column last) p q
 whole_puts _ _ _ _ p q _ _ x takes at puts =
-    let writes = cell_writes _ _ x in
     record {
       value = x.value;
       streams = grind arith;
@@ -233,7 +225,6 @@ whole_breaks {bytes = bytes} {a = a} {b = b} {h = h} {j = j} {stop = stop} _ _ {
     (N.Takes-more a b _ 0 1 (omega arith) takes) few delivered writes.text_is breaks in
     record { at = broken.0; cause = grind arith }
 
--- it was put at once
 pub put_whole : {W U : Type 0} {column place' : ℕ} {last : Bool} {bytes text : List ℕ} {contents : W → N.Option (List ℕ)} {old new : N.Sink W}
     {r : N.Result U Stop} (charset : Charset) (kind : Kind) (a b : N.Seen) (place : ℕ) → N.IsWriting old → N.IsBetween b
     → N.WritesWhole (cell_start kind (shape charset kind)) column last bytes text → N.Takes a b bytes 0 → place' ≡ place + length bytes

@@ -128,7 +128,6 @@ module _ (token : N.RowToken) (charset : N.Charset) (columns : List N.Column) (s
       → (earlier : List (List Cell)) × (last : List Cell) × Spelt all_rows (begun_after before) bytes (among earlier (N.WholeRow last))
   rows_are_read before first [] bytes h = (before, first, row_of_rows before first bytes h)
   rows_are_read before first (next ∷ later) _ h =
-      let byte = N.token_byte token in
       let from = begun_after before in
       let there = begun_after _ in
       let t = rows_are_read (before ++ first ∷ []) next later h.1 h.4 in

@@ -16,7 +16,6 @@ RowsBetween table columns old new count bytes text = IsAhead table columns new
     × ((charset : N.Charset) (cells : List Cell) → table.charset ≡ charset → length cells ≡ old.column
     → N.WritesRows charset columns cells (drop old.column columns) (drop new.column columns) new.column count bytes text)
 
--- nothing yet
 pub rows_begin : {table : Table} {from : Ahead} {bytes to : List ℕ}
     → RowsRan table from bytes to (record { used = 0; made = 0; rows = 0; ahead = from })
 rows_begin = grind (arith, rows_none)
@@ -24,7 +23,7 @@ rows_begin = grind (arith, rows_none)
 -- the token byte of a ROW is next
 begins_at : (used : ℕ) (bytes : List ℕ) → N.BeginsRow (unused used bytes) → (used < length bytes)
     × (N.get_or bytes used 0 ≡ 0xD1)
-begins_at _ _ begins = grind (arith, N.all_after, N.drop_more)
+begins_at _ _ begins = grind (arith, N.drop_more)
 
 -- one row more, after its token byte
 pub row_begun : {table : Table} {from start : Ahead} {bytes to : List ℕ} {run : N.RowsRun} → 0 < table.count → table.count ≤ run.ahead.column
@@ -160,14 +159,11 @@ module _ (charset : N.Charset) (columns : List Column) where
   marked_clear _ _ N.zero _ _ _ x = x
   marked_clear nulls from (suc n) _ _ clear x =
       let last = x.7 in
-      let writes = N.subst (λ e. N.WritesNext charset e last.column.kind (from + n) (N.is_last_column last.left) x.1 x.3)
-      (sym (clear (from + n) (omega arith) (omega arith))) last.writes in
       let one : N.WritesColumn charset columns nulls (from + n) x.1 x.3 =
       grind arith in
       (x.0, x.1, x.2, x.3, x.4, x.5, marked_clear _ _ n _ _ (λ k least most. clear k least (omega arith)) x.6, one)
 
 module _ {table : Table} {columns : List Column} {nulls : ℕ → Bool} {at : Ahead} where
-  -- one cell
   pub runs_column : {after : Ahead} {kind : N.Kind} {last : Bool} {bytes text : List ℕ} → N.TakesColumn table columns at after kind
       → last ≡ N.is_last_column (drop after.column columns) → N.WritesNext table.charset (nulls at.column) kind at.column last bytes text
       → RunsMarked table columns nulls at after bytes text
@@ -250,7 +246,6 @@ module _ (table : Table) (from : Ahead) (end : ℕ) (forms : List Form) (within 
         → RunsMarked table columns (λ k. false) from to (take run.used bytes) (take run.made text)
     forms_between _ knows is _ _ _ _ further there x = grind (arith, N.length-drop)
 
-  -- the first was left
   pub first_left : {bytes : List ℕ} {room : ℕ} → N.FirstLeft table.charset forms bytes room
       → (columns : List Column) (column : Column) (left : List Column) → Knows table columns → IsAhead table columns from
       → drop from.column columns ≡ column ∷ left
