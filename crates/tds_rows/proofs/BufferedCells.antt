@@ -85,8 +85,7 @@ module _ (charset : N.Charset) (kind : Kind) (column : ℕ) (last : Bool) (bytes
           rw (scalar_shape, e, whole) (fixed_written column kind m last bytes text (omega arith) (omega arith) (rw (none, all) at is))
       go N.None e =
           let one = at ∙ ap N.start_after e in
-          rw (scalar_shape, e, one) (counted_written column kind n last bytes text (sym (ap (λ o. N.length_after o bytes) e)
-          ∙ sym many) some (omega arith) (rw one at is))
+          rw (scalar_shape, e, one) (counted_written column kind n last bytes text (grind arith) some (omega arith) (rw one at is))
 
 -- a whole number of four bytes is read alike in each of its kinds
 pub int4_reads : (kind : Kind) (bytes : List ℕ) → N.IsInt4 kind → length bytes ≡ 4 → (N.is_scalar kind ≡ true)

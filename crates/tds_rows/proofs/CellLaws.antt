@@ -32,7 +32,7 @@ module _ (column : ℕ) where
   counted_cell {v} {value} some allowed h =
       let head : Spelt _ _ (length value ∷ []) _ =
       Spelt-step _ _ _ _ (omega arith) refl (unless_true _ (N.or_right _ _ allowed))
-      (N.choose_false _ _ _ (ne_eqb (length value) 0 (λ e. omega arith))) in
+      (grind arith) in
       Spelt-append _ _ _ _ _ _ head (fixed_cell v some refl h)
 
   short_data : (c : Conversion) (d : List ℕ) (x : ℕ) (xs : List ℕ) → is_fit c (d ++ x ∷ xs) ≡ true
@@ -51,9 +51,8 @@ module _ (column : ℕ) where
       → Spelt (cell column) (N.ShortLength c) (n % 256 ∷ n / 256 ∷ []) (if n == 0 then WholeCell (DataCell c []) else N.ShortData c (n - 1) [])
   short_length c n less even =
       let l = N.little-two n in
-      Spelt-step _ _ _ _ (omega arith) refl (unless_true _
-      (N.or_right (little (n % 256 ∷ n / 256 ∷ []) == 0xFFFF) _ (rw l (rw even))))
-      (rw l (N.choose_false _ _ _ (ne_eqb n 0xFFFF (λ e. omega arith))))
+      Spelt-step _ _ _ _ (omega arith) refl (grind arith)
+      (grind arith)
 
   short_cell : (c : Conversion) (d bytes : List ℕ) → is_fit c d ≡ true → N.SpellsShort d bytes
       → Spelt (cell column) (N.ShortLength c) bytes (WholeCell (DataCell c d))
@@ -81,7 +80,7 @@ module _ (column : ℕ) where
       let n = s.counted in
       let head : Spelt _ (N.ChunkLength c total d) s.header (N.ChunkData c total _ d) =
       Spelt-step _ _ _ _ (omega arith) s.four
-      (rw n (N.choose_false _ _ _ (ne_eqb (N.suc (length xs)) 0 (λ q. omega arith)) ∙ unless_true _ w)) (rw n (search N.rules)) in
+      (grind arith) (rw n (search N.rules)) in
       rw (N.sym s.spelt) at (Spelt-append _ _ _ _ _ _ head (chunk_data c _ d x _ _ f))
 
   chunks_cell : (c : Conversion) (total : Option ℕ) (d : List ℕ) (ds : List (List ℕ)) (bytes : List ℕ)
@@ -105,7 +104,7 @@ module _ (column : ℕ) where
       → (N.nat_le N.unknown_total (little total) || (little total % unit c == 0)) ≡ true
       → Spelt (cell column) (Total c) total (N.ChunkLength c (N.known_total (little total)) [])
   total_cell c total eight less even = Spelt-step _ _ _ _ (omega arith) eight
-      (unless_true _ even) (N.choose_false _ _ _ (ne_eqb (little total) N.null_total (λ e. omega arith)))
+      (unless_true _ even) (grind arith)
 
   chunked_cell : {c : Conversion} {d bytes : List ℕ} → is_fit c d ≡ true → N.SpellsChunked d bytes
       → Spelt (cell column) (Total c) bytes (WholeCell (DataCell c d))

@@ -153,20 +153,7 @@ module _ (column : ℕ) (kind : Kind) where
           all = N.concat-append m.chunks.chunks _ ∙ ap (λ v. v ++ N.concat ((m.part ++ x ∷ []) ∷ [])) m.chunks.all
               ∙ ap (λ v. m.before ++ v) (N.append-nil _) ∙ N.sym all;
         },
-      )) (λ z. let some = N.eq_false left 0 z in (
-        refl,
-        record {
-          before = m.before;
-          whole = m.whole;
-          chunks = m.chunks;
-          header = m.header;
-          part = m.part ++ x ∷ [];
-          spelt = spelt;
-          four = m.four;
-          counted = omega arith;
-          all = all;
-        },
-      ))
+      )) (λ z. let some = N.eq_false left 0 z in (grind arith))
 
   short_length_means : (c : N.Conversion) (e : List ℕ) → length e ≡ 2 → AreBytes e → CellMeans kind (LongShape c Short) (cell_add (N.ShortLength c) e) e
   short_length_means c e two bytes = grind (arith, N.no_data_is_fit, N.two_bytes)

@@ -38,7 +38,7 @@ fixed_gathers {column = column} {n = n} {place = place} {kind = kind} {a = a} {b
       between = between;
       place_is = omega arith;
       refused = λ some bad.
-          let all = (λ i. N.take (N.length_after (is i) bytes) (N.drop (N.start_after (is i)) bytes))
+          let all = (grind arith)
           ∙ N.take_all n bytes (omega arith) in
           N.subst (λ k. StallsCell (ScalarBytes kind n) column a b place (record { fault = BadValue column; place = Payload k }))
           (omega (arith, ap N.start_after is))
@@ -54,7 +54,7 @@ module _ {column n place : ℕ} {kind : Kind} {a b : Seen} where
       record {
         at = ScalarLength kind;
         stops = N.refused_at_once _ _ a b place (n ∷ []) _ (omega arith) refl
-            (ap (λ v. N.unless v (N.BadValueLength column)) (ap (λ v. v || N.is_length_allowed kind n) (N.ne_eqb n 0 some) ∙ bad)) takes between;
+            (grind arith) takes between;
         quiet = refl;
       }
 
@@ -82,7 +82,7 @@ counted_gathers {column = column} {n = n} {place = place} {kind = kind} {a = a} 
       between = between;
       place_is = omega arith;
       refused = λ more bad.
-          let all = (λ i. N.take (N.length_after (is i) (n ∷ value)) (N.drop (N.start_after (is i)) (n ∷ value)))
+          let all = (grind arith)
           ∙ N.take_all n value (omega arith) in
           N.subst (λ k. StallsCell (ScalarLength kind) column a d place (record { fault = BadValue column; place = Payload k }))
           (omega (arith, ap N.start_after is))

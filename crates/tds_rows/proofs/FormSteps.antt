@@ -122,7 +122,7 @@ module _ (charset : Charset) (forms : List Form) (column : ℕ) (bytes : List �
       let written : N.WritesForms charset forms column (suc k) _ _ =
       (take used bytes, read, fields, field, used_more used u bytes, refl, x, λ form. rw (N.get_or_default forms k d form there) at wrote) in
       let next : suc k ≡ k + 1 = omega arith in
-      rw further (fields ++ N.after_comma (column + k) field, rw (← next) written, is')
+      rw further (grind arith)
 
   pub first_alone : (ends : Bool) (to : List ℕ) (used made : ℕ) (fields : List ℕ) → N.FirstUsed forms bytes used
       → N.WritesForms charset forms column 1 (take used bytes) fields → take made to ≡ fields ++ end_after (ends && (1 == length forms))

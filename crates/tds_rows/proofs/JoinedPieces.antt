@@ -140,7 +140,7 @@ module _ (c : Conversion) (content : List ℕ) (begun : BeginsData c content) wh
       → over (N.FillsData c content) p r (more ++ x.piece)
   fills_more {more = more} {p = p} {q = q} {r = r} few delivered y x =
       record {
-        takes = N.takes_both p.seen q.seen r.seen more x.piece y.takes (N.Takes-more q.seen r.seen x.piece 1 _ (omega arith) x.takes);
+        takes = N.takes_both p.seen q.seen r.seen more x.piece y.takes (grind arith);
         between = x.between;
         place_is = omega (arith, N.length-append more x.piece);
         begun = rw N.append_assoc at x.begun;

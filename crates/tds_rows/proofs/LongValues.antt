@@ -53,7 +53,7 @@ module _ {column : ℕ} {c : Conversion} {state : ℕ → List ℕ → CellPart}
       let good_one : k ≡ 0 → Good _ = λ none. subst (λ l. Good (d ++ x ∷ l)) (N.nil_of_length xs (omega arith)) (good (omega arith) (omega arith)) in
       let regroup = sym (append_assoc d _ xs) in
       let more_begun = subst (BeginsData c) regroup begun in
-      let more = content_spelt _ xs k r refl more_begun (λ none some. subst Good regroup (good none (omega arith))) in
+      let more = content_spelt _ xs k r refl more_begun (grind arith) in
       let one = N.Spelt-step _ _ _ _ (omega arith) (sym (holds.size k d))
       (holds.free k d x ((N.begun_by_test c _).1 ((N.joins_by_name c).front _ xs more_begun)) good_one) (holds.add k d x) in
       rw (next, regroup) (N.Spelt-append _ _ _ _ xs _ one more)
@@ -375,10 +375,10 @@ pub null_puts : {column place place' : ℕ} {s : CellPart} {a b : Seen} {W U : T
     → N.MatchResult r (λ _. PutsField s column last a b place place' (held contents h) (held contents k))
     (λ stop. StopsField s column last a b place (held contents h) (held contents k) k.failed stop)
 null_puts {column = column} {r = N.Ok u} last x silent _ puts =
-    field_of (next_path last x _ (ap (λ l. l ++ N.in_line column last N.null_field) silent) puts.gives)
+    field_of (next_path last x _ (grind arith) puts.gives)
 null_puts {column = column} {r = N.Err e} last x silent writing puts =
     next_breaks last x _ [] (writing.ready.1 writing.writing) writing.ready.2 puts.failed
-    (ap (λ l. l ++ (N.in_line column last N.null_field ++ [])) silent ∙ append-nil _) (puts.gives writing.writing)
+    (grind arith) (puts.gives writing.writing)
 
 -- ---- short values
 

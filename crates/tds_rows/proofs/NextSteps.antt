@@ -40,7 +40,7 @@ takes_apart a c x y takes =
         takes.3,
         takes.4,
       ),
-      ([], (N.Consumes-nil _, λ zs. refl), sym (N.add-zero _), (λ j lt. absurd (omega arith)), N.Stays-none _),
+      (grind arith),
       λ between. between,
     )
 
@@ -92,7 +92,7 @@ module _ (charset : Charset) (start : RowPart) (columns : List Column) (nulls : 
           let y' = rw (v.0, v.1, ends_marked w.left nulls (at + 1)) at y in
           null_nears (nears_onward y' z) y'.puts
       go false v z =
-          let put = whole_puts charset _ at _ q r bytes text v (N.Takes-more q.seen r.seen bytes 0 _ (omega arith) y.takes)
+          let put = whole_puts charset _ at _ q r bytes text v (grind arith)
           y.place_is y.puts in
           cell_nears y.between y.few (all_put refl y.delivered z) (rw (ends_marked w.left nulls (at + 1)) at put)
 
@@ -247,7 +247,7 @@ module _ {R W : Type 0} (remaining : R → Option (List ℕ)) (contents : W → 
         → RowStops old.table.now.charset (N.nbc_row_start columns) p.seen (seen remaining new.payload.now) p.place p.held (held contents new.sink.now)
         new.sink.now.failed stop
     next_stops U true is y = rw (y.0, y.1.failed) (null_breaks [] (N.Takes-none _ 0)
-        (N.between_of remaining old.payload.now in_row.payload.going) (left_here _ is) (rw last_is at (y.1.gives in_row.sink.writing)))
+        (grind arith) (left_here _ is) (rw last_is at (y.1.gives in_row.sink.writing)))
     next_stops U false is y = cell_stops (all_put refl in_row.sink.ready.2 (left_here _ is)) (cell_read nulls y knows before.0 taken)
 
 -- ---- rows, one after another

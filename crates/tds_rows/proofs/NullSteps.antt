@@ -62,7 +62,7 @@ module _ (charset : Charset) (cells : List Cell) (ks : List (Column × Bool)) wh
         at = up x.at;
         cause = elim x.cause [
           | inl y ↦ inl (
-            N.stops_inside _ _ up is _ _ _ _ _ _ (same_end charset cells ks x.at (N.stops_size _ _ _ _ _ _ _ y.0)) y.0,
+            N.stops_inside _ _ up is _ _ _ _ _ _ (grind arith) y.0,
             (
               y.1.0,
               N.added_between _ _ up is text row_so_far front (begun_text charset cells ks) (line_grows _ _) _ _ _ some

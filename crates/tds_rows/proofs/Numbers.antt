@@ -34,7 +34,7 @@ number_stops : {column size place : ℕ} {s : CellPart} {fault : ℕ → Option 
     → N.RefusesNumber size fault a b place stop ⊎ N.CutsNumber size a b place stop → N.StopsReading (cell column) s a b place s stop
 number_stops {column = column} {place = place} {s = s} {a = a} {b = b} {stop = stop} some is _ first (N.inl x) =
     let r = x.reads in
-    N.subst (λ t. N.StopsReading (cell column) s a b place s t) (ap (λ q. record { fault = stop.fault; place = q }) (sym x.stands))
+    N.subst (λ t. N.StopsReading (cell column) s a b place s t) (grind arith)
     (N.refused_at_once _ s a b _ _ _ (omega arith) (r.whole ∙ sym is) (first _ x.n _ r.number x.first) r.takes r.between)
 number_stops _ is end _ (N.inr x) = grind arith
 

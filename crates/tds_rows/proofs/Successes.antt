@@ -74,8 +74,7 @@ pub none_stops : {S : Type 0} {a b : Seen} {place : ℕ} {h i : N.Held} {failed 
 none_stops {g} _ brings spelt none reads writes x = elim x.cause [
   | inl y ↦ none_stops_reading g _ _ _ _ brings spelt none reads y.0
   | inr y ↦
-      (let z = y.0 in
-      writes (N.subst (Rose _) (sym (z.breaks.9.0 ∙ ap N.one_more z.puts.2.4.0)) (rose _)))
+      (grind arith)
 ]
 
 -- ---- the calls
@@ -158,8 +157,7 @@ module _ (token : N.RowToken) (charset : N.Charset) (columns : List N.Column) (s
         let same = stopped_there all_rows _ _ _ _ front more brings (longest_rows _ t.0 t.1 front more t.2 none) reads place _ stop all in
         omega (arith, ap (N.row charset).size (ap (λ p. p.at) same)))
     | inr y ↦
-        (let z = y.0 in
-        writes (N.subst (Rose _) (sym (z.breaks.9.0 ∙ ap N.one_more (z.puts.2.4.0 ∙ x.streams.puts.2.4.0))) (rose _)))
+        (grind arith)
   ]
 
   pub rows_succeed : {R W : Type 0} (remaining : R → Option (List ℕ)) (contents : W → Option (List ℕ)) (old new : Payload R) (before after : N.Sink W)

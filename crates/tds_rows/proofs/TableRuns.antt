@@ -92,7 +92,7 @@ pub marked_rows : {table : Table} {columns : List Column} {from to : Ahead} {p q
     → over (N.RunsRows charset columns cells (drop from.column columns) (drop to.column columns) to.column 0) p q)
 marked_rows {p = p} {q = q} x =
     let ran = marked_in_rows x.runs in
-    (ran.0, λ charset cells set is. runs_rows (ran.1 charset cells set is) (N.Takes-more p.seen q.seen x.bytes 0 _ (omega arith) x.takes) x.puts x.place_is)
+    (ran.0, λ charset cells set is. runs_rows (ran.1 charset cells set is) (grind arith) x.puts x.place_is)
 
 -- a write of their text failed, in the row that the run began in
 pub run_breaks : {table : Table} {columns : List Column} {from : Ahead} {a b : N.Seen} {h j : N.Held} {place : ℕ} {failed : Bool}
@@ -255,8 +255,5 @@ module _ (table : Table) (from : Ahead) (end : ℕ) (forms : List Form) (within 
       let n = first_next first.2 columns knows is in
       elim (x first.0 first.1 first.2) [
         | inl few ↦ inl few
-        | inr y ↦ inr (
-          N.refl,
-          rw (n.kind ∙ ap (λ r. (N.get_or r 0 column).kind) (sym n.next ∙ step)) at y,
-        )
+        | inr y ↦ inr (grind arith)
       ]

@@ -12,7 +12,7 @@ pub next_column : (columns : List Column) (k : ℕ) {c : Column} {rest : List Co
 next_column columns k {c} h =
     let within : k < length columns = omega (arith, N.length-drop k columns, ap length h) in
     let more = sym (N.drop_more columns k c within) ∙ h in
-    (within, (ap (λ (l : List Column). get_or l 0 c) more, ap (drop 1) more))
+    (grind arith)
 
 pub first_more : (forms : List Form) (columns : List Column) (k : ℕ) (f : Form) {c : Column} {rest : List Column} → k < length forms
     → map (λ f. f.kind) (take k forms) ≡ N.kinds (take k columns) → drop k columns ≡ c ∷ rest → f.kind ≡ c.kind
