@@ -1,7 +1,7 @@
 -- Cells whose bytes lie together, and the room that a sink lends for their text.
 use Rattle.tds_rows.proofs.Words as N
 use Rattle.tds_rows.proofs.{
-  Words.{◌≡◌, ◌≢◌, ◌∙◌, ℕ, ◌+◌, ◌-◌, ◌<◌, ◌≤◌, Bool, true, List, [], ◌++◌, length, take, drop, Ok, refl, sym, ap, arith, ◌∷◌, ◌||◌, Kind, held, shape},
+  Words.{◌≡◌, ◌≢◌, ◌∙◌, ℕ, ◌+◌, ◌-◌, ◌<◌, ◌≤◌, Bool, true, List, [], ◌++◌, length, take, drop, Ok, refl, ap, arith, ◌∷◌, ◌||◌, Kind, held, shape},
   Words.WritesCell,
   CellSteps.scalar_shape,
   RowSteps.{ReadsCell, at_once_breaks, at_once_streams, PutsCell, StopsCell},
@@ -49,7 +49,7 @@ counted_written : (column : ℕ) (kind : Kind) (n : ℕ) (last : Bool) (bytes te
     → WritesCell (N.ScalarLength kind) column last (take (1 + n) bytes) text
 counted_written column kind n _ bytes _ is some within x =
     let whole = N.length-take-le n _ (grind arith) in
-    let good = ap (N.is_length_allowed kind) (sym whole) ∙ read_allowed kind _ x.0 x.1 in
+    let good = ap (N.is_length_allowed kind) (N.sym whole) ∙ read_allowed kind _ x.0 x.1 in
     let yes = ap (λ v. v || N.is_length_allowed kind n) (N.ne_eqb n 0 some) ∙ good in
     let to : (N.cell column).add (N.ScalarLength kind) (n ∷ []) ≡ N.ScalarBytes kind n = grind arith in
     record {
@@ -57,7 +57,7 @@ counted_written column kind n _ bytes _ is some within x =
       front = n ∷ [];
       at = N.ScalarBytes kind n;
       element = take n _;
-      joined = sym (N.take-add 1 n bytes ∙ ap (λ l. l ++ take n (drop 1 bytes)) (first_of bytes n (omega arith) is));
+      joined = N.sym (N.take-add 1 n bytes ∙ ap (λ l. l ++ take n (drop 1 bytes)) (first_of bytes n (omega arith) is));
       spelt = rw to at (N.Spelt-one (N.cell column) (N.ScalarLength kind) (n ∷ [])
           (record { some = omega arith; whole = refl; free = cc }));
       next = grind arith;

@@ -2,7 +2,7 @@
 use Rattle.tds_rows.proofs.Words as N
 use Rattle.tds_rows.proofs.{
   Words.{◌≡◌, ◌⊎◌, ℕ, ◌+◌, ◌-◌, ◌/◌, ◌%◌, ◌<◌, ◌≤◌, true, List, [], ◌∷◌, ◌++◌, length, refl, ◌∙◌, ap, arith, Ok, Option, Some, ◌==◌, ◌||◌, if◌then◌else◌},
-  Words.{concat, ne_eqb, Kind, little, Conversion, unit, is_fit, Spelt, Spelt-step, Spelt-append, Null, DataCell, Total, WholeCell, cell},
+  Words.{concat, Kind, little, Conversion, unit, is_fit, Spelt, Spelt-step, Spelt-append, Null, DataCell, Total, WholeCell, cell},
 }
 
 -- a fixed shape has bytes
@@ -25,7 +25,7 @@ is_total_known t = grind arith
 module _ (column : ℕ) where
   fixed_cell : {kind : Kind} {n : ℕ} (v : N.ScalarValue) {bytes : List ℕ} → 0 < n → length bytes ≡ n → N.read_of kind bytes ≡ Ok v
       → Spelt (cell column) (N.ScalarBytes kind n) bytes (WholeCell (N.ScalarCell v))
-  fixed_cell v {bytes} some l h = Spelt-step _ _ bytes _ (omega arith) l (ap (λ o. N.unless (N.is_ok o) (N.BadValue column)) h) (ap N.value_part h)
+  fixed_cell v {bytes} some l h = Spelt-step _ _ bytes _ (omega arith) l (grind arith) (ap N.value_part h)
 
   counted_cell : {kind : Kind} {v : N.ScalarValue} {value : List ℕ} → 0 < length value → N.is_length_allowed kind (length value) ≡ true
       → N.read_of kind value ≡ Ok v → Spelt (cell column) (N.ScalarLength kind) (length value ∷ value) (WholeCell (N.ScalarCell v))
@@ -58,7 +58,7 @@ module _ (column : ℕ) where
       → Spelt (cell column) (N.ShortLength c) bytes (WholeCell (DataCell c d))
   short_cell c [] bytes h s = rw s.counted (short_length c 0 (omega arith) (grind arith))
   short_cell c (x ∷ xs) _ h s =
-      let to = N.choose_false _ _ _ (ne_eqb (length (x ∷ xs)) 0 (λ q. omega arith)) ∙ ap (λ k. N.ShortData c k []) (omega arith) in
+      let to = N.choose_false _ _ _ (N.ne_eqb (length (x ∷ xs)) 0 (λ q. omega arith)) ∙ ap (λ k. N.ShortData c k []) (omega arith) in
       let head = N.subst (λ v. Spelt (cell column) (N.ShortLength c) (length (x ∷ xs) % 256 ∷ length (x ∷ xs) / 256 ∷ []) v) to
       (short_length c _ s.least (N.fit_units c _ h)) in
       rw s.counted (Spelt-append _ _ _ _ _ _ head (short_data c [] x xs h))

@@ -132,7 +132,7 @@ module _ (charset : Charset) (forms : List Form) (column : ℕ) (bytes : List �
       let read = sym (b ∙ ap (λ l. l ++ rest) x.0) in
       let text =
       ap (λ l. l ++ end_after last) (ap (λ (n : ℕ). N.after_comma n field) (let n : column ≡ column + 0 = omega arith in n)
-      ∙ sym (t ∙ ap (λ l. l ++ N.after_comma (column + 0) field) x.1)) ∙ sym is in
+      ∙ sym (grind arith)) ∙ sym is in
       let kind_is = ap (λ (l : List Form). (get_or l 0 form).kind) are in
       record { size = search N.rules; writes = rw kind_is at (rw text at (rw read at (y form column last))) }
 

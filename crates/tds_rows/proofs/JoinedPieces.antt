@@ -82,7 +82,7 @@ module _ {fit begins : List ℕ → Type 0} {rest text : List ℕ → List ℕ} 
         inr (N.inl (piece_bad piece short takes between x, failed))
 
     fit_whole : fit old → IsFit c content
-    fit_whole h = (joins_by_name c).fit_whole content begun (subst (IsFit c) is ((suits.fit_is old).0 h))
+    fit_whole h = (joins_by_name c).fit_whole content begun (grind arith)
 
     pub end_whole : {new : List ℕ} {h i : Held} → N.Completes fit text old new h i → IsFit c content
         × N.Puts h i (N.conversion_text c (conversion_rest c content))

@@ -4,7 +4,7 @@ use Rattle.tds_rows.proofs.{
   Words.{◌≡◌, ◌∙◌, inl, inr, ℕ, ◌-◌, ◌^◌, ◌<◌, ◌≤◌, Bool, List, [], ◌∷◌, ◌++◌, length, sym, ap, arith, append-nil, Option, Stop, Seen, Conversion},
   Words.{is_quoted, after_comma, Held, Puts, held, CellPart, cell, PutsField, StopsField, cell_so_far, ending, opening, ◌≢◌, ◌+◌, ChunkLength, ◌⊎◌, suc},
   Words.{true, false, refl, subst, append_assoc, Some, ◌&&◌, ◌||◌, BadText, Spelt, BeginsData, is_fit, open_field, added_text, Breaks},
-  Numbers.{Next, short_left, chunk_end, chunk_start, chunk_unfit, chunk_left},
+  Numbers.{Next, short_left, chunk_end, chunk_unfit, chunk_left},
   Paths.{At, Path, path_both, path_of, path_none, path_stops, over},
   RowSteps.{line_grows, after_append},
 }
@@ -98,7 +98,7 @@ module _ {column : ℕ} {c : Conversion} {state : ℕ → List ℕ → CellPart}
       let laws = N.joins_by_name c in
       let regroup = sym (append_assoc d p _) in
       N.append_cancel_left _ _ _ (sym (laws.emits d _ begun) ∙ ap (emitted c) regroup ∙ same
-      ∙ laws.emits d p (laws.front _ _ (subst (BeginsData c) regroup begun)))
+      ∙ laws.emits d p (grind arith))
 
   -- the byte after some that are good is refused
   byte_refused : {a b : Seen} {h i : Held} {m : ℕ} (d good ahead : List ℕ) (y r place : ℕ) → m ≡ length good + suc r → BeginsData c (d ++ good)
@@ -139,7 +139,7 @@ module _ {column : ℕ} {c : Conversion} {state : ℕ → List ℕ → CellPart}
     piece_cut : N.CutsData a b place h i stop → Stopped false
     piece_cut x =
         let at = state _ d in
-        let stops = N.cut_at_once _ _ a b _ _ _ _ (omega arith) x.ends (N.began_is_cut _ _ _ _ (holds.end r d) x.stop_is) in
+        let stops = N.cut_at_once _ _ a b _ _ _ _ (omega arith) x.ends (grind arith) in
         rw x.same (record { at = at; cause = inl (stops, ([], append-nil _, N.Puts-none h delivered), refl) })
 
     piece_refused : N.RefusesData c d column (suc r) a b place h i stop → Stopped false
@@ -471,7 +471,7 @@ module _ {column : ℕ} {last : Bool} {c : Conversion} {total : Option ℕ} {kep
       (chunk_left c total n x.content)
   chunk_path some delivered =
       let text : cell_so_far column last (ChunkLength c total _) ++ [] ≡ cell_so_far column last _ = grind (arith, append-nil) in
-      path_both x.path (next_path _ (chunk_start c unit_is x.counted y free some) _ text (N.Puts-none _ delivered))
+      path_both x.path (next_path _ (grind arith) _ text (N.Puts-none _ delivered))
 
   pub streamed_more : {kept' : List ℕ} {r : At} → n ≢ 0 → q.held.delivered ≤ 2 ^ 64 - 1 → r.held.delivered ≤ 2 ^ 64 - 1
       → N.EndsData c x.content kept' d r.seen there r.place q.held r.held n → Streamed column last c total kept' (sum + n) p r

@@ -1,9 +1,8 @@
 -- The next cells of a row, those of a run or one, NULL or not, and rows one after another.
 use Rattle.tds_rows.proofs.Words as N
 use Rattle.tds_rows.proofs.{
-  Words.{arith, ◌≡◌, ◌+◌, ℕ, Bool, true, false, List, ◌∷◌, drop, refl, sym, Err, Ok, Option, ◌==◌, Stop, seen, Column, held, Rows, Ahead, IsInRow},
-  Words.{StaysInRow, RowStops, RowPart, marked, ◌∙◌, ◌-◌, ◌^◌, ◌≤◌, ◌<◌, [], ◌++◌, length, ap, before, Seen, Takes, Held, Puts, Charset, Cell, rows, Kind},
-  Words.Knows,
+  Words.{arith, ◌≡◌, ◌+◌, ℕ, Bool, true, false, List, ◌∷◌, drop, refl, Err, Ok, Option, ◌==◌, Stop, seen, Column, held, Rows, Ahead, IsInRow, StaysInRow},
+  Words.{RowStops, RowPart, marked, ◌∙◌, ◌-◌, ◌^◌, ◌≤◌, ◌<◌, [], ◌++◌, length, ap, before, Seen, Takes, Held, Puts, Charset, Cell, rows, Kind, Knows},
   NullSteps.{NearsCells, all_put, cell_nears, cell_stops, null_breaks, null_nears, cell_path, marked_stops},
   RowSteps.{ends, ends_marked, coming, nulls_ahead, PutsAt, StopsAt, none_ahead, cell_some},
   Paths.{At, here, Path, path_both, path_map, path_none, path_of, over},
@@ -113,7 +112,7 @@ module _ (charset : Charset) (start : RowPart) (columns : List Column) (nulls : 
     where
       go : (null : Bool) → N.WritesNext charset null w.column.kind at (N.is_last_column w.left) bytes text
           → NearsCells charset start ((w.column, null) ∷ marked w.left nulls (at + 1)) p q at → RowStops charset start p.seen d p.place p.held j true stop
-      go true v z = null_breaks rest (rw v.0 at takes) between z (rw (v.1, ends_marked w.left nulls (at + 1)) at breaks)
+      go true v z = null_breaks rest (rw v.0 at takes) between z (grind arith)
       go false v z = cell_stops (all_put refl delivered z)
           (rw (ends_marked w.left nulls (at + 1)) at (whole_breaks {a = q.seen} {b = d} {place = q.place} {h = q.held} {j = j} {stop = stop} charset _
           rest v takes between few delivered breaks refl))
@@ -351,7 +350,7 @@ module _ {charset : Charset} {all : List Column} {p q : At} {column count : ℕ}
 
     pub rowing_stop : {d : Seen} {j : Held} {failed : Bool} {stop : Stop} → Rowing charset all ((c, false) ∷ ks) p q column count
         → StopsAt charset c.kind column (ends ks) q d j failed stop → N.RowsStop N.PlainRow charset all p.seen d p.place p.held j failed stop
-    rowing_stop x y = rows_stop x.rows (marked_stops _ _ _ c (rw (sym x.counted) at y))
+    rowing_stop x y = rows_stop x.rows (marked_stops _ _ _ c (rw (N.sym x.counted) at y))
 
 -- The reading of ROWs stands at this place of the last one, whatever columns the table knows.
 abbrev pub RowsHere : {R W : Type 0} → (R → Option (List ℕ)) → (W → Option (List ℕ)) → At → Rows R W → Ahead → ℕ → Type 0
@@ -366,7 +365,7 @@ module _ {R W : Type 0} {remaining : R → Option (List ℕ)} {contents : W → 
       let same = x.leaves.same.3 in
       let y = reads columns (rw same at known) in
       let ran = x.cells columns (rw same at known) y.0 in
-      rw same (ran.0, rowing_run y.1 (λ cells is. ran.1 old.table.now.charset cells refl is))
+      rw same (ran.0, rowing_run y.1 (grind arith))
 
   pub rows_broke : {stop : Stop} → IsInRow old → N.RunRead remaining contents from old new (Err stop) → (columns : List Column)
       → Knows old.table.now columns
@@ -388,7 +387,7 @@ module _ {R W : Type 0} {remaining : R → Option (List ℕ)} {contents : W → 
         let t = taken columns knows y.0 in
         rw same (
           t.ahead,
-          rw (sym t.further) at (rowing_cell (none_ahead (drop after.column columns) _) (rw t.next at y.1)
+          rw (N.sym t.further) at (rowing_cell (none_ahead (drop after.column columns) _) (rw t.next at y.1)
               (cell_read (λ k. false) x knows y.0 t)),
         )
 

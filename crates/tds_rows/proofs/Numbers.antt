@@ -1,10 +1,10 @@
 -- The numbers of a long value, its length or total and those of its chunks, as elements of its cell: how each is judged, and where it leads.
 use Rattle.tds_rows.proofs.Words as N
-use Rattle.tds_packet.specs.declared.payload.Payload.{Payload as Input}
 use Rattle.tds_rows.proofs.{
-  Words.{◌-◌, if◌then◌else◌, ◌≡◌, ◌≢◌, ◌∙◌, ◌⊎◌, ℕ, ◌+◌, ◌<◌, List, [], refl, sym, ap, arith, Option, Some, None, ◌==◌, Fault, Stop, Seen, unit, CellPart},
+  Words.{◌-◌, if◌then◌else◌, ◌≡◌, ◌≢◌, ◌∙◌, ◌⊎◌, ℕ, ◌+◌, ◌<◌, List, [], refl, ap, arith, Option, Some, None, ◌==◌, Fault, Stop, Seen, unit, CellPart},
   Words.{ChunkLength, Total, cell},
 }
+use Rattle.tds_packet.specs.declared.payload.Payload.{Payload as Input}
 
 -- within a short value: this many bytes follow its data so far
 abbrev pub short_left : N.Conversion → ℕ → List ℕ → CellPart
@@ -35,7 +35,7 @@ number_stops : {column size place : ℕ} {s : CellPart} {fault : ℕ → Option 
 number_stops {column = column} {place = place} {s = s} {a = a} {b = b} {stop = stop} some is _ first (N.inl x) =
     let r = x.reads in
     N.subst (λ t. N.StopsReading (cell column) s a b place s t) (grind arith)
-    (N.refused_at_once _ s a b _ _ _ (omega arith) (r.whole ∙ sym is) (first _ x.n _ r.number x.first) r.takes r.between)
+    (N.refused_at_once _ s a b _ _ _ (omega arith) (r.whole ∙ N.sym is) (first _ x.n _ r.number x.first) r.takes r.between)
 number_stops _ is end _ (N.inr x) = grind arith
 
 total_same : (column : ℕ) (c : N.Conversion) {size n : ℕ} (e : List ℕ) → size ≡ unit c → N.little e ≡ n
@@ -132,4 +132,4 @@ length_blames _ _ _ none (N.inl x) = grind arith
 length_blames {b = b} remaining old going _ (N.inr x) =
     let h = N.ends_blame remaining old b x.part x.own going x.ends in
     let is = ap (λ s. s.fault) x.stop_is in
-    (λ e. h.0 (sym is ∙ e), λ e. h.1 (sym is ∙ e))
+    (grind arith)

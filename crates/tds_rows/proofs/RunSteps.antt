@@ -222,7 +222,7 @@ pub whole_breaks : {bytes text : List ℕ} {a b : N.Seen} {place : ℕ} {h j : N
 whole_breaks {bytes = bytes} {a = a} {b = b} {h = h} {j = j} {stop = stop} _ _ {column} {last} rest x takes between few delivered breaks failed =
     let writes = cell_writes _ _ x in
     let broken = N.breaks_somewhere _ _ (line_grows column last) _ a b h j stop between _ bytes rest _ writes.spelt
-    (N.Takes-more a b _ 0 1 (omega arith) takes) few delivered writes.text_is breaks in
+    (grind arith) few delivered writes.text_is breaks in
     record { at = broken.0; cause = grind arith }
 
 pub put_whole : {W U : Type 0} {column place' : ℕ} {last : Bool} {bytes text : List ℕ} {contents : W → N.Option (List ℕ)} {old new : N.Sink W}
@@ -232,6 +232,6 @@ pub put_whole : {W U : Type 0} {column place' : ℕ} {last : Bool} {bytes text :
     → N.MatchResult r (λ _. PutsCell charset kind column last a b place place' (held contents old) (held contents new))
     (λ stop. StopsCell charset kind column last a b place (held contents old) (held contents new) new.failed stop)
 put_whole {bytes = bytes} {r = N.Ok u} _ _ a b _ _ _ x takes at puts =
-    whole_puts _ _ _ _ _ _ _ _ x (N.Takes-more a b bytes 0 _ (omega arith) takes) at puts.gives
+    whole_puts _ _ _ _ _ _ _ _ x (grind arith) at puts.gives
 put_whole {r = N.Err stop} _ _ a b _ going between x takes at puts =
     whole_breaks _ _ [] x (rw N.append-nil takes) between (going.ready.1 going.writing) going.ready.2 (puts.gives going.writing) puts.failed

@@ -1,8 +1,8 @@
 -- A call that reads what comes whole stops only where a device fails.
 use Rattle.tds_rows.proofs.Words as N
 use Rattle.tds_rows.proofs.{
-  Words.{◌≡◌, ◌∙◌, inl, inr, ℕ, ◌+◌, ◌<◌, List, [], ◌∷◌, ◌++◌, length, sym, ap, arith, Ok, Err, Option, Some, if◌then◌else◌, Rose, Fault, Stop, before},
-  Words.{Grammar, Spelt, Seen, Cell, Brings},
+  Words.{◌≡◌, ◌∙◌, inl, inr, ℕ, ◌+◌, ◌<◌, List, [], ◌∷◌, ◌++◌, length, ap, arith, Ok, Err, Option, Some, if◌then◌else◌, Rose, Fault, Stop, before, Grammar},
+  Words.{Spelt, Seen, Cell, Brings},
   CellLaws.cell_is_read,
   RowLaws.{nbc_row_is_read, row_is_read, shape-HasBytes},
   RunSteps.{row_token, row_among_rows},
@@ -37,7 +37,7 @@ module _ {S : Type 0} (g : Grammar S Fault) (from to : S) (a b : Seen) (front mo
       let refused : N.IsRefused g at rest fault = record {
         some = omega arith;
         whole = omega (arith, N.length-append e (x.ahead ++ c.0));
-        first = ap (λ k. g.fault at (N.take k rest)) (sym whole) ∙ ap (g.fault at) (N.take-append_seam e _) ∙ x.first;
+        first = ap (λ k. g.fault at (N.take k rest)) (N.sym whole) ∙ ap (g.fault at) (N.take-append_seam e _) ∙ x.first;
       } in
       (N.one_longest g _ _ _ _ _ _ (rw (← all) at (N.longest_refused g _ _ _ _ _ spelt refused)) last).1
 

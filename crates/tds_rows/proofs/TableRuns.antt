@@ -102,7 +102,7 @@ pub run_breaks : {table : Table} {columns : List Column} {from : Ahead} {a b : N
 run_breaks {table = table} {a = a} {b = b} {h = h} {j = j} {stop = stop} cells y counted few delivered =
     let x = marked_cells {charset = table.charset} {cells = cells} y.runs.count y.bytes _ counted y.runs.writes in
     let broken = N.breaks_somewhere _ N.row_so_far (row_grows table.charset) _ a b h j stop y.between _ y.bytes N.[] _ x.writes.spelt
-    (rw N.append-nil (N.Takes-more a b y.bytes 0 1 (omega arith) y.takes)) few delivered x.writes.text_is y.breaks in
+    (rw N.append-nil (grind arith)) few delivered x.writes.text_is y.breaks in
     record { at = broken.0; cause = grind arith }
 
 -- what stands after what was made may be another
@@ -124,7 +124,7 @@ rows_further {bytes = bytes} {to = to} {run = run} {more = more} text rest is x 
     λ charset cells set counted. (let w = u.1 charset cells set counted in rw (
       used_more run.used more.used bytes,
       made_more run.made more.made to text rest x.made y.made,
-    ) (rows_both w (rw is at (v.1 charset w.more set w.counted)))),
+    ) (rows_both w (grind arith))),
   ));
 }
 
@@ -161,7 +161,7 @@ module _ (charset : N.Charset) (columns : List Column) where
       let last = x.7 in
       let one : N.WritesColumn charset columns nulls (from + n) x.1 x.3 =
       grind arith in
-      (x.0, x.1, x.2, x.3, x.4, x.5, marked_clear _ _ n _ _ (λ k least most. clear k least (omega arith)) x.6, one)
+      (x.0, x.1, x.2, x.3, x.4, x.5, marked_clear _ _ n _ _ (grind arith) x.6, one)
 
 module _ {table : Table} {columns : List Column} {nulls : ℕ → Bool} {at : Ahead} where
   pub runs_column : {after : Ahead} {kind : N.Kind} {last : Bool} {bytes text : List ℕ} → N.TakesColumn table columns at after kind

@@ -1,6 +1,6 @@
 use Rattle.tds_rows.proofs.table.Table.run_numbers.Goals as goal
-use Rattle.tds_rows.specs.FormRuns.{IsLastRow}
 use Rattle.tds_rows.proofs.Words as N
+use Rattle.tds_rows.specs.FormRuns.{IsLastRow}
 use Rattle.tds_rows.proofs.{
   Words.{inl, ap, refl, inr, arith, sym, ◌≡◌, ◌+◌, ◌-◌, ◌<◌, length},
   table.Table.run_numbers.Goals.{else-loop-used-test, then-loop-used-test+else-made-latest, then-loop-used-test+then-made-latest+in_default-run_row as row_refused, then-loop-used-test+then-made-latest+in-Some-run_row+then-not-row_follows as row_last},
