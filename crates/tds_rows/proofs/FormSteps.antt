@@ -113,7 +113,8 @@ module _ (charset : Charset) (forms : List Form) (column : ℕ) (bytes : List �
       let read = take u _ in
       let field = take m text in
       let all = take made to ++ _ in
-      let here : made + m < length all = omega (arith, N.length-append (take made to) (text ++ rest), N.length-append text rest, N.length-take-le made to within) in
+      let here : made + m < length all =
+      omega (arith, N.length-append (take made to) (text ++ rest), N.length-append text rest, N.length-take-le made to within) in
       let is' =
       N.take_more_set all _ 44 here ∙ ap (λ l. l ++ 44 ∷ []) (made_more made m to text rest within (omega arith)
       ∙ ap (λ l. l ++ field) is ∙ N.append_assoc fields _ field

@@ -370,8 +370,8 @@ module _ {column place' : ℕ} {s t : CellPart} {p : At} {b : Seen} (last : Bool
 
 -- NULL was put, or a write of it failed
 pub null_puts : {column place place' : ℕ} {s : CellPart} {a b : Seen} {W U : Type 0} {contents : W
-    → Option (List ℕ)} {h k : N.Sink W} {r : N.Result U Stop} (last : Bool) → Next column s a b place place' (N.WholeCell N.Null) → cell_so_far column last s ≡ []
-    → N.IsWriting h → N.PutsPiece contents h k (N.in_line column last N.null_field) r
+    → Option (List ℕ)} {h k : N.Sink W} {r : N.Result U Stop} (last : Bool) → Next column s a b place place' (N.WholeCell N.Null)
+    → cell_so_far column last s ≡ [] → N.IsWriting h → N.PutsPiece contents h k (N.in_line column last N.null_field) r
     → N.MatchResult r (λ _. PutsField s column last a b place place' (held contents h) (held contents k))
     (λ stop. StopsField s column last a b place (held contents h) (held contents k) k.failed stop)
 null_puts {column = column} {r = N.Ok u} last x silent _ puts =

@@ -216,7 +216,9 @@ whole_puts _ _ _ _ p q _ _ x takes at puts =
     }
 
 -- its bytes and more were passed over, and a write of its text failed
-pub whole_breaks : {bytes text : List ℕ} {a b : N.Seen} {place : ℕ} {h j : N.Held} {failed : Bool} {stop : Stop} (charset : Charset) (kind : Kind) {column : ℕ} {last : Bool} (rest : List ℕ) → N.WritesWhole (cell_start kind (shape charset kind)) column last bytes text
+pub whole_breaks : {bytes text : List ℕ} {a b : N.Seen} {place : ℕ} {h j : N.Held} {failed : Bool} {stop : Stop} (charset : Charset)
+    (kind : Kind) {column : ℕ} {last : Bool} (rest : List ℕ)
+    → N.WritesWhole (cell_start kind (shape charset kind)) column last bytes text
     → N.Takes a b (bytes ++ rest) 0 → N.IsBetween b → length h.waiting < 4096 → h.delivered ≤ 2 ^ 64 - 1 → N.Breaks h j text stop → failed ≡ true
     → StopsCell charset kind column last a b place h j failed stop
 whole_breaks {bytes = bytes} {a = a} {b = b} {h = h} {j = j} {stop = stop} _ _ {column} {last} rest x takes between few delivered breaks failed =
