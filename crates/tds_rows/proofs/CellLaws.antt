@@ -31,7 +31,7 @@ module _ (column : ℕ) where
       → N.read_of kind value ≡ Ok v → Spelt (cell column) (N.ScalarLength kind) (length value ∷ value) (WholeCell (N.ScalarCell v))
   counted_cell {v} {value} some allowed h =
       let head : Spelt _ _ (length value ∷ []) _ =
-      Spelt-step _ _ _ _ (omega arith) refl (unless_true _ (N.or_right _ _ allowed))
+      Spelt-step _ _ _ _ (omega arith) refl (grind arith)
       (grind arith) in
       Spelt-append _ _ _ _ _ _ head (fixed_cell v some refl h)
 

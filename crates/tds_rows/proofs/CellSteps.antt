@@ -66,7 +66,7 @@ module _ {column n place : ℕ} {kind : Kind} {a b : Seen} where
         some = omega arith;
         whole = refl;
         free = grind arith;
-      }) takes (N.choose_false _ _ _ (N.ne_eqb n 0 some)) in
+      }) takes (grind arith) in
       record { at = x.at; stops = N.stops_after _ _ _ a b _ place x.at _ p (rw at at x.stops); quiet = x.quiet }
 
 -- a length and the value after it were read

@@ -11,7 +11,7 @@ module _ {fit begins : List ℕ → Type 0} {rest text : List ℕ → List ℕ} 
     (suits : N.Suits fit begins rest text size quoted c) where
   module _ (content : List ℕ) {old : List ℕ} (is : old ≡ conversion_rest c content) (begun : BeginsData c content) where
     begun_with : (piece : List ℕ) → begins (old ++ piece) → BeginsData c (content ++ piece)
-    begun_with piece h = (joins_by_name c).outward content piece (rw (← is) ((suits.begins_is _).0 h))
+    begun_with piece h = (joins_by_name c).outward content piece (grind arith)
 
     pub piece_taken : {new piece : List ℕ} {p q : At} → 0 < length piece → Takes p.seen q.seen piece 1 → IsBetween q.seen
         → q.place ≡ p.place + length piece → N.TakesPiece begins rest text old new p.held q.held piece
@@ -58,7 +58,7 @@ module _ {fit begins : List ℕ → Type 0} {rest text : List ℕ → List ℕ} 
     piece_breaks : {most : ℕ} {a b : Seen} {h i : Held} {stop : Stop} (piece : List ℕ) → length piece ≤ most → Takes a b piece 1 → IsBetween b
         → begins old → N.Breaks h i (emit rest text (old ++ piece)) stop → N.BreaksData c content most a b h i stop
     piece_breaks piece short takes between begins_old breaks =
-        let f = N.begun_front c old piece ((suits.begins_is old).0 begins_old) in
+        let f = N.begun_front c old piece (grind arith) in
         let good = N.take f.taken piece in
         let within = f.within in
         record {
@@ -119,7 +119,7 @@ module _ (c : Conversion) (content : List ℕ) (begun : BeginsData c content) wh
       let front = laws.front _ piece all in
       N.append_cancel_left _ _ _
       (sym (N.append_assoc (e content) _ _)
-      ∙ ap (λ l. l ++ N.added_text c (content ++ more) piece) (sym (laws.emits content more front)) ∙ sym (laws.emits (content ++ more) piece all)
+      ∙ ap (λ l. l ++ N.added_text c (content ++ more) piece) (sym (laws.emits content more front)) ∙ sym (grind arith)
       ∙ ap e regroup ∙ laws.emits content (more ++ piece) (subst (BeginsData c) regroup all))
 
   fills_none : {p : At} → IsBetween p.seen → length p.held.waiting < 4096 → p.held.delivered ≤ 2 ^ 64 - 1

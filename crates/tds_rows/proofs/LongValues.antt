@@ -304,7 +304,7 @@ emit_none : (c : Conversion) → N.emit (N.conversion_rest c) (N.conversion_text
 emit_none c = grind (arith, N.hex-nil, N.text_nil)
 
 open_none : (c : Conversion) → opening (is_quoted c) ≡ open_field c []
-open_none N.HexDigits = sym (append-nil N.binary_mark) ∙ ap (λ l. N.binary_mark ++ l) (sym (emit_none N.HexDigits))
+open_none N.HexDigits = sym refl ∙ ap (λ l. N.binary_mark ++ l) (sym (emit_none N.HexDigits))
 open_none N.Utf16Text = ap (λ l. N.quote ∷ l) (sym (emit_none N.Utf16Text))
 open_none N.Windows1252Text = cc
 open_none N.Utf8Text = grind arith

@@ -182,7 +182,7 @@ module _ {R W : Type 0} {remaining : R → Option (List ℕ)} {contents : W → 
         delivered = in_row.sink.ready.2;
         place_is = put.place_is;
       }) near.1 in
-      rw kept.same.3 (put.runs.ahead, rw put.runs.further more)
+      rw kept.same.3 (grind arith)
 
   -- a write of their text failed
   pub run_stops : {stop : Stop} → N.MarkedRead remaining contents nulls from old new (Err stop) → (columns : List Column)
@@ -238,7 +238,7 @@ module _ {R W : Type 0} (remaining : R → Option (List ℕ)) (contents : W → 
         → N.NextRead remaining contents at kind null old new (Ok u) → NearsHere remaining contents columns nulls p new after
     next_nears u true is leaves y = there leaves (rw y.0 (null_nears (left_here true is) (rw last_is at y.1.gives)))
     next_nears u false is leaves y =
-        there leaves (cell_nears (N.between_of remaining new.payload.now leaves.payload.going) (leaves.sink.ready.1 leaves.sink.writing)
+        there leaves (cell_nears (N.between_of remaining new.payload.now leaves.payload.going) (omega arith)
         (all_put refl in_row.sink.ready.2 (left_here false is)) (cell_read nulls y knows before.0 taken))
 
     pub next_stops : (U : Type 0) {stop : Stop} (null : Bool) → nulls at.column ≡ null

@@ -146,7 +146,7 @@ module _ {c : Conversion} {size n : ℕ} {a b d : Seen} {place middle : ℕ} (an
   short_passes even y = cell_after x (record {
     value = N.DataCell c y.bytes;
     steps = data_steps (short_holds return_column c) (any_begins any) [] y
-        (any.fit y.bytes (rw y.counted even));
+        (grind arith);
   })
 
   pub short_cuts : {stop : Stop} → N.CutsPassing n b d middle stop → N.StopsPassing (N.ShortLength c) a d place stop

@@ -4,7 +4,7 @@ use Rattle.tds_rows.proofs.{
   Words.{false, ◌≡◌, ◌∙◌, ℕ, ◌+◌, ◌-◌, ◌≤◌, ◌<◌, Bool, List, [], ◌∷◌, ◌++◌, length, take, drop, refl, sym, ap, arith, true, Stop, held, Column, Charset},
   Words.{Cell, cell_start, shape, PlainRow, row, row_so_far, Writes, WritesRows, after_cells, lines, rows, rows_so_far, Kind, ◌^◌},
   NullSteps.row_cell,
-  RowSteps.{coming, ends_marked, line_grows, none_ahead, PutsCell, StopsCell},
+  RowSteps.{coming, line_grows, none_ahead, PutsCell, StopsCell},
   Paths.{At, writes_both, writes_inside, writes_none, over},
   TableSteps.next_column,
 }
@@ -108,7 +108,7 @@ after_more {bytes = bytes} {made = made} {v = v} charset cells c left x =
     let n = length cells + 1 in
     N.subst (λ (k : ℕ). Writes (row charset) row_so_far (after_cells charset cells (c ∷ left)) bytes made
     (N.next_cell charset (cells ++ v ∷ []) (coming left k))) (sym (N.length-append cells _))
-    (row_cell _ _ _ c (none_ahead _ n) (rw (ends_marked _ (λ k. false) n) at x))
+    (row_cell _ _ _ c (none_ahead _ n) (grind arith))
 
 pub rows_none : {charset : Charset} {all : List Column} {cells : List Cell} {columns : List Column} {column : ℕ} → length cells ≡ column
     → WritesRows charset all cells columns columns column 0 [] []

@@ -1,13 +1,13 @@
 -- A call that reads what comes whole stops only where a device fails.
 use Rattle.tds_rows.proofs.Words as N
+use Rattle.tds_packet.specs.declared.payload.Payload.{Payload}
 use Rattle.tds_rows.proofs.{
   Words.{◌≡◌, ◌∙◌, inl, inr, ℕ, ◌+◌, ◌<◌, List, [], ◌∷◌, ◌++◌, length, ap, arith, Ok, Err, Option, Some, if◌then◌else◌, Rose, Fault, Stop, before, Grammar},
   Words.{Spelt, Seen, Cell, Brings},
   CellLaws.cell_is_read,
-  RowLaws.{nbc_row_is_read, row_is_read, shape-HasBytes},
+  RowLaws.{nbc_row_is_read, row_is_read},
   RunSteps.{row_token, row_among_rows},
 }
-use Rattle.tds_packet.specs.declared.payload.Payload.{Payload}
 
 -- a call that fails raises the count
 pub rose : (f : ℕ) → Rose f (N.one_more f)
@@ -31,7 +31,7 @@ module _ {S : Type 0} (g : Grammar S Fault) (from to : S) (a b : Seen) (front mo
   refused_there at bytes fault spelt x =
       let e = x.element in
       let whole = x.whole in
-      let c = came _ _ x.takes.1.0 (λ zs. ap (λ c. c.bytes) (x.takes.1.1 zs)) in
+      let c = came _ _ x.takes.1.0 (grind arith) in
       let rest = e ++ (x.ahead ++ c.0) in
       let all = c.1 ∙ N.append_assoc _ x.ahead c.0 ∙ N.append_assoc bytes e _ in
       let refused : N.IsRefused g at rest fault = record {
@@ -96,7 +96,7 @@ pub value_passes : {R U : Type 0} (remaining : R → Option (List ℕ)) (kind : 
     → N.ReadsOn remaining old new result (bytes ++ more)
 value_passes _ _ _ _ (Ok x) _ _ _ _ _ = grind arith
 value_passes _ _ _ _ (Err stop) _ _ _ passed spelt = λ brings reads.
-    let read = cell_is_read _ _ _ _ _ (shape-HasBytes N.return_charset _) spelt in
+    let read = cell_is_read _ _ _ _ _ (grind arith) spelt in
     absurd (none_stops_reading _ _ _ _ _ brings read N.refl reads passed.stops)
 
 pub long_is_read : (column : ℕ) (kind : N.Kind) (c : N.Conversion) (reach : N.Reach) (value : Cell) (bytes : List ℕ)
