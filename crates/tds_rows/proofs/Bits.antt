@@ -15,7 +15,6 @@ module _ (bitmap : List ℕ) (at : ℕ) where
       let place : (at + i) % 8 ≡ at % 8 + i = omega arith in
       rw (byte, place, pow-add, div-div-eq-div-mul) refl
 
-  -- they are all clear
   pub clear_byte : bits ≡ 0 → AreClear (bit bitmap) at (at / 8 * 8 + 8)
   clear_byte none k least most =
       let there : at + (k - at) ≡ k = omega arith in

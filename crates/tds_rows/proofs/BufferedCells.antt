@@ -1,7 +1,7 @@
 -- Cells whose bytes lie together, and the room that a sink lends for their text.
 use Rattle.tds_rows.proofs.Words as N
 use Rattle.tds_rows.proofs.{
-  Words.{◌≡◌, ◌≢◌, ◌∙◌, ℕ, ◌+◌, ◌-◌, ◌<◌, ◌≤◌, Bool, true, List, [], ◌++◌, length, take, drop, Ok, refl, sym, ap, arith, ◌∷◌, ◌||◌, Kind, held, shape},
+  Words.{◌≡◌, ◌≢◌, ◌∙◌, ℕ, ◌+◌, ◌-◌, ◌<◌, ◌≤◌, Bool, true, List, [], ◌++◌, length, take, drop, Ok, refl, ap, arith, ◌∷◌, ◌||◌, Kind, held, shape},
   Words.WritesCell,
   CellSteps.scalar_shape,
   RowSteps.{ReadsCell, at_once_breaks, at_once_streams, PutsCell, StopsCell},
@@ -49,7 +49,7 @@ counted_written : (column : ℕ) (kind : Kind) (n : ℕ) (last : Bool) (bytes te
     → WritesCell (N.ScalarLength kind) column last (take (1 + n) bytes) text
 counted_written column kind n _ bytes _ is some within x =
     let whole = N.length-take-le n _ (grind arith) in
-    let good = ap (N.is_length_allowed kind) (sym whole) ∙ read_allowed kind _ x.0 x.1 in
+    let good = ap (N.is_length_allowed kind) (N.sym whole) ∙ read_allowed kind _ x.0 x.1 in
     let yes = ap (λ v. v || N.is_length_allowed kind n) (N.ne_eqb n 0 some) ∙ good in
     let to : (N.cell column).add (N.ScalarLength kind) (n ∷ []) ≡ N.ScalarBytes kind n = grind arith in
     record {
@@ -57,7 +57,7 @@ counted_written column kind n _ bytes _ is some within x =
       front = n ∷ [];
       at = N.ScalarBytes kind n;
       element = take n _;
-      joined = sym (N.take-add 1 n bytes ∙ ap (λ l. l ++ take n (drop 1 bytes)) (first_of bytes n (omega arith) is));
+      joined = N.sym (N.take-add 1 n bytes ∙ ap (λ l. l ++ take n (drop 1 bytes)) (first_of bytes n (omega arith) is));
       spelt = rw to at (N.Spelt-one (N.cell column) (N.ScalarLength kind) (n ∷ [])
           (record { some = omega arith; whole = refl; free = cc }));
       next = grind arith;
@@ -72,7 +72,6 @@ module _ (charset : N.Charset) (kind : Kind) (column : ℕ) (last : Bool) (bytes
       → text ≡ N.in_line column last N.null_field → WritesCell (N.cell_start kind (shape charset kind)) column last (take (start + 0) bytes) text
   null_cell _ at none within is = grind (arith, null_written)
 
-  -- a value there
   pub value_cell : (start n : ℕ) → start ≡ N.value_start kind → n ≡ N.value_length kind bytes → n ≢ 0 → start + n ≤ length bytes
       → N.IsValueText kind column last (take n (drop start bytes)) text
       → WritesCell (N.cell_start kind (shape charset kind)) column last (take (start + n) bytes) text
@@ -86,15 +85,13 @@ module _ (charset : N.Charset) (kind : Kind) (column : ℕ) (last : Bool) (bytes
           rw (scalar_shape, e, whole) (fixed_written column kind m last bytes text (omega arith) (omega arith) (rw (none, all) at is))
       go N.None e =
           let one = at ∙ ap N.start_after e in
-          rw (scalar_shape, e, one) (counted_written column kind n last bytes text (sym (ap (λ o. N.length_after o bytes) e)
-          ∙ sym many) some (omega arith) (rw one at is))
+          rw (scalar_shape, e, one) (counted_written column kind n last bytes text (grind arith) some (omega arith) (rw one at is))
 
 -- a whole number of four bytes is read alike in each of its kinds
 pub int4_reads : (kind : Kind) (bytes : List ℕ) → N.IsInt4 kind → length bytes ≡ 4 → (N.is_scalar kind ≡ true)
     × (N.read_of kind bytes ≡ N.read_of (N.IntN 4) bytes)
 int4_reads _ _ number _ = grind arith
 
--- its kinds are scalar ones
 pub int4_scalar : (kind : Kind) → N.IsInt4 kind → N.is_scalar kind ≡ true
 int4_scalar _ number = grind arith
 

@@ -2,7 +2,7 @@
 use Rattle.tds_rows.proofs.Words as N
 use Rattle.tds_rows.proofs.{
   Words.{◌≡◌, ◌⊎◌, ℕ, ◌+◌, ◌-◌, ◌/◌, ◌%◌, ◌<◌, ◌≤◌, true, List, [], ◌∷◌, ◌++◌, length, refl, ◌∙◌, ap, arith, Ok, Option, Some, ◌==◌, ◌||◌, if◌then◌else◌},
-  Words.{concat, ne_eqb, Kind, little, Conversion, unit, is_fit, Spelt, Spelt-step, Spelt-append, Null, DataCell, Total, WholeCell, cell},
+  Words.{concat, Kind, little, Conversion, unit, is_fit, Spelt, Spelt-step, Spelt-append, Null, DataCell, Total, WholeCell, cell},
 }
 
 -- a fixed shape has bytes
@@ -25,17 +25,16 @@ is_total_known t = grind arith
 module _ (column : ℕ) where
   fixed_cell : {kind : Kind} {n : ℕ} (v : N.ScalarValue) {bytes : List ℕ} → 0 < n → length bytes ≡ n → N.read_of kind bytes ≡ Ok v
       → Spelt (cell column) (N.ScalarBytes kind n) bytes (WholeCell (N.ScalarCell v))
-  fixed_cell v {bytes} some l h = Spelt-step _ _ bytes _ (omega arith) l (ap (λ o. N.unless (N.is_ok o) (N.BadValue column)) h) (ap N.value_part h)
+  fixed_cell v {bytes} some l h = Spelt-step _ _ bytes _ (omega arith) l (grind arith) (ap N.value_part h)
 
   counted_cell : {kind : Kind} {v : N.ScalarValue} {value : List ℕ} → 0 < length value → N.is_length_allowed kind (length value) ≡ true
       → N.read_of kind value ≡ Ok v → Spelt (cell column) (N.ScalarLength kind) (length value ∷ value) (WholeCell (N.ScalarCell v))
   counted_cell {v} {value} some allowed h =
       let head : Spelt _ _ (length value ∷ []) _ =
-      Spelt-step _ _ _ _ (omega arith) refl (unless_true _ (N.or_right _ _ allowed))
-      (N.choose_false _ _ _ (ne_eqb (length value) 0 (λ e. omega arith))) in
+      Spelt-step _ _ _ _ (omega arith) refl (grind arith)
+      (grind arith) in
       Spelt-append _ _ _ _ _ _ head (fixed_cell v some refl h)
 
-  -- the data of a short value, byte by byte
   short_data : (c : Conversion) (d : List ℕ) (x : ℕ) (xs : List ℕ) → is_fit c (d ++ x ∷ xs) ≡ true
       → Spelt (cell column) (N.ShortData c (length xs) d) (x ∷ xs) (WholeCell (DataCell c (d ++ x ∷ xs)))
   short_data c d x [] h = Spelt-step _ _ _ _ (omega arith) refl
@@ -52,20 +51,18 @@ module _ (column : ℕ) where
       → Spelt (cell column) (N.ShortLength c) (n % 256 ∷ n / 256 ∷ []) (if n == 0 then WholeCell (DataCell c []) else N.ShortData c (n - 1) [])
   short_length c n less even =
       let l = N.little-two n in
-      Spelt-step _ _ _ _ (omega arith) refl (unless_true _
-      (N.or_right (little (n % 256 ∷ n / 256 ∷ []) == 0xFFFF) _ (rw l (rw even))))
-      (rw l (N.choose_false _ _ _ (ne_eqb n 0xFFFF (λ e. omega arith))))
+      Spelt-step _ _ _ _ (omega arith) refl (grind arith)
+      (grind arith)
 
   short_cell : (c : Conversion) (d bytes : List ℕ) → is_fit c d ≡ true → N.SpellsShort d bytes
       → Spelt (cell column) (N.ShortLength c) bytes (WholeCell (DataCell c d))
   short_cell c [] bytes h s = rw s.counted (short_length c 0 (omega arith) (grind arith))
   short_cell c (x ∷ xs) _ h s =
-      let to = N.choose_false _ _ _ (ne_eqb (length (x ∷ xs)) 0 (λ q. omega arith)) ∙ ap (λ k. N.ShortData c k []) (omega arith) in
+      let to = N.choose_false _ _ _ (N.ne_eqb (length (x ∷ xs)) 0 (λ q. omega arith)) ∙ ap (λ k. N.ShortData c k []) (omega arith) in
       let head = N.subst (λ v. Spelt (cell column) (N.ShortLength c) (length (x ∷ xs) % 256 ∷ length (x ∷ xs) / 256 ∷ []) v) to
       (short_length c _ s.least (N.fit_units c _ h)) in
       rw s.counted (Spelt-append _ _ _ _ _ _ head (short_data c [] x xs h))
 
-  -- the data of a chunk, byte by byte
   chunk_data : (c : Conversion) (total : Option ℕ) (d : List ℕ) (x : ℕ) (xs more : List ℕ) → is_fit c ((d ++ x ∷ xs) ++ more) ≡ true
       → Spelt (cell column) (N.ChunkData c total (length xs) d) (x ∷ xs) (N.ChunkLength c total (d ++ x ∷ xs))
   chunk_data c _ d x [] more h = Spelt-step _ _ _ _ (omega arith) refl (unless_true _ (N.fit_begins c _ _ h)) refl
@@ -75,7 +72,6 @@ module _ (column : ℕ) where
       Spelt-append _ _ _ _ _ _ (Spelt-step _ _ _ _ (omega arith) refl (unless_true _ begun) (search N.rules))
       (rw N.append_assoc at (chunk_data c total (d ++ x ∷ []) y ys more k))
 
-  -- one chunk
   chunk_cell : (c : Conversion) (total : Option ℕ) (d content bytes more : List ℕ) → is_fit c ((d ++ content) ++ more) ≡ true
       → N.within_total total (length d + length content) ≡ true → N.SpellsChunk content bytes
       → Spelt (cell column) (N.ChunkLength c total d) bytes (N.ChunkLength c total (d ++ content))
@@ -84,10 +80,9 @@ module _ (column : ℕ) where
       let n = s.counted in
       let head : Spelt _ (N.ChunkLength c total d) s.header (N.ChunkData c total _ d) =
       Spelt-step _ _ _ _ (omega arith) s.four
-      (rw n (N.choose_false _ _ _ (ne_eqb (N.suc (length xs)) 0 (λ q. omega arith)) ∙ unless_true _ w)) (rw n (search N.rules)) in
+      (grind arith) (rw n (search N.rules)) in
       rw (N.sym s.spelt) at (Spelt-append _ _ _ _ _ _ head (chunk_data c _ d x _ _ f))
 
-  -- the chunks and the terminator
   chunks_cell : (c : Conversion) (total : Option ℕ) (d : List ℕ) (ds : List (List ℕ)) (bytes : List ℕ)
       → ((n : ℕ) → n ≤ length (d ++ concat ds) → N.within_total total n ≡ true) → N.is_total total (length (d ++ concat ds)) ≡ true
       → is_fit c (d ++ concat ds) ≡ true → N.SpellsChunks ds bytes
@@ -105,12 +100,11 @@ module _ (column : ℕ) where
       let more = rw a at (chunks_cell c total (d ++ x) xs s.1 (rw a w) (rw a t) (rw a f) s.4) in
       rw s.2 (Spelt-append _ _ s.0 _ s.1 _ one more)
 
-  -- the total
   total_cell : (c : Conversion) (total : List ℕ) → length total ≡ 8 → little total < N.null_total
       → (N.nat_le N.unknown_total (little total) || (little total % unit c == 0)) ≡ true
       → Spelt (cell column) (Total c) total (N.ChunkLength c (N.known_total (little total)) [])
   total_cell c total eight less even = Spelt-step _ _ _ _ (omega arith) eight
-      (unless_true _ even) (N.choose_false _ _ _ (ne_eqb (little total) N.null_total (λ e. omega arith)))
+      (unless_true _ even) (grind arith)
 
   chunked_cell : {c : Conversion} {d bytes : List ℕ} → is_fit c d ≡ true → N.SpellsChunked d bytes
       → Spelt (cell column) (Total c) bytes (WholeCell (DataCell c d))

@@ -139,7 +139,6 @@ module _ (column : ℕ) (kind : Kind) where
       let spelt = ap (λ v. v ++ x ∷ []) m.spelt ∙ append_assoc m.whole _ _ ∙ ap (λ v. m.whole ++ v) (append_assoc m.header m.part _) in
       let all = ap (λ v. v ++ x ∷ []) m.all ∙ append_assoc m.before m.part _ in
       N.choose (λ p. CellMeans kind (LongShape c Chunked) p (b ++ x ∷ [])) _ _ _ (λ z.
-      let zero' = N.eq_true left 0 z in
       let one : N.SpellsChunk _ _ = grind arith in (
         refl,
         record {
@@ -154,20 +153,7 @@ module _ (column : ℕ) (kind : Kind) where
           all = N.concat-append m.chunks.chunks _ ∙ ap (λ v. v ++ N.concat ((m.part ++ x ∷ []) ∷ [])) m.chunks.all
               ∙ ap (λ v. m.before ++ v) (N.append-nil _) ∙ N.sym all;
         },
-      )) (λ z. let some = N.eq_false left 0 z in (
-        refl,
-        record {
-          before = m.before;
-          whole = m.whole;
-          chunks = m.chunks;
-          header = m.header;
-          part = m.part ++ x ∷ [];
-          spelt = spelt;
-          four = m.four;
-          counted = omega arith;
-          all = all;
-        },
-      ))
+      )) (λ z. let some = N.eq_false left 0 z in (grind arith))
 
   short_length_means : (c : N.Conversion) (e : List ℕ) → length e ≡ 2 → AreBytes e → CellMeans kind (LongShape c Short) (cell_add (N.ShortLength c) e) e
   short_length_means c e two bytes = grind (arith, N.no_data_is_fit, N.two_bytes)
@@ -175,7 +161,6 @@ module _ (column : ℕ) (kind : Kind) where
   total_means : (c : N.Conversion) (e : List ℕ) → length e ≡ 8 → AreBytes e → CellMeans kind (LongShape c Chunked) (cell_add (N.Total c) e) e
   total_means c e eight bytes = grind (arith, N.append-nil, eight_below, eight_ones)
 
-  -- each element keeps the meaning
   pub cell_step : (sh : Shape) (p : N.CellPart) (b e : List ℕ) → AreBytes e → CellMeans kind sh p b → N.IsNext (N.cell column) p e
       → CellMeans kind sh (cell_add p e) (b ++ e)
   cell_step _ p b e bytes h n = grind (arith, N.one_byte, chunk_means, data_means, short_length_means, short_means, total_means, unless_none, value_means)
@@ -183,7 +168,6 @@ module _ (column : ℕ) (kind : Kind) where
 pub start_means : (kind : Kind) (sh : Shape) → CellMeans kind sh (N.cell_start kind sh) []
 start_means _ _ = grind arith
 
--- What is read as a cell spells it.
 pub cell_is_spelt : {x : N.Cell} {bytes : List ℕ} {column : ℕ} (kind : Kind) (sh : Shape) → AreBytes bytes
     → N.Spelt (N.cell column) (N.cell_start kind sh) bytes (N.WholeCell x) → N.SpellsCell kind sh x bytes
 cell_is_spelt kind sh are h = N.Spelt-induct _ (λ p b. AreBytes b

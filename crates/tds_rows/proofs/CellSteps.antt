@@ -2,7 +2,7 @@
 use Rattle.tds_rows.proofs.Words as N
 use Rattle.tds_rows.proofs.{
   Words.{◌≡◌, ◌≢◌, ◌∙◌, ℕ, ◌+◌, ◌<◌, true, List, [], ◌∷◌, ◌++◌, length, refl, sym, ap, arith, Ok, Some, None, ◌||◌, is_ok, if◌then◌else◌, Kind},
-  Words.{fixed_length, Space, BadValue, Stop, Seen, Takes, ScalarBytes, ScalarLength, StallsCell, Payload},
+  Words.{fixed_length, Space, Stop, Seen, Takes, ScalarBytes, ScalarLength, StallsCell, Payload},
 }
 
 pub scalar_shape : (charset : N.Charset) (kind : Kind) → N.is_scalar kind ≡ true → N.shape charset kind ≡ N.shape_of_length (fixed_length kind)
@@ -20,10 +20,10 @@ cell_cut _ _ quiet size end fewer ends is = grind arith
 -- a value whose bytes were read is refused
 value_stalls : {column n place : ℕ} {kind : Kind} {a b : Seen} (bytes : List ℕ) → 0 < n → length bytes ≡ n → is_ok (N.read_of kind bytes) ≡ N.false
     → Takes a b bytes (length bytes) → N.IsBetween b
-    → StallsCell (ScalarBytes kind n) column a b place (record { fault = BadValue column; place = Payload place })
+    → StallsCell (ScalarBytes kind n) column a b place (record { fault = N.BadValue column; place = Payload place })
 value_stalls {column = column} bytes some whole bad takes between = record {
   at = ScalarBytes _ _;
-  stops = N.refused_at_once _ _ _ _ _ bytes _ (omega arith) whole (ap (λ v. N.unless v (BadValue column)) bad) takes between;
+  stops = N.refused_at_once _ _ _ _ _ bytes _ (omega arith) whole (grind arith) takes between;
   quiet = refl;
 }
 
@@ -38,9 +38,9 @@ fixed_gathers {column = column} {n = n} {place = place} {kind = kind} {a = a} {b
       between = between;
       place_is = omega arith;
       refused = λ some bad.
-          let all = (λ i. N.take (N.length_after (is i) bytes) (N.drop (N.start_after (is i)) bytes))
+          let all = (grind arith)
           ∙ N.take_all n bytes (omega arith) in
-          N.subst (λ k. StallsCell (ScalarBytes kind n) column a b place (record { fault = BadValue column; place = Payload k }))
+          N.subst (λ k. StallsCell (ScalarBytes kind n) column a b place (record { fault = N.BadValue column; place = Payload k }))
           (omega (arith, ap N.start_after is))
           (value_stalls bytes (fixed_some kind n is) whole (ap (λ l. is_ok (N.read_of kind l)) (sym all) ∙ bad) taken between);
     }
@@ -54,7 +54,7 @@ module _ {column n place : ℕ} {kind : Kind} {a b : Seen} where
       record {
         at = ScalarLength kind;
         stops = N.refused_at_once _ _ a b place (n ∷ []) _ (omega arith) refl
-            (ap (λ v. N.unless v (N.BadValueLength column)) (ap (λ v. v || N.is_length_allowed kind n) (N.ne_eqb n 0 some) ∙ bad)) takes between;
+            (grind arith) takes between;
         quiet = refl;
       }
 
@@ -66,7 +66,7 @@ module _ {column n place : ℕ} {kind : Kind} {a b : Seen} where
         some = omega arith;
         whole = refl;
         free = grind arith;
-      }) takes (N.choose_false _ _ _ (N.ne_eqb n 0 some)) in
+      }) takes (grind arith) in
       record { at = x.at; stops = N.stops_after _ _ _ a b _ place x.at _ p (rw at at x.stops); quiet = x.quiet }
 
 -- a length and the value after it were read
@@ -82,9 +82,9 @@ counted_gathers {column = column} {n = n} {place = place} {kind = kind} {a = a} 
       between = between;
       place_is = omega arith;
       refused = λ more bad.
-          let all = (λ i. N.take (N.length_after (is i) (n ∷ value)) (N.drop (N.start_after (is i)) (n ∷ value)))
+          let all = (grind arith)
           ∙ N.take_all n value (omega arith) in
-          N.subst (λ k. StallsCell (ScalarLength kind) column a d place (record { fault = BadValue column; place = Payload k }))
+          N.subst (λ k. StallsCell (ScalarLength kind) column a d place (record { fault = N.BadValue column; place = Payload k }))
           (omega (arith, ap N.start_after is))
           (length_then some good first refl (value_stalls value (omega arith) whole (ap (λ l. is_ok (N.read_of kind l)) (sym all)
           ∙ bad) taken between));
@@ -132,5 +132,5 @@ scalar_start _ _ scalar is = grind arith
 -- a cell whose bytes were gathered, and that is left, stops at its value
 pub left_stalls : {kind : Kind} {from : N.CellPart} {column : ℕ} {a b : Seen} {place place' : ℕ} {bytes : List ℕ}
     (x : N.GathersCell kind from column a b place place' bytes) → N.IsScalarLeft kind bytes
-    → StallsCell from column a b place (record { fault = BadValue column; place = Payload (place + N.value_start kind) })
+    → StallsCell from column a b place (record { fault = N.BadValue column; place = Payload (place + N.value_start kind) })
 left_stalls x h9 = grind arith

@@ -47,7 +47,6 @@ module _ (forms : List Form) (ends : Bool) (columns : List Column) (next : N.Are
         → N.WritesColumn charset all (λ k. false) (column + k) bytes text
     next_cell _ is x = grind (arith, N.drop-drop, kind_is, last_of, step)
 
--- some forms have a first
 pub some_first : (forms : List Form) → 0 < length forms → (form : Form) × (rest : List Form) × (forms ≡ form ∷ rest)
 some_first [] some = grind arith
 some_first (f ∷ fs) _ = (f, fs, refl)
@@ -105,7 +104,6 @@ before_comma made column to fields some within is =
     ∙ N.take-append-le _ fields _ (omega arith) ∙ N.take_all _ fields (omega arith)
 
 module _ (charset : Charset) (forms : List Form) (column : ℕ) (bytes : List ℕ) where
-  -- one cell more
   pub fields_more : (to text rest : List ℕ) (k used u now made m : ℕ) (d : Form) → now ≡ used + u → made ≤ length to → m < length text
       → k < length forms → N.WritesField charset (get_or forms k d).kind (take u (unused used bytes)) (take m text)
       → N.FieldsWritten charset forms column bytes to (record { cells = k; used = used; made = made })
@@ -115,7 +113,8 @@ module _ (charset : Charset) (forms : List Form) (column : ℕ) (bytes : List �
       let read = take u _ in
       let field = take m text in
       let all = take made to ++ _ in
-      let here : made + m < length all = omega (arith, N.length-append (take made to) (text ++ rest), N.length-append text rest, N.length-take-le made to within) in
+      let here : made + m < length all =
+      omega (arith, N.length-append (take made to) (text ++ rest), N.length-append text rest, N.length-take-le made to within) in
       let is' =
       N.take_more_set all _ 44 here ∙ ap (λ l. l ++ 44 ∷ []) (made_more made m to text rest within (omega arith)
       ∙ ap (λ l. l ++ field) is ∙ N.append_assoc fields _ field
@@ -124,9 +123,8 @@ module _ (charset : Charset) (forms : List Form) (column : ℕ) (bytes : List �
       let written : N.WritesForms charset forms column (suc k) _ _ =
       (take used bytes, read, fields, field, used_more used u bytes, refl, x, λ form. rw (N.get_or_default forms k d form there) at wrote) in
       let next : suc k ≡ k + 1 = omega arith in
-      rw further (fields ++ N.after_comma (column + k) field, rw (← next) written, is')
+      rw further (grind arith)
 
-  -- the first alone
   pub first_alone : (ends : Bool) (to : List ℕ) (used made : ℕ) (fields : List ℕ) → N.FirstUsed forms bytes used
       → N.WritesForms charset forms column 1 (take used bytes) fields → take made to ≡ fields ++ end_after (ends && (1 == length forms))
       → N.FirstWritten charset forms column ends bytes to (record { cells = 1; used = used; made = made })
@@ -135,7 +133,7 @@ module _ (charset : Charset) (forms : List Form) (column : ℕ) (bytes : List �
       let read = sym (b ∙ ap (λ l. l ++ rest) x.0) in
       let text =
       ap (λ l. l ++ end_after last) (ap (λ (n : ℕ). N.after_comma n field) (let n : column ≡ column + 0 = omega arith in n)
-      ∙ sym (t ∙ ap (λ l. l ++ N.after_comma (column + 0) field) x.1)) ∙ sym is in
+      ∙ sym (grind arith)) ∙ sym is in
       let kind_is = ap (λ (l : List Form). (get_or l 0 form).kind) are in
       record { size = search N.rules; writes = rw kind_is at (rw text at (rw read at (y form column last))) }
 
@@ -209,14 +207,9 @@ pub room_step : (n k made m room more : ℕ) → more ≡ room → k < n → m �
     → made + m + 1 + 12 * (n - (k + 1)) + 25 ≤ more
 room_step n k _ m _ _ same some few within = omega arith
 
--- ---- a cell that is left
-
--- with less room too
 pub left_less : (charset : Charset) (kind : N.Kind) (bytes : List ℕ) {fewer room : ℕ} → fewer ≤ room → N.IsLeft charset kind bytes room
     → N.IsLeft charset kind bytes fewer
 left_less _ _ _ less h6 = grind arith
-
--- ---- rows of numbers
 
 -- a row of some numbers that begins later lacks bytes or room
 pub too_late : {cells n bytes room b r used made : ℕ} {latest : Latest} → IsLatest cells bytes room latest → 0 < cells → n ≡ cells → b ≡ bytes - used

@@ -9,7 +9,6 @@ use Rattle.tds_rows.proofs.{
 abbrev pub Grows : List ℕ → List ℕ → Type 0
 Grows a b = (more : List ℕ) × (a ++ more ≡ b)
 
--- a text grows to itself
 pub grows_same : (a : List ℕ) → Grows a a
 grows_same a = search rules
 
@@ -17,7 +16,6 @@ grows_same a = search rules
 pub grows_all : (b : List ℕ) → Grows [] b
 grows_all b = (b, N.refl)
 
--- growth goes on
 pub grows_trans : (a b c : List ℕ) → Grows a b → Grows b c → Grows a c
 grows_trans a b c h k = grind (arith, N.append_assoc)
 
@@ -25,14 +23,12 @@ grows_trans a b c h k = grind (arith, N.append_assoc)
 pub grows_under : (x a b : List ℕ) → Grows a b → Grows (x ++ a) (x ++ b)
 grows_under x a b h = grind (arith, N.append_assoc)
 
--- more fields
 pub joined_more : (fs gs : List (List ℕ)) → Grows (joined fs) (joined (fs ++ gs))
 joined_more [] gs = grind arith
 joined_more (f ∷ []) [] = grows_same f
 joined_more (f ∷ []) (g ∷ gs) = (N.codes "," ++ joined (g ∷ gs), N.sym (N.append_assoc f _ _))
 joined_more (f ∷ h ∷ fs) gs = grows_under _ _ _ (joined_more (h ∷ fs) gs)
 
--- more of the last field
 joined_last : (fs : List (List ℕ)) (a b : List ℕ) → Grows a b → Grows (joined (fs ++ a ∷ [])) (joined (fs ++ b ∷ []))
 joined_last [] a b h = h
 joined_last (f ∷ []) a b h = grows_under _ a b h
@@ -51,17 +47,11 @@ with_field_grows _ None (Some b) h = grind (arith, joined_more)
 with_field_grows _ (Some a) None h = absurd h
 with_field_grows _ (Some a) (Some b) h = grind (arith, joined_last)
 
--- ---- a field
-
--- more data
 open_more : (c : N.Conversion) (a b : List ℕ) → N.is_begun c (a ++ b) ≡ true → Grows (N.open_field c a) (N.open_field c (a ++ b))
 open_more c a b h = grind (arith, N.open_grows, N.begun_by_test)
 
--- the end of the data
 long_grows : (c : N.Conversion) (a : List ℕ) → N.is_fit c a ≡ true → Grows (N.open_field c a) (N.long_field c a)
 long_grows c a h = (N.conversion_text c _ ++ N.closing _, N.open_closes c a h)
-
--- ---- a cell
 
 -- the last byte of a short value leaves it fit
 pub last_fit : (left : ℕ) (b : Bool) → (N.nat_lt 0 left || b) ≡ true → (left == 0) ≡ true → b ≡ true
@@ -75,9 +65,7 @@ end_fit _ c _ _ n h z = grind arith
 module _ (column : ℕ) where
   -- each element of a cell adds to its text
   pub cell_grows : (p : N.CellPart) (e : List ℕ) → N.IsNext (N.cell column) p e → OptionGrows (N.field_so_far p) (N.field_so_far (N.cell_add p e))
-  cell_grows p e n = grind (arith, N.common_steps, unless_none, open_more, N.choose, long_grows, last_fit)
-
--- ---- a row
+  cell_grows p e n = grind (arith, N.common_steps, unless_none, open_more, long_grows, last_fit)
 
 module _ (charset : N.Charset) where
   -- the cells to come begin

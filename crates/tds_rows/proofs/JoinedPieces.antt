@@ -11,9 +11,8 @@ module _ {fit begins : List ℕ → Type 0} {rest text : List ℕ → List ℕ} 
     (suits : N.Suits fit begins rest text size quoted c) where
   module _ (content : List ℕ) {old : List ℕ} (is : old ≡ conversion_rest c content) (begun : BeginsData c content) where
     begun_with : (piece : List ℕ) → begins (old ++ piece) → BeginsData c (content ++ piece)
-    begun_with piece h = (joins_by_name c).outward content piece (rw (← is) ((suits.begins_is _).0 h))
+    begun_with piece h = (joins_by_name c).outward content piece (grind arith)
 
-    -- a piece was taken
     pub piece_taken : {new piece : List ℕ} {p q : At} → 0 < length piece → Takes p.seen q.seen piece 1 → IsBetween q.seen
         → q.place ≡ p.place + length piece → N.TakesPiece begins rest text old new p.held q.held piece
         → over (N.TakesData c content new) p q (length piece)
@@ -31,7 +30,6 @@ module _ {fit begins : List ℕ → Type 0} {rest text : List ℕ → List ℕ} 
           kept_is = x.withheld ∙ suits.rest_is _ ∙ ap (λ o. conversion_rest c (o ++ piece)) is ∙ sym ((joins_by_name c).keeps content piece all);
         }
 
-    -- a byte of it is bad
     piece_bad : {new : List ℕ} {k : ℕ} {h i : Held} {column most : ℕ} {a b : Seen} {place : ℕ} (piece : List ℕ) → length piece ≤ most
         → Takes a b piece 1 → IsBetween b → N.TakesUpTo begins rest text old new h i piece k
         → N.RefusesData c content column most a b place h i (record { fault = N.BadText column; place = N.Payload (place + k) })
@@ -57,11 +55,10 @@ module _ {fit begins : List ℕ → Type 0} {rest text : List ℕ → List ℕ} 
           stop_is = cc;
         }
 
-    -- a write of its text failed
     piece_breaks : {most : ℕ} {a b : Seen} {h i : Held} {stop : Stop} (piece : List ℕ) → length piece ≤ most → Takes a b piece 1 → IsBetween b
         → begins old → N.Breaks h i (emit rest text (old ++ piece)) stop → N.BreaksData c content most a b h i stop
     piece_breaks piece short takes between begins_old breaks =
-        let f = N.begun_front c old piece ((suits.begins_is old).0 begins_old) in
+        let f = N.begun_front c old piece (grind arith) in
         let good = N.take f.taken piece in
         let within = f.within in
         record {
@@ -74,7 +71,6 @@ module _ {fit begins : List ℕ → Type 0} {rest text : List ℕ → List ℕ} 
           breaks = grind arith;
         }
 
-    -- the fault of a push
     pub push_stops : {column most : ℕ} {a b : Seen} {place : ℕ} {h i : Held} {before after : Bool} (new piece : List ℕ) (fault : N.JoinFault)
         → length piece ≤ most → Takes a b piece 1 → IsBetween b → begins old → before ≡ N.false → after ≡ N.is_stopped {U = Unit {0}} (Err fault)
         → N.Pushes {U = Unit {0}} begins rest text old new h i before piece (Err fault)
@@ -85,21 +81,16 @@ module _ {fit begins : List ℕ → Type 0} {rest text : List ℕ → List ℕ} 
     push_stops _ piece (join_faults.BadText k) short takes between _ _ failed x =
         inr (N.inl (piece_bad piece short takes between x, failed))
 
-    -- ---- the end
-
     fit_whole : fit old → IsFit c content
-    fit_whole h = (joins_by_name c).fit_whole content begun (subst (IsFit c) is ((suits.fit_is old).0 h))
+    fit_whole h = (joins_by_name c).fit_whole content begun (grind arith)
 
-    -- the content is whole
     pub end_whole : {new : List ℕ} {h i : Held} → N.Completes fit text old new h i → IsFit c content
         × N.Puts h i (N.conversion_text c (conversion_rest c content))
     end_whole x = grind (arith, fit_whole)
 
-    -- it isn't
     end_part : {new : List ℕ} {h i : Held} → N.LeavesPart fit old new h i → IsFit c content → ⊥
     end_part x whole = x.part ((suits.fit_is old).1 (subst (IsFit c) (sym is) ((joins_by_name c).fit_rest content whole)))
 
-    -- the fault of an end
     pub end_stops : {column place : ℕ} {h i : Held} {before after : Bool} (new : List ℕ) (unit' : ℕ) (last : Bool) (fault : N.JoinFault)
         → before ≡ N.false → after ≡ N.is_stopped {U = Unit {0}} (Err fault) → N.EndsBy {U = Unit {0}} unit' fit text old new h i before (Err fault)
         → N.StopsEnding c quoted last content column place h i after (N.join_stop column place fault)
@@ -128,10 +119,9 @@ module _ (c : Conversion) (content : List ℕ) (begun : BeginsData c content) wh
       let front = laws.front _ piece all in
       N.append_cancel_left _ _ _
       (sym (N.append_assoc (e content) _ _)
-      ∙ ap (λ l. l ++ N.added_text c (content ++ more) piece) (sym (laws.emits content more front)) ∙ sym (laws.emits (content ++ more) piece all)
+      ∙ ap (λ l. l ++ N.added_text c (content ++ more) piece) (sym (laws.emits content more front)) ∙ sym (grind arith)
       ∙ ap e regroup ∙ laws.emits content (more ++ piece) (subst (BeginsData c) regroup all))
 
-  -- nothing was read
   fills_none : {p : At} → IsBetween p.seen → length p.held.waiting < 4096 → p.held.delivered ≤ 2 ^ 64 - 1
       → over (N.FillsData c content) p p []
   fills_none between few delivered = record {
@@ -144,14 +134,13 @@ module _ (c : Conversion) (content : List ℕ) (begun : BeginsData c content) wh
     delivered = delivered;
   }
 
-  -- a piece more was read
   fills_more : {kept more : List ℕ} {n : ℕ} {p q r : At} → length r.held.waiting < 4096 → r.held.delivered ≤ 2 ^ 64 - 1
       → over (N.FillsData c content) p q more
       → (x : over (N.TakesData c (content ++ more) kept) q r n)
       → over (N.FillsData c content) p r (more ++ x.piece)
   fills_more {more = more} {p = p} {q = q} {r = r} few delivered y x =
       record {
-        takes = N.takes_both p.seen q.seen r.seen more x.piece y.takes (N.Takes-more q.seen r.seen x.piece 1 _ (omega arith) x.takes);
+        takes = N.takes_both p.seen q.seen r.seen more x.piece y.takes (grind arith);
         between = x.between;
         place_is = omega (arith, N.length-append more x.piece);
         begun = rw N.append_assoc at x.begun;

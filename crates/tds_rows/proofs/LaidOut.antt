@@ -3,11 +3,9 @@ use Rattle.tds_rows.proofs.Words as N
 use Rattle.tds_rows.proofs.Words.{◌≤◌, ◌&&◌, ◌≡◌, ℕ, ◌<◌, true, List, length, arith, ◌==◌, Kind, Form, Layout, Each, ◌+◌}
 use Rattle.tds_rows.specs.declared.cell.layout.Layout.TheVariants.{Chunked, Counted, Fixed, Short as ShortLayout}
 
--- the same form many times
 pub each_all : (P : Form → Type 0) (n : ℕ) (f : Form) → P f → Each P (N.replicate n f)
 each_all P n f is k d here = grind (arith, N.get_or-replicate, N.length-replicate)
 
--- one more form of many
 pub each_set : (P : Form → Type 0) (forms : List Form) (k : ℕ) (f : Form) → Each P forms → k < length forms → P f → Each P (N.slice_set forms k f)
 each_set P _ k f all _ is j d here = search N.rules
 
@@ -24,7 +22,6 @@ int4_part _ k n all _ j d here = grind (arith, N.common_steps)
 
 -- ---- a value that is there
 
--- at once
 pub fixed_there : {l : Layout} (bytes : List ℕ) {start : ℕ × ℕ} {n : ℕ} → l ≡ Fixed n → start ≡ (0, n) → N.HasValueAt l bytes start.0 start.1
 fixed_there _ is there = grind arith
 

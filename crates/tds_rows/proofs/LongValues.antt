@@ -4,7 +4,7 @@ use Rattle.tds_rows.proofs.{
   Words.{◌≡◌, ◌∙◌, inl, inr, ℕ, ◌-◌, ◌^◌, ◌<◌, ◌≤◌, Bool, List, [], ◌∷◌, ◌++◌, length, sym, ap, arith, append-nil, Option, Stop, Seen, Conversion},
   Words.{is_quoted, after_comma, Held, Puts, held, CellPart, cell, PutsField, StopsField, cell_so_far, ending, opening, ◌≢◌, ◌+◌, ChunkLength, ◌⊎◌, suc},
   Words.{true, false, refl, subst, append_assoc, Some, ◌&&◌, ◌||◌, BadText, Spelt, BeginsData, is_fit, open_field, added_text, Breaks},
-  Numbers.{Next, short_left, chunk_end, chunk_start, chunk_unfit, chunk_left},
+  Numbers.{Next, short_left, chunk_end, chunk_unfit, chunk_left},
   Paths.{At, Path, path_both, path_of, path_none, path_stops, over},
   RowSteps.{line_grows, after_append},
 }
@@ -53,12 +53,11 @@ module _ {column : ℕ} {c : Conversion} {state : ℕ → List ℕ → CellPart}
       let good_one : k ≡ 0 → Good _ = λ none. subst (λ l. Good (d ++ x ∷ l)) (N.nil_of_length xs (omega arith)) (good (omega arith) (omega arith)) in
       let regroup = sym (append_assoc d _ xs) in
       let more_begun = subst (BeginsData c) regroup begun in
-      let more = content_spelt _ xs k r refl more_begun (λ none some. subst Good regroup (good none (omega arith))) in
+      let more = content_spelt _ xs k r refl more_begun (grind arith) in
       let one = N.Spelt-step _ _ _ _ (omega arith) (sym (holds.size k d))
       (holds.free k d x ((N.begun_by_test c _).1 ((N.joins_by_name c).front _ xs more_begun)) good_one) (holds.add k d x) in
       rw (next, regroup) (N.Spelt-append _ _ _ _ xs _ one more)
 
-  -- and where more follow
   front_spelt : {m : ℕ} (d bytes : List ℕ) (r : ℕ) → m ≡ length bytes + suc r → BeginsData c (d ++ bytes)
       → Spelt (cell column) (state m d) bytes (state (suc r) (d ++ bytes))
   front_spelt d _ r is begun = grind (arith, content_spelt)
@@ -73,7 +72,6 @@ module _ {column : ℕ} {c : Conversion} {state : ℕ → List ℕ → CellPart}
       → cell_so_far column last (state (suc r) d) ++ added_text c d more ≡ cell_so_far column last (state (suc r') (d ++ more))
   text_grown d _ r _ begun = grind (arith, text_more)
 
-  -- and where none does
   text_closed : (d more tail : List ℕ) (r : ℕ) → BeginsData c (d ++ more)
       → after_comma column (open_field c (d ++ more)) ++ tail ≡ cell_so_far column last (state 0 (d ++ more))
       → cell_so_far column last (state (suc r) d) ++ (added_text c d more ++ tail) ≡ cell_so_far column last (state 0 (d ++ more))
@@ -100,7 +98,7 @@ module _ {column : ℕ} {c : Conversion} {state : ℕ → List ℕ → CellPart}
       let laws = N.joins_by_name c in
       let regroup = sym (append_assoc d p _) in
       N.append_cancel_left _ _ _ (sym (laws.emits d _ begun) ∙ ap (emitted c) regroup ∙ same
-      ∙ laws.emits d p (laws.front _ _ (subst (BeginsData c) regroup begun)))
+      ∙ laws.emits d p (grind arith))
 
   -- the byte after some that are good is refused
   byte_refused : {a b : Seen} {h i : Held} {m : ℕ} (d good ahead : List ℕ) (y r place : ℕ) → m ≡ length good + suc r → BeginsData c (d ++ good)
@@ -141,7 +139,7 @@ module _ {column : ℕ} {c : Conversion} {state : ℕ → List ℕ → CellPart}
     piece_cut : N.CutsData a b place h i stop → Stopped false
     piece_cut x =
         let at = state _ d in
-        let stops = N.cut_at_once _ _ a b _ _ _ _ (omega arith) x.ends (N.began_is_cut _ _ _ _ (holds.end r d) x.stop_is) in
+        let stops = N.cut_at_once _ _ a b _ _ _ _ (omega arith) x.ends (grind arith) in
         rw x.same (record { at = at; cause = inl (stops, ([], append-nil _, N.Puts-none h delivered), refl) })
 
     piece_refused : N.RefusesData c d column (suc r) a b place h i stop → Stopped false
@@ -184,7 +182,6 @@ module _ {column : ℕ} {c : Conversion} {state : ℕ → List ℕ → CellPart}
               piece_broken_at x.ahead s.0 s.1 (rw s.2 at all) (rw s.2 at x.takes) x.between (rw s.2 at x.begun) (rw s.2 at x.breaks))
         ]
 
-    -- the next piece stopped
     piece_stops : {failed : Bool} → N.StopsData c d column (suc r) a b place h i failed stop → Stopped failed
     piece_stops (inl x) = rw x.1 (piece_cut x.0)
     piece_stops (inr (inl x)) = rw x.1 (piece_refused x.0)
@@ -201,7 +198,6 @@ module _ {column : ℕ} {c : Conversion} {state : ℕ → List ℕ → CellPart}
   -- ---- the last piece
 
   module _ {d kept : List ℕ} {m : ℕ} {p q : At} (x : over (N.EndsData c d kept) p q m) where
-    -- all of the content
     abbrev all_content : List ℕ
     all_content = (d ++ x.front) ++ x.takes.piece
 
@@ -308,7 +304,7 @@ emit_none : (c : Conversion) → N.emit (N.conversion_rest c) (N.conversion_text
 emit_none c = grind (arith, N.hex-nil, N.text_nil)
 
 open_none : (c : Conversion) → opening (is_quoted c) ≡ open_field c []
-open_none N.HexDigits = sym (append-nil N.binary_mark) ∙ ap (λ l. N.binary_mark ++ l) (sym (emit_none N.HexDigits))
+open_none N.HexDigits = sym refl ∙ ap (λ l. N.binary_mark ++ l) (sym (emit_none N.HexDigits))
 open_none N.Utf16Text = ap (λ l. N.quote ∷ l) (sym (emit_none N.Utf16Text))
 open_none N.Windows1252Text = cc
 open_none N.Utf8Text = grind arith
@@ -318,7 +314,6 @@ none_begins c = grind arith
 
 -- ---- parts of a field, one after the other
 
--- a cell was read to its end
 pub field_of : {column : ℕ} {last : Bool} {s : CellPart} {p q : At} {value : N.Cell}
     → Path (cell column) (cell_so_far column last) s p q (N.WholeCell value) → over (PutsField s column last) p q
 field_of {value = value} x = record { value = value; streams = grind arith; place_is = x.place_is }
@@ -375,15 +370,15 @@ module _ {column place' : ℕ} {s t : CellPart} {p : At} {b : Seen} (last : Bool
 
 -- NULL was put, or a write of it failed
 pub null_puts : {column place place' : ℕ} {s : CellPart} {a b : Seen} {W U : Type 0} {contents : W
-    → Option (List ℕ)} {h k : N.Sink W} {r : N.Result U Stop} (last : Bool) → Next column s a b place place' (N.WholeCell N.Null) → cell_so_far column last s ≡ []
-    → N.IsWriting h → N.PutsPiece contents h k (N.in_line column last N.null_field) r
+    → Option (List ℕ)} {h k : N.Sink W} {r : N.Result U Stop} (last : Bool) → Next column s a b place place' (N.WholeCell N.Null)
+    → cell_so_far column last s ≡ [] → N.IsWriting h → N.PutsPiece contents h k (N.in_line column last N.null_field) r
     → N.MatchResult r (λ _. PutsField s column last a b place place' (held contents h) (held contents k))
     (λ stop. StopsField s column last a b place (held contents h) (held contents k) k.failed stop)
 null_puts {column = column} {r = N.Ok u} last x silent _ puts =
-    field_of (next_path last x _ (ap (λ l. l ++ N.in_line column last N.null_field) silent) puts.gives)
+    field_of (next_path last x _ (grind arith) puts.gives)
 null_puts {column = column} {r = N.Err e} last x silent writing puts =
     next_breaks last x _ [] (writing.ready.1 writing.writing) writing.ready.2 puts.failed
-    (ap (λ l. l ++ (N.in_line column last N.null_field ++ [])) silent ∙ append-nil _) (puts.gives writing.writing)
+    (grind arith) (puts.gives writing.writing)
 
 -- ---- short values
 
@@ -460,7 +455,6 @@ module _ {column : ℕ} {last : Bool} {c : Conversion} {total : Option ℕ} {kep
       let good = (N.fit_by_test c x.content).1 fit in
       field_of (path_both x.path (next_path last (chunk_end c unit_is x.counted y free none good) _ (ending_text column c last x.content good) puts))
 
-  -- the end stopped
   pub chunks_end_stops : {j : Held} {failed : Bool} {stop : Stop} → length q.held.waiting < 4096 → q.held.delivered ≤ 2 ^ 64 - 1 → n ≡ 0
       → N.StopsEnding c (is_quoted c) last x.content column q.place q.held j failed stop
       → StopsField (ChunkLength c total []) column last p.seen d p.place p.held j failed stop
@@ -472,15 +466,13 @@ module _ {column : ℕ} {last : Bool} {c : Conversion} {total : Option ℕ} {kep
   chunks_end_stops _ delivered none (inr z) =
       path_stops x.path (rw (z.1, z.2) (reading_stops last delivered z.3 (chunk_unfit c unit_is x.counted y free none (grind (arith, N.fit_by_test)))))
 
-  -- the length of a chunk was read
   pub chunk_path : n ≢ 0 → q.held.delivered ≤ 2 ^ 64 - 1
       → Path (cell column) (cell_so_far column last) (ChunkLength c total []) p (record { seen = d; place = there; held = q.held })
       (chunk_left c total n x.content)
   chunk_path some delivered =
       let text : cell_so_far column last (ChunkLength c total _) ++ [] ≡ cell_so_far column last _ = grind (arith, append-nil) in
-      path_both x.path (next_path _ (chunk_start c unit_is x.counted y free some) _ text (N.Puts-none _ delivered))
+      path_both x.path (next_path _ (grind arith) _ text (N.Puts-none _ delivered))
 
-  -- one chunk more was read
   pub streamed_more : {kept' : List ℕ} {r : At} → n ≢ 0 → q.held.delivered ≤ 2 ^ 64 - 1 → r.held.delivered ≤ 2 ^ 64 - 1
       → N.EndsData c x.content kept' d r.seen there r.place q.held r.held n → Streamed column last c total kept' (sum + n) p r
   streamed_more {r = r} some delivered most z =

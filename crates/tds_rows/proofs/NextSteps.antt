@@ -1,9 +1,8 @@
 -- The next cells of a row, those of a run or one, NULL or not, and rows one after another.
 use Rattle.tds_rows.proofs.Words as N
 use Rattle.tds_rows.proofs.{
-  Words.{arith, ◌≡◌, ◌+◌, ℕ, Bool, true, false, List, ◌∷◌, drop, refl, sym, Err, Ok, Option, ◌==◌, Stop, seen, Column, held, Rows, Ahead, IsInRow},
-  Words.{StaysInRow, RowStops, RowPart, marked, ◌∙◌, ◌-◌, ◌^◌, ◌≤◌, ◌<◌, [], ◌++◌, length, ap, before, Seen, Takes, Held, Puts, Charset, Cell, rows, Kind},
-  Words.Knows,
+  Words.{arith, ◌≡◌, ◌+◌, ℕ, Bool, true, false, List, ◌∷◌, drop, refl, Err, Ok, Option, ◌==◌, Stop, seen, Column, held, Rows, Ahead, IsInRow, StaysInRow},
+  Words.{RowStops, RowPart, marked, ◌∙◌, ◌-◌, ◌^◌, ◌≤◌, ◌<◌, [], ◌++◌, length, ap, before, Seen, Takes, Held, Puts, Charset, Cell, rows, Kind, Knows},
   NullSteps.{NearsCells, all_put, cell_nears, cell_stops, null_breaks, null_nears, cell_path, marked_stops},
   RowSteps.{ends, ends_marked, coming, nulls_ahead, PutsAt, StopsAt, none_ahead, cell_some},
   Paths.{At, here, Path, path_both, path_map, path_none, path_of, over},
@@ -40,11 +39,10 @@ takes_apart a c x y takes =
         takes.3,
         takes.4,
       ),
-      ([], (N.Consumes-nil _, λ zs. refl), sym (N.add-zero _), (λ j lt. absurd (omega arith)), N.Stays-none _),
+      (grind arith),
       λ between. between,
     )
 
--- in two parts
 passes_apart : (p q : At) (a b m n : List ℕ) → Passes p q (a ++ b) (m ++ n) → (t : At) × Passes p t a m × Passes t q b n
 passes_apart p q a b m n x =
     let t = takes_apart p.seen q.seen a b x.takes in
@@ -55,7 +53,6 @@ passes_apart p q a b m n x =
     )
 
 module _ {charset : Charset} {start : RowPart} {left : List (Column × Bool)} {p q : At} {column : ℕ} where
-  -- nothing more was read
   nears_onward : {r : At} {text : List ℕ} → Passes q r [] text → NearsCells charset start left p q column
       → NearsCells charset start left p (record r { held = q.held }) column
   nears_onward {r = r} y x =
@@ -69,7 +66,6 @@ module _ {charset : Charset} {start : RowPart} {left : List (Column × Bool)} {p
         place_is = omega arith;
       }
 
-  -- nothing more was put
   nears_same : {j : Held} → Puts q.held j [] → NearsCells charset start left p q column
       → NearsCells charset start left p (record q { held = j }) column
   nears_same puts x =
@@ -83,7 +79,6 @@ module _ (charset : Charset) (start : RowPart) (columns : List Column) (nulls : 
   abbrev Near : ℕ → At → Type 0
   Near at q = NearsCells charset start (marked (drop at columns) nulls at) p q at
 
-  -- one column more
   column_nears : (at : ℕ) (q r : At) (bytes text : List ℕ) → N.WritesColumn charset columns nulls at bytes text → Passes q r bytes text → Near at q
       → Near (at + 1) r
   column_nears at q r bytes text w y x =
@@ -96,11 +91,10 @@ module _ (charset : Charset) (start : RowPart) (columns : List Column) (nulls : 
           let y' = rw (v.0, v.1, ends_marked w.left nulls (at + 1)) at y in
           null_nears (nears_onward y' z) y'.puts
       go false v z =
-          let put = whole_puts charset _ at _ q r bytes text v (N.Takes-more q.seen r.seen bytes 0 _ (omega arith) y.takes)
+          let put = whole_puts charset _ at _ q r bytes text v (grind arith)
           y.place_is y.puts in
           cell_nears y.between y.few (all_put refl y.delivered z) (rw (ends_marked w.left nulls (at + 1)) at put)
 
-  -- so many columns more
   marked_nears : (from n : ℕ) (q r : At) (bytes text : List ℕ) → N.WritesMarked charset columns nulls from n bytes text → Passes q r bytes text
       → Near from q → Near (from + n) r
   marked_nears from N.zero q r _ _ w y x = let y' = rw (w.0, w.1) at y in
@@ -118,7 +112,7 @@ module _ (charset : Charset) (start : RowPart) (columns : List Column) (nulls : 
     where
       go : (null : Bool) → N.WritesNext charset null w.column.kind at (N.is_last_column w.left) bytes text
           → NearsCells charset start ((w.column, null) ∷ marked w.left nulls (at + 1)) p q at → RowStops charset start p.seen d p.place p.held j true stop
-      go true v z = null_breaks rest (rw v.0 at takes) between z (rw (v.1, ends_marked w.left nulls (at + 1)) at breaks)
+      go true v z = null_breaks rest (rw v.0 at takes) between z (grind arith)
       go false v z = cell_stops (all_put refl delivered z)
           (rw (ends_marked w.left nulls (at + 1)) at (whole_breaks {a = q.seen} {b = d} {place = q.place} {h = q.held} {j = j} {stop = stop} charset _
           rest v takes between few delivered breaks refl))
@@ -143,15 +137,12 @@ module _ (charset : Charset) (start : RowPart) (columns : List Column) (nulls : 
 
 -- ---- a reading of rows, from call to call
 
--- before the first step
 pub stays : {R W : Type 0} {a : Rows R W} → IsInRow a → StaysInRow a a
 stays x = grind arith
 
--- after a run
 pub stays_on : {R W : Type 0} {a b c : Rows R W} → StaysInRow a b → StaysInRow b c → StaysInRow a c
 stays_on x y = grind arith
 
--- after a cell
 pub stays_after : {R W U : Type 0} {a b : Rows R W} {u : U} → IsInRow a → N.LeavesRows a b (Ok u) → StaysInRow a b
 stays_after x y = grind arith
 
@@ -175,7 +166,6 @@ NearsAll remaining contents nulls p rows at =
 
 module _ {R W : Type 0} {remaining : R → Option (List ℕ)} {contents : W → Option (List ℕ)} {old new : Rows R W} {nulls : ℕ → Bool} {p : At} {from : Ahead}
     (in_row : IsInRow old) (nears : NearsAll remaining contents nulls p old from) where
-  -- the cells of a run are read
   pub run_near : {to : Ahead} → N.MarkedRead remaining contents nulls from old new (Ok to) → NearsAll remaining contents nulls p new to
   run_near x columns known =
       let kept = stays_after in_row x.leaves in
@@ -192,7 +182,7 @@ module _ {R W : Type 0} {remaining : R → Option (List ℕ)} {contents : W → 
         delivered = in_row.sink.ready.2;
         place_is = put.place_is;
       }) near.1 in
-      rw kept.same.3 (put.runs.ahead, rw put.runs.further more)
+      rw kept.same.3 (grind arith)
 
   -- a write of their text failed
   pub run_stops : {stop : Stop} → N.MarkedRead remaining contents nulls from old new (Err stop) → (columns : List Column)
@@ -244,21 +234,19 @@ module _ {R W : Type 0} (remaining : R → Option (List ℕ)) (contents : W → 
         → NearsHere remaining contents columns nulls p new after
     there leaves x = grind arith
 
-    -- it was put
     pub next_nears : {U : Type 0} (u : U) (null : Bool) → nulls at.column ≡ null → N.LeavesRows old new (Ok u)
         → N.NextRead remaining contents at kind null old new (Ok u) → NearsHere remaining contents columns nulls p new after
     next_nears u true is leaves y = there leaves (rw y.0 (null_nears (left_here true is) (rw last_is at y.1.gives)))
     next_nears u false is leaves y =
-        there leaves (cell_nears (N.between_of remaining new.payload.now leaves.payload.going) (leaves.sink.ready.1 leaves.sink.writing)
+        there leaves (cell_nears (N.between_of remaining new.payload.now leaves.payload.going) (omega arith)
         (all_put refl in_row.sink.ready.2 (left_here false is)) (cell_read nulls y knows before.0 taken))
 
-    -- it stopped
     pub next_stops : (U : Type 0) {stop : Stop} (null : Bool) → nulls at.column ≡ null
         → N.NextRead {U = U} remaining contents at kind null old new (Err stop)
         → RowStops old.table.now.charset (N.nbc_row_start columns) p.seen (seen remaining new.payload.now) p.place p.held (held contents new.sink.now)
         new.sink.now.failed stop
     next_stops U true is y = rw (y.0, y.1.failed) (null_breaks [] (N.Takes-none _ 0)
-        (N.between_of remaining old.payload.now in_row.payload.going) (left_here _ is) (rw last_is at (y.1.gives in_row.sink.writing)))
+        (grind arith) (left_here _ is) (rw last_is at (y.1.gives in_row.sink.writing)))
     next_stops U false is y = cell_stops (all_put refl in_row.sink.ready.2 (left_here _ is)) (cell_read nulls y knows before.0 taken)
 
 -- ---- rows, one after another
@@ -274,12 +262,10 @@ module _ {token : N.RowToken} {charset : Charset} {all : List Column} where
   rows_first d = grind (arith, path_none)
 
   module _ {p q : At} {count : ℕ} where
-    -- more of the next one
     rows_on : {part more : RowPart} {r : At} → RowsAt token charset all p q count part → Path (N.row charset) N.row_so_far part q r more
         → RowsAt token charset all p r count more
     rows_on x y = record { before = x.before; counted = x.counted; path = path_both x.path (path_map (λ a m. row_among _ _ _ _) y) }
 
-    -- it stopped
     pub rows_stop : {part : RowPart} {d : Seen} {j : Held} {failed : Bool} {stop : Stop} → RowsAt token charset all p q count part
         → RowStops charset part q.seen d q.place q.held j failed stop → N.RowsStop token charset all p.seen d p.place p.held j failed stop
     rows_stop {part = part} x y = record {
@@ -291,7 +277,6 @@ module _ {token : N.RowToken} {charset : Charset} {all : List Column} where
       stops = grind arith;
     }
 
-    -- all of it
     pub rows_whole : {cells : List Cell} → RowsAt token charset all p q count (N.WholeRow cells)
         → over (N.ReadsRows token charset all (count + 1)) p q
     rows_whole {cells = cells} x = record {
@@ -302,7 +287,6 @@ module _ {token : N.RowToken} {charset : Charset} {all : List Column} where
       place_is = cc;
     }
 
-  -- a whole row that was read by itself
   pub rows_row : {p : At} {count : ℕ} {part : RowPart} {b d : Seen} {middle place' : ℕ} {i j : Held}
       → RowsAt token charset all p (record { seen = b; place = middle; held = i }) count part → N.ReadsRow charset part b d middle place' i j
       → N.ReadsRows token charset all (count + 1) p.seen d p.place place' p.held j
@@ -336,7 +320,6 @@ pub record Rowing (charset : Charset) (all : List Column) (left : List (Column �
   pub rows : RowsAt N.PlainRow charset all p q count (N.next_cell charset cells left)
 
 module _ {charset : Charset} {all : List Column} {p q : At} {column count : ℕ} where
-  -- a run
   rowing_run : {left left' : List Column} {column' count' : ℕ} {r : At} → Rowing charset all (coming left column) p q column count
       → ((cells : List Cell) → length cells ≡ column
       → over (N.RunsRows charset all cells left left' column' count') q r)
@@ -359,17 +342,15 @@ module _ {charset : Charset} {all : List Column} {p q : At} {column count : ℕ}
       }
 
   module _ {c : Column} {ks : List (Column × Bool)} where
-    -- a cell
     pub rowing_cell : {r : At} → nulls_ahead (column + 1) ks ≡ [] → Rowing charset all ((c, false) ∷ ks) p q column count
         → PutsAt charset c.kind column (ends ks) q r → Rowing charset all ks p r (column + 1) count
     rowing_cell none x y =
         let one = cell_path _ c x.counted none y in
         record { cells = x.cells ++ one.0 ∷ []; counted = omega (arith, N.length-append x.cells (one.0 ∷ [])); rows = rows_on x.rows one.1 }
 
-    -- a cell that stopped
     pub rowing_stop : {d : Seen} {j : Held} {failed : Bool} {stop : Stop} → Rowing charset all ((c, false) ∷ ks) p q column count
         → StopsAt charset c.kind column (ends ks) q d j failed stop → N.RowsStop N.PlainRow charset all p.seen d p.place p.held j failed stop
-    rowing_stop x y = rows_stop x.rows (marked_stops _ _ _ c (rw (sym x.counted) at y))
+    rowing_stop x y = rows_stop x.rows (marked_stops _ _ _ c (rw (N.sym x.counted) at y))
 
 -- The reading of ROWs stands at this place of the last one, whatever columns the table knows.
 abbrev pub RowsHere : {R W : Type 0} → (R → Option (List ℕ)) → (W → Option (List ℕ)) → At → Rows R W → Ahead → ℕ → Type 0
@@ -379,15 +360,13 @@ RowsHere remaining contents p rows at count = (columns : List Column) → Knows 
 
 module _ {R W : Type 0} {remaining : R → Option (List ℕ)} {contents : W → Option (List ℕ)} {p : At} {old new : Rows R W} {from : Ahead} {count : ℕ}
     (reads : RowsHere remaining contents p old from count) where
-  -- after a run
   pub rows_ran : {run : N.RowsRun} → N.RunRead remaining contents from old new (Ok run) → RowsHere remaining contents p new run.ahead (count + run.rows)
   rows_ran x columns known =
       let same = x.leaves.same.3 in
       let y = reads columns (rw same at known) in
       let ran = x.cells columns (rw same at known) y.0 in
-      rw same (ran.0, rowing_run y.1 (λ cells is. ran.1 old.table.now.charset cells refl is))
+      rw same (ran.0, rowing_run y.1 (grind arith))
 
-  -- a write of its text failed
   pub rows_broke : {stop : Stop} → IsInRow old → N.RunRead remaining contents from old new (Err stop) → (columns : List Column)
       → Knows old.table.now columns
       → N.RowsStop N.PlainRow old.table.now.charset columns p.seen (seen remaining new.payload.now) p.place p.held (held contents new.sink.now)
@@ -400,7 +379,6 @@ module _ {R W : Type 0} {remaining : R → Option (List ℕ)} {contents : W → 
 
   module _ {after : Ahead} {kind : Kind} (taken : (columns : List Column) → Knows old.table.now columns → N.IsAhead old.table.now columns from
       → N.TakesColumn old.table.now columns from after kind) {U : Type 0} where
-    -- after a cell
     pub rows_cell : {u : U} → N.CellRead remaining contents from kind old new (Ok u) → RowsHere remaining contents p new after count
     rows_cell x columns known =
         let same = x.leaves.same.3 in
@@ -409,7 +387,7 @@ module _ {R W : Type 0} {remaining : R → Option (List ℕ)} {contents : W → 
         let t = taken columns knows y.0 in
         rw same (
           t.ahead,
-          rw (sym t.further) at (rowing_cell (none_ahead (drop after.column columns) _) (rw t.next at y.1)
+          rw (N.sym t.further) at (rowing_cell (none_ahead (drop after.column columns) _) (rw t.next at y.1)
               (cell_read (λ k. false) x knows y.0 t)),
         )
 
@@ -420,7 +398,6 @@ module _ {R W : Type 0} {remaining : R → Option (List ℕ)} {contents : W → 
         let y = reads columns knows in
         cell_some _ _ (cell_read (λ k. false) x knows y.0 (taken columns knows y.0))
 
-    -- it stopped
     pub rows_stopped : {stop : Stop} → N.CellRead {U = U} remaining contents from kind old new (Err stop) → (columns : List Column)
         → Knows old.table.now columns
         → N.RowsStop N.PlainRow old.table.now.charset columns p.seen (seen remaining new.payload.now) p.place p.held (held contents new.sink.now)

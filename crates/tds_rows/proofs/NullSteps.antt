@@ -3,7 +3,7 @@ use Rattle.tds_rows.proofs.Words as N
 use Rattle.tds_rows.proofs.{
   Words.{◌≡◌, ◌∙◌, inl, inr, ℕ, ◌+◌, ◌-◌, ◌^◌, ◌<◌, ◌≤◌, Bool, true, false, List, [], ◌∷◌, ◌++◌, length, refl, sym, arith, Stop, Seen, Column, Held},
   Words.{Charset, Cell, CellPart, RowPart, next_cell, row, row_so_far},
-  RowSteps.{begun_text, coming, ends, line_grows, nulls_ahead, nulls_text, part_text, rest_of, PutsAt, StopsAt, cell_some, same_end, StopsCell},
+  RowSteps.{begun_text, coming, ends, line_grows, nulls_ahead, nulls_text, part_text, rest_of, PutsAt, StopsAt, cell_some, StopsCell},
   RowLaws.{begins_open, cell_in_row},
   Paths.{At, Path, path_both, path_map, path_none, path_of, path_stops, streams_of, writes_inside, over},
 }
@@ -62,7 +62,7 @@ module _ (charset : Charset) (cells : List Cell) (ks : List (Column × Bool)) wh
         at = up x.at;
         cause = elim x.cause [
           | inl y ↦ inl (
-            N.stops_inside _ _ up is _ _ _ _ _ _ (same_end charset cells ks x.at (N.stops_size _ _ _ _ _ _ _ y.0)) y.0,
+            N.stops_inside _ _ up is _ _ _ _ _ _ (grind arith) y.0,
             (
               y.1.0,
               N.added_between _ _ up is text row_so_far front (begun_text charset cells ks) (line_grows _ _) _ _ _ some
@@ -191,7 +191,6 @@ module _ {charset : Charset} {start : RowPart} {c : Column} {ks : List (Column �
       let one = cell_path _ c x.counted none y in
       record { cells = x.cells ++ one.0 ∷ []; counted = omega (arith, N.length-append x.cells (one.0 ∷ [])); path = path_both x.path one.1 }
 
-  -- it stopped the row
   pub cell_stops : {d : Seen} {j : Held} {failed : Bool} {stop : Stop} → Reads charset start ((c, false) ∷ ks) p q column
       → StopsAt charset c.kind column (ends ks) q d j failed stop → N.RowStops charset start p.seen d p.place p.held j failed stop
   cell_stops x y = path_stops x.path (marked_stops _ _ _ c (rw (sym x.counted) at y))

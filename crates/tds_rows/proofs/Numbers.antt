@@ -1,10 +1,10 @@
 -- The numbers of a long value, its length or total and those of its chunks, as elements of its cell: how each is judged, and where it leads.
 use Rattle.tds_rows.proofs.Words as N
-use Rattle.tds_packet.specs.declared.payload.Payload.{Payload as Input}
 use Rattle.tds_rows.proofs.{
-  Words.{◌-◌, if◌then◌else◌, ◌≡◌, ◌≢◌, ◌∙◌, ◌⊎◌, ℕ, ◌+◌, ◌<◌, List, [], refl, sym, ap, arith, Option, Some, None, ◌==◌, Fault, Stop, Seen, unit, CellPart},
+  Words.{◌-◌, if◌then◌else◌, ◌≡◌, ◌≢◌, ◌∙◌, ◌⊎◌, ℕ, ◌+◌, ◌<◌, List, [], refl, ap, arith, Option, Some, None, ◌==◌, Fault, Stop, Seen, unit, CellPart},
   Words.{ChunkLength, Total, cell},
 }
+use Rattle.tds_packet.specs.declared.payload.Payload.{Payload as Input}
 
 -- within a short value: this many bytes follow its data so far
 abbrev pub short_left : N.Conversion → ℕ → List ℕ → CellPart
@@ -34,8 +34,8 @@ number_stops : {column size place : ℕ} {s : CellPart} {fault : ℕ → Option 
     → N.RefusesNumber size fault a b place stop ⊎ N.CutsNumber size a b place stop → N.StopsReading (cell column) s a b place s stop
 number_stops {column = column} {place = place} {s = s} {a = a} {b = b} {stop = stop} some is _ first (N.inl x) =
     let r = x.reads in
-    N.subst (λ t. N.StopsReading (cell column) s a b place s t) (ap (λ q. record { fault = stop.fault; place = q }) (sym x.stands))
-    (N.refused_at_once _ s a b _ _ _ (omega arith) (r.whole ∙ sym is) (first _ x.n _ r.number x.first) r.takes r.between)
+    N.subst (λ t. N.StopsReading (cell column) s a b place s t) (grind arith)
+    (N.refused_at_once _ s a b _ _ _ (omega arith) (r.whole ∙ N.sym is) (first _ x.n _ r.number x.first) r.takes r.between)
 number_stops _ is end _ (N.inr x) = grind arith
 
 total_same : (column : ℕ) (c : N.Conversion) {size n : ℕ} (e : List ℕ) → size ≡ unit c → N.little e ≡ n
@@ -57,8 +57,6 @@ module _ {column : ℕ} (c : N.Conversion) {size : ℕ} (unit_is : size ≡ unit
 
     pub short_start : {k : ℕ} → answer ≡ Some k → Next column (N.ShortLength c) a b place place' (short_left c k [])
     short_start is = grind arith
-
-  -- ---- the total
 
   pub total_stops : {a b : Seen} {place : ℕ} {stop : Stop} → N.RefusesNumber 8 (N.total_fault column size) a b place stop ⊎ N.CutsNumber 8 a b place stop
       → N.StopsReading (cell column) (Total c) a b place (Total c) stop
@@ -104,8 +102,6 @@ same_failures e f = cc
 pub stops_after : {a b c : N.Failures} (stop : Stop) → b ≡ a → N.StopBlames b c stop → N.StopBlames a c stop
 stops_after _ e h = rw (← e) h
 
--- ---- the reader
-
 -- what a stop of the payload says of its reader
 abbrev pub ReadBlames : ℕ → ℕ → Stop → Type 0
 ReadBlames old new stop = (stop.fault ≡ N.WriteFailed → ⊥) × (stop.fault ≡ N.ReadFailed → new ≡ N.one_more old)
@@ -136,4 +132,4 @@ length_blames _ _ _ none (N.inl x) = grind arith
 length_blames {b = b} remaining old going _ (N.inr x) =
     let h = N.ends_blame remaining old b x.part x.own going x.ends in
     let is = ap (λ s. s.fault) x.stop_is in
-    (λ e. h.0 (sym is ∙ e), λ e. h.1 (sym is ∙ e))
+    (grind arith)

@@ -12,7 +12,6 @@ use Rattle.tds_rows.proofs.{
 
 -- ---- elements
 
--- no element was read
 step_none : {s : CellPart} {a : Seen} {place : ℕ} → N.IsBetween a → StepsOver s s a a place place
 step_none between = record { reads = grind arith; between = between; place_is = omega arith }
 
@@ -70,8 +69,6 @@ module _ {c : Conversion} {state : ℕ → List ℕ → CellPart} {Good : List �
         };
       }
 
--- ---- scalars
-
 -- a scalar's cell stops as any
 pub scalar_stops : {from : CellPart} {a b : Seen} {place : ℕ} {stop : Stop} → N.StallsCell from return_column a b place stop
     → N.StopsPassing from a b place stop
@@ -97,14 +94,10 @@ scalar_whole charset kind bytes scalar whole good = go _ refl
         let x = value_cell charset kind _ true bytes _ scalar _ _ refl refl (λ z. omega arith) (omega arith) (v.0, v.1, refl) in
         rw (N.take_all (N.value_start kind + N.value_length kind bytes) bytes (omega arith)) at (written_spelt x)
 
--- ---- pieces
-
--- nothing was passed over
 pub passes_none : {n : ℕ} {a : Seen} {place : ℕ} → n ≡ 0 → N.IsBetween a → PassesData n a a place place
 passes_none none between =
     grind arith
 
--- a piece more was
 pub passes_more : {m n k : ℕ} {a b d : Seen} {place middle place' : ℕ} → k ≡ m + n → PassesData m a b place middle → PassesData n b d middle place'
     → PassesData k a d place place'
 passes_more {m = m} {n = n} {a = a} {b = b} {d = d} sum x y = record {
@@ -141,8 +134,6 @@ scalar_passes {bytes = bytes} _ scalar x good =
       };
     }
 
--- ---- short values
-
 -- a value after what was read of it
 pub cell_after : {s t : CellPart} {a b d : Seen} {place middle place' : ℕ} → StepsOver s t a b place middle → N.PassesCell t b d middle place'
     → N.PassesCell s a d place place'
@@ -155,13 +146,11 @@ module _ {c : Conversion} {size n : ℕ} {a b d : Seen} {place middle : ℕ} (an
   short_passes even y = cell_after x (record {
     value = N.DataCell c y.bytes;
     steps = data_steps (short_holds return_column c) (any_begins any) [] y
-        (any.fit y.bytes (rw y.counted even));
+        (grind arith);
   })
 
   pub short_cuts : {stop : Stop} → N.CutsPassing n b d middle stop → N.StopsPassing (N.ShortLength c) a d place stop
   short_cuts y = stops_after_steps x (data_stops (short_holds return_column c) (any_begins any) [] y)
-
--- ---- chunks
 
 -- So many bytes of data were passed over, in whole chunks.
 pub record WalksChunks (c : Conversion) (total : Option ℕ) (sum : ℕ) (old new : Seen) (place place' : ℕ) : Type 0 where
@@ -173,14 +162,12 @@ pub chunks_none : {c : Conversion} {total : Option ℕ} {a : Seen} {place : ℕ}
 chunks_none between = record { content = []; counted = refl; steps = step_none between }
 
 module _ {c : Conversion} {total : Option ℕ} {sum : ℕ} {a b d : Seen} {place middle there : ℕ} (x : WalksChunks c total sum a b place middle) where
-  -- the terminator was read
   pub chunks_end : StepsOver (ChunkLength c total x.content) (N.WholeCell (N.DataCell c x.content)) b d middle there
       → N.PassesCell (ChunkLength c total []) a d place there
   chunks_end y = record { value = N.DataCell c x.content; steps = steps_both x.steps y }
 
   module _ {size n : ℕ} {e : Seen} (any : AnyData c size) (y : StepsOver (ChunkLength c total x.content) (chunk_left c total n x.content) b d middle
       there) where
-    -- a chunk more was passed over
     pub chunks_more : {place' : ℕ} → PassesData n d e there place' → WalksChunks c total (sum + n) a e place place'
     chunks_more z = record {
       content = x.content ++ z.bytes;
@@ -207,11 +194,9 @@ module _ {c : Conversion} {size : ℕ} (any : AnyData c size) where
 
   module _ {total : Option ℕ} {content : List ℕ} {sum n k place place' : ℕ} {a b : Seen} (counted : length content ≡ sum)
       (x : N.ReadsNumber 4 a b place place' n) (free : N.chunk_length_fault return_column size total sum n ≡ N.None) (is : k ≡ n) where
-    -- the terminator was read
     pub end_steps : k ≡ 0 → StepsOver (ChunkLength c total content) (N.WholeCell (N.DataCell c content)) a b place place'
     end_steps ends = grind (arith, steps_of)
 
-    -- the length of a chunk was read
     pub chunk_steps : k ≢ 0 → StepsOver (ChunkLength c total content) (chunk_left c total k content) a b place place'
     chunk_steps some = rw (N.sym is) at (steps_of (chunk_start c (N.sym any.unit_is) counted x free (λ e. some (is ∙ e))))
 

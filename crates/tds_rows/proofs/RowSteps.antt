@@ -9,15 +9,12 @@ use Rattle.tds_rows.proofs.{
 
 -- ---- fields in their line
 
--- a field after a comma
 pub after_some_column : (column : ℕ) {text : List ℕ} → column ≢ 0 → 44 ∷ text ≡ N.after_comma column text
 after_some_column _ h = grind arith
 
--- more after a field
 pub after_append : (column : ℕ) (a b : List ℕ) → N.after_comma column (a ++ b) ≡ N.after_comma column a ++ b
 after_append _ a b = grind arith
 
--- one field more
 pub joined_snoc : (fields : List (List ℕ)) (f : List ℕ) → joined fields ++ N.after_comma (length fields) f ≡ joined (fields ++ f ∷ [])
 joined_snoc [] f = refl
 joined_snoc (g ∷ []) f = sym (N.append_assoc g _ f)
@@ -61,7 +58,6 @@ StopsAt charset kind column last p d j failed stop = StopsCell charset kind colu
 pub start_quiet : (kind : Kind) (s : N.Shape) → N.field_so_far (cell_start kind s) ≡ None
 start_quiet _ s = grind arith
 
--- it has no text yet
 pub quiet_text : (column : ℕ) (last : Bool) (at : CellPart) → N.field_so_far at ≡ None → cell_so_far column last at ≡ []
 quiet_text _ _ at h = grind arith
 

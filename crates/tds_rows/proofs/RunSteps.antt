@@ -4,7 +4,7 @@ use Rattle.tds_rows.proofs.{
   Words.{false, ◌≡◌, ◌∙◌, ℕ, ◌+◌, ◌-◌, ◌≤◌, ◌<◌, Bool, List, [], ◌∷◌, ◌++◌, length, take, drop, refl, sym, ap, arith, true, Stop, held, Column, Charset},
   Words.{Cell, cell_start, shape, PlainRow, row, row_so_far, Writes, WritesRows, after_cells, lines, rows, rows_so_far, Kind, ◌^◌},
   NullSteps.row_cell,
-  RowSteps.{coming, ends_marked, line_grows, none_ahead, PutsCell, StopsCell},
+  RowSteps.{coming, line_grows, none_ahead, PutsCell, StopsCell},
   Paths.{At, writes_both, writes_inside, writes_none, over},
   TableSteps.next_column,
 }
@@ -43,9 +43,6 @@ used_more _ u _ = grind (arith, N.take-add, N.all_after)
 pub made_same : (made : ℕ) (to rest : List ℕ) → made ≤ length to → take made (take made to ++ rest) ≡ take made to
 made_same _ _ _ within = grind (arith, N.take-append-le, N.length-take-le, N.take_all)
 
--- ---- the size of a cell
-
--- how many bytes it has
 pub scalar_whole : (kind : Kind) (bytes : List ℕ) → N.is_scalar kind ≡ true → N.whole_size kind bytes ≡ N.scalar_size kind bytes
 scalar_whole _ _ h = grind arith
 
@@ -111,7 +108,7 @@ after_more {bytes = bytes} {made = made} {v = v} charset cells c left x =
     let n = length cells + 1 in
     N.subst (λ (k : ℕ). Writes (row charset) row_so_far (after_cells charset cells (c ∷ left)) bytes made
     (N.next_cell charset (cells ++ v ∷ []) (coming left k))) (sym (N.length-append cells _))
-    (row_cell _ _ _ c (none_ahead _ n) (rw (ends_marked _ (λ k. false) n) at x))
+    (row_cell _ _ _ c (none_ahead _ n) (grind arith))
 
 pub rows_none : {charset : Charset} {all : List Column} {cells : List Cell} {columns : List Column} {column : ℕ} → length cells ≡ column
     → WritesRows charset all cells columns columns column 0 [] []
@@ -124,7 +121,6 @@ pub record WritesCells (charset : Charset) (all : List Column) (cells : List Cel
   pub writes : Writes (row charset) row_so_far (after_cells charset cells (drop from all)) bytes made (after_cells charset more (drop to all))
 
 module _ {charset : Charset} {all : List Column} {cells : List Cell} {from : ℕ} where
-  -- one column more
   column_cells : {a b p q : List ℕ} (at : ℕ) → WritesCells charset all cells from at a p → N.WritesColumn charset all (λ k. false) at b q
       → WritesCells charset all cells from (at + 1) (a ++ b) (p ++ q)
   column_cells {b = b} {q = q} at x w =
@@ -139,7 +135,6 @@ module _ {charset : Charset} {all : List Column} {cells : List Cell} {from : ℕ
         writes = writes_both (rw w.next at x.writes) next;
       }
 
-  -- so many columns
   pub marked_cells : (n : ℕ) (b q : List ℕ) → length cells ≡ from → N.WritesMarked charset all (λ k. false) from n b q
       → WritesCells charset all cells from (from + n) b q
   marked_cells N.zero b q counted w = search N.rules
@@ -149,7 +144,6 @@ module _ {charset : Charset} {all : List Column} {cells : List Cell} {from : ℕ
       rw (w.4, w.5) (rw further at y)
 
 module _ {charset : Charset} {all : List Column} {cells : List Cell} {columns : List Column} {count : ℕ} where
-  -- so many columns more of the last row
   pub marked_writes : {a p : List ℕ} (at n : ℕ) (b q : List ℕ) → WritesRows charset all cells columns (drop at all) at count a p
       → N.WritesMarked charset all (λ k. false) at n b q → WritesRows charset all cells columns (drop (at + n) all) (at + n) count (a ++ b) (p ++ q)
   marked_writes at n b q x w =
@@ -182,7 +176,6 @@ module _ {charset : Charset} {all : List Column} {cells : List Cell} {columns : 
 -- ---- rows after rows
 
 module _ (charset : Charset) (all : List Column) (before : List (List Cell)) where
-  -- rows after these
   abbrev after_rows : N.RowsPart → N.RowsPart
   after_rows p = record { before = before ++ p.before; at = p.at }
 
@@ -216,7 +209,6 @@ pub whole_puts : (charset : Charset) (kind : Kind) (column : ℕ) (last : Bool) 
     → N.Takes p.seen q.seen bytes (length bytes) → q.place ≡ p.place + length bytes → N.Puts p.held q.held text
     → over (PutsCell charset kind column last) p q
 whole_puts _ _ _ _ p q _ _ x takes at puts =
-    let writes = cell_writes _ _ x in
     record {
       value = x.value;
       streams = grind arith;
@@ -224,16 +216,17 @@ whole_puts _ _ _ _ p q _ _ x takes at puts =
     }
 
 -- its bytes and more were passed over, and a write of its text failed
-pub whole_breaks : {bytes text : List ℕ} {a b : N.Seen} {place : ℕ} {h j : N.Held} {failed : Bool} {stop : Stop} (charset : Charset) (kind : Kind) {column : ℕ} {last : Bool} (rest : List ℕ) → N.WritesWhole (cell_start kind (shape charset kind)) column last bytes text
+pub whole_breaks : {bytes text : List ℕ} {a b : N.Seen} {place : ℕ} {h j : N.Held} {failed : Bool} {stop : Stop} (charset : Charset)
+    (kind : Kind) {column : ℕ} {last : Bool} (rest : List ℕ)
+    → N.WritesWhole (cell_start kind (shape charset kind)) column last bytes text
     → N.Takes a b (bytes ++ rest) 0 → N.IsBetween b → length h.waiting < 4096 → h.delivered ≤ 2 ^ 64 - 1 → N.Breaks h j text stop → failed ≡ true
     → StopsCell charset kind column last a b place h j failed stop
 whole_breaks {bytes = bytes} {a = a} {b = b} {h = h} {j = j} {stop = stop} _ _ {column} {last} rest x takes between few delivered breaks failed =
     let writes = cell_writes _ _ x in
     let broken = N.breaks_somewhere _ _ (line_grows column last) _ a b h j stop between _ bytes rest _ writes.spelt
-    (N.Takes-more a b _ 0 1 (omega arith) takes) few delivered writes.text_is breaks in
+    (grind arith) few delivered writes.text_is breaks in
     record { at = broken.0; cause = grind arith }
 
--- it was put at once
 pub put_whole : {W U : Type 0} {column place' : ℕ} {last : Bool} {bytes text : List ℕ} {contents : W → N.Option (List ℕ)} {old new : N.Sink W}
     {r : N.Result U Stop} (charset : Charset) (kind : Kind) (a b : N.Seen) (place : ℕ) → N.IsWriting old → N.IsBetween b
     → N.WritesWhole (cell_start kind (shape charset kind)) column last bytes text → N.Takes a b bytes 0 → place' ≡ place + length bytes
@@ -241,6 +234,6 @@ pub put_whole : {W U : Type 0} {column place' : ℕ} {last : Bool} {bytes text :
     → N.MatchResult r (λ _. PutsCell charset kind column last a b place place' (held contents old) (held contents new))
     (λ stop. StopsCell charset kind column last a b place (held contents old) (held contents new) new.failed stop)
 put_whole {bytes = bytes} {r = N.Ok u} _ _ a b _ _ _ x takes at puts =
-    whole_puts _ _ _ _ _ _ _ _ x (N.Takes-more a b bytes 0 _ (omega arith) takes) at puts.gives
+    whole_puts _ _ _ _ _ _ _ _ x (grind arith) at puts.gives
 put_whole {r = N.Err stop} _ _ a b _ going between x takes at puts =
     whole_breaks _ _ [] x (rw N.append-nil takes) between (going.ready.1 going.writing) going.ready.2 (puts.gives going.writing) puts.failed

@@ -1,13 +1,13 @@
 -- A call that reads what comes whole stops only where a device fails.
 use Rattle.tds_rows.proofs.Words as N
+use Rattle.tds_packet.specs.declared.payload.Payload.{Payload}
 use Rattle.tds_rows.proofs.{
-  Words.{◌≡◌, ◌∙◌, inl, inr, ℕ, ◌+◌, ◌<◌, List, [], ◌∷◌, ◌++◌, length, sym, ap, arith, Ok, Err, Option, Some, if◌then◌else◌, Rose, Fault, Stop, before},
-  Words.{Grammar, Spelt, Seen, Cell, Brings},
+  Words.{◌≡◌, ◌∙◌, inl, inr, ℕ, ◌+◌, ◌<◌, List, [], ◌∷◌, ◌++◌, length, ap, arith, Ok, Err, Option, Some, if◌then◌else◌, Rose, Fault, Stop, before, Grammar},
+  Words.{Spelt, Seen, Cell, Brings},
   CellLaws.cell_is_read,
-  RowLaws.{nbc_row_is_read, row_is_read, shape-HasBytes},
+  RowLaws.{nbc_row_is_read, row_is_read},
   RunSteps.{row_token, row_among_rows},
 }
-use Rattle.tds_packet.specs.declared.payload.Payload.{Payload}
 
 -- a call that fails raises the count
 pub rose : (f : ℕ) → Rose f (N.one_more f)
@@ -31,13 +31,13 @@ module _ {S : Type 0} (g : Grammar S Fault) (from to : S) (a b : Seen) (front mo
   refused_there at bytes fault spelt x =
       let e = x.element in
       let whole = x.whole in
-      let c = came _ _ x.takes.1.0 (λ zs. ap (λ c. c.bytes) (x.takes.1.1 zs)) in
+      let c = came _ _ x.takes.1.0 (grind arith) in
       let rest = e ++ (x.ahead ++ c.0) in
       let all = c.1 ∙ N.append_assoc _ x.ahead c.0 ∙ N.append_assoc bytes e _ in
       let refused : N.IsRefused g at rest fault = record {
         some = omega arith;
         whole = omega (arith, N.length-append e (x.ahead ++ c.0));
-        first = ap (λ k. g.fault at (N.take k rest)) (sym whole) ∙ ap (g.fault at) (N.take-append_seam e _) ∙ x.first;
+        first = ap (λ k. g.fault at (N.take k rest)) (N.sym whole) ∙ ap (g.fault at) (N.take-append_seam e _) ∙ x.first;
       } in
       (N.one_longest g _ _ _ _ _ _ (rw (← all) at (N.longest_refused g _ _ _ _ _ spelt refused)) last).1
 
@@ -74,8 +74,7 @@ pub none_stops : {S : Type 0} {a b : Seen} {place : ℕ} {h i : N.Held} {failed 
 none_stops {g} _ brings spelt none reads writes x = elim x.cause [
   | inl y ↦ none_stops_reading g _ _ _ _ brings spelt none reads y.0
   | inr y ↦
-      (let z = y.0 in
-      writes (N.subst (Rose _) (sym (z.breaks.9.0 ∙ ap N.one_more z.puts.2.4.0)) (rose _)))
+      (grind arith)
 ]
 
 -- ---- the calls
@@ -97,7 +96,7 @@ pub value_passes : {R U : Type 0} (remaining : R → Option (List ℕ)) (kind : 
     → N.ReadsOn remaining old new result (bytes ++ more)
 value_passes _ _ _ _ (Ok x) _ _ _ _ _ = grind arith
 value_passes _ _ _ _ (Err stop) _ _ _ passed spelt = λ brings reads.
-    let read = cell_is_read _ _ _ _ _ (shape-HasBytes N.return_charset _) spelt in
+    let read = cell_is_read _ _ _ _ _ (grind arith) spelt in
     absurd (none_stops_reading _ _ _ _ _ brings read N.refl reads passed.stops)
 
 pub long_is_read : (column : ℕ) (kind : N.Kind) (c : N.Conversion) (reach : N.Reach) (value : Cell) (bytes : List ℕ)
@@ -128,7 +127,6 @@ module _ (token : N.RowToken) (charset : N.Charset) (columns : List N.Column) (s
       → (earlier : List (List Cell)) × (last : List Cell) × Spelt all_rows (begun_after before) bytes (among earlier (N.WholeRow last))
   rows_are_read before first [] bytes h = (before, first, row_of_rows before first bytes h)
   rows_are_read before first (next ∷ later) _ h =
-      let byte = N.token_byte token in
       let from = begun_after before in
       let there = begun_after _ in
       let t = rows_are_read (before ++ first ∷ []) next later h.1 h.4 in
@@ -159,8 +157,7 @@ module _ (token : N.RowToken) (charset : N.Charset) (columns : List N.Column) (s
         let same = stopped_there all_rows _ _ _ _ front more brings (longest_rows _ t.0 t.1 front more t.2 none) reads place _ stop all in
         omega (arith, ap (N.row charset).size (ap (λ p. p.at) same)))
     | inr y ↦
-        (let z = y.0 in
-        writes (N.subst (Rose _) (sym (z.breaks.9.0 ∙ ap N.one_more (z.puts.2.4.0 ∙ x.streams.puts.2.4.0))) (rose _)))
+        (grind arith)
   ]
 
   pub rows_succeed : {R W : Type 0} (remaining : R → Option (List ℕ)) (contents : W → Option (List ℕ)) (old new : Payload R) (before after : N.Sink W)

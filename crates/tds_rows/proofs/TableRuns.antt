@@ -16,7 +16,6 @@ RowsBetween table columns old new count bytes text = IsAhead table columns new
     × ((charset : N.Charset) (cells : List Cell) → table.charset ≡ charset → length cells ≡ old.column
     → N.WritesRows charset columns cells (drop old.column columns) (drop new.column columns) new.column count bytes text)
 
--- nothing yet
 pub rows_begin : {table : Table} {from : Ahead} {bytes to : List ℕ}
     → RowsRan table from bytes to (record { used = 0; made = 0; rows = 0; ahead = from })
 rows_begin = grind (arith, rows_none)
@@ -24,7 +23,7 @@ rows_begin = grind (arith, rows_none)
 -- the token byte of a ROW is next
 begins_at : (used : ℕ) (bytes : List ℕ) → N.BeginsRow (unused used bytes) → (used < length bytes)
     × (N.get_or bytes used 0 ≡ 0xD1)
-begins_at _ _ begins = grind (arith, N.all_after, N.drop_more)
+begins_at _ _ begins = grind (arith, N.drop_more)
 
 -- one row more, after its token byte
 pub row_begun : {table : Table} {from start : Ahead} {bytes to : List ℕ} {run : N.RowsRun} → 0 < table.count → table.count ≤ run.ahead.column
@@ -93,7 +92,7 @@ pub marked_rows : {table : Table} {columns : List Column} {from to : Ahead} {p q
     → over (N.RunsRows charset columns cells (drop from.column columns) (drop to.column columns) to.column 0) p q)
 marked_rows {p = p} {q = q} x =
     let ran = marked_in_rows x.runs in
-    (ran.0, λ charset cells set is. runs_rows (ran.1 charset cells set is) (N.Takes-more p.seen q.seen x.bytes 0 _ (omega arith) x.takes) x.puts x.place_is)
+    (ran.0, λ charset cells set is. runs_rows (ran.1 charset cells set is) (grind arith) x.puts x.place_is)
 
 -- a write of their text failed, in the row that the run began in
 pub run_breaks : {table : Table} {columns : List Column} {from : Ahead} {a b : N.Seen} {h j : N.Held} {place : ℕ} {failed : Bool}
@@ -103,7 +102,7 @@ pub run_breaks : {table : Table} {columns : List Column} {from : Ahead} {a b : N
 run_breaks {table = table} {a = a} {b = b} {h = h} {j = j} {stop = stop} cells y counted few delivered =
     let x = marked_cells {charset = table.charset} {cells = cells} y.runs.count y.bytes _ counted y.runs.writes in
     let broken = N.breaks_somewhere _ N.row_so_far (row_grows table.charset) _ a b h j stop y.between _ y.bytes N.[] _ x.writes.spelt
-    (rw N.append-nil (N.Takes-more a b y.bytes 0 1 (omega arith) y.takes)) few delivered x.writes.text_is y.breaks in
+    (rw N.append-nil (grind arith)) few delivered x.writes.text_is y.breaks in
     record { at = broken.0; cause = grind arith }
 
 -- what stands after what was made may be another
@@ -125,7 +124,7 @@ rows_further {bytes = bytes} {to = to} {run = run} {more = more} text rest is x 
     λ charset cells set counted. (let w = u.1 charset cells set counted in rw (
       used_more run.used more.used bytes,
       made_more run.made more.made to text rest x.made y.made,
-    ) (rows_both w (rw is at (v.1 charset w.more set w.counted)))),
+    ) (rows_both w (grind arith))),
   ));
 }
 
@@ -160,14 +159,11 @@ module _ (charset : N.Charset) (columns : List Column) where
   marked_clear _ _ N.zero _ _ _ x = x
   marked_clear nulls from (suc n) _ _ clear x =
       let last = x.7 in
-      let writes = N.subst (λ e. N.WritesNext charset e last.column.kind (from + n) (N.is_last_column last.left) x.1 x.3)
-      (sym (clear (from + n) (omega arith) (omega arith))) last.writes in
       let one : N.WritesColumn charset columns nulls (from + n) x.1 x.3 =
       grind arith in
-      (x.0, x.1, x.2, x.3, x.4, x.5, marked_clear _ _ n _ _ (λ k least most. clear k least (omega arith)) x.6, one)
+      (x.0, x.1, x.2, x.3, x.4, x.5, marked_clear _ _ n _ _ (grind arith) x.6, one)
 
 module _ {table : Table} {columns : List Column} {nulls : ℕ → Bool} {at : Ahead} where
-  -- one cell
   pub runs_column : {after : Ahead} {kind : N.Kind} {last : Bool} {bytes text : List ℕ} → N.TakesColumn table columns at after kind
       → last ≡ N.is_last_column (drop after.column columns) → N.WritesNext table.charset (nulls at.column) kind at.column last bytes text
       → RunsMarked table columns nulls at after bytes text
@@ -250,7 +246,6 @@ module _ (table : Table) (from : Ahead) (end : ℕ) (forms : List Form) (within 
         → RunsMarked table columns (λ k. false) from to (take run.used bytes) (take run.made text)
     forms_between _ knows is _ _ _ _ further there x = grind (arith, N.length-drop)
 
-  -- the first was left
   pub first_left : {bytes : List ℕ} {room : ℕ} → N.FirstLeft table.charset forms bytes room
       → (columns : List Column) (column : Column) (left : List Column) → Knows table columns → IsAhead table columns from
       → drop from.column columns ≡ column ∷ left
@@ -260,8 +255,5 @@ module _ (table : Table) (from : Ahead) (end : ℕ) (forms : List Form) (within 
       let n = first_next first.2 columns knows is in
       elim (x first.0 first.1 first.2) [
         | inl few ↦ inl few
-        | inr y ↦ inr (
-          N.refl,
-          rw (n.kind ∙ ap (λ r. (N.get_or r 0 column).kind) (sym n.next ∙ step)) at y,
-        )
+        | inr y ↦ inr (grind arith)
       ]

@@ -12,13 +12,12 @@ pub next_column : (columns : List Column) (k : ℕ) {c : Column} {rest : List Co
 next_column columns k {c} h =
     let within : k < length columns = omega (arith, N.length-drop k columns, ap length h) in
     let more = sym (N.drop_more columns k c within) ∙ h in
-    (within, (ap (λ (l : List Column). get_or l 0 c) more, ap (drop 1) more))
+    (grind arith)
 
--- one column more is known
 pub first_more : (forms : List Form) (columns : List Column) (k : ℕ) (f : Form) {c : Column} {rest : List Column} → k < length forms
     → map (λ f. f.kind) (take k forms) ≡ N.kinds (take k columns) → drop k columns ≡ c ∷ rest → f.kind ≡ c.kind
     → map (λ f. f.kind) (take (k + 1) (N.slice_set forms k f)) ≡ N.kinds (take (k + 1) columns)
-first_more _ _ k f within first h is = grind (arith, N.common_steps, next_column, N.take_more)
+first_more _ _ k f within first h is = grind (arith, N.common_steps, next_column)
 
 -- the kind of a column that is known
 pub known_kind : (forms : List Form) (columns : List Column) (n k : ℕ) (f : Form) (c : Column)
@@ -67,7 +66,6 @@ pub walk_after : (walk new : N.Walk) (column : N.Option walks.Column) → N.Yiel
     → columns_left new ≡ drop 1 (columns_left walk)
 walk_after _ _ _ y = grind arith
 
--- the next column was taken
 pub takes : {table : N.Table} {columns : List Column} {old new : Ahead} {kind : Kind} → N.NextColumn columns old kind → new.column ≡ old.column + 1
     → IsAhead table columns new → N.TakesColumn table columns old new kind
 takes x further ahead = grind (arith, next_column)

@@ -1,6 +1,7 @@
 use Rattle.tds_rows.proofs.rows.Rows.nbc_rows.Goals as goal
-use Rattle.tds_rows.{
-  proofs.{Words.{NbcRow, ◌∙◌, refl, sym, ap, arith, rules, passed}, NextSteps.{rows_first, rows_row, rows_stop, rows_token, stays, stays_after, stays_on}},
+use Rattle.tds_rows.proofs.{
+  Words.{NbcRow, ◌∙◌, refl, sym, ap, arith, passed},
+  NextSteps.{rows_first, rows_row, rows_stop, rows_token, stays, stays_after, stays_on},
 }
 
 pub loop-ended-init : goal.loop-ended-init

@@ -1,6 +1,6 @@
 use Rattle.tds_rows.proofs.rows.Rows.put_gathered.Goals as goal
 use Rattle.tds_rows.proofs.{
-  Words.{◌∙◌, take, sym, arith, rules, take_all, passed},
+  Words.{◌∙◌, sym, arith, take_all, passed},
   BufferedCells.{cell_reads, put_cell as cell_put},
   CellSteps.left_stalls,
   RowSteps.at_once_stalls,

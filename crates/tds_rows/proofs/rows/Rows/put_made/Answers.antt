@@ -1,4 +1,4 @@
-use Rattle.tds_rows.proofs.Words.{arith, passed, buffered, take}
+use Rattle.tds_rows.proofs.Words.{arith, passed, take}
 
 pub returns-in_err-put-clause-run : Rattle.tds_rows.proofs.rows.Rows.put_made.Goals.returns-in_err-put-clause-run
 returns-in_err-put-clause-run g c = λ nulls from writes.

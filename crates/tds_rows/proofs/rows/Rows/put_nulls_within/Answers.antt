@@ -1,6 +1,6 @@
 use Rattle.tds_rows.proofs.rows.Rows.put_nulls_within.Goals as goal
 use Rattle.tds_rows.proofs.{
-  Words.{◌≡◌, ◌∙◌, ap, sym, ◌-◌, ◌+◌, ◌≤◌, length, take, arith, rules, length-take, drop-drop, buffered, held},
+  Words.{◌≡◌, ◌∙◌, ap, sym, ◌-◌, ◌+◌, ◌≤◌, length, take, arith, length-take, drop-drop, buffered, held},
   BufferedCells.kept_text,
   NextSteps.all_waits,
 }

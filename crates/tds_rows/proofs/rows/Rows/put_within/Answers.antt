@@ -15,6 +15,6 @@ returns-clause-rows g c = λ columns knows ahead.
     let puts = kept_text _ _ _ _ _ c.run_rows-run.auto.to c.waiting-waiting.ensures _ c.commit.ensures.gives in (
       ran.0,
       λ charset cells set is. runs_rows {p = here g.R.Read.remaining g.W.Write.contents c.args.self.now}
-          {q = at_of g.R.Read.remaining g.W.Write.contents c.consume.new.self c.commit.new.self} (rw c.buffered-bytes.ensures at (ran.1 charset cells set is)) takes
-          puts at,
+          {q = at_of g.R.Read.remaining g.W.Write.contents c.consume.new.self c.commit.new.self}
+          (rw c.buffered-bytes.ensures at (ran.1 charset cells set is)) takes puts at,
     )

@@ -1,6 +1,6 @@
 use Rattle.tds_rows.proofs.rows.Rows.row.Goals as goal
 use Rattle.tds_rows.proofs.{
-  Words.{drop, false, sym, passed},
+  Words.{sym, passed},
   NextSteps.{cell_read, stays, stays_after, stays_on},
   NullSteps.{cell_reads, cell_stops, row_begins, row_ends},
   RowSteps.none_ahead,

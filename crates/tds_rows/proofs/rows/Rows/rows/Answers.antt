@@ -105,4 +105,11 @@ loop-run-smaller g c =
     let known = rw (sym run.leaves.same.3) at l.invariant.knows in
     let kept = stays_after l.invariant.stays.in_row run.leaves in
     let done = c.in_ok-put_cell.ensures in
-    omega (arith, cell_further (rows_ran l.invariant.reads run) c.in-Some.ensures.taken done known.0 known.1, run.place, done.leaves.payload.sound.wire, done.leaves.payload.same.3, kept.payload.3)
+    omega (
+      arith,
+      cell_further (rows_ran l.invariant.reads run) c.in-Some.ensures.taken done known.0 known.1,
+      run.place,
+      done.leaves.payload.sound.wire,
+      done.leaves.payload.same.3,
+      kept.payload.3,
+    )

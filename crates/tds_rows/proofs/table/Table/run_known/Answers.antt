@@ -1,5 +1,5 @@
 use Rattle.tds_rows.proofs.table.Table.run_known.Goals as goal
-use borrow.Rule.Slice.PartMut.{post_of, put_mid, same_len_mid}
+use borrow.Rule.Slice.PartMut.{put_mid, same_len_mid}
 use Rattle.tds_rows.proofs.Words as N
 use Rattle.tds_rows.proofs.{
   Words.{◌∷◌, arith, ◌≡◌, ◌∙◌, ◌+◌, ◌-◌, length},

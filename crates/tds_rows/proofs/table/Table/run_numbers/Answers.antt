@@ -1,9 +1,14 @@
 use Rattle.tds_rows.proofs.table.Table.run_numbers.Goals as goal
-use Rattle.tds_rows.specs.FormRuns.{IsLastRow}
 use Rattle.tds_rows.proofs.Words as N
+use Rattle.tds_rows.specs.FormRuns.{IsLastRow}
 use Rattle.tds_rows.proofs.{
   Words.{inl, ap, refl, inr, arith, sym, ◌≡◌, ◌+◌, ◌-◌, ◌<◌, length},
-  table.Table.run_numbers.Goals.{else-loop-used-test, then-loop-used-test+else-made-latest, then-loop-used-test+then-made-latest+in_default-run_row as row_refused, then-loop-used-test+then-made-latest+in-Some-run_row+then-not-row_follows as row_last},
+  table.Table.run_numbers.Goals.{
+    else-loop-used-test,
+    then-loop-used-test+else-made-latest,
+    then-loop-used-test+then-made-latest+in_default-run_row as row_refused,
+    then-loop-used-test+then-made-latest+in-Some-run_row+then-not-row_follows as row_last,
+  },
   FormSteps.too_late,
   RunSteps.made_same,
   TableRuns.{forms_between, known_ahead, row_begun, rows_begin, rows_kept, rows_more},
@@ -33,7 +38,9 @@ loop-used-preserved c =
     (sym c.requires.first) (rw c.row-row.ensures.row at (row.row table.charset).cells) in
     let cells = rows_more {cells = record { used = run.used; made = run.made; ahead = end }} text _
     (row.within.some (omega arith)) (search arith) (search arith) (λ columns knows is.
-    forms_between table from table.count _ (omega arith) forms N.true (sym (N.eq-eqb _ _ (omega (arith, N.length-take table.known (N.drop from.column table.forms), N.length-drop from.column table.forms)))) columns knows is end _ _ run
+    forms_between table from table.count _ (omega arith) forms N.true
+    (sym (N.eq-eqb _ _ (omega (arith, N.length-take table.known (N.drop from.column table.forms), N.length-drop from.column table.forms))))
+    columns knows is end _ _ run
     (omega arith) (after_known {old = from} {new = end} knows is {cells = table.count} (omega arith)
     (omega arith) (inr (omega arith)) refl) wrote) c.loop-used.invariant.ran in
     record {

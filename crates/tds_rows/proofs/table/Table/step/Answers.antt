@@ -1,5 +1,5 @@
 use Rattle.tds_rows.proofs.{
-  Words.{inl, inr, ◌≡◌, ◌∙◌, ◌+◌, ◌⊎◌, ◌≤◌, ap, arith, columns_left},
+  Words.{inl, inr, ◌≡◌, ◌∙◌, ◌⊎◌, ap, arith, columns_left},
   table.Table.step.Goals.{then-cells-gt0+then-at-self, else-cells-gt0, else-cells-gt0-via-then-cells-gt0+else-at-self, else-cells-gt0-via-else-cells-gt0},
   TableSteps.{after_known, after_walked, walk_after},
 }

@@ -1,8 +1,8 @@
 use Rattle.tds_rows.proofs.cell.streamed.LongValue.chunks.Goals as goal
 use Rattle.tds_rows.proofs.{
-  Words.{◌≡◌, ◌∙◌, arith, refl, rules, sym, MatchResult-weaker, passed},
+  Words.{◌∙◌, arith, refl, rules, sym, MatchResult-weaker, passed},
   LongValues.{chunk_path, chunks_end_stops, chunks_whole, streamed_more, streamed_none, reading_stops, rest_none, chunk_holds, filling_stops},
-  Numbers.{chunk_stops, chunk_blames, length_blames, read_stops, same_failures, stops_after},
+  Numbers.{chunk_stops, length_blames, read_stops, same_failures, stops_after},
   Paths.path_stops,
 }
 

@@ -16,7 +16,8 @@ invariant-loop-left g l = record {
   filled : (c : N.Conversion) (content : N.List N.ℕ)
       → N.Suits g.J.Joiner.fit g.J.Joiner.begins g.J.Joiner.rest g.J.Joiner.text g.J.Joiner.UNIT g.J.Joiner.QUOTED c
       → g.J.Joiner.withheld l.initial.self.joiner.now ≡ N.conversion_rest c content → N.BeginsData c content
-      → Filled c content (g.J.Joiner.withheld l.self.joiner.now) (at_of g.R.Read.remaining g.W.Write.contents l.initial.self.payload.now l.initial.self.sink.now)
+      → Filled c content (g.J.Joiner.withheld l.self.joiner.now)
+      (at_of g.R.Read.remaining g.W.Write.contents l.initial.self.payload.now l.initial.self.sink.now)
       (at_of g.R.Read.remaining g.W.Write.contents l.self.payload.now l.self.sink.now) l.n l.left;
 }
 
