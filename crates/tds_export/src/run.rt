@@ -14,7 +14,7 @@ use tds_meter::Areas;
 use tds_packet::{Counted, Payload, Stop};
 
 // Delivers what waits if the writer hasn't failed, and returns the stop with what it took.
-#[tactic(auto, using(crate::proofs::Exports::tidies))]
+#[tactic(auto, using(crate::proofs::Endings::tidies))]
 fn stop_at<W: Write>(sink: &mut Sink<W>, stop: Stop) -> Stopped
     requires { IsReady sink.old }
     ensures ready { IsReady sink.new }

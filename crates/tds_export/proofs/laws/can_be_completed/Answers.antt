@@ -1,5 +1,5 @@
-use Rattle.tds_export.proofs as N
-use N.laws.can_be_completed.Goals as goal
+use Rattle.tds_export.proofs.laws.can_be_completed.Goals as goal
+use Rattle.tds_export.proofs.CompletedResponses.{can_be_completed}
 
 pub returns : goal.returns
-returns c = N.can_be_completed
+returns c = can_be_completed

@@ -1,5 +1,5 @@
-use Rattle.tds_export.proofs as N
-use N.notice.lengths_fit.Goals as goal
+use Rattle.tds_export.proofs.notice.lengths_fit.Goals as goal
+use Rattle.tds_export.proofs.Words.{rules}
 
 pub returns : goal.returns
-returns c = search N.rules
+returns c = search rules

@@ -1,5 +1,5 @@
-use Rattle.tds_export.proofs as N
-use N.set.put_names.Given as goal
+use Rattle.tds_export.proofs.set.put_names.Given as goal
+use Rattle.tds_export.proofs.{Words.{columns_left, columns_of}, NameTexts.NamesPut}
 
 abbrev pub invariant-names : goal.invariant-names
-invariant-names g l = N.NamesPut g.W.Write.contents (N.columns_of l.fn.columns.bytes.now) (N.columns_left l.column-iterator) l.first l.initial.sink l.sink
+invariant-names g l = NamesPut g.W.Write.contents (columns_of l.fn.columns.bytes.now) (columns_left l.column-iterator) l.first l.initial.sink l.sink

@@ -1,13 +1,12 @@
-use Rattle.tds_export.proofs as N
-use N.exporter.Exporter.done_in_proc.Goals as goal
-use N.{refl}
+use Rattle.tds_export.proofs.exporter.Exporter.done_in_proc.Goals as goal
+use Rattle.tds_export.proofs.{Words.{passed, refl, rules}, TokenSteps.{done_in_proc_reads, stops_first, step_read}, ResponseLaws.part_cut}
 
 pub returns-in_err-pass : goal.returns-in_err-pass
-returns-in_err-pass g c = N.step_read c.requires.running (search N.rules) (λ tokens begun.
+returns-in_err-pass g c = step_read c.requires.running (search rules) (λ tokens begun.
     let cut = c.in_err-pass.ensures.part c.requires.running.payload.going in
-    N.passed _ _ _ _ c.from_residual.ensures.1 (N.stops_first begun refl refl (N.part_cut refl refl cut.fewer cut.ends cut.stop_is)))
+    passed _ _ _ _ c.from_residual.ensures.1 (stops_first begun refl refl (part_cut refl refl cut.fewer cut.ends cut.stop_is)))
 
 pub returns : goal.returns
-returns g c = N.step_read c.requires.running (search N.rules) (λ tokens begun.
+returns g c = step_read c.requires.running (search rules) (λ tokens begun.
     let all = c.in_ok-pass.ensures.all in
-    N.done_in_proc_reads _ begun _ _ c.in_ok-pass.ensures.place all.counted all.takes)
+    done_in_proc_reads _ begun _ _ c.in_ok-pass.ensures.place all.counted all.takes)

@@ -1,10 +1,10 @@
-use Rattle.tds_export.proofs as N
-use N.exporter.Exporter.info.Goals as goal
+use Rattle.tds_export.proofs.exporter.Exporter.info.Goals as goal
+use Rattle.tds_export.proofs.{Words.{AnInfo, passed, refl, rules}, Bodies.{info_reads, notice_stops}, TokenSteps.step_read}
 
 pub returns-in_err-take_notice : goal.returns-in_err-take_notice
-returns-in_err-take_notice g c = N.step_read c.requires.running (search N.rules)
-    (λ tokens begun. N.passed _ _ _ _ c.from_residual.ensures.1 (N.notice_stops _ begun (c.in_err-take_notice.ensures.gives _ _ tokens N.AnInfo N.refl)))
+returns-in_err-take_notice g c = step_read c.requires.running (search rules)
+    (λ tokens begun. passed _ _ _ _ c.from_residual.ensures.1 (notice_stops _ begun (c.in_err-take_notice.ensures.gives _ _ tokens AnInfo refl)))
 
 pub returns : goal.returns
-returns g c = N.step_read c.requires.running (search N.rules)
-    (λ tokens begun. N.info_reads _ begun (c.in_ok-take_notice.ensures.gives _ _ tokens N.AnInfo N.refl))
+returns g c = step_read c.requires.running (search rules)
+    (λ tokens begun. info_reads _ begun (c.in_ok-take_notice.ensures.gives _ _ tokens AnInfo refl))

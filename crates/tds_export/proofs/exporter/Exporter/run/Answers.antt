@@ -1,6 +1,8 @@
-use Rattle.tds_export.proofs as N
-use N.exporter.Exporter.run.Goals as goal
-use N.{ap, false, held, refl, rules, true, ◌∙◌, ◌≡◌}
+use Rattle.tds_export.proofs.exporter.Exporter.run.Goals as goal
+use Rattle.tds_export.proofs.{
+  Words.{ap, arith, false, held, inl, inr, passed, refl, rules, true, ◌∙◌, ◌≡◌},
+  RunSteps.{completes, runs_none, runs_on, runs_same, stops_at_end, stops_end, stops_on},
+}
 
 pub tokens-init : goal.tokens-init
 tokens-init g c = record {
@@ -12,8 +14,8 @@ tokens-init g c = record {
   token = refl;
   notice = refl;
   small = refl;
-  forward = omega N.arith;
-  runs = λ tracks empty noted. N.runs_none c.requires.sink.ready.2 tracks empty noted;
+  forward = omega arith;
+  runs = λ tracks empty noted. runs_none c.requires.sink.ready.2 tracks empty noted;
 }
 
 pub tokens-preserved : goal.tokens-preserved
@@ -26,17 +28,18 @@ tokens-preserved g c = record {
   token = c.in_ok-token.ensures.leaves.areas.token.room ∙ c.tokens.invariant.token;
   notice = c.in_ok-token.ensures.leaves.areas.notice.room ∙ c.tokens.invariant.notice;
   small = c.in_ok-token.ensures.leaves.areas.small.room ∙ c.tokens.invariant.small;
-  forward = omega (N.arith, c.in_ok-token.ensures.leaves.forward);
+  forward = omega (arith, c.tokens.invariant.forward, c.in_ok-token.ensures.leaves.forward);
   runs = λ tracks empty noted.
       let x = c.tokens.invariant.runs tracks empty noted in
-      N.runs_on x c.tokens.invariant.same.6 c.tokens.invariant.room (rw c.if-branch.true at (c.in_ok-token.ensures.gives x.tokens x.tracks x.holds x.noted));
+      runs_on x c.tokens.invariant.same.6 c.tokens.invariant.room
+      (rw c.if-branch.true at (c.in_ok-token.ensures.gives x.tokens x.tracks x.holds x.noted));
 }
 
 pub returns-in_err-token-clause-gives : goal.returns-in_err-token-clause-gives
 returns-in_err-token-clause-gives g c = λ tracks empty noted.
     let x = c.tokens.invariant.runs tracks empty noted in
-    N.passed _ _ _ _ c.from_residual.ensures.1 (N.inl
-    (N.stops_on x c.tokens.invariant.same.6 c.tokens.invariant.room (c.in_err-token.ensures.gives x.tokens x.tracks x.holds x.noted)))
+    passed _ _ _ _ c.from_residual.ensures.1 (inl
+    (stops_on x c.tokens.invariant.same.6 c.tokens.invariant.room (c.in_err-token.ensures.gives x.tokens x.tracks x.holds x.noted)))
 
 pub returns-then-not-self-clause-gives : goal.returns-then-not-self-clause-gives
 returns-then-not-self-clause-gives g c = λ tracks empty noted.
@@ -44,7 +47,7 @@ returns-then-not-self-clause-gives g c = λ tracks empty noted.
     let y = rw c.if-branch.false at (c.in_ok-token.ensures.gives first.tokens first.tracks first.holds first.noted) in
     let open_end : c.token.new.self.progress.is_final ≡ false = search rules in
     let sink = c.in_ok-token.ensures.leaves.running.sink in
-    rw (c.in_payload.ensures, c.place-place.ensures) (N.inl (N.stops_end (N.runs_same first y.place (ap
+    rw (c.in_payload.ensures, c.place-place.ensures) (inl (stops_end (runs_same first y.place (ap
     (held g.W.Write.contents) y.sink) y.progress y.area y.notice) y.takes y.over sink.writing sink.ready.2 open_end))
 
 pub returns-in_err-finish-clause-gives : goal.returns-in_err-finish-clause-gives
@@ -52,8 +55,9 @@ returns-in_err-finish-clause-gives g c = λ tracks empty noted.
     let first = c.tokens.invariant.runs tracks empty noted in
     let y = rw c.if-branch.false at (c.in_ok-token.ensures.gives first.tokens first.tracks first.holds first.noted) in
     let final : c.token.new.self.progress.is_final ≡ true = search rules in
-    N.passed _ _ _ _ c.from_residual-in_err-finish.ensures.1 (N.inr (
-      N.stops_at_end (N.runs_same first y.place (ap (held g.W.Write.contents) y.sink) y.progress y.area y.notice) y.takes y.over final
+    passed _ _ _ _ c.from_residual-in_err-finish.ensures.1 (inr (
+      stops_at_end (runs_same first y.place (ap
+          (held g.W.Write.contents) y.sink) y.progress y.area y.notice) y.takes y.over final
           (c.in_err-finish.ensures.gives c.in_ok-token.ensures.leaves.running.sink.writing),
       c.in_err-finish.ensures.failed,
     ))
@@ -62,9 +66,10 @@ pub returns-clause-gives : goal.returns-clause-gives
 returns-clause-gives g c = λ tracks empty noted.
     let first = c.tokens.invariant.runs tracks empty noted in
     let y = rw c.if-branch.false at (c.in_ok-token.ensures.gives first.tokens first.tracks first.holds first.noted) in
-    let x = N.runs_same first y.place (ap (held g.W.Write.contents) y.sink) y.progress y.area y.notice in
+    let x = runs_same first y.place (ap (held g.W.Write.contents) y.sink) y.progress y.area y.notice in
     let final : c.token.new.self.progress.is_final ≡ true = search rules in (
-      N.completes x y.takes y.over final c.in_ok-finish.ensures.gives (ap (λ n. record c.token.new.self.progress.report { written = n }) c.delivered.ensures),
+      completes x y.takes y.over final c.in_ok-finish.ensures.gives (ap
+          (λ n. record c.token.new.self.progress.report { written = n }) c.delivered.ensures),
       x.noted,
     )
 
@@ -73,9 +78,9 @@ returns-clause-leaves g c =
     let running = c.in_ok-token.ensures.leaves.running in
     record {
       same = search rules;
-      payload = search rules;
+      payload = search (rules, running);
       sink = search rules;
-      areas = search rules;
-      forward = omega (N.arith, c.in_ok-token.ensures.leaves.forward);
-      running = search rules;
+      areas = search (rules, running);
+      forward = omega (arith, c.tokens.invariant.forward, c.in_ok-token.ensures.leaves.forward);
+      running = search (rules, running);
     }

@@ -1,6 +1,6 @@
-use Rattle.tds_export.proofs as N
-use N.exporter.Exporter.run.Given as goal
-use N.{[], ◌-◌, ◌≡◌, ◌≤◌}
+use Rattle.tds_export.proofs.exporter.Exporter.run.Given as goal
+use Rattle.tds_export.proofs.Words as N
+use Rattle.tds_export.proofs.{Words.{[], ◌-◌, ◌≡◌, ◌≤◌}, RunSteps.Runs}
 
 abbrev pub invariant-tokens : goal.invariant-tokens
 invariant-tokens g l = record {
@@ -15,7 +15,7 @@ invariant-tokens g l = record {
   forward : l.initial.self.payload.now.place ≤ l.self.payload.now.place;
   runs : N.Tracks l.initial.self.progress [] → l.initial.self.description.now ≡ N.empty l.initial.self.description.now.room
       → N.IsNoted l.initial.self.notice.now [] →
-      N.Runs l.initial.self.charset (N.view_of g.R.Read.remaining g.W.Write.contents l.initial.self)
+      Runs l.initial.self.charset (N.view_of g.R.Read.remaining g.W.Write.contents l.initial.self)
       (N.view_of g.R.Read.remaining g.W.Write.contents l.self) l.self.progress;
 }
 

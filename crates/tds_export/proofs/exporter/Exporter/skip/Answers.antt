@@ -1,20 +1,26 @@
-use Rattle.tds_export.proofs as N
-use N.exporter.Exporter.skip.Goals as goal
-use N.{refl, ◌∙◌, ◌≡◌}
+use Rattle.tds_export.proofs.exporter.Exporter.skip.Goals as goal
+use Rattle.tds_export.proofs.{
+  Words.{length, passed, refl, rules, ◌∙◌, ◌≡◌},
+  TokenSteps.{begun_in, stops_first},
+  ResponseLaws.fill_cut,
+  Bodies.{quiet_reads, quiet_stops},
+}
 
 pub returns-in_err-fill-clause-gives : goal.returns-in_err-fill-clause-gives
 returns-in_err-fill-clause-gives g c = λ which quiet tokens tracks holds noted.
-    let two : N.length c.fill.new.to ≡ 2 = search N.rules in
-    N.passed _ _ _ _ c.from_residual.ensures.1 (N.stops_first (N.begun_in g.R.Read.remaining g.W.Write.contents c.requires.running tracks holds noted) refl
-    refl (N.fill_cut refl refl two (c.in_err-fill.ensures.part c.requires.running.payload.going)))
+    let two : length c.fill.new.to ≡ 2 = search rules in
+    passed _ _ _ _ c.from_residual.ensures.1 (stops_first (begun_in g.R.Read.remaining g.W.Write.contents c.requires.running tracks holds noted) refl
+    refl (fill_cut refl refl two (c.in_err-fill.ensures.part c.requires.running.payload.going)))
 
 pub returns-in_err-pass-clause-gives : goal.returns-in_err-pass-clause-gives
 returns-in_err-pass-clause-gives g c = λ which quiet tokens tracks holds noted.
     let cut = c.in_err-pass.ensures.part c.in_ok-fill.ensures.payload.going in
-    N.passed _ _ _ _ c.from_residual-in_err-pass.ensures.1
-    (N.quiet_stops _ (N.begun_in g.R.Read.remaining g.W.Write.contents c.requires.running tracks holds noted) quiet (record {
-      two = search N.rules;
-      is = c.from.ensures ∙ c.read_u16-length.ensures;
+    passed _ _ _ _ c.from_residual-in_err-pass.ensures.1
+    (quiet_stops _ (begun_in g.R.Read.remaining g.W.Write.contents c.requires.running tracks holds noted) quiet
+    (record {
+      two = search rules;
+      is = c.from.ensures
+          ∙ c.read_u16-length.ensures;
       takes = c.in_ok-fill.ensures.all;
       at = c.in_ok-fill.ensures.place;
     }) cut.fewer cut.ends cut.stop_is)
@@ -22,9 +28,11 @@ returns-in_err-pass-clause-gives g c = λ which quiet tokens tracks holds noted.
 pub returns-clause-gives : goal.returns-clause-gives
 returns-clause-gives g c = λ which quiet tokens tracks holds noted.
     let all = c.in_ok-pass.ensures.all in
-    N.quiet_reads _ (N.begun_in g.R.Read.remaining g.W.Write.contents c.requires.running tracks holds noted) quiet (record {
-      two = search N.rules;
-      is = c.from.ensures ∙ c.read_u16-length.ensures;
+    quiet_reads _ (begun_in g.R.Read.remaining g.W.Write.contents c.requires.running tracks holds noted) quiet
+    (record {
+      two = search rules;
+      is = c.from.ensures
+          ∙ c.read_u16-length.ensures;
       takes = c.in_ok-fill.ensures.all;
       at = c.in_ok-fill.ensures.place;
     }) _ all.counted all.takes

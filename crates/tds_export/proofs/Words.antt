@@ -4,7 +4,7 @@ pub use Rattle.std.proofs.{
   Common.{Result, Ok, Err, ◌-◌, ◌^◌, ◌<◌, Bool, false, length-append, zero, suc, ◌%◌, true, replicate, add-one, Option, ◌*◌, slice_index, map, ◌⊎◌},
   Common.{MatchResult, unsigned_abs, length-take, ◌/◌, length-drop, max, take-add, drop-cons, length-take-le, rules, take_all},
   KnownBytes.Consumes-nil,
-  Math.{Nat.pow-suc, Seq.{get_or-append_seam, take-append_seam, drop-append_seam, take-append-add, get_or-drop}},
+  Math.{Nat.{one-le-pow, div-eq_of_lt, pow-suc}, Seq.{get_or-append_seam, take-append_seam, drop-append_seam, take-append-add, get_or-drop}},
   lemmas.{Bool.{ne_eqb, and_parts, or_cases, eq-eqb, Decides.nat_tests}, Grind.{flat_map-append, common_steps}, List.{length-replicate, length-map}},
   lemmas.{List.{map-append, drop-drop, take-append-le}, Str.utf8_valid_len_le},
 }
@@ -110,7 +110,7 @@ pub use Rattle.tds_rows.specs.{
   Cells.{Cell, Null, ScalarCell, DataCell, shape, CellPart, ScalarBytes, ScalarLength, ShortLength, ShortData, Total, ChunkLength, ChunkData, WholeCell},
   Cells.{cell_start, cell_add, cell, within_total, is_total, value_part, return_charset, Shape, field, field_so_far},
   Rows.{RowPart, WholeRow, row_add, row, marked, bit, bitmap_length, Bitmap, InCell, next_cell, with_cell, row_start, nbc_row_start, row_so_far, RowToken},
-  Rows.{token_byte, token_start},
+  Rows.{token_byte, token_start, NbcRow, PlainRow},
   PassedCells.{PassesCell, StopsPassing},
   RowSteps.{ReadsRows, RowsStop, RowStops},
   Runs.{RowsPart, lines, rows, rows_so_far, rows_start},

@@ -1,0 +1,142 @@
+-- How long the text of so many bytes is at most.
+use Rattle.tds_csv.specs.Utf16 as utf16
+use Rattle.tds_values.specs.declared.kind.Kind.TheVariants as kinds
+use Rattle.tds_export.proofs.Words as N
+use Rattle.tds_export.proofs.{
+  Words.{Conversion, Err, HexDigits, List, None, Ok, Option, Result, Some, [], arith, choose, emit, length, quote, true, utf16_chars, ℕ, ◌*◌, ◌++◌, ◌+◌, ◌-◌},
+  Words.{◌<◌, ◌==◌, ◌^◌, ◌∷◌, ◌≡◌, ◌≤◌, ⊤},
+  SomeBytes.{AreBytes-drop, byte_below, little_below, one_of_four},
+}
+
+-- ---- the text of data
+
+-- four bytes for each character, with its quotes doubled
+characters_length : (cs : List ℕ) → length (N.doubled (N.encode_utf8_all cs)) ≤ 4 * length cs
+characters_length [] = omega arith
+characters_length (c ∷ cs) = grind (arith, N.doubled-append, N.doubled_length, N.length-append, (characters_length cs))
+
+-- no more units than bytes
+units_length : (bytes : List ℕ) → length (utf16.units bytes) ≤ length bytes
+units_length [] = omega arith
+units_length (low ∷ []) = omega arith
+units_length (low ∷ high ∷ bytes) = omega (arith, units_length bytes)
+
+-- no more characters than units
+chars_length : (us : List ℕ) → length (utf16_chars us) ≤ length us
+unfolding utf16_chars
+chars_length [] = omega arith
+chars_length (u ∷ []) = omega arith
+chars_length (u ∷ v ∷ us) = grind (arith, choose, (chars_length (v ∷ us)), (chars_length us))
+
+-- a byte is doubled at most
+byte_doubled : (b : ℕ) → length (N.doubled_byte b) ≤ 2
+byte_doubled b = choose (λ v. length v ≤ 2) (b == quote) _ _ (λ z. omega arith) (λ z. omega arith)
+
+-- so are all bytes
+doubled_most : (bytes : List ℕ) → length (N.doubled bytes) ≤ 2 * length bytes
+doubled_most [] = omega arith
+doubled_most (b ∷ bytes) = omega (arith, byte_doubled b, doubled_most bytes, N.length-append (N.doubled_byte b) (N.doubled bytes))
+
+-- four bytes for each byte
+conversion_length : (c : Conversion) (bytes : List ℕ) → length (N.conversion_text c bytes) ≤ 4 * length bytes
+conversion_length c bytes = grind (arith, characters_length, chars_length, doubled_most, N.length-encode_with, N.length-map, units_length)
+
+-- nor is the fixed text longer
+emit_length : (c : Conversion) (bytes : List ℕ) → length (emit (N.conversion_rest c) (N.conversion_text c) bytes) ≤ 4 * length bytes
+emit_length c bytes = grind (arith, conversion_length, N.length-take)
+
+-- a field that begins
+pub open_length : (c : Conversion) → length (N.open_field c []) ≤ 2
+open_length HexDigits = omega (arith, emit_length HexDigits [])
+open_length c = omega (arith, emit_length c [])
+
+-- a whole field
+pub long_length : (c : Conversion) (bytes : List ℕ) → length (N.long_field c bytes) ≤ 2 + 4 * length bytes
+long_length HexDigits bytes = omega (arith, conversion_length HexDigits bytes)
+long_length c bytes = omega (arith, conversion_length c bytes, N.length-append (N.conversion_text c bytes) (quote ∷ []))
+
+-- what a piece adds
+emit_more : (c : Conversion) (a b : List ℕ) → N.is_begun c (a ++ b) ≡ true
+    → length (emit (N.conversion_rest c) (N.conversion_text c) (a ++ b)) ≤ length (emit (N.conversion_rest c) (N.conversion_text c) a) + 4 * (3 + length b)
+emit_more c a b h =
+    let j = N.joins_by_name c in
+    let begins = (N.begun_by_test c _).0 h in
+    let e = j.emits a b begins in
+    let short = j.short a (j.front a b begins) in
+    grind (arith, N.joins_by_name, N.begun_by_test, N.length-append, emit_length)
+
+-- what the end adds
+text_more : (c : Conversion) (a : List ℕ) → N.is_fit c a ≡ true → N.is_begun c a ≡ true
+    → length (N.conversion_text c a) ≤ length (emit (N.conversion_rest c) (N.conversion_text c) a) + 12
+text_more c a h b =
+    let j = N.joins_by_name c in
+    let short = j.short a ((N.begun_by_test c a).0 b) in
+    grind (arith, N.joins_by_name, N.fit_by_test, N.begun_by_test, N.length-append, conversion_length)
+
+-- a piece adds four bytes for each byte, and for each of three that were withheld
+pub open_more : (c : Conversion) (a b : List ℕ) → N.is_begun c (a ++ b) ≡ true
+    → length (N.open_field c (a ++ b)) ≤ length (N.open_field c a) + 4 * (3 + length b)
+open_more HexDigits a b h = omega (arith, emit_more HexDigits a b h)
+open_more c a b h = omega (arith, emit_more c a b h)
+
+-- the end adds the text that was withheld, and a quote
+pub long_more : (c : Conversion) (a : List ℕ) → N.is_fit c a ≡ true → N.is_begun c a ≡ true → length (N.long_field c a) ≤ length (N.open_field c a) + 13
+long_more HexDigits a h b = omega (arith, text_more HexDigits a h b)
+long_more c a h b = omega (arith, text_more c a h b, N.length-append (N.conversion_text c a) (quote ∷ []))
+
+-- ---- the text of a scalar
+
+-- signed numbers of 16, 32 and 64 bits
+signed_fits : (n : ℕ) → (N.unsigned_abs (N.cast_signed N.w16 n) < 2 ^ 64) × (N.unsigned_abs (N.cast_signed N.w32 n) < 2 ^ 64)
+    × (N.unsigned_abs (N.cast_signed N.w64 n) < 2 ^ 64)
+signed_fits n = (grind (arith, N.nat_tests), grind (arith, N.nat_tests), grind (arith, N.nat_tests))
+
+-- an integer fits
+integer_fits : (n : ℕ) (xs : List ℕ) → N.AreBytes xs → N.unsigned_abs (N.integer_of n xs) < 2 ^ 64
+integer_fits n xs h = grind (arith, byte_below, choose, signed_fits)
+
+-- an amount of money fits
+money_fits : (n : ℕ) (xs : List ℕ) → N.unsigned_abs (N.money_of n xs) < 2 ^ 64
+money_fits n xs = grind (arith, choose, N.unsigned_abs, signed_fits)
+
+-- a magnitude fits
+magnitude_fits : (n : ℕ) (xs : List ℕ) → N.AreBytes xs → N.is_decimal_length n ≡ true → N.little_number (n - 1) xs < 2 ^ 128
+magnitude_fits n xs h k = grind (arith, little_below, one_of_four)
+
+-- the numbers of a value, if there is one, fit
+abbrev AllFit : Option N.ScalarValue → Type 0
+AllFit None = ⊤
+AllFit (Some v) = N.FitsWidths v
+
+-- a date and time has no wide number
+datetime_fits : (n : ℕ) (e : List ℕ) → N.FitsWidths (N.datetime_of n e)
+datetime_fits n e = choose N.FitsWidths (n == 4) _ _ (λ z. tt) (λ z. tt)
+
+-- the bytes of a kind spell numbers that fit
+values_fit : (kind : N.Kind) (e : List ℕ) → N.AreBytes e → N.is_length_allowed kind (length e) ≡ true → AllFit (N.value_of kind e)
+values_fit kinds.Int1 e h k = integer_fits 1 e h
+values_fit kinds.Int2 e h k = integer_fits 2 e h
+values_fit kinds.Int4 e h k = integer_fits 4 e h
+values_fit kinds.Int8 e h k = integer_fits 8 e h
+values_fit (kinds.IntN n) e h k = integer_fits n e h
+values_fit kinds.Money4 e h k = money_fits 4 e
+values_fit kinds.Money8 e h k = money_fits 8 e
+values_fit (kinds.MoneyN n) e h k = money_fits n e
+values_fit kinds.DateTime4 e h k = datetime_fits 4 e
+values_fit kinds.DateTime8 e h k = datetime_fits 8 e
+values_fit (kinds.DateTimeN n) e h k = datetime_fits n e
+values_fit (kinds.Decimal n precision scale) e h k = magnitude_fits _ _ (AreBytes-drop 1 e h) (N.and_parts _ _ k).0
+values_fit kind e h k = tt
+
+-- the text of a value that is read
+abbrev pub ReadShort : Result N.ScalarValue N.ValueFault → Type 0
+ReadShort (Ok v) = length (N.text_of v) ≤ 41
+ReadShort (Err f) = ⊤
+
+-- a value in its range has a short text
+checked_short : (o : Option N.ScalarValue) → AllFit o → ReadShort (N.checked o)
+checked_short o h = grind (arith, choose, N.length-text_of)
+
+-- so has each value that is read
+pub read_short : (kind : N.Kind) (e : List ℕ) → N.AreBytes e → ReadShort (N.read_of kind e)
+read_short kind e h = choose ReadShort _ _ _ (λ z. checked_short (N.value_of kind e) (values_fit kind e h z)) (λ z. tt)

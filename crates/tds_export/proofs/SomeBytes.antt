@@ -1,0 +1,47 @@
+-- Lists of bytes.
+use Rattle.tds_export.proofs.Words as N
+use Rattle.tds_export.proofs.Words.{AreBytes, List, [], arith, drop, inl, inr, suc, true, zero, ℕ, ◌++◌, ◌<◌, ◌==◌, ◌^◌, ◌||◌, ◌∷◌, ◌≡◌}
+
+-- each of some bytes is below 256
+pub byte_below : (xs : List ℕ) (i : ℕ) → AreBytes xs → N.slice_index xs i < 256
+byte_below [] i h = omega arith
+byte_below (x ∷ xs) zero h = h.0
+byte_below (x ∷ xs) (suc i) h = byte_below xs i h.1
+
+-- so many bytes spell a number below that power
+pub little_below : (n i : ℕ) (xs : List ℕ) → AreBytes xs → N.little_from i n xs < 256 ^ n
+little_below zero i xs h = omega arith
+little_below (suc n) i xs h = grind (arith, byte_below, N.pow-suc, (little_below n (suc i) xs h))
+
+-- the bytes after some bytes
+pub AreBytes-drop : (n : ℕ) (xs : List ℕ) → AreBytes xs → AreBytes (drop n xs)
+AreBytes-drop zero xs h = h
+AreBytes-drop (suc n) [] h = h
+AreBytes-drop (suc n) (x ∷ xs) h = AreBytes-drop n _ h.1
+
+pub AreBytes-append : (a b : List ℕ) → AreBytes a → AreBytes b → AreBytes (a ++ b)
+AreBytes-append [] b h k = k
+AreBytes-append (x ∷ a) b h k = (h.0, AreBytes-append a b h.1 k)
+
+pub AreBytes-replicate : (n x : ℕ) → x < 256 → AreBytes (N.replicate n x)
+AreBytes-replicate zero x h = tt
+AreBytes-replicate (suc n) x h = (h, AreBytes-replicate n x h)
+
+-- a number that a test names
+pub exactly : (P : ℕ → Type 0) (n m : ℕ) → (n == m) ≡ true → P m → P n
+exactly P n m h p = rw (N.eq_true n m h) p
+
+-- a test for one of some numbers
+pub one_of_two : (P : ℕ → Type 0) (a b n : ℕ) → (n == a || n == b) ≡ true → P a → P b → P n
+one_of_two P a b n h pa pb = elim (N.or_cases (n == a) (n == b) h) [ inl z ↦ exactly P n a z pa | inr z ↦ exactly P n b z pb ]
+
+pub one_of_four : (P : ℕ → Type 0) (a b c d n : ℕ) → (n == a || n == b || n == c || n == d) ≡ true → P a → P b → P c → P d → P n
+one_of_four P a b c d n h pa pb pc pd = grind (arith, exactly, one_of_two, N.or_cases)
+
+-- what each element of bytes keeps holds at their end
+pub bytes_induct : {S : Type 0} {g : N.Grammar S N.Fault} (P : S → List ℕ → Type 0)
+    → ((s : S) (b e : List ℕ) → P s b → AreBytes e → N.IsNext g s e → P (g.add s e) (b ++ e)) → (s : S) → P s [] → (bytes : List ℕ) (t : S)
+    → AreBytes bytes → N.Spelt g s bytes t → P t bytes
+bytes_induct {g} P step s begins bytes t are h =
+    N.Spelt-induct g (λ q b. AreBytes b → P q b) (λ q b e k n all. step q b e (k (N.AreBytes-front b e all)) (N.AreBytes-back b e all) n) s (λ all. begins)
+    _ t h are

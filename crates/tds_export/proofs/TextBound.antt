@@ -1,0 +1,220 @@
+-- The text so far is no longer than 64 bytes for each byte read.
+use Rattle.tds_export.proofs.Words as N
+use Rattle.tds_export.proofs.{
+  Words.{AreBytes, Bool, Cell, Column, IsNext, List, None, Null, Open, Option, Part, Result, Some, Token, [], ap, arith, choose, codes, false, field, joined},
+  Words.{length, length-append, map, refl, response, suc, text, true, ℕ, ◌*◌, ◌++◌, ◌+◌, ◌∷◌, ◌≡◌, ◌≤◌, ⊤, ◌==◌},
+  ReadingGrows.{IsFresh, lead_cases},
+  FieldLengths.{ReadShort, long_length, long_more, open_length, open_more, read_short},
+  TokenLaws.{bare, bare_body, bare_fixed, begun_after, text_after-snoc},
+  ResponseLaws.part_at,
+  SomeBytes.bytes_induct,
+}
+
+-- ---- fields
+
+-- a last field after the others and a comma
+abbrev before_last : List (List ℕ) → ℕ
+before_last fs = length (joined (fs ++ [] ∷ []))
+
+-- the last field and what stands before it
+last_length : (fs : List (List ℕ)) (f : List ℕ) → length (joined (fs ++ f ∷ [])) ≡ before_last fs + length f
+last_length [] f = omega arith
+last_length (x ∷ []) f = omega (arith, length-append (x ++ codes ",") f, length-append (x ++ codes ",") [])
+last_length (x ∷ y ∷ fs) f = omega (
+  arith,
+  length-append (x ++ codes ",") (joined (y ∷ (fs ++ f ∷ []))),
+  length-append (x ++ codes ",") (joined (y ∷ (fs ++ [] ∷ []))),
+  last_length (y ∷ fs) f,
+)
+
+-- a comma at most
+before_last_most : (fs : List (List ℕ)) → before_last fs ≤ length (joined fs) + 1
+before_last_most [] = omega arith
+before_last_most (x ∷ []) = omega (arith, length-append (x ++ codes ",") [], length-append x (codes ","))
+before_last_most (x ∷ y ∷ fs) = omega (
+  arith,
+  length-append (x ++ codes ",") (joined (y ∷ fs)),
+  length-append (x ++ codes ",") (joined (y ∷ (fs ++ [] ∷ []))),
+  before_last_most (y ∷ fs),
+)
+
+-- one more field
+one_more_length : (fs : List (List ℕ)) (f : List ℕ) → length (joined (fs ++ f ∷ [])) ≤ length (joined fs) + 1 + length f
+one_more_length fs f = omega (arith, last_length fs f, before_last_most fs)
+
+-- one more cell
+one_more_cell : (cells : List Cell) (c : Cell)
+    → length (joined (map field (cells ++ c ∷ []))) ≤ length (joined (map field cells)) + 1 + length (field c)
+one_more_cell cells c = rw (N.map-append field cells (c ∷ [])) (one_more_length (map field cells) (field c))
+
+-- the field that is read has at most 48 bytes more
+abbrev FieldMore : Option (List ℕ) → Option (List ℕ) → Type 0
+FieldMore None None = ⊤
+FieldMore None (Some b) = length b ≤ 48
+FieldMore (Some a) None = ⊥
+FieldMore (Some a) (Some b) = length b ≤ length a + 48
+
+-- ---- a cell
+
+-- a scalar that is read
+value_more : (r : Result N.ScalarValue N.ValueFault) → ReadShort r → FieldMore None (N.field_so_far (N.value_part r))
+value_more r h = grind arith
+
+module _ (column : ℕ) where
+  -- each element of a cell adds no more
+  cell_more : (p : N.CellPart) {e : List ℕ} → AreBytes e → IsNext (N.cell column) p e → FieldMore (N.field_so_far p) (N.field_so_far (N.cell_add p e))
+  cell_more (N.ScalarBytes k i) {e} bytes n = value_more _ (read_short k e bytes)
+  cell_more (N.ScalarLength k) {e} bytes n = choose (λ p. FieldMore None (N.field_so_far p)) (N.slice_index e 0 == 0) (N.WholeCell Null) _ (λ z. omega arith)
+      (λ z. tt)
+  cell_more (N.ShortLength c) bytes n = grind (arith, choose, long_length, open_length)
+  cell_more (N.Total c) bytes n = grind (arith, choose, open_length)
+  cell_more (N.WholeCell x) bytes n = omega arith
+  cell_more (N.ShortData c left content) bytes n = grind (arith, N.and_parts, choose, N.last_fit, long_more, open_more, N.unless_none)
+  cell_more (N.ChunkLength c total content) {e} bytes n =
+      choose (λ p. FieldMore (Some (N.open_field c content)) (N.field_so_far p)) _ _ _
+      (λ z. let fit = N.end_fit column c total content (N.little e) n.free z in let end = long_more c content fit
+      (N.fit_begins c content [] (rw (N.append-nil content) fit)) in omega arith)
+      (λ z. omega arith)
+  cell_more (N.ChunkData c total left content) bytes n = grind (arith, choose, open_more, N.unless_none)
+
+-- ---- a row, whose cells to come that are NULL by their bit are paid by the bitmap
+
+-- how many of the columns are NULL by their bit
+abbrev how_many_null : List (Column × Bool) → ℕ
+how_many_null [] = 0
+how_many_null ((k, true) ∷ ks) = 1 + how_many_null ks
+how_many_null ((k, false) ∷ ks) = how_many_null ks
+
+-- their text
+abbrev row_pending : N.RowPart → ℕ
+row_pending (N.InCell cells part ks) = 5 * how_many_null ks
+row_pending part = 0
+
+-- the text so far of a row, and what is paid for
+abbrev row_length : N.RowPart → ℕ
+row_length part = length (N.row_so_far part) + row_pending part
+
+-- one more column
+one_null : (c : Column) (b : Bool) (ks : List (Column × Bool)) {n : ℕ} → how_many_null ks ≤ n → how_many_null ((c, b) ∷ ks) ≤ suc n
+one_null c b ks h = grind arith
+
+-- no more of them than columns
+null_most : (columns : List Column) (nulls : ℕ → Bool) (k : ℕ) → how_many_null (N.marked columns nulls k) ≤ length columns
+null_most [] nulls k = omega arith
+null_most (c ∷ columns) nulls k = one_null c (nulls k) _ (null_most columns nulls (k + 1))
+
+-- none without a bitmap
+none_null : (columns : List Column) (k : ℕ) → how_many_null (N.marked columns (λ i. false) k) ≡ 0
+none_null [] k = refl
+none_null (c ∷ columns) k = none_null columns (k + 1)
+
+module _ (charset : N.Charset) where
+  -- the cells to come begin
+  next_length : (cells : List Cell) (ks : List (Column × Bool))
+      → row_length (N.next_cell charset cells ks) ≤ length (joined (map field cells)) + 5 * how_many_null ks + 2
+  next_length cells [] = omega (arith, length-append (joined (map field cells)) N.line_end)
+  next_length cells ((k, true) ∷ ks) = omega (arith, next_length (cells ++ Null ∷ []) ks, one_more_cell cells Null)
+  next_length cells ((k, false) ∷ ks) = rw (N.start_quiet _ _) (omega arith)
+
+-- ---- a description, whose columns pay for its header
+
+-- the header of the columns so far, and the line before it
+abbrev described_pending : N.DescriptionPart → ℕ
+described_pending (N.InColumn bytes count columns place) = 2 + length (N.header_line columns)
+described_pending (N.WholeDescription bytes columns) = 2 + length (N.header_line columns)
+described_pending d = 0
+
+-- one more column in the header
+header_more : (columns : List Column) (c : Column) → length (N.header_line (columns ++ c ∷ [])) ≤ length (N.header_line columns) + 3 + 4 * length c.name
+header_more columns c =
+    let fs = map N.name_field columns in
+    let f = N.name_field c in
+    omega (
+      arith,
+      one_more_length fs f,
+      long_length N.Utf16Text c.name,
+      ap (λ v. length (N.line v)) (N.map-append N.name_field columns (c ∷ [])),
+      length-append (joined (fs ++ f ∷ [])) N.line_end,
+      length-append (joined fs) N.line_end,
+    )
+
+module _ (room : ℕ) where
+  -- each element of a description pays for what it adds
+  described_more : {d : N.DescriptionPart} {e : List ℕ} → IsNext (N.description room) d e
+      → described_pending (N.add_described d e) ≤ described_pending d + 64 * length e
+  described_more n = grind (arith, choose, header_more)
+
+-- ---- a response
+
+-- what the bytes so far still pay for
+abbrev pending : Open → ℕ
+pending (N.Describing d) = described_pending d
+pending (N.InRow part) = row_pending part
+pending at = 0
+
+-- the length of the text so far, and of what is paid for
+abbrev grown : Part → ℕ
+grown p = length (N.text_so_far p) + pending p.at
+
+-- a row in its response
+with_row_grown : (tokens : List Token) (part : N.RowPart) → grown (N.with_row tokens part) ≤ length (text tokens) + row_length part
+with_row_grown tokens part = grind (arith, length-append, N.append-nil, begun_after, text_after-snoc)
+
+-- a return value in its response
+with_return_grown : (tokens : List Token) (part : N.ReturnPart) → grown (N.with_return tokens part) ≤ length (text tokens)
+with_return_grown tokens part = grind (arith, N.append-nil, text_after-snoc, bare, begun_after, length-append)
+
+module _ (charset : N.Charset) (room : ℕ) where
+  -- a row that begins has at most the end of its line
+  row_starts : (columns : List Column) → row_length (N.row_start charset columns) ≤ 2
+  row_starts columns = omega (arith, next_length charset [] (N.marked columns (λ k. false) 0), none_null columns 0)
+
+  -- what has just begun adds nothing
+  fresh_grown : (tokens : List Token) (n : ℕ) (at : Open) → IsFresh at → grown (part_at tokens at) ≤ length (text tokens) + 64 * n
+  fresh_grown tokens n at h = grind (arith, length-append, part_at)
+
+  -- each element of bytes pays for what it adds
+  part_grown : {tokens : List Token} (at : Open) (e : List ℕ) → AreBytes e → IsNext (response charset room) (part_at tokens at) e
+      → grown (N.part_add charset tokens at e) ≤ length (text tokens) + length (N.open_text at) + pending at + 64 * length e
+  part_grown at e bytes n = grind (
+    arith,
+    bare_body,
+    bare_fixed,
+    bare,
+    choose,
+    described_more,
+    fresh_grown,
+    lead_cases,
+    length-append,
+    part_at,
+    cell_more,
+    next_length,
+    null_most,
+    N.map-append,
+    last_length,
+    one_more_length,
+    row_starts,
+    begun_after,
+    N.append-nil,
+    text_after-snoc,
+    with_return_grown,
+    with_row_grown,
+  )
+
+  -- each element pays for what it adds
+  grown_more : (p : Part) (e : List ℕ) → AreBytes e → IsNext (response charset room) p e
+      → grown ((response charset room).add p e) ≤ grown p + 64 * length e
+  grown_more p e bytes n = omega (arith, part_grown p.at e bytes n, length-append (text p.tokens) (N.open_text p.at))
+
+  -- so do all elements between two states
+  grown_along : {p q : Part} {bytes : List ℕ} → AreBytes bytes → N.Spelt (response charset room) p bytes q → grown q ≤ grown p + 64 * length bytes
+  grown_along {p} {q} are h = bytes_induct (λ r b. grown r ≤ grown p + 64 * length b) (λ r b e k are n. omega (
+    arith,
+    grown_more r e are n,
+    length-append b e,
+  )) p (omega arith) _ q are h
+
+  -- the text so far is at most 64 times as long as all that is read
+  pub bounded_along : (q : Part) (bytes : List ℕ) → AreBytes bytes → N.Spelt (response charset room) N.response_start bytes q
+      → length (N.text_so_far q) ≤ 64 * length bytes
+  bounded_along q bytes are h = omega (arith, grown_along are h)

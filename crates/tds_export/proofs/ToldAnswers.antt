@@ -1,0 +1,335 @@
+-- What an export answers, where its reader and writer tell their bytes.
+use Rattle.tds_export.proofs.Words as N
+use Rattle.tds_export.proofs.{
+  Words.{AreBytes, Bool, Err, Given, Held, IsWriter, List, Ok, Option, Packet, Part, Puts, Rose, Run, Seen, Some, Spelt, Stop, Tells, [], ap, append-nil},
+  Words.{arith, drop, false, fresh_at, grammar, grammar_of, inl, inr, length, length-append, limits, more, payload_of, read, refl, response, response_start},
+  Words.{run_of, subst, sym, take, text, text_put, text_so_far, true, wire_of, ℕ, ◌%◌, ◌*◌, ◌++◌, ◌+◌, ◌-◌, ◌/◌, ◌<◌, ◌∙◌, ◌∷◌, ◌≡◌, ◌≤◌},
+  SomeBytes.AreBytes-append,
+  Peaks.{bounded, further, reached_broken, reached_stopped, reached_whole, rest_leads},
+  TextBound.bounded_along,
+  DeviceFaults.no_failure,
+  AcceptedSucceeds.outcome_succeeds,
+  ResponseMeaning.response_is_spelt,
+  ResponseLaws.spelt_both,
+  ReadingGrows.text_along,
+  PacketOutcomes.{ReaderSide, kept_at, reading_stops, start},
+}
+use native.Mathlib.Decide.{dec_le}
+
+-- ---- the text
+
+known_left : (input read : List ℕ) {new : Option (List ℕ)} → N.Consumes (Some input) new read → (left : List ℕ) × (new ≡ Some left)
+known_left input read c = grind arith
+
+-- the writer gained the first bytes of a text, and the others wait
+record Delivers (given : Given) (l : Held) (text : List ℕ) : Type 0 where
+  gained : List ℕ
+  has : N.Appends given.before.writer.bytes given.after.writer.bytes gained
+  all : gained ++ given.after.areas.output.bytes ≡ text
+  delivered : l.delivered ≡ N.counted 0 (length gained)
+
+abbrev sends : {given : Given} (middle : Held) {l : Held} {put : List ℕ} (piece sent : List ℕ) → IsWriter given l → Puts (fresh_at given) middle put
+    → N.Adds middle l sent piece → Delivers given l (put ++ piece)
+sends {given} middle {l} {put} piece sent writer p a =
+    let adds = N.Adds-trans (fresh_at given) middle l p.0 sent put piece p.2 a in
+    record {
+      gained = p.0 ++ sent;
+      has = rw writer.has at adds.0;
+      all = ap (λ w. (p.0 ++ sent) ++ w) (sym writer.waiting)
+          ∙ sym adds.1;
+      delivered = adds.2;
+    }
+
+-- the payload of packets is shorter than their wire, and of bytes where that is
+payload_short : (packets : List Packet) → length (payload_of packets) ≤ length (wire_of packets)
+payload_short [] = omega arith
+payload_short (p ∷ packets) = omega (
+  arith,
+  payload_short packets,
+  length-append p.body (payload_of packets),
+  length-append (N.packet_bytes p) (wire_of packets),
+  length-append p.id p.body,
+)
+
+payload_bytes : (packets : List Packet) → AreBytes (wire_of packets) → AreBytes (payload_of packets)
+payload_bytes [] h = tt
+payload_bytes (p ∷ packets) h = AreBytes-append _ _ (N.AreBytes-back (4 ∷ p.status ∷ (8 + length p.body) / 256 ∷ (8 + length p.body) % 256 ∷ p.id) _
+    (N.AreBytes-front (N.packet_bytes p) (wire_of packets) h)) (payload_bytes packets (N.AreBytes-back (N.packet_bytes p) _ h))
+
+-- the text so far is within 64 times the limit of the wire
+fits_at : (run : Run) (packets : List Packet) (rest : List ℕ) (place : ℕ) (part : Part) (n : ℕ) → AreBytes run.input
+    → wire_of packets ++ rest ≡ run.input → length (wire_of packets) ≤ (limits run).max_wire
+    → Spelt (grammar run) response_start (take place (payload_of packets)) part → n ≤ length (text_so_far part) → n ≤ 64 * (limits run).max_wire
+fits_at run packets rest place part n are begin within spelt few =
+    let payload = payload_of packets in
+    let most = bounded_along _ _ _ _ (N.AreBytes-front _ _ (rw (← N.take-append-drop place payload) at (payload_bytes packets (N.AreBytes-front
+    (wire_of packets) rest (rw begin are))))) spelt in
+    omega (arith, payload_short packets, ap length (N.take-append-drop place payload), length-append (take place payload) (drop place payload))
+
+fits : (run : Run) (fault : N.Fault) (place : N.Place) → AreBytes run.input → N.Stops run fault place → length (text_put run) ≤ 64 * (limits run).max_wire
+fits run fault place are x = grind (arith, fits_at, length-append)
+
+-- the count of the bytes delivered is exact
+exact : (run : Run) (delivered : ℕ) → delivered ≡ N.counted 0 (length run.gained) → length (text_put run) ≤ 64 * (limits run).max_wire
+    → delivered ≡ length run.gained
+exact run delivered e few = omega (arith, length-append run.gained (N.waiting run))
+
+-- ---- a run that stopped in writing
+
+-- the longest part of a payload that begins with these bytes has their text, and more of it
+longest_text : (charset : N.Charset) (room : ℕ) {bytes : List ℕ} (more : List ℕ) {p q : Part} {place : ℕ} → Spelt (response charset room) response_start bytes p
+    → N.Longest (response charset room) response_start (bytes ++ more) place q → (rest : List ℕ) × (text_so_far p ++ rest ≡ text_so_far q)
+longest_text charset room more {p} {q} h l = text_along _ _ (further _ _ p q _ _ _ h l).1
+
+-- a part that fewer bytes lead to has no more text than that before the last element
+earlier_text : (charset : N.Charset) (room : ℕ) (bytes element : List ℕ) (p q : Part) (place : ℕ) → Spelt (response charset room) response_start bytes p
+    → length element ≡ (response charset room).size p → place < length (bytes ++ element)
+    → Spelt (response charset room) response_start (take place (bytes ++ element)) q → length (text_so_far q) ≤ length (text_so_far p)
+earlier_text charset room bytes element p q place h whole less k = elim (dec_le place (length bytes)) [
+  | yes below ↦
+      (let rest = text_along _ _ (rest_leads (rw (N.take-append-le place bytes element below) at k) (rw (← N.take-append-drop place bytes) at h)) in
+      omega (arith, ap length rest.1, length-append (text_so_far q) rest.0))
+  | no above ↦
+      (let n = place - length bytes in
+      let sum : length bytes + n ≡ place = omega arith in
+      let few = N.length-take-le n element (omega (arith, length-append bytes element)) in
+      absurd (omega (
+        arith,
+        ap length (N.no_further _ _ _ p _ q h (λ i a b. omega (arith, length-append bytes element)) (rw (ap (λ v. take v
+            (bytes ++ element)) (sym sum) ∙ N.take-append-add bytes element n) at k)),
+      )))
+]
+
+-- the writer broke: the last packet read was needed to fill the block
+broken : {run : Run} {q : Seen} {k : Held} (at : Part) (stop : Stop) → ReaderSide run q → IsWriter run.given k
+    → (x : N.BreaksStreaming (grammar run) text_so_far response_start (start run) q (fresh_at run.given) k at stop)
+    → N.IsHolding run.given.after.areas.description ((grammar run).add at x.element)
+    → run.gained ≡ (subst (Puts (fresh_at run.given) x.middle) x.puts.1 x.puts.2).0 ++ x.breaks.0
+    → text_put run ≡ text_so_far at ++ take x.breaks.2 x.more → N.StopsInText run N.WriteFailed (length run.gained)
+broken {run} {q} at stop side writer x holds gained all =
+    let g = grammar run in
+    let f = run.given.before.reader.failures in
+    let be = x.bytes ++ x.element in
+    let p = subst (Puts (fresh_at run.given) x.middle) x.puts.1 x.puts.2 in
+    let y = x.breaks in
+    let to = g.add at x.element in
+    let spelt = spelt_both x.spelt (N.Spelt-one g at x.element x.next) in
+    let b = N.takes_begins _ _ f _ _ q _ _ side.bytes side.left x.takes x.between in
+    let more = x.ahead ++ (q.future []).bytes in
+    let payload_is = b.payload_is ∙ N.append_assoc be x.ahead (q.future []).bytes in
+    let longest = N.some_longest g _ _ in
+    let beyond = longest_text _ _ _ spelt (subst (λ v. N.Longest g response_start v longest.0 longest.1) payload_is longest.2) in
+    let some : 0 < length be = omega (arith, length-append x.bytes x.element) in
+    let last = N.in_last _ _ f _ _ _ q _ _ side.left x.takes b (omega (
+      arith,
+      length-append (be ++ x.ahead) (q.future []).bytes,
+      length-append be x.ahead,
+    )) in
+    let early = N.some_longest g _ _ in
+    let fewer : early.0 < length be = omega arith in
+    let short = earlier_text _ _ _ _ at early.1 early.0 x.spelt x.next.whole fewer (subst (λ v. Spelt g response_start v early.1) (sym
+    (N.take-append-le early.0 (payload_of last.before) (payload_of (last.last ∷ [])) early.2.within)
+    ∙ ap (take early.0) (sym (ap payload_of (sym last.split) ∙ N.flat_map-append _ last.before (last.last ∷ [])) ∙ payload_is)
+    ∙ N.take-append-le early.0 be more (omega arith)) early.2.spelt)
+    in
+    let total : length (text_put run) ≡ 4096 * (p.1 + y.1 + 1) =
+    omega (arith, ap length gained, ap length writer.waiting, length-append run.gained (N.waiting run), length-append p.0 y.0) in
+    let chunks : length (text_put run) ≡ 4096 * (length run.gained / 4096 + 1) = omega (arith, ap length gained, length-append p.0 y.0) in
+    let passes : length (text_so_far at) < length (text_put run) = omega (arith, ap length p.2.1, length-append p.0 x.middle.waiting) in
+    let text_more = sym (N.append_assoc (text_put run) (drop y.2 x.more) beyond.0) ∙ ap (λ v. (v ++ drop y.2 x.more) ++ beyond.0) all
+    ∙ ap (λ v. v ++ beyond.0) (N.append_assoc (text_so_far at) (take y.2 x.more) (drop y.2 x.more)
+    ∙ ap (λ v. text_so_far at ++ v) (N.take-append-drop y.2 x.more) ∙ x.text_is) ∙ beyond.1 in
+    let comes : N.Comes run b.packets (length be) to =
+    record {
+      within = omega (arith, ap length payload_is, length-append be more);
+      spelt = rw (ap (take (length be)) payload_is
+          ∙ N.take-append_seam be more) spelt;
+    } in
+    record {
+      packets = b.packets;
+      place = longest.0;
+      part = longest.1;
+      more = drop y.2 x.more ++ beyond.0;
+      stands = record { begin = b.begin; each = b.each; within = b.within };
+      leads = longest.2;
+      fault_is = refl;
+      written_is = refl;
+      begins = text_more;
+      needed = inr (last.before, last.last, early.0, early.1, last.split, early.2, chunks, omega arith);
+      failed = subst (Rose run.given.before.writer.failures) (sym (cc) ∙ writer.failures) (N.rose _);
+      kept = (length be, to, comes, kept_at run.given.after.areas.description to.tokens _ (drop (length be) (payload_of b.packets)) holds.bytes);
+    }
+
+-- ---- a run that read the whole response
+
+-- the whole message was read: it is an accepted response
+record WholeMessage (run : Run) (tokens : List N.Token) : Type 0 where
+  packets : List Packet
+  stands : N.Packets run packets
+  accepted : N.IsAccepted run tokens packets
+  leads : N.ReadsPart run packets (length (payload_of packets)) (N.after_tokens tokens)
+  spelt : Spelt (grammar run) response_start (payload_of packets) (N.after_tokens tokens)
+  kept : N.Keeps run packets (length (payload_of packets)) (N.after_tokens tokens)
+
+whole_message_of : {run : Run} {q : Seen} {old new : Held} → ReaderSide run q
+    → (x : N.ReadsWhole (grammar run) response_start (start run) q old new run.given.after.areas.description) → WholeMessage run x.tokens
+whole_message_of {run} {q = q} side x =
+    let m = N.over_front _ _ _ _ _ q _ _ side.bytes side.left x.takes
+    x.over in
+    grind (arith, N.over_front, payload_bytes, N.AreBytes-front, response_is_spelt, append-nil, N.longest_cut, kept_at)
+
+text_after_tokens : (tokens : List N.Token) → text_so_far (N.after_tokens tokens) ≡ text tokens
+text_after_tokens tokens = append-nil (text tokens)
+
+-- all of a payload
+take_payload : (l : List ℕ) → take (length l) l ≡ l
+take_payload l = cc (append-nil l, N.take-append_seam l [])
+
+-- the last delivery failed
+failed_at_end : {run : Run} {tokens : List N.Token} → WholeMessage run tokens → text_put run ≡ text tokens → N.FailsToWrite run.given
+    → N.StopsInText run N.WriteFailed (length run.gained)
+failed_at_end w same fails = grind arith
+
+-- ---- what an export answers
+
+-- the payload of a reader that told its bytes begins with them
+begins_run : (given : Given) {input : List ℕ} → given.before.reader.bytes ≡ Some input → N.begun_at given ≡ start (run_of given input [] [])
+begins_run given e = cc
+
+-- where its reader stands
+reader_side : {given : Given} {input left gained : List ℕ} {q : Seen} → AreBytes input → q.left ≡ Some left → N.IsReader given q
+    → ReaderSide (run_of given input left gained) q
+reader_side {left} are ql reader = record { bytes = are; left = ql; failures = reader.failures }
+
+-- all of the text was put, where the whole response was read
+whole_puts : {g : N.Grammar Part N.Fault} {a q : Seen} {h k : Held} {area : N.Space} → (x : N.ReadsWhole g response_start a q h k area)
+    → Puts h k (text x.tokens)
+whole_puts x = rw (x.puts.1 ∙ text_after_tokens x.tokens) at x.puts.2
+
+-- what is told of a stop, with the sink left in this state
+abbrev StopTold : Given → (input left : List ℕ) → Stop → Held → Type 0
+StopTold given input left stop l = (gained : List ℕ) × N.Appends given.before.writer.bytes given.after.writer.bytes gained
+    × N.AfterStop (run_of given input left gained) (N.stopped_with stop l)
+
+module _ (given : Given) (input left : List ℕ) (q : Seen) (stop : Stop) (are : AreBytes input) (ql : q.left ≡ Some left) (reader : N.IsReader given q)
+    (none : given.after.areas.notice.bytes ≡ []) where
+  -- the payload before anything was read of it
+  abbrev began : Seen
+  began = start (run_of given input left [])
+
+  -- the payload stopped
+  stop_reading : {middle l : Held} → IsWriter given l
+      → N.StopsInReading (grammar_of given) response_start began q 0 (fresh_at given) middle given.after.areas.description stop → N.Tidied middle l
+      → StopTold given input left stop l
+  stop_reading {l} writer y t =
+      let p = rw y.puts.1 at y.puts.2 in
+      let d = sends _ _ _ writer p t.1 in
+      let stops = reading_stops (reader_side are ql reader) y.stops y.holds (d.all ∙ append-nil (text_so_far y.at)) in (
+        d.gained,
+        d.has,
+        record {
+          stop = stops;
+          written = exact (run_of given input left d.gained) l.delivered d.delivered (fits _ _ _ are stops);
+          unwritten = cc;
+          no_notice = none;
+          none_waits = λ calm. elim t.2 [
+            | inl x ↦ sym writer.waiting ∙ x.0
+            | inr x ↦ absurd (calm (rw writer.failures at (subst (λ n. Rose n l.failures) p.4.0 x)))
+          ];
+        },
+      )
+
+  -- the writer failed
+  in_text : {k : Held} {gained : List ℕ} → IsWriter given k → N.Appends given.before.writer.bytes given.after.writer.bytes gained
+      → k.delivered ≡ N.counted 0 (length gained)
+      → N.StopsInText (run_of given input left gained) N.WriteFailed (length gained) → stop ≡ record { fault = N.WriteFailed; place = N.Text k.delivered }
+      → StopTold given input left stop k
+  in_text {k} {gained} writer has delivered stops is =
+      let run = run_of given input left gained in
+      let written = exact run _ delivered (fits run N.WriteFailed (N.Text (length gained)) are stops) in
+      grind (arith, exact, fits)
+
+  -- the writer broke
+  stop_writing : (k : Held) → IsWriter given k
+      → N.StopsInWriting (grammar_of given) response_start began q (fresh_at given) k given.after.areas.description stop
+      → StopTold given input left stop k
+  stop_writing k writer y =
+      let x = y.breaks in
+      let d = sends _ _ _ writer (rw x.puts.1 at x.puts.2) x.breaks.3 in
+      in_text writer d.has d.delivered (broken _ _ (reader_side are ql reader) writer x y.holds refl d.all) x.breaks.8
+
+  -- the last delivery failed
+  stop_at_end : (k : Held) → IsWriter given k
+      → N.StopsAtEnd (grammar_of given) response_start began q (fresh_at given) k given.after.areas.description stop → StopTold given input left stop k
+  stop_at_end k writer y =
+      let d = sends _ _ _ writer (whole_puts y.whole) y.fails.1 in
+      in_text writer d.has d.delivered (failed_at_end (whole_message_of (reader_side are ql reader) y.whole) (simp (d.all, append-nil)) (subst
+      (Rose given.before.writer.failures) (cc) (N.rose _))) y.fails.2
+
+  -- each of these
+  stopped_of : {k l : Held} {failed : Bool} → IsWriter given l
+      → N.RunStops (grammar_of given) response_start began q 0 (fresh_at given) k given.after.areas.description failed stop
+      → (failed ≡ false → N.Tidied k l) → (failed ≡ true → l ≡ k) → StopTold given input left stop l
+  stopped_of {k} {l} writer (inl (inl y)) tidy same = stop_reading writer y.0 (tidy y.1)
+  stopped_of {k} writer (inl (inr y)) tidy same = rw (same y.1) (stop_writing k (subst (IsWriter given) (same y.1) writer) y.0)
+  stopped_of {k} writer (inr y) tidy same = rw (same y.1) (stop_at_end k (subst (IsWriter given) (same y.1) writer) y.0)
+
+  -- the bound on its descriptions
+  stop_bounded : {gained : List ℕ} {k : Held} {failed : Bool}
+      → N.RunStops (grammar_of given) response_start began q 0 (fresh_at given) k given.after.areas.description failed stop
+      → N.Bounded (run_of given input left gained)
+  stop_bounded {gained} (inl (inl y)) = bounded _ _ are (reached_stopped _ q are ql y.0.stops) y.0.holds.peak
+  stop_bounded {gained} (inl (inr y)) =
+      bounded _ _ are (reached_broken _ q are ql y.0) y.0.holds.peak
+  stop_bounded {gained} (inr y) =
+      bounded _ _ are (reached_whole _ q are ql y.0.whole) y.0.whole.holds.peak
+
+-- what a run that stopped read
+stops_read : {g : N.Grammar Part N.Fault} {a q : Seen} {h k : Held} {area : N.Space} {failed : Bool} {stop : Stop}
+    → N.RunStops g response_start a q 0 h k area failed stop → (read : List ℕ) × N.Consumes a.left q.left read
+stops_read h8 = grind arith
+
+pub stop_tells : {given : Given} {stopped : N.Stopped} → N.StopsExport given stopped → Tells given (Err stopped)
+unfolding Tells
+stop_tells {given} x = λ input are e.
+    let stops = rw (begins_run given e) at x.stops in
+    let read = stops_read stops in
+    let left = known_left _ _ read.1 in
+    let all = stopped_of _ _ _ _ _ are left.1 x.reader x.notice x.writer stops x.tidied x.same in
+    let most = stop_bounded _ _ _ _ _ are left.1 x.reader x.notice stops in
+    let outcome = rw (← x.stopped_is) at all.2 in
+    (left.0, all.0, cc, all.1, record { outcome = outcome; bounded = most }, outcome_succeeds _ outcome)
+
+pub report_tells : {given : Given} {report : N.Report} → N.Reports given report → Tells given (Ok report)
+unfolding Tells
+report_tells {given} {report} x = λ input are e.
+    let z = subst (λ (a : Seen). (c : N.CompletesResponse (grammar_of given) response_start a x.seen
+    (fresh_at given) x.held report given.after.areas.description)
+    × (given.after.areas.notice.bytes ≡ N.error_text c.whole.tokens)) (begins_run given e) (x.completes, x.notice) in
+    let y = z.0 in
+    let tokens = y.whole.tokens in
+    let left = known_left input y.whole.takes.0 y.whole.takes.1.0 in
+    let d = sends y.middle [] y.finishes.0 x.writer (whole_puts y.whole) y.finishes.1 in
+    let run = run_of given input left.0 d.gained in
+    let whole = whole_message_of (reader_side are left.1 x.reader) y.whole in
+    let empty = sym x.writer.waiting ∙ y.finishes.2 in
+    let same = d.all ∙ append-nil (text tokens) in
+    let gained = sym (append-nil run.gained) ∙ ap (λ w. run.gained ++ w) (sym empty) ∙ same in
+    let few = fits_at run whole.packets left.0 (length (payload_of whole.packets)) (N.after_tokens tokens) (length (text_put run)) are
+    whole.stands.begin whole.stands.within
+    (rw (take_payload _) whole.spelt) (omega (arith, ap length same, ap length (text_after_tokens tokens))) in
+    let written = exact run x.held.delivered d.delivered few ∙ ap length gained in
+    let outcome : N.Reported run report = record {
+      tokens = tokens;
+      packets = whole.packets;
+      accepted = whole.accepted;
+      stands = whole.stands;
+      report_is = cc;
+      written = gained;
+      none_waits = empty;
+      notice = z.1;
+      kept = whole.kept;
+      no_failure = no_failure given report x;
+    } in
+    let most = bounded run (N.after_tokens tokens) are (reached_whole run x.seen are left.1 y.whole) y.whole.holds.peak in
+    (left.0, d.gained, cc, d.has, record { outcome = outcome; bounded = most }, outcome_succeeds (Ok report) outcome)
