@@ -9,7 +9,8 @@ pub use Rattle.std.proofs.{
   Common.{Fits, replicate, take_all, ap₂, slice_index, w8, add-zero, zero-add, Bool, Err, List, None, Ok, Option, Result, Some, [], ap, append_assoc, arith},
   Common.{codes, cond, decimal, drop, false, get_or, inl, inr, length, length-append, map, min, nat_lt, negsuc, pos, refl, rules, suc, sum, sym, take, true},
   Common.{unsigned_abs, zero, ℕ, ℤ, ⊎_elim, ◌%◌, ◌*◌, ◌++◌, ◌+ℤ◌, ◌+◌, ◌-◌, ◌/◌, ◌<ℤ◌, ◌<◌, ◌^◌, ◌∙◌, ◌∷◌, ◌≡◌, ◌≤◌, ◌⊎◌},
-  Math.{Nat.{add-mul-div_left, add-suc, suc-add, div-add-mod, div-div-eq-div-mul, div-eq_of_lt, div-one, one-le-pow, pow-le-pow_right, pow-succ'}, Seq.{drop-append_seam, take-append-add}},
+  Math.Nat.{add-mul-div_left, add-suc, suc-add, div-add-mod, div-div-eq-div-mul, div-eq_of_lt, div-one, one-le-pow, pow-le-pow_right, pow-succ'},
+  Math.Seq.{drop-append_seam, take-append-add},
   lemmas.{
     Bool.{Decides.nat_tests, agree_below, agree_below_at, cases_lt, eqb-true},
     Fmt.{decimal_digit, decimal_step_wide, length-decimal-le, length-decimal-le_wide},
