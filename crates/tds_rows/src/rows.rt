@@ -1,5 +1,5 @@
 // The reading of rows, one or several after one another (MS-TDS, ROW).
-ghost use Rattle.std.specs.Prelude.{◌≡◌, ◌+◌, ◌<◌, ◌≤◌, ℕ, Bool, List, length, false, IfOk, IsTrue};
+ghost use Rattle.std.specs.Prelude.{◌≡◌, ◌+◌, ◌<◌, ◌≤◌, ℕ, Bool, List, length, false, None, IfOk, IfSome, IsTrue};
 ghost use Rattle.tds_csv.specs.Fields.{conversion_of};
 ghost use Rattle.tds_rows.specs.Cells.{long_start, Cell};
 ghost use Rattle.tds_rows.specs.Layouts.{IsLaidOut};
@@ -12,6 +12,7 @@ ghost use Rattle.tds_rows.specs.Runs.{RowsPut};
 ghost use Rattle.tds_rows.specs.MarkedRuns.{MarkedWritten};
 ghost use Rattle.tds_rows.specs.RowRuns.{IsFurther, MarkedRead, RunRead};
 ghost use Rattle.tds_rows.specs.Tables.{Knows};
+ghost use Rattle.tds_rows.specs.declared.cell.layout.Layout.{Layout};
 ghost use Rattle.tds_values.specs.Kind as kinds;
 
 use crate::cell::gathered::{LONGEST_CELL, gather_scalar, length_size};
@@ -111,29 +112,63 @@ impl<'r, 't, 'p, 's, 'c, R: Read, W: Write> Rows<'r, 't, 'p, 's, 'c, R, W> {
         }
     }
 
-    /// Reads the next cell, whatever its kind, and puts its text: at once, if it is whole in the packet, isn't in chunks and
-    /// has room in a small text. A scalar near the packet's end, which is likely to be cut by it, is gathered.
+    // Puts the text of the next cell if it is whole in the packet, isn't refused and has room in a small text. `None` if
+    // not, where nothing was done.
+    fn put_whole(&mut self, at: Ahead<'c>, form: &Form) -> Option<Result<(), Stop>>
+        requires { IsAtCell self.old at form.now }
+        ensures none { result ≡ None → self.new ≡ self.old }
+        ensures cell { IfSome result (λ put. CellRead R.remaining W.contents at.entry form.now.kind self.old self.new put) }
+    {
+        let mut text = [0u8; SHORT_TEXT];
+        let cell = self
+            .table
+            .write_alone(at, form, self.payload.buffered(), &mut text)?;
+        self.payload.consume(cell.used);
+        Some(self.sink.put(&text[..cell.made]))
+    }
+
+    // Reads the next cell, of a scalar kind, and puts its text. One near the packet's end, which is likely to be cut by
+    // it, is gathered.
+    fn put_scalar(&mut self, at: Ahead<'c>, form: &Form) -> Result<(), Stop>
+        requires next { IsAtCell self.old at form.now }
+        requires scalar { IsTrue (kinds.is_scalar form.now.kind) }
+        ensures { CellRead R.remaining W.contents at.entry form.now.kind self.old self.new result }
+    {
+        if self.payload.buffered().len() < LONGEST_CELL {
+            return self.put_gathered(at, form);
+        }
+        match self.put_whole(at, form) {
+            Some(put) => put,
+            None => self.put_gathered(at, form),
+        }
+    }
+
+    // Reads the next cell, a short value of this content, and puts its field.
+    fn put_short(&mut self, at: Ahead<'c>, form: &Form, content: Content) -> Result<(), Stop>
+        requires next { IsAtCell self.old at form.now }
+        requires short { form.now.layout ≡ Layout.Short content }
+        ensures { CellRead R.remaining W.contents at.entry form.now.kind self.old self.new result }
+    {
+        let last = self.table.is_last(at);
+        match self.put_whole(at, form) {
+            Some(put) => put,
+            None => self.put_joined(content, Reach::Short, at.column, last),
+        }
+    }
+
+    /// Reads the next cell, whatever its kind, and puts its text.
     #[inline(never)]
     pub(crate) fn put_cell(&mut self, at: Ahead<'c>, form: &Form) -> Result<(), Stop>
         requires { IsAtCell self.old at form.now }
         ensures { CellRead R.remaining W.contents at.entry form.now.kind self.old self.new result }
     {
-        if form.kind.is_scalar() && self.payload.buffered().len() < LONGEST_CELL {
-            return self.put_gathered(at, form);
-        }
-        let mut text = [0u8; SHORT_TEXT];
-        if let Some(cell) = self
-            .table
-            .write_alone(at, form, self.payload.buffered(), &mut text)
-        {
-            self.payload.consume(cell.used);
-            return self.sink.put(&text[..cell.made]);
-        }
-        let (column, last) = (at.column, self.table.is_last(at));
         match form.layout {
-            Layout::Fixed(_) | Layout::Counted => self.put_gathered(at, form),
-            Layout::Short(content) => self.put_joined(content, Reach::Short, column, last),
-            Layout::Chunked(content) => self.put_joined(content, Reach::Chunked, column, last),
+            Layout::Fixed(_) | Layout::Counted => self.put_scalar(at, form),
+            Layout::Short(content) => self.put_short(at, form, content),
+            Layout::Chunked(content) => {
+                let last = self.table.is_last(at);
+                self.put_joined(content, Reach::Chunked, at.column, last)
+            }
         }
     }
 
