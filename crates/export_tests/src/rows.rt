@@ -255,7 +255,7 @@ struct Reading {
 
 // A ROW of three kinds, whole in its packet.
 const THREE_KINDS: Reading = Reading {
-    what: "no cell of a row that lies whole in its packet",
+    what: "a row that lies whole in its packet",
     token: Token::Row,
     columns: MIXED,
     bytes: MIXED_ROW,
@@ -295,7 +295,11 @@ const READINGS: [Reading; 10] = [
         text: NINES_TEXT,
         peak: 18,
     },
-    THREE_KINDS,
+    Reading {
+        what: "each cell in the last 17 bytes of a packet",
+        peak: 4,
+        ..THREE_KINDS
+    },
     Reading {
         what: "no long value",
         token: Token::Row,
