@@ -1,5 +1,5 @@
 // The ranges of days, times and offsets (MS-TDS, Date/Times). Day 0 is 0001-01-01.
-ghost use Rattle.std.specs.Prelude.{◌≡◌, ◌/◌, ◌^◌, ◌<◌, ◌≤◌, unsigned_abs, IfSome};
+ghost use Rattle.std.specs.Prelude.{◌≡◌, ◌/◌, ◌^◌, ◌<◌, ◌≤◌, nat_le, unsigned_abs, IfSome};
 ghost use Rattle.tds_values.specs.TimeOfDay.{is_time as is_time_of};
 ghost use Rattle.tds_values.specs.LocalTime.{local_seconds as local_seconds_of};
 ghost use Rattle.tds_values.specs.ScalarRange.{is_day_since_1900 as is_day_since_1900_of};
@@ -51,7 +51,15 @@ pub(crate) fn is_day_since_1900(days: i32) -> bool
     -(DAY_OF_1900 as i32) <= days && days <= LAST_DAY as i32 - DAY_OF_1900 as i32
 }
 
-// The local seconds since day 0 of a time and a day in UTC, if the calendar has them.
+// A number of minutes is one by which local time may be ahead of UTC, or behind it if negative.
+#[inline(always)]
+pub(crate) fn is_offset(offset: i16) -> bool
+    ensures { result ≡ nat_le (unsigned_abs offset) LARGEST_OFFSET }
+{
+    -(LARGEST_OFFSET as i16) <= offset && offset <= LARGEST_OFFSET as i16
+}
+
+// The local seconds since day 0 of a UTC time and day, if the calendar has them. No jump depends on the sign.
 #[inline(always)]
 pub(crate) fn local_seconds(seconds: u64, day: u32, offset: i16) -> Option<u64>
     requires time { seconds < SECONDS_A_DAY }
@@ -61,16 +69,9 @@ pub(crate) fn local_seconds(seconds: u64, day: u32, offset: i16) -> Option<u64>
     ensures bound { IfSome result (λ local. local < SECONDS_OF_ALL_DAYS) }
 {
     let utc = day as u64 * SECONDS_A_DAY + seconds;
-    let shift = offset.unsigned_abs() as u64 * 60;
-    if offset < 0 {
-        if shift <= utc {
-            Some(utc - shift)
-        } else {
-            None
-        }
-    } else if utc + shift < SECONDS_OF_ALL_DAYS {
-        Some(utc + shift)
-    } else {
-        None
+    let local = utc as i64 + offset as i64 * 60;
+    if local < 0 || local >= SECONDS_OF_ALL_DAYS as i64 {
+        return None;
     }
+    Some(local as u64)
 }

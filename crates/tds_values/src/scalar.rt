@@ -9,7 +9,7 @@ ghost use Rattle.tds_values.specs.TimeOfDay.{is_time as is_time_of};
 
 use crate::kind::{Kind, time_length};
 use crate::ranges::{
-    LARGEST_OFFSET, LAST_DAY, MINUTES_A_DAY, TICKS_A_DAY, is_day_since_1900, is_time,
+    LARGEST_OFFSET, LAST_DAY, MINUTES_A_DAY, TICKS_A_DAY, is_day_since_1900, is_offset, is_time,
     local_seconds, seconds_in,
 };
 use byteorder::{ByteOrder, LittleEndian};
@@ -198,7 +198,7 @@ fn is_in_range(value: &ScalarValue) -> bool
             offset,
         } => {
             is_time_in_day(scale, units, day)
-                && offset.unsigned_abs() <= LARGEST_OFFSET
+                && is_offset(offset)
                 && is_local(scale, units, day, offset)
         }
         ScalarValue::SmallDateTime { minutes, .. } => minutes < MINUTES_A_DAY,

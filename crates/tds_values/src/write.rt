@@ -15,7 +15,7 @@ use crate::kind::{Kind, is_decimal_length, time_length};
 use crate::moments::{put_date, put_moment, put_time};
 use crate::numbers::{put_integer, rest};
 use crate::ranges::{
-    LARGEST_OFFSET, LAST_DAY, MINUTES_A_DAY, SECONDS_A_DAY, TICKS_A_DAY, is_day_since_1900,
+    LAST_DAY, MINUTES_A_DAY, SECONDS_A_DAY, TICKS_A_DAY, is_day_since_1900, is_offset,
     local_seconds, seconds_in,
 };
 use crate::scalar::{ScalarValue, ValueFault, integer_of, money_of};
@@ -173,7 +173,7 @@ fn write_local(
     ensures { IsWritten (checked (Some (ScalarValue.DateTimeOffset scale units day offset))) result to.new }
 {
     let seconds = seconds_in(scale, units);
-    if seconds >= SECONDS_A_DAY || day > LAST_DAY || offset.unsigned_abs() > LARGEST_OFFSET {
+    if seconds >= SECONDS_A_DAY || day > LAST_DAY || !is_offset(offset) {
         return Err(ValueFault::Value);
     }
     let Some(local) = local_seconds(seconds, day, offset) else {
