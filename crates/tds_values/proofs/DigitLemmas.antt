@@ -58,29 +58,30 @@ decimal_eight n h small = rw (last_digits-mod 8 n) (decimal_split 8 n h small)
 pub fraction_rest : (scale n : ℕ) → N.fraction_text scale (n % 10 ^ scale) ≡ N.fraction_text scale n
 fraction_rest scale n = rw (last_digits-mod scale n)
 
--- the whole part of units of a scale, which have as many digits of eight as are needed
-units_last : (scale skipped n : ℕ) → scale + skipped ≤ 7 → n < 10 ^ (8 - skipped) → (skipped + scale ≡ 7) ⊎ (10 ^ (7 - skipped) ≤ n) → n < 100000000
-    → decimal (n / 10 ^ scale) ≡ last_digits (8 - scale - skipped) (n / 10 ^ scale)
-units_last scale skipped n few fits needed small =
-    let k = 7 - scale - skipped in
-    let width : 8 - scale - skipped ≡ suc k = omega arith in
-    let all : 8 - skipped ≡ suc k + scale = omega arith in
+-- the whole part of units of a scale, which have as many digits of top + 1 as are needed
+units_last : (top scale skipped n : ℕ) → scale + skipped ≤ top → n < 10 ^ (suc top - skipped) → (skipped + scale ≡ top) ⊎ (10 ^ (top - skipped) ≤ n)
+    → n < 10 ^ 64 → decimal (n / 10 ^ scale) ≡ last_digits (suc top - scale - skipped) (n / 10 ^ scale)
+units_last top scale skipped n few fits needed small =
+    let k = top - scale - skipped in
+    let width : suc top - scale - skipped ≡ suc k = omega arith in
+    let all : suc top - skipped ≡ suc k + scale = omega arith in
     let some = N.one-le-pow scale 10 (omega arith) in
     let below : n / 10 ^ scale < 10 ^ suc k = N.div_below n (10 ^ scale) (10 ^ suc k) some (rw (← pow-add 10 (suc k) scale, ← all) fits) in
     let low : (k ≡ 0) ⊎ (10 ^ k ≤ n / 10 ^ scale) = N.⊎_elim (λ e. inl (omega arith))
-    (λ h. inr (N.le-div (10 ^ k) n (10 ^ scale) some (let e : k + scale ≡ 7 - skipped = omega arith in rw (← pow-add 10 k scale, e) h))) needed in
+    (λ h. inr (N.le-div (10 ^ k) n (10 ^ scale) some (let e : k + scale ≡ top - skipped = omega arith in rw (← pow-add 10 k scale, e) h))) needed in
     rw width (decimal_last k (n / 10 ^ scale) low below (omega arith))
 
--- with the needless zeros of eight digits, but for the last before the point
-pub decimal_units : (scale zeros n : ℕ) → 1 ≤ scale → scale ≤ 7 → n < 100000000 → zeros ≤ 7 → n < 10 ^ (8 - zeros) → (zeros ≡ 7) ⊎ (10 ^ (7 - zeros) ≤ n)
-    → decimal (n / 10 ^ scale) ≡ last_digits (8 - scale - min zeros (7 - scale)) (n / 10 ^ scale)
-decimal_units scale zeros n some few small most fits needed = N.⊎_elim
-    (λ h. let few_zeros : min zeros (7 - scale) ≡ zeros = omega arith in
-    rw few_zeros (units_last scale zeros n (omega arith) fits (N.⊎_elim (λ e. absurd (omega arith)) inr needed) small))
-    (λ h. let all_but_one : min zeros (7 - scale) ≡ 7 - scale = omega arith in
-    let power : 10 ^ (8 - zeros) ≤ 10 ^ (8 - (7 - scale)) = N.pow-le-pow_right {n = 10} (omega arith) (omega arith) in
-    rw all_but_one (units_last scale (7 - scale) n (omega arith) (omega arith) (inl (omega arith)) small))
-    (N.cases_lt zeros (8 - scale))
+-- with the needless zeros of top + 1 digits, but for the last before the point
+pub decimal_units : (top scale zeros n : ℕ) → scale ≤ top → n < 10 ^ 64 → zeros ≤ top → n < 10 ^ (suc top - zeros) → (zeros ≡ top) ⊎ (10 ^ (top - zeros) ≤ n)
+    → decimal (n / 10 ^ scale) ≡ last_digits (suc top - scale - min zeros (top - scale)) (n / 10 ^ scale)
+decimal_units top scale zeros n few small most fits needed = N.⊎_elim
+    (λ h. let few_zeros : min zeros (top - scale) ≡ zeros = omega arith in
+    rw few_zeros (units_last top scale zeros n (omega arith) fits (N.⊎_elim (λ e. inl (omega arith)) inr needed) small))
+    (λ h. let all_but_one : min zeros (top - scale) ≡ top - scale = omega arith in
+    let longer : suc top - zeros ≤ suc top - (top - scale) = omega arith in
+    let power = N.pow-le-pow_right {n = 10} (omega arith) longer in
+    rw all_but_one (units_last top scale (top - scale) n (omega arith) (omega arith) (inl (omega arith)) small))
+    (N.cases_lt zeros (suc top - scale))
 
 -- the whole part of units of a scale that have more than eight digits
 pub decimal_above : (scale n : ℕ) → scale ≤ 7 → 100000000 ≤ n → n < 10 ^ 64

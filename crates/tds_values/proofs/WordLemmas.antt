@@ -25,26 +25,12 @@ bytes_of-word_of : (xs : List ℕ) → All (λ b. b < 256) xs → bytes_of (leng
 bytes_of-word_of [] h = refl
 bytes_of-word_of (x ∷ xs) h = grind (arith, N.All-head, (bytes_of-word_of xs (N.All-tail (λ b. b < 256) x xs h)))
 
--- a shift takes the first bytes away
-word_of-shift : (xs ys : List ℕ) → All (λ b. b < 256) xs → word_of (xs ++ ys) / 256 ^ length xs ≡ word_of ys
-word_of-shift [] ys h = omega arith
-word_of-shift (x ∷ xs) ys h =
-    let b : x < 256 = N.All-head (λ b. b < 256) x xs h in
-    let high : (x + 256 * word_of (xs ++ ys)) / 256 ≡ word_of (xs ++ ys) = omega arith in
-    rw (N.pow-succ' 256 (length xs), ← N.div-div-eq-div-mul _ 256 (256 ^ length xs), high) (word_of-shift xs ys (N.All-tail (λ b. b < 256) x xs h))
+-- without the lowest bytes
+drop-bytes_of : (j k w : ℕ) → drop j (bytes_of (j + k) w) ≡ bytes_of k (w / 256 ^ j)
+drop-bytes_of zero k w = let one : w / 256 ^ 0 ≡ w = omega arith in rw (one, N.zero-add) refl
+drop-bytes_of (suc j) k w = rw (N.suc-add, N.pow-succ' 256 j, ← N.div-div-eq-div-mul w 256 (256 ^ j)) (drop-bytes_of j k (w / 256))
 
-shifted : (xs ys : List ℕ) → All (λ b. b < 256) xs → All (λ b. b < 256) ys → bytes_of (length ys) (word_of (xs ++ ys) / 256 ^ length xs) ≡ ys
-shifted xs ys h g = rw (word_of-shift xs ys h) (bytes_of-word_of ys g)
-
--- of a digits in a word, a shift leaves the last k
-pub shifted_digits : (a k n : ℕ) → bytes_of k (word_of (last_digits (a + k) n) / 256 ^ a) ≡ last_digits k n
-shifted_digits a k n =
-    rw (last_digits-add a k n) (rw (
-      length-last_digits k n,
-      length-last_digits a (n / 10 ^ k),
-    ) at (shifted _ _ (digits_are_bytes a (n / 10 ^ k)) (digits_are_bytes k n)))
-
-pub take-bytes_of : (j k w : ℕ) → take k (bytes_of (j + k) w) ≡ bytes_of k w
+take-bytes_of : (j k w : ℕ) → take k (bytes_of (j + k) w) ≡ bytes_of k w
 take-bytes_of j zero w = refl
 take-bytes_of j (suc k) w = rw (N.add-suc, take-bytes_of j k (w / 256))
 
@@ -60,14 +46,13 @@ eighth_power : (k : ℕ) → 2 ^ (8 * k) ≡ 256 ^ k
 eighth_power zero = refl
 eighth_power (suc k) = let e : 8 * suc k ≡ 8 + 8 * k = omega arith in rw (e, N.pow-add 2 8 (8 * k), eighth_power k, N.pow-succ' 256 k)
 
--- of the bytes after `at`, shifted past the first j digits, the first k
-pub last_put : (xs new : List ℕ) (at j k m n : ℕ) → length xs ≡ at → m ≡ j + k
-    → take (at + m) new ≡ xs ++ N.bytes_low_first 0 m (word_of (last_digits m n) / 2 ^ (8 * j))
-    → take (at + k) new ≡ xs ++ last_digits k n
-last_put xs new at j k m n long em e =
-    let w = word_of (last_digits m n) / 256 ^ j in
+-- of the bytes after `at`, shifted past the first j, the first k
+pub shifted_put : (xs new : List ℕ) (at j k m w : ℕ) → length xs ≡ at → m ≡ j + k → take (at + m) new ≡ xs ++ N.bytes_low_first 0 m (w / 2 ^ (8 * j))
+    → take (at + k) new ≡ xs ++ drop j (N.bytes_low_first 0 m w)
+shifted_put xs new at j k m w long em e =
     let f = rw (whole_word, eighth_power) at e in
-    cc (N.take-take (at + k) (at + m) new (omega arith), N.take-append-add xs (bytes_of m w) k, take-bytes_of j k w, shifted_digits j k n)
+    let v = w / 256 ^ j in
+    cc (N.take-take (at + k) (at + m) new (omega arith), N.take-append-add xs (bytes_of m v) k, take-bytes_of j k v, drop-bytes_of j k w, whole_word m w)
 
 -- of k digits the last b
 pub end_digits : (k b n : ℕ) → b ≤ k → drop (k - b) (last_digits k n) ≡ last_digits b n
@@ -75,6 +60,19 @@ end_digits k b n few =
     let all : k ≡ (k - b) + b = omega arith in
     let d = last_digits (k - b) (n / 10 ^ b) in
     cc (ap (λ j. last_digits j n) all, last_digits-add (k - b) b n, length-last_digits (k - b) (n / 10 ^ b), N.drop-append_seam d (last_digits b n))
+
+-- of m digits in a word, without the first j, the last k
+pub digits_left : (j k m n : ℕ) {w : ℕ} → m ≡ j + k → w ≡ word_of (last_digits m n) → drop j (N.bytes_low_first 0 m w) ≡ last_digits k n
+digits_left j k m n {w} em ew =
+    let rest : m - k ≡ j = omega arith in
+    let bytes = rw (length-last_digits m n) at (bytes_of-word_of (last_digits m n) (digits_are_bytes m n)) in
+    rw (whole_word m w, ew, bytes, ← rest) (end_digits m k n (omega arith))
+
+-- the same, shifted past the first j
+pub last_put : (xs new : List ℕ) (at j k m n : ℕ) → length xs ≡ at → m ≡ j + k
+    → take (at + m) new ≡ xs ++ N.bytes_low_first 0 m (word_of (last_digits m n) / 2 ^ (8 * j))
+    → take (at + k) new ≡ xs ++ last_digits k n
+last_put xs new at j k m n long em e = rw (← digits_left j k m n em refl) (shifted_put xs new at j k m _ long em e)
 
 -- of a + b digits the first a
 front_digits : (a b n : ℕ) → take a (last_digits (a + b) n) ≡ last_digits a (n / 10 ^ b)

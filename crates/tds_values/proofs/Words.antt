@@ -7,7 +7,7 @@ pub use Rattle.jiff_core.{
 }
 pub use Rattle.std.proofs.{
   Common.{Fits, replicate, take_all, ap₂, slice_index, w8, add-zero, zero-add, Bool, Err, List, None, Ok, Option, Result, Some, [], ap, append_assoc, arith},
-  Common.{codes, cond, decimal, drop, false, get_or, inl, inr, length, length-append, map, min, nat_lt, negsuc, pos, refl, rules, suc, sum, sym, take, true},
+  Common.{codes, decimal, drop, false, get_or, inl, inr, length, length-append, map, min, nat_lt, negsuc, pos, refl, rules, suc, sum, sym, take, true},
   Common.{unsigned_abs, zero, ℕ, ℤ, ⊎_elim, ◌%◌, ◌*◌, ◌++◌, ◌+ℤ◌, ◌+◌, ◌-◌, ◌/◌, ◌<ℤ◌, ◌<◌, ◌^◌, ◌∙◌, ◌∷◌, ◌≡◌, ◌≤◌, ◌⊎◌},
   Math.Nat.{add-mul-div_left, add-suc, suc-add, div-add-mod, div-div-eq-div-mul, div-eq_of_lt, div-one, one-le-pow, pow-le-pow_right, pow-succ'},
   Math.Seq.{drop-append_seam, take-append-add},
@@ -16,7 +16,7 @@ pub use Rattle.std.proofs.{
     Fmt.{decimal_digit, decimal_step_wide, length-decimal-le, length-decimal-le_wide},
     Grind.common_steps,
     Int.to_z-of_z,
-    List.{Elements.{All-head, All-nil, All-push, All-tail}, Sums.sum_by_more_le, append-nil, drop-take, length-map, take-append-le, get_or-take, length-take},
+    List.{Elements.{All-head, All-nil, All-push, All-tail}, Sums.sum_by_more_le, append-nil, length-map, take-append-le, get_or-take, length-take},
     List.{length-take-le, take-take, take_at},
     Nat.{div-mul-add, div_below, le-div, mod-mul-add, mod_below, mul-le, pow-add},
     Simd.{Each1-all, Each2-splat, SwzOk-from_below, length-put_chunk, pick_l_left, put_chunk_is, swz_l, zip2_splat},

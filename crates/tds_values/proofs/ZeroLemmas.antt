@@ -46,7 +46,7 @@ low_zeros (suc a) r m =
     rw (N.suc-add, half, even, low_zeros a r m) (omega arith)
 
 -- of k + 1 digits the first t are needless
-abbrev IsNeedless : ℕ → ℕ → ℕ → Type 0
+abbrev pub IsNeedless : ℕ → ℕ → ℕ → Type 0
 IsNeedless k n t = (t ≤ k) × ((n < 10 ^ (suc k - t)) × ((t ≡ k) ⊎ (10 ^ (k - t) ≤ n)))
 
 next : (k n t s : ℕ) → s ≡ suc t → IsNeedless k n t → IsNeedless (suc k) n s

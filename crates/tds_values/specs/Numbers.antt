@@ -1,5 +1,5 @@
 -- The numbers that bytes spell (MS-TDS, Data Type Dependent Data Streams).
-use Rattle.std.specs.Prelude.{ℕ, ◌+◌, ◌*◌, ◌^◌, ◌==◌, ℤ, pos, List, length, drop, if◌then◌else◌}
+use Rattle.std.specs.Prelude.{ℕ, ◌+◌, ◌*◌, ◌/◌, ◌%◌, ◌^◌, ◌==◌, ℤ, pos, List, [], ◌∷◌, length, drop, if◌then◌else◌}
 use Rattle.std.specs.Int.{cast_signed, w16, w32, w64}
 use Rattle.byteorder.specs.Endian.{little_number}
 
@@ -20,3 +20,7 @@ money_of n bytes =
 -- the number that all the bytes spell, the low byte first
 abbrev pub little : List ℕ → ℕ
 little bytes = little_number (length bytes) bytes
+
+-- a number in five groups of eight digits, the highest first
+abbrev pub groups_of : ℕ → List ℕ
+groups_of n = n / 10 ^ 32 ∷ n / 10 ^ 24 % 10 ^ 8 ∷ n / 10 ^ 16 % 10 ^ 8 ∷ n / 10 ^ 8 % 10 ^ 8 ∷ n % 10 ^ 8 ∷ []

@@ -1,14 +1,17 @@
 // The texts of decimals of up to 128 bits.
-ghost use Rattle.std.specs.Prelude.{◌≡◌, ◌+◌, ◌-◌, ◌≤◌, ◌<◌, ◌/◌, ◌%◌, ◌^◌, ◌++◌, [], ◌∷◌, codes, take, drop, length};
-ghost use Rattle.std.specs.List.{prefix_len};
-ghost use Rattle.tds_values.specs.ScalarText.{last_digits, decimal_text, is_zero};
+ghost use Rattle.std.specs.Prelude.{◌≡◌, ◌+◌, ◌-◌, ◌≤◌, ◌<◌, ◌^◌, ◌++◌, ◌⊎◌, take, drop, length};
+ghost use Rattle.std.specs.{Int.{to_le_bytes, w64}, List.{flat_map}};
+ghost use Rattle.tds_values.specs.{Numbers.{groups_of}, ScalarText.{last_digits, decimal_text}};
 
-use crate::digits::{put_byte, put_tail};
+use crate::digits::{needless, put_byte, put_piece, put_word, word};
 use crate::numbers::put_sign;
 use crate::text::{LONGEST_TEXT, TEXT_ROOM};
 
-// How many digits of a number are written at once: no number of 128 bits has more than 39.
+// How many digits are written at most: no number of 128 bits has more than 39.
 const DIGITS: usize = 40;
+
+// How many groups of eight digits these are.
+const GROUPS: usize = DIGITS / 8;
 
 // What a group of eight digits counts to.
 const GROUP: u64 = 100_000_000;
@@ -16,8 +19,8 @@ const GROUP: u64 = 100_000_000;
 // The digits of a number in groups of eight, the highest first. Each half of 32 bits is known in such groups, as
 // 2^32 is 42 and 94,967,296, so no division is wider than 64 bits.
 #[inline(always)]
-fn groups(n: u128) -> [u32; 5]
-    ensures { result ≡ n / 10 ^ 32 ∷ n / 10 ^ 24 % 10 ^ 8 ∷ n / 10 ^ 16 % 10 ^ 8 ∷ n / 10 ^ 8 % 10 ^ 8 ∷ n % 10 ^ 8 ∷ [] }
+fn groups(n: u128) -> [u32; GROUPS]
+    ensures { result ≡ groups_of n }
 {
     let low = (n % 0x1_0000_0000_0000_0000) as u64;
     let high = (n / 0x1_0000_0000_0000_0000) as u64;
@@ -36,73 +39,61 @@ fn groups(n: u128) -> [u32; 5]
     ]
 }
 
-// The last forty digits of a number, and as many bytes more.
+// How many of the forty digits of a number in groups are needless zeros.
 #[inline(always)]
-fn digits(n: u128) -> [u8; 2 * DIGITS]
-    ensures { take 40 result ≡ last_digits 40 n }
+fn needless_zeros(n: u128, groups: &[u32; GROUPS]) -> usize
+    requires { groups.now ≡ groups_of n }
+    ensures few { result ≤ 39 }
+    ensures fits { n < 10 ^ (40 - result) }
+    ensures needed { (result ≡ 39) ⊎ (10 ^ (39 - result) ≤ n) }
+{
+    if n >= 1_00000000_00000000_00000000_00000000 {
+        return needless(groups[0]);
+    }
+    if n >= 1_00000000_00000000_00000000 {
+        return 8 + needless(groups[1]);
+    }
+    if n >= 1_00000000_00000000 {
+        return 16 + needless(groups[2]);
+    }
+    if n >= 1_00000000 {
+        return 24 + needless(groups[3]);
+    }
+    32 + needless(groups[4])
+}
+
+// The forty digits of a number, as the bytes of words, and how many of them are needless zeros.
+#[inline(always)]
+fn digits(n: u128) -> ([u64; GROUPS], usize)
+    ensures words { flat_map (to_le_bytes w64) result.0 ≡ last_digits 40 n }
+    ensures few { result.1 ≤ 39 }
+    ensures fits { n < 10 ^ (40 - result.1) }
+    ensures needed { (result.1 ≡ 39) ⊎ (10 ^ (39 - result.1) ≤ n) }
 {
     let groups = groups(n);
-    let mut digits = [0; 2 * DIGITS];
-    let to = &mut digits[..];
-    let at = put_tail(to, 0, 8, groups[0]);
-    let at = put_tail(to, at, 8, groups[1]);
-    let at = put_tail(to, at, 8, groups[2]);
-    let at = put_tail(to, at, 8, groups[3]);
-    put_tail(to, at, 8, groups[4]);
-    digits
+    let words = [
+        word(groups[0]),
+        word(groups[1]),
+        word(groups[2]),
+        word(groups[3]),
+        word(groups[4]),
+    ];
+    (words, needless_zeros(n, &groups))
 }
 
-// How many zeros the first digits begin with.
-fn zeros(digits: &[u8], most: usize) -> usize
-    requires { most ≤ length digits.now }
-    ensures few { result ≤ most }
-    ensures zeros { result ≡ prefix_len is_zero (take most digits.now) }
-{
-    let mut n = 0;
-    while n < most && digits[n] == b'0' {
-        n += 1;
-    }
-    n
-}
-
-// Some digits, as a block of `N` bytes, of which the last are written over or aren't wanted.
+// The bytes of words, the lowest of each first, without the first bytes of all, which aren't wanted.
 #[inline(always)]
-fn put_digits<const N: usize>(
-    to: &mut [u8],
-    at: usize,
-    digits: &[u8],
-    from: usize,
-    n: usize,
-) -> usize
-    requires room { at + N ≤ length to.old }
-    requires digits { from + N ≤ length digits.now }
-    requires few { n ≤ N }
-    ensures end { result ≡ at + n }
-    ensures written { take result to.new ≡ take at to.old ++ take n (drop from digits.now) }
+fn put_from(to: &mut [u8], at: usize, words: &[u64; GROUPS], skipped: usize) -> usize
+    requires room { at + (48 - skipped) ≤ length to.old }
+    requires few { skipped ≤ 39 }
+    ensures end { result ≡ at + (40 - skipped) }
+    ensures written { take result to.new ≡ take at to.old ++ drop skipped (flat_map (to_le_bytes w64) words.now) }
 {
-    to[at..at + N].copy_from_slice(&digits[from..from + N]);
-    at + n
-}
-
-// A point, and of forty digits the last.
-#[inline(always)]
-fn put_after_point(to: &mut [u8], at: usize, digits: &[u8], scale: usize) -> usize
-    requires room { at + 16 < length to.old }
-    requires wide { 16 < scale → at + scale + 16 < length to.old }
-    requires digits { length digits.now ≡ 80 }
-    requires scale { scale ≤ 38 }
-    ensures end { result ≡ at + 1 + scale }
-    ensures written { take result to.new ≡ take at to.old ++ (codes "." ++ take scale (drop (40 - scale) digits.now)) }
-{
-    let at = put_byte(to, at, b'.');
-    let point = DIGITS - scale;
-    if scale <= 16 {
-        return put_digits::<16>(to, at, digits, point, scale);
+    let mut end = put_word(to, at, skipped % 8, words[skipped / 8]);
+    for i in skipped / 8 + 1..GROUPS {
+        end = put_piece::<8>(to, end, &words[i].to_le_bytes());
     }
-    if scale <= 32 {
-        return put_digits::<32>(to, at, digits, point, scale);
-    }
-    put_digits::<DIGITS>(to, at, digits, point, scale)
+    end
 }
 
 // A decimal.
@@ -119,13 +110,13 @@ pub(crate) fn put_wide_decimal(
     ensures end { result ≤ at + LONGEST_TEXT }
     ensures written { take result to.new ≡ take at to.old ++ decimal_text negative magnitude scale }
 {
-    let digits = digits(magnitude);
-    let point = DIGITS - scale as usize;
-    let first = zeros(&digits, point - 1);
+    let (words, needless) = digits(magnitude);
+    let scale = scale as usize;
     let at = put_sign(to, at, negative, magnitude == 0);
-    let at = put_digits::<DIGITS>(to, at, &digits, first, point - first);
+    let end = put_from(to, at, &words, needless.min(DIGITS - 1 - scale));
     if scale == 0 {
-        return at;
+        return end;
     }
-    put_after_point(to, at, &digits, scale as usize)
+    let at = put_byte(to, end - scale, b'.');
+    put_from(to, at, &words, DIGITS - scale)
 }

@@ -1,7 +1,5 @@
-use Rattle.tds_values.proofs.{Words.{◌∙◌, ap, arith, take, ◌≡◌}, WideDigits.forty}
+use Rattle.tds_values.proofs.WideDigits.{forty}
 
-pub returns : Rattle.tds_values.proofs.wide.digits.Goals.returns
-returns c =
-    let end : 40 ≡ c.put_tail.result = omega arith in
-    ap (λ k. take k c.put_tail.new.to) end ∙ forty c.args.n c.groups-groups.ensures c.put_tail-at.ensures.written c.put_tail-at-2.ensures.written
-    c.put_tail-at-3.ensures.written c.put_tail-at-4.ensures.written c.put_tail.ensures.written
+pub returns-clause-words : Rattle.tds_values.proofs.wide.digits.Goals.returns-clause-words
+returns-clause-words c =
+    forty c.args.n c.ranges.n.fits c.groups-groups.ensures c.word.ensures c.word-2.ensures c.word-3.ensures c.word-4.ensures c.word-5.ensures
