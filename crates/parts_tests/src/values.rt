@@ -5,7 +5,8 @@ use std::process::Abort;
 use std::simd::prelude::*;
 use std::test::Fail;
 use tds_values::{
-    Kind, Reach, TEXT_ROOM, ValueFault, hex_lanes, read_scalar, scalar_text, write_scalar,
+    FRONT_SIZE, Kind, Reach, TEXT_ROOM, ValueFault, hex_lanes, read_scalar, scalar_text,
+    write_front, write_scalar,
 };
 
 mod dates;
@@ -66,6 +67,28 @@ fn check_bytes(rt: &impl Abort, kind: &Kind, what: &str, bytes: &[u8], want: &st
     match write_scalar(kind, bytes, &mut room) {
         Ok(length) => expect_of(rt, kind, what, shown(&room[..length]) == want),
         Err(fault) => expect_of(rt, kind, what, name_of(fault) == want),
+    }
+    check_front(rt, kind, what, bytes, want);
+}
+
+// Checks the text that is written of a value at the front of bytes which go on after it.
+fn check_front(rt: &impl Abort, kind: &Kind, what: &str, bytes: &[u8], want: &str) {
+    assert!(rt; kind.is_valid());
+    let start = match kind.fixed_length() {
+        Some(n) if bytes.len() != n as usize => return,
+        Some(_) => 0,
+        None => 1,
+    };
+    assert!(rt; bytes.len() <= 32);
+    let mut front = [bytes.len() as u8; 33 + FRONT_SIZE];
+    front[start..start + bytes.len()].copy_from_slice(bytes);
+    let mut room = [0xEE; TEXT_ROOM];
+    match write_front(kind, &front, &mut room) {
+        Some(written) => {
+            expect_of(rt, kind, what, written.used == start + bytes.len());
+            expect_of(rt, kind, what, shown(&room[..written.made]) == want);
+        }
+        None => expect_of(rt, kind, what, want == "Length" || want == "Value"),
     }
 }
 

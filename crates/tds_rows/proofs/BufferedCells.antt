@@ -1,4 +1,6 @@
 -- Cells whose bytes lie together, and the room that a sink lends for their text.
+use Rattle.std.specs.Prelude.{IsTrue}
+use Rattle.tds_values.specs.Kind.{is_valid}
 use Rattle.tds_rows.proofs.Words as N
 use Rattle.tds_rows.proofs.{
   Words.{◌≡◌, ◌≢◌, ◌∙◌, ℕ, ◌+◌, ◌-◌, ◌<◌, ◌≤◌, Bool, true, List, [], ◌++◌, length, take, drop, Ok, refl, ap, arith, ◌∷◌, ◌||◌, Kind, held, shape},
@@ -10,6 +12,10 @@ use Rattle.tds_rows.proofs.{
 -- a value that is read has a length that is allowed
 read_allowed : (kind : Kind) (bytes : List ℕ) (value : N.ScalarValue) → N.read_of kind bytes ≡ Ok value → N.is_length_allowed kind (length bytes) ≡ true
 read_allowed _ _ _ h = grind arith
+
+-- no value has no bytes
+allowed_some : (kind : Kind) → IsTrue (is_valid kind) → N.is_scalar kind ≡ true → N.is_length_allowed kind 0 ≡ true → ⊥
+allowed_some kind valid scalar allowed = grind arith
 
 fixed_written : (column : ℕ) (kind : Kind) (n : ℕ) (last : Bool) (bytes text : List ℕ) → 0 < n → n ≤ length bytes
     → N.IsValueText kind column last (take n bytes) text → WritesCell (N.ScalarBytes kind n) column last (take n bytes) text
@@ -86,6 +92,14 @@ module _ (charset : N.Charset) (kind : Kind) (column : ℕ) (last : Bool) (bytes
       go N.None e =
           let one = at ∙ ap N.start_after e in
           rw (scalar_shape, e, one) (counted_written column kind n last bytes text (grind arith) some (omega arith) (rw one at is))
+
+  -- the value at the front of these bytes
+  pub front_cell : (used : ℕ) → IsTrue (is_valid kind) → used ≡ N.scalar_size kind bytes → used ≤ length bytes
+      → N.IsValueText kind column last (N.value_bytes kind bytes) text
+      → WritesCell (N.cell_start kind (shape charset kind)) column last (take used bytes) text
+  front_cell used valid is within x =
+      let allowed = read_allowed kind _ x.0 x.1 in
+      rw is (value_cell _ _ refl refl (λ none. absurd (allowed_some kind valid scalar (rw none at allowed))) (omega (arith, is)) x)
 
 -- a whole number of four bytes is read alike in each of its kinds
 pub int4_reads : (kind : Kind) (bytes : List ℕ) → N.IsInt4 kind → length bytes ≡ 4 → (N.is_scalar kind ≡ true)

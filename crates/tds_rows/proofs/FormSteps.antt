@@ -7,6 +7,7 @@ use Rattle.tds_rows.proofs.{
   RunSteps.{made_more, used_more, whole_some, unused},
   TableSteps.{known_kind, last_one},
 }
+use Rattle.std.proofs.lemmas.List.{drop-append-le, drop-set-add, take-set-le}
 use Rattle.tds_rows.specs.FormRuns.{IsLatest, NumbersWithin}
 use Rattle.tds_rows.specs.declared.run.forms.Latest.{Latest}
 
@@ -137,6 +138,64 @@ module _ (charset : Charset) (forms : List Form) (column : ℕ) (bytes : List �
       let kind_is = ap (λ (l : List Form). (get_or l 0 form).kind) are in
       record { size = search N.rules; writes = rw kind_is at (rw text at (rw read at (y form column last))) }
 
+-- what is left after `used` bytes is left of those from `from` on
+pub unused_from : (from used : ℕ) (bytes : List ℕ) → from ≤ used → unused used bytes ≡ unused (used - from) (drop from bytes)
+unused_from from used bytes begun =
+    let same : from + (used - from) ≡ used = omega arith in
+    N.all_after bytes used ∙ ap (λ (n : ℕ). drop n bytes) (sym same) ∙ sym (N.drop-drop (used - from) from bytes)
+    ∙ sym (N.all_after (drop from bytes) (used - from))
+
+-- a byte that is set beyond `at`
+pub set_beyond : (at made m : ℕ) (to x : List ℕ) → at ≤ made → made ≤ length to → drop at (N.slice_set (take made to ++ x) (made + m) 44)
+    ≡ N.slice_set (take (made - at) (drop at to) ++ x) ((made - at) + m) 44
+set_beyond at made m to x begun within =
+    let place : made + m ≡ at + ((made - at) + m) = omega arith in
+    let split : made ≡ at + (made - at) = omega arith in
+    ap (λ (n : ℕ). drop at (N.slice_set (take made to ++ x) n 44)) place ∙ drop-set-add at (take made to ++ x) ((made - at) + m) 44
+    ∙ ap (λ l. N.slice_set l ((made - at) + m) 44) (drop-append-le at (take made to) x (omega (arith, N.length-take-le made to within))
+    ∙ ap (λ l. l ++ x) (ap (λ (n : ℕ). drop at (take n to)) split ∙ N.drop-take at (made - at) to))
+
+-- and one that stands before it
+pub kept_before : (at made m : ℕ) (to x : List ℕ) → at ≤ made → made ≤ length to → take at (N.slice_set (take made to ++ x) (made + m) 44) ≡ take at to
+kept_before at made m to x begun within =
+    take-set-le at (take made to ++ x) (made + m) 44 (omega arith) ∙ N.take-append-le at (take made to) x (omega (arith, N.length-take-le made to within))
+    ∙ N.take-take at made to begun
+
+-- what was made beyond `at` is the same where all is
+pub same_beyond : (at made : ℕ) (old new : List ℕ) → at ≤ made → take made new ≡ take made old → take (made - at) (drop at new) ≡ take (made - at) (drop at old)
+same_beyond at made old new begun same =
+    let split : at + (made - at) ≡ made = omega arith in
+    sym (N.drop-take at (made - at) new) ∙ ap (λ (n : ℕ). drop at (take n new)) split ∙ ap (drop at) same
+    ∙ ap (λ (n : ℕ). drop at (take n old)) (sym split) ∙ N.drop-take at (made - at) old
+
+-- what was made ends after `at`, and so does what is made beyond it
+pub ended_beyond : (at end made : ℕ) (old new e : List ℕ) → at ≤ made → made ≤ length old → end ≤ length new → take end new ≡ take made old ++ e
+    → (at ≤ end) × ((take at new ≡ take at old) × (take (end - at) (drop at new) ≡ take (made - at) (drop at old) ++ e))
+ended_beyond at end made old new e begun within fits is = (later, (before, after))
+  where
+    size : length (take made old) ≡ made
+    size = N.length-take-le made old within
+
+    total : end ≡ length (take made old) + length e
+    total = sym (N.length-take-le end new fits) ∙ ap length is ∙ N.length-append (take made old) e
+
+    later : at ≤ end
+    later = omega (arith, size, total)
+
+    before : take at new ≡ take at old
+    before = sym (N.take-take at end new later) ∙ ap (take at) is ∙ N.take-append-le at (take made old) e (omega (arith, size)) ∙ N.take-take at made old begun
+
+    upto : at + (end - at) ≡ end
+    upto = omega (arith, later)
+
+    split : at + (made - at) ≡ made
+    split = omega arith
+
+    after : take (end - at) (drop at new) ≡ take (made - at) (drop at old) ++ e
+    after = sym (N.drop-take at (end - at) new) ∙ ap (λ (n : ℕ). drop at (take n new)) upto ∙ ap (drop at) is
+        ∙ drop-append-le at (take made old) e (omega (arith, size))
+        ∙ ap (λ l. l ++ e) (ap (λ (n : ℕ). drop at (take n old)) (sym split) ∙ N.drop-take at (made - at) old)
+
 -- the bytes of the first cell were used
 first_used : (forms : List Form) (bytes : List ℕ) (used u k : ℕ) (d : Form) → k ≡ 0 → used ≡ 0
     → u ≡ N.whole_size (get_or forms k d).kind (unused used bytes) → N.FirstUsed forms bytes (used + u)
@@ -177,6 +236,39 @@ fields_step {forms = forms} {bytes = bytes} {cells = cells} {used = used} u m d 
       one = λ first. let begun = x.begun (omega arith) in
           rw further (first_used forms bytes used u cells d (omega arith) begun.0 whole);
     }
+
+-- a run ended here, with what was made as it was
+pub fields_end : {charset : Charset} {forms : List Form} {column : ℕ} {bytes : List ℕ} {cells used made : ℕ} (to new : List ℕ)
+    → FieldsAt forms bytes (length to) cells used made → length new ≡ length to → take made new ≡ take made to
+    → N.FieldsWritten charset forms column bytes to (record { cells = cells; used = used; made = made })
+    → N.WritesFields charset forms column bytes new (record { cells = cells; used = used; made = made })
+fields_end to new at size same x = record {
+  within = record { cells = at.few; used = at.taken; made = omega arith; some = at.some; none = λ none. (at.begun none).0 };
+  room = λ some. (let further = at.further some in (further.0, omega arith));
+  one = at.one;
+  fields = (x.0, x.1, same ∙ x.2);
+}
+
+-- the same beyond `at`, with all as it was
+pub fields_beyond : {charset : Charset} {forms : List Form} {column : ℕ} {bytes : List ℕ} {cells used made : ℕ} (at : ℕ) (to : List ℕ)
+    → FieldsAt forms bytes (length to - at) cells used made
+    → N.FieldsWritten charset forms column bytes (drop at to) (record { cells = cells; used = used; made = made })
+    → N.WritesFields charset forms column bytes (drop at to) (record { cells = cells; used = used; made = made })
+fields_beyond at to x w = fields_end (drop at to) (drop at to) (rw (sym (N.length-drop at to)) at x) refl refl w
+
+-- its last comma gives way to the end of the line, or to nothing
+pub ended_run : {charset : Charset} {forms : List Form} {column cells used : ℕ} {bytes : List ℕ} (at end made : ℕ) (old new e : List ℕ) → 0 < cells
+    → N.WritesFields charset forms column bytes (drop at old) (record { cells = cells; used = used; made = made - at }) → at ≤ made
+    → end ≤ (made - 1) + 2 → length new ≡ length old → take end new ≡ take (made - 1) old ++ e
+    → ((at ≤ end) × (end ≤ length new))
+    × ((take at new ≡ take at old) × (take (end - at) (drop at new) ≡ take ((made - at) - 1) (drop at old) ++ e))
+ended_run at end made old new e some x begun most same is =
+    let room = x.room some in
+    let size = N.length-drop at old in
+    let fits : end ≤ length new = omega (arith, room, size) in
+    let less : (made - 1) - at ≡ (made - at) - 1 = omega arith in
+    let y = ended_beyond at end (made - 1) old new e (omega (arith, room)) (omega (arith, room, size)) fits is in
+    ((y.0, fits), (y.1.0, rw less at y.1.1))
 
 -- the run is over once the end of the line, or nothing, stands over the last comma
 pub fields_run : {charset : Charset} {forms : List Form} {column : ℕ} {ends : Bool} {bytes text : List ℕ} {run : N.FormsRun} (room made : ℕ)

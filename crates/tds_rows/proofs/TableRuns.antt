@@ -110,17 +110,17 @@ pub rows_kept : {table : Table} {from : Ahead} {bytes to : List ℕ} {run : N.Ro
     → take run.made new ≡ take run.made to → RowsRan table from bytes to run → RowsRan table from bytes new run
 rows_kept same is x = grind arith
 
--- a run, and then another that ended where it began
-pub rows_further : {table : Table} {from : Ahead} {bytes to : List ℕ} {run more : N.RowsRun} (text rest : List ℕ) → more.ahead ≡ run.ahead
+-- a run, and then another from where it ended
+pub rows_further : {table : Table} {from : Ahead} {bytes to : List ℕ} {run more : N.RowsRun} (text rest : List ℕ)
     → RowsRan table from bytes to run → RowsRan table run.ahead (unused run.used bytes) text more
     → RowsRan table from bytes (take run.made to ++ (text ++ rest))
-    (record { used = run.used + more.used; made = run.made + more.made; rows = run.rows + more.rows; ahead = run.ahead })
-rows_further {bytes = bytes} {to = to} {run = run} {more = more} text rest is x y = record {
+    (record { used = run.used + more.used; made = run.made + more.made; rows = run.rows + more.rows; ahead = more.ahead })
+rows_further {bytes = bytes} {to = to} {run = run} {more = more} text rest x y = record {
   used = omega (arith, N.length-take (length bytes - run.used) (drop run.used bytes));
   made = omega (arith, N.length-append (take run.made to) (text ++ rest), N.length-append text rest, N.length-take-le run.made to x.made);
   few = omega arith;
   writes = λ columns knows ahead. (let u = x.writes columns knows ahead in let v = y.writes columns knows u.0 in (
-    u.0,
+    v.0,
     λ charset cells set counted. (let w = u.1 charset cells set counted in rw (
       used_more run.used more.used bytes,
       made_more run.made more.made to text rest x.made y.made,

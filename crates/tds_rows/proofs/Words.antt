@@ -69,8 +69,8 @@ pub use Rattle.tds_packet.specs.{
 }
 pub use Rattle.tds_rows.specs.{
   Blames.{failures_of, StopBlames, Failures},
-  CellSteps.{IsValueText, StallsCell, IsScalarLeft, scalar_size, cell_so_far, opened, StopsField, IsLeft, start_after, WritesKind, length_after, value_length},
-  CellSteps.{is_last_column, IsInt4, is_int4, PutsField, value_bytes, GathersCell, WritesField, whole_size, value_start},
+  CellSteps.{IsValueText, StallsCell, IsScalarLeft, cell_so_far, opened, StopsField, IsLeft, WritesKind},
+  CellSteps.{is_last_column, IsInt4, is_int4, PutsField, GathersCell, WritesField, whole_size},
   Cells.{chunk_fault, ShortData, within_total, ScalarLength, ScalarCell, WholeCell, CountedShape, cell, ChunkLength, value_part, end_of_chunks, ShortLength},
   Cells.{cell_start, null_total, cell_add, Null, unknown_total, SpellsChunked, cell_size, unless, shape, ScalarBytes, Total, field, SpellsShort, Shape},
   Cells.{known_total, cell_end, FixedShape, field_so_far, ChunkData, CellPart, SpellsChunk, return_charset, SpellsChunks, LongShape, shape_of_length},
@@ -96,6 +96,7 @@ pub use Rattle.tds_rows.specs.{
   declared.{cell.{layout.{Form.Form, Layout.Layout}, whole.TheConstants.CELL_ROOM}, rows.Rows.Rows, run.{CellRun.CellRun, RowsRun.RowsRun}},
   declared.{run.forms.FormsRun.FormsRun, table.{Ahead.Ahead, Table.Table}},
 }
+pub use Rattle.tds_values.specs.Front.{scalar_size, start_after, length_after, value_length, value_bytes, value_start}
 pub use Rattle.tds_values.{
   proofs.WrittenLemmas.answered,
   specs.{

@@ -1,11 +1,12 @@
 -- What reading a cell and putting it into its line does.
-use Rattle.std.specs.Prelude.{◌≡◌, ◌==◌, ◌⊎◌, ◌+◌, ◌<◌, ◌≤◌, ℕ, Bool, true, false, List, [], ◌∷◌, length, max, take, drop, slice_index, is_ok, Option}
+use Rattle.std.specs.Prelude.{◌≡◌, ◌==◌, ◌⊎◌, ◌+◌, ◌<◌, ◌≤◌, ℕ, Bool, true, false, List, [], ◌∷◌, length, max, take, is_ok, Option}
 use Rattle.std.specs.Prelude.{Some, None, Result, Ok, IsTrue, MatchOption, MatchResult, if◌then◌else◌}
 use Rattle.tds_meter.specs.Space.{Space}
 use Rattle.tds_values.specs.declared.kind.Kind.{Kind}
 use Rattle.tds_values.specs.declared.kind.Kind.TheVariants.{Int4, IntN}
 use Rattle.tds_values.specs.declared.scalar.ScalarValue.{ScalarValue}
-use Rattle.tds_values.specs.Kind.{fixed_length, is_scalar, is_valid}
+use Rattle.tds_values.specs.Front.{scalar_size, value_bytes, value_length, value_start}
+use Rattle.tds_values.specs.Kind.{is_scalar, is_valid}
 use Rattle.tds_values.specs.Scalar.{read_of}
 use Rattle.tds_values.specs.ScalarText.{text_of}
 use Rattle.tds_packet.specs.declared.fault.Fault.TheVariants.{BadValue}
@@ -50,32 +51,6 @@ cell_so_far column last part = opened column (field_so_far part)
 pub record IsScalarKind (kind : Kind) : Type 0 where
   pub valid : IsTrue (is_valid kind)
   pub scalar : IsTrue (is_scalar kind)
-
--- where the value of a scalar cell is in its bytes: after a length, unless each value has as many bytes
-abbrev pub start_after : Option ℕ → ℕ
-start_after (Some n) = 0
-start_after None = 1
-
--- how many bytes it has: always as many, or what the length says
-abbrev pub length_after : Option ℕ → List ℕ → ℕ
-length_after (Some n) bytes = n
-length_after None bytes = slice_index bytes 0
-
--- where the value of a scalar cell of a kind is in its bytes
-abbrev pub value_start : Kind → ℕ
-value_start kind = start_after (fixed_length kind)
-
--- how many bytes the value has of the scalar cell at the front of these bytes; 0 if it is NULL
-abbrev pub value_length : Kind → List ℕ → ℕ
-value_length kind bytes = length_after (fixed_length kind) bytes
-
--- how many bytes the scalar cell at the front of these bytes has
-abbrev pub scalar_size : Kind → List ℕ → ℕ
-scalar_size kind bytes = value_start kind + value_length kind bytes
-
--- the bytes of its value
-abbrev pub value_bytes : Kind → List ℕ → List ℕ
-value_bytes kind bytes = take (value_length kind bytes) (drop (value_start kind) bytes)
 
 -- whether the values of a kind are whole numbers of four bytes
 abbrev pub is_int4 : Kind → Bool

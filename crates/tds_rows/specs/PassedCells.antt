@@ -11,7 +11,7 @@ use Rattle.tds_columns.specs.ReturnedType.{return_column}
 use Rattle.tds_csv.specs.Conversion.{Conversion, is_begun, is_fit, unit}
 use Rattle.tds_values.specs.declared.kind.Kind.{Kind}
 use Rattle.tds_values.specs.Scalar.{read_of}
-use Rattle.tds_rows.specs.CellSteps.{value_bytes, value_length}
+use Rattle.tds_values.specs.Front.{value_bytes, value_length}
 use Rattle.tds_rows.specs.Cells.{Cell, CellPart, WholeCell, cell}
 
 -- how such a value is read

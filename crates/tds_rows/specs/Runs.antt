@@ -1,5 +1,5 @@
 -- What a run of cells does, which lie whole in the packet.
-use Rattle.std.specs.Prelude.{◌≡◌, ◌==◌, ◌+◌, ◌<◌, ◌≤◌, ℕ, Bool, false, List, [], ◌∷◌, ◌++◌, length, map, take, drop, Option, Some, None, MatchOption}
+use Rattle.std.specs.Prelude.{◌≡◌, ◌==◌, ◌⊎◌, ◌+◌, ◌<◌, ◌≤◌, ℕ, Bool, false, List, [], ◌∷◌, ◌++◌, length, map, take, drop, Option, Some, None, MatchOption}
 use Rattle.std.specs.Prelude.{if◌then◌else◌, slice_index}
 use Rattle.tds_values.specs.declared.kind.Kind.{Kind}
 use Rattle.tds_packet.specs.declared.fault.Fault.{Fault}
@@ -14,6 +14,7 @@ use Rattle.tds_csv.specs.declared.sink.Sink.{Sink}
 use Rattle.tds_csv.specs.Sinks.{Held, held}
 use Rattle.tds_csv.specs.Streaming.{Streams}
 use Rattle.tds_values.specs.declared.charset.Charset.{Charset}
+use Rattle.tds_rows.specs.declared.cell.whole.TheConstants.{CELL_ROOM, FAR}
 use Rattle.tds_rows.specs.declared.cell.whole.Written.{Written}
 use Rattle.tds_rows.specs.declared.run.CellRun.{CellRun}
 use Rattle.tds_rows.specs.declared.run.RowsRun.{RowsRun}
@@ -113,6 +114,10 @@ pub record StaysWithin (from : Ahead) (end bytes room : ℕ) (run : CellRun) : T
 -- A run ended at the row's end, without room for every scalar, or before a cell that is left.
 abbrev pub RunEnds : Table → Ahead → List ℕ → ℕ → Type 0
 RunEnds table at bytes room = EndsLeft table (λ k. false) at bytes room
+
+-- A run ended so, or where bytes or room are too few for any scalar.
+abbrev pub FarEnds : Table → Ahead → List ℕ → ℕ → Type 0
+FarEnds table at bytes room = (length bytes < FAR) ⊎ ((room < CELL_ROOM) ⊎ RunEnds table at bytes room)
 
 -- The first bytes, this many, are a whole cell of a kind, and this much of the text is its text in its line.
 pub record WritesOne (charset : Charset) (kind : Kind) (column : ℕ) (last : Bool) (bytes text : List ℕ) (used made : ℕ) : Type 0 where

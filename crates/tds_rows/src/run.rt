@@ -1,14 +1,14 @@
 // A run of cells: as many as are whole in the packet and have room, over the ends of rows.
-ghost use Rattle.std.specs.Prelude.{true, ◌≡◌, ◌==◌, ◌+◌, ◌-◌, ◌<◌, ◌≤◌, Bool, drop, length, take, IfSome};
+ghost use Rattle.std.specs.Prelude.{false, true, ◌≡◌, ◌==◌, ◌+◌, ◌-◌, ◌<◌, ◌≤◌, Bool, drop, length, take, IfSome};
 ghost use Rattle.tds_rows.specs.declared.cell.whole.TheConstants.{CELL_ROOM};
 ghost use Rattle.tds_rows.specs.FormRuns.{NumbersEnd};
 ghost use Rattle.tds_rows.specs.Layouts.{IsLaidOut};
-ghost use Rattle.tds_rows.specs.Runs.{AloneWritten, CellsWritten, RowsRan, RunEnds, StaysWithin};
+ghost use Rattle.tds_rows.specs.Runs.{AloneWritten, CellsWritten, FarEnds, RowsRan, RunEnds, StaysWithin};
 ghost use Rattle.tds_rows.specs.Tables.{AreAhead, KnowsAll};
 
 use crate::cell::layout::Form;
-use crate::cell::whole::{CELL_ROOM, Written};
-use crate::run::forms::{latest_row, run_forms, run_row};
+use crate::cell::whole::{CELL_ROOM, FAR, Written};
+use crate::run::forms::{latest_row, run_far_forms, run_forms, run_row};
 use crate::table::{Ahead, Table};
 
 pub(crate) mod forms;
@@ -197,18 +197,64 @@ impl<'a> Table<'a> {
         }
     }
 
-    // Writes rows as `run_numbers` does, if `INT4` says that all values are whole numbers of four bytes, and the place is
-    // before a row.
+    // Writes cell after cell of rows whose columns the table all knows, as `run_known` does, as long as bytes and room go on
+    // far enough for any scalar.
+    #[inline(never)]
+    fn run_far(&self, from: Ahead<'a>, bytes: &[u8], to: &mut [u8]) -> RowsRun<'a>
+        requires known { KnowsAll self.now }
+        ensures ends { FarEnds self.now result.ahead (drop result.used bytes.now) (length to.old - result.made) }
+        ensures rows { RowsRan self.now from.entry bytes.now to.new result }
+    {
+        if bytes.len() < FAR || to.len() < CELL_ROOM {
+            return RowsRun::none(from);
+        }
+        let latest = bytes.len() - FAR;
+        let most = to.len() - CELL_ROOM;
+        let mut used = 0;
+        let mut made = 0;
+        let mut rows = 0;
+        let mut ahead = from;
+        while used <= latest && made <= most {
+            let Some(forms) = (&*self).rest_of_row(ahead) else {
+                if !self.row_follows(&bytes[used..]) {
+                    break;
+                }
+                used += 1;
+                rows += 1;
+                self.rewind(&mut ahead);
+                continue;
+            };
+            let run = run_far_forms(forms, self.charset, ahead.column, bytes, used, to, made);
+            if run.cells == 0 {
+                break;
+            }
+            used = run.used;
+            made = run.made;
+            self.pass(&mut ahead, run.cells);
+        }
+        RowsRun {
+            used,
+            made,
+            rows,
+            ahead,
+        }
+    }
+
+    // Writes rows in the way that asks least of each cell: as `run_numbers` does before a row, if `INT4` says that all values
+    // are whole numbers of four bytes, and as `run_far` does if not all are.
     #[inline(always)]
-    fn run_whole<const INT4: bool>(&self, at: Ahead<'a>, bytes: &[u8], to: &mut [u8]) -> RowsRun<'a>
+    fn run_fast<const INT4: bool>(&self, at: Ahead<'a>, bytes: &[u8], to: &mut [u8]) -> RowsRun<'a>
         requires known { KnowsAll self.now }
         requires numbers { INT4 ≡ true → self.now.only_numbers ≡ true }
-        ensures ahead { result.ahead ≡ at.entry }
-        ensures ends { INT4 ≡ true → at.entry.column ≡ 0 → let row = take self.now.known self.now.forms in
+        ensures numbers { INT4 ≡ true → at.entry.column ≡ 0 → let row = take self.now.known self.now.forms in
             NumbersEnd row (drop result.used bytes.now) (length to.old - result.made) }
+        ensures ends { INT4 ≡ false → FarEnds self.now result.ahead (drop result.used bytes.now) (length to.old - result.made) }
         ensures rows { RowsRan self.now at.entry bytes.now to.new result }
     {
-        if INT4 && at.column == 0 {
+        if !INT4 {
+            return self.run_far(at, bytes, to);
+        }
+        if at.column == 0 {
             return self.run_numbers(at, bytes, to);
         }
         RowsRun::none(at)
@@ -233,10 +279,11 @@ impl<'a> Table<'a> {
         let mut rows = 0;
         let mut ahead = from;
         loop {
-            let whole = self.run_whole::<NUMBERS>(ahead, &bytes[used..], &mut to[made..]);
-            used += whole.used;
-            made += whole.made;
-            rows += whole.rows;
+            let fast = self.run_fast::<NUMBERS>(ahead, &bytes[used..], &mut to[made..]);
+            used += fast.used;
+            made += fast.made;
+            rows += fast.rows;
+            ahead = fast.ahead;
             let Some(forms) = (&*self).rest_of_row(ahead) else {
                 if !self.row_follows(&bytes[used..]) {
                     break;

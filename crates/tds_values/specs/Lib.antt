@@ -1,4 +1,5 @@
 pub mod Calendar
+pub mod Front
 pub mod Kind
 pub mod LocalTime
 pub mod Numbers

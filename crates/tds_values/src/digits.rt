@@ -105,7 +105,9 @@ pub(crate) fn put_after(to: &mut [u8], at: usize, skipped: usize, n: u32) -> usi
     ensures end { result ≡ at + (8 - skipped) }
     ensures written { take result to.new ≡ take at to.old ++ last_digits (8 - skipped) n }
 {
-    put_word(to, at, skipped, word(n))
+    let digits = word(n) >> (8 * skipped as u32);
+    put_piece::<8>(to, at, &digits.to_le_bytes());
+    at + (8 - skipped)
 }
 
 // The last k digits of eight.

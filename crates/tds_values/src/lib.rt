@@ -16,14 +16,15 @@
 //!
 //! # The way in
 //!
-//! `kind.rt` has the kinds, `scalar.rt` the values and what is refused, `write.rt` the text of each kind and
-//! `text.rt` that of each value. Below them are `numbers.rt`, `wide.rt` (decimals of up to 128 bits), `moments.rt`,
+//! `kind.rt` has the kinds, `scalar.rt` the values and what is refused, `write.rt` the text of each kind, `front.rt`
+//! that of a value with other bytes after it, and `text.rt` that of each value. Below them are `numbers.rt`, `wide.rt` (decimals of up to 128 bits), `moments.rt`,
 //! `guid.rt`, `lanes.rt`, `digits.rt`, and `tables.rt` with texts that are looked up. What a value and its text are is
 //! in `specs/Scalar` and `specs/ScalarText`.
 #![tactic(auto)]
 
 mod charset;
 mod digits;
+mod front;
 mod guid;
 mod kind;
 mod lanes;
@@ -40,6 +41,7 @@ mod write;
 
 pub use charset::Charset;
 pub use digits::put_byte;
+pub use front::{FRONT_SIZE, Front, write_front};
 pub use kind::{Kind, Reach};
 pub use lanes::hex_lanes;
 pub use laws::{one_date, one_type_info, short_texts};

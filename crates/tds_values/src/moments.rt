@@ -37,8 +37,8 @@ fn put_day(to: &mut [u8], at: usize, month: u32, day: u32) -> usize
     at + 6
 }
 
-// YYYY-MM-DD, and a space after it. The steps of the calendar stand once, behind a call.
-#[inline(never)]
+// YYYY-MM-DD, and a space after it.
+#[inline(always)]
 pub(crate) fn put_date(to: &mut [u8], at: usize, day: u32) -> usize
     requires room { at + 12 ≤ length to.old }
     requires day { day ≤ LAST_DAY }

@@ -39,7 +39,7 @@ fn check_length(n: usize, bytes: &[u8]) -> Result<(), ValueFault>
 
 // A whole number in n bytes, in which 1 is unsigned.
 #[inline(always)]
-fn write_integer(n: u8, bytes: &[u8], to: &mut [u8]) -> Result<usize, ValueFault>
+pub(crate) fn write_integer(n: u8, bytes: &[u8], to: &mut [u8]) -> Result<usize, ValueFault>
     requires size { (n ≡ 1) ⊎ ((n ≡ 2) ⊎ ((n ≡ 4) ⊎ (n ≡ 8))) }
     requires room { INTEGER_ROOM ≤ length to.old }
     ensures { IsWritten (read_of (Kind.IntN n) bytes.now) result to.new }
@@ -50,7 +50,7 @@ fn write_integer(n: u8, bytes: &[u8], to: &mut [u8]) -> Result<usize, ValueFault
 
 // A bit.
 #[inline(always)]
-fn write_bit(bytes: &[u8], to: &mut [u8]) -> Result<usize, ValueFault>
+pub(crate) fn write_bit(bytes: &[u8], to: &mut [u8]) -> Result<usize, ValueFault>
     requires room { TEXT_ROOM ≤ length to.old }
     ensures { IsWritten (read_of Kind.BitN bytes.now) result to.new }
 {
@@ -60,7 +60,7 @@ fn write_bit(bytes: &[u8], to: &mut [u8]) -> Result<usize, ValueFault>
 
 // An amount of money in n bytes.
 #[inline(always)]
-fn write_money(n: u8, bytes: &[u8], to: &mut [u8]) -> Result<usize, ValueFault>
+pub(crate) fn write_money(n: u8, bytes: &[u8], to: &mut [u8]) -> Result<usize, ValueFault>
     requires size { (n ≡ 4) ⊎ (n ≡ 8) }
     requires room { TEXT_ROOM ≤ length to.old }
     ensures { IsWritten (read_of (Kind.MoneyN n) bytes.now) result to.new }
@@ -71,7 +71,7 @@ fn write_money(n: u8, bytes: &[u8], to: &mut [u8]) -> Result<usize, ValueFault>
 
 // A date.
 #[inline(always)]
-fn write_date(bytes: &[u8], to: &mut [u8]) -> Result<usize, ValueFault>
+pub(crate) fn write_date(bytes: &[u8], to: &mut [u8]) -> Result<usize, ValueFault>
     requires room { TEXT_ROOM ≤ length to.old }
     ensures { IsWritten (read_of Kind.Date bytes.now) result to.new }
 {
@@ -110,7 +110,7 @@ fn units_before(more: usize, scale: u8, bytes: &[u8]) -> Result<u64, ValueFault>
 
 // A time of day.
 #[inline(always)]
-fn write_time(scale: u8, bytes: &[u8], to: &mut [u8]) -> Result<usize, ValueFault>
+pub(crate) fn write_time(scale: u8, bytes: &[u8], to: &mut [u8]) -> Result<usize, ValueFault>
     requires scale { scale ≤ 7 }
     requires room { TEXT_ROOM ≤ length to.old }
     ensures { IsWritten (read_of (Kind.Time scale) bytes.now) result to.new }
@@ -135,7 +135,7 @@ fn day_at(t: usize, bytes: &[u8]) -> u32
 
 // A datetime2: a time of day and a date.
 #[inline(always)]
-fn write_date_time2(scale: u8, bytes: &[u8], to: &mut [u8]) -> Result<usize, ValueFault>
+pub(crate) fn write_date_time2(scale: u8, bytes: &[u8], to: &mut [u8]) -> Result<usize, ValueFault>
     requires scale { scale ≤ 7 }
     requires room { TEXT_ROOM ≤ length to.old }
     ensures { IsWritten (read_of (Kind.DateTime2 scale) bytes.now) result to.new }
@@ -184,7 +184,11 @@ fn write_local(
 
 // A datetimeoffset: a time of day and a date in UTC, and an offset.
 #[inline(always)]
-fn write_date_time_offset(scale: u8, bytes: &[u8], to: &mut [u8]) -> Result<usize, ValueFault>
+pub(crate) fn write_date_time_offset(
+    scale: u8,
+    bytes: &[u8],
+    to: &mut [u8],
+) -> Result<usize, ValueFault>
     requires scale { scale ≤ 7 }
     requires room { TEXT_ROOM ≤ length to.old }
     ensures { IsWritten (read_of (Kind.DateTimeOffset scale) bytes.now) result to.new }
@@ -220,7 +224,7 @@ fn write_date_time(days: i32, ticks: u32, to: &mut [u8]) -> Result<usize, ValueF
 
 // A smalldatetime in 4 bytes, or a datetime in 8.
 #[inline(always)]
-fn write_date_time_n(n: u8, bytes: &[u8], to: &mut [u8]) -> Result<usize, ValueFault>
+pub(crate) fn write_date_time_n(n: u8, bytes: &[u8], to: &mut [u8]) -> Result<usize, ValueFault>
     requires size { (n ≡ 4) ⊎ (n ≡ 8) }
     requires room { TEXT_ROOM ≤ length to.old }
     ensures { IsWritten (read_of (Kind.DateTimeN n) bytes.now) result to.new }
@@ -242,7 +246,7 @@ fn write_date_time_n(n: u8, bytes: &[u8], to: &mut [u8]) -> Result<usize, ValueF
 
 // A GUID.
 #[inline(always)]
-fn write_guid(bytes: &[u8], to: &mut [u8]) -> Result<usize, ValueFault>
+pub(crate) fn write_guid(bytes: &[u8], to: &mut [u8]) -> Result<usize, ValueFault>
     requires room { TEXT_ROOM ≤ length to.old }
     ensures { IsWritten (read_of Kind.Guid bytes.now) result to.new }
 {
@@ -267,7 +271,12 @@ fn magnitude_of(bytes: &[u8]) -> Option<u128>
 
 // A decimal of at most `most` bytes.
 #[inline(always)]
-fn write_decimal(most: u8, scale: u8, bytes: &[u8], to: &mut [u8]) -> Result<usize, ValueFault>
+pub(crate) fn write_decimal(
+    most: u8,
+    scale: u8,
+    bytes: &[u8],
+    to: &mut [u8],
+) -> Result<usize, ValueFault>
     requires scale { scale ≤ 38 }
     requires room { TEXT_ROOM ≤ length to.old }
     ensures { (precision : ℕ) → IsWritten (read_of (Kind.Decimal most precision scale) bytes.now) result to.new }

@@ -2,7 +2,8 @@
 ghost use Rattle.std.specs.Prelude.{◌≡◌, ◌≤◌, IsTrue, None, Some};
 ghost use Rattle.tds_packet.specs.Payloads.{IsGoing};
 ghost use Rattle.tds_rows.specs.Cells.{ScalarBytes, ScalarLength, cell_start, shape};
-ghost use Rattle.tds_rows.specs.CellSteps.{CellGathered, IsGathering, IsScalarKind, LeavesGathering, longest_cell, value_start};
+ghost use Rattle.tds_rows.specs.CellSteps.{CellGathered, IsGathering, IsScalarKind, LeavesGathering, longest_cell};
+ghost use Rattle.tds_values.specs.Front.{value_start};
 ghost use Rattle.tds_values.specs.declared.charset.Charset as sets;
 ghost use Rattle.tds_values.specs.Kind as kinds;
 

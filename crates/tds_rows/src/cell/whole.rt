@@ -1,8 +1,10 @@
 // A cell that is whole in the packet: its bytes are together.
-ghost use Rattle.std.specs.Prelude.{◌≡◌, ◌+◌, ◌<◌, ◌≤◌, length, take, IfSome};
+ghost use Rattle.std.specs.Prelude.{◌≡◌, ◌+◌, ◌<◌, ◌≤◌, length, take, is_ok, false, IfSome};
 ghost use Rattle.tds_csv.specs.Quoting.{in_line, null_field};
 ghost use Rattle.tds_csv.specs.Sinks.{IsReady, PutsPiece};
 ghost use Rattle.tds_rows.specs.CellSteps.{CellWritten, HasInt4, IsInt4, WritesField, whole_size};
+ghost use Rattle.tds_values.specs.Front.{value_bytes};
+ghost use Rattle.tds_values.specs.Scalar.{read_of};
 ghost use Rattle.tds_values.specs.declared.charset.Charset.{Charset};
 ghost use Rattle.tds_rows.specs.ShortCells.{ShortWritten, short_size};
 ghost use Rattle.tds_csv.specs.Fields.{conversion_of};
@@ -14,7 +16,9 @@ use byteorder::{ByteOrder, LittleEndian};
 use std::io::Write;
 use tds_csv::{Content, NULL_ROOM, Sink, field_room, write_field, write_null};
 use tds_packet::Stop;
-use tds_values::{Charset, INTEGER_ROOM, Kind, LONGEST_INT4, write_int4, write_scalar};
+use tds_values::{
+    Charset, FRONT_SIZE, INTEGER_ROOM, Kind, LONGEST_INT4, write_front, write_int4, write_scalar,
+};
 
 // How many bytes a cell has, and how many its text in its line.
 #[derive(Clone, Copy)]
@@ -106,6 +110,60 @@ pub(crate) fn write_cell(
         Ok(made) => Some(Written { used, made }),
         Err(_) => None,
     }
+}
+
+/// How many bytes are there from a cell on that is far from the packet's end: all of a scalar's.
+pub(crate) const FAR: usize = FRONT_SIZE;
+
+// Writes the field of the cell at the front of these bytes, where no value of a scalar kind is: a short value, or NULL.
+#[inline(always)]
+fn write_other(form: &Form, charset: Charset, bytes: &[u8], to: &mut [u8]) -> Option<Written>
+    requires laid { IsLaidOut charset form.now.kind form.now.layout }
+    requires far { FAR ≤ length bytes.now }
+    requires room { VALUE_ROOM ≤ length to.old }
+    requires bad { is_ok (read_of form.now.kind (value_bytes form.now.kind bytes.now)) ≡ false }
+    ensures used { IfSome result (λ written. written.used ≤ length bytes.now) }
+    ensures most { IfSome result (λ written. written.made + 2 ≤ length to.old) }
+    ensures whole { IfSome result (λ written. written.used ≡ whole_size form.now.kind bytes.now) }
+    ensures field { CellWritten charset form.now.kind bytes.now (length to.old + 1) to.new result }
+{
+    if let Layout::Short(content) = form.layout {
+        return write_short(content, bytes, to);
+    }
+    let Layout::Counted = form.layout else {
+        return None;
+    };
+    if bytes[0] != 0 {
+        return None;
+    }
+    let made = write_null(0, false, to);
+    Some(Written { used: 1, made })
+}
+
+/// Writes the field of the cell at the front of these bytes as [`write_cell`] does, far from the packet's end. A scalar's
+/// kind is matched once.
+#[inline(always)]
+pub(crate) fn write_far_cell(
+    form: &Form,
+    charset: Charset,
+    bytes: &[u8],
+    to: &mut [u8],
+) -> Option<Written>
+    requires laid { IsLaidOut charset form.now.kind form.now.layout }
+    requires far { FAR ≤ length bytes.now }
+    requires room { VALUE_ROOM ≤ length to.old }
+    ensures used { IfSome result (λ written. written.used ≤ length bytes.now) }
+    ensures most { IfSome result (λ written. written.made + 2 ≤ length to.old) }
+    ensures whole { IfSome result (λ written. written.used ≡ whole_size form.now.kind bytes.now) }
+    ensures field { CellWritten charset form.now.kind bytes.now (length to.old + 1) to.new result }
+{
+    let Some(front) = write_front(&form.kind, bytes, to) else {
+        return write_other(form, charset, bytes, to);
+    };
+    Some(Written {
+        used: front.used,
+        made: front.made,
+    })
 }
 
 /// How many bytes a whole number of four bytes has.

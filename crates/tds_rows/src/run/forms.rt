@@ -1,12 +1,13 @@
 // A run over cells by their forms, whose columns follow one another in a row.
-ghost use Rattle.std.specs.Prelude.{◌≡◌, ◌==◌, ◌&&◌, ◌<◌, ◌≤◌, length, true, None, IfSome, MatchOption};
+ghost use Rattle.std.specs.Prelude.{◌≡◌, ◌==◌, ◌&&◌, ◌<◌, ◌≤◌, ◌+◌, ◌-◌, drop, length, take, true, None, IfSome, MatchOption};
 ghost use Rattle.tds_values.specs.declared.charset.Charset.{Charset};
 ghost use Rattle.tds_rows.specs.FormRuns.{AreNumbers, FirstLeft, IsLatest, IsRefusedAfter, IsWithin, NumbersWithin, RefusesRow, RunsForms, WritesFields};
 ghost use Rattle.tds_rows.specs.Forms.{AreInt4, AreLaidOut};
 
 use crate::cell::layout::Form;
 use crate::cell::whole::{
-    CELL_ROOM, INT4_CELL, NUMBER_FIELD, NUMBER_ROOM, VALUE_ROOM, write_cell, write_int4_cell,
+    CELL_ROOM, FAR, INT4_CELL, NUMBER_FIELD, NUMBER_ROOM, VALUE_ROOM, write_cell, write_far_cell,
+    write_int4_cell,
 };
 use tds_csv::{COMMA, write_comma, write_line_end};
 use tds_values::Charset;
@@ -116,6 +117,79 @@ fn write_numbers(forms: &[Form], column: u16, bytes: &[u8], to: &mut [u8]) -> Fo
         made += 1;
     }
     FormsRun { cells, used, made }
+}
+
+// Writes the fields of the next cells as `write_fields` does, in the bytes from `from` on and the room from `at` on, as
+// long as both go on far enough for any scalar. The result counts from the front of both.
+#[inline(always)]
+fn write_far_fields(
+    forms: &[Form],
+    charset: Charset,
+    column: u16,
+    bytes: &[u8],
+    from: usize,
+    to: &mut [u8],
+    at: usize,
+) -> FormsRun
+    requires laid { AreLaidOut charset forms.now }
+    requires far { from + FAR ≤ length bytes.now }
+    requires room { at + CELL_ROOM ≤ length to.old }
+    ensures kept { take at to.new ≡ take at to.old }
+    ensures ends { result.cells ≡ 0 → FirstLeft charset forms.now (drop from bytes.now) (length to.old - at) }
+    ensures begun { (from ≤ result.used) × (at ≤ result.made) }
+    ensures fields { WritesFields charset forms.now column (drop from bytes.now) (drop at to.new)
+        (record { cells = result.cells; used = result.used - from; made = result.made - at }) }
+{
+    let mut cells = 0;
+    let mut used = from;
+    let mut made = at + write_comma(column, &mut to[at..]);
+    let latest = bytes.len() - FAR;
+    let most = to.len() - VALUE_ROOM;
+    while cells < forms.len() && used <= latest && made <= most {
+        let form = &forms[cells];
+        let Some(written) = write_far_cell(form, charset, &bytes[used..], &mut to[made..]) else {
+            break;
+        };
+        cells += 1;
+        used += written.used;
+        made += written.made;
+        to[made] = COMMA;
+        made += 1;
+    }
+    FormsRun { cells, used, made }
+}
+
+/// Writes the cells of the rest of a row as [`run_forms`] does, in the bytes from `from` on and the room from `at` on,
+/// as long as both go on far enough for any scalar. The result counts from the front of both.
+#[inline(always)]
+pub(crate) fn run_far_forms(
+    forms: &[Form],
+    charset: Charset,
+    column: u16,
+    bytes: &[u8],
+    from: usize,
+    to: &mut [u8],
+    at: usize,
+) -> FormsRun
+    requires laid { AreLaidOut charset forms.now }
+    requires far { from + FAR ≤ length bytes.now }
+    requires room { at + CELL_ROOM ≤ length to.old }
+    ensures kept { take at to.new ≡ take at to.old }
+    ensures begun { (from ≤ result.used) × (at ≤ result.made) }
+    ensures cells { RunsForms charset forms.now column true (drop from bytes.now) (length to.old - at) (drop at to.new)
+        (record { cells = result.cells; used = result.used - from; made = result.made - at }) }
+{
+    let run = write_far_fields(forms, charset, column, bytes, from, to, at);
+    if run.cells == 0 {
+        return FormsRun {
+            cells: 0,
+            used: from,
+            made: at,
+        };
+    }
+    let last = is_last(true, run.cells, forms.len());
+    let end = write_line_end(last, run.made - 1, to);
+    FormsRun { made: end, ..run }
 }
 
 /// Writes the cells of the next columns of a row, after its first `column` ones, one after another, as far as they
