@@ -3,6 +3,7 @@ use Rattle.tds_csv.proofs as N
 use N.{UPPER, Err, List, Ok, PutsPiece, Sink, Stop, [], arith, chunk, drop, get_or, is_plain, refl, take, true, ℕ, ◌%◌, ◌++◌, ◌+◌, ◌-◌, ◌/◌, ◌<◌, ◌∙◌, ◌∷◌, ◌≡◌}
 use N.{◌≤◌, Puttings.PutsPiece-trans}
 use Rattle.tds_csv.specs.Windows1252 as windows_1252
+use Rattle.std.specs.Int.{to_le_bytes, w32}
 use Rattle.std.{proofs.Common.nat_le, specs.Char.encode_utf8}
 
 module _ (text : List ℕ → List ℕ) (appends : (x y : List ℕ) → text (x ++ y) ≡ text x ++ text y) where
@@ -43,6 +44,12 @@ module _ (text : List ℕ → List ℕ) (appends : (x y : List ℕ) → text (x 
       → after ≡ text (take (at + n) bytes)
   text_taken = grind (arith, N.take-add)
 
+  -- that of one byte was
+  pub one_taken : {run after : List ℕ} (bytes : List ℕ) (at : ℕ) → at < N.length bytes → after ≡ run ++ text (get_or bytes at 0 ∷ [])
+      → run ≡ text (take at bytes) → after ≡ text (take (at + 1) bytes)
+  one_taken bytes at within one before = one ∙ N.ap (λ l. l ++ text (get_or bytes at 0 ∷ [])) before ∙ N.sym (appends (take at bytes) _)
+      ∙ N.ap text (N.sym (N.take_more bytes at 0 within))
+
   -- bytes that stand for themselves, up to the first that needn't
   module _ (q : ℕ → N.Bool) (empty : text [] ≡ []) (itself : (b : ℕ) → q b ≡ true → text (b ∷ []) ≡ b ∷ []) where
     -- the first of them, so many
@@ -76,12 +83,14 @@ upper_text b low high is =
     let e : 128 + (b - 128) ≡ b = omega arith in
     rw is (rw e at (table (b - 128) (omega arith)))
 
--- three bytes were written, and so many of them are that text
+-- the bytes of a number were written, and so many of them are that text
 pub upper_put : (b at : ℕ) {w : ℕ} (old new : List ℕ) → 128 ≤ b → b < 256 → w ≡ get_or UPPER (b - 128) 0 → at ≤ N.length old
-    → take (at + 3) new ≡ take at old ++ (w % 256) ∷ (w / 256 % 256) ∷ (w / 65536 % 256) ∷ []
+    → take (at + 4) new ≡ take at old ++ to_le_bytes w32 w
     → take (at + w / 16777216) new ≡ take at old ++ windows_1252.text (b ∷ [])
-upper_put b at {w} old new low high is within written = let t = upper_text b low high is in
-    rw (← t.0) (N.Characters.front_written old new _ at (w / 16777216) 3 t.1 within written)
+upper_put b at {w} old new low high is within written =
+    let t = upper_text b low high is in
+    let three = N.Characters.front_written old new _ at 3 4 (omega arith) within written in
+    rw (← t.0) (N.Characters.front_written old new _ at (w / 16777216) 3 t.1 within three)
 
 -- a byte that is plain is its own text
 plain_itself : (b : ℕ) → is_plain b ≡ true → windows_1252.text (b ∷ []) ≡ b ∷ []

@@ -2,7 +2,7 @@
 use Rattle.tds_rows.proofs.Words as N
 use Rattle.tds_rows.proofs.{
   Words.{arith, false, ◌∷◌, ◌≡◌, ◌∙◌, ap, ℕ, ◌+◌, ◌-◌, ◌<◌, ◌≤◌, List, ◌++◌, length, take, drop, Column, Ahead, RowsRan, Table, Cell, ◌^◌, suc, Bool, sym},
-  Words.{RunsMarked, inl, ◌⊎◌, ◌==◌, Form, IsAhead, Knows, inr},
+  Words.{RunsMarked, inl, ◌⊎◌, ◌==◌, ◌≢◌, Form, IsAhead, Knows, inr, true, []},
   GrowingTexts.row_grows,
   Paths.{At, over},
   TableSteps.none_next,
@@ -257,3 +257,25 @@ module _ (table : Table) (from : Ahead) (end : ℕ) (forms : List Form) (within 
         | inl few ↦ inl few
         | inr y ↦ inr (grind arith)
       ]
+
+-- ---- rows that are far from the ends
+
+-- more cells of the row, whose places are counted from the front of all
+pub rows_far : {table : Table} {from after : Ahead} {forms : List Form} {bytes to : List ℕ} {state : N.RowsRun} (run : N.FormsRun) (new : List ℕ)
+    → run.cells ≢ 0 → N.AreAhead table state.ahead table.count forms → state.ahead.column + length forms ≡ table.count
+    → take state.made new ≡ take state.made to → length new ≡ length to → (state.used ≤ run.used) × (state.made ≤ run.made)
+    → N.RunsForms table.charset forms state.ahead.column true (drop state.used bytes) (length to - state.made) (drop state.made new)
+    (record { cells = run.cells; used = run.used - state.used; made = run.made - state.made })
+    → after.column ≡ state.ahead.column + run.cells
+    → ((columns : List Column) → Knows table columns → IsAhead table columns state.ahead → IsAhead table columns after)
+    → RowsRan table from bytes to state → RowsRan table from bytes new (record { used = run.used; made = run.made; rows = state.rows; ahead = after })
+rows_far {table} {forms = forms} {bytes = bytes} {to = to} {state = state} run new some next whole same size begun written further there x =
+    let rest = N.all_after bytes state.used in
+    let made = drop state.made new in
+    let kept : new ≡ take state.made to ++ (made ++ []) =
+    sym (N.take-append-drop state.made new) ∙ ap (λ t. t ++ made) same ∙ ap (λ t. take state.made to ++ t) (sym (N.append-nil made)) in
+    let used : run.used ≡ state.used + (run.used - state.used) = omega (arith, begun) in
+    let end : run.made ≡ state.made + (run.made - state.made) = omega (arith, begun) in
+    rw (kept, used, end) (rows_more made [] (written.within.some (omega arith)) (rw rest written.within.used) (omega (arith, written.within.made, N.length-drop state.made new))
+    (λ columns knows is. forms_between _ _ _ _ (omega arith) next _ (sym (N.eq-eqb _ _ whole)) columns knows is _ _ _ _ further (there columns knows is)
+    (rw rest written.cells)) x)

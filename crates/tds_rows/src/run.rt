@@ -216,13 +216,7 @@ impl<'a> Table<'a> {
         let mut ahead = from;
         while used <= latest && made <= most {
             let Some(forms) = (&*self).rest_of_row(ahead) else {
-                if !self.row_follows(&bytes[used..]) {
-                    break;
-                }
-                used += 1;
-                rows += 1;
-                self.rewind(&mut ahead);
-                continue;
+                break;
             };
             let run = run_far_forms(forms, self.charset, ahead.column, bytes, used, to, made);
             if run.cells == 0 {
@@ -231,6 +225,15 @@ impl<'a> Table<'a> {
             used = run.used;
             made = run.made;
             self.pass(&mut ahead, run.cells);
+            if !self.is_end(ahead) {
+                continue;
+            }
+            if !self.row_follows(&bytes[used..]) {
+                break;
+            }
+            used += 1;
+            rows += 1;
+            self.rewind(&mut ahead);
         }
         RowsRun {
             used,

@@ -173,9 +173,6 @@ fn put_short(to: &mut [u8], at: usize, n: u32) -> usize
     ensures end { result ≤ at + 8 }
     ensures written { take result to.new ≡ take at to.old ++ decimal n }
 {
-    if n < 10_000 {
-        return put_head(to, at, n);
-    }
     put_after(to, at, needless(n), n)
 }
 
@@ -187,7 +184,7 @@ fn put_long(to: &mut [u8], at: usize, n: u32) -> usize
     ensures end { result ≤ at + 16 }
     ensures written { take result to.new ≡ take at to.old ++ decimal n }
 {
-    let at = put_short(to, at, n / 100_000_000);
+    let at = put_head(to, at, n / 100_000_000);
     put_tail(to, at, 8, n % 100_000_000)
 }
 
@@ -210,7 +207,7 @@ pub(crate) fn put_number(to: &mut [u8], at: usize, n: u64) -> usize
         return put_tail(to, at, 8, low);
     }
     let middle = (n / 100_000_000 % 100_000_000) as u32;
-    let at = put_short(to, at, (n / 10_000_000_000_000_000) as u32);
+    let at = put_head(to, at, (n / 10_000_000_000_000_000) as u32);
     let at = put_tail(to, at, 8, middle);
     put_tail(to, at, 8, low)
 }

@@ -1,5 +1,6 @@
 // Text in Windows-1252, converted from one slice to another.
 ghost use Rattle.std.specs.Prelude.{◌≡◌, ◌+◌, ◌*◌, ◌<◌, ◌≤◌, [], ◌∷◌, ◌++◌, ◌-◌, length, take, drop, slice_index};
+ghost use Rattle.std.specs.Int.{to_le_bytes, w32};
 ghost use Rattle.tds_csv.specs.Plain.{LiesIn};
 ghost use Rattle.tds_csv.specs.Windows1252 as windows_1252;
 
@@ -8,7 +9,6 @@ use crate::convert::encode::{put_doubled, put_lanes, take_before};
 use crate::convert::lanes::{BY_HAND, LANES, WIDE, plain_run, wide_stops};
 use crate::convert::utf16::Converted;
 use std::simd::prelude::*;
-use tds_values::put_byte;
 
 // The characters of the bytes 80 to FF in UTF-8, the first byte the lowest, with their number in the highest.
 const UPPER: [u32; 128] = [
@@ -39,25 +39,32 @@ fn upper(byte: u8) -> u32
     UPPER[usize::from(byte) - 0x80]
 }
 
-// Writes the text of a byte beyond ASCII.
+// Writes the bytes of a number, the lowest first.
+#[inline(always)]
+fn put_four(to: &mut [u8], at: usize, number: u32)
+    requires { at + 4 ≤ length to.old }
+    ensures { take (at + 4) to.new ≡ take at to.old ++ to_le_bytes w32 number }
+{
+    to[at..at + 4].copy_from_slice(&number.to_le_bytes());
+}
+
+// Writes the text of a byte beyond ASCII, and a byte or two after it.
 #[inline(always)]
 fn put_upper(to: &mut [u8], at: usize, byte: u8) -> usize
     requires upper { 128 ≤ byte }
-    requires room { at + 3 ≤ length to.old }
+    requires room { at + 4 ≤ length to.old }
     ensures most { result ≤ at + 3 }
     ensures written { take result to.new ≡ take at to.old ++ windows_1252.text (byte ∷ []) }
 {
     let text = upper(byte);
-    let second = put_byte(to, at, (text % 0x100) as u8);
-    let third = put_byte(to, second, (text / 0x100 % 0x100) as u8);
-    put_byte(to, third, (text / 0x1_0000 % 0x100) as u8);
+    put_four(to, at, text);
     at + (text / 0x100_0000) as usize
 }
 
-// Writes the text of a byte.
+// Writes the text of a byte, and a byte or two after it.
 #[inline(always)]
 fn put_text(to: &mut [u8], at: usize, byte: u8) -> usize
-    requires { at + 3 ≤ length to.old }
+    requires { at + 4 ≤ length to.old }
     ensures most { result ≤ at + 3 }
     ensures written { take result to.new ≡ take at to.old ++ windows_1252.text (byte ∷ []) }
 {
@@ -123,7 +130,7 @@ fn end_by_hand(bytes: &[u8], at: usize, taken: usize) -> usize
 fn convert_by_hand(bytes: &[u8], from: usize, end: usize, to: &mut [u8], start: usize) -> usize
     requires from { from ≤ end }
     requires end { end ≤ length bytes.now }
-    requires room { start + 3 * (end - from) ≤ length to.old }
+    requires room { start + 3 * (end - from) < length to.old }
     requires before { windows_1252.Converts bytes.now to.old from start }
     ensures most { result ≤ start + 3 * (end - from) }
     ensures text { windows_1252.Converts bytes.now to.new end result }
@@ -196,9 +203,11 @@ pub(crate) fn convert(bytes: &[u8], source: &[u8], to: &mut [u8]) -> usize
         if n == LANES || at == bytes.len() {
             continue;
         }
-        let end = end_by_hand(bytes, at, n);
-        made = convert_by_hand(bytes, at, end, to, made);
-        at = end;
+        if n == 0 && source.len() - at < LANES {
+            return convert_by_hand(bytes, at, bytes.len(), to, made);
+        }
+        made = put_text(to, made, bytes[at]);
+        at += 1;
     }
     made
 }

@@ -6,7 +6,8 @@ ghost use Rattle.tds_rows.specs.CellSteps.{CellWritten, HasInt4, IsInt4, WritesF
 ghost use Rattle.tds_values.specs.Front.{value_bytes};
 ghost use Rattle.tds_values.specs.Scalar.{read_of};
 ghost use Rattle.tds_values.specs.declared.charset.Charset.{Charset};
-ghost use Rattle.tds_rows.specs.ShortCells.{ShortWritten, short_size};
+ghost use Rattle.tds_csv.specs.Conversion.{Conversion};
+ghost use Rattle.tds_rows.specs.ShortCells.{IsShortOf, ShortWritten, short_size};
 ghost use Rattle.tds_csv.specs.Fields.{conversion_of};
 ghost use Rattle.tds_rows.specs.Layouts.{IsLaidOut};
 
@@ -71,6 +72,25 @@ fn write_short(content: Content, bytes: &[u8], to: &mut [u8]) -> Option<Written>
     Some(Written { used, made })
 }
 
+// Writes the field of the short value at the front of these bytes as `write_short` does, by its kind, whose match may be known.
+#[inline(always)]
+fn write_short_of(kind: &Kind, charset: Charset, bytes: &[u8], to: &mut [u8]) -> Option<Written>
+    requires room { VALUE_ROOM ≤ length to.old }
+    ensures used { IfSome result (λ written. written.used ≤ length bytes.now) }
+    ensures most { IfSome result (λ written. written.made + 2 ≤ length to.old) }
+    ensures whole { IfSome result (λ written. written.used ≡ short_size bytes.now) }
+    ensures field { (c : Conversion) → IsShortOf charset kind.now c → ShortWritten c bytes.now (length to.old + 1) to.new result }
+{
+    match *kind {
+        Kind::Binary(_) => write_short(Content::Binary, bytes, to),
+        Kind::Wide(_) => write_short(Content::Utf16, bytes, to),
+        _ => match charset {
+            Charset::Windows1252 => write_short(Content::Windows1252, bytes, to),
+            Charset::Utf8 => write_short(Content::Utf8, bytes, to),
+        },
+    }
+}
+
 /// Writes the field of the cell at the front of these bytes. `None` if it isn't whole, is refused or in chunks, or if
 /// there isn't the room that the text of a short value may need. Two bytes of room are left after it.
 #[inline(always)]
@@ -127,8 +147,8 @@ fn write_other(form: &Form, charset: Charset, bytes: &[u8], to: &mut [u8]) -> Op
     ensures whole { IfSome result (λ written. written.used ≡ whole_size form.now.kind bytes.now) }
     ensures field { CellWritten charset form.now.kind bytes.now (length to.old + 1) to.new result }
 {
-    if let Layout::Short(content) = form.layout {
-        return write_short(content, bytes, to);
+    if let Layout::Short(_) = form.layout {
+        return write_short_of(&form.kind, charset, bytes, to);
     }
     let Layout::Counted = form.layout else {
         return None;

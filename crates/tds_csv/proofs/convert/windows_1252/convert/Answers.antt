@@ -1,15 +1,7 @@
 use Rattle.tds_csv.proofs as N
 use N.convert.windows_1252.convert.Goals as goal
-use N.Singles.{text_taken}
+use N.Singles.{one_taken, text_taken}
 use Rattle.tds_csv.specs.Windows1252 as windows_1252
-
-pub convert_by_hand-made-requires-clause-before : goal.convert_by_hand-made-requires-clause-before
-convert_by_hand-made-requires-clause-before c =
-    record {
-      room = omega N.arith;
-      text = text_taken windows_1252.text N.SingleLaws.windows_1252-append _ _ _ c.take_plain-n.ensures.taken
-          c.loop-at.invariant.text;
-    }
 
 pub loop-at-preserved-then-n-eq-LANES : goal.loop-at-preserved-then-n-eq-LANES
 loop-at-preserved-then-n-eq-LANES c =
@@ -19,4 +11,14 @@ loop-at-preserved-then-n-eq-LANES c =
       room = omega N.arith;
       text = text_taken windows_1252.text N.SingleLaws.windows_1252-append _ _ _
           c.take_plain-n.ensures.taken c.loop-at.invariant.text;
+    }
+
+pub loop-at-preserved : goal.loop-at-preserved
+loop-at-preserved c =
+    record {
+      within = omega N.arith;
+      long = search N.rules;
+      room = omega N.arith;
+      text = one_taken windows_1252.text N.SingleLaws.windows_1252-append c.args.bytes.now _ (search N.arith) c.put_text-made.ensures.written
+          (text_taken windows_1252.text N.SingleLaws.windows_1252-append _ _ _ c.take_plain-n.ensures.taken c.loop-at.invariant.text);
     }

@@ -10,7 +10,7 @@ invariant-loop-at l = record {
   from : l.from ≤ l.at;
   end : l.end ≤ N.length l.bytes;
   most : l.made ≤ l.start + 3 * (l.at - l.from);
-  fits : l.start + 3 * (l.end - l.from) ≤ N.length l.to;
+  fits : l.start + 3 * (l.end - l.from) + 1 ≤ N.length l.to;
   room : l.made ≤ 3 * l.at;
   text : N.take l.made
       l.to ≡ windows_1252.text (N.take l.at l.bytes);
