@@ -46,15 +46,6 @@ module _ (charset : N.Charset) (kind : Kind) where
   pub short_whole : (content : N.Content) (bytes : List ℕ) → N.IsLaidOut charset kind (ShortLayout content) → N.short_size bytes ≡ N.whole_size kind bytes
   short_whole _ _ laid = grind arith
 
-  -- what is written of one is its cell
-  pub short_written : {c : N.Conversion} (bytes text : List ℕ) (room : ℕ) (result : N.Option N.Written) → N.IsShortOf charset kind c
-      → N.ShortWritten c bytes room text result → N.CellWritten charset kind bytes room text result
-  short_written _ _ _ N.None is left = N.inr (is_long_kind is, rw is left)
-  short_written _ _ _ (N.Some written) is x = λ column last. record {
-    whole = rw is (x column last);
-    at_once = λ scalar. absurd (let long = is_long_kind is in grind arith);
-  }
-
 -- a scalar cell has some bytes
 scalar_some : (kind : Kind) (bytes : List ℕ) → 0 < N.scalar_size kind bytes
 scalar_some _ _ = grind arith

@@ -70,7 +70,7 @@ pub use Rattle.tds_packet.specs.{
 pub use Rattle.tds_rows.specs.{
   Blames.{failures_of, StopBlames, Failures},
   CellSteps.{IsValueText, StallsCell, IsScalarLeft, cell_so_far, opened, StopsField, IsLeft, WritesKind},
-  CellSteps.{CellWritten, is_last_column, IsInt4, is_int4, PutsField, GathersCell, WritesField, whole_size},
+  CellSteps.{is_last_column, IsInt4, is_int4, PutsField, GathersCell, WritesField, whole_size},
   Cells.{chunk_fault, ShortData, within_total, ScalarLength, ScalarCell, WholeCell, CountedShape, cell, ChunkLength, value_part, end_of_chunks, ShortLength},
   Cells.{cell_start, null_total, cell_add, Null, unknown_total, SpellsChunked, cell_size, unless, shape, ScalarBytes, Total, field, SpellsShort, Shape},
   Cells.{known_total, cell_end, FixedShape, field_so_far, ChunkData, CellPart, SpellsChunk, return_charset, SpellsChunks, LongShape, shape_of_length},
@@ -89,11 +89,11 @@ pub use Rattle.tds_rows.specs.{
   Rows.{marked, WholeRow, bitmap_length, row_add, SpellsMarked, bit, RowToken, Bitmap, PlainRow, with_cell, RowPart, SpellsNbcRow, SpellsRow, row, SpellsRowAs},
   Rows.{NbcRow, row_so_far, with_field, row_size, InCell, token_byte, row_start, token_start, next_cell, nbc_row_start},
   Runs.{RowsRan, rows_so_far, lines, rows, RunsRows, Writes, rows_start, RowsPut, CellsWritten, after_cells, RunEnds, RowsPart, WritesRows},
-  ShortCells.{IsShortOf, ShortWritten, stated_length, short_size},
+  ShortCells.{stated_length, short_size},
   Successes.{SpellsRows, ReadsOn, SucceedsOn, BeginNoRow, Brings},
   Tables.{BeginsRow, IsNextKind, TakesColumn, IsAhead, AreAhead, KnowsSome, kinds, Knows, NextColumn},
   WholeCells.{WritesCell, WritesWhole},
-  declared.{cell.{layout.{Form.Form, Layout.Layout}, whole.{TheConstants.CELL_ROOM, Written.Written}}, rows.Rows.Rows, run.{CellRun.CellRun, RowsRun.RowsRun}},
+  declared.{cell.{layout.{Form.Form, Layout.Layout}, whole.TheConstants.CELL_ROOM}, rows.Rows.Rows, run.{CellRun.CellRun, RowsRun.RowsRun}},
   declared.{run.forms.FormsRun.FormsRun, table.{Ahead.Ahead, Table.Table}},
 }
 pub use Rattle.tds_values.specs.Front.{scalar_size, start_after, length_after, value_length, value_bytes, value_start}

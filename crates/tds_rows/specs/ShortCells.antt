@@ -5,20 +5,14 @@ use Rattle.tds_values.specs.declared.kind.Reach.TheVariants.{Short}
 use Rattle.tds_csv.specs.Conversion.{Conversion, is_fit}
 use Rattle.tds_csv.specs.Fields.{field_room}
 use Rattle.tds_csv.specs.Quoting.{in_line}
-use Rattle.tds_values.specs.declared.charset.Charset.{Charset}
-use Rattle.tds_values.specs.declared.kind.Kind.{Kind}
 use Rattle.tds_rows.specs.declared.cell.whole.Written.{Written}
-use Rattle.tds_rows.specs.Cells.{LongShape, Shape, ShortLength, shape}
+use Rattle.tds_rows.specs.Cells.{LongShape, Shape, ShortLength}
 use Rattle.tds_rows.specs.WholeCells.{WritesWhole}
 
 -- the conversion of the short values of a shape; none if its values are no short ones
 abbrev pub short_conversion : Shape → Option Conversion
 short_conversion (LongShape c Short) = Some c
 short_conversion _ = None
-
--- The values of this kind are short ones of this conversion, if single-byte text is in this set.
-abbrev pub IsShortOf : Charset → Kind → Conversion → Type 0
-IsShortOf charset kind c = shape charset kind ≡ LongShape c Short
 
 -- the length of two bytes before a short value
 abbrev pub stated_length : List ℕ → ℕ

@@ -1,13 +1,15 @@
 // A cell that is whole in the packet: its bytes are together.
-ghost use Rattle.std.specs.Prelude.{◌≡◌, ◌+◌, ◌<◌, ◌≤◌, length, take, is_ok, false, IfSome};
+ghost use Rattle.std.specs.Prelude.{◌≡◌, ◌+◌, ◌<◌, ◌≤◌, length, take, is_ok, false, IfSome, IsTrue};
 ghost use Rattle.tds_csv.specs.Quoting.{in_line, null_field};
 ghost use Rattle.tds_csv.specs.Sinks.{IsReady, PutsPiece};
 ghost use Rattle.tds_rows.specs.CellSteps.{CellWritten, HasInt4, IsInt4, WritesField, whole_size};
 ghost use Rattle.tds_values.specs.Front.{value_bytes};
 ghost use Rattle.tds_values.specs.Scalar.{read_of};
 ghost use Rattle.tds_values.specs.declared.charset.Charset.{Charset};
-ghost use Rattle.tds_csv.specs.Conversion.{Conversion};
-ghost use Rattle.tds_rows.specs.ShortCells.{IsShortOf, ShortWritten, short_size};
+ghost use Rattle.tds_rows.specs.Cells.{LongShape, shape};
+ghost use Rattle.tds_rows.specs.ShortCells.{ShortWritten, short_size};
+ghost use Rattle.tds_values.specs.Kind.{is_scalar};
+ghost use Rattle.tds_values.specs.declared.kind.Kind.{Kind};
 ghost use Rattle.tds_csv.specs.Fields.{conversion_of};
 ghost use Rattle.tds_rows.specs.Layouts.{IsLaidOut};
 
@@ -18,7 +20,8 @@ use std::io::Write;
 use tds_csv::{Content, NULL_ROOM, Sink, field_room, write_field, write_null};
 use tds_packet::Stop;
 use tds_values::{
-    Charset, FRONT_SIZE, INTEGER_ROOM, Kind, LONGEST_INT4, write_front, write_int4, write_scalar,
+    Charset, FRONT_SIZE, INTEGER_ROOM, Kind, LONGEST_INT4, Reach, write_front, write_int4,
+    write_scalar,
 };
 
 // How many bytes a cell has, and how many its text in its line.
@@ -72,22 +75,19 @@ fn write_short(content: Content, bytes: &[u8], to: &mut [u8]) -> Option<Written>
     Some(Written { used, made })
 }
 
-// Writes the field of the short value at the front of these bytes as `write_short` does, by its kind, whose match may be known.
+// Writes the field of a long value of this content as `write_short` does. `None` too if it is in chunks.
 #[inline(always)]
-fn write_short_of(kind: &Kind, charset: Charset, bytes: &[u8], to: &mut [u8]) -> Option<Written>
+fn write_if_short(reach: Reach, content: Content, bytes: &[u8], to: &mut [u8]) -> Option<Written>
     requires room { VALUE_ROOM ≤ length to.old }
     ensures used { IfSome result (λ written. written.used ≤ length bytes.now) }
     ensures most { IfSome result (λ written. written.made + 2 ≤ length to.old) }
     ensures whole { IfSome result (λ written. written.used ≡ short_size bytes.now) }
-    ensures field { (c : Conversion) → IsShortOf charset kind.now c → ShortWritten c bytes.now (length to.old + 1) to.new result }
+    ensures field { (charset : Charset) (kind : Kind) → shape charset kind ≡ LongShape (conversion_of content) reach →
+        CellWritten charset kind bytes.now (length to.old + 1) to.new result }
 {
-    match *kind {
-        Kind::Binary(_) => write_short(Content::Binary, bytes, to),
-        Kind::Wide(_) => write_short(Content::Utf16, bytes, to),
-        _ => match charset {
-            Charset::Windows1252 => write_short(Content::Windows1252, bytes, to),
-            Charset::Utf8 => write_short(Content::Utf8, bytes, to),
-        },
+    match reach {
+        Reach::Short => write_short(content, bytes, to),
+        Reach::Chunked => None,
     }
 }
 
@@ -135,6 +135,29 @@ pub(crate) fn write_cell(
 /// How many bytes are there from a cell on that is far from the packet's end: all of a scalar's.
 pub(crate) const FAR: usize = FRONT_SIZE;
 
+// Writes the field of the cell of a scalar kind at the front of these bytes, where no value is: that of NULL.
+#[inline(always)]
+fn write_no_value(form: &Form, charset: Charset, bytes: &[u8], to: &mut [u8]) -> Option<Written>
+    requires laid { IsLaidOut charset form.now.kind form.now.layout }
+    requires scalar { IsTrue (is_scalar form.now.kind) }
+    requires far { FAR ≤ length bytes.now }
+    requires room { VALUE_ROOM ≤ length to.old }
+    requires bad { is_ok (read_of form.now.kind (value_bytes form.now.kind bytes.now)) ≡ false }
+    ensures used { IfSome result (λ written. written.used ≤ length bytes.now) }
+    ensures most { IfSome result (λ written. written.made + 2 ≤ length to.old) }
+    ensures whole { IfSome result (λ written. written.used ≡ whole_size form.now.kind bytes.now) }
+    ensures field { CellWritten charset form.now.kind bytes.now (length to.old + 1) to.new result }
+{
+    let Layout::Counted = form.layout else {
+        return None;
+    };
+    if bytes[0] != 0 {
+        return None;
+    }
+    let made = write_null(0, false, to);
+    Some(Written { used: 1, made })
+}
+
 // Writes the field of the cell at the front of these bytes, where no value of a scalar kind is: a short value, or NULL.
 #[inline(always)]
 fn write_other(form: &Form, charset: Charset, bytes: &[u8], to: &mut [u8]) -> Option<Written>
@@ -147,17 +170,15 @@ fn write_other(form: &Form, charset: Charset, bytes: &[u8], to: &mut [u8]) -> Op
     ensures whole { IfSome result (λ written. written.used ≡ whole_size form.now.kind bytes.now) }
     ensures field { CellWritten charset form.now.kind bytes.now (length to.old + 1) to.new result }
 {
-    if let Layout::Short(_) = form.layout {
-        return write_short_of(&form.kind, charset, bytes, to);
+    match form.kind {
+        Kind::Binary(reach) => write_if_short(reach, Content::Binary, bytes, to),
+        Kind::Wide(reach) => write_if_short(reach, Content::Utf16, bytes, to),
+        Kind::Narrow(reach) => match charset {
+            Charset::Windows1252 => write_if_short(reach, Content::Windows1252, bytes, to),
+            Charset::Utf8 => write_if_short(reach, Content::Utf8, bytes, to),
+        },
+        _ => write_no_value(form, charset, bytes, to),
     }
-    let Layout::Counted = form.layout else {
-        return None;
-    };
-    if bytes[0] != 0 {
-        return None;
-    }
-    let made = write_null(0, false, to);
-    Some(Written { used: 1, made })
 }
 
 /// Writes the field of the cell at the front of these bytes as [`write_cell`] does, far from the packet's end. A scalar's

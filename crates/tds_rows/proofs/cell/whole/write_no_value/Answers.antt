@@ -1,8 +1,8 @@
-use Rattle.tds_rows.proofs.cell.whole.write_other.Goals as goal
+use Rattle.tds_rows.proofs.cell.whole.write_no_value.Goals as goal
 use Rattle.tds_rows.proofs.{
-  Words.{◌∙◌, ap, arith, in_line, refl, rules, shape_of_layout, slice_index, sym},
+  Words.{◌∙◌, ap, arith, in_line, refl, rules, slice_index, sym},
   BufferedCells.null_cell,
-  LaidOut.{counted_there, short_written, value_there},
+  LaidOut.{counted_there, value_there},
   RunSteps.writes_scalar,
 }
 
@@ -12,8 +12,3 @@ returns-clause-field c = λ column last.
     let at = value_there _ _ _ bytes 1 (slice_index bytes 0) c.requires.laid (counted_there bytes c.in-Counted.is refl) in
     writes_scalar _ _ _ _ _ _ (λ any. null_cell any _ column last bytes _ at.0 1 at.1.0 (sym at.1.1 ∙ search (arith, rules))
     (search (arith, rules)) (ap (in_line column last) c.write_null-made.ensures.text))
-
-pub returns-in-Short-clause-field : goal.returns-in-Short-clause-field
-returns-in-Short-clause-field c =
-    let short = c.requires.laid ∙ ap shape_of_layout c.in-Short.is in
-    short_written _ _ _ _ _ _ short (c.write_short_of.ensures.field _ short)
