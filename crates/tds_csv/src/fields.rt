@@ -4,6 +4,7 @@ ghost use Rattle.tds_csv.specs.Conversion.{HexDigits, Utf16Text, Utf8Text, Windo
 ghost use Rattle.tds_csv.specs.Fields.{FieldWritten, conversion_of, field_room};
 ghost use Rattle.tds_csv.specs.Quoting.{quote};
 
+use crate::convert::lanes::WIDE;
 use crate::convert::lanes_hex::encode;
 use crate::convert::{doubling, utf16, windows_1252};
 use crate::framing::{BINARY_MARK, QUOTE};
@@ -77,8 +78,9 @@ fn write_utf16(source: &[u8], n: usize, to: &mut [u8]) -> usize
 }
 
 // Writes text in Windows-1252, the first `n` of these bytes, as a field.
+#[inline(never)]
 #[tactic(auto, using(crate::proofs::QuotedFields::quoted, std::proofs::lemmas::Grind::common_steps))]
-fn write_windows_1252(source: &[u8], n: usize, to: &mut [u8]) -> usize
+fn write_long_windows_1252(source: &[u8], n: usize, to: &mut [u8]) -> usize
     requires within { n ≤ length source.now }
     requires room { field_room Windows1252Text n ≤ length to.old }
     ensures most { result + 2 ≤ length to.old }
@@ -86,6 +88,22 @@ fn write_windows_1252(source: &[u8], n: usize, to: &mut [u8]) -> usize
 {
     to[0] = QUOTE;
     let made = windows_1252::convert(&source[..n], source, &mut to[1..]);
+    close_quoted(to, 1 + made)
+}
+
+// Writes text in Windows-1252 as `write_long_windows_1252` does, which is called only if there are many bytes.
+#[tactic(auto, using(crate::proofs::QuotedFields::quoted, std::proofs::lemmas::Grind::common_steps))]
+fn write_windows_1252(source: &[u8], n: usize, to: &mut [u8]) -> usize
+    requires within { n ≤ length source.now }
+    requires room { field_room Windows1252Text n ≤ length to.old }
+    ensures most { result + 2 ≤ length to.old }
+    ensures field { take result to.new ≡ long_field Windows1252Text (take n source.now) }
+{
+    if n >= WIDE {
+        return write_long_windows_1252(source, n, to);
+    }
+    to[0] = QUOTE;
+    let made = windows_1252::convert_few(&source[..n], source, &mut to[1..]);
     close_quoted(to, 1 + made)
 }
 

@@ -185,17 +185,18 @@ fn convert_front(bytes: &[u8], to: &mut [u8]) -> Converted
     convert_wide(bytes, to)
 }
 
-// Writes the text of bytes, and returns its length. What follows them in the source may be looked at.
+// Goes on with the text, and returns its length. What follows the bytes in the source may be looked at.
 #[inline(always)]
-pub(crate) fn convert(bytes: &[u8], source: &[u8], to: &mut [u8]) -> usize
+fn convert_rest(bytes: &[u8], source: &[u8], after: Converted, to: &mut [u8]) -> usize
     requires source { LiesIn bytes.now source.now }
     requires room { 3 * length bytes.now + LANES ≤ length to.old }
+    requires before { windows_1252.Converts bytes.now to.old after.used after.made }
+    requires within { after.used ≤ length bytes.now }
     ensures short { result ≤ 3 * length bytes.now }
     ensures text { take result to.new ≡ windows_1252.text bytes.now }
 {
-    let done = convert_front(bytes, to);
-    let mut at = done.used;
-    let mut made = done.made;
+    let mut at = after.used;
+    let mut made = after.made;
     while at < bytes.len() {
         let n = take_plain(bytes, source, at, to, made);
         at += n;
@@ -210,4 +211,28 @@ pub(crate) fn convert(bytes: &[u8], source: &[u8], to: &mut [u8]) -> usize
         at += 1;
     }
     made
+}
+
+// Writes the text of bytes as `convert` does, in the way that is best for fewer than 32: it makes no call.
+#[inline(always)]
+pub(crate) fn convert_few(bytes: &[u8], source: &[u8], to: &mut [u8]) -> usize
+    requires source { LiesIn bytes.now source.now }
+    requires room { 3 * length bytes.now + LANES ≤ length to.old }
+    ensures short { result ≤ 3 * length bytes.now }
+    ensures text { take result to.new ≡ windows_1252.text bytes.now }
+{
+    let nothing = Converted { used: 0, made: 0 };
+    convert_rest(bytes, source, nothing, to)
+}
+
+// Writes the text of bytes, and returns its length. What follows them in the source may be looked at.
+#[inline(always)]
+pub(crate) fn convert(bytes: &[u8], source: &[u8], to: &mut [u8]) -> usize
+    requires source { LiesIn bytes.now source.now }
+    requires room { 3 * length bytes.now + LANES ≤ length to.old }
+    ensures short { result ≤ 3 * length bytes.now }
+    ensures text { take result to.new ≡ windows_1252.text bytes.now }
+{
+    let done = convert_front(bytes, to);
+    convert_rest(bytes, source, done, to)
 }

@@ -1,5 +1,5 @@
 use Rattle.tds_csv.proofs as N
-use N.convert.windows_1252.convert.Given as goal
+use N.convert.windows_1252.convert_rest.Given as goal
 use N.{◌≡◌, ◌+◌, ◌*◌, ◌-◌, ◌≤◌, length}
 use Rattle.tds_csv.specs.Windows1252 as windows_1252
 

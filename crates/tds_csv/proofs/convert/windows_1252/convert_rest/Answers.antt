@@ -1,5 +1,5 @@
 use Rattle.tds_csv.proofs as N
-use N.convert.windows_1252.convert.Goals as goal
+use N.convert.windows_1252.convert_rest.Goals as goal
 use N.Singles.{one_taken, text_taken}
 use Rattle.tds_csv.specs.Windows1252 as windows_1252
 
