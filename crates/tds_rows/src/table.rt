@@ -11,7 +11,7 @@ use tds_values::{Charset, Kind};
 /// The token byte of a ROW (MS-TDS, ROW).
 pub const ROW: u8 = 0xD1;
 
-/// How many columns a table knows by itself. It takes 7 bytes for each, in a local variable.
+/// How many columns a table knows by itself. It takes 8 bytes for each, in a local variable.
 const TABLE_LENGTH: usize = 64;
 
 // Whether the values of a kind are whole numbers of four bytes.

@@ -12,7 +12,7 @@ use tds_values::{Charset, Kind, Reach};
 #[derive(Clone, Copy)]
 pub(crate) enum Layout {
     /// Without a length: each value has this number of bytes.
-    Fixed(u8),
+    Fixed(u16),
     /// After a length of one byte, which is 0 for NULL.
     Counted,
     /// A long value of this content, after a length of two bytes.
@@ -21,7 +21,8 @@ pub(crate) enum Layout {
     Chunked(Content),
 }
 
-/// What a cell needs of its column: the kind of its values, and how they are laid out.
+/// What a cell needs of its column: the kind of its values, and how they are laid out. It takes 8 bytes, so that one of many
+/// is found without a product.
 #[derive(Clone, Copy)]
 pub(crate) struct Form {
     pub(crate) kind: Kind,
@@ -59,7 +60,7 @@ fn lay_out(kind: &Kind, charset: Charset) -> Layout
         Kind::Wide(reach) => lay_out_long(Content::Utf16, reach),
         Kind::Narrow(reach) => lay_out_long(narrow_content(charset), reach),
         _ => match kind.fixed_length() {
-            Some(n) => Layout::Fixed(n),
+            Some(n) => Layout::Fixed(u16::from(n)),
             None => Layout::Counted,
         },
     }
