@@ -4,8 +4,11 @@ use N.{◌≡◌, ◌+◌, ◌-◌, ◌*◌, WideText.{few_triples, more_triples
 
 pub returns-then-n-le-HALF-clause-written : goal.returns-then-n-le-HALF-clause-written
 returns-then-n-le-HALF-clause-written c =
-    rw (c.put_lanes.ensures, (few_triples c.args.units _ _ c.args.n c.fits-units.1 c.requires.long c.triples.ensures.0 c.triples.ensures.1
-    (omega N.arith))) N.refl
+    rw (
+      c.put_lanes.ensures,
+      (few_triples c.args.units _ _ c.args.n c.fits-units.1 c.requires.long c.triples.ensures.0 c.triples.ensures.1
+          (omega N.arith)),
+    ) N.refl
 
 pub returns-clause-written : goal.returns-clause-written
 returns-clause-written c =
