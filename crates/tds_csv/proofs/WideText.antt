@@ -6,7 +6,6 @@ use N.{LaneMasks.{first_mask, last_lanes, none_set}, Characters.{of_one, of_two,
 use N.{Places.{pair_places, quad_places}, JoiningLemmas.{Leads-none, Leads-trans}}
 use Rattle.{tds_csv.specs.Utf16.{units, rest, text}, std.specs.{List.count_by, Prelude.{count_ones, flat_map}}}
 use lib.Lanes.{zip2}
-use Rattle.std.specs.Prelude.{◌==◌}
 
 -- the bytes of a unit's text, at the places for it
 pair_text : (u : ℕ) → is_long u ≡ false → map (λ k. get_or (N.pair_bytes u) k 0) (pair_places (is_wide u) (is_long u)) ≡ unit_text u
@@ -221,31 +220,3 @@ pub eight_more : {bytes old new : List ℕ} {at made after : ℕ} → at + 16 �
 eight_more {bytes} {at = at} room single small written before =
     let all = N.take_all 8 (units (chunk at 16 bytes)) (omega (arith, eight_units _ (N.length-chunk at 16 bytes room) refl)) in
     units_more 8 (lies_itself bytes) room (omega arith) (rw all single) room small (rw all written) before
-
--- ---- some long characters
-
--- the first bytes of long characters are those of the first ones
-first_triples : (n : ℕ) (us : List ℕ) → take (3 * n) (triples us) ≡ triples (take n us)
-first_triples zero us = refl
-first_triples (suc n) [] = (let more : 3 * suc n ≡ suc (2 + 3 * n) = omega arith in rw more refl)
-first_triples (suc n) (u ∷ us) = (let more : 3 * suc n ≡ suc (suc (suc (3 * n))) = omega arith in rw (more, first_triples n us) refl)
-
--- the text of the first ones, that of at most four and that of more
-module _ (us low high : List ℕ) (n : ℕ) (fits : Each1 (Fits w16) us) (long : Each1 (λ u. is_long u ≡ true) (take n us))
-    (first : take 12 low ≡ take 12 (triples us)) (second : take 12 high ≡ take 12 (drop 12 (triples us))) where
-  some_texts : take (3 * n) (triples us) ≡ units_text (take n us)
-  some_texts = first_triples n us ∙ long_texts (take n us) (each_taken _ n us (unit_range us fits)) long
-
-  pub few_triples : n ≤ 4 → take (3 * n) low ≡ units_text (take n us)
-  few_triples few = N.sym (N.take-take (3 * n) 12 low (omega arith)) ∙ ap (take (3 * n)) first ∙ N.take-take (3 * n) 12 (triples us) (omega arith) ∙ some_texts
-
-  pub more_triples : 4 < n → n ≤ 8 → take 12 low ++ take (3 * (n - 4)) high ≡ units_text (take n us)
-  more_triples many most =
-      let rest : take (3 * (n - 4)) high ≡ take (3 * (n - 4)) (drop 12 (triples us)) =
-      N.sym (N.take-take (3 * (n - 4)) 12 high (omega arith)) ∙ ap (take (3 * (n - 4))) second ∙ N.take-take (3 * (n - 4)) 12 _ (omega arith) in
-      let all : 12 + 3 * (n - 4) ≡ 3 * n = omega arith in
-      rw (first, rest, ← N.take-add 12 (3 * (n - 4)) (triples us), all) some_texts
-
--- the mask of all of so many
-pub all_below : (n : ℕ) → n ≤ 8 → 255 % 2 ^ n + 1 ≡ 2 ^ n
-all_below n few = grind (arith, N.nat_tests, (N.agree_below_at (λ k. (255 % 2 ^ k + 1) == 2 ^ k) (λ _. true) 9 n refl (omega arith)))

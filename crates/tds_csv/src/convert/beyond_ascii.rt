@@ -148,25 +148,6 @@ fn put_triples(to: &mut [u8], at: usize, units: u16x8)
     put_lanes(to, at + 12, high, 12);
 }
 
-// Writes the text of the first `n` of eight characters, if these are long.
-#[inline(always)]
-fn put_some_triples(to: &mut [u8], at: usize, units: u16x8, n: usize) -> usize
-    requires most { n ≤ UNITS }
-    requires long { Each1 (λ u. is_long u ≡ true) (take n units) }
-    requires room { at + 3 * n + LANES ≤ length to.old }
-    ensures end { result ≡ at + 3 * n }
-    ensures written { take result to.new ≡ take at to.old ++ units_text (take n units) }
-{
-    let (low, high) = triples(units);
-    if n <= HALF {
-        put_lanes(to, at, low, 3 * n);
-        return at + 3 * n;
-    }
-    put_lanes(to, at, low, 12);
-    put_lanes(to, at + 12, high, 3 * (n - HALF));
-    at + 3 * n
-}
-
 // Writes the text of eight characters, with the mask of the long ones.
 #[inline(always)]
 #[tactic(auto, using(std::proofs::lemmas::Grind::common_steps))]
@@ -199,9 +180,6 @@ fn put_few(to: &mut [u8], at: usize, units: u16x8, wide: u64, long: u64, n: usiz
 {
     if long == EVERY || lowest(surrogate_units(units), n) != 0 {
         return None;
-    }
-    if long == lowest(EVERY, n) {
-        return Some(put_some_triples(to, at, units, n));
     }
     Some(put_mixed(to, at, units, wide, long, n))
 }

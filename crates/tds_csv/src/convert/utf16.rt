@@ -148,7 +148,11 @@ fn convert_eights<const LONG: bool>(
 {
     let mut at = from;
     let mut made = start;
-    while bytes.len() - at >= LANES {
+    if bytes.len() - from < LANES {
+        return Converted { used: at, made };
+    }
+    let last = bytes.len() - LANES;
+    while at <= last {
         let lanes = u8x16::from_slice(&bytes[at..]);
         let Some(end) = put_eight::<LONG>(to, made, lanes) else {
             break;
