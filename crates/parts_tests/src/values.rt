@@ -83,7 +83,7 @@ fn check_front(rt: &impl Abort, kind: &Kind, what: &str, bytes: &[u8], want: &st
     let mut front = [bytes.len() as u8; 33 + FRONT_SIZE];
     front[start..start + bytes.len()].copy_from_slice(bytes);
     let mut room = [0xEE; TEXT_ROOM];
-    match write_front(kind, &front, &mut room) {
+    match write_front::<false>(kind, &front, &mut room) {
         Some(written) => {
             expect_of(rt, kind, what, written.used == start + bytes.len());
             expect_of(rt, kind, what, shown(&room[..written.made]) == want);

@@ -1,6 +1,6 @@
 -- The laws of the conversions in which each byte stands alone.
 use Rattle.tds_csv.proofs as N
-use N.{◌≡◌, ℕ, ◌/◌, ◌%◌, List, [], ◌∷◌, ◌++◌, refl, ⊤}
+use N.{◌≡◌, ◌∙◌, ℕ, ◌/◌, ◌%◌, ◌*◌, ◌+◌, ◌≤◌, List, [], ◌∷◌, ◌++◌, length, refl, ⊤}
 use Rattle.tds_csv.specs.Binary as binary
 use Rattle.tds_csv.specs.Windows1252 as windows_1252
 use Rattle.hex.specs.Hex.{encode_with}
@@ -19,6 +19,21 @@ hex-append t (b ∷ x) y = N.ap (λ r. N.slice_index t (b / 16) ∷ N.slice_inde
 pub hex-nil : N.encode_lower [] ≡ []
 unfolding encode_with
 hex-nil = refl
+
+-- two digits a byte
+hex-length : (t xs : List ℕ) → length (encode_with t xs) ≡ 2 * length xs
+unfolding encode_with
+hex-length t [] = refl
+hex-length t (b ∷ xs) = omega (N.arith, hex-length t xs)
+
+-- the digits of the first bytes come first
+pub hex-front : (n m : ℕ) (xs : List ℕ) → n ≤ length xs → N.take (2 * n) (N.encode_lower (N.take (n + m) xs)) ≡ N.encode_lower (N.take n xs)
+hex-front n m xs within =
+    let front = N.encode_lower (N.take n xs) in
+    let size : 2 * n ≡ length front = omega (N.arith, hex-length N.lower_digits (N.take n xs), N.length-take-le n xs within) in
+    N.ap (λ l. N.take (2 * n) (N.encode_lower l)) (N.take-add n m xs)
+    ∙ N.ap (N.take (2 * n)) (hex-append N.lower_digits (N.take n xs) (N.take m (N.drop n xs)))
+    ∙ N.ap (λ (k : ℕ). N.take k (front ++ N.encode_lower (N.take m (N.drop n xs)))) size ∙ N.take-append_seam front _
 
 -- bytes as hexadecimal digits may come in pieces
 pub joins_binary : N.JoinsPieces binary.IsFit binary.IsFit binary.rest binary.text

@@ -4,8 +4,8 @@ ghost use Rattle.tds_csv.specs.Conversion.{HexDigits, Utf16Text, Utf8Text, Windo
 ghost use Rattle.tds_csv.specs.Fields.{FieldWritten, conversion_of, field_room};
 ghost use Rattle.tds_csv.specs.Quoting.{quote};
 
-use crate::convert::lanes::WIDE;
-use crate::convert::lanes_hex::encode;
+use crate::convert::lanes::{LANES, WIDE};
+use crate::convert::lanes_hex::{encode, put_digits};
 use crate::convert::{doubling, utf16, windows_1252};
 use crate::framing::{BINARY_MARK, QUOTE};
 
@@ -50,16 +50,21 @@ fn close_quoted(to: &mut [u8], made: usize) -> usize
     made + 1
 }
 
-// Writes binary data as a field.
-fn write_binary(bytes: &[u8], to: &mut [u8]) -> usize
-    requires { field_room HexDigits (length bytes.now) ≤ length to.old }
+// Writes binary data, the first `n` of these bytes, as a field.
+fn write_binary(source: &[u8], n: usize, to: &mut [u8]) -> usize
+    requires within { n ≤ length source.now }
+    requires room { field_room HexDigits n ≤ length to.old }
     ensures most { result + 2 ≤ length to.old }
-    ensures field { take result to.new ≡ long_field HexDigits bytes.now }
+    ensures field { take result to.new ≡ long_field HexDigits (take n source.now) }
 {
-    let end = 2 + 2 * bytes.len();
+    let end = 2 + 2 * n;
     to[0] = BINARY_MARK[0];
     to[1] = BINARY_MARK[1];
-    encode(bytes, &mut to[2..end]);
+    if n <= LANES && source.len() >= LANES && to.len() >= 2 + 2 * LANES {
+        put_digits(source, 0, &mut to[2..]);
+        return end;
+    }
+    encode(&source[..n], &mut to[2..end]);
     end
 }
 
@@ -131,7 +136,7 @@ pub fn write_field(content: Content, source: &[u8], n: usize, to: &mut [u8]) -> 
 {
     let bytes = &source[..n];
     match content {
-        Content::Binary => Some(write_binary(bytes, to)),
+        Content::Binary => Some(write_binary(source, n, to)),
         Content::Windows1252 => Some(write_windows_1252(source, n, to)),
         Content::Utf16 => {
             if n % 2 == 1 {

@@ -7,6 +7,7 @@ use Rattle.tds_rows.proofs.{
   RunSteps.{made_more, used_more, whole_some, unused},
   TableSteps.{known_kind, last_one},
 }
+use borrow.Rule.Slice.PartMut.{put_mid}
 use Rattle.std.proofs.lemmas.List.{drop-append-le, drop-set-add, take-set-le}
 use Rattle.tds_rows.specs.FormRuns.{IsLatest, NumbersWithin}
 use Rattle.tds_rows.specs.declared.run.forms.Latest.{Latest}
@@ -138,6 +139,20 @@ module _ (charset : Charset) (forms : List Form) (column : ℕ) (bytes : List �
       let kind_is = ap (λ (l : List Form). (get_or l 0 form).kind) are in
       record { size = search N.rules; writes = rw kind_is at (rw text at (rw read at (y form column last))) }
 
+-- what is written from `at` on
+pub beyond_kept : (at m : ℕ) (to x rest : List ℕ) → at ≤ length to → m ≤ length x → take m (drop at (take at to ++ (x ++ rest))) ≡ take m x
+beyond_kept at m to x rest within fits =
+    ap (take m) (drop-append-le at (take at to) (x ++ rest) (omega (arith, N.length-take-le at to within))
+    ∙ ap (λ l. l ++ (x ++ rest)) (N.drop_all at (take at to) (omega (arith, N.length-take-le at to within)))) ∙ N.take-append-le m x rest fits
+
+-- what was written from `made` on
+pub written_after : (made : ℕ) (old new : List ℕ) → made ≤ length old → length new ≡ length old → take made new ≡ take made old
+    → new ≡ put_mid made (length old - made) old (drop made new)
+written_after made old new within size kept =
+    let none = N.drop_all (length old - made) (drop made old) (omega (arith, N.length-drop made old)) in
+    sym (N.take-append-drop made new) ∙ ap (λ l. l ++ drop made new) kept
+    ∙ ap (λ l. take made old ++ l) (sym (N.append-nil (drop made new)) ∙ ap (λ l. drop made new ++ l) (sym none))
+
 -- what is left after `used` bytes is left of those from `from` on
 pub unused_from : (from used : ℕ) (bytes : List ℕ) → from ≤ used → unused used bytes ≡ unused (used - from) (drop from bytes)
 unused_from from used bytes begun =
@@ -195,6 +210,32 @@ ended_beyond at end made old new e begun within fits is = (later, (before, after
     after = sym (N.drop-take at (end - at) new) ∙ ap (λ (n : ℕ). drop at (take n new)) upto ∙ ap (drop at) is
         ∙ drop-append-le at (take made old) e (omega (arith, size))
         ∙ ap (λ l. l ++ e) (ap (λ (n : ℕ). drop at (take n old)) (sym split) ∙ N.drop-take at (made - at) old)
+
+-- a comma, a field and the end of a line that stand from `at` on
+pub line_beyond : (at k m end : ℕ) (old comma rest text new e : List ℕ) → at ≤ length old → k ≤ length comma → (at + k) + m ≤ length text
+    → end ≤ length new → take (at + k) text ≡ take (at + k) (take at old ++ (comma ++ rest)) → take end new ≡ take ((at + k) + m) text ++ e
+    → (at ≤ end) × ((take at new ≡ take at old) × (take (end - at) (drop at new) ≡ (take k comma ++ take m (drop (at + k) text)) ++ e))
+line_beyond at k m end old comma rest text new e within few fits ends kept is =
+    let x = ended_beyond at end ((at + k) + m) text new e (omega arith) fits ends is in
+    (x.0, (x.1.0 ∙ front, x.1.1 ∙ ap (λ l. l ++ e) both))
+  where
+    start : List ℕ
+    start = take at old ++ (comma ++ rest)
+
+    before : at ≤ at + k
+    before = omega arith
+
+    front : take at text ≡ take at old
+    front = sym (N.take-take at (at + k) text before) ∙ ap (take at) kept ∙ N.take-take at (at + k) start before
+        ∙ N.take-append-le at (take at old) (comma ++ rest) (omega (arith, N.length-take-le at old within)) ∙ N.take-take at at old (omega arith)
+
+    first : take k (drop at text) ≡ take k comma
+    first = ap (λ (n : ℕ). take n (drop at text)) (omega arith) ∙ same_beyond at (at + k) start text before kept
+        ∙ ap (λ (n : ℕ). take n (drop at start)) (omega arith) ∙ beyond_kept at k old comma rest within few
+
+    both : take (((at + k) + m) - at) (drop at text) ≡ take k comma ++ take m (drop (at + k) text)
+    both = ap (λ (n : ℕ). take n (drop at text)) (omega arith) ∙ N.take-add k m (drop at text)
+        ∙ ap (λ l. l ++ take m (drop k (drop at text))) first ∙ ap (λ l. take k comma ++ take m l) (N.drop-drop k at text)
 
 -- the bytes of the first cell were used
 first_used : (forms : List Form) (bytes : List ℕ) (used u k : ℕ) (d : Form) → k ≡ 0 → used ≡ 0

@@ -1,15 +1,16 @@
 -- The next cells of a row, those of a run or one, NULL or not, and rows one after another.
 use Rattle.tds_rows.proofs.Words as N
 use Rattle.tds_rows.proofs.{
-  Words.{arith, ◌≡◌, ◌+◌, ℕ, Bool, true, false, List, ◌∷◌, drop, refl, Err, Ok, Option, ◌==◌, Stop, seen, Column, held, Rows, Ahead, IsInRow, StaysInRow},
+  Words.{arith, sym, ◌≡◌, ◌+◌, ℕ, Bool, true, false, List, ◌∷◌, drop, refl, Err, Ok, Option, ◌==◌, Stop, seen, Column, held, Rows, Ahead, IsInRow, StaysInRow},
   Words.{RowStops, RowPart, marked, ◌∙◌, ◌-◌, ◌^◌, ◌≤◌, ◌<◌, [], ◌++◌, length, ap, before, Seen, Takes, Held, Puts, Charset, Cell, rows, Kind, Knows},
-  NullSteps.{NearsCells, all_put, cell_nears, cell_stops, null_breaks, null_nears, cell_path, marked_stops},
+  NullSteps.{NearsCells, all_put, bitmap_nears, cell_nears, cell_stops, null_breaks, null_nears, cell_path, marked_stops, row_ends},
   RowSteps.{ends, ends_marked, coming, nulls_ahead, PutsAt, StopsAt, none_ahead, cell_some},
-  Paths.{At, here, Path, path_both, path_map, path_none, path_of, over},
+  Paths.{At, here, Path, path_both, path_map, path_none, path_of, path_stops, streams_of, writes_none, over},
   TableSteps.{last_one, next_column},
   RunSteps.{rows_after, whole_breaks, whole_puts, row_among, row_token},
   TableRuns.run_breaks,
 }
+use Rattle.tds_rows.specs.{RowReading.{RowRead}, RowSteps.{RowPut}}
 
 -- text that doesn't fill the block waits
 pub all_waits : (h j : Held) (text : List ℕ) → Puts h j text → length h.waiting + length text < 4096
@@ -150,6 +151,10 @@ stays_after x y = grind arith
 pub leaves_after : {R W U V : Type 0} {a b c : Rows R W} {stop : Stop} → StaysInRow a b → N.LeavesRows {U = U} b c (Err stop)
     → N.LeavesRows {U = V} a c (Err stop)
 leaves_after x y = grind arith
+
+-- where one that may stop leaves it
+pub leaves_on : {R W U : Type 0} {a b c : Rows R W} {result : N.Result U Stop} → StaysInRow a b → N.LeavesRows b c result → N.LeavesRows a c result
+leaves_on x y = grind arith
 
 -- ---- the next cell
 
@@ -406,3 +411,33 @@ module _ {R W : Type 0} {remaining : R → Option (List ℕ)} {contents : W → 
         let y = reads columns knows in
         let t = taken columns knows y.0 in
         rowing_stop (rw t.next at y.1) (cell_read (λ k. false) x knows y.0 t)
+
+-- ---- an NBCROW that is whole in the packet
+
+module _ {charset : Charset} {columns : List Column} {p q : At} where
+  -- its bitmap and its cells were handed out, and their text was put
+  pub whole_row : (bitmap cells text : List ℕ) → 0 < length columns → length bitmap ≡ N.bitmap_length (length columns)
+      → Passes p q (bitmap ++ cells) text → length p.held.waiting < 4096 → q.held.delivered ≤ 2 ^ 64 - 1
+      → N.WritesMarked charset columns (N.bit bitmap) 0 (length columns) cells text → over (N.ReadsRow charset (N.nbc_row_start columns)) p q
+  whole_row bitmap cells text some whole passes few delivered writes =
+      let t = passes_apart p q bitmap cells [] text passes in
+      let begun = bitmap_nears columns bitmap some whole (grind arith) t.1.between few passes.delivered t.1.place_is in
+      let near = marked_nears charset _ columns (N.bit bitmap) p 0 (length columns) t.0 q cells text writes t.2 (nears_same t.1.puts begun) in
+      let gone : drop (0 + length columns) columns ≡ [] = N.drop_all _ columns (omega arith) in
+      row_ends (all_put refl delivered (rw gone at near))
+
+-- a row was read, or it stopped, after nothing was
+pub row_later : {R W U : Type 0} (remaining : R → Option (List ℕ)) (contents : W → Option (List ℕ)) (old mid new : Rows R W) (start : RowPart)
+    (result : N.Result U Stop) → mid.table ≡ old.table → mid.payload.now ≡ old.payload.now
+    → Puts (held contents old.sink.now) (held contents mid.sink.now) [] → RowRead remaining contents start mid new result
+    → RowRead remaining contents start old new result
+row_later {U = U} remaining contents old mid new start result table payload puts row = rw (sym table, sym payload) (go result row)
+  where
+    none : Path (N.row mid.table.now.charset) N.row_so_far start (record (here remaining contents mid) { held = held contents old.sink.now })
+        (here remaining contents mid) start
+    none = record { bytes = []; made = []; writes = writes_none; takes = N.Takes-none _ 0; puts = puts; place_is = omega arith }
+
+    go : (result : N.Result U Stop) → RowRead remaining contents start mid new result → RowPut remaining contents mid.table.now.charset start mid.payload.now
+        new.payload.now old.sink.now new.sink.now result
+    go (Ok u) x = let path = path_both none (path_of x.streams x.place_is) in record { cells = x.cells; streams = streams_of path; place_is = path.place_is }
+    go (Err stop) x = path_stops none x

@@ -11,7 +11,7 @@ use Rattle.tds_csv.specs.declared.sink.Sink.{Sink}
 use Rattle.tds_csv.specs.Sinks.{Breaks, Held, Puts, held}
 use Rattle.tds_values.specs.declared.charset.Charset.{Charset}
 use Rattle.tds_rows.specs.declared.run.CellRun.{CellRun}
-use Rattle.tds_rows.specs.declared.cell.whole.TheConstants.{CELL_ROOM}
+use Rattle.tds_rows.specs.declared.cell.whole.TheConstants.{CELL_ROOM, FAR}
 use Rattle.tds_rows.specs.declared.table.Ahead.{Ahead}
 use Rattle.tds_rows.specs.declared.table.Table.{Table}
 use Rattle.tds_rows.specs.Cells.{cell_start, shape}
@@ -64,6 +64,10 @@ abbrev pub EndsLeft : Table → (ℕ → Bool) → Ahead → List ℕ → ℕ �
 EndsLeft table nulls at bytes room = (columns : List Column) (column : Column) (left : List Column) → Knows table columns → IsAhead table columns at
     → drop at.column columns ≡ column ∷ left →
     (room < CELL_ROOM) ⊎ ((nulls at.column ≡ false) × IsLeft table.charset column.kind bytes room)
+
+-- A run ended there, or where bytes or room are too few for any scalar.
+abbrev pub EndsFar : Table → (ℕ → Bool) → Ahead → List ℕ → ℕ → Type 0
+EndsFar table nulls at bytes room = (length bytes < FAR) ⊎ ((room < CELL_ROOM) ⊎ EndsLeft table nulls at bytes room)
 
 -- how many bytes may be put into a sink and wait, short of a block
 abbrev pub room_left : {W : Type 0} → Sink W → ℕ

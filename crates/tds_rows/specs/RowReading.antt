@@ -7,7 +7,7 @@ use Rattle.tds_packet.specs.Payloads.{IsGoing, IsOnSame, IsSound, LeavesPayload,
 use Rattle.tds_packet.specs.Seen.{Takes}
 use Rattle.tds_csv.specs.Quoting.{in_line, null_field}
 use Rattle.tds_csv.specs.declared.sink.Sink.{Sink}
-use Rattle.tds_csv.specs.Sinks.{IsOnSameSink, IsReady, IsWriting, LeavesSink, PutsPiece}
+use Rattle.tds_csv.specs.Sinks.{IsOnSameSink, IsReady, Puts, held, IsWriting, LeavesSink, PutsPiece}
 use Rattle.tds_rows.specs.declared.rows.Rows.{Rows}
 use Rattle.tds_rows.specs.declared.table.Ahead.{Ahead}
 use Rattle.tds_rows.specs.declared.cell.layout.Form.{Form}
@@ -16,7 +16,7 @@ use Rattle.tds_rows.specs.Cells.{CellPart}
 use Rattle.tds_meter.specs.Space.{Space}
 use Rattle.tds_rows.specs.CellSteps.{CellPut, FieldPut, LeavesSmall, longest_cell}
 use Rattle.tds_rows.specs.Rows.{RowPart, RowToken, longest_bitmap, token_byte}
-use Rattle.tds_rows.specs.RowSteps.{RowPut}
+use Rattle.tds_rows.specs.RowSteps.{ReadsRow, RowPut}
 use Rattle.tds_rows.specs.Successes.{BeginNoRow}
 use Rattle.tds_rows.specs.Tables.{IsNextKind, KnowsSome}
 
@@ -110,6 +110,13 @@ pub record AwaitsBitmap (bitmap : Space) : Type 0 where
 abbrev pub RowRead : {R W U : Type 0} → (R → Option (List ℕ)) → (W → Option (List ℕ)) → RowPart → Rows R W → Rows R W → Result U Stop → Type 0
 RowRead remaining contents start old new result =
     RowPut remaining contents old.table.now.charset start old.payload.now new.payload.now old.sink.now new.sink.now result
+
+-- A row was read from this state on and its line put; or, if the result is false, nothing was.
+abbrev pub RowTaken : {R W : Type 0} → (R → Option (List ℕ)) → (W → Option (List ℕ)) → RowPart → Rows R W → Rows R W → Bool → Type 0
+RowTaken remaining contents start old new true = ReadsRow old.table.now.charset start (seen remaining old.payload.now) (seen remaining new.payload.now)
+    old.payload.now.place new.payload.now.place (held contents old.sink.now) (held contents new.sink.now)
+RowTaken remaining contents start old new false =
+    (new.payload.now ≡ old.payload.now) × Puts (held contents old.sink.now) (held contents new.sink.now) []
 
 -- The token byte of one more row was taken; or, if the result is false, nothing was, and none is next in the packet.
 abbrev pub TokenTaken : {R : Type 0} → (R → Option (List ℕ)) → RowToken → Payload R → Payload R → Bool → Type 0

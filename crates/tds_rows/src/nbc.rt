@@ -1,20 +1,21 @@
 // A row with a bitmap of the columns that are NULL, and such rows after one another (MS-TDS, NBCROW).
-ghost use Rattle.std.specs.Prelude.{◌≡◌, true, ◌*◌, ◌<◌, ◌≤◌, length, ◌+◌, List, false, IfOk};
-ghost use Rattle.tds_rows.specs.MarkedRuns.{AreClear, EndsClear, EndsLeft, EndsMarked, MarkedPut, MarkedWritten, room_left};
+ghost use Rattle.std.specs.Prelude.{◌≡◌, true, ◌*◌, ◌<◌, ◌≤◌, drop, length, ◌+◌, ◌-◌, List, false, IfOk};
+ghost use Rattle.tds_rows.specs.MarkedRuns.{AreClear, EndsClear, EndsFar, EndsLeft, EndsMarked, MarkedPut, MarkedWritten, room_left};
 ghost use Rattle.tds_rows.specs.Rows.{bit, NbcRow, bitmap_length, longest_bitmap, nbc_row_start};
 ghost use Rattle.tds_columns.specs.Description.{Column};
 ghost use Rattle.tds_packet.specs.Payloads.{buffered};
 ghost use Rattle.tds_packet.specs.Reads.{KeepsRoom};
-ghost use Rattle.tds_rows.specs.RowReading.{AwaitsBitmap, IsAtCell, EndsRows, IsInMarkedRow, IsInSomeRow, LeavesRows, NextRead, RowRead, StaysInRow};
+ghost use Rattle.tds_rows.specs.RowReading.{AwaitsBitmap, IsAtCell, EndsRows, IsInMarkedRow, IsInSomeRow, LeavesRows, NextRead, RowRead, RowTaken, StaysInRow};
 ghost use Rattle.tds_rows.specs.RowRuns.{MarkedRead};
 ghost use Rattle.tds_rows.specs.RowSteps.{RowsRead};
 ghost use Rattle.tds_rows.specs.Layouts.{IsLaidOut};
-ghost use Rattle.tds_rows.specs.Tables.{Knows};
+ghost use Rattle.tds_rows.specs.Tables.{Knows, KnowsAll};
 
 use crate::cell::layout::Form;
-use crate::cell::whole::{CELL_ROOM, put_null};
+use crate::cell::whole::{CELL_ROOM, FAR, put_null};
 use crate::rows::{BLOCK_END, Rows, SHORT_TEXT};
 use crate::run::CellRun;
+use crate::run::forms::write_far_alone;
 use crate::table::{Ahead, Table};
 use std::io::{Read, Write};
 use tds_columns::take_into;
@@ -52,6 +53,52 @@ fn clear_end(bitmap: &[u8], from: u16, known: u16, count: u16) -> u16
 }
 
 impl<'a> Table<'a> {
+    // Writes cell after cell of an NBCROW whose columns the table all knows, as `run_nulls` does, as long as bytes and room go
+    // on far enough for any scalar.
+    #[inline(never)]
+    fn run_far_marked(
+        &self,
+        from: Ahead<'a>,
+        bitmap: &[u8],
+        bytes: &[u8],
+        to: &mut [u8],
+    ) -> CellRun<'a>
+        requires known { KnowsAll self.now }
+        requires bitmap { self.now.count ≤ 8 * length bitmap.now }
+        ensures used { result.used ≤ length bytes.now }
+        ensures made { result.made ≤ length to.old }
+        ensures ends { EndsFar self.now (bit bitmap.now) result.ahead (drop result.used bytes.now) (length to.old - result.made) }
+        ensures cells { MarkedWritten self.now (bit bitmap.now) from.entry bytes.now to.new result }
+    {
+        if bytes.len() < FAR || to.len() < CELL_ROOM {
+            return CellRun::none(from);
+        }
+        let latest = bytes.len() - FAR;
+        let most = to.len() - CELL_ROOM;
+        let mut used = 0;
+        let mut made = 0;
+        let mut ahead = from;
+        while used <= latest && made <= most {
+            let Some(form) = self.known_form(ahead) else {
+                break;
+            };
+            let (column, last) = (ahead.column, self.is_last(ahead));
+            if is_null(bitmap, column) {
+                made += write_null(column, last, &mut to[made..]);
+            } else {
+                let charset = self.charset;
+                let next = write_far_alone(&form, charset, column, last, bytes, used, to, made);
+                let Some(written) = next else {
+                    break;
+                };
+                used += written.used;
+                made += written.made;
+            }
+            self.pass(&mut ahead, 1);
+        }
+        CellRun { used, made, ahead }
+    }
+
     // Writes cell after cell of an NBCROW as `run_nulls` does. `KNOWN` says that the table knows all columns.
     #[inline(never)]
     fn run_marked<const KNOWN: bool>(
@@ -163,6 +210,36 @@ impl<'r, 't, 'p, 's, 'c, R: Read, W: Write> Rows<'r, 't, 'p, 's, 'c, R, W> {
         Ok(self.put_nulls_within(from, bitmap))
     }
 
+    // Puts the line of an NBCROW after its token byte if it is whole in the packet, far from its end, and has room in the block.
+    // Returns whether it does; if not, the row is still to be read. It reads nothing and delivers nothing.
+    #[inline(always)]
+    fn put_whole_row(&mut self) -> bool
+        requires { IsInSomeRow self.old }
+        ensures stays { StaysInRow self.old self.new }
+        ensures row { (columns : List Column) → Knows self.old.table.now columns →
+            RowTaken R.remaining W.contents (nbc_row_start columns) self.old self.new result }
+    {
+        let size = bitmap_size(self.table.count());
+        let waiting = self.sink.waiting() as usize;
+        let room = self.sink.room();
+        let bytes = self.payload.buffered();
+        if !self.table.knows_all() || bytes.len() < size || room <= BLOCK_END {
+            return false;
+        }
+        let spare = self.sink.spare(room - 1);
+        let start = self.table.start();
+        let run = self
+            .table
+            .run_far_marked(start, &bytes[..size], &bytes[size..], spare);
+        if !self.table.is_end(run.ahead) {
+            self.sink.commit(waiting, 0);
+            return false;
+        }
+        self.payload.consume(size + run.used);
+        self.sink.commit(waiting, run.made);
+        true
+    }
+
     // Puts the next cell: NULL, or the cell that it reads.
     fn put_next(&mut self, at: Ahead<'c>, form: &Form, null: bool) -> Result<(), Stop>
         requires { IsAtCell self.old at form.now }
@@ -176,6 +253,7 @@ impl<'r, 't, 'p, 's, 'c, R: Read, W: Write> Rows<'r, 't, 'p, 's, 'c, R, W> {
     }
 
     /// Reads an NBCROW after its token byte, its bitmap into an empty area, and puts its line.
+    #[inline(never)]
     pub(crate) fn nbc_row(&mut self, bitmap: &mut Area) -> Result<(), Stop>
         requires some { IsInSomeRow self.old }
         requires awaits { AwaitsBitmap bitmap.old }
@@ -197,8 +275,26 @@ impl<'r, 't, 'p, 's, 'c, R: Read, W: Write> Rows<'r, 't, 'p, 's, 'c, R, W> {
         }
     }
 
-    /// Reads an NBCROW and those that follow it in its packet, each with only its bitmap in the area, and puts
+    // Reads an NBCROW after its token byte, and puts its line: at once if it is far from the ends of packet and block.
+    #[inline(always)]
+    fn next_nbc_row(&mut self, bitmap: &mut Area) -> Result<(), Stop>
+        requires some { IsInSomeRow self.old }
+        requires room { longest_bitmap ≤ bitmap.old.room }
+        ensures leaves { LeavesRows self.old self.new result }
+        ensures bitmap { KeepsRoom bitmap.old bitmap.new }
+        ensures row { (columns : List Column) → Knows self.old.table.now columns →
+            RowRead R.remaining W.contents (nbc_row_start columns) self.old self.new result }
+    {
+        bitmap.clear();
+        if self.put_whole_row() {
+            return Ok(());
+        }
+        self.nbc_row(bitmap)
+    }
+
+    /// Reads an NBCROW and those that follow it in its packet, each with at most its bitmap in the area, and puts
     /// their lines. Returns how many they are.
+    #[inline(never)]
     pub(crate) fn nbc_rows(&mut self, bitmap: &mut Area) -> Result<u64, Stop>
         requires some { IsInSomeRow self.old }
         requires room { longest_bitmap ≤ bitmap.old.room }
@@ -211,8 +307,7 @@ impl<'r, 't, 'p, 's, 'c, R: Read, W: Write> Rows<'r, 't, 'p, 's, 'c, R, W> {
     {
         let mut ended: u64 = 0;
         loop {
-            bitmap.clear();
-            self.nbc_row(bitmap)?;
+            self.next_nbc_row(bitmap)?;
             ended += 1;
             if !self.take_token(NBCROW) {
                 return Ok(ended);

@@ -45,8 +45,8 @@ impl<'a> RowsRun<'a> {
 }
 
 impl<'a> CellRun<'a> {
-    // A run that took nothing.
-    fn none(at: Ahead<'a>) -> CellRun<'a>
+    /// A run that took nothing.
+    pub(crate) fn none(at: Ahead<'a>) -> CellRun<'a>
         ensures { result ≡ record { used = 0; made = 0; ahead = at.entry } }
     {
         CellRun {

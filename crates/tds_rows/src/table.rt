@@ -50,7 +50,7 @@ pub(crate) struct Ahead<'a> {
 impl<'a> Table<'a> {
     ghost use Rattle.tds_columns.specs.Description as spec;
     ghost use Rattle.tds_columns.specs.View.{columns_of};
-    ghost use Rattle.tds_rows.specs.Tables.{AreAhead, BeginsRow, IsAhead, Knows, NextForm, TakesForm};
+    ghost use Rattle.tds_rows.specs.Tables.{AreAhead, BeginsRow, IsAhead, Knows, NextColumn, NextForm, TakesForm};
 
     /// The table of a description's columns, whose single-byte text is in this set.
     pub(crate) fn of(columns: Columns<'a>, charset: Charset) -> Table<'a>
@@ -164,6 +164,23 @@ impl<'a> Table<'a> {
             return None;
         }
         Some(&self.forms[from..self.known])
+    }
+
+    /// What the next cell needs, of a row all of whose columns the table knows. `None` at the row's end.
+    #[inline(always)]
+    pub(crate) fn known_form(&self, at: Ahead<'a>) -> Option<Form>
+        requires all { self.now.known ≡ self.now.count }
+        ensures end { result ≡ None → self.now.count ≤ at.entry.column }
+        ensures some { IfSome result (λ _. at.entry.column < self.now.count) }
+        ensures laid { IfSome result (λ form. IsLaidOut self.now.charset form.kind form.layout) }
+        ensures next { (columns : List spec.Column) → Knows self.now columns → IsAhead self.now columns at.entry →
+            IfSome result (λ form. NextColumn columns at.entry form.kind) }
+    {
+        let column = at.column as usize;
+        if column >= self.known {
+            return None;
+        }
+        Some(self.forms[column])
     }
 
     /// Whether no cell of the row is ahead.

@@ -71,8 +71,10 @@ fn as_front(used: usize, text: Result<usize, ValueFault>) -> Option<Front>
 /// Writes the text of the value at the front of `bytes`, which comes after its length if its kind has one, to the front
 /// of `to`. `None` if the bytes spell no value there: they don't for NULL, nor for a kind that isn't scalar. What `to`
 /// holds after the text, and after `None`, isn't fixed.
+///
+/// `COPY` changes nothing. A loop that gives it another value has a copy of this code of its own, which is inlined there.
 #[inline(always)]
-pub fn write_front(kind: &Kind, bytes: &[u8], to: &mut [u8]) -> Option<Front>
+pub fn write_front<const COPY: bool>(kind: &Kind, bytes: &[u8], to: &mut [u8]) -> Option<Front>
     requires valid { IsTrue (kinds.is_valid kind.now) }
     requires there { FRONT_SIZE ≤ length bytes.now }
     requires room { TEXT_ROOM ≤ length to.old }

@@ -9,7 +9,7 @@ use tds_values::hex_lanes;
 
 // Writes the digits of the next 16 bytes.
 #[inline(always)]
-fn put_digits(bytes: &[u8], at: usize, to: &mut [u8])
+pub(crate) fn put_digits(bytes: &[u8], at: usize, to: &mut [u8])
     requires bytes { at + LANES ≤ length bytes.now }
     requires room { 2 * at + 2 * LANES ≤ length to.old }
     ensures { take (2 * at + 2 * LANES) to.new ≡ take (2 * at) to.old ++ encode_lower (chunk at LANES bytes.now) }

@@ -1,5 +1,5 @@
 // A cell that is whole in the packet: its bytes are together.
-ghost use Rattle.std.specs.Prelude.{◌≡◌, ◌+◌, ◌<◌, ◌≤◌, length, take, is_ok, false, IfSome, IsTrue};
+ghost use Rattle.std.specs.Prelude.{◌≡◌, ◌+◌, ◌-◌, ◌<◌, ◌≤◌, drop, length, take, is_ok, false, IfSome, IsTrue};
 ghost use Rattle.tds_csv.specs.Quoting.{in_line, null_field};
 ghost use Rattle.tds_csv.specs.Sinks.{IsReady, PutsPiece};
 ghost use Rattle.tds_rows.specs.CellSteps.{CellWritten, HasInt4, IsInt4, WritesField, whole_size};
@@ -158,48 +158,66 @@ fn write_no_value(form: &Form, charset: Charset, bytes: &[u8], to: &mut [u8]) ->
     Some(Written { used: 1, made })
 }
 
-// Writes the field of the cell at the front of these bytes, where no value of a scalar kind is: a short value, or NULL.
+// Writes the field of the cell that begins at `from` as [`write_far_cell`] does, where no value of a scalar kind is: a short
+// value, or NULL.
 #[inline(always)]
-fn write_other(form: &Form, charset: Charset, bytes: &[u8], to: &mut [u8]) -> Option<Written>
-    requires laid { IsLaidOut charset form.now.kind form.now.layout }
-    requires far { FAR ≤ length bytes.now }
-    requires room { VALUE_ROOM ≤ length to.old }
-    requires bad { is_ok (read_of form.now.kind (value_bytes form.now.kind bytes.now)) ≡ false }
-    ensures used { IfSome result (λ written. written.used ≤ length bytes.now) }
-    ensures most { IfSome result (λ written. written.made + 2 ≤ length to.old) }
-    ensures whole { IfSome result (λ written. written.used ≡ whole_size form.now.kind bytes.now) }
-    ensures field { CellWritten charset form.now.kind bytes.now (length to.old + 1) to.new result }
-{
-    match form.kind {
-        Kind::Binary(reach) => write_if_short(reach, Content::Binary, bytes, to),
-        Kind::Wide(reach) => write_if_short(reach, Content::Utf16, bytes, to),
-        Kind::Narrow(reach) => match charset {
-            Charset::Windows1252 => write_if_short(reach, Content::Windows1252, bytes, to),
-            Charset::Utf8 => write_if_short(reach, Content::Utf8, bytes, to),
-        },
-        _ => write_no_value(form, charset, bytes, to),
-    }
-}
-
-/// Writes the field of the cell at the front of these bytes as [`write_cell`] does, far from the packet's end. A scalar's
-/// kind is matched once.
-#[inline(always)]
-pub(crate) fn write_far_cell(
+fn write_other(
     form: &Form,
     charset: Charset,
     bytes: &[u8],
+    from: usize,
     to: &mut [u8],
+    at: usize,
 ) -> Option<Written>
     requires laid { IsLaidOut charset form.now.kind form.now.layout }
-    requires far { FAR ≤ length bytes.now }
-    requires room { VALUE_ROOM ≤ length to.old }
-    ensures used { IfSome result (λ written. written.used ≤ length bytes.now) }
-    ensures most { IfSome result (λ written. written.made + 2 ≤ length to.old) }
-    ensures whole { IfSome result (λ written. written.used ≡ whole_size form.now.kind bytes.now) }
-    ensures field { CellWritten charset form.now.kind bytes.now (length to.old + 1) to.new result }
+    requires far { from + FAR ≤ length bytes.now }
+    requires room { at + VALUE_ROOM ≤ length to.old }
+    requires bad { is_ok (read_of form.now.kind (value_bytes form.now.kind (drop from bytes.now))) ≡ false }
+    ensures kept { take at to.new ≡ take at to.old }
+    ensures used { IfSome result (λ written. from + written.used ≤ length bytes.now) }
+    ensures most { IfSome result (λ written. at + written.made + 2 ≤ length to.old) }
+    ensures whole { IfSome result (λ written. written.used ≡ whole_size form.now.kind (drop from bytes.now)) }
+    ensures field { CellWritten charset form.now.kind (drop from bytes.now) (length to.old - at + 1) (drop at to.new) result }
 {
-    let Some(front) = write_front(&form.kind, bytes, to) else {
-        return write_other(form, charset, bytes, to);
+    match form.kind {
+        Kind::Binary(reach) => {
+            write_if_short(reach, Content::Binary, &bytes[from..], &mut to[at..])
+        }
+        Kind::Wide(reach) => write_if_short(reach, Content::Utf16, &bytes[from..], &mut to[at..]),
+        Kind::Narrow(reach) => match charset {
+            Charset::Windows1252 => {
+                write_if_short(reach, Content::Windows1252, &bytes[from..], &mut to[at..])
+            }
+            Charset::Utf8 => write_if_short(reach, Content::Utf8, &bytes[from..], &mut to[at..]),
+        },
+        _ => write_no_value(form, charset, &bytes[from..], &mut to[at..]),
+    }
+}
+
+/// Writes the field of the cell that begins at `from`, far from the packet's end, into the room from `at` on, as
+/// [`write_cell`] does. A scalar's kind is matched once, and only other kinds ask how many bytes and how much room are left.
+/// `COPY` is that of [`write_front`].
+#[inline(always)]
+pub(crate) fn write_far_cell<const COPY: bool>(
+    form: &Form,
+    charset: Charset,
+    bytes: &[u8],
+    from: usize,
+    to: &mut [u8],
+    at: usize,
+) -> Option<Written>
+    requires laid { IsLaidOut charset form.now.kind form.now.layout }
+    requires far { from + FAR ≤ length bytes.now }
+    requires room { at + VALUE_ROOM ≤ length to.old }
+    ensures kept { take at to.new ≡ take at to.old }
+    ensures used { IfSome result (λ written. from + written.used ≤ length bytes.now) }
+    ensures most { IfSome result (λ written. at + written.made + 2 ≤ length to.old) }
+    ensures whole { IfSome result (λ written. written.used ≡ whole_size form.now.kind (drop from bytes.now)) }
+    ensures field { CellWritten charset form.now.kind (drop from bytes.now) (length to.old - at + 1) (drop at to.new) result }
+{
+    let Some(front) = write_front::<COPY>(&form.kind, &bytes[from..], &mut to[at..at + VALUE_ROOM])
+    else {
+        return write_other(form, charset, bytes, from, to, at);
     };
     Some(Written {
         used: front.used,

@@ -3,11 +3,13 @@ ghost use Rattle.std.specs.Prelude.{◌≡◌, ◌==◌, ◌&&◌, ◌<◌, ◌�
 ghost use Rattle.tds_values.specs.declared.charset.Charset.{Charset};
 ghost use Rattle.tds_rows.specs.FormRuns.{AreNumbers, FirstLeft, IsLatest, IsRefusedAfter, IsWithin, NumbersWithin, RefusesRow, RunsForms, WritesFields};
 ghost use Rattle.tds_rows.specs.Forms.{AreInt4, AreLaidOut};
+ghost use Rattle.tds_rows.specs.Layouts.{IsLaidOut};
+ghost use Rattle.tds_rows.specs.Runs.{AloneWritten};
 
 use crate::cell::layout::Form;
 use crate::cell::whole::{
-    CELL_ROOM, FAR, INT4_CELL, NUMBER_FIELD, NUMBER_ROOM, VALUE_ROOM, write_cell, write_far_cell,
-    write_int4_cell,
+    CELL_ROOM, FAR, INT4_CELL, NUMBER_FIELD, NUMBER_ROOM, VALUE_ROOM, Written, write_cell,
+    write_far_cell, write_int4_cell,
 };
 use tds_csv::{COMMA, write_comma, write_line_end};
 use tds_values::Charset;
@@ -147,7 +149,7 @@ fn write_far_fields(
     let most = to.len() - VALUE_ROOM;
     while cells < forms.len() && used <= latest && made <= most {
         let form = &forms[cells];
-        let Some(written) = write_far_cell(form, charset, &bytes[used..], &mut to[made..]) else {
+        let Some(written) = write_far_cell::<false>(form, charset, bytes, used, to, made) else {
             break;
         };
         cells += 1;
@@ -190,6 +192,36 @@ pub(crate) fn run_far_forms(
     let last = is_last(true, run.cells, forms.len());
     let end = write_line_end(last, run.made - 1, to);
     FormsRun { made: end, ..run }
+}
+
+/// Writes the text in its line of the cell that begins at `from`, of the column after `column` others, into the room from `at`
+/// on, far from the ends of both. `None` as for `write_far_cell`.
+#[inline(always)]
+pub(crate) fn write_far_alone(
+    form: &Form,
+    charset: Charset,
+    column: u16,
+    last: bool,
+    bytes: &[u8],
+    from: usize,
+    to: &mut [u8],
+    at: usize,
+) -> Option<Written>
+    requires laid { IsLaidOut charset form.now.kind form.now.layout }
+    requires far { from + FAR ≤ length bytes.now }
+    requires room { at + CELL_ROOM ≤ length to.old }
+    ensures kept { take at to.new ≡ take at to.old }
+    ensures used { IfSome result (λ written. from + written.used ≤ length bytes.now) }
+    ensures most { IfSome result (λ written. at + written.made ≤ length to.old) }
+    ensures cell { AloneWritten charset form.now.kind column last (drop from bytes.now) (length to.old - at) (drop at to.new) result }
+{
+    let start = at + write_comma(column, &mut to[at..]);
+    let written = write_far_cell::<true>(form, charset, bytes, from, to, start)?;
+    let end = write_line_end(last, start + written.made, to);
+    Some(Written {
+        used: written.used,
+        made: end - at,
+    })
 }
 
 /// Writes the cells of the next columns of a row, after its first `column` ones, one after another, as far as they

@@ -1,8 +1,15 @@
 use Rattle.tds_rows.proofs.cell.whole.write_far_cell.Goals as goal
-use Rattle.tds_rows.proofs.{Words.{ap, arith, rules, in_line}, BufferedCells.front_cell, RunSteps.writes_scalar}
+use Rattle.tds_rows.proofs.{
+  Words.{◌∙◌, all_after, ap, arith, drop, in_line, length-drop, rules},
+  BufferedCells.front_cell,
+  FormSteps.beyond_kept,
+  RunSteps.writes_scalar,
+}
 
 pub returns-clause-field : goal.returns-clause-field
-returns-clause-field c = λ column last.
-    let x = c.in-Some.ensures.text in
-    writes_scalar _ _ _ _ _ _ (λ any. front_cell any _ column last c.args.bytes.now _ (search (arith, rules)) _ (search (arith, rules)) x.0
-    (search (arith, rules)) (x.1.0, x.1.1.0, ap (in_line column last) x.1.1.1.0))
+returns-clause-field g c = λ column last.
+    let x = rw (all_after c.args.bytes.now c.args.from) at c.in-Some.ensures.text in
+    let bytes = drop c.args.from c.args.bytes.now in
+    let text = beyond_kept c.args.at c.in-Some.front.made c.args.to.now c.write_front.new.to _ (search (arith, rules)) (search (arith, rules)) in
+    writes_scalar _ _ _ _ _ _ (λ any. front_cell any _ column last bytes _ (search (arith, rules)) _ (search (arith, rules)) x.0
+    (omega (arith, c.in-Some.ensures.within, c.requires.far, length-drop c.args.from c.args.bytes.now)) (x.1.0, x.1.1.0, ap (in_line column last) (text ∙ x.1.1.1.0)))

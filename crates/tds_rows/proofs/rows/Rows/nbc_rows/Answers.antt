@@ -14,32 +14,32 @@ loop-ended-init g c = record {
       rows_first c.requires.some.in_row.sink.ready.2;
 }
 
-pub returns-in_err-nbc_row-clause-rows : goal.returns-in_err-nbc_row-clause-rows
-returns-in_err-nbc_row-clause-rows g c =
+pub returns-in_err-next_nbc_row-clause-rows : goal.returns-in_err-next_nbc_row-clause-rows
+returns-in_err-next_nbc_row-clause-rows g c =
     let l = c.loop-ended in
     rw (← l.invariant.stays.same.3) (λ columns knows. passed _ _ _ _ c.from_residual.ensures.1
-    (rows_stop (l.invariant.reads columns knows) (c.in_err-nbc_row.ensures.row columns knows)))
+    (rows_stop (l.invariant.reads columns knows) (c.in_err-next_nbc_row.ensures.row columns knows)))
 
 pub returns-then-not-take_token-clause-rows : goal.returns-then-not-take_token-clause-rows
 returns-then-not-take_token-clause-rows g c =
     let l = c.loop-ended in
     rw (← l.invariant.stays.same.3) (λ columns knows.
     rw (sym (c.if-not-take_token.ensures.token NbcRow refl).0, sym c.take_token.ensures.sink) at
-    (rows_row (l.invariant.reads columns knows) (c.in_ok-nbc_row.ensures.row columns knows)))
+    (rows_row (l.invariant.reads columns knows) (c.in_ok-next_nbc_row.ensures.row columns knows)))
 
 pub returns-then-not-take_token-clause-ends : goal.returns-then-not-take_token-clause-ends
 returns-then-not-take_token-clause-ends g c =
     let l = c.loop-ended in
     let known = l.invariant.knows in
     let none = c.if-not-take_token.ensures.token NbcRow refl in (
-      omega (arith, (c.in_ok-nbc_row.ensures.row known.0 known.1).place_is, ap (λ p. p.place) none.0),
+      omega (arith, (c.in_ok-next_nbc_row.ensures.row known.0 known.1).place_is, ap (λ p. p.place) none.0),
       none.1,
     )
 
 pub loop-ended-preserved : goal.loop-ended-preserved
 loop-ended-preserved g c =
     let l = c.loop-ended in
-    let done = c.in_ok-nbc_row.ensures in
+    let done = c.in_ok-next_nbc_row.ensures in
     let kept = c.take_token.ensures.stays in
     let same = kept.same.3 ∙ done.leaves.same.3 in
     let taken = c.if-not-take_token.ensures.token NbcRow refl in
@@ -58,7 +58,7 @@ loop-ended-preserved g c =
 pub loop-ended-smaller : goal.loop-ended-smaller
 loop-ended-smaller g c =
     let l = c.loop-ended in
-    let done = c.in_ok-nbc_row.ensures in
+    let done = c.in_ok-next_nbc_row.ensures in
     let taken = c.if-not-take_token.ensures.token NbcRow refl in
     let known = l.invariant.knows in
     omega (arith, (done.row known.0 known.1).place_is)

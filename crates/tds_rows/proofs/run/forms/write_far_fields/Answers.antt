@@ -1,10 +1,5 @@
 use Rattle.tds_rows.proofs.run.forms.write_far_fields.Goals as goal
-use borrow.Rule.Slice.PartMut.{put_mid, same_len_mid}
-use Rattle.tds_rows.proofs.{
-  Words.{◌≡◌, ◌≤◌, ◌∙◌, ◌+◌, ◌-◌, ℕ, Form, List, all_after, ap, drop, get_or, inr, length, length-drop, length-take-le, sym, arith, rules},
-  FormSteps.{fields_beyond, fields_end, fields_more, fields_step, kept_before, left_less, same_beyond, set_beyond, unused_from},
-  RunSteps.made_same,
-}
+use Rattle.tds_rows.proofs.{Words.{◌≡◌, ◌≤◌, ◌∙◌, ◌+◌, ◌-◌, ℕ, take, Form, List, all_after, ap, drop, get_or, inr, length, length-drop, sym, take-take, arith, rules}, FormSteps.{fields_beyond, fields_end, fields_more, fields_step, kept_before, left_less, same_beyond, set_beyond, unused_from, written_after}}
 
 pub loop-cells-preserved : goal.loop-cells-preserved
 loop-cells-preserved c =
@@ -16,30 +11,35 @@ loop-cells-preserved c =
     let form = c.index-forms-cells.result in
     let bytes = drop from c.args.bytes.now in
     let form_is : form ≡ get_or forms l.cells form = search (arith, rules) in
-    let rest = unused_from from l.used c.args.bytes.now l.invariant.from in
+    let rest = sym (all_after c.args.bytes.now l.used) ∙ unused_from from l.used c.args.bytes.now l.invariant.from in
     let whole = rw form_is at (rw rest at c.in-Some.ensures.whole) in
     let wrote = rw form_is at (rw rest at c.in-Some.ensures.field) in
     let further : (l.used + written.used) - from ≡ (l.used - from) + written.used = omega (arith, l.invariant.from) in
-    let few : written.used ≤ length bytes - (l.used - from) = omega (
-      arith,
-      c.in-Some.ensures.used,
-      length-drop l.used c.args.bytes.now,
-      length-drop from c.args.bytes.now,
-      length-take-le (length c.args.bytes.now - l.used) (drop l.used c.args.bytes.now),
-      l.invariant.from,
-    ) in
+    let few : written.used ≤ length bytes - (l.used - from) = omega (arith, c.in-Some.ensures.used, length-drop from c.args.bytes.now, l.invariant.from) in
     let more : (l.made + written.made + 1) - at ≡ (l.made - at) + written.made + 1 = omega (arith, l.invariant.begun) in
-    record {
+    let new = c.write_far_cell.new.to in
+    let within : l.made ≤ length l.to = search (arith, rules) in
+    let size : length new ≡ length l.to = search (arith, rules) in
+    let new_is = written_after l.made l.to new within size c.write_far_cell.ensures.kept in
+    rw new_is (record {
       from = omega (arith, l.invariant.from);
       begun = omega (arith, l.invariant.begun);
       size = search (arith, rules);
-      kept = kept_before at l.made written.made l.to _ l.invariant.begun (search (arith, rules)) ∙ l.invariant.kept;
+      kept = kept_before at l.made written.made l.to _ l.invariant.begun within ∙ l.invariant.kept;
       at = rw more (fields_step written.used written.made form l.invariant.at further (search (arith, rules)) c.loop-cells-test.true few
           (search (arith, rules)) whole);
-      writes = rw (more, set_beyond at l.made written.made l.to _ l.invariant.begun (search (arith, rules))) (fields_more
-          c.args.charset forms c.args.column bytes (drop at l.to) c.write_far_cell.new.to _ l.cells _ written.used _ _ written.made form further
-          (rw (sym (length-drop at l.to)) at l.invariant.at.fits) (search (arith, rules)) c.loop-cells-test.true wrote l.invariant.writes);
-    }
+      writes = rw (more, set_beyond at l.made written.made l.to _ l.invariant.begun within) (fields_more
+          c.args.charset forms c.args.column bytes (drop at l.to) (drop l.made new) _ l.cells _ written.used _ _ written.made form further
+          (rw (sym (length-drop at l.to)) at l.invariant.at.fits)
+          (omega (arith, c.in-Some.ensures.most, size, length-drop l.made new)) c.loop-cells-test.true wrote l.invariant.writes);
+    })
+
+pub returns-in_default-clause-kept : goal.returns-in_default-clause-kept
+returns-in_default-clause-kept c =
+    let l = c.loop-cells in
+    let to = c.write_far_cell.new.to in
+    sym (take-take c.args.at l.made to l.invariant.begun) ∙ ap (take c.args.at) c.write_far_cell.ensures.kept
+    ∙ take-take c.args.at l.made l.to l.invariant.begun ∙ l.invariant.kept
 
 pub returns-in_default-clause-ends : goal.returns-in_default-clause-ends
 returns-in_default-clause-ends c = λ none form others are.
@@ -49,14 +49,12 @@ returns-in_default-clause-ends c = λ none form others are.
     let d = c.index-forms-cells.result in
     let form_is : d ≡ get_or c.args.forms.now l.cells d = search (arith, rules) in
     let next = form_is ∙ ap (λ (n : ℕ). get_or c.args.forms.now n d) none ∙ ap (λ (fs : List Form). get_or fs 0 d) are in
-    let left = rw next at (rw first at (rw (all_after c.args.bytes.now l.used) at c.in_default.ensures.field)) in
+    let left = rw next at (rw first at c.in_default.ensures.field) in
     inr (left_less _ _ _ (omega (
       arith,
       begun.1,
       l.invariant.begun,
       l.invariant.size,
-      length-drop l.made l.to,
-      length-take-le (length l.to - l.made) (drop l.made l.to),
     )) left)
 
 pub returns-else-made-most-clause-ends : goal.returns-else-made-most-clause-ends
@@ -71,14 +69,12 @@ returns-after-loop-cells-clause-ends c = λ none form others are. absurd (omega 
 pub returns-in_default-clause-fields : goal.returns-in_default-clause-fields
 returns-in_default-clause-fields c =
     let l = c.loop-cells in
-    let rest = length l.to - l.made in
     fields_end (drop c.args.at l.to) _ (rw (sym (length-drop c.args.at l.to)) at l.invariant.at) (omega (
       arith,
       length-drop c.args.at l.to,
-      length-drop c.args.at (put_mid l.made rest l.to c.write_far_cell.new.to),
-      same_len_mid l.made rest l.to c.write_far_cell.new.to (search (arith, rules)),
+      length-drop c.args.at c.write_far_cell.new.to,
     ))
-    (same_beyond c.args.at l.made l.to _ l.invariant.begun (made_same _ _ _ (search (arith, rules)))) l.invariant.writes
+    (same_beyond c.args.at l.made l.to _ l.invariant.begun c.write_far_cell.ensures.kept) l.invariant.writes
 
 pub returns-else-made-most-clause-fields : goal.returns-else-made-most-clause-fields
 returns-else-made-most-clause-fields c = fields_beyond c.args.at c.loop-cells.to c.loop-cells.invariant.at c.loop-cells.invariant.writes

@@ -1,0 +1,50 @@
+use Rattle.tds_rows.proofs.table.Table.run_far_marked.Goals as goal
+use Rattle.tds_rows.proofs.Words as N
+use Rattle.tds_rows.proofs.{
+  Words.{ℕ, ◌≡◌, ◌∙◌, ◌-◌, ◌<◌, ◌≤◌, ◌∷◌, ap, length, arith},
+  table.Table.run_far_marked.Goals.{then-is_null, else-is_null+in-Some-next},
+  FormSteps.written_after,
+  TableRuns.{runs_column, runs_more},
+  TableSteps.{last_one, takes},
+}
+
+pub loop-used-preserved : goal.loop-used-preserved
+loop-used-preserved c =
+    let l = c.loop-used in
+    elim c.if-is_null.branch [
+      | then-is_null w ↦
+          let made = w.write_null-made.result in
+          let text = w.write_null-made.new.to in
+          let within : made ≤ length text = search arith in
+          let null = N.sym c.is_null.ensures ∙ w.if-is_null.true in
+          rw (w.to-is, w.used-is, w.made-is) (record {
+            used = l.invariant.used;
+            made = search arith;
+            room = search arith;
+            writes = λ columns knows ahead.
+                let ran = l.invariant.writes columns knows ahead in
+                let taken = takes (c.in-Some.ensures.next columns knows ran.ahead) c.pass.ensures.further (c.pass.ensures.ahead columns knows ran.ahead) in
+                let last = c.is_last-last.ensures ∙ last_one _ _ _ _ _ knows.counted taken.next in
+                let line = w.write_null-made.ensures.text ∙ ap (λ (e : N.Bool). N.in_line l.ahead.column e N.null_field) last in
+                rw (N.sym (N.add-zero l.used)) (runs_more _ _ _ _ _ _ _ _ _ l.invariant.made within ran (runs_column taken N.refl (rw null (N.refl, line))));
+          })
+      | else-is_null+in-Some-next w ↦
+          let made = w.in-Some-next.written.made in
+          let far = w.write_far_alone-next in
+          let new = far.new.to in
+          let cell = w.in-Some-next.ensures.cell in
+          let clear = N.sym c.is_null.ensures ∙ w.if-is_null.false in
+          let new_is = written_after l.made l.to new l.invariant.made (search arith) far.ensures.kept in
+          let within : made ≤ length (N.drop l.made new) = omega (arith, w.in-Some-next.ensures.most, far.auto.to, N.length-drop l.made new) in
+          rw (w.to-is, w.used-is, w.made-is) (record {
+            used = search arith;
+            made = search arith;
+            room = search arith;
+            writes = λ columns knows ahead.
+                let ran = l.invariant.writes columns knows ahead in
+                let taken = takes (c.in-Some.ensures.next columns knows ran.ahead) c.pass.ensures.further (c.pass.ensures.ahead columns knows ran.ahead) in
+                let last = c.is_last-last.ensures ∙ last_one _ _ _ _ _ knows.counted taken.next in
+                let whole = rw last at (rw (N.sym (N.all_after c.args.bytes.now l.used)) at cell.writes.whole) in
+                rw new_is (runs_more _ _ _ _ _ _ _ _ _ l.invariant.made within ran (runs_column taken N.refl (rw clear whole)));
+          })
+    ]
