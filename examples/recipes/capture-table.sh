@@ -5,12 +5,13 @@
 #
 # Three commands are enough with your own server, whose port is 1433:
 #
-#     tcpdump -i any -s 0 -w orders.pcap 'tcp port 1433'
+#     tcpdump -i any -s 0 -B 65536 -w orders.pcap 'tcp port 1433'
 #     gavyreto capture --packets --adapt orders.pcap captured
 #     python3 -c 'import gavyreto; print(gavyreto.export("captured/NAME.tds").only().frame())'
 #
-# `-s 0` keeps whole frames, and `-i any` those of all interfaces; `tcpdump` needs the right to read them. With --packets the packets of
-# each response are beside its text, for all that reads a response; with --adapt columns that are refused are rewritten.
+# `-s 0` keeps whole frames, and `-i any` those of all interfaces; `tcpdump` needs the right to read them. `-B 65536` is room for 64 MB
+# of frames that wait to be written: what has no room is lacking in the capture, and `tcpdump` says how many those were. With --packets
+# the packets of each response are beside its text, for all that reads a response; with --adapt columns that are refused are rewritten.
 #
 # The client here is `tsql`, and the server tools/stand-in, whose port is in PORT.
 #
@@ -22,7 +23,7 @@ tools/response orders > orders.tds
 printf '[global]\ntds version = 7.4\nencryption = request\n' > freetds.conf
 export FREETDSCONF="$PWD/freetds.conf"
 tools/stand-in --seconds 60 orders.tds -- sh -eu <<'SESSION'
-tcpdump -i any -s 0 -U --immediate-mode -w orders.pcap "tcp port $PORT" 2> tcpdump.notes &
+tcpdump -i any -s 0 -B 65536 -U --immediate-mode -w orders.pcap "tcp port $PORT" 2> tcpdump.notes &
 until grep -qs 'listening on' tcpdump.notes; do
     kill -0 $! || { cat tcpdump.notes; exit 1; }
     sleep 0.1

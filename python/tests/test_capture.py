@@ -294,7 +294,8 @@ class Captures(unittest.TestCase):
 
 class Written(Live):
     def test_captures_of_other_programs(self) -> None:
-        """Written by `tcpdump`, `dumpcap` and `tshark`, of what `tsql`, `freebcp` and `pymssql` ask the stand-in."""
+        """Written by `tcpdump`, `dumpcap` and `tshark`, of what `tsql`, `freebcp` and `pymssql` ask the stand-in. `tcpdump` has
+        room for eight frames by default, and drops others while it can't write; with `-B 65536` for all."""
         need(self, "tcpdump", "dumpcap", "tshark", "tsql", "freebcp")
         if os.geteuid() != 0:
             skip(self, "only root may capture here")
@@ -314,7 +315,7 @@ DEBIAN = "/usr/bin/python3"
 CLIENTS = r"""set -eu
 printf '[global]\ntds version = 7.4\nencryption = off\n[here]\nhost = 127.0.0.1\nport = %s\n' "$PORT" > freetds.conf
 chmod 777 .
-tcpdump -i any -s 0 -U --immediate-mode -w any.pcap "tcp port $PORT" 2> tcpdump.notes &
+tcpdump -i any -s 0 -B 65536 -U --immediate-mode -w any.pcap "tcp port $PORT" 2> tcpdump.notes &
 first=$!
 dumpcap -q -i lo -w lo.pcapng -f "tcp port $PORT" 2> dumpcap.notes &
 second=$!
