@@ -9,7 +9,7 @@ INTERRUPTED = 130
 
 
 def _interrupted(_: int, __: object) -> NoReturn:
-    """Ctrl-C before a command has begun."""
+    """Ctrl-C before a command has begun, or after it has ended."""
     try:
         os.write(2, b"interrupted\n")
     finally:
@@ -27,9 +27,14 @@ def _raising(_: int, __: object) -> NoReturn:
     raise KeyboardInterrupt
 
 
-# Before anything else is imported: what is imported may be interrupted too. It is ignored of what the shell runs in the background.
-if __name__ == "__main__" and signal.getsignal(signal.SIGINT) is signal.default_int_handler:
-    signal.signal(signal.SIGINT, _interrupted)
+def _begin() -> None:
+    """Ctrl-C is a line and a status from here on. It is ignored of what the shell runs in the background."""
+    if signal.getsignal(signal.SIGINT) is signal.default_int_handler:
+        signal.signal(signal.SIGINT, _interrupted)
+
+
+if __name__ == "__main__":
+    _begin()  # before anything else is imported: what is imported may be interrupted too
 
 import importlib  # noqa: E402
 from typing import NoReturn, Optional  # noqa: E402
@@ -54,10 +59,7 @@ def run(words: list[str]) -> int:
     if name == "help" and rest:
         name, rest = rest[0], ["--help"]
     if name in COMMANDS:
-        command = importlib.import_module(f"gavyreto.commands.{name}")
-        if signal.getsignal(signal.SIGINT) is _interrupted:
-            signal.signal(signal.SIGINT, _raising)
-        return int(command.run(rest))
+        return run_command(name, rest)
     if name in ("-h", "--help", "help"):
         common.put(USAGE)
         return 0
@@ -67,6 +69,18 @@ def run(words: list[str]) -> int:
     common.tell(f"gavyreto: {f'no command {name}' if name else 'a command is needed'}")
     common.say("\n" + USAGE)
     return common.REFUSED
+
+
+def run_command(name: str, words: list[str]) -> int:
+    """Runs a command. Ctrl-C raises KeyboardInterrupt as long as it runs."""
+    command = importlib.import_module(f"gavyreto.commands.{name}")
+    before = signal.getsignal(signal.SIGINT)
+    try:
+        if before is _interrupted:
+            signal.signal(signal.SIGINT, _raising)
+        return int(command.run(words))
+    finally:
+        signal.signal(signal.SIGINT, before)
 
 
 def ending(words: list[str]) -> tuple[str, int]:
@@ -90,6 +104,7 @@ def ended(words: list[str]) -> int:
 
 
 def main(words: Optional[list[str]] = None) -> NoReturn:
+    _begin()
     common.open_descriptors()
     status = ended(sys.argv[1:] if words is None else words)
     try:

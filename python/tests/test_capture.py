@@ -7,13 +7,17 @@ import io
 import os
 import random
 import re
+import signal
 import subprocess
 import sys
 import tempfile
 import unittest
+import weakref
 from typing import BinaryIO, Optional, cast
+from unittest import mock
 
 from gavyreto import tds
+from gavyreto.commands.capture import Terminated, ending_by_signal
 from tests.beside import PROGRAM, ROOT, Live, answered, need, skip, started, wire
 
 sys.path[:0] = [os.path.join(ROOT, "tools")]
@@ -290,6 +294,14 @@ class Captures(unittest.TestCase):
             run.terminate()
             self.assertEqual(cast(BinaryIO, run.stderr).read(), b"ended by SIGTERM\n")
         self.assertEqual((run.returncode, [it for it in os.listdir(os.path.join(self.folder, "out")) if not it.endswith(".csv")]), (143, []))
+
+    def test_sigterm_that_python_drops(self) -> None:
+        """An exception in the call of a weak reference ends nothing: it is raised in the end."""
+        with mock.patch.object(sys, "unraisablehook"), self.assertRaises(Terminated), ending_by_signal():
+            thing = captures.Capture()
+            held = weakref.ref(thing, lambda _: signal.raise_signal(signal.SIGTERM))
+            del thing
+            self.assertIsNone(held())
 
 
 class Written(Live):

@@ -77,28 +77,55 @@ class Endings(unittest.TestCase):
         self.assertEqual(judged(-9, self.REPORT).line, "tds_replay was ended by the signal 9")
 
 
+STEPS = """
+import runpy, signal, sys
+at, steps = int(sys.argv[1]), 0
+def step(*_):
+    global steps
+    if steps or signal.getsignal(signal.SIGINT) is not signal.default_int_handler:
+        steps += 1
+        if steps == at:
+            signal.raise_signal(signal.SIGINT)
+    return step
+sys.argv = ["gavyreto", "columns"]
+sys.settrace(step)
+try:
+    runpy.run_module("gavyreto", run_name="__main__", alter_sys=True)
+finally:
+    print(steps)
+"""
+
+
 class Interrupts(Live):
+    def stepped(self, at: int) -> subprocess.CompletedProcess[bytes]:
+        """What the command gives of no response that is interrupted at a line of Python, by its number since the package has begun.
+        Before, Python may drop the signal: in the call of a weak reference, or in what it imports for others when it begins."""
+        return subprocess.run([sys.executable, "-c", STEPS, str(at)], check=False, capture_output=True, **started(PYTHONHASHSEED="0"))
+
     def test_ctrl_c_at_any_time(self) -> None:
-        """From the first line of the package on it is a line and a status, or the signal itself; never a traceback of the package."""
-        numbers = random.Random(4)
-        for _ in range(40):
-            given = started()
-            del given["stdin"]
-            run = subprocess.Popen([sys.executable, "-m", "gavyreto", "columns"], stdin=subprocess.PIPE, stdout=subprocess.PIPE, stderr=subprocess.PIPE, **given)
+        """It is a line and a status, and never a traceback, but for one that Python drops."""
+        self.stepped(0)  # what is compiled then is kept, and costs no lines later
+        numbers, steps = random.Random(4), int(self.stepped(0).stdout)
+        for before in {int(steps ** numbers.random()) for _ in range(40)}:  # the end, and the command itself, as often as all imports
+            with self.subTest(before=before):
+                came = self.stepped(steps - before)
+                self.assertEqual((came.returncode, came.stderr.splitlines()[-1:]), (130, [b"interrupted"]), came.stderr)
+                self.assertTrue(b"Traceback" not in came.stderr or b"Exception ignored" in came.stderr, came.stderr)
+
+    def test_ctrl_c_while_a_response_is_waited_for(self) -> None:
+        """Whoever feeds the command may end with it."""
+        os.mkfifo(self.path("response"))
+        for _ in range(10):
+            run = subprocess.Popen([sys.executable, "-m", "gavyreto", "columns", self.path("response")], stderr=subprocess.PIPE, **started())
             with self.subTest(), run:
-                try:
-                    run.wait(numbers.uniform(0, 0.15))
-                except subprocess.TimeoutExpired:
+                with open(self.path("response"), "wb"):  # once the command opens it
                     run.send_signal(signal.SIGINT)
-                _, said = run.communicate()
-                self.assertNotIn(b"/gavyreto/commands/", said)
-                if b"Exception ignored in" not in said or b"/gavyreto/" in said:  # else Python dropped it before the package began
-                    self.assertIn(run.returncode, (130, 1, -signal.SIGINT), said)
+                self.assertEqual((run.communicate()[1], run.returncode), (b"interrupted\n", 130))
 
     def test_ctrl_c_that_python_drops(self) -> None:
         """An exception in the call of a weak reference ends nothing: the command goes on, and says in the end that it was interrupted."""
         program = (
-            "import runpy, signal, sys, weakref; from gavyreto.commands import columns\n"
+            "import signal, sys, weakref; from gavyreto.commands import columns\n"
             "class Thing: pass\n"
             "def run(words):\n"
             "    thing = Thing()\n"
@@ -107,11 +134,12 @@ class Interrupts(Live):
             "    return 0\n"
             "columns.run = run\n"
             "sys.argv = ['gavyreto', 'columns']\n"
-            "runpy.run_module('gavyreto', run_name='__main__', alter_sys=True)\n"
         )
-        given = started()
-        run = subprocess.run([sys.executable, "-c", program], stderr=subprocess.PIPE, **given)
-        self.assertEqual((run.returncode, run.stderr.splitlines()[-1]), (130, b"interrupted"))
+        installed = "from gavyreto.__main__ import main; main()"
+        for begun in ("import runpy; runpy.run_module('gavyreto', run_name='__main__', alter_sys=True)", installed):
+            with self.subTest(begun=begun):
+                run = subprocess.run([sys.executable, "-c", program + begun], stderr=subprocess.PIPE, check=False, **started())
+                self.assertEqual((run.returncode, run.stderr.splitlines()[-1]), (130, b"interrupted"))
 
 
 if __name__ == "__main__":

@@ -7,6 +7,7 @@ import os
 import pty
 import signal
 import socket
+import struct
 import subprocess
 import sys
 import threading
@@ -503,6 +504,23 @@ class Signals(Live):
             run = subprocess.Popen(command_for(port), stdout=subprocess.PIPE, stderr=subprocess.PIPE, **started())
             for event in (asked, cancelled):
                 self.send_once(event, run, signal.SIGINT)
+            out, err = run.communicate(timeout=SECONDS)
+        self.assertEqual((run.returncode, out, err), (130, b"", b"interrupted\n"))
+
+    def test_an_interrupt_decides_the_status(self) -> None:
+        """Also where the connection breaks before the server has stopped."""
+        asked = threading.Event()
+
+        def serve(channel: Channel) -> None:
+            log_in(channel)
+            channel.read_message()
+            asked.set()
+            self.assertEqual(channel.read_message(), (PacketType.ATTENTION, b""))
+            channel.socket.setsockopt(socket.SOL_SOCKET, socket.SO_LINGER, struct.pack("ii", 1, 0))  # so that it is reset
+
+        with listening(serve) as port:
+            run = subprocess.Popen(command_for(port), stdout=subprocess.PIPE, stderr=subprocess.PIPE, **started())
+            self.send_once(asked, run, signal.SIGINT)
             out, err = run.communicate(timeout=SECONDS)
         self.assertEqual((run.returncode, out, err), (130, b"", b"interrupted\n"))
 

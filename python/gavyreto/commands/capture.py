@@ -217,8 +217,12 @@ def arguments(words: list[str]) -> argparse.Namespace:
 
 @contextlib.contextmanager
 def ending_by_signal() -> Iterator[None]:
-    """SIGTERM ends what is under way as Ctrl-C does."""
+    """SIGTERM ends what is under way as Ctrl-C does. Where Python drops what that raises, it is raised at the end."""
+    came = False
+
     def end(_: int, __: Optional[FrameType]) -> NoReturn:
+        nonlocal came
+        came = True
         raise Terminated
 
     before = signal.signal(signal.SIGTERM, end)
@@ -226,6 +230,8 @@ def ending_by_signal() -> Iterator[None]:
         yield
     finally:
         signal.signal(signal.SIGTERM, before)
+        if came:
+            raise Terminated
 
 
 def run(words: list[str]) -> int:

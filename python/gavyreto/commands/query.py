@@ -163,12 +163,17 @@ class Interrupt:
     def __init__(self, session: Session) -> None:
         self.came = False
         self._session = session
-        if signal.getsignal(signal.SIGINT) != signal.SIG_IGN:  # as it is of what the shell runs in the background
+        before = signal.getsignal(signal.SIGINT)
+        if callable(before):  # it is ignored of what the shell runs in the background
+            self._before = before
             signal.signal(signal.SIGINT, self._handle)
 
-    def _handle(self, _: int, __: Optional[FrameType]) -> None:
-        if self.came or self._session.is_ready():
-            raise KeyboardInterrupt
+    def _handle(self, number: int, frame: Optional[FrameType]) -> None:
+        try:
+            self._before(number, frame)  # it keeps that Ctrl-C came, which decides the status in the end
+        except KeyboardInterrupt:
+            if self.came or self._session.is_ready():
+                raise
         self.came = True
         with contextlib.suppress(ConnectionFailed):  # who waits for the answer finds it too
             self._session.interrupt()
