@@ -3,6 +3,7 @@ from __future__ import annotations
 
 import contextlib
 import os
+import re
 import shutil
 import socket
 import ssl
@@ -10,6 +11,7 @@ import subprocess
 import sys
 import tempfile
 import threading
+import time
 import unittest
 from collections.abc import Callable, Iterator
 from typing import IO, Any, cast
@@ -17,7 +19,7 @@ from typing import IO, Any, cast
 ROOT = os.path.dirname(os.path.dirname(os.path.dirname(os.path.abspath(__file__))))
 PROGRAM = os.path.abspath(os.environ.get("PROGRAM", os.path.join(ROOT, "bin", "tds_replay")))
 STAND_IN, RESPONSE = (os.path.join(ROOT, "tools", name) for name in ("stand-in", "response"))
-SECONDS = 100
+SECONDS = 300  # within which all that is waited for comes, however busy the machine is
 sys.path[:0] = [os.path.join(ROOT, "tools")]
 from lib import packing, sample_responses  # noqa: E402
 
@@ -56,11 +58,40 @@ def skip(test: unittest.TestCase, reason: str) -> None:
     test.skipTest(reason)
 
 
+def wait_for(holds: Callable[[], bool]) -> None:
+    """Waits until something holds."""
+    until = time.monotonic() + SECONDS
+    while not holds():
+        if time.monotonic() > until:
+            raise AssertionError(f"what is waited for doesn't hold within {SECONDS} seconds")
+        time.sleep(0.01)
+
+
+def status_of(process: int) -> str:
+    """What the system says of a process: a line for each thing, with its name."""
+    with open(f"/proc/{process}/status", encoding="utf-8", errors="replace") as file:
+        return file.read()
+
+
+def is_waiting(process: int) -> bool:
+    """Whether a process that was started here sleeps, with no signal left that it has to take, or has ended."""
+    status = status_of(process)
+    return bool(re.search(r"^State:\t[SZ]", status, re.M)) and len(re.findall(r"^S(?:ig|hd)Pnd:\t0+$", status, re.M)) == 2
+
+
+def has_ended(process: int) -> bool:
+    """Whether a process has ended, also if nobody has asked for its status yet."""
+    try:
+        return "State:\tZ" in status_of(process)
+    except (FileNotFoundError, ProcessLookupError):
+        return True
+
+
 class StandIn:
     """A stand-in server that runs until it is closed."""
 
     def __init__(self, folder: str, options: tuple[str, ...], files: list[str]) -> None:
-        command = [sys.executable, STAND_IN, "--connections", "1000", "--seconds", "1000", *options, *files, "--", "sh", "-c", 'echo "$PORT"; echo "$CERTIFICATE"; cat']
+        command = [sys.executable, STAND_IN, "--connections", "1000", "--seconds", "10000", *options, *files, "--", "sh", "-c", 'echo "$PORT"; echo "$CERTIFICATE"; cat']
         self.process = subprocess.Popen(command, cwd=folder, stdin=subprocess.PIPE, stdout=subprocess.PIPE, text=True)
         port, certificate = (cast(IO[str], self.process.stdout).readline().strip() for _ in range(2))
         self.variables = {"PORT": port, "CERTIFICATE": certificate, "SERVER": str(self.process.pid)}
@@ -151,7 +182,7 @@ def listening(serve: Callable[[Channel], None]) -> Iterator[int]:
         connected, _ = server.accept()
         with connected:
             try:
-                serve(Channel(connected, 10))
+                serve(Channel(connected, SECONDS))
             except (ConnectionError, EOFError):
                 pass  # the client may go first
             except BaseException as error:
@@ -193,7 +224,7 @@ def log_in_encrypted(channel: Channel, context: ssl.SSLContext) -> None:
 
 def ask_port(port: int, *words: str, **options: Any) -> subprocess.CompletedProcess[bytes]:
     """What the command `query` gives that asks a port of this machine, without encryption."""
-    return subprocess.run(command_for(port, *words), capture_output=True, check=False, **started(), **options)
+    return subprocess.run(command_for(port, *words), capture_output=True, check=False, timeout=SECONDS, **started(), **options)
 
 
 def command_for(port: int, *words: str) -> list[str]:

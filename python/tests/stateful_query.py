@@ -89,16 +89,16 @@ class Conversation(RuleBasedStateMachine):
             self.client.close()
             return error
         finally:
-            thread.join(20)
+            thread.join(100)
             assert not thread.is_alive()
 
     @initialize(encrypt=st.sampled_from(["none", "login", "all"]), greeting=EXTRA, handshake=EXTRA, login=EXTRA, is_refused=SELDOM)
     def log_in(self, encrypt: str, greeting: bytes, handshake: bytes, login: bytes, is_refused: bool) -> None:
         """The login: what comes behind an answer isn't believed, and no later answer counts then."""
         ours, theirs = socket.socketpair()
-        self.client, self.server, self.encrypt = Channel(ours, 5), Attacked(theirs, 5), encrypt
+        self.client, self.server, self.encrypt = Channel(ours, 30), Attacked(theirs, 30), encrypt
         self.server.forged = handshake
-        there = Server("localhost", 1433, "localhost", encrypt, self.trusted, 5)
+        there = Server("localhost", 1433, "localhost", encrypt, self.trusted, 30)
         answer = tds.server_error(18456, "no", 1) + tds.done(tds.FAILED) if is_refused else tds.login_ack("T") + tds.done()
 
         def serve() -> None:

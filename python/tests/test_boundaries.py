@@ -31,7 +31,7 @@ class Forger(Channel):
     """A server's side of a connection, which appends bytes in the clear to its last packet of the handshake of TLS."""
 
     def __init__(self, channel: Channel, forged: bytes) -> None:
-        super().__init__(channel.socket, 10)
+        super().__init__(channel.socket, SECONDS)
         self._forged, self._flights = forged, 0
 
     def write_message(self, kind: int, payload: bytes, size: int = tds.FIRST_PACKET_SIZE) -> None:
@@ -56,7 +56,7 @@ class BeforeEncryption(Live):
                 pass
 
         with listening(serve) as port:
-            return ask_port(port, "--encrypt", "all", "--certificates", certificate, "--seconds", "3", "SELECT 1")
+            return ask_port(port, "--encrypt", "all", "--certificates", certificate, "--seconds", "60", "SELECT 1")
 
     def test_a_forged_login_and_forged_rows(self) -> None:
         came = self.asked(LOGGED_IN + ORDERED)
@@ -103,7 +103,7 @@ class BeforeStatements(Live):
                 pass
 
         with listening(serve) as port:
-            return ask_port(port, "--seconds", "5", *statements)
+            return ask_port(port, "--seconds", "60", *statements)
 
     def test_an_answer_before_its_statement(self) -> None:
         self.assert_ends(self.asked(ORDERED, [], "SELECT 1"), 4, b"", UNASKED)
@@ -247,10 +247,10 @@ class SlowReaders(Live):
                 pass
 
         with listening(serve) as port:
-            run = subprocess.Popen(command_for(port, "--seconds", "2", "SELECT 1"), bufsize=0, stdout=subprocess.PIPE, stderr=subprocess.PIPE, **started())
+            run = subprocess.Popen(command_for(port, "--seconds", "3", "SELECT 1"), bufsize=0, stdout=subprocess.PIPE, stderr=subprocess.PIPE, **started())
             assert run.stdout
             text = run.stdout.read(1)
-            threading.Event().wait(4.5)
+            threading.Event().wait(6.5)
             out, err = run.communicate(timeout=SECONDS)
             self.assertEqual((run.returncode, text + out == wanted), (0, True), err)
 

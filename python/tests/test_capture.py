@@ -18,7 +18,7 @@ from unittest import mock
 
 from gavyreto import tds
 from gavyreto.commands.capture import Terminated, ending_by_signal
-from tests.beside import PROGRAM, ROOT, Live, answered, need, skip, started, wire
+from tests.beside import PROGRAM, ROOT, Live, answered, is_waiting, need, skip, started, wait_for, wire
 
 sys.path[:0] = [os.path.join(ROOT, "tools")]
 from lib import capture_builder as captures  # noqa: E402
@@ -291,6 +291,7 @@ class Captures(unittest.TestCase):
             made.write(cast(BinaryIO, run.stdin))
             cast(BinaryIO, run.stdin).flush()
             cast(BinaryIO, run.stdout).readline()
+            wait_for(lambda: is_waiting(run.pid))
             run.terminate()
             self.assertEqual(cast(BinaryIO, run.stderr).read(), b"ended by SIGTERM\n")
         self.assertEqual((run.returncode, [it for it in os.listdir(os.path.join(self.folder, "out")) if not it.endswith(".csv")]), (143, []))

@@ -15,7 +15,7 @@ from typing import Any
 import gavyreto
 from gavyreto.columns import Column, create_table, postgresql_type, quoted, sqlite_type
 from gavyreto.values import Value
-from tests.beside import PROGRAM, ROOT, responses, skip, wire
+from tests.beside import PROGRAM, ROOT, SECONDS, responses, skip, wire
 
 sys.path[:0] = [os.path.join(ROOT, "tools")]
 from lib import requirements  # noqa: E402
@@ -106,7 +106,7 @@ class Server:
 
     def run(self, *command: str, text: str = "") -> None:
         rights: dict[str, Any] = {"user": self._user.pw_uid, "group": self._user.pw_gid, "extra_groups": []} if self._user else {}
-        variables = {"PATH": requirements.path(), "HOME": self.folder, "LC_ALL": "C.UTF-8"}
+        variables = {"PATH": requirements.path(), "HOME": self.folder, "LC_ALL": "C.UTF-8", "PGCTLTIMEOUT": str(SECONDS)}
         with open(os.path.join(self.folder, "said"), "wb") as said:
             done = subprocess.run(command, cwd=self.folder, env=variables, input=text.encode(), stdout=said, stderr=subprocess.STDOUT, check=False, **rights)
         if done.returncode != 0:

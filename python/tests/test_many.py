@@ -1,6 +1,7 @@
 """Tests of `many`: on this machine and on a Dask cluster, stopped and begun again, with workers and programs that are killed."""
 from __future__ import annotations
 
+import contextlib
 import csv
 import io
 import os
@@ -10,16 +11,17 @@ import sys
 import tempfile
 import time
 import unittest
-from collections.abc import Callable
+from collections.abc import Callable, Iterator
 
 from gavyreto import tds
-from tests.beside import PROGRAM, ROOT, SECONDS, answered, need, responses, skip, started, wire
+from tests.beside import PROGRAM, ROOT, SECONDS, answered, is_waiting, need, responses, skip, started, wait_for, wire
 
 sys.path[:0] = [os.path.join(ROOT, "tools")]
 from lib import requirements  # noqa: E402
 
 KINDS, ERROR, FLOAT = wire("kinds", 40), wire("error"), wire("float")
 COLUMNS = 10  # of the table
+ALL = 1000  # more responses than there are
 REFUSAL = "fault 10 RefusedColumn 1 FLTN at payload 15, written 0, unwritten 0"
 
 
@@ -51,6 +53,29 @@ class Many(unittest.TestCase):
         os.chmod(name, 0o755)
         return name
 
+    def holding(self, most: int, before: str = "") -> str:
+        """A program that waits once the table has so many responses, and says so in the file `held`."""
+        self.let(most)
+        table, limit = self.path("out", "outcomes.csv"), self.path("most")
+        has_most = f'test "$1" != --version && test -e {limit} && test "$(wc -l < {table})" -gt "$(cat {limit})"'  # a line more: the names
+        return self.script(f'{before}while {has_most}; do : >> {self.path("held")}; sleep 0.02; done 2> /dev/null\nexec "$PROGRAM" "$@"')
+
+    def let(self, most: int) -> None:
+        """Lets programs that wait go on as long as the table has fewer responses."""
+        with open(self.path("new"), "w", encoding="ascii") as file:
+            file.write(str(most))
+        os.replace(file.name, self.path("most"))
+
+    @contextlib.contextmanager
+    def beginning(self, *words: str, python: str = sys.executable) -> Iterator[subprocess.Popen[bytes]]:
+        """A command under way. It is killed if something fails beside it."""
+        with self.begin(*words, python=python) as process:
+            try:
+                yield process
+            except BaseException:
+                process.kill()
+                raise
+
     def begin(self, *words: str, python: str = sys.executable) -> subprocess.Popen[bytes]:
         own = started()
         own["env"] |= {"PATH": os.path.dirname(PROGRAM) + os.pathsep + requirements.path()}
@@ -59,23 +84,19 @@ class Many(unittest.TestCase):
 
     def many(self, *words: str, python: str = sys.executable) -> tuple[int, str]:
         """The status of the command, and the last line that it says."""
-        with self.begin(*words, python=python) as process:
+        with self.beginning(*words, python=python) as process:
             out, said = process.communicate(timeout=SECONDS)
             self.assertEqual(out, b"")
             return process.returncode, (said.decode().splitlines() or [""])[-1]
 
-    def interrupted(self, until: int, *words: str) -> tuple[int, str]:
-        """The same of a command that is interrupted once it has so many lines in its table."""
-        with self.begin(*words) as process:
-            self.wait_for(lambda: len(self.table()) >= until)
+    def interrupted(self, *words: str) -> tuple[int, str]:
+        """The same of a command that is interrupted while its program waits, and its table has all that ended before."""
+        with self.beginning(*words) as process:
+            wait_for(lambda: os.path.exists(self.path("held")) and len(self.table()) == len(self.runs()) - 1)
             process.send_signal(signal.SIGINT)
+            wait_for(lambda: is_waiting(process.pid))
+            self.let(ALL)
             return process.wait(SECONDS), process.communicate()[1].decode().splitlines()[-1]
-
-    def wait_for(self, holds: Callable[[], bool]) -> None:
-        until = time.monotonic() + SECONDS
-        while not holds():
-            self.assertLess(time.monotonic(), until)
-            time.sleep(0.01)
 
     def table(self) -> list[tuple[str, int, str]]:
         """The lines of the table, by the names of their files."""
@@ -111,8 +132,8 @@ class Here(Many):
 
     def test_a_command_that_was_stopped_goes_on(self) -> None:
         names = self.store(8)
-        slow = self.script('for file; do :; done; echo "$file" >> runs; sleep 0.1; exec "$PROGRAM" "$@"')
-        status, line = self.interrupted(3, "-j", "1", "--program", slow, "in", "out")
+        slow = self.holding(3, 'for file; do :; done; echo "$file" >> runs; ')
+        status, line = self.interrupted("-j", "1", "--program", slow, "in", "out")
         self.assertEqual((status, line), (130, "interrupted: begun again it goes on from here"))
         with open(self.path("out", "outcomes.csv"), "ab") as file:
             file.write(b'"/torn')  # a line whose writing was stopped
@@ -275,10 +296,10 @@ class Here(Many):
 
     def test_two_commands_do_not_share_a_folder(self) -> None:
         self.store(2)
-        slow = self.script('sleep 0.5; exec "$PROGRAM" "$@"')
-        with self.begin("-j", "1", "--program", slow, "in", "out") as first:
-            self.wait_for(lambda: os.path.exists(self.path("out", "outcomes.csv")))
+        with self.beginning("-j", "1", "--program", self.holding(0), "in", "out") as first:
+            wait_for(lambda: os.path.exists(self.path("held")))
             self.assertEqual(self.many("--program", PROGRAM, "in", "out"), (2, f"{self.path('out')}: another command writes its texts there"))
+            self.let(ALL)
             self.assertEqual(first.wait(SECONDS), 0)
             first.communicate()
 
@@ -306,7 +327,7 @@ class NoCluster(Many):
         self.store(1)
         with open(self.path("text"), "w", encoding="ascii") as file:
             file.write("no scheduler")
-        script = "import sys; from gavyreto.commands import common, many; from gavyreto import __main__; many.SECONDS_OF_SCHEDULER = 2; sys.exit(__main__.ended(sys.argv[1:]))"
+        script = "import sys; from gavyreto.commands import common, many; from gavyreto import __main__; many.SECONDS_OF_SCHEDULER = 1; sys.exit(__main__.ended(sys.argv[1:]))"
         for where, status, line in (
             ("nothere", 2, "nothere is neither an address with a port nor the file of a scheduler\n"), ("127.0.0.1", 2, "127.0.0.1 is neither an address"),
             ("text", 5, "the scheduler text can't be reached: "), ("tcp://127.0.0.1:9", 5, "the scheduler tcp://127.0.0.1:9 can't be reached: "),
@@ -341,10 +362,12 @@ class OnCluster(Many):
     def test_a_scheduler_that_dies(self) -> None:
         """What it had is told as failed, in the table and by the status, and nothing is said besides."""
         self.store(60)
-        words = ["--scheduler", "scheduler.json", "--program", self.script('sleep 0.1; exec "$PROGRAM" "$@"'), "in", "out"]
-        with self.begin(*words, python=requirements.DEBIAN_PYTHON) as process:
-            self.wait_for(lambda: len(self.table()) >= 5)
+        words = ["--scheduler", "scheduler.json", "--program", self.holding(5), "in", "out"]
+        with self.beginning(*words, python=requirements.DEBIAN_PYTHON) as process:
+            wait_for(lambda: len(self.table()) >= 5)
             self.scheduler.kill()
+            self.scheduler.wait(SECONDS)
+            self.let(ALL)
             said = process.communicate(timeout=SECONDS)[1].decode().splitlines()
         self.assertEqual((process.returncode, len(said)), (5, 1), said)
         statuses = [status for _, status, _ in self.table()]
@@ -353,14 +376,16 @@ class OnCluster(Many):
 
     def test_a_worker_that_is_killed_costs_nothing(self) -> None:
         names = self.store(100, failed=ERROR, refused=FLOAT)
-        words = ["--scheduler", "scheduler.json", "--program", self.script('sleep 0.02; exec "$PROGRAM" "$@"'), "in", "out"]
-        with self.begin(*words, python=requirements.DEBIAN_PYTHON) as process:
-            self.wait_for(lambda: len(self.table()) >= 20)
+        words = ["--scheduler", "scheduler.json", "--program", self.holding(20), "in", "out"]
+        with self.beginning(*words, python=requirements.DEBIAN_PYTHON) as process:
+            wait_for(lambda: len(self.table()) >= 20)
             self.workers[0].kill()
-            self.wait_for(lambda: len(self.table()) >= 40)
+            self.let(40)
+            wait_for(lambda: len(self.table()) >= 40)
             process.send_signal(signal.SIGINT)
             said = process.communicate(timeout=SECONDS)[1].decode().splitlines()
             self.assertEqual((process.returncode, said[-1:]), (130, ["interrupted: begun again it goes on from here"]))
+        self.let(ALL)
         self.assertEqual(self.many(*words, python=requirements.DEBIAN_PYTHON), (4, "102 responses: 100 done, 1 with an error of the server, 1 refused, 0 failed"))
         self.assert_texts(names[:100], "failed.csv", "refused.csv.partial")
         self.assertEqual([name for name, _, _ in self.table()], names)

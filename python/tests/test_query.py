@@ -3,8 +3,10 @@ from __future__ import annotations
 
 import contextlib
 import hashlib
+import itertools
 import os
 import pty
+import select
 import signal
 import socket
 import struct
@@ -13,17 +15,20 @@ import sys
 import threading
 import time
 import unittest
-from collections.abc import Callable
+from collections.abc import Callable, Iterable
+from concurrent.futures import ThreadPoolExecutor
 
 import gavyreto
 from gavyreto import tds
 from gavyreto.connection import Channel
 from gavyreto.tds import PacketType
 from tests.beside import (
-    ORDERS, PROGRAM, SECONDS, Live, StandIn, ask_port, command_for, context_of, listening, log_in, log_in_encrypted, need, responses, started,
+    ORDERS, PROGRAM, SECONDS, Live, StandIn, ask_port, command_for, context_of, has_ended, is_waiting, listening, log_in, log_in_encrypted, need,
+    responses, started, wait_for,
 )
 
 LONG = 200_000_000
+HELD = tds.packet(PacketType.ANSWER, b"".join(responses.order_rows(0)), False)  # rows whose end doesn't come
 MODES = [("none", "none"), ("login", "none"), ("all", "none"), ("login", "login"), ("all", "login"), ("login", "all"), ("all", "all")]
 REPORT = f"sets 1 rows 3 errors 0 infos 0 written {len(ORDERS)}"
 SETS = b'"id","note"\r\n1,"first\r\n\r\nthird line"\r\n2,NULL\r\n\r\n"total"\r\n12.50\r\n\r\n"id"\r\n'
@@ -292,23 +297,28 @@ class Silence(Live):
     def test_a_server_that_falls_silent_between_statements(self) -> None:
         """It answers the first statement, and reads the second."""
         context = context_of(self.server(()).variables["CERTIFICATE"])
-        line = "the server was silent for longer than 3 seconds: fault 2 InputEnded at wire 0, written 0, unwritten 0"
-        for encrypt in ("none", "all"):
-            def serve(channel: Channel, encrypt: str = encrypt) -> None:
-                if encrypt == "none":
-                    log_in(channel)
-                else:
-                    log_in_encrypted(channel, context)
-                channel.read_message()
-                channel.write_message(PacketType.ANSWER, b"".join(responses.order_rows(0)) + tds.done())
-                channel.read_message()
-                channel.wait()
-                while channel.receive():
-                    pass
+        line = "the server was silent for longer than 5 seconds: fault 2 InputEnded at wire 0, written 0, unwritten 0"
 
-            with self.subTest(encrypt=encrypt), listening(serve) as port:
-                words = ["--seconds", "3", "--encrypt", encrypt, "-C", "SELECT 1", "SELECT 2"]
-                self.assert_ends(ask_port(port, *words), 5, ORDERS, REPORT, line)
+        def serve(channel: Channel, encrypt: str) -> None:
+            if encrypt == "none":
+                log_in(channel)
+            else:
+                log_in_encrypted(channel, context)
+            channel.read_message()
+            channel.write_message(PacketType.ANSWER, b"".join(responses.order_rows(0)) + tds.done())
+            channel.read_message()
+            channel.wait()
+            while channel.receive():
+                pass
+
+        def asked(encrypt: str) -> subprocess.CompletedProcess[bytes]:
+            with listening(lambda channel: serve(channel, encrypt)) as port:
+                return ask_port(port, "--seconds", "5", "--encrypt", encrypt, "-C", "SELECT 1", "SELECT 2")
+
+        with ThreadPoolExecutor() as pool:
+            for encrypt, came in zip(("none", "all"), pool.map(asked, ("none", "all"))):
+                with self.subTest(encrypt=encrypt):
+                    self.assert_ends(came, 5, ORDERS, REPORT, line)
 
     def test_no_server_and_servers_that_are_none(self) -> None:
         with socket.create_server(("127.0.0.1", 0)) as server:
@@ -318,27 +328,33 @@ class Silence(Live):
         self.assert_ends(ask_port(port), 5, b"", f"127.0.0.1, port {port}: Connection refused")
 
     def test_packets_without_end(self) -> None:
-        """Empty packets, and a byte now and then, aren't an answer."""
+        """Empty packets, and a byte now and then, aren't an answer. Who isn't tired of them within 20 seconds of the server finds
+        that it closes the connection."""
         def empty(channel: Channel) -> None:
             log_in(channel)
             channel.read_message()
-            while True:
-                channel.write(tds.packet(PacketType.ANSWER, b"", False))
-                time.sleep(0.01)
+            self.send_slowly(channel, itertools.repeat(tds.packet(PacketType.ANSWER, b"", False), 2000), 0.01)
 
         def dripping(channel: Channel) -> None:
             channel.read_message()
-            for byte in tds.packet(PacketType.ANSWER, bytes(60)):
-                channel.write(bytes([byte]))
-                time.sleep(0.5)
+            self.send_slowly(channel, (bytes([byte]) for byte in tds.packet(PacketType.ANSWER, bytes(60))[:40]), 0.5)
 
-        for serve in (empty, dripping):
-            with self.subTest(serve=serve.__name__), listening(serve) as port:
-                began = time.monotonic()
-                came = ask_port(port, "--seconds", "1", "SELECT 1")
-                self.assertLess(time.monotonic() - began, 20)
-                self.assertEqual((came.returncode, came.stdout, came.stderr.count(b"\n")), (5, b"", 1))
-                self.assertTrue(came.stderr.startswith(b"the server was silent for longer than 1 seconds"))
+        def asked(serve: Callable[[Channel], None]) -> subprocess.CompletedProcess[bytes]:
+            with listening(serve) as port:
+                return ask_port(port, "--seconds", "1", "SELECT 1")
+
+        with ThreadPoolExecutor() as pool:
+            for serve, came in zip((empty, dripping), pool.map(asked, (empty, dripping))):
+                with self.subTest(serve=serve.__name__):
+                    self.assertEqual((came.returncode, came.stdout, came.stderr.count(b"\n")), (5, b"", 1))
+                    self.assertTrue(came.stderr.startswith(b"the server was silent for longer than 1 seconds"), came.stderr)
+
+    def send_slowly(self, channel: Channel, pieces: Iterable[bytes], pause: float) -> None:
+        """Sends pieces with a pause after each, until the client goes."""
+        for piece in pieces:
+            channel.write(piece)
+            if select.select([channel.socket], [], [], pause)[0]:
+                return
 
     def test_answers_that_are_none(self) -> None:
         """A greeting and a login answered with bytes of any kind end with one line."""
@@ -367,7 +383,7 @@ class Silence(Live):
                     pass
 
             with self.subTest(answers=answers[-1][:40]), listening(serve) as port:
-                came = ask_port(port, "--seconds", "10", "SELECT 1")
+                came = ask_port(port, "--seconds", "60", "SELECT 1")
                 self.assertEqual((came.returncode, came.stderr.decode()), (5 if "closed" in line else 4, line + "\n"))
 
 
@@ -430,6 +446,18 @@ def relay(port: int, change: str) -> None:
 
 
 class Signals(Live):
+    def setUp(self) -> None:
+        """A program that keeps in a file what it gets."""
+        super().setUp()
+        self.script("keeping", 'test "$1" = --version && exec "$KEPT" "$@"\necho $$ > kept.pid\ntee kept | "$KEPT" "$@"\n')
+
+    def begin(self, port: int) -> subprocess.Popen[bytes]:
+        """The command with that program, once the program has got the rows of a server that holds their end."""
+        command = [*command_for(port)[:-1], "--program", "./keeping", "SELECT 1"]
+        run = subprocess.Popen(command, cwd=self.folder, stdout=subprocess.PIPE, stderr=subprocess.PIPE, **started(KEPT=PROGRAM))
+        wait_for(lambda: run.poll() is not None or os.path.exists(self.path("kept")) and self.text("kept") == HELD)
+        return run
+
     def test_an_interrupt_asks_the_server_to_stop(self) -> None:
         """What came is written, the attention is sent, its DONE is waited for, and the status is 130."""
         for encrypt in ("none", "login", "all"):
@@ -440,19 +468,18 @@ class Signals(Live):
                 self.assertEqual(sent[-1], PacketType.ATTENTION)
 
     def interrupted(self, encrypt: str) -> tuple[subprocess.CompletedProcess[bytes], list[int]]:
-        """What the command gives that is interrupted once the server has its statement, and the types of the packets that it sent."""
+        """What the command gives that is interrupted once its program has the rows, and the types of the packets that it sent."""
         script = (
             "import os, signal, subprocess, sys, time\n"
             "run = subprocess.Popen(sys.argv[1:])\n"
-            "statement = 'FROM held'.encode('utf-16-le')\n"
-            "while not os.path.exists('sent') or statement not in open('sent', 'rb').read():\n    time.sleep(0.05)\n"
-            "time.sleep(0.5)\n"
+            "rows = open('held.tds', 'rb').read()\n"
+            "while run.poll() is None and not (os.path.exists('kept') and open('kept', 'rb').read() == rows):\n    time.sleep(0.01)\n"
             "run.send_signal(signal.SIGINT)\n"
             "sys.exit(run.wait())\n")
         command = (
-            f'rm -f sent; exec {sys.executable} -c "$SCRIPT" $QUERY -S localhost,$PORT -U reader --program "$PROGRAM" '
-            f'--certificates "$CERTIFICATE" --encrypt {encrypt} --seconds 20 "SELECT * FROM held"')
-        came = self.beside(("--record", "sent"), command, SCRIPT=script)
+            f'rm -f sent kept; exec {sys.executable} -c "$SCRIPT" $QUERY -S localhost,$PORT -U reader --program ./keeping '
+            f'--certificates "$CERTIFICATE" --encrypt {encrypt} --seconds 60 "SELECT * FROM held"')
+        came = self.beside(("--record", "sent"), command, SCRIPT=script, KEPT=PROGRAM)
         wire, types, at = self.text("sent"), list[int](), 0
         while at < len(wire):
             types.append(wire[at])
@@ -461,32 +488,30 @@ class Signals(Live):
 
     def test_the_answer_to_an_attention_is_waited_for(self) -> None:
         ended: list[float] = []
-        asked = threading.Event()
 
         def serve(channel: Channel) -> None:
             log_in(channel)
             channel.read_message()
-            channel.write(tds.packet(PacketType.ANSWER, b"".join(responses.order_rows(0)), False))
-            asked.set()
+            channel.write(HELD)
             self.assertEqual(channel.read_message(), (PacketType.ATTENTION, b""))
             channel.write(tds.packet(PacketType.ANSWER, tds.done(tds.FAILED)))
-            time.sleep(0.5)
-            channel.write(tds.packet(PacketType.ANSWER, tds.done(tds.CANCELLED)))
+            time.sleep(0.5)  # in which who doesn't wait would end
             ended.append(time.monotonic())
+            channel.write(tds.packet(PacketType.ANSWER, tds.done(tds.CANCELLED)))
 
         with listening(serve) as port:
-            run = subprocess.Popen(command_for(port), stdout=subprocess.PIPE, stderr=subprocess.PIPE, **started())
-            self.send_once(asked, run, signal.SIGINT)
+            run = self.begin(port)
+            run.send_signal(signal.SIGINT)
             out, err = run.communicate(timeout=SECONDS)
             self.assertGreater(time.monotonic(), ended[0])
         self.assertEqual((run.returncode, out, err.count(b"\n")), (130, ORDERS, 1), err)
         self.assertTrue(err.startswith(b"interrupted"))
 
-    def send_once(self, event: threading.Event, run: subprocess.Popen[bytes], number: int) -> None:
-        """Sends a signal a moment after an event."""
+    def interrupt_once(self, event: threading.Event, run: subprocess.Popen[bytes]) -> None:
+        """Interrupts a command once it waits for the server after an event."""
         self.assertTrue(event.wait(SECONDS))
-        time.sleep(0.3)
-        run.send_signal(number)
+        wait_for(lambda: is_waiting(run.pid))
+        run.send_signal(signal.SIGINT)
 
     def test_a_second_interrupt_ends_at_once(self) -> None:
         asked, cancelled = threading.Event(), threading.Event()
@@ -503,7 +528,7 @@ class Signals(Live):
         with listening(serve) as port:
             run = subprocess.Popen(command_for(port), stdout=subprocess.PIPE, stderr=subprocess.PIPE, **started())
             for event in (asked, cancelled):
-                self.send_once(event, run, signal.SIGINT)
+                self.interrupt_once(event, run)
             out, err = run.communicate(timeout=SECONDS)
         self.assertEqual((run.returncode, out, err), (130, b"", b"interrupted\n"))
 
@@ -520,35 +545,28 @@ class Signals(Live):
 
         with listening(serve) as port:
             run = subprocess.Popen(command_for(port), stdout=subprocess.PIPE, stderr=subprocess.PIPE, **started())
-            self.send_once(asked, run, signal.SIGINT)
+            self.interrupt_once(asked, run)
             out, err = run.communicate(timeout=SECONDS)
         self.assertEqual((run.returncode, out, err), (130, b"", b"interrupted\n"))
 
     def test_a_program_does_not_outlive_the_command(self) -> None:
         """After SIGTERM and SIGKILL the program ends by itself: its input is over."""
-        self.script("noted", 'echo $$ > noted.pid\nexec "$NOTED" "$@"\n')
+        def serve(channel: Channel) -> None:
+            log_in(channel)
+            channel.read_message()
+            channel.write(HELD)
+            channel.wait()
+            channel.receive()
+
         for number in (signal.SIGTERM, signal.SIGKILL):
-            asked = threading.Event()
-
-            def serve(channel: Channel, asked: threading.Event = asked) -> None:
-                log_in(channel)
-                channel.read_message()
-                channel.write(tds.packet(PacketType.ANSWER, b"".join(responses.order_rows(0)), False))
-                asked.set()
-                channel.wait()
-                channel.receive()
-
             with self.subTest(number=number), listening(serve) as port:
-                command = [*command_for(port)[:-1], "--program", "./noted", "SELECT 1"]
-                run = subprocess.Popen(command, cwd=self.folder, stdout=subprocess.PIPE, stderr=subprocess.PIPE, **started(NOTED=PROGRAM))
-                self.send_once(asked, run, number)
+                run = self.begin(port)
+                run.send_signal(number)
                 out, _ = run.communicate(timeout=SECONDS)
                 self.assertEqual((run.returncode, out), (-number, ORDERS))
-                process = int(self.text("noted.pid"))
-                until = time.monotonic() + 5
-                while os.path.exists(f"/proc/{process}") and time.monotonic() < until:
-                    time.sleep(0.05)
-                self.assertFalse(os.path.exists(f"/proc/{process}"))
+                process = int(self.text("kept.pid"))
+                wait_for(lambda: has_ended(process))
+            os.remove(self.path("kept"))
 
 
 class FromPython(Live):
@@ -604,12 +622,12 @@ class FromPython(Live):
         def serve(channel: Channel) -> None:
             log_in(channel)
             channel.read_message()
-            channel.write(tds.packet(PacketType.ANSWER, b"".join(responses.order_rows(0)), False))
+            channel.write(HELD)
             channel.wait()
             channel.receive()
 
         with listening(serve) as port, gavyreto.query(
-                "x", "127.0.0.1", user="u", password="p", port=port, encrypt="none", seconds=1, program=PROGRAM) as answer:
+                "x", "127.0.0.1", user="u", password="p", port=port, encrypt="none", seconds=3, program=PROGRAM) as answer:
             rows = answer.only()
             self.assertEqual([next(rows)[0] for _ in range(3)], [1, 2, 3])
             with self.assertRaisesRegex(gavyreto.ConnectionFailed, "silent"):

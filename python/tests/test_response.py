@@ -10,7 +10,6 @@ import socket
 import subprocess
 import tempfile
 import threading
-import time
 import unittest
 from collections.abc import Iterator
 from datetime import datetime
@@ -20,7 +19,7 @@ from typing import Any
 import gavyreto
 from gavyreto import tds
 from gavyreto.program import report_of
-from tests.beside import PROGRAM, answered, responses, wire
+from tests.beside import PROGRAM, answered, is_waiting, responses, wait_for, wire
 
 
 def export(source: Any, **options: Any) -> gavyreto.Response:
@@ -343,7 +342,7 @@ class Stops(unittest.TestCase):
         self.assertEqual(stop.exception.status, -9)
 
     def kill_later(self, came: gavyreto.Response) -> None:
-        time.sleep(0.1)
+        wait_for(lambda: is_waiting(came._program.pid))
         came._program.kill()
 
 

@@ -296,7 +296,7 @@ class Cluster:
             failure = future.exception()
             outcome: Outcome = future.result() if failure is None else Outcome(file, FAILED, f"its worker failed: {failure}")
             return outcome
-        except concurrent.futures.CancelledError:
+        except (OSError, concurrent.futures.CancelledError):  # of its connection: what a worker raised is returned
             return Outcome(file, FAILED, f"the scheduler {self._where} was lost")
 
 
