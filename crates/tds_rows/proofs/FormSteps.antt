@@ -212,10 +212,10 @@ ended_beyond at end made old new e begun within fits is = (later, (before, after
         ∙ ap (λ l. l ++ e) (ap (λ (n : ℕ). drop at (take n old)) (sym split) ∙ N.drop-take at (made - at) old)
 
 -- a comma, a field and the end of a line that stand from `at` on
-pub line_beyond : (at k m end : ℕ) (old comma rest text new e : List ℕ) → at ≤ length old → k ≤ length comma → (at + k) + m ≤ length text
-    → end ≤ length new → take (at + k) text ≡ take (at + k) (take at old ++ (comma ++ rest)) → take end new ≡ take ((at + k) + m) text ++ e
+pub line_beyond : (at k m end : ℕ) (old comma rest text new e : List ℕ) → (at ≤ length old) × (k ≤ length comma) × ((at + k) + m ≤ length text)
+    × (end ≤ length new) → take (at + k) text ≡ take (at + k) (take at old ++ (comma ++ rest)) → take end new ≡ take ((at + k) + m) text ++ e
     → (at ≤ end) × ((take at new ≡ take at old) × (take (end - at) (drop at new) ≡ (take k comma ++ take m (drop (at + k) text)) ++ e))
-line_beyond at k m end old comma rest text new e within few fits ends kept is =
+line_beyond at k m end old comma rest text new e (within, few, fits, ends) kept is =
     let x = ended_beyond at end ((at + k) + m) text new e (omega arith) fits ends is in
     (x.0, (x.1.0 ∙ front, x.1.1 ∙ ap (λ l. l ++ e) both))
   where
@@ -332,7 +332,7 @@ fields_run {charset = charset} {forms = forms} {column = column} {ends = ends} {
     }
 
 -- a cell of at most five bytes leaves five for each of the others
-pub bytes_step : (n k used u size : ℕ) → k < n → u ≤ 5 → used + 5 * (n - k) ≤ size → used + u + 5 * (n - (k + 1)) ≤ size
+pub bytes_step : (n k used u size : ℕ) → k < n → u ≤ 5 → used + 5 * (n - k) < size → used + u + 5 * (n - (k + 1)) < size
 bytes_step n k _ u _ some few within = omega arith
 
 -- its field, of at most 11, and the comma after it leave room for those of the others

@@ -16,10 +16,6 @@ int4_set _ k f true true before _ is _ = search N.rules
 int4_set _ k f true N.false _ _ _ both = cc
 int4_set _ k f N.false _ _ _ _ both = cc
 
--- a part of whole numbers of four bytes
-pub int4_part : (forms : List Form) (k n : ℕ) → N.AreInt4 forms → n ≤ length (N.drop k forms) → N.AreInt4 (N.take n (N.drop k forms))
-int4_part _ k n all _ j d here = grind (arith, N.common_steps)
-
 -- ---- a value that is there
 
 pub fixed_there : {l : Layout} (bytes : List ℕ) {start : ℕ × ℕ} {n : ℕ} → l ≡ Fixed n → start ≡ (0, n) → N.HasValueAt l bytes start.0 start.1
@@ -36,19 +32,11 @@ module _ (charset : N.Charset) (kind : Kind) where
       × ((start ≡ N.value_start kind) × (n ≡ N.value_length kind bytes))
   value_there l _ _ n laid h = grind arith
 
-  -- a kind whose values have contents is a long one
-  is_long_kind : {c : N.Conversion} {r : N.Reach} → N.shape charset kind ≡ N.LongShape c r → N.is_scalar kind ≡ N.false
-  is_long_kind is = grind arith
-
   -- ---- a cell that is left, and a short value
 
   -- how many bytes its cell has
   pub short_whole : (content : N.Content) (bytes : List ℕ) → N.IsLaidOut charset kind (ShortLayout content) → N.short_size bytes ≡ N.whole_size kind bytes
   short_whole _ _ laid = grind arith
-
--- a scalar cell has some bytes
-scalar_some : (kind : Kind) (bytes : List ℕ) → 0 < N.scalar_size kind bytes
-scalar_some _ _ = grind arith
 
 -- where there are no bytes, a cell is left
 pub empty_left : (charset : N.Charset) (kind : Kind) (l : Layout) (bytes : List ℕ) (room : ℕ) → N.IsLaidOut charset kind l

@@ -204,9 +204,6 @@ module _ {column : ℕ} {c : Conversion} {state : ℕ → List ℕ → CellPart}
     abbrev last_left : ℕ
     last_left = x.last - 1
 
-    last_split : x.last ≡ suc last_left
-    last_split = omega arith
-
     front_path : Path (cell column) (cell_so_far column last) (state m d) p (record { seen = x.middle; place = x.there; held = x.between })
         (state (suc last_left) (d ++ x.front))
     front_path = grind (arith, fills_path)
@@ -258,9 +255,6 @@ module _ {column : ℕ} {c : Conversion} {state : ℕ → List ℕ → CellPart}
         x.takes.between (rw (s.2, adds) at x.takes.puts)))
 
 -- ---- the content of a short value, and of a chunk
-
-short_next : {c : Conversion} {r : ℕ} {d : List ℕ} → short_left c (suc r) d ≡ N.ShortData c r d
-short_next = grind arith
 
 module _ (column : ℕ) (c : Conversion) where
   fit_or_none : (d : List ℕ) (x : ℕ) {b : Bool} → is_fit c (d ++ x ∷ []) ≡ b → (is_fit c (d ++ x ∷ []) ≡ true)

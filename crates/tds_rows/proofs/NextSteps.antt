@@ -1,16 +1,6 @@
 -- The next cells of a row, those of a run or one, NULL or not, and rows one after another.
 use Rattle.tds_rows.proofs.Words as N
-use Rattle.tds_rows.proofs.{
-  Words.{arith, sym, ◌≡◌, ◌+◌, ℕ, Bool, true, false, List, ◌∷◌, drop, refl, Err, Ok, Option, ◌==◌, Stop, seen, Column, held, Rows, Ahead, IsInRow, StaysInRow},
-  Words.{RowStops, RowPart, marked, ◌∙◌, ◌-◌, ◌^◌, ◌≤◌, ◌<◌, [], ◌++◌, length, ap, before, Seen, Takes, Held, Puts, Charset, Cell, rows, Kind, Knows},
-  NullSteps.{NearsCells, all_put, bitmap_nears, cell_nears, cell_stops, null_breaks, null_nears, cell_path, marked_stops, row_ends},
-  RowSteps.{ends, ends_marked, coming, nulls_ahead, PutsAt, StopsAt, none_ahead, cell_some},
-  Paths.{At, here, Path, path_both, path_map, path_none, path_of, path_stops, streams_of, writes_none, over},
-  TableSteps.{last_one, next_column},
-  RunSteps.{rows_after, whole_breaks, whole_puts, row_among, row_token},
-  TableRuns.run_breaks,
-}
-use Rattle.tds_rows.specs.{RowReading.{RowRead}, RowSteps.{RowPut}}
+use Rattle.tds_rows.proofs.{Words.{arith, sym, ◌≡◌, ◌+◌, ℕ, Bool, true, false, List, ◌∷◌, drop, refl, Err, Ok, Option, ◌==◌, Stop, seen, Column, held, Rows, Ahead, IsInRow, StaysInRow}, Words.{RowStops, RowPart, marked, ◌∙◌, ◌-◌, ◌^◌, ◌≤◌, ◌<◌, [], ◌++◌, length, ap, before, Seen, Takes, Held, Puts, Charset, Cell, rows, Kind, Knows}, NullSteps.{NearsCells, all_put, bitmap_nears, cell_nears, cell_stops, null_breaks, null_nears, cell_path, marked_stops, row_ends}, RowSteps.{ends, ends_marked, coming, nulls_ahead, PutsAt, StopsAt, none_ahead, cell_some}, Paths.{At, here, Path, path_both, path_map, path_none, path_of, writes_none, over}, TableSteps.{last_one, next_column}, RunSteps.{rows_after, whole_breaks, whole_puts, row_among, row_token, made_more, unused, used_more}, TableRuns.run_breaks}
 
 -- text that doesn't fill the block waits
 pub all_waits : (h j : Held) (text : List ℕ) → Puts h j text → length h.waiting + length text < 4096
@@ -152,10 +142,6 @@ pub leaves_after : {R W U V : Type 0} {a b c : Rows R W} {stop : Stop} → Stays
     → N.LeavesRows {U = V} a c (Err stop)
 leaves_after x y = grind arith
 
--- where one that may stop leaves it
-pub leaves_on : {R W U : Type 0} {a b c : Rows R W} {result : N.Result U Stop} → StaysInRow a b → N.LeavesRows b c result → N.LeavesRows a c result
-leaves_on x y = grind arith
-
 -- ---- the next cell
 
 -- The cells of an NBCROW before a place were read and their text put, but for that of the NULLs by their bit from there on.
@@ -262,6 +248,11 @@ pub record RowsAt (token : N.RowToken) (charset : Charset) (all : List Column) (
   pub counted : length before ≡ count
   pub path : Path (rows token charset all) N.rows_so_far (N.rows_start token charset all) p q (record { before = before; at = part })
 
+-- nothing is put where the sink stays as it was
+pub none_put : {W : Type 0} (contents : W → Option (List ℕ)) {old new : N.Sink W} → new ≡ old → (held contents old).delivered ≤ 2 ^ 64 - 1
+    → Puts (held contents old) (held contents new) []
+none_put _ same d = rw same (N.Puts-none _ d)
+
 module _ {token : N.RowToken} {charset : Charset} {all : List Column} where
   pub rows_first : {p : At} → p.held.delivered ≤ 2 ^ 64 - 1 → RowsAt token charset all p p 0 (N.token_start token charset all)
   rows_first d = grind (arith, path_none)
@@ -298,22 +289,14 @@ module _ {token : N.RowToken} {charset : Charset} {all : List Column} where
   rows_row x y = rows_whole (rows_on x (path_of y.streams y.place_is))
 
   -- the token byte of the next row was read
-  pub rows_token : {a b d : Seen} {place middle count : ℕ} {h i : Held} → 0 < length all → i.delivered ≤ 2 ^ 64 - 1
-      → N.ReadsRows token charset all count a b place middle h i → Takes b d (N.token_byte token ∷ []) 1
-      → RowsAt token charset all (record { seen = a; place = place; held = h }) (record { seen = d; place = middle + 1; held = i }) count
-      (N.token_start token charset all)
-  rows_token some delivered x takes = record {
+  pub rows_token : {p q r : At} {count : ℕ} → 0 < length all → over (N.ReadsRows token charset all count) p q
+      → Takes q.seen r.seen (N.token_byte token ∷ []) 1 → Puts q.held r.held [] → r.place ≡ q.place + 1
+      → RowsAt token charset all p r count (N.token_start token charset all)
+  rows_token some x takes puts place_is = record {
     before = x.earlier ++ x.last ∷ [];
     counted = omega (arith, N.length-append x.earlier (x.last ∷ []));
     path = path_both (path_of x.streams x.place_is)
-        (record {
-          bytes = N.token_byte _ ∷ [];
-          made = [];
-          writes = row_token _ _ _ _ x.last some;
-          takes = takes;
-          puts = N.Puts-none _ delivered;
-          place_is = refl;
-        });
+        (record { bytes = N.token_byte _ ∷ []; made = []; writes = row_token _ _ _ _ x.last some; takes = takes; puts = puts; place_is = place_is });
   }
 
 -- ---- ROWs, run after run and cell after cell
@@ -412,7 +395,52 @@ module _ {R W : Type 0} {remaining : R → Option (List ℕ)} {contents : W → 
         let t = taken columns knows y.0 in
         rowing_stop (rw t.next at y.1) (cell_read (λ k. false) x knows y.0 t)
 
--- ---- an NBCROW that is whole in the packet
+-- ---- NBCROWs that are whole in the packet
+
+module _ (used size : ℕ) (bytes : List ℕ) where
+  -- the bitmap and the cells of the row after those that were used
+  abbrev bitmap : List ℕ
+  bitmap = N.take size (unused used bytes)
+
+  abbrev cells : List ℕ
+  cells = unused size (unused used bytes)
+
+  -- one more before the token byte of another, in the bytes that are left and after what was made
+  pub nbc_row_more : (charset : Charset) (columns : List Column) (n u made m : ℕ) (to text left : List ℕ) → made ≤ length to → m ≤ length text
+      → 0 < length (unused u cells) → N.get_or (unused u cells) 0 0 ≡ N.token_byte N.NbcRow → length bitmap ≡ N.bitmap_length (length columns)
+      → N.WritesNbcRows charset columns n (N.take used bytes) (N.take made to)
+      → N.WritesMarked charset columns (N.bit bitmap) 0 (length columns) (N.take u cells) (N.take m text)
+      → N.WritesNbcRows charset columns (n + 1) (N.take (used + (size + u + 1)) bytes) (N.take (made + m) (N.take made to ++ (text ++ left)))
+  nbc_row_more charset columns n u made m to text left within fits more next whole before row =
+      let row_bytes : N.take (size + (u + 1)) (unused used bytes) ≡ (bitmap ++ N.take u cells) ++ N.token_byte N.NbcRow ∷ [] =
+      used_more size (u + 1) (unused used bytes) ∙ ap (λ l. bitmap ++ l) (used_more u 1 cells
+      ∙ ap (λ l. N.take u cells ++ l) (N.take_more (unused u cells) 0 0 more ∙ ap (λ b. b ∷ []) next))
+      ∙ sym (N.append_assoc bitmap (N.take u cells) _) in
+      let place : used + (size + u + 1) ≡ used + (size + (u + 1)) = omega arith in
+      let suc : N.suc n ≡ n + 1 = omega arith in
+      N.subst (λ k. N.WritesNbcRows charset columns k (N.take (used + (size + u + 1)) bytes) (N.take (made + m) (N.take made to ++ (text ++ left)))) suc (
+        N.take used bytes,
+        bitmap ++ N.take u cells,
+        N.take made to,
+        N.take m text,
+        ap (λ k. N.take k bytes) place ∙ used_more used (size + (u + 1)) bytes ∙ ap (λ l. N.take used bytes ++ l) row_bytes,
+        made_more made m to text left within fits,
+        before,
+        record { bitmap = bitmap; cells = N.take u cells; joined = refl; whole = whole; writes = row },
+      )
+
+  -- the row after them isn't written so
+  pub nbc_rows_end : (table : N.Table) (start : Ahead) (made : ℕ) (to text : List ℕ) (run : N.CellRun) → size ≡ N.bitmap_length table.count
+      → start.column ≡ 0 → N.MarkedWritten table (N.bit bitmap) start cells text run
+      → N.EndsFar table (N.bit bitmap) run.ahead (drop run.used cells) (length (unused made to) - run.made)
+      → N.◌⊎◌ (run.ahead.column ≡ table.count → ⊥) (N.BeginNoRow N.NbcRow (unused run.used cells))
+      → N.EndsNbcRows table (N.bitmap_length table.count) (drop used bytes) (length to - made)
+  nbc_rows_end table start made to text run size_is first wrote far end =
+      let all = N.all_after bytes used in
+      let rest = N.all_after (drop used bytes) size in
+      let room = ap length (N.all_after to made) ∙ N.length-drop made to in
+      let last = rw (N.all_after cells run.used, all, rest) at end in
+      N.inr (start, run, text, first, rw (all, rest, size_is) at wrote, rw (all, rest, room, size_is) at far, rw size_is at last)
 
 module _ {charset : Charset} {columns : List Column} {p q : At} where
   -- its bitmap and its cells were handed out, and their text was put
@@ -426,18 +454,46 @@ module _ {charset : Charset} {columns : List Column} {p q : At} where
       let gone : drop (0 + length columns) columns ≡ [] = N.drop_all _ columns (omega arith) in
       row_ends (all_put refl delivered (rw gone at near))
 
--- a row was read, or it stopped, after nothing was
-pub row_later : {R W U : Type 0} (remaining : R → Option (List ℕ)) (contents : W → Option (List ℕ)) (old mid new : Rows R W) (start : RowPart)
-    (result : N.Result U Stop) → mid.table ≡ old.table → mid.payload.now ≡ old.payload.now
-    → Puts (held contents old.sink.now) (held contents mid.sink.now) [] → RowRead remaining contents start mid new result
-    → RowRead remaining contents start old new result
-row_later {U = U} remaining contents old mid new start result table payload puts row = rw (sym table, sym payload) (go result row)
-  where
-    none : Path (N.row mid.table.now.charset) N.row_so_far start (record (here remaining contents mid) { held = held contents old.sink.now })
-        (here remaining contents mid) start
-    none = record { bytes = []; made = []; writes = writes_none; takes = N.Takes-none _ 0; puts = puts; place_is = omega arith }
+takes_one : (a b : Seen) (bytes : List ℕ) → Takes a b bytes 0 → Takes a b bytes 1
+takes_one _ _ _ x = grind arith
 
-    go : (result : N.Result U Stop) → RowRead remaining contents start mid new result → RowPut remaining contents mid.table.now.charset start mid.payload.now
-        new.payload.now old.sink.now new.sink.now result
-    go (Ok u) x = let path = path_both none (path_of x.streams x.place_is) in record { cells = x.cells; streams = streams_of path; place_is = path.place_is }
-    go (Err stop) x = path_stops none x
+module _ {charset : Charset} {columns : List Column} where
+  -- so many of them, each before the token byte of the next, were handed out with it, and their lines were put
+  rows_marked : (n : ℕ) {o : At} {count : ℕ} (p q : At) (bytes text : List ℕ) → 0 < length columns → length p.held.waiting < 4096
+      → N.WritesNbcRows charset columns n bytes text → Passes p q bytes text → RowsAt N.NbcRow charset columns o p count (N.nbc_row_start columns)
+      → RowsAt N.NbcRow charset columns o q (count + n) (N.nbc_row_start columns)
+  rows_marked N.zero {count = count} p q _ _ _ _ w y x =
+      let y' = rw (w.0, w.1) at y in
+      rw (N.add-zero count)
+      (rows_on x (record { bytes = []; made = []; writes = writes_none; takes = y'.takes; puts = y'.puts; place_is = y'.place_is }))
+  rows_marked (N.suc n) {count = count} p q _ _ some few (front, row, before, line, joined, text_is, earlier, last) y x =
+      let token = N.token_byte N.NbcRow ∷ [] in
+      let t = passes_apart p q front (row ++ token) before line (rw (joined, text_is) at y) in
+      let u = passes_apart t.0 q row token line [] (N.subst (λ l. Passes t.0 q (row ++ token) l) (sym (N.append-nil line)) t.2) in
+      let read = rows_row (rows_marked n p t.0 front before some few earlier t.1 x)
+      (whole_row {p = t.0} {q = u.0} last.bitmap last.cells line some last.whole (N.subst (λ l. Passes t.0 u.0 l line) last.joined u.1) t.1.few u.2.delivered last.writes) in
+      let counted : count + N.suc n ≡ count + n + 1 = omega arith in
+      rw counted (rows_token some read (takes_one u.0.seen q.seen token u.2.takes) u.2.puts u.2.place_is)
+
+-- NBCROWs were read and their lines put, this many, and the token byte of one more, whatever columns the table knows.
+abbrev pub NbcRowsHere : {R W : Type 0} → (R → Option (List ℕ)) → (W → Option (List ℕ)) → At → Rows R W → ℕ → Type 0
+NbcRowsHere remaining contents p rows count = (columns : List Column) → Knows rows.table.now columns
+    → RowsAt N.NbcRow rows.table.now.charset columns p (here remaining contents rows) count (N.nbc_row_start columns)
+
+pub rows_taken : {R W : Type 0} {remaining : R → Option (List ℕ)} {contents : W → Option (List ℕ)} {p : At} {old new : Rows R W} {count n : ℕ}
+    → IsInRow old → StaysInRow old new → 0 < old.table.now.count
+    → ((columns : List Column) → Knows old.table.now columns → N.RowsTaken remaining contents columns old new n)
+    → NbcRowsHere remaining contents p old count → NbcRowsHere remaining contents p new (count + n)
+rows_taken {remaining = remaining} {contents = contents} {old = old} {new = new} {n = n} in_row stays some taken reads columns known =
+    let knows = rw stays.same.3 at known in
+    let x = taken columns knows in
+    let sink = stays.in_row.sink in
+    rw stays.same.3 (rows_marked n (here remaining contents old) (here remaining contents new) _ _ (omega (arith, knows.counted))
+    (in_row.sink.ready.1 in_row.sink.writing) x.writes (record {
+      takes = x.takes;
+      between = N.between_of remaining new.payload.now stays.in_row.payload.going;
+      puts = x.puts;
+      few = sink.ready.1 sink.writing;
+      delivered = in_row.sink.ready.2;
+      place_is = x.place_is;
+    }) (reads columns knows))

@@ -23,11 +23,6 @@ pub record Next (column : ℕ) (s : CellPart) (a b : Seen) (place place' : ℕ) 
   pub between : N.IsBetween b
   pub place_is : place' ≡ place + N.length element
 
--- a number was read, where one of so many bytes is next
-next_by : {column size place place' n : ℕ} {s t : CellPart} {a b : Seen} → 0 < size → N.cell_size s ≡ size → (x : N.ReadsNumber size a b place place' n)
-    → N.cell_fault column s x.element ≡ None → N.cell_add s x.element ≡ t → Next column s a b place place' t
-next_by some is x free to = grind arith
-
 -- it was refused, or is cut
 number_stops : {column size place : ℕ} {s : CellPart} {fault : ℕ → Option Fault} {a b : Seen} {stop : Stop} → 0 < size → N.cell_size s ≡ size
     → N.cell_end s ≡ Some N.MessageEnded → ((e : List ℕ) (n : ℕ) (f : Fault) → N.little e ≡ n → fault n ≡ Some f → N.cell_fault column s e ≡ Some f)
@@ -37,10 +32,6 @@ number_stops {column = column} {place = place} {s = s} {a = a} {b = b} {stop = s
     N.subst (λ t. N.StopsReading (cell column) s a b place s t) (grind arith)
     (N.refused_at_once _ s a b _ _ _ (omega arith) (r.whole ∙ N.sym is) (first _ x.n _ r.number x.first) r.takes r.between)
 number_stops _ is end _ (N.inr x) = grind arith
-
-total_same : (column : ℕ) (c : N.Conversion) {size n : ℕ} (e : List ℕ) → size ≡ unit c → N.little e ≡ n
-    → N.cell_fault column (Total c) e ≡ N.total_fault column size n
-total_same _ c e unit_is is = grind arith
 
 -- ---- the length of a short value
 
@@ -114,14 +105,8 @@ abbrev NoDevice : Option Fault → Type 0
 NoDevice None = N.⊤
 NoDevice (Some fault) = (fault ≡ N.WriteFailed → ⊥) × (fault ≡ N.ReadFailed → ⊥)
 
-pub short_blames : (column size n : ℕ) → NoDevice (N.short_fault column size n)
-short_blames _ _ n = grind arith
-
 pub total_blames : (column size n : ℕ) → NoDevice (N.total_fault column size n)
 total_blames _ _ n = grind arith
-
-pub chunk_blames : (column size : ℕ) (total : Option ℕ) (sum n : ℕ) → NoDevice (N.chunk_length_fault column size total sum n)
-chunk_blames _ _ _ _ n = grind arith
 
 -- a length that was refused or cut
 pub length_blames : {R : Type 0} {size : ℕ} {b : Seen} {stop : Stop} (remaining : R → Option (List ℕ)) {fault : ℕ → Option Fault} (old : Input R)

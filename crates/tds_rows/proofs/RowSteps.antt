@@ -111,12 +111,7 @@ pub cell_more : (cells : List Cell) (v : Cell)
     → joined (map field cells) ++ N.after_comma (length cells) (field v) ≡ joined (map field (cells ++ v ∷ []))
 cell_more _ v = grind (arith, fields_more, N.map-append)
 
--- the columns to come, each with whether it is NULL by its bit
-module _ (charset : Charset) (cells : List Cell) (ks : List (Column × Bool)) where
-  -- a row ends as its open cell does
-  pub same_end : (at : CellPart) → 0 < N.cell_size at → (N.row charset).end_fault (N.with_cell charset cells ks at) ≡ N.cell_end at
-  same_end at h = grind arith
-
+-- a cell that isn't whole yet has some bytes to come
 some_bytes : (column : ℕ) (from : CellPart) (v : Cell) (es : List (List ℕ)) → (from ≡ WholeCell v → ⊥) → N.Leads (cell column) from es (WholeCell v)
     → 0 < length (N.concat es)
 some_bytes _ _ v [] before h = grind arith

@@ -57,13 +57,6 @@ whole_some _ _ = grind arith
 
 -- ---- a run between a payload and a sink
 
--- what doesn't fill a block isn't delivered, so no write of it fails
-pub fills_no_block : (h j : N.Held) (piece : List ℕ) (stop : Stop) → length h.waiting + length piece < 4096 → N.Breaks h j piece stop → ⊥
-fills_no_block h j piece _ few (sent, blocks, n, adds, most, least, less, whole, is, risen) =
-    let both = sym (N.length-append h.waiting _)
-    ∙ ap length adds.1 ∙ N.length-append sent j.waiting in
-    omega (arith, N.length-take n piece)
-
 -- ---- over the ends of rows
 
 pub lines-append : (rs qs : List (List Cell)) → lines (rs ++ qs) ≡ lines rs ++ lines qs

@@ -15,11 +15,6 @@ rose f = grind arith
 
 -- ---- the reading of what comes whole
 
--- what is left, where it is told
-left_of : (input read : List ℕ) (new : Option (List ℕ)) → N.Consumes (Some input) new read → (left : List ℕ) × (new ≡ Some left)
-    × (input ≡ read ++ left)
-left_of _ _ _ h = grind arith
-
 module _ {S : Type 0} (g : Grammar S Fault) (from to : S) (a b : Seen) (front more : List ℕ) (brings : Brings a (front ++ more))
     (last : N.Longest g from (front ++ more) (length front) to) (calm : Rose a.failures b.failures → ⊥) where
   -- what was read is the beginning of what comes

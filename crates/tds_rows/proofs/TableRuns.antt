@@ -228,10 +228,6 @@ known_ahead _ at end n laid fits some within known few =
 pub none_written : {cells used : ℕ} → (0 < cells → 0 < used) → used ≡ 0 → cells ≡ 0
 none_written some none = grind arith
 
--- some were where some bytes were
-pub some_written : {cells used : ℕ} → (cells ≡ 0 → used ≡ 0) → 0 < used → 0 < cells
-some_written none some = grind arith
-
 module _ (table : Table) (from : Ahead) (end : ℕ) (forms : List Form) (within : end ≤ table.count) (ahead : N.AreAhead table from end forms) where
   -- the first is that of the next column
   pub first_next : {form : Form} {rest : List Form} → forms ≡ form ∷ rest → (columns : List Column) → Knows table columns → IsAhead table columns from
@@ -260,22 +256,49 @@ module _ (table : Table) (from : Ahead) (end : ℕ) (forms : List Form) (within 
 
 -- ---- rows that are far from the ends
 
+-- two places of a row, all of whose columns the table knows, are ahead alike
+pub place_known : (table : Table) (from : Ahead) (a b : ℕ) → table.known ≡ table.count → a ≤ table.count → b ≤ table.count
+    → (columns : List Column) → Knows table columns → IsAhead table columns (record from { column = a })
+    → IsAhead table columns (record from { column = b })
+place_known table from a b all within few columns knows is = record {
+  counted = omega (arith, knows.counted);
+  within = λ _. is.within (omega arith);
+  beyond = λ end. (let same : table.known ≡ b = omega arith in is.within (omega arith) ∙ ap (λ n. drop n columns) same);
+}
+
+-- the forms of the rest of such a row
+pub rest_ahead : (table : Table) (at : Ahead) (row : List Form) → table.known ≡ table.count → row ≡ take table.known table.forms
+    → at.column < table.count
+    → N.AreAhead table at table.count (drop at.column row) × (at.column + length (drop at.column row) ≡ table.count)
+rest_ahead table at row all are some =
+    let n = table.known - at.column in
+    let split : table.known ≡ at.column + n = omega arith in
+    let rest = ap (drop at.column) (are ∙ ap (λ m. take m table.forms) split) ∙ N.drop-take at.column n table.forms in
+    let counted = N.length-take-le n (drop at.column table.forms) (omega (arith, N.length-drop at.column table.forms, table.sized, table.most)) in (
+      rw (sym rest) at (known_ahead table at table.count n table.laid (omega (arith, table.sized, table.most)) (omega arith) (omega arith)
+          (omega arith) (omega arith)),
+      omega (arith, ap length rest, counted),
+    )
+
 -- more cells of the row, whose places are counted from the front of all
-pub rows_far : {table : Table} {from after : Ahead} {forms : List Form} {bytes to : List ℕ} {state : N.RowsRun} (run : N.FormsRun) (new : List ℕ)
-    → run.cells ≢ 0 → N.AreAhead table state.ahead table.count forms → state.ahead.column + length forms ≡ table.count
-    → take state.made new ≡ take state.made to → length new ≡ length to → (state.used ≤ run.used) × (state.made ≤ run.made)
-    → N.RunsForms table.charset forms state.ahead.column true (drop state.used bytes) (length to - state.made) (drop state.made new)
-    (record { cells = run.cells; used = run.used - state.used; made = run.made - state.made })
-    → after.column ≡ state.ahead.column + run.cells
-    → ((columns : List Column) → Knows table columns → IsAhead table columns state.ahead → IsAhead table columns after)
-    → RowsRan table from bytes to state → RowsRan table from bytes new (record { used = run.used; made = run.made; rows = state.rows; ahead = after })
-rows_far {table} {forms = forms} {bytes = bytes} {to = to} {state = state} run new some next whole same size begun written further there x =
-    let rest = N.all_after bytes state.used in
-    let made = drop state.made new in
-    let kept : new ≡ take state.made to ++ (made ++ []) =
-    sym (N.take-append-drop state.made new) ∙ ap (λ t. t ++ made) same ∙ ap (λ t. take state.made to ++ t) (sym (N.append-nil made)) in
-    let used : run.used ≡ state.used + (run.used - state.used) = omega (arith, begun) in
-    let end : run.made ≡ state.made + (run.made - state.made) = omega (arith, begun) in
-    rw (kept, used, end) (rows_more made [] (written.within.some (omega arith)) (rw rest written.within.used) (omega (arith, written.within.made, N.length-drop state.made new))
-    (λ columns knows is. forms_between _ _ _ _ (omega arith) next _ (sym (N.eq-eqb _ _ whole)) columns knows is _ _ _ _ further (there columns knows is)
-    (rw rest written.cells)) x)
+pub rows_far : {from : Ahead} {bytes to : List ℕ} {rows : ℕ} (table : Table) (row : List Form) (at run : N.FormsRun) (new : List ℕ)
+    → table.known ≡ table.count → row ≡ take table.known table.forms → at.cells < table.count → run.cells ≢ at.cells
+    → take at.made new ≡ take at.made to → length new ≡ length to → (at.cells ≤ run.cells) × (at.used ≤ run.used) × (at.made ≤ run.made)
+    → N.RunsForms table.charset (drop at.cells row) at.cells true (drop at.used bytes) (length to - at.made) (drop at.made new) (N.done_since at run)
+    → RowsRan table from bytes to (record { used = at.used; made = at.made; rows = rows; ahead = record from { column = at.cells } })
+    → RowsRan table from bytes new (record { used = run.used; made = run.made; rows = rows; ahead = record from { column = run.cells } })
+rows_far {from = from} {bytes = bytes} {to = to} table row at run new all are few some same size begun written x =
+    let next = rest_ahead table (record from { column = at.cells }) row all are few in
+    let made = drop at.made new in
+    let rest = N.all_after bytes at.used in
+    let kept : new ≡ take at.made to ++ (made ++ []) =
+    sym (N.take-append-drop at.made new) ∙ ap (λ t. t ++ made) same ∙ ap (λ t. take at.made to ++ t) (sym (N.append-nil made)) in
+    let used : run.used ≡ at.used + (run.used - at.used) = omega (arith, begun) in
+    let end : run.made ≡ at.made + (run.made - at.made) = omega (arith, begun) in
+    let further : run.cells ≡ at.cells + (run.cells - at.cells) = omega (arith, begun) in
+    let within : run.cells ≤ table.count = omega (arith, written.within.cells, next.1) in
+    rw (kept, used, end) (rows_more {cells = record { used = run.used - at.used; made = run.made - at.made; ahead = record from { column = run.cells } }}
+    made [] (written.within.some (omega (arith, begun, some))) (rw rest written.within.used)
+    (omega (arith, written.within.made, N.length-drop at.made new))
+    (λ columns knows is. forms_between _ _ _ _ (omega arith) next.0 _ (sym (N.eq-eqb _ _ next.1)) columns knows is _ _ _ (N.done_since at run) further
+    (place_known table from at.cells run.cells all (omega arith) within columns knows is) (rw rest written.cells)) x)

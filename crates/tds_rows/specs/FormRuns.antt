@@ -1,5 +1,5 @@
 -- What a run over cells by their forms does, whose columns follow one another in a row.
-use Rattle.std.specs.Prelude.{◌≡◌, ◌==◌, ◌⊎◌, ◌+◌, ◌<◌, ◌≤◌, ◌*◌, ◌&&◌, ◌∷◌, ◌++◌, ℕ, zero, suc, Bool, false, true, List, [], length, map, take, drop, get_or}
+use Rattle.std.specs.Prelude.{◌≡◌, ◌==◌, ◌⊎◌, ◌+◌, ◌-◌, ◌<◌, ◌≤◌, ◌*◌, ◌&&◌, ◌∷◌, ◌++◌, ℕ, zero, suc, Bool, false, true, List, [], length, map, take, drop, get_or}
 use Rattle.tds_columns.specs.Description.{Column}
 use Rattle.tds_csv.specs.Quoting.{after_comma}
 use Rattle.tds_values.specs.declared.charset.Charset.{Charset}
@@ -58,14 +58,14 @@ pub record WritesFields (charset : Charset) (forms : List Form) (column : ℕ) (
   pub one : run.cells ≡ 1 → FirstUsed forms bytes run.used
   pub fields : FieldsWritten charset forms column bytes text run
 
--- So many cells of whole numbers of four bytes are there with all their bytes, and with room for their fields and the end of the line.
+-- So many cells of whole numbers of four bytes are there with all their bytes and one more, and with room for their fields and the end of the line.
 pub record NumbersWithin (cells bytes room : ℕ) : Type 0 where
-  pub whole : 5 * cells ≤ bytes
+  pub whole : 5 * cells < bytes
   pub fits : 12 * cells + 25 < room
 
--- A row of so many numbers that begins no later has all its bytes and room.
+-- A row of so many numbers that begins no later has all its bytes, one more, and room.
 pub record IsLatest (cells bytes room : ℕ) (latest : Latest) : Type 0 where
-  pub used : latest.used + 5 * cells ≡ bytes
+  pub used : latest.used + 5 * cells + 1 ≡ bytes
   pub made : latest.made + 12 * cells + 26 ≡ room
 
 -- The values of these forms' kinds are whole numbers of four bytes, which are there with their bytes and room.
@@ -85,6 +85,10 @@ pub record RunsForms (charset : Charset) (forms : List Form) (column : ℕ) (las
   pub ends : run.cells ≡ 0 → FirstLeft charset forms bytes room
   pub one : run.cells ≡ 1 → FirstWritten charset forms column last bytes text run
   pub cells : FormsWritten charset forms column last bytes text run
+
+-- what a run did since a place in its row
+abbrev pub done_since : FormsRun → FormsRun → FormsRun
+done_since at run = record { cells = run.cells - at.cells; used = run.used - at.used; made = run.made - at.made }
 
 -- After the cells of a run the next one is refused, which is of a scalar kind.
 abbrev pub IsRefusedAfter : List Form → List ℕ → FormsRun → Type 0

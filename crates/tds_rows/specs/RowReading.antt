@@ -5,6 +5,7 @@ use Rattle.tds_packet.specs.declared.fault.Stop.{Stop}
 use Rattle.tds_packet.specs.declared.payload.Payload.{Payload}
 use Rattle.tds_packet.specs.Payloads.{IsGoing, IsOnSame, IsSound, LeavesPayload, buffered, seen}
 use Rattle.tds_packet.specs.Seen.{Takes}
+use Rattle.tds_columns.specs.Description.{Column}
 use Rattle.tds_csv.specs.Quoting.{in_line, null_field}
 use Rattle.tds_csv.specs.declared.sink.Sink.{Sink}
 use Rattle.tds_csv.specs.Sinks.{IsOnSameSink, IsReady, Puts, held, IsWriting, LeavesSink, PutsPiece}
@@ -16,7 +17,8 @@ use Rattle.tds_rows.specs.Cells.{CellPart}
 use Rattle.tds_meter.specs.Space.{Space}
 use Rattle.tds_rows.specs.CellSteps.{CellPut, FieldPut, LeavesSmall, longest_cell}
 use Rattle.tds_rows.specs.Rows.{RowPart, RowToken, longest_bitmap, token_byte}
-use Rattle.tds_rows.specs.RowSteps.{ReadsRow, RowPut}
+use Rattle.tds_rows.specs.MarkedRows.{WritesNbcRows}
+use Rattle.tds_rows.specs.RowSteps.{RowPut}
 use Rattle.tds_rows.specs.Successes.{BeginNoRow}
 use Rattle.tds_rows.specs.Tables.{IsNextKind, KnowsSome}
 
@@ -111,12 +113,15 @@ abbrev pub RowRead : {R W U : Type 0} → (R → Option (List ℕ)) → (W → O
 RowRead remaining contents start old new result =
     RowPut remaining contents old.table.now.charset start old.payload.now new.payload.now old.sink.now new.sink.now result
 
--- A row was read from this state on and its line put; or, if the result is false, nothing was.
-abbrev pub RowTaken : {R W : Type 0} → (R → Option (List ℕ)) → (W → Option (List ℕ)) → RowPart → Rows R W → Rows R W → Bool → Type 0
-RowTaken remaining contents start old new true = ReadsRow old.table.now.charset start (seen remaining old.payload.now) (seen remaining new.payload.now)
-    old.payload.now.place new.payload.now.place (held contents old.sink.now) (held contents new.sink.now)
-RowTaken remaining contents start old new false =
-    (new.payload.now ≡ old.payload.now) × Puts (held contents old.sink.now) (held contents new.sink.now) []
+-- This many NBCROWs were read from this state on, without a packet, each before the token byte of the next, which was read too; and their lines were put.
+pub record RowsTaken {R W : Type 0} (remaining : R → Option (List ℕ)) (contents : W → Option (List ℕ)) (columns : List Column) (old new : Rows R W)
+    (count : ℕ) : Type 0 where
+  pub bytes : List ℕ
+  pub text : List ℕ
+  pub writes : WritesNbcRows old.table.now.charset columns count bytes text
+  pub takes : Takes (seen remaining old.payload.now) (seen remaining new.payload.now) bytes 0
+  pub puts : Puts (held contents old.sink.now) (held contents new.sink.now) text
+  pub place_is : new.payload.now.place ≡ old.payload.now.place + length bytes
 
 -- The token byte of one more row was taken; or, if the result is false, nothing was, and none is next in the packet.
 abbrev pub TokenTaken : {R : Type 0} → (R → Option (List ℕ)) → RowToken → Payload R → Payload R → Bool → Type 0

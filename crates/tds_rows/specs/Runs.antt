@@ -1,5 +1,5 @@
 -- What a run of cells does, which lie whole in the packet.
-use Rattle.std.specs.Prelude.{◌≡◌, ◌==◌, ◌⊎◌, ◌+◌, ◌<◌, ◌≤◌, ℕ, Bool, false, List, [], ◌∷◌, ◌++◌, length, map, take, drop, Option, Some, None, MatchOption}
+use Rattle.std.specs.Prelude.{◌≡◌, ◌==◌, ◌+◌, ◌<◌, ◌≤◌, ℕ, Bool, false, List, [], ◌∷◌, ◌++◌, length, map, take, drop, Option, Some, None, MatchOption}
 use Rattle.std.specs.Prelude.{if◌then◌else◌, slice_index}
 use Rattle.tds_values.specs.declared.kind.Kind.{Kind}
 use Rattle.tds_packet.specs.declared.fault.Fault.{Fault}
@@ -14,7 +14,6 @@ use Rattle.tds_csv.specs.declared.sink.Sink.{Sink}
 use Rattle.tds_csv.specs.Sinks.{Held, held}
 use Rattle.tds_csv.specs.Streaming.{Streams}
 use Rattle.tds_values.specs.declared.charset.Charset.{Charset}
-use Rattle.tds_rows.specs.declared.cell.whole.TheConstants.{CELL_ROOM, FAR}
 use Rattle.tds_rows.specs.declared.cell.whole.Written.{Written}
 use Rattle.tds_rows.specs.declared.run.CellRun.{CellRun}
 use Rattle.tds_rows.specs.declared.run.RowsRun.{RowsRun}
@@ -23,7 +22,7 @@ use Rattle.tds_rows.specs.declared.table.Table.{Table}
 use Rattle.tds_rows.specs.Cells.{Cell, field}
 use Rattle.tds_rows.specs.Rows.{PlainRow, RowPart, RowToken, WholeRow, marked, next_cell, row_add, row_fault, row_size, row_so_far, token_byte}
 use Rattle.tds_rows.specs.Rows.{token_start}
-use Rattle.tds_rows.specs.MarkedRuns.{EndsLeft, MarkedWritten}
+use Rattle.tds_rows.specs.MarkedRuns.{EndsFar, EndsLeft, MarkedWritten}
 use Rattle.tds_rows.specs.CellSteps.{IsLeft, WritesKind, whole_size}
 use Rattle.tds_rows.specs.Tables.{IsAhead, Knows}
 
@@ -117,7 +116,7 @@ RunEnds table at bytes room = EndsLeft table (λ k. false) at bytes room
 
 -- A run ended so, or where bytes or room are too few for any scalar.
 abbrev pub FarEnds : Table → Ahead → List ℕ → ℕ → Type 0
-FarEnds table at bytes room = (length bytes < FAR) ⊎ ((room < CELL_ROOM) ⊎ RunEnds table at bytes room)
+FarEnds table at bytes room = EndsFar table (λ k. false) at bytes room
 
 -- The first bytes, this many, are a whole cell of a kind, and this much of the text is its text in its line.
 pub record WritesOne (charset : Charset) (kind : Kind) (column : ℕ) (last : Bool) (bytes text : List ℕ) (used made : ℕ) : Type 0 where

@@ -1,11 +1,12 @@
 // A row with a bitmap of the columns that are NULL, and such rows after one another (MS-TDS, NBCROW).
 ghost use Rattle.std.specs.Prelude.{◌≡◌, true, ◌*◌, ◌<◌, ◌≤◌, drop, length, ◌+◌, ◌-◌, List, false, IfOk};
+ghost use Rattle.tds_rows.specs.MarkedRows.{EndsNbcRows, NbcRowsWritten};
 ghost use Rattle.tds_rows.specs.MarkedRuns.{AreClear, EndsClear, EndsFar, EndsLeft, EndsMarked, MarkedPut, MarkedWritten, room_left};
 ghost use Rattle.tds_rows.specs.Rows.{bit, NbcRow, bitmap_length, longest_bitmap, nbc_row_start};
 ghost use Rattle.tds_columns.specs.Description.{Column};
 ghost use Rattle.tds_packet.specs.Payloads.{buffered};
 ghost use Rattle.tds_packet.specs.Reads.{KeepsRoom};
-ghost use Rattle.tds_rows.specs.RowReading.{AwaitsBitmap, IsAtCell, EndsRows, IsInMarkedRow, IsInSomeRow, LeavesRows, NextRead, RowRead, RowTaken, StaysInRow};
+ghost use Rattle.tds_rows.specs.RowReading.{AwaitsBitmap, IsAtCell, EndsRows, IsInMarkedRow, IsInSomeRow, LeavesRows, NextRead, RowRead, RowsTaken, StaysInRow};
 ghost use Rattle.tds_rows.specs.RowRuns.{MarkedRead};
 ghost use Rattle.tds_rows.specs.RowSteps.{RowsRead};
 ghost use Rattle.tds_rows.specs.Layouts.{IsLaidOut};
@@ -52,10 +53,18 @@ fn clear_end(bitmap: &[u8], from: u16, known: u16, count: u16) -> u16
     count
 }
 
+/// How many bytes a run over NBCROWs used, how many it made, and how many rows those are.
+#[derive(Clone, Copy)]
+pub(crate) struct WholeRows {
+    used: usize,
+    made: usize,
+    rows: usize,
+}
+
 impl<'a> Table<'a> {
     // Writes cell after cell of an NBCROW whose columns the table all knows, as `run_nulls` does, as long as bytes and room go
     // on far enough for any scalar.
-    #[inline(never)]
+    #[inline(always)]
     fn run_far_marked(
         &self,
         from: Ahead<'a>,
@@ -97,6 +106,44 @@ impl<'a> Table<'a> {
             self.pass(&mut ahead, 1);
         }
         CellRun { used, made, ahead }
+    }
+
+    // Writes NBCROW after NBCROW, each with the token byte of the next, as long as each of their cells is as `run_far_marked`
+    // takes it.
+    #[inline(never)]
+    fn run_far_rows(&self, bytes: &[u8], to: &mut [u8]) -> WholeRows
+        requires known { KnowsAll self.now }
+        ensures used { result.used ≤ length bytes.now }
+        ensures made { result.made ≤ length to.old }
+        ensures few { result.rows ≤ result.used }
+        ensures ends { EndsNbcRows self.now (bitmap_length self.now.count) (drop result.used bytes.now) (length to.old - result.made) }
+        ensures rows { NbcRowsWritten self.now bytes.now to.new result }
+    {
+        let size = bitmap_size(self.count());
+        let mut whole = WholeRows {
+            used: 0,
+            made: 0,
+            rows: 0,
+        };
+        loop {
+            let rest = &bytes[whole.used..];
+            if rest.len() < size {
+                break;
+            }
+            let (bitmap, cells) = (&rest[..size], &rest[size..]);
+            let run = self.run_far_marked(self.start(), bitmap, cells, &mut to[whole.made..]);
+            if !self.is_end(run.ahead) {
+                break;
+            }
+            let after = &cells[run.used..];
+            if after.is_empty() || after[0] != NBCROW {
+                break;
+            }
+            whole.used += size + run.used + 1;
+            whole.made += run.made;
+            whole.rows += 1;
+        }
+        whole
     }
 
     // Writes cell after cell of an NBCROW as `run_nulls` does. `KNOWN` says that the table knows all columns.
@@ -210,34 +257,27 @@ impl<'r, 't, 'p, 's, 'c, R: Read, W: Write> Rows<'r, 't, 'p, 's, 'c, R, W> {
         Ok(self.put_nulls_within(from, bitmap))
     }
 
-    // Puts the line of an NBCROW after its token byte if it is whole in the packet, far from its end, and has room in the block.
-    // Returns whether it does; if not, the row is still to be read. It reads nothing and delivers nothing.
+    // Puts the lines of the next NBCROWs, as many as are whole in the packet, away from its end, with the token byte of
+    // another, and have room in the block. Returns how many those are; the token byte of each but the first is taken, and
+    // that of another. It reads nothing and delivers nothing.
     #[inline(always)]
-    fn put_whole_row(&mut self) -> bool
+    fn put_whole_rows(&mut self) -> u64
         requires { IsInSomeRow self.old }
         ensures stays { StaysInRow self.old self.new }
-        ensures row { (columns : List Column) → Knows self.old.table.now columns →
-            RowTaken R.remaining W.contents (nbc_row_start columns) self.old self.new result }
+        ensures few { self.old.payload.now.place + result ≤ self.new.payload.now.place }
+        ensures rows { (columns : List Column) → Knows self.old.table.now columns →
+            RowsTaken R.remaining W.contents columns self.old self.new result }
     {
-        let size = bitmap_size(self.table.count());
+        if !self.table.knows_all() {
+            return 0;
+        }
         let waiting = self.sink.waiting() as usize;
-        let room = self.sink.room();
-        let bytes = self.payload.buffered();
-        if !self.table.knows_all() || bytes.len() < size || room <= BLOCK_END {
-            return false;
-        }
-        let spare = self.sink.spare(room - 1);
-        let start = self.table.start();
-        let run = self
-            .table
-            .run_far_marked(start, &bytes[..size], &bytes[size..], spare);
-        if !self.table.is_end(run.ahead) {
-            self.sink.commit(waiting, 0);
-            return false;
-        }
-        self.payload.consume(size + run.used);
+        let room = self.sink.room() - 1;
+        let (bytes, spare) = (self.payload.buffered(), self.sink.spare(room));
+        let run = self.table.run_far_rows(bytes, spare);
+        self.payload.consume(run.used);
         self.sink.commit(waiting, run.made);
-        true
+        run.rows as u64
     }
 
     // Puts the next cell: NULL, or the cell that it reads.
@@ -275,23 +315,6 @@ impl<'r, 't, 'p, 's, 'c, R: Read, W: Write> Rows<'r, 't, 'p, 's, 'c, R, W> {
         }
     }
 
-    // Reads an NBCROW after its token byte, and puts its line: at once if it is far from the ends of packet and block.
-    #[inline(always)]
-    fn next_nbc_row(&mut self, bitmap: &mut Area) -> Result<(), Stop>
-        requires some { IsInSomeRow self.old }
-        requires room { longest_bitmap ≤ bitmap.old.room }
-        ensures leaves { LeavesRows self.old self.new result }
-        ensures bitmap { KeepsRoom bitmap.old bitmap.new }
-        ensures row { (columns : List Column) → Knows self.old.table.now columns →
-            RowRead R.remaining W.contents (nbc_row_start columns) self.old self.new result }
-    {
-        bitmap.clear();
-        if self.put_whole_row() {
-            return Ok(());
-        }
-        self.nbc_row(bitmap)
-    }
-
     /// Reads an NBCROW and those that follow it in its packet, each with at most its bitmap in the area, and puts
     /// their lines. Returns how many they are.
     #[inline(never)]
@@ -307,7 +330,9 @@ impl<'r, 't, 'p, 's, 'c, R: Read, W: Write> Rows<'r, 't, 'p, 's, 'c, R, W> {
     {
         let mut ended: u64 = 0;
         loop {
-            self.next_nbc_row(bitmap)?;
+            ended += self.put_whole_rows();
+            bitmap.clear();
+            self.nbc_row(bitmap)?;
             ended += 1;
             if !self.take_token(NBCROW) {
                 return Ok(ended);

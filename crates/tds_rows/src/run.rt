@@ -8,7 +8,7 @@ ghost use Rattle.tds_rows.specs.Tables.{AreAhead, KnowsAll};
 
 use crate::cell::layout::Form;
 use crate::cell::whole::{CELL_ROOM, FAR, Written};
-use crate::run::forms::{latest_row, run_far_forms, run_forms, run_row};
+use crate::run::forms::{FormsRun, latest_row, run_far_forms, run_forms, run_row};
 use crate::table::{Ahead, Table};
 
 pub(crate) mod forms;
@@ -182,7 +182,7 @@ impl<'a> Table<'a> {
                 break;
             };
             let end = used + run.used;
-            if !self.row_follows(&bytes[end..]) {
+            if !self.begins_row(&bytes[end..]) {
                 break;
             }
             used = end + 1;
@@ -205,39 +205,40 @@ impl<'a> Table<'a> {
         ensures ends { FarEnds self.now result.ahead (drop result.used bytes.now) (length to.old - result.made) }
         ensures rows { RowsRan self.now from.entry bytes.now to.new result }
     {
-        if bytes.len() < FAR || to.len() < CELL_ROOM {
+        let forms = (&*self).row();
+        let begun = from.column as usize;
+        if begun >= forms.len() || bytes.len() < FAR || to.len() < CELL_ROOM {
             return RowsRun::none(from);
         }
         let latest = bytes.len() - FAR;
         let most = to.len() - CELL_ROOM;
-        let mut used = 0;
-        let mut made = 0;
+        let mut at = FormsRun {
+            cells: begun,
+            used: 0,
+            made: 0,
+        };
         let mut rows = 0;
-        let mut ahead = from;
-        while used <= latest && made <= most {
-            let Some(forms) = (&*self).rest_of_row(ahead) else {
-                break;
-            };
-            let run = run_far_forms(forms, self.charset, ahead.column, bytes, used, to, made);
-            if run.cells == 0 {
+        while at.used <= latest && at.made <= most {
+            let run = run_far_forms(forms, self.charset, at, bytes, to);
+            if run.cells == at.cells {
                 break;
             }
-            used = run.used;
-            made = run.made;
-            self.pass(&mut ahead, run.cells);
-            if !self.is_end(ahead) {
+            at = run;
+            if at.cells < forms.len() {
                 continue;
             }
-            if !self.row_follows(&bytes[used..]) {
+            if !self.row_follows(&bytes[at.used..]) {
                 break;
             }
-            used += 1;
+            at.cells = 0;
+            at.used += 1;
             rows += 1;
-            self.rewind(&mut ahead);
         }
+        let mut ahead = from;
+        ahead.column = at.cells as u16;
         RowsRun {
-            used,
-            made,
+            used: at.used,
+            made: at.made,
             rows,
             ahead,
         }

@@ -234,13 +234,23 @@ impl<'a> Table<'a> {
         at.column += cells as u16;
     }
 
+    /// Whether these bytes begin with the token byte of a ROW.
+    #[inline(always)]
+    pub(crate) fn begins_row(&self, bytes: &[u8]) -> bool
+        requires some { 0 < length bytes.now }
+        ensures begins { result ≡ true → BeginsRow bytes.now }
+        ensures other { result ≡ false → BeginsRow bytes.now → ⊥ }
+    {
+        bytes[0] == ROW
+    }
+
     /// Whether the token byte of another ROW comes next.
     #[inline(always)]
     pub(crate) fn row_follows(&self, rest: &[u8]) -> bool
         ensures begins { result ≡ true → BeginsRow rest.now }
         ensures other { result ≡ false → BeginsRow rest.now → ⊥ }
     {
-        !rest.is_empty() && rest[0] == ROW
+        !rest.is_empty() && self.begins_row(rest)
     }
 
     /// Steps back to the place before the first cell of a row, all of whose columns the table knows.

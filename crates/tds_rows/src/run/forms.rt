@@ -1,7 +1,7 @@
 // A run over cells by their forms, whose columns follow one another in a row.
 ghost use Rattle.std.specs.Prelude.{◌≡◌, ◌==◌, ◌&&◌, ◌<◌, ◌≤◌, ◌+◌, ◌-◌, drop, length, take, true, None, IfSome, MatchOption};
 ghost use Rattle.tds_values.specs.declared.charset.Charset.{Charset};
-ghost use Rattle.tds_rows.specs.FormRuns.{AreNumbers, FirstLeft, IsLatest, IsRefusedAfter, IsWithin, NumbersWithin, RefusesRow, RunsForms, WritesFields};
+ghost use Rattle.tds_rows.specs.FormRuns.{AreNumbers, done_since, FirstLeft, IsLatest, IsRefusedAfter, IsWithin, NumbersWithin, RefusesRow, RunsForms, WritesFields};
 ghost use Rattle.tds_rows.specs.Forms.{AreInt4, AreLaidOut};
 ghost use Rattle.tds_rows.specs.Layouts.{IsLaidOut};
 ghost use Rattle.tds_rows.specs.Runs.{AloneWritten};
@@ -75,7 +75,7 @@ pub(crate) struct Latest {
 }
 
 /// Where a row of these forms, whose values are whole numbers of four bytes, begins at the latest if there are to be
-/// bytes and room for any cells. `None` if there aren't at the front.
+/// bytes and room for any cells, and a byte after them. `None` if there aren't at the front.
 #[inline(always)]
 pub(crate) fn latest_row(forms: &[Form], bytes: &[u8], to: &[u8]) -> Option<Latest>
     requires { length forms.now ≤ 65535 }
@@ -86,11 +86,11 @@ pub(crate) fn latest_row(forms: &[Form], bytes: &[u8], to: &[u8]) -> Option<Late
         INT4_CELL * forms.len(),
         NUMBER_FIELD * forms.len() + NUMBER_ROOM,
     );
-    if size > bytes.len() || room >= to.len() {
+    if size >= bytes.len() || room >= to.len() {
         return None;
     }
     Some(Latest {
-        used: bytes.len() - size,
+        used: bytes.len() - 1 - size,
         made: to.len() - 1 - room,
     })
 }
@@ -102,6 +102,7 @@ fn write_numbers(forms: &[Form], column: u16, bytes: &[u8], to: &mut [u8]) -> Fo
     requires numbers { AreInt4 forms.now }
     requires within { NumbersWithin (length forms.now) (length bytes.now) (length to.old) }
     ensures ends { result.cells < length forms.now → IsRefusedAfter forms.now bytes.now result }
+    ensures left { result.used < length bytes.now }
     ensures fields { (charset : Charset) → WritesFields charset forms.now column bytes.now to.new result }
 {
     let mut cells = 0;
@@ -121,30 +122,30 @@ fn write_numbers(forms: &[Form], column: u16, bytes: &[u8], to: &mut [u8]) -> Fo
     FormsRun { cells, used, made }
 }
 
-// Writes the fields of the next cells as `write_fields` does, in the bytes from `from` on and the room from `at` on, as
-// long as both go on far enough for any scalar. The result counts from the front of both.
+// Writes the fields of a row's cells from one on as `write_fields` does, by the forms of all its cells, as long as bytes and
+// room go on far enough for any scalar. The first of them begins where `at` says, as does its text, with its comma if it isn't
+// the row's first; the result says where the run ended.
 #[inline(always)]
 fn write_far_fields(
     forms: &[Form],
     charset: Charset,
-    column: u16,
+    at: FormsRun,
     bytes: &[u8],
-    from: usize,
     to: &mut [u8],
-    at: usize,
 ) -> FormsRun
     requires laid { AreLaidOut charset forms.now }
-    requires far { from + FAR ≤ length bytes.now }
-    requires room { at + CELL_ROOM ≤ length to.old }
-    ensures kept { take at to.new ≡ take at to.old }
-    ensures ends { result.cells ≡ 0 → FirstLeft charset forms.now (drop from bytes.now) (length to.old - at) }
-    ensures begun { (from ≤ result.used) × (at ≤ result.made) }
-    ensures fields { WritesFields charset forms.now column (drop from bytes.now) (drop at to.new)
-        (record { cells = result.cells; used = result.used - from; made = result.made - at }) }
+    requires few { length forms.now ≤ 65535 }
+    requires some { at.cells < length forms.now }
+    requires far { at.used + FAR ≤ length bytes.now }
+    requires room { at.made + CELL_ROOM ≤ length to.old }
+    ensures kept { take at.made to.new ≡ take at.made to.old }
+    ensures begun { (at.cells ≤ result.cells) × (at.used ≤ result.used) × (at.made ≤ result.made) }
+    ensures ends { result.cells ≡ at.cells → FirstLeft charset (drop at.cells forms.now) (drop at.used bytes.now) (length to.old - at.made) }
+    ensures fields { WritesFields charset (drop at.cells forms.now) at.cells (drop at.used bytes.now) (drop at.made to.new) (done_since at result) }
 {
-    let mut cells = 0;
-    let mut used = from;
-    let mut made = at + write_comma(column, &mut to[at..]);
+    let mut cells = at.cells;
+    let mut used = at.used;
+    let mut made = at.made + write_comma(cells as u16, &mut to[at.made..]);
     let latest = bytes.len() - FAR;
     let most = to.len() - VALUE_ROOM;
     while cells < forms.len() && used <= latest && made <= most {
@@ -161,37 +162,36 @@ fn write_far_fields(
     FormsRun { cells, used, made }
 }
 
-/// Writes the cells of the rest of a row as [`run_forms`] does, in the bytes from `from` on and the room from `at` on,
-/// as long as both go on far enough for any scalar. The result counts from the front of both.
+/// Writes the cells of a row from one on as [`run_forms`] does, by the forms of all its cells, as long as bytes and room go on
+/// far enough for any scalar. The first of them begins where `at` says, as does its text; the result says where the run ended.
 #[inline(always)]
 pub(crate) fn run_far_forms(
     forms: &[Form],
     charset: Charset,
-    column: u16,
+    at: FormsRun,
     bytes: &[u8],
-    from: usize,
     to: &mut [u8],
-    at: usize,
 ) -> FormsRun
     requires laid { AreLaidOut charset forms.now }
-    requires far { from + FAR ≤ length bytes.now }
-    requires room { at + CELL_ROOM ≤ length to.old }
-    ensures kept { take at to.new ≡ take at to.old }
-    ensures begun { (from ≤ result.used) × (at ≤ result.made) }
-    ensures cells { RunsForms charset forms.now column true (drop from bytes.now) (length to.old - at) (drop at to.new)
-        (record { cells = result.cells; used = result.used - from; made = result.made - at }) }
+    requires few { length forms.now ≤ 65535 }
+    requires some { at.cells < length forms.now }
+    requires far { at.used + FAR ≤ length bytes.now }
+    requires room { at.made + CELL_ROOM ≤ length to.old }
+    ensures kept { take at.made to.new ≡ take at.made to.old }
+    ensures begun { (at.cells ≤ result.cells) × (at.used ≤ result.used) × (at.made ≤ result.made) }
+    ensures cells { RunsForms charset (drop at.cells forms.now) at.cells true (drop at.used bytes.now) (length to.old - at.made)
+        (drop at.made to.new) (done_since at result) }
 {
-    let run = write_far_fields(forms, charset, column, bytes, from, to, at);
-    if run.cells == 0 {
-        return FormsRun {
-            cells: 0,
-            used: from,
-            made: at,
-        };
+    let run = write_far_fields(forms, charset, at, bytes, to);
+    if run.cells == forms.len() {
+        let made = write_line_end(true, run.made - 1, to);
+        return FormsRun { made, ..run };
     }
-    let last = is_last(true, run.cells, forms.len());
-    let end = write_line_end(last, run.made - 1, to);
-    FormsRun { made: end, ..run }
+    if run.cells == at.cells {
+        return at;
+    }
+    let made = run.made - 1;
+    FormsRun { made, ..run }
 }
 
 /// Writes the text in its line of the cell that begins at `from`, of the column after `column` others, into the room from `at`
@@ -266,6 +266,7 @@ pub(crate) fn run_row(forms: &[Form], bytes: &[u8], to: &mut [u8]) -> Option<For
     ensures row { (charset : Charset) → IfSome result
         (λ run. RunsForms charset forms.now 0 true bytes.now (length to.old) to.new run) }
     ensures whole { IfSome result (λ run. run.cells ≡ length forms.now) }
+    ensures left { IfSome result (λ run. run.used < length bytes.now) }
     ensures within { IfSome result (λ run. IsWithin run (length forms.now) (length bytes.now) (length to.old)) }
 {
     let run = write_numbers(forms, 0, bytes, to);

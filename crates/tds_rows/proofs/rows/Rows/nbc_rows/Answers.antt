@@ -1,7 +1,7 @@
 use Rattle.tds_rows.proofs.rows.Rows.nbc_rows.Goals as goal
 use Rattle.tds_rows.proofs.{
   Words.{NbcRow, ◌∙◌, refl, sym, ap, arith, passed},
-  NextSteps.{rows_first, rows_row, rows_stop, rows_token, stays, stays_after, stays_on},
+  NextSteps.{none_put, rows_first, rows_row, rows_stop, rows_taken, rows_token, stays, stays_after, stays_on},
 }
 
 pub loop-ended-init : goal.loop-ended-init
@@ -14,51 +14,57 @@ loop-ended-init g c = record {
       rows_first c.requires.some.in_row.sink.ready.2;
 }
 
-pub returns-in_err-next_nbc_row-clause-rows : goal.returns-in_err-next_nbc_row-clause-rows
-returns-in_err-next_nbc_row-clause-rows g c =
+pub returns-in_err-nbc_row-clause-rows : goal.returns-in_err-nbc_row-clause-rows
+returns-in_err-nbc_row-clause-rows g c =
     let l = c.loop-ended in
-    rw (← l.invariant.stays.same.3) (λ columns knows. passed _ _ _ _ c.from_residual.ensures.1
-    (rows_stop (l.invariant.reads columns knows) (c.in_err-next_nbc_row.ensures.row columns knows)))
+    let whole = c.put_whole_rows-ended.ensures in
+    let reads = rows_taken l.invariant.stays.in_row whole.stays (omega arith) whole.rows l.invariant.reads in
+    rw (← (whole.stays.same.3 ∙ l.invariant.stays.same.3)) (λ columns knows. passed _ _ _ _ c.from_residual.ensures.1
+    (rows_stop (reads columns knows) (c.in_err-nbc_row.ensures.row columns knows)))
 
 pub returns-then-not-take_token-clause-rows : goal.returns-then-not-take_token-clause-rows
 returns-then-not-take_token-clause-rows g c =
     let l = c.loop-ended in
-    rw (← l.invariant.stays.same.3) (λ columns knows.
+    let whole = c.put_whole_rows-ended.ensures in
+    let reads = rows_taken l.invariant.stays.in_row whole.stays (omega arith) whole.rows l.invariant.reads in
+    rw (← (whole.stays.same.3 ∙ l.invariant.stays.same.3)) (λ columns knows.
     rw (sym (c.if-not-take_token.ensures.token NbcRow refl).0, sym c.take_token.ensures.sink) at
-    (rows_row (l.invariant.reads columns knows) (c.in_ok-next_nbc_row.ensures.row columns knows)))
+    (rows_row (reads columns knows) (c.in_ok-nbc_row.ensures.row columns knows)))
 
 pub returns-then-not-take_token-clause-ends : goal.returns-then-not-take_token-clause-ends
 returns-then-not-take_token-clause-ends g c =
     let l = c.loop-ended in
-    let known = l.invariant.knows in
+    let known = c.put_whole_rows-ended.ensures.stays in
+    let some = rw (sym known.same.3) at l.invariant.knows in
     let none = c.if-not-take_token.ensures.token NbcRow refl in (
-      omega (arith, (c.in_ok-next_nbc_row.ensures.row known.0 known.1).place_is, ap (λ p. p.place) none.0),
+      omega (arith, (c.in_ok-nbc_row.ensures.row some.0 some.1).place_is, ap (λ p. p.place) none.0),
       none.1,
     )
 
 pub loop-ended-preserved : goal.loop-ended-preserved
 loop-ended-preserved g c =
     let l = c.loop-ended in
-    let done = c.in_ok-next_nbc_row.ensures in
+    let whole = c.put_whole_rows-ended.ensures in
+    let done = c.in_ok-nbc_row.ensures in
     let kept = c.take_token.ensures.stays in
     let same = kept.same.3 ∙ done.leaves.same.3 in
     let taken = c.if-not-take_token.ensures.token NbcRow refl in
-    let known = l.invariant.knows in
+    let known = rw (sym whole.stays.same.3) at l.invariant.knows in
+    let reads = rows_taken l.invariant.stays.in_row whole.stays (omega arith) whole.rows l.invariant.reads in
     record {
-      stays = stays_on (stays_on l.invariant.stays (stays_after l.invariant.stays.in_row done.leaves)) kept;
+      stays = stays_on (stays_on (stays_on l.invariant.stays whole.stays) (stays_after whole.stays.in_row done.leaves)) kept;
       knows = rw (sym same) at known;
       room = search arith;
       few = omega (arith, (done.row known.0 known.1).place_is);
       reads = rw same (λ columns knows.
-          let read = rows_row (l.invariant.reads columns knows) (done.row columns knows) in
-          let begun = rows_token (omega arith) done.leaves.sink.ready.2 read taken.0 in
-          rw (sym taken.1, sym c.take_token.ensures.sink) at begun);
+          rows_token (omega arith) (rows_row (reads columns knows) (done.row columns knows)) taken.0
+          (none_put g.W.Write.contents c.take_token.ensures.sink done.leaves.sink.ready.2) taken.1);
     }
 
 pub loop-ended-smaller : goal.loop-ended-smaller
 loop-ended-smaller g c =
     let l = c.loop-ended in
-    let done = c.in_ok-next_nbc_row.ensures in
+    let done = c.in_ok-nbc_row.ensures in
     let taken = c.if-not-take_token.ensures.token NbcRow refl in
-    let known = l.invariant.knows in
+    let known = rw (sym c.put_whole_rows-ended.ensures.stays.same.3) at l.invariant.knows in
     omega (arith, (done.row known.0 known.1).place_is)

@@ -1,7 +1,7 @@
 use Rattle.tds_rows.proofs.rows.Rows.rows.Goals as goal
 use Rattle.tds_rows.proofs.{
   Words.{◌∙◌, [], refl, sym, ap, arith, passed, PlainRow},
-  NextSteps.{cell_further, rows_broke, rows_cell, rows_first, rows_ran, rows_stopped, rows_token, rows_whole, stays, stays_after, stays_on},
+  NextSteps.{cell_further, none_put, rows_broke, rows_cell, rows_first, rows_ran, rows_stopped, rows_token, rows_whole, stays, stays_after, stays_on},
 }
 
 pub loop-run-init : goal.loop-run-init
@@ -85,8 +85,8 @@ loop-run-preserved-in_default g c =
       reads = rw same (λ columns knows.
           let x = rows_ran l.invariant.reads run columns knows in
           let whole = rows_whole (rw (c.in_default.ensures.taken columns knows x.0) at x.1).rows in
-          let begun = rows_token (omega (arith, knows.counted, known.2)) kept.in_row.sink.ready.2 whole taken.0 in
-          let next = rw (sym taken.1, sym took.sink) at begun in
+          let next = rows_token (omega (arith, knows.counted, known.2)) whole taken.0
+          (none_put g.W.Write.contents took.sink kept.in_row.sink.ready.2) taken.1 in
           let begins = start.ahead columns (rw (sym same) at knows) in
           (rw same at begins, rw start.first (record { cells = []; counted = refl; rows = next })));
     }

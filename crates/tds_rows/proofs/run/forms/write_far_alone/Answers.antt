@@ -18,8 +18,8 @@ overflow_sub-result c =
     let comma = c.write_comma in
     let cell = c.write_far_cell in
     let end = c.write_line_end-end in
-    let x = line_beyond c.args.at comma.result c.in_ok-written.written.made end.result c.args.to.now comma.new.to _ cell.new.to end.new.to _
-    (search (arith, rules)) (search (arith, rules)) (search (arith, rules)) (search (arith, rules)) cell.ensures.kept end.ensures.text in
+    let x = line_beyond c.args.at comma.result _ end.result c.args.to.now comma.new.to _ cell.new.to end.new.to _ (search (arith, rules))
+    cell.ensures.kept end.ensures.text in
     x.0
 
 pub returns-clause-kept : goal.returns-clause-kept
@@ -27,8 +27,8 @@ returns-clause-kept c =
     let comma = c.write_comma in
     let cell = c.write_far_cell in
     let end = c.write_line_end-end in
-    let x = line_beyond c.args.at comma.result c.in_ok-written.written.made end.result c.args.to.now comma.new.to _ cell.new.to end.new.to _
-    (search (arith, rules)) (search (arith, rules)) (search (arith, rules)) (search (arith, rules)) cell.ensures.kept end.ensures.text in
+    let x = line_beyond c.args.at comma.result _ end.result c.args.to.now comma.new.to _ cell.new.to end.new.to _ (search (arith, rules))
+    cell.ensures.kept end.ensures.text in
     x.1.0
 
 pub returns-clause-cell : goal.returns-clause-cell
@@ -36,7 +36,7 @@ returns-clause-cell c =
     let comma = c.write_comma in
     let cell = c.write_far_cell in
     let end = c.write_line_end-end in
-    let x = line_beyond c.args.at comma.result c.in_ok-written.written.made end.result c.args.to.now comma.new.to _ cell.new.to end.new.to _
-    (search (arith, rules)) (search (arith, rules)) (search (arith, rules)) (search (arith, rules)) cell.ensures.kept end.ensures.text in
+    let x = line_beyond c.args.at comma.result _ end.result c.args.to.now comma.new.to _ cell.new.to end.new.to _ (search (arith, rules))
+    cell.ensures.kept end.ensures.text in
     let line = x.1.1 ∙ ap (λ l. l ++ end_after c.args.last) (comma.ensures.text _) in
     record { size = c.in_ok-written.ensures.whole; writes = rw line (c.in_ok-written.ensures.field c.args.column c.args.last) }

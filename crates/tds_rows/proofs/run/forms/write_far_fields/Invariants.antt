@@ -1,15 +1,17 @@
 use Rattle.tds_rows.proofs.run.forms.write_far_fields.Given as goal
-use Rattle.tds_rows.proofs.{Words.{length, take, drop, ◌-◌, ◌≡◌, ◌≤◌, FieldsWritten}, FormSteps.FieldsAt}
+use Rattle.tds_rows.proofs.{Words.{length, take, drop, ◌-◌, ◌≡◌, ◌≤◌, FieldsWritten, done_since}, FormSteps.FieldsAt}
 
 abbrev pub invariant-loop-cells : goal.invariant-loop-cells
 invariant-loop-cells l = record {
-  from : l.from ≤ l.used;
-  begun : l.at ≤ l.made;
+  cells : l.fn.at.cells ≤ l.cells;
+  from : l.fn.at.used ≤ l.used;
+  begun : l.fn.at.made ≤ l.made;
   size : length l.to ≡ length l.fn.to;
-  kept : take l.at l.to ≡ take l.at l.fn.to;
-  at : FieldsAt l.forms (drop l.from l.bytes) (length l.to - l.at) l.cells (l.used - l.from) (l.made - l.at);
-  writes : FieldsWritten l.charset l.forms l.column (drop l.from l.bytes) (drop l.at l.to)
-      (record { cells = l.cells; used = l.used - l.from; made = l.made - l.at });
+  kept : take l.fn.at.made l.to ≡ take l.fn.at.made l.fn.to;
+  at : FieldsAt (drop l.fn.at.cells l.forms) (drop l.fn.at.used l.bytes) (length l.to - l.fn.at.made) (l.cells - l.fn.at.cells) (l.used - l.fn.at.used)
+      (l.made - l.fn.at.made);
+  writes : FieldsWritten l.charset (drop l.fn.at.cells l.forms) l.fn.at.cells (drop l.fn.at.used l.bytes) (drop l.fn.at.made l.to)
+      (done_since l.fn.at (record { cells = l.cells; used = l.used; made = l.made }));
 }
 
 abbrev pub decreases-loop-cells : goal.decreases-loop-cells

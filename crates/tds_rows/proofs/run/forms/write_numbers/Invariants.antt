@@ -1,10 +1,10 @@
 use Rattle.tds_rows.proofs.run.forms.write_numbers.Given as goal
-use Rattle.tds_rows.proofs.{Words.{length, ◌+◌, ◌*◌, ◌-◌, ◌≤◌, Charset, FieldsWritten}, FormSteps.FieldsAt}
+use Rattle.tds_rows.proofs.{Words.{length, ◌+◌, ◌*◌, ◌-◌, ◌<◌, ◌≤◌, Charset, FieldsWritten}, FormSteps.FieldsAt}
 
 abbrev pub invariant-loop-cells : goal.invariant-loop-cells
 invariant-loop-cells l = record {
   at : FieldsAt l.forms l.bytes (length l.to) l.cells l.used l.made;
-  whole : l.used + 5 * (length l.forms - l.cells) ≤ length l.bytes;
+  whole : l.used + 5 * (length l.forms - l.cells) < length l.bytes;
   fits : l.made + 12 * (length l.forms - l.cells) + 25 ≤ length l.to;
   writes : (charset : Charset) → FieldsWritten charset l.forms l.column l.bytes l.to (record { cells = l.cells; used = l.used; made = l.made });
 }

@@ -1,11 +1,13 @@
 use Rattle.tds_rows.proofs.table.Table.run_far.Given as goal
-use Rattle.tds_rows.proofs.Words.{◌≡◌, ◌-◌, length, RowsRan}
+use Rattle.tds_rows.proofs.Words.{◌≡◌, ◌-◌, ◌<◌, length, RowsRan}
 
-abbrev pub invariant-loop-used : goal.invariant-loop-used
-invariant-loop-used l = record {
+abbrev pub invariant-loop-at : goal.invariant-loop-at
+invariant-loop-at l = record {
   size : length l.to ≡ length l.fn.to;
-  ran : RowsRan l.fn.self l.fn.from l.fn.bytes l.to (record { used = l.used; made = l.made; rows = l.rows; ahead = l.ahead });
+  some : l.at.cells < l.fn.self.count;
+  ran : RowsRan l.fn.self l.fn.from l.fn.bytes l.to
+      (record { used = l.at.used; made = l.at.made; rows = l.rows; ahead = record l.fn.from { column = l.at.cells } });
 }
 
-abbrev pub decreases-loop-used : goal.decreases-loop-used
-decreases-loop-used l = length l.fn.bytes - l.used
+abbrev pub decreases-loop-at : goal.decreases-loop-at
+decreases-loop-at l = length l.fn.bytes - l.at.used

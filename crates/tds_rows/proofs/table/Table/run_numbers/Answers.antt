@@ -7,7 +7,7 @@ use Rattle.tds_rows.proofs.{
     else-loop-used-test,
     then-loop-used-test+else-made-latest,
     then-loop-used-test+then-made-latest+in_default-run_row as row_refused,
-    then-loop-used-test+then-made-latest+in-Some-run_row+then-not-row_follows as row_last,
+    then-loop-used-test+then-made-latest+in-Some-run_row+then-not-begins_row as row_last,
   },
   FormSteps.too_late,
   RunSteps.made_same,
@@ -45,7 +45,7 @@ loop-used-preserved c =
     (omega arith) (inr (omega arith)) refl) wrote) c.loop-used.invariant.ran in
     record {
       same = search arith;
-      ran = row_begun known.1 (omega arith) (c.row_follows.ensures.begins (search N.rules), c.requires.first) (λ columns knows is. record {
+      ran = row_begun known.1 (omega arith) (c.begins_row.ensures.begins (search N.rules), c.requires.first) (λ columns knows is. record {
         counted = omega arith;
         within = λ _. is.within (omega arith);
         beyond = λ none. absurd (omega (arith, none));
@@ -77,7 +77,7 @@ returns-clause-ends c =
       | row_refused w ↦ inr (inl (rw (row, N.all_after bytes l.used) at (w.in_default-run_row.ensures.refused refl)))
       | row_last w ↦ (let run = w.in-Some-run_row.run' in
           let last =
-          rw (N.all_after bytes _, sym (N.drop-drop run.used l.used bytes)) at (w.row_follows.ensures.other w.if-not-row_follows.true) in
+          rw (N.all_after bytes _, sym (N.drop-drop run.used l.used bytes)) at (w.begins_row.ensures.other w.if-not-begins_row.true) in
           let alone : IsLastRow _ _ = record {
             run = run;
             whole = w.in-Some-run_row.ensures.whole;
