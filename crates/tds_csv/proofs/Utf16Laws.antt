@@ -70,11 +70,6 @@ seam (low ∷ high ∷ []) b = grind arith
 seam (low ∷ high ∷ odd ∷ []) b = grind arith
 seam (low ∷ high ∷ low' ∷ high' ∷ bytes) b = let more = seam (low' ∷ high' ∷ bytes) b in grind arith
 
--- one unit before the front of what follows it
-Apart-cons : (u : ℕ) (a : List ℕ) (low high : ℕ) (vs : List ℕ) → (starts_high (units (rest (low ∷ high ∷ a))) ≡ true → starts_low vs ≡ false)
-    → Apart (units (front (low ∷ high ∷ a))) vs → Apart (u ∷ units (front (low ∷ high ∷ a))) vs
-Apart-cons = grind arith
-
 -- no pair lies across the end of the front, where no low surrogate comes first after a rest that begins with a high one
 Apart-front : (a vs : List ℕ) → (starts_high (units (rest a)) ≡ true → starts_low vs ≡ false) → Apart (units (front a)) vs
 Apart-front [] vs f = tt

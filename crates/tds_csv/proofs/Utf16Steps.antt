@@ -89,10 +89,6 @@ pub spells_held : (xs : List ℕ) → 2 ≤ length xs → length xs % 2 ≡ 0 �
 unfolding starts_low
 spells_held = grind (arith, short, N.nat_tests, N.and_right, N.encode_utf8_all, chars_one)
 
--- a high surrogate stays before what is no whole unit
-held_high : (low high : ℕ) (more : List ℕ) → length more < 2 → is_high low high ≡ true → rest (low ∷ high ∷ more) ≡ low ∷ high ∷ more
-held_high = grind arith
-
 -- the bytes from a place on, the first ones named
 drop_two : (xs : List ℕ) (i : ℕ) → i + 1 < length xs → drop i xs ≡ get_or xs i 0 ∷ get_or xs (i + 1) 0 ∷ drop (i + 2) xs
 drop_two = grind (arith, N.drop_more)

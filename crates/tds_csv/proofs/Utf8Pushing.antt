@@ -11,24 +11,6 @@ moved_by n (Err (N.Stopped stop)) = Err (N.Stopped stop)
 moved_by n (Err Odd) = Err Odd
 moved_by n (Ok v) = Ok v
 
--- three bytes hold what is withheld
-is_scan : (bytes : List ℕ) (whole good : ℕ) → whole ≤ good → good ≤ length bytes → drop whole bytes ≡ rest bytes
-    → (good ≡ length bytes → Begins bytes) → (good < length bytes → N.StopsAt bytes whole good) → N.IsScan bytes whole good
-is_scan bytes whole good order most same begins stops =
-    let short : good ≤ whole + 3 = elim (N.cases_lt good (length bytes)) [
-      | N.inl less ↦
-          let s = stops less in
-          omega (
-            arith,
-            ap length s.keeps,
-            joins_utf8.short (take good bytes) s.begun,
-            N.length-drop whole bytes,
-            N.length-take-le (good - whole) (drop whole bytes) (omega (arith, N.length-drop whole bytes)),
-          )
-      | N.inr all ↦ omega (arith, ap length same, N.length-drop whole bytes, joins_utf8.short bytes (begins (omega arith)))
-    ] in
-    record { order = order; most = most; short = short; rest = same; begins = begins; stops = stops }
-
 -- the bad byte is after what is withheld
 pub after_kept : (kept piece bytes : List ℕ) (k : ℕ) → bytes ≡ kept ++ piece → Begins kept → (Begins (take (k + 1) bytes) → ⊥) → length kept ≤ k
 after_kept kept piece bytes k is begun bad = elim (N.cases_lt k (length kept)) [

@@ -14,12 +14,6 @@ returns-in-Ok-fill-clause-gives g c =
           _ _ _ c.fill.auto.to;
     }
 
-pub returns-in-Err-clause-area : goal.returns-in-Err-clause-area
-returns-in-Err-clause-area g c =
-    let back = shrunk _ _ (N.grown _ _ _ c.fill.auto.to) (c.fill.auto.to ∙ c.grow_within-lent.ensures.value) c.len-start.ensures.value
-    c.truncate.ensures in
-    record { room = rw c.truncate.ensures; kept = (back.0, omega arith) }
-
 pub returns-in-Err-clause-gives : goal.returns-in-Err-clause-gives
 returns-in-Err-clause-gives g c = λ going.
     let back = shrunk _ _ (N.grown _ _ c.fill.new.to c.fill.auto.to) (c.fill.auto.to

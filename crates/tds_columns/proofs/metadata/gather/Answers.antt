@@ -2,9 +2,6 @@ use Rattle.tds_columns.proofs as N
 use N.metadata.gather.Goals as goal
 use N.GatherMeaning.{gather_stops, gathers}
 
-pub returns-in_default-clause-gives : goal.returns-in_default-clause-gives
-returns-in_default-clause-gives g c = rw (c.in_default.is, c.clear.ensures.value) at c.in_ok-count.ensures.gives
-
 pub returns-in_err-count-clause-gives : goal.returns-in_err-count-clause-gives
 returns-in_err-count-clause-gives g c = N.passed _ _ _ _ c.from_residual.ensures.1
     (λ going. gather_stops (rw c.clear.ensures.value at (c.in_err-count.ensures.gives.2 going)))

@@ -1,10 +1,6 @@
 use Rattle.tds_columns.proofs as N
 use N.metadata.read_column.Goals as goal
 
-pub returns-in_err-read_type-clause-gives : goal.returns-in_err-read_type-clause-gives
-returns-in_err-read_type-clause-gives g c =
-    λ columns number. N.passed _ _ _ _ c.from_residual.ensures.1 (c.in_err-read_type.ensures.gives _ number)
-
 pub returns-clause-gives : goal.returns-clause-gives
 returns-clause-gives g c = λ columns number.
     N.GatherSteps.part_after _ _ _ _ _ c.in_ok-read_type.ensures.leaves.room (c.in_ok-read_type.ensures.gives _ number).1 (c.read_name.ensures.gives _ _ number)

@@ -85,6 +85,3 @@ returns-in-Err-clause-exports g c =
       failed_reads = λ e. let r = blame.0 e in grind (arith, r);
       failed_writes = λ e. let r = blame.1 e in grind (arith, r);
     }
-
-pub returns-in-Err-clause-no_notice : goal.returns-in-Err-clause-no_notice
-returns-in-Err-clause-no_notice g c = ap (λ (s : Space). s.bytes) c.clear.ensures.value

@@ -1,10 +1,5 @@
 use Rattle.tds_export.proofs.set.put_units.Goals as goal
-use Rattle.tds_export.proofs.{Words.{held, rules}, NameTexts.{end_breaks, end_puts, end_stopped, push_breaks, push_stopped}}
-
-pub stop_in-requires : goal.stop_in-requires
-stop_in-requires g c =
-    push_stopped _ c.new-joiner.result.kept c.push.new.self.kept (held g.W.Write.contents c.args.sink.now)
-    (held g.W.Write.contents c.push.new.sink) _ c.args.units.now c.in-Err.ensures.gives
+use Rattle.tds_export.proofs.{Words.{held, rules}, NameTexts.{end_breaks, end_puts, end_stopped, push_breaks}}
 
 pub returns-in-Err : goal.returns-in-Err
 returns-in-Err g c = search (

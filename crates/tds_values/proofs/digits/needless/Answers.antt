@@ -1,9 +1,6 @@
 use Rattle.tds_values.proofs.digits.needless.Goals as goal
 use Rattle.tds_values.proofs.ZeroLemmas.{zeros_of}
 
-pub returns-clause-few : goal.returns-clause-few
-returns-clause-few c = (zeros_of 7 c.args.n _ c.requires c.word-values.ensures).0
-
 pub returns-clause-fits : goal.returns-clause-fits
 returns-clause-fits c = (zeros_of 7 c.args.n _ c.requires c.word-values.ensures).1.0
 

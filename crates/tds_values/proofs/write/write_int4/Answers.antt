@@ -3,6 +3,3 @@ use Rattle.tds_values.proofs.{Words.{arith, rules}, TextLengths.length-int4}
 
 pub returns-clause-most : goal.returns-clause-most
 returns-clause-most c = length-int4 _ _ _ c.put_integer.ensures.written (search (arith, rules)) (grind arith)
-
-pub returns-clause-text : goal.returns-clause-text
-returns-clause-text c = search rules
