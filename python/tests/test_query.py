@@ -445,6 +445,15 @@ def relay(port: int, change: str) -> None:
         copy("server", behind, client)
 
 
+def hold(channel: Channel) -> None:
+    """Serves rows whose end doesn't come, until the client goes."""
+    log_in(channel)
+    channel.read_message()
+    channel.write(HELD)
+    channel.wait()
+    channel.receive()
+
+
 class Signals(Live):
     def setUp(self) -> None:
         """A program that keeps in a file what it gets."""
@@ -551,15 +560,8 @@ class Signals(Live):
 
     def test_a_program_does_not_outlive_the_command(self) -> None:
         """After SIGTERM and SIGKILL the program ends by itself: its input is over."""
-        def serve(channel: Channel) -> None:
-            log_in(channel)
-            channel.read_message()
-            channel.write(HELD)
-            channel.wait()
-            channel.receive()
-
         for number in (signal.SIGTERM, signal.SIGKILL):
-            with self.subTest(number=number), listening(serve) as port:
+            with self.subTest(number=number), listening(hold) as port:
                 run = self.begin(port)
                 run.send_signal(number)
                 out, _ = run.communicate(timeout=SECONDS)
@@ -619,14 +621,7 @@ class FromPython(Live):
                 self.assertEqual((came.returncode, came.stdout.decode().strip()), (0, wanted), came.stderr)
 
     def test_a_connection_that_falls_silent(self) -> None:
-        def serve(channel: Channel) -> None:
-            log_in(channel)
-            channel.read_message()
-            channel.write(HELD)
-            channel.wait()
-            channel.receive()
-
-        with listening(serve) as port, gavyreto.query(
+        with listening(hold) as port, gavyreto.query(
                 "x", "127.0.0.1", user="u", password="p", port=port, encrypt="none", seconds=3, program=PROGRAM) as answer:
             rows = answer.only()
             self.assertEqual([next(rows)[0] for _ in range(3)], [1, 2, 3])
