@@ -80,7 +80,8 @@ def run_command(name: str, words: list[str]) -> int:
             signal.signal(signal.SIGINT, _raising)
         return int(command.run(words))
     finally:
-        signal.signal(signal.SIGINT, before)
+        if signal.getsignal(signal.SIGINT) is not before:  # only the main thread may set one, which alone has changed it
+            signal.signal(signal.SIGINT, before)
 
 
 def ending(words: list[str]) -> tuple[str, int]:

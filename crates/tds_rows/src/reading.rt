@@ -152,9 +152,9 @@ pub fn nbc_row<R: Read, W: Write>(
 
 /// Reads an NBCROW after its token byte, and the NBCROWs after it as long as the next token byte is in the
 /// packet that the row before it ends in. Puts their lines, and returns how many they are. The lines of the
-/// whole rows count at a stop, and so does the text so far of the row that it stops in. The area is emptied
-/// before each row; a bitmap is read into it if the row isn't whole in the packet, or near the end of packet
-/// or block. Faults, places and the areas' rooms are as in [`nbc_row`] (MS-TDS, NBCROW).
+/// whole rows count at a stop, and so does the text so far of the row that it stops in. A row's bitmap is read
+/// into the area, which is emptied before it, if the row isn't whole in the packet, is near the end of packet
+/// or block, or is the last. Faults, places and the areas' rooms are as in [`nbc_row`] (MS-TDS, NBCROW).
 pub fn read_nbc_rows<R: Read, W: Write>(
     payload: &mut Payload<R>,
     columns: Columns<'_>,
