@@ -132,15 +132,17 @@ pub(crate) fn convert_one(bytes: &[u8], from: usize, to: &mut [u8], start: usize
     }
 }
 
-// Goes on with the text by eight units, as long as so many are left and none of them is a surrogate. With `LONG` one of
-// them has to be long, and otherwise one has to be short.
+// Goes on with the text by eight units, as long as they begin at `last` at the latest and none of them is a surrogate. With
+// `LONG` one of them has to be long, and otherwise one has to be short.
 #[inline(always)]
 fn convert_eights<const LONG: bool>(
     bytes: &[u8],
+    last: usize,
     from: usize,
     to: &mut [u8],
     start: usize,
 ) -> Converted
+    requires last { last + LANES ≤ length bytes.now }
     requires long { 3 * length bytes.now + 2 * LANES ≤ 2 * length to.old }
     requires before { Converts bytes.now to.old from start }
     ensures more { from ≤ result.used }
@@ -148,10 +150,6 @@ fn convert_eights<const LONG: bool>(
 {
     let mut at = from;
     let mut made = start;
-    if bytes.len() - from < LANES {
-        return Converted { used: at, made };
-    }
-    let last = bytes.len() - LANES;
     while at <= last {
         let lanes = u8x16::from_slice(&bytes[at..]);
         let Some(end) = put_eight::<LONG>(to, made, lanes) else {
@@ -161,6 +159,29 @@ fn convert_eights<const LONG: bool>(
         made = end;
     }
     Converted { used: at, made }
+}
+
+// Goes on with the text by eight units that begin at `last` at the latest, up to the next surrogate.
+#[inline(always)]
+fn convert_full(bytes: &[u8], last: usize, from: usize, to: &mut [u8], start: usize) -> Converted
+    requires last { last + LANES ≤ length bytes.now }
+    requires long { 3 * length bytes.now + 2 * LANES ≤ 2 * length to.old }
+    requires before { Converts bytes.now to.old from start }
+    ensures more { from ≤ result.used }
+    ensures after { Converts bytes.now to.new result.used result.made }
+{
+    let mut run = Converted {
+        used: from,
+        made: start,
+    };
+    loop {
+        let eights = convert_eights::<false>(bytes, last, run.used, to, run.made);
+        let done = convert_eights::<true>(bytes, last, eights.used, to, eights.made);
+        if done.used == eights.used {
+            return done;
+        }
+        run = done;
+    }
 }
 
 // Goes on with the text by at most `most` of the next eight units, if none of these is a surrogate. What comes after the bytes
@@ -207,14 +228,10 @@ fn convert_run(bytes: &[u8], source: &[u8], from: usize, to: &mut [u8], start: u
         used: from,
         made: start,
     };
-    loop {
-        let eights = convert_eights::<false>(bytes, run.used, to, run.made);
-        let done = convert_eights::<true>(bytes, eights.used, to, eights.made);
-        if done.used == eights.used {
-            return convert_some(bytes, source, done.used, to, done.made, UNITS);
-        }
-        run = done;
+    if bytes.len() >= LANES {
+        run = convert_full(bytes, bytes.len() - LANES, from, to, start);
     }
+    convert_some(bytes, source, run.used, to, run.made, UNITS)
 }
 
 // How many of the next eight units come before the first surrogate among them.
@@ -268,6 +285,21 @@ pub(crate) fn convert(bytes: &[u8], source: &[u8], to: &mut [u8]) -> Converted
     convert_from(bytes, source, run, to)
 }
 
+// Goes on with the text of whole data, with surrogates, and returns its length. A high surrogate at the end has no partner.
+#[inline(never)]
+fn convert_last(bytes: &[u8], source: &[u8], after: Converted, to: &mut [u8]) -> usize
+    requires whole { length bytes.now % 2 ≡ 0 }
+    requires before { ConvertsIn bytes.now source.now to.old after.used after.made }
+    ensures short { 2 * result ≤ 3 * length bytes.now }
+    ensures text { take result to.new ≡ utf16.text bytes.now }
+{
+    let done = convert_from(bytes, source, after, to);
+    if done.used == bytes.len() {
+        return done.made;
+    }
+    put_quoted(to, done.made, 0xFFFD)
+}
+
 // Writes the text of whole data, and returns its length. A high surrogate at the end has no partner.
 #[inline(always)]
 pub(crate) fn convert_whole(bytes: &[u8], source: &[u8], to: &mut [u8]) -> usize
@@ -277,9 +309,9 @@ pub(crate) fn convert_whole(bytes: &[u8], source: &[u8], to: &mut [u8]) -> usize
     ensures short { 2 * result ≤ 3 * length bytes.now }
     ensures text { take result to.new ≡ utf16.text bytes.now }
 {
-    let done = convert(bytes, source, to);
-    if done.used == bytes.len() {
-        return done.made;
+    let run = convert_run(bytes, source, 0, to, 0);
+    if run.used == bytes.len() {
+        return run.made;
     }
-    put_quoted(to, done.made, 0xFFFD)
+    convert_last(bytes, source, run, to)
 }

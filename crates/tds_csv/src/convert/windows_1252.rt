@@ -75,22 +75,19 @@ fn put_text(to: &mut [u8], at: usize, byte: u8) -> usize
     }
 }
 
-// Writes the next bytes that are their own text, at most 16, to a place, and returns how many. Writes none
-// if fewer than 16 bytes of the source are left. The source begins with the bytes, and what follows them may
-// be looked at too.
+// Writes the next bytes that are their own text, at most 16, to a place, and returns how many. The source begins with the
+// bytes, and what follows them may be looked at too.
 #[inline(always)]
 fn take_plain(bytes: &[u8], source: &[u8], at: usize, to: &mut [u8], made: usize) -> usize
     requires from { at ≤ length bytes.now }
     requires source { LiesIn bytes.now source.now }
+    requires there { at + LANES ≤ length source.now }
     requires room { made + LANES ≤ length to.old }
     ensures most { result ≤ LANES }
     ensures within { at + result ≤ length bytes.now }
     ensures taken { let run = take result (drop at bytes.now) in
         take (made + result) to.new ≡ take made to.old ++ windows_1252.text run }
 {
-    if source.len() - at < LANES {
-        return 0;
-    }
     let n = plain_run(source, at).min(bytes.len() - at);
     put_lanes(to, made, u8x16::from_slice(&source[at..]), n);
     n
@@ -197,20 +194,18 @@ fn convert_rest(bytes: &[u8], source: &[u8], after: Converted, to: &mut [u8]) ->
 {
     let mut at = after.used;
     let mut made = after.made;
-    while at < bytes.len() {
+    let end = bytes.len().min((source.len() + 1).saturating_sub(LANES));
+    while at < end {
         let n = take_plain(bytes, source, at, to, made);
         at += n;
         made += n;
         if n == LANES || at == bytes.len() {
             continue;
         }
-        if n == 0 && source.len() - at < LANES {
-            return convert_by_hand(bytes, at, bytes.len(), to, made);
-        }
         made = put_text(to, made, bytes[at]);
         at += 1;
     }
-    made
+    convert_by_hand(bytes, at, bytes.len(), to, made)
 }
 
 // Writes the text of bytes as `convert` does, in the way that is best for fewer than 32: it makes no call.

@@ -1,25 +1,14 @@
 use Rattle.tds_csv.proofs as N
 use N.convert.utf16.convert_whole.Goals as goal
-use N.{◌≡◌, ◌≢◌, ◌%◌, ◌++◌, ℕ, List, [], length, ap, arith, Utf16Laws.joins_utf16}
+use N.{◌≡◌, ◌∙◌, ◌++◌, [], ap, append-nil, arith, drop, length, sym, Utf16Laws.joins_utf16, Utf16Steps.{ends_there, nil_of_length, text_nil}}
 use Rattle.tds_csv.specs.Utf16 as utf16
 
--- what is left of whole data has two bytes
-two_left : (bytes : List ℕ) (used : ℕ) → length bytes % 2 ≡ 0 → N.LeavesRest bytes 0 used → used ≢ length bytes → length (N.drop used bytes) ≡ 2
-two_left = grind (arith, joins_utf16, N.length-drop)
-
--- its text is U+FFFD
-left_text : (bytes tail : List ℕ) → tail ≡ utf16.rest bytes → length tail ≡ 2 → utf16.text tail ≡ N.doubled (N.encode_utf8 0xFFFD)
-left_text bytes tail is two =
-    ap N.doubled (rw ((N.Utf16Steps.nil_of_length (N.drop 2 tail) (omega (arith, N.length-drop 2 tail))), N.Utf16Steps.characters_nil, N.append-nil) at
-    (N.Utf16Steps.spells_held tail (omega arith) (ap (λ n. n % 2) two) (N.sym (rw (N.append-nil, N.append-nil, ← is) at (joins_utf16.keeps bytes [] tt)))))
-
--- so the text of whole data ends with it
-ended : (bytes tail : List ℕ) → length bytes % 2 ≡ 0 → tail ≡ utf16.rest bytes → length tail ≡ 2
-    → utf16.text bytes ≡ N.emit utf16.rest utf16.text bytes ++ N.doubled (N.encode_utf8 0xFFFD)
-ended bytes tail whole is two = cc (joins_utf16.ends bytes whole, left_text bytes tail is two)
-
-pub returns-clause-short : goal.returns-clause-short
-returns-clause-short = grind (arith, N.Characters.doubled_length, two_left, N.length-drop)
-
-pub returns-clause-text : goal.returns-clause-text
-returns-clause-text = grind (arith, two_left, ended)
+pub returns-then-run-bytes-clause-text : goal.returns-then-run-bytes-clause-text
+returns-then-run-bytes-clause-text c =
+    let bytes = c.args.bytes.now in
+    let used = c.convert_run-run.result.used in
+    let x = ends_there c.convert_run-run.ensures.after c.if-run-bytes.true in
+    let none : drop used bytes ≡ [] = nil_of_length (drop used bytes) (omega (arith, N.length-drop used bytes, c.if-run-bytes.true)) in
+    let rest : utf16.text (utf16.rest bytes) ≡ [] = ap utf16.text (sym x.leaves.rest ∙ none) ∙ text_nil in
+    let emitted = N.emit utf16.rest utf16.text bytes in
+    x.emits ∙ sym (joins_utf16.ends bytes c.requires.whole ∙ ap (λ l. emitted ++ l) rest ∙ append-nil emitted)

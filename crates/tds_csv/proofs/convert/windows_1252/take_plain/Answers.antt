@@ -7,7 +7,7 @@ returns-clause-taken = grind (arith, N.common_steps, N.Singles.plain_lanes, alik
 
 pub put_lanes-requires : goal.put_lanes-requires
 put_lanes-requires c =
-    let room : c.args.at + 16 ≤ N.length c.args.source.now = search arith in (
+    let room = c.requires.there in (
       omega arith,
       (
         N.length-chunk c.args.at 16 c.args.source.now room,

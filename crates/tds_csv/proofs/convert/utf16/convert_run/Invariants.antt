@@ -1,9 +1,0 @@
-use Rattle.tds_csv.proofs.convert.utf16.convert_run.Given as goal
-use Rattle.tds_csv.{proofs.Words.{◌+◌, ◌≤◌, ◌*◌, ◌-◌, length}, specs.Utf16Next.Converts}
-
--- the text so far is that of the bytes so far
-abbrev pub invariant-loop-to : goal.invariant-loop-to
-invariant-loop-to l = record { more : l.from ≤ l.run.used; long : 3 * length l.bytes + 32 ≤ 2 * length l.to; now : Converts l.bytes l.to l.run.used l.run.made }
-
-abbrev pub decreases-loop-to : goal.decreases-loop-to
-decreases-loop-to l = length l.bytes - l.run.used
