@@ -299,7 +299,7 @@ class Session:
         self.unfinished: Optional[str] = None  #: what there is to say of the last answer if it isn't whole, and has no ERROR
         self._channel, self._server = channel, server
         self._framing: Optional[tds.Framing] = None  # of the answer under way
-        self._is_sending = self._is_interrupted = False
+        self._is_sending = self._is_interrupted = self._is_early = False  # early: before the statement was sent
 
     def __enter__(self) -> Session:
         return self
@@ -319,12 +319,12 @@ class Session:
         message = tds.statement(statement)
         with told(self._server):
             self._channel.expect_nothing()
-        self._framing, self._is_sending, self.unfinished = tds.Framing(), True, None
+        self._is_sending, self._framing, self.unfinished = True, tds.Framing(), None
         with told(self._server):
             self._channel.write_message(PacketType.STATEMENT, message, self.packet_size)
         self._is_sending = False
         self._channel.wait()
-        if self._is_interrupted:
+        if self._is_early:
             self._attend()
 
     def check_used(self) -> None:
@@ -350,8 +350,8 @@ class Session:
     def interrupt(self) -> None:
         """Asks the server to stop answering. It may be called while another call waits, as a handler of a signal is."""
         if not self._is_interrupted:
-            self._is_interrupted = True
-            if self._framing and not self._is_sending:
+            self._is_interrupted, self._is_early = True, self._is_sending or self._framing is None
+            if not self._is_early:
                 self._attend()
 
     def _attend(self) -> None:

@@ -2,9 +2,12 @@
 from __future__ import annotations
 
 import contextlib
+import glob
 import os
+import random
 import re
 import shutil
+import signal
 import socket
 import ssl
 import subprocess
@@ -85,6 +88,15 @@ def has_ended(process: int) -> bool:
         return "State:\tZ" in status_of(process)
     except (FileNotFoundError, ProcessLookupError):
         return True
+
+
+def running_in(folder: str) -> list[str]:
+    """The processes that run in a folder, by the links to it."""
+    found = []
+    for link in glob.glob("/proc/[0-9]*/cwd"):
+        with contextlib.suppress(OSError):  # it has ended, or is another user's
+            found += [link] * os.path.samefile(link, folder)
+    return found
 
 
 class StandIn:
@@ -236,3 +248,55 @@ def started(**variables: str) -> dict[str, Any]:
     """How a command is started: with a password, without a terminal."""
     own = {"SQLCMDPASSWORD": "secret", "PYTHONPATH": os.path.join(ROOT, "python"), "PYTHONDONTWRITEBYTECODE": "1", "GAVYRETO_TRACEBACK": "1"} | variables
     return {"env": os.environ | own, "stdin": subprocess.DEVNULL, "start_new_session": True}
+
+
+# Runs a command to which a signal comes at a line of Python, by its number among the lines while a function of the package handles it.
+# Before, Python may drop what is raised: in the call of a weak reference, or in what it imports for others when it begins. If the
+# signal doesn't come, the last line on standard error is how many of these lines there are.
+STEPS = """
+import runpy, sys
+from _signal import getsignal, raise_signal  # the module signal is ten times as slow
+number, at, steps, others = int(sys.argv[1]), int(sys.argv[2]), 0, sys.argv[3].split(",")
+def step(*_):
+    global steps
+    if getattr(getsignal(number), "__name__", "") not in others:
+        steps += 1
+        if steps == at:
+            raise_signal(number)
+    return step
+sys.argv = ["gavyreto", *sys.argv[4:]]
+sys.settrace(step)
+try:
+    runpy.run_module("gavyreto", run_name="__main__", alter_sys=True)
+finally:
+    if steps < at or at == 0:
+        print(steps, file=sys.stderr)
+"""
+SAID = {signal.SIGINT: b"interrupted", signal.SIGTERM: b"ended by SIGTERM"}
+
+
+def stepped(number: signal.Signals, at: int, words: list[str], *others: str, **options: Any) -> subprocess.CompletedProcess[bytes]:
+    """What a command gives to which a signal comes at a line, or to which none comes if that is 0. Lines don't count while the handler
+    has one of the other names."""
+    command = [sys.executable, "-c", STEPS, str(int(number)), str(at), ",".join(["", "default_int_handler", *others]), *words]
+    return subprocess.run(command, check=False, capture_output=True, timeout=SECONDS, **started(PYTHONHASHSEED="0"), **options)
+
+
+def lines_of(whole: subprocess.CompletedProcess[bytes], count: int) -> list[int]:
+    """Numbers of lines of a command to which no signal came, the closer together the nearer to its end."""
+    numbers, steps = random.Random(4), int(whole.stderr.splitlines()[-1])
+    if steps < count:
+        raise AssertionError(f"the signal is handled at {steps} lines")
+    return [steps - int(100 * ((1 + steps / 100) ** ((place + numbers.random()) / count) - 1)) for place in range(count)]
+
+
+def assert_signalled(
+    test: unittest.TestCase, number: signal.Signals, came: subprocess.CompletedProcess[bytes], whole: subprocess.CompletedProcess[bytes],
+) -> None:
+    """A command ended with the line and the status of a signal, or as the whole one before it came. Only what Python drops has a traceback."""
+    last = (came.stderr.splitlines() or [b""])[-1]
+    if last.isdigit():
+        test.assertEqual((came.returncode, came.stdout), (whole.returncode, whole.stdout), came.stderr)
+    else:
+        test.assertEqual((came.returncode, last.split(b":")[0]), (128 + number, SAID[number]), came.stderr)
+    test.assertTrue(b"Traceback" not in came.stderr or b"Exception ignored" in came.stderr, came.stderr)

@@ -13,12 +13,15 @@ import sys
 import tempfile
 import unittest
 import weakref
+from pathlib import Path
 from typing import BinaryIO, Optional, cast
 from unittest import mock
 
 from gavyreto import tds
 from gavyreto.commands.capture import Terminated, ending_by_signal
-from tests.beside import PROGRAM, ROOT, Live, answered, is_waiting, need, skip, started, wait_for, wire
+from tests.beside import (
+    PROGRAM, ROOT, Live, answered, assert_signalled, is_waiting, lines_of, need, running_in, skip, started, stepped, wait_for, wire,
+)
 
 sys.path[:0] = [os.path.join(ROOT, "tools")]
 from lib import capture_builder as captures  # noqa: E402
@@ -295,6 +298,33 @@ class Captures(unittest.TestCase):
             run.terminate()
             self.assertEqual(cast(BinaryIO, run.stderr).read(), b"ended by SIGTERM\n")
         self.assertEqual((run.returncode, [it for it in os.listdir(os.path.join(self.folder, "out")) if not it.endswith(".csv")]), (143, []))
+
+    def signalled(self, number: signal.Signals, at: int) -> tuple[subprocess.CompletedProcess[bytes], dict[str, bytes]]:
+        """What the command gives to which a signal comes at a line, and what is in its folder once its programs have ended too."""
+        out = tempfile.mkdtemp(dir=self.folder)
+        came = stepped(number, at, ["capture", "--program", PROGRAM, "capture", out], "_interrupted", cwd=self.folder)
+        wait_for(lambda: not running_in(self.folder))
+        return came, {it.name: it.read_bytes() if it.is_file() else b"" for it in sorted(Path(out).rglob("*"))}
+
+    def test_a_signal_at_any_time(self) -> None:
+        """It is a line and a status, and leaves nothing but texts that are whole. Each line of the table has its text."""
+        long = wire("kinds", 400, 32767)  # its text is written while it comes
+        with mock.patch.object(captures, "SEGMENT", 50000), open(os.path.join(self.folder, "capture"), "wb") as file:
+            made = conversation()
+            made.send(captures.CLIENT, tds.packet(1, tds.statement("SELECT 1")))
+            made.send(captures.SERVER, long)
+            made.write(file)
+        for number in (signal.SIGTERM, signal.SIGINT):
+            whole, texts = self.signalled(number, 0)
+            self.assertEqual((whole.returncode, list(texts.values())), (3, [exported(data) for data in (*RESPONSES, long)]))
+            for at in lines_of(whole, 22):
+                with self.subTest(number=number, at=at):
+                    came, left = self.signalled(number, at)
+                    assert_signalled(self, number, came, whole)
+                    lines = came.stdout.splitlines(keepends=True)
+                    self.assertEqual(lines, whole.stdout.splitlines(keepends=True)[:len(lines)])
+                    self.assertLessEqual(left.items(), texts.items())
+                    self.assertLessEqual({line.split(b'"')[1].decode() for line in lines[1:]}, left.keys())
 
     def test_sigterm_that_python_drops(self) -> None:
         """An exception in the call of a weak reference ends nothing: it is raised in the end."""

@@ -4,7 +4,6 @@ from __future__ import annotations
 import argparse
 import io
 import os
-import random
 import signal
 import subprocess
 import sys
@@ -18,7 +17,7 @@ from gavyreto.commands import common
 from gavyreto.commands.common import Ending, Stopped, judged
 from gavyreto.errors import BadAnswer, ConnectionFailed, ServerError
 from gavyreto.payload import Ended
-from tests.beside import Live, started
+from tests.beside import Live, assert_signalled, lines_of, started, stepped
 
 SERVER_LINE = "server error 1, state 1, class 16, line 1: no"
 
@@ -77,40 +76,13 @@ class Endings(unittest.TestCase):
         self.assertEqual(judged(-9, self.REPORT).line, "tds_replay was ended by the signal 9")
 
 
-STEPS = """
-import runpy, signal, sys
-at, steps = int(sys.argv[1]), 0
-def step(*_):
-    global steps
-    if steps or signal.getsignal(signal.SIGINT) is not signal.default_int_handler:
-        steps += 1
-        if steps == at:
-            signal.raise_signal(signal.SIGINT)
-    return step
-sys.argv = ["gavyreto", "columns"]
-sys.settrace(step)
-try:
-    runpy.run_module("gavyreto", run_name="__main__", alter_sys=True)
-finally:
-    print(steps)
-"""
-
-
 class Interrupts(Live):
-    def stepped(self, at: int) -> subprocess.CompletedProcess[bytes]:
-        """What the command gives of no response that is interrupted at a line of Python, by its number since the package has begun.
-        Before, Python may drop the signal: in the call of a weak reference, or in what it imports for others when it begins."""
-        return subprocess.run([sys.executable, "-c", STEPS, str(at)], check=False, capture_output=True, **started(PYTHONHASHSEED="0"))
-
     def test_ctrl_c_at_any_time(self) -> None:
         """It is a line and a status, and never a traceback, but for one that Python drops."""
-        self.stepped(0)  # what is compiled then is kept, and costs no lines later
-        numbers, steps = random.Random(4), int(self.stepped(0).stdout)
-        for before in {int(steps ** numbers.random()) for _ in range(40)}:  # the end, and the command itself, as often as all imports
-            with self.subTest(before=before):
-                came = self.stepped(steps - before)
-                self.assertEqual((came.returncode, came.stderr.splitlines()[-1:]), (130, [b"interrupted"]), came.stderr)
-                self.assertTrue(b"Traceback" not in came.stderr or b"Exception ignored" in came.stderr, came.stderr)
+        whole = stepped(signal.SIGINT, 0, ["columns"])
+        for at in lines_of(whole, 40):
+            with self.subTest(at=at):
+                assert_signalled(self, signal.SIGINT, stepped(signal.SIGINT, at, ["columns"]), whole)
 
     def test_ctrl_c_while_a_response_is_waited_for(self) -> None:
         """Whoever feeds the command may end with it."""

@@ -6,6 +6,7 @@ import hashlib
 import itertools
 import os
 import pty
+import re
 import select
 import signal
 import socket
@@ -17,14 +18,15 @@ import time
 import unittest
 from collections.abc import Callable, Iterable
 from concurrent.futures import ThreadPoolExecutor
+from unittest import mock
 
 import gavyreto
 from gavyreto import tds
-from gavyreto.connection import Channel
+from gavyreto.connection import Channel, Session
 from gavyreto.tds import PacketType
 from tests.beside import (
-    ORDERS, PROGRAM, SECONDS, Live, StandIn, ask_port, command_for, context_of, has_ended, is_waiting, listening, log_in, log_in_encrypted, need,
-    responses, started, wait_for,
+    ORDERS, PROGRAM, SECONDS, Live, StandIn, ask_port, assert_signalled, command_for, context_of, has_ended, is_waiting, lines_of, listening, log_in,
+    log_in_encrypted, need, responses, started, stepped, wait_for, wire,
 )
 
 LONG = 200_000_000
@@ -557,6 +559,44 @@ class Signals(Live):
             self.interrupt_once(asked, run)
             out, err = run.communicate(timeout=SECONDS)
         self.assertEqual((run.returncode, out, err), (130, b"", b"interrupted\n"))
+
+    def signalled(self, at: int, *others: str) -> tuple[subprocess.CompletedProcess[bytes], list[int]]:
+        """What the command gives of two statements to which Ctrl-C comes at a line, and the types of the messages after its login."""
+        kinds: list[int] = []
+
+        def serve(channel: Channel) -> None:
+            log_in(channel)
+            while True:
+                kinds.append(channel.read_message()[0])
+                channel.write(wire("kinds") if kinds[-1] == PacketType.STATEMENT else tds.packet(PacketType.ANSWER, tds.done(tds.CANCELLED)))
+
+        with listening(serve) as port:
+            came = stepped(signal.SIGINT, at, command_for(port, "SELECT 1", "SELECT 2")[3:], *others)
+            socket.create_connection(("127.0.0.1", port)).close()  # for a server to which the command has made none
+        return came, kinds
+
+    def test_ctrl_c_at_any_time(self) -> None:
+        """The text ends anywhere, and where the line says. The server is asked at most once to stop, and nothing after that."""
+        for others, count in ((["_interrupted"], 12), (["_interrupted", "_raising"], 28)):
+            whole, kinds = self.signalled(0, *others)
+            self.assertEqual((whole.returncode, whole.stdout, kinds), (0, b"\r\n".join([responses.expected()] * 2), [PacketType.STATEMENT] * 2))
+            for at in lines_of(whole, count):
+                with self.subTest(others=others, at=at):
+                    came, kinds = self.signalled(at, *others)
+                    assert_signalled(self, signal.SIGINT, came, whole)
+                    self.assertTrue(whole.stdout.startswith(came.stdout))
+                    self.assertIn(bytes(kinds), (b"", b"\1", b"\1\6", b"\1\1", b"\1\1\6"))  # statements, and an attention after one of them
+                    if b": " in came.stderr.splitlines()[-1]:
+                        written = sum(map(int, re.findall(rb"\bwritten (\d+)", came.stderr)))
+                        self.assertIn(len(came.stdout) - written, (0, len(b"\r\n")))
+
+    def test_an_interrupt_once_a_statement_is_sent(self) -> None:
+        """The server is asked once to stop."""
+        channel = mock.Mock()
+        session = Session(channel, mock.Mock(), 4096)
+        channel.wait.side_effect = session.interrupt
+        session.send("SELECT 1")
+        self.assertEqual([call.args[0] for call in channel.write_message.call_args_list], [PacketType.STATEMENT, PacketType.ATTENTION])
 
     def test_a_program_does_not_outlive_the_command(self) -> None:
         """After SIGTERM and SIGKILL the program ends by itself: its input is over."""

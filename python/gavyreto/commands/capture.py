@@ -22,7 +22,7 @@ import contextlib
 import os
 import signal
 import tempfile
-from collections.abc import Iterator
+from collections.abc import Iterable, Iterator
 from datetime import datetime, timedelta, timezone
 from types import FrameType
 from typing import NoReturn, Optional, cast
@@ -50,6 +50,20 @@ EPOCH = datetime(1970, 1, 1, tzinfo=timezone.utc)
 
 class Terminated(BaseException):
     """SIGTERM came."""
+
+
+class Signals:
+    """A context in which other signals are blocked. It gives those that were blocked before."""
+
+    def __init__(self, how: signal.Sigmasks, numbers: Iterable[int]) -> None:
+        self._how, self._numbers = how, numbers
+
+    def __enter__(self) -> set[int]:
+        self._before = signal.pthread_sigmask(self._how, self._numbers)
+        return self._before
+
+    def __exit__(self, *_: object) -> None:
+        signal.pthread_sigmask(signal.SIG_SETMASK, self._before)
 
 
 class Export:
@@ -147,7 +161,9 @@ def capture(asked: argparse.Namespace) -> int:
         left = [name for name in os.listdir(asked.out) if name.endswith((".csv", ".partial", ".tds"))]
         if left:
             raise Stopped(f"{asked.out} has texts, as {left[0]}: name a folder without them", REFUSED)
-        with tempfile.TemporaryDirectory(prefix="unfinished", dir=asked.out) as folder, contextlib.ExitStack() as stack:
+        # Signals wait while the folder is made, and while it is removed: none leaves it there.
+        with Signals(signal.SIG_BLOCK, (signal.SIGINT, signal.SIGTERM)) as before, tempfile.TemporaryDirectory(
+                prefix="unfinished", dir=asked.out) as folder, Signals(signal.SIG_SETMASK, before), contextlib.ExitStack() as stack:
             command = program.command_of(asked.program, program.PACKET_SIZE, asked.column_room, program.MAX_WIRE, asked.charset)
             room = stack.enter_context(Room(folder, command, not asked.packets and not asked.adapt))
             export, accounts = Export(asked, room), Accounts()
