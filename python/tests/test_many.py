@@ -5,6 +5,7 @@ import contextlib
 import csv
 import io
 import os
+import shutil
 import signal
 import subprocess
 import sys
@@ -14,7 +15,7 @@ import unittest
 from collections.abc import Callable, Iterator
 
 from gavyreto import tds
-from tests.beside import PROGRAM, ROOT, SECONDS, answered, is_waiting, need, responses, skip, started, wait_for, wire
+from tests.beside import PROGRAM, ROOT, SECONDS, answered, is_waiting, need, responses, running_in, skip, started, wait_for, wire
 
 sys.path[:0] = [os.path.join(ROOT, "tools")]
 from lib import requirements  # noqa: E402
@@ -108,8 +109,12 @@ class Many(unittest.TestCase):
         return sorted((os.path.basename(line[0]), int(line[1]), line[2]) for line in lines)
 
     def assert_texts(self, good: list[str], *others: str) -> None:
-        """Each of these has the text of an export by hand, and beside the table and the others nothing is there."""
+        """Each of these has its text, and beside the table and the others nothing is there."""
         self.assertEqual(sorted(os.listdir(self.path("out"))), sorted([*(f"{name}.csv" for name in good), *others, "outcomes.csv"]))
+        self.assert_whole(good)
+
+    def assert_whole(self, good: list[str]) -> None:
+        """Each of these has the text of an export by hand."""
         wanted = subprocess.run([PROGRAM, "export"], input=KINDS, capture_output=True, check=True).stdout
         for name in good:
             with open(self.path("out", f"{name}.csv"), "rb") as file:
@@ -347,8 +352,18 @@ class OnCluster(Many):
         need(self, "dask-scheduler", "dask-worker")
         if not requirements.has_module(requirements.DEBIAN_PYTHON, "distributed"):
             skip(self, "Python's module distributed isn't there: `make needs` installs it")
+        self.start_all()
+
+    def start_all(self) -> None:
         self.scheduler = self.start("dask-scheduler", "--port", "0", "--no-dashboard")
         self.workers = [self.start("dask-worker", "--nthreads", "1", "--no-nanny", "--no-dashboard", "--local-directory", name) for name in ("one", "two")]
+
+    def end_all(self) -> None:
+        """Ends the workers, and waits for their programs."""
+        for worker in self.workers:
+            worker.kill()
+            worker.wait(SECONDS)
+        wait_for(lambda: not running_in(self.folder))
 
     def start(self, *words: str) -> subprocess.Popen[bytes]:
         own = started()
@@ -360,19 +375,30 @@ class OnCluster(Many):
         return process
 
     def test_a_scheduler_that_dies(self) -> None:
-        """What it had is told as failed, in the table and by the status, and nothing is said besides."""
-        self.store(60)
-        words = ["--scheduler", "scheduler.json", "--program", self.holding(5), "in", "out"]
-        with self.beginning(*words, python=requirements.DEBIAN_PYTHON) as process:
-            wait_for(lambda: len(self.table()) >= 5)
-            self.scheduler.kill()
-            self.scheduler.wait(SECONDS)
-            self.let(ALL)
-            said = process.communicate(timeout=SECONDS)[1].decode().splitlines()
-        self.assertEqual((process.returncode, len(said)), (5, 1), said)
-        statuses = [status for _, status, _ in self.table()]
-        self.assertEqual((len(statuses), set(statuses)), (60, {0, 5}))
-        self.assertEqual(said, [f"60 responses: {statuses.count(0)} done, 0 with an error of the server, 0 refused, {statuses.count(5)} failed"])
+        """What it had is told as failed, in the table and by the status, and nothing is said besides. Each line of success has its
+        text, once all have ended too, and a run on this machine makes the others."""
+        names = self.store(60)
+        for count in (1, 5, 40):
+            with self.subTest(count=count):
+                words = ["--scheduler", "scheduler.json", "--program", self.holding(count), "in", "out"]
+                with self.beginning(*words, python=requirements.DEBIAN_PYTHON) as process:
+                    wait_for(lambda: len(self.table()) >= count)
+                    self.scheduler.kill()
+                    self.scheduler.wait(SECONDS)
+                    self.let(ALL)
+                    said = process.communicate(timeout=SECONDS)[1].decode().splitlines()
+                self.assertEqual((process.returncode, len(said)), (5, 1), said)
+                lines = self.table()
+                done = [name for name, status, _ in lines if status == 0]
+                self.assertEqual(([name for name, _, _ in lines], {status for _, status, _ in lines}), (names, {0, 5}))
+                self.assertEqual(said, [f"60 responses: {len(done)} done, 0 with an error of the server, 0 refused, {60 - len(done)} failed"])
+                self.end_all()
+                self.assert_whole(done)
+                self.assertEqual(self.many("--program", PROGRAM, "in", "out"), (0, "60 responses: 60 done, 0 with an error of the server, 0 refused, 0 failed"))
+                self.assert_texts(names)
+            shutil.rmtree(self.path("out"))
+            os.remove(self.path("scheduler.json"))
+            self.start_all()
 
     def test_a_worker_that_is_killed_costs_nothing(self) -> None:
         names = self.store(100, failed=ERROR, refused=FLOAT)
