@@ -8,7 +8,8 @@ import signal
 import subprocess
 import sys
 import unittest
-from contextlib import redirect_stderr
+from concurrent.futures import ThreadPoolExecutor
+from contextlib import redirect_stderr, redirect_stdout
 from typing import Any
 from unittest import mock
 
@@ -93,6 +94,12 @@ class Interrupts(Live):
                 with open(self.path("response"), "wb"):  # once the command opens it
                     run.send_signal(signal.SIGINT)
                 self.assertEqual((run.communicate()[1], run.returncode), (b"interrupted\n", 130))
+
+    def test_a_command_in_another_thread(self) -> None:
+        """It ends as in the main thread, which alone may set how a signal is handled."""
+        with redirect_stdout(io.StringIO()) as said, ThreadPoolExecutor(1) as thread:
+            self.assertEqual(thread.submit(entry.ending, ["columns", "--help"]).result(), ("", 0))
+        self.assertIn("usage", said.getvalue())
 
     def test_ctrl_c_that_python_drops(self) -> None:
         """An exception in the call of a weak reference ends nothing: the command goes on, and says in the end that it was interrupted."""

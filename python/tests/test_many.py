@@ -352,9 +352,9 @@ class OnCluster(Many):
         need(self, "dask-scheduler", "dask-worker")
         if not requirements.has_module(requirements.DEBIAN_PYTHON, "distributed"):
             skip(self, "Python's module distributed isn't there: `make needs` installs it")
-        self.start_all()
 
     def start_all(self) -> None:
+        """Starts the scheduler and the workers."""
         self.scheduler = self.start("dask-scheduler", "--port", "0", "--no-dashboard")
         self.workers = [self.start("dask-worker", "--nthreads", "1", "--no-nanny", "--no-dashboard", "--local-directory", name) for name in ("one", "two")]
 
@@ -380,6 +380,7 @@ class OnCluster(Many):
         names = self.store(60)
         for count in (1, 5, 40):
             with self.subTest(count=count):
+                self.start_all()
                 words = ["--scheduler", "scheduler.json", "--program", self.holding(count), "in", "out"]
                 with self.beginning(*words, python=requirements.DEBIAN_PYTHON) as process:
                     wait_for(lambda: len(self.table()) >= count)
@@ -398,9 +399,9 @@ class OnCluster(Many):
                 self.assert_texts(names)
             shutil.rmtree(self.path("out"))
             os.remove(self.path("scheduler.json"))
-            self.start_all()
 
     def test_a_worker_that_is_killed_costs_nothing(self) -> None:
+        self.start_all()
         names = self.store(100, failed=ERROR, refused=FLOAT)
         words = ["--scheduler", "scheduler.json", "--program", self.holding(20), "in", "out"]
         with self.beginning(*words, python=requirements.DEBIAN_PYTHON) as process:

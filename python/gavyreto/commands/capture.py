@@ -161,7 +161,7 @@ def capture(asked: argparse.Namespace) -> int:
         left = [name for name in os.listdir(asked.out) if name.endswith((".csv", ".partial", ".tds"))]
         if left:
             raise Stopped(f"{asked.out} has texts, as {left[0]}: name a folder without them", REFUSED)
-        # Signals wait while the folder is made, and while it is removed: none leaves it there.
+        # A signal waits while the folder is made, and while it is removed, so that it doesn't leave it there.
         with Signals(signal.SIG_BLOCK, (signal.SIGINT, signal.SIGTERM)) as before, tempfile.TemporaryDirectory(
                 prefix="unfinished", dir=asked.out) as folder, Signals(signal.SIG_SETMASK, before), contextlib.ExitStack() as stack:
             command = program.command_of(asked.program, program.PACKET_SIZE, asked.column_room, program.MAX_WIRE, asked.charset)
