@@ -17,7 +17,7 @@ _tds_replay() {
         return
     fi
     local options="--packet-size --max-wire -h --help"
-    [[ $command == recut ]] || options+=" --column-room --charset"
+    [[ $command == recut ]] || options+=" --column-room --charset --all"
     if [[ $word == -* ]]; then
         mapfile -t COMPREPLY < <(compgen -W "$options" -- "$word")
     else

@@ -10,3 +10,4 @@ complete -c tds_replay -n '__fish_seen_subcommand_from export check recut' -x -l
 complete -c tds_replay -n '__fish_seen_subcommand_from export check recut' -x -l max-wire -d 'Greatest number of bytes read'
 complete -c tds_replay -n '__fish_seen_subcommand_from export check' -x -l column-room -d 'Room for the description of columns'
 complete -c tds_replay -n '__fish_seen_subcommand_from export check' -x -l charset -a 'windows-1252 utf-8' -d 'Set of single-byte text'
+complete -c tds_replay -n '__fish_seen_subcommand_from export check' -l all -d 'All responses of the input'

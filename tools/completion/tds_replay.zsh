@@ -11,6 +11,7 @@ _tds_replay() {
     local -a texts=(
         '--column-room=[room for the description of columns]:bytes:'
         '--charset=[set of single-byte text]:charset:(windows-1252 utf-8)'
+        '--all[all responses of the input]'
     )
     if ((CURRENT == 2)); then
         commands+=('help:print help')

@@ -35,6 +35,8 @@ class Row:
     left: int = 0
     headers: list[bytes] = field(default_factory=list)
     shown: list[str] = field(default_factory=list)
+    # how many parts stand before each response but the first
+    before: list[int] = field(default_factory=list)
     is_wire: bool = False
     is_refused: bool = False
     is_cut: bool = False
@@ -43,6 +45,15 @@ class Row:
     def input(self) -> bytes:
         """The bytes of all parts."""
         return b"".join(data for _, data, _ in self.parts)
+
+    def payloads(self) -> list[bytes]:
+        """The bytes of the parts of each response."""
+        ends = zip([0, *self.before], [*self.before, len(self.parts)])
+        return [b"".join(data for _, data, _ in self.parts[begin:end]) for begin, end in ends]
+
+    def is_of_all(self) -> bool:
+        """Whether the row is responses one after another."""
+        return "--all" in self.words
 
     def text(self) -> bytes:
         """The text of all parts."""
@@ -84,6 +95,8 @@ def take(row: Row, line: str) -> None:
     repeated = re.fullmatch(r"(\d*)>", word)
     if line in NAMES:
         setattr(row, NAMES[line], True)
+    elif line == "next":
+        row.before.append(len(row.parts))
     elif word in ("with", "recut", "args"):
         row.words = ["export"] * (word == "with") + ["recut"] * (word == "recut") + shlex.split(rest)
     elif word == "exit":
@@ -221,7 +234,7 @@ def is_export(row: Row) -> bool:
 def readings(row: Row) -> Iterator[Reading]:
     """The responses of a row that is exported: as it stands, and ended after each byte if it may be cut anywhere."""
     data, options = row.input(), row.words[1:]
-    wire = data if row.is_wire else in_packets(data, size_of(row))
+    wire = data if row.is_wire else b"".join(in_packets(payload, size_of(row)) for payload in row.payloads())
     yield Reading(row.name, wire, options, row.text(), row.said, row.status)
     for length in range(len(data)) if row.is_cut else ():
         said, text = reached(row, length)

@@ -79,11 +79,22 @@ def response_runs(row: Row) -> Iterator[Run]:
         yield from cut_runs(row)
 
 
+def runs_of_all(row: Row) -> Iterator[Run]:
+    """The runs of a row that is responses one after another."""
+    wires = [[row.input()]] if row.is_wire else [[in_packets(it, size) for it in row.payloads()] for size in (size_of(row), 512, 9)]
+    for wire in map(b"".join, wires):
+        left = None if row.status == 4 else 0
+        yield Run("as it stands", row.words, wire, row.text(), row.said, row.status, left)
+        yield Run("check", ["check", *row.words[1:]], wire, None, row.said, row.status, left)
+
+
 def runs_of(row: Row) -> Iterator[Run]:
     """All runs of a row."""
     data = row.input()
     if row.shown:
         yield Run("arguments", row.words, b"\x04", None, "", row.status, 1)
+    elif row.is_of_all():
+        yield from runs_of_all(row)
     elif row.words[:1] == ["recut"] and not row.is_wire:
         made = in_packets(data, size_of(row))
         for size in (109, 32767):

@@ -696,3 +696,28 @@ def export(wire: bytes, words: list[str]) -> Answer:
         return Answer(text, said, 4, stop, reader)
     text, report = bytes(reader.text), reader.report
     return Answer(text, said_of(report, len(text)), 3 if report.errors > 0 else 0, None, reader)
+
+
+def length_of(wire: bytes) -> int:
+    """How many bytes the packets at the front have up to the end of the last."""
+    at, is_last = 0, False
+    while not is_last:
+        is_last = bool(wire[at + 1] & 1)
+        at += int.from_bytes(wire[at + 2:at + 4], "big")
+    return at
+
+
+def export_all(wire: bytes, words: list[str]) -> list[Answer]:
+    """Reads responses one after another under the options that the words name beside `--all`: what comes of each, up to the first stop."""
+    words, answers = [word for word in words if word != "--all"], list[Answer]()
+    while wire and not (answers and answers[-1].stop):
+        answers.append(export(wire, words))
+        wire = wire[length_of(wire):] if not answers[-1].stop else b""
+    return answers
+
+
+def shown_of_all(answers: list[Answer]) -> tuple[bytes, str, int]:
+    """What the program has to write, say and end with for these responses."""
+    count = sum(not answer.stop for answer in answers)
+    said = "".join(answer.said for answer in answers) + f"responses {count}\n"
+    return b"".join(answer.text for answer in answers), said, max([answer.status for answer in answers], default=0)

@@ -1,11 +1,14 @@
 -- What an export tells of a response whose bytes are known.
-use Rattle.{
-  std.{specs.{Prelude.{◌≡◌, ◌++◌, ℕ, List, Option, Some, None, Result, Ok, Err, IfOk}, Io.KnownBytes.Appends}, proofs.Common.{◌∙◌, ap, subst}},
-  tds_packet.specs.Elements.AreBytes,
-  tds_values.specs.declared.charset.Charset.TheVariants.Windows1252,
-  tds_export.specs.{declared.report.{Report.Report, Stopped.Stopped}, Exports.Tells, Moments.{Moment, given_of}},
-  example.specs.Exported.Exported,
-}
+use Rattle.std.specs.Prelude.{◌≡◌, ◌++◌, ℕ, List, Option, Some, None, Result, Ok, Err, IfOk}
+use Rattle.std.specs.Io.KnownBytes.{Appends}
+use Rattle.std.proofs.Common.{◌∙◌, ap, subst}
+use Rattle.tds_packet.specs.Elements.{AreBytes}
+use Rattle.tds_values.specs.declared.charset.Charset.TheVariants.{Windows1252}
+use Rattle.tds_export.specs.declared.report.Report.{Report}
+use Rattle.tds_export.specs.declared.report.Stopped.{Stopped}
+use Rattle.tds_export.specs.Exports.{Tells}
+use Rattle.tds_export.specs.Moments.{Moment, given_of}
+use Rattle.example.specs.Exported.{Exported}
 
 -- what a writer has that told its bytes, and gained some
 known_has : (old new : Option (List ℕ)) (had gained : List ℕ) → old ≡ Some had → Appends old new gained → new ≡ Some (had ++ gained)

@@ -5,6 +5,7 @@ ghost use Rattle.tds_arguments.specs.Jobs.{IsInRange};
 
 mod arguments;
 mod lines;
+mod responses;
 
 use crate::checks::expect;
 use crate::export::{TEXT, WIRE};

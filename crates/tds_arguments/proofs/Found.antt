@@ -2,7 +2,8 @@
 use Rattle.tds_arguments.proofs as N
 use Rattle.clap.specs.declared.error.kind.ErrorKind.TheVariants as kind
 use N.{◌≡◌, ◌∙◌, ◌||◌, Bool, List, [], ◌∷◌, true, Ok, Err, inl, inr, refl, ap, ◌⊎◌, fault_of, ErrorKind, Job, Usage, Help}
-use Rattle.{clap.proofs.OnLiterals.clap_on_literals, tds_arguments.specs.Usages.{IsRefusal, IsUsageAt, IsUsageOf, asks_for_help}}
+use Rattle.clap.proofs.OnLiterals.{clap_on_literals}
+use Rattle.tds_arguments.specs.Usages.{IsRefusal, IsUsageAt, IsUsageOf, asks_for_help}
 
 -- the command line is one of which the parser's matches and faults are known
 simple : (of_export of_check : N.Kept) → N.is_simple_and_free (N.program_app of_export of_check) ≡ true

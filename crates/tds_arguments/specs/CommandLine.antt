@@ -4,6 +4,7 @@ use Rattle.std.specs.Borrow.{Bor}
 use Rattle.clap.specs.Words.{AddsArg, AddsSubcommand, App, Row, Rule, Text, app_of, fault_of, new_app, new_rule, rule_of, subcommand_of, with_rule}
 use Rattle.clap.specs.Words.{with_subcommand}
 use Rattle.clap.specs.Simple.{new_shape}
+use Rattle.clap.specs.declared.builder.action.ArgAction.TheVariants.{SetTrue}
 use Rattle.clap.specs.declared.builder.arg.Arg.{Arg}
 use Rattle.clap.specs.declared.builder.command.Command.{Command}
 use Rattle.clap.specs.declared.builder.command.Command.TheViews.{out-Command}
@@ -53,6 +54,10 @@ NamesCharsets names = map (λ name. name.now) names.now ≡ codes "windows-1252"
 abbrev pub charset_rule : Kept → Rule
 charset_rule names = default_rule (codes "charset") (Names names) (codes "windows-1252")
 
+-- all responses, an option without a value
+abbrev pub all_rule : Rule
+all_rule = record (new_rule (codes "all")) { long = Some (codes "all"); action = Some SetTrue }
+
 -- FILE, which may be left out
 abbrev pub file_rule : Rule
 file_rule = new_rule (codes "FILE")
@@ -71,7 +76,7 @@ limited_app name = with_rule (with_rule (with_rule (new_app name) packet_size_ru
 
 -- a command that reads a response, by the names of character sets
 abbrev pub reading_app : Text → Kept → App
-reading_app name names = with_rule (with_rule (limited_app name) (charset_rule names)) file_rule
+reading_app name names = with_rule (with_rule (with_rule (limited_app name) (charset_rule names)) all_rule) file_rule
 
 -- `recut`
 abbrev pub recut_app : App

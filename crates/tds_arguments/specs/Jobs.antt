@@ -1,5 +1,5 @@
 -- What jobs are made of, and which job the values of a command make.
-use Rattle.std.specs.Prelude.{◌≡◌, ◌≢◌, ◌⊎◌, ℕ, List, Option, Some, None, Result, Ok, Err, String, codes, false, if◌then◌else◌}
+use Rattle.std.specs.Prelude.{◌≡◌, ◌≢◌, ◌⊎◌, ℕ, List, Option, Some, None, Result, Ok, Err, String, codes, Bool, true, false, if◌then◌else◌}
 use Rattle.std.specs.Prelude.{⊤, option_map, slice_index, string_bytes}
 use Rattle.std.specs.Option.{option_map_or}
 use Rattle.std.specs.Str.{bytes_eq}
@@ -7,10 +7,11 @@ use Rattle.std.specs.Str.Parse.{IsNumeral, digits_value}
 use Rattle.clap.specs.Words.{Row, first_of, found_of, rows_of}
 use Rattle.clap.specs.declared.parser.matches.ArgMatches.{ArgMatches}
 use Rattle.tds_meter.specs.LimitFaults.{IsColumnRoom, IsMaxWire, IsPacketSize}
+use Rattle.tds_meter.specs.declared.limits.Limits.{Limits}
 use Rattle.tds_values.specs.declared.charset.Charset.{Charset}
 use Rattle.tds_values.specs.declared.charset.Charset.TheVariants.{Utf8, Windows1252}
 use Rattle.tds_arguments.specs.declared.job.Job.{Job}
-use Rattle.tds_arguments.specs.declared.job.Job.TheVariants.{Export, Check, Recut}
+use Rattle.tds_arguments.specs.declared.job.Job.TheVariants.{Export, Check, ExportAll, CheckAll, Recut}
 use Rattle.tds_arguments.specs.declared.job.Work.{Work}
 use Rattle.tds_arguments.specs.declared.job.Work.TheVariants as work
 
@@ -18,18 +19,37 @@ use Rattle.tds_arguments.specs.declared.job.Work.TheVariants as work
 abbrev pub file_of : Job → Option (List ℕ)
 file_of (Export limits charset file) = option_map string_bytes file
 file_of (Check limits charset file) = option_map string_bytes file
+file_of (ExportAll limits charset file) = option_map string_bytes file
+file_of (CheckAll limits charset file) = option_map string_bytes file
 file_of (Recut packet_size max_wire file) = option_map string_bytes file
+
+-- the path that FILE names: none if it is a hyphen, or there is none
+abbrev pub path_named : Option (List ℕ) → Option (List ℕ)
+path_named None = None
+path_named (Some file) = if bytes_eq file (codes "-") then None else Some file
+
+-- the path that a job opens, or none for standard input
+abbrev pub path_of : Job → Option (List ℕ)
+path_of job = path_named (file_of job)
 
 -- what a job does
 abbrev pub work_of : Job → Work
 work_of (Export limits charset file) = work.Export limits charset
 work_of (Check limits charset file) = work.Check limits charset
+work_of (ExportAll limits charset file) = work.ExportAll limits charset
+work_of (CheckAll limits charset file) = work.CheckAll limits charset
 work_of (Recut packet_size max_wire file) = work.Recut packet_size max_wire
+
+-- Each limit is in its range.
+abbrev pub AreLimits : Limits → Type 0
+AreLimits limits = IsPacketSize limits.packet_size × IsColumnRoom limits.column_room × IsMaxWire limits.max_wire
 
 -- Each number of the work is in its range.
 abbrev pub IsWorkInRange : Work → Type 0
-IsWorkInRange (work.Export limits charset) = IsPacketSize limits.packet_size × IsColumnRoom limits.column_room × IsMaxWire limits.max_wire
-IsWorkInRange (work.Check limits charset) = IsPacketSize limits.packet_size × IsColumnRoom limits.column_room × IsMaxWire limits.max_wire
+IsWorkInRange (work.Export limits charset) = AreLimits limits
+IsWorkInRange (work.Check limits charset) = AreLimits limits
+IsWorkInRange (work.ExportAll limits charset) = AreLimits limits
+IsWorkInRange (work.CheckAll limits charset) = AreLimits limits
 IsWorkInRange (work.Recut packet_size max_wire) = IsPacketSize packet_size × IsMaxWire max_wire
 
 -- Each number of the job is in its range.
@@ -86,11 +106,20 @@ charset_of values = charset_named (first_of (codes "charset") values)
 abbrev pub HasFile : {Z : Type 0} → List Row → Option (String Z) → Type 0
 HasFile values file = option_map string_bytes file ≡ first_of (codes "FILE") values
 
+-- the options ask for all responses
+abbrev pub is_of_all : List Row → Bool
+is_of_all values = option_map_or (λ text. bytes_eq text (codes "true")) (first_of (codes "all") values) false
+
+-- A response is read by the command of this name, or all of them are, within the limits, by the character set and from the file of these values.
+abbrev pub IsReadingOf : {Z : Type 0} → List ℕ → Bool → List ℕ → List Row → Limits → Charset → Option (String Z) → Type 0
+IsReadingOf name all command values limits charset file = (command ≡ name) × (is_of_all values ≡ all)
+    × HasLimits values limits.packet_size limits.column_room limits.max_wire × (charset ≡ charset_of values) × HasFile values file
+
 -- The job is that of the command of this name with these values.
 abbrev pub IsJobOf : List ℕ → List Row → Job → Type 0
-IsJobOf command values (Export limits charset file) = (command ≡ codes "export")
-    × HasLimits values limits.packet_size limits.column_room limits.max_wire × (charset ≡ charset_of values) × HasFile values file
-IsJobOf command values (Check limits charset file) = (command ≡ codes "check")
-    × HasLimits values limits.packet_size limits.column_room limits.max_wire × (charset ≡ charset_of values) × HasFile values file
+IsJobOf command values (Export limits charset file) = IsReadingOf (codes "export") false command values limits charset file
+IsJobOf command values (Check limits charset file) = IsReadingOf (codes "check") false command values limits charset file
+IsJobOf command values (ExportAll limits charset file) = IsReadingOf (codes "export") true command values limits charset file
+IsJobOf command values (CheckAll limits charset file) = IsReadingOf (codes "check") true command values limits charset file
 IsJobOf command values (Recut packet_size max_wire file) = (command ≡ codes "recut") × HasPacketSize values packet_size × HasMaxWire values max_wire
     × HasFile values file

@@ -17,8 +17,8 @@ pub(crate) const VERSION: &str = "1.0.0";
 
 /// What the program does.
 pub(crate) const PROGRAM: &str =
-    "Reads the raw packets of one response of SQL Server (TDS 7.4) and writes its
-rows as quoted CSV. One response is read; what follows it is ignored.";
+    "Reads the raw packets of a response of SQL Server (TDS 7.4) and writes its rows
+as quoted CSV. What follows the response is ignored, or read as more responses.";
 
 /// How the program ends, and two lines that call it.
 pub(crate) const PROGRAM_END: &str =
@@ -44,7 +44,8 @@ opened, 6 want of memory.
 
 Examples:
   tds_replay export response.tds > rows.csv
-  tds_replay export --packet-size 8000 --charset utf-8 < response.tds",
+  tds_replay export --packet-size 8000 --charset utf-8 < response.tds
+  tds_replay export --all responses.tds > texts.csv 2> lines",
 };
 
 /// The command `check`.
@@ -110,10 +111,18 @@ pub(crate) const CHARSET: (&str, &str) = (
     "How text of one byte a character is read: windows-1252 or utf-8",
 );
 
+/// Whether all responses are read.
+pub(crate) const ALL: (&str, &str) = (
+    "All responses of the input, not one",
+    "Reads response after response until the input is over. Of each the
+text is written, then its lines to standard error; the last line
+counts them. It ends after the first response with a fault.",
+);
+
 /// The file.
 pub(crate) const FILE: (&str, &str) = (
     "A response; what follows it is ignored. Standard input without FILE",
     "The file with the packets; standard input if it isn't given, or is -.
-One response is read; what follows it is ignored: in a file it is
-left out, and on standard input it isn't read.",
+One response is read, without --all; what follows it is ignored: in a
+file it is left out, and on standard input it isn't read.",
 );

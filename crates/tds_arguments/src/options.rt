@@ -3,14 +3,14 @@ ghost use Rattle.std.specs.Prelude.{◌≡◌, IfOk, codes};
 ghost use Rattle.clap.specs.Words.{app_of, new_app};
 ghost use Rattle.tds_arguments.specs.CommandLine.{GainsArgument, GainsCommand, HasReading, IsArgument};
 ghost use Rattle.tds_arguments.specs.CommandLine.{IsCharset, IsCommand};
-ghost use Rattle.tds_arguments.specs.CommandLine.{IsProgram, IsReading, bare_app, column_room_rule};
+ghost use Rattle.tds_arguments.specs.CommandLine.{IsProgram, IsReading, all_rule, bare_app, column_room_rule};
 ghost use Rattle.tds_arguments.specs.CommandLine.{file_rule, limited_app, max_wire_rule, option_rule};
 ghost use Rattle.tds_arguments.specs.CommandLine.{packet_size_rule, packet_sizes, recut_app};
 
 use crate::help;
 use crate::help::Help;
 use clap::builder::ValueParser;
-use clap::{Arg, Command, value_parser};
+use clap::{Arg, ArgAction, Command, value_parser};
 use std::alloc::{AllocError, Global};
 use tds_meter::{
     GREATEST_COLUMN_ROOM, GREATEST_MAX_WIRE, GREATEST_PACKET_SIZE, LEAST_COLUMN_ROOM,
@@ -37,6 +37,9 @@ pub(crate) const MAX_WIRE: &str = "max-wire";
 
 /// The option of the character set.
 pub(crate) const CHARSET: &str = "charset";
+
+/// The option of all responses.
+pub(crate) const ALL: &str = "all";
 
 /// The file.
 pub(crate) const FILE: &str = "FILE";
@@ -114,6 +117,17 @@ fn charset<'a>(alloc: Global) -> Arg<'a>
         .hide_possible_values(true)
 }
 
+// The option of all responses, which has no value.
+fn all<'a>(alloc: Global) -> Arg<'a>
+    ensures { IsArgument all_rule result }
+{
+    Arg::new(alloc, ALL)
+        .long(ALL)
+        .action(ArgAction::SetTrue)
+        .help(help::ALL.0)
+        .long_help(help::ALL.1)
+}
+
 // The file, which may be left out.
 fn file<'a>(alloc: Global) -> Arg<'a>
     ensures { IsArgument file_rule result }
@@ -167,6 +181,7 @@ fn reading<'a>(alloc: Global, name: &'a str, help: Help) -> Result<Command<'a>, 
     ensures { IfOk result (IsReading name.entry.now) }
 {
     let command = with_argument(limited(alloc, name, help), charset(alloc));
+    let command = with_argument(command, all(alloc));
     with_argument(command, file(alloc))
 }
 

@@ -4,13 +4,13 @@ ghost use Rattle.clap.specs.Words.{first_of, kind_of, subcommand_rows_of};
 ghost use Rattle.tds_meter.specs.LimitFaults.{IsColumnRoom, IsMaxWire, IsPacketSize};
 ghost use Rattle.tds_arguments.specs.CommandLine.{Answers, GivesJob, MakesJob};
 ghost use Rattle.tds_arguments.specs.Jobs.{HasFile, HasLimits, IsInRange, IsJobOf, IsReadAs};
-ghost use Rattle.tds_arguments.specs.Jobs.{IsUnlimited, IsUnread, charset_of, values_in};
+ghost use Rattle.tds_arguments.specs.Jobs.{IsUnlimited, IsUnread, charset_of, is_of_all, values_in};
 ghost use Rattle.tds_arguments.specs.Usages.{IsRefusal, IsUsageOf};
 
 use crate::job::Job;
 use crate::options::{
-    CHARSET, CHECK, COLUMN_ROOM, EXPORT, FILE, MAX_WIRE, PACKET_SIZE, RECUT, UTF_8, check, export,
-    program, recut,
+    ALL, CHARSET, CHECK, COLUMN_ROOM, EXPORT, FILE, MAX_WIRE, PACKET_SIZE, RECUT, UTF_8, check,
+    export, program, recut,
 };
 use crate::usage::Usage;
 use clap::error::ErrorKind;
@@ -164,6 +164,16 @@ impl<'m, 'a> Given<'m, 'a> {
         }
     }
 
+    // Whether all responses are asked for.
+    fn is_of_all(&self) -> bool
+        ensures { result ≡ is_of_all (values_in self.now.matches.now) }
+    {
+        match self.matches.get_str(ALL) {
+            Some(value) => value == "true",
+            None => false,
+        }
+    }
+
     // The file, or none for standard input.
     fn file(&self) -> Result<Option<String>, AllocError>
         ensures { IfOk result (HasFile (values_in self.now.matches.now)) }
@@ -194,10 +204,21 @@ impl<'m, 'a> Given<'m, 'a> {
         requires { self.now.command.now ≡ codes "check" }
         ensures { GivesJob (IsJobOf self.now.command.now (values_in self.now.matches.now)) result }
     {
-        Ok(Job::Check {
-            limits: self.reading_limits()?,
-            charset: self.charset(),
-            file: self.file()?,
+        let limits = self.reading_limits()?;
+        let charset = self.charset();
+        let file = self.file()?;
+        Ok(if self.is_of_all() {
+            Job::CheckAll {
+                limits,
+                charset,
+                file,
+            }
+        } else {
+            Job::Check {
+                limits,
+                charset,
+                file,
+            }
         })
     }
 
@@ -206,10 +227,21 @@ impl<'m, 'a> Given<'m, 'a> {
         requires { self.now.command.now ≡ codes "export" }
         ensures { GivesJob (IsJobOf self.now.command.now (values_in self.now.matches.now)) result }
     {
-        Ok(Job::Export {
-            limits: self.reading_limits()?,
-            charset: self.charset(),
-            file: self.file()?,
+        let limits = self.reading_limits()?;
+        let charset = self.charset();
+        let file = self.file()?;
+        Ok(if self.is_of_all() {
+            Job::ExportAll {
+                limits,
+                charset,
+                file,
+            }
+        } else {
+            Job::Export {
+                limits,
+                charset,
+                file,
+            }
         })
     }
 

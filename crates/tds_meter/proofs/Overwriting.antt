@@ -1,6 +1,6 @@
 -- A list over whose end others are written, seen through its front.
 use Rattle.tds_meter.proofs as N
-use N.{◌≡◌, ◌+◌, ◌≤◌, ◌++◌, ℕ, List, length, take, drop, refl, arith}
+use N.{◌≡◌, ◌∙◌, ◌+◌, ◌≤◌, ◌++◌, ℕ, List, length, take, drop, refl, ap, arith}
 use Rattle.std.proofs.Common.{zero, suc, [], ◌∷◌, max, length-append}
 
 front_of_mid : (m : ℕ) (w ys : List ℕ) → take m (w ++ drop (length w) ys) ≡ take m (w ++ drop (length w) (take m ys))
@@ -43,23 +43,18 @@ overwritten_all from w xs e =
       N.length-take-le from xs (omega arith),
     )))
 
--- a front that grows by n items of the list after it, which are written over
-front_grows : (len n : ℕ) (w xs : List ℕ) → len + n ≤ length xs
-    → take (len + n) (N.refill (length xs) xs (take len xs ++ (w ++ drop (length w) (drop len xs)))) ≡ N.overwritten (length (take len xs)) w
-    (take len xs ++ take n (drop len xs))
-front_grows len n w xs fits = rw (front-refill (len + n) len w xs (omega arith) fits, N.take-add len n xs, N.length-take-le len xs (omega arith))
-
--- so for an area, whose peak is raised
-pub grows : (len n peak' : ℕ) (w xs : List ℕ) (s : N.Space) (lent : List ℕ) → s.room ≡ length xs → len + n ≤ length xs → take len xs ≡ s.bytes
-    → lent ≡ take n (drop len xs) → peak' ≡ max s.peak (len + n)
-    → record {
-      bytes = take (len + n) (N.refill s.room xs (take len xs ++ (w ++ drop (length w) (drop len xs))));
-      room = s.room;
-      peak = peak';
-    } ≡ N.with_tail (N.appended s lent) (length s.bytes) w
-grows len n peak' w xs s lent all fits front stood top =
-    let long = rw (N.take-add len n xs, front, ← stood) at (N.sym (N.length-take-le (len + n) xs fits)) in
-    rw (all, front_grows len n w xs fits, front, ← stood, top, long)
+-- an area whose front grows by n items of a list that begins as it
+pub grows : (s : N.Space) (len n peak' : ℕ) (xs ys : List ℕ) → take len xs ≡ s.bytes → take (length xs) ys ≡ xs → len ≤ length xs
+    → len + n ≤ length ys → peak' ≡ max s.peak (len + n)
+    → N.Grows s (record { bytes = take (len + n) ys; room = s.room; peak = peak' }) n
+grows s len n peak' xs ys front same within fits top =
+    let begins : take len ys ≡ take len xs = N.sym (N.take-take len (length xs) ys within) ∙ ap (take len) same in
+    let more = take n (drop len ys) in
+    let long : length more ≡ n = N.length-take-le n (drop len ys) (omega (arith, N.length-drop len ys)) in
+    let stood : length s.bytes ≡ len = ap length (N.sym front) ∙ N.length-take-le len xs within in
+    let bytes : take (len + n) ys ≡ s.bytes ++ more = rw (N.take-add len n ys, begins, front) in
+    let size : length (s.bytes ++ more) ≡ len + n = omega (arith, length-append s.bytes more, long, stood) in
+    (more, long, rw (bytes, size, top))
 
 -- an area that grew, and all over which others are written
 pub grown : (s : N.Space) (lent w : List ℕ) → length w ≡ length lent → N.with_tail (N.appended s lent) (length s.bytes) w ≡ N.appended s w

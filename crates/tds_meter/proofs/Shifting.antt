@@ -13,7 +13,7 @@ shifted n len old new le within moved =
     start ∙ N.sym (N.drop-take n kept old) ∙ ap (λ m. drop n (take m old)) whole
 
 -- so it is in an area whose bytes are the front of a store
-pub front-dropped : (s : N.Space) (n len room size peak : ℕ) (old new : N.List ℕ) → n ≤ len → len ≤ N.length old → new ≡ N.copy_within old n len 0
-    → size ≡ room → record { bytes = take len old; room = room; peak = peak } ≡ s
-    → record { bytes = take (len - n) new; room = size; peak = peak } ≡ N.holding s (drop n s.bytes)
-front-dropped s n len room size peak old new le within moved same is = rw (shifted n len old new le within moved, same, ← is)
+pub front-dropped : (s : N.Space) (n len room peak : ℕ) (old new : N.List ℕ) → n ≤ len → len ≤ N.length old → new ≡ N.copy_within old n len 0
+    → record { bytes = take len old; room = room; peak = peak } ≡ s
+    → record { bytes = take (len - n) new; room = room; peak = peak } ≡ N.holding s (drop n s.bytes)
+front-dropped s n len room peak old new le within moved is = rw (shifted n len old new le within moved, ← is)

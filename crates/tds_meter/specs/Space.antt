@@ -1,5 +1,5 @@
 -- What contracts see of an area of bytes.
-use Rattle.std.specs.Prelude.{ℕ, max, List, [], ◌++◌, length}
+use Rattle.std.specs.Prelude.{◌≡◌, ℕ, max, List, [], ◌++◌, length}
 
 -- the bytes that are there, the most that may be, and the most that were there since it was made or last emptied for a new run
 pub record Space : Type 0 where
@@ -18,3 +18,7 @@ holding s bytes = record { bytes = bytes; room = s.room; peak = s.peak }
 -- a piece after its bytes, and the peak raised to their length
 abbrev pub appended : Space → List ℕ → Space
 appended s piece = record { bytes = s.bytes ++ piece; room = s.room; peak = max s.peak (length (s.bytes ++ piece)) }
+
+-- This number of bytes was added, whatever they are.
+abbrev pub Grows : Space → Space → ℕ → Type 0
+Grows old new n = (more : List ℕ) × (length more ≡ n) × (new ≡ appended old more)

@@ -1,8 +1,8 @@
 // A list of bytes with a room and a peak.
 ghost use Rattle.std.specs.Borrow.{sem};
-ghost use Rattle.std.specs.Prelude.{◌≡◌, ◌+◌, ◌-◌, ◌<◌, ◌≤◌, ◌==◌, [], length, take, drop, replicate, IfOk, OnOk, OnErr};
+ghost use Rattle.std.specs.Prelude.{◌≡◌, ◌+◌, ◌-◌, ◌<◌, ◌≤◌, ◌==◌, [], length, max, take, drop, replicate, vec_capacity, vec_len, IfOk, OnOk, OnErr};
 ghost use Rattle.tds_meter.specs.Lent.{LendsNew, LendsTail};
-ghost use Rattle.tds_meter.specs.Space.{empty, holding, appended};
+ghost use Rattle.tds_meter.specs.Space.{Grows, appended, empty, holding};
 
 use std::alloc::Global;
 use std::marker::Model;
@@ -19,25 +19,42 @@ pub struct OutOfMemory;
 pub struct Full;
 
 /// A list of bytes with a room, the most bytes that it may hold, and a peak, the most that it held
-/// since it was made or last restarted. Its memory is taken once, when it is made.
+/// since it was made or last restarted. Its memory is taken once, when it is made, and written to as far as it is used.
 #[derive(Drop)]
 pub struct Area {
-    // as long as the room; the bytes are the first `len`
+    // with memory for the room, and as long as it was ever needed; the bytes are the first `len`
     store: Vec<u8>,
+    room: usize,
     len: usize,
     peak: usize,
 }
 
 impl Model for Area {
-    ghost use Rattle.std.specs.Prelude.{◌≤◌, take, vec_len};
+    ghost use Rattle.std.specs.Prelude.{◌≤◌, take, vec_capacity, vec_len};
     ghost use Rattle.tds_meter.specs.Space.{Space};
     ghost use Rattle.tds_meter.specs.declared.area.TheConstants.{GREATEST_ROOM};
 
     ghost Value = { Space };
 
-    ghost view = { λ a. record { bytes = take a.len a.store.items; room = vec_len a.store; peak = a.peak } };
+    ghost view = { λ a. record { bytes = take a.len a.store.items; room = a.room; peak = a.peak } };
 
-    ghost invariant = { λ a. (a.len ≤ a.peak) × (a.peak ≤ vec_len a.store) × (vec_len a.store ≤ GREATEST_ROOM) };
+    ghost invariant = { λ a. (a.len ≤ a.peak) × (a.peak ≤ vec_len a.store)
+        × (vec_len a.store ≤ a.room) × (a.room ≤ vec_capacity a.store) × (a.room ≤ GREATEST_ROOM) };
+}
+
+// Makes a store at least this long, within its memory.
+fn reach(store: &mut Vec<u8>, end: usize)
+    requires { end ≤ vec_capacity store.old }
+    ensures long { end ≤ vec_len store.new }
+    ensures most { vec_len store.new ≤ max (vec_len store.old) end }
+    ensures kept { take (vec_len store.old) store.new.items ≡ store.old.items }
+    ensures capacity { vec_capacity store.old ≤ vec_capacity store.new }
+{
+    if end > store.len() {
+        let Ok(()) = store.resize(end, 0) else {
+            unreachable!()
+        };
+    }
 }
 
 impl Area {
@@ -46,15 +63,26 @@ impl Area {
         requires { room ≤ GREATEST_ROOM }
         ensures { IfOk result (λ area. area ≡ empty room) }
     {
-        let mut store = Vec::new(alloc);
-        match store.resize(room, 0) {
-            Ok(()) => Ok(Area {
+        match Vec::with_capacity(alloc, room) {
+            Ok(store) => Ok(Area {
                 store,
+                room,
                 len: 0,
                 peak: 0,
             }),
             Err(_) => Err(OutOfMemory),
         }
+    }
+
+    // Adds `n` bytes at the end, whatever is in them.
+    fn add(&mut self, n: usize)
+        requires { length self.old.bytes + n ≤ self.old.room }
+        ensures { Grows self.old self.new n }
+    {
+        let end = self.len + n;
+        reach(&mut self.store, end);
+        self.len = end;
+        self.peak = self.peak.max(end);
     }
 
     /// The bytes that it holds.
@@ -84,7 +112,7 @@ impl Area {
     pub fn room(&self) -> usize
         ensures { result ≡ self.now.room }
     {
-        self.store.len()
+        self.room
     }
 
     /// How many more bytes it may hold.
@@ -137,10 +165,9 @@ impl Area {
         if piece.len() > self.free() {
             return Err(Full);
         }
-        let end = self.len + piece.len();
-        self.store.slice_mut(self.len..end).copy_from_slice(piece);
-        self.len = end;
-        self.peak = self.peak.max(end);
+        let len = self.len;
+        self.add(piece.len());
+        self.tail(len).copy_from_slice(piece);
         Ok(())
     }
 
@@ -154,10 +181,9 @@ impl Area {
         if n > self.free() {
             return Err(Full);
         }
-        let end = self.len + n;
-        self.store.slice_mut(self.len..end).fill(0);
-        self.len = end;
-        self.peak = self.peak.max(end);
+        let len = self.len;
+        self.add(n);
+        self.tail(len).fill(0);
         Ok(())
     }
 
@@ -177,11 +203,9 @@ impl Area {
         ensures* lends { sem 𝓛 (LendsNew self.entry result) }
         ensures value { length result.now ≡ n }
     {
-        let len = self.len;
-        let end = len + n;
-        self.len = end;
-        self.peak = self.peak.max(end);
-        self.store.slice_mut(len..end)
+        let end = self.len;
+        self.add(n);
+        self.tail(end)
     }
 
     /// Takes all bytes away, and sets the peak to 0.

@@ -1,7 +1,10 @@
 -- The packets at the front of an input, and what is read of it.
 use Rattle.tds_packet.proofs as N
 use N.{◌≡◌, ◌∙◌, ◌⊎◌, inl, inr, ℕ, suc, ◌+◌, ◌<◌, ◌≤◌, List, [], ◌∷◌, ◌++◌, length, Some, refl, sym, ap, arith, Stop, Packet, wire_of, payload_of, AreBefore}
-use N.{Seen, begun, Words.{front_packet, message}, ElementLaws.AreBytes-front, PacketLaws.{good_header, header_of, front_message}}
+use N.{Seen, begun}
+use N.Words.{front_packet, message}
+use N.ElementLaws.{AreBytes-front}
+use N.PacketLaws.{good_header, header_of, front_message}
 
 -- whole packets at the front of an input, with the rest of it after them; none but the last is marked as the last
 pub record BeginsMessage (size limit : ℕ) (input rest payload : List ℕ) : Type 0 where

@@ -1,7 +1,8 @@
 -- What is still to come, along a payload's steps.
 use Rattle.tds_packet.proofs as N
 use N.{◌≡◌, inl, inr, ℕ, suc, ◌+◌, ◌-◌, ◌<◌, ◌≤◌, List, [], ◌++◌, length, take, None, arith, Seen, Takes, Ends, buffered, seen, device}
-use N.{Words.{front_packet, message, coming_of}, Joins.{Stays-none, Stays-trans}}
+use N.Words.{front_packet, message, coming_of}
+use N.Joins.{Stays-none, Stays-trans}
 
 rest_shorter : (room max wire : ℕ) (xs : List ℕ) {body rest : List ℕ} {last : N.Bool} {n : ℕ} → front_packet room max wire xs ≡ N.WholePacket body last n rest
     → length rest < length xs

@@ -1,6 +1,7 @@
 -- The parts of a packet's read, joined.
 use Rattle.tds_packet.proofs as N
-use N.{◌≡◌, ◌∙◌, ℕ, ◌+◌, ◌-◌, ◌^◌, ◌<◌, List, [], ◌++◌, length, Ok, Err, false, arith, if◌then◌else◌, Device, Stays, Fault, Header, Words.front_packet}
+use N.{◌≡◌, ◌∙◌, ℕ, ◌+◌, ◌-◌, ◌^◌, ◌<◌, List, [], ◌++◌, length, Ok, Err, false, arith, if◌then◌else◌, Device, Stays, Fault, Header}
+use N.Words.{front_packet}
 use N.Choices.{test_lt}
 
 pub Stays-none : (f : ℕ) → Stays f f []

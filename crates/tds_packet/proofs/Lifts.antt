@@ -1,6 +1,7 @@
 -- What is read inside a greater grammar.
 use Rattle.tds_packet.proofs as N
-use N.{◌≡◌, ℕ, ◌<◌, List, [], ◌∷◌, ◌++◌, arith, IsNext, ElementLaws.{Inside, Inside-Spelt, Spelt-append, Spelt-none, Spelt-one}}
+use N.{◌≡◌, ℕ, ◌<◌, List, [], ◌∷◌, ◌++◌, arith, IsNext}
+use N.ElementLaws.{Inside, Inside-Spelt, Spelt-append, Spelt-none, Spelt-one}
 
 -- a state with a next element has some bytes to come
 pub next_some : {S : Type 0} (g : N.Grammar S N.Fault) (s : S) (element : List ℕ) → IsNext g s element → 0 < g.size s

@@ -1,6 +1,8 @@
 -- An input begins with one message at most.
 use Rattle.tds_packet.proofs as N
-use N.{◌≡◌, ℕ, ◌≤◌, List, [], ◌∷◌, ◌++◌, Packet, wire, Feeding.{Reading, feed_all}, ElementLaws.{feed-Spelt, feed_part}}
+use N.{◌≡◌, ℕ, ◌≤◌, List, [], ◌∷◌, ◌++◌, Packet, wire}
+use N.Feeding.{Reading, feed_all}
+use N.ElementLaws.{feed-Spelt, feed_part}
 
 module _ (size limit : ℕ) where
   abbrev pub after_packets : List Packet → N.WirePart

@@ -2,8 +2,11 @@
 use Rattle.tds_packet.proofs as N
 use N.{◌≡◌, ℕ, ◌+◌, ◌-◌, ◌/◌, ◌%◌, ◌≤◌, true, false, List, [], ◌∷◌, ◌++◌, length, take, drop, refl, ◌∙◌, ap, inl, inr, append_assoc, append-nil, arith}
 use N.{length-append, ◌⊎◌, None, ◌==◌, if◌then◌else◌, AreBytes, Spelt, Packet, wire_of, is_last, IsPacket, AreBefore, WirePlace, BeforeBody, WirePart, no_wire}
-use N.{header_length, wire, ◌<◌, nat_lt, payload_of, before, Words.{front_packet, message}, ElementLaws.{Spelt-step, Spelt-append, Spelt-none, Spelt-induct}}
-use N.{ElementLaws.{AreBytes-front, AreBytes-back, one_state, longest_cut}, Choices.{choose, eq_true}}
+use N.{header_length, wire, ◌<◌, nat_lt, payload_of, before}
+use N.Words.{front_packet, message}
+use N.ElementLaws.{Spelt-step, Spelt-append, Spelt-none, Spelt-induct}
+use N.ElementLaws.{AreBytes-front, AreBytes-back, one_state, longest_cut}
+use N.Choices.{choose, eq_true}
 
 pub one_more : (size : ℕ) (ps : List Packet) (p : Packet) → AreBefore size ps → IsPacket size p → is_last p ≡ false → AreBefore size (ps ++ p ∷ [])
 one_more size [] p h i l = (i, l, tt)

@@ -1,6 +1,7 @@
 -- A payload, as its calls leave it.
 use Rattle.tds_packet.proofs as N
-use N.{◌≡◌, ℕ, ◌+◌, ◌<◌, ◌≤◌, List, ◌++◌, length, Option, Ok, arith, Stop, seen, Takes, [], Words.{coming_of, message, front_packet}}
+use N.{◌≡◌, ℕ, ◌+◌, ◌<◌, ◌≤◌, List, ◌++◌, length, Option, Ok, arith, Stop, seen, Takes, []}
+use N.Words.{coming_of, message, front_packet}
 
 -- It has not stopped, so no packet is cut.
 pub between_of : {R : Type 0} (remaining : R → Option (List ℕ)) (p : N.PayloadOf R) → p.stopped ≡ N.None → N.IsBetween (seen remaining p)

@@ -1,7 +1,9 @@
 -- A payload on its way into packets of one size.
 use Rattle.tds_packet.proofs as N
 use N.{PayloadOf, ◌≡◌, ◌∙◌, inr, ℕ, suc, ◌+◌, ◌-◌, ◌*◌, ◌<◌, ◌≤◌, Bool, true, false, List, [], ◌∷◌, ◌++◌, length, drop, Option, None, refl, ap, arith}
-use N.{length-append, Ok, Err, ◌^◌, Counted, Stop, wire_of, seen, Gathers, cut_packet, Seen, Takes, Words.{coming_of, first_packets}, Futures.Takes-more}
+use N.{length-append, Ok, Err, ◌^◌, Counted, Stop, wire_of, seen, Gathers, cut_packet, Seen, Takes}
+use N.Words.{coming_of, first_packets}
+use N.Futures.{Takes-more}
 
 -- what was gathered, and bytes after it
 pub joined : (a b c : Seen) (hs bs : List ℕ) (n : ℕ) → n ≤ length bs + 1 → Takes a b hs (length hs + 1) → Takes b c bs n

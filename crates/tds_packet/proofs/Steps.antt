@@ -1,6 +1,7 @@
 -- Calls that read by a grammar, one after another.
 use Rattle.tds_packet.proofs as N
-use N.{◌≡◌, ◌∙◌, ℕ, ◌+◌, ◌<◌, List, [], ◌++◌, length, arith, Stop, Seen, Takes, Reads, ElementLaws.{Spelt-none, Spelt-append, Spelt-one}}
+use N.{◌≡◌, ◌∙◌, ℕ, ◌+◌, ◌<◌, List, [], ◌++◌, length, arith, Stop, Seen, Takes, Reads}
+use N.ElementLaws.{Spelt-none, Spelt-append, Spelt-one}
 
 -- bytes taken by two calls
 pub takes_both : (a b c : Seen) (xs ys : List ℕ) → Takes a b xs (length xs) → Takes b c ys (length ys) → Takes a c (xs ++ ys) (length (xs ++ ys))

@@ -1,6 +1,7 @@
 -- Which faults the payload itself may have.
 use Rattle.tds_packet.proofs as N
-use N.{◌≡◌, ◌∙◌, inr, ℕ, ◌+◌, List, [], None, ⊤, Fault, ReadFailed, WriteFailed, seen, Words.{coming_of, front_packet, message}}
+use N.{◌≡◌, ◌∙◌, inr, ℕ, ◌+◌, List, [], None, ⊤, Fault, ReadFailed, WriteFailed, seen}
+use N.Words.{coming_of, front_packet, message}
 
 -- a fault that the wire or the end of a message may have
 abbrev pub IsOfWire : Fault → Type 0

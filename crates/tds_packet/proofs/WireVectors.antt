@@ -1,6 +1,7 @@
 -- Worked wires: the payload that each has to give, the bytes of its whole packets, and the fault that ends it.
 use Rattle.tds_packet.proofs as N
-use N.{◌≡◌, ℕ, ◌-◌, ◌/◌, ◌%◌, List, [], ◌∷◌, ◌++◌, take, refl, Stop, Words.{message, front_packet}}
+use N.{◌≡◌, ℕ, ◌-◌, ◌/◌, ◌%◌, List, [], ◌∷◌, ◌++◌, take, refl, Stop}
+use N.Words.{message, front_packet}
 
 -- the payload of the worked wires
 abbrev payload : List ℕ

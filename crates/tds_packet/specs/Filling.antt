@@ -1,5 +1,5 @@
 -- What a read that is to fill a slice does.
-use Rattle.std.specs.Prelude.{◌≡◌, ℕ, ◌-◌, ◌^◌, ◌<◌, List, length, Option, Result, Ok, Err}
+use Rattle.std.specs.Prelude.{◌≡◌, ℕ, ◌-◌, ◌^◌, ◌<◌, ◌↔◌, ⊤, Bool, IsTrue, List, [], length, Option, None, Some, Result, Ok, Err}
 use Rattle.std.specs.Io.KnownBytes.{Consumes, IsAtEnd}
 use Rattle.tds_meter.specs.Counts.{one_more}
 use Rattle.tds_packet.specs.declared.counted.Short.{Short}
@@ -22,6 +22,11 @@ IsAnswered before after = (after ≡ before) × (before < 2 ^ 64 - 1)
 abbrev pub CountsCall : {U E : Type 0} → ℕ → ℕ → Result U E → Type 0
 CountsCall before after (Ok _) = IsAnswered before after
 CountsCall before after (Err _) = after ≡ one_more before
+
+-- It is told whether a reader has no byte left, if that is known.
+abbrev pub TellsEnd : Option (List ℕ) → Bool → Type 0
+TellsEnd None over = ⊤
+TellsEnd (Some bytes) over = IsTrue over ↔ (bytes ≡ [])
 
 -- Fewer than n bytes were read, and none is left.
 abbrev pub RunsOut : Option (List ℕ) → Option (List ℕ) → ℕ → Type 0

@@ -3,9 +3,9 @@ ghost use Rattle.std.specs.Io.KnownBytes.{Appends, Consumes, IsAtEnd, Keeps};
 ghost use Rattle.std.specs.Prelude.{◌≡◌, ◌-◌, ◌^◌, ◌<◌, ◌≤◌, length, take, IfErr, IfOk, IsTrue, OnErr, OnOk, false};
 ghost use Rattle.tds_meter.specs.Counts.{one_more};
 ghost use Rattle.tds_packet.specs.Devices.{device};
-ghost use Rattle.tds_packet.specs.Filling.{CountsCall, FillsSlice, Rises, Stays};
+ghost use Rattle.tds_packet.specs.Filling.{CountsCall, FillsSlice, Rises, Stays, TellsEnd};
 
-use std::io::{Read, Write};
+use std::io::{BufRead, Read, Write};
 
 /// A reader or writer whose failed calls are counted: a read or write that returns an error, a
 /// write of a nonempty slice that returns 0, a failed flush. The count stops at
@@ -19,7 +19,7 @@ pub struct Counted<T> {
 
 /// A call of a device failed, and was counted.
 #[derive(Debug, Clone, Copy)]
-pub(crate) struct Failed;
+pub struct Failed;
 
 /// Why bytes are lacking.
 #[derive(Debug, Clone, Copy)]
@@ -103,6 +103,28 @@ impl<R: Read> Counted<R> {
             }
         }
         Ok(())
+    }
+}
+
+impl<R: BufRead> Counted<R> {
+    /// Whether the input is over. No byte is taken, but the reader may read ahead. [`Failed`] if that failed.
+    pub fn is_over(&mut self) -> Result<bool, Failed>
+        ensures keeps { Keeps (R.remaining self.old.device) (R.remaining self.new.device) }
+        ensures over { IfOk result (TellsEnd (R.remaining self.old.device)) }
+        ensures counts { CountsCall self.old.failures self.new.failures result }
+    {
+        if self.failures == u64::MAX {
+            return Err(Failed);
+        }
+        let over = match self.device.fill_buf() {
+            Ok(ahead) => Some(ahead.is_empty()),
+            Err(_) => None,
+        };
+        let Some(over) = over else {
+            self.count();
+            return Err(Failed);
+        };
+        Ok(over)
     }
 }
 

@@ -34,7 +34,7 @@ mod recutting;
 pub mod rig;
 
 pub use answer::{Recut, RecutStop};
-pub use counted::Counted;
+pub use counted::{Counted, Failed};
 pub use fault::{Fault, Place, RefusedKind, Stop};
 pub use payload::Payload;
 pub use recutting::recut;

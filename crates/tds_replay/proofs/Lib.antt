@@ -1,1 +1,4 @@
 mod Sayings
+mod ReportSteps
+pub mod Words
+mod AcceptedResponses

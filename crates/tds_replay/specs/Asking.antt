@@ -5,7 +5,7 @@ use Rattle.tds_meter.specs.declared.limits.Limits.{Limits}
 use Rattle.tds_meter.specs.Counts.{counted, one_more}
 use Rattle.tds_meter.specs.Rooms.{AreEmptied, is_intact, peak_rest}
 use Rattle.tds_arguments.specs.declared.job.Work.{Work}
-use Rattle.tds_arguments.specs.declared.job.Work.TheVariants.{Export, Check, Recut}
+use Rattle.tds_arguments.specs.declared.job.Work.TheVariants.{Export, Check, ExportAll, CheckAll, Recut}
 use Rattle.tds_replay.specs.declared.memory.Memory.{Memory}
 
 -- Areas of this many bytes together were asked for, whether they were granted or refused, and no others.
@@ -24,6 +24,8 @@ packets_size packet_size = 32767 + packet_size
 abbrev pub memory_of : Work → ℕ
 memory_of (Export limits charset) = areas_size limits
 memory_of (Check limits charset) = areas_size limits
+memory_of (ExportAll limits charset) = areas_size limits
+memory_of (CheckAll limits charset) = areas_size limits
 memory_of (Recut packet_size max_wire) = packets_size packet_size
 
 -- The areas are those of the limits: six empty ones with their rooms, never restarted.

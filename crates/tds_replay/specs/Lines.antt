@@ -160,3 +160,7 @@ unreadable_line path = concat (codes "cannot read " ∷ path ∷ codes "\n" ∷ 
 -- the line of want of memory
 abbrev pub memory_line : List ℕ
 memory_line = codes "want of memory\n"
+
+-- the line that counts responses
+unfoldable pub responses_line : ℕ → List ℕ
+responses_line n = concat (codes "responses " ∷ decimal n ∷ codes "\n" ∷ [])

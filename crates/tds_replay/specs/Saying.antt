@@ -1,5 +1,5 @@
 -- What is written to the notes.
-use Rattle.std.specs.Prelude.{◌≡◌, ◌⊎◌, List, ℕ, Option, Result, Ok, Err}
+use Rattle.std.specs.Prelude.{◌≡◌, ◌⊎◌, ◌++◌, List, ℕ, Option, Result, Ok, Err}
 use Rattle.std.specs.Io.KnownBytes.{Appends}
 use Rattle.tds_meter.specs.Counts.{Rose}
 use Rattle.tds_packet.specs.declared.counted.Counted.{Counted}
@@ -17,3 +17,14 @@ Says contents old new text (Err _) = Rose old.failures new.failures
 -- The text was written or a write failed; the result isn't passed on.
 abbrev pub SaysOrFails : {N : Type 0} → (N → Option (List ℕ)) → Counted N → Counted N → List ℕ → Type 0
 SaysOrFails contents old new text = WritesText contents old new text ⊎ Rose old.failures new.failures
+
+-- The text was added to what is gathered, a front of which was written.
+pub record AddsText {N : Type 0} (contents : N → Option (List ℕ)) (old new : Counted N) (had has text : List ℕ) : Type 0 where
+  pub sent : List ℕ
+  pub writes : WritesText contents old new sent
+  pub rest : had ++ text ≡ sent ++ has
+
+-- The same; or a write failed, which was counted.
+abbrev pub Gathers : {N U : Type 0} → (N → Option (List ℕ)) → Counted N → Counted N → List ℕ → List ℕ → List ℕ → Result U Unsaid → Type 0
+Gathers contents old new had has text (Ok _) = AddsText contents old new had has text
+Gathers contents old new had has text (Err _) = Rose old.failures new.failures

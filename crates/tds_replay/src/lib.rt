@@ -5,6 +5,7 @@
 mod lines;
 mod memory;
 mod pieces;
+mod responses;
 mod running;
 mod status;
 mod usage;

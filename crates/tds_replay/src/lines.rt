@@ -1,9 +1,9 @@
-// The lines on standard error.
+// The lines on standard error. Those of a response are gathered, and written at once.
 ghost use Rattle.std.specs.Prelude.{◌≡◌, Ok, map};
-ghost use Rattle.tds_replay.specs.Lines.{FitsNotice, answer_lines, counts_line, error_line, fault_fields, fault_name as name_of_fault, kind_name as name_of_kind, memory_line, place_number, place_unit, recut_lines, shown_byte, status_line, stop_line, unreadable_line, values_line};
-ghost use Rattle.tds_replay.specs.Saying.{Says};
+ghost use Rattle.tds_replay.specs.Lines.{FitsNotice, answer_lines, counts_line, error_line, fault_fields, fault_name as name_of_fault, kind_name as name_of_kind, memory_line, place_number, place_unit, recut_lines, responses_line, shown_byte, status_line, stop_line, unreadable_line, values_line};
+ghost use Rattle.tds_replay.specs.Saying.{Gathers, Says};
 
-use crate::pieces::{Piece, Unsaid, say};
+use crate::pieces::{Gathered, Piece, Unsaid, gather_all, put, say};
 use arrayvec::ArrayVec;
 use std::io::Write;
 use tds_export::{Report, ServerError, Stopped};
@@ -56,24 +56,30 @@ fn kind_name(kind: RefusedKind) -> &'static [u8]
     }
 }
 
-// Writes the fields of a fault in order, each after a space.
-fn say_fields<W: Write>(notes: &mut Counted<W>, fault: &Fault) -> Result<(), Unsaid>
-    ensures { Says W.contents notes.old notes.new (fault_fields fault.now) result }
+// Adds the fields of a fault in order, each after a space.
+fn add_fields<W: Write>(
+    notes: &mut Counted<W>,
+    gathered: &mut Gathered,
+    fault: &Fault,
+) -> Result<(), Unsaid>
+    ensures { Gathers W.contents notes.old notes.new gathered.old.items gathered.new.items (fault_fields fault.now) result }
 {
     match *fault {
         Fault::WrongPacketType(byte) | Fault::RefusedToken(byte) => {
-            say(notes, &[Piece::Byte(b" ", byte)])
+            gather_all(notes, gathered, &[Piece::Byte(b" ", byte)])
         }
-        Fault::RefusedColumn { index, kind } => say(
+        Fault::RefusedColumn { index, kind } => gather_all(
             notes,
+            gathered,
             &[
                 Piece::Number(b" ", u64::from(index)),
                 Piece::Text(b" "),
                 Piece::Text(kind_name(kind)),
             ],
         ),
-        Fault::UnknownType { index, byte } => say(
+        Fault::UnknownType { index, byte } => gather_all(
             notes,
+            gathered,
             &[
                 Piece::Number(b" ", u64::from(index)),
                 Piece::Byte(b" ", byte),
@@ -85,7 +91,11 @@ fn say_fields<W: Write>(notes: &mut Counted<W>, fault: &Fault) -> Result<(), Uns
         | Fault::BadValue { column: n }
         | Fault::OddText { column: n }
         | Fault::PlpLength { column: n }
-        | Fault::BadText { column: n } => say(notes, &[Piece::Number(b" ", u64::from(n))]),
+        | Fault::BadText { column: n } => gather_all(
+            notes,
+            gathered,
+            &[Piece::Number(b" ", u64::from(n))],
+        ),
         _ => Ok(()),
     }
 }
@@ -102,22 +112,28 @@ fn place_parts(place: &Place) -> (&'static [u8], u64)
     }
 }
 
-// Writes the line of a stop.
-fn say_stop<W: Write>(notes: &mut Counted<W>, stopped: &Stopped) -> Result<(), Unsaid>
-    ensures { Says W.contents notes.old notes.new (stop_line stopped.now) result }
+// Adds the line of a stop.
+fn add_stop<W: Write>(
+    notes: &mut Counted<W>,
+    gathered: &mut Gathered,
+    stopped: &Stopped,
+) -> Result<(), Unsaid>
+    ensures { Gathers W.contents notes.old notes.new gathered.old.items gathered.new.items (stop_line stopped.now) result }
 {
-    say(
+    gather_all(
         notes,
+        gathered,
         &[
             Piece::Number(b"fault ", u64::from(stopped.fault.number())),
             Piece::Text(b" "),
             Piece::Text(fault_name(&stopped.fault)),
         ],
     )?;
-    say_fields(notes, &stopped.fault)?;
+    add_fields(notes, gathered, &stopped.fault)?;
     let (unit, number) = place_parts(&stopped.place);
-    say(
+    gather_all(
         notes,
+        gathered,
         &[
             Piece::Text(b" at "),
             Piece::Text(unit),
@@ -129,12 +145,17 @@ fn say_stop<W: Write>(notes: &mut Counted<W>, stopped: &Stopped) -> Result<(), U
     )
 }
 
-// Writes the line of a report's counts.
-fn say_counts<W: Write>(notes: &mut Counted<W>, report: &Report) -> Result<(), Unsaid>
-    ensures { Says W.contents notes.old notes.new (counts_line report.now) result }
+// Adds the line of a report's counts.
+fn add_counts<W: Write>(
+    notes: &mut Counted<W>,
+    gathered: &mut Gathered,
+    report: &Report,
+) -> Result<(), Unsaid>
+    ensures { Gathers W.contents notes.old notes.new gathered.old.items gathered.new.items (counts_line report.now) result }
 {
-    say(
+    gather_all(
         notes,
+        gathered,
         &[
             Piece::Number(b"sets ", report.sets),
             Piece::Number(b" rows ", report.rows),
@@ -146,28 +167,38 @@ fn say_counts<W: Write>(notes: &mut Counted<W>, report: &Report) -> Result<(), U
     )
 }
 
-// Writes the line of the values that procedures returned, if there are any.
-fn say_values<W: Write>(notes: &mut Counted<W>, values: u64) -> Result<(), Unsaid>
-    ensures { Says W.contents notes.old notes.new (values_line values) result }
+// Adds the line of the values that procedures returned, if there are any.
+fn add_values<W: Write>(
+    notes: &mut Counted<W>,
+    gathered: &mut Gathered,
+    values: u64,
+) -> Result<(), Unsaid>
+    ensures { Gathers W.contents notes.old notes.new gathered.old.items gathered.new.items (values_line values) result }
 {
     if values == 0 {
         return Ok(());
     }
-    say(
+    gather_all(
         notes,
+        gathered,
         &[Piece::Number(b"return values ", values), Piece::Text(b"\n")],
     )
 }
 
-// Writes the line of the last return status, if there is one.
-fn say_status<W: Write>(notes: &mut Counted<W>, status: Option<i32>) -> Result<(), Unsaid>
-    ensures { Says W.contents notes.old notes.new (status_line status) result }
+// Adds the line of the last return status, if there is one.
+fn add_status<W: Write>(
+    notes: &mut Counted<W>,
+    gathered: &mut Gathered,
+    status: Option<i32>,
+) -> Result<(), Unsaid>
+    ensures { Gathers W.contents notes.old notes.new gathered.old.items gathered.new.items (status_line status) result }
 {
     let Some(status) = status else {
         return Ok(());
     };
-    say(
+    gather_all(
         notes,
+        gathered,
         &[Piece::Signed(b"return status ", status), Piece::Text(b"\n")],
     )
 }
@@ -188,21 +219,23 @@ fn shown(message: &[u8]) -> ArrayVec<u8, NOTICE_ROOM>
     text
 }
 
-// Writes the line of the first error with its message, if there is one.
-fn say_error<W: Write>(
+// Adds the line of the first error with its message, if there is one.
+fn add_error<W: Write>(
     notes: &mut Counted<W>,
+    gathered: &mut Gathered,
     error: &Option<ServerError>,
     message: &[u8],
 ) -> Result<(), Unsaid>
     requires { FitsNotice message.now }
-    ensures { Says W.contents notes.old notes.new (error_line error.now message.now) result }
+    ensures { Gathers W.contents notes.old notes.new gathered.old.items gathered.new.items (error_line error.now message.now) result }
 {
     let Some(error) = error else {
         return Ok(());
     };
     let text = shown(message);
-    say(
+    gather_all(
         notes,
+        gathered,
         &[
             Piece::Signed(b"server error ", error.number),
             Piece::Number(b", state ", u64::from(error.state)),
@@ -215,19 +248,36 @@ fn say_error<W: Write>(
     )
 }
 
-// Writes the lines of a report.
-fn say_report<W: Write>(
+// Adds the lines of a report.
+fn add_report<W: Write>(
     notes: &mut Counted<W>,
+    gathered: &mut Gathered,
     report: &Report,
     message: &[u8],
 ) -> Result<(), Unsaid>
     requires { FitsNotice message.now }
-    ensures { Says W.contents notes.old notes.new (answer_lines (Ok report.now) message.now) result }
+    ensures { Gathers W.contents notes.old notes.new gathered.old.items gathered.new.items (answer_lines (Ok report.now) message.now) result }
 {
-    say_counts(notes, report)?;
-    say_values(notes, report.return_values)?;
-    say_status(notes, report.return_status)?;
-    say_error(notes, &report.first_error, message)
+    add_counts(notes, gathered, report)?;
+    add_values(notes, gathered, report.return_values)?;
+    add_status(notes, gathered, report.return_status)?;
+    add_error(notes, gathered, &report.first_error, message)
+}
+
+// Adds the lines of an export's result.
+fn add_answer<W: Write>(
+    notes: &mut Counted<W>,
+    gathered: &mut Gathered,
+    answer: &Result<Report, Stopped>,
+    message: &[u8],
+) -> Result<(), Unsaid>
+    requires { FitsNotice message.now }
+    ensures { Gathers W.contents notes.old notes.new gathered.old.items gathered.new.items (answer_lines answer.now message.now) result }
+{
+    match answer {
+        Ok(report) => add_report(notes, gathered, report, message),
+        Err(stopped) => add_stop(notes, gathered, stopped),
+    }
 }
 
 /// Writes the lines of an export's result, with the message of the first error.
@@ -239,10 +289,18 @@ pub fn say_answer<W: Write>(
     requires { FitsNotice message.now }
     ensures { Says W.contents notes.old notes.new (answer_lines answer.now message.now) result }
 {
-    match answer {
-        Ok(report) => say_report(notes, report, message),
-        Err(stopped) => say_stop(notes, stopped),
-    }
+    let mut gathered = Gathered::new();
+    add_answer(notes, &mut gathered, answer, message)?;
+    put(notes, gathered.as_slice())
+}
+
+/// Writes the line of a stop.
+pub(crate) fn say_stop<W: Write>(notes: &mut Counted<W>, stopped: &Stopped) -> Result<(), Unsaid>
+    ensures { Says W.contents notes.old notes.new (stop_line stopped.now) result }
+{
+    let mut gathered = Gathered::new();
+    add_stop(notes, &mut gathered, stopped)?;
+    put(notes, gathered.as_slice())
 }
 
 /// Writes the line of a recut's result.
@@ -271,6 +329,16 @@ pub(crate) fn say_recut_answer<W: Write>(
             },
         ),
     }
+}
+
+/// Writes the line that counts responses.
+pub(crate) fn say_responses<W: Write>(notes: &mut Counted<W>, responses: u64) -> Result<(), Unsaid>
+    ensures { Says W.contents notes.old notes.new (responses_line responses) result }
+{
+    say(
+        notes,
+        &[Piece::Number(b"responses ", responses), Piece::Text(b"\n")],
+    )
 }
 
 /// Writes the line of a file that can't be opened.

@@ -1,7 +1,8 @@
-// The pieces of a line on standard error.
+// The pieces of the lines on standard error, which are gathered to be written at once.
 ghost use Rattle.tds_replay.specs.Lines.{byte_text, piece_text, text_of};
-ghost use Rattle.tds_replay.specs.Saying.{Says};
+ghost use Rattle.tds_replay.specs.Saying.{Gathers, Says};
 
+use arrayvec::ArrayVec;
 use itoa::Buffer;
 use std::io::Write;
 use tds_packet::Counted;
@@ -33,44 +34,90 @@ pub(crate) fn put<W: Write>(notes: &mut Counted<W>, bytes: &[u8]) -> Result<(), 
     }
 }
 
-// Writes a byte as `0x` and two digits.
-fn put_byte<W: Write>(notes: &mut Counted<W>, byte: u8) -> Result<(), Unsaid>
-    ensures { Says W.contents notes.old notes.new (byte_text byte) result }
+/// How many bytes of lines are gathered at most before they are written. The lines of a response are shorter.
+const GATHERED_ROOM: usize = 1_024;
+
+/// Text that was gathered and isn't written yet.
+pub(crate) type Gathered = ArrayVec<u8, GATHERED_ROOM>;
+
+// Gathers bytes. If there is no room for them, what was gathered is written first.
+fn gather<W: Write>(
+    notes: &mut Counted<W>,
+    gathered: &mut Gathered,
+    bytes: &[u8],
+) -> Result<(), Unsaid>
+    ensures { Gathers W.contents notes.old notes.new gathered.old.items gathered.new.items bytes.now result }
+{
+    if gathered.try_extend_from_slice(bytes).is_ok() {
+        return Ok(());
+    }
+    put(notes, gathered.as_slice())?;
+    gathered.clear();
+    if gathered.try_extend_from_slice(bytes).is_ok() {
+        return Ok(());
+    }
+    put(notes, bytes)
+}
+
+// Gathers a byte as `0x` and two digits.
+fn gather_byte<W: Write>(
+    notes: &mut Counted<W>,
+    gathered: &mut Gathered,
+    byte: u8,
+) -> Result<(), Unsaid>
+    ensures { Gathers W.contents notes.old notes.new gathered.old.items gathered.new.items (byte_text byte) result }
 {
     let mut text = *b"0x00";
     match hex::encode_to_slice([byte], &mut text[2..]) {
-        Ok(()) => put(notes, &text),
+        Ok(()) => gather(notes, gathered, &text),
         Err(_) => unreachable!(),
     }
 }
 
-// Writes a piece.
-fn say_piece<W: Write>(notes: &mut Counted<W>, piece: &Piece) -> Result<(), Unsaid>
-    ensures { Says W.contents notes.old notes.new (piece_text piece.now) result }
+// Gathers a piece.
+fn gather_piece<W: Write>(
+    notes: &mut Counted<W>,
+    gathered: &mut Gathered,
+    piece: &Piece,
+) -> Result<(), Unsaid>
+    ensures { Gathers W.contents notes.old notes.new gathered.old.items gathered.new.items (piece_text piece.now) result }
 {
     match *piece {
-        Piece::Text(text) => put(notes, text),
+        Piece::Text(text) => gather(notes, gathered, text),
         Piece::Number(text, n) => {
-            put(notes, text)?;
-            put(notes, Buffer::new().format(n).as_bytes())
+            gather(notes, gathered, text)?;
+            gather(notes, gathered, Buffer::new().format(n).as_bytes())
         }
         Piece::Signed(text, n) => {
-            put(notes, text)?;
-            put(notes, Buffer::new().format(n).as_bytes())
+            gather(notes, gathered, text)?;
+            gather(notes, gathered, Buffer::new().format(n).as_bytes())
         }
         Piece::Byte(text, byte) => {
-            put(notes, text)?;
-            put_byte(notes, byte)
+            gather(notes, gathered, text)?;
+            gather_byte(notes, gathered, byte)
         }
     }
 }
 
-/// Writes pieces, one after the other, until a write fails.
+/// Gathers pieces, one after the other, until a write fails.
+pub(crate) fn gather_all<W: Write>(
+    notes: &mut Counted<W>,
+    gathered: &mut Gathered,
+    pieces: &[Piece],
+) -> Result<(), Unsaid>
+    ensures { Gathers W.contents notes.old notes.new gathered.old.items gathered.new.items (text_of pieces.now) result }
+{
+    'pieces: for piece in pieces {
+        gather_piece(notes, gathered, piece)?;
+    }
+    Ok(())
+}
+
+/// Writes pieces, one after the other and mostly at once.
 pub(crate) fn say<W: Write>(notes: &mut Counted<W>, pieces: &[Piece]) -> Result<(), Unsaid>
     ensures { Says W.contents notes.old notes.new (text_of pieces.now) result }
 {
-    'pieces: for piece in pieces {
-        say_piece(notes, piece)?;
-    }
-    Ok(())
+    let mut gathered = Gathered::new();
+    gather_all(notes, &mut gathered, pieces)?;
+    put(notes, gathered.as_slice())
 }

@@ -38,8 +38,8 @@ impl Status {
     }
 }
 
-// The status that a fault ends with.
-fn status_of_fault(fault: &Fault) -> Status
+/// The status that a fault ends with.
+pub(crate) fn status_of_fault(fault: &Fault) -> Status
     ensures { result ≡ fault_status fault.now }
 {
     match fault {

@@ -86,7 +86,7 @@ def wrong_code() -> Iterator[str]:
     """Options, ranges, defaults and statuses of COMMAND that the code doesn't have."""
     code = repo.text_of("crates/tds_arguments/src/options.rt")
     defaults = dict(re.findall(r'(?s)number\(alloc, (\w+),[^;]*?default_value\("(\d+)"\)', code))
-    names = {f"--{name}" for name in re.findall(r'(?m)^pub\(crate\) const [A-Z_]+: &str = "([a-z-]+-[a-z]+|charset)";$', code) if name != "utf-8"}
+    names = {f"--{name}" for name in re.findall(r'(?m)^pub\(crate\) const [A-Z_]+: &str = "([a-z-]+-[a-z]+|charset|all)";$', code) if name != "utf-8"}
     listed = {name for option in options() for name in option.names}
     if listed != {*names, "-h", "--help", "-V", "--version"}:
         yield f"{PAGE}: options {sorted(listed)}, in the code {sorted(names)}"
@@ -234,7 +234,7 @@ def wrong_values(shell: str, option: Option) -> Iterator[str]:
 
 def wrong_completion() -> Iterator[str]:
     """Commands, options and values that completion doesn't offer as COMMAND has them."""
-    general = {name for option in options() if not option.range for name in option.names}
+    general = {name for option in options() if not option.range and not option.commands for name in option.names}
     yield from shells.lacking()
     for shell in shells.there():
         path = shells.file_of(shell, "tds_replay")

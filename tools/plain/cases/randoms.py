@@ -153,8 +153,9 @@ class Maker:
             return self.random.choice([b"\xFD", b"\xFE", b"\xFF"]) + self.any_bytes(12)
         return self.any_bytes(1)
 
-    def payload(self) -> bytes:
-        tokens = [self.token() for _ in range(self.random.randint(0, 6))]
+    def payload(self, most: int = 6) -> bytes:
+        """A payload of at most so many tokens."""
+        tokens = [self.token() for _ in range(self.random.randint(0, most))]
         return b"".join(tokens) + DONE * self.is_chosen(0.9)
 
     # the wire
@@ -187,7 +188,28 @@ class Maker:
         wire = self.spoilt(wire, 0.03) + self.any_bytes(self.random.choice([0, 0, 5]))
         return Case(name, wire, self.options(wire))
 
+    def responses(self) -> tuple[list[bytes], tuple[str, ...]]:
+        """Responses in packets, to be read one after another, and options; the last may be spoilt."""
+        options = self.options(self.packets(self.payload()))
+        wires = [self.accepted(options) for _ in range(self.random.randint(0, 9))]
+        if wires and self.is_chosen(0.3):
+            wires[-1] = self.spoilt(wires[-1], 0.3) + self.any_bytes(self.random.choice([0, 1, 9]))
+        return wires, options
+
+    def accepted(self, options: tuple[str, ...]) -> bytes:
+        """A response in packets that is read whole under the options, if one of some tries is."""
+        for _ in range(6):
+            wire = self.packets(self.payload(2))
+            if not plain.export(wire, list(options)).stop:
+                break
+        return wire
+
 
 def cases(count: int, seed: int) -> list[Case]:
     """So many cases; the same seed gives the same ones."""
     return [Maker(seed * 1_000_003 + number).case(f"random: {number} of seed {seed}") for number in range(count)]
+
+
+def lists(count: int, seed: int) -> list[tuple[list[bytes], tuple[str, ...]]]:
+    """So many lists of responses, with their options; the same seed gives the same ones."""
+    return [Maker(seed * 1_000_033 + number).responses() for number in range(count)]

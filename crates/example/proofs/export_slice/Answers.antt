@@ -1,5 +1,6 @@
 use Rattle.example.proofs.export_slice.Goals as goal
-use Rattle.{std.proofs.Common.{ap, Some}, example.proofs.Answers.answer_exports}
+use Rattle.std.proofs.Common.{ap, Some}
+use Rattle.example.proofs.Answers.{answer_exports}
 
 -- src/main.rt:36:1
 pub returns-clause-exported : goal.returns-clause-exported

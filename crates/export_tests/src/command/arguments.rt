@@ -15,19 +15,38 @@ fn expect_line(rt: &impl Abort, line: &[&str], holds: bool) {
 // A job of a response as a row of a table: its limits, whether its text is UTF-8, and its file.
 type Reads<'a> = (u16, u32, u64, bool, Option<&'a str>);
 
-// What is read by a job of `export` or `check`, and whether it is `check`.
-fn reads(job: &Job) -> Option<(Reads<'_>, bool)> {
-    let (limits, charset, checks) = match job {
+// A job that reads responses.
+#[derive(Debug, Clone, Copy, PartialEq, Eq)]
+enum Kind {
+    Export,
+    Check,
+    ExportAll,
+    CheckAll,
+}
+
+// What a job of `export` or `check` reads, and which it is.
+fn reads(job: &Job) -> Option<(Reads<'_>, Kind)> {
+    let (limits, charset, kind) = match job {
         Job::Export {
             limits,
             charset,
             ..
-        } => (limits, charset, false),
+        } => (limits, charset, Kind::Export),
         Job::Check {
             limits,
             charset,
             ..
-        } => (limits, charset, true),
+        } => (limits, charset, Kind::Check),
+        Job::ExportAll {
+            limits,
+            charset,
+            ..
+        } => (limits, charset, Kind::ExportAll),
+        Job::CheckAll {
+            limits,
+            charset,
+            ..
+        } => (limits, charset, Kind::CheckAll),
         Job::Recut { .. } => return None,
     };
     let is_utf_8 = matches!(charset, Charset::Utf8);
@@ -38,24 +57,24 @@ fn reads(job: &Job) -> Option<(Reads<'_>, bool)> {
         is_utf_8,
         job.file(),
     );
-    Some((numbers, checks))
+    Some((numbers, kind))
 }
 
-// Words of a job that reads a response, whether it is `check`, and what it reads.
-const READING: [(&[&str], bool, Reads); 7] = [
+// Words of a job that reads responses, which it is, and what it reads.
+const READING: [(&[&str], Kind, Reads); 10] = [
     (
         &["export"],
-        false,
+        Kind::Export,
         (4096, 1_048_576, 1_099_511_627_776, false, None),
     ),
     (
         &["check"],
-        true,
+        Kind::Check,
         (4096, 1_048_576, 1_099_511_627_776, false, None),
     ),
     (
         &["check", "f"],
-        true,
+        Kind::Check,
         (4096, 1_048_576, 1_099_511_627_776, false, Some("f")),
     ),
     (
@@ -71,7 +90,7 @@ const READING: [(&[&str], bool, Reads); 7] = [
             "utf-8",
             "f",
         ],
-        false,
+        Kind::Export,
         (512, 10, 8, true, Some("f")),
     ),
     (
@@ -83,26 +102,41 @@ const READING: [(&[&str], bool, Reads); 7] = [
             "--packet-size=32767",
             "--column-room=67108864",
         ],
-        false,
+        Kind::Export,
         (32767, 67_108_864, 72_057_594_037_927_936, false, Some("f")),
     ),
     (
         &["check", "--packet-size", "0512"],
-        true,
+        Kind::Check,
         (512, 1_048_576, 1_099_511_627_776, false, None),
     ),
     (
         &["export", "--", "--help"],
-        false,
+        Kind::Export,
         (4096, 1_048_576, 1_099_511_627_776, false, Some("--help")),
+    ),
+    (
+        &["export", "--all"],
+        Kind::ExportAll,
+        (4096, 1_048_576, 1_099_511_627_776, false, None),
+    ),
+    (
+        &["check", "f", "--all", "--max-wire", "8"],
+        Kind::CheckAll,
+        (4096, 1_048_576, 8, false, Some("f")),
+    ),
+    (
+        &["check", "--", "--all"],
+        Kind::Check,
+        (4096, 1_048_576, 1_099_511_627_776, false, Some("--all")),
     ),
 ];
 
 #[test]
 fn arguments_of_a_response(rt: HostRuntime) -> Result<(), Fail> {
-    'rows: for (line, checks, wanted) in &READING {
+    'rows: for (line, kind, wanted) in &READING {
         let job = job(&rt, line).ok().ok_or("arguments that are refused")?;
-        expect_line(&rt, line, reads(&job) == Some((*wanted, *checks)));
+        expect_line(&rt, line, reads(&job) == Some((*wanted, *kind)));
     }
     Ok(())
 }

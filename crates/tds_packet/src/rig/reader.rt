@@ -3,7 +3,7 @@ ghost use Rattle.std.specs.Prelude.{◌≡◌, None, Some};
 
 use crate::rig::copy_front;
 use std::io;
-use std::io::{ErrorKind, Read};
+use std::io::{BufRead, ErrorKind, Read};
 
 /// A reader of a slice. It gives at most `most` bytes a call, one at least; if it is to fail, it
 /// first gives some bytes, and then each read returns an error.
@@ -53,17 +53,28 @@ impl Read for ScriptedReader<'_> {
     ghost remaining = { λ r. Some r.left.now };
 
     fn read(&mut self, to: &mut [u8]) -> io::Result<usize> {
-        let most = self.most.max(1);
+        let n = copy_front(self.fill_buf()?, to);
+        self.consume(n);
+        Ok(n)
+    }
+}
+
+impl BufRead for ScriptedReader<'_> {
+    fn fill_buf(&mut self) -> io::Result<&[u8]> {
+        let most = self.most.max(1).min(self.left.len());
         let n = match self.fails_after {
-            None => most.min(to.len()),
+            None => most,
             Some(0) => return Err(io::Error::from(ErrorKind::TimedOut)),
-            Some(k) => most.min(to.len()).min(k),
+            Some(k) => most.min(k),
         };
-        let n = copy_front(self.left, &mut to[..n]);
+        Ok(&self.left[..n])
+    }
+
+    fn consume(&mut self, amount: usize) {
+        let n = amount.min(self.left.len());
         self.left = &self.left[n..];
         if let Some(k) = self.fails_after {
             self.fails_after = Some(k.saturating_sub(n));
         }
-        Ok(n)
     }
 }

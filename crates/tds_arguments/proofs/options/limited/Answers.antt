@@ -1,5 +1,6 @@
 use Rattle.tds_arguments.proofs as N
-use N.{App, Commands.argument_then}
+use N.{App}
+use N.Commands.{argument_then}
 
 pub returns : N.options.limited.Goals.returns
 returns c =

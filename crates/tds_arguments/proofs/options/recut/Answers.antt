@@ -1,5 +1,6 @@
 use Rattle.tds_arguments.proofs as N
-use N.{App, Commands.{argument_then, required}}
+use N.{App}
+use N.Commands.{argument_then, required}
 
 pub returns : N.options.recut.Goals.returns
 returns c =

@@ -1,5 +1,6 @@
 use Rattle.tds_arguments.proofs as N
-use N.{refl, true, Commands.{set, told}}
+use N.{refl, true}
+use N.Commands.{set, told}
 
 pub returns : N.options.without_commands.Goals.returns
 returns c =

@@ -1,6 +1,7 @@
 use Rattle.tds_arguments.proofs as N
 use N.parsing.parse.Goals as goal
-use N.{map, Found.{found, is_known}}
+use N.{map}
+use N.Found.{found, is_known}
 
 pub returns-in_err-program-clause-answers : goal.returns-in_err-program-clause-answers
 returns-in_err-program-clause-answers c = N.Found.without_memory (map _ _) c.from_residual.result c.from_residual.ensures.1

@@ -1,6 +1,7 @@
 use Rattle.tds_packet.proofs as N
 use N.recutting.write_packets.Goals as goal
-use N.{◌+◌, ◌≡◌, ◌∙◌, ◌-◌, sym, ap, arith, seen, Passing.passed_on}
+use N.{◌+◌, ◌≡◌, ◌∙◌, ◌-◌, sym, ap, arith, seen}
+use N.Passing.{passed_on}
 
 pub loop-to-init : goal.loop-to-init
 loop-to-init = grind (arith, N.Recuts.cut_none)

@@ -9,6 +9,5 @@ returns c =
     let store = c.self.inside.store in
     let within : len ≤ N.length store.items = omega (N.arith, store.ok.0) in
     let le : n ≤ len = omega (N.arith, N.ap (λ (s : N.Space). N.length s.bytes) c.self.view_is, N.length-take-le len store.items within) in
-    N.Shifting.front-dropped c.args.self.now n len (N.vec_len store) (N.vec_len c.copy_within.new.self) c.self.inside.peak store.items
-    c.copy_within.new.self.items
-    le within c.copy_within.ensures.items c.copy_within.ensures.len c.self.view_is
+    N.Shifting.front-dropped c.args.self.now n len c.self.inside.room c.self.inside.peak store.items c.copy_within.new.self.items
+    le within c.copy_within.ensures.items c.self.view_is

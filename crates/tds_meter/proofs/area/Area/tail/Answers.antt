@@ -12,7 +12,7 @@ returns c =
     let le : from ≤ len = omega (N.arith, ap (λ (s : Space). length s.bytes) c.self.view_is, N.length-take-le len old within) in
     let rest : from + (len - from) ≡ len = omega N.arith in
     let written : List ℕ → List ℕ = λ w. take from old ++ (w ++ drop (length w) (drop from old)) in
-    let at : List ℕ → Space = λ bytes. record { bytes = bytes; room = N.vec_len c.self.inside.store; peak = c.self.inside.peak } in (
+    let at : List ℕ → Space = λ bytes. record { bytes = bytes; room = c.self.inside.room; peak = c.self.inside.peak } in (
       (
         N.refl,
         λ w. ap (λ n. at (take len (N.refill n old (written w)))) all ∙ ap at (N.Overwriting.front-refill len from w old le within)

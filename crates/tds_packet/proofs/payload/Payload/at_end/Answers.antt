@@ -1,6 +1,8 @@
 use Rattle.tds_packet.proofs as N
 use N.payload.Payload.at_end.Goals as goal
-use N.{◌<◌, Futures.{over, not_over}, PayloadLaws.between_of}
+use N.{◌<◌}
+use N.Futures.{over, not_over}
+use N.PayloadLaws.{between_of}
 
 pub returns-in-Ok-clause-tells : goal.returns-in-Ok-clause-tells
 returns-in-Ok-clause-tells g c =

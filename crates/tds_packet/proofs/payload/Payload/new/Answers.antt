@@ -1,5 +1,6 @@
 use Rattle.tds_packet.proofs as N
-use N.{refl, Words.coming_of}
+use N.{refl}
+use N.Words.{coming_of}
 
 pub returns-clause-begun : N.payload.Payload.new.Goals.returns-clause-begun
 unfolding coming_of

@@ -1,6 +1,7 @@
 use Rattle.tds_packet.proofs as N
 use N.payload.Payload.pass.Goals as goal
-use N.{◌≡◌, ◌∙◌, ◌++◌, ◌+◌, rules, PayloadLaws.{at_ok, at_err, between_of, ends_there, takes_piece}}
+use N.{◌≡◌, ◌∙◌, ◌++◌, ◌+◌, rules}
+use N.PayloadLaws.{at_ok, at_err, between_of, ends_there, takes_piece}
 
 pub loop-passed-preserved : goal.loop-passed-preserved
 loop-passed-preserved g c =

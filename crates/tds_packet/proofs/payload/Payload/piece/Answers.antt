@@ -1,5 +1,6 @@
 use Rattle.tds_packet.proofs as N
-use N.{◌≡◌, [], ◌+◌, ◌-◌, ◌≤◌, arith, seen, PayloadLaws.{between_of, not_again}}
+use N.{◌≡◌, [], ◌+◌, ◌-◌, ◌≤◌, arith, seen}
+use N.PayloadLaws.{between_of, not_again}
 
 pub returns : N.payload.Payload.piece.Goals.returns
 returns g c =

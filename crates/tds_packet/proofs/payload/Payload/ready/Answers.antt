@@ -1,6 +1,7 @@
 use Rattle.tds_packet.proofs as N
 use N.payload.Payload.ready.Goals as goal
-use N.{◌≡◌, ◌∙◌, [], ap, seen, PayloadLaws.ends_there}
+use N.{◌≡◌, ◌∙◌, [], ap, seen}
+use N.PayloadLaws.{ends_there}
 
 pub returns-in-Some-clause-gives : goal.returns-in-Some-clause-gives
 returns-in-Some-clause-gives g c = N.Futures.stopped_ends g.R.Read.remaining c.args.self.now c.in-Some.is

@@ -1,5 +1,0 @@
-use Rattle.tds_replay.specs.Lines.{counts_line}
-
-pub returns : Rattle.tds_replay.proofs.lines.say_counts.Goals.returns
-unfolding counts_line
-returns g c = c.say.ensures
