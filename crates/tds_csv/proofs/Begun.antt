@@ -2,7 +2,8 @@
 use Rattle.tds_csv.proofs as N
 use N.Utf16Laws as utf16_laws
 use N.Utf8Laws as utf8_laws
-use N.{◌≡◌, ℕ, ◌+◌, ◌-◌, ◌≤◌, ◌%◌, List, [], ◌∷◌, ◌++◌, length, refl, arith, emit, Conversion, ConversionLaws.{fit_by_test, joins_by_name}}
+use N.{◌≡◌, ℕ, ◌+◌, ◌-◌, ◌≤◌, ◌%◌, List, [], ◌∷◌, ◌++◌, length, refl, arith, emit, Conversion}
+use N.ConversionLaws.{fit_by_test, joins_by_name}
 use N.Utf8Pushing.{after_kept}
 use Rattle.tds_csv.specs.Utf8 as utf8
 

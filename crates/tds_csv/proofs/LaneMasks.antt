@@ -2,7 +2,9 @@
 use Rattle.tds_csv.proofs as N
 use N.{Bool, Each1, Fits, List, [], ap, arith, chunk, drop, false, length, map, mask_l, not, refl, suc, take, top, true, w8, zero, ℕ, ◌%◌, ◌*◌, ◌+◌, ◌-◌, ◌/◌}
 use N.{◌<◌, ◌^◌, ◌∙◌, ◌∷◌, ◌≡◌, ◌≤◌}
-use Rattle.std.proofs.{Math.Nat.{add-mul-mod_self_left, mod-eq_of_lt, mul_assoc, pow-succ'}, lemmas.{List.Sums.count_by-le-length, Nat.pow_pos}}
+use Rattle.std.proofs.Math.Nat.{add-mul-mod_self_left, mod-eq_of_lt, mul_assoc, pow-succ'}
+use Rattle.std.proofs.lemmas.List.Sums.{count_by-le-length}
+use Rattle.std.proofs.lemmas.Nat.{pow_pos}
 use Rattle.std.specs.Prelude.{count_ones}
 
 -- ---- from the mask of one load to the bytes before the first that stops

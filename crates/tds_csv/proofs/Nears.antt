@@ -1,6 +1,7 @@
 -- Calls that put the text of an element part after part.
 use Rattle.tds_csv.proofs as N
-use N.{◌≡◌, ◌∙◌, ℕ, ◌-◌, ◌^◌, ◌<◌, ◌≤◌, List, [], ◌∷◌, ◌++◌, length, ap, arith, append_assoc, Fault, Grammar, Seen, Held, Puts, Streams.puts_both}
+use N.{◌≡◌, ◌∙◌, ℕ, ◌-◌, ◌^◌, ◌<◌, ◌≤◌, List, [], ◌∷◌, ◌++◌, length, ap, arith, append_assoc, Fault, Grammar, Seen, Held, Puts}
+use N.Streams.{puts_both}
 use Rattle.tds_packet.specs.Elements.{Leads}
 
 -- Whole elements were read, which lead from one state to another. The text of all but the last was put, and that of the last but for its tail.

@@ -2,8 +2,11 @@
 use Rattle.tds_csv.proofs as N
 use N.{high_quad, low_quad, pair, Bool, Each1, Fits, List, [], ap, ap₂, arith, cond, drop, get_or, length, map, mask_l, nat_eq, refl, suc, take, top, true, w16}
 use N.{w8, zero, ℕ, ◌%◌, ◌&&◌, ◌*◌, ◌++◌, ◌+◌, ◌/◌, ◌<◌, ◌^◌, ◌∙◌, ◌∷◌, ◌≡◌, ◌≤◌}
-use Rattle.std.proofs.lemmas.{List.{get_or-append-add, get_or_append_left}, Nat.{ones-le, ones_cat}}
-use Rattle.{std.specs.{Prelude.{count_ones, flat_map}, Simd.Lanes.number_l}, tds_csv.specs.Utf16.units}
+use Rattle.std.proofs.lemmas.List.{get_or-append-add, get_or_append_left}
+use Rattle.std.proofs.lemmas.Nat.{ones-le, ones_cat}
+use Rattle.std.specs.Prelude.{count_ones, flat_map}
+use Rattle.std.specs.Simd.Lanes.{number_l}
+use Rattle.tds_csv.specs.Utf16.{units}
 use lib.Lanes.{Each2, digits_l, zip2}
 
 -- ---- bytes that are gathered from lanes by the places of a table

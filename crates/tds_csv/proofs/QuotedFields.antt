@@ -1,5 +1,5 @@
 -- A field between quotes, as it is written to a slice.
-use Rattle.{tds_csv.proofs.Words.{◌≡◌, ℕ, ◌+◌, ◌≤◌, List, [], ◌∷◌, ◌++◌, length, take, refl, arith, slice_set, take-append-le, quote, quoted_field}}
+use Rattle.tds_csv.proofs.Words.{◌≡◌, ℕ, ◌+◌, ◌≤◌, List, [], ◌∷◌, ◌++◌, length, take, refl, arith, slice_set, take-append-le, quote, quoted_field}
 
 opened : (to : List ℕ) → 1 ≤ length to → take 1 (slice_set to 0 quote) ≡ quote ∷ []
 opened [] h = grind arith

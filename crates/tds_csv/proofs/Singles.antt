@@ -1,10 +1,13 @@
 -- Data whose bytes each stand alone, put a run after the other.
 use Rattle.tds_csv.proofs as N
-use N.{UPPER, Err, List, Ok, PutsPiece, Sink, Stop, [], arith, chunk, drop, get_or, is_plain, refl, take, true, ℕ, ◌%◌, ◌++◌, ◌+◌, ◌-◌, ◌/◌, ◌<◌, ◌∙◌, ◌∷◌, ◌≡◌}
-use N.{◌≤◌, Puttings.PutsPiece-trans}
+use N.{ArePlain, UPPER, Err, List, Ok, PutsPiece, Sink, Stop, [], arith, chunk, drop, get_or, is_plain, refl, take, true, ℕ, ◌%◌, ◌++◌, ◌+◌, ◌-◌, ◌/◌, ◌<◌, ◌∙◌}
+use N.{◌∷◌, ◌≡◌}
+use N.{◌≤◌}
+use N.Puttings.{PutsPiece-trans}
 use Rattle.tds_csv.specs.Windows1252 as windows_1252
 use Rattle.std.specs.Int.{to_le_bytes, w32}
-use Rattle.std.{proofs.Common.nat_le, specs.Char.encode_utf8}
+use Rattle.std.proofs.Common.{nat_le}
+use Rattle.std.specs.Char.{encode_utf8}
 
 module _ (text : List ℕ → List ℕ) (appends : (x y : List ℕ) → text (x ++ y) ≡ text x ++ text y) where
   runs : (t e : ℕ) (xs : List ℕ) → t ≤ e → text (take t xs) ++ text (take (e - t) (drop t xs)) ≡ text (take e xs)
@@ -43,6 +46,11 @@ module _ (text : List ℕ → List ℕ) (appends : (x y : List ℕ) → text (x 
   pub text_taken : {run after : List ℕ} (bytes : List ℕ) (at n : ℕ) → after ≡ run ++ text (take n (drop at bytes)) → run ≡ text (take at bytes)
       → after ≡ text (take (at + n) bytes)
   text_taken = grind (arith, N.take-add)
+
+  -- bytes that stand for themselves were
+  pub itself_taken : {run after : List ℕ} (bytes : List ℕ) (at n : ℕ) → after ≡ run ++ take n (drop at bytes)
+      → text (take n (drop at bytes)) ≡ take n (drop at bytes) → run ≡ text (take at bytes) → after ≡ text (take (at + n) bytes)
+  itself_taken {run = run} bytes at n added itself before = text_taken bytes at n (added ∙ N.ap (λ l. run ++ l) (N.sym itself)) before
 
   -- that of one byte was
   pub one_taken : {run after : List ℕ} (bytes : List ℕ) (at : ℕ) → at < N.length bytes → after ≡ run ++ text (get_or bytes at 0 ∷ [])
@@ -96,17 +104,42 @@ upper_put b at {w} old new low high is within written =
 plain_itself : (b : ℕ) → is_plain b ≡ true → windows_1252.text (b ∷ []) ≡ b ∷ []
 plain_itself = grind (arith, N.Characters.of_one)
 
--- some of the bytes that were found among the next 16 of a source
-pub plain_lanes : (source bytes : List ℕ) (at n : ℕ) → n ≤ 16 → n ≤ N.prefix_len is_plain (chunk at 16 source)
-    → take n (drop at bytes) ≡ take n (chunk at 16 source) → take n (chunk at 16 source) ≡ windows_1252.text (take n (drop at bytes))
-plain_lanes source bytes at n few plains same =
-    N.sym (some_itself windows_1252.text N.SingleLaws.windows_1252-append is_plain refl plain_itself n (chunk at 16 source) plains) ∙ N.ap windows_1252.text
-    (N.sym same)
+-- so are bytes that are
+pub plain_text : (bytes : List ℕ) → ArePlain bytes → windows_1252.text bytes ≡ bytes
+plain_text [] plain = refl
+plain_text (b ∷ bytes) plain = N.SingleLaws.windows_1252-append (b ∷ []) bytes
+    ∙ N.ap₂ (λ x y. x ++ y) (plain_itself b plain.0) (plain_text bytes plain.1)
 
 -- those that were found among the next 32
 pub wide_lanes : (bytes : List ℕ) (at n : ℕ) → n ≤ 32 → n ≡ N.prefix_len is_plain (chunk at 32 bytes)
     → take n (chunk at 32 bytes) ≡ windows_1252.text (take n (drop at bytes))
 wide_lanes bytes at n few e = lanes_itself windows_1252.text N.SingleLaws.windows_1252-append is_plain refl plain_itself 32 bytes at n few e
+
+-- ---- bytes of ASCII without a quote
+
+-- the first of them, so many
+plain_front : (k : ℕ) (xs : List ℕ) → k ≤ N.prefix_len is_plain xs → ArePlain (take k xs)
+plain_front N.zero xs h = tt
+plain_front (N.suc k) [] h = tt
+plain_front (N.suc k) (b ∷ xs) h = grind (arith, plain_front k xs)
+
+-- some of those that were found among the next 16 of a source
+pub plain_among : (source bytes : List ℕ) (at n : ℕ) → n ≤ N.prefix_len is_plain (chunk at 16 source)
+    → take n (drop at bytes) ≡ take n (chunk at 16 source) → ArePlain (take n (drop at bytes))
+plain_among source bytes at n plains same = rw same (plain_front n (chunk at 16 source) plains)
+
+-- with their quotes doubled they are as they were
+pub plain_doubled : (bytes : List ℕ) → ArePlain bytes → N.doubled bytes ≡ bytes
+plain_doubled [] plain = refl
+plain_doubled (b ∷ bytes) plain = grind (arith, plain_doubled bytes plain.1, plain.0)
+
+-- and they are text in UTF-8
+pub one_utf8 : (b : ℕ) → b < 128 → N.IsUtf8 (b ∷ [])
+one_utf8 b small = N.subst N.IsUtf8 (N.Characters.of_one b small) (N.IsUtf8-encode b (grind arith))
+
+pub plain_utf8 : (bytes : List ℕ) → ArePlain bytes → N.IsUtf8 bytes
+plain_utf8 [] plain = N.IsUtf8-nil
+plain_utf8 (b ∷ bytes) plain = N.IsUtf8-append (b ∷ []) bytes (one_utf8 b (grind (arith, plain.0))) (plain_utf8 bytes plain.1)
 
 -- ---- bytes without a quote
 

@@ -1,12 +1,8 @@
 -- The laws of UTF-16 in pieces.
-use Rattle.tds_csv.{
-  proofs.{
-    Words.{◌≡◌, ℕ, ◌%◌, ◌≤◌, ◌&&◌, Bool, true, false, cond, List, [], ◌∷◌, ◌++◌, length, refl, ap, ◌∙◌, arith, encode_utf8_all, ⊤},
-    Words.{map-append, length-append, encodes-append, utf16_lossy_chars, is_high_surrogate, is_low_surrogate, JoinsPieces, emit, doubled},
-    JoiningLemmas.{doubled-append, settled_front},
-  },
-  specs.Utf16.{units, is_high, IsFit, text, rest},
-}
+use Rattle.tds_csv.proofs.Words.{◌≡◌, ℕ, ◌%◌, ◌≤◌, ◌&&◌, Bool, true, false, cond, List, [], ◌∷◌, ◌++◌, length, refl, ap, ◌∙◌, arith, encode_utf8_all, ⊤}
+use Rattle.tds_csv.proofs.Words.{map-append, length-append, encodes-append, utf16_lossy_chars, is_high_surrogate, is_low_surrogate, JoinsPieces, emit, doubled}
+use Rattle.tds_csv.proofs.JoiningLemmas.{doubled-append, settled_front}
+use Rattle.tds_csv.specs.Utf16.{units, is_high, IsFit, text, rest}
 use Rattle.std.specs.Char.Utf16.{utf16_chars}
 
 -- the first unit is a low surrogate

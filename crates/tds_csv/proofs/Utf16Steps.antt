@@ -1,9 +1,13 @@
 -- One character after the other of text in UTF-16.
 use Rattle.tds_csv.proofs as N
 use N.{seam, List, [], ap, arith, drop, emit, false, get_or, is_low_surrogate, length, refl, take, true, unwrap_or, ℕ, ◌%◌, ◌&&◌, ◌*◌, ◌++◌, ◌+◌, ◌-◌, ◌<◌}
-use N.{◌||◌, ◌∙◌, ◌∷◌, ◌≡◌, ◌≤◌, ◌⊎◌, JoiningLemmas.{doubled-append, Leads-none, Leads-seam, emit_held}, Utf16Laws.{emit-front, front, front_step, joins_utf16}}
+use N.{◌||◌, ◌∙◌, ◌∷◌, ◌≡◌, ◌≤◌, ◌⊎◌}
+use N.JoiningLemmas.{doubled-append, Leads-none, Leads-seam, emit_held}
+use N.Utf16Laws.{emit-front, front, front_step, joins_utf16}
 use N.Utf16Laws.{rest_step, short, starts_low}
-use Rattle.{std.specs.Char.Utf16.utf16_chars, tds_csv.specs.{Utf16.{characters, is_high, rest, text, units}, Utf16Next.IsNext}}
+use Rattle.std.specs.Char.Utf16.{utf16_chars}
+use Rattle.tds_csv.specs.Utf16.{characters, is_high, rest, text, units}
+use Rattle.tds_csv.specs.Utf16Next.{IsNext}
 
 pub text_nil : text [] ≡ []
 unfolding utf16_chars

@@ -1,9 +1,11 @@
 -- The laws of UTF-8 in pieces.
 use Rattle.tds_csv.proofs as N
 use N.{Bool, IsUtf8, List, None, Some, [], ap, arith, cases_lt, cond, drop, emit, encode_utf8, false, get_or, inl, inr, is_utf8, length, nat_tests, of3, of4}
-use N.{refl, scalar, second_byte_max, second_byte_min, suc, sym, take, true, zero, ℕ, ◌*◌, ◌++◌, ◌+◌, ◌-◌, ◌<◌, ◌∙◌, ◌∷◌, ◌≡◌, ◌≤◌, ◌⊎◌, Words.utf8_valid_len}
+use N.{refl, scalar, second_byte_max, second_byte_min, suc, sym, take, true, zero, ℕ, ◌*◌, ◌++◌, ◌+◌, ◌-◌, ◌<◌, ◌∙◌, ◌∷◌, ◌≡◌, ◌≤◌, ◌⊎◌}
+use N.Words.{utf8_valid_len}
 use N.JoiningLemmas.{doubled-append, settled_front}
-use Rattle.{std.specs.Str.Lossy.{utf8_error_len, utf8_valid_len}, tds_csv.specs.Utf8.{Begins, IsFit, rest, text}}
+use Rattle.std.specs.Str.Lossy.{utf8_error_len, utf8_valid_len}
+use Rattle.tds_csv.specs.Utf8.{Begins, IsFit, rest, text}
 
 -- what is found going down is UTF-8, and nothing longer is
 front_up_to : (bs : List ℕ) (n : ℕ) → IsUtf8 (take (N.valid_len_up_to bs n) bs)
@@ -188,10 +190,10 @@ begins_none bytes begins = elim (begun_rest bytes begins) [
   | inr part ↦ let k = N.scalar_cases part.0 part.2 in front_none part.0 (rest bytes) begins.0 part.1 k (N.shape part.0 k) (sym part.3) part.4
 ]
 
-two_bytes : (a b : ℕ) → 194 ≤ a → a < 224 → second_byte_min a ≤ b → b ≤ second_byte_max a → IsUtf8 (a ∷ b ∷ [])
+pub two_bytes : (a b : ℕ) → 194 ≤ a → a < 224 → second_byte_min a ≤ b → b ≤ second_byte_max a → IsUtf8 (a ∷ b ∷ [])
 two_bytes a b l u lo hi = N.of_two (a ∷ b ∷ []) 0 (omega arith) (l, u) (grind arith)
 
-three_bytes : (a b d : ℕ) → 224 ≤ a → a < 240 → second_byte_min a ≤ b → b ≤ second_byte_max a → 128 ≤ d → d < 192 → IsUtf8 (a ∷ b ∷ d ∷ [])
+pub three_bytes : (a b d : ℕ) → 224 ≤ a → a < 240 → second_byte_min a ≤ b → b ≤ second_byte_max a → 128 ≤ d → d < 192 → IsUtf8 (a ∷ b ∷ d ∷ [])
 three_bytes a b d l u lo hi dl dh = N.of_three (a ∷ b ∷ d ∷ []) 0 (omega arith) (l, u) (grind arith) (
   dl,
   dh,

@@ -1,7 +1,8 @@
 -- Pieces of text in UTF-8, one after the other.
 use Rattle.tds_csv.proofs as N
 use N.{◌≡◌, ◌∙◌, ◌↔◌, ℕ, ◌+◌, ◌-◌, ◌<◌, ◌≤◌, List, [], ◌++◌, length, take, drop, Result, Ok, Err, ap, arith, emit, JoinFault, Odd, BadText, Sink, PushesPiece}
-use N.{TakesUpTo, Held, held, Utf8Laws.{joins_utf8, emits}}
+use N.{TakesUpTo, Held, held}
+use N.Utf8Laws.{joins_utf8, emits}
 use Rattle.tds_csv.specs.Utf8.{Begins, rest, text}
 
 -- the answer of a push, by where its piece begins in another one

@@ -1,10 +1,16 @@
 -- The text of units that are characters of at most three bytes.
 use Rattle.tds_csv.proofs as N
 use N.{is_half, is_long, is_wide, quad_bytes, triples, unit_text, units_text, ◌-◌, refl, chunk, Bool, Each1, Fits, List, [], ap, arith, drop, mask_l, false}
-use N.{get_or, length, map, suc, sym, take, true, w16, zero, ℕ, ◌%◌, ◌*◌, ◌++◌, ◌+◌, ◌/◌, ◌<◌, ◌∙◌, ◌∷◌, ◌≡◌, ◌≤◌, ◌^◌, LaneMasks.{alike, first_lanes}}
-use N.{LaneMasks.{first_mask, last_lanes, none_set}, Characters.{of_one, of_two, of_three, doubled_character}, Places.{bits, placed, same_texts, IsRow}}
-use N.{Places.{pair_places, quad_places}, JoiningLemmas.{Leads-none, Leads-trans}}
-use Rattle.{tds_csv.specs.Utf16.{units, rest, text}, std.specs.{List.count_by, Prelude.{count_ones, flat_map}}}
+use N.{get_or, length, map, suc, sym, take, true, w16, zero, ℕ, ◌%◌, ◌*◌, ◌++◌, ◌+◌, ◌/◌, ◌<◌, ◌∙◌, ◌∷◌, ◌≡◌, ◌≤◌, ◌^◌}
+use N.LaneMasks.{alike, first_lanes}
+use N.LaneMasks.{first_mask, last_lanes, none_set}
+use N.Characters.{of_one, of_two, of_three, doubled_character}
+use N.Places.{bits, placed, same_texts, IsRow}
+use N.Places.{pair_places, quad_places}
+use N.JoiningLemmas.{Leads-none, Leads-trans}
+use Rattle.tds_csv.specs.Utf16.{units, rest, text}
+use Rattle.std.specs.List.{count_by}
+use Rattle.std.specs.Prelude.{count_ones, flat_map}
 use lib.Lanes.{zip2}
 
 -- the bytes of a unit's text, at the places for it

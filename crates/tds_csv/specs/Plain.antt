@@ -1,5 +1,5 @@
 -- Bytes that are looked at 16 at a time.
-use Rattle.std.specs.Prelude.{◌≡◌, ℕ, ◌≤◌, ◌==◌, ◌&&◌, Bool, not, nat_lt, if◌then◌else◌, List, [], ◌∷◌, length, take}
+use Rattle.std.specs.Prelude.{◌≡◌, ℕ, ◌≤◌, ◌==◌, ◌&&◌, ⊤, Bool, true, not, nat_lt, if◌then◌else◌, List, [], ◌∷◌, length, take}
 use Rattle.tds_csv.specs.Quoting.{quote}
 use lib.Count.{count_trailing_zeros}
 
@@ -14,6 +14,11 @@ is_below limit n = nat_lt n limit && not (n == quote)
 -- of ASCII, and no quote
 abbrev pub is_plain : ℕ → Bool
 is_plain b = is_below 128 b
+
+-- Each of the bytes is of ASCII, and none is a quote.
+abbrev pub ArePlain : List ℕ → Type 0
+ArePlain [] = ⊤
+ArePlain (b ∷ bytes) = (is_plain b ≡ true) × ArePlain bytes
 
 -- the lowest bit that is set in the mask of lanes, or their number
 abbrev pub first_set : ℕ → ℕ → ℕ

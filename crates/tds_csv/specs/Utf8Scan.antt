@@ -1,5 +1,5 @@
 -- Where bytes stop being the beginning of a text in UTF-8.
-use Rattle.std.specs.Prelude.{◌≡◌, ℕ, ◌+◌, ◌-◌, ◌<◌, ◌≤◌, List, length, take, drop}
+use Rattle.std.specs.Prelude.{◌≡◌, ℕ, ◌+◌, ◌-◌, ◌*◌, ◌<◌, ◌≤◌, List, length, take, drop, IsUtf8}
 use Rattle.tds_csv.specs.Joining.{emit}
 use Rattle.tds_csv.specs.Utf8.{Begins, rest, text}
 
@@ -19,3 +19,10 @@ pub record IsScan (bytes : List ℕ) (whole good : ℕ) : Type 0 where
   pub rest : drop whole bytes ≡ rest bytes
   pub begins : good ≡ length bytes → Begins bytes
   pub stops : good < length bytes → StopsAt bytes whole good
+
+-- A number of the first bytes are whole characters, and their text, of this length, is at the front of a room.
+pub record Converts (bytes to : List ℕ) (used made : ℕ) : Type 0 where
+  pub within : used ≤ length bytes
+  pub room : made ≤ 2 * used
+  pub whole : IsUtf8 (take used bytes)
+  pub text : take made to ≡ text (take used bytes)

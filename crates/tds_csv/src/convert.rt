@@ -9,6 +9,7 @@ pub(crate) mod lanes_hex;
 pub(crate) mod lanes_utf16;
 pub(crate) mod places;
 pub(crate) mod run;
+pub(crate) mod usual;
 pub(crate) mod utf16;
 pub(crate) mod utf8;
 pub(crate) mod windows_1252;

@@ -6,7 +6,7 @@ ghost use Rattle.tds_csv.specs.Quoting.{quote};
 
 use crate::convert::lanes::{LANES, WIDE};
 use crate::convert::lanes_hex::{encode, put_digits};
-use crate::convert::{doubling, utf16, windows_1252};
+use crate::convert::{utf8, utf16, windows_1252};
 use crate::framing::{BINARY_MARK, QUOTE};
 
 // How many bytes of room a field may want besides its text.
@@ -113,16 +113,18 @@ fn write_windows_1252(source: &[u8], n: usize, to: &mut [u8]) -> usize
     close_quoted(to, 1 + made)
 }
 
-// Writes text in UTF-8 as a field.
+// Writes text in UTF-8, the first `n` of these bytes, as a field. `None` if they are no text.
+#[inline(never)]
 #[tactic(auto, using(crate::proofs::QuotedFields::quoted, std::proofs::lemmas::Grind::common_steps))]
-fn write_utf8(bytes: &[u8], to: &mut [u8]) -> usize
-    requires { field_room Utf8Text (length bytes.now) ≤ length to.old }
-    ensures most { result + 2 ≤ length to.old }
-    ensures field { take result to.new ≡ long_field Utf8Text bytes.now }
+fn write_utf8(source: &[u8], n: usize, to: &mut [u8]) -> Option<usize>
+    requires within { n ≤ length source.now }
+    requires room { field_room Utf8Text n ≤ length to.old }
+    ensures most { IfSome result (λ made. made + 2 ≤ length to.old) }
+    ensures gives { FieldWritten Utf8Text (take n source.now) to.new result }
 {
     to[0] = QUOTE;
-    let made = doubling::convert(bytes, &mut to[1..]);
-    close_quoted(to, 1 + made)
+    let made = utf8::convert_whole(&source[..n], source, &mut to[1..])?;
+    Some(close_quoted(to, 1 + made))
 }
 
 /// Writes the field of a whole value, the first `n` of these bytes, to the front of a slice: `0x` and
@@ -135,7 +137,6 @@ pub fn write_field(content: Content, source: &[u8], n: usize, to: &mut [u8]) -> 
     ensures most { IfSome result (λ made. made + 2 ≤ length to.old) }
     ensures gives { FieldWritten (conversion_of content) (take n source.now) to.new result }
 {
-    let bytes = &source[..n];
     match content {
         Content::Binary => Some(write_binary(source, n, to)),
         Content::Windows1252 => Some(write_windows_1252(source, n, to)),
@@ -145,11 +146,6 @@ pub fn write_field(content: Content, source: &[u8], n: usize, to: &mut [u8]) -> 
             }
             Some(write_utf16(source, n, to))
         }
-        Content::Utf8 => {
-            let Ok(_) = str::from_utf8(bytes) else {
-                return None;
-            };
-            Some(write_utf8(bytes, to))
-        }
+        Content::Utf8 => write_utf8(source, n, to),
     }
 }

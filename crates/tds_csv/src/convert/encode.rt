@@ -1,12 +1,12 @@
 // Bytes and characters, written to a slice from a place on. A place that a call returns is the one after
 // what it wrote.
-ghost use Rattle.std.specs.Prelude.{◌≡◌, ◌+◌, ◌<◌, ◌≤◌, [], ◌∷◌, ◌++◌, length, take};
+ghost use Rattle.std.specs.Prelude.{◌≡◌, ◌+◌, ◌<◌, ◌≤◌, [], ◌∷◌, ◌++◌, length, take, drop};
 ghost use Rattle.std.specs.Char.{encode_utf8};
 ghost use Rattle.std.specs.Simd.Lanes.{chunk};
-ghost use Rattle.tds_csv.specs.Plain.{first_set};
+ghost use Rattle.tds_csv.specs.Plain.{ArePlain, LiesIn, first_set};
 ghost use Rattle.tds_csv.specs.Quoting.{doubled};
 
-use crate::convert::lanes::{WIDE, first_set};
+use crate::convert::lanes::{LANES, WIDE, first_set, plain_run};
 use std::simd::prelude::*;
 use tds_values::put_byte;
 
@@ -90,6 +90,30 @@ pub(crate) fn put_lanes<const N: usize>(to: &mut [u8], at: usize, lanes: Simd<u8
     ensures { take (at + n) to.new ≡ take at to.old ++ take n lanes.entry }
 {
     lanes.copy_to_slice(&mut to[at..]);
+}
+
+// Writes the next bytes of ASCII up to a quote, at most 16, to a place, and returns how many. The source begins with the
+// bytes, and what follows them may be looked at too.
+#[inline(always)]
+pub(crate) fn take_plain(
+    bytes: &[u8],
+    source: &[u8],
+    at: usize,
+    to: &mut [u8],
+    made: usize,
+) -> usize
+    requires from { at ≤ length bytes.now }
+    requires source { LiesIn bytes.now source.now }
+    requires there { at + LANES ≤ length source.now }
+    requires room { made + LANES ≤ length to.old }
+    ensures most { result ≤ LANES }
+    ensures within { at + result ≤ length bytes.now }
+    ensures plain { ArePlain (take result (drop at bytes.now)) }
+    ensures taken { take (made + result) to.new ≡ take made to.old ++ take result (drop at bytes.now) }
+{
+    let n = plain_run(source, at).min(bytes.len() - at);
+    put_lanes(to, made, u8x16::from_slice(&source[at..]), n);
+    n
 }
 
 // Writes the next bytes before the first of these stops, at most 32, to a place, and returns how many.

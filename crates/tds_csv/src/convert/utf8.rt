@@ -1,10 +1,18 @@
-// Where bytes stop being text in UTF-8.
-ghost use Rattle.std.specs.Prelude.{◌≡◌, take, if◌then◌else◌};
+// Text in UTF-8, and where bytes stop being it.
+ghost use Rattle.std.specs.Prelude.{◌≡◌, ◌+◌, ◌*◌, ◌≤◌, length, take, is_some, if◌then◌else◌, IfSome};
+ghost use Rattle.std.specs.Str.{is_utf8};
 ghost use Rattle.std.specs.Int.{is_in_range};
 ghost use Rattle.tds_csv.specs.Joining.{emit};
+ghost use Rattle.tds_csv.specs.Plain.{LiesIn};
 ghost use Rattle.tds_csv.specs.Quoting.{doubled};
 ghost use Rattle.tds_csv.specs.Utf8 as utf8;
 ghost use Rattle.tds_csv.specs.Utf8Scan.{IsScan};
+
+use crate::convert::lanes::LANES;
+use crate::convert::{doubling, usual};
+
+/// How many bytes a text has at least that is judged before it is converted: blocks of 64 are judged at once.
+const LONG: usize = 64;
 
 // What is found in bytes: how many of the first are whole characters, and how many begin a text.
 #[derive(Clone, Copy)]
@@ -30,7 +38,7 @@ pub(crate) fn scan_text(bytes: &[u8]) -> Scan
     ensures text { emit utf8.rest utf8.text bytes.now ≡ doubled (take result.whole bytes.now) }
     ensures scan { IsScan bytes.now result.whole result.good }
 {
-    match str::from_utf8(bytes) {
+    match simdutf8::compat::from_utf8(bytes) {
         Ok(_) => Scan {
             whole: bytes.len(),
             good: bytes.len(),
@@ -44,4 +52,23 @@ pub(crate) fn scan_text(bytes: &[u8]) -> Scan
             Scan { whole, good }
         }
     }
+}
+
+// Writes the text of bytes, and returns its length. `None` if they are no text. What follows them in the source may be looked at.
+pub(crate) fn convert_whole(bytes: &[u8], source: &[u8], to: &mut [u8]) -> Option<usize>
+    requires source { LiesIn bytes.now source.now }
+    requires room { 2 * length bytes.now + LANES ≤ length to.old }
+    ensures fit { is_some result ≡ is_utf8 bytes.now }
+    ensures short { IfSome result (λ made. made ≤ 2 * length bytes.now) }
+    ensures text { IfSome result (λ made. take made to.new ≡ utf8.text bytes.now) }
+{
+    if bytes.len() < LONG {
+        if let Some(made) = usual::convert(bytes, source, to) {
+            return Some(made);
+        }
+    }
+    if simdutf8::compat::from_utf8(bytes).is_err() {
+        return None;
+    }
+    Some(doubling::convert(bytes, to))
 }

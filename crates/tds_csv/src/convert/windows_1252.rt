@@ -5,10 +5,9 @@ ghost use Rattle.tds_csv.specs.Plain.{LiesIn};
 ghost use Rattle.tds_csv.specs.Windows1252 as windows_1252;
 
 use crate::convert::PART;
-use crate::convert::encode::{put_doubled, put_lanes, take_before};
-use crate::convert::lanes::{BY_HAND, LANES, WIDE, plain_run, wide_stops};
+use crate::convert::encode::{put_doubled, take_before, take_plain};
+use crate::convert::lanes::{BY_HAND, LANES, WIDE, wide_stops};
 use crate::convert::utf16::Converted;
-use std::simd::prelude::*;
 
 // The characters of the bytes 80 to FF in UTF-8, the first byte the lowest, with their number in the highest.
 const UPPER: [u32; 128] = [
@@ -73,24 +72,6 @@ fn put_text(to: &mut [u8], at: usize, byte: u8) -> usize
     } else {
         put_doubled(to, at, byte)
     }
-}
-
-// Writes the next bytes that are their own text, at most 16, to a place, and returns how many. The source begins with the
-// bytes, and what follows them may be looked at too.
-#[inline(always)]
-fn take_plain(bytes: &[u8], source: &[u8], at: usize, to: &mut [u8], made: usize) -> usize
-    requires from { at ≤ length bytes.now }
-    requires source { LiesIn bytes.now source.now }
-    requires there { at + LANES ≤ length source.now }
-    requires room { made + LANES ≤ length to.old }
-    ensures most { result ≤ LANES }
-    ensures within { at + result ≤ length bytes.now }
-    ensures taken { let run = take result (drop at bytes.now) in
-        take (made + result) to.new ≡ take made to.old ++ windows_1252.text run }
-{
-    let n = plain_run(source, at).min(bytes.len() - at);
-    put_lanes(to, made, u8x16::from_slice(&source[at..]), n);
-    n
 }
 
 // Writes the next bytes that are their own text, at most 32, to a place, and returns how many.

@@ -1,5 +1,6 @@
 use Rattle.tds_csv.proofs as N
-use N.{◌∙◌, zip2_of_maps, splat_is_map, Places.chosen}
+use N.{◌∙◌, zip2_of_maps, splat_is_map}
+use N.Places.{chosen}
 
 pub returns : N.convert.beyond_ascii.pairs.Goals.returns
 returns c =

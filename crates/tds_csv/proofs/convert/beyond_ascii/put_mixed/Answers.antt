@@ -1,5 +1,8 @@
 use Rattle.tds_csv.proofs.convert.beyond_ascii.put_mixed.Goals as goal
-use Rattle.tds_csv.{proofs.{Words.arith, LaneMasks.first_mask, WideText.{all_added, few_added}}, specs.Wide.{is_long, is_wide}}
+use Rattle.tds_csv.proofs.Words.{arith}
+use Rattle.tds_csv.proofs.LaneMasks.{first_mask}
+use Rattle.tds_csv.proofs.WideText.{all_added, few_added}
+use Rattle.tds_csv.specs.Wide.{is_long, is_wide}
 
 pub returns-then-n-le-HALF-clause-most : goal.returns-then-n-le-HALF-clause-most
 returns-then-n-le-HALF-clause-most c = (few_added c.args.units c.args.n c.fits-units c.requires.most c.requires.wide c.requires.long c.quads.ensures.0

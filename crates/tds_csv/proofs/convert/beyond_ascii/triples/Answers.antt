@@ -1,5 +1,7 @@
 use Rattle.tds_csv.proofs as N
-use N.{◌∙◌, zip2_of_maps, LaneMasks.same_map, Places.{lead, others}}
+use N.{◌∙◌, zip2_of_maps}
+use N.LaneMasks.{same_map}
+use N.Places.{lead, others}
 
 pub returns : N.convert.beyond_ascii.triples.Goals.returns
 returns c =

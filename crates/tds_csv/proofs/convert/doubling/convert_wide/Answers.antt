@@ -1,6 +1,7 @@
 use Rattle.tds_csv.proofs as N
 use N.convert.doubling.convert_wide.Goals as goal
-use N.{JoiningLemmas.doubled-append, Singles.text_taken}
+use N.JoiningLemmas.{doubled-append}
+use N.Singles.{text_taken}
 
 pub loop-at-preserved : goal.loop-at-preserved
 loop-at-preserved c =

@@ -1,6 +1,7 @@
 use Rattle.tds_csv.proofs as N
 use N.convert.doubling.take_wide.Goals as goal
-use N.{◌∙◌, ◌++◌, LaneMasks.run_most}
+use N.{◌∙◌, ◌++◌}
+use N.LaneMasks.{run_most}
 
 pub take_before-requires-clause-stops : goal.take_before-requires-clause-stops
 take_before-requires-clause-stops c = omega (N.arith, run_most N.is_unquoted c.args.bytes.now c.args.at 32 c.requires.wide)

@@ -1,6 +1,7 @@
 use Rattle.tds_csv.proofs as N
 use N.convert.lanes_hex.encode.Goals as goal
-use N.{◌+◌, ◌≡◌, ◌*◌, ◌-◌, ◌≤◌, ℕ, length, take, drop, arith, SingleLaws.hex-append}
+use N.{◌+◌, ◌≡◌, ◌*◌, ◌-◌, ◌≤◌, ℕ, length, take, drop, arith}
+use N.SingleLaws.{hex-append}
 
 pub loop-at-preserved : goal.loop-at-preserved
 loop-at-preserved c =

@@ -1,5 +1,7 @@
 use Rattle.tds_csv.proofs as N
-use N.{◌≡◌, ◌+◌, ◌*◌, ◌++◌, ℕ, take, arith, SingleLaws.hex-append, Singles.text_taken}
+use N.{◌≡◌, ◌+◌, ◌*◌, ◌++◌, ℕ, take, arith}
+use N.SingleLaws.{hex-append}
+use N.Singles.{text_taken}
 
 -- the digits of twice 32 bytes were written
 two_steps : (bytes first second third : N.List ℕ) (at : ℕ) → take (2 * at) first ≡ N.encode_lower (take at bytes)

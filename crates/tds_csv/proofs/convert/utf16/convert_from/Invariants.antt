@@ -1,5 +1,6 @@
 use Rattle.tds_csv.proofs.convert.utf16.convert_from.Given as goal
-use Rattle.tds_csv.{proofs.Words.{◌+◌, ◌≤◌, ◌*◌, ◌-◌, length}, specs.Utf16Next.Converts}
+use Rattle.tds_csv.proofs.Words.{◌+◌, ◌≤◌, ◌*◌, ◌-◌, length}
+use Rattle.tds_csv.specs.Utf16Next.{Converts}
 
 -- the text so far is that of the bytes so far
 abbrev pub invariant-loop-next : goal.invariant-loop-next

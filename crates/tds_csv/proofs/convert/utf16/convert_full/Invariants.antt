@@ -1,9 +1,11 @@
 use Rattle.tds_csv.proofs.convert.utf16.convert_full.Given as goal
-use Rattle.tds_csv.{proofs.Words.{◌+◌, ◌≤◌, ◌*◌, ◌-◌, length}, specs.Utf16Next.Converts}
+use Rattle.tds_csv.proofs.Words.{◌+◌, ◌≤◌, ◌*◌, ◌-◌, length}
+use Rattle.tds_csv.specs.Utf16Next.{Converts}
 
 -- the text so far is that of the bytes so far
 abbrev pub invariant-loop-done : goal.invariant-loop-done
-invariant-loop-done l = record { more : l.from ≤ l.run.used; long : 3 * length l.bytes + 32 ≤ 2 * length l.to; now : Converts l.bytes l.to l.run.used l.run.made }
+invariant-loop-done l = let run = l.run in
+    record { more : l.from ≤ run.used; long : 3 * length l.bytes + 32 ≤ 2 * length l.to; now : Converts l.bytes l.to run.used run.made }
 
 abbrev pub decreases-loop-done : goal.decreases-loop-done
 decreases-loop-done l = length l.bytes - l.run.used

@@ -1,6 +1,7 @@
 use Rattle.tds_csv.proofs as N
 use N.convert.utf16.convert_last.Goals as goal
-use N.{◌≡◌, ◌≢◌, ◌%◌, ◌++◌, ℕ, List, [], length, ap, arith, Utf16Laws.joins_utf16}
+use N.{◌≡◌, ◌≢◌, ◌%◌, ◌++◌, ℕ, List, [], length, ap, arith}
+use N.Utf16Laws.{joins_utf16}
 use Rattle.tds_csv.specs.Utf16 as utf16
 
 -- what is left of whole data has two bytes

@@ -1,6 +1,8 @@
 use Rattle.tds_csv.proofs as N
 use N.convert.utf16.convert_whole.Goals as goal
-use N.{◌≡◌, ◌∙◌, ◌++◌, [], ap, append-nil, arith, drop, length, sym, Utf16Laws.joins_utf16, Utf16Steps.{ends_there, nil_of_length, text_nil}}
+use N.{◌≡◌, ◌∙◌, ◌++◌, [], ap, append-nil, arith, drop, length, sym}
+use N.Utf16Laws.{joins_utf16}
+use N.Utf16Steps.{ends_there, nil_of_length, text_nil}
 use Rattle.tds_csv.specs.Utf16 as utf16
 
 pub returns-then-run-bytes-clause-text : goal.returns-then-run-bytes-clause-text

@@ -1,6 +1,6 @@
 use Rattle.tds_csv.proofs as N
 use N.convert.windows_1252.convert_rest.Goals as goal
-use N.Singles.{one_taken, text_taken}
+use N.Singles.{itself_taken, one_taken, plain_text}
 use Rattle.tds_csv.specs.Windows1252 as windows_1252
 
 pub loop-at-preserved-then-n-eq-LANES : goal.loop-at-preserved-then-n-eq-LANES
@@ -9,8 +9,8 @@ loop-at-preserved-then-n-eq-LANES c =
       within = omega N.arith;
       long = search N.rules;
       room = omega N.arith;
-      text = text_taken windows_1252.text N.SingleLaws.windows_1252-append _ _ _
-          c.take_plain-n.ensures.taken c.loop-at.invariant.text;
+      text = itself_taken windows_1252.text N.SingleLaws.windows_1252-append _ _ _
+          c.take_plain-n.ensures.taken (plain_text _ c.take_plain-n.ensures.plain) c.loop-at.invariant.text;
     }
 
 pub loop-at-preserved : goal.loop-at-preserved
@@ -20,5 +20,6 @@ loop-at-preserved c =
       long = search N.rules;
       room = omega N.arith;
       text = one_taken windows_1252.text N.SingleLaws.windows_1252-append c.args.bytes.now _ (search N.arith) c.put_text-made.ensures.written
-          (text_taken windows_1252.text N.SingleLaws.windows_1252-append _ _ _ c.take_plain-n.ensures.taken c.loop-at.invariant.text);
+          (itself_taken windows_1252.text N.SingleLaws.windows_1252-append _ _ _ c.take_plain-n.ensures.taken
+          (plain_text _ c.take_plain-n.ensures.plain) c.loop-at.invariant.text);
     }

@@ -1,6 +1,7 @@
 use Rattle.tds_csv.proofs as N
 use N.convert.windows_1252.take_wide.Goals as goal
-use N.{◌∙◌, ◌++◌, LaneMasks.run_most}
+use N.{◌∙◌, ◌++◌}
+use N.LaneMasks.{run_most}
 
 pub take_before-requires-clause-stops : goal.take_before-requires-clause-stops
 take_before-requires-clause-stops c = omega (N.arith, run_most N.is_plain c.args.bytes.now c.args.at 32 c.requires.wide)

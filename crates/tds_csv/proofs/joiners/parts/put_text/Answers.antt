@@ -1,6 +1,7 @@
 use Rattle.tds_csv.proofs as N
 use N.joiners.parts.put_text.Goals as goal
-use N.{arith, Singles.puts_break}
+use N.{arith}
+use N.Singles.{puts_break}
 
 pub returns-in_err-put_chunk : goal.returns-in_err-put_chunk
 returns-in_err-put_chunk g c =

@@ -1,6 +1,8 @@
 use Rattle.tds_csv.proofs as N
 use N.joiners.utf16.put_from.Goals as goal
-use N.{◌-◌, ◌≤◌, [], drop, arith, Utf16Laws.joins_utf16, JoiningLemmas.{Leads-front, Leads-next, Leads-none, Leads-trans, puts_part, puts_whole}}
+use N.{◌-◌, ◌≤◌, [], drop, arith}
+use N.Utf16Laws.{joins_utf16}
+use N.JoiningLemmas.{Leads-front, Leads-next, Leads-none, Leads-trans, puts_part, puts_whole}
 
 pub loop-at-init : goal.loop-at-init
 loop-at-init g c = record {

@@ -1,6 +1,7 @@
 use Rattle.tds_csv.proofs as N
 use N.joiners.utf16.Utf16Joiner.put_withheld.Goals as goal
-use N.{◌∙◌, Utf16Steps.{none_put, some_leads}}
+use N.{◌∙◌}
+use N.Utf16Steps.{none_put, some_leads}
 
 pub returns-then-is_empty-clause-puts : goal.returns-then-is_empty-clause-puts
 returns-then-is_empty-clause-puts g c = none_put _ (N.sym c.bytes-kept.ensures.value ∙ (N.Utf16Steps.nil_of_length _ (search N.rules))) c.requires.writing

@@ -1,6 +1,7 @@
 use Rattle.tds_csv.proofs as N
 use N.joiners.utf8.Utf8Joiner.take_text.Goals as goal
-use N.{◌≡◌, ◌∙◌, ◌-◌, [], Utf8Pushing.rest_begins}
+use N.{◌≡◌, ◌∙◌, ◌-◌, []}
+use N.Utf8Pushing.{rest_begins}
 use Rattle.tds_csv.specs.Utf8.{Begins, rest, text}
 
 pub returns-then-scan-bytes : goal.returns-then-scan-bytes

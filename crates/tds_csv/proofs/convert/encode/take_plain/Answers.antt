@@ -1,9 +1,13 @@
 use Rattle.tds_csv.proofs as N
-use N.convert.windows_1252.take_plain.Goals as goal
-use N.{◌+◌, ◌≤◌, arith, LaneMasks.{alike, run_most}}
+use N.convert.encode.take_plain.Goals as goal
+use N.{◌+◌, ◌≤◌, arith}
+use N.LaneMasks.{alike, run_most}
+
+pub returns-clause-plain : goal.returns-clause-plain
+returns-clause-plain = grind (arith, N.common_steps, N.Singles.plain_among, alike)
 
 pub returns-clause-taken : goal.returns-clause-taken
-returns-clause-taken = grind (arith, N.common_steps, N.Singles.plain_lanes, alike)
+returns-clause-taken = grind (arith, N.common_steps, alike)
 
 pub put_lanes-requires : goal.put_lanes-requires
 put_lanes-requires c =
