@@ -1,6 +1,7 @@
 -- What a description that was read spells.
 use Rattle.tds_columns.proofs as N
-use N.{◌≡◌, ◌∙◌, ℕ, ◌<◌, List, [], ◌∷◌, arith, Seen, ColumnMeaning.{DescribedMeans, described_step}}
+use N.{◌≡◌, ◌∙◌, ℕ, ◌<◌, List, [], ◌∷◌, arith, Seen}
+use N.ColumnMeaning.{DescribedMeans, described_step}
 
 -- the bytes that are kept are those read
 abbrev pub Keeps : N.DescriptionPart → List ℕ → Type 0

@@ -1,7 +1,8 @@
 -- The elements of a description, as they are read into its area.
 use Rattle.tds_columns.proofs as N
 use N.{◌≡◌, ◌≢◌, ◌∙◌, ℕ, ◌+◌, ◌<◌, ◌≤◌, List, [], length, refl, ap, arith, Some, None, Ok, if◌then◌else◌, Space, Stop, Seen, Column, DescriptionPart, span}
-use N.{Describes, ElementSteps.{cut_into, reads_into, refused_into, shrunk}}
+use N.{Describes}
+use N.ElementSteps.{cut_into, reads_into, refused_into, shrunk}
 
 -- a state that something follows
 open_state : (s : DescriptionPart) (n : ℕ) → N.described_size s ≡ n → 0 < n → (N.described_end s ≡ Some N.MessageEnded)

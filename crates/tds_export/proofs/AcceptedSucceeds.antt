@@ -1,10 +1,8 @@
 -- What an export answers of an accepted response: it succeeds, but for a device that fails.
 use Rattle.tds_export.proofs.Words as N
-use Rattle.tds_export.proofs.{
-  Words.{Err, Fault, List, Ok, Packet, Result, Run, Some, Token, Told, WirePart, [], ap, arith, drop, grammar, inl, inr, length, more, refl, subst, sym, take},
-  Words.{ℕ, ◌++◌, ◌+◌, ◌==◌, ◌∙◌, ◌∷◌, ◌≡◌, ◌≤◌},
-  ResponseLaws.{one_accepted, refused_response, response_is_read},
-}
+use Rattle.tds_export.proofs.Words.{Err, Fault, List, Ok, Packet, Result, Run, Some, Token, Told, WirePart, [], ap, arith, drop, grammar, inl, inr, length}
+use Rattle.tds_export.proofs.Words.{more, refl, subst, sym, take, ℕ, ◌++◌, ◌+◌, ◌==◌, ◌∙◌, ◌∷◌, ◌≡◌, ◌≤◌}
+use Rattle.tds_export.proofs.ResponseLaws.{one_accepted, refused_response, response_is_read}
 
 -- ---- packets at the front of a message
 

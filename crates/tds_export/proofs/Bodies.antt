@@ -1,15 +1,13 @@
 -- Tokens with a Length and a body, as they are read.
 use Rattle.tds_export.proofs.Words as N
-use Rattle.tds_export.proofs.{
-  Words.{AnError, List, Option, Report, Some, Space, [], ap, arith, empty, first_error, in_length, length, notice_of, refl, sym, text, ℕ, ◌++◌, ◌+◌, ◌-◌, ◌<◌},
-  Words.{◌∙◌, ◌∷◌, ◌≡◌, ◌≤◌, Bool, Err, Kind, NoType, None, Ok, ReadsReturn, Result, Seen, Stop, Takes, TypeHead, if◌then◌else◌, returned_type, subst},
-  Words.{with_return_units, ◌*◌, BadNotice, Bodied, Token, between, false, inl, inr, is_notice, part_fault, reads_one, response, stops_after, take, true},
-  Words.{Charset, View, Ends},
-  TokenSteps.{Begun, bare_reads, quietly, stops_quietly, ReadsQuiet, StopsQuiet},
-  TokenLaws.{first_next, first_stays, no_errors, tracks_error, tracks_info, tracks_returned, bare_body, tracks_body},
-  ResponseLaws.{Agrees, info_is_read, return_name_is_read, value_agrees, read_inside, stop_inside, part_cut, fill_cut, return_agrees, body_free, body_is_read},
-  ResponseLaws.{length_free},
-}
+use Rattle.tds_export.proofs.Words.{AnError, List, Option, Report, Some, Space, [], ap, arith, empty, first_error, in_length, length, notice_of, refl, sym}
+use Rattle.tds_export.proofs.Words.{text, ℕ, ◌++◌, ◌+◌, ◌-◌, ◌<◌, ◌∙◌, ◌∷◌, ◌≡◌, ◌≤◌, Bool, Err, Kind, NoType, None, Ok, ReadsReturn, Result, Seen, Stop, Takes}
+use Rattle.tds_export.proofs.Words.{TypeHead, if◌then◌else◌, returned_type, subst, with_return_units, ◌*◌, BadNotice, Bodied, Token, between, false, inl, inr}
+use Rattle.tds_export.proofs.Words.{is_notice, part_fault, reads_one, response, stops_after, take, true, Charset, View, Ends}
+use Rattle.tds_export.proofs.TokenSteps.{Begun, bare_reads, quietly, stops_quietly, ReadsQuiet, StopsQuiet}
+use Rattle.tds_export.proofs.TokenLaws.{first_next, first_stays, no_errors, tracks_error, tracks_info, tracks_returned, bare_body, tracks_body}
+use Rattle.tds_export.proofs.ResponseLaws.{Agrees, info_is_read, return_name_is_read, value_agrees, read_inside, stop_inside, part_cut, fill_cut, return_agrees}
+use Rattle.tds_export.proofs.ResponseLaws.{body_free, body_is_read, length_free}
 
 -- a text as far as it fits stays within the room
 pub within_room : {s : Space} (text : List ℕ) → s.bytes ≡ [] → s.peak ≤ s.room

@@ -1,13 +1,11 @@
 -- What completes a cell and a row is read as their rest.
 use Rattle.tds_export.proofs.Words as N
-use Rattle.tds_export.proofs.{
-  Words.{Bool, Cell, CellPart, ChunkData, ChunkLength, Column, Conversion, Decimal, IntN, Kind, List, None, Null, Ok, Option, Result, ShortData, Some, Spelt},
-  Words.{Time, Utf8Text, WholeCell, WholeRow, Windows1252, [], ap, arith, before, begun, bit, cell, cell_add, choose, eq_false, false, is_length_allowed},
-  Words.{is_valid, le_true, length, marked, nat_le, next_cell, refl, row, subst, suc, sym, true, unit, zero, zeros, ℕ, ⊤, ◌%◌, ◌&&◌, ◌++◌, ◌+◌, ◌<◌, ◌∙◌, ◌∷◌},
-  Words.{◌≡◌, ◌≤◌},
-  ResponseLaws.{spelt_both, spelt_one},
-  SomeBytes.{exactly, little_below, one_of_four, one_of_two},
-}
+use Rattle.tds_export.proofs.Words.{Bool, Cell, CellPart, ChunkData, ChunkLength, Column, Conversion, Decimal, IntN, Kind, List, None, Null, Ok, Option, Result}
+use Rattle.tds_export.proofs.Words.{ShortData, Some, Spelt, Time, Utf8Text, WholeCell, WholeRow, Windows1252, [], ap, arith, before, begun, bit, cell, cell_add}
+use Rattle.tds_export.proofs.Words.{choose, eq_false, false, is_length_allowed, is_valid, le_true, length, marked, nat_le, next_cell, refl, row, subst, suc}
+use Rattle.tds_export.proofs.Words.{sym, true, unit, zero, zeros, ℕ, ⊤, ◌%◌, ◌&&◌, ◌++◌, ◌+◌, ◌<◌, ◌∙◌, ◌∷◌, ◌≡◌, ◌≤◌}
+use Rattle.tds_export.proofs.ResponseLaws.{spelt_both, spelt_one}
+use Rattle.tds_export.proofs.SomeBytes.{exactly, little_below, one_of_four, one_of_two}
 
 -- the conversions that Windows-1252 names: none judges data before its end
 abbrev pub is_plain : Conversion → Bool

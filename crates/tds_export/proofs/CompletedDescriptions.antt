@@ -1,12 +1,11 @@
 -- What completes a description is read as its rest.
 use Rattle.tds_export.proofs.Words as N
-use Rattle.tds_export.proofs.{
-  Words.{BeforeCount, Column, ColumnHead, InColumn, List, NoDescription, None, Some, [], ap, arith, description, if◌then◌else◌, int_columns, length, more},
-  Words.{named_kind, refl, rest_length, suc, true, with_column, zero, zeros, ℕ, ◌*◌, ◌++◌, ◌+◌, ◌-◌, ◌<◌, ◌==◌, ◌∙◌, ◌∷◌, ◌≡◌, ◌≤◌, ⊤},
-  CompletedCells.AreValid,
-  LeastTypes.least_type,
-  ResponseLaws.{spelt_both, spelt_one},
-}
+use Rattle.tds_export.proofs.Words.{BeforeCount, Column, ColumnHead, InColumn, List, NoDescription, None, Some, [], ap, arith, description, if◌then◌else◌}
+use Rattle.tds_export.proofs.Words.{int_columns, length, more, named_kind, refl, rest_length, suc, true, with_column, zero, zeros, ℕ, ◌*◌, ◌++◌, ◌+◌, ◌-◌, ◌<◌}
+use Rattle.tds_export.proofs.Words.{◌==◌, ◌∙◌, ◌∷◌, ◌≡◌, ◌≤◌, ⊤}
+use Rattle.tds_export.proofs.CompletedCells.{AreValid}
+use Rattle.tds_export.proofs.LeastTypes.{least_type}
+use Rattle.tds_export.proofs.ResponseLaws.{spelt_both, spelt_one}
 
 -- what is known of the place in a column after these bytes, with so many columns to follow: the room is enough for what must still come
 abbrev pub PlaceReached : ℕ → List ℕ → ℕ → N.ColumnPlace → Type 0

@@ -1,18 +1,17 @@
 -- What completes a response is read as its rest, and is bytes.
 use Rattle.tds_export.proofs.Words as N
-use Rattle.tds_export.proofs.{
-  Words.{AreBytes, Bool, Column, Done, InRow, List, None, Open, Option, Part, Some, Spelt, Token, Windows1252, [], after_tokens, arith, begun, described_after},
-  Words.{done_byte, false, length, passed, refl, response, suc, true, zero, zeros, ℕ, ⊤, ◌++◌, ◌<◌, ◌∙◌, ◌∷◌, ◌≡◌, ◌≤◌},
-  SomeBytes.{AreBytes-append, AreBytes-replicate, bytes_induct},
-  CompletedDescriptions.{DescribedReached, IsOpenDescription, described_ends, described_keeps},
-  CompletedReturns.{ReturnReached, return_ends, return_keeps},
-  CompletedCells.{RowReached, AreValid, marked_valid, next_reached, row_ends, row_keeps},
-  LeastTypes.least_type,
-  ResponseMeaning.response_is_spelt,
-  ResponseLaws.{spelt_both, spelt_one, body_free, body_is_read, described_after-append, length_free, some_fields, description_agrees, row_agrees},
-  ResponseLaws.{return_agrees, part_at, spelt_inside},
-  TokenLaws.{bare, bare_body, bare_fixed, is_bare, is_final-snoc},
-}
+use Rattle.tds_export.proofs.Words.{AreBytes, Bool, Column, Done, InRow, List, None, Open, Option, Part, Some, Spelt, Token, Windows1252, [], after_tokens}
+use Rattle.tds_export.proofs.Words.{arith, begun, described_after, done_byte, false, length, passed, refl, response, suc, true, zero, zeros, ℕ, ⊤, ◌++◌, ◌<◌}
+use Rattle.tds_export.proofs.Words.{◌∙◌, ◌∷◌, ◌≡◌, ◌≤◌}
+use Rattle.tds_export.proofs.SomeBytes.{AreBytes-append, AreBytes-replicate, bytes_induct}
+use Rattle.tds_export.proofs.CompletedDescriptions.{DescribedReached, IsOpenDescription, described_ends, described_keeps}
+use Rattle.tds_export.proofs.CompletedReturns.{ReturnReached, return_ends, return_keeps}
+use Rattle.tds_export.proofs.CompletedCells.{RowReached, AreValid, marked_valid, next_reached, row_ends, row_keeps}
+use Rattle.tds_export.proofs.LeastTypes.{least_type}
+use Rattle.tds_export.proofs.ResponseMeaning.{response_is_spelt}
+use Rattle.tds_export.proofs.ResponseLaws.{spelt_both, spelt_one, body_free, body_is_read, described_after-append, length_free, some_fields, description_agrees}
+use Rattle.tds_export.proofs.ResponseLaws.{row_agrees, return_agrees, part_at, spelt_inside}
+use Rattle.tds_export.proofs.TokenLaws.{bare, bare_body, bare_fixed, is_bare, is_final-snoc}
 
 -- a row, and a return value, that isn't whole
 abbrev pub IsOpenRow : N.RowPart → Type 0

@@ -1,12 +1,10 @@
 -- What completes a return value is read as its rest.
 use Rattle.tds_export.proofs.Words as N
-use Rattle.tds_export.proofs.{
-  Words.{Guid, Kind, List, None, Option, ReturnNameCount, ReturnValue, Some, Spelt, [], ap, arith, begun, if◌then◌else◌, more, named_kind, refl, rest_length},
-  Words.{return_value, true, zeros, ℕ, ◌++◌, ◌<◌, ◌∷◌, ◌≡◌, ⊤},
-  CompletedCells.{CellReached, cell_ends, cell_keeps, start_reached, IsOpenCell},
-  ResponseLaws.{accepted, spelt_inside, value_agrees, spelt_both, spelt_one},
-  LeastTypes.least_type,
-}
+use Rattle.tds_export.proofs.Words.{Guid, Kind, List, None, Option, ReturnNameCount, ReturnValue, Some, Spelt, [], ap, arith, begun, if◌then◌else◌, more}
+use Rattle.tds_export.proofs.Words.{named_kind, refl, rest_length, return_value, true, zeros, ℕ, ◌++◌, ◌<◌, ◌∷◌, ◌≡◌, ⊤}
+use Rattle.tds_export.proofs.CompletedCells.{CellReached, cell_ends, cell_keeps, start_reached, IsOpenCell}
+use Rattle.tds_export.proofs.ResponseLaws.{accepted, spelt_inside, value_agrees, spelt_both, spelt_one}
+use Rattle.tds_export.proofs.LeastTypes.{least_type}
 
 -- what is known of a part of a return value that bytes led to
 abbrev pub ReturnReached : N.ReturnPart → Type 0

@@ -1,9 +1,7 @@
 -- Where an export stops with the fault of a device, the device's count of failures rose.
 use Rattle.tds_export.proofs.Words as N
-use Rattle.tds_export.proofs.{
-  Words.{Bool, Coming, Fault, Given, List, None, Option, Part, ReadFailed, Seen, Some, Stop, WriteFailed, [], ap, arith, before, front_packet, if◌then◌else◌},
-  Words.{inl, inr, length, message, read, subst, sym, true, ℕ, ⊤, ◌++◌, ◌<◌, ◌∙◌, ◌∷◌, ◌≡◌, ◌⊎◌},
-}
+use Rattle.tds_export.proofs.Words.{Bool, Coming, Fault, Given, List, None, Option, Part, ReadFailed, Seen, Some, Stop, WriteFailed, [], ap, arith, before}
+use Rattle.tds_export.proofs.Words.{front_packet, if◌then◌else◌, inl, inr, length, message, read, subst, sym, true, ℕ, ⊤, ◌++◌, ◌<◌, ◌∙◌, ◌∷◌, ◌≡◌, ◌⊎◌}
 
 -- a fault that elements may have, or the end of a message
 abbrev pub IsOfPayload : Fault → Type 0

@@ -2,11 +2,9 @@
 use Rattle.tds_csv.specs.Utf16 as utf16
 use Rattle.tds_values.specs.declared.kind.Kind.TheVariants as kinds
 use Rattle.tds_export.proofs.Words as N
-use Rattle.tds_export.proofs.{
-  Words.{Conversion, Err, HexDigits, List, None, Ok, Option, Result, Some, [], arith, choose, emit, length, quote, true, utf16_chars, ℕ, ◌*◌, ◌++◌, ◌+◌, ◌-◌},
-  Words.{◌<◌, ◌==◌, ◌^◌, ◌∷◌, ◌≡◌, ◌≤◌, ⊤},
-  SomeBytes.{AreBytes-drop, byte_below, little_below, one_of_four},
-}
+use Rattle.tds_export.proofs.Words.{Conversion, Err, HexDigits, List, None, Ok, Option, Result, Some, [], arith, choose, emit, length, quote, true, utf16_chars}
+use Rattle.tds_export.proofs.Words.{ℕ, ◌*◌, ◌++◌, ◌+◌, ◌-◌, ◌<◌, ◌==◌, ◌^◌, ◌∷◌, ◌≡◌, ◌≤◌, ⊤}
+use Rattle.tds_export.proofs.SomeBytes.{AreBytes-drop, byte_below, little_below, one_of_four}
 
 -- ---- the text of data
 

@@ -1,8 +1,6 @@
 -- The least TYPE_INFO of each type byte.
-use Rattle.tds_export.proofs.{
-  Words.{AreBytes, Bool, Kind, List, None, Option, Some, [], and_parts, arith, eq_false, eq_true, false, kind_of, least_info, length, lt_true, named_kind},
-  Words.{nat_lt, nat_tests, refl, rest_length, suc, true, zero, ℕ, ◌&&◌, ◌<◌, ◌==◌, ◌∷◌, ◌≡◌},
-}
+use Rattle.tds_export.proofs.Words.{AreBytes, Bool, Kind, List, None, Option, Some, [], and_parts, arith, eq_false, eq_true, false, kind_of, least_info, length}
+use Rattle.tds_export.proofs.Words.{lt_true, named_kind, nat_lt, nat_tests, refl, rest_length, suc, true, zero, ℕ, ◌&&◌, ◌<◌, ◌==◌, ◌∷◌, ◌≡◌}
 
 -- after this type byte the least rest is of so many bytes, and describes a kind
 pub record IsLeast (byte n : ℕ) : Type 0 where

@@ -1,10 +1,8 @@
 -- The names of columns, put one after another.
 use Rattle.tds_csv.specs.Utf16 as utf16
 use Rattle.tds_export.proofs.Words as N
-use Rattle.tds_export.proofs.{
-  Words.{Bool, Column, Err, Held, List, Ok, Option, PutsPiece, Result, Sink, Stop, [], ap, arith, before, codes, false, joined, joins_utf16, map, more},
-  Words.{name_field, not, refl, sym, true, ℕ, ⊤, ◌++◌, ◌∙◌, ◌∷◌, ◌≡◌},
-}
+use Rattle.tds_export.proofs.Words.{Bool, Column, Err, Held, List, Ok, Option, PutsPiece, Result, Sink, Stop, [], ap, arith, before, codes, false, joined}
+use Rattle.tds_export.proofs.Words.{joins_utf16, map, more, name_field, not, refl, sym, true, ℕ, ⊤, ◌++◌, ◌∙◌, ◌∷◌, ◌≡◌}
 use Rattle.tds_csv.specs.declared.joiners.JoinFault.TheVariants.{Stopped}
 
 -- what a push of any units may answer

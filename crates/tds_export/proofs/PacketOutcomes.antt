@@ -1,9 +1,7 @@
 -- How an export ended, by the packets of its input.
 use Rattle.tds_export.proofs.Words as N
-use Rattle.tds_export.proofs.{
-  Words.{List, Part, Run, Seen, Some, Stop, [], ap, arith, drop, grammar, inl, inr, length, more, refl, subst, sym, take, text, ℕ, ◌++◌, ◌<◌, ◌∙◌, ◌≡◌, limits},
-  Words.{◌+◌},
-}
+use Rattle.tds_export.proofs.Words.{List, Part, Run, Seen, Some, Stop, [], ap, arith, drop, grammar, inl, inr, length, more, refl, subst, sym, take, text, ℕ}
+use Rattle.tds_export.proofs.Words.{◌++◌, ◌<◌, ◌∙◌, ◌≡◌, limits, ◌+◌}
 
 -- what the area holds at a part is kept, whatever follows
 pub kept_at : (area : N.Space) (tokens : List N.Token) (at : N.Open) (rest : List ℕ) → area.bytes ≡ N.description_of tokens at

@@ -1,12 +1,10 @@
 -- How much of a description was held in an export: no more than the span of one at the front of the input.
 use Rattle.tds_export.proofs.Words as N
-use Rattle.tds_export.proofs.{
-  Words.{List, Part, Run, Some, Spelt, Told, [], ap, arith, grammar, inl, inr, length, more, sym, take, wire, wire_of, ℕ, ◌++◌, ◌+◌, ◌-◌, ◌∙◌, ◌≡◌, ◌≤◌, ◌⊎◌},
-  Words.{limits},
-  AcceptedSucceeds.{BeginsWith, begins_added},
-  ReadingGrows.span_along,
-  PacketOutcomes.start,
-}
+use Rattle.tds_export.proofs.Words.{List, Part, Run, Some, Spelt, Told, [], ap, arith, grammar, inl, inr, length, more, sym, take, wire, wire_of, ℕ, ◌++◌, ◌+◌}
+use Rattle.tds_export.proofs.Words.{◌-◌, ◌∙◌, ◌≡◌, ◌≤◌, ◌⊎◌, limits}
+use Rattle.tds_export.proofs.AcceptedSucceeds.{BeginsWith, begins_added}
+use Rattle.tds_export.proofs.ReadingGrows.{span_along}
+use Rattle.tds_export.proofs.PacketOutcomes.{start}
 
 -- a part of a response was read from whole packets at the front of an input
 pub record Reached (run : Run) (at : Part) : Type 0 where

@@ -1,11 +1,9 @@
 -- What is read grows by each element: the text so far, and the greatest span.
 use Rattle.tds_export.proofs.Words as N
-use Rattle.tds_export.proofs.{
-  Words.{Grows, IsNext, List, NoDescription, None, Open, Option, Part, Some, Token, [], arith, begun, false, grows_same, max, row, text, text_so_far, ℕ, ◌++◌},
-  Words.{◌==◌, ◌∷◌, ◌≡◌, ◌≤◌, ⊤},
-  TokenLaws.{begun_after, greatest_span-append, text_after-snoc},
-  ResponseLaws.part_at,
-}
+use Rattle.tds_export.proofs.Words.{Grows, IsNext, List, NoDescription, None, Open, Option, Part, Some, Token, [], arith, begun, false, grows_same, max, row}
+use Rattle.tds_export.proofs.Words.{text, text_so_far, ℕ, ◌++◌, ◌==◌, ◌∷◌, ◌≡◌, ◌≤◌, ⊤}
+use Rattle.tds_export.proofs.TokenLaws.{begun_after, greatest_span-append, text_after-snoc}
+use Rattle.tds_export.proofs.ResponseLaws.{part_at}
 
 -- what a token byte other than that of a row begins
 abbrev pub IsFresh : Open → Type 0

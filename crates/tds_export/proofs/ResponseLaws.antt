@@ -1,11 +1,9 @@
 -- What a response's spelling is read as.
 use Rattle.tds_export.proofs.Words as N
-use Rattle.tds_export.proofs.{
-  Words.{List, None, Some, Spelt, Stop, arith, length, take, ℕ, ◌++◌, ◌<◌, ◌≡◌, [], ap, drop, line_at, procedure_at, refl, server_at, sym, true, w32, ℤ, ◌*◌},
-  Words.{◌+◌, ◌/◌, ◌∙◌, ◌∷◌, ◌≤◌, Fault, Kind, Option, return_value, with_return_units, Bodied, Bool, Column, Part, Token, after_lead, before, described_after},
-  Words.{false, if◌then◌else◌, inl, inr, lead, little, passed, response, with_token, ◌%◌, ◌&&◌, after_tokens, ⊤, Grammar, Spelt-step, Seen, Notice},
-  Words.{append_assoc},
-}
+use Rattle.tds_export.proofs.Words.{List, None, Some, Spelt, Stop, arith, length, take, ℕ, ◌++◌, ◌<◌, ◌≡◌, [], ap, drop, line_at, procedure_at, refl, server_at}
+use Rattle.tds_export.proofs.Words.{sym, true, w32, ℤ, ◌*◌, ◌+◌, ◌/◌, ◌∙◌, ◌∷◌, ◌≤◌, Fault, Kind, Option, return_value, with_return_units, Bodied, Bool, Column}
+use Rattle.tds_export.proofs.Words.{Part, Token, after_lead, before, described_after, false, if◌then◌else◌, inl, inr, lead, little, passed, response}
+use Rattle.tds_export.proofs.Words.{with_token, ◌%◌, ◌&&◌, after_tokens, ⊤, Grammar, Spelt-step, Seen, Notice, append_assoc}
 
 module _ {S : Type 0} {g : Grammar S Fault} {s t : S} where
   -- one element

@@ -1,11 +1,10 @@
 -- What the bytes that lead to a part of a response spell.
 use Rattle.tds_export.proofs.Words as N
-use Rattle.tds_export.proofs.{
-  Words.{Bool, Column, IsFirst, Lead, List, None, Option, Some, SpellsTokens, Token, [], ap, arith, described_after, drop, false, if◌then◌else◌, inl, inr},
-  Words.{lead, length, message, passed, refl, sym, take, true, ℕ, ◌%◌, ◌&&◌, ◌*◌, ◌++◌, ◌+◌, ◌/◌, ◌<◌, ◌∙◌, ◌∷◌, ◌≡◌, ◌≤◌},
-  ResponseLaws.{ReturnMeans, return_step, described_after-append, fixed_spelt, part_at, IsFree, parts_within},
-  SomeBytes.bytes_induct,
-}
+use Rattle.tds_export.proofs.Words.{Bool, Column, IsFirst, Lead, List, None, Option, Some, SpellsTokens, Token, [], ap, arith, described_after, drop, false}
+use Rattle.tds_export.proofs.Words.{if◌then◌else◌, inl, inr, lead, length, message, passed, refl, sym, take, true, ℕ, ◌%◌, ◌&&◌, ◌*◌, ◌++◌, ◌+◌, ◌/◌, ◌<◌, ◌∙◌}
+use Rattle.tds_export.proofs.Words.{◌∷◌, ◌≡◌, ◌≤◌}
+use Rattle.tds_export.proofs.ResponseLaws.{ReturnMeans, return_step, described_after-append, fixed_spelt, part_at, IsFree, parts_within}
+use Rattle.tds_export.proofs.SomeBytes.{bytes_induct}
 
 -- so many of the bytes after the first n, and those after them
 piece : (body : List ℕ) (n k m : ℕ) {r : List ℕ} → n + k ≡ m → drop m body ≡ r → drop n body ≡ take k (drop n body) ++ r

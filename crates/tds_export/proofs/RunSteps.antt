@@ -1,10 +1,8 @@
 -- The tokens of a response, one after another.
 use Rattle.tds_export.proofs.Words as N
-use Rattle.tds_export.proofs.{
-  Words.{Bool, Held, List, Progress, Report, Space, Stop, [], ap, arith, false, inl, length, refl, response, subst, sym, true, ℕ, ◌++◌, ◌+◌, ◌-◌, ◌^◌, ◌∙◌},
-  Words.{◌≡◌, ◌≤◌, View},
-  TokenSteps.{stops_further, stops_quietly, streams_both},
-}
+use Rattle.tds_export.proofs.Words.{Bool, Held, List, Progress, Report, Space, Stop, [], ap, arith, false, inl, length, refl, response, subst, sym, true, ℕ}
+use Rattle.tds_export.proofs.Words.{◌++◌, ◌+◌, ◌-◌, ◌^◌, ◌∙◌, ◌≡◌, ◌≤◌, View}
+use Rattle.tds_export.proofs.TokenSteps.{stops_further, stops_quietly, streams_both}
 
 -- whole tokens were read and their text put
 pub record Runs (charset : N.Charset) (u v : View) (progress : Progress) : Type 0 where

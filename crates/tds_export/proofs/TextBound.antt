@@ -1,14 +1,13 @@
 -- The text so far is no longer than 64 bytes for each byte read.
 use Rattle.tds_export.proofs.Words as N
-use Rattle.tds_export.proofs.{
-  Words.{AreBytes, Bool, Cell, Column, IsNext, List, None, Null, Open, Option, Part, Result, Some, Token, [], ap, arith, choose, codes, false, field, joined},
-  Words.{length, length-append, map, refl, response, suc, text, true, ℕ, ◌*◌, ◌++◌, ◌+◌, ◌∷◌, ◌≡◌, ◌≤◌, ⊤, ◌==◌},
-  ReadingGrows.{IsFresh, lead_cases},
-  FieldLengths.{ReadShort, long_length, long_more, open_length, open_more, read_short},
-  TokenLaws.{bare, bare_body, bare_fixed, begun_after, text_after-snoc},
-  ResponseLaws.part_at,
-  SomeBytes.bytes_induct,
-}
+use Rattle.tds_export.proofs.Words.{AreBytes, Bool, Cell, Column, IsNext, List, None, Null, Open, Option, Part, Result, Some, Token, [], ap, arith, choose}
+use Rattle.tds_export.proofs.Words.{codes, false, field, joined, length, length-append, map, refl, response, suc, text, true, ℕ, ◌*◌, ◌++◌, ◌+◌, ◌∷◌, ◌≡◌, ◌≤◌}
+use Rattle.tds_export.proofs.Words.{⊤, ◌==◌}
+use Rattle.tds_export.proofs.ReadingGrows.{IsFresh, lead_cases}
+use Rattle.tds_export.proofs.FieldLengths.{ReadShort, long_length, long_more, open_length, open_more, read_short}
+use Rattle.tds_export.proofs.TokenLaws.{bare, bare_body, bare_fixed, begun_after, text_after-snoc}
+use Rattle.tds_export.proofs.ResponseLaws.{part_at}
+use Rattle.tds_export.proofs.SomeBytes.{bytes_induct}
 
 -- ---- fields
 

@@ -1,13 +1,11 @@
 -- Tokens by their first bytes.
 use Rattle.tds_export.proofs.Words as N
-use Rattle.tds_export.proofs.{
-  Words.{Bool, Cell, IsNext, List, None, Option, Row, RowsPart, Some, Token, Tracks, [], ap, append_assoc, arith, before, counted, if◌then◌else◌, length, map},
-  Words.{refl, response, rows, subst, sym, text, true, with_row, ℕ, ◌++◌, ◌+◌, ◌==◌, ◌∙◌, ◌∷◌, ◌≡◌, Charset, Held, Part, Seen, Takes, after_tokens, between},
-  Words.{false, inl, inr, ◌-◌, ◌<◌, ◌^◌, ◌≤◌, columns_of, Stop},
-  TokenSteps.{Begun, holds-snoc, quietly, row_stops, row_text, stops_further, same_text, start_text, stops_quietly, streams_both},
-  ResponseLaws.{described_after-append, row_agrees, inside, spelt_both, no_row},
-  TokenLaws.{text_after-snoc, tracks_row, with_rows},
-}
+use Rattle.tds_export.proofs.Words.{Bool, Cell, IsNext, List, None, Option, Row, RowsPart, Some, Token, Tracks, [], ap, append_assoc, arith, before, counted}
+use Rattle.tds_export.proofs.Words.{if◌then◌else◌, length, map, refl, response, rows, subst, sym, text, true, with_row, ℕ, ◌++◌, ◌+◌, ◌==◌, ◌∙◌, ◌∷◌, ◌≡◌}
+use Rattle.tds_export.proofs.Words.{Charset, Held, Part, Seen, Takes, after_tokens, between, false, inl, inr, ◌-◌, ◌<◌, ◌^◌, ◌≤◌, columns_of, Stop}
+use Rattle.tds_export.proofs.TokenSteps.{Begun, holds-snoc, quietly, row_stops, row_text, stops_further, same_text, start_text, stops_quietly, streams_both}
+use Rattle.tds_export.proofs.ResponseLaws.{described_after-append, row_agrees, inside, spelt_both, no_row}
+use Rattle.tds_export.proofs.TokenLaws.{text_after-snoc, tracks_row, with_rows}
 
 -- a byte that is no other token's
 is_token_byte : {byte x : ℕ} → (if x == byte then None else Some (N.RefusedToken x)) ≡ None → x ≡ byte

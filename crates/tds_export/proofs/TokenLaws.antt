@@ -1,10 +1,8 @@
 -- What one more token adds to a response.
 use Rattle.tds_export.proofs.Words as N
-use Rattle.tds_export.proofs.{
-  Words.{Bool, Error, List, Metadata, NoMetadata, None, Option, Row, Some, Token, Tracks, [], arith, before, begun, false, first_error, how_many, is_final},
-  Words.{max, more, passed, refl, sym, text_after, true, ℕ, ◌++◌, ◌+◌, ◌<◌, ◌∙◌, ◌∷◌, ◌≡◌},
-  ResponseLaws.described_after-append,
-}
+use Rattle.tds_export.proofs.Words.{Bool, Error, List, Metadata, NoMetadata, None, Option, Row, Some, Token, Tracks, [], arith, before, begun, false}
+use Rattle.tds_export.proofs.Words.{first_error, how_many, is_final, max, more, passed, refl, sym, text_after, true, ℕ, ◌++◌, ◌+◌, ◌<◌, ◌∙◌, ◌∷◌, ◌≡◌}
+use Rattle.tds_export.proofs.ResponseLaws.{described_after-append}
 
 -- whether a set has begun after these tokens
 abbrev pub begun_after : Bool → List Token → Bool

@@ -1,13 +1,12 @@
 -- The tokens, as they are read and their text is put.
 use Rattle.tds_export.proofs.Words as N
-use Rattle.tds_export.proofs.{
-  Words.{Bool, Charset, Column, Fault, Grammar, Held, IsHolding, List, Option, Part, Progress, Report, Result, Seen, Space, Stop, Takes, Token, View, []},
-  Words.{after_tokens, ap, append-nil, arith, between, false, in_fields, in_metadata, inl, inr, length, max, refl, response, subst, sym, text, text_so_far},
-  Words.{true, view_of, with_row, ℕ, ◌%◌, ◌++◌, ◌+◌, ◌-◌, ◌<◌, ◌==◌, ◌^◌, ◌∙◌, ◌∷◌, ◌≡◌, ◌≤◌},
-  TokenLaws.{bare, bare_fixed, begun_after, begun_where_sets, encoded_after-append, greatest_span-append, is_bare, same_first, text_after-snoc},
-  TokenLaws.{tracks_metadata, tracks_none, tracks_quiet},
-  ResponseLaws.{description_agrees, row_agrees, some_fields, part_at, inside, read_inside, stop_inside},
-}
+use Rattle.tds_export.proofs.Words.{Bool, Charset, Column, Fault, Grammar, Held, IsHolding, List, Option, Part, Progress, Report, Result, Seen, Space, Stop}
+use Rattle.tds_export.proofs.Words.{Takes, Token, View, [], after_tokens, ap, append-nil, arith, between, false, in_fields, in_metadata, inl, inr, length, max}
+use Rattle.tds_export.proofs.Words.{refl, response, subst, sym, text, text_so_far, true, view_of, with_row, ℕ, ◌%◌, ◌++◌, ◌+◌, ◌-◌, ◌<◌, ◌==◌, ◌^◌, ◌∙◌, ◌∷◌}
+use Rattle.tds_export.proofs.Words.{◌≡◌, ◌≤◌}
+use Rattle.tds_export.proofs.TokenLaws.{bare, bare_fixed, begun_after, begun_where_sets, encoded_after-append, greatest_span-append, is_bare, same_first}
+use Rattle.tds_export.proofs.TokenLaws.{text_after-snoc, tracks_metadata, tracks_none, tracks_quiet}
+use Rattle.tds_export.proofs.ResponseLaws.{description_agrees, row_agrees, some_fields, part_at, inside, read_inside, stop_inside}
 
 -- A token has begun: what the tokens before it left is known, and the sink goes on.
 pub record Begun (tokens : List Token) (progress : Progress) (u : View) : Type 0 where

@@ -1,19 +1,18 @@
 -- What an export answers, where its reader and writer tell their bytes.
 use Rattle.tds_export.proofs.Words as N
-use Rattle.tds_export.proofs.{
-  Words.{AreBytes, Bool, Err, Given, Held, IsWriter, List, Ok, Option, Packet, Part, Puts, Rose, Run, Seen, Some, Spelt, Stop, Tells, [], ap, append-nil},
-  Words.{arith, drop, false, fresh_at, grammar, grammar_of, inl, inr, length, length-append, limits, more, payload_of, read, refl, response, response_start},
-  Words.{run_of, subst, sym, take, text, text_put, text_so_far, true, wire_of, ℕ, ◌%◌, ◌*◌, ◌++◌, ◌+◌, ◌-◌, ◌/◌, ◌<◌, ◌∙◌, ◌∷◌, ◌≡◌, ◌≤◌},
-  SomeBytes.AreBytes-append,
-  Peaks.{bounded, further, reached_broken, reached_stopped, reached_whole, rest_leads},
-  TextBound.bounded_along,
-  DeviceFaults.no_failure,
-  AcceptedSucceeds.outcome_succeeds,
-  ResponseMeaning.response_is_spelt,
-  ResponseLaws.spelt_both,
-  ReadingGrows.text_along,
-  PacketOutcomes.{ReaderSide, kept_at, reading_stops, start},
-}
+use Rattle.tds_export.proofs.Words.{AreBytes, Bool, Err, Given, Held, IsWriter, List, Ok, Option, Packet, Part, Puts, Rose, Run, Seen, Some, Spelt, Stop, Tells}
+use Rattle.tds_export.proofs.Words.{[], ap, append-nil, arith, drop, false, fresh_at, grammar, grammar_of, inl, inr, length, length-append, limits, more}
+use Rattle.tds_export.proofs.Words.{payload_of, read, refl, response, response_start, run_of, subst, sym, take, text, text_put, text_so_far, true, wire_of, ℕ}
+use Rattle.tds_export.proofs.Words.{◌%◌, ◌*◌, ◌++◌, ◌+◌, ◌-◌, ◌/◌, ◌<◌, ◌∙◌, ◌∷◌, ◌≡◌, ◌≤◌}
+use Rattle.tds_export.proofs.SomeBytes.{AreBytes-append}
+use Rattle.tds_export.proofs.Peaks.{bounded, further, reached_broken, reached_stopped, reached_whole, rest_leads}
+use Rattle.tds_export.proofs.TextBound.{bounded_along}
+use Rattle.tds_export.proofs.DeviceFaults.{no_failure}
+use Rattle.tds_export.proofs.AcceptedSucceeds.{outcome_succeeds}
+use Rattle.tds_export.proofs.ResponseMeaning.{response_is_spelt}
+use Rattle.tds_export.proofs.ResponseLaws.{spelt_both}
+use Rattle.tds_export.proofs.ReadingGrows.{text_along}
+use Rattle.tds_export.proofs.PacketOutcomes.{ReaderSide, kept_at, reading_stops, start}
 use native.Mathlib.Decide.{dec_le}
 
 -- ---- the text

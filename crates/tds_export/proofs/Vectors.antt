@@ -1,17 +1,15 @@
 -- Worked payloads.
 use Prim.Native.String.{String}
-use Rattle.{
-  tds_export.proofs.{
-    Words.{completion, take, BadNotice, BadText, BadTypeInfo, BadValue, BadValueLength, Charset, DescriptionTooLong, EndWithoutDone, Fault, Flt8, FltN, List},
-    Words.{MessageEnded, NoColumns, None, OddText, Option, Part, PlpLength, RefusedColumn, RefusedToken, RowWithoutColumns, Some, UnknownType, Utf8},
-    Words.{Windows1252, [], chars, date_of, digits, encode_utf8, encode_with, fault_of, how_many, is_return, is_utf8, length, map, named_kind, read, refl},
-    Words.{refused_kind, replicate, response, response_start, rest_length, rest_of, rows, state_of, text_so_far, utf16_chars, utf8_error_len, utf8_valid_len},
-    Words.{uuid_on_literals, ℕ, ◌++◌, ◌-◌, ◌∷◌, ◌≡◌},
-  },
-  tds_packet.proofs.Feeding.Progress,
-  std.specs.{Prelude.codes, List.concat},
-  tds_values.proofs.HexTexts.hex,
-}
+use Rattle.tds_export.proofs.Words.{completion, take, BadNotice, BadText, BadTypeInfo, BadValue, BadValueLength, Charset, DescriptionTooLong, EndWithoutDone}
+use Rattle.tds_export.proofs.Words.{Fault, Flt8, FltN, List, MessageEnded, NoColumns, None, OddText, Option, Part, PlpLength, RefusedColumn, RefusedToken}
+use Rattle.tds_export.proofs.Words.{RowWithoutColumns, Some, UnknownType, Utf8, Windows1252, [], chars, date_of, digits, encode_utf8, encode_with, fault_of}
+use Rattle.tds_export.proofs.Words.{how_many, is_return, is_utf8, length, map, named_kind, read, refl, refused_kind, replicate, response, response_start}
+use Rattle.tds_export.proofs.Words.{rest_length, rest_of, rows, state_of, text_so_far, utf16_chars, utf8_error_len, utf8_valid_len, uuid_on_literals, ℕ, ◌++◌}
+use Rattle.tds_export.proofs.Words.{◌-◌, ◌∷◌, ◌≡◌}
+use Rattle.tds_packet.proofs.Feeding.{Progress}
+use Rattle.std.specs.Prelude.{codes}
+use Rattle.std.specs.List.{concat}
+use Rattle.tds_values.proofs.HexTexts.{hex}
 
 -- how far a payload is read, its text so far, and its fault where the message ends there
 abbrev pub Answer : Type 0

@@ -1,8 +1,7 @@
 -- Decimal digits, some at a time.
 use Rattle.tds_values.proofs.Words as N
-use Rattle.tds_values.proofs.{
-  Words.{min, ◌≡◌, ◌⊎◌, ℕ, zero, suc, ◌+◌, ◌-◌, ◌*◌, ◌/◌, ◌%◌, ◌^◌, ◌<◌, ◌≤◌, ◌++◌, refl, ap, arith, inl, inr, decimal, pow-add, last_digits},
-}
+use Rattle.tds_values.proofs.Words.{min, ◌≡◌, ◌⊎◌, ℕ, zero, suc, ◌+◌, ◌-◌, ◌*◌, ◌/◌, ◌%◌, ◌^◌, ◌<◌, ◌≤◌, ◌++◌, refl, ap, arith, inl, inr, decimal, pow-add}
+use Rattle.tds_values.proofs.Words.{last_digits}
 
 -- what lies above the last digits doesn't change them
 pub last_digits-above : (k q n : ℕ) → last_digits k (10 ^ k * q + n) ≡ last_digits k n

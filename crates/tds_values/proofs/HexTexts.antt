@@ -1,5 +1,6 @@
 -- Bytes as hexadecimal text, for worked rows.
-use Rattle.{tds_values.proofs.Words.{ℕ, ◌+◌, ◌*◌, ◌==◌, List, [], ◌∷◌, codes, if◌then◌else◌}, std.specs.Char.digit_value}
+use Rattle.tds_values.proofs.Words.{ℕ, ◌+◌, ◌*◌, ◌==◌, List, [], ◌∷◌, codes, if◌then◌else◌}
+use Rattle.std.specs.Char.{digit_value}
 use Prim.Native.String.{String}
 
 -- the bytes that hexadecimal digits write; spaces between them say nothing

@@ -1,9 +1,7 @@
 -- What is written piece by piece stands joined.
-use Rattle.tds_values.{
-  proofs.Words.{◌≡◌, ◌∙◌, ℕ, ◌+◌, ◌≤◌, List, ◌++◌, take, length, ap, arith, append_assoc, codes, length-append, length-take-le, sym},
-  proofs.Words.{take-append-add, take-take},
-  specs.ScalarText.day_text,
-}
+use Rattle.tds_values.proofs.Words.{◌≡◌, ◌∙◌, ℕ, ◌+◌, ◌≤◌, List, ◌++◌, take, length, ap, arith, append_assoc, codes, length-append, length-take-le, sym}
+use Rattle.tds_values.proofs.Words.{take-append-add, take-take}
+use Rattle.tds_values.specs.ScalarText.{day_text}
 
 pub joined : (t a b d x y : List ℕ) → x ≡ t ++ a → y ≡ x ++ b → d ≡ a ++ b → y ≡ t ++ d
 joined t a b d x y ex ey ed = rw (ey, ex, ed, append_assoc)

@@ -1,14 +1,11 @@
 -- Hexadecimal digits, 16 at a time.
-use Rattle.{
-  tds_values.proofs.{
-    Words.{◌≡◌, ℕ, ◌+◌, ◌/◌, ◌%◌, ◌<◌, ◌≤◌, suc, List, [], ◌∷◌, ◌++◌, map, length, get_or, refl, arith, nat_tests, hex_digit, lower, Fits, w8, Each1},
-    Words.{slice_index, swz_l, encode_lower, lower_digits, pick_l_left, ap, ◌∙◌, take, drop, replicate, put_chunk, put_chunk_is, length-put_chunk},
-    Words.{length-take-le, take-append-add, take-append-le},
-    TableLemmas.hex_at,
-  },
-  hex.specs.Hex.encode_with,
-  uuid.specs.{Parts.swap_fields, Text.{by_index, hyphenated_text, simple_text}},
-}
+use Rattle.tds_values.proofs.Words.{◌≡◌, ℕ, ◌+◌, ◌/◌, ◌%◌, ◌<◌, ◌≤◌, suc, List, [], ◌∷◌, ◌++◌, map, length, get_or, refl, arith, nat_tests, hex_digit, lower}
+use Rattle.tds_values.proofs.Words.{Fits, w8, Each1, slice_index, swz_l, encode_lower, lower_digits, pick_l_left, ap, ◌∙◌, take, drop, replicate, put_chunk}
+use Rattle.tds_values.proofs.Words.{put_chunk_is, length-put_chunk, length-take-le, take-append-add, take-append-le}
+use Rattle.tds_values.proofs.TableLemmas.{hex_at}
+use Rattle.hex.specs.Hex.{encode_with}
+use Rattle.uuid.specs.Parts.{swap_fields}
+use Rattle.uuid.specs.Text.{by_index, hyphenated_text, simple_text}
 
 pub looked_up : (i : ℕ) (js : List ℕ) → i + length js ≤ 16 → Each1 (λ j. j < 16) js
     → swz_l w8 16 lower_digits i js ≡ map (slice_index lower_digits) js

@@ -1,6 +1,7 @@
 -- Local times by their whole seconds.
 use Rattle.tds_values.proofs.Words as N
-use Rattle.tds_values.proofs.{Words.{◌≡◌, ℕ, ◌+◌, ◌*◌, ◌/◌, ◌%◌, ◌^◌, ◌<◌, ◌++◌, ℤ, Some, ap, arith}, DigitLemmas.{last_digits-above, last_digits-mod}}
+use Rattle.tds_values.proofs.Words.{◌≡◌, ℕ, ◌+◌, ◌*◌, ◌/◌, ◌%◌, ◌^◌, ◌<◌, ◌++◌, ℤ, Some, ap, arith}
+use Rattle.tds_values.proofs.DigitLemmas.{last_digits-above, last_digits-mod}
 
 more : (p x t f : ℕ) → f < p → t < x → t * p + f < x * p
 more p x t f h less = omega (arith, N.mul-le (t + 1) p x p (omega arith) (omega arith))

@@ -1,11 +1,11 @@
 -- The tables of digits.
-use Rattle.tds_values.{
-  proofs.Words.{◌≡◌, ◌≤◌, ℕ, zero, suc, ◌+◌, ◌*◌, ◌/◌, ◌%◌, ◌^◌, ◌<◌, ◌==◌, true, refl, ap, ◌∙◌, arith, List, [], ◌++◌, length, take, drop, codes, get_or},
-  proofs.Words.{agree_below, agree_below_at, eqb-true, hex_digit, lower, lower_digits, slice_index, add-zero, take_all, take-append-le, last_digits},
-  proofs.{Words.{DAYS, FOUR_DIGITS, MINUTES}, TextLengths.length-last_digits},
-  specs.{ScalarText.{day_text, minutes_text}, declared.numbers.TheConstants.POWERS},
-}
-use Rattle.std.proofs.{Math.Seq.drop-append-add}
+use Rattle.tds_values.proofs.Words.{◌≡◌, ◌≤◌, ℕ, zero, suc, ◌+◌, ◌*◌, ◌/◌, ◌%◌, ◌^◌, ◌<◌, ◌==◌, true, refl, ap, ◌∙◌, arith, List, [], ◌++◌, length, take, drop}
+use Rattle.tds_values.proofs.Words.{codes, get_or, agree_below, agree_below_at, eqb-true, hex_digit, lower, lower_digits, slice_index, add-zero, take_all}
+use Rattle.tds_values.proofs.Words.{take-append-le, last_digits, DAYS, FOUR_DIGITS, MINUTES}
+use Rattle.tds_values.proofs.TextLengths.{length-last_digits}
+use Rattle.tds_values.specs.ScalarText.{day_text, minutes_text}
+use Rattle.tds_values.specs.declared.numbers.TheConstants.{POWERS}
+use Rattle.std.proofs.Math.Seq.{drop-append-add}
 
 -- functions agree below n that do so where they are computed
 pub each_below : (f g : ℕ → ℕ) (n : ℕ) → agree_below (λ k. f k == g k) (λ _. true) n ≡ true → (k : ℕ) → k < n → f k ≡ g k

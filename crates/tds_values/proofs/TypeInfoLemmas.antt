@@ -1,8 +1,7 @@
 -- The type byte decides how many bytes a TYPE_INFO has, so none begins another, and each describes one kind.
-use Rattle.tds_values.{
-  proofs.Words.{◌≡◌, ℕ, true, List, [], ◌∷◌, ◌++◌, length, Option, Some, refl, sym, arith, is_some, take_at, Kind, is_valid, kind_of, IsTypeInfo},
-  specs.TypeInfo.{rest_length, named_kind},
-}
+use Rattle.tds_values.proofs.Words.{◌≡◌, ℕ, true, List, [], ◌∷◌, ◌++◌, length, Option, Some, refl, sym, arith, is_some, take_at, Kind, is_valid, kind_of}
+use Rattle.tds_values.proofs.Words.{IsTypeInfo}
+use Rattle.tds_values.specs.TypeInfo.{rest_length, named_kind}
 
 -- the numbers of a TYPE_INFO are allowed
 pub valid_of : (k : Kind) (bytes : List ℕ) → IsTypeInfo k bytes → is_valid k ≡ true

@@ -1,15 +1,17 @@
 -- Forty digits of a number, in words of eight.
 use Rattle.tds_values.proofs.Words as N
-use Rattle.tds_values.proofs.{
-  Words.{◌≡◌, ◌⊎◌, inl, inr, ℕ, zero, suc, ◌+◌, ◌-◌, ◌*◌, ◌/◌, ◌%◌, ◌^◌, ◌<◌, ◌≤◌, List, [], ◌∷◌, ◌++◌, take, drop, length, get_or, refl, ap, ◌∙◌, arith},
-  Words.{Bool, ◌==◌, decimal, last_digits, min, append_assoc},
-  DigitLemmas.{decimal_units, last_digits-add, last_digits-mod},
-  WordLemmas.{digits_left, end_digits, front_put, word_of},
-  ZeroLemmas.IsNeedless,
-}
-use Rattle.std.proofs.{Math.Seq.drop-append-add, lemmas.List.drop-append-le}
-use Rattle.std.specs.{Int.{to_le_bytes, w64}, List.flat_map, Prelude.{◌&&◌, not}}
-use Rattle.tds_values.specs.{Numbers.{groups_of}, ScalarText.{minus_if}}
+use Rattle.tds_values.proofs.Words.{◌≡◌, ◌⊎◌, inl, inr, ℕ, zero, suc, ◌+◌, ◌-◌, ◌*◌, ◌/◌, ◌%◌, ◌^◌, ◌<◌, ◌≤◌, List, [], ◌∷◌, ◌++◌, take, drop, length, get_or}
+use Rattle.tds_values.proofs.Words.{refl, ap, ◌∙◌, arith, Bool, ◌==◌, decimal, last_digits, min, append_assoc}
+use Rattle.tds_values.proofs.DigitLemmas.{decimal_units, last_digits-add, last_digits-mod}
+use Rattle.tds_values.proofs.WordLemmas.{digits_left, end_digits, front_put, word_of}
+use Rattle.tds_values.proofs.ZeroLemmas.{IsNeedless}
+use Rattle.std.proofs.Math.Seq.{drop-append-add}
+use Rattle.std.proofs.lemmas.List.{drop-append-le}
+use Rattle.std.specs.Int.{to_le_bytes, w64}
+use Rattle.std.specs.List.{flat_map}
+use Rattle.std.specs.Prelude.{◌&&◌, not}
+use Rattle.tds_values.specs.Numbers.{groups_of}
+use Rattle.tds_values.specs.ScalarText.{minus_if}
 
 -- the bytes of words from a byte on
 pub bytes_from : (i j : ℕ) (words : List ℕ) → i < length words → j ≤ 8

@@ -1,10 +1,9 @@
 -- Digits as the bytes of one number.
 use Rattle.tds_values.proofs.Words as N
-use Rattle.tds_values.proofs.{
-  Words.{ap, drop, ◌-◌, ◌≤◌, ◌≡◌, ℕ, zero, suc, ◌+◌, ◌*◌, ◌/◌, ◌%◌, ◌^◌, ◌<◌, List, [], ◌∷◌, ◌++◌, refl, arith, take, length, All, last_digits},
-  DigitLemmas.last_digits-add,
-  TextLengths.length-last_digits,
-}
+use Rattle.tds_values.proofs.Words.{ap, drop, ◌-◌, ◌≤◌, ◌≡◌, ℕ, zero, suc, ◌+◌, ◌*◌, ◌/◌, ◌%◌, ◌^◌, ◌<◌, List, [], ◌∷◌, ◌++◌, refl, arith, take, length, All}
+use Rattle.tds_values.proofs.Words.{last_digits}
+use Rattle.tds_values.proofs.DigitLemmas.{last_digits-add}
+use Rattle.tds_values.proofs.TextLengths.{length-last_digits}
 
 -- the number whose bytes these are, the first the lowest
 abbrev pub word_of : List ℕ → ℕ

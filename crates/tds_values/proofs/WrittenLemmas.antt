@@ -1,11 +1,9 @@
 -- What the bytes of a kind spell is written, or its fault answered.
 use Rattle.tds_values.specs.declared.scalar.ScalarValue.TheVariants as values
 use Rattle.tds_values.proofs.Words as N
-use Rattle.tds_values.proofs.{
-  Words.{Result, ◌≡◌, ℕ, ◌/◌, ◌%◌, ◌^◌, ◌≤◌, List, ◌++◌, ℤ, Some, Ok, arith},
-  DigitLemmas.fraction_rest,
-  LocalLemmas.{units_of_seconds, text_of_seconds},
-}
+use Rattle.tds_values.proofs.Words.{Result, ◌≡◌, ℕ, ◌/◌, ◌%◌, ◌^◌, ◌≤◌, List, ◌++◌, ℤ, Some, Ok, arith}
+use Rattle.tds_values.proofs.DigitLemmas.{fraction_rest}
+use Rattle.tds_values.proofs.LocalLemmas.{units_of_seconds, text_of_seconds}
 
 -- whole seconds tell whether they lie in a day
 pub time_by_seconds : (scale units : ℕ) → scale ≤ 7 → N.nat_lt (units / 10 ^ scale) 86400 ≡ N.is_time scale units

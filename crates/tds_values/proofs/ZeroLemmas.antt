@@ -1,10 +1,8 @@
 -- The zeros before a number's digits, counted as the zero bits of one number.
 use Rattle.tds_values.proofs.Words as N
-use Rattle.tds_values.proofs.{
-  Words.{◌≡◌, ◌⊎◌, inl, inr, ℕ, zero, suc, ◌+◌, ◌-◌, ◌*◌, ◌/◌, ◌%◌, ◌^◌, ◌<◌, ◌≤◌, refl, ap, arith},
-  DigitLemmas.last_digits-add,
-  WordLemmas.word_of,
-}
+use Rattle.tds_values.proofs.Words.{◌≡◌, ◌⊎◌, inl, inr, ℕ, zero, suc, ◌+◌, ◌-◌, ◌*◌, ◌/◌, ◌%◌, ◌^◌, ◌<◌, ◌≤◌, refl, ap, arith}
+use Rattle.tds_values.proofs.DigitLemmas.{last_digits-add}
+use Rattle.tds_values.proofs.WordLemmas.{word_of}
 use lib.Count.{count_trailing_zeros}
 
 -- the values of the last k + 1 digits as the bytes of a number, the first the lowest, and a bit more in the last

@@ -1,6 +1,7 @@
 use Rattle.tds_columns.proofs as N
 use N.element.take_into.Goals as goal
-use N.{◌∙◌, arith, ElementSteps.shrunk}
+use N.{◌∙◌, arith}
+use N.ElementSteps.{shrunk}
 
 pub returns-in-Ok-fill-clause-gives : goal.returns-in-Ok-fill-clause-gives
 returns-in-Ok-fill-clause-gives g c =

@@ -1,4 +1,5 @@
-use Rattle.{std.proofs.Common.{◌<◌, ℕ, suc, List, [], ◌∷◌, slice_index}, tds_packet.specs.Elements.AreBytes}
+use Rattle.std.proofs.Common.{◌<◌, ℕ, suc, List, [], ◌∷◌, slice_index}
+use Rattle.tds_packet.specs.Elements.{AreBytes}
 
 each : (xs : List ℕ) → ((i : ℕ) → slice_index xs i < 256) → AreBytes xs
 each [] h = tt

@@ -1,6 +1,7 @@
 use Rattle.tds_columns.proofs as N
 use N.metadata.read_columns.Goals as goal
-use N.{◌≡◌, ◌∙◌, [], ◌∷◌, ◌++◌, arith, rules, ◌==◌, ColumnLaws.at_column}
+use N.{◌≡◌, ◌∙◌, [], ◌∷◌, ◌++◌, arith, rules, ◌==◌}
+use N.ColumnLaws.{at_column}
 
 pub columns-init : goal.columns-init
 columns-init g c = record {

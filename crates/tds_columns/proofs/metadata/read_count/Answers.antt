@@ -1,6 +1,8 @@
 use Rattle.tds_columns.proofs as N
 use N.metadata.read_count.Goals as goal
-use N.{◌≡◌, ◌∙◌, refl, rules, None, ColumnMeaning.{not_zero, room_for}, GatherSteps.count_read}
+use N.{◌≡◌, ◌∙◌, refl, rules, None}
+use N.ColumnMeaning.{not_zero, room_for}
+use N.GatherSteps.{count_read}
 
 pub returns-in_err-take_into-clause-gives : goal.returns-in_err-take_into-clause-gives
 returns-in_err-take_into-clause-gives g c =

@@ -1,6 +1,7 @@
 use Rattle.tds_columns.proofs as N
 use N.metadata.read_info.Goals as goal
-use N.{◌≡◌, ◌∙◌, ◌∷◌, refl, None, ElementSteps.element_at}
+use N.{◌≡◌, ◌∙◌, ◌∷◌, refl, None}
+use N.ElementSteps.{element_at}
 
 pub returns-in_err-take_into-clause-gives : goal.returns-in_err-take_into-clause-gives
 returns-in_err-take_into-clause-gives g c =

@@ -1,6 +1,8 @@
 use Rattle.tds_columns.proofs as N
 use N.metadata.read_name.Goals as goal
-use N.{◌+◌, ◌*◌, ℕ, length, ◌-◌, ◌≡◌, ◌∙◌, [], refl, sym, arith, ElementSteps.{byte_at, length_into}, GatherSteps.{column_bytes, description_read, name_after}}
+use N.{◌+◌, ◌*◌, ℕ, length, ◌-◌, ◌≡◌, ◌∙◌, [], refl, sym, arith}
+use N.ElementSteps.{byte_at, length_into}
+use N.GatherSteps.{column_bytes, description_read, name_after}
 
 pub returns-in_err-take_into-clause-gives : goal.returns-in_err-take_into-clause-gives
 returns-in_err-take_into-clause-gives g c =

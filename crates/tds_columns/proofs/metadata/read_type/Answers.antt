@@ -1,6 +1,8 @@
 use Rattle.tds_columns.proofs as N
 use N.metadata.read_type.Goals as goal
-use N.{◌≡◌, ◌∙◌, ◌+◌, ◌*◌, ◌≤◌, ◌++◌, ℕ, refl, arith, ElementSteps.byte_at, GatherSteps.{description_read, part_after}}
+use N.{◌≡◌, ◌∙◌, ◌+◌, ◌*◌, ◌≤◌, ◌++◌, ℕ, refl, arith}
+use N.ElementSteps.{byte_at}
+use N.GatherSteps.{description_read, part_after}
 
 -- nothing follows this type byte
 bare : (bytes after : N.List ℕ) (count : ℕ) (columns : N.List N.Column) (byte rest : ℕ) → N.rest_length byte ≡ N.Some rest → rest ≡ 0 → after ≡ bytes

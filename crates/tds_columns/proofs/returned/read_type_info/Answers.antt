@@ -1,6 +1,8 @@
 use Rattle.tds_columns.proofs as N
 use N.returned.read_type_info.Goals as goal
-use N.{◌≡◌, ◌∙◌, ◌∷◌, sym, arith, None, ElementSteps.{shrunk, cut_into, element_at, refused_into}, TypeSteps.{no_kind, stops_after_steps, type_whole}}
+use N.{◌≡◌, ◌∙◌, ◌∷◌, sym, arith, None}
+use N.ElementSteps.{shrunk, cut_into, element_at, refused_into}
+use N.TypeSteps.{no_kind, stops_after_steps, type_whole}
 
 pub returns-in-Err-clause-gives : goal.returns-in-Err-clause-gives
 returns-in-Err-clause-gives g c = λ before taken.

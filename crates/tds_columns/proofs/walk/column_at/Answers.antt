@@ -1,6 +1,7 @@
 use Rattle.tds_columns.proofs as N
 use N.walk.column_at.Goals as goal
-use N.{◌≡◌, ◌+◌, ◌*◌, ◌-◌, ◌%◌, ℕ, take, drop, arith, ViewLaws.{all_after, Lies, lies}}
+use N.{◌≡◌, ◌+◌, ◌*◌, ◌-◌, ◌%◌, ℕ, take, drop, arith}
+use N.ViewLaws.{all_after, Lies, lies}
 
 pub kind_at-kind-requires : goal.kind_at-kind-requires
 kind_at-kind-requires c =

@@ -1,8 +1,6 @@
 use Rattle.tds_export.proofs.notice.error_of.Goals as goal
-use Rattle.tds_export.proofs.{
-  Words.{ap, arith, cast_signed, cast_unsigned, drop, length, length-drop, little_number, rules, take_all, w32, ◌-◌, ◌∙◌, ◌≡◌},
-  ResponseLaws.{error_is, parts_within},
-}
+use Rattle.tds_export.proofs.Words.{ap, arith, cast_signed, cast_unsigned, drop, length, length-drop, little_number, rules, take_all, w32, ◌-◌, ◌∙◌, ◌≡◌}
+use Rattle.tds_export.proofs.ResponseLaws.{error_is, parts_within}
 
 pub returns : goal.returns
 returns c =

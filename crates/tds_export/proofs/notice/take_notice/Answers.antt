@@ -1,7 +1,6 @@
 use Rattle.tds_export.proofs.notice.take_notice.Goals as goal
-use Rattle.tds_export.{
-  proofs.{Words.{arith, false, holds_notice, passed, refl, rules, true, ◌∙◌, ◌≡◌}, Bodies.{body_cut, body_refused, body_taken, length_cut, length_refused}},
-}
+use Rattle.tds_export.proofs.Words.{arith, false, holds_notice, passed, refl, rules, true, ◌∙◌, ◌≡◌}
+use Rattle.tds_export.proofs.Bodies.{body_cut, body_refused, body_taken, length_cut, length_refused}
 
 pub returns-in_err-fill-clause-gives : goal.returns-in_err-fill-clause-gives
 returns-in_err-fill-clause-gives g c = λ charset room tokens which notice. passed _ _ _ _ c.from_residual.ensures.1

@@ -1,9 +1,7 @@
 use Rattle.tds_export.proofs.returned.pass_name.Goals as goal
-use Rattle.tds_export.proofs.{
-  Words.{ReturnNameCount, ReturnOrdinal, ap, passed, refl, rules, ◌*◌},
-  ResponseLaws.{fill_cut, part_cut},
-  Bodies.{front_read, name_cut, name_read, ordinal_read, return_reads_after, return_stops_after},
-}
+use Rattle.tds_export.proofs.Words.{ReturnNameCount, ReturnOrdinal, ap, passed, refl, rules, ◌*◌}
+use Rattle.tds_export.proofs.ResponseLaws.{fill_cut, part_cut}
+use Rattle.tds_export.proofs.Bodies.{front_read, name_cut, name_read, ordinal_read, return_reads_after, return_stops_after}
 
 pub returns-in_err-pass-clause-gives : goal.returns-in_err-pass-clause-gives
 returns-in_err-pass-clause-gives g c =

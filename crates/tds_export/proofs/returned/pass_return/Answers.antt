@@ -1,5 +1,6 @@
 use Rattle.tds_export.proofs.returned.pass_return.Goals as goal
-use Rattle.tds_export.proofs.{Words.passed, Bodies.{return_reads_after, return_stops_after, value_passed}}
+use Rattle.tds_export.proofs.Words.{passed}
+use Rattle.tds_export.proofs.Bodies.{return_reads_after, return_stops_after, value_passed}
 
 pub returns-in_err-kind-clause-gives : goal.returns-in_err-kind-clause-gives
 returns-in_err-kind-clause-gives g c =

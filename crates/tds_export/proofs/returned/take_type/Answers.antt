@@ -1,5 +1,6 @@
 use Rattle.tds_export.proofs.returned.take_type.Goals as goal
-use Rattle.tds_export.proofs.{Words.{ReturnHead, Takes, ap, cut_into, length, passed, refl, seen, subst, sym, ◌∙◌, ◌≡◌}, Bodies.type_taken}
+use Rattle.tds_export.proofs.Words.{ReturnHead, Takes, ap, cut_into, length, passed, refl, seen, subst, sym, ◌∙◌, ◌≡◌}
+use Rattle.tds_export.proofs.Bodies.{type_taken}
 
 pub returns-in_err-take_into-clause-gives : goal.returns-in_err-take_into-clause-gives
 returns-in_err-take_into-clause-gives g c =

@@ -1,11 +1,9 @@
 use Rattle.tds_export.proofs.run.export.Goals as goal
-use Rattle.tds_export.proofs.{
-  Words.{Given, Reports, Space, StopsExport, ap, arith, held, moment, refl, rules, ◌≡◌},
-  DeviceFaults.{blamed, no_failure},
-  Endings.{exports, rooms, stops_export},
-  ToldAnswers.{report_tells, stop_tells},
-  run.export.Given.Over,
-}
+use Rattle.tds_export.proofs.Words.{Given, Reports, Space, StopsExport, ap, arith, held, moment, refl, rules, ◌≡◌}
+use Rattle.tds_export.proofs.DeviceFaults.{blamed, no_failure}
+use Rattle.tds_export.proofs.Endings.{exports, rooms, stops_export}
+use Rattle.tds_export.proofs.ToldAnswers.{report_tells, stop_tells}
+use Rattle.tds_export.proofs.run.export.Given.{Over}
 
 -- ---- the answer is a report
 

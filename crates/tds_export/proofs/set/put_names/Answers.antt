@@ -1,5 +1,6 @@
 use Rattle.tds_export.proofs.set.put_names.Goals as goal
-use Rattle.tds_export.proofs.{Words.{ap, columns_left, ◌∙◌}, NameTexts.{comma_breaks, name_breaks, names_more, names_none}}
+use Rattle.tds_export.proofs.Words.{ap, columns_left, ◌∙◌}
+use Rattle.tds_export.proofs.NameTexts.{comma_breaks, name_breaks, names_more, names_none}
 
 pub names-init : goal.names-init
 names-init g c = names_none (ap columns_left c.into_iter-column-iterator.ensures.into_iter_gives ∙ c.walk-column-items.ensures.value) c.requires

@@ -1,5 +1,6 @@
 use Rattle.tds_export.proofs.set.put_units.Goals as goal
-use Rattle.tds_export.proofs.{Words.{held, rules}, NameTexts.{end_breaks, end_puts, end_stopped, push_breaks}}
+use Rattle.tds_export.proofs.Words.{held, rules}
+use Rattle.tds_export.proofs.NameTexts.{end_breaks, end_puts, end_stopped, push_breaks}
 
 pub returns-in-Err : goal.returns-in-Err
 returns-in-Err g c = search (

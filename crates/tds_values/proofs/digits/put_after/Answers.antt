@@ -1,7 +1,5 @@
-use Rattle.tds_values.proofs.{
-  Words.{◌+◌, ◌-◌, ◌∙◌, ◌≡◌, ◌++◌, ap, arith, drop, length-take-le, take},
-  WordLemmas.{digits_left, shifted_put},
-}
+use Rattle.tds_values.proofs.Words.{◌+◌, ◌-◌, ◌∙◌, ◌≡◌, ◌++◌, ap, arith, drop, length-take-le, take}
+use Rattle.tds_values.proofs.WordLemmas.{digits_left, shifted_put}
 use Rattle.std.specs.Int.{to_le_bytes, w64}
 
 pub returns-clause-written : Rattle.tds_values.proofs.digits.put_after.Goals.returns-clause-written

@@ -1,4 +1,7 @@
-use Rattle.tds_values.proofs.{Words.{ℕ, ◌-◌, ◌/◌, arith, take, length-take-le}, DigitLemmas.decimal_last, WordLemmas.last_put, ZeroLemmas.zeros_of}
+use Rattle.tds_values.proofs.Words.{ℕ, ◌-◌, ◌/◌, arith, take, length-take-le}
+use Rattle.tds_values.proofs.DigitLemmas.{decimal_last}
+use Rattle.tds_values.proofs.WordLemmas.{last_put}
+use Rattle.tds_values.proofs.ZeroLemmas.{zeros_of}
 use lib.Count.{count_trailing_zeros}
 
 pub returns-clause-written : Rattle.tds_values.proofs.digits.put_head.Goals.returns-clause-written

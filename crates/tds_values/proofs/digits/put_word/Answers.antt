@@ -1,4 +1,5 @@
-use Rattle.tds_values.proofs.{Words.{◌-◌, arith, take, length-take-le}, WordLemmas.shifted_put}
+use Rattle.tds_values.proofs.Words.{◌-◌, arith, take, length-take-le}
+use Rattle.tds_values.proofs.WordLemmas.{shifted_put}
 
 pub returns-clause-written : Rattle.tds_values.proofs.digits.put_word.Goals.returns-clause-written
 returns-clause-written c =

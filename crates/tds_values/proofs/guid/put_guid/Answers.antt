@@ -1,5 +1,6 @@
 use Rattle.tds_values.proofs.guid.put_guid.Goals as goal
-use Rattle.tds_values.proofs.{Words.{arith, swap_fields, take_all}, LaneLemmas.hyphenated}
+use Rattle.tds_values.proofs.Words.{arith, swap_fields, take_all}
+use Rattle.tds_values.proofs.LaneLemmas.{hyphenated}
 
 pub returns-clause-written : goal.returns-clause-written
 returns-clause-written c =

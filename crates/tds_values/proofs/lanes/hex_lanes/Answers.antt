@@ -1,8 +1,6 @@
 use Rattle.tds_values.proofs.lanes.hex_lanes.Goals as goal
-use Rattle.tds_values.proofs.{
-  Words.{◌∙◌, ◌/◌, ◌%◌, map, ap, ap₂, arith, zip2_splat, Each2-splat, Each1-all, length-map, slice_index, lower_digits},
-  LaneLemmas.{high_small, low_small, woven, woven_digits},
-}
+use Rattle.tds_values.proofs.Words.{◌∙◌, ◌/◌, ◌%◌, map, ap, ap₂, arith, zip2_splat, Each2-splat, Each1-all, length-map, slice_index, lower_digits}
+use Rattle.tds_values.proofs.LaneLemmas.{high_small, low_small, woven, woven_digits}
 
 pub nonzero_div-bytes : goal.nonzero_div-bytes
 nonzero_div-bytes c = Each2-splat _ c.args.bytes 16 16 (Each1-all _ (λ x. omega arith) c.args.bytes)

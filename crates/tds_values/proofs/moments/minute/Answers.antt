@@ -1,4 +1,5 @@
-use Rattle.tds_values.proofs.{Words.arith, TableLemmas.minute_at}
+use Rattle.tds_values.proofs.Words.{arith}
+use Rattle.tds_values.proofs.TableLemmas.{minute_at}
 
 pub returns : Rattle.tds_values.proofs.moments.minute.Goals.returns
 returns c = minute_at c.args.minutes _ c.requires (omega arith)

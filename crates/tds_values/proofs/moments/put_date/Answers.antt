@@ -1,4 +1,5 @@
-use Rattle.tds_values.proofs.{Words.{arith, append_assoc}, JiffDates.date_since_min}
+use Rattle.tds_values.proofs.Words.{arith, append_assoc}
+use Rattle.tds_values.proofs.JiffDates.{date_since_min}
 
 pub returns-clause-written : Rattle.tds_values.proofs.moments.put_date.Goals.returns-clause-written
 returns-clause-written c = grind (arith, append_assoc, date_since_min)

@@ -1,5 +1,6 @@
 use Rattle.tds_values.proofs.moments.put_day.Goals as goal
-use Rattle.tds_values.proofs.{Words.arith, Joining.spaced}
+use Rattle.tds_values.proofs.Words.{arith}
+use Rattle.tds_values.proofs.Joining.{spaced}
 
 pub returns-clause-written : goal.returns-clause-written
 returns-clause-written c =

@@ -1,5 +1,6 @@
 use Rattle.tds_values.proofs.numbers.put_last.Goals as goal
-use Rattle.tds_values.proofs.{Words.{◌-◌, ◌/◌, arith, append_assoc}, DigitLemmas.{last_digits-below, last_digits_after}}
+use Rattle.tds_values.proofs.Words.{◌-◌, ◌/◌, arith, append_assoc}
+use Rattle.tds_values.proofs.DigitLemmas.{last_digits-below, last_digits_after}
 
 pub returns-then-k-le16-clause-written : goal.returns-then-k-le16-clause-written
 returns-then-k-le16-clause-written c =

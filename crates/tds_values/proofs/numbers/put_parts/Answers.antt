@@ -1,5 +1,8 @@
 use Rattle.tds_values.proofs.numbers.put_parts.Goals as goal
-use Rattle.tds_values.proofs.{Words.{arith, append_assoc}, DigitLemmas.fraction_rest, Joining.end_of, TextLengths.length-whole}
+use Rattle.tds_values.proofs.Words.{arith, append_assoc}
+use Rattle.tds_values.proofs.DigitLemmas.{fraction_rest}
+use Rattle.tds_values.proofs.Joining.{end_of}
+use Rattle.tds_values.proofs.TextLengths.{length-whole}
 
 pub returns-clause-end : goal.returns-clause-end
 returns-clause-end c = let long = length-whole c.args.magnitude c.args.scale (omega arith) (omega arith) in grind (arith, end_of)

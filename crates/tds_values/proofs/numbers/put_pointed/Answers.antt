@@ -1,4 +1,5 @@
-use Rattle.tds_values.proofs.{Words.{◌-◌, arith, append_assoc, take, length-take-le}, WordLemmas.front_put}
+use Rattle.tds_values.proofs.Words.{◌-◌, arith, append_assoc, take, length-take-le}
+use Rattle.tds_values.proofs.WordLemmas.{front_put}
 
 pub returns-clause-written : Rattle.tds_values.proofs.numbers.put_pointed.Goals.returns-clause-written
 returns-clause-written c =

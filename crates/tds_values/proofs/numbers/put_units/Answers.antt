@@ -1,4 +1,5 @@
-use Rattle.tds_values.proofs.{Words.{arith, append_assoc}, DigitLemmas.{decimal_above, last_digits-below}}
+use Rattle.tds_values.proofs.Words.{arith, append_assoc}
+use Rattle.tds_values.proofs.DigitLemmas.{decimal_above, last_digits-below}
 
 pub returns-clause-written : Rattle.tds_values.proofs.numbers.put_units.Goals.returns-clause-written
 returns-clause-written c =

@@ -1,4 +1,5 @@
-use Rattle.tds_values.proofs.{Words.{◌≡◌, ◌/◌, ◌%◌, ◌++◌, arith, take, seconds_text, offset_text}, WrittenLemmas.local_joined}
+use Rattle.tds_values.proofs.Words.{◌≡◌, ◌/◌, ◌%◌, ◌++◌, arith, take, seconds_text, offset_text}
+use Rattle.tds_values.proofs.WrittenLemmas.{local_joined}
 
 pub returns : Rattle.tds_values.proofs.text.put_local.Goals.returns
 returns c =

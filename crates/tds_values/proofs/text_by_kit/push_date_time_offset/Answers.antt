@@ -1,5 +1,7 @@
 use Rattle.tds_values.proofs.text_by_kit.push_date_time_offset.Goals as goal
-use Rattle.tds_values.proofs.{Words.{arith, common_steps, to_z-of_z}, LocalLemmas.local_by_seconds, WrittenLemmas.local_spelt}
+use Rattle.tds_values.proofs.Words.{arith, common_steps, to_z-of_z}
+use Rattle.tds_values.proofs.LocalLemmas.{local_by_seconds}
+use Rattle.tds_values.proofs.WrittenLemmas.{local_spelt}
 
 pub unreachable-requires : goal.unreachable-requires
 unreachable-requires c = grind (arith, local_by_seconds)

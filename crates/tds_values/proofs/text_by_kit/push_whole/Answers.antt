@@ -1,5 +1,6 @@
 use Rattle.tds_values.proofs.text_by_kit.push_whole.Goals as goal
-use Rattle.tds_values.proofs.{Words.{arith, one-le-pow, pow-le-pow_right}, TextLengths.length-whole}
+use Rattle.tds_values.proofs.Words.{arith, one-le-pow, pow-le-pow_right}
+use Rattle.tds_values.proofs.TextLengths.{length-whole}
 
 pub pow-requires : goal.pow-requires
 pow-requires c = grind (arith, pow-le-pow_right)

@@ -1,5 +1,6 @@
 use Rattle.tds_values.proofs.wide.needless_zeros.Goals as goal
-use Rattle.tds_values.proofs.{Words.{arith}, WideDigits.{zeros_after}}
+use Rattle.tds_values.proofs.Words.{arith}
+use Rattle.tds_values.proofs.WideDigits.{zeros_after}
 
 pub returns-then-n-ge100000000000000000000000000000000-clause-fits : goal.returns-then-n-ge100000000000000000000000000000000-clause-fits
 returns-then-n-ge100000000000000000000000000000000-clause-fits c = grind (arith, (zeros_after 32 c.args.n c.needless.result))

@@ -1,5 +1,7 @@
 use Rattle.tds_values.proofs.wide.put_from.Given as goal
-use Rattle.{tds_values.proofs.Words.{◌≡◌, ◌+◌, ◌-◌, ◌*◌, ◌/◌, ◌≤◌, ◌++◌, take, drop, length}, std.specs.{Int.{to_le_bytes, w64}, List.flat_map}}
+use Rattle.tds_values.proofs.Words.{◌≡◌, ◌+◌, ◌-◌, ◌*◌, ◌/◌, ◌≤◌, ◌++◌, take, drop, length}
+use Rattle.std.specs.Int.{to_le_bytes, w64}
+use Rattle.std.specs.List.{flat_map}
 
 -- the words before the next one are written
 abbrev pub invariant-loop-i : goal.invariant-loop-i

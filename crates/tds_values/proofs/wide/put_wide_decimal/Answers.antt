@@ -1,5 +1,7 @@
 use Rattle.tds_values.proofs.wide.put_wide_decimal.Goals as goal
-use Rattle.tds_values.proofs.{Words.{arith, append-nil, append_assoc, length-take-le}, WideDigits.{whole_joined}, WordLemmas.{end_digits}}
+use Rattle.tds_values.proofs.Words.{arith, append-nil, append_assoc, length-take-le}
+use Rattle.tds_values.proofs.WideDigits.{whole_joined}
+use Rattle.tds_values.proofs.WordLemmas.{end_digits}
 
 pub returns-then-scale-eq0-clause-written : goal.returns-then-scale-eq0-clause-written
 returns-then-scale-eq0-clause-written c =

@@ -1,5 +1,6 @@
 use Rattle.tds_values.specs.declared.kind.Kind.TheVariants as kinds
-use Rattle.tds_values.proofs.{Words.{ap, sym, ◌∙◌}, WrittenLemmas.written_as}
+use Rattle.tds_values.proofs.Words.{ap, sym, ◌∙◌}
+use Rattle.tds_values.proofs.WrittenLemmas.{written_as}
 
 pub returns-in-Decimal : Rattle.tds_values.proofs.write.write_any.Goals.returns-in-Decimal
 returns-in-Decimal c = rw c.in-Decimal.is (c.write_decimal.ensures c.in-Decimal.precision)

@@ -1,5 +1,7 @@
 use Rattle.tds_values.proofs.write.write_time.Goals as goal
-use Rattle.tds_values.proofs.{Words.arith, DigitLemmas.fraction_rest, WrittenLemmas.time_by_seconds}
+use Rattle.tds_values.proofs.Words.{arith}
+use Rattle.tds_values.proofs.DigitLemmas.{fraction_rest}
+use Rattle.tds_values.proofs.WrittenLemmas.{time_by_seconds}
 
 pub returns-then-seconds-ge-SECONDS_A_DAY : goal.returns-then-seconds-ge-SECONDS_A_DAY
 returns-then-seconds-ge-SECONDS_A_DAY c = grind arith

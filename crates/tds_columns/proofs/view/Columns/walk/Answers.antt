@@ -1,6 +1,7 @@
 use Rattle.tds_columns.proofs as N
 use N.view.Columns.walk.Goals as goal
-use N.{◌∙◌, ViewLaws.{all_after, length_columns}}
+use N.{◌∙◌}
+use N.ViewLaws.{all_after, length_columns}
 
 pub invariant_of-result : goal.invariant_of-result
 invariant_of-result c =

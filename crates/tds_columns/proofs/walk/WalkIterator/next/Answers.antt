@@ -1,6 +1,7 @@
 use Rattle.tds_columns.proofs as N
 use N.walk.WalkIterator.next.Goals as goal
-use N.{◌≡◌, ◌≢◌, ◌-◌, ℕ, arith, ViewLaws.{all_after, length_columns}}
+use N.{◌≡◌, ◌≢◌, ◌-◌, ℕ, arith}
+use N.ViewLaws.{all_after, length_columns}
 
 -- the columns after the first
 others : (n : ℕ) (bytes : N.List ℕ) → n ≢ 0 → N.are_columns n bytes ≡ N.true → N.are_columns (n - 1) (N.drop (N.column_size bytes) bytes) ≡ N.true

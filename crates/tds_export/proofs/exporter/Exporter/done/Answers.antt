@@ -1,5 +1,7 @@
 use Rattle.tds_export.proofs.exporter.Exporter.done.Goals as goal
-use Rattle.tds_export.proofs.{Words.{length, passed, refl, rules, ◌≡◌}, TokenSteps.{done_reads, stops_first, step_read}, ResponseLaws.fill_cut}
+use Rattle.tds_export.proofs.Words.{length, passed, refl, rules, ◌≡◌}
+use Rattle.tds_export.proofs.TokenSteps.{done_reads, stops_first, step_read}
+use Rattle.tds_export.proofs.ResponseLaws.{fill_cut}
 
 pub returns-in_err-fill : goal.returns-in_err-fill
 returns-in_err-fill g c = step_read c.requires.running (search rules) (λ tokens begun.

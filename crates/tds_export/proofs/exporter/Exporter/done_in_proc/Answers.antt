@@ -1,5 +1,7 @@
 use Rattle.tds_export.proofs.exporter.Exporter.done_in_proc.Goals as goal
-use Rattle.tds_export.proofs.{Words.{passed, refl, rules}, TokenSteps.{done_in_proc_reads, stops_first, step_read}, ResponseLaws.part_cut}
+use Rattle.tds_export.proofs.Words.{passed, refl, rules}
+use Rattle.tds_export.proofs.TokenSteps.{done_in_proc_reads, stops_first, step_read}
+use Rattle.tds_export.proofs.ResponseLaws.{part_cut}
 
 pub returns-in_err-pass : goal.returns-in_err-pass
 returns-in_err-pass g c = step_read c.requires.running (search rules) (λ tokens begun.

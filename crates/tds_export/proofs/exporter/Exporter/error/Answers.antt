@@ -1,10 +1,8 @@
 use Rattle.tds_export.proofs.exporter.Exporter.error.Goals as goal
 use Rattle.tds_export.proofs.Words as N
-use Rattle.tds_export.proofs.{
-  Words.{Space, ap, arith, length, refl, subst, sym, ◌-◌, ◌<◌, ◌∙◌, ◌≡◌, ◌≤◌},
-  Bodies.{first_error_reads, later_error_reads, notice_stops, within_room},
-  TokenSteps.step_read,
-}
+use Rattle.tds_export.proofs.Words.{Space, ap, arith, length, refl, subst, sym, ◌-◌, ◌<◌, ◌∙◌, ◌≡◌, ◌≤◌}
+use Rattle.tds_export.proofs.Bodies.{first_error_reads, later_error_reads, notice_stops, within_room}
+use Rattle.tds_export.proofs.TokenSteps.{step_read}
 
 pub returns-in_err-take_notice : goal.returns-in_err-take_notice
 returns-in_err-take_notice g c = step_read c.requires.running (search N.rules)

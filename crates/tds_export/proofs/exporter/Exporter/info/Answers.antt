@@ -1,5 +1,7 @@
 use Rattle.tds_export.proofs.exporter.Exporter.info.Goals as goal
-use Rattle.tds_export.proofs.{Words.{AnInfo, passed, refl, rules}, Bodies.{info_reads, notice_stops}, TokenSteps.step_read}
+use Rattle.tds_export.proofs.Words.{AnInfo, passed, refl, rules}
+use Rattle.tds_export.proofs.Bodies.{info_reads, notice_stops}
+use Rattle.tds_export.proofs.TokenSteps.{step_read}
 
 pub returns-in_err-take_notice : goal.returns-in_err-take_notice
 returns-in_err-take_notice g c = step_read c.requires.running (search rules)

@@ -1,8 +1,6 @@
 use Rattle.tds_export.proofs.exporter.Exporter.metadata.Goals as goal
-use Rattle.tds_export.proofs.{
-  Words.{IsDescription, between_of, description_shows, inr, passed, rules, subst, sym},
-  TokenSteps.{metadata_breaks, metadata_reads, metadata_stops, none_reads, step_read},
-}
+use Rattle.tds_export.proofs.Words.{IsDescription, between_of, description_shows, inr, passed, rules, subst, sym}
+use Rattle.tds_export.proofs.TokenSteps.{metadata_breaks, metadata_reads, metadata_stops, none_reads, step_read}
 
 pub returns-in-NoMetadata : goal.returns-in-NoMetadata
 returns-in-NoMetadata g c = step_read c.requires.running (search rules) (λ tokens begun.

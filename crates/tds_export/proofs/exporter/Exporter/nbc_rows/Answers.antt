@@ -1,5 +1,7 @@
 use Rattle.tds_export.proofs.exporter.Exporter.nbc_rows.Goals as goal
-use Rattle.tds_export.proofs.{Words.{ap, columns_of, passed, rules, ◌∙◌}, TokenBytes.{rows_read, rows_stop}, TokenSteps.step_read}
+use Rattle.tds_export.proofs.Words.{ap, columns_of, passed, rules, ◌∙◌}
+use Rattle.tds_export.proofs.TokenBytes.{rows_read, rows_stop}
+use Rattle.tds_export.proofs.TokenSteps.{step_read}
 
 pub returns-in_err-rows : goal.returns-in_err-rows
 returns-in_err-rows g c = step_read c.requires.begun.running (search rules)

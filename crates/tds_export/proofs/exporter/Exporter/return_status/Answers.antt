@@ -1,11 +1,9 @@
 use Rattle.tds_export.proofs.exporter.Exporter.return_status.Goals as goal
 use Rattle.tds_export.proofs.Words as N
-use Rattle.tds_export.proofs.{
-  Words.{List, Some, [], ap, arith, length, little, refl, rules, sym, ℕ, ℤ, ◌++◌, ◌+◌, ◌∙◌, ◌∷◌, ◌≡◌},
-  ResponseLaws.{fill_cut, signed_is},
-  TokenSteps.{fixed_reads, stops_first, step_read},
-  TokenLaws.tracked,
-}
+use Rattle.tds_export.proofs.Words.{List, Some, [], ap, arith, length, little, refl, rules, sym, ℕ, ℤ, ◌++◌, ◌+◌, ◌∙◌, ◌∷◌, ◌≡◌}
+use Rattle.tds_export.proofs.ResponseLaws.{fill_cut, signed_is}
+use Rattle.tds_export.proofs.TokenSteps.{fixed_reads, stops_first, step_read}
+use Rattle.tds_export.proofs.TokenLaws.{tracked}
 
 tracks_status : {s : N.Progress} {ts : List N.Token} (n : ℕ) {status : ℤ} → status ≡ N.signed n → N.TracksBefore s ts
     → N.Tracks (record s { report = record s.report { return_status = Some status } }) (ts ++ N.ReturnStatus n ∷ [])

@@ -1,5 +1,7 @@
 use Rattle.tds_export.proofs.exporter.Exporter.return_value.Goals as goal
-use Rattle.tds_export.proofs.{Words.{passed, rules}, Bodies.{return_reads, return_stops}, TokenSteps.step_read}
+use Rattle.tds_export.proofs.Words.{passed, rules}
+use Rattle.tds_export.proofs.Bodies.{return_reads, return_stops}
+use Rattle.tds_export.proofs.TokenSteps.{step_read}
 
 pub returns-in_err-pass_return : goal.returns-in_err-pass_return
 returns-in_err-pass_return g c = step_read c.requires.running (search rules)

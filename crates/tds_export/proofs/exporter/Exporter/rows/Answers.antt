@@ -1,5 +1,7 @@
 use Rattle.tds_export.proofs.exporter.Exporter.rows.Goals as goal
-use Rattle.tds_export.proofs.{Words.{ap, columns_of, passed, rules, ◌∙◌}, TokenBytes.{rows_read, rows_stop}, TokenSteps.step_read}
+use Rattle.tds_export.proofs.Words.{ap, columns_of, passed, rules, ◌∙◌}
+use Rattle.tds_export.proofs.TokenBytes.{rows_read, rows_stop}
+use Rattle.tds_export.proofs.TokenSteps.{step_read}
 
 pub returns-in_err-count : goal.returns-in_err-count
 returns-in_err-count g c = step_read c.requires.begun.running (search rules)

@@ -1,8 +1,6 @@
 use Rattle.tds_export.proofs.exporter.Exporter.run.Goals as goal
-use Rattle.tds_export.proofs.{
-  Words.{ap, arith, false, held, inl, inr, passed, refl, rules, true, ◌∙◌, ◌≡◌},
-  RunSteps.{completes, runs_none, runs_on, runs_same, stops_at_end, stops_end, stops_on},
-}
+use Rattle.tds_export.proofs.Words.{ap, arith, false, held, inl, inr, passed, refl, rules, true, ◌∙◌, ◌≡◌}
+use Rattle.tds_export.proofs.RunSteps.{completes, runs_none, runs_on, runs_same, stops_at_end, stops_end, stops_on}
 
 pub tokens-init : goal.tokens-init
 tokens-init g c = record {

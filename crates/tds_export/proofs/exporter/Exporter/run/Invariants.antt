@@ -1,6 +1,7 @@
 use Rattle.tds_export.proofs.exporter.Exporter.run.Given as goal
 use Rattle.tds_export.proofs.Words as N
-use Rattle.tds_export.proofs.{Words.{[], ◌-◌, ◌≡◌, ◌≤◌}, RunSteps.Runs}
+use Rattle.tds_export.proofs.Words.{[], ◌-◌, ◌≡◌, ◌≤◌}
+use Rattle.tds_export.proofs.RunSteps.{Runs}
 
 abbrev pub invariant-tokens : goal.invariant-tokens
 invariant-tokens g l = record {

@@ -1,10 +1,8 @@
 use Rattle.tds_export.proofs.exporter.Exporter.skip.Goals as goal
-use Rattle.tds_export.proofs.{
-  Words.{length, passed, refl, rules, ◌∙◌, ◌≡◌},
-  TokenSteps.{begun_in, stops_first},
-  ResponseLaws.fill_cut,
-  Bodies.{quiet_reads, quiet_stops},
-}
+use Rattle.tds_export.proofs.Words.{length, passed, refl, rules, ◌∙◌, ◌≡◌}
+use Rattle.tds_export.proofs.TokenSteps.{begun_in, stops_first}
+use Rattle.tds_export.proofs.ResponseLaws.{fill_cut}
+use Rattle.tds_export.proofs.Bodies.{quiet_reads, quiet_stops}
 
 pub returns-in_err-fill-clause-gives : goal.returns-in_err-fill-clause-gives
 returns-in_err-fill-clause-gives g c = λ which quiet tokens tracks holds noted.

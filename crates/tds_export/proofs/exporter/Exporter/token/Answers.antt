@@ -1,9 +1,7 @@
 use Rattle.tds_export.proofs.exporter.Exporter.token.Goals as goal
-use Rattle.tds_export.proofs.{
-  Words.{Payload, StepStops, after_tokens, arith, held, passed, response, seen, subst, ◌-◌, ◌≡◌},
-  TokenBytes.{begins_kind, reads_after_byte, stops_after_byte, stops_at_byte, stops_between},
-  TokenLaws.tracks_begun,
-}
+use Rattle.tds_export.proofs.Words.{Payload, StepStops, after_tokens, arith, held, passed, response, seen, subst, ◌-◌, ◌≡◌}
+use Rattle.tds_export.proofs.TokenBytes.{begins_kind, reads_after_byte, stops_after_byte, stops_at_byte, stops_between}
+use Rattle.tds_export.proofs.TokenLaws.{tracks_begun}
 
 pub returns-in_err-byte-clause-gives : goal.returns-in_err-byte-clause-gives
 returns-in_err-byte-clause-gives g c = λ tokens tracks holds noted.
