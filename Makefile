@@ -19,7 +19,7 @@ FOLDERS = $(COMPLETION) $(if $(filter-out /usr /usr/local,$(ROOT)),bin share/man
 # Ends with one line if the kit isn't there.
 NEED_RT = command -v rt > /dev/null || { echo "rt isn't there: proving and building need the Rattle kit (README.md says where it comes from)" >&2; exit 1; }
 
-.PHONY: help try build export install uninstall deb needs test gate lint worked generated recipes python-tests bench try-test refused-memory check
+.PHONY: help clean try build export install uninstall deb needs test gate lint worked generated recipes python-tests bench try-test refused-memory check
 
 help:
 	@echo "make try FILE=F        exports the response in F, unproved"
@@ -36,6 +36,7 @@ help:
 	@echo "make recipes           runs the commands of the pages and of examples/recipes"
 	@echo "make python-tests      tests the Python package, also against a stand-in server"
 	@echo "make bench WHAT=W      measures text, values, export, responses or peers"
+	@echo "make clean             removes what was proved and built"
 	@echo "PROGRAM=F uses the program F instead of the one that is built here."
 
 # `rt try` compiles the crates and checks while they run what it can; it proves nothing.
@@ -75,6 +76,9 @@ worked generated recipes refused-memory:
 
 python-tests:
 	@cd python && PROGRAM="$(abspath $(BIN))" python3 -B -m tests
+
+clean:
+	rm -rf bin crates/*/out
 
 needs test gate lint try-test:
 	@tools/$@

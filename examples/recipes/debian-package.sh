@@ -15,18 +15,18 @@
 # many files are left in the end.
 set -eu
 
-SOURCE_DATE_EPOCH=1700000000 make deb > made && cp $(cat made) first.deb
-SOURCE_DATE_EPOCH=1700000000 make deb > made && cmp first.deb $(cat made)
+SOURCE_DATE_EPOCH=1700000000 make deb > made && cp "$(cat made)" first.deb
+SOURCE_DATE_EPOCH=1700000000 make deb > made && cmp first.deb "$(cat made)"
 dpkg-deb --field first.deb Package Version Depends
 
 rm -rf system
 mkdir -p system/var/lib/dpkg/info system/var/lib/dpkg/updates
 : > system/var/lib/dpkg/status
 : > system/var/lib/dpkg/available
-into="--root=$PWD/system --force-not-root --force-script-chrootless --log=dpkg.log"
-PATH=$PATH:/usr/sbin:/sbin dpkg $into --force-depends --install first.deb > dpkg.out 2>&1
+into() { PATH=$PATH:/usr/sbin:/sbin dpkg --root="$PWD/system" --force-not-root --force-script-chrootless --log=dpkg.log "$@" > dpkg.out 2>&1; }
+into --force-depends --install first.deb
 system/usr/bin/tds_replay export examples/first.tds
 PYTHONPATH=system/usr/lib/python3/dist-packages system/usr/bin/gavyreto --version
 ls system/usr/share/man/man1 system/usr/share/bash-completion/completions
-PATH=$PATH:/usr/sbin:/sbin dpkg $into --remove gavyreto > dpkg.out 2>&1
+into --remove gavyreto
 find system -name '*tds_replay*' -o -name 'gavyreto*' -type f -not -path '*/dpkg/*' | wc -l

@@ -23,22 +23,22 @@ cd machines
 ../tools/response float > refused
 ../tools/response error > failed
 for number in $(seq 1000 1999); do
-    case $number in *50) cp refused farm/$number ;; *99) cp failed farm/$number ;; *) cp good farm/$number ;; esac
+    case $number in *50) cp refused "farm/$number" ;; *99) cp failed "farm/$number" ;; *) cp good "farm/$number" ;; esac
 done
 (
     dask-scheduler --host 127.0.0.1 --port 0 --no-dashboard --scheduler-file scheduler.json > scheduler.log 2>&1 & scheduler=$!
     for name in first second; do
         dask-worker --scheduler-file scheduler.json --host 127.0.0.1 --nthreads 1 --no-nanny --no-dashboard \
-            --local-directory $name > $name.log 2>&1 & workers="${workers-} $!"
+            --local-directory "$name" > "$name.log" 2>&1 & workers="${workers-} $!"
     done
     trap 'kill -KILL $scheduler $workers 2> kill.log || :' EXIT
     python3 -m gavyreto many --scheduler scheduler.json farm spread & many=$!
     # When two hundred texts are there, the second worker is killed.
-    until test $(ls spread 2> ls.log | grep -c 'csv$') -ge 200; do sleep 0.02; done
-    kill -KILL ${workers##* }
+    until test "$(find spread -name '*csv' 2> find.log | wc -l)" -ge 200; do sleep 0.02; done
+    kill -KILL "${workers##* }"
     wait $many || echo "status $?"
 )
 tds_replay export good > good.csv 2> good.notes
-for text in spread/????.csv; do cmp -s $text good.csv && echo same || wc -c < $text; done | sort | uniq -c | awk '{ print $1, $2 }'
-ls spread | grep -c 'partial$'
+for text in spread/????.csv; do if cmp -s "$text" good.csv; then echo same; else wc -c < "$text"; fi; done | sort | uniq -c | awk '{ print $1, $2 }'
+find spread -name '*partial' | wc -l
 cut -d , -f 1 spread/outcomes.csv | sort -u | wc -l

@@ -14,9 +14,9 @@ set -eu
 mkdir farm
 tools/response kinds 300 > good && tools/response float > refused && tools/response error > failed
 for number in $(seq 1000 1999); do
-    case $number in *50) cp refused farm/$number ;; *99) cp failed farm/$number ;; *) cp good farm/$number ;; esac
+    case $number in *50) cp refused "farm/$number" ;; *99) cp failed "farm/$number" ;; *) cp good "farm/$number" ;; esac
 done
 python3 -m gavyreto many farm texts || echo "status $?"
 tds_replay export good > good.csv 2> good.notes
-for text in texts/????.csv; do cmp -s $text good.csv && echo same || wc -c < $text; done | sort | uniq -c | awk '{ print $1, $2 }'
-ls texts | grep -c 'partial$'
+for text in texts/????.csv; do if cmp -s "$text" good.csv; then echo same; else wc -c < "$text"; fi; done | sort | uniq -c | awk '{ print $1, $2 }'
+find texts -name '*partial' | wc -l

@@ -10,7 +10,6 @@ import random
 import struct
 import subprocess
 import sys
-import tempfile
 import unittest
 from typing import Any, Optional
 

@@ -11,7 +11,8 @@ PROGRAMS = {
     "sha256sum": "coreutils", "nproc": "coreutils", "xargs": "findutils", "openssl": "openssl", "socat": "socat", "tsql": "freetds-bin",
     "freebcp": "freetds-bin", "pv": "pv", "strip": "binutils", "dpkg-deb": "dpkg", "dpkg": "dpkg", "dask-scheduler": "python3-distributed",
     "dask-worker": "python3-distributed", "time": "time", "mypy": "mypy", "lintian": "lintian", "cc": "gcc",
-    "tcpdump": "tcpdump", "editcap": "wireshark-common", "zsh": "zsh", "fish": "fish",
+    "tcpdump": "tcpdump", "editcap": "wireshark-common", "zsh": "zsh", "fish": "fish", "shellcheck": "shellcheck",
+    "flake8": "flake8",
 }
 MODULES = {
     "pandas": "python3-pandas", "distributed": "python3-distributed", "pymssql": "python3-pymssql", "ensurepip": "python3-venv",
