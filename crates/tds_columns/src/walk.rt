@@ -6,13 +6,14 @@ ghost use Rattle.tds_values.specs.Kind.{is_valid};
 use crate::type_info::kind_at;
 use tds_values::Kind;
 
-/// A column: the kind of its values, and its name in UTF-16 units as the description has them.
+/// A column: the kind of its values, and its name in UTF-16 units, at most 255, as the description has them.
 #[derive(Clone, Copy, Debug)]
 pub struct Column<'a> {
     pub kind: Kind,
     pub name: &'a [u8],
     pub ghost valid: { IsTrue (is_valid kind) },
     pub ghost even: { length name.now % 2 ≡ 0 },
+    pub ghost few: { length name.now ≤ 510 },
 }
 
 // The column at the front of these bytes, and how many of them it has.

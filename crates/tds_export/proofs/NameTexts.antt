@@ -1,46 +1,7 @@
 -- The names of columns, put one after another.
-use Rattle.tds_csv.specs.Utf16 as utf16
 use Rattle.tds_export.proofs.Words as N
-use Rattle.tds_export.proofs.Words.{Bool, Column, Err, Held, List, Ok, Option, PutsPiece, Result, Sink, Stop, [], ap, arith, before, codes, false, joined}
-use Rattle.tds_export.proofs.Words.{joins_utf16, map, more, name_field, not, refl, sym, true, ℕ, ⊤, ◌++◌, ◌∙◌, ◌∷◌, ◌≡◌}
-use Rattle.tds_csv.specs.declared.joiners.JoinFault.TheVariants.{Stopped}
-
--- what a push of any units may answer
-pub push_stopped : (fault : N.JoinFault) (old new : List ℕ) (before after : Held) (failed : Bool) (units : List ℕ)
-    → N.Pushes {U = ⊤} (λ _. ⊤) utf16.rest utf16.text old new before after failed units (Err fault) → N.IsStopped fault
-push_stopped fault old new before after failed units h = grind arith
-
-pub push_breaks : (fault : N.JoinFault) {stop : Stop} {old : List ℕ} (new : List ℕ) (before after : Held) {failed : Bool} (units : List ℕ) → old ≡ []
-    → failed ≡ false → utf16.IsFit units
-    → N.Pushes {U = ⊤} (λ _. ⊤) utf16.rest utf16.text old new before after failed units (Err fault) → N.IsStopIn fault stop
-    → N.Breaks before after (utf16.text units) stop
-push_breaks (Stopped s) new before after units none going fit h is =
-    rw (joins_utf16.ends units fit, is) (N.Breaks-longer _ _ _ _ s (rw none at (h going)))
-push_breaks fault new before after units none going fit h is = absurd is
-
-module _ {old kept : List ℕ} {before middle : Held} {units : List ℕ} (none : old ≡ []) (fit : utf16.IsFit units)
-    (t : N.TakesPiece (λ _. ⊤) utf16.rest utf16.text old kept before middle units) where
-  rest_fit : utf16.IsFit kept
-  rest_fit = rw (ap (λ l. utf16.rest (l ++ units)) (sym none) ∙ sym t.withheld) at (joins_utf16.fit_rest units fit)
-
-  -- what an end after whole units may answer
-  pub end_stopped : (fault : N.JoinFault) (new : List ℕ) (after : Held) (failed : Bool)
-      → N.EndsBy {U = ⊤} 2 utf16.IsFit utf16.text kept new middle after failed (Err fault) → N.IsStopped fault
-  end_stopped (Stopped stop) new after failed h = tt
-  end_stopped fault new after failed h = h.0.part rest_fit
-
-  emitted : N.Puts before middle (N.emit utf16.rest utf16.text units) × (kept ≡ utf16.rest units)
-  emitted = (rw none at t.put, cc)
-
-  pub end_breaks : (fault : N.JoinFault) {stop : Stop} (new : List ℕ) (after : Held) {failed : Bool} → failed ≡ false
-      → N.EndsBy {U = ⊤} 2 utf16.IsFit utf16.text kept new middle after failed (Err fault) → N.IsStopIn fault stop
-      → N.Breaks before after (utf16.text units) stop
-  end_breaks (Stopped s) new after going h is =
-      rw (joins_utf16.ends units fit, is) (N.Breaks-after _ _ _ _ _ s emitted.0 (rw emitted.1 at (h going).1))
-  end_breaks fault new after going h is = absurd is
-
-  pub end_puts : {new : List ℕ} {after : Held} → N.Completes utf16.IsFit utf16.text kept new middle after → N.Puts before after (utf16.text units)
-  end_puts h = rw (joins_utf16.ends _ fit) (N.Puts-trans _ _ _ _ _ emitted.0 (rw emitted.1 at h.put))
+use Rattle.tds_export.proofs.Words.{Bool, Column, Err, List, Ok, Option, PutsPiece, Result, Sink, Stop, [], ap, arith, before, codes, false, joined}
+use Rattle.tds_export.proofs.Words.{map, more, name_field, not, refl, sym, true, ℕ, ⊤, ◌++◌, ◌∙◌, ◌∷◌, ◌≡◌}
 
 -- one piece was put, and another after it
 pub then_puts : {W U V : Type 0} {contents : W → Option (List ℕ)} {a b c : Sink W} {u : U} {p q : List ℕ} {r : Result V Stop}

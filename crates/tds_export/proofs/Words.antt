@@ -139,7 +139,6 @@ pub use Rattle.tds_export.specs.Tokens.{Token, error_text, text, Metadata, Row, 
 pub use Rattle.tds_export.specs.Tokens.{Notice, Error, Info, first_error, how_many, is_error, NoMetadata, greatest_span, text_after, PassedOver, ReturnStatus}
 pub use Rattle.tds_export.specs.Tokens.{DoneInProc, more, is_final, encoded_after, header_line, between, is_return, is_set, return_status_after}
 pub use Rattle.tds_export.specs.Exporters.{View, IsOnSameRun, IsRunning, LeavesRun, StepRead, ReadsNext, StopsIn, view_of}
-pub use Rattle.tds_export.specs.JoinStops.{IsStopIn, IsStopped}
 pub use Rattle.tds_export.specs.Noticing.{IsInBody, ReadsNotice, StopsInNotice}
 pub use Rattle.tds_export.specs.Returning.{ReadsReturn, ReadsValue, StopsReturn, before_value}
 pub use Rattle.tds_export.specs.declared.exporter.Exporter.{Exporter}

@@ -3,7 +3,6 @@ pub mod ReturnValue
 pub mod Tokens
 pub mod Response
 pub mod TokenGrammar
-pub mod JoinStops
 pub mod Outcome
 pub mod Steps
 pub mod Lending

@@ -1,53 +1,31 @@
 // The header line of a set.
-ghost use Rattle.std.specs.Prelude.{◌≡◌, ◌%◌, ◌++◌, codes, length, not};
-ghost use Rattle.tds_csv.specs.Conversion.{Utf16Text, conversion_text, long_field};
+ghost use Rattle.std.specs.Prelude.{◌≡◌, ◌≤◌, ◌%◌, ◌++◌, codes, length, not};
+ghost use Rattle.tds_csv.specs.Conversion.{Utf16Text, long_field};
 ghost use Rattle.tds_columns.specs.View.{columns_of};
 ghost use Rattle.tds_csv.specs.Quoting.{joined};
 ghost use Rattle.tds_csv.specs.Sinks.{IsReady, IsWriting, PutsPiece};
-ghost use Rattle.tds_export.specs.JoinStops.{IsStopIn, IsStopped};
 ghost use Rattle.tds_export.specs.Tokens.{between, header_line, names_of, text_if};
 
 use std::io::Write;
 use tds_columns::Columns;
-use tds_csv::{JoinFault, Joiner, Sink, Utf16Joiner};
+use tds_csv::{Content, Sink, write_field};
 use tds_packet::Stop;
 
-// The stop of a joiner whose sink stopped.
-fn stop_in(fault: JoinFault) -> Stop
-    requires { IsStopped fault }
-    ensures { IsStopIn fault result }
-{
-    match fault {
-        JoinFault::Stopped(stop) => stop,
-        _ => unreachable!(),
-    }
-}
-
-// Puts the text of whole UTF-16 units, with its quotes doubled.
-fn put_units<W: Write>(sink: &mut Sink<W>, units: &[u8]) -> Result<(), Stop>
-    requires writing { IsWriting sink.old }
-    requires even { length units.now % 2 ≡ 0 }
-    ensures { PutsPiece W.contents sink.old sink.new (conversion_text Utf16Text units.now) result }
-{
-    let mut joiner = Utf16Joiner::new();
-    if let Err(fault) = joiner.push(units, sink) {
-        return Err(stop_in(fault));
-    }
-    match joiner.end(sink) {
-        Ok(()) => Ok(()),
-        Err(fault) => Err(stop_in(fault)),
-    }
-}
+// How many bytes of room the field of a name of 255 units may want.
+const NAME_ROOM: usize = 785;
 
 // Puts a column's name, quoted.
 fn put_name<W: Write>(sink: &mut Sink<W>, units: &[u8]) -> Result<(), Stop>
     requires ready { IsReady sink.old }
     requires even { length units.now % 2 ≡ 0 }
+    requires few { length units.now ≤ 510 }
     ensures { PutsPiece W.contents sink.old sink.new (long_field Utf16Text units.now) result }
 {
-    sink.open_quoted()?;
-    put_units(sink, units)?;
-    sink.close_quoted()
+    let mut field = [0u8; NAME_ROOM];
+    let Some(made) = write_field(Content::Utf16, units, units.len(), &mut field) else {
+        unreachable!()
+    };
+    sink.put(&field[..made])
 }
 
 // Puts a comma, unless the next field is the first of its line.

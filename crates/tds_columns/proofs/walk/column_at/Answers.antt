@@ -1,6 +1,7 @@
 use Rattle.tds_columns.proofs as N
 use N.walk.column_at.Goals as goal
-use N.{◌≡◌, ◌+◌, ◌*◌, ◌-◌, ◌%◌, ℕ, take, drop, arith}
+use N.{◌≡◌, ◌+◌, ◌*◌, ◌-◌, ◌%◌, ◌≤◌, ℕ, take, drop, arith}
+use Rattle.std.proofs.Common.{Fits, length-take, w8}
 use N.ViewLaws.{all_after, Lies, lies}
 
 pub kind_at-kind-requires : goal.kind_at-kind-requires
@@ -33,10 +34,15 @@ at_front {bytes} {kind} {rest} {units} l known named is =
       rw (k, size, r) (N.sym l.at),
     )
 
+-- a name has few bytes
+few : (bytes : N.List ℕ) (i start : ℕ) {units : ℕ} → units ≡ N.get_or bytes i 0 → ((k : ℕ) → Fits w8 (N.get_or bytes k 0))
+    → N.length (take (start + 2 * units - start) (drop start bytes)) ≤ 510
+few bytes i start {units} is fits = omega (arith, is, (fits i).fits, length-take (start + 2 * units - start) (drop start bytes))
+
 pub invariant_of-column : goal.invariant_of-column
 invariant_of-column c =
     let f = at_front (lies c.args.bytes.now c.requires) c.kind_at-kind.ensures.rest c.kind_at-kind.ensures.kind c.from.ensures in
-    record { valid = f.0; even = f.1 }
+    record { valid = f.0; even = f.1; few = few c.args.bytes.now _ _ c.from.ensures c.type_inv.bytes }
 
 pub returns-clause-column : goal.returns-clause-column
 returns-clause-column c = (at_front (lies c.args.bytes.now c.requires) c.kind_at-kind.ensures.rest c.kind_at-kind.ensures.kind c.from.ensures).2
