@@ -19,6 +19,9 @@ FOLDERS = $(COMPLETION) $(if $(filter-out /usr /usr/local,$(ROOT)),bin share/man
 # Ends with one line if the kit isn't there.
 NEED_RT = command -v rt > /dev/null || { echo "rt isn't there: proving and building need the Rattle kit (README.md says where it comes from)" >&2; exit 1; }
 
+# Ends with one line if there is no Python.
+NEED_PYTHON = command -v python3 > /dev/null || { echo "python3 isn't there: the scripts in tools/ need Python 3.10 or later" >&2; exit 1; }
+
 .PHONY: help clean try build export install uninstall deb needs test gate lint worked generated recipes python-tests bench try-test refused-memory check
 
 help:
@@ -46,9 +49,12 @@ try:
 	@cd crates/replay && rt try -- export "$(abspath $(FILE))"
 
 build:
+	@$(NEED_PYTHON)
 	@tools/prove replay
 
-export: build
+export:
+	@test -r "$(FILE)" || { echo "$(FILE) isn't there, or can't be read" >&2; exit 1; }
+	@$(MAKE) --no-print-directory build
 	@bin/tds_replay export "$(FILE)"
 
 install: $(BUILT)
@@ -81,6 +87,7 @@ clean:
 	rm -rf bin crates/*/out
 
 needs test gate lint try-test:
+	@$(NEED_PYTHON)
 	@tools/$@
 
 check:
