@@ -38,6 +38,10 @@ module _ (charset : N.Charset) (kind : Kind) where
   pub short_whole : (content : N.Content) (bytes : List ℕ) → N.IsLaidOut charset kind (ShortLayout content) → N.short_size bytes ≡ N.whole_size kind bytes
   short_whole _ _ laid = grind arith
 
+  pub chunked_whole : (content : N.Content) (bytes : List ℕ) → N.IsLaidOut charset kind (Chunked content)
+      → N.chunked_size bytes ≡ N.whole_size kind bytes
+  chunked_whole _ _ laid = grind arith
+
 -- where there are no bytes, a cell is left
 pub empty_left : (charset : N.Charset) (kind : Kind) (l : Layout) (bytes : List ℕ) (room : ℕ) → N.IsLaidOut charset kind l
     → ((content : N.Content) → l ≡ ShortLayout content → ⊥) → length bytes ≡ 0 → N.IsLeft charset kind bytes room

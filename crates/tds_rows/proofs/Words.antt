@@ -91,6 +91,8 @@ pub use Rattle.tds_rows.specs.{
   Rows.{NbcRow, row_so_far, with_field, row_size, InCell, token_byte, row_start, token_start, next_cell, nbc_row_start},
   Runs.{RowsRan, rows_so_far, lines, rows, RunsRows, Writes, rows_start, RowsPut, CellsWritten, after_cells, RunEnds, RowsPart, WritesRows},
   ShortCells.{stated_length, short_size},
+  ChunkedCells.{HasOneChunk, chunk_data, chunk_end, chunked_size, stated_total},
+  LongFields.{IsShapeLeft, long_size, reach_of},
   Successes.{SpellsRows, ReadsOn, SucceedsOn, BeginNoRow, Brings},
   Tables.{BeginsRow, IsNextKind, TakesColumn, IsAhead, AreAhead, KnowsSome, kinds, Knows, NextColumn},
   WholeCells.{WritesCell, WritesWhole},

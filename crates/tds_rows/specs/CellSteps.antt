@@ -23,7 +23,7 @@ use Rattle.tds_csv.specs.Sinks.{Held, held}
 use Rattle.tds_csv.specs.Streaming.{StopsStreaming, Streams}
 use Rattle.tds_values.specs.declared.charset.Charset.{Charset}
 use Rattle.tds_rows.specs.declared.cell.whole.Written.{Written}
-use Rattle.tds_rows.specs.ShortCells.{IsShortLeft, short_conversion, short_size}
+use Rattle.tds_rows.specs.LongFields.{IsShapeLeft, long_size, reach_of}
 use Rattle.tds_rows.specs.WholeCells.{WritesCell, WritesWhole}
 use Rattle.tds_rows.specs.Cells.{Cell, CellPart, WholeCell, cell, cell_start, field, field_so_far, shape}
 
@@ -69,9 +69,9 @@ pub record HasInt4 (kind : Kind) (start : ℕ) (bytes : List ℕ) : Type 0 where
   pub four : value_length kind bytes ≡ 4
   pub within : start + 4 ≤ length bytes
 
--- how many bytes the cell at the front of these bytes has; of one in chunks nothing is said
+-- how many bytes the cell at the front of these bytes has; of one in several chunks nothing is said
 abbrev pub whole_size : Kind → List ℕ → ℕ
-whole_size kind bytes = if is_scalar kind then scalar_size kind bytes else short_size bytes
+whole_size kind bytes = if is_scalar kind then scalar_size kind bytes else long_size (reach_of kind) bytes
 
 -- The scalar cell at the front of these bytes is left for another way: it isn't whole, or its value is refused.
 abbrev pub IsScalarLeft : Kind → List ℕ → Type 0
@@ -81,7 +81,7 @@ IsScalarLeft kind bytes = (length bytes < scalar_size kind bytes)
 -- The cell at the front of these bytes is left, with this much room.
 abbrev pub IsLeft : Charset → Kind → List ℕ → ℕ → Type 0
 IsLeft charset kind bytes room =
-    ((is_scalar kind ≡ true) × IsScalarLeft kind bytes) ⊎ ((is_scalar kind ≡ false) × IsShortLeft (short_conversion (shape charset kind)) bytes room)
+    ((is_scalar kind ≡ true) × IsScalarLeft kind bytes) ⊎ ((is_scalar kind ≡ false) × IsShapeLeft (shape charset kind) bytes room)
 
 -- The bytes are a whole cell of a kind, and this is its text in its line; that of a scalar, in any set, comes only with the last element.
 pub record WritesKind (charset : Charset) (kind : Kind) (column : ℕ) (last : Bool) (bytes text : List ℕ) : Type 0 where
