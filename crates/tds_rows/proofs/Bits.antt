@@ -1,7 +1,11 @@
 -- The bits of a bitmap that lie in one byte.
-use Rattle.std.specs.{Int.{bit_at, trailing_zeros}, Prelude.{slice_index}}
-use Rattle.std.proofs.{Common.{w8}, Math.Nat.{div-div-eq-div-mul}, Math.Decide.{dec_le}}
-use Rattle.std.proofs.lemmas.Nat.{pow-add, Bits.{bit_at-trailing_zeros, bit_at-zero, bit_at_above}}
+use Rattle.std.specs.Int.{bit_at, trailing_zeros}
+use Rattle.std.specs.Prelude.{slice_index}
+use Rattle.std.proofs.Common.{w8}
+use Rattle.std.proofs.Math.Nat.{div-div-eq-div-mul}
+use Rattle.std.proofs.Math.Decide.{dec_le}
+use Rattle.std.proofs.lemmas.Nat.{pow-add}
+use Rattle.std.proofs.lemmas.Nat.Bits.{bit_at-trailing_zeros, bit_at-zero, bit_at_above}
 use Rattle.tds_rows.proofs.Words.{◌≡◌, ◌==◌, ◌+◌, ◌-◌, ◌*◌, ◌/◌, ◌%◌, ◌^◌, ◌<◌, ℕ, true, List, AreClear, arith, bit, refl}
 
 module _ (bitmap : List ℕ) (at : ℕ) where

@@ -1,13 +1,16 @@
 -- Cells whose bytes lie together, and the room that a sink lends for their text.
 use Rattle.std.specs.Prelude.{IsTrue}
 use Rattle.tds_values.specs.Kind.{is_valid}
+use Rattle.tds_values.specs.ScalarText.{text_of}
 use Rattle.tds_rows.proofs.Words as N
-use Rattle.tds_rows.proofs.{
-  Words.{◌≡◌, ◌≢◌, ◌∙◌, ℕ, ◌+◌, ◌-◌, ◌<◌, ◌≤◌, Bool, true, List, [], ◌++◌, length, take, drop, Ok, refl, ap, arith, ◌∷◌, ◌||◌, Kind, held, shape},
-  Words.WritesCell,
-  CellSteps.scalar_shape,
-  RowSteps.{ReadsCell, at_once_breaks, at_once_streams, PutsCell, StopsCell},
-}
+use Rattle.tds_rows.proofs.Words.{◌≡◌, ◌≢◌, ◌∙◌, ℕ, ◌+◌, ◌-◌, ◌<◌, ◌≤◌, Bool, true, List, [], ◌++◌, length, take, drop, Ok, refl, ap, arith, ◌∷◌, ◌||◌, Kind}
+use Rattle.tds_rows.proofs.Words.{held, shape, WritesCell}
+use Rattle.tds_rows.proofs.CellSteps.{scalar_shape}
+use Rattle.tds_rows.proofs.RowSteps.{ReadsCell, at_once_breaks, at_once_streams, PutsCell, StopsCell}
+
+-- The text is that of a scalar value of these bytes, in its line.
+abbrev pub IsValueText : Kind → ℕ → Bool → List ℕ → List ℕ → Type 0
+IsValueText kind column last bytes text = (value : N.ScalarValue) × (N.read_of kind bytes ≡ Ok value) × (text ≡ N.in_line column last (text_of value))
 
 -- a value that is read has a length that is allowed
 read_allowed : (kind : Kind) (bytes : List ℕ) (value : N.ScalarValue) → N.read_of kind bytes ≡ Ok value → N.is_length_allowed kind (length bytes) ≡ true
@@ -18,7 +21,7 @@ allowed_some : (kind : Kind) → IsTrue (is_valid kind) → N.is_scalar kind ≡
 allowed_some kind valid scalar allowed = grind arith
 
 fixed_written : (column : ℕ) (kind : Kind) (n : ℕ) (last : Bool) (bytes text : List ℕ) → 0 < n → n ≤ length bytes
-    → N.IsValueText kind column last (take n bytes) text → WritesCell (N.ScalarBytes kind n) column last (take n bytes) text
+    → IsValueText kind column last (take n bytes) text → WritesCell (N.ScalarBytes kind n) column last (take n bytes) text
 fixed_written _ kind n _ bytes _ some within x = record {
   value = N.ScalarCell x.0;
   front = [];
@@ -51,7 +54,7 @@ null_written {kind} _ within is text_is = rw (first_of _ 0 within is) (record {
 })
 
 counted_written : (column : ℕ) (kind : Kind) (n : ℕ) (last : Bool) (bytes text : List ℕ) → N.slice_index bytes 0 ≡ n → n ≢ 0 → 1 + n ≤ length bytes
-    → N.IsValueText kind column last (take n (drop 1 bytes)) text
+    → IsValueText kind column last (take n (drop 1 bytes)) text
     → WritesCell (N.ScalarLength kind) column last (take (1 + n) bytes) text
 counted_written column kind n _ bytes _ is some within x =
     let whole = N.length-take-le n _ (grind arith) in
@@ -79,7 +82,7 @@ module _ (charset : N.Charset) (kind : Kind) (column : ℕ) (last : Bool) (bytes
   null_cell _ at none within is = grind (arith, null_written)
 
   pub value_cell : (start n : ℕ) → start ≡ N.value_start kind → n ≡ N.value_length kind bytes → n ≢ 0 → start + n ≤ length bytes
-      → N.IsValueText kind column last (take n (drop start bytes)) text
+      → IsValueText kind column last (take n (drop start bytes)) text
       → WritesCell (N.cell_start kind (shape charset kind)) column last (take (start + n) bytes) text
   value_cell start n at many some within is = go _ refl
     where
@@ -95,7 +98,7 @@ module _ (charset : N.Charset) (kind : Kind) (column : ℕ) (last : Bool) (bytes
 
   -- the value at the front of these bytes
   pub front_cell : (used : ℕ) → IsTrue (is_valid kind) → used ≡ N.scalar_size kind bytes → used ≤ length bytes
-      → N.IsValueText kind column last (N.value_bytes kind bytes) text
+      → IsValueText kind column last (N.value_bytes kind bytes) text
       → WritesCell (N.cell_start kind (shape charset kind)) column last (take used bytes) text
   front_cell used valid is within x =
       let allowed = read_allowed kind _ x.0 x.1 in

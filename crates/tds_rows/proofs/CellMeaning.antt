@@ -1,9 +1,7 @@
 -- What the bytes that lead to a part of a cell spell.
 use Rattle.tds_rows.proofs.Words as N
-use Rattle.tds_rows.proofs.{
-  Words.{◌≡◌, ℕ, ◌+◌, ◌/◌, ◌%◌, ◌^◌, ◌<◌, true, List, [], ◌∷◌, ◌++◌, length, refl, ◌∙◌, ap, append_assoc, arith, Ok, Option, None, ◌==◌, ◌&&◌, ◌||◌},
-  Words.{if◌then◌else◌, Kind, Short, Chunked, little, AreBytes, Shape, LongShape, cell_add},
-}
+use Rattle.tds_rows.proofs.Words.{◌≡◌, ℕ, ◌+◌, ◌/◌, ◌%◌, ◌^◌, ◌<◌, true, List, [], ◌∷◌, ◌++◌, length, refl, ◌∙◌, ap, append_assoc, arith, Ok, Option, None}
+use Rattle.tds_rows.proofs.Words.{◌==◌, ◌&&◌, ◌||◌, if◌then◌else◌, Kind, Short, Chunked, little, AreBytes, Shape, LongShape, cell_add}
 
 -- a test that gave no fault passed
 pub unless_none : (b : N.Bool) (f : N.Fault) → N.unless b f ≡ None → b ≡ true
@@ -12,7 +10,7 @@ unless_none b f h = grind arith
 eight_below : (e : List ℕ) → length e ≡ 8 → AreBytes e → little e < 2 ^ 64
 eight_below e l k = grind (arith, N.common_steps)
 
-eight_ones : (e : List ℕ) → length e ≡ 8 → AreBytes e → little e ≡ N.null_total → e ≡ N.replicate 8 255
+pub eight_ones : (e : List ℕ) → length e ≡ 8 → AreBytes e → little e ≡ N.null_total → e ≡ N.replicate 8 255
 eight_ones (a ∷ b ∷ c ∷ d ∷ e ∷ f ∷ g ∷ h ∷ []) l k n = grind arith
 eight_ones e l k n = cc
 

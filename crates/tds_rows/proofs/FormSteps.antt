@@ -1,12 +1,10 @@
 -- Runs over cells by their forms, a cell after those that were written.
 use Rattle.tds_rows.proofs.Words as N
-use Rattle.tds_rows.proofs.{
-  Words.{◌⊎◌, ◌≡◌, ◌≢◌, ◌∙◌, ℕ, suc, ◌+◌, ◌-◌, ◌<◌, ◌≤◌, Bool, false, List, [], ◌∷◌, ◌++◌, length, take, drop, get_or, refl, ◌*◌, sym, ap, arith, ◌==◌},
-  Words.{◌&&◌, Column, end_after, Charset, Form},
-  RowSteps.{after_some_column, after_append},
-  RunSteps.{made_more, used_more, whole_some, unused},
-  TableSteps.{known_kind, last_one},
-}
+use Rattle.tds_rows.proofs.Words.{◌⊎◌, ◌≡◌, ◌≢◌, ◌∙◌, ℕ, suc, ◌+◌, ◌-◌, ◌<◌, ◌≤◌, Bool, false, List, [], ◌∷◌, ◌++◌, length, take, drop, get_or, refl, ◌*◌, sym}
+use Rattle.tds_rows.proofs.Words.{ap, arith, ◌==◌, ◌&&◌, Column, end_after, Charset, Form, inl, inr}
+use Rattle.tds_rows.proofs.RowSteps.{after_some_column, after_append}
+use Rattle.tds_rows.proofs.RunSteps.{made_more, used_more, whole_some, unused}
+use Rattle.tds_rows.proofs.TableSteps.{known_kind, last_one}
 use borrow.Rule.Slice.PartMut.{put_mid}
 use Rattle.std.proofs.lemmas.List.{drop-append-le, drop-set-add, take-set-le}
 use Rattle.tds_rows.specs.FormRuns.{IsLatest, NumbersWithin}
@@ -340,9 +338,21 @@ pub room_step : (n k made m room more : ℕ) → more ≡ room → k < n → m �
     → made + m + 1 + 12 * (n - (k + 1)) + 25 ≤ more
 room_step n k _ m _ _ same some few within = omega arith
 
+shape_less : (s : N.Shape) (bytes : List ℕ) {fewer room : ℕ} → fewer ≤ room → N.IsShapeLeft s bytes room → N.IsShapeLeft s bytes fewer
+shape_less (N.LongShape c N.Short) _ less left = grind arith
+shape_less (N.LongShape c N.Chunked) _ less left = record {
+  some = left.some;
+  one = λ n x. elim (left.one n x) [ inl few ↦ inl (omega (arith, less, few)) | inr unfit ↦ inr unfit ];
+}
+shape_less N.CountedShape _ less left = left
+shape_less (N.FixedShape n) _ less left = left
+
 pub left_less : (charset : Charset) (kind : N.Kind) (bytes : List ℕ) {fewer room : ℕ} → fewer ≤ room → N.IsLeft charset kind bytes room
     → N.IsLeft charset kind bytes fewer
-left_less _ _ _ less h6 = grind arith
+left_less charset kind bytes less left = elim left [
+  | inl scalar ↦ inl scalar
+  | inr long ↦ inr (long.0, shape_less (N.shape charset kind) bytes less long.1)
+]
 
 -- a row of some numbers that begins later lacks bytes or room
 pub too_late : {cells n bytes room b r used made : ℕ} {latest : Latest} → IsLatest cells bytes room latest → 0 < cells → n ≡ cells → b ≡ bytes - used

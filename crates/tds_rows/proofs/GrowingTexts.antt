@@ -1,9 +1,7 @@
 -- What a text that grows is, and what the cells and rows that are read add to it.
 use Rattle.tds_rows.proofs.Words as N
-use Rattle.tds_rows.proofs.{
-  Words.{◌≡◌, ℕ, Bool, true, List, [], ◌∷◌, ◌++◌, ◌∙◌, arith, Option, Some, None, ◌==◌, ◌||◌, joined, Cell, rules},
-  CellMeaning.unless_none,
-}
+use Rattle.tds_rows.proofs.Words.{◌≡◌, ℕ, Bool, true, List, [], ◌∷◌, ◌++◌, ◌∙◌, arith, Option, Some, None, ◌==◌, ◌||◌, joined, Cell, rules}
+use Rattle.tds_rows.proofs.CellMeaning.{unless_none}
 
 -- the second text begins with the first
 abbrev pub Grows : List ℕ → List ℕ → Type 0

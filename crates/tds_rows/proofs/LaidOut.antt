@@ -18,17 +18,23 @@ int4_set _ k f N.false _ _ _ _ both = cc
 
 -- ---- a value that is there
 
-pub fixed_there : {l : Layout} (bytes : List ℕ) {start : ℕ × ℕ} {n : ℕ} → l ≡ Fixed n → start ≡ (0, n) → N.HasValueAt l bytes start.0 start.1
+-- The value of a cell that is laid out so is there in these bytes, and has this many: at once, or after a length of one byte.
+abbrev pub HasValueAt : Layout → List ℕ → ℕ → ℕ → Type 0
+HasValueAt (Fixed k) bytes start n = (start ≡ 0) × (n ≡ k)
+HasValueAt Counted bytes start n = (start ≡ 1) × (n ≡ N.slice_index bytes 0)
+HasValueAt layout bytes start n = ⊥
+
+pub fixed_there : {l : Layout} (bytes : List ℕ) {start : ℕ × ℕ} {n : ℕ} → l ≡ Fixed n → start ≡ (0, n) → HasValueAt l bytes start.0 start.1
 fixed_there _ is there = grind arith
 
 -- after a length of one byte
 pub counted_there : {l : Layout} (bytes : List ℕ) {start : ℕ × ℕ} → l ≡ Counted → start ≡ (1, N.slice_index bytes 0)
-    → N.HasValueAt l bytes start.0 start.1
+    → HasValueAt l bytes start.0 start.1
 counted_there _ is there = grind arith
 
 module _ (charset : N.Charset) (kind : Kind) where
   -- it is that of a scalar kind
-  pub value_there : (l : Layout) (bytes : List ℕ) (start n : ℕ) → N.IsLaidOut charset kind l → N.HasValueAt l bytes start n → (N.is_scalar kind ≡ true)
+  pub value_there : (l : Layout) (bytes : List ℕ) (start n : ℕ) → N.IsLaidOut charset kind l → HasValueAt l bytes start n → (N.is_scalar kind ≡ true)
       × ((start ≡ N.value_start kind) × (n ≡ N.value_length kind bytes))
   value_there l _ _ n laid h = grind arith
 
@@ -37,6 +43,10 @@ module _ (charset : N.Charset) (kind : Kind) where
   -- how many bytes its cell has
   pub short_whole : (content : N.Content) (bytes : List ℕ) → N.IsLaidOut charset kind (ShortLayout content) → N.short_size bytes ≡ N.whole_size kind bytes
   short_whole _ _ laid = grind arith
+
+  pub chunked_whole : (content : N.Content) (bytes : List ℕ) → N.IsLaidOut charset kind (Chunked content)
+      → N.chunked_size bytes ≡ N.whole_size kind bytes
+  chunked_whole _ _ laid = grind arith
 
 -- where there are no bytes, a cell is left
 pub empty_left : (charset : N.Charset) (kind : Kind) (l : Layout) (bytes : List ℕ) (room : ℕ) → N.IsLaidOut charset kind l

@@ -1,6 +1,14 @@
 -- The next cells of a row, those of a run or one, NULL or not, and rows one after another.
 use Rattle.tds_rows.proofs.Words as N
-use Rattle.tds_rows.proofs.{Words.{arith, sym, ◌≡◌, ◌+◌, ℕ, Bool, true, false, List, ◌∷◌, drop, refl, Err, Ok, Option, ◌==◌, Stop, seen, Column, held, Rows, Ahead, IsInRow, StaysInRow}, Words.{RowStops, RowPart, marked, ◌∙◌, ◌-◌, ◌^◌, ◌≤◌, ◌<◌, [], ◌++◌, length, ap, before, Seen, Takes, Held, Puts, Charset, Cell, rows, Kind, Knows}, NullSteps.{NearsCells, all_put, bitmap_nears, cell_nears, cell_stops, null_breaks, null_nears, cell_path, marked_stops, row_ends}, RowSteps.{ends, ends_marked, coming, nulls_ahead, PutsAt, StopsAt, none_ahead, cell_some}, Paths.{At, here, Path, path_both, path_map, path_none, path_of, writes_none, over}, TableSteps.{last_one, next_column}, RunSteps.{rows_after, whole_breaks, whole_puts, row_among, row_token, made_more, unused, used_more}, TableRuns.run_breaks}
+use Rattle.tds_rows.proofs.Words.{arith, sym, ◌≡◌, ◌+◌, ℕ, Bool, true, false, List, ◌∷◌, drop, refl, Err, Ok, Option, ◌==◌, Stop, seen, Column, held, Rows}
+use Rattle.tds_rows.proofs.Words.{Ahead, IsInRow, StaysInRow, RowStops, RowPart, marked, ◌∙◌, ◌-◌, ◌^◌, ◌≤◌, ◌<◌, [], ◌++◌, length, ap, before, Seen, Takes}
+use Rattle.tds_rows.proofs.Words.{Held, Puts, Charset, Cell, rows, Kind, Knows}
+use Rattle.tds_rows.proofs.NullSteps.{NearsCells, all_put, bitmap_nears, cell_nears, cell_stops, null_breaks, null_nears, cell_path, marked_stops, row_ends}
+use Rattle.tds_rows.proofs.RowSteps.{ends, ends_marked, coming, nulls_ahead, PutsAt, StopsAt, none_ahead, cell_some}
+use Rattle.tds_rows.proofs.Paths.{At, here, Path, path_both, path_map, path_none, path_of, writes_none, over}
+use Rattle.tds_rows.proofs.TableSteps.{last_one, next_column}
+use Rattle.tds_rows.proofs.RunSteps.{rows_after, whole_breaks, whole_puts, row_among, row_token, made_more, unused, used_more}
+use Rattle.tds_rows.proofs.TableRuns.{run_breaks}
 
 -- text that doesn't fill the block waits
 pub all_waits : (h j : Held) (text : List ℕ) → Puts h j text → length h.waiting + length text < 4096
@@ -470,8 +478,9 @@ module _ {charset : Charset} {columns : List Column} where
       let token = N.token_byte N.NbcRow ∷ [] in
       let t = passes_apart p q front (row ++ token) before line (rw (joined, text_is) at y) in
       let u = passes_apart t.0 q row token line [] (N.subst (λ l. Passes t.0 q (row ++ token) l) (sym (N.append-nil line)) t.2) in
+      let joined_line = N.subst (λ l. Passes t.0 u.0 l line) last.joined u.1 in
       let read = rows_row (rows_marked n p t.0 front before some few earlier t.1 x)
-      (whole_row {p = t.0} {q = u.0} last.bitmap last.cells line some last.whole (N.subst (λ l. Passes t.0 u.0 l line) last.joined u.1) t.1.few u.2.delivered last.writes) in
+      (whole_row {p = t.0} {q = u.0} last.bitmap last.cells line some last.whole joined_line t.1.few u.2.delivered last.writes) in
       let counted : count + N.suc n ≡ count + n + 1 = omega arith in
       rw counted (rows_token some read (takes_one u.0.seen q.seen token u.2.takes) u.2.puts u.2.place_is)
 

@@ -1,12 +1,10 @@
 -- Rows with NULLs by their bit, column after column, as they are read and their text is put.
 use Rattle.tds_rows.proofs.Words as N
-use Rattle.tds_rows.proofs.{
-  Words.{◌≡◌, ◌∙◌, inl, inr, ℕ, ◌+◌, ◌-◌, ◌^◌, ◌<◌, ◌≤◌, Bool, true, false, List, [], ◌∷◌, ◌++◌, length, refl, sym, arith, Stop, Seen, Column, Held},
-  Words.{Charset, Cell, CellPart, RowPart, next_cell, row, row_so_far},
-  RowSteps.{begun_text, coming, ends, line_grows, nulls_ahead, nulls_text, part_text, rest_of, PutsAt, StopsAt, cell_some, StopsCell},
-  RowLaws.{begins_open, cell_in_row},
-  Paths.{At, Path, path_both, path_map, path_none, path_of, path_stops, streams_of, writes_inside, over},
-}
+use Rattle.tds_rows.proofs.Words.{◌≡◌, ◌∙◌, inl, inr, ℕ, ◌+◌, ◌-◌, ◌^◌, ◌<◌, ◌≤◌, Bool, true, false, List, [], ◌∷◌, ◌++◌, length, refl, sym, arith, Stop, Seen}
+use Rattle.tds_rows.proofs.Words.{Column, Held, Charset, Cell, CellPart, RowPart, next_cell, row, row_so_far}
+use Rattle.tds_rows.proofs.RowSteps.{begun_text, coming, ends, line_grows, nulls_ahead, nulls_text, part_text, rest_of, PutsAt, StopsAt, cell_some, StopsCell}
+use Rattle.tds_rows.proofs.RowLaws.{begins_open, cell_in_row}
+use Rattle.tds_rows.proofs.Paths.{At, Path, path_both, path_map, path_none, path_of, path_stops, streams_of, writes_inside, over}
 
 -- ---- a cell in its row, with the NULLs after it
 

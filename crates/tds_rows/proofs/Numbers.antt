@@ -1,9 +1,7 @@
 -- The numbers of a long value, its length or total and those of its chunks, as elements of its cell: how each is judged, and where it leads.
 use Rattle.tds_rows.proofs.Words as N
-use Rattle.tds_rows.proofs.{
-  Words.{◌-◌, if◌then◌else◌, ◌≡◌, ◌≢◌, ◌∙◌, ◌⊎◌, ℕ, ◌+◌, ◌<◌, List, [], refl, ap, arith, Option, Some, None, ◌==◌, Fault, Stop, Seen, unit, CellPart},
-  Words.{ChunkLength, Total, cell},
-}
+use Rattle.tds_rows.proofs.Words.{◌-◌, if◌then◌else◌, ◌≡◌, ◌≢◌, ◌∙◌, ◌⊎◌, ℕ, ◌+◌, ◌<◌, List, [], refl, ap, arith, Option, Some, None, ◌==◌, Fault, Stop, Seen}
+use Rattle.tds_rows.proofs.Words.{unit, CellPart, ChunkLength, Total, cell}
 use Rattle.tds_packet.specs.declared.payload.Payload.{Payload as Input}
 
 -- within a short value: this many bytes follow its data so far

@@ -1,11 +1,9 @@
 -- The cells of a row, as they are read one after another and their text is put.
 use Rattle.tds_rows.proofs.Words as N
-use Rattle.tds_rows.proofs.{
-  Words.{◌≡◌, ◌∙◌, ℕ, ◌+◌, ◌^◌, ◌-◌, ◌<◌, ◌≤◌, Bool, false, List, [], ◌∷◌, ◌++◌, length, sym, ap, arith, None, map, Kind, Stop, Seen, Column, joined, Held},
-  Words.{Charset, Cell, CellPart, WholeCell, cell, cell_start, field, cell_so_far, true, Some, opened, ◌≢◌, refl},
-  Paths.{At, over},
-  GrowingTexts.{Grows, OptionGrows, cell_grows, grows_all, grows_same, grows_trans},
-}
+use Rattle.tds_rows.proofs.Words.{◌≡◌, ◌∙◌, ℕ, ◌+◌, ◌^◌, ◌-◌, ◌<◌, ◌≤◌, Bool, false, List, [], ◌∷◌, ◌++◌, length, sym, ap, arith, None, map, Kind, Stop, Seen}
+use Rattle.tds_rows.proofs.Words.{Column, joined, Held, Charset, Cell, CellPart, WholeCell, cell, cell_start, field, cell_so_far, true, Some, opened, ◌≢◌, refl}
+use Rattle.tds_rows.proofs.Paths.{At, over}
+use Rattle.tds_rows.proofs.GrowingTexts.{Grows, OptionGrows, cell_grows, grows_all, grows_same, grows_trans}
 
 -- ---- fields in their line
 

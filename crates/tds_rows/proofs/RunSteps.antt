@@ -1,13 +1,12 @@
 -- The cells of a run, as they are written one after another.
 use Rattle.tds_rows.proofs.Words as N
-use Rattle.tds_rows.proofs.{
-  Words.{false, ◌≡◌, ◌∙◌, ℕ, ◌+◌, ◌-◌, ◌≤◌, ◌<◌, Bool, List, [], ◌∷◌, ◌++◌, length, take, drop, refl, sym, ap, arith, true, Stop, held, Column, Charset},
-  Words.{Cell, cell_start, shape, PlainRow, row, row_so_far, Writes, WritesRows, after_cells, lines, rows, rows_so_far, Kind, ◌^◌},
-  NullSteps.row_cell,
-  RowSteps.{coming, line_grows, none_ahead, PutsCell, StopsCell},
-  Paths.{At, writes_both, writes_inside, writes_none, over},
-  TableSteps.next_column,
-}
+use Rattle.tds_rows.proofs.Words.{false, ◌≡◌, ◌∙◌, ℕ, ◌+◌, ◌-◌, ◌≤◌, ◌<◌, Bool, List, [], ◌∷◌, ◌++◌, length, take, drop, refl, sym, ap, arith, true, Stop, held}
+use Rattle.tds_rows.proofs.Words.{Column, Charset, Cell, cell_start, shape, PlainRow, row, row_so_far, Writes, WritesRows, after_cells, lines, rows}
+use Rattle.tds_rows.proofs.Words.{rows_so_far, Kind, ◌^◌}
+use Rattle.tds_rows.proofs.NullSteps.{row_cell}
+use Rattle.tds_rows.proofs.RowSteps.{coming, line_grows, none_ahead, PutsCell, StopsCell}
+use Rattle.tds_rows.proofs.Paths.{At, writes_both, writes_inside, writes_none, over}
+use Rattle.tds_rows.proofs.TableSteps.{next_column}
 
 -- ---- cells of a row
 

@@ -1,14 +1,12 @@
 -- Runs of cells over the columns that a table knows: more cells after those that were written.
 use Rattle.tds_rows.proofs.Words as N
-use Rattle.tds_rows.proofs.{
-  Words.{arith, false, ◌∷◌, ◌≡◌, ◌∙◌, ap, ℕ, ◌+◌, ◌-◌, ◌<◌, ◌≤◌, List, ◌++◌, length, take, drop, Column, Ahead, RowsRan, Table, Cell, ◌^◌, suc, Bool, sym},
-  Words.{RunsMarked, inl, ◌⊎◌, ◌==◌, ◌≢◌, Form, IsAhead, Knows, inr, true, []},
-  GrowingTexts.row_grows,
-  Paths.{At, over},
-  TableSteps.none_next,
-  RunSteps.{made_more, marked_cells, marked_writes, rows_both, rows_none, rows_onward, used_more, unused},
-  FormSteps.some_first,
-}
+use Rattle.tds_rows.proofs.Words.{arith, false, ◌∷◌, ◌≡◌, ◌∙◌, ap, ℕ, ◌+◌, ◌-◌, ◌<◌, ◌≤◌, List, ◌++◌, length, take, drop, Column, Ahead, RowsRan, Table, Cell}
+use Rattle.tds_rows.proofs.Words.{◌^◌, suc, Bool, sym, RunsMarked, inl, ◌⊎◌, ◌==◌, ◌≢◌, Form, IsAhead, Knows, inr, true, []}
+use Rattle.tds_rows.proofs.GrowingTexts.{row_grows}
+use Rattle.tds_rows.proofs.Paths.{At, over}
+use Rattle.tds_rows.proofs.TableSteps.{none_next}
+use Rattle.tds_rows.proofs.RunSteps.{made_more, marked_cells, marked_writes, rows_both, rows_none, rows_onward, used_more, unused}
+use Rattle.tds_rows.proofs.FormSteps.{some_first}
 
 -- Between two places of rows, over the ends of so many, these bytes are their cells, and this is their text.
 abbrev pub RowsBetween : Table → List Column → Ahead → Ahead → ℕ → List ℕ → List ℕ → Type 0

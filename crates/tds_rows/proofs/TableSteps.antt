@@ -1,9 +1,7 @@
 -- A table of columns, column by column.
 use Rattle.tds_rows.proofs.Words as N
-use Rattle.tds_rows.proofs.{
-  Words.{◌≡◌, ◌⊎◌, ◌∙◌, ℕ, ◌+◌, ◌≤◌, ◌<◌, List, [], ◌∷◌, length, take, drop, get_or, sym, ap, arith, map, ◌==◌, Kind, Column, columns_left, Ahead, Form},
-  Words.IsAhead,
-}
+use Rattle.tds_rows.proofs.Words.{◌≡◌, ◌⊎◌, ◌∙◌, ℕ, ◌+◌, ◌≤◌, ◌<◌, List, [], ◌∷◌, length, take, drop, get_or, sym, ap, arith, map, ◌==◌, Kind, Column}
+use Rattle.tds_rows.proofs.Words.{columns_left, Ahead, Form, IsAhead}
 use Rattle.tds_columns.specs.declared.walk.Column as walks
 
 -- what is ahead begins with the next column

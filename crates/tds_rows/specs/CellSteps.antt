@@ -1,14 +1,12 @@
 -- What reading a cell and putting it into its line does.
 use Rattle.std.specs.Prelude.{◌≡◌, ◌==◌, ◌⊎◌, ◌+◌, ◌<◌, ◌≤◌, ℕ, Bool, true, false, List, [], ◌∷◌, length, max, take, is_ok, Option}
-use Rattle.std.specs.Prelude.{Some, None, Result, Ok, IsTrue, MatchOption, MatchResult, if◌then◌else◌}
+use Rattle.std.specs.Prelude.{Some, None, Result, IsTrue, MatchOption, MatchResult, if◌then◌else◌}
 use Rattle.tds_meter.specs.Space.{Space}
 use Rattle.tds_values.specs.declared.kind.Kind.{Kind}
 use Rattle.tds_values.specs.declared.kind.Kind.TheVariants.{Int4, IntN}
-use Rattle.tds_values.specs.declared.scalar.ScalarValue.{ScalarValue}
 use Rattle.tds_values.specs.Front.{scalar_size, value_bytes, value_length, value_start}
 use Rattle.tds_values.specs.Kind.{is_scalar, is_valid}
 use Rattle.tds_values.specs.Scalar.{read_of}
-use Rattle.tds_values.specs.ScalarText.{text_of}
 use Rattle.tds_packet.specs.declared.fault.Fault.TheVariants.{BadValue}
 use Rattle.tds_packet.specs.declared.fault.Place.TheVariants.{Payload}
 use Rattle.tds_packet.specs.declared.fault.Stop.{Stop}
@@ -23,7 +21,7 @@ use Rattle.tds_csv.specs.Sinks.{Held, held}
 use Rattle.tds_csv.specs.Streaming.{StopsStreaming, Streams}
 use Rattle.tds_values.specs.declared.charset.Charset.{Charset}
 use Rattle.tds_rows.specs.declared.cell.whole.Written.{Written}
-use Rattle.tds_rows.specs.ShortCells.{IsShortLeft, short_conversion, short_size}
+use Rattle.tds_rows.specs.LongFields.{IsShapeLeft, long_size, reach_of}
 use Rattle.tds_rows.specs.WholeCells.{WritesCell, WritesWhole}
 use Rattle.tds_rows.specs.Cells.{Cell, CellPart, WholeCell, cell, cell_start, field, field_so_far, shape}
 
@@ -36,10 +34,6 @@ opened column (Some text) = after_comma column text
 abbrev pub is_last_column : List Column → Bool
 is_last_column [] = true
 is_last_column (c ∷ cs) = false
-
--- The text is that of a scalar value of these bytes, in its line.
-abbrev pub IsValueText : Kind → ℕ → Bool → List ℕ → List ℕ → Type 0
-IsValueText kind column last bytes text = (value : ScalarValue) × (read_of kind bytes ≡ Ok value) × (text ≡ in_line column last (text_of value))
 
 -- the text so far of a cell in its line: nothing before its length is accepted, then a comma unless it is the first, and its field so far; and the
 -- end of the line after it if it is the last
@@ -69,9 +63,9 @@ pub record HasInt4 (kind : Kind) (start : ℕ) (bytes : List ℕ) : Type 0 where
   pub four : value_length kind bytes ≡ 4
   pub within : start + 4 ≤ length bytes
 
--- how many bytes the cell at the front of these bytes has; of one in chunks nothing is said
+-- how many bytes the cell at the front of these bytes has; of one in several chunks nothing is said
 abbrev pub whole_size : Kind → List ℕ → ℕ
-whole_size kind bytes = if is_scalar kind then scalar_size kind bytes else short_size bytes
+whole_size kind bytes = if is_scalar kind then scalar_size kind bytes else long_size (reach_of kind) bytes
 
 -- The scalar cell at the front of these bytes is left for another way: it isn't whole, or its value is refused.
 abbrev pub IsScalarLeft : Kind → List ℕ → Type 0
@@ -81,7 +75,7 @@ IsScalarLeft kind bytes = (length bytes < scalar_size kind bytes)
 -- The cell at the front of these bytes is left, with this much room.
 abbrev pub IsLeft : Charset → Kind → List ℕ → ℕ → Type 0
 IsLeft charset kind bytes room =
-    ((is_scalar kind ≡ true) × IsScalarLeft kind bytes) ⊎ ((is_scalar kind ≡ false) × IsShortLeft (short_conversion (shape charset kind)) bytes room)
+    ((is_scalar kind ≡ true) × IsScalarLeft kind bytes) ⊎ ((is_scalar kind ≡ false) × IsShapeLeft (shape charset kind) bytes room)
 
 -- The bytes are a whole cell of a kind, and this is its text in its line; that of a scalar, in any set, comes only with the last element.
 pub record WritesKind (charset : Charset) (kind : Kind) (column : ℕ) (last : Bool) (bytes text : List ℕ) : Type 0 where

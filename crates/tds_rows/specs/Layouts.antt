@@ -1,5 +1,5 @@
 -- How the values of a kind are laid out in their cells.
-use Rattle.std.specs.Prelude.{◌≡◌, ℕ, List, slice_index}
+use Rattle.std.specs.Prelude.{◌≡◌}
 use Rattle.tds_values.specs.declared.kind.Kind.{Kind}
 use Rattle.tds_csv.specs.Fields.{conversion_of}
 use Rattle.tds_values.specs.declared.charset.Charset.{Charset}
@@ -18,9 +18,3 @@ shape_of_layout (Chunked content) = LongShape (conversion_of content) reaches.Ch
 -- The values of this kind are laid out so, if single-byte text is in this set.
 abbrev pub IsLaidOut : Charset → Kind → Layout → Type 0
 IsLaidOut charset kind layout = shape charset kind ≡ shape_of_layout layout
-
--- The value of a cell that is laid out so is there in these bytes, and has this many: at once, or after a length of one byte.
-abbrev pub HasValueAt : Layout → List ℕ → ℕ → ℕ → Type 0
-HasValueAt (Fixed k) bytes start n = (start ≡ 0) × (n ≡ k)
-HasValueAt Counted bytes start n = (start ≡ 1) × (n ≡ slice_index bytes 0)
-HasValueAt layout bytes start n = ⊥

@@ -183,7 +183,7 @@ impl<'a> Table<'a> {
         CellRun { used, made, ahead }
     }
 
-    // Writes cell after cell of an NBCROW, as far as they are NULL by their bit or whole in these bytes, aren't in
+    // Writes cell after cell of an NBCROW, as far as they are NULL by their bit or whole in these bytes, aren't in several
     // chunks, and have room. NULLs are written here.
     #[inline(always)]
     fn run_nulls(&self, from: Ahead<'a>, bitmap: &[u8], bytes: &[u8], to: &mut [u8]) -> CellRun<'a>
@@ -213,7 +213,7 @@ fn bitmap_size(columns: u16) -> usize
 }
 
 impl<'r, 't, 'p, 's, 'c, R: Read, W: Write> Rows<'r, 't, 'p, 's, 'c, R, W> {
-    // Takes the next cells of an NBCROW, as many as are NULL by their bit or whole in the packet, aren't in
+    // Takes the next cells of an NBCROW, as many as are NULL by their bit or whole in the packet, aren't in several
     // chunks and have room in the block, puts their text where it waits, and returns the place after them. It reads
     // nothing and delivers nothing.
     fn put_nulls_within(&mut self, from: Ahead<'c>, bitmap: &[u8]) -> Ahead<'c>
@@ -233,7 +233,7 @@ impl<'r, 't, 'p, 's, 'c, R: Read, W: Write> Rows<'r, 't, 'p, 's, 'c, R, W> {
         run.ahead
     }
 
-    // Takes the next cells of an NBCROW, as many as are NULL by their bit or whole in the packet, aren't in chunks and
+    // Takes the next cells of an NBCROW, as many as are NULL by their bit or whole in the packet, aren't in several chunks and
     // have room in a small text, puts that text over the end of the block, and returns the place after them.
     fn put_nulls_across(&mut self, from: Ahead<'c>, bitmap: &[u8]) -> Result<Ahead<'c>, Stop>
         requires { IsInMarkedRow self.old bitmap.now }
@@ -245,7 +245,7 @@ impl<'r, 't, 'p, 's, 'c, R: Read, W: Write> Rows<'r, 't, 'p, 's, 'c, R, W> {
         self.put_made(run, &text)
     }
 
-    // Takes the next cells of an NBCROW, as many as are NULL by their bit or whole in the packet, aren't in chunks and
+    // Takes the next cells of an NBCROW, as many as are NULL by their bit or whole in the packet, aren't in several chunks and
     // have room, puts their text, and returns the place after them.
     fn put_nulls(&mut self, from: Ahead<'c>, bitmap: &[u8]) -> Result<Ahead<'c>, Stop>
         requires { IsInMarkedRow self.old bitmap.now }

@@ -1,8 +1,8 @@
 // The reading of rows, one or several after one another (MS-TDS, ROW).
 ghost use Rattle.std.specs.Prelude.{◌≡◌, ◌+◌, ◌<◌, ◌≤◌, ℕ, Bool, List, length, false, None, IfOk, IfSome, IsTrue};
 ghost use Rattle.tds_csv.specs.Fields.{conversion_of};
-ghost use Rattle.tds_rows.specs.Cells.{long_start, Cell};
-ghost use Rattle.tds_rows.specs.Layouts.{IsLaidOut};
+ghost use Rattle.tds_rows.specs.Cells.{LongShape, long_start, Cell};
+ghost use Rattle.tds_rows.specs.Layouts.{IsLaidOut, shape_of_layout};
 ghost use Rattle.tds_rows.specs.RowReading.{CellRead, ContentRead, EndsRows, IsAtCell, IsInRow, IsInSomeRow, LeavesRows, StaysInRow, TokenTaken, RowRead};
 ghost use Rattle.tds_rows.specs.Rows.{RowToken, token_byte, PlainRow, row_start};
 ghost use Rattle.tds_columns.specs.Description.{Column};
@@ -12,7 +12,6 @@ ghost use Rattle.tds_rows.specs.Runs.{RowsPut};
 ghost use Rattle.tds_rows.specs.MarkedRuns.{MarkedWritten};
 ghost use Rattle.tds_rows.specs.RowRuns.{IsFurther, MarkedRead, RunRead};
 ghost use Rattle.tds_rows.specs.Tables.{Knows};
-ghost use Rattle.tds_rows.specs.declared.cell.layout.Layout.{Layout};
 ghost use Rattle.tds_values.specs.Kind as kinds;
 
 use crate::cell::gathered::{LONGEST_CELL, gather_scalar, length_size};
@@ -143,16 +142,22 @@ impl<'r, 't, 'p, 's, 'c, R: Read, W: Write> Rows<'r, 't, 'p, 's, 'c, R, W> {
         }
     }
 
-    // Reads the next cell, a short value of this content, and puts its field.
-    fn put_short(&mut self, at: Ahead<'c>, form: &Form, content: Content) -> Result<(), Stop>
+    // Reads the next cell, a long value of this content, and puts its field.
+    fn put_long(
+        &mut self,
+        at: Ahead<'c>,
+        form: &Form,
+        content: Content,
+        reach: Reach,
+    ) -> Result<(), Stop>
         requires next { IsAtCell self.old at form.now }
-        requires short { form.now.layout ≡ Layout.Short content }
+        requires long { shape_of_layout form.now.layout ≡ LongShape (conversion_of content) reach }
         ensures { CellRead R.remaining W.contents at.entry form.now.kind self.old self.new result }
     {
         let last = self.table.is_last(at);
         match self.put_whole(at, form) {
             Some(put) => put,
-            None => self.put_joined(content, Reach::Short, at.column, last),
+            None => self.put_joined(content, reach, at.column, last),
         }
     }
 
@@ -164,11 +169,8 @@ impl<'r, 't, 'p, 's, 'c, R: Read, W: Write> Rows<'r, 't, 'p, 's, 'c, R, W> {
     {
         match form.layout {
             Layout::Fixed(_) | Layout::Counted => self.put_scalar(at, form),
-            Layout::Short(content) => self.put_short(at, form, content),
-            Layout::Chunked(content) => {
-                let last = self.table.is_last(at);
-                self.put_joined(content, Reach::Chunked, at.column, last)
-            }
+            Layout::Short(content) => self.put_long(at, form, content, Reach::Short),
+            Layout::Chunked(content) => self.put_long(at, form, content, Reach::Chunked),
         }
     }
 
@@ -191,7 +193,7 @@ impl<'r, 't, 'p, 's, 'c, R: Read, W: Write> Rows<'r, 't, 'p, 's, 'c, R, W> {
 }
 
 impl<'r, 't, 'p, 's, 'c, R: Read, W: Write> Rows<'r, 't, 'p, 's, 'c, R, W> {
-    // Reads the next cells, as many as are whole in the packet, aren't in chunks and have room in the block, over the
+    // Reads the next cells, as many as are whole in the packet, aren't in several chunks and have room in the block, over the
     // ends of rows, and puts their text where it waits. It reads nothing and delivers nothing.
     fn put_within(&mut self, from: Ahead<'c>) -> RowsRun<'c>
         requires in_row { IsInRow self.old }
@@ -211,7 +213,7 @@ impl<'r, 't, 'p, 's, 'c, R: Read, W: Write> Rows<'r, 't, 'p, 's, 'c, R, W> {
         run
     }
 
-    // Reads the next cells of the row, as many as are whole in the packet, aren't in chunks and have room in a small
+    // Reads the next cells of the row, as many as are whole in the packet, aren't in several chunks and have room in a small
     // text, and puts that text over the end of the block. Does nothing at the row's end.
     fn put_across(&mut self, from: Ahead<'c>) -> Result<RowsRun<'c>, Stop>
         requires { IsInRow self.old }
@@ -233,7 +235,7 @@ impl<'r, 't, 'p, 's, 'c, R: Read, W: Write> Rows<'r, 't, 'p, 's, 'c, R, W> {
         })
     }
 
-    // Reads the next cells, as many as are whole in the packet, aren't in chunks and have room, and puts their text.
+    // Reads the next cells, as many as are whole in the packet, aren't in several chunks and have room, and puts their text.
     fn put_run(&mut self, from: Ahead<'c>) -> Result<RowsRun<'c>, Stop>
         requires in_row { IsInRow self.old }
         requires some { 0 < self.old.table.now.count }

@@ -58,7 +58,7 @@ impl<'a> CellRun<'a> {
 }
 
 impl<'a> Table<'a> {
-    // Writes cell after cell of a row by the forms of the next ones, as far as they are whole in these bytes, aren't in
+    // Writes cell after cell of a row by the forms of the next ones, as far as they are whole in these bytes, aren't in several
     // chunks and have room.
     #[inline(always)]
     fn run_along(
@@ -86,7 +86,7 @@ impl<'a> Table<'a> {
         }
     }
 
-    // Writes the next cell of a row, which the table doesn't know, if it is whole in these bytes, isn't in chunks and has
+    // Writes the next cell of a row, which the table doesn't know, if it is whole in these bytes, isn't in several chunks and has
     // room.
     #[inline(never)]
     fn run_unknown(&self, from: Ahead<'a>, end: u16, bytes: &[u8], to: &mut [u8]) -> CellRun<'a>
@@ -103,7 +103,7 @@ impl<'a> Table<'a> {
         self.run_along(from, end, &one, bytes, to)
     }
 
-    // Writes cell after cell of a row, as far as they are whole in these bytes, aren't in chunks and have room, up to the
+    // Writes cell after cell of a row, as far as they are whole in these bytes, aren't in several chunks and have room, up to the
     // column at which it ends. `KNOWN` says that the table knows all columns.
     #[inline(always)]
     pub(crate) fn run_cells<const KNOWN: bool>(
@@ -129,7 +129,7 @@ impl<'a> Table<'a> {
         self.run_unknown(from, end, bytes, to)
     }
 
-    /// Writes only the next cell, which is of this form. `None` if it isn't whole in these bytes, is refused or in chunks, or if there isn't
+    /// Writes only the next cell, which is of this form. `None` if it isn't whole in these bytes, is refused or in several chunks, or if there isn't
     /// the room that the text of a short value may need.
     #[inline(never)]
     pub(crate) fn write_alone(
@@ -264,7 +264,7 @@ impl<'a> Table<'a> {
         RowsRun::none(at)
     }
 
-    // Writes cell after cell of rows whose columns the table all knows, as far as they are whole in these bytes, aren't in
+    // Writes cell after cell of rows whose columns the table all knows, as far as they are whole in these bytes, aren't in several
     // chunks and have room, over the ends of rows. `NUMBERS` says that all their values are whole numbers of four bytes.
     #[inline(never)]
     fn run_known<const NUMBERS: bool>(
@@ -344,7 +344,7 @@ impl<'a> Table<'a> {
         run
     }
 
-    // Writes cell after cell, as far as they are whole in these bytes, aren't in chunks and have room, over the
+    // Writes cell after cell, as far as they are whole in these bytes, aren't in several chunks and have room, over the
     // ends of rows: after a whole row it goes on if the byte of the next ROW follows.
     #[inline(always)]
     pub(crate) fn run_rows(&self, from: Ahead<'a>, bytes: &[u8], to: &mut [u8]) -> RowsRun<'a>

@@ -1,5 +1,5 @@
-// A cell that is whole in the packet: its bytes are together.
-ghost use Rattle.std.specs.Prelude.{◌≡◌, ◌+◌, ◌-◌, ◌<◌, ◌≤◌, drop, length, take, is_ok, false, IfSome, IsTrue};
+// A cell that is whole in the packet: its bytes are together. A value in chunks has one at most.
+ghost use Rattle.std.specs.Prelude.{◌≡◌, ◌+◌, ◌-◌, ◌<◌, ◌≤◌, ℕ, drop, length, take, is_ok, false, IfSome, IsTrue, MatchOption};
 ghost use Rattle.tds_csv.specs.Quoting.{in_line, null_field};
 ghost use Rattle.tds_csv.specs.Sinks.{IsReady, PutsPiece};
 ghost use Rattle.tds_rows.specs.CellSteps.{CellWritten, HasInt4, IsInt4, WritesField, whole_size};
@@ -7,14 +7,17 @@ ghost use Rattle.tds_values.specs.Front.{value_bytes};
 ghost use Rattle.tds_values.specs.Scalar.{read_of};
 ghost use Rattle.tds_values.specs.declared.charset.Charset.{Charset};
 ghost use Rattle.tds_rows.specs.Cells.{LongShape, shape};
-ghost use Rattle.tds_rows.specs.ShortCells.{ShortWritten, short_size};
+ghost use Rattle.tds_rows.specs.ChunkedCells.{HasOneChunk, chunk_end, chunked_size, stated_total};
+ghost use Rattle.tds_rows.specs.LongFields.{LongWritten, long_size};
+ghost use Rattle.tds_rows.specs.ShortCells.{short_size};
+ghost use Rattle.tds_values.specs.declared.kind.Reach.{Reach};
 ghost use Rattle.tds_values.specs.Kind.{is_scalar};
 ghost use Rattle.tds_values.specs.declared.kind.Kind.{Kind};
 ghost use Rattle.tds_csv.specs.Fields.{conversion_of};
 ghost use Rattle.tds_rows.specs.Layouts.{IsLaidOut};
 
 use crate::cell::layout::{Form, Layout};
-use crate::cell::lengths::NULL_LENGTH;
+use crate::cell::lengths::{NULL_LENGTH, NULL_TOTAL, UNKNOWN_TOTAL};
 use byteorder::{ByteOrder, LittleEndian};
 use std::io::Write;
 use tds_csv::{Content, NULL_ROOM, Sink, field_room, write_field, write_null};
@@ -55,7 +58,7 @@ fn write_short(content: Content, bytes: &[u8], to: &mut [u8]) -> Option<Written>
     ensures used { IfSome result (λ written. written.used ≤ length bytes.now) }
     ensures most { IfSome result (λ written. written.made + 2 ≤ length to.old) }
     ensures whole { IfSome result (λ written. written.used ≡ short_size bytes.now) }
-    ensures field { ShortWritten (conversion_of content) bytes.now (length to.old + 1) to.new result }
+    ensures field { LongWritten (conversion_of content) Reach.Short bytes.now (length to.old + 1) to.new result }
 {
     if bytes.len() < 2 {
         return None;
@@ -75,24 +78,108 @@ fn write_short(content: Content, bytes: &[u8], to: &mut [u8]) -> Option<Written>
     Some(Written { used, made })
 }
 
-// Writes the field of a long value of this content as `write_short` does. `None` too if it is in chunks.
+// How many bytes the total before a value in chunks has.
+const TOTAL_SIZE: usize = 8;
+
+// How many bytes the length of a chunk has; the terminator is one.
+const CHUNK_LENGTH_SIZE: usize = 4;
+
+// How many bytes come before the data of the first chunk.
+const CHUNK_START: usize = TOTAL_SIZE + CHUNK_LENGTH_SIZE;
+
+// The most bytes of data that a chunk has which is written at once.
+const LONGEST_CHUNK: usize = 65_535;
+
+// How many bytes of data the value has whose total is at the front of these bytes, if it is whole in one chunk, or in none. `None`
+// if it isn't, or if the total isn't the number of its bytes.
 #[inline(always)]
-fn write_if_short(reach: Reach, content: Content, bytes: &[u8], to: &mut [u8]) -> Option<Written>
+fn one_chunk(total: u64, bytes: &[u8]) -> Option<usize>
+    requires some { 12 ≤ length bytes.now }
+    requires total { total ≡ stated_total bytes.now }
+    ensures { MatchOption result ((n : ℕ) → HasOneChunk bytes.now n → ⊥) (λ n. HasOneChunk bytes.now n) }
+{
+    let n = LittleEndian::read_u32(&bytes[TOTAL_SIZE..]) as usize;
+    if n > LONGEST_CHUNK || (total != n as u64 && total != UNKNOWN_TOTAL) {
+        return None;
+    }
+    if n == 0 {
+        return Some(0);
+    }
+    let end = CHUNK_START + n;
+    if bytes.len() < end + CHUNK_LENGTH_SIZE {
+        return None;
+    }
+    if LittleEndian::read_u32(&bytes[end..]) != 0 {
+        return None;
+    }
+    Some(n)
+}
+
+// How many bytes the cell of a value in one chunk with so much data has, or in none.
+#[inline(always)]
+fn chunk_end(n: usize) -> usize
+    requires { n ≤ 65535 }
+    ensures { result ≡ chunk_end n }
+{
+    if n == 0 {
+        return CHUNK_START;
+    }
+    CHUNK_START + n + CHUNK_LENGTH_SIZE
+}
+
+// Writes the field of a value of this content, which is NULL or in one chunk at most, as `write_short` does that of a short one.
+#[inline(never)]
+fn write_chunked(content: Content, bytes: &[u8], to: &mut [u8]) -> Option<Written>
     requires room { VALUE_ROOM ≤ length to.old }
     ensures used { IfSome result (λ written. written.used ≤ length bytes.now) }
     ensures most { IfSome result (λ written. written.made + 2 ≤ length to.old) }
-    ensures whole { IfSome result (λ written. written.used ≡ short_size bytes.now) }
+    ensures whole { IfSome result (λ written. written.used ≡ chunked_size bytes.now) }
+    ensures field { LongWritten (conversion_of content) Reach.Chunked bytes.now (length to.old + 1) to.new result }
+{
+    if bytes.len() < CHUNK_START {
+        return None;
+    }
+    let total = LittleEndian::read_u64(bytes);
+    if total == NULL_TOTAL {
+        let made = write_null(0, false, to);
+        return Some(Written {
+            used: TOTAL_SIZE,
+            made,
+        });
+    }
+    let Some(n) = one_chunk(total, bytes) else {
+        return None;
+    };
+    if to.len() < field_room(content, n) {
+        return None;
+    }
+    let Some(made) = write_field(content, &bytes[CHUNK_START..], n, to) else {
+        return None;
+    };
+    Some(Written {
+        used: chunk_end(n),
+        made,
+    })
+}
+
+// Writes the field of a long value of this content as `write_short` and `write_chunked` do.
+#[inline(always)]
+fn write_long(reach: Reach, content: Content, bytes: &[u8], to: &mut [u8]) -> Option<Written>
+    requires room { VALUE_ROOM ≤ length to.old }
+    ensures used { IfSome result (λ written. written.used ≤ length bytes.now) }
+    ensures most { IfSome result (λ written. written.made + 2 ≤ length to.old) }
+    ensures whole { IfSome result (λ written. written.used ≡ long_size reach bytes.now) }
     ensures field { (charset : Charset) (kind : Kind) → shape charset kind ≡ LongShape (conversion_of content) reach →
         CellWritten charset kind bytes.now (length to.old + 1) to.new result }
 {
     match reach {
         Reach::Short => write_short(content, bytes, to),
-        Reach::Chunked => None,
+        Reach::Chunked => write_chunked(content, bytes, to),
     }
 }
 
-/// Writes the field of the cell at the front of these bytes. `None` if it isn't whole, is refused or in chunks, or if
-/// there isn't the room that the text of a short value may need. Two bytes of room are left after it.
+/// Writes the field of the cell at the front of these bytes. `None` if it isn't whole, is refused or in several chunks, or if
+/// there isn't the room that the text of a long value may need. Two bytes of room are left after it.
 #[inline(always)]
 pub(crate) fn write_cell(
     form: &Form,
@@ -109,6 +196,9 @@ pub(crate) fn write_cell(
 {
     if let Layout::Short(content) = form.layout {
         return write_short(content, bytes, to);
+    }
+    if let Layout::Chunked(content) = form.layout {
+        return write_chunked(content, bytes, to);
     }
     if bytes.is_empty() {
         return None;
@@ -158,7 +248,7 @@ fn write_no_value(form: &Form, charset: Charset, bytes: &[u8], to: &mut [u8]) ->
     Some(Written { used: 1, made })
 }
 
-// Writes the field of the cell that begins at `from` as [`write_far_cell`] does, where no value of a scalar kind is: a short
+// Writes the field of the cell that begins at `from` as [`write_far_cell`] does, where no value of a scalar kind is: a long
 // value, or NULL.
 #[inline(always)]
 fn write_other(
@@ -180,15 +270,13 @@ fn write_other(
     ensures field { CellWritten charset form.now.kind (drop from bytes.now) (length to.old - at + 1) (drop at to.new) result }
 {
     match form.kind {
-        Kind::Binary(reach) => {
-            write_if_short(reach, Content::Binary, &bytes[from..], &mut to[at..])
-        }
-        Kind::Wide(reach) => write_if_short(reach, Content::Utf16, &bytes[from..], &mut to[at..]),
+        Kind::Binary(reach) => { write_long(reach, Content::Binary, &bytes[from..], &mut to[at..]) }
+        Kind::Wide(reach) => write_long(reach, Content::Utf16, &bytes[from..], &mut to[at..]),
         Kind::Narrow(reach) => match charset {
             Charset::Windows1252 => {
-                write_if_short(reach, Content::Windows1252, &bytes[from..], &mut to[at..])
+                write_long(reach, Content::Windows1252, &bytes[from..], &mut to[at..])
             }
-            Charset::Utf8 => write_if_short(reach, Content::Utf8, &bytes[from..], &mut to[at..]),
+            Charset::Utf8 => write_long(reach, Content::Utf8, &bytes[from..], &mut to[at..]),
         },
         _ => write_no_value(form, charset, &bytes[from..], &mut to[at..]),
     }

@@ -225,7 +225,7 @@ pub(crate) fn write_far_alone(
 }
 
 /// Writes the cells of the next columns of a row, after its first `column` ones, one after another, as far as they
-/// are whole in these bytes, aren't in chunks and have room. `ends` says that the last of these columns is the row's
+/// are whole in these bytes, aren't in several chunks and have room. `ends` says that the last of these columns is the row's
 /// last.
 #[inline(never)]
 pub(crate) fn run_forms(

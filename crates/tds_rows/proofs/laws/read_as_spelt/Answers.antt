@@ -1,10 +1,8 @@
 use Rattle.tds_rows.proofs.laws.read_as_spelt.Goals as goal
-use Rattle.tds_rows.proofs.{
-  CellLaws.cell_is_read,
-  CellMeaning.cell_is_spelt,
-  RowLaws.{shape-HasBytes, row_is_read, nbc_row_is_read, some_bitmap},
-  RowMeaning.{row_is_spelt, nbc_row_is_spelt},
-}
+use Rattle.tds_rows.proofs.CellLaws.{cell_is_read}
+use Rattle.tds_rows.proofs.CellMeaning.{cell_is_spelt}
+use Rattle.tds_rows.proofs.RowLaws.{shape-HasBytes, row_is_read, nbc_row_is_read, some_bitmap}
+use Rattle.tds_rows.proofs.RowMeaning.{row_is_spelt, nbc_row_is_spelt}
 
 pub returns-clause-cell : goal.returns-clause-cell
 returns-clause-cell c = λ charset kind column value bytes are.

@@ -1,5 +1,7 @@
 use Rattle.tds_rows.proofs.laws.refused_for_good.Goals as goal
-use Rattle.tds_rows.proofs.{Words.{refused_for_good}, CellLaws.cell_is_read, RowLaws.{shape-HasBytes, row_is_read, refused_nbc_row}}
+use Rattle.tds_rows.proofs.Words.{refused_for_good}
+use Rattle.tds_rows.proofs.CellLaws.{cell_is_read}
+use Rattle.tds_rows.proofs.RowLaws.{shape-HasBytes, row_is_read, refused_nbc_row}
 
 pub returns-clause-cell : goal.returns-clause-cell
 returns-clause-cell c = λ charset kind column front rest more at fault value h r k.

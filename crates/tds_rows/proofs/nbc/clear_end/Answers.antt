@@ -1,5 +1,6 @@
 use Rattle.tds_rows.proofs.nbc.clear_end.Goals as goal
-use Rattle.tds_rows.proofs.{Words.{arith, rules}, Bits.{clear_byte, first_set}}
+use Rattle.tds_rows.proofs.Words.{arith, rules}
+use Rattle.tds_rows.proofs.Bits.{clear_byte, first_set}
 
 pub loop-at-preserved : goal.loop-at-preserved
 loop-at-preserved c = grind (arith, clear_byte)

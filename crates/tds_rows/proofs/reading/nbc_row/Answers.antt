@@ -1,5 +1,7 @@
 use Rattle.tds_rows.proofs.reading.nbc_row.Goals as goal
-use Rattle.tds_rows.proofs.{Words.{refl, ◌≡◌, rules, row_so_far}, RowLaws.{nbc_row_is_read, some_bitmap}, Successes.streaming_succeeds}
+use Rattle.tds_rows.proofs.Words.{refl, ◌≡◌, rules, row_so_far}
+use Rattle.tds_rows.proofs.RowLaws.{nbc_row_is_read, some_bitmap}
+use Rattle.tds_rows.proofs.Successes.{streaming_succeeds}
 
 pub returns-clause-row : goal.returns-clause-row
 returns-clause-row g c = λ _ _.

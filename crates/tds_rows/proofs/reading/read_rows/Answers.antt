@@ -1,5 +1,6 @@
 use Rattle.tds_rows.proofs.reading.read_rows.Goals as goal
-use Rattle.tds_rows.proofs.{Words.{rules}, Successes.rows_succeed}
+use Rattle.tds_rows.proofs.Words.{rules}
+use Rattle.tds_rows.proofs.Successes.{rows_succeed}
 
 pub returns-clause-rows : goal.returns-clause-rows
 returns-clause-rows g c =

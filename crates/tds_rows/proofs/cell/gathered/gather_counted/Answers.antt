@@ -1,5 +1,6 @@
 use Rattle.tds_rows.proofs.cell.gathered.gather_counted.Goals as goal
-use Rattle.tds_rows.proofs.{Words.{◌∙◌, get_or, refl, sym, ap, passed}, CellSteps.{cell_cut, counted_taken, length_refused, length_taken}}
+use Rattle.tds_rows.proofs.Words.{◌∙◌, get_or, refl, sym, ap, passed}
+use Rattle.tds_rows.proofs.CellSteps.{cell_cut, counted_taken, length_refused, length_taken}
 
 pub returns-in_err-take_into-clause-cell : goal.returns-in_err-take_into-clause-cell
 returns-in_err-take_into-clause-cell g c =

@@ -1,4 +1,5 @@
-use Rattle.tds_rows.proofs.{Words.{◌∙◌, sym, rules}, CellSteps.scalar_start}
+use Rattle.tds_rows.proofs.Words.{◌∙◌, sym, rules}
+use Rattle.tds_rows.proofs.CellSteps.{scalar_start}
 
 pub returns-in-None-clause-cell : Rattle.tds_rows.proofs.cell.gathered.gather_scalar.Goals.returns-in-None-clause-cell
 returns-in-None-clause-cell g c = λ charset.

@@ -1,9 +1,7 @@
 use Rattle.tds_rows.proofs.cell.passed.pass_chunks.Goals as goal
-use Rattle.tds_rows.proofs.{
-  Words.{arith, rules, sym, passed, between_of},
-  PassedCells.{chunks_cut, chunks_end, chunks_more, chunks_none, stops_after_steps, chunk_steps, end_steps},
-  Numbers.chunk_stops,
-}
+use Rattle.tds_rows.proofs.Words.{arith, rules, sym, passed, between_of}
+use Rattle.tds_rows.proofs.PassedCells.{chunks_cut, chunks_end, chunks_more, chunks_none, stops_after_steps, chunk_steps, end_steps}
+use Rattle.tds_rows.proofs.Numbers.{chunk_stops}
 
 pub loop-n-init : goal.loop-n-init
 loop-n-init g c = record {

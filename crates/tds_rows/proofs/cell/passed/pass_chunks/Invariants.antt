@@ -1,5 +1,6 @@
 use Rattle.tds_rows.proofs.cell.passed.pass_chunks.Given as goal
-use Rattle.tds_rows.proofs.{Words.{◌-◌, ◌≤◌, Conversion, IsGoing, IsOnSame, seen, AnyData}, PassedCells.WalksChunks}
+use Rattle.tds_rows.proofs.Words.{◌-◌, ◌≤◌, Conversion, IsGoing, IsOnSame, seen, AnyData}
+use Rattle.tds_rows.proofs.PassedCells.{WalksChunks}
 
 abbrev pub invariant-loop-n : goal.invariant-loop-n
 invariant-loop-n g l = record {

@@ -1,5 +1,6 @@
 use Rattle.tds_rows.proofs.cell.passed.pass_data.Goals as goal
-use Rattle.tds_rows.proofs.{Words.{arith, rules, passed, between_of}, PassedCells.{cuts_more, passes_more, passes_none}}
+use Rattle.tds_rows.proofs.Words.{arith, rules, passed, between_of}
+use Rattle.tds_rows.proofs.PassedCells.{cuts_more, passes_more, passes_none}
 
 pub loop-left-init : goal.loop-left-init
 loop-left-init g c = record {

@@ -1,9 +1,7 @@
 use Rattle.tds_rows.proofs.cell.passed.pass_long.Goals as goal
-use Rattle.tds_rows.proofs.{
-  Words.{sym, MatchResult-weaker, passed},
-  PassedCells.{cell_after, short_cuts, short_passes, short_even, steps_of, stops_after_steps},
-  Numbers.{short_none, short_start, short_stops, total_none, total_start, total_stops},
-}
+use Rattle.tds_rows.proofs.Words.{sym, MatchResult-weaker, passed}
+use Rattle.tds_rows.proofs.PassedCells.{cell_after, short_cuts, short_passes, short_even, steps_of, stops_after_steps}
+use Rattle.tds_rows.proofs.Numbers.{short_none, short_start, short_stops, total_none, total_start, total_stops}
 
 pub returns-in_err-n-in-Short-clause-cell : goal.returns-in_err-n-in-Short-clause-cell
 returns-in_err-n-in-Short-clause-cell g c = λ kind conversion any.

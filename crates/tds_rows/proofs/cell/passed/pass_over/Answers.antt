@@ -1,5 +1,7 @@
 use Rattle.tds_rows.proofs.cell.passed.pass_over.Goals as goal
-use Rattle.tds_rows.proofs.{Words.{inl, inr, Binary, Narrow, Wide}, PassedCells.{any_hex, any_narrow, any_wide}, Successes.value_passes}
+use Rattle.tds_rows.proofs.Words.{inl, inr, Binary, Narrow, Wide}
+use Rattle.tds_rows.proofs.PassedCells.{any_hex, any_narrow, any_wide}
+use Rattle.tds_rows.proofs.Successes.{value_passes}
 
 pub returns-in-Binary-clause-cell : goal.returns-in-Binary-clause-cell
 returns-in-Binary-clause-cell g c = λ _.

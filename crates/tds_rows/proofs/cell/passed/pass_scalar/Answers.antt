@@ -1,5 +1,6 @@
 use Rattle.tds_rows.proofs.cell.passed.pass_scalar.Goals as goal
-use Rattle.tds_rows.proofs.{Words.{sym, rules, return_charset}, PassedCells.{scalar_passes, scalar_stops}}
+use Rattle.tds_rows.proofs.Words.{sym, rules, return_charset}
+use Rattle.tds_rows.proofs.PassedCells.{scalar_passes, scalar_stops}
 
 pub is_refused-requires-clause-whole : goal.is_refused-requires-clause-whole
 is_refused-requires-clause-whole g c = rw c.bytes.ensures.value (c.in_ok-gather_scalar.ensures.cell return_charset).whole

@@ -1,4 +1,5 @@
-use Rattle.tds_rows.proofs.{Words.{refl}, Successes.{streaming_succeeds, long_is_read}}
+use Rattle.tds_rows.proofs.Words.{refl}
+use Rattle.tds_rows.proofs.Successes.{streaming_succeeds, long_is_read}
 
 pub returns-clause-succeeds : Rattle.tds_rows.proofs.cell.streamed.stream_value.Goals.returns-clause-succeeds
 returns-clause-succeeds g c = λ going writing conversion suits kind value bytes more spelt.

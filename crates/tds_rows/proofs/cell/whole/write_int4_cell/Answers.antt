@@ -1,5 +1,7 @@
 use Rattle.tds_rows.proofs.cell.whole.write_int4_cell.Goals as goal
-use Rattle.tds_rows.proofs.{Words.{◌∙◌, ap, arith, rules, in_line}, BufferedCells.{int4_start, null_cell}, RunSteps.writes_scalar}
+use Rattle.tds_rows.proofs.Words.{◌∙◌, ap, arith, rules, in_line}
+use Rattle.tds_rows.proofs.BufferedCells.{int4_start, null_cell}
+use Rattle.tds_rows.proofs.RunSteps.{writes_scalar}
 
 pub returns-in-0-clause-field : goal.returns-in-0-clause-field
 returns-in-0-clause-field c = λ charset column last.

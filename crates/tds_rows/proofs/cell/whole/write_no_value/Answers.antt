@@ -1,10 +1,8 @@
 use Rattle.tds_rows.proofs.cell.whole.write_no_value.Goals as goal
-use Rattle.tds_rows.proofs.{
-  Words.{◌∙◌, ap, arith, in_line, refl, rules, slice_index, sym},
-  BufferedCells.null_cell,
-  LaidOut.{counted_there, value_there},
-  RunSteps.writes_scalar,
-}
+use Rattle.tds_rows.proofs.Words.{◌∙◌, ap, arith, in_line, refl, rules, slice_index, sym}
+use Rattle.tds_rows.proofs.BufferedCells.{null_cell}
+use Rattle.tds_rows.proofs.LaidOut.{counted_there, value_there}
+use Rattle.tds_rows.proofs.RunSteps.{writes_scalar}
 
 pub returns-clause-field : goal.returns-clause-field
 returns-clause-field c = λ column last.

@@ -1,5 +1,7 @@
 use Rattle.tds_rows.proofs.rows.Rows.nbc_row.Given as goal
-use Rattle.tds_rows.proofs.{Words.{◌*◌, ◌≤◌, ◌-◌, KnowsSome, StaysInRow, bit, length}, NextSteps.NearsAll, Paths.here}
+use Rattle.tds_rows.proofs.Words.{◌*◌, ◌≤◌, ◌-◌, KnowsSome, StaysInRow, bit, length}
+use Rattle.tds_rows.proofs.NextSteps.{NearsAll}
+use Rattle.tds_rows.proofs.Paths.{here}
 
 abbrev pub invariant-loop-at : goal.invariant-loop-at
 invariant-loop-at g l = record {

@@ -1,8 +1,6 @@
 use Rattle.tds_rows.proofs.rows.Rows.nbc_rows.Goals as goal
-use Rattle.tds_rows.proofs.{
-  Words.{NbcRow, ◌∙◌, refl, sym, ap, arith, passed},
-  NextSteps.{none_put, rows_first, rows_row, rows_stop, rows_taken, rows_token, stays, stays_after, stays_on},
-}
+use Rattle.tds_rows.proofs.Words.{NbcRow, ◌∙◌, refl, sym, ap, arith, passed}
+use Rattle.tds_rows.proofs.NextSteps.{none_put, rows_first, rows_row, rows_stop, rows_taken, rows_token, stays, stays_after, stays_on}
 
 pub loop-ended-init : goal.loop-ended-init
 loop-ended-init g c = record {

@@ -1,6 +1,8 @@
 use Rattle.tds_rows.proofs.rows.Rows.nbc_rows.Given as goal
 use Rattle.tds_rows.proofs.Words as N
-use Rattle.tds_rows.proofs.{Words.{◌≡◌, ◌+◌, ◌-◌, ◌≤◌}, NextSteps.RowsAt, Paths.here}
+use Rattle.tds_rows.proofs.Words.{◌≡◌, ◌+◌, ◌-◌, ◌≤◌}
+use Rattle.tds_rows.proofs.NextSteps.{RowsAt}
+use Rattle.tds_rows.proofs.Paths.{here}
 
 abbrev pub invariant-loop-ended : goal.invariant-loop-ended
 invariant-loop-ended g l = record {

@@ -1,5 +1,7 @@
 use Rattle.tds_rows.proofs.rows.Rows.put_across.Goals as goal
-use Rattle.tds_rows.proofs.{Words.{[], arith, Puts-none, Takes-none, add-zero, passed, sym}, Paths.here, TableRuns.{marked_rows, rows_begin, runs_rows}}
+use Rattle.tds_rows.proofs.Words.{[], arith, Puts-none, Takes-none, add-zero, passed, sym}
+use Rattle.tds_rows.proofs.Paths.{here}
+use Rattle.tds_rows.proofs.TableRuns.{marked_rows, rows_begin, runs_rows}
 
 pub returns-in_err-ahead : goal.returns-in_err-ahead
 returns-in_err-ahead g c =

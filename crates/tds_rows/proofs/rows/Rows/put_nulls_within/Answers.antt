@@ -1,9 +1,7 @@
 use Rattle.tds_rows.proofs.rows.Rows.put_nulls_within.Goals as goal
-use Rattle.tds_rows.proofs.{
-  Words.{◌≡◌, ◌∙◌, ap, sym, ◌-◌, ◌+◌, ◌≤◌, length, take, arith, length-take, drop-drop, buffered, held},
-  BufferedCells.kept_text,
-  NextSteps.all_waits,
-}
+use Rattle.tds_rows.proofs.Words.{◌≡◌, ◌∙◌, ap, sym, ◌-◌, ◌+◌, ◌≤◌, length, take, arith, length-take, drop-drop, buffered, held}
+use Rattle.tds_rows.proofs.BufferedCells.{kept_text}
+use Rattle.tds_rows.proofs.NextSteps.{all_waits}
 
 pub returns-clause-ends : goal.returns-clause-ends
 returns-clause-ends g c =

@@ -1,6 +1,9 @@
 use Rattle.tds_rows.proofs.rows.Rows.put_within.Goals as goal
 use Rattle.tds_rows.proofs.Words as N
-use Rattle.tds_rows.proofs.{Words.{◌≡◌, ◌+◌, ◌≤◌}, BufferedCells.kept_text, Paths.{at_of, here}, TableRuns.runs_rows}
+use Rattle.tds_rows.proofs.Words.{◌≡◌, ◌+◌, ◌≤◌}
+use Rattle.tds_rows.proofs.BufferedCells.{kept_text}
+use Rattle.tds_rows.proofs.Paths.{at_of, here}
+use Rattle.tds_rows.proofs.TableRuns.{runs_rows}
 
 pub returns-clause-rows : goal.returns-clause-rows
 returns-clause-rows g c = λ columns knows ahead.

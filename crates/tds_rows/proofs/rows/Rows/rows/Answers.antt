@@ -1,8 +1,7 @@
 use Rattle.tds_rows.proofs.rows.Rows.rows.Goals as goal
-use Rattle.tds_rows.proofs.{
-  Words.{◌∙◌, [], refl, sym, ap, arith, passed, PlainRow},
-  NextSteps.{cell_further, none_put, rows_broke, rows_cell, rows_first, rows_ran, rows_stopped, rows_token, rows_whole, stays, stays_after, stays_on},
-}
+use Rattle.tds_rows.proofs.Words.{◌∙◌, [], refl, sym, ap, arith, passed, PlainRow}
+use Rattle.tds_rows.proofs.NextSteps.{cell_further, none_put, rows_broke, rows_cell, rows_first, rows_ran, rows_stopped, rows_token, rows_whole, stays}
+use Rattle.tds_rows.proofs.NextSteps.{stays_after, stays_on}
 
 pub loop-run-init : goal.loop-run-init
 loop-run-init g c =

@@ -1,5 +1,7 @@
 use Rattle.tds_rows.proofs.rows.Rows.rows.Given as goal
-use Rattle.tds_rows.proofs.{Words.{◌+◌, ◌-◌, ◌≤◌, StaysInRow, KnowsSome}, NextSteps.RowsHere, Paths.here}
+use Rattle.tds_rows.proofs.Words.{◌+◌, ◌-◌, ◌≤◌, StaysInRow, KnowsSome}
+use Rattle.tds_rows.proofs.NextSteps.{RowsHere}
+use Rattle.tds_rows.proofs.Paths.{here}
 
 abbrev pub invariant-loop-run : goal.invariant-loop-run
 invariant-loop-run g l = record {

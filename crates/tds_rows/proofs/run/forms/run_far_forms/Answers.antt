@@ -1,5 +1,6 @@
 use Rattle.tds_rows.proofs.run.forms.run_far_forms.Goals as goal
-use Rattle.tds_rows.proofs.{Words.{◌≡◌, ◌∙◌, ◌-◌, ◌<◌, ◌++◌, ap, append-nil, drop, take, length, length-drop, arith, refl, end_after, eq-eqb, ne_eqb, sym}, FormSteps.{ended_run, fields_run}}
+use Rattle.tds_rows.proofs.Words.{◌≡◌, ◌∙◌, ◌-◌, ◌<◌, ◌++◌, ap, append-nil, drop, take, length, length-drop, arith, refl, end_after, eq-eqb, ne_eqb, sym}
+use Rattle.tds_rows.proofs.FormSteps.{ended_run, fields_run}
 
 pub returns-then-run-at-clause-cells : goal.returns-then-run-at-clause-cells
 returns-then-run-at-clause-cells c =

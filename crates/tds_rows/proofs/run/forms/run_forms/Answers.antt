@@ -1,5 +1,6 @@
 use Rattle.tds_rows.proofs.run.forms.run_forms.Goals as goal
-use Rattle.tds_rows.proofs.{Words.{◌∙◌, ◌-◌, ◌++◌, ap, take, arith, rules, end_after}, FormSteps.fields_run}
+use Rattle.tds_rows.proofs.Words.{◌∙◌, ◌-◌, ◌++◌, ap, take, arith, rules, end_after}
+use Rattle.tds_rows.proofs.FormSteps.{fields_run}
 
 pub returns-then-run-eq0 : goal.returns-then-run-eq0
 returns-then-run-eq0 c = record {

@@ -1,8 +1,7 @@
 use Rattle.tds_rows.proofs.run.forms.run_row.Goals as goal
-use Rattle.{
-  tds_values.specs.declared.charset.Charset.TheVariants.Windows1252,
-  tds_rows.proofs.{Words.{◌∙◌, ◌-◌, ◌++◌, ◌≡◌, ap, sym, take, length, arith, rules, eq-eqb, end_after}, FormSteps.fields_run},
-}
+use Rattle.tds_values.specs.declared.charset.Charset.TheVariants.{Windows1252}
+use Rattle.tds_rows.proofs.Words.{◌∙◌, ◌-◌, ◌++◌, ◌≡◌, ap, sym, take, length, arith, rules, eq-eqb, end_after}
+use Rattle.tds_rows.proofs.FormSteps.{fields_run}
 
 pub overflow_sub-run : goal.overflow_sub-run
 overflow_sub-run c =

@@ -1,8 +1,6 @@
 use Rattle.tds_rows.proofs.run.forms.write_far_alone.Goals as goal
-use Rattle.tds_rows.proofs.{
-  Words.{◌∙◌, ◌≤◌, ◌+◌, ◌++◌, ap, arith, end_after, length, rules, sym, take, take-take, take-append-le, length-take-le},
-  FormSteps.line_beyond,
-}
+use Rattle.tds_rows.proofs.Words.{◌∙◌, ◌≤◌, ◌+◌, ◌++◌, ap, arith, end_after, length, rules, sym, take, take-take, take-append-le, length-take-le}
+use Rattle.tds_rows.proofs.FormSteps.{left_less, line_beyond}
 
 pub returns-in_err-written-clause-kept : goal.returns-in_err-written-clause-kept
 returns-in_err-written-clause-kept c =
@@ -40,3 +38,6 @@ returns-clause-cell c =
     cell.ensures.kept end.ensures.text in
     let line = x.1.1 ∙ ap (λ l. l ++ end_after c.args.last) (comma.ensures.text _) in
     record { size = c.in_ok-written.ensures.whole; writes = rw line (c.in_ok-written.ensures.field c.args.column c.args.last) }
+
+pub returns-in_err-written-clause-cell : goal.returns-in_err-written-clause-cell
+returns-in_err-written-clause-cell c = grind (arith, left_less)

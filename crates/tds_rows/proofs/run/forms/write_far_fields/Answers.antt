@@ -1,6 +1,10 @@
 use Rattle.tds_rows.proofs.run.forms.write_far_fields.Goals as goal
 use Rattle.std.proofs.lemmas.List.{get_or-drop}
-use Rattle.tds_rows.proofs.{Words.{[], append-nil, refl, ◌≡◌, ◌<◌, ◌≤◌, ◌∙◌, ◌+◌, ◌-◌, ℕ, take, Form, List, all_after, ap, drop, get_or, inr, length, length-drop, sym, take-take, arith, rules}, RunSteps.made_same, FormSteps.{beyond_kept, fields_end, fields_more, fields_step, kept_before, left_less, same_beyond, set_beyond, unused_from, written_after}}
+use Rattle.tds_rows.proofs.Words.{[], append-nil, refl, ◌≡◌, ◌<◌, ◌≤◌, ◌∙◌, ◌+◌, ◌-◌, ℕ, take, Form, List, all_after, ap, drop, get_or, inr, length}
+use Rattle.tds_rows.proofs.Words.{length-drop, sym, take-take, arith, rules}
+use Rattle.tds_rows.proofs.RunSteps.{made_same}
+use Rattle.tds_rows.proofs.FormSteps.{beyond_kept, fields_end, fields_more, fields_step, kept_before, left_less, same_beyond, set_beyond, unused_from}
+use Rattle.tds_rows.proofs.FormSteps.{written_after}
 
 pub loop-cells-init : goal.loop-cells-init
 loop-cells-init c =

@@ -1,5 +1,6 @@
 use Rattle.tds_rows.proofs.run.forms.write_far_fields.Given as goal
-use Rattle.tds_rows.proofs.{Words.{length, take, drop, ◌-◌, ◌≡◌, ◌≤◌, FieldsWritten, done_since}, FormSteps.FieldsAt}
+use Rattle.tds_rows.proofs.Words.{length, take, drop, ◌-◌, ◌≡◌, ◌≤◌, FieldsWritten, done_since}
+use Rattle.tds_rows.proofs.FormSteps.{FieldsAt}
 
 abbrev pub invariant-loop-cells : goal.invariant-loop-cells
 invariant-loop-cells l = record {

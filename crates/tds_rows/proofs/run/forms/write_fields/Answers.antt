@@ -1,5 +1,8 @@
 use Rattle.tds_rows.proofs.run.forms.write_fields.Goals as goal
-use Rattle.tds_rows.proofs.{Words.{◌≡◌, ◌∙◌, ◌-◌, ℕ, length, drop, get_or, all_after, ap, sym, arith, rules}, FormSteps.{fields_more, fields_step, left_after}}
+use Rattle.tds_rows.proofs.run.forms.write_fields.Goals.{then-loop-cells-test+else-made-most, else-loop-cells-test}
+use Rattle.tds_rows.proofs.run.forms.write_fields.Goals.{then-loop-cells-test+then-made-most+in_default as left}
+use Rattle.tds_rows.proofs.Words.{inr, ◌≡◌, ◌∙◌, ◌-◌, ℕ, length, drop, get_or, all_after, ap, sym, arith, rules}
+use Rattle.tds_rows.proofs.FormSteps.{fields_more, fields_step, left_after, left_less}
 
 pub loop-cells-preserved : goal.loop-cells-preserved
 loop-cells-preserved c =
@@ -22,3 +25,15 @@ loop-cells-preserved c =
       writes = fields_more c.args.charset forms c.args.column bytes l.to c.write_cell.new.to _ l.cells _ written.used _ l.made
           written.made form left.0 l.invariant.at.fits (search (arith, rules)) c.loop-cells-test.true wrote l.invariant.writes;
     }
+
+pub returns-clause-ends : goal.returns-clause-ends
+returns-clause-ends c = λ none form rest is. elim c.loop-cells-test.branch [
+  | then-loop-cells-test+else-made-most w ↦ grind arith
+  | else-loop-cells-test w ↦ grind arith
+  | left w ↦ (let l = c.loop-cells in
+      let bytes = c.args.bytes.now in
+      let begun = l.invariant.at.begun none in
+      let all : l.rest.now ≡ bytes = l.invariant.rest ∙ ap (λ (n : ℕ). drop n bytes) begun.0 in
+      let first : w.index-forms-cells.result ≡ form = grind arith in
+      inr (left_less c.args.charset form.kind bytes (grind arith) (rw first at (rw all at w.in_default.ensures.field))))
+]

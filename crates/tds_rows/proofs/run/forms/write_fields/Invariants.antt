@@ -1,5 +1,6 @@
 use Rattle.tds_rows.proofs.run.forms.write_fields.Given as goal
-use Rattle.tds_rows.proofs.{Words.{length, drop, ◌-◌, ◌≡◌, ◌≤◌, FieldsWritten}, FormSteps.FieldsAt}
+use Rattle.tds_rows.proofs.Words.{length, drop, ◌-◌, ◌≡◌, ◌≤◌, FieldsWritten}
+use Rattle.tds_rows.proofs.FormSteps.{FieldsAt}
 
 abbrev pub invariant-loop-cells : goal.invariant-loop-cells
 invariant-loop-cells l = record {

@@ -1,10 +1,8 @@
 use Rattle.tds_rows.proofs.run.forms.write_numbers.Goals as goal
-use Rattle.tds_rows.proofs.{
-  Words.{◌≡◌, ◌∙◌, ◌+◌, ◌-◌, length, take, drop, get_or, get_or_default, refl, arith, rules, all_after},
-  BufferedCells.int4_scalar,
-  FormSteps.{bytes_step, fields_more, fields_step, room_step},
-  RunSteps.{made_same, scalar_left},
-}
+use Rattle.tds_rows.proofs.Words.{◌≡◌, ◌∙◌, ◌+◌, ◌-◌, length, take, drop, get_or, get_or_default, refl, arith, rules, all_after}
+use Rattle.tds_rows.proofs.BufferedCells.{int4_scalar}
+use Rattle.tds_rows.proofs.FormSteps.{bytes_step, fields_more, fields_step, room_step}
+use Rattle.tds_rows.proofs.RunSteps.{made_same, scalar_left}
 use Rattle.tds_values.specs.declared.charset.Charset.TheVariants.{Windows1252}
 
 pub loop-cells-preserved : goal.loop-cells-preserved

@@ -1,4 +1,5 @@
-use Rattle.tds_rows.proofs.{Words.{refl, arith}, TableSteps.next_known}
+use Rattle.tds_rows.proofs.Words.{refl, arith}
+use Rattle.tds_rows.proofs.TableSteps.{next_known}
 
 pub returns-then-at-self : Rattle.tds_rows.proofs.table.Table.form.Goals.returns-then-at-self
 returns-then-at-self c = record {

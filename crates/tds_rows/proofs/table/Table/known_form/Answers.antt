@@ -1,4 +1,5 @@
-use Rattle.tds_rows.proofs.{Words.{refl, arith}, TableSteps.next_known}
+use Rattle.tds_rows.proofs.Words.{refl, arith}
+use Rattle.tds_rows.proofs.TableSteps.{next_known}
 
 pub returns-clause-next : Rattle.tds_rows.proofs.table.Table.known_form.Goals.returns-clause-next
 returns-clause-next c = λ columns knows ahead.

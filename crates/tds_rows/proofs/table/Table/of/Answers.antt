@@ -1,9 +1,7 @@
 use Rattle.tds_rows.proofs.table.Table.of.Goals as goal
-use Rattle.tds_rows.proofs.{
-  Words.{◌∙◌, ap, sym, arith, IsInt4, IsLaidOut, columns_of, is_int4, rules},
-  LaidOut.{each_all, each_set, int4_set},
-  TableSteps.{first_more, next_column},
-}
+use Rattle.tds_rows.proofs.Words.{◌∙◌, ap, sym, arith, IsInt4, IsLaidOut, columns_of, is_int4, rules}
+use Rattle.tds_rows.proofs.LaidOut.{each_all, each_set, int4_set}
+use Rattle.tds_rows.proofs.TableSteps.{first_more, next_column}
 
 pub loop-known-init : goal.loop-known-init
 loop-known-init c = record {

@@ -1,5 +1,5 @@
 use Rattle.tds_rows.proofs.table.Table.run_along.Goals as goal
-use Rattle.tds_rows.proofs.{TableRuns.{first_left, none_written}}
+use Rattle.tds_rows.proofs.TableRuns.{first_left, none_written}
 
 pub returns-clause-ends : goal.returns-clause-ends
 returns-clause-ends c = λ none columns column left knows is step.

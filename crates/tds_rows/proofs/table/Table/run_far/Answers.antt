@@ -1,19 +1,12 @@
 use Rattle.tds_rows.proofs.table.Table.run_far.Goals as goal
 use Rattle.tds_rows.proofs.Words as N
-use Rattle.tds_rows.proofs.{
-  Words.{◌∷◌, arith, ◌≡◌, ◌∙◌, ◌+◌, ◌-◌, ◌≤◌, ap, drop, inl, inr, length, length-drop, refl, rules, sym},
-  table.Table.run_far.Goals.{
-    then-begun-forms-via-then-begun-forms,
-    then-begun-forms-via-else-begun-forms+then-bytes-lt-FAR,
-    then-begun-forms-via-else-begun-forms+else-bytes-lt-FAR+then-to-lt-CELL_ROOM,
-    else-loop-at-test,
-    then-loop-at-test+else-at-most,
-    then-loop-at-test+then-at-most+then-run-at as cell_left,
-    then-loop-at-test+then-at-most+else-run-at+else-at-forms+then-not-row_follows as row_last,
-  },
-  TableRuns.{first_left, place_known, rest_ahead, row_begun, rows_begin, rows_far, rows_kept},
-  TableSteps.none_next,
-}
+use Rattle.tds_rows.proofs.Words.{◌∷◌, arith, ◌≡◌, ◌∙◌, ◌+◌, ◌-◌, ◌≤◌, ap, drop, inl, inr, length, length-drop, refl, rules, sym}
+use Rattle.tds_rows.proofs.table.Table.run_far.Goals.{then-begun-forms-via-then-begun-forms, then-begun-forms-via-else-begun-forms+then-bytes-lt-FAR}
+use Rattle.tds_rows.proofs.table.Table.run_far.Goals.{then-begun-forms-via-else-begun-forms+else-bytes-lt-FAR+then-to-lt-CELL_ROOM, else-loop-at-test}
+use Rattle.tds_rows.proofs.table.Table.run_far.Goals.{then-loop-at-test+else-at-most, then-loop-at-test+then-at-most+then-run-at as cell_left}
+use Rattle.tds_rows.proofs.table.Table.run_far.Goals.{then-loop-at-test+then-at-most+else-run-at+else-at-forms+then-not-row_follows as row_last}
+use Rattle.tds_rows.proofs.TableRuns.{first_left, place_known, rest_ahead, row_begun, rows_begin, rows_far, rows_kept}
+use Rattle.tds_rows.proofs.TableSteps.{none_next}
 
 pub returns-then-begun-forms-clause-rows : goal.returns-then-begun-forms-clause-rows
 returns-then-begun-forms-clause-rows c = rw c.none.ensures rows_begin
@@ -56,7 +49,8 @@ returns-then-begun-forms-clause-ends c =
     let table = c.args.self.now in
     rw c.none.ensures (elim c.then-begun-forms.branch [
       | then-begun-forms-via-then-begun-forms w ↦ inr (inr (λ columns column left knows ahead step. absurd (let e = sym step
-          ∙ none_next _ _ knows.counted (omega (arith, w.if-begun-forms.true, row, N.length-take-le table.known table.forms (omega (arith, table.sized, table.most)))) in
+          ∙ none_next _ _ knows.counted (omega (arith, w.if-begun-forms.true, row,
+          N.length-take-le table.known table.forms (omega (arith, table.sized, table.most)))) in
           omega (arith, ap length e))))
       | then-begun-forms-via-else-begun-forms+then-bytes-lt-FAR w ↦ inl w.if-bytes-lt-FAR.true
       | then-begun-forms-via-else-begun-forms+else-bytes-lt-FAR+then-to-lt-CELL_ROOM w ↦ inr (inl (omega (arith, w.if-to-lt-CELL_ROOM.true)))

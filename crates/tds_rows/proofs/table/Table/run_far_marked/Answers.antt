@@ -1,12 +1,10 @@
 use Rattle.tds_rows.proofs.table.Table.run_far_marked.Goals as goal
 use Rattle.tds_rows.proofs.Words as N
-use Rattle.tds_rows.proofs.{
-  Words.{ℕ, ◌≡◌, ◌∙◌, ◌-◌, ◌<◌, ◌≤◌, ◌∷◌, ap, length, arith},
-  table.Table.run_far_marked.Goals.{then-is_null, else-is_null+in-Some-next},
-  FormSteps.written_after,
-  TableRuns.{runs_column, runs_more},
-  TableSteps.{last_one, takes},
-}
+use Rattle.tds_rows.proofs.Words.{ℕ, ◌≡◌, ◌∙◌, ◌-◌, ◌<◌, ◌≤◌, ◌∷◌, ap, length, arith}
+use Rattle.tds_rows.proofs.table.Table.run_far_marked.Goals.{then-is_null, else-is_null+in-Some-next}
+use Rattle.tds_rows.proofs.FormSteps.{written_after}
+use Rattle.tds_rows.proofs.TableRuns.{runs_column, runs_more}
+use Rattle.tds_rows.proofs.TableSteps.{last_one, takes}
 
 pub loop-used-preserved : goal.loop-used-preserved
 loop-used-preserved c =

@@ -1,6 +1,8 @@
 use Rattle.tds_rows.proofs.table.Table.run_far_rows.Goals as goal
 use Rattle.tds_rows.proofs.Words as N
-use Rattle.tds_rows.proofs.{Words.{◌≡◌, ◌∙◌, ◌-◌, ap, arith, length, take, drop, refl}, RunSteps.unused, NextSteps.{nbc_row_more, nbc_rows_end}}
+use Rattle.tds_rows.proofs.Words.{◌≡◌, ◌∙◌, ◌-◌, ap, arith, length, take, drop, refl}
+use Rattle.tds_rows.proofs.RunSteps.{unused}
+use Rattle.tds_rows.proofs.NextSteps.{nbc_row_more, nbc_rows_end}
 
 pub loop-rest-preserved : goal.loop-rest-preserved
 loop-rest-preserved c =

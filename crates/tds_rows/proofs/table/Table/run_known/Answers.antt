@@ -1,13 +1,11 @@
 use Rattle.tds_rows.proofs.table.Table.run_known.Goals as goal
 use borrow.Rule.Slice.PartMut.{put_mid, same_len_mid}
 use Rattle.tds_rows.proofs.Words as N
-use Rattle.tds_rows.proofs.{
-  Words.{◌∷◌, arith, ◌≡◌, ◌∙◌, ◌+◌, ◌-◌, length},
-  table.Table.run_known.Goals.{in_default+then-not-row_follows, in-Some+then-run-eq0},
-  RunSteps.made_same,
-  TableRuns.{first_left, forms_between, row_begun, rows_begin, rows_further, rows_kept, rows_more},
-  TableSteps.none_next,
-}
+use Rattle.tds_rows.proofs.Words.{◌∷◌, arith, ◌≡◌, ◌∙◌, ◌+◌, ◌-◌, length}
+use Rattle.tds_rows.proofs.table.Table.run_known.Goals.{in_default+then-not-row_follows, in-Some+then-run-eq0}
+use Rattle.tds_rows.proofs.RunSteps.{made_same}
+use Rattle.tds_rows.proofs.TableRuns.{first_left, forms_between, row_begun, rows_begin, rows_further, rows_kept, rows_more}
+use Rattle.tds_rows.proofs.TableSteps.{none_next}
 
 pub loop-forms-init : goal.loop-forms-init
 loop-forms-init g c = rows_begin

@@ -1,11 +1,10 @@
 use Rattle.tds_rows.proofs.table.Table.run_marked.Goals as goal
 use Rattle.tds_rows.proofs.Words as N
-use Rattle.tds_rows.proofs.{
-  Words.{ℕ, ◌≡◌, ◌∙◌, ◌-◌, ◌<◌, ◌≤◌, ◌∷◌, ap, length, arith},
-  table.Table.run_marked.Goals.{else-loop-to-test, then-loop-to-test+else-ahead-count, then-loop-to-test+then-ahead-count+else-end-ahead+then-cells-eq0},
-  TableRuns.{ends_clear, runs_clear, runs_column, runs_more},
-  TableSteps.{last_one, next_any, none_next, takes},
-}
+use Rattle.tds_rows.proofs.Words.{ℕ, ◌≡◌, ◌∙◌, ◌-◌, ◌<◌, ◌≤◌, ◌∷◌, ap, length, arith}
+use Rattle.tds_rows.proofs.table.Table.run_marked.Goals.{else-loop-to-test, then-loop-to-test+else-ahead-count}
+use Rattle.tds_rows.proofs.table.Table.run_marked.Goals.{then-loop-to-test+then-ahead-count+else-end-ahead+then-cells-eq0}
+use Rattle.tds_rows.proofs.TableRuns.{ends_clear, runs_clear, runs_column, runs_more}
+use Rattle.tds_rows.proofs.TableSteps.{last_one, next_any, none_next, takes}
 
 -- a column that is NULL by its bit
 pub loop-to-preserved-then-end-ahead : goal.loop-to-preserved-then-end-ahead

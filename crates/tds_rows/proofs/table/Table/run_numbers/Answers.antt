@@ -1,19 +1,14 @@
 use Rattle.tds_rows.proofs.table.Table.run_numbers.Goals as goal
 use Rattle.tds_rows.proofs.Words as N
 use Rattle.tds_rows.specs.FormRuns.{IsLastRow}
-use Rattle.tds_rows.proofs.{
-  Words.{inl, ap, refl, inr, arith, sym, ◌≡◌, ◌+◌, ◌-◌, ◌<◌, length},
-  table.Table.run_numbers.Goals.{
-    else-loop-used-test,
-    then-loop-used-test+else-made-latest,
-    then-loop-used-test+then-made-latest+in_default-run_row as row_refused,
-    then-loop-used-test+then-made-latest+in-Some-run_row+then-not-begins_row as row_last,
-  },
-  FormSteps.too_late,
-  RunSteps.made_same,
-  TableRuns.{forms_between, known_ahead, row_begun, rows_begin, rows_kept, rows_more},
-  TableSteps.after_known,
-}
+use Rattle.tds_rows.proofs.Words.{inl, ap, refl, inr, arith, sym, ◌≡◌, ◌+◌, ◌-◌, ◌<◌, length}
+use Rattle.tds_rows.proofs.table.Table.run_numbers.Goals.{else-loop-used-test, then-loop-used-test+else-made-latest}
+use Rattle.tds_rows.proofs.table.Table.run_numbers.Goals.{then-loop-used-test+then-made-latest+in_default-run_row as row_refused}
+use Rattle.tds_rows.proofs.table.Table.run_numbers.Goals.{then-loop-used-test+then-made-latest+in-Some-run_row+then-not-begins_row as row_last}
+use Rattle.tds_rows.proofs.FormSteps.{too_late}
+use Rattle.tds_rows.proofs.RunSteps.{made_same}
+use Rattle.tds_rows.proofs.TableRuns.{forms_between, known_ahead, row_begun, rows_begin, rows_kept, rows_more}
+use Rattle.tds_rows.proofs.TableSteps.{after_known}
 
 pub returns-in_default-clause-rows : goal.returns-in_default-clause-rows
 returns-in_default-clause-rows c = rw c.none.ensures rows_begin

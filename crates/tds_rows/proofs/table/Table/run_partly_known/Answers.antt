@@ -1,9 +1,7 @@
 use Rattle.tds_rows.proofs.table.Table.run_partly_known.Goals as goal
-use Rattle.tds_rows.proofs.{
-  Words.{arith, ◌≡◌, ◌∙◌, ◌-◌, all_after, drop, length, rules, sym, take},
-  TableRuns.{row_begun, rows_begin, rows_more},
-  TableSteps.{all_before, not_end},
-}
+use Rattle.tds_rows.proofs.Words.{arith, ◌≡◌, ◌∙◌, ◌-◌, all_after, drop, length, rules, sym, take}
+use Rattle.tds_rows.proofs.TableRuns.{row_begun, rows_begin, rows_more}
+use Rattle.tds_rows.proofs.TableSteps.{all_before, not_end}
 
 pub loop-run-init : goal.loop-run-init
 loop-run-init c = rw c.none-run.ensures rows_begin

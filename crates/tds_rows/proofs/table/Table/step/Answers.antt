@@ -1,8 +1,7 @@
-use Rattle.tds_rows.proofs.{
-  Words.{inl, inr, ◌≡◌, ◌∙◌, ◌⊎◌, ap, arith, columns_left},
-  table.Table.step.Goals.{then-cells-gt0+then-at-self, else-cells-gt0, else-cells-gt0-via-then-cells-gt0+else-at-self, else-cells-gt0-via-else-cells-gt0},
-  TableSteps.{after_known, after_walked, walk_after},
-}
+use Rattle.tds_rows.proofs.Words.{inl, inr, ◌≡◌, ◌∙◌, ◌⊎◌, ap, arith, columns_left}
+use Rattle.tds_rows.proofs.table.Table.step.Goals.{then-cells-gt0+then-at-self, else-cells-gt0, else-cells-gt0-via-then-cells-gt0+else-at-self}
+use Rattle.tds_rows.proofs.table.Table.step.Goals.{else-cells-gt0-via-else-cells-gt0}
+use Rattle.tds_rows.proofs.TableSteps.{after_known, after_walked, walk_after}
 
 pub returns-clause-ahead : Rattle.tds_rows.proofs.table.Table.step.Goals.returns-clause-ahead
 returns-clause-ahead c = λ columns knows ahead.

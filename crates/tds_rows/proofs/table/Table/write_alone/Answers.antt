@@ -1,5 +1,6 @@
 use Rattle.tds_rows.proofs.table.Table.write_alone.Goals as goal
-use Rattle.{tds_rows.proofs.Words.{arith, refl, inl, inr, []}, std.proofs.Math.Bool.and-true}
+use Rattle.tds_rows.proofs.Words.{arith, refl, inl, inr, []}
+use Rattle.std.proofs.Math.Bool.{and-true}
 
 pub returns-then-run-eq0-clause-cell : goal.returns-then-run-eq0-clause-cell
 returns-then-run-eq0-clause-cell c = elim (c.run_forms-run.ensures.ends c.if-run-eq0.true _ [] refl)

@@ -1,6 +1,8 @@
 use Rattle.tds_rows.proofs.cell.streamed.LongValue.chunks.Given as goal
 use Rattle.tds_rows.proofs.Words as N
-use Rattle.tds_rows.proofs.{Words.{◌≡◌, ◌-◌, ◌≤◌}, LongValues.Streamed, Paths.at_of}
+use Rattle.tds_rows.proofs.Words.{◌≡◌, ◌-◌, ◌≤◌}
+use Rattle.tds_rows.proofs.LongValues.{Streamed}
+use Rattle.tds_rows.proofs.Paths.{at_of}
 
 abbrev pub invariant-loop-n : goal.invariant-loop-n
 invariant-loop-n g l = record {

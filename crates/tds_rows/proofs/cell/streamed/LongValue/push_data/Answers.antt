@@ -1,5 +1,6 @@
 use Rattle.tds_rows.proofs.cell.streamed.LongValue.push_data.Goals as goal
-use Rattle.tds_rows.proofs.{Words.{◌∙◌, arith, refl, rules, passed, between_of}, JoinedPieces.{filled_more, filled_none, filled_stops}}
+use Rattle.tds_rows.proofs.Words.{◌∙◌, arith, refl, rules, passed, between_of}
+use Rattle.tds_rows.proofs.JoinedPieces.{filled_more, filled_none, filled_stops}
 
 pub loop-left-init : goal.loop-left-init
 loop-left-init g c = record {

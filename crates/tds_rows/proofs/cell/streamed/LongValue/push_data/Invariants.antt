@@ -1,6 +1,8 @@
 use Rattle.tds_rows.proofs.cell.streamed.LongValue.push_data.Given as goal
 use Rattle.tds_rows.proofs.Words as N
-use Rattle.tds_rows.proofs.{Words.{◌≡◌, ◌<◌, ◌+◌}, JoinedPieces.Filled, Paths.at_of}
+use Rattle.tds_rows.proofs.Words.{◌≡◌, ◌<◌, ◌+◌}
+use Rattle.tds_rows.proofs.JoinedPieces.{Filled}
+use Rattle.tds_rows.proofs.Paths.{at_of}
 
 abbrev pub invariant-loop-left : goal.invariant-loop-left
 invariant-loop-left g l = record {

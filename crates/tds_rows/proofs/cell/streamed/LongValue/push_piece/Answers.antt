@@ -1,6 +1,7 @@
 use Rattle.tds_rows.proofs.cell.streamed.LongValue.push_piece.Goals as goal
 use Rattle.tds_rows.proofs.Words as N
-use Rattle.tds_rows.proofs.{JoinedPieces.{piece_taken, push_stops}, Numbers.read_stops}
+use Rattle.tds_rows.proofs.JoinedPieces.{piece_taken, push_stops}
+use Rattle.tds_rows.proofs.Numbers.{read_stops}
 
 pub returns-in_err-piece-clause-piece : goal.returns-in_err-piece-clause-piece
 returns-in_err-piece-clause-piece g c = λ conversion content suits is begun.

@@ -1,10 +1,8 @@
 use Rattle.tds_rows.proofs.cell.streamed.LongValue.read.Goals as goal
-use Rattle.tds_rows.proofs.{
-  Words.{[], ◌∙◌, MatchResult-weaker, append-nil, passed, refl},
-  Numbers.{length_blames, read_stops, total_blames, total_none, total_start, total_stops},
-  LongValues.{total_text, field_puts, next_breaks, next_path, null_puts, reading_stops},
-  Paths.path_stops,
-}
+use Rattle.tds_rows.proofs.Words.{[], ◌∙◌, MatchResult-weaker, append-nil, passed, refl}
+use Rattle.tds_rows.proofs.Numbers.{length_blames, read_stops, total_blames, total_none, total_start, total_stops}
+use Rattle.tds_rows.proofs.LongValues.{total_text, field_puts, next_breaks, next_path, null_puts, reading_stops}
+use Rattle.tds_rows.proofs.Paths.{path_stops}
 
 pub returns-in_err-total-in-Chunked-clause-field : goal.returns-in_err-total-in-Chunked-clause-field
 returns-in_err-total-in-Chunked-clause-field g c = λ conversion suits. rw c.in-Chunked.is (

@@ -1,11 +1,9 @@
 use Rattle.tds_rows.proofs.cell.streamed.LongValue.short.Goals as goal
-use Rattle.tds_rows.proofs.{
-  Words.{◌∙◌, ◌<◌, ◌++◌, [], arith, refl, sym, MatchResult-weaker, passed},
-  Numbers.{length_blames, read_stops, short_none, short_start, short_stops},
-  LongValues.{empty_puts, empty_stops, field_puts, next_breaks, next_path, none_begins, null_puts, reading_stops, rest_none, short_end_stops, short_open},
-  LongValues.{short_text, short_whole, filling_stops, short_holds},
-  Paths.path_stops,
-}
+use Rattle.tds_rows.proofs.Words.{◌∙◌, ◌<◌, ◌++◌, [], arith, refl, sym, MatchResult-weaker, passed}
+use Rattle.tds_rows.proofs.Numbers.{length_blames, read_stops, short_none, short_start, short_stops}
+use Rattle.tds_rows.proofs.LongValues.{empty_puts, empty_stops, field_puts, next_breaks, next_path, none_begins, null_puts, reading_stops, rest_none}
+use Rattle.tds_rows.proofs.LongValues.{short_end_stops, short_open, short_text, short_whole, filling_stops, short_holds}
+use Rattle.tds_rows.proofs.Paths.{path_stops}
 
 pub returns-in_err-n-clause-field : goal.returns-in_err-n-clause-field
 returns-in_err-n-clause-field g c = λ conversion suits.
