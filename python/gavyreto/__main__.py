@@ -39,6 +39,7 @@ if __name__ == "__main__":
 import importlib  # noqa: E402
 from typing import NoReturn, Optional  # noqa: E402
 
+from gavyreto import program  # noqa: E402
 from gavyreto.commands import common  # noqa: E402
 from gavyreto.version import __version__  # noqa: E402
 
@@ -68,7 +69,7 @@ def run(words: list[str]) -> int:
         return 0
     common.tell(f"gavyreto: {f'no command {name}' if name else 'a command is needed'}")
     common.say("\n" + USAGE)
-    return common.REFUSED
+    return program.REFUSED
 
 
 def run_command(name: str, words: list[str]) -> int:
@@ -89,7 +90,7 @@ def ending(words: list[str]) -> tuple[str, int]:
     try:
         return "", run(words)
     except SystemExit as refused:  # by argparse, which has said why
-        return "", refused.code if isinstance(refused.code, int) else common.REFUSED
+        return "", refused.code if isinstance(refused.code, int) else program.REFUSED
     except BaseException as failure:
         return common.ending_of(failure)
 
@@ -97,7 +98,7 @@ def ending(words: list[str]) -> tuple[str, int]:
 def ended(words: list[str]) -> int:
     """Runs a command, and returns its exit status: whatever ends it is a line on standard error."""
     line, status = ending(words)
-    if _came and status != common.INTERRUPTED:
+    if _came and status != program.INTERRUPTED:
         line, status = common.ending_of(KeyboardInterrupt())
     if line:
         common.tell(line)
@@ -113,7 +114,7 @@ def main(words: Optional[list[str]] = None) -> NoReturn:
     except OSError as failure:
         common.tell(f"standard output: {common.cause_of(failure)}")
         sys.stdout = open(os.devnull, "w", encoding="utf-8")  # so that the interpreter doesn't try again
-        status = status or common.FAILED
+        status = status or program.FAILED
     sys.exit(status)
 
 

@@ -12,7 +12,8 @@ import time
 from typing import NamedTuple, Optional
 
 from gavyreto import program, tds
-from gavyreto.commands.common import BAD_INPUT, DONE, FAILED, SERVER_ERROR, cause_of, judged
+from gavyreto.commands.common import cause_of
+from gavyreto.program import BAD_INPUT, DONE, FAILED, SERVER_ERROR, judged
 
 UNFINISHED = ".unfinished"  # at the end of the name of a text that waits
 

@@ -1,4 +1,4 @@
-"""What the commands share: statuses, lines, standard input and output, arguments, and how the program tds_replay ended."""
+"""What the commands share: lines, standard input and output, and arguments."""
 from __future__ import annotations
 
 import argparse
@@ -8,15 +8,12 @@ import re
 import stat
 import sys
 import textwrap
-from typing import IO, Callable, Iterable, NamedTuple, Optional, Union
+from typing import IO, Callable, Iterable, Optional, Union
 
 from gavyreto import program, tds
-from gavyreto.errors import BadAnswer, ConnectionFailed, Fault, Report, ServerError
+from gavyreto.errors import BadAnswer, ConnectionFailed, ServerError
 from gavyreto.payload import Ended
-
-# Exit statuses; all but the last are those of tds_replay.
-DONE, REFUSED, SERVER_ERROR, BAD_INPUT, FAILED, NO_MEMORY, INTERRUPTED = 0, 2, 3, 4, 5, 6, 130
-OF_SIGNAL = 128  # is added to the number of a signal
+from gavyreto.program import BAD_INPUT, FAILED, INTERRUPTED, NO_MEMORY, REFUSED, SERVER_ERROR
 
 STANDARD_INPUT, STANDARD_OUTPUT, STANDARD_ERROR = 0, 1, 2
 STREAMS = ("standard input", "standard output", "standard error")
@@ -235,42 +232,3 @@ def checked_program(name: str) -> str:
         raise Stopped(f"{path} isn't tds_replay", REFUSED)
     except OSError as failure:
         raise Stopped(cause_of(failure), REFUSED) from None
-
-
-# The end of the program.
-
-class Ending(NamedTuple):
-    """How the program ended on a response."""
-
-    status: int  #: its own; 128 and the number of the signal that ended it; 5 if its lines, its status and its text don't agree
-    line: str  #: its first line, or what is wrong
-    notes: str  #: all its lines, or the same line
-    written: int  #: bytes of text that it wrote, as it says
-
-    def line_after(self, line: str) -> str:
-        """One line, of what happened and what the program says to it."""
-        return ": ".join(it for it in (line, self.line) if it)
-
-
-def judged(status: int, notes: str, length: Optional[int] = None) -> Ending:
-    """What the program's status and lines come to, and the bytes of the text that it left, where they are known."""
-    said, first = program.report_of(notes), notes.partition("\n")[0]
-    if status < 0:
-        return _wrong(OF_SIGNAL - status, f"tds_replay was ended by the signal {-status}")
-    written = program.written_by(said) if said else 0
-    if status in (DONE, SERVER_ERROR, BAD_INPUT) and (not _agree(status, said) or length not in (None, written)):
-        left = "" if length is None else f", and a text of {length} bytes"
-        return _wrong(FAILED, f"tds_replay ended with status {status}{left}: {first}")
-    if said is None:
-        return _wrong(status, first or f"tds_replay ended with status {status} and no line")
-    return Ending(status, first, notes, written)
-
-
-def _wrong(status: int, line: str) -> Ending:
-    return Ending(status, line, line + "\n", 0)
-
-
-def _agree(status: int, said: Union[Report, Fault, ServerError, None]) -> bool:
-    """Whether a status is that of what the program says."""
-    kinds = {DONE: Report, SERVER_ERROR: ServerError, BAD_INPUT: Fault}
-    return isinstance(said, kinds[status])

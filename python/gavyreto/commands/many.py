@@ -24,11 +24,9 @@ from types import TracebackType
 from typing import Any, Iterator, NamedTuple, Optional, Union
 
 from gavyreto import program
-from gavyreto.commands.common import (
-    BAD_INPUT, DONE, FAILED, INTERRUPTED, REFUSED, SERVER_ERROR, Stopped, add_options_of_program, cause_of, checked_program, line, number_in,
-    parser_of, say, tell,
-)
+from gavyreto.commands.common import Stopped, add_options_of_program, cause_of, checked_program, line, number_in, parser_of, say, tell
 from gavyreto.exporting import UNFINISHED, Outcome, Stamp, export_file, stamp_of, version_of
+from gavyreto.program import BAD_INPUT, DONE, FAILED, INTERRUPTED, REFUSED, SERVER_ERROR
 from gavyreto.records import record_at
 from gavyreto.values import value_of
 

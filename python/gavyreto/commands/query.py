@@ -23,11 +23,12 @@ from typing import IO, BinaryIO, Iterable, Iterator, NamedTuple, NoReturn, Optio
 
 from gavyreto import connection, program, tds
 from gavyreto.commands.common import (
-    DONE, FAILED, INTERRUPTED, REFUSED, SERVER_ERROR, STANDARD_INPUT, STANDARD_OUTPUT, STREAMS, Ending, Stopped, add_options_of_program,
-    cause_of, checked_program, is_one_file, judged, needed, number_in, parser_of, tell_all,
+    STANDARD_INPUT, STANDARD_OUTPUT, STREAMS, Stopped, add_options_of_program, cause_of, checked_program, is_one_file, needed, number_in,
+    parser_of, tell_all,
 )
 from gavyreto.connection import BLOCK, Session
 from gavyreto.errors import ConnectionFailed
+from gavyreto.program import DONE, FAILED, INTERRUPTED, REFUSED, SERVER_ERROR, Ending, judged
 
 SEPARATOR = b"\r\n"
 GO = re.compile(r"\s*GO(?:\s+(\d+))?\s*;?\s*(?:--.*)?", re.IGNORECASE | re.ASCII | re.DOTALL)
