@@ -27,6 +27,10 @@ def _raising(_: int, __: object) -> NoReturn:
     raise KeyboardInterrupt
 
 
+def _ending(number: int, _: object) -> NoReturn:
+    raise common.Signalled(number)
+
+
 def _begin() -> None:
     """Ctrl-C is a line and a status from here on. It is ignored of what the shell runs in the background."""
     if signal.getsignal(signal.SIGINT) is signal.default_int_handler:
@@ -36,6 +40,7 @@ def _begin() -> None:
 if __name__ == "__main__":
     _begin()  # before anything else is imported: what is imported may be interrupted too
 
+import contextlib  # noqa: E402
 import importlib  # noqa: E402
 from typing import NoReturn, Optional  # noqa: E402
 
@@ -73,16 +78,19 @@ def run(words: list[str]) -> int:
 
 
 def run_command(name: str, words: list[str]) -> int:
-    """Runs a command. Ctrl-C raises KeyboardInterrupt as long as it runs."""
+    """Runs a command. Ctrl-C raises KeyboardInterrupt as long as it runs, and what else ends it, by default, `Signalled`."""
     command = importlib.import_module(f"gavyreto.commands.{name}")
-    before = signal.getsignal(signal.SIGINT)
+    before = {number: signal.getsignal(number) for number in (signal.SIGINT, signal.SIGTERM, signal.SIGHUP)}
     try:
-        if before is _interrupted:
-            signal.signal(signal.SIGINT, _raising)
+        for number, handler in before.items():
+            if handler is _interrupted or handler is signal.SIG_DFL:
+                with contextlib.suppress(ValueError):  # only the main thread may set one, which alone changes it
+                    signal.signal(number, _raising if number == signal.SIGINT else _ending)
         return int(command.run(words))
     finally:
-        if signal.getsignal(signal.SIGINT) is not before:  # only the main thread may set one, which alone has changed it
-            signal.signal(signal.SIGINT, before)
+        for number, handler in before.items():
+            if signal.getsignal(number) is not handler:
+                signal.signal(number, handler)
 
 
 def ending(words: list[str]) -> tuple[str, int]:

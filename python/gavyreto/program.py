@@ -25,8 +25,10 @@ RETURN_VALUES = re.compile(r"return values (\d+)", re.ASCII)
 RETURN_STATUS = re.compile(r"return status (-?\d+)", re.ASCII)
 RESPONSES = re.compile(r"^responses \d+\n\Z", re.ASCII | re.MULTILINE)
 F_SETPIPE_SZ, ROOM_OF_PIPE = 1031, 1 << 20  # of Linux
+ROOM_OF_FEW = 4096  # bytes that each pipe has room for at once
 VERSION = re.compile(rf"{PROGRAM} \d+(\.\d+)*", re.ASCII)
 BLOCK = 1 << 18  # bytes that are moved at once, at most
+PATIENCE = 5.0  # seconds in which a program ends whose input is over
 BEGINNING = b"\x04"  # of a packet of an answer
 
 # Exit statuses; all but the last are those of tds_replay.
@@ -186,13 +188,16 @@ class Program:
 
     It runs from the first response on; after a fault, a signal or a response that was cut the next one starts it anew. Whoever hands
     over takes the text meanwhile, so neither side waits for the other, however long they are. By `put`, which waits for room alone,
-    one thread can hand over while another one takes the text by `read`. A context that ends it."""
+    one thread can hand over while another one takes the text by `read`. Of a `source`, a descriptor, it reads one response by itself,
+    and nothing is handed over. A context that ends it."""
 
-    def __init__(self, command: list[str]) -> None:
+    def __init__(self, command: list[str], source: Optional[int] = None) -> None:
         self.command = command  #: without --all
+        self._source = source
         self.ending: Optional[Ending] = None  #: of the response, once all of its text is taken
         self.is_reading = False  #: whether it reads the response on, as far as is known
         self._process: Optional[subprocess.Popen[bytes]] = None
+        self._pipe: Optional[IO[bytes]] = None  # that of the input, whose number stays its own as long as somebody may hand over
         self._input = self._text = self._notes = -1
         self._open: set[int] = set()  # those of text and lines that haven't ended
         self._lines, self._taken, self._handed = "", 0, 0  # of this response
@@ -206,7 +211,7 @@ class Program:
 
     def begin(self) -> None:
         """Begins a response. Raises OSError if the program can't be started."""
-        if self._process and (not self.is_reading or self.ending is None or self._process.poll() is not None):
+        if self._process and (self._is_under_way() or not self.is_reading or self._process.poll() is not None):
             self.close()
         if self._process is None:
             self._start()
@@ -214,23 +219,34 @@ class Program:
 
     def _start(self) -> None:
         """Starts it in a session of its own, so that Ctrl-C doesn't end it before it has written what came."""
+        words = self.command if self._source is not None else [*self.command[:2], "--all", *self.command[2:]]
         process = subprocess.Popen(
-            [*self.command[:2], "--all", *self.command[2:]], bufsize=0, stdin=subprocess.PIPE, stdout=subprocess.PIPE, stderr=subprocess.PIPE,
+            words, bufsize=0, stdin=subprocess.PIPE if self._source is None else self._source, stdout=subprocess.PIPE, stderr=subprocess.PIPE,
             start_new_session=True)
-        pipes = [cast("IO[bytes]", it) for it in (process.stdin, process.stdout, process.stderr)]
-        self._process, self.is_reading = process, True
-        self._input, self._text, self._notes = (it.fileno() for it in pipes)
+        self._process, self._pipe, self.is_reading = process, process.stdin, process.stdin is not None
+        self._text, self._notes = (cast("IO[bytes]", it).fileno() for it in (process.stdout, process.stderr))
         self._open = {self._text, self._notes}
-        os.set_blocking(self._input, False)
-        for pipe in pipes[:2]:
-            widen(pipe)
+        if self._pipe:
+            self._input = self._pipe.fileno()
+            os.set_blocking(self._input, False)
+        for pipe in (process.stdin, process.stdout):
+            if pipe:
+                widen(pipe)
+
+    def _is_under_way(self) -> bool:
+        return self.ending is None and (self._handed > 0 or self._source is not None)
 
     def close(self) -> None:
-        """Ends it, in the middle of a response too. Nobody may hand over meanwhile."""
-        process, self._process, self.is_reading, self._open = self._process, None, False, set()
+        """Ends it: between two responses by the end of its input, in the middle of one at once."""
+        is_under_way = self._is_under_way()
+        if self._pipe:
+            self._close_input()
+        while self._process and not is_under_way and self._notes in self._open and self._notes in self._ready(seconds=PATIENCE):
+            self._take_lines()
+        process, self._process, self._open = self._process, None, set()
         if process:
             process.kill()
-            for pipe in (process.stdin, process.stdout, process.stderr):
+            for pipe in (process.stdout, process.stderr):
                 cast("IO[bytes]", pipe).close()
             process.wait()
 
@@ -250,15 +266,19 @@ class Program:
             left = self._write(left)
 
     def put(self, data: bytes) -> None:
-        """Hands over bytes of the response, and waits for room alone. Raises BrokenPipeError if it needs no more of them."""
+        """Hands over bytes of the response, and waits for room alone. Raises BrokenPipeError if it needed no more before."""
+        if not self.is_reading:
+            raise BrokenPipeError
         left = self._write(memoryview(data))
         while left:
             room = select.poll()
             room.register(self._input, select.POLLOUT)
             room.poll()
             left = self._write(left)
-        if not self.is_reading:
-            raise BrokenPipeError
+
+    def offer(self, data: bytes) -> bool:
+        """Hands over bytes if there is room for all of them, as for few there is where a response begins, or none. Returns whether it did."""
+        return len(data) <= ROOM_OF_FEW and not self._write(memoryview(data))
 
     def _write(self, left: memoryview) -> memoryview:
         """Writes what there is room for, and returns what is left of it."""
@@ -295,7 +315,7 @@ class Program:
     def _close_input(self) -> None:
         """Puts something else in the place of the input, whose number another thread may have."""
         self.is_reading = False
-        if self._process:
+        if self._pipe and not self._pipe.closed:
             nothing = os.open(os.devnull, os.O_WRONLY | os.O_CLOEXEC)
             os.dup2(nothing, self._input, inheritable=False)
             os.close(nothing)

@@ -112,6 +112,8 @@ MORE, FAILED, CANCELLED, SERVER_FAILED = 0x0001, 0x0002, 0x0020, 0x0100  # bits 
 DONE_LENGTH = 13  # bytes of a DONE with its token byte
 LEAST_PACKET_SIZE, FIRST_PACKET_SIZE, GREATEST_PACKET_SIZE = 512, 4096, 32767  # the second holds until the login's answer
 VERSION = bytes.fromhex("74000004")  # 7.4, in the order of a LOGINACK
+OTHER_VERSIONS = range(0x70, 0x74)  # the first byte of each before
+MOST_OF_MESSAGE = 512  # bytes of UTF-8 of a message in a line
 MOST_UNITS = 128  # of a name in a LOGIN7 (MS-TDS, LOGIN7)
 
 
@@ -201,6 +203,7 @@ class Framing:
         self.is_over = False  #: after the last packet, or after a header that is none
         self.is_whole = False  #: after the last packet
         self.payload = 0  #: bytes of bodies so far
+        self.empty = 0  #: packets without a body so far
         self.tail = b""  #: the last of them, as many as a DONE has
         self._header = b""
         self._left = 0  # bytes of the body under way that are still to come
@@ -242,6 +245,7 @@ class Framing:
         self._header += block[at:end]
         if len(self._header) == HEADER:
             self._left = length_of(self._header) - HEADER
+            self.empty += not self._left
             self._is_last = bool(self._header[1] & LAST)
             if self._header[0] == PacketType.ANSWER and self._left >= 0:
                 self._end_packet()
@@ -417,8 +421,13 @@ class Refused(Exception):
     """A server refused a login. The line is that of its ERROR."""
 
 
+class OtherVersion(Exception):
+    """A server speaks another version of TDS, which is named."""
+
+
 def read_login_answer(payload: bytes) -> Accepted:
-    """Reads the answer to a login. Raises `Refused`; or ValueError, IndexError or struct.error if it is no such answer."""
+    """Reads the answer to a login. Raises `Refused` or `OtherVersion`; or ValueError, IndexError or struct.error if it is no such
+    answer."""
     size, routed, acknowledged, at = FIRST_PACKET_SIZE, None, False, 0
     while True:
         token, length = struct.unpack_from("<BH", payload, at)
@@ -429,6 +438,8 @@ def read_login_answer(payload: bytes) -> Accepted:
             raise Refused(error_line(body))
         if token == Token.LOGIN_ACK:
             acknowledged = body[1:5] == VERSION
+            if not acknowledged and len(body) >= 5 and body[1] in OTHER_VERSIONS:
+                raise OtherVersion(f"7.{body[1] & 0x0F}")
         elif token == Token.ENV_CHANGE and body[0] == Change.PACKET_SIZE:
             size = int(body[2:2 + 2 * body[1]].decode("utf-16-le"))
         elif token == Token.ENV_CHANGE and body[0] == Change.ROUTING:
@@ -453,4 +464,5 @@ def error_line(body: bytes) -> str:
     procedure = server + 1 + 2 * body[server]
     line, = struct.unpack_from("<i", body, procedure + 1 + 2 * body[procedure])
     message = re.sub(r"[\0-\x1F\x7F]", " ", body[8:server].decode("utf-16-le", "replace"))
+    message = message.encode()[:MOST_OF_MESSAGE].decode("utf-8", "ignore")
     return f"server error {number}, state {state}, class {severity}, line {line}: {message}"

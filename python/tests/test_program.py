@@ -62,7 +62,8 @@ class Runs(unittest.TestCase):
             for data, is_cut, line in (
                 (wire("float"), False, "fault 10 RefusedColumn 1 FLTN at payload 15, written 0, unwritten 0"),
                 (wire("long", 5_000_000), False, "fault 5 ResponseTooLong at wire 1048576, "),
-                (b"", True, "fault 2 InputEnded at wire 0, written 0, unwritten 0"), (ORDERED[:20], True, "fault 2 InputEnded at wire 0, written 0, unwritten 0"),
+                (b"", True, "fault 2 InputEnded at wire 0, written 0, unwritten 0"),
+                (ORDERED[:20], True, "fault 2 InputEnded at wire 0, written 0, unwritten 0"),
             ):
                 ending, came = ended(run, data, is_cut)
                 self.assertTrue(ending.line.startswith(line), ending)
@@ -96,8 +97,8 @@ class Runs(unittest.TestCase):
         """Of a text that is longer or shorter than the line says, of lines that are none, and of a status that isn't that of the line."""
         report = "sets 1 rows 1 errors 0 infos 0 written"
         for script, line in (
-            (f'printf 12345; sleep 0.1; echo "{report} 4" >&2; cat', f"tds_replay ended with status 0, and a text of 5 bytes: {report} 4"),
-            (f'echo "{report} 4" >&2; printf 12345; cat', f"tds_replay ended with status 0, and a text of 5 bytes: {report} 4"),
+            (f'printf 12345; sleep 0.1; echo "{report} 4" >&2; cat > eaten', f"tds_replay ended with status 0, and a text of 5 bytes: {report} 4"),
+            (f'echo "{report} 4" >&2; printf 12345; cat > eaten', f"tds_replay ended with status 0, and a text of 5 bytes: {report} 4"),
             (f'printf 123; echo "{report} 4" >&2; head -c 1 > eaten', f"tds_replay ended with status 0, and a text of 3 bytes: {report} 4"),
             ("echo hello >&2; head -c 1 > eaten", "tds_replay ended with status 0, and a text of 0 bytes: hello"),
             ('echo "fault 2 InputEnded at wire 0, written 0, unwritten 0" >&2', "tds_replay ended with status 0, and a text of 0 bytes: fault 2"),
