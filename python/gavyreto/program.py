@@ -28,7 +28,7 @@ F_SETPIPE_SZ, ROOM_OF_PIPE = 1031, 1 << 20  # of Linux
 ROOM_OF_FEW = 4096  # bytes that each pipe has room for at once
 VERSION = re.compile(rf"{PROGRAM} \d+(\.\d+)*", re.ASCII)
 BLOCK = 1 << 18  # bytes that are moved at once, at most
-PATIENCE = 5.0  # seconds in which a program ends whose input is over
+PATIENCE = 5.0  # seconds in which a program ends whose input is over, or text comes that its lines count
 BEGINNING = b"\x04"  # of a packet of an answer
 
 # Exit statuses; all but the last are those of tds_replay.
@@ -325,13 +325,13 @@ class Program:
     def finish(self, output: Output) -> Ending:
         """Moves the rest of the text once all is handed over, and returns how the response ended."""
         while self.ending is None:
-            self._move(self._ready(), output)
+            self._move(self._ready_for_text(), output)
         return self.ending
 
     def read(self, most: int) -> bytes:
         """The next bytes of the text, at least one and at most so many, or none at its end, once `ending` is there."""
         while self.ending is None:
-            ready = self._ready()
+            ready = self._ready_for_text()
             data = os.read(self._text, min(most, self._most())) if self._text in ready else b""
             self._count(ready, len(data))
             if data:
@@ -347,6 +347,10 @@ class Program:
             events.register(other, event)
         return {descriptor for descriptor, _ in events.poll(None if seconds is None else max(0.0, seconds * 1000))}
 
+    def _ready_for_text(self) -> set[int]:
+        """Waits for text or lines. Text that the lines count is there before them: it isn't waited for without end."""
+        return self._ready(seconds=PATIENCE if self._said else None)
+
     def _most(self) -> int:
         """How many bytes of text may come at once: once the lines have come they tell it, and one more would be wrong."""
         return BLOCK if self._said is None else max(min(written_by(self._said) - self._taken, BLOCK), 1)
@@ -361,7 +365,7 @@ class Program:
             self._open.discard(self._text)
         if self._notes in ready:
             self._take_lines()
-        if self._said and self._taken >= written_by(self._said):
+        if self._said and (self._taken >= written_by(self._said) or not ready):
             self._end(None)
         elif self._process and not self._open:
             self._end(self._process.wait())

@@ -100,6 +100,7 @@ class Runs(unittest.TestCase):
             (f'printf 12345; sleep 0.1; echo "{report} 4" >&2; cat > eaten', f"tds_replay ended with status 0, and a text of 5 bytes: {report} 4"),
             (f'echo "{report} 4" >&2; printf 12345; cat > eaten', f"tds_replay ended with status 0, and a text of 5 bytes: {report} 4"),
             (f'printf 123; echo "{report} 4" >&2; head -c 1 > eaten', f"tds_replay ended with status 0, and a text of 3 bytes: {report} 4"),
+            (f'printf 123; echo "{report} 4" >&2; cat > eaten', f"tds_replay ended with status 0, and a text of 3 bytes: {report} 4"),
             ("echo hello >&2; head -c 1 > eaten", "tds_replay ended with status 0, and a text of 0 bytes: hello"),
             ('echo "fault 2 InputEnded at wire 0, written 0, unwritten 0" >&2', "tds_replay ended with status 0, and a text of 0 bytes: fault 2"),
             ("exit 6", "tds_replay ended with status 6 and no line"), ("exit 0", "tds_replay ended with status 0, and a text of 0 bytes: "),
