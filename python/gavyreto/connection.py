@@ -153,9 +153,7 @@ class Channel:
 
     def read_packet(self) -> tuple[bytes, bytes]:
         """A packet's header and its body. Raises EOFError if the other side has closed before its end."""
-        header = tds.read_fully(self.read, tds.HEADER)
-        length = tds.length_of(header) - tds.HEADER
-        body = tds.read_fully(self.read, length)
+        header, body, length = tds.read_packet(self.read)
         if len(header) < tds.HEADER or len(body) != max(length, 0):
             raise EOFError
         return header, body

@@ -34,9 +34,7 @@ class Payload:
         """Reads a packet. False after the last one. Raises Ended if it isn't whole, and ValueError if it is none of an answer."""
         if self.is_over:
             return False
-        header = tds.read_fully(self._read, tds.HEADER)
-        length = tds.length_of(header) - tds.HEADER
-        body = tds.read_fully(self._read, length) if len(header) == tds.HEADER else b""
+        header, body, length = tds.read_packet(self._read)
         if self._hand_on:
             self._hand_on(header + body)
         if len(header) == tds.HEADER and (header[0] != tds.PacketType.ANSWER or length < 0):

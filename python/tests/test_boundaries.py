@@ -172,7 +172,7 @@ class Ends(Live):
 
     def test_query(self) -> None:
         for status, token, word in self.CASES:
-            for answer in (rows_that_end(status, token), b"".join(tds.packets(tds.bodies(rows_that_end(status, token)), 20))):
+            for answer in (rows_that_end(status, token), b"".join(tds.packets([rows_that_end(status, token)[tds.HEADER:]], 20))):
                 with self.subTest(status=status), self.served(answer) as port:
                     came = ask_port(port, "SELECT 1", "SELECT 2")
                     self.assertEqual((came.returncode, came.stdout), (3, ORDERS))

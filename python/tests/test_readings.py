@@ -18,7 +18,7 @@ import gavyreto
 from gavyreto import tds
 from gavyreto.connection import Channel
 from gavyreto.text import Sets
-from tests.beside import PROGRAM, SECONDS, Live, answered, context_of, listening, log_in, log_in_encrypted, responses, skip, wire
+from tests.beside import PROGRAM, SECONDS, Live, answered, context_of, listening, log_in, log_in_encrypted, responses, wire
 
 ORDERED = answered(*responses.order_rows(0), tds.done())
 UNASKED = "the server sent bytes that weren't asked for"
@@ -332,17 +332,6 @@ class DatabaseApi(Live):
                 cursor.close()
             connection.close()
         self.assertEqual((gavyreto.apilevel, gavyreto.threadsafety), ("2.0", 1))
-
-    def test_what_pandas_reads(self) -> None:
-        try:
-            import pandas  # type: ignore[import]
-        except ImportError:
-            skip(self, "Python's module pandas isn't there")
-        with serving(ORDERED) as port, connected(port) as connection:
-            connection.query.__func__.__kwdefaults__["program"] = PROGRAM  # type: ignore[attr-defined]
-            self.addCleanup(connection.query.__func__.__kwdefaults__.update, program="tds_replay")  # type: ignore[attr-defined]
-            frame = pandas.read_sql("SELECT * FROM orders", connection)
-            self.assertEqual((list(frame.columns), list(frame["id"])), (["id", "customer", "total", "ordered", "note"], [1, 2, 3]))
 
 
 if __name__ == "__main__":
