@@ -274,8 +274,8 @@ def connect(
 def query(
     statement: str, server: str, *, user: str, password: str, port: int = PORT, database: str = "", encrypt: str = ENCRYPT[0],
     certificates: Optional[str] = None, certificate_name: str = "", trust_server: bool = False, packet_size: int = PACKET_SIZE_ASKED,
-    seconds: float = SECONDS, login_seconds: float = LOGIN_SECONDS, dates: Dates = False, column_room: int = COLUMN_ROOM, max_wire: int = MAX_WIRE, charset: str = CHARSETS[0],
-    program: str = PROGRAM,
+    seconds: float = SECONDS, login_seconds: float = LOGIN_SECONDS, dates: Dates = False, column_room: int = COLUMN_ROOM,
+    max_wire: int = MAX_WIRE, charset: str = CHARSETS[0], program: str = PROGRAM,
 ) -> Response:
     """Asks a server one statement, on a connection of its own, and returns an iterator over the result sets of the answer:
     what `connect` and `Connection.query` do with the same arguments."""

@@ -274,8 +274,8 @@ class Sent(Live):
         with open(self.path("lines"), "w", encoding="ascii") as file:
             file.write("SELECT * FROM orders\n")
         os.link(self.path("lines"), self.path("other"))
-        for words in ("-i lines -o lines", "-i lines -o other", "-o lines < lines", "-o 'lin{}' < lin1"):
-            came = self.query(f"TRUSTED {words}", ("--record", "sent"), "cp lines lin1; ")
+        for words in ("-i lines -o lines", "-i lines -o other", "-o lines < lines", "-o 'lin{}' < lin1", "-i rows.partial -o rows"):
+            came = self.query(f"TRUSTED {words}", ("--record", "sent"), "cp lines lin1; cp lines rows.partial; ")
             with self.subTest(words=words):
                 self.assertEqual((came.returncode, came.stdout), (2, b""), came.stderr)
                 self.assertRegex(came.stderr.decode(), "^[^\n]*: the statements are read from it\n$")

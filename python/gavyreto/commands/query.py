@@ -141,11 +141,11 @@ def check(found: list[Batch], asked: argparse.Namespace) -> None:
 
 
 def check_apart(path: str, asked: argparse.Namespace) -> None:
-    """Refuses an output from which statements are read: opening it would empty it."""
-    sources = asked.input or ([] if asked.statements else ["-"])
-    for source in sources:
-        if is_one_file(path, STANDARD_INPUT if source == "-" else source):
-            raise Stopped(f"{path}: the statements are read from it", REFUSED)
+    """Refuses an output from which statements are read, also by its name until it is whole."""
+    for source in asked.input or ([] if asked.statements else ["-"]):
+        for name in (path, path + PARTIAL):
+            if is_one_file(name, STANDARD_INPUT if source == "-" else source):
+                raise Stopped(f"{name}: the statements are read from it", REFUSED)
 
 
 def encoded(statement: str) -> bytes:
