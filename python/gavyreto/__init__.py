@@ -27,6 +27,8 @@ All values of a column have one type. Python's times have six digits of a second
 datetime2(7), stays text, so that nothing is lost; `dates="truncate"` cuts the seventh off. A datetimeoffset is a datetime with its
 own offset. A row is a tuple, and `row.name` is its value in the column `name`.
 
+A connection is one of Python's DB-API (PEP 249) too, by `cursor`; one thread at a time reads from it, and a second one is refused.
+
 Python 3.9 or later, standard library alone. `python3 -m gavyreto` has commands for a terminal."""
 from __future__ import annotations
 
@@ -34,10 +36,11 @@ TYPE_CHECKING = False  # as typing has it, which isn't imported for it: a comman
 if TYPE_CHECKING:
     from typing import Any
 
-    from gavyreto.client import Connection, connect, query
+    from gavyreto.client import Connection, Cursor, connect, query
     from gavyreto.errors import (
-        BadAnswer, ConnectionFailed, Error, Fault, MalformedText, NotOneSet, PassedOver, ProgramFailed, Report, ServerError,
-        UnfinishedAnswer, UnfinishedText,
+        BadAnswer, CertificateRefused, ConnectionFailed, DatabaseError, DataError, EncryptionRefused, Error, Fault, IntegrityError,
+        InterfaceError, InternalError, Interrupted, LoginRefused, MalformedText, NotOneSet, NotSupportedError, OperationalError, PassedOver,
+        ProgramFailed, ProgrammingError, Report, ServerError, TimedOut, UnfinishedAnswer, UnfinishedText, Warning,
     )
     from gavyreto.response import Response, Source, export
     from gavyreto.rows import Row
@@ -46,10 +49,14 @@ if TYPE_CHECKING:
     from gavyreto.version import __version__
 
 __all__ = [
-    "export", "read", "query", "connect", "value_of", "Connection", "Sets", "Response", "ResultSet", "Row", "Report", "Value",
+    "export", "read", "query", "connect", "value_of", "Connection", "Cursor", "Sets", "Response", "ResultSet", "Row", "Report", "Value",
     "Source", "Error", "Fault", "ServerError", "ProgramFailed", "NotOneSet", "UnfinishedAnswer", "UnfinishedText", "MalformedText",
-    "PassedOver", "ConnectionFailed", "BadAnswer", "__version__",
+    "PassedOver", "Interrupted", "ConnectionFailed", "TimedOut", "CertificateRefused", "EncryptionRefused", "LoginRefused", "BadAnswer",
+    "Warning", "InterfaceError", "DatabaseError", "OperationalError", "InternalError", "ProgrammingError", "NotSupportedError", "DataError",
+    "IntegrityError", "apilevel", "threadsafety", "paramstyle", "__version__",
 ]
+# As Python's DB-API has them (PEP 249): threads may share the module, and no connection; statements have no parameters.
+apilevel, threadsafety, paramstyle = "2.0", 1, "qmark"
 _MODULES = ["errors", "version", "values", "rows", "text", "response", "client"]
 
 

@@ -27,6 +27,10 @@ def _raising(_: int, __: object) -> NoReturn:
     raise KeyboardInterrupt
 
 
+def _ending(number: int, _: object) -> NoReturn:
+    raise common.Signalled(number)
+
+
 def _begin() -> None:
     """Ctrl-C is a line and a status from here on. It is ignored of what the shell runs in the background."""
     if signal.getsignal(signal.SIGINT) is signal.default_int_handler:
@@ -36,9 +40,11 @@ def _begin() -> None:
 if __name__ == "__main__":
     _begin()  # before anything else is imported: what is imported may be interrupted too
 
+import contextlib  # noqa: E402
 import importlib  # noqa: E402
 from typing import NoReturn, Optional  # noqa: E402
 
+from gavyreto import program  # noqa: E402
 from gavyreto.commands import common  # noqa: E402
 from gavyreto.version import __version__  # noqa: E402
 
@@ -68,20 +74,23 @@ def run(words: list[str]) -> int:
         return 0
     common.tell(f"gavyreto: {f'no command {name}' if name else 'a command is needed'}")
     common.say("\n" + USAGE)
-    return common.REFUSED
+    return program.REFUSED
 
 
 def run_command(name: str, words: list[str]) -> int:
-    """Runs a command. Ctrl-C raises KeyboardInterrupt as long as it runs."""
+    """Runs a command. Ctrl-C raises KeyboardInterrupt as long as it runs, and what else ends it, by default, `Signalled`."""
     command = importlib.import_module(f"gavyreto.commands.{name}")
-    before = signal.getsignal(signal.SIGINT)
+    before = {number: signal.getsignal(number) for number in (signal.SIGINT, signal.SIGTERM, signal.SIGHUP)}
     try:
-        if before is _interrupted:
-            signal.signal(signal.SIGINT, _raising)
+        for number, handler in before.items():
+            if handler is _interrupted or handler is signal.SIG_DFL:
+                with contextlib.suppress(ValueError):  # only the main thread may set one, which alone changes it
+                    signal.signal(number, _raising if number == signal.SIGINT else _ending)
         return int(command.run(words))
     finally:
-        if signal.getsignal(signal.SIGINT) is not before:  # only the main thread may set one, which alone has changed it
-            signal.signal(signal.SIGINT, before)
+        for number, handler in before.items():
+            if signal.getsignal(number) is not handler:
+                signal.signal(number, handler)
 
 
 def ending(words: list[str]) -> tuple[str, int]:
@@ -89,7 +98,7 @@ def ending(words: list[str]) -> tuple[str, int]:
     try:
         return "", run(words)
     except SystemExit as refused:  # by argparse, which has said why
-        return "", refused.code if isinstance(refused.code, int) else common.REFUSED
+        return "", refused.code if isinstance(refused.code, int) else program.REFUSED
     except BaseException as failure:
         return common.ending_of(failure)
 
@@ -97,7 +106,7 @@ def ending(words: list[str]) -> tuple[str, int]:
 def ended(words: list[str]) -> int:
     """Runs a command, and returns its exit status: whatever ends it is a line on standard error."""
     line, status = ending(words)
-    if _came and status != common.INTERRUPTED:
+    if _came and status != program.INTERRUPTED:
         line, status = common.ending_of(KeyboardInterrupt())
     if line:
         common.tell(line)
@@ -113,7 +122,7 @@ def main(words: Optional[list[str]] = None) -> NoReturn:
     except OSError as failure:
         common.tell(f"standard output: {common.cause_of(failure)}")
         sys.stdout = open(os.devnull, "w", encoding="utf-8")  # so that the interpreter doesn't try again
-        status = status or common.FAILED
+        status = status or program.FAILED
     sys.exit(status)
 
 

@@ -1,34 +1,53 @@
 """A server asked from Python: its answers as result sets."""
 from __future__ import annotations
 
-import subprocess
-from typing import Optional
+import io
+import threading
+from typing import Any, Iterator, Optional, cast
 
-from gavyreto.connection import ENCRYPT, PORT, SECONDS, Session, log_in_to
-from gavyreto.payload import Descriptions, Payload, Write
-from gavyreto.program import CHARSETS, COLUMN_ROOM, MAX_WIRE, PACKET_SIZE_ASKED, PROGRAM, command_of, path_of
-from gavyreto.response import Response, started
+from gavyreto.connection import ENCRYPT, LOGIN_SECONDS, PORT, SECONDS, Secret, Session, log_in_to
+from gavyreto.errors import Error, NotSupportedError, ProgrammingError
+from gavyreto.payload import Descriptions, LateDescriptions, Payload, Write
+from gavyreto.program import CHARSETS, COLUMN_ROOM, MAX_WIRE, PACKET_SIZE_ASKED, PROGRAM, Program, command_of, path_of
+from gavyreto.response import Feeding, Response
+from gavyreto.rows import Row
+from gavyreto.text import Described, ResultSet
 from gavyreto.values import Dates, check_dates
 
 
 class Connection:
-    """A connection to a server, on which statements are asked one after the other. A context that closes it.
+    """A connection to a server, on which statements are asked one after the other, by one thread at a time. A context that closes it.
 
     A transaction has to end in the statement that begins it: a statement after one that leaves a transaction open is refused
-    by the server."""
+    by the server. Whatever goes wrong closes the connection for good; later calls raise ConnectionFailed and say what it was."""
 
     def __init__(self, session: Session) -> None:
         self._session = session
         self._answer: Optional[Answer] = None  # to the last statement
+        self._program: Optional[Program] = None
+        self._lock = threading.Lock()
 
     def __enter__(self) -> Connection:
         return self
 
-    def __exit__(self, *_: object) -> None:
-        self.close()
+    def __exit__(self, kind: object, *_: object) -> None:
+        self._end(judges=not kind)
 
     def close(self) -> None:
-        self._session.close()
+        """Closes the connection. Raises BadAnswer if the server sent more than it was asked for."""
+        self._end(judges=True)
+
+    def _end(self, judges: bool) -> None:
+        answer, self._answer = self._answer, None
+        try:
+            if answer and not answer.is_left:
+                answer.close()
+            if judges:
+                self._session.end()
+        finally:
+            self._session.close()
+            if self._program:
+                self._program.close()
 
     def query(
         self, statement: str, *, dates: Dates = False, column_room: int = COLUMN_ROOM, max_wire: int = MAX_WIRE,
@@ -37,29 +56,121 @@ class Connection:
         """Asks, and returns an iterator over the result sets of the answer, as `export` does with the same arguments. The
         answer has to be read to its end before the next statement; a connection whose answer isn't is closed with it.
 
-        Raises ValueError if the answer before isn't read, or the statement is no Unicode, OSError if the program can't be
-        started, ConnectionFailed, and BadAnswer if bytes have come that weren't asked for."""
-        if self._answer and not self._answer.is_left:
-            raise ValueError("the answer before isn't read to its end")
-        check_dates(dates)
-        command = command_of(program, self._session.packet_size, column_room, max_wire, charset)
-        run = started(command, subprocess.PIPE)
+        Raises ValueError if the answer before isn't read, another thread asks, or the statement is no Unicode, OSError if the program
+        can't be started, ConnectionFailed, and BadAnswer if bytes have come that weren't asked for."""
+        if not self._lock.acquire(blocking=False):
+            raise ValueError("another thread asks on this connection")
         try:
+            if self._answer and not self._answer.is_left:
+                raise ValueError("the answer before isn't read to its end")
+            check_dates(dates)
+            run = self._run_of(command_of(program, self._session.packet_size, column_room, max_wire, charset))
+            run.begin()
             self._session.send(statement)
-        except BaseException:
-            run.kill()
-            run.communicate()
-            raise
-        self._answer = Answer(self._session, run, dates)
-        return self._answer
+            self._answer = Answer(self._session, run, dates)
+            return self._answer
+        finally:
+            self._lock.release()
+
+    def _run_of(self, command: list[str]) -> Program:
+        """The program with these arguments, which goes on from answer to answer."""
+        if self._program is None or self._program.command != command:
+            if self._program:
+                self._program.close()
+            self._program = Program(command)
+        return self._program
+
+    # Python's DB-API (PEP 249).
+
+    def cursor(self) -> Cursor:
+        """A cursor, with the answers' default arguments."""
+        return Cursor(self)
+
+    def commit(self) -> None:
+        """Ends a transaction, if the statement before has left one open."""
+        self._ask("IF @@TRANCOUNT > 0 COMMIT TRANSACTION")
+
+    def rollback(self) -> None:
+        """Ends a transaction and takes back what it changed, if the statement before has left one open."""
+        self._ask("IF @@TRANCOUNT > 0 ROLLBACK TRANSACTION")
+
+    def _ask(self, statement: str) -> None:
+        program = self._program.command[0] if self._program else PROGRAM
+        with self.query(statement, program=program) as answer:
+            for _ in answer:
+                pass
+
+
+class Cursor:
+    """A cursor of Python's DB-API (PEP 249) over the answer to one statement, set by set. A context that closes it."""
+
+    def __init__(self, connection: Connection) -> None:
+        self.connection = connection
+        self.arraysize = 1
+        self.rowcount = -1  #: how many rows there are isn't known before they have come
+        self._answer: Optional[Answer] = None
+        self._set: Optional[ResultSet] = None
+
+    def __enter__(self) -> Cursor:
+        return self
+
+    def __exit__(self, kind: object, *_: object) -> None:
+        if self._answer:
+            self._answer.__exit__(kind)
+
+    def close(self) -> None:
+        """Leaves the answer. Raises an error behind rows that were handed out, if it wasn't raised yet."""
+        if self._answer:
+            self._answer.close()
+
+    def execute(self, statement: str, parameters: object = None, **options: Any) -> Cursor:
+        """Asks, with the options of `Connection.query`. Parameters aren't filled in: they raise NotSupportedError."""
+        if parameters:
+            raise NotSupportedError("parameters aren't filled in: the statement has to have its values")
+        self._answer = self.connection.query(statement, **options)
+        self._set = next(self._answer, None)
+        return self
+
+    def nextset(self) -> Optional[bool]:
+        """Goes to the next set. None if there is none."""
+        self._set = next(self._answer, None) if self._answer else None
+        return True if self._set else None
+
+    @property
+    def description(self) -> Optional[list[Described]]:
+        """The columns of the set; None without one."""
+        return self._set.description if self._set else None
+
+    def _rows(self) -> ResultSet:
+        if not self._set:
+            raise ProgrammingError("there is no result set")
+        return self._set
+
+    def fetchone(self) -> Optional[Row]:
+        return self._rows().fetchone()
+
+    def fetchmany(self, size: Optional[int] = None) -> list[Row]:
+        return self._rows().fetchmany(self.arraysize if size is None else size)
+
+    def fetchall(self) -> list[Row]:
+        return self._rows().fetchall()
+
+    def __iter__(self) -> Iterator[Row]:
+        return iter(self._rows())
+
+    def setinputsizes(self, sizes: object) -> None:
+        """Nothing: there are no parameters."""
+
+    def setoutputsize(self, size: int, column: Optional[int] = None) -> None:
+        """Nothing: values have room as they come."""
 
 
 class Blocks:
     """An answer in blocks. Each is handed on only after it was parsed here, so the parser never lags behind the program."""
 
-    def __init__(self, session: Session, write: Write) -> None:
+    def __init__(self, session: Session, write: Write, first: bytes) -> None:
         self._session, self._write = session, write
-        self._block, self._at = b"", 0
+        self._block, self._at = first, 0
 
     def read(self, most: int) -> bytes:
         if self._at == len(self._block):
@@ -76,36 +187,68 @@ class Blocks:
             self._block = self._session.next()
 
 
-def hand_on(session: Session, write: Write, found: Descriptions) -> None:
-    """Hands an answer to the program, and notes its descriptions."""
-    blocks = Blocks(session, write)
-    found.watch(Payload(blocks.read))
-    blocks.finish()
-
-
 class Answer(Response):
     """The result sets of a server's answer, while it comes."""
 
-    def __init__(self, session: Session, run: subprocess.Popen[bytes], dates: Dates) -> None:
-        self.owns_session = False  # whether the session was made for this answer
+    def __init__(self, session: Session, program: Program, dates: Dates) -> None:
+        self.owns: Optional[Connection] = None  # the connection that was made for this answer
         self.is_left = False  # whether no more of it is read
-        self._session, found = session, Descriptions()
-        super().__init__(run, dates, found, copy=lambda write: hand_on(session, write, found))
+        self._session, self._is_begun = session, False
+        super().__init__(program, dates, Descriptions())
+
+    def _read(self, most: int) -> bytes:
+        if not self._is_begun:
+            self._is_begun = True
+            self._begin()
+        return super()._read(most)
+
+    def _begin(self) -> None:
+        """Hands on an answer that has come whole with its first block; of a longer one a thread does that."""
+        try:
+            block = self._session.next()
+        except Error as failure:
+            self._raise(failure)
+        if self._session.is_ready() and self._program.offer(block):
+            self._descriptions = LateDescriptions(io.BytesIO(block).read)
+        else:
+            found = cast(Descriptions, self._descriptions)
+            self._feeding = Feeding(lambda write: self._hand_on(write, found, block), self._program)
+
+    def _hand_on(self, write: Write, found: Descriptions, first: bytes) -> bool:
+        """Hands the answer to the program, and notes its descriptions. Returns whether it was whole."""
+        blocks = Blocks(self._session, write, first)
+        found.watch(Payload(blocks.read))
+        blocks.finish()
+        return self._session.is_ready()
 
     def _unfinished(self) -> Optional[str]:
         return self._session.unfinished
 
+    def _judge_end(self, rest: str) -> None:
+        super()._judge_end(rest)
+        if self.owns:
+            try:
+                self._session.end()
+            except Error as surplus:
+                self._raise(surplus)
+
     def _release(self) -> None:
-        super()._release()
-        self.is_left = True
-        if self.owns_session or not self.is_whole:
-            self._session.close()
+        if not self.is_left:
+            self.is_left = True
+            if not self.is_whole:
+                self._session.close(str(self._failure) if self._failure else "an answer that wasn't read to its end")
+                self._program.kill()
+            if self._feeding:
+                self._feeding.join()
+            if self.owns or not self.is_whole:
+                self._session.close()
+                self._program.close()
 
 
 def connect(
     server: str, *, user: str, password: str, port: int = PORT, database: str = "", encrypt: str = ENCRYPT[0],
     certificates: Optional[str] = None, certificate_name: str = "", trust_server: bool = False, packet_size: int = PACKET_SIZE_ASKED,
-    seconds: int = SECONDS,
+    seconds: float = SECONDS, login_seconds: float = LOGIN_SECONDS,
 ) -> Connection:
     """Connects to a server, and logs in by SQL authentication.
 
@@ -117,31 +260,34 @@ def connect(
     trust_server      whether the certificate isn't verified: anyone between can read all then
     packet_size       bytes that are asked for, 512 to 32767
     seconds           the longest that the server may be silent
+    login_seconds     the longest from connecting to the end of the login
 
-    Raises ConnectionFailed, ServerError if the login is refused, BadAnswer if what answers is no such server, and ValueError if
-    an argument is none. A redirection is followed once, and only if it came encrypted."""
+    Raises ConnectionFailed, of which TimedOut, CertificateRefused, EncryptionRefused and LoginRefused are kinds, BadAnswer if what
+    answers is no such server, and ValueError or TypeError if an argument is none. A redirection is followed once, and only if it came
+    encrypted."""
+    password = Secret(password) if isinstance(password, str) else password
     return Connection(log_in_to(
         server, user=user, password=password, port=port, database=database, encrypt=encrypt, certificates=certificates,
-        certificate_name=certificate_name, trust_server=trust_server, packet_size=packet_size, seconds=seconds))
+        certificate_name=certificate_name, trust_server=trust_server, packet_size=packet_size, seconds=seconds, login_seconds=login_seconds))
 
 
 def query(
     statement: str, server: str, *, user: str, password: str, port: int = PORT, database: str = "", encrypt: str = ENCRYPT[0],
     certificates: Optional[str] = None, certificate_name: str = "", trust_server: bool = False, packet_size: int = PACKET_SIZE_ASKED,
-    seconds: int = SECONDS, dates: Dates = False, column_room: int = COLUMN_ROOM, max_wire: int = MAX_WIRE, charset: str = CHARSETS[0],
-    program: str = PROGRAM,
+    seconds: float = SECONDS, login_seconds: float = LOGIN_SECONDS, dates: Dates = False, column_room: int = COLUMN_ROOM,
+    max_wire: int = MAX_WIRE, charset: str = CHARSETS[0], program: str = PROGRAM,
 ) -> Response:
     """Asks a server one statement, on a connection of its own, and returns an iterator over the result sets of the answer:
     what `connect` and `Connection.query` do with the same arguments."""
-    path = path_of(program)
+    path, password = path_of(program), Secret(password) if isinstance(password, str) else password
     connection = connect(
         server, user=user, password=password, port=port, database=database, encrypt=encrypt, certificates=certificates,
-        certificate_name=certificate_name, trust_server=trust_server, packet_size=packet_size, seconds=seconds)
+        certificate_name=certificate_name, trust_server=trust_server, packet_size=packet_size, seconds=seconds, login_seconds=login_seconds)
     try:
         answer = connection.query(
             statement, dates=dates, column_room=column_room, max_wire=max_wire, charset=charset, program=path)
     except BaseException:
         connection.close()
         raise
-    answer.owns_session = True
+    answer.owns = connection
     return answer

@@ -1,83 +1,115 @@
 """A connection to a server: greeting, encryption, login, statements and the packets of their answers (MS-TDS)."""
 from __future__ import annotations
 
+import contextlib
 import os
+import select
 import socket
 import ssl
 import struct
 import time
-from typing import Any, NamedTuple, Optional, Union
+from typing import Any, Callable, Iterator, NamedTuple, Optional, Union
 
 from gavyreto import tds
-from gavyreto.errors import BadAnswer, ConnectionFailed, ServerError
+from gavyreto.errors import BadAnswer, CertificateRefused, ConnectionFailed, EncryptionRefused, Error, LoginRefused, TimedOut
 from gavyreto.program import Write
 from gavyreto.tds import Encryption, PacketType
 
 PORT = 1433
-SECONDS = 300
+SECONDS, LOGIN_SECONDS, MOST_SECONDS = 300, 15, 86400
 ENCRYPT = ("all", "login", "none")
 BLOCK = 1 << 18  # bytes that are received at once, at most
 UNASKED = "the server sent bytes that weren't asked for"
 LONGEST_MESSAGE = 1 << 20  # of those that are read whole: greetings and logins
+MOST_EMPTY = 1000  # packets without a body in an answer
+SLICE = 0.5  # seconds after which it is looked again at how long is waited for, which a signal may change
+AT_THE_END = 0.25  # seconds for which the other side's end is waited for at the end of a session
+Meanwhile = Callable[[int, float], float]  # waits until a descriptor can be read, for at most so many seconds: how long it waited
+
+
+def wait_for(descriptor: int, seconds: float) -> float:
+    """Waits until a descriptor can be read, for at most so many seconds. Returns how long it waited."""
+    began = time.monotonic()
+    events = select.poll()
+    events.register(descriptor, select.POLLIN)
+    events.poll(max(0.0, seconds * 1000))
+    return min(time.monotonic() - began, seconds)  # it's longer if this process was stopped meanwhile
 
 
 class Channel:
     """The packets of a connection, through TLS once `encrypt` is done and until `uncover`.
 
-    Nothing is waited for longer than `seconds`, and no longer than twice that for the end of a message that is read whole, or
-    for a byte of a body of an answer, so that empty packets don't last for ever. Only time in which the other side is waited
-    for counts, not what is spent on what came."""
+    Nothing is waited for longer than `seconds`, counted anew for each message that is read whole and for each byte of a body of an
+    answer, so that empty packets don't last for ever. Only time in which the other side is waited for counts, not what is spent on
+    what came. Within `limit` all of it counts, and nothing renews it."""
 
-    def __init__(self, connected: socket.socket, seconds: int) -> None:
+    def __init__(self, connected: socket.socket, seconds: float) -> None:
         self.socket, self.seconds = connected, seconds
+        self.meanwhile: Meanwhile = wait_for  #: what is done while the other side is waited for
         connected.settimeout(None)
-        for direction in socket.SO_RCVTIMEO, socket.SO_SNDTIMEO:
-            connected.setsockopt(socket.SOL_SOCKET, direction, struct.pack("@ll", seconds, 0))
+        whole = int(seconds)
+        connected.setsockopt(socket.SOL_SOCKET, socket.SO_SNDTIMEO, struct.pack("@ll", whole, int((seconds - whole) * 1_000_000)))
         self.tls: Optional[ssl.SSLObject] = None
         self._received, self._to_send = ssl.MemoryBIO(), ssl.MemoryBIO()
         self._block = b""  # received and not used
-        self._left = 0.0  # of the seconds
+        self._left = float(seconds)
+        self._until, self._why = 0.0, ""  # the end of a limit, and what is told then
 
     def wait(self) -> None:
         """Begins to wait for what comes next."""
         self._left = float(self.seconds)
 
+    def limit(self, until: float, why: str) -> None:
+        """Ends all waiting at a time of the monotonic clock; at none if that is 0."""
+        self._until, self._why = until, why
+
+    def _seconds_left(self) -> float:
+        left = min(self._left, self._until - time.monotonic()) if self._until else self._left
+        if left <= 0:
+            raise TimeoutError(self._why if self._until and self._left > 0 else f"the server was silent for longer than {self.seconds} seconds")
+        return left
+
     def _receive(self) -> bytes:
-        """The next bytes of the socket, or none if the other side has closed. Raises BlockingIOError or TimeoutError."""
-        began = time.monotonic()
-        data = self.socket.recv(BLOCK)
-        self._left -= min(time.monotonic() - began, self.seconds)  # it's longer if this process was stopped meanwhile
-        if self._left < 0:
-            raise TimeoutError
-        return data
+        """The next bytes of the socket, or none if the other side has closed. Raises TimeoutError."""
+        while True:
+            left = min(self._seconds_left(), SLICE)
+            self._left -= self.meanwhile(self.socket.fileno(), left)
+            with contextlib.suppress(BlockingIOError):
+                return self.socket.recv(BLOCK, socket.MSG_DONTWAIT)
 
     def expect_nothing(self) -> None:
         """Sees to it that nothing has come that isn't used: what comes before encryption, a login or a statement doesn't count
         after it. Raises BadAnswer."""
-        self.check_used()
-        if self._has_come():
-            raise BadAnswer(UNASKED)
-
-    def check_used(self) -> None:
-        """Sees to it that what was received is used. Raises BadAnswer."""
-        if self._block or self._received.pending:
+        if self._block or self._has_come():
             raise BadAnswer(UNASKED)
 
     def _has_come(self) -> bool:
-        """Whether bytes have come that weren't received. That the other side has closed is found later."""
+        """Whether bytes have come, in the socket or within TLS, that weren't asked for. That the other side has closed is none."""
         try:
             data = self.socket.recv(BLOCK, socket.MSG_DONTWAIT | (0 if self.tls else socket.MSG_PEEK))
         except BlockingIOError:
-            return False
+            data = b""
         if not self.tls:
-            return bool(data)
+            return bool(data or self._received.pending)
         self._received.write(data)
         try:
-            return bool(self.tls.read(1))
+            return bool(self.tls.pending() or self.tls.read(1))
         except ssl.SSLZeroReturnError:
             return False
         except ssl.SSLWantReadError:
-            return bool(data)
+            return bool(self._received.pending)
+
+    def finish(self, seconds: float) -> bool:
+        """Says that nothing more is sent, and waits for the other side's end. Returns whether bytes came before it."""
+        self.limit(time.monotonic() + seconds, "")
+        self._left = seconds
+        try:
+            self.socket.shutdown(socket.SHUT_WR)
+            return bool(self._block or self.receive())
+        except ssl.SSLError:
+            return True
+        except OSError:  # it is reset, or isn't ended
+            return False
 
     def receive(self) -> bytes:
         """The next bytes, decrypted, or none if the other side has closed."""
@@ -100,12 +132,15 @@ class Channel:
         return data
 
     def next_of(self, framing: tds.Framing) -> bytes:
-        """The next bytes of the answer that the framing follows, or none if the other side has closed, which ends it."""
+        """The next bytes of the answer that the framing follows. Raises EOFError if the other side has closed before its end."""
         block = self._block or self.receive()
+        if not block:
+            raise EOFError
         before = framing.payload
         taken = framing.take(block)
         self._block = block[taken:]
-        framing.is_over = framing.is_over or not block
+        if framing.empty > MOST_EMPTY:
+            raise BadAnswer(f"an answer with more than {MOST_EMPTY} packets without a body")
         if framing.payload > before:
             self.wait()
         return block if taken == len(block) else block[:taken]
@@ -118,9 +153,7 @@ class Channel:
 
     def read_packet(self) -> tuple[bytes, bytes]:
         """A packet's header and its body. Raises EOFError if the other side has closed before its end."""
-        header = tds.read_fully(self.read, tds.HEADER)
-        length = tds.length_of(header) - tds.HEADER
-        body = tds.read_fully(self.read, length)
+        header, body, length = tds.read_packet(self.read)
         if len(header) < tds.HEADER or len(body) != max(length, 0):
             raise EOFError
         return header, body
@@ -176,48 +209,66 @@ class Channel:
 # Logging in.
 
 class Server(NamedTuple):
-    """Where a server is, how it is trusted, and how long it may be silent, in seconds."""
+    """Where a server is, how it is trusted, and how long it may be silent and a login may take, in seconds."""
 
     host: str
     port: int
     certified: str  #: the name that its certificate has to have, if that is verified
     encrypt: str
     context: ssl.SSLContext
-    seconds: int
+    seconds: float
+    login_seconds: float = LOGIN_SECONDS
+    until: float = 0.0  #: the end of the login, by the monotonic clock
 
     def reach(self) -> Channel:
-        """A connection, before its greeting."""
+        """A connection, before its greeting. Raises ConnectionFailed or OSError."""
         try:
-            connected = socket.create_connection((self.host, self.port), timeout=self.seconds)
-        except (ValueError, OverflowError) as wrong:
+            found = socket.getaddrinfo(self.host, self.port, 0, socket.SOCK_STREAM)
+        except ValueError as wrong:  # a name that is too long, say
             raise ConnectionFailed(f"{self.host}, port {self.port}: no host of a network ({wrong})") from None
-        connected.setsockopt(socket.IPPROTO_TCP, socket.TCP_NODELAY, 1)
-        return Channel(connected, self.seconds)
+        failure = OSError("no address")
+        for family, kind, protocol, _, address in found:
+            connected = socket.socket(family, kind, protocol)
+            try:
+                connected.settimeout(max(self.until - time.monotonic(), 0.001) if self.until else None)
+                connected.connect(address)
+                connected.setsockopt(socket.IPPROTO_TCP, socket.TCP_NODELAY, 1)
+                return self._limited(Channel(connected, self.seconds))
+            except OSError as wrong:
+                connected.close()
+                failure = TimeoutError(self.too_long()) if isinstance(wrong, socket.timeout) and not wrong.errno else wrong
+            except BaseException:
+                connected.close()
+                raise
+        raise failure
+
+    def _limited(self, channel: Channel) -> Channel:
+        channel.limit(self.until, self.too_long())
+        return channel
+
+    def too_long(self) -> str:
+        """What is told of a login that isn't done in time."""
+        return f"the login wasn't done within {self.login_seconds:g} seconds: --login-seconds allows more"
 
 
-class told:
+@contextlib.contextmanager
+def told(server: Server) -> Iterator[None]:
     """Tells what goes wrong with a connection as ConnectionFailed."""
-
-    def __init__(self, server: Server) -> None:
-        self._server = server
-
-    def __enter__(self) -> None:
-        pass
-
-    def __exit__(self, _: object, failure: Optional[BaseException], __: object) -> None:
-        if isinstance(failure, (EOFError, OSError)):
-            raise ConnectionFailed(line_of(failure, self._server)) from None
+    try:
+        yield
+    except (EOFError, OSError) as failure:
+        raise told_of(failure, server) from None
 
 
-def line_of(failure: Union[EOFError, OSError], server: Server) -> str:
+def told_of(failure: Union[EOFError, OSError], server: Server) -> ConnectionFailed:
     """What went wrong with a connection, in a line."""
     if isinstance(failure, ssl.SSLCertVerificationError):
-        return f"the server's certificate isn't trusted: {failure.verify_message}"
-    if isinstance(failure, EOFError):
-        return "the server closed the connection"
-    if isinstance(failure, (BlockingIOError, TimeoutError, socket.timeout)):
-        return f"the server was silent for longer than {server.seconds} seconds"
-    return f"{server.host}, port {server.port}: {failure.strerror or failure}"
+        return CertificateRefused(f"the server's certificate isn't trusted: {failure.verify_message}. --certificates names its authority; -C trusts anyone")
+    if isinstance(failure, (EOFError, BrokenPipeError, ConnectionResetError)):
+        return ConnectionFailed("the server closed the connection")
+    if isinstance(failure, (BlockingIOError, TimeoutError, socket.timeout)) and not failure.errno or isinstance(failure, BlockingIOError):
+        return TimedOut(str(failure) if not failure.errno else f"the server was silent for longer than {server.seconds:g} seconds")
+    return ConnectionFailed(f"{server.host}, port {server.port}: {failure.strerror or failure}")
 
 
 def context_of(certificates: Optional[str], trust_server: bool) -> ssl.SSLContext:
@@ -260,7 +311,7 @@ def greet(channel: Channel, server: Server) -> Encryption:
     if kind != PacketType.ANSWER:
         raise BadAnswer("what came isn't the answer of a server of TDS 7.4 to a greeting")
     if answered not in ENOUGH[server.encrypt]:
-        raise ConnectionFailed(LACKING[answered])
+        raise EncryptionRefused(LACKING[answered])
     if answered != Encryption.NOT_SUPPORTED:
         channel.encrypt(server.context, server_hostname=server.certified)
         channel.expect_nothing()
@@ -277,28 +328,33 @@ def log_in(channel: Channel, server: Server, login: bytes) -> tds.Accepted:
     try:
         accepted = tds.read_login_answer(payload)
     except tds.Refused as refused:
-        raise ServerError(str(refused)) from None
+        raise LoginRefused(str(refused)) from None
+    except tds.OtherVersion as other:
+        raise BadAnswer(f"the server speaks TDS {other}, and TDS 7.4 is spoken here") from None
     except (ValueError, IndexError, struct.error):
         kind = -1
     if kind != PacketType.ANSWER:
         raise BadAnswer("what came isn't the answer of a server of TDS 7.4 to a login")
     if accepted.routing and not channel.tls:
         host, port = accepted.routing
-        raise ConnectionFailed(f"the server redirects to {host}, port {port}, in an answer that isn't encrypted: ask there, if you trust it")
+        raise EncryptionRefused(f"the server redirects to {host}, port {port}, in an answer that isn't encrypted: ask there, if you trust it")
     return accepted
 
 
 # Statements.
 
 class Session:
-    """A connection that is logged in: a statement is sent, and its answer handed on, one after the other. A context that
-    closes it. Each call raises ConnectionFailed."""
+    """A connection that is logged in: a statement is sent, and its answer handed on, one after the other. A context that closes it.
+
+    Whatever goes wrong, an exception from elsewhere too, closes it for good: later calls raise ConnectionFailed, with what it was."""
 
     def __init__(self, channel: Channel, server: Server, packet_size: int) -> None:
         self.packet_size = packet_size  #: in bytes, as the server has it
         self.unfinished: Optional[str] = None  #: what there is to say of the last answer if it isn't whole, and has no ERROR
+        self.closed_after: Optional[str] = None  #: why it was closed
         self._channel, self._server = channel, server
         self._framing: Optional[tds.Framing] = None  # of the answer under way
+        self._unsent: Optional[OSError] = None  # what ended the sending of a statement whose answer may have come
         self._is_sending = self._is_interrupted = self._is_early = False  # early: before the statement was sent
 
     def __enter__(self) -> Session:
@@ -307,39 +363,69 @@ class Session:
     def __exit__(self, *_: object) -> None:
         self.close()
 
-    def close(self) -> None:
-        self._channel.close()
+    def close(self, why: str = "a call of close") -> None:
+        if self.closed_after is None:
+            self.closed_after = why
+            self._channel.close()
+
+    def end(self) -> None:
+        """Closes the connection once all answers are read. Raises BadAnswer if more has come than them."""
+        if self.closed_after is None and self.is_ready():
+            surplus = self._channel.finish(AT_THE_END)
+            self.close()
+            if surplus:
+                raise BadAnswer(UNASKED)
+        self.close()
+
+    @contextlib.contextmanager
+    def _open(self) -> Iterator[None]:
+        """What is done while the connection is open. Whatever ends it early closes the connection."""
+        if self.closed_after is not None:
+            raise ConnectionFailed(f"the connection was closed after: {self.closed_after}")
+        try:
+            with told(self._server):
+                yield
+        except BaseException as failure:
+            self.close(str(failure) if isinstance(failure, Error) else type(failure).__name__)
+            raise
+
+    def meanwhile(self, wait: Meanwhile) -> None:
+        """Sets what is done while the server is waited for."""
+        self._channel.meanwhile = wait
 
     def is_ready(self) -> bool:
         """Whether no answer is under way."""
         return self._framing is None
 
     def send(self, statement: str) -> None:
-        """Sends a statement. Its answer has to be handed on next. Raises BadAnswer if something has come before."""
+        """Sends a statement. Its answer has to be handed on next. Raises ValueError if it is no Unicode, and BadAnswer if something
+        has come before."""
         message = tds.statement(statement)
-        with told(self._server):
+        with self._open():
+            if self._framing:
+                raise ConnectionFailed("the answer before isn't read to its end")
             self._channel.expect_nothing()
-        self._is_sending, self._framing, self.unfinished = True, tds.Framing(), None
-        with told(self._server):
-            self._channel.write_message(PacketType.STATEMENT, message, self.packet_size)
-        self._is_sending = False
-        self._channel.wait()
-        if self._is_early:
-            self._attend()
-
-    def check_used(self) -> None:
-        """Sees to it that all that was received belongs to an answer. Raises BadAnswer."""
-        self._channel.check_used()
+            self._is_sending, self._framing, self.unfinished = True, tds.Framing(), None
+            try:
+                self._channel.write_message(PacketType.STATEMENT, message, self.packet_size)
+            except (BrokenPipeError, ConnectionResetError) as failure:
+                self._unsent = failure  # what the server says to it may have come
+            self._is_sending = False
+            self._channel.wait()
+            if self._is_early:
+                self._attend()
 
     def next(self) -> bytes:
-        """The next bytes of the answer, or none after its last packet, where the connection is closed, or after an interrupt."""
+        """The next bytes of the answer, or none after its last packet, or after an interrupt."""
         framing = self._framing
         if framing is None or framing.is_over or self._is_interrupted:
             return b""
-        with told(self._server):
+        with self._open():
             block = self._channel.next_of(framing)
         if framing.is_whole and not self._is_interrupted:
             self._framing, self.unfinished = None, tds.unfinished(framing.tail)
+            if self._unsent:
+                self.close(str(told_of(self._unsent, self._server)))
         return block
 
     def forward(self, write: Write) -> None:
@@ -348,9 +434,11 @@ class Session:
             write(block)
 
     def interrupt(self) -> None:
-        """Asks the server to stop answering. It may be called while another call waits, as a handler of a signal is."""
+        """Asks the server to stop answering, which may take as long as a login. It may be called while another call waits, as a handler
+        of a signal is."""
         if not self._is_interrupted:
             self._is_interrupted, self._is_early = True, self._is_sending or self._framing is None
+            self._channel.limit(time.monotonic() + self._server.login_seconds, f"the server didn't stop within {self._server.login_seconds:g} seconds")
             if not self._is_early:
                 self._attend()
 
@@ -363,7 +451,7 @@ class Session:
         Attention), which ends the answer under way or a message of its own."""
         framing = self._framing or tds.Framing()
         self._channel.wait()
-        with told(self._server):
+        with self._open():
             while not framing.is_whole or not tds.is_cancelled(framing.tail):
                 if framing.is_over and not framing.is_whole:
                     raise EOFError
@@ -371,32 +459,71 @@ class Session:
                 self._channel.next_of(framing)
 
 
+class Secret(str):
+    """A password, which isn't shown where a frame's variables are."""
+
+    def __repr__(self) -> str:
+        return "''"
+
+
+class Hidden(bytes):
+    """Bytes with a password in them, which aren't shown either."""
+
+    def __repr__(self) -> str:
+        return "b''"
+
+
+def check_arguments(
+    texts: dict[str, object], flags: dict[str, object], numbers: dict[str, tuple[object, float, float]], whole: tuple[str, ...],
+) -> None:
+    """Raises TypeError or ValueError unless the texts are `str`, the flags `bool`, and the numbers in their ranges."""
+    for name, text in texts.items():
+        if not isinstance(text, str):
+            raise TypeError(f"{name} is a str, not {type(text).__name__}")
+    for name, flag in flags.items():
+        if not isinstance(flag, bool):
+            raise TypeError(f"{name} is a bool, not {type(flag).__name__}")
+    for name, (number, least, most) in numbers.items():
+        if isinstance(number, bool) or not isinstance(number, (int, float)) or name in whole and not isinstance(number, int):
+            raise TypeError(f"{name} is a {'whole ' if name in whole else ''}number, not {type(number).__name__}")
+        if not least <= number <= most or number <= 0:
+            raise ValueError(f"{name} is {'above 0' if least == 0 else least} to {most}, not {number}")
+
+
 def log_in_to(
     server: str, *, user: str, password: str, port: int, database: str, encrypt: str, certificates: Optional[str], certificate_name: str,
-    trust_server: bool, packet_size: int, seconds: int,
+    trust_server: bool, packet_size: int, seconds: float, login_seconds: float,
 ) -> Session:
     """Connects to a server, and logs in by SQL authentication: what `gavyreto.connect` does with the same arguments."""
+    check_arguments(
+        {"server": server, "user": user, "password": password, "database": database, "certificate_name": certificate_name},
+        {"trust_server": trust_server},
+        {"port": (port, 1, 65535), "packet_size": (packet_size, tds.LEAST_PACKET_SIZE, tds.GREATEST_PACKET_SIZE),
+         "seconds": (seconds, 0, MOST_SECONDS), "login_seconds": (login_seconds, 0, MOST_SECONDS)}, ("port", "packet_size"))
+    password = Secret(password)
     if encrypt not in ENCRYPT:
         raise ValueError(f"encrypt is one of {', '.join(ENCRYPT)}, not {encrypt}")
-    if not tds.LEAST_PACKET_SIZE <= packet_size <= tds.GREATEST_PACKET_SIZE:
-        raise ValueError(f"packet_size is {tds.LEAST_PACKET_SIZE} to {tds.GREATEST_PACKET_SIZE}, not {packet_size}")
-    here = Server(server, port, certificate_name or server, encrypt, context_of(certificates, trust_server), seconds)
+    here = Server(server, port, certificate_name or server, encrypt, context_of(certificates, trust_server), seconds, login_seconds,
+                  time.monotonic() + login_seconds)
     login = tds.Login(socket.gethostname(), user, password, "gavyreto", server, "", "", database, packet_size)
     channel, accepted = _session(here, login)
     if accepted.routing:
         channel.close()
         host, port = accepted.routing
         here = here._replace(host=host, port=port)
+        if len(host) > tds.MOST_UNITS:
+            raise BadAnswer(f"the server redirects to a name of more than {tds.MOST_UNITS} characters")
         channel, accepted = _session(here, login._replace(server=host))
         if accepted.routing:
             channel.close()
             raise ConnectionFailed(f"the server {host}, port {port}, to which another one redirects, redirects too")
+    channel.limit(0.0, "")
     return Session(channel, here, accepted.packet_size)
 
 
 def _session(server: Server, login: tds.Login) -> tuple[Channel, tds.Accepted]:
     """A connection that is logged in."""
-    message = tds.login(login, os.getpid() & 0xFFFF)
+    message = Hidden(tds.login(login, os.getpid() & 0xFFFF))
     with told(server):
         channel = server.reach()
         try:

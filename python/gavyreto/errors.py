@@ -17,11 +17,28 @@ class Report(NamedTuple):
     return_status: Optional[int] = None  #: the last one that a procedure returned
 
 
+# Characters that a terminal obeys, that change the direction or the place of others or aren't seen, or that no UTF-8 has.
+CONTROLS = re.compile(
+    "[\0-\x1F\x7F-\x9F\u061C\u200B-\u200F\u2028-\u202E\u2060-\u206F\uFEFF\uFFF9-\uFFFB\uD800-\uDFFF\U000E0000-\U000E007F]")
+
+
+def escaped(text: str) -> str:
+    """A text in which control characters are spelt, as `\\x1b`. A byte of a name that isn't UTF-8 is spelt too."""
+    return CONTROLS.sub(lambda found: _spelt(ord(found[0])), text)
+
+
+def _spelt(number: int) -> str:
+    if 0xDC80 <= number <= 0xDCFF:  # as Python reads such a byte
+        number -= 0xDC00
+    return f"\\x{number:02x}" if number < 0x100 else f"\\u{number:04x}" if number < 0x10000 else f"\\U{number:08x}"
+
+
 class Error(Exception):
-    """What ended the reading. `sets` and `rows` count what was handed out before, rows of all sets together."""
+    """What ended the reading. `sets` and `rows` count what was handed out before, rows of all sets together. Control characters of
+    its message are spelt."""
 
     def __init__(self, message: str) -> None:
-        super().__init__(message)
+        super().__init__(escaped(message))
         self.sets = 0
         self.rows = 0
 
@@ -66,8 +83,44 @@ class Fault(Error):
         self.rest = rest  #: the text of the row that wasn't read to its end, its first million characters at most, or ""
 
 
-class ServerError(Error):
-    """The server reported an error, or refused the login. All rows that it sent were handed out."""
+class Warning(Exception):
+    """What PEP 249 has under this name. It isn't raised."""
+
+
+class DatabaseError(Error):
+    """What PEP 249 has under this name: errors of the server, of its answer or of the connection."""
+
+
+class InterfaceError(Error):
+    """What PEP 249 has under this name: errors of the way in which the package is used or runs."""
+
+
+class OperationalError(DatabaseError):
+    """What PEP 249 has under this name."""
+
+
+class InternalError(DatabaseError):
+    """What PEP 249 has under this name."""
+
+
+class ProgrammingError(DatabaseError):
+    """What PEP 249 has under this name."""
+
+
+class NotSupportedError(DatabaseError):
+    """What PEP 249 has under this name."""
+
+
+class DataError(DatabaseError):
+    """What PEP 249 has under this name. It isn't raised."""
+
+
+class IntegrityError(DatabaseError):
+    """What PEP 249 has under this name. It isn't raised."""
+
+
+class ServerError(DatabaseError):
+    """The server reported an error. All rows that it sent were handed out."""
 
     def __init__(self, line: str, report: Optional[Report] = None) -> None:
         super().__init__(line)
@@ -77,10 +130,10 @@ class ServerError(Error):
         self.severity = int(found["class"])
         self.line = int(found["line"])  #: of the statement or procedure
         self.message = found["message"]  #: at most 512 bytes of UTF-8
-        self.report = report  #: None if it was the login that the server refused
+        self.report = report  #: None of a refused login
 
 
-class UnfinishedAnswer(Error):
+class UnfinishedAnswer(OperationalError):
     """The server ended its answer as cancelled or failed, and told no error. All rows that it sent were handed out."""
 
     def __init__(self, message: str, report: Optional[Report] = None) -> None:
@@ -88,7 +141,7 @@ class UnfinishedAnswer(Error):
         self.report = report
 
 
-class ProgramFailed(Error):
+class ProgramFailed(InterfaceError):
     """The program couldn't do its work: its arguments were refused, memory wasn't to be had, or a signal ended it."""
 
     def __init__(self, status: int, notes: str) -> None:
@@ -118,9 +171,29 @@ class PassedOver(Error):
     """Rows were asked for that were passed over, since the next set was asked for before them."""
 
 
-class ConnectionFailed(Error):
-    """The server couldn't be reached or trusted, or the connection broke, or was silent for too long."""
+class Interrupted(Error):
+    """The reading was ended by an exception from elsewhere, as that of Ctrl-C, which was raised then: rows may be missing."""
 
 
-class BadAnswer(Error):
-    """What came over a connection isn't the answer of a server of TDS 7.4 to a greeting or a login."""
+class ConnectionFailed(OperationalError):
+    """The server couldn't be reached or trusted, the connection broke, or it was closed before."""
+
+
+class TimedOut(ConnectionFailed):
+    """The server was silent for too long, or the login took too long."""
+
+
+class CertificateRefused(ConnectionFailed):
+    """The server's certificate isn't trusted."""
+
+
+class EncryptionRefused(ConnectionFailed):
+    """The server encrypts less than was asked for, or redirects in an answer that isn't encrypted."""
+
+
+class LoginRefused(ServerError, ConnectionFailed):
+    """The server refused the login: its error."""
+
+
+class BadAnswer(InternalError):
+    """What came over a connection isn't what a server of TDS 7.4 sends: to a greeting, to a login, or where nothing was asked."""

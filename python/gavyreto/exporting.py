@@ -3,30 +3,34 @@ from __future__ import annotations
 
 import contextlib
 import functools
+import hashlib
 import os
 import socket
 import stat
-import subprocess
 import threading
 import time
 from typing import NamedTuple, Optional
 
 from gavyreto import program, tds
-from gavyreto.commands.common import BAD_INPUT, DONE, FAILED, SERVER_ERROR, cause_of, judged
+from gavyreto.commands.common import cause_of
+from gavyreto.program import BAD_INPUT, BLOCK, DONE, FAILED, SERVER_ERROR, Output, OutputFailed, Program
 
 UNFINISHED = ".unfinished"  # at the end of the name of a text that waits
+DIGITS = 16  # of the digest of a program that are kept
 
 
 class Stamp(NamedTuple):
-    """What tells a file from another one of its name: its bytes, the time of its last change in nanoseconds, and its inode."""
+    """What tells a file from another one of its name: its bytes, the times in nanoseconds of its last write and of its last change, which
+    nobody can set, and its inode."""
 
     size: int
     time: int
+    change: int
     inode: int
 
 
 def stamp_of(found: os.stat_result) -> Stamp:
-    return Stamp(found.st_size, found.st_mtime_ns, found.st_ino)
+    return Stamp(found.st_size, found.st_mtime_ns, found.st_ctime_ns, found.st_ino)
 
 
 class Outcome(NamedTuple):
@@ -38,8 +42,8 @@ class Outcome(NamedTuple):
     line: str
     waiting: Optional[str] = None
     written: int = 0
-    stamp: Stamp = Stamp(0, 0, 0)  #: of the file
-    program: str = ""  #: its name and version
+    stamp: Stamp = Stamp(0, 0, 0, 0)  #: of the file
+    program: str = ""  #: its name, version and digest
 
 
 def export_file(file: str, folder: str, command: list[str]) -> Outcome:
@@ -67,32 +71,69 @@ def _exported(file: str, waiting: str, command: list[str]) -> Outcome:
         found = os.fstat(source)
         if not stat.S_ISREG(found.st_mode):
             return Outcome(file, FAILED, f"cannot read {file}: no regular file")
-        with open(waiting, "xb") as out:
-            done = subprocess.run([*command, "--", _argument_for(file)], stdin=source, stdout=out, stderr=subprocess.PIPE, check=False)
-            os.fsync(out.fileno())
-            written = os.fstat(out.fileno()).st_size
-        ending = judged(done.returncode, done.stderr.decode("utf-8", "replace"), written)
+        ending, written, framing = _text_of(source, waiting, running(command))
         if ending.status not in (DONE, SERVER_ERROR, BAD_INPUT):
             return Outcome(file, ending.status, ending.line)
-        unfinished = tds.unfinished(tds.tail_of(lambda most, place: os.pread(source, most, place))) if ending.status == DONE else None
-        if stamp_of(os.stat(file)) != stamp_of(found):
+        if stamp_of(os.fstat(source)) != stamp_of(found):
             return Outcome(file, FAILED, f"{file}: it changed while it was read")
+        unfinished = tds.unfinished(framing.tail) if ending.status == DONE else None
         status, line = (SERVER_ERROR, unfinished) if unfinished else (ending.status, ending.line)
         return Outcome(file, status, line, waiting, written, stamp_of(found), version_of(command[0]))
     finally:
         os.close(source)
 
 
-def _argument_for(file: str) -> str:
-    """A file as the program takes it, whose arguments are UTF-8: by its name, or as its standard input."""
-    try:
-        file.encode()
-        return file
-    except UnicodeEncodeError:
-        return "/dev/stdin"
+def _text_of(source: int, waiting: str, run: Program) -> tuple[program.Ending, int, tds.Framing]:
+    """How the program ends on the response at the beginning of a file, and the bytes of its text, which is on the disk."""
+    framing = tds.Framing()
+    with open(waiting, "xb") as out:
+        output = Output(out.fileno())
+        run.begin()
+        try:
+            while not framing.is_over and run.is_reading and (block := os.read(source, BLOCK)):
+                run.hand(block[:framing.take(block)], output)
+            if not framing.is_over:
+                run.cut()
+            ending = run.finish(output)
+        except OutputFailed as failed:
+            run.close()
+            raise OSError(failed.failure.errno, failed.failure.strerror, waiting) from None
+        os.fsync(out.fileno())
+        return ending, os.fstat(out.fileno()).st_size, framing
+
+
+# The programs, one a thread.
+
+_running = threading.local()
+_all: list[Program] = []
+
+
+def running(command: list[str]) -> Program:
+    """The program with these arguments that this thread runs, of the file that the program is at the moment."""
+    wanted = (command, version_of(command[0]))
+    if getattr(_running, "wanted", None) != wanted:
+        if getattr(_running, "program", None):
+            _running.program.close()
+        _running.program, _running.wanted = Program(command), wanted
+        _all.append(_running.program)
+    return _running.program  # type: ignore[no-any-return]
+
+
+def end_all() -> None:
+    """Ends the programs of all threads, once none of them exports."""
+    while _all:
+        _all.pop().close()
+
+
+def version_of(name: str) -> str:
+    """Name and version of the program, and a digest of its file. Raises OSError if it can't be started."""
+    path = program.path_of(name)
+    return _version_of(path, stamp_of(os.stat(path)))
 
 
 @functools.lru_cache(maxsize=None)
-def version_of(name: str) -> str:
-    """Name and version of the program, which is asked once. Raises OSError if it can't be started."""
-    return program.version_of(name)
+def _version_of(path: str, _: Stamp) -> str:
+    """The same, which is asked once of each file."""
+    with open(path, "rb") as file:
+        digest = hashlib.sha256(file.read()).hexdigest()
+    return f"{program.version_of(path)} {digest[:DIGITS]}"

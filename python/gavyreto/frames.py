@@ -7,7 +7,6 @@ from gavyreto.columns import Column
 from gavyreto.text import ResultSet
 from gavyreto.values import Value
 
-ROWS = 10_000  # that are taken at once
 KINDS = {
     "tinyint": "UInt8", "smallint": "Int16", "int": "Int32", "bigint": "Int64", "bit": "UInt8", "char": "string", "nchar": "string",
     "varchar": "string", "nvarchar": "string",
@@ -20,10 +19,7 @@ def frame_of(rows: ResultSet) -> Any:
     import pandas  # type: ignore[import]
 
     described = dict(enumerate(rows.columns or []))
-    columns: list[list[Value]] = [[] for _ in rows.names]
-    for batch in rows.batches(ROWS):
-        for column, values in zip(columns, batch):
-            column += values
+    columns = rows.whole()
     series = {place: pandas.Series(values, dtype=_kind_of(described.get(place), values)) for place, values in enumerate(columns)}
     frame = pandas.DataFrame(series)
     frame.columns = pandas.Index(rows.names)

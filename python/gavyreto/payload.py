@@ -34,9 +34,7 @@ class Payload:
         """Reads a packet. False after the last one. Raises Ended if it isn't whole, and ValueError if it is none of an answer."""
         if self.is_over:
             return False
-        header = tds.read_fully(self._read, tds.HEADER)
-        length = tds.length_of(header) - tds.HEADER
-        body = tds.read_fully(self._read, length) if len(header) == tds.HEADER else b""
+        header, body, length = tds.read_packet(self._read)
         if self._hand_on:
             self._hand_on(header + body)
         if len(header) == tds.HEADER and (header[0] != tds.PacketType.ANSWER or length < 0):
@@ -275,22 +273,31 @@ class Descriptions:
     """The columns of each set of a response, whose packets are read by one thread and asked for by another."""
 
     def __init__(self) -> None:
-        self._found: list[list[Column]] = []
+        self._found: dict[int, list[Column]] = {}
+        self._count = 0
         self._is_over = False
         self._changed = threading.Condition()
 
     def of(self, place: int) -> Optional[list[Column]]:
         """The columns of a set by its place among the sets, once they have come; None if they don't."""
         with self._changed:
-            self._changed.wait_for(lambda: self._is_over or len(self._found) > place)
-            return self._found[place] if len(self._found) > place else None
+            self._changed.wait_for(lambda: self._is_over or self._count > place)
+            return self._found.get(place)
 
-    def watch(self, payload: Payload) -> None:
-        """Reads a payload to its end, and notes its descriptions as far as it can be followed."""
+    def take(self, place: int) -> Optional[list[Column]]:
+        """The same of a set that is left, which isn't kept any longer."""
+        found = self.of(place)
+        with self._changed:
+            self._found.pop(place, None)
+        return found
+
+    def watch(self, payload: Payload) -> bool:
+        """Reads a payload to its end, and notes its descriptions as far as it can be followed. Returns whether it is whole."""
         try:
             for described in descriptions(payload):
                 with self._changed:
-                    self._found.append([column.column() for column in described])
+                    self._found[self._count] = [column.column() for column in described]
+                    self._count += 1
                     self._changed.notify_all()
         except (ValueError, Ended):
             pass  # the program says what is wrong
@@ -303,6 +310,7 @@ class Descriptions:
                 payload.at = len(payload.data)
         except (Ended, ValueError):
             pass
+        return payload.is_over
 
 
 class LateDescriptions(Descriptions):
@@ -314,8 +322,13 @@ class LateDescriptions(Descriptions):
 
     def of(self, place: int) -> Optional[list[Column]]:
         try:
-            while len(self._found) <= place:
-                self._found.append([column.column() for column in next(self._walk)])
+            while self._count <= place:
+                self._found[self._count] = [column.column() for column in next(self._walk)]
+                self._count += 1
         except (StopIteration, ValueError, Ended, OSError):
             return None
         return self._found[place]
+
+    def take(self, place: int) -> Optional[list[Column]]:
+        """Nothing: they are read again if they are asked for."""
+        return None

@@ -6,13 +6,12 @@ import os
 import socket
 import ssl
 import stat
-import subprocess
 import threading
-from typing import IO, Any, Callable, Optional, Protocol, Union, cast
+from typing import Any, Callable, Optional, Protocol, Union, cast
 
 from gavyreto import tds
 from gavyreto.errors import Error, Fault, ProgramFailed, Report, ServerError, UnfinishedAnswer
-from gavyreto.program import CHARSETS, COLUMN_ROOM, MAX_WIRE, PACKET_SIZE, PROGRAM, Write, command_of, report_of, widen, write_all
+from gavyreto.program import CHARSETS, COLUMN_ROOM, MAX_WIRE, OF_SIGNAL, PACKET_SIZE, PROGRAM, Ending, Program, Write, command_of
 from gavyreto.payload import Descriptions, LateDescriptions, Payload, Read
 from gavyreto.text import Sets
 from gavyreto.values import Dates, check_dates
@@ -25,7 +24,7 @@ class Readable(Protocol):
 
 
 Source = Union[str, "os.PathLike[str]", bytes, bytearray, memoryview, int, socket.socket, Readable]
-Copy = Callable[[Write], None]
+Copy = Callable[[Write], bool]  # whether all packets were there
 Tail = Callable[[], tds.Bytes]  # the end of the payload, once all of it was read
 
 
@@ -57,20 +56,23 @@ class HeldFile:
 class Feeding:
     """A thread that hands the packets of one response to the program. What ends it early is in `error`."""
 
-    def __init__(self, copy: Copy, pipe: IO[bytes]) -> None:
+    def __init__(self, copy: Copy, program: Program) -> None:
         self.error: Optional[BaseException] = None
-        self._copy, self._pipe = copy, pipe
+        self._copy, self._program = copy, program
         self._thread = threading.Thread(target=self._run, daemon=True)
         self._thread.start()
 
     def _run(self) -> None:
+        is_whole = False
         try:
-            with self._pipe:
-                self._copy(lambda data: write_all(self._pipe.fileno(), data))
+            is_whole = self._copy(self._program.put)
         except BrokenPipeError:
-            pass  # the program needs no more
+            is_whole = True  # the program needs no more
         except BaseException as error:
             self.error = error
+        finally:
+            if not is_whole:
+                self._program.cut()
 
     def join(self) -> None:
         self._thread.join()
@@ -80,33 +82,28 @@ class Response(Sets):
     """The result sets of a response, while the program reads it."""
 
     def __init__(
-        self, program: subprocess.Popen[bytes], dates: Dates, descriptions: Descriptions, *, copy: Optional[Copy] = None,
+        self, program: Program, dates: Dates, descriptions: Descriptions, *, copy: Optional[Copy] = None,
         tail: Optional[Tail] = None, held: Optional[HeldFile] = None,
     ) -> None:
         self.report: Optional[Report] = None  #: once all is read and the server reported no error
         self.is_whole = False  #: once all is read, whether or not the server reported an error
         self._program, self._tail, self._held = program, tail, held
-        self._text = cast("IO[bytes]", program.stdout)
-        self._feeding = Feeding(copy, cast("IO[bytes]", program.stdin)) if copy else None
+        program.begin()
+        self._feeding = Feeding(copy, program) if copy else None
         super().__init__(self._read, dates, descriptions)
 
     def _read(self, most: int) -> bytes:
-        return os.read(self._text.fileno(), most)
+        return self._program.read(most)
 
     def _release(self) -> None:
         """Ends the program if it still runs, in the middle of the response then."""
         if self._held and (self._is_closed or self._failure):
             self._held.close()  # at the end of the response its descriptions may still be asked for
-        if self._program.poll() is None:
-            self._program.kill()
-        self._program.wait()
-        self._text.close()
-        cast("IO[bytes]", self._program.stderr).close()
+        self._program.close()
 
     def _judge_end(self, rest: str) -> None:
-        notes = cast("IO[bytes]", self._program.stderr).read().decode("utf-8", "replace")
-        status = self._program.wait()
-        said = report_of(notes)
+        ending = cast(Ending, self._program.ending)
+        said = ending.said
         if isinstance(said, Fault):
             said.rest = rest
         is_all_read = isinstance(said, (Report, ServerError)) or isinstance(said, Fault) and said.name == "InputEnded"
@@ -115,8 +112,8 @@ class Response(Sets):
         self.is_whole = isinstance(said, (Report, ServerError))
         if isinstance(said, Error):
             self._raise(said)
-        if status != 0 or said is None or not self._is_text_of(said):
-            self._raise(ProgramFailed(status, notes))
+        if said is None or not self._is_text_of(said):
+            self._raise(ProgramFailed(ending.status if ending.status < OF_SIGNAL else OF_SIGNAL - ending.status, ending.notes))
         if unfinished := self._unfinished():
             self._raise(UnfinishedAnswer(unfinished, said))
         self.report = said
@@ -129,25 +126,13 @@ class Response(Sets):
         """Raises what ended the feeding of the program before the response was over."""
         if is_all_read:
             feeding.join()
-        if isinstance(feeding.error, Error):
-            self._raise(feeding.error)
         if feeding.error:
-            self._release()
-            raise feeding.error
+            self._raise(feeding.error)
 
     def _is_text_of(self, report: Report) -> bool:
-        """Whether all of the text came, and was read as the program counts it."""
+        """Whether all of the text was read as the program counts it."""
         read = self._parser
         return (report.sets, report.rows, report.written) == (read.sets, read.rows, read.records.length)
-
-
-def started(command: list[str], source: int) -> subprocess.Popen[bytes]:
-    """The program, with its input from a descriptor or, by subprocess.PIPE, from here."""
-    run = subprocess.Popen(command, stdin=source, stdout=subprocess.PIPE, stderr=subprocess.PIPE)
-    for pipe in (run.stdin, run.stdout):
-        if pipe:
-            widen(pipe)
-    return run
 
 
 def export(
@@ -182,11 +167,14 @@ def export(
 
 
 def _of_bytes(data: bytes, command: list[str], dates: Dates) -> Response:
-    def tail() -> bytes:
-        return tds.tail_of(lambda most, place: data[place:place + most])
+    framing = tds.Framing()
+    end = framing.take(data)  # what follows the response is ignored
 
-    found = LateDescriptions(io.BytesIO(data).read)
-    return Response(started(command, subprocess.PIPE), dates, found, copy=lambda write: cast(None, write(data)), tail=tail)
+    def copy(write: Write) -> bool:
+        write(data[:end])
+        return framing.is_over
+
+    return Response(Program(command), dates, LateDescriptions(io.BytesIO(data).read), copy=copy, tail=lambda: framing.tail)
 
 
 def _of_path(path: Union[str, os.PathLike[str]], command: list[str], dates: Dates) -> Response:
@@ -202,19 +190,19 @@ def _of_descriptor(descriptor: int, command: list[str], dates: Dates) -> Respons
         own = os.fdopen(os.dup(descriptor), "rb", buffering=0)
         return _fed(lambda most: own.read(most) or b"", command, dates)
     held = HeldFile(descriptor)
-    return Response(started(command, held.descriptor), dates, LateDescriptions(held.read), tail=held.tail, held=held)
+    return Response(Program(command, held.descriptor), dates, LateDescriptions(held.read), tail=held.tail, held=held)
 
 
 def _fed(read: Read, command: list[str], dates: Dates) -> Response:
     """A response whose packets are read here, and handed to the program."""
     found, tails = Descriptions(), list[Callable[[], bytes]]()
 
-    def copy(write: Write) -> None:
+    def copy(write: Write) -> bool:
         payload = Payload(read, write)
         tails.append(lambda: payload.tail)
-        found.watch(payload)
+        return found.watch(payload)
 
-    return Response(started(command, subprocess.PIPE), dates, found, copy=copy, tail=lambda: tails[0]())
+    return Response(Program(command), dates, found, copy=copy, tail=lambda: tails[0]())
 
 
 def _descriptor_of(source: Union[int, io.FileIO, socket.socket]) -> int:

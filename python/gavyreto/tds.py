@@ -1,4 +1,4 @@
-"""Packets and tokens of TDS 7.4, as a client and a server write and read them. Sections of MS-TDS are cited by title.
+"""Messages and tokens of TDS 7.4, as a client and a server write and read them. Sections of MS-TDS are cited by title.
 
 It knows what comes before a response (PRELOGIN, LOGIN7, SQLBatch, attention) and the tokens that need no description of
 columns. What the rows of a response mean is for the program tds_replay alone to say."""
@@ -6,25 +6,13 @@ from __future__ import annotations
 
 import re
 import struct
-from collections import deque
 from enum import IntEnum
-from typing import Callable, Iterable, Iterator, NamedTuple, Optional, Union
+from typing import NamedTuple, Optional
 
-Bytes = Union[bytes, bytearray, memoryview]
-ReadAt = Callable[[int, int], Bytes]  # so many bytes from a place on, or fewer at the end
-
-
-class PacketType(IntEnum):
-    """The first byte of a packet (MS-TDS, Packet Header)."""
-
-    STATEMENT = 0x01
-    PROCEDURE = 0x03
-    ANSWER = 0x04
-    ATTENTION = 0x06
-    BULK = 0x07
-    TRANSACTION = 0x0E
-    LOGIN = 0x10
-    PRELOGIN = 0x12
+from gavyreto.packets import (
+    DONE_LENGTH as DONE_LENGTH, HEADER as HEADER, LAST as LAST, Bytes as Bytes, Framing as Framing, PacketType as PacketType, header as header,
+    length_of as length_of, packet as packet, packets as packets, read_fully as read_fully, read_packet as read_packet, tail_of as tail_of,
+)
 
 
 class Encryption(IntEnum):
@@ -106,153 +94,12 @@ class Change(IntEnum):
 
 TLS_RECORDS = range(0x14, 0x18)  # the first byte of a record of TLS (RFC 5246, Record Layer)
 MARS = 0x53  # the first byte of a packet of MARS, which has those of TDS within (MC-SMP, SMP Header)
-HEADER = 8  # bytes of a packet's header
-LAST = 0x01  # the bit of a packet's status that marks the last one of a message
 MORE, FAILED, CANCELLED, SERVER_FAILED = 0x0001, 0x0002, 0x0020, 0x0100  # bits of the status of a DONE (MS-TDS, DONE)
-DONE_LENGTH = 13  # bytes of a DONE with its token byte
 LEAST_PACKET_SIZE, FIRST_PACKET_SIZE, GREATEST_PACKET_SIZE = 512, 4096, 32767  # the second holds until the login's answer
 VERSION = bytes.fromhex("74000004")  # 7.4, in the order of a LOGINACK
+OTHER_VERSIONS = range(0x70, 0x74)  # the first byte of each before
+MOST_OF_MESSAGE = 512  # bytes of UTF-8 of a message in a line
 MOST_UNITS = 128  # of a name in a LOGIN7 (MS-TDS, LOGIN7)
-
-
-# Packets (MS-TDS, Packets).
-
-def packets(pieces: Iterable[Bytes], size: int, kind: int = PacketType.ANSWER) -> Iterator[bytes]:
-    """The joined pieces in packets of this size, headers included, the last of them marked."""
-    waiting, body, number = bytearray(), size - HEADER, 1
-    for piece in pieces:
-        waiting += piece
-        while len(waiting) > body:
-            yield packet(kind, waiting[:body], False, number)
-            del waiting[:body]
-            number += 1
-    yield packet(kind, waiting, True, number)
-
-
-def packet(kind: int, body: Bytes, is_last: bool = True, number: int = 1) -> bytes:
-    """One packet with its header."""
-    return header(kind, HEADER + len(body), is_last, number) + body
-
-
-def header(kind: int, length: int, is_last: bool, number: int) -> bytes:
-    """The header of a packet that has this length with its header."""
-    return struct.pack(">BBHHBB", kind, LAST if is_last else 0, length, 0, number % 256, 0)
-
-
-def length_of(header: Bytes) -> int:
-    """The bytes of a packet by its header, which is a part of them."""
-    return int.from_bytes(header[2:4], "big")
-
-
-def bodies(wire: bytes) -> Iterator[bytes]:
-    """The bodies of the packets of a message that is there whole."""
-    at = 0
-    while at < len(wire):
-        end = at + length_of(wire[at:at + HEADER])
-        yield wire[at + HEADER:end]
-        at = end
-
-
-def copy_message(read: Callable[[int], bytes], write: Callable[[bytes], object]) -> None:
-    """Copies the packets of one message as they come, up to the last one and not a byte further. `read` returns at most as
-    many bytes as it is asked for, and none at the end; a message that is cut, or whose packets are none, is copied as far
-    as it goes."""
-    is_over = False
-    while not is_over:
-        header = read_fully(read, HEADER)
-        write(header)
-        body = read_fully(read, length_of(header) - HEADER) if len(header) == HEADER else b""
-        write(body)
-        is_over = len(header) < HEADER or HEADER + len(body) != length_of(header) or bool(header[1] & LAST)
-
-
-def tail_of(read_at: ReadAt, start: int = 0) -> bytes:
-    """The end of the payload of a message, as long as a DONE if it is as long, by its packets from a place on; b"" if they
-    aren't whole. `read_at` is called as os.pread is, without its descriptor."""
-    last: deque[tuple[int, int]] = deque(maxlen=DONE_LENGTH)  # where the last bodies that aren't empty end, and how long they are
-    at, is_last = start, False
-    while not is_last:
-        header = read_at(HEADER, at)
-        length = length_of(header)
-        if len(header) < HEADER or length < HEADER:
-            return b""
-        at, is_last = at + length, bool(header[1] & LAST)
-        if length > HEADER:
-            last.append((at, length - HEADER))
-    pieces = [(end, min(length, DONE_LENGTH)) for end, length in last]
-    return b"".join(read_at(length, end - length) for end, length in pieces)[-DONE_LENGTH:]
-
-
-def read_fully(read: Callable[[int], bytes], length: int) -> bytes:
-    """As many bytes as asked for, or fewer where no more come."""
-    data = bytearray()
-    while len(data) < length:
-        piece = read(length - len(data))
-        if not piece:
-            break
-        data += piece
-    return bytes(data)
-
-
-class Framing:
-    """Follows the packets of one answer through blocks that are cut anywhere."""
-
-    def __init__(self) -> None:
-        self.is_over = False  #: after the last packet, or after a header that is none
-        self.is_whole = False  #: after the last packet
-        self.payload = 0  #: bytes of bodies so far
-        self.tail = b""  #: the last of them, as many as a DONE has
-        self._header = b""
-        self._left = 0  # bytes of the body under way that are still to come
-        self._is_last = False
-
-    def take(self, block: bytes) -> int:
-        """How many bytes of the block, from its beginning, belong to the message."""
-        at = 0
-        while at < len(block) and not self.is_over:
-            if self._left:
-                at = self._take_body(block, at)
-            else:
-                at = self._take_header(block, at if self._header else self._take_packets(block, at))
-        return at
-
-    def _take_packets(self, block: bytes, at: int) -> int:
-        """Takes the packets that are whole in the block, and not the last: where the next one begins."""
-        end = at
-        while end + HEADER <= len(block) and block[end] == PacketType.ANSWER and not block[end + 1] & LAST:
-            length = block[end + 2] << 8 | block[end + 3]
-            if length < HEADER + DONE_LENGTH or end + length > len(block):
-                break
-            self.payload += length - HEADER
-            end += length
-        if end > at:
-            self.tail = block[end - DONE_LENGTH:end]
-        return end
-
-    def _take_body(self, block: bytes, at: int) -> int:
-        end = min(at + self._left, len(block))
-        self._left -= end - at
-        self.payload += end - at
-        self.tail = (self.tail + block[max(at, end - DONE_LENGTH):end])[-DONE_LENGTH:]
-        self._end_packet()
-        return end
-
-    def _take_header(self, block: bytes, at: int) -> int:
-        end = min(at + HEADER - len(self._header), len(block))
-        self._header += block[at:end]
-        if len(self._header) == HEADER:
-            self._left = length_of(self._header) - HEADER
-            self._is_last = bool(self._header[1] & LAST)
-            if self._header[0] == PacketType.ANSWER and self._left >= 0:
-                self._end_packet()
-            else:
-                self.is_over = True
-            self._header = b""
-        return end
-
-    def _end_packet(self) -> None:
-        if self._is_last and not self._left:
-            self.is_over = self.is_whole = True
 
 
 # What a client sends (MS-TDS, PRELOGIN, LOGIN7, SQLBatch, Attention).
@@ -417,8 +264,13 @@ class Refused(Exception):
     """A server refused a login. The line is that of its ERROR."""
 
 
+class OtherVersion(Exception):
+    """A server speaks another version of TDS, which is named."""
+
+
 def read_login_answer(payload: bytes) -> Accepted:
-    """Reads the answer to a login. Raises `Refused`; or ValueError, IndexError or struct.error if it is no such answer."""
+    """Reads the answer to a login. Raises `Refused` or `OtherVersion`; or ValueError, IndexError or struct.error if it is no such
+    answer."""
     size, routed, acknowledged, at = FIRST_PACKET_SIZE, None, False, 0
     while True:
         token, length = struct.unpack_from("<BH", payload, at)
@@ -429,6 +281,8 @@ def read_login_answer(payload: bytes) -> Accepted:
             raise Refused(error_line(body))
         if token == Token.LOGIN_ACK:
             acknowledged = body[1:5] == VERSION
+            if not acknowledged and len(body) >= 5 and body[1] in OTHER_VERSIONS:
+                raise OtherVersion(f"7.{body[1] & 0x0F}")
         elif token == Token.ENV_CHANGE and body[0] == Change.PACKET_SIZE:
             size = int(body[2:2 + 2 * body[1]].decode("utf-16-le"))
         elif token == Token.ENV_CHANGE and body[0] == Change.ROUTING:
@@ -453,4 +307,5 @@ def error_line(body: bytes) -> str:
     procedure = server + 1 + 2 * body[server]
     line, = struct.unpack_from("<i", body, procedure + 1 + 2 * body[procedure])
     message = re.sub(r"[\0-\x1F\x7F]", " ", body[8:server].decode("utf-16-le", "replace"))
+    message = message.encode()[:MOST_OF_MESSAGE].decode("utf-8", "ignore")
     return f"server error {number}, state {state}, class {severity}, line {line}: {message}"

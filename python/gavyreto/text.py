@@ -4,12 +4,14 @@ from __future__ import annotations
 import io
 import os
 import re
+import sys
+import threading
 from itertools import islice
 from operator import length_hint
 from typing import Any, Callable, Iterator, NoReturn, Optional, Protocol, Sequence, TypeVar, Union, cast
 
 from gavyreto.columns import Column
-from gavyreto.errors import Error, MalformedText, NotOneSet, PassedOver, UnfinishedText
+from gavyreto.errors import Error, Interrupted, MalformedText, NotOneSet, PassedOver, UnfinishedText
 from gavyreto.records import SEPARATOR, LongField, LongRecord, OpenField, Read, Records, end_of_set, record_at
 from gavyreto.rows import Row, row_type
 from gavyreto.values import BINARY, Converter, Dates, Value, check_dates, value_of
@@ -26,6 +28,8 @@ class Describes(Protocol):
     """What knows the columns of each set of a response."""
 
     def of(self, place: int) -> Optional[list[Column]]: ...
+
+    def take(self, place: int) -> Optional[list[Column]]: ...
 
 
 class Parser:
@@ -98,9 +102,9 @@ class Parser:
     def _rows_up_to(self, end: int) -> Optional[Columns]:
         """The rows up to a place, if the columns of all of them have the shapes that are known."""
         rows = self._rows.findall(self._block, self._at, end) if self._rows else []
-        if not rows:
+        if not rows or rows[-1][-1]:
             return None
-        groups = zip(*rows) if isinstance(rows[0], tuple) else iter([tuple(rows)])
+        groups = zip(*rows)
         columns = [it.values(groups) for it in self._converters]
         if sum(length for _, length in columns) + len(rows) * (len(columns) + 1) != end - self._at:
             return None
@@ -119,7 +123,8 @@ class Parser:
         except ValueError as wrong:
             self._wrong, self._block = wrong, self._block[:self._at]
         if len(self._converters) <= MOST_GROUPS:
-            self._rows = re.compile(",".join(it.groups() for it in self._converters) + SEPARATOR)
+            # What isn't a row matches as a whole: a row is looked for only where one begins, so the time is linear.
+            self._rows = re.compile(",".join(it.groups() for it in self._converters) + SEPARATOR + r"|([\s\S]+)")
         return columns
 
     def _row_of(self, fields: Sequence[Union[str, LongField]]) -> list[Value]:
@@ -225,25 +230,27 @@ class TextFile(io.TextIOBase):
 class ResultSet:
     """An iterator over the rows of one set, each a tuple with a value for each column, which `row.name` gives too.
 
-    It is read from the same text as the set after it: asking for the next set passes over the rows left here, and asking for
-    them after that raises `PassedOver`."""
+    All calls take rows from one buffer, from its one place on. Rows that came before an error are handed out first: the error comes
+    with the next call, or with the end of the context. It is read from the same text as the set after it: asking for the next set
+    passes over the rows left here, and asking for them after that raises `PassedOver`."""
 
     def __init__(self, sets: Sets, place: int, names: list[str], is_only: bool) -> None:
         self.names = names  #: of the columns, as the server gave them: some may be "" or equal
         self.arraysize = 1  #: how many rows `fetchmany` gives without a number
         self._row = row_type(tuple(names))
         self._sets, self._place, self._is_only = sets, place, is_only
-        self._values: Columns = []  # of a block
+        self._described: Optional[list[Column]] = None  # once the set is left
+        self._values: Columns = []  # of the buffer
         self._first: Iterator[Value] = iter(())  # those of the first column that weren't handed out
         self._rows: Iterator[Row] = iter(())
-        self._before = 0  # rows of the blocks before
+        self._before = 0  # rows of the buffers before
         self._is_over = self._is_passed_over = False
 
     @property
     def columns(self) -> Optional[list[Column]]:
         """The columns with their types as SQL writes them; None if the packets weren't read here: of a text, or of a descriptor
         or socket that was handed to the program."""
-        found = self._sets._descriptions.of(self._place) if self._sets._descriptions else None
+        found = self._described or (self._sets._descriptions.of(self._place) if self._sets._descriptions else None)
         return [column._replace(name=name) for column, name in zip(found, self.names)] if found else None
 
     @property
@@ -257,19 +264,28 @@ class ResultSet:
 
     def fetchone(self) -> Optional[Row]:
         """The next row, or None after the last one (PEP 249)."""
-        return next(self, None)
+        with self._sets._guarding():
+            for row in self._rows if self._gathered(1) else ():
+                return row
+            return None
 
     def fetchmany(self, size: Optional[int] = None) -> list[Row]:
         """The next rows: so many, or `arraysize` without a number, and fewer at the end (PEP 249)."""
-        return list(islice(self, self.arraysize if size is None else size))
+        rows: list[Row] = []
+        with self._sets._guarding():
+            left = self.arraysize if size is None else size
+            while left > len(rows) and self._gathered(1, rows):
+                rows += islice(self._rows, left - len(rows))
+        return rows
 
     def fetchall(self) -> list[Row]:
         """The rows that are left (PEP 249)."""
-        return list(self)
+        return self.fetchmany(sys.maxsize)
 
     def frame(self) -> Any:
         """The rows that are left as a DataFrame of pandas, which has to be there. Whole numbers, bit and text have the types of
-        pandas that hold NULL too; all else are objects."""
+        pandas that hold NULL too; all else are objects. An error is raised in place of a frame that isn't whole; the rows before it
+        are left."""
         from gavyreto.frames import frame_of
 
         return frame_of(self)
@@ -281,36 +297,48 @@ class ResultSet:
         return pyarrow.Table.from_pandas(self.frame(), preserve_index=False)
 
     def __iter__(self) -> Iterator[Row]:
-        yield from self._rows
-        while self._take():
-            yield from self._rows
-        self._check_passed_over()
+        is_more = True
+        while is_more:
+            try:
+                yield from self._rows
+            except BaseException as failure:
+                self._sets._end_by(failure)
+                raise
+            with self._sets._guarding():
+                is_more = self._gathered(1) > 0
 
     def __next__(self) -> Row:
-        return next(iter(self))
+        row = self.fetchone()
+        if row is None:
+            raise StopIteration
+        return row
 
     def batches(self, size: int) -> Iterator[Columns]:
         """The rows by columns: a list for each column, with so many values each time, and fewer at the end. Raises ValueError
         if the size is less than 1."""
         if size < 1:
             raise ValueError(f"a batch has at least 1 row, not {size}")
-        return self._batches(size)
+        return iter(lambda: self._batch(size), [])
 
-    def _batches(self, size: int) -> Iterator[Columns]:
-        waiting = [list(values) for values in zip(*self._rows)] or [[] for _ in self.names]
-        is_more = True
-        while is_more:
-            whole = len(waiting[0]) // size * size
-            for start in range(0, whole, size):
-                yield [values[start:start + size] for values in waiting]
-            waiting = [values[whole:] for values in waiting]
-            is_more = self._take()
-            for values, more in zip(waiting, self._values if is_more else ()):
-                values += more
-            self._first, self._rows = iter(()), iter(())
-        if waiting[0]:
-            yield waiting
-        self._check_passed_over()
+    def _batch(self, size: int) -> Columns:
+        """The next batch, or nothing after the last one."""
+        with self._sets._guarding():
+            if not self._gathered(size):
+                return []
+            at = len(self._values[0]) - length_hint(self._first)
+            batch = [values[at:at + size] for values in self._values]
+            self._go_to(at + len(batch[0]))
+            return batch
+
+    def whole(self) -> Columns:
+        """The rows that are left, by columns, all of them: an error is raised, and leaves them."""
+        with self._sets._guarding():
+            count = self._gathered(sys.maxsize)
+            at = len(self._values[0]) - count if self._values else 0
+            if self._sets._failure:
+                self._sets._raise_again()
+            self._go_to(at + count)
+            return [values[at:] for values in self._values] if count else [[] for _ in self.names]
 
     def open(self, column: Union[int, str] = 0) -> Union[None, io.BufferedReader, io.BytesIO, io.StringIO, TextFile]:
         """The value of a column in the next row, as a file of bytes or of text that is read once, in fixed memory however long
@@ -337,30 +365,68 @@ class ResultSet:
         if self._is_passed_over:
             raise PassedOver("the rows of this set were passed over: read them before you ask for the next set")
 
-    def _take(self) -> bool:
-        """Takes the next rows, if none are left of those before. Returns whether there are some."""
-        while not self._is_over:
-            columns = self._sets._next_rows(self._is_only)
-            self._before += len(self._values[0]) if self._values else 0
-            self._values = columns or []
-            self._first = iter(self._values[0] if self._values else ())
-            self._rows = map(self._row, zip(self._first, *self._values[1:]))
-            self._is_over = columns is None
-            if length_hint(self._first):
-                return True
-        return False
+    # The buffer: some rows by columns, and the place up to which they were handed out.
+
+    def _gathered(self, count: int, before: Sequence[Row] = ()) -> int:
+        """Sees to it that so many rows are in the buffer, as far as they come, and returns how many are. Raises what ended the reading
+        if there are none, also none of the same call before."""
+        try:
+            while length_hint(self._first) < count and not self._is_over:
+                self._extend()
+        except Error:
+            if not length_hint(self._first) and not before:
+                raise
+            self._sets._is_untold = True
+        left = length_hint(self._first)
+        if not left and not before:
+            self._check_passed_over()
+        return left
+
+    def _extend(self) -> None:
+        """Puts more rows into the buffer, in the place of those that were handed out."""
+        more = self._sets._next_rows(self._is_only)
+        if more is None:
+            self._is_over = True
+            return
+        left = length_hint(self._first)
+        handed_out = len(self._values[0]) - left if self._values else 0
+        if left:
+            for values, others in zip(self._values, more):
+                del values[:handed_out]
+                values += others
+        else:
+            self._values = more
+        self._before += handed_out
+        self._go_to(0)
+
+    def _go_to(self, place: int) -> None:
+        """Goes to a place in the buffer."""
+        columns = [iter(values) for values in self._values]
+        for it in columns if place else ():
+            it.__setstate__(place)  # type: ignore[attr-defined]
+        self._first = columns[0] if columns else iter(())
+        self._rows = map(self._row, zip(*columns)) if columns else iter(())
 
     def _handed_out(self) -> int:
         """How many rows were handed out."""
         return self._before + (len(self._values[0]) - length_hint(self._first) if self._values else 0)
 
-    def _pass_over(self) -> None:
+    def _drop(self) -> None:
+        """Hands out nothing more: which rows the caller has isn't known."""
+        self._before, self._values, self._is_over = self._handed_out(), [], False
+        self._go_to(0)
+
+    def _leave(self) -> None:
         """Passes over the rows that are left."""
         handed_out, left = self._handed_out(), length_hint(self._first)
-        while self._take():
-            left += length_hint(self._first)
+        while not self._is_over:
+            more = self._sets._next_rows(self._is_only)
+            self._is_over = more is None
+            left += len(more[0]) if more else 0
         self._before, self._values, self._is_passed_over = handed_out, [], left > 0
-        self._first, self._rows = iter(()), iter(())
+        self._go_to(0)
+        if self._sets._descriptions:
+            self._described = self._sets._descriptions.take(self._place)
 
 
 def _file_of(value: Value) -> Union[None, io.BytesIO, io.StringIO]:
@@ -376,10 +442,28 @@ def _file_of(value: Value) -> Union[None, io.BytesIO, io.StringIO]:
 T = TypeVar("T")
 
 
+class Guard:
+    """A context in which one thread reads. Another one is refused meanwhile, and what ends it from elsewhere ends the reading."""
+
+    def __init__(self, sets: Sets) -> None:
+        self._sets, self._lock = sets, threading.RLock()
+
+    def __enter__(self) -> None:
+        if not self._lock.acquire(blocking=False):
+            raise ValueError("another thread reads from here")
+
+    def __exit__(self, _: object, failure: Optional[BaseException], __: object) -> None:
+        if failure:
+            self._sets._end_by(failure)
+        self._lock.release()
+
+
 class Sets:
     """An iterator over result sets, and a context that closes what it reads from.
 
-    After an error each further call raises that error again; after `close` before the end it raises ValueError."""
+    A reading is open, ended, failed or closed. After an error each further call raises that error again, and `Interrupted` after an
+    exception from elsewhere, as that of Ctrl-C; after `close` before the end it raises ValueError. A second thread that reads at the
+    same time gets a ValueError."""
 
     def __init__(self, read: Read, dates: Dates, descriptions: Optional[Describes] = None) -> None:
         self.sets = 0  #: handed out so far
@@ -388,8 +472,10 @@ class Sets:
         self._current: Optional[ResultSet] = None
         self._opened: Union[None, ValueFile, TextFile] = None  # the last value that was opened as a file
         self._rows_before = 0  # of the sets before the current one
-        self._failure: Optional[Error] = None
+        self._failure: Optional[BaseException] = None
+        self._is_untold = False  # whether rows before the failure were handed out, and it wasn't raised since
         self._is_closed = self._is_ended = False
+        self._guard = Guard(self)
 
     @property
     def rows(self) -> int:
@@ -399,7 +485,9 @@ class Sets:
     def __enter__(self: S) -> S:
         return self
 
-    def __exit__(self, *_: object) -> None:
+    def __exit__(self, kind: object, *_: object) -> None:
+        if kind:
+            self._is_untold = False
         self.close()
 
     def __iter__(self) -> Sets:
@@ -417,9 +505,14 @@ class Sets:
             self._raise(NotOneSet("no result set"))
 
     def close(self) -> None:
-        """Ends the reading where it is. What is left isn't judged."""
+        """Ends the reading where it is. What is left isn't judged; an error behind rows that were handed out is raised, if it wasn't yet."""
         self._is_closed = True
         self._release()
+        if self._is_untold:
+            self._raise_again()
+
+    def _guarding(self) -> Guard:
+        return self._guard
 
     def _check_closed(self) -> None:
         """Sees to it that nothing is read past a value that is open."""
@@ -428,16 +521,17 @@ class Sets:
 
     def _next_set(self, is_only: bool) -> ResultSet:
         self._check_closed()
-        if self._current:
-            self._current._pass_over()
-        names = self._step(self._parser.next_header)
-        if names is None:
-            self._end()
-            raise StopIteration
-        self._rows_before = self.rows
-        self._current = ResultSet(self, self.sets, names, is_only)
-        self.sets += 1
-        return self._current
+        with self._guard:
+            if self._current:
+                self._current._leave()
+            names = self._step(self._parser.next_header)
+            if names is None:
+                self._end()
+                raise StopIteration
+            self._rows_before = self.rows
+            self._current = ResultSet(self, self.sets, names, is_only)
+            self.sets += 1
+            return self._current
 
     def _next_rows(self, is_only: bool) -> Optional[Columns]:
         self._check_closed()
@@ -467,18 +561,19 @@ class Sets:
             self._raise(NotOneSet(SEVERAL))
 
     def _step(self, step: Callable[[], T]) -> T:
-        if self._failure:
-            raise self._failure
-        if self._is_closed and not self._is_ended:
-            raise ValueError("the reading was closed")
-        try:
-            return step()
-        except ValueError as wrong:
-            self._raise(MalformedText(str(wrong)))
-        except EOFError:
-            self._parser.is_over = True
-            self._end()
-            self._raise(UnfinishedText(self._parser.records.rest))
+        with self._guard:
+            if self._failure:
+                self._raise_again()
+            if self._is_closed and not self._is_ended:
+                raise ValueError("the reading was closed")
+            try:
+                return step()
+            except ValueError as wrong:
+                self._raise(MalformedText(str(wrong)))
+            except EOFError:
+                self._parser.is_over = True
+                self._end()
+                self._raise(UnfinishedText(self._parser.records.rest))
 
     def _end(self) -> None:
         """The text is over: raises what is to be told of it."""
@@ -491,11 +586,29 @@ class Sets:
         if rest:
             self._raise(UnfinishedText(rest))
 
-    def _raise(self, error: Error) -> NoReturn:
-        error.sets, error.rows = self.sets, self.rows
-        self._failure = error
+    def _raise(self, failure: BaseException) -> NoReturn:
+        """Raises what makes the reading a failed one."""
+        self._failure = failure
+        if isinstance(failure, Error):
+            failure.sets, failure.rows = self.sets, self.rows
         self._release()
-        raise error
+        raise failure
+
+    def _raise_again(self) -> NoReturn:
+        assert self._failure
+        if self._is_untold and isinstance(self._failure, Error):
+            self._failure.rows = self.rows
+        self._is_untold = False
+        raise self._failure
+
+    def _end_by(self, failure: BaseException) -> None:
+        """What an exception means that came while rows were read: one from elsewhere makes the reading a failed one."""
+        if not self._failure and not isinstance(failure, (Error, StopIteration, GeneratorExit, ValueError)):
+            self._failure = Interrupted(f"the reading was ended by {type(failure).__name__}: rows may be missing")
+            self._failure.sets, self._failure.rows = self.sets, self.rows
+            if self._current:
+                self._current._drop()
+            self._release()
 
     def _release(self) -> None:
         """Closes what is read from."""

@@ -18,6 +18,7 @@ from hypothesis import strategies as st
 from hypothesis.stateful import RuleBasedStateMachine, precondition, rule, run_state_machine_as_test
 
 from gavyreto import tds
+from gavyreto import program
 from gavyreto.commands import common, many
 from tests.beside import PROGRAM, answered, responses, wire
 
@@ -122,7 +123,7 @@ class Folder(RuleBasedStateMachine):
             try:
                 status = many.run(words)
             except common.Stopped as stopped:
-                assert stop is not None and stopped.status == common.INTERRUPTED, stopped
+                assert stop is not None and stopped.status == program.INTERRUPTED, stopped
                 runs["stopped"] = runs.get("stopped", 0) + 1
                 self.texts = {}
                 return
@@ -162,7 +163,7 @@ class Folder(RuleBasedStateMachine):
             many.run(["--program", PROGRAM, self.inside, self.out])
             raise AssertionError("two runs at once")
         except common.Stopped as stopped:
-            assert stopped.status == common.REFUSED
+            assert stopped.status == program.REFUSED
         finally:
             os.close(descriptor)
         assert before == {entry.name: entry.stat().st_mtime_ns for entry in os.scandir(self.out)}

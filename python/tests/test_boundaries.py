@@ -172,7 +172,7 @@ class Ends(Live):
 
     def test_query(self) -> None:
         for status, token, word in self.CASES:
-            for answer in (rows_that_end(status, token), b"".join(tds.packets(tds.bodies(rows_that_end(status, token)), 20))):
+            for answer in (rows_that_end(status, token), b"".join(tds.packets([rows_that_end(status, token)[tds.HEADER:]], 20))):
                 with self.subTest(status=status), self.served(answer) as port:
                     came = ask_port(port, "SELECT 1", "SELECT 2")
                     self.assertEqual((came.returncode, came.stdout), (3, ORDERS))
@@ -274,8 +274,8 @@ class Sent(Live):
         with open(self.path("lines"), "w", encoding="ascii") as file:
             file.write("SELECT * FROM orders\n")
         os.link(self.path("lines"), self.path("other"))
-        for words in ("-i lines -o lines", "-i lines -o other", "-o lines < lines", "-o 'lin{}' < lin1"):
-            came = self.query(f"TRUSTED {words}", ("--record", "sent"), "cp lines lin1; ")
+        for words in ("-i lines -o lines", "-i lines -o other", "-o lines < lines", "-o 'lin{}' < lin1", "-i rows.partial -o rows"):
+            came = self.query(f"TRUSTED {words}", ("--record", "sent"), "cp lines lin1; cp lines rows.partial; ")
             with self.subTest(words=words):
                 self.assertEqual((came.returncode, came.stdout), (2, b""), came.stderr)
                 self.assertRegex(came.stderr.decode(), "^[^\n]*: the statements are read from it\n$")

@@ -15,9 +15,10 @@ from unittest import mock
 
 from gavyreto import __main__ as entry
 from gavyreto.commands import common
-from gavyreto.commands.common import Ending, Stopped, judged
-from gavyreto.errors import BadAnswer, ConnectionFailed, ServerError
+from gavyreto.commands.common import Stopped
+from gavyreto.errors import BadAnswer, ConnectionFailed, Report, ServerError
 from gavyreto.payload import Ended
+from gavyreto.program import Ending, judged
 from tests.beside import Live, assert_signalled, lines_of, started, stepped
 
 SERVER_LINE = "server error 1, state 1, class 16, line 1: no"
@@ -73,7 +74,7 @@ class Endings(unittest.TestCase):
             with self.subTest(status=status, notes=notes, length=length):
                 came = judged(status, notes, length)
                 self.assertEqual((came.status, came.line.count("\n"), bool(came.line)), (wanted, 0, True))
-        self.assertEqual(judged(0, self.REPORT, 9), Ending(0, self.REPORT.strip(), self.REPORT, 9))
+        self.assertEqual(judged(0, self.REPORT, 9), Ending(0, self.REPORT.strip(), self.REPORT, 9, Report(1, 2, 0, 0, 9)))
         self.assertEqual(judged(-9, self.REPORT).line, "tds_replay was ended by the signal 9")
 
 

@@ -42,6 +42,21 @@ whole, keeps_index = gavyreto.export(beside.wire("kinds", 3000), program=program
 assert whole.shape == (3000, len(rows.names)) and not keeps_index
 print(list(table.columns), [str(kind) for kind in table.dtypes], table.iloc[1, 3] == decimal.Decimal("99999999999999999999999999999999999.00"))
 """
+# What is read of a server, and where an error ends the rows: no frame is there then, but the rows are.
+LIVE = """
+import gavyreto, pandas
+from tests import beside, test_readings
+gavyreto.Connection.query.__kwdefaults__["program"] = beside.PROGRAM
+with test_readings.serving(test_readings.ORDERED, beside.wire("broken", 5)) as port, test_readings.connected(port) as connection:
+    frame = pandas.read_sql("SELECT * FROM orders", connection)
+    print(list(frame.columns), list(frame["id"]))
+    rows = next(connection.query("x"))
+    try:
+        rows.frame()
+    except gavyreto.ServerError as error:
+        print(error.number)
+    print([row.id for row in rows.fetchall()])
+"""
 KINDS = {
     "tinyint": "UInt8", "smallint": "Int16", "int": "Int32", "bigint": "Int64", "bit": "UInt8", "char": "string", "nchar": "string", "varchar": "string",
     "nvarchar": "string",
@@ -61,6 +76,15 @@ class Frames(unittest.TestCase):
         self.assertEqual({kind: found[kind] for kind in KINDS if kind in found}, {kind: it for kind, it in KINDS.items() if kind in found})
         self.assertEqual({it for kind, it in found.items() if kind not in KINDS}, {"object"})
         self.assertEqual((empty, text), ("{'id': Int32Dtype()}", "['a', 'b', 'a', 'c'] ['Int64', 'string', 'object', 'object'] True"))
+
+    def test_frames_of_answers(self) -> None:
+        """By the cursor that `pandas.read_sql` takes, and of rows before an error."""
+        if not requirements.has_module(requirements.DEBIAN_PYTHON, "pandas"):
+            skip(self, "Python's module pandas isn't there: `make needs` installs it")
+        command = [requirements.DEBIAN_PYTHON, "-B", "-W", "ignore", "-c", LIVE]
+        came = subprocess.run(command, cwd=os.path.join(ROOT, "python"), capture_output=True, text=True, check=False, **started(PROGRAM=PROGRAM))
+        wanted = "['id', 'customer', 'total', 'ordered', 'note'] [1, 2, 3]\n8134\n[1, 2, 3, 1, 2]\n"
+        self.assertEqual((came.returncode, came.stdout), (0, wanted), came.stderr)
 
 
 if __name__ == "__main__":

@@ -21,9 +21,34 @@ sys.path[:0] = [os.path.join(ROOT, "tools")]
 from lib import requirements  # noqa: E402
 
 KINDS, ERROR, FLOAT = wire("kinds", 40), wire("error"), wire("float")
-COLUMNS = 10  # of the table
+COLUMNS = 11  # of the table
 ALL = 1000  # more responses than there are
 REFUSAL = "fault 10 RefusedColumn 1 FLTN at payload 15, written 0, unwritten 0"
+
+
+# A program in place of tds_replay, which hands it one response after the other, and runs a command of the shell before each: it kills
+# itself if that fails.
+RELAY = """#!{python}
+import os, subprocess, sys
+if sys.argv[1] == "--version":
+    os.execv({program!r}, sys.argv)
+child = subprocess.Popen([{program!r}, *sys.argv[1:]], stdin=subprocess.PIPE)
+def read(length):
+    data = sys.stdin.buffer.read(length)
+    child.stdin.write(data)
+    return data
+is_begun = False
+while head := sys.stdin.buffer.peek(1):
+    if not is_begun and subprocess.call(["sh", "-c", {hook!r}]):
+        child.kill()
+        os.kill(os.getpid(), 9)
+    header = read(8)
+    read(int.from_bytes(header[2:4], "big") - 8)
+    is_begun = not header[1] & 1
+    child.stdin.flush()
+child.stdin.close()
+sys.exit(child.wait())
+"""
 
 
 class Many(unittest.TestCase):
@@ -54,12 +79,20 @@ class Many(unittest.TestCase):
         os.chmod(name, 0o755)
         return name
 
-    def holding(self, most: int, before: str = "") -> str:
+    def relaying(self, hook: str) -> str:
+        """The program, before each of whose responses a command of the shell is run, which ends it if it fails."""
+        name = self.path("program")
+        with open(name, "w", encoding="utf-8") as file:
+            file.write(RELAY.format(python=sys.executable, program=PROGRAM, hook=f"cd {self.folder}; {hook}"))
+        os.chmod(name, 0o755)
+        return name
+
+    def holding(self, most: int) -> str:
         """A program that waits once the table has so many responses, and says so in the file `held`."""
         self.let(most)
         table, limit = self.path("out", "outcomes.csv"), self.path("most")
-        has_most = f'test "$1" != --version && test -e {limit} && test "$(wc -l < {table})" -gt "$(cat {limit})"'  # a line more: the names
-        return self.script(f'{before}while {has_most}; do : >> {self.path("held")}; sleep 0.02; done 2> /dev/null\nexec "$PROGRAM" "$@"')
+        has_most = f'test "$(wc -l < {table})" -gt "$(cat {limit})"'  # a line more: the names
+        return self.relaying(f"echo run >> runs; while {has_most}; do : >> held; sleep 0.02; done 2> /dev/null; :")
 
     def let(self, most: int) -> None:
         """Lets programs that wait go on as long as the table has fewer responses."""
@@ -93,7 +126,7 @@ class Many(unittest.TestCase):
     def interrupted(self, *words: str) -> tuple[int, str]:
         """The same of a command that is interrupted while its program waits, and its table has all that ended before."""
         with self.beginning(*words) as process:
-            wait_for(lambda: os.path.exists(self.path("held")) and len(self.table()) == len(self.runs()) - 1)
+            wait_for(lambda: os.path.exists(self.path("held")) and len(self.table()) == self.runs() - 1)
             process.send_signal(signal.SIGINT)
             wait_for(lambda: is_waiting(process.pid))
             self.let(ALL)
@@ -120,10 +153,14 @@ class Many(unittest.TestCase):
             with open(self.path("out", f"{name}.csv"), "rb") as file:
                 self.assertEqual(file.read(), wanted, name)
 
-    def runs(self) -> list[str]:
-        """The files that the program in place of tds_replay was run with."""
+    def runs(self) -> int:
+        """How many responses the program in place of tds_replay had."""
         with open(self.path("runs"), encoding="utf-8") as file:
-            return sorted(os.path.basename(line) for line in file.read().split() if line != "--version")
+            return len(file.read().split())
+
+    def made(self) -> dict[str, int]:
+        """When each text was made."""
+        return {entry.name: entry.stat().st_mtime_ns for entry in os.scandir(self.path("out")) if entry.name != "outcomes.csv"}
 
 
 class Here(Many):
@@ -137,7 +174,7 @@ class Here(Many):
 
     def test_a_command_that_was_stopped_goes_on(self) -> None:
         names = self.store(8)
-        slow = self.holding(3, 'for file; do :; done; echo "$file" >> runs; ')
+        slow = self.holding(3)
         status, line = self.interrupted("-j", "1", "--program", slow, "in", "out")
         self.assertEqual((status, line), (130, "interrupted: begun again it goes on from here"))
         with open(self.path("out", "outcomes.csv"), "ab") as file:
@@ -146,7 +183,7 @@ class Here(Many):
         self.assertEqual(self.many("-j", "1", "--program", slow, "in", "out")[0], 0)
         self.assert_texts(names)
         self.assertEqual([name for name, _, _ in self.table()], names)
-        self.assertLessEqual(len(self.runs()) - len(names), 1, "at most the one that was under way runs again")
+        self.assertLessEqual(self.runs() - len(names), 1, "at most the one that was under way runs again")
         self.assertGreaterEqual(whole, 3)
         before = self.runs()
         self.assertEqual(self.many("--program", slow, "in", "out")[0], 0)
@@ -154,19 +191,20 @@ class Here(Many):
 
     def test_what_changed_or_lost_its_text_is_done_again(self) -> None:
         names = self.store(3)
-        logged = self.script('for file; do :; done; echo "$file" >> runs; exec "$PROGRAM" "$@"')
-        self.many("--program", logged, "in", "out")
+        self.many("--program", PROGRAM, "in", "out")
+        before = self.made()
         later = time.time() + 10
         os.utime(self.path("in", names[0]), (later, later))
         os.remove(self.path("out", f"{names[1]}.csv"))
-        self.assertEqual(self.many("--program", logged, "in", "out")[0], 0)
-        self.assertEqual(self.runs(), sorted([*names, *names[:2]]))
+        self.assertEqual(self.many("--program", PROGRAM, "in", "out")[0], 0)
+        after = self.made()
+        self.assertEqual([name for name in after if after[name] != before.get(name)], [f"{name}.csv" for name in names[:2]])
         self.assert_texts(names)
 
     def test_what_differs_from_its_line_is_done_again(self) -> None:
         """A file in the place of another one, older and as long; other options; another program; a text that was cut."""
         name, = self.store(1)
-        logged = self.script('for file; do :; done; echo "$file" >> runs; exec "$PROGRAM" "$@"')
+        logged = self.relaying("echo run >> runs")
         file, text = self.path("in", name), self.path("out", f"{name}.csv")
         self.many("--program", logged, "in", "out")
         count = 1
@@ -181,9 +219,16 @@ class Here(Many):
             self.store(1)
             os.utime(file, ns=(1, os.stat(self.path("before")).st_mtime_ns))
 
+        def same_inode() -> None:
+            """Others rows in the same file, with the same length and time: only the time of the change differs."""
+            written = os.stat(file).st_mtime_ns
+            with open(file, "r+b") as it:
+                it.write(KINDS)
+            os.utime(file, ns=(1, written))
+
         changes: list[tuple[Callable[[], None], tuple[str, ...]]] = [
             (lambda: None, ("--column-room", "90000")), (lambda: None, ()), (lambda: None, ("--column-room", "100000")), (lambda: None, ()),
-            (replaced, ()), (same_time, ()), (lambda: os.truncate(text, 20), ()),
+            (replaced, ()), (same_time, ()), (same_inode, ()), (lambda: os.truncate(text, 20), ()),
         ]
         for change, words in changes:
             change()
@@ -191,10 +236,10 @@ class Here(Many):
                 self.assertEqual(self.many(*words, "--program", logged, "in", "out")[0], 0)
                 self.assert_texts([name])
             count += 1
-            self.assertEqual(len([it for it in self.runs() if it != "--version"]), count)
-        newer = self.script('test "$1" = --version && { echo tds_replay 9.9; exit; }; for file; do :; done; echo "$file" >> runs; exec "$PROGRAM" "$@"')
+            self.assertEqual(self.runs(), count)
+        newer = self.relaying("echo run >> runs; :")  # another build, which says the same of its version
         self.assertEqual(self.many("--program", newer, "in", "out")[0], 0)
-        self.assertEqual(len(self.runs()), count + 1)
+        self.assertEqual(self.runs(), count + 1)
 
     def test_a_text_of_before_does_not_stay_beside_another(self) -> None:
         for data, status, text in ((KINDS, 0, "x.csv"), (FLOAT, 4, "x.csv.partial"), (KINDS, 0, "x.csv")):
@@ -208,14 +253,14 @@ class Here(Many):
 
     def test_a_file_that_changes_while_it_is_read(self) -> None:
         self.store(1)
-        changing = self.script('test "$1" = --version || printf x >> in/000; exec "$PROGRAM" "$@"')
+        changing = self.relaying("printf x >> in/000")
         self.assertEqual(self.many("--program", changing, "in", "out")[0], 5)
         self.assertEqual(self.table(), [("000", 5, f"{self.path('in', '000')}: it changed while it was read")])
 
     def test_a_program_that_is_killed_costs_its_own_response(self) -> None:
         names = self.store(4)
-        killed = self.script('case "$*" in */001) test -e again || { echo x; kill -KILL $$; } ;; esac; exec "$PROGRAM" "$@"')
-        self.assertEqual(self.many("--program", killed, "in", "out"), (5, "4 responses: 3 done, 0 with an error of the server, 0 refused, 1 failed"))
+        killed = self.relaying('echo run >> runs; test -e again || test "$(wc -l < runs)" != 2')
+        self.assertEqual(self.many("-j", "1", "--program", killed, "in", "out"), (5, "4 responses: 3 done, 0 with an error of the server, 0 refused, 1 failed"))
         self.assert_texts([names[0], *names[2:]])
         self.assertEqual(self.table()[1], ("001", 137, "tds_replay was ended by the signal 9"))
         open(self.path("again"), "w").close()
@@ -247,6 +292,8 @@ class Here(Many):
             with self.subTest(line):
                 self.assertEqual(self.many(*words), (2, line))
                 self.assertFalse(os.path.exists(self.path("out", "000.csv")))
+        os.mkdir(self.path("empty"))
+        self.assertEqual(self.many("--program", PROGRAM, "empty", "out"), (2, "empty: an empty folder"))
         self.assertEqual(self.many("--program", PROGRAM, "nothere", "out"), (5, "1 responses: 0 done, 0 with an error of the server, 0 refused, 1 failed"))
         self.assertEqual(self.table(), [("nothere", 5, f"cannot read {self.path('nothere')}: No such file or directory")])
 
@@ -282,6 +329,45 @@ class Here(Many):
         status, line = self.many("--program", PROGRAM, "in", "out")
         self.assertEqual((status, line), (2, f"{self.path('in', 'outcomes')}: its text would have the name of the table, outcomes.csv: give the file another name"))
 
+    def test_what_is_no_file_in_a_folder(self) -> None:
+        """A link to nothing, a pipe and a folder have a line and the status 5."""
+        self.store(1)
+        os.symlink("nothing", self.path("in", "link"))
+        os.mkfifo(self.path("in", "pipe"))
+        os.mkdir(self.path("in", "within"))
+        self.assertEqual(self.many("--program", PROGRAM, "in", "out"), (5, "4 responses: 1 done, 0 with an error of the server, 0 refused, 3 failed"))
+        self.assertEqual([(name, status) for name, status, _ in self.table()], [("000", 0), ("link", 5), ("pipe", 5), ("within", 5)])
+        self.assertEqual([line.rpartition(": ")[2] for _, _, line in self.table()[1:]], ["No such file or directory", "no regular file", "no regular file"])
+
+    def test_a_table_that_is_a_pipe(self) -> None:
+        self.store(1)
+        os.mkdir(self.path("out"))
+        os.mkfifo(self.path("out", "outcomes.csv"))
+        self.assertEqual(self.many("--program", PROGRAM, "in", "out"), (2, f"{self.path('out', 'outcomes.csv')} isn't a table of this command"))
+
+    def test_an_output_that_is_an_input_by_another_name(self) -> None:
+        self.store(1)
+        self.many("--program", PROGRAM, "in", "out")
+        with open(self.path("out", "000.csv.partial"), "wb") as file:
+            file.write(KINDS)
+        os.symlink("out", self.path("alias"))
+        status, line = self.many("--program", PROGRAM, "in", "alias/000.csv.partial", "out")
+        self.assertEqual((status, line), (2, f"000.csv.partial would be the text of {self.path('in', '000')}, and is a file to export: name another folder"))
+
+    def test_a_link_that_turns(self) -> None:
+        """The text of a name is that of the file whose stamp its line has."""
+        os.mkdir(self.path("files"))
+        for name, data in (("a", KINDS), ("b", wire("orders", 5))):
+            with open(self.path("files", name), "wb") as file:
+                file.write(data)
+        os.symlink(self.path("files", "a"), self.path("in", "link"))
+        turning = self.relaying(f"ln -sfn {self.path('files', 'b')} in/new; mv -T in/new in/link")
+        self.many("--program", turning, "in/link", "out")
+        self.assert_whole(["link"])
+        self.assertEqual(self.many("--program", PROGRAM, "in/link", "out")[0], 0)
+        with open(self.path("out", "link.csv"), "rb") as text:
+            self.assertTrue(text.read().startswith(b'"id","customer"'))
+
     def test_names_of_any_kind(self) -> None:
         """Names that aren't UTF-8, have line ends, quotes or controls, or are too long for a text."""
         self.store(1)
@@ -310,10 +396,11 @@ class Here(Many):
 
     def test_a_full_disk_leaves_no_text(self) -> None:
         self.store(1)
-        status, line = self.many("--program", self.script('ulimit -f 8; exec "$PROGRAM" "$@"'), "in", "out")
-        self.assertEqual((status, line), (5, "1 responses: 0 done, 0 with an error of the server, 0 refused, 1 failed"))
+        command = f"ulimit -f 8; trap '' XFSZ; exec {sys.executable} -m gavyreto many --program {PROGRAM} in out"
+        came = subprocess.run(["sh", "-c", command], cwd=self.folder, capture_output=True, check=False, **started())
+        self.assertEqual((came.returncode, came.stderr.decode()), (5, "1 responses: 0 done, 0 with an error of the server, 0 refused, 1 failed\n"))
+        self.assertRegex(self.table()[0][2], r"\.unfinished: File too large$")
         self.assert_texts([])
-
 
     def test_a_full_disk_for_the_table(self) -> None:
         self.store(0, **{f"{number:03}": tds.packet(4, tds.done()) for number in range(40)})

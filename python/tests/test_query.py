@@ -38,6 +38,10 @@ NO_PASSWORD = "the server, or somebody between, doesn't encrypt: the password wo
 LOGIN_ALONE = "the server, or somebody between, encrypts the login alone: statements and rows would be readable on the way. --encrypt login allows it"
 
 
+NOT_TRUSTED = "the server's certificate isn't trusted: self-signed certificate. --certificates names its authority; -C trusts anyone"
+CLOSED = "the server closed the connection"
+
+
 class Answers(Live):
     def test_rows_are_the_same_whatever_is_encrypted(self) -> None:
         for server, client in MODES:
@@ -166,9 +170,9 @@ class Refusals(Live):
         for encrypt in ("login", "all"):
             with self.subTest(encrypt=encrypt):
                 came = self.query(f"TRUSTED --encrypt {encrypt} 'SELECT * FROM kinds'", ("--cut-after", "1500"))
-                self.assert_ends(came, 4, b"", "fault 2 InputEnded at wire 0, written 0, unwritten 0")
+                self.assert_ends(came, 5, b"", f"{CLOSED}: fault 2 InputEnded at wire 0, written 0, unwritten 0")
                 came = self.query(f"TRUSTED --packet-size 4096 --encrypt {encrypt} 'SELECT * FROM broken'", ("--cut-after", "9000"))
-                self.assertEqual((came.returncode, came.stderr.decode().split(",")[0]), (4, "fault 2 InputEnded at wire 8192"))
+                self.assertEqual((came.returncode, came.stderr.decode().split(",")[0]), (5, f"{CLOSED}: fault 2 InputEnded at wire 8192"))
                 self.assertTrue(came.stdout.startswith(ORDERS))
 
     def test_a_column_that_is_refused_ends_the_statements(self) -> None:
@@ -182,7 +186,7 @@ class Refusals(Live):
             self.assert_ends(self.query(f"TRUSTED {words} 'SELECT 1'", ("--encrypt", "none")), 5, b"", NO_PASSWORD)
 
     def test_a_certificate_that_is_not_trusted(self) -> None:
-        self.assert_ends(self.query("'SELECT 1'"), 5, b"", "the server's certificate isn't trusted: self-signed certificate")
+        self.assert_ends(self.query("'SELECT 1'"), 5, b"", NOT_TRUSTED)
 
     def test_a_certificate_for_another_name(self) -> None:
         came = self.query("TRUSTED 'SELECT 1'", ("--names", "DNS:other.example"))
@@ -277,14 +281,13 @@ class Refusals(Live):
 
     def test_outputs_that_fail(self) -> None:
         need(self, "head")
-        came = self.query("TRUSTED 'SELECT * FROM orders' > /dev/full")
-        self.assert_ends(came, 5, b"", f"fault 20 WriteFailed at text 0, written 0, unwritten {len(ORDERS)}")
-        came = self.query("TRUSTED -o /dev/full 'SELECT * FROM orders'")
-        self.assert_ends(came, 5, b"", f"fault 20 WriteFailed at text 0, written 0, unwritten {len(ORDERS)}")
+        for words, name in (("> /dev/full", "standard output"), ("-o /dev/full", "/dev/full"), ("-o - > /dev/full", "standard output")):
+            came = self.query(f"TRUSTED 'SELECT * FROM orders' {words}")
+            self.assert_ends(came, 5, b"", f"{name}: No space left on device")
         came = self.beside((), '{ $QUERY -S 127.0.0.1,$PORT -U reader --certificates "$CERTIFICATE" --program "$PROGRAM" "SELECT * FROM broken" || echo $? > status; } | head -n 1')
         self.assertEqual((came.stdout, self.text("status")), (b'"id","customer","total","ordered","note"\r\n', b"5\n"))
         self.assertEqual(came.stderr.count(b"\n"), 1)
-        self.assertIn(b"fault 20 WriteFailed", came.stderr)
+        self.assertEqual(came.stderr, b"standard output: Broken pipe\n")
 
     def test_a_full_output_after_the_first_text(self) -> None:
         """What comes through here and can't be written ends with one line too."""
@@ -371,7 +374,8 @@ class Silence(Live):
             ([plain, tds.packet(4, b"\xAA\x01\x00x")], login), ([plain, tds.packet(4, b"\xE3\x00\x00")], login),
             ([plain, tds.packet(4, b"\xE3\x03\x00\x04\x01x")], login), ([plain, tds.packet(4, b"\xAD\x00\x00")], login),
             ([plain, tds.packet(4, b"\xE3\x04\x00\x04\x019\x00" + acknowledged + tds.done())], login),
-            ([plain, tds.packet(4, acknowledged.replace(tds.VERSION, bytes.fromhex("71000001")) + tds.done())], login),
+            ([plain, tds.packet(4, acknowledged.replace(tds.VERSION, bytes.fromhex("730B0003")) + tds.done())], "the server speaks TDS 7.3, and TDS 7.4 is spoken here"),
+            ([plain, tds.packet(4, acknowledged.replace(tds.VERSION, bytes.fromhex("75000001")) + tds.done())], login),
             ([plain, tds.packet(4, b"\xFF" * 20)], login), ([plain, tds.packet(1, acknowledged + tds.done())], login),
         ):
             def serve(channel: Channel, answers: list[bytes] = answers) -> None:
@@ -558,7 +562,8 @@ class Signals(Live):
             run = subprocess.Popen(command_for(port), stdout=subprocess.PIPE, stderr=subprocess.PIPE, **started())
             self.interrupt_once(asked, run)
             out, err = run.communicate(timeout=SECONDS)
-        self.assertEqual((run.returncode, out, err), (130, b"", b"interrupted\n"))
+        line = f"interrupted, and {CLOSED}: fault 2 InputEnded at wire 0, written 0, unwritten 0\n"
+        self.assertEqual((run.returncode, out, err.decode()), (130, b"", line))
 
     def signalled(self, at: int, *others: str) -> tuple[subprocess.CompletedProcess[bytes], list[int]]:
         """What the command gives of two statements to which Ctrl-C comes at a line, and the types of the messages after its login."""
@@ -593,19 +598,23 @@ class Signals(Live):
     def test_an_interrupt_once_a_statement_is_sent(self) -> None:
         """The server is asked once to stop."""
         channel = mock.Mock()
-        session = Session(channel, mock.Mock(), 4096)
+        session = Session(channel, mock.Mock(login_seconds=5), 4096)
         channel.wait.side_effect = session.interrupt
         session.send("SELECT 1")
         self.assertEqual([call.args[0] for call in channel.write_message.call_args_list], [PacketType.STATEMENT, PacketType.ATTENTION])
 
     def test_a_program_does_not_outlive_the_command(self) -> None:
-        """After SIGTERM and SIGKILL the program ends by itself: its input is over."""
-        for number in (signal.SIGTERM, signal.SIGKILL):
+        """After SIGTERM and SIGHUP what came is written, and a line says so; after SIGKILL the program ends by itself: its input is over."""
+        for number in (signal.SIGTERM, signal.SIGHUP, signal.SIGKILL):
             with self.subTest(number=number), listening(hold) as port:
                 run = self.begin(port)
                 run.send_signal(number)
-                out, _ = run.communicate(timeout=SECONDS)
-                self.assertEqual((run.returncode, out), (-number, ORDERS))
+                out, err = run.communicate(timeout=SECONDS)
+                if number == signal.SIGKILL:
+                    self.assertEqual((run.returncode, out), (-number, b""))
+                else:
+                    line = f"ended by {number.name}: fault 2 InputEnded at wire {len(HELD)}, written {len(ORDERS)}, unwritten 0\n"
+                    self.assertEqual((run.returncode, out, err.decode()), (128 + number, ORDERS, line))
                 process = int(self.text("kept.pid"))
                 wait_for(lambda: has_ended(process))
             os.remove(self.path("kept"))
@@ -647,9 +656,9 @@ class FromPython(Live):
 
     def test_what_goes_wrong(self) -> None:
         for statement, options, wanted in (
-            ("SELECT * FROM float", (), "Fault 10 RefusedColumn"), ("SELECT * FROM broken", (), "ServerError 8134"), ("x", ("--password", "other"), "ServerError 18456"),
-            ("SELECT * FROM broken", ("--cut-after", "9000"), "Fault 2 InputEnded"), ("x", ("--encrypt", "none"), "ConnectionFailed"),
-            ("x", ("--names", "DNS:other"), "ConnectionFailed"),
+            ("SELECT * FROM float", (), "Fault 10 RefusedColumn"), ("SELECT * FROM broken", (), "ServerError 8134"), ("x", ("--password", "other"), "LoginRefused 18456"),
+            ("SELECT * FROM broken", ("--cut-after", "9000"), "ConnectionFailed"), ("x", ("--encrypt", "none"), "EncryptionRefused"),
+            ("x", ("--names", "DNS:other"), "CertificateRefused"),
         ):
             came = self.asked(
                 "try:\n"

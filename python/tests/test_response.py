@@ -342,7 +342,7 @@ class Stops(unittest.TestCase):
         self.assertEqual(stop.exception.status, -9)
 
     def kill_later(self, came: gavyreto.Response) -> None:
-        wait_for(lambda: is_waiting(came._program.pid))
+        wait_for(lambda: bool(came._program._process and is_waiting(came._program._process.pid)))
         came._program.kill()
 
 

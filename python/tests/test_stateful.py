@@ -26,6 +26,9 @@ class Stateful(unittest.TestCase):
         need(self, "openssl")
         self.run_module("stateful_query", 300, 700)
 
+    def test_a_caller_who_does_anything(self) -> None:
+        self.run_module("stateful_readings", 8000, 7999)
+
     def test_files_that_come_and_go(self) -> None:
         self.run_module("stateful_many", 50, 80)
 

@@ -12,9 +12,10 @@ _gavyreto() {
     local -a query=(
         '(-S --server)'{-S,--server=}'[HOST or HOST,PORT]:server:' '(-U --user)'{-U,--user=}'[user of the login]:user:'
         '(-d --database)'{-d,--database=}'[database to use]:database:' '*'{-i,--input=}'[file with statements]:file:_files'
-        '--encrypt=[least encryption]:encryption:(all login none)' '-N[encrypt all]' '-Nm[encrypt all]' '-No[encrypt the login]'
+        '--encrypt=[least encryption]:encryption:(all login none)' '-N[encrypt all, or the login]:encryption:(m o)'
         '(-C --trust-server)'{-C,--trust-server}'[trust any certificate]' '--certificates=[authorities to trust]:file:_files'
-        '--certificate-name=[name that the certificate has]:name:' '--seconds=[longest silence of the server]:seconds:' '--packet-size=[packet size to ask for]:bytes:'
+        '--certificate-name=[name that the certificate has]:name:' '--seconds=[longest silence of the server]:seconds:' '--login-seconds=[longest login]:seconds:'
+        '--packet-size=[packet size to ask for]:bytes:'
     )
     if ((CURRENT == 2)); then
         commands+=('help:print help')

@@ -13,8 +13,8 @@ import argparse
 import os
 
 from gavyreto.adapting import Adapter
-from gavyreto.commands.common import BAD_INPUT, FAILED, REFUSED, STANDARD_OUTPUT, STREAMS, Stopped, cause_of, is_one_file, needed, open_response, parser_of
-from gavyreto.program import CHARSETS, write_all
+from gavyreto.commands.common import STANDARD_OUTPUT, STREAMS, Stopped, cause_of, is_one_file, needed, open_response, parser_of
+from gavyreto.program import BAD_INPUT, CHARSETS, FAILED, REFUSED, write_all
 
 
 def arguments(words: list[str]) -> argparse.Namespace:

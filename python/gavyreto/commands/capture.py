@@ -36,11 +36,9 @@ from gavyreto.capturing.conversations import Answer, Sides
 from gavyreto.capturing.frames import WRONG_CHECKSUM
 from gavyreto.capturing.keeping import Kept, Room
 from gavyreto.capturing.messages import is_header
-from gavyreto.commands.common import (
-    BAD_INPUT, FAILED, OF_SIGNAL, REFUSED, SERVER_ERROR, Ending, Stopped, add_options_of_program, checked_program, judged, line, number_in,
-    parser_of, put, tell,
-)
+from gavyreto.commands.common import Stopped, add_options_of_program, checked_program, line, number_in, parser_of, put, tell
 from gavyreto.payload import Ended
+from gavyreto.program import BAD_INPUT, FAILED, OF_SIGNAL, REFUSED, SERVER_ERROR, Ending, judged
 from gavyreto.tds import PacketType
 
 HEADER = ("text", "client", "server", "time", "statement", "status", "line")

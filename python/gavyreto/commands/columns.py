@@ -12,8 +12,9 @@ import argparse
 from typing import IO
 
 from gavyreto.columns import TABLES, Column, create_table
-from gavyreto.commands.common import BAD_INPUT, REFUSED, STANDARD_OUTPUT, Stopped, line, needed, open_response, parser_of, put
+from gavyreto.commands.common import STANDARD_OUTPUT, Stopped, line, needed, open_response, parser_of, put
 from gavyreto.payload import Payload, descriptions
+from gavyreto.program import BAD_INPUT, REFUSED
 
 HEADER = ("set", "name", "type", "length", "precision", "scale", "nullable")
 

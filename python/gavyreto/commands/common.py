@@ -1,27 +1,23 @@
-"""What the commands share: statuses, lines, standard input and output, arguments, and how the program tds_replay ended."""
+"""What the commands share: lines, standard input and output, and arguments."""
 from __future__ import annotations
 
 import argparse
 import codecs
 import os
 import re
+import signal
 import stat
 import sys
 import textwrap
-from typing import IO, Callable, Iterable, NamedTuple, Optional, Union
+from typing import IO, Any, Callable, Iterable, Optional, Union
 
 from gavyreto import program, tds
-from gavyreto.errors import BadAnswer, ConnectionFailed, Fault, Report, ServerError
+from gavyreto.errors import BadAnswer, ConnectionFailed, ServerError, escaped
 from gavyreto.payload import Ended
-
-# Exit statuses; all but the last are those of tds_replay.
-DONE, REFUSED, SERVER_ERROR, BAD_INPUT, FAILED, NO_MEMORY, INTERRUPTED = 0, 2, 3, 4, 5, 6, 130
-OF_SIGNAL = 128  # is added to the number of a signal
+from gavyreto.program import BAD_INPUT, FAILED, INTERRUPTED, NO_MEMORY, REFUSED, SERVER_ERROR
 
 STANDARD_INPUT, STANDARD_OUTPUT, STANDARD_ERROR = 0, 1, 2
 STREAMS = ("standard input", "standard output", "standard error")
-# Characters that a terminal obeys, that change the direction or the place of others, or that no UTF-8 has.
-CONTROLS = re.compile("[\0-\x1F\x7F-\x9F\u200B-\u200F\u2028-\u202E\u2060-\u206F\uFEFF\uD800-\uDFFF]")
 LONGEST_HEAD = 4096  # bytes by which a file is known
 CAPTURE = "a capture of the network: gavyreto capture reads it"
 BEGINNINGS = {
@@ -34,6 +30,14 @@ BEGINNINGS = {
 OF_TESTS = "GAVYRETO_TRACEBACK"  # a variable that lets the traceback of an unforeseen exception out
 
 
+class Signalled(BaseException):
+    """A signal came that ends a command, other than Ctrl-C."""
+
+    def __init__(self, number: int) -> None:
+        super().__init__(f"ended by {signal.Signals(number).name}")
+        self.status = program.OF_SIGNAL + number
+
+
 class Stopped(Exception):
     """A line for standard error, and the status to end with."""
 
@@ -43,17 +47,6 @@ class Stopped(Exception):
 
 
 # Lines.
-
-def escaped(text: str) -> str:
-    """A text in which control characters are spelt, as `\\x1b`. A byte of a name that isn't UTF-8 is spelt too."""
-    return CONTROLS.sub(lambda found: _spelt(ord(found[0])), text)
-
-
-def _spelt(number: int) -> str:
-    if 0xDC80 <= number <= 0xDCFF:  # as Python reads such a byte
-        number -= 0xDC00
-    return f"\\x{number:02x}" if number < 0x100 else f"\\u{number:04x}"
-
 
 def say(text: str) -> None:
     """Writes to standard error; a failure changes no status, as with tds_replay."""
@@ -88,7 +81,7 @@ def cause_of(failure: OSError) -> str:
 
 def ending_of(failure: BaseException) -> tuple[str, int]:
     """The line that tells what ended a command, and its exit status."""
-    if isinstance(failure, Stopped):
+    if isinstance(failure, (Stopped, Signalled)):
         return str(failure), failure.status
     if isinstance(failure, ServerError):
         return str(failure), SERVER_ERROR
@@ -204,9 +197,20 @@ class Help(argparse.HelpFormatter):
         return "\n\n".join(textwrap.fill(it, width, initial_indent=indent, subsequent_indent=indent) for it in paragraphs)
 
 
-def parser_of(command: str, about: Optional[str]) -> argparse.ArgumentParser:
+class Parser(argparse.ArgumentParser):
+    """A parser that doesn't repeat the value of an option that it doesn't know: it may be a password."""
+
+    def parse_args(self, words: Any = None, namespace: Any = None) -> Any:
+        asked, unknown = self.parse_known_args(words, namespace)
+        if unknown:
+            shown = " ".join(it[:2] if re.match("-[^-]", it) else it.partition("=")[0] for it in unknown if it.startswith("-"))
+            self.error(f"unknown options: {shown}" if shown else f"{len(unknown)} arguments too many")
+        return asked
+
+
+def parser_of(command: str, about: Optional[str], *, add_help: bool = True) -> argparse.ArgumentParser:
     """The parser of a command's arguments; help begins with its module's docstring."""
-    return argparse.ArgumentParser(prog=f"gavyreto {command}", description=about, formatter_class=Help)
+    return Parser(prog=f"gavyreto {command}", description=about, formatter_class=Help, add_help=add_help, allow_abbrev=False)
 
 
 def number_in(least: int, most: int) -> Callable[[str], int]:
@@ -235,42 +239,3 @@ def checked_program(name: str) -> str:
         raise Stopped(f"{path} isn't tds_replay", REFUSED)
     except OSError as failure:
         raise Stopped(cause_of(failure), REFUSED) from None
-
-
-# The end of the program.
-
-class Ending(NamedTuple):
-    """How the program ended on a response."""
-
-    status: int  #: its own; 128 and the number of the signal that ended it; 5 if its lines, its status and its text don't agree
-    line: str  #: its first line, or what is wrong
-    notes: str  #: all its lines, or the same line
-    written: int  #: bytes of text that it wrote, as it says
-
-    def line_after(self, line: str) -> str:
-        """One line, of what happened and what the program says to it."""
-        return ": ".join(it for it in (line, self.line) if it)
-
-
-def judged(status: int, notes: str, length: Optional[int] = None) -> Ending:
-    """What the program's status and lines come to, and the bytes of the text that it left, where they are known."""
-    said, first = program.report_of(notes), notes.partition("\n")[0]
-    if status < 0:
-        return _wrong(OF_SIGNAL - status, f"tds_replay was ended by the signal {-status}")
-    written = program.written_by(said) if said else 0
-    if status in (DONE, SERVER_ERROR, BAD_INPUT) and (not _agree(status, said) or length not in (None, written)):
-        left = "" if length is None else f", and a text of {length} bytes"
-        return _wrong(FAILED, f"tds_replay ended with status {status}{left}: {first}")
-    if said is None:
-        return _wrong(status, first or f"tds_replay ended with status {status} and no line")
-    return Ending(status, first, notes, written)
-
-
-def _wrong(status: int, line: str) -> Ending:
-    return Ending(status, line, line + "\n", 0)
-
-
-def _agree(status: int, said: Union[Report, Fault, ServerError, None]) -> bool:
-    """Whether a status is that of what the program says."""
-    kinds = {DONE: Report, SERVER_ERROR: ServerError, BAD_INPUT: Fault}
-    return isinstance(said, kinds[status])

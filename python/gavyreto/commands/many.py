@@ -2,8 +2,8 @@
 
 The text of FILE is FILE.csv in the folder OUT, and gets this name when it is whole; a response that is refused leaves
 FILE.csv.partial. A folder stands for the files in it. The table OUT/outcomes.csv gets a line for each response as it ends: its
-file, the status and first line of tds_replay, then its text, the bytes of the text, the size, time and inode of the file, the
-options, and the program's version. A command that was stopped can be run again: it skips each response whose line and text are
+file, the status and first line of tds_replay, then its text, the bytes of the text, the size, times and inode of the file, the
+options, and the program's version and digest. A command that was stopped can be run again: it skips each response whose line and text are
 there, if file, options and program are those of the line.
 
 The status is the greatest of these: 0; 3 if the server reported an error in a response; 4 if a response was refused; 5 if one
@@ -24,11 +24,9 @@ from types import TracebackType
 from typing import Any, Iterator, NamedTuple, Optional, Union
 
 from gavyreto import program
-from gavyreto.commands.common import (
-    BAD_INPUT, DONE, FAILED, INTERRUPTED, REFUSED, SERVER_ERROR, Stopped, add_options_of_program, cause_of, checked_program, line, number_in,
-    parser_of, say, tell,
-)
-from gavyreto.exporting import UNFINISHED, Outcome, Stamp, export_file, stamp_of, version_of
+from gavyreto.commands.common import Stopped, add_options_of_program, cause_of, checked_program, line, number_in, parser_of, say, tell
+from gavyreto.exporting import UNFINISHED, Outcome, Stamp, end_all, export_file, stamp_of, version_of
+from gavyreto.program import BAD_INPUT, DONE, FAILED, INTERRUPTED, REFUSED, SERVER_ERROR
 from gavyreto.records import record_at
 from gavyreto.values import value_of
 
@@ -48,12 +46,13 @@ class Record(NamedTuple):
     written: int
     size: int
     time: int
+    change: int
     inode: int
     options: str
     program: str
 
     def stamp(self) -> Stamp:
-        return Stamp(self.size, self.time, self.inode)
+        return Stamp(self.size, self.time, self.change, self.inode)
 
 
 HEADER = line(Record._fields).encode()
@@ -70,14 +69,15 @@ class Table:
 
     def _read(self) -> dict[str, Record]:
         """The lines that are there, by their files, but for one at the end that isn't whole, since its writing was stopped."""
-        if not os.path.exists(self._path):
+        if not os.path.lexists(self._path):
             left = next((name for name in os.listdir(self._folder) if name.endswith((TEXT, PARTIAL))), None)
             if left:
                 raise Stopped(f"{self._folder} has {left}, and no table of this command: name a folder without texts", REFUSED)
             return {}
-        with open(self._path, "rb") as file:
-            data = file.read()
-        records = _records_in(data)
+        records = None
+        if os.path.isfile(self._path):
+            with open(self._path, "rb") as file:
+                records = _records_in(file.read())
         if records is None:
             raise Stopped(f"{self._path} isn't a table of this command", REFUSED)
         return {record.file: record for record in records}
@@ -85,13 +85,13 @@ class Table:
     def check(self, files: list[str]) -> None:
         """Refuses files whose text has the name of the table, or of a text of another file."""
         of = {record.text: record.file for record in self.records.values() if record.text}
-        inputs = set(files)
+        inputs = {inode for inode in map(_inode_of, files) if inode}
         for file in files:
             name = os.path.basename(file)
             if name + TEXT == TABLE:
                 raise Stopped(f"{file}: its text would have the name of the table, {TABLE}: give the file another name", REFUSED)
             for text in (name + TEXT, name + PARTIAL):
-                if os.path.join(self._folder, text) in inputs:
+                if _inode_of(os.path.join(self._folder, text)) in inputs:
                     raise Stopped(f"{text} would be the text of {file}, and is a file to export: name another folder", REFUSED)
                 if of.get(text, file) != file and os.path.exists(os.path.join(self._folder, text)):
                     raise Stopped(f"{text} is the text of {of[text]}: export {file} to another folder", REFUSED)
@@ -139,6 +139,15 @@ class Table:
         self.records[outcome.file] = record
 
 
+def _inode_of(path: str) -> Optional[tuple[int, int]]:
+    """What a file is, whatever names it has; None if there is none."""
+    try:
+        found = os.stat(path)
+    except OSError:
+        return None
+    return found.st_dev, found.st_ino
+
+
 def _line_of(record: Record) -> bytes:
     return line(record).encode("utf-8", "surrogateescape")
 
@@ -165,7 +174,7 @@ def _records_in(data: bytes) -> Optional[list[Record]]:
 
 def _record_of(values: list[Any]) -> Optional[Record]:
     """The record of some values, if they have its types."""
-    kinds = [str, int, str, (str, type(None)), int, int, int, int, str, str]
+    kinds = [str, int, str, (str, type(None)), int, int, int, int, int, str, str]
     fits = len(values) == len(kinds) and all(isinstance(value, kind) for value, kind in zip(values, kinds))  # type: ignore[arg-type]
     return Record(*values) if fits else None
 
@@ -195,7 +204,9 @@ def files_of(asked: argparse.Namespace) -> list[str]:
     for path in asked.files:
         if os.path.realpath(path) == os.path.realpath(asked.out):
             raise Stopped(f"{path} is the folder of the texts too: name another one for them", REFUSED)
-        inside = sorted(entry.path for entry in os.scandir(path) if entry.is_file()) if os.path.isdir(path) else [path]
+        inside = sorted(entry.path for entry in os.scandir(path)) if os.path.isdir(path) else [path]
+        if not inside:
+            raise Stopped(f"{path}: an empty folder", REFUSED)
         found += [os.path.abspath(it) for it in inside]
     names: dict[str, str] = {}
     for file in found:
@@ -237,6 +248,8 @@ class Here:
             except BaseException:
                 pool.shutdown(wait=True, cancel_futures=True)
                 raise
+            finally:
+                end_all()
 
 
 class Cluster:

@@ -1,0 +1,153 @@
+"""Packets of TDS: their headers, and who follows them through a message (MS-TDS, Packets)."""
+from __future__ import annotations
+
+import struct
+from collections import deque
+from enum import IntEnum
+from typing import Callable, Iterable, Iterator, Union
+
+Bytes = Union[bytes, bytearray, memoryview]
+ReadAt = Callable[[int, int], Bytes]  # so many bytes from a place on, or fewer at the end
+
+HEADER = 8  # bytes of a packet's header
+LAST = 0x01  # the bit of a packet's status that marks the last one of a message
+DONE_LENGTH = 13  # bytes of a DONE with its token byte
+
+
+class PacketType(IntEnum):
+    """The first byte of a packet (MS-TDS, Packet Header)."""
+
+    STATEMENT = 0x01
+    PROCEDURE = 0x03
+    ANSWER = 0x04
+    ATTENTION = 0x06
+    BULK = 0x07
+    TRANSACTION = 0x0E
+    LOGIN = 0x10
+    PRELOGIN = 0x12
+
+
+def packets(pieces: Iterable[Bytes], size: int, kind: int = PacketType.ANSWER) -> Iterator[bytes]:
+    """The joined pieces in packets of this size, headers included, the last of them marked."""
+    waiting, body, number = bytearray(), size - HEADER, 1
+    for piece in pieces:
+        waiting += piece
+        while len(waiting) > body:
+            yield packet(kind, waiting[:body], False, number)
+            del waiting[:body]
+            number += 1
+    yield packet(kind, waiting, True, number)
+
+
+def packet(kind: int, body: Bytes, is_last: bool = True, number: int = 1) -> bytes:
+    """One packet with its header."""
+    return header(kind, HEADER + len(body), is_last, number) + body
+
+
+def header(kind: int, length: int, is_last: bool, number: int) -> bytes:
+    """The header of a packet that has this length with its header."""
+    return struct.pack(">BBHHBB", kind, LAST if is_last else 0, length, 0, number % 256, 0)
+
+
+def length_of(header: Bytes) -> int:
+    """The bytes of a packet by its header, which is a part of them."""
+    return int.from_bytes(header[2:4], "big")
+
+
+def tail_of(read_at: ReadAt, start: int = 0) -> bytes:
+    """The end of the payload of a message, as long as a DONE if it is as long, by its packets from a place on; b"" if they
+    aren't whole. `read_at` is called as os.pread is, without its descriptor."""
+    last: deque[tuple[int, int]] = deque(maxlen=DONE_LENGTH)  # where the last bodies that aren't empty end, and how long they are
+    at, is_last = start, False
+    while not is_last:
+        header = read_at(HEADER, at)
+        length = length_of(header)
+        if len(header) < HEADER or length < HEADER:
+            return b""
+        at, is_last = at + length, bool(header[1] & LAST)
+        if length > HEADER:
+            last.append((at, length - HEADER))
+    pieces = [(end, min(length, DONE_LENGTH)) for end, length in last]
+    return b"".join(read_at(length, end - length) for end, length in pieces)[-DONE_LENGTH:]
+
+
+def read_fully(read: Callable[[int], bytes], length: int) -> bytes:
+    """As many bytes as asked for, or fewer where no more come."""
+    data = bytearray()
+    while len(data) < length:
+        piece = read(length - len(data))
+        if not piece:
+            break
+        data += piece
+    return bytes(data)
+
+
+def read_packet(read: Callable[[int], bytes]) -> tuple[bytes, bytes, int]:
+    """The header of a packet, its body, and how long its header says that the body is: below 0 if it is none. Both are shorter where no
+    more bytes come."""
+    head = read_fully(read, HEADER)
+    length = length_of(head) - HEADER
+    return head, read_fully(read, length) if len(head) == HEADER else b"", length
+
+
+class Framing:
+    """Follows the packets of one answer through blocks that are cut anywhere."""
+
+    def __init__(self) -> None:
+        self.is_over = False  #: after the last packet, or after a header that is none
+        self.is_whole = False  #: after the last packet
+        self.payload = 0  #: bytes of bodies so far
+        self.empty = 0  #: packets without a body so far
+        self.tail = b""  #: the last of them, as many as a DONE has
+        self._header = b""
+        self._left = 0  # bytes of the body under way that are still to come
+        self._is_last = False
+
+    def take(self, block: bytes) -> int:
+        """How many bytes of the block, from its beginning, belong to the message."""
+        at = 0
+        while at < len(block) and not self.is_over:
+            if self._left:
+                at = self._take_body(block, at)
+            else:
+                at = self._take_header(block, at if self._header else self._take_packets(block, at))
+        return at
+
+    def _take_packets(self, block: bytes, at: int) -> int:
+        """Takes the packets that are whole in the block, and not the last: where the next one begins."""
+        end = at
+        while end + HEADER <= len(block) and block[end] == PacketType.ANSWER and not block[end + 1] & LAST:
+            length = block[end + 2] << 8 | block[end + 3]
+            if length < HEADER + DONE_LENGTH or end + length > len(block):
+                break
+            self.payload += length - HEADER
+            end += length
+        if end > at:
+            self.tail = block[end - DONE_LENGTH:end]
+        return end
+
+    def _take_body(self, block: bytes, at: int) -> int:
+        end = min(at + self._left, len(block))
+        self._left -= end - at
+        self.payload += end - at
+        self.tail = (self.tail + block[max(at, end - DONE_LENGTH):end])[-DONE_LENGTH:]
+        self._end_packet()
+        return end
+
+    def _take_header(self, block: bytes, at: int) -> int:
+        end = min(at + HEADER - len(self._header), len(block))
+        self._header += block[at:end]
+        if len(self._header) == HEADER:
+            self._left = length_of(self._header) - HEADER
+            self.empty += not self._left
+            self._is_last = bool(self._header[1] & LAST)
+            if self._header[0] == PacketType.ANSWER and self._left >= 0:
+                self._end_packet()
+            else:
+                self.is_over = True
+            self._header = b""
+        return end
+
+    def _end_packet(self) -> None:
+        if self._is_last and not self._left:
+            self.is_over = self.is_whole = True

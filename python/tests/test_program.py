@@ -1,0 +1,217 @@
+"""Tests of the program over one response after another: faults, responses that are cut, long texts, and programs that don't do as they say."""
+from __future__ import annotations
+
+import contextlib
+import os
+import random
+import tempfile
+import threading
+import unittest
+from collections.abc import Iterator
+from unittest import mock
+
+from gavyreto import program, tds
+from gavyreto.errors import Fault, Report, ServerError
+from gavyreto.program import BAD_INPUT, DONE, FAILED, SERVER_ERROR, Ending, Output, OutputFailed, Program, command_of
+from tests.beside import ORDERS, PROGRAM, answered, responses, wait_for, wire
+
+ORDERED = answered(*responses.order_rows(0), tds.done())
+WITHOUT = answered(tds.done())
+LONG = 20_000_000  # bytes of a value
+
+
+def command(name: str = PROGRAM, max_wire: int = program.MAX_WIRE) -> list[str]:
+    return command_of(name, program.PACKET_SIZE, program.COLUMN_ROOM, max_wire, program.CHARSETS[0])
+
+
+def ended(run: Program, data: bytes, is_cut: bool = False, step: int = 1 << 20) -> tuple[Ending, bytes]:
+    """How a response ends that is handed over in pieces, and its text."""
+    with tempfile.TemporaryFile() as file:
+        output = Output(file.fileno())
+        run.begin()
+        for at in range(0, len(data), step):
+            run.hand(data[at:at + step], output)
+        if is_cut:
+            run.cut()
+        ending = run.finish(output)
+        file.seek(0)
+        return ending, file.read()
+
+
+def process_of(run: Program) -> int:
+    return run._process.pid if run._process else 0
+
+
+class Runs(unittest.TestCase):
+    def test_responses_one_after_another(self) -> None:
+        """One program for all of them, in pieces of any size, as long as they are whole."""
+        with Program(command()) as run:
+            started = set()
+            for step in (1, 7, 1000, 1 << 20):
+                for data, text, status in ((ORDERED, ORDERS, DONE), (WITHOUT, b"", DONE), (wire("error"), None, SERVER_ERROR), (wire("kinds", 30), None, DONE)):
+                    ending, came = ended(run, data, step=step)
+                    started.add(process_of(run))
+                    self.assertEqual((ending.status, ending.written), (status, len(came)), ending)
+                    self.assertIsInstance(ending.said, ServerError if status else Report)
+                    self.assertEqual(came if text is not None else None, text)
+            self.assertEqual(len(started), 1)
+
+    def test_a_fault_costs_its_own_response(self) -> None:
+        """Also where the program needs no more of a long response, and where it is cut before its first byte."""
+        with Program(command(max_wire=1 << 20)) as run:
+            for data, is_cut, line in (
+                (wire("float"), False, "fault 10 RefusedColumn 1 FLTN at payload 15, written 0, unwritten 0"),
+                (wire("long", 5_000_000), False, "fault 5 ResponseTooLong at wire 1048576, "),
+                (b"", True, "fault 2 InputEnded at wire 0, written 0, unwritten 0"),
+                (ORDERED[:20], True, "fault 2 InputEnded at wire 0, written 0, unwritten 0"),
+            ):
+                ending, came = ended(run, data, is_cut)
+                self.assertTrue(ending.line.startswith(line), ending)
+                self.assertIsInstance(ending.said, Fault)
+                self.assertEqual((ending.status, ending.written), (BAD_INPUT, len(came)))
+                ending, came = ended(run, ORDERED)
+                self.assertEqual((ending.status, came), (DONE, ORDERS))
+
+    def test_a_program_that_is_killed(self) -> None:
+        with Program(command()) as run:
+            ended(run, ORDERED)
+            run.begin()
+            run.kill()
+            self.assertEqual(run.finish(Output(1)).status, 128 + 9)
+            self.assertEqual(ended(run, ORDERED)[1], ORDERS)
+            run.kill()  # between two responses
+            while run._process and run._process.poll() is None:
+                pass
+            self.assertEqual(ended(run, ORDERED)[1], ORDERS)
+
+    def test_a_response_that_is_left(self) -> None:
+        """What was handed over of one doesn't count for the next."""
+        with Program(command()) as run:
+            run.begin()
+            run.hand(ORDERED[:30], Output(1))
+            self.assertEqual(ended(run, ORDERED)[1], ORDERS)
+        with self.assertRaises(FileNotFoundError), Program(command("no such program")) as lacking:
+            lacking.begin()
+
+    def test_programs_that_do_not_do_as_they_say(self) -> None:
+        """Of a text that is longer or shorter than the line says, of lines that are none, and of a status that isn't that of the line."""
+        report = "sets 1 rows 1 errors 0 infos 0 written"
+        for script, line in (
+            (f'printf 12345; sleep 0.1; echo "{report} 4" >&2; cat > eaten', f"tds_replay ended with status 0, and a text of 5 bytes: {report} 4"),
+            (f'echo "{report} 4" >&2; printf 12345; cat > eaten', f"tds_replay ended with status 0, and a text of 5 bytes: {report} 4"),
+            (f'printf 123; echo "{report} 4" >&2; head -c 1 > eaten', f"tds_replay ended with status 0, and a text of 3 bytes: {report} 4"),
+            (f'printf 123; echo "{report} 4" >&2; cat > eaten', f"tds_replay ended with status 0, and a text of 3 bytes: {report} 4"),
+            ("echo hello >&2; head -c 1 > eaten", "tds_replay ended with status 0, and a text of 0 bytes: hello"),
+            ('echo "fault 2 InputEnded at wire 0, written 0, unwritten 0" >&2', "tds_replay ended with status 0, and a text of 0 bytes: fault 2"),
+            ("exit 6", "tds_replay ended with status 6 and no line"), ("exit 0", "tds_replay ended with status 0, and a text of 0 bytes: "),
+            ("kill -KILL $$", "tds_replay was ended by the signal 9"),
+        ):
+            with tempfile.TemporaryDirectory() as folder, self.subTest(script=script):
+                path = os.path.join(folder, "program")
+                with open(path, "w", encoding="ascii") as file:
+                    file.write(f"#!/bin/sh\ncd {folder}\n{script}\n")
+                os.chmod(path, 0o755)
+                with Program(command(path)) as run:
+                    ending, _ = ended(run, ORDERED)
+                    self.assertTrue(ending.line.startswith(line), ending)
+                    self.assertEqual((ending.said, ending.status in (DONE, SERVER_ERROR, BAD_INPUT)), (None, False))
+
+
+class Texts(unittest.TestCase):
+    @contextlib.contextmanager
+    def drained(self) -> Iterator[tuple[int, bytearray]]:
+        """A pipe, and what came through it."""
+        reader, writer = os.pipe()
+        came = bytearray()
+
+        def drain() -> None:
+            while data := os.read(reader, 1 << 16):
+                came.extend(data)
+
+        thread = threading.Thread(target=drain, daemon=True)
+        thread.start()
+        yield writer, came
+        os.close(writer)
+        thread.join()
+        os.close(reader)
+
+    def test_a_text_that_is_longer_than_any_pipe(self) -> None:
+        """By `splice` into a pipe and a file, and without it into a file that is appended to; with what comes before the first byte."""
+        data, wanted = wire("long", LONG), b'"data"\r\n0x' + responses.CHUNK.hex().encode() * (LONG // len(responses.CHUNK)) + b"\r\n"
+        with Program(command()) as run, tempfile.TemporaryDirectory() as folder:
+            for mode in ("ab", "wb"):
+                with open(os.path.join(folder, mode), mode) as file:
+                    output = Output(file.fileno(), b"\r\n")
+                    for one in (WITHOUT, data, ORDERED):
+                        run.begin()
+                        run.hand(one, output)
+                        self.assertEqual(run.finish(output).status, DONE)
+                with open(file.name, "rb") as file_:
+                    self.assertTrue(file_.read() == b"\r\n" + wanted + ORDERS)
+            for has_splice in (True, False):
+                with self.drained() as (writer, came), mock.patch.object(os, "splice", getattr(os, "splice", None) if has_splice else None, create=True):
+                    output = Output(writer)
+                    run.begin()
+                    run.hand(data, output)
+                    run.finish(output)
+                self.assertTrue(came == wanted)
+
+    def test_one_thread_hands_over_and_another_takes(self) -> None:
+        numbers = random.Random(1)
+        with Program(command()) as run:
+            for name, count in (("orders", 3000), ("kinds", 100), ("long", LONG), ("float", 0), ("broken", 3000)):
+                data, refused = wire(name, count, 4096), []
+
+                def put() -> None:
+                    at = 0
+                    try:
+                        while at < len(data):
+                            step = numbers.choice((1, 100, 70_000, LONG))
+                            run.put(data[at:at + step])
+                            at += step
+                    except BrokenPipeError:
+                        refused.append(at)
+
+                run.begin()
+                thread = threading.Thread(target=put)
+                thread.start()
+                least = 5000 if name == "long" else 1
+                length = sum(len(it) for it in iter(lambda: run.read(numbers.choice((least, 70_000, LONG))), b""))
+                thread.join()
+                assert run.ending
+                self.assertEqual((run.ending.written, run.ending.said is not None), (length, True))
+
+    def test_an_output_that_fails(self) -> None:
+        """The disk is full, or nobody reads any more; the next response has its own program."""
+        reader, writer = os.pipe()
+        os.close(reader)
+        with Program(command()) as run, open("/dev/full", "wb", buffering=0) as full:
+            for descriptor in (full.fileno(), writer):
+                for data in (ORDERED, wire("long", 5_000_000)):
+                    run.begin()
+                    with self.assertRaises(OutputFailed):
+                        run.hand(data, Output(descriptor))
+                        run.finish(Output(descriptor))
+            self.assertEqual(ended(run, ORDERED)[1], ORDERS)
+        os.close(writer)
+
+    def test_text_is_moved_while_something_else_is_waited_for(self) -> None:
+        """What the program has written is there before the response goes on, and only time in which nothing comes is counted."""
+        packets = list(tds.packets(responses.RESPONSES["kinds"](2000), 4096))
+        with Program(command()) as run, self.drained() as (writer, came):
+            ours, theirs = os.pipe()
+            output = Output(writer)
+            run.begin()
+            run.hand(b"".join(packets[:-1]), output)
+            self.assertGreaterEqual(run.attend(ours, 0.3, output), 0.3)
+            wait_for(lambda: run.attend(ours, 0.05, output) > 0 and len(came) > 4096 * len(packets) // 2)
+            os.write(theirs, b"x")
+            self.assertLess(run.attend(ours, 100, output), 50)
+            run.hand(packets[-1], output)
+            self.assertEqual(run.finish(output).status, DONE)
+            for descriptor in (ours, theirs):
+                os.close(descriptor)
+
+
+if __name__ == "__main__":
+    unittest.main()

@@ -1,0 +1,343 @@
+"""Tests of readings and connections from Python: one buffer, one state, one thread, and what closes a connection for good."""
+from __future__ import annotations
+
+import contextlib
+import io
+import os
+import random
+import socket
+import threading
+import time
+import traceback
+import unittest
+from collections.abc import Callable
+from contextlib import AbstractContextManager
+from itertools import islice
+from typing import Any, cast
+
+import gavyreto
+from gavyreto import tds
+from gavyreto.connection import Channel
+from gavyreto.text import Sets
+from tests.beside import PROGRAM, SECONDS, Live, answered, context_of, listening, log_in, log_in_encrypted, responses, wire
+
+ORDERED = answered(*responses.order_rows(0), tds.done())
+UNASKED = "the server sent bytes that weren't asked for"
+
+
+def serving(*answers: bytes, behind: bytes = b"", pause: float = 0.0) -> AbstractContextManager[int]:
+    """A server that gives one answer after the other, and other bytes behind the last one, and ends with the client."""
+    def serve(channel: Channel) -> None:
+        log_in(channel)
+        for place, answer in enumerate(answers, 1):
+            channel.read_message()
+            channel.write(answer + (behind if place == len(answers) and not pause else b""))
+        if pause:
+            time.sleep(pause)
+            channel.write(behind)
+        channel.wait()
+        while channel.receive():
+            pass
+
+    return listening(serve)
+
+
+def connected(port: int, **options: Any) -> gavyreto.Connection:
+    own: dict[str, Any] = {"user": "u", "password": "p", "encrypt": "none"}
+    return gavyreto.connect("127.0.0.1", port=port, **{**own, **options})
+
+
+def text_of(data: bytes, step: int = 1 << 16) -> Sets:
+    source = io.BytesIO(data)
+    return Sets(lambda most: source.read(min(most, step)), False)
+
+
+class Rows(unittest.TestCase):
+    """All calls take from one buffer, from one place on."""
+
+    def test_rows_before_an_error_are_handed_out(self) -> None:
+        """The error comes with the next call, each time, and with the end of the context if nobody has seen it."""
+        data = wire("broken", 5)
+        whole = [(1, 2, 3, 1, 2)[place] for place in range(5)]
+        cases: list[list[Callable[[Any], Any]]] = [
+            [lambda rows: rows.fetchmany(3), lambda rows: rows.fetchall()], [lambda rows: rows.fetchall()],
+            [lambda rows: [rows.fetchone() for _ in range(5)]], [lambda rows: list(zip(*next(rows.batches(3)))), lambda rows: rows.fetchmany(9)],
+            [lambda rows: list(zip(*next(rows.batches(100))))], [lambda rows: list(islice(rows, 4)), lambda rows: rows.fetchmany(2)],
+        ]
+        for calls in cases:
+            with gavyreto.export(data, program=PROGRAM) as came:
+                rows: Any = next(came)
+                found = [row[0] for call in calls for row in call(rows)]
+                self.assertEqual(found, whole)
+                agains: list[Callable[[], Any]] = [
+                    rows.fetchall, rows.fetchone, lambda: next(rows), lambda: list(rows), lambda: next(rows.batches(1)), lambda: next(came)]
+                for again in agains:
+                    with self.assertRaises(gavyreto.ServerError) as raised:
+                        again()
+                    self.assertEqual(raised.exception.rows, 5)
+        with self.assertRaises(gavyreto.ServerError), gavyreto.export(data, program=PROGRAM) as came:
+            self.assertEqual(len(next(came).fetchall()), 5)
+        with self.assertRaises(KeyError), gavyreto.export(data, program=PROGRAM) as came:
+            next(came).fetchall()
+            raise KeyError
+
+    def test_calls_in_any_order_give_each_row_once(self) -> None:
+        """Batches that are left, rows one by one, some and all: against the rows in their order."""
+        numbers = random.Random(5)
+        for step in (7, 300, 1 << 16):
+            for _ in range(60):
+                with text_of(b'"a","b"\r\n' + b"".join(b'%d,"x%d"\r\n' % (n, n) for n in range(500)), step) as came:
+                    rows: Any = came.only()
+                    found: list[int] = []
+                    walks = [rows.batches(numbers.choice((1, 7, 100, 1000))), rows.batches(3)]
+                    while len(found) < 500:
+                        call = numbers.randrange(5)
+                        if call == 0:
+                            found += [row[0] for row in rows.fetchmany(numbers.choice((0, 1, 30, 200)))]
+                        elif call == 1:
+                            found += [row.a for row in islice(rows, numbers.choice((1, 50)))]
+                        elif call == 2:
+                            row = rows.fetchone()
+                            found += [row[0]] if row else []
+                        else:
+                            found += next(walks[call - 3], [[]])[0]
+                    self.assertEqual((found, came.rows), (list(range(500)), 500))
+
+    def test_what_ends_a_reading_from_elsewhere(self) -> None:
+        """After an interrupt no row is missing without a word: the reading has failed, at this call and each further one."""
+        def interrupted(number: int) -> Callable[[int], bytes]:
+            source, calls = io.BytesIO(b'"a"\r\n' + b"1\r\n" * 5000), iter(range(10**9))
+
+            def read(most: int) -> bytes:
+                if next(calls) == number:
+                    raise KeyboardInterrupt
+                return source.read(min(most, 1000))
+
+            return read
+
+        calls: list[Callable[[Any], Any]] = [
+            lambda rows: rows.fetchmany(10_000), lambda rows: rows.fetchall(), lambda rows: list(rows), lambda rows: list(rows.batches(10_000))]
+        for number in (2, 9):
+            for call in calls:
+                came = Sets(interrupted(number), False)
+                rows: Any = next(came)
+                with self.assertRaises(KeyboardInterrupt):
+                    call(rows)
+                errors = []
+                agains: list[Callable[[], Any]] = [rows.fetchone, rows.fetchall, lambda: next(came)]
+                for again in agains:
+                    with self.assertRaisesRegex(gavyreto.Interrupted, "KeyboardInterrupt: rows may be missing") as raised:
+                        again()
+                    errors.append(raised.exception)
+                self.assertEqual(len({id(error) for error in errors}), 1)
+
+    def test_a_second_thread_is_refused(self) -> None:
+        begun, go_on = threading.Event(), threading.Event()
+        source = io.BytesIO(b'"a"\r\n' + b"1\r\n" * 10)
+
+        def read(most: int) -> bytes:
+            if source.tell():
+                begun.set()
+                go_on.wait(SECONDS)
+            return source.read(min(most, 10))
+
+        came = Sets(read, False)
+        rows: Any = next(came)
+        found: list[Any] = []
+        thread = threading.Thread(target=lambda: found.append(rows.fetchall()))
+        thread.start()
+        begun.wait(SECONDS)
+        calls: list[Callable[[], Any]] = [rows.fetchone, rows.fetchall, lambda: next(came), lambda: next(rows.batches(2))]
+        for call in calls:
+            with self.assertRaisesRegex(ValueError, "^another thread reads from here$"):
+                call()
+        go_on.set()
+        thread.join()
+        self.assertEqual(len(found[0]), 10)
+
+    def test_the_time_is_linear(self) -> None:
+        """Text with many quotes, in a column before one that is NULL in the first block only: twice the text takes about twice the time."""
+        def seconds(count: int) -> float:
+            value = '{""a"":1}' * count
+            first = "".join(f'"{value}",NULL\r\n' for _ in range(2))
+            data = ('"a","b"\r\n' + first + f'"{value}",1\r\n' * 8).encode()
+            began = time.process_time()
+            source = io.BytesIO(data)
+            for row in Sets(lambda most: source.read(2 * len(value)), False).only():
+                assert row[0] == value.replace('""', '"')
+            return time.process_time() - began
+
+        self.assertLess(seconds(20_000), max(6 * min(seconds(10_000) for _ in range(3)), 3.0))
+
+
+class Connections(Live):
+    def test_a_failure_closes_the_connection_for_good(self) -> None:
+        """Each later call says after what."""
+        for answer, kind, line in (
+            (wire("float"), gavyreto.Fault, "fault 10 RefusedColumn 1 FLTN at payload 15, written 0, unwritten 0"),
+            (ORDERED[:100], gavyreto.ConnectionFailed, "the server closed the connection"),
+        ):
+            def serve(channel: Channel, answer: bytes = answer) -> None:
+                log_in(channel)
+                channel.read_message()
+                channel.write(answer)
+
+            with self.subTest(line=line), listening(serve) as port, connected(port) as connection:
+                with self.assertRaises(kind):
+                    list(connection.query("x", program=PROGRAM))
+                for _ in range(2):
+                    with self.assertRaisesRegex(gavyreto.ConnectionFailed, f"^the connection was closed after: {line}"):
+                        connection.query("x", program=PROGRAM)
+
+    def test_a_retry_does_not_read_old_bytes(self) -> None:
+        """Bytes that nobody asked for, in the socket or within TLS, end the connection; a second try doesn't take them for its answer."""
+        context = context_of(self.server(()).variables["CERTIFICATE"])
+
+        def serve(channel: Channel, is_encrypted: bool) -> None:
+            log_in_encrypted(channel, context) if is_encrypted else log_in(channel)
+            channel.read_message()
+            channel.write(ORDERED + wire("sets"))
+            channel.wait()
+            while channel.receive():
+                pass
+
+        for is_encrypted in (False, True):
+            own = {"encrypt": "all", "trust_server": True} if is_encrypted else {}
+            with listening(lambda channel, it=is_encrypted: serve(channel, it)) as port, connected(port, **own) as connection:  # type: ignore[misc]
+                self.assertEqual(len(connection.query("x", program=PROGRAM).only().fetchall()), 3)
+                with self.assertRaisesRegex(gavyreto.BadAnswer, UNASKED):
+                    connection.query("x", program=PROGRAM)
+                with self.assertRaisesRegex(gavyreto.ConnectionFailed, f"closed after: {UNASKED}"):
+                    connection.query("x", program=PROGRAM)
+
+    def test_a_surplus_behind_the_last_answer(self) -> None:
+        """It is told whether it comes at once or a little later, at the end of the connection or of the one answer."""
+        for pause in (0.0, 0.02):
+            with self.subTest(pause=pause):
+                with serving(ORDERED, behind=b"\x04", pause=pause) as port, self.assertRaisesRegex(gavyreto.BadAnswer, UNASKED), connected(port) as connection:
+                    list(connection.query("x", program=PROGRAM).only())
+                with serving(ORDERED, behind=b"\x04", pause=pause) as port, self.assertRaisesRegex(gavyreto.BadAnswer, UNASKED):
+                    own: dict[str, Any] = {"user": "u", "password": "p", "encrypt": "none", "port": port, "program": PROGRAM}
+                    list(gavyreto.query("x", "127.0.0.1", **own).only())
+
+    def test_a_server_that_says_goodbye(self) -> None:
+        """The end of TLS right behind a whole answer is no fault."""
+        context = context_of(self.server(()).variables["CERTIFICATE"])
+
+        def serve(channel: Channel) -> None:
+            log_in_encrypted(channel, context)
+            channel.read_message()
+            channel.write(ORDERED)
+            assert channel.tls
+            with contextlib.suppress(Exception):
+                channel.tls.unwrap()
+            channel.socket.sendall(channel._to_send.read())
+
+        with listening(serve) as port, connected(port, encrypt="all", trust_server=True) as connection:
+            self.assertEqual(len(connection.query("x", program=PROGRAM).only().fetchall()), 3)
+
+    def test_two_threads_on_one_connection(self) -> None:
+        """Each answer has the rows of its own statement: who asks while another one does, or before its answer is read, is refused."""
+        def serve(channel: Channel) -> None:
+            log_in(channel)
+            while True:
+                number = int(tds.statement_of(channel.read_message()[1]))
+                column = [responses.Column("n", "38", responses.fixed, responses.whole(4), int)]
+                channel.write(answered(responses.description(column), responses.row(column, [str(number)]) * 3, tds.done()))
+
+        wrong: list[Any] = []
+        done: list[int] = []
+
+        def ask(number: int, connection: gavyreto.Connection) -> None:
+            for _ in range(60):
+                with contextlib.suppress(ValueError):
+                    with connection.query(str(number), program=PROGRAM) as answer:
+                        rows = answer.only().fetchall()
+                        (done if rows == [(number,)] * 3 else wrong).append(number)
+
+        with listening(serve) as port, connected(port) as connection:
+            threads = [threading.Thread(target=ask, args=(number, connection)) for number in (1, 2)]
+            for thread in threads:
+                thread.start()
+            for thread in threads:
+                thread.join()
+        self.assertEqual(wrong, [])
+        self.assertGreater(len(done), 30)
+
+    def test_descriptions_of_sets_that_are_left_are_not_kept(self) -> None:
+        one = b"\x81\x01\0" + bytes(4) + b"\x08\0\x38\x01a\0" + tds.done(tds.MORE)
+        sets = b"".join(tds.packets([one] * 2000 + [tds.done()], 4096))
+        with serving(sets) as port, connected(port) as connection, connection.query("x", program=PROGRAM) as answer:
+            first = next(answer)
+            kept = sum(1 for _ in answer)
+            self.assertEqual((kept, [it.type for it in first.columns or []]), (1999, ["int"]))
+            self.assertLess(len(cast(Any, answer)._descriptions._found), 10)
+
+    def test_arguments_that_are_none(self) -> None:
+        for name, value in (
+            ("port", 70000), ("port", 0), ("port", True), ("port", "1433"), ("user", None), ("user", b"u"), ("password", None), ("password", b"p"),
+            ("database", 1),
+            ("trust_server", "no"), ("trust_server", 1), ("seconds", 0), ("seconds", -1), ("seconds", None), ("seconds", float("nan")), ("login_seconds", 0),
+            ("login_seconds", "5"), ("packet_size", 511), ("packet_size", 8000.0), ("encrypt", "some"), ("certificate_name", None),
+        ):
+            with self.subTest(name=name, value=value), self.assertRaisesRegex((TypeError, ValueError), name):
+                connected(1, **{name: value})
+
+    def test_a_second_that_is_less_than_one(self) -> None:
+        with serving() as port, connected(port, seconds=0.5) as connection, self.assertRaisesRegex(gavyreto.TimedOut, "silent for longer than 0.5 seconds"):
+            list(connection.query("x", program=PROGRAM))
+
+    def test_kinds_of_errors(self) -> None:
+        for kind in (gavyreto.TimedOut, gavyreto.CertificateRefused, gavyreto.EncryptionRefused):
+            self.assertIs(kind.__mro__[1], gavyreto.ConnectionFailed)
+        self.assertTrue(issubclass(gavyreto.LoginRefused, gavyreto.ConnectionFailed) and issubclass(gavyreto.LoginRefused, gavyreto.ServerError))
+        self.assertEqual(str(gavyreto.ConnectionFailed("a\u061cb\ufff9\U000e0041\x1b")), "a\\u061cb\\ufff9\\U000e0041\\x1b")
+
+    def test_a_password_is_not_in_what_is_logged(self) -> None:
+        """A traceback with the variables of all frames shows none."""
+        with socket.create_server(("127.0.0.1", 0)) as server:
+            port = server.getsockname()[1]
+        try:
+            connected(port, password="geheim-83")
+        except gavyreto.ConnectionFailed as failure:
+            shown = "".join(traceback.TracebackException.from_exception(failure, capture_locals=True).format())
+            frames = [frame for frame, _ in traceback.walk_tb(failure.__traceback__)]
+            own = [frame for frame in frames if f"{os.sep}gavyreto{os.sep}" in frame.f_code.co_filename]
+            self.assertGreater(len(own), 2)
+            for frame in own:
+                self.assertNotIn("geheim", repr(frame.f_locals), frame.f_code.co_name)
+                self.assertNotIn(repr(tds._disguised(tds._units("geheim-83")))[2:-1], repr(frame.f_locals), frame.f_code.co_name)
+            self.assertIn("Connection refused", shown)
+
+
+class DatabaseApi(Live):
+    """PEP 249."""
+
+    def test_a_cursor(self) -> None:
+        answers = [wire("sets"), answered(tds.done()), wire("broken", 2)]
+        with serving(*answers) as port, connected(port) as connection:
+            connection.query.__func__.__kwdefaults__["program"] = PROGRAM  # type: ignore[attr-defined]
+            self.addCleanup(connection.query.__func__.__kwdefaults__.update, program="tds_replay")  # type: ignore[attr-defined]
+            with connection.cursor() as cursor:
+                cursor.execute("x")
+                self.assertEqual([it[:2] for it in cursor.description or []], [("id", "int"), ("note", "nvarchar(40)")])
+                self.assertEqual(cursor.fetchone(), (1, "first\r\n\r\nthird line"))
+                self.assertEqual((cursor.fetchmany(5), cursor.fetchone(), cursor.rowcount), ([(2, None)], None, -1))
+                self.assertTrue(cursor.nextset())
+                self.assertEqual([str(row[0]) for row in cursor], ["12.50"])
+                self.assertEqual((cursor.nextset(), cursor.fetchall(), cursor.nextset(), cursor.description), (True, [], None, None))
+                with self.assertRaises(gavyreto.ProgrammingError):
+                    cursor.fetchone()
+            connection.commit()
+            cursor = connection.cursor()
+            with self.assertRaises(gavyreto.NotSupportedError):
+                cursor.execute("x", (1,))
+            self.assertEqual(len(cursor.execute("x").fetchall()), 2)
+            with self.assertRaises(gavyreto.ServerError):
+                cursor.close()
+            connection.close()
+        self.assertEqual((gavyreto.apilevel, gavyreto.threadsafety), ("2.0", 1))
+
+
+if __name__ == "__main__":
+    unittest.main()
