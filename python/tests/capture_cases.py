@@ -9,7 +9,7 @@ import random
 import struct
 from dataclasses import dataclass, field
 
-SYN, FIN, PUSH, ACK = 2, 1, 8, 16
+SYN, FIN, RESET, PUSH, ACK = 2, 1, 4, 8, 16
 SPACE = 1 << 32
 
 

@@ -10,8 +10,7 @@ from typing import NamedTuple
 from gavyreto.capturing import files
 from gavyreto.capturing.accounts import Accounts
 from gavyreto.capturing.connections import Connections
-from gavyreto.capturing.conversations import Answer, Sides
-from gavyreto.capturing.frames import WRONG_CHECKSUM
+from gavyreto.capturing.desk import Answer, Sides
 from tests.capture_cases import Case, case
 
 CASES = int(os.environ.get("CASES", "1000"))
@@ -41,6 +40,7 @@ class Desk:
 
     def __init__(self) -> None:
         self.answers: list[bytes] = []
+        self.words: list[str] = []  # of the statements that they answer
         self.told: list[str] = []
 
     def keep(self) -> Kept:
@@ -52,6 +52,7 @@ class Desk:
             self.told.append(answer.why)
         else:
             self.answers.append(answer.kept.data)
+            self.words.append(answer.words())
 
     def tell(self, _: Sides, time: int, why: str, statement: str = "") -> None:
         self.told.append(why)
@@ -63,21 +64,22 @@ class Read(NamedTuple):
     answers: list[bytes]
     told: list[str]
     accounts: Accounts
+    words: list[str] = []
 
 
 def read(data: bytes) -> Read:
     """What a capture gives."""
-    desk, accounts = Desk(), Accounts()
+    desk, accounts, drops = Desk(), Accounts(), files.Drops()
     connections = Connections({1433}, desk, accounts)
     try:
-        for frame in files.frames(files.Source(io.BytesIO(data))):
+        for frame in files.frames(files.Source(io.BytesIO(data)), drops):
             connections.take(frame)
     except files.CutShort as cut:
         desk.told.append(str(cut))
     connections.finish()
-    desk.told += [reason for reason in accounts.unread if reason != WRONG_CHECKSUM]
+    desk.told += list(accounts.unread) + ["lost frames"] * bool(drops.total())
     desk.told += ["cut frames"] * bool(connections.cut) + ["no connection"] * (not accounts.connections)
-    return Read(desk.answers, desk.told, accounts)
+    return Read(desk.answers, desk.told, accounts, desk.words)
 
 
 def wrong(made: Case) -> str:
