@@ -85,13 +85,21 @@ def read(data: bytes) -> Read:
 def wrong(made: Case) -> str:
     """What is wrong with what a capture gives, or nothing."""
     came = read(made.data)
-    is_exact = Counter(came.answers) == Counter(made.answers)
     if not came.accounts.meets():
         return f"{made.what}: the sums don't meet: {came.accounts.line()}"
-    if made.is_harmless and came.told:
+    if made.is_whole and came.told:
         return f"{made.what}: told {came.told}"
-    if not is_exact and not came.told:
-        return f"{made.what}: {len(came.answers)} answers of {len(made.answers)}, and nothing is told"
+    if made.is_whole and Counter(came.answers) != Counter(made.answers):
+        return f"{made.what}: {len(came.answers)} answers of {len(made.answers)}"
+    if made.is_whole is False and not came.told:
+        return f"{made.what}: nothing is told, and {len(came.answers)} answers come of {len(made.answers)}"
+    if not came.told and not made.has_others and Counter(came.answers) != Counter(made.answers):
+        return f"{made.what}: nothing is told, and {len(came.answers)} answers come of {len(made.answers)}, although nothing says that it is whole"
+    if not made.has_others and not set(came.answers) <= set(made.names):
+        return f"{made.what}: an answer that wasn't sent"
+    names = [(name, made.names.get(data)) for name, data in zip(came.words, came.answers)]
+    if not made.has_others and any(name[:1] not in ("", "(") and right and name != right for name, right in names):
+        return f"{made.what}: names of other statements: {names}"
     return ""
 
 

@@ -314,7 +314,7 @@ class Again(unittest.TestCase):
             frames = [frame for it in talks for frame in (it.close() if is_closed else it).frames()]
             for most in (1 << 14, 8):
                 with self.subTest(is_closed=is_closed, count=count, most=most), mock.patch.object(endings, "MOST_ENDED", most), mock.patch.object(
-                        connections, "MOST_OPEN", most):
+                        connections, "MOST_RESTING", most):
                     came = of(frames * 2)
                     self.assertTrue(came.accounts.meets())
                     self.assertTrue(came.told or came.answers == [answer(1), answer(2)] * count)
@@ -341,7 +341,7 @@ class Again(unittest.TestCase):
 
     def test_more_connections_than_are_followed(self) -> None:
         """One that rests goes on; one with a message under way is told."""
-        with mock.patch.object(connections, "MOST_OPEN", 8):
+        with mock.patch.object(connections, "MOST_RESTING", 8):
             talks = [Talk(50000 + number).open().exchange(1) for number in range(20)]
             first = [frame for it in talks for frame in it.frames()]
             for it in talks:
@@ -349,6 +349,13 @@ class Again(unittest.TestCase):
                 it.exchange(2)
             came = of([*first, *(frame for it in talks for frame in it.frames())])
             self.assertEqual((came.answers, came.told, came.accounts.connections), ([answer(1)] * 20 + [answer(2)] * 20, [], 20))
+        talks = [Talk(50000 + number).open().exchange(1) for number in range(20)]
+        for most, count in (8, 20), (30, 20), (8, 2):
+            rest = [it.frames() for it in talks]
+            under_way = [frame for it in rest[:count] for frame in it[:-1]] + [frame for it in rest[count:] for frame in it]
+            with self.subTest(most=most, count=count), mock.patch.object(connections, "MOST_RESTING", 4), mock.patch.object(connections, "MOST_OPEN", most):
+                came = of([*under_way, *(it[-1] for it in rest[:count])])
+                self.assertEqual((came.told.count(connections.GIVEN_UP) >= count - most, bool(came.told)), (True, count > most))
 
 
 if __name__ == "__main__":

@@ -32,7 +32,7 @@ class Answers:
         self._lost: Optional[Lost] = None
         self._answered = 0  # answers to statements so far
         self._greeted = self._logged_in = False
-        self._has_asked = False  # whether a client has asked for more than greeting and login
+        self._asked: Optional[int] = None  # the first place where an answer may begin to more than greeting and login
         self._before: Optional[Piece] = None  # the piece before
         self._over_bytes, self._over_time = 0, 0
         self._channel: Optional[int] = None
@@ -43,7 +43,7 @@ class Answers:
 
     def is_early(self) -> bool:
         """Whether nothing was asked for yet but a greeting and a login."""
-        return not self._logged_in and not self._has_asked
+        return not self._logged_in and self._asked is None
 
     def is_between(self) -> bool:
         """Whether the next bytes may begin an answer."""
@@ -52,7 +52,8 @@ class Answers:
     def request(self, request: Request) -> None:
         """The client begins to ask."""
         self.is_client_known = True
-        self._has_asked = self._has_asked or request.kind not in HANDSHAKE
+        if self._asked is None and request.kind not in HANDSHAKE:
+            self._asked = request.acknowledged
         self.pending.add(request)
 
     def lose_of_client(self, start: int, end: int) -> None:
@@ -62,7 +63,8 @@ class Answers:
 
     def go_on(self) -> None:
         """The connection has been there, and its client was known; greeting and login are past."""
-        self.is_client_known = self._has_asked = self._greeted = self._logged_in = True
+        self.is_client_known = self._greeted = self._logged_in = True
+        self._asked = 0
 
     def begin_late(self, time: int) -> None:
         """The beginning of the stream isn't there."""
@@ -236,7 +238,7 @@ class Answers:
 
     def _kind_of(self, answer: Answer) -> Optional[Asked]:
         """What an answer is whose request isn't there: greeting or login only before all statements."""
-        if self._answered or self._has_asked:
+        if self._answered or self._asked is not None and self._asked <= self.begun:
             return None
         if answer.kept.first(1) == bytes([PacketType.PRELOGIN]):
             return Asked.GREETING

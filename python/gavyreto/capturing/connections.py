@@ -20,7 +20,8 @@ from gavyreto.capturing.messages import is_header, is_record
 from gavyreto.capturing.streams import SPACE
 from gavyreto.tds import PacketType
 
-MOST_OPEN = 4096  # connections that are followed at once
+MOST_RESTING = 1024  # connections that are followed at once, some of which may rest; one that rests goes on by its numbers
+MOST_OPEN = 8192  # of all
 MOST_OF_A_KEY = 8  # of the same addresses and ports
 MOST_REVISITED = 256  # that come again
 MOST_OF_A_RUN = 1 << 16  # bytes of segments that are taken as one
@@ -75,6 +76,7 @@ class Connections:
         self._ports, self._desk, self._accounts = ports, desk, accounts
         self._open: dict[bytes, list[Conversation]] = {}  # by client and server
         self._recent: OrderedDict[Conversation, bytes] = OrderedDict()  # the longest silent first
+        self._silent: OrderedDict[Conversation, bytes] = OrderedDict()  # those that were silent for longer, with a message under way
         self._endings = Endings()
         self._again: OrderedDict[bytes, Again] = OrderedDict()
         self._memory = Memory()
@@ -144,11 +146,12 @@ class Connections:
     def _take(self, segment: Segment, is_client: bool, time: int) -> None:
         key = segment.source + segment.target if is_client else segment.target + segment.source
         conversation = self._of_open(key, is_client, segment)
-        if conversation is None:
+        if conversation is None or conversation.is_far_ahead(is_client, segment):
             ended = self._endings.find(key, is_client, segment)
             if ended and (segment.flags & SYN or not ended.is_new(is_client, segment)):
                 self._compare(key, ended, ended.sides(is_client)[0].place, is_client, segment, time)
                 return
+        if conversation is None:
             if segment.flags & RESET:
                 return  # it shows nothing of a connection of which nothing is there
             conversation = self._begin(key, segment)
@@ -158,6 +161,8 @@ class Connections:
                 conversation.go_on(ended.client, ended.server)
         elif conversation.comes_again(is_client, segment):
             self._compare(key, conversation, conversation.next_of(is_client), is_client, segment, time)
+        self._silent.pop(conversation, None)
+        self._recent[conversation] = key
         self._recent.move_to_end(conversation)
         self._memory.touch(conversation.share)
         conversation.take(is_client, segment, time)
@@ -179,17 +184,27 @@ class Connections:
         sides = Sides(*(f"{host}.{port}" for host, port in (address_of(key[:half]), address_of(key[half:]))))
         conversation = Conversation(sides, segment.tags, self._desk, self._accounts, self._memory)
         for before in [it for it in self._open.get(key, ()) if it.tags == segment.tags and not segment.is_wrong]:
-            self._end(key, before)  # its ports are used again
+            before.disown(segment.source + segment.target == key, segment)  # its ports are used again
+            self._end(key, before)
         others = self._open.setdefault(key, [])
         if len(others) >= MOST_OF_A_KEY:
             self._end(key, others[0], GIVEN_UP)
             others = self._open.setdefault(key, [])
         others.append(conversation)
         self._recent[conversation] = key
-        if len(self._recent) > MOST_OPEN:
-            oldest, of_oldest = next(iter(self._recent.items()))
-            self._end(of_oldest, oldest, GIVEN_UP)
+        self._make_room()
         return conversation
+
+    def _make_room(self) -> None:
+        """Ends those that were silent for longest: those that rest, or if there are too many, another one."""
+        if len(self._recent) > MOST_RESTING:
+            oldest, key = self._recent.popitem(last=False)
+            self._silent[oldest] = key
+            if oldest.is_idle():
+                self._end(key, oldest)
+        if len(self._recent) + len(self._silent) > MOST_OPEN:
+            oldest, key = next(iter((self._silent or self._recent).items()))
+            self._end(key, oldest, GIVEN_UP)
 
     # What comes again.
 
@@ -226,7 +241,8 @@ class Connections:
             self._end(key, conversation)
 
     def _end(self, key: bytes, conversation: Conversation, why: str = "") -> None:
-        del self._recent[conversation]
+        self._recent.pop(conversation, None)
+        self._silent.pop(conversation, None)
         others = self._open[key]
         others.remove(conversation)
         if not others:
@@ -237,8 +253,7 @@ class Connections:
     def finish(self) -> None:
         """Nothing more comes."""
         self._end_run()
-        while self._recent:
-            conversation, key = next(iter(self._recent.items()))
+        for conversation, key in [*self._silent.items(), *self._recent.items()]:
             self._end(key, conversation)
         while self._again:
             self._end_again(next(iter(self._again)))

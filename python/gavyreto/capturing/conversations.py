@@ -1,7 +1,6 @@
 """A connection in a capture: both streams, what they show to be sent, and what becomes of their bytes."""
 from __future__ import annotations
 
-from collections import deque
 from collections.abc import Iterable
 from typing import NamedTuple, Optional
 
@@ -18,12 +17,13 @@ FARTHEST = 1 << 28  # bytes after all that is shown, that a number of the same c
 
 class Side(NamedTuple):
     """What is known of one side of a connection that has ended or rests: the sequence number of its SYN, the place after its last
-    byte, how many bytes that are, and their checksum."""
+    byte, how many bytes that are, their checksum, and the checksums of the first of them, each after how many bytes."""
 
     first: Optional[int]
     place: int
     size: int
     sum: int
+    marks: bytes
 
 
 class Conversation:
@@ -38,11 +38,11 @@ class Conversation:
         self.client, self.server = Stream(self.share), Stream(self.share)
         self._answers, self._requests = Answers(sides, desk, accounts), Requests()
         self._desk = desk
-        self._is_client_absent = False
+        self._is_client_seen = self._is_client_absent = False  # whether anything of it is there; whether it isn't waited for
         self._lacking = 0  # bytes of the client
-        self._waiting: deque[Piece] = deque()  # of the server, in order and not yet taken
+        self._waiting: list[Piece] = []  # of the server, in order and not yet taken
         self._waiting_bytes = 0
-        self._time = 0  # of the last segment
+        self._time = self._arriving = 0  # of the last segment, and the place of its first byte
 
     # Whose segments.
 
@@ -58,6 +58,11 @@ class Conversation:
         elif stream.is_begun() and _is_far(stream, segment.sequence):
             return True
         return bool(segment.flags & ACK) and other.is_begun() and _is_far(other, segment.acknowledged)
+
+    def is_far_ahead(self, is_client: bool, segment: Segment) -> bool:
+        """Whether a segment has numbers far after all that is shown of this connection."""
+        stream, other = self._streams(is_client)
+        return _is_ahead(stream, segment.sequence) or bool(segment.flags & ACK) and _is_ahead(other, segment.acknowledged)
 
     def _streams(self, is_client: bool) -> tuple[Stream, Stream]:
         return (self.client, self.server) if is_client else (self.server, self.client)
@@ -77,6 +82,14 @@ class Conversation:
         """The sequence numbers of both SYNs, as far as they are there."""
         return self.client.first, self.server.first
 
+    def disown(self, is_client: bool, segment: Segment) -> None:
+        """A SYN came of another connection of these ports: what only one number showed that is its first one was shown of that."""
+        if segment.flags & SYN:
+            stream, other = self._streams(is_client)
+            stream.disown((segment.sequence + 1) % SPACE)
+            if segment.flags & ACK:
+                other.disown(segment.acknowledged)
+
     def is_idle(self) -> bool:
         """Whether all that is shown to be sent is there, and no message is under way."""
         if self.client.lacking() or self.server.lacking() or self.client.held or self.server.held or self._waiting:
@@ -93,7 +106,7 @@ class Conversation:
         """It has been there, and goes on."""
         for stream, side in ((self.client, client), (self.server, server)):
             stream.first = side.first
-            stream.go_on((side.place - side.size) % SPACE, side.size, side.sum)
+            stream.go_on((side.place - side.size) % SPACE, side.size, side.sum, side.marks)
         self._answers.go_on()
 
     def take(self, is_client: bool, segment: Segment, time: int) -> None:
@@ -111,14 +124,14 @@ class Conversation:
             if not is_client:
                 self._answers.begin_late(time)
         acknowledged = self._acknowledged(is_client, stream, other, segment)
-        if is_client and not self._answers.is_client_known and not self._is_client_absent:
-            self._answers.is_client_known = True
-        place = stream.place_of(sequence)
+        if is_client and not self._is_client_absent:
+            self._is_client_seen = self._answers.is_client_known = True
+        place = self._arriving = stream.place_of(sequence)
         end = place + len(data) + segment.cut
         if data and not segment.is_wrong:
             piece = Piece(place, data, acknowledged, time)
             self._arrived(stream, stream.add_single(piece) if is_single else stream.add(piece))
-        stream.shown = max(stream.shown, end + bool(flags & FIN))
+        stream.show(end + bool(flags & FIN))
         if flags & FIN and stream.end is None and not segment.is_wrong:
             stream.end = end
         if data and not segment.is_wrong:
@@ -128,11 +141,10 @@ class Conversation:
         """A SYN came."""
         if stream.first is None:
             stream.first = sequence
-            if not stream.is_begun() or not stream.delivered and not stream.held:
-                shown = stream.shown % SPACE if stream.is_begun() else None
+            if not stream.is_begun():
                 stream.begin((sequence + 1) % SPACE, False)
-                if shown is not None:
-                    stream.shown = max(stream.place_of(shown), stream.shown)
+            elif not stream.delivered and not stream.held:
+                stream.begin_at(stream.place_of((sequence + 1) % SPACE))
             if is_client:
                 self._answers.is_client_known = True
             else:
@@ -147,8 +159,11 @@ class Conversation:
             if is_client:
                 self._answers.begin_late(self._time)
         place = other.place_of(segment.acknowledged)
+        if segment.flags & SYN and place < other.start and is_client is False:
+            self._lacking += other.start - place  # the connection begins in the capture, and its client had sent them
+            other.start = place
         if segment.is_wrong:
-            other.shown = max(other.shown, place)
+            other.show(place)
         else:
             other.acknowledge(place)
         return place
@@ -161,7 +176,8 @@ class Conversation:
                 self._count(len(piece.data) + OBJECT)
             elif not self._answers.is_over:
                 for request in self._requests.take(piece):
-                    self.client.acknowledge(request.start)  # its client had an answer to all before it
+                    if request.start == self._arriving:
+                        self.client.settle(request.start)  # its client had an answer to all before it
                     self._answers.request(request)
 
     def _count(self, size: int) -> None:
@@ -182,10 +198,11 @@ class Conversation:
     def _take_answers(self) -> None:
         waiting = self._waiting
         while waiting and not (self._answers.is_between() and self._waits(waiting[0])):
-            piece = waiting.popleft()
+            piece = waiting.pop(0)
             self._count(-len(piece.data) - OBJECT)
             self._answers.take(piece)
-            self.server.acknowledge(self._answers.begun)  # whoever asked for it had all before it
+            if self._answers.begun == self._arriving:
+                self.server.settle(self._arriving)  # whoever asked for it had all before it
 
     def _waits(self, piece: Piece) -> bool:
         """Whether the server had read more of the client than is there yet."""
@@ -214,7 +231,7 @@ class Conversation:
     def _wait_no_longer(self) -> None:
         """What a server waits for isn't there."""
         stream, wanted = self.client, self._waiting[0].acknowledged
-        if not stream.delivered and not stream.held and stream.first is None:
+        if not self._is_client_seen:
             self._is_client_absent, self._answers.is_client_known = True, False
         elif stream.held and stream.held[0].place < wanted:
             self._give_up(stream)
@@ -251,6 +268,8 @@ class Conversation:
         self._answers.finish()
         self.client.close()
         self.server.close()
+        self.share.close()
+        self._answers.pending.close()
 
     def _tell_lacking(self) -> None:
         """Tells what is shown to be sent, and lacks at the ends."""
@@ -275,7 +294,7 @@ class Conversation:
 
     def ended(self) -> tuple[Side, Side]:
         """What is kept of it: its client, and its server."""
-        client, server = (Side(it.first, it.place, it.place - it.start, it.sum) for it in (self.client, self.server))
+        client, server = (Side(it.first, it.place, it.place - it.start, it.sum, it.marks) for it in (self.client, self.server))
         return client, server
 
 
@@ -284,6 +303,10 @@ def _is_far(stream: Stream, sequence: int) -> bool:
     byte asks whether the other side is there; of a stream whose beginning isn't there, earlier bytes may come."""
     place = stream.place_of(sequence)
     return place < stream.start - (WINDOW if stream.is_late else 1) or place > stream.shown + FARTHEST
+
+
+def _is_ahead(stream: Stream, sequence: int) -> bool:
+    return stream.is_begun() and stream.place_of(sequence) > stream.shown + WINDOW
 
 
 def _may_begin(stream: Stream, sequence: int) -> bool:

@@ -8,7 +8,7 @@ from typing import NamedTuple, Optional
 from gavyreto.capturing.conversations import FARTHEST, Conversation, Side
 from gavyreto.capturing.internet import ACK, FIN, RESET, SYN, Segment, Tags
 from gavyreto.capturing.memory import Memory, Share
-from gavyreto.capturing.streams import HALF, SPACE, Piece, Stream
+from gavyreto.capturing.streams import HALF, MARK, SPACE, Piece, Stream
 
 MOST_ENDED = 1 << 14  # whose numbers are kept
 MOST_OF_A_KEY = 4  # of the same addresses
@@ -71,7 +71,7 @@ class Revisit:
             self._has_syn[not is_client] = True
             if not stream.is_begun():
                 stream.begin((segment.sequence + 1) % SPACE, False)
-        elif all(self._has_syn) and segment.data and not self._is_given_up:
+        elif self._has_syn[not is_client] and segment.data and not segment.is_wrong and not self._is_given_up:
             place = stream.place_of(segment.sequence)
             most = stream.place_of(end) - place
             stream.add(Piece(place, segment.data[:max(most, 0)], 0, 0))
@@ -80,14 +80,23 @@ class Revisit:
                 self._give_up()
 
     def differs(self, client: Side, server: Side) -> bool:
-        """Whether it began again with bytes, and they aren't known to be the same."""
-        if not any(stream.delivered for stream in self._streams):
-            return False
-        return any((it.delivered, it.sum) != (side.size, side.sum) or it.differing for it, side in zip(self._streams, (client, server)))
+        """Whether both sides began again, and their bytes aren't known to be the same: those of a side that is there to its end, or to
+        where one of its first pieces ended."""
+        found = [_is_same(*it) for it in zip(self._streams, (client, server))]
+        return all(self._has_syn) and (False in found or None in found and all(stream.delivered for stream in self._streams))
 
     def close(self) -> None:
         """Lets go what it holds."""
         self._give_up()
+
+
+def _is_same(again: Stream, first: Side) -> Optional[bool]:
+    """Whether what comes again of a side is the same; None if nothing says."""
+    if again.differing:
+        return False
+    known: dict[int, int] = {size: checksum for size, checksum in MARK.iter_unpack(first.marks)} | {first.size: first.sum, 0: 0}
+    compared = {size: known[size] == checksum for size, checksum in [*MARK.iter_unpack(again.marks), (again.delivered, again.sum)] if size in known}
+    return False if False in compared.values() else compared.get(again.delivered)
 
 
 class Endings:
@@ -112,7 +121,8 @@ class Endings:
     def find(self, key: bytes, is_client: bool, segment: Segment) -> Optional[Ended]:
         """The connection that a segment is one more of."""
         found = [it for it in self._ended.get(key, ()) if it.has(is_client, segment)]
-        return next((it for it in reversed(found) if it.tags == segment.tags), found[-1] if found else None)
+        found.sort(key=lambda it: (not it.is_new(is_client, segment), it.tags == segment.tags))
+        return found[-1] if found else None
 
     def take(self, key: bytes, ended: Ended) -> None:
         """Forgets a connection, which goes on."""

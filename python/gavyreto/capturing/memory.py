@@ -59,3 +59,11 @@ class Share:
             self.memory.begin(self)
         elif before and not self.held:
             self.memory.end(self)
+
+    def close(self) -> None:
+        """Its connection has ended."""
+        self.shorten = _nothing
+
+
+def _nothing() -> None:
+    pass

@@ -5,7 +5,6 @@ number of a request says at which byte of the server its answer begins, and that
 answer belongs to a request by its place, whatever became of other requests."""
 from __future__ import annotations
 
-from collections import deque
 from typing import Callable, NamedTuple, Optional
 
 from gavyreto.capturing.accounts import Accounts
@@ -27,7 +26,7 @@ class Pending:
 
     def __init__(self, accounts: Accounts, tell: Callable[[Request], None]) -> None:
         self._accounts, self._tell = accounts, tell
-        self._requests: deque[Request] = deque()
+        self._requests: list[Request] = []
         self._acknowledged = 0  # attentions that an answer has acknowledged before they came
         self._hole = Hole(0, 0)  # the last bytes of the client that are lacking
 
@@ -85,7 +84,7 @@ class Pending:
         """A request has its answer: those before it have none."""
         while self._requests[0] is not request:
             self.pass_first()
-        self._requests.popleft()
+        self._requests.pop(0)
         self._accounts.answered += 1
 
     def acknowledge(self) -> None:
@@ -98,9 +97,17 @@ class Pending:
     def pass_first(self) -> None:
         """The first request has no answer."""
         self._accounts.unanswered += 1
-        self._tell(self._requests.popleft())
+        self._tell(self._requests.pop(0))
+
+    def close(self) -> None:
+        """Nothing more comes."""
+        self._tell = _nothing
 
     def pass_all(self) -> None:
         """No request has an answer."""
         while self._requests:
             self.pass_first()
+
+
+def _nothing(_: Request) -> None:
+    pass

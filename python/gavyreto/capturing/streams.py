@@ -9,6 +9,7 @@ Of several copies of a byte the first counts. One that differs is told, as far a
 that, no copy reaches it. What comes before its turn is held, in a window of bounded size; past it what is lacking counts as lost."""
 from __future__ import annotations
 
+import struct
 import zlib
 from bisect import bisect_left
 from typing import NamedTuple, Optional
@@ -18,6 +19,8 @@ from gavyreto.capturing.memory import OBJECT, Share
 SPACE, HALF = 1 << 32, 1 << 31
 WINDOW = 1 << 20  # bytes that are held of one stream
 REMEMBERED = 1 << 20  # bytes of one stream, handed out and not acknowledged, that copies are compared with
+MARK = struct.Struct(">QI")
+MOST_MARKS = 8 * MARK.size
 MOST_SINGLE = 64  # single bytes before their turn
 
 
@@ -42,10 +45,12 @@ class Stream:
         self.start = 0  #: of its first byte, as far as that is known
         self.first: Optional[int] = None  #: the sequence number of its SYN
         self.shown = 0  #: the greatest place that any frame shows to be sent
+        self._shown_before = 0  # the greatest but that
         self.acknowledged = 0  #: the greatest place that the other side says it has
         self.is_late = False  #: whether its beginning isn't there
         self.delivered = 0  #: bytes handed out
         self.sum = 0  #: a checksum (CRC-32) of them
+        self.marks = b""  #: after each of the first pieces: how many bytes were handed out, and their checksum
         self.differing = 0  #: bytes of copies that differ from the first
         self.early = 0  #: bytes that came again, unacknowledged, when the first copy was forgotten, or before the first that counts
         self.end: Optional[int] = None  #: its place, after a FIN
@@ -68,13 +73,19 @@ class Stream:
         """Its first byte has this number; if that isn't firm, it may have a lower one. The places begin so high that none is
         below 0."""
         self.place, self.is_late, self._is_firm = SPACE + sequence, is_late, is_firm
-        self.start = self.shown = self.place
+        self.start = self.shown = self._shown_before = self.place
         self.acknowledged = self.place if is_firm or not is_late else 0
 
-    def go_on(self, sequence: int, delivered: int, checksum: int) -> None:
+    def begin_at(self, place: int) -> None:
+        """Its first byte has this place, as it turns out before there is any."""
+        self.place = self.start = place
+        self.is_late = False
+        self.show(place)
+
+    def go_on(self, sequence: int, delivered: int, checksum: int, marks: bytes) -> None:
         """It goes on with this number after so many bytes, all of which were acknowledged."""
         self.place = self.shown = self.acknowledged = SPACE + sequence + delivered
-        self.start, self.delivered, self.sum, self._is_firm = self.place - delivered, delivered, checksum, True
+        self.start, self.delivered, self.sum, self.marks, self._is_firm = self.place - delivered, delivered, checksum, marks, True
 
     def is_begun(self) -> bool:
         return self.place >= 0
@@ -93,12 +104,26 @@ class Stream:
         ahead = self.shown - self.place
         return ahead if ahead > 1 else 0
 
+    def show(self, place: int) -> None:
+        """A frame shows that all up to a place was sent."""
+        if place > self.shown:
+            self._shown_before, self.shown = self.shown, place
+
+    def disown(self, sequence: int) -> None:
+        """The greatest number that was shown is the first one of another connection, if it is this one."""
+        if self.is_begun() and self.shown == self.place_of(sequence) and not self.held:
+            self.shown = self.acknowledged = max(self._shown_before, self.place)
+
     # Bytes.
 
     def acknowledge(self, place: int) -> None:
-        """The other side has all up to a place. No copy counts any more of what was handed out before it said so."""
-        self.acknowledged = place = max(place, self.acknowledged)
-        self.shown = max(self.shown, place)
+        """The other side says that it has all up to a place. No copy counts any more of what was handed out before it said so."""
+        self.settle(max(place, self.acknowledged))
+
+    def settle(self, place: int) -> None:
+        """The other side has all up to a place, and no copy of that counts any more."""
+        self.acknowledged = max(self.acknowledged, place)
+        self.show(place)
         count = 0
         while count < len(self._sent) and self._sent[count].end() <= place:
             count += 1
@@ -140,6 +165,8 @@ class Stream:
         self.place = piece.end()
         self.delivered += len(piece.data)
         self.sum = zlib.crc32(piece.data, self.sum)
+        if len(self.marks) < MOST_MARKS:
+            self.marks += MARK.pack(self.delivered, self.sum)
         self._sent.append(piece)
         self._sent_bytes += len(piece.data)
         self._share.count(len(piece.data) + OBJECT)
