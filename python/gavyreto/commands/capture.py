@@ -84,21 +84,25 @@ class Export:
     def answer(self, sides: Sides, answer: Answer) -> None:
         """Exports an answer whose packets are kept."""
         kept = cast(Kept, answer.kept)
-        run, packets = kept.piped(), ""
-        if run is None:
-            packets = kept.file()
-            if self._asked.adapt:
-                self._adapt(packets)
-            run = self._room.run(packets)
-        status, notes = run.end()
-        outcome = self._outcome(judged(status, notes, os.path.getsize(run.text)), answer)
+        is_whole = answer.packets.is_over and not answer.why
+        data = kept.whole() if is_whole else None
+        packets = kept.file() if self._asked.packets or self._asked.adapt else ""
+        if self._asked.adapt:
+            self._adapt(packets)
+        if data is not None:
+            ending, text = self._room.export(contents(packets) if self._asked.adapt else data)
+        else:
+            run = kept.piped() or self._room.run(packets or kept.file())
+            status, notes = run.end()
+            ending, text = judged(status, notes, os.path.getsize(run.text)), run.text
+        outcome = self._outcome(ending, answer)
         name = self._next_name(sides)
-        ending = ".csv" if outcome.status in (0, SERVER_ERROR) else ".csv.partial"
-        self._put_file(run.text, name + ending)
+        suffix = ".csv" if outcome.status in (0, SERVER_ERROR) else ".csv.partial"
+        self._put_file(text, name + suffix)
         if self._asked.packets:
             self._put_file(packets, name + ".tds")
         kept.drop()
-        self._put(name + ending, sides, answer.time, answer.words(), outcome.status, outcome.line)
+        self._put(name + suffix, sides, answer.time, answer.words(), outcome.status, outcome.line)
 
     def _put_file(self, path: str, name: str) -> None:
         """Gives a file its name in the folder, unless another run has put one there."""
@@ -145,6 +149,12 @@ class Export:
     def note(self, status: int) -> None:
         """Something came to a status."""
         self.worst = max(self.worst, status if status in (0, SERVER_ERROR, BAD_INPUT) else FAILED)
+
+
+def contents(path: str) -> bytes:
+    """The bytes of a file."""
+    with open(path, "rb") as file:
+        return file.read()
 
 
 def moment_of(time: int) -> Optional[str]:
