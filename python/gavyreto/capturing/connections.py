@@ -17,7 +17,7 @@ from gavyreto.capturing.frames import segment_of
 from gavyreto.capturing.internet import ACK, FIN, RESET, SYN, Foreign, Other, Segment, Unread, address_of, port_of
 from gavyreto.capturing.memory import Memory
 from gavyreto.capturing.messages import is_header, is_record
-from gavyreto.capturing.streams import SPACE
+from gavyreto.capturing.streams import HALF, SPACE
 from gavyreto.tds import PacketType
 
 MOST_RESTING = 1024  # connections that are followed at once, some of which may rest; one that rests goes on by its numbers
@@ -31,22 +31,35 @@ GIVEN_UP = f"more than {MOST_OPEN} connections are open: this one, which was sil
 
 
 class Run:
-    """Segments of one side that follow each other in the capture, and that are taken as one."""
+    """Segments of one side that follow each other in the capture, and that are taken as one; between them the other side only
+    acknowledges some, of which the farthest is kept."""
 
     def __init__(self, segment: Segment, is_client: bool, time: int) -> None:
         self.first, self.is_client, self.time = segment, is_client, time
         self.size = len(segment.data)
+        self.acknowledgement: Optional[Segment] = None
         self._pieces = [segment.data]
 
     def add(self, segment: Segment) -> bool:
-        """Adds the next segment, if it is the next."""
+        """Adds the next segment, if it is the next, or only acknowledges."""
         first = self.first
+        if not segment.data:
+            return self._add_acknowledgement(segment)
         goes_on = (
             segment.sequence == (first.sequence + self.size) % (1 << 32) and segment.source == first.source and segment.target == first.target
             and segment.acknowledged == first.acknowledged and segment.tags == first.tags and self.size < MOST_OF_A_RUN and is_plain(segment))
         if goes_on:
             self._pieces.append(segment.data)
             self.size += len(segment.data)
+        return goes_on
+
+    def _add_acknowledgement(self, segment: Segment) -> bool:
+        first, before = self.first, self.acknowledgement
+        goes_on = (
+            segment.flags == ACK and segment.source == first.target and segment.target == first.source and segment.tags == first.tags
+            and not segment.cut and not segment.is_wrong and (before is None or before.sequence == segment.sequence))
+        if goes_on and (before is None or (segment.acknowledged - before.acknowledged) % SPACE < HALF):
+            self.acknowledgement = segment
         return goes_on
 
     def segment(self) -> Segment:
@@ -120,6 +133,8 @@ class Connections:
         run, self._run = self._run, None
         if run:
             self._take(run.segment(), run.is_client, run.time)
+            if run.acknowledgement:
+                self._take(run.acknowledgement, not run.is_client, run.time)
 
     def _is_client(self, segment: Segment) -> Optional[bool]:
         """Whether a client sent a segment, and not its server; None if it is of no connection that is asked for."""
@@ -145,32 +160,49 @@ class Connections:
 
     def _take(self, segment: Segment, is_client: bool, time: int) -> None:
         key = segment.source + segment.target if is_client else segment.target + segment.source
-        conversation = self._of_open(key, is_client, segment)
-        if conversation is None or conversation.is_far_ahead(is_client, segment):
-            ended = self._endings.find(key, is_client, segment)
-            if ended and (segment.flags & SYN or not ended.is_new(is_client, segment)):
-                self._compare(key, ended, ended.sides(is_client)[0].place, is_client, segment, time)
-                return
+        conversation = self._find(key, is_client, segment, time)
         if conversation is None:
-            if segment.flags & RESET:
-                return  # it shows nothing of a connection of which nothing is there
-            conversation = self._begin(key, segment)
-            self._accounts.connections += ended is None
-            if ended:
-                self._endings.take(key, ended)
-                conversation.go_on(ended.client, ended.server)
-        elif conversation.comes_again(is_client, segment):
-            self._compare(key, conversation, conversation.next_of(is_client), is_client, segment, time)
-        self._silent.pop(conversation, None)
-        self._recent[conversation] = key
+            return
+        if self._silent.pop(conversation, None):
+            self._recent[conversation] = key
         self._recent.move_to_end(conversation)
-        self._memory.touch(conversation.share)
+        if conversation.share.held:
+            self._memory.touch(conversation.share)
         conversation.take(is_client, segment, time)
         if segment.flags & (SYN | ACK) == SYN | ACK and self._endings.has_been(key, conversation.first()):
             self._desk.tell(conversation.sides, time, "a connection with these addresses and first numbers has been there: what follows may be the same")
-        self._memory.shorten()
+        if self._memory.is_past():
+            self._memory.shorten()
         if segment.flags & (FIN | RESET) or not segment.data:
             self._end_whole(key, conversation, segment)
+
+    def _find(self, key: bytes, is_client: bool, segment: Segment, time: int) -> Optional[Conversation]:
+        """The connection that a segment is of, which begins with it if it isn't there; None if it only comes again."""
+        others = self._open.get(key)
+        if others and len(others) == 1 and others[0].is_near(is_client, segment):
+            conversation: Optional[Conversation] = others[0]
+        else:
+            conversation = self._of_open(key, is_client, segment)
+            if conversation is None or conversation.is_far_ahead(is_client, segment):
+                ended = self._endings.find(key, is_client, segment)
+                if ended and (segment.flags & SYN or not ended.is_new(is_client, segment)):
+                    self._compare(key, ended, ended.sides(is_client)[0].place, is_client, segment, time)
+                    return None
+                conversation = conversation or self._begin_with(key, segment, ended)
+        if conversation and conversation.comes_again(is_client, segment):
+            self._compare(key, conversation, conversation.next_of(is_client), is_client, segment, time)
+        return conversation
+
+    def _begin_with(self, key: bytes, segment: Segment, ended: Optional[Ended]) -> Optional[Conversation]:
+        """A connection begins, or one that rested goes on. A reset alone shows nothing of one."""
+        if segment.flags & RESET:
+            return None
+        conversation = self._begin(key, segment)
+        self._accounts.connections += ended is None
+        if ended:
+            self._endings.take(key, ended)
+            conversation.go_on(ended.client, ended.server)
+        return conversation
 
     def _of_open(self, key: bytes, is_client: bool, segment: Segment) -> Optional[Conversation]:
         """The open connection that a segment is of. One with the same tags that has other numbers has ended."""

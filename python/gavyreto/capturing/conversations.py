@@ -64,6 +64,11 @@ class Conversation:
         stream, other = self._streams(is_client)
         return _is_ahead(stream, segment.sequence) or bool(segment.flags & ACK) and _is_ahead(other, segment.acknowledged)
 
+    def is_near(self, is_client: bool, segment: Segment) -> bool:
+        """Whether a segment, which is no SYN, has both numbers among those of what is there, or close after it."""
+        stream, other = (self.client, self.server) if is_client else (self.server, self.client)
+        return segment.flags & (SYN | ACK) == ACK and stream.is_near(segment.sequence) and other.is_near(segment.acknowledged)
+
     def _streams(self, is_client: bool) -> tuple[Stream, Stream]:
         return (self.client, self.server) if is_client else (self.server, self.client)
 
@@ -172,8 +177,11 @@ class Conversation:
         """Pieces are in order. Those of the client are taken at once."""
         for piece in pieces:
             if stream is self.server:
-                self._waiting.append(piece)
-                self._count(len(piece.data) + OBJECT)
+                if self._waiting or self._answers.is_between() and self._waits(piece):
+                    self._waiting.append(piece)
+                    self._count(len(piece.data) + OBJECT)
+                else:
+                    self._take_answer(piece)
             elif not self._answers.is_over:
                 for request in self._requests.take(piece):
                     if request.start == self._arriving:
@@ -186,6 +194,8 @@ class Conversation:
 
     def _advance(self) -> None:
         """Takes what can be taken of the server, and gives up what is past a window."""
+        if not self.share.held:
+            return
         self._take_answers()
         for stream in (self.client, self.server):
             while stream.is_past_window():
@@ -200,9 +210,12 @@ class Conversation:
         while waiting and not (self._answers.is_between() and self._waits(waiting[0])):
             piece = waiting.pop(0)
             self._count(-len(piece.data) - OBJECT)
-            self._answers.take(piece)
-            if self._answers.begun == self._arriving:
-                self.server.settle(self._arriving)  # whoever asked for it had all before it
+            self._take_answer(piece)
+
+    def _take_answer(self, piece: Piece) -> None:
+        self._answers.take(piece)
+        if self._answers.begun == self._arriving:
+            self.server.settle(self._arriving)  # whoever asked for it had all before it
 
     def _waits(self, piece: Piece) -> bool:
         """Whether the server had read more of the client than is there yet."""

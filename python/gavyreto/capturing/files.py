@@ -7,7 +7,7 @@ import io
 import struct
 import zlib
 from collections.abc import Iterator
-from typing import IO, Literal, NamedTuple, cast
+from typing import IO, Callable, Literal, NamedTuple, cast
 
 GZIP = b"\x1F\x8B"
 PCAP = {  # by the first bytes: the order of bytes, and the units of time in a second
@@ -22,6 +22,7 @@ DROPPED = (5, 7)  # options of statistics: frames lost so far by the interface (
 UNKNOWN = (1 << 64) - 1  # a count that isn't known
 MOST_OF_A_FRAME = 1 << 20  # bytes; a greater length is no length
 MOST_OF_A_BLOCK = 1 << 24
+BLOCK = 1 << 18  # bytes that are read at once, at most
 HEAD = 4096  # bytes that are looked at before a file is read
 
 
@@ -42,9 +43,9 @@ class Source:
     """The bytes of a file, a pipe, or what gzip made of them, of which the first can be looked at before they are read."""
 
     def __init__(self, file: IO[bytes]) -> None:
-        self._file = io.BufferedReader(cast(io.RawIOBase, file), 1 << 18)
+        self._file = io.BufferedReader(cast(io.RawIOBase, file), BLOCK)
         if self._file.peek(2)[:2] == GZIP:
-            self._file = io.BufferedReader(cast(io.RawIOBase, gzip.GzipFile(fileobj=self._file)), 1 << 18)
+            self._file = io.BufferedReader(cast(io.RawIOBase, gzip.GzipFile(fileobj=self._file)), BLOCK)
         self._head = self._first(HEAD)
 
     def _first(self, length: int) -> bytes:
@@ -57,8 +58,11 @@ class Source:
         return head
 
     def _some(self, length: int) -> bytes:
+        return self._checked(self._file.read, length)
+
+    def _checked(self, read: Callable[[int], bytes], length: int) -> bytes:
         try:
-            return self._file.read(length)
+            return read(length)
         except (EOFError, zlib.error, gzip.BadGzipFile) as cut:
             raise CutShort(f"the compressed file ends too early, or is damaged: {cut}") from None
 
@@ -72,6 +76,11 @@ class Source:
             return self._some(length)
         data, self._head = self._head[:length], self._head[length:]
         return data if len(data) == length else data + self._some(length - len(data))
+
+    def more(self) -> bytes:
+        """The next bytes, as many as are there, or none at the end."""
+        data, self._head = self._head, b""
+        return data or self._checked(self._file.read1, BLOCK)
 
     def lines(self) -> Iterator[bytes]:
         """The lines, each at most as long as a line of a dump may be; a longer one comes in several."""
@@ -134,21 +143,25 @@ def _pcap(source: Source) -> Iterator[Frame]:
     head = _need(source, 24, "its header")
     order, units = PCAP[head[:4]]
     link = struct.unpack_from(order + "I", head, 20)[0] & 0xFFFF  # the bits above tell of check sequences
-    record = struct.Struct(order + "IIII")
-    read, unpack, nanoseconds = source.read, record.unpack, units // 10**6
+    unpack, nanoseconds = struct.Struct(order + "IIII").unpack_from, units // 10**6
+    block, at = b"", 0
     while True:
-        head = read(16)
-        if len(head) < 16:
+        end = at + 16
+        if end <= len(block):
+            seconds, parts, captured, length = unpack(block, at)
+            if captured > MOST_OF_A_FRAME:
+                raise CutShort(f"the capture goes on with what is no frame: {captured} bytes")
+            end += captured
+            if end <= len(block):
+                yield Frame(seconds * 10**6 + parts // nanoseconds, link, block[at + 16:end], length if length > captured else captured)
+                at = end
+                continue
+        more = source.more()
+        if not more:
             break
-        seconds, parts, captured, length = unpack(head)
-        if captured > MOST_OF_A_FRAME:
-            raise CutShort(f"the capture goes on with what is no frame: {captured} bytes")
-        data = read(captured)
-        if len(data) < captured:
-            raise CutShort("the capture ends within a frame")
-        yield Frame(seconds * 10**6 + parts // nanoseconds, link, data, max(length, captured))
-    if head:
-        raise CutShort("the capture ends within a frame's header")
+        block, at = block[at:] + more, 0
+    if at < len(block):
+        raise CutShort("the capture ends within a frame" if at + 16 <= len(block) else "the capture ends within a frame's header")
 
 
 class _Interface(NamedTuple):

@@ -18,6 +18,7 @@ SOURCE_ROUTES, SEGMENT_ROUTE = (0, 2), 4  # types of routing headers: the last a
 IPV4, IPV6, BRIDGED, ERSPAN, ANY_IP = 0x0800, 0x86DD, 0x6558, 0x88BE, 0x0200  # what is next: types of Ethernet, or IP by its version
 LEAST_ETHER_TYPE = 0x600  # below it is the length of a frame of IEEE 802.3
 VXLAN, OLD_VXLAN, GENEVE = 4789, 8472, 6081  # ports of UDP
+BEGINNINGS = (b"\x01", b"\x04", b"\x12")  # of packets of TDS by which a server on another port is known
 PART = 384  # bytes of a segment that are summed as one number
 TCP_HEADER = struct.Struct(">HHIIBBHHH")
 IPV4_HEADER = struct.Struct(">BBHHHBBH8s")
@@ -198,17 +199,20 @@ def plain(data: bytes, length: int, ports: Container[int]) -> Optional[Segment]:
     """The segment in a frame of Ethernet without tags, options and tunnels; None if it isn't so."""
     if len(data) < PLAIN.size:
         return None
-    kind, version, _, total, _, fragment, _, protocol, _, addresses, *header = PLAIN.unpack_from(data)
+    kind, version, _, total, _, fragment, _, protocol, _, addresses, source, target, *header = PLAIN.unpack_from(data)
     if kind != IPV4 or version != 0x45 or protocol != TCP or fragment & 0x3FFF or not 40 <= total <= length - 14:
         return None
-    return _segment((), data, 34, 14 + total, addresses, tuple(header), ports)
+    start = 34 + (header[2] >> 4) * 4
+    if source not in ports and target not in ports and data[start:start + 1] not in BEGINNINGS:
+        raise Other
+    return _segment((), data, 34, 14 + total, addresses, (source, target, *header), ports)
 
 
 def _segment(tags: Tags, data: bytes, at: int, end: int, addresses: bytes, header: tuple[int, ...], ports: Container[int]) -> Segment:
     source, target, sequence, acknowledged, head, flags, _, checksum, _ = header
     start = at + (head >> 4) * 4
     is_asked = target in ports or source in ports
-    if not is_asked and (start >= len(data) or data[start] not in (0x01, 0x04, 0x12)):  # of a packet of TDS
+    if not is_asked and data[start:start + 1] not in BEGINNINGS:
         raise Other
     if head >> 4 < 5 or start > end:
         raise Unread("a wrong header of TCP")

@@ -87,6 +87,11 @@ class Stream:
         self.place = self.shown = self.acknowledged = SPACE + sequence + delivered
         self.start, self.delivered, self.sum, self.marks, self._is_firm = self.place - delivered, delivered, checksum, marks, True
 
+    def is_near(self, sequence: int) -> bool:
+        """Whether a number is that of a byte that is there, or close after it."""
+        ahead = (sequence - self.place) % SPACE
+        return ahead < WINDOW or SPACE - ahead <= self.place - self.start
+
     def is_begun(self) -> bool:
         return self.place >= 0
 
@@ -122,8 +127,11 @@ class Stream:
 
     def settle(self, place: int) -> None:
         """The other side has all up to a place, and no copy of that counts any more."""
-        self.acknowledged = max(self.acknowledged, place)
-        self.show(place)
+        if place > self.acknowledged:
+            self.acknowledged = place
+            self.show(place)
+        if not self._sent:
+            return
         count = 0
         while count < len(self._sent) and self._sent[count].end() <= place:
             count += 1
@@ -244,8 +252,8 @@ class Stream:
 
     def _forget(self, count: int) -> None:
         """Forgets the first pieces of what it remembers."""
-        size = sum(len(piece.data) for piece in self._sent[:count])
         if count:
+            size = sum([len(piece.data) for piece in self._sent[:count]])
             del self._sent[:count]
             self._sent_bytes -= size
             self._share.count(-size - count * OBJECT)
