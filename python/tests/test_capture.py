@@ -214,6 +214,22 @@ class Captures(unittest.TestCase):
                 self.assertNotIn(b"Traceback", came.stderr)
 
 
+    def test_two_runs_into_one_folder(self) -> None:
+        """A text that another run put there meanwhile stays, and the run ends."""
+        self.captured(conversation().frames)
+        self.texts()
+        command = [sys.executable, "-m", "gavyreto", "capture", "--program", PROGRAM, "-", "out"]
+        with subprocess.Popen(command, cwd=self.folder, stdin=subprocess.PIPE, stdout=subprocess.PIPE, stderr=subprocess.PIPE, env=started()["env"]) as run:
+            with open(os.path.join(self.folder, "capture"), "rb") as file:
+                data = file.read()
+            cast(BinaryIO, run.stdin).write(data[:5000])
+            cast(BinaryIO, run.stdin).flush()
+            cast(BinaryIO, run.stdout).readline()
+            Path(self.folder, "out", self.names()[0]).write_bytes(b"another")
+            _, notes = run.communicate(data[5000:])
+        self.assertEqual((run.returncode, Path(self.folder, "out", self.names()[0]).read_bytes()), (5, b"another"))
+        self.assertIn(b"another run writes into this folder", notes)
+
     def test_files_that_are_compressed_or_come_by_a_pipe(self) -> None:
         made = captures.Capture()
         made.frames = conversation().frames

@@ -10,8 +10,7 @@ from typing import NamedTuple
 from gavyreto.capturing import files
 from gavyreto.capturing.accounts import Accounts
 from gavyreto.capturing.connections import Connections
-from gavyreto.capturing.conversations import Answer, Sides
-from gavyreto.capturing.frames import WRONG_CHECKSUM
+from gavyreto.capturing.desk import Answer, Sides
 from tests.capture_cases import Case, case
 
 CASES = int(os.environ.get("CASES", "1000"))
@@ -41,6 +40,7 @@ class Desk:
 
     def __init__(self) -> None:
         self.answers: list[bytes] = []
+        self.words: list[str] = []  # of the statements that they answer
         self.told: list[str] = []
 
     def keep(self) -> Kept:
@@ -52,6 +52,7 @@ class Desk:
             self.told.append(answer.why)
         else:
             self.answers.append(answer.kept.data)
+            self.words.append(answer.words())
 
     def tell(self, _: Sides, time: int, why: str, statement: str = "") -> None:
         self.told.append(why)
@@ -63,33 +64,42 @@ class Read(NamedTuple):
     answers: list[bytes]
     told: list[str]
     accounts: Accounts
+    words: list[str] = []
 
 
 def read(data: bytes) -> Read:
     """What a capture gives."""
-    desk, accounts = Desk(), Accounts()
+    desk, accounts, drops = Desk(), Accounts(), files.Drops()
     connections = Connections({1433}, desk, accounts)
     try:
-        for frame in files.frames(files.Source(io.BytesIO(data))):
+        for frame in files.frames(files.Source(io.BytesIO(data)), drops):
             connections.take(frame)
     except files.CutShort as cut:
         desk.told.append(str(cut))
     connections.finish()
-    desk.told += [reason for reason in accounts.unread if reason != WRONG_CHECKSUM]
+    desk.told += list(accounts.unread) + ["lost frames"] * bool(drops.total())
     desk.told += ["cut frames"] * bool(connections.cut) + ["no connection"] * (not accounts.connections)
-    return Read(desk.answers, desk.told, accounts)
+    return Read(desk.answers, desk.told, accounts, desk.words)
 
 
 def wrong(made: Case) -> str:
     """What is wrong with what a capture gives, or nothing."""
     came = read(made.data)
-    is_exact = Counter(came.answers) == Counter(made.answers)
     if not came.accounts.meets():
         return f"{made.what}: the sums don't meet: {came.accounts.line()}"
-    if made.is_harmless and came.told:
+    if made.is_whole and came.told:
         return f"{made.what}: told {came.told}"
-    if not is_exact and not came.told:
-        return f"{made.what}: {len(came.answers)} answers of {len(made.answers)}, and nothing is told"
+    if made.is_whole and Counter(came.answers) != Counter(made.answers):
+        return f"{made.what}: {len(came.answers)} answers of {len(made.answers)}"
+    if made.is_whole is False and not came.told:
+        return f"{made.what}: nothing is told, and {len(came.answers)} answers come of {len(made.answers)}"
+    if not came.told and not made.has_others and Counter(came.answers) != Counter(made.answers):
+        return f"{made.what}: nothing is told, and {len(came.answers)} answers come of {len(made.answers)}, although nothing says that it is whole"
+    if not made.has_others and not set(came.answers) <= set(made.names):
+        return f"{made.what}: an answer that wasn't sent"
+    names = [(name, made.names.get(data)) for name, data in zip(came.words, came.answers)]
+    if not made.has_others and any(name[:1] not in ("", "(") and right and name != right for name, right in names):
+        return f"{made.what}: names of other statements: {names}"
     return ""
 
 

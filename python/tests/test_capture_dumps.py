@@ -111,6 +111,18 @@ class Dumps(unittest.TestCase):
                 self.assertTrue(all(it in (first, second) for it in came.answers))
                 self.assertTrue(came.told, came)
 
+    def test_lines_that_only_end_like_a_head(self) -> None:
+        """As the literal of a statement may that a client of DB-Library writes."""
+        one, first = exchange(51, 1)
+        other, second = exchange(51, 2)
+        for head, count in (("SELECT ' packet.c:410:Received packet", 1), ("x: Received packet", 1), ("packet.c:410:Received packet", 2)):
+            text = dumped([*login(51), *one, other[0]]) + dumped(other[1:2]).replace(b"net.c:1:Received packet", head.encode()) + dumped(other[2:])
+            with self.subTest(head):
+                self.assertEqual(len(read(text).answers), count)
+        for head in ("16:10:49.123456 net.c:1:", "16:10:49.123456 4711 (net.c:1):", "12 34 packet.c:852:"):
+            self.assertEqual(read(dumped([*login(51), *one]).replace(b"net.c:1:", head.encode())).answers, [first])
+        self.assertNotEqual(first, second)
+
     def test_what_is_no_dump(self) -> None:
         for text in (b"", b"a packet\nof words\n", b"Received packet\nno hexadecimal\n", b"\n" * 100000):
             self.assertEqual(read(text).accounts.packets, 0)

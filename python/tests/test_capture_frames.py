@@ -5,6 +5,7 @@ import random
 import struct
 import unittest
 from collections.abc import Callable
+from dataclasses import replace
 
 from tests.capture_cases import ACK, PUSH, SYN, Conversation, Link, Segment, checksum, packets, pcap, words
 from tests.test_capture_cases import Read, read
@@ -71,11 +72,15 @@ WRAPPED: dict[str, tuple[int, Callable[[bytes], bytes]]] = {
 }
 UNREAD: dict[str, tuple[int, Callable[[bytes], bytes]]] = {
     "link type 127": (127, lambda it: it),
-    "type 0x88e5 of Ethernet": (ETHERNET, lambda it: ethernet(0x88E5, it)),
-    "protocol 50 of IP": (RAW, lambda it: ipv4(50, it)),
     "a fragment of IP": (RAW, lambda it: it[:6] + b"\x20\x00" + it[8:]),
     "a frame that is too short for its headers": (RAW, lambda it: it[:30]),
     "a wrong header of TCP": (RAW, lambda it: it[:32] + b"\x10" + it[33:]),
+}
+FOREIGN: dict[str, tuple[int, bytes]] = {
+    "type 0x88e5 of Ethernet": (ETHERNET, ethernet(0x88E5, bytes(40))),
+    "type 0x8915 of Ethernet": (ETHERNET, ethernet(0x8915, bytes(40))),
+    "type 0x0000 in a tunnel": (ETHERNET, ethernet(0x0800, ipv4(47, bytes(4)))),
+    "protocol 50 of IP": (RAW, ipv4(50, bytes(40))),
 }
 
 
@@ -93,14 +98,39 @@ class Frames(unittest.TestCase):
                 self.assertIn(reason, came.accounts.unread if "short" not in reason and "header" not in reason else [reason])
                 self.assertEqual((came.answers, sum(came.accounts.unread.values()), came.accounts.meets()), ([], 8, True))
 
+    def test_what_is_foreign_is_counted(self) -> None:
+        """Frames of other protocols beside a connection say nothing of it; at most 20 kinds have a line."""
+        for kind, (link, frame) in FOREIGN.items():
+            made, plain = Conversation(CLIENT, SERVER), Plain()
+            wrap = WRAPPED["Ethernet" if link == ETHERNET else "IP"][1]
+            came = read(pcap(link, [frame, *(wrap(plain.frame(segment, made)) for segment in one_exchange())]))
+            with self.subTest(kind):
+                self.assertEqual((came.answers, came.told, dict(came.accounts.foreign), came.accounts.meets()), ([ANSWER], [], {kind: 1}, True))
+        came = read(pcap(ETHERNET, [ethernet(0x9900 + number, bytes(40)) for number in range(30)]))
+        self.assertEqual((len(came.accounts.foreign), came.accounts.foreign["further kinds"]), (21, 10))
+
+    def test_tags_without_an_end(self) -> None:
+        """A frame of nothing but tags is one that isn't read."""
+        came = read(pcap(ETHERNET, [ethernet(0x8100, struct.pack(">HH", 0, 0x8100) * 994)]))
+        self.assertEqual(list(came.accounts.unread), ["more than 32 tags and tunnels"])
+
     def test_two_networks_with_the_same_addresses(self) -> None:
-        """Their frames alternate, and each has a connection of its own."""
+        """Their frames alternate. With other numbers each has a connection of its own; with the same ones they are the same frames, and
+        so are those within and outside a tunnel."""
         made, plain = Conversation(CLIENT, SERVER), Plain()
-        frames = [
-            ethernet(0x8100, struct.pack(">HH", vlan, 0x0800) + plain.frame(segment, made))
-            for segment in one_exchange() for vlan in (10, 20)]
-        came = read(pcap(ETHERNET, frames))
-        self.assertEqual((came.answers, came.told, came.accounts.connections), ([ANSWER] * 2, [], 2))
+        others = [replace(it, sequence=it.sequence + 70000, acknowledged=it.acknowledged + 70000 * bool(it.flags & ACK)) for it in one_exchange()]
+        for second, count in (others, 2), (one_exchange(), 1):
+            frames = [
+                ethernet(0x8100, struct.pack(">HH", vlan, 0x0800) + plain.frame(segment, made))
+                for pair in zip(one_exchange(), second) for segment, vlan in zip(pair, (10, 20))]
+            came = read(pcap(ETHERNET, frames))
+            with self.subTest(count):
+                self.assertEqual((came.answers, came.told, came.accounts.connections), ([ANSWER] * count, [], count))
+        for name in ("VLAN", "VXLAN"):
+            frames = [wrap(plain.frame(segment, made)) for segment in one_exchange() for wrap in (WRAPPED["Ethernet"][1], WRAPPED[name][1])]
+            came = read(pcap(ETHERNET, frames))
+            with self.subTest(name):
+                self.assertEqual((came.answers, came.told, came.accounts.connections), ([ANSWER], [], 1))
 
     def test_other_protocols_are_counted(self) -> None:
         frames = [ethernet(0x0806, bytes(28)), ethernet(0x0800, udp(53, bytes(20))), ethernet(0x0800, ipv4(1, bytes(8))), ethernet(38, bytes(38))]

@@ -4,6 +4,8 @@ from __future__ import annotations
 from collections import Counter
 from dataclasses import dataclass, field
 
+MOST_KINDS = 20  # of frames that aren't read, by their names
+
 
 @dataclass
 class Accounts:
@@ -12,7 +14,8 @@ class Accounts:
     frames: int = 0
     in_connections: int = 0  #: frames of connections to the ports that are asked for
     elsewhere: int = 0  #: frames of other connections and protocols
-    unread: Counter[str] = field(default_factory=Counter)  #: frames that aren't read, by the reason
+    unread: Counter[str] = field(default_factory=Counter)  #: frames that may be of such connections and aren't read, by the reason
+    foreign: Counter[str] = field(default_factory=Counter)  #: frames that aren't read and show nothing of such connections, by their kind
     packets: int = 0  #: of a dump
     connections: int = 0
     requests: int = 0  #: messages of clients that ask for something
@@ -26,10 +29,18 @@ class Accounts:
     told: int = 0  #: bytes that a line of the table is about
     answers: int = 0
 
+    def count(self, kinds: Counter[str], kind: str) -> None:
+        """Counts a frame that isn't read, of at most so many kinds by their names."""
+        kinds[kind if kind in kinds or len(kinds) < MOST_KINDS else "further kinds"] += 1
+
+    def not_read(self) -> int:
+        """Frames that aren't read."""
+        return sum(self.unread.values()) + sum(self.foreign.values())
+
     def meets(self) -> bool:
         """Whether nothing is without a place."""
         return (
-            self.frames == self.in_connections + self.elsewhere + sum(self.unread.values())
+            self.frames == self.in_connections + self.elsewhere + self.not_read()
             and self.requests == self.answered + self.unanswered
             and self.received == self.in_answers + self.in_greetings + self.in_logins + self.in_acknowledgements + self.told)
 
@@ -37,7 +48,7 @@ class Accounts:
         """All sums, on one line."""
         parts = []
         if self.frames:
-            parts.append(f"frames {self.frames}: {self.in_connections} in connections, {self.elsewhere} of others, {sum(self.unread.values())} not read")
+            parts.append(f"frames {self.frames}: {self.in_connections} in connections, {self.elsewhere} of others, {self.not_read()} not read")
         if self.packets:
             parts.append(f"packets {self.packets}")
         parts.append(f"connections {self.connections}")

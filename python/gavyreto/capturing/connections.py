@@ -1,43 +1,50 @@
-"""The connections of a capture: each frame goes to its own, and is counted."""
+"""The connections of a capture: each frame goes to its own, and is counted.
+
+A connection is its two addresses and ports, and its numbers: what has other ones is another connection of the same ports. Tags and
+tunnels only choose where the numbers are right for several, so that a frame that was captured with and without them is one frame."""
 from __future__ import annotations
 
 from collections import Counter, OrderedDict
-from typing import NamedTuple, Optional
+from typing import NamedTuple, Optional, Union
 
 from gavyreto import tds
 from gavyreto.capturing.accounts import Accounts
-from gavyreto.capturing.conversations import Conversation, Desk, Sides
+from gavyreto.capturing.conversations import Conversation
+from gavyreto.capturing.desk import Desk, Sides
+from gavyreto.capturing.endings import Ended, Endings, Revisit
 from gavyreto.capturing.files import Frame
-from gavyreto.capturing.frames import ACK, FIN, PUSH, RESET, SYN, Other, Segment, Tags, Unread, address_of, port_of, segment_of
+from gavyreto.capturing.frames import segment_of
+from gavyreto.capturing.internet import ACK, FIN, RESET, SYN, Foreign, Other, Segment, Unread, address_of, port_of
+from gavyreto.capturing.memory import Memory
 from gavyreto.capturing.messages import is_header, is_record
-from gavyreto.capturing.streams import WINDOW, Memory
+from gavyreto.capturing.streams import HALF, SPACE
 from gavyreto.tds import PacketType
 
-Key = tuple[Tags, bytes, bytes]  # client and server
-MOST_OPEN = 8192  # connections that are followed at once; past them the one that was silent for longest ends
-MOST_ENDED = 4096  # whose late copies are known
+MOST_RESTING = 1024  # connections that are followed at once, some of which may rest; one that rests goes on by its numbers
+MOST_OPEN = 8192  # of all
+MOST_OF_A_KEY = 8  # of the same addresses and ports
+MOST_REVISITED = 256  # that come again
 MOST_OF_A_RUN = 1 << 16  # bytes of segments that are taken as one
 MOST_PORTS = 64  # of other servers that are named
-
-
-class Ends(NamedTuple):
-    """What is known of a connection that has ended: the sequence numbers of each side's SYN, and after its last byte."""
-
-    first: tuple[Optional[int], Optional[int]]
-    last: tuple[int, int]
+WRONG_CHECKSUM = "a wrong checksum of TCP"
+GIVEN_UP = f"more than {MOST_OPEN} connections are open: this one, which was silent for longest, is given up"
 
 
 class Run:
-    """Segments of one side that follow each other in the capture, and that are taken as one."""
+    """Segments of one side that follow each other in the capture, and that are taken as one; between them the other side only
+    acknowledges some, of which the farthest is kept."""
 
     def __init__(self, segment: Segment, is_client: bool, time: int) -> None:
         self.first, self.is_client, self.time = segment, is_client, time
         self.size = len(segment.data)
+        self.acknowledgement: Optional[Segment] = None
         self._pieces = [segment.data]
 
     def add(self, segment: Segment) -> bool:
-        """Adds the next segment, if it is the next."""
+        """Adds the next segment, if it is the next, or only acknowledges."""
         first = self.first
+        if not segment.data:
+            return self._add_acknowledgement(segment)
         goes_on = (
             segment.sequence == (first.sequence + self.size) % (1 << 32) and segment.source == first.source and segment.target == first.target
             and segment.acknowledged == first.acknowledged and segment.tags == first.tags and self.size < MOST_OF_A_RUN and is_plain(segment))
@@ -46,14 +53,31 @@ class Run:
             self.size += len(segment.data)
         return goes_on
 
+    def _add_acknowledgement(self, segment: Segment) -> bool:
+        first, before = self.first, self.acknowledgement
+        goes_on = (
+            segment.flags == ACK and segment.source == first.target and segment.target == first.source and segment.tags == first.tags
+            and not segment.cut and not segment.is_wrong and (before is None or before.sequence == segment.sequence))
+        if goes_on and (before is None or (segment.acknowledged - before.acknowledged) % SPACE < HALF):
+            self.acknowledgement = segment
+        return goes_on
+
     def segment(self) -> Segment:
         """All of them as one."""
         return self.first._replace(data=b"".join(self._pieces)) if len(self._pieces) > 1 else self.first
 
 
 def is_plain(segment: Segment) -> bool:
-    """Whether a segment has only data, of more than one byte, all of which was captured."""
-    return segment.flags & (SYN | FIN | RESET | ACK) == ACK and len(segment.data) > 1 and not segment.cut
+    """Whether a segment has only data, of more than one byte, all of which was captured and is sound."""
+    return segment.flags & (SYN | FIN | RESET | ACK) == ACK and len(segment.data) > 1 and not segment.cut and not segment.is_wrong
+
+
+class Again(NamedTuple):
+    """A connection that comes again, and what it is compared with."""
+
+    revisit: Revisit
+    first: Union[Conversation, Ended]
+    time: int
 
 
 class Connections:
@@ -63,31 +87,41 @@ class Connections:
         self.others: Counter[int] = Counter()  #: further ports, by their segments that look like TDS
         self.cut = 0  #: frames that weren't captured whole
         self._ports, self._desk, self._accounts = ports, desk, accounts
-        self._open: OrderedDict[Key, Conversation] = OrderedDict()
-        self._ended: OrderedDict[Key, Ends] = OrderedDict()
+        self._open: dict[bytes, list[Conversation]] = {}  # by client and server
+        self._recent: OrderedDict[Conversation, bytes] = OrderedDict()  # the longest silent first
+        self._silent: OrderedDict[Conversation, bytes] = OrderedDict()  # those that were silent for longer, with a message under way
+        self._endings = Endings()
+        self._again: OrderedDict[bytes, Again] = OrderedDict()
         self._memory = Memory()
         self._run: Optional[Run] = None
 
     def take(self, frame: Frame) -> None:
         """Takes a frame."""
-        self._accounts.frames += 1
+        accounts = self._accounts
+        accounts.frames += 1
         try:
-            segment = segment_of(frame.link, frame.data, frame.length)
+            segment = segment_of(frame.link, frame.data, frame.length, self._ports)
         except Other:
-            self._accounts.elsewhere += 1
+            accounts.elsewhere += 1
+            return
+        except Foreign as kind:
+            accounts.count(accounts.foreign, str(kind))
             return
         except Unread as why:
-            self._accounts.unread[str(why)] += 1
+            accounts.count(accounts.unread, str(why))
             return
         if self._run and self._run.add(segment):
-            self._accounts.in_connections += 1
+            accounts.in_connections += 1
             return
         is_client = self._is_client(segment)
         if is_client is None:
-            self._accounts.elsewhere += 1
+            accounts.elsewhere += 1
             self._look(segment)
             return
-        self._accounts.in_connections += 1
+        if segment.is_wrong:
+            accounts.count(accounts.foreign, WRONG_CHECKSUM)
+        else:
+            accounts.in_connections += 1
         self.cut += segment.cut > 0
         self._end_run()
         if is_plain(segment):
@@ -99,12 +133,14 @@ class Connections:
         run, self._run = self._run, None
         if run:
             self._take(run.segment(), run.is_client, run.time)
+            if run.acknowledgement:
+                self._take(run.acknowledgement, not run.is_client, run.time)
 
     def _is_client(self, segment: Segment) -> Optional[bool]:
         """Whether a client sent a segment, and not its server; None if it is of no connection that is asked for."""
         to_server, from_server = port_of(segment.target) in self._ports, port_of(segment.source) in self._ports
         if to_server and from_server:
-            return (segment.tags, segment.source, segment.target) in self._open or segment.flags & (SYN | ACK) == SYN
+            return segment.source + segment.target in self._open or segment.flags & (SYN | ACK) == SYN
         return to_server if to_server or from_server else None
 
     def _look(self, segment: Segment) -> None:
@@ -120,66 +156,136 @@ class Connections:
             if port in self.others or len(self.others) < MOST_PORTS:
                 self.others[port] += 1
 
+    # Whose segment it is.
+
     def _take(self, segment: Segment, is_client: bool, time: int) -> None:
-        client, server = (segment.source, segment.target) if is_client else (segment.target, segment.source)
-        key = (segment.tags, client, server)
-        flags, sequence, data = segment.flags, segment.sequence, segment.data
-        conversation = self._open.get(key)
-        if conversation and flags & SYN and conversation.begins_anew(is_client, sequence):
-            self._end(key)
-            conversation = None
+        key = segment.source + segment.target if is_client else segment.target + segment.source
+        conversation = self._find(key, is_client, segment, time)
         if conversation is None:
-            if self._is_late_copy(key, segment, is_client):
-                return
-            conversation = self._begin(key)
-        self._open.move_to_end(key)
-        if flags & SYN:
-            conversation.open(is_client, sequence)
-            sequence = (sequence + 1) % (1 << 32)
-        if flags & RESET:
             return
-        is_probe = len(data) == 1 and not flags & (PUSH | FIN | SYN)
-        conversation.add(is_client, sequence, segment.acknowledged if flags & ACK else None, data, time, is_probe)
-        if flags & FIN:
-            conversation.end(is_client, (sequence + len(data) + segment.cut) % (1 << 32))
-        if flags & FIN or not data:
-            self._end_whole(key, conversation)
+        if self._silent.pop(conversation, None):
+            self._recent[conversation] = key
+        self._recent.move_to_end(conversation)
+        if conversation.share.held:
+            self._memory.touch(conversation.share)
+        conversation.take(is_client, segment, time)
+        if segment.flags & (SYN | ACK) == SYN | ACK and self._endings.has_been(key, conversation.first()):
+            self._desk.tell(conversation.sides, time, "a connection with these addresses and first numbers has been there: what follows may be the same")
+        if self._memory.is_past():
+            self._memory.shorten()
+        if segment.flags & (FIN | RESET) or not segment.data:
+            self._end_whole(key, conversation, segment)
 
-    def _is_late_copy(self, key: Key, segment: Segment, is_client: bool) -> bool:
-        """Whether a segment is one more of a connection that has ended: without data, or by both its numbers, or by that of its SYN."""
-        if key not in self._ended:
-            return False
-        ended = self._ended[key]
-        if segment.flags & SYN:
-            return segment.sequence in ended.first
-        own, other = ended.last if is_client else reversed(ended.last)
-        numbers = ((segment.sequence, own), (segment.acknowledged, other))
-        return not segment.data or all((end - number) % (1 << 32) <= WINDOW for number, end in numbers)
-
-    def _begin(self, key: Key) -> Conversation:
-        _, client, server = key
-        sides = Sides(*(f"{host}.{port}" for host, port in (address_of(client), address_of(server))))
-        conversation = self._open[key] = Conversation(sides, self._desk, self._accounts, self._memory)
-        self._ended.pop(key, None)
-        if len(self._open) > MOST_OPEN:
-            self._end(next(iter(self._open)))
+    def _find(self, key: bytes, is_client: bool, segment: Segment, time: int) -> Optional[Conversation]:
+        """The connection that a segment is of, which begins with it if it isn't there; None if it only comes again."""
+        others = self._open.get(key)
+        if others and len(others) == 1 and others[0].is_near(is_client, segment):
+            conversation: Optional[Conversation] = others[0]
+        else:
+            conversation = self._of_open(key, is_client, segment)
+            if conversation is None or conversation.is_far_ahead(is_client, segment):
+                ended = self._endings.find(key, is_client, segment)
+                if ended and (segment.flags & SYN or not ended.is_new(is_client, segment)):
+                    self._compare(key, ended, ended.sides(is_client)[0].place, is_client, segment, time)
+                    return None
+                conversation = conversation or self._begin_with(key, segment, ended)
+        if conversation and conversation.comes_again(is_client, segment):
+            self._compare(key, conversation, conversation.next_of(is_client), is_client, segment, time)
         return conversation
 
-    def _end_whole(self, key: Key, conversation: Conversation) -> None:
-        """Ends a connection of which all is there."""
-        if conversation.is_over():
-            self._end(key)
+    def _begin_with(self, key: bytes, segment: Segment, ended: Optional[Ended]) -> Optional[Conversation]:
+        """A connection begins, or one that rested goes on. A reset alone shows nothing of one."""
+        if segment.flags & RESET:
+            return None
+        conversation = self._begin(key, segment)
+        self._accounts.connections += ended is None
+        if ended:
+            self._endings.take(key, ended)
+            conversation.go_on(ended.client, ended.server)
+        return conversation
 
-    def _end(self, key: Key) -> None:
-        conversation = self._open.pop(key)
-        conversation.finish()
-        streams = conversation.client.stream, conversation.server.stream
-        self._ended[key] = Ends((streams[0].first, streams[1].first), (streams[0].place % (1 << 32), streams[1].place % (1 << 32)))
-        if len(self._ended) > MOST_ENDED:
-            self._ended.popitem(last=False)
+    def _of_open(self, key: bytes, is_client: bool, segment: Segment) -> Optional[Conversation]:
+        """The open connection that a segment is of. One with the same tags that has other numbers has ended."""
+        found = [it for it in self._open.get(key, ()) if not it.contradicts(is_client, segment)]
+        if not found:
+            return None
+        return next((it for it in found if it.tags == segment.tags), found[0])
+
+    def _begin(self, key: bytes, segment: Segment) -> Conversation:
+        half = len(key) // 2
+        sides = Sides(*(f"{host}.{port}" for host, port in (address_of(key[:half]), address_of(key[half:]))))
+        conversation = Conversation(sides, segment.tags, self._desk, self._accounts, self._memory)
+        for before in [it for it in self._open.get(key, ()) if it.tags == segment.tags and not segment.is_wrong]:
+            before.disown(segment.source + segment.target == key, segment)  # its ports are used again
+            self._end(key, before)
+        others = self._open.setdefault(key, [])
+        if len(others) >= MOST_OF_A_KEY:
+            self._end(key, others[0], GIVEN_UP)
+            others = self._open.setdefault(key, [])
+        others.append(conversation)
+        self._recent[conversation] = key
+        self._make_room()
+        return conversation
+
+    def _make_room(self) -> None:
+        """Ends those that were silent for longest: those that rest, or if there are too many, another one."""
+        if len(self._recent) > MOST_RESTING:
+            oldest, key = self._recent.popitem(last=False)
+            self._silent[oldest] = key
+            if oldest.is_idle():
+                self._end(key, oldest)
+        if len(self._recent) + len(self._silent) > MOST_OPEN:
+            oldest, key = next(iter((self._silent or self._recent).items()))
+            self._end(key, oldest, GIVEN_UP)
+
+    # What comes again.
+
+    def _compare(self, key: bytes, first: Union[Conversation, Ended], end: int, is_client: bool, segment: Segment, time: int) -> None:
+        """A segment of a connection that was there: if its SYN came again, it is compared up to a place."""
+        again = self._again.get(key)
+        if again and again.first is not first:
+            self._end_again(key)
+            again = None
+        if again is None:
+            if not segment.flags & SYN:
+                return
+            again = self._again[key] = Again(Revisit(self._memory), first, time)
+            if len(self._again) > MOST_REVISITED:
+                self._end_again(next(iter(self._again)))
+        self._again.move_to_end(key)
+        again.revisit.take(is_client, segment, end % SPACE)
+
+    def _end_again(self, key: bytes) -> None:
+        again = self._again.pop(key)
+        first = again.first
+        client, server = first.ended() if isinstance(first, Conversation) else (first.client, first.server)
+        if again.revisit.differs(client, server):
+            half = len(key) // 2
+            sides = Sides(*(f"{host}.{port}" for host, port in (address_of(key[:half]), address_of(key[half:]))))
+            self._desk.tell(sides, again.time, "a connection comes again with the same first numbers, and not with the same bytes: those that came first count")
+        again.revisit.close()
+
+    # Ends.
+
+    def _end_whole(self, key: bytes, conversation: Conversation, segment: Segment) -> None:
+        """Ends a connection of which all is there."""
+        if conversation.is_over() or segment.flags & RESET and conversation.is_idle():
+            self._end(key, conversation)
+
+    def _end(self, key: bytes, conversation: Conversation, why: str = "") -> None:
+        self._recent.pop(conversation, None)
+        self._silent.pop(conversation, None)
+        others = self._open[key]
+        others.remove(conversation)
+        if not others:
+            del self._open[key]
+        conversation.finish(why)
+        self._endings.add(key, conversation)
 
     def finish(self) -> None:
         """Nothing more comes."""
         self._end_run()
-        while self._open:
-            self._end(next(iter(self._open)))
+        for conversation, key in [*self._silent.items(), *self._recent.items()]:
+            self._end(key, conversation)
+        while self._again:
+            self._end_again(next(iter(self._again)))

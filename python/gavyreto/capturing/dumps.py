@@ -7,13 +7,15 @@ from typing import NamedTuple
 
 from gavyreto import tds
 from gavyreto.capturing.accounts import Accounts
-from gavyreto.capturing.conversations import Answers, Desk, Sides
+from gavyreto.capturing.answers import Answers
+from gavyreto.capturing.desk import Desk, Sides
 from gavyreto.capturing.files import Source
 from gavyreto.capturing.messages import Asked, Requests, is_record
 from gavyreto.capturing.streams import Piece
 from gavyreto.tds import PacketType
 
-HEAD = re.compile(rb".*\b(Sending|Received) packet\r?$")
+# The whole line: before the file and line of the client's source there may be a time, and numbers of a process and a thread.
+HEAD = re.compile(rb"(?:\d\d:\d\d:\d\d\.\d{1,6} )?(?:\d+ )*\(?[a-z0-9_]+\.c:\d+\)?:(Sending|Received) packet\r?$")
 DUMPED = re.compile(rb"([0-9a-f]{4,8}) ((?:[0-9a-f]{2}[ -]){1,16})")
 BLOCK = 1 << 16
 
@@ -28,7 +30,7 @@ class Dumped(NamedTuple):
 
 def dumped(lines: Iterable[bytes]) -> Iterator[Dumped]:
     """The packets of a dump (the file that TDSDUMP names): lines of hexadecimal after one that says where they went. Each packet is
-    decrypted there."""
+    decrypted there. A client of DB-Library writes its statements there too, as they are: whoever makes them can write such lines."""
     data, is_received, begun = bytearray(), None, 0
     for number, line in enumerate(lines, 1):
         found = DUMPED.match(line) if is_received is not None else None
@@ -55,7 +57,7 @@ class _Connection:
         self.answers = Answers(Sides(), desk, accounts, is_numbered=True)
         self.answers.is_client_known = True
         self._requests = Requests()
-        self._place = 0
+        self._place, self._asked = 0, 0  # of the next byte of the server, and of the client
         accounts.connections += 1
 
     def is_waiting(self) -> bool:
@@ -68,13 +70,14 @@ class _Connection:
 
     def take(self, packet: Dumped) -> None:
         """Takes a packet. Raises `Mixed`."""
-        piece = Piece(self._place, packet.data, self._place, 0)
         if packet.is_received:
             if not self._requests.is_between():
                 raise Mixed(f"line {packet.line}: an answer within a request")
+            self.answers.take(Piece(self._place, packet.data, self._asked, 0))
             self._place += len(packet.data)
-            self.answers.take(piece)
             return
+        piece = Piece(self._asked, packet.data, self._place, 0)
+        self._asked += len(packet.data)
         for request in self._requests.take(piece):
             if not self._may_ask(request.kind):
                 raise Mixed(f"line {packet.line}: a request before the end of the answer to the one before it")
@@ -82,8 +85,8 @@ class _Connection:
 
     def _may_ask(self, kind: Asked) -> bool:
         """An attention may come at any time, and a login after the last message of TLS's handshake."""
-        pending = self.answers.pending
-        return kind is Asked.ATTENTION or self.answers.is_between() and (not pending or kind is Asked.LOGIN and pending[-1].kind is Asked.GREETING)
+        before = self.answers.pending.last()
+        return kind is Asked.ATTENTION or self.answers.is_between() and (before is None or kind is Asked.LOGIN and before.kind is Asked.GREETING)
 
 
 class Dump:

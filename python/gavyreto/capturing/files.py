@@ -7,17 +7,22 @@ import io
 import struct
 import zlib
 from collections.abc import Iterator
-from typing import IO, NamedTuple, cast
+from typing import IO, Callable, Literal, NamedTuple, cast
 
 GZIP = b"\x1F\x8B"
 PCAP = {  # by the first bytes: the order of bytes, and the units of time in a second
     b"\xD4\xC3\xB2\xA1": ("<", 10**6), b"\xA1\xB2\xC3\xD4": (">", 10**6), b"\x4D\x3C\xB2\xA1": ("<", 10**9), b"\xA1\xB2\x3C\x4D": (">", 10**9)}
 PCAPNG = b"\x0A\x0D\x0D\x0A"
+BYTES: dict[str, Literal["little", "big"]] = {"<": "little", ">": "big"}
 ORDERS = {b"\x4D\x3C\x2B\x1A": "<", b"\x1A\x2B\x3C\x4D": ">"}
-SECTION, INTERFACE, OLD_PACKET, SIMPLE_PACKET, PACKET = 0x0A0D0D0A, 1, 2, 3, 6  # types of blocks of pcapng
+SECTION, INTERFACE, OLD_PACKET, SIMPLE_PACKET, STATISTICS, PACKET = 0x0A0D0D0A, 1, 2, 3, 5, 6  # types of blocks of pcapng
 RESOLUTION, OFFSET = 9, 14  # options of an interface: units of time in a second, seconds to add
+DROPPED_BEFORE = 4  # an option of a packet: frames that were lost before it (epb_dropcount)
+DROPPED = (5, 7)  # options of statistics: frames lost so far by the interface (isb_ifdrop) and by the system (isb_osdrop)
+UNKNOWN = (1 << 64) - 1  # a count that isn't known
 MOST_OF_A_FRAME = 1 << 20  # bytes; a greater length is no length
 MOST_OF_A_BLOCK = 1 << 24
+BLOCK = 1 << 18  # bytes that are read at once, at most
 HEAD = 4096  # bytes that are looked at before a file is read
 
 
@@ -38,9 +43,9 @@ class Source:
     """The bytes of a file, a pipe, or what gzip made of them, of which the first can be looked at before they are read."""
 
     def __init__(self, file: IO[bytes]) -> None:
-        self._file = io.BufferedReader(cast(io.RawIOBase, file), 1 << 18)
+        self._file = io.BufferedReader(cast(io.RawIOBase, file), BLOCK)
         if self._file.peek(2)[:2] == GZIP:
-            self._file = io.BufferedReader(cast(io.RawIOBase, gzip.GzipFile(fileobj=self._file)), 1 << 18)
+            self._file = io.BufferedReader(cast(io.RawIOBase, gzip.GzipFile(fileobj=self._file)), BLOCK)
         self._head = self._first(HEAD)
 
     def _first(self, length: int) -> bytes:
@@ -53,8 +58,11 @@ class Source:
         return head
 
     def _some(self, length: int) -> bytes:
+        return self._checked(self._file.read, length)
+
+    def _checked(self, read: Callable[[int], bytes], length: int) -> bytes:
         try:
-            return self._file.read(length)
+            return read(length)
         except (EOFError, zlib.error, gzip.BadGzipFile) as cut:
             raise CutShort(f"the compressed file ends too early, or is damaged: {cut}") from None
 
@@ -68,6 +76,11 @@ class Source:
             return self._some(length)
         data, self._head = self._head[:length], self._head[length:]
         return data if len(data) == length else data + self._some(length - len(data))
+
+    def more(self) -> bytes:
+        """The next bytes, as many as are there, or none at the end."""
+        data, self._head = self._head, b""
+        return data or self._checked(self._file.read1, BLOCK)
 
     def lines(self) -> Iterator[bytes]:
         """The lines, each at most as long as a line of a dump may be; a longer one comes in several."""
@@ -89,9 +102,34 @@ def is_capture(head: bytes) -> bool:
     return head[:4] in PCAP or head[:4] == PCAPNG
 
 
-def frames(source: Source) -> Iterator[Frame]:
+class Drops:
+    """The frames that a capture says it has lost, of each interface: as statistics count them, and as packets do."""
+
+    def __init__(self) -> None:
+        self._ended = 0  # of the sections before
+        self._counted: dict[int, int] = {}
+        self._before: dict[int, int] = {}
+
+    def end_section(self) -> None:
+        """The interfaces that follow are others."""
+        self._ended = self.total()
+        self._counted, self._before = {}, {}
+
+    def count(self, interface: int, so_far: int) -> None:
+        """So many of an interface, from the beginning on."""
+        self._counted[interface] = max(so_far, self._counted.get(interface, 0))
+
+    def add(self, interface: int, count: int) -> None:
+        """So many more of an interface."""
+        self._before[interface] = self._before.get(interface, 0) + count
+
+    def total(self) -> int:
+        return self._ended + sum(max(self._counted.get(it, 0), self._before.get(it, 0)) for it in {*self._counted, *self._before})
+
+
+def frames(source: Source, drops: Drops) -> Iterator[Frame]:
     """The frames of a capture. Raises `CutShort` after the last whole one if it doesn't end there."""
-    return _pcapng(source) if source.head()[:4] == PCAPNG else _pcap(source)
+    return _pcapng(source, drops) if source.head()[:4] == PCAPNG else _pcap(source)
 
 
 def _need(source: Source, length: int, what: str) -> bytes:
@@ -105,21 +143,25 @@ def _pcap(source: Source) -> Iterator[Frame]:
     head = _need(source, 24, "its header")
     order, units = PCAP[head[:4]]
     link = struct.unpack_from(order + "I", head, 20)[0] & 0xFFFF  # the bits above tell of check sequences
-    record = struct.Struct(order + "IIII")
-    read, unpack, nanoseconds = source.read, record.unpack, units // 10**6
+    unpack, nanoseconds = struct.Struct(order + "IIII").unpack_from, units // 10**6
+    block, at = b"", 0
     while True:
-        head = read(16)
-        if len(head) < 16:
+        end = at + 16
+        if end <= len(block):
+            seconds, parts, captured, length = unpack(block, at)
+            if captured > MOST_OF_A_FRAME:
+                raise CutShort(f"the capture goes on with what is no frame: {captured} bytes")
+            end += captured
+            if end <= len(block):
+                yield Frame(seconds * 10**6 + parts // nanoseconds, link, block[at + 16:end], length if length > captured else captured)
+                at = end
+                continue
+        more = source.more()
+        if not more:
             break
-        seconds, parts, captured, length = unpack(head)
-        if captured > MOST_OF_A_FRAME:
-            raise CutShort(f"the capture goes on with what is no frame: {captured} bytes")
-        data = read(captured)
-        if len(data) < captured:
-            raise CutShort("the capture ends within a frame")
-        yield Frame(seconds * 10**6 + parts // nanoseconds, link, data, max(length, captured))
-    if head:
-        raise CutShort("the capture ends within a frame's header")
+        block, at = block[at:] + more, 0
+    if at < len(block):
+        raise CutShort("the capture ends within a frame" if at + 16 <= len(block) else "the capture ends within a frame's header")
 
 
 class _Interface(NamedTuple):
@@ -131,7 +173,7 @@ class _Interface(NamedTuple):
     offset: int
 
 
-def _pcapng(source: Source) -> Iterator[Frame]:
+def _pcapng(source: Source, drops: Drops) -> Iterator[Frame]:
     order, interfaces = "<", list[_Interface]()
     while True:
         head = source.read(8)
@@ -144,6 +186,7 @@ def _pcapng(source: Source) -> Iterator[Frame]:
             if mark not in ORDERS:
                 raise CutShort("the capture goes on with a section in no order of bytes")
             order, interfaces = ORDERS[mark], []
+            drops.end_section()
             head += mark
         kind, length = struct.unpack_from(order + "II", head)
         if not 12 <= length <= MOST_OF_A_BLOCK or length % 4:
@@ -153,24 +196,46 @@ def _pcapng(source: Source) -> Iterator[Frame]:
             interfaces.append(_interface(order, body))
         elif kind in (PACKET, SIMPLE_PACKET, OLD_PACKET):
             try:
-                yield _frame(order, kind, body, interfaces)
+                frame = _frame(order, kind, body, interfaces)
             except (struct.error, IndexError):
                 raise CutShort("the capture goes on with a block that is no frame") from None
+            if kind == PACKET:
+                _count_before(order, body, len(frame.data), drops)
+            yield frame
+        elif kind == STATISTICS and len(body) >= 12:
+            found = [int.from_bytes(value, BYTES[order]) for option, value in _options(order, body, 12) if option in DROPPED and len(value) == 8]
+            drops.count(struct.unpack_from(order + "I", body)[0], sum(it for it in found if it != UNKNOWN))
+
+
+def _count_before(order: str, body: bytes, captured: int, drops: Drops) -> None:
+    """Counts the frames that were lost before one."""
+    at = 20 + captured + -captured % 4
+    if at < len(body):
+        for option, value in _options(order, body, at):
+            if option == DROPPED_BEFORE and len(value) == 8:
+                drops.add(struct.unpack_from(order + "I", body)[0], int.from_bytes(value, BYTES[order]))
+
+
+def _options(order: str, body: bytes, at: int) -> Iterator[tuple[int, bytes]]:
+    """The options of a block from a place on: the code of each, and its value."""
+    while at + 4 <= len(body):
+        option, length = struct.unpack_from(order + "HH", body, at)
+        if not option:
+            return
+        yield option, body[at + 4:at + 4 + length]
+        at += 4 + length + -length % 4
 
 
 def _interface(order: str, body: bytes) -> _Interface:
     if len(body) < 8:
         raise CutShort("the capture goes on with an interface that is none")
     link, most = struct.unpack_from(order + "HxxI", body)
-    units, offset, at = 10**6, 0, 8
-    while at + 4 <= len(body):
-        option, length = struct.unpack_from(order + "HH", body, at)
-        value = body[at + 4:at + 4 + length]
+    units, offset = 10**6, 0
+    for option, value in _options(order, body, 8):
         if option == RESOLUTION and value:
             units = 2 ** (value[0] & 0x7F) if value[0] & 0x80 else 10 ** value[0]
         elif option == OFFSET and len(value) == 8:
             offset = struct.unpack(order + "q", value)[0]
-        at += 4 + length + -length % 4
     return _Interface(link, most, units, offset)
 
 

@@ -1,4 +1,6 @@
-"""The packets of answers under way: in memory as long as they are few; then of one answer by a pipe to the program, of others in files."""
+"""The packets of answers under way: in memory as long as they are few; then of one answer by a pipe to the program, of others in files.
+
+A whole answer in memory is exported by a program that goes on to the next one; any other by one of its own."""
 from __future__ import annotations
 
 import contextlib
@@ -47,18 +49,20 @@ class Run:
 
 
 class Room:
-    """A folder for packets and texts, the bytes of all answers that are in memory, and the program on the answer that has its pipe. A
-    context that ends it."""
+    """A folder for packets and texts, the bytes of all answers that are in memory, the program on the answer that has its pipe, and the
+    one that goes on from answer to answer. A context that ends both."""
 
     def __init__(self, folder: str, command: list[str], is_piping: bool) -> None:
         self.folder, self.used = folder, 0
         self._command, self._is_piping, self._count = command, is_piping, 0
         self._run: Optional[Run] = None
+        self._program = program.Program(command)
 
     def __enter__(self) -> Room:
         return self
 
     def __exit__(self, *_: object) -> None:
+        self._program.close()
         if self._run:
             self._run.kill()
 
@@ -73,6 +77,18 @@ class Room:
             return None
         self._run = Run(self._command, self.next_path())
         return self._run
+
+    def export(self, packets: bytes) -> tuple[program.Ending, str]:
+        """How the program ends on a whole answer, and the file of its text."""
+        text = self.next_path()
+        with open(text, "wb") as out:
+            output = program.Output(out.fileno())
+            try:
+                self._program.begin()
+                self._program.hand(packets, output)
+                return self._program.finish(output), text
+            except program.OutputFailed as failed:
+                raise OSError(failed.failure.errno, failed.failure.strerror, text) from None
 
     def run(self, packets: str) -> Run:
         """The program on the packets in a file."""
@@ -130,6 +146,10 @@ class Kept:
     def first(self, length: int) -> bytes:
         """The first bytes, up to 64 KiB."""
         return (self._first or bytes(self._data))[:length]
+
+    def whole(self) -> Optional[bytes]:
+        """All bytes, of an answer that is in memory."""
+        return None if self._path or self._run else bytes(self._data)
 
     def file(self) -> str:
         """A file with all bytes, of an answer that isn't piped."""

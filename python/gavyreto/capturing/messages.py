@@ -12,6 +12,7 @@ from gavyreto.capturing.streams import Piece
 from gavyreto.tds import PacketType
 
 TLS_RECORDS = range(0x14, 0x18)  # types of TLS records
+ASKING_RECORDS = (0x16, 0x17)  # those that an answer may come to: not a change of ciphers, nor an alert
 MARS = 0x53
 PROCEDURE, BULK, FEDERATED, TRANSACTION, SSPI = 0x03, 0x07, 0x08, 0x0E, 0x11  # further types of packets that a client sends
 STATEMENT_LENGTH = 60  # characters of a statement that are shown
@@ -37,12 +38,16 @@ KINDS = {
 
 @dataclass
 class Request:
-    """A message of a client: what the server had sent as far as the client knew, and when it began."""
+    """A message of a client. A client asks once it has the whole answer before: so the acknowledgement number of its first byte is
+    that of the first byte of its answer."""
 
     kind: Asked
-    words: str
-    acknowledged: int
+    acknowledged: int  #: the place of the server's next byte, as the client knew it
+    start: int  #: the place of its first byte
     time: int
+    end: int = 0  #: the place after its last byte, as far as it is there
+    words: str = ""
+    is_whole: bool = False
 
 
 def is_header(data: bytes, kinds: Container[int]) -> bool:
@@ -63,64 +68,89 @@ def shortened(body: bytes) -> str:
     return words if len(words) <= STATEMENT_LENGTH else words[:STATEMENT_LENGTH - 2].rstrip() + " .."
 
 
+def _is_first(data: bytes) -> bool:
+    """Whether the first packet of a message that asks for rows may begin so, or a record of TLS."""
+    asks = is_header(data, (PacketType.STATEMENT, PacketType.PROCEDURE, PacketType.ATTENTION, PacketType.BULK, PacketType.TRANSACTION))
+    return asks and data[6] < 2 and not data[7] or is_record(data)
+
+
 class Requests:
     """Takes the bytes of a client, and finds its messages."""
 
     def __init__(self) -> None:
         self.strange = 0  #: bytes that are in no message
+        self.open: Optional[Request] = None  #: the message under way
+        self._acknowledged = 0  # what the server had sent, as far as the client knew at the piece before
         self._waiting = b""  # of a header that isn't whole
         self._left = 0  # bytes of the packet or record under way
-        self._kind: Optional[Asked] = None  # of the message under way
         self._is_last, self._is_lost = False, False
-        self._body, self._time, self._acknowledged = bytearray(), 0, 0
+        self._body = bytearray()
 
     def lose(self) -> None:
-        """Bytes are lacking: what was under way is no message, and the next one begins with a piece."""
+        """Bytes are lacking: what comes next is of the message under way, or of one whose header lacks, up to a message after a further
+        answer of the server."""
         self.strange += len(self._waiting)
-        self._waiting, self._left, self._kind, self._is_lost = b"", 0, None, True
+        self._waiting, self._left, self.open, self._is_lost = b"", 0, None, True
 
     def is_between(self) -> bool:
         """Whether no message is under way."""
-        return not self._waiting and not self._left and self._kind is None
+        return not self._waiting and not self._left and self.open is None
+
+    def unfinished(self) -> int:
+        """Bytes in no message, those of a header that isn't whole among them."""
+        return self.strange + len(self._waiting)
 
     def take(self, piece: Piece) -> list[Request]:
-        """The messages that end in a piece."""
+        """The messages that begin in a piece."""
         found: list[Request] = []
-        data, self._waiting = self._waiting + piece.data, b""
-        if self._is_lost and not is_header(data, KINDS) and not is_record(data):
+        data, place = self._waiting + piece.data, piece.place - len(self._waiting)
+        self._waiting = b""
+        before, self._acknowledged = self._acknowledged, piece.acknowledged
+        if self._is_lost and not (before < piece.acknowledged and _is_first(data)):
             self.strange += len(data)
             return found
         self._is_lost, at = False, 0
         while at < len(data):
             if not self._left:
-                used = self._begin(data[at:at + tds.HEADER], piece)
+                used = self._begin(data[at:at + tds.HEADER], place + at, piece, found)
                 if used == 0:
                     self._keep(data[at:])
                     break
                 at += used
-            body = data[at:at + self._left]
-            if self._kind is Asked.STATEMENT and len(self._body) < MOST_OF_A_STATEMENT:
-                self._body += body[:MOST_OF_A_STATEMENT]
-            at += len(body)
-            self._left -= len(body)
-            self._acknowledged = piece.acknowledged
-            if not self._left and self._is_last:
-                found.append(self._request())
+            at += self._go_on(data[at:at + self._left], place + at)
         return found
 
-    def _begin(self, head: bytes, piece: Piece) -> int:
+    def _begin(self, head: bytes, place: int, piece: Piece, found: list[Request]) -> int:
         """Takes a header, and returns its length, or 0 if there is none."""
+        kind: Optional[Asked]
         if is_record(head) and len(head) >= 5:
-            kind, length, size, self._is_last = Asked.LOGIN, int.from_bytes(head[3:5], "big"), 5, True
+            kind = Asked.LOGIN if head[0] in ASKING_RECORDS else None
+            length, size, self._is_last = int.from_bytes(head[3:5], "big"), 5, True
         elif is_header(head, KINDS):
             kind, length, size, self._is_last = KINDS[head[0]], tds.length_of(head) - tds.HEADER, tds.HEADER, bool(head[1] & tds.LAST)
         else:
             return 0
-        if self._kind is None:
-            self._kind, self._time = kind, piece.time
+        if self.open is None and kind:
+            self.open = Request(kind, piece.acknowledged, place, piece.time, words=kind.value)
             self._body.clear()
+            found.append(self.open)
         self._left = length
         return size
+
+    def _go_on(self, body: bytes, place: int) -> int:
+        """Takes bytes of a packet, and returns how many."""
+        request = self.open
+        self._left -= len(body)
+        if request is None:
+            return len(body)
+        request.end = place + len(body)
+        if request.kind is Asked.STATEMENT and len(self._body) < MOST_OF_A_STATEMENT:
+            self._body += body[:MOST_OF_A_STATEMENT]
+        if not self._left and self._is_last:
+            request.is_whole, self.open = True, None
+            if request.kind is Asked.STATEMENT:
+                request.words = shortened(bytes(self._body))
+        return len(body)
 
     def _keep(self, rest: bytes) -> None:
         """A header that isn't whole waits; anything else is passed over, up to the piece that begins with one."""
@@ -128,12 +158,7 @@ class Requests:
             self._waiting = rest
         else:
             self.strange += len(rest)
-            self._kind, self._is_lost = None, True
-
-    def _request(self) -> Request:
-        kind, self._kind = self._kind or Asked.STATEMENT, None
-        words = shortened(bytes(self._body)) if kind is Asked.STATEMENT else kind.value
-        return Request(kind, words, self._acknowledged, self._time)
+            self.open, self._is_lost = None, True
 
 
 # What a server sends.
@@ -212,12 +237,14 @@ def is_greeting(payload: bytes) -> bool:
     return at > 0 and payload[at:at + 1] == b"\xFF"
 
 
-LOGIN_TOKENS = (tds.Token.ENV_CHANGE, tds.Token.INFO, tds.Token.ERROR, 0xED)  # what comes before the LOGINACK
+LOGIN_TOKENS = (tds.Token.ENV_CHANGE, tds.Token.INFO, tds.Token.ERROR)  # what comes before the LOGINACK
+SSPI_ANSWER, FEDERATED_ANSWER = 0xED, 0xEE  # what a server asks in turn (MS-TDS, SSPI and FEDAUTHINFO)
 
 
 def is_login(payload: bytes) -> bool:
-    """Whether a payload begins as the answer to a login: with a LOGINACK, after changes and messages only."""
+    """Whether a payload begins as the answer to a login: with a LOGINACK, after changes and messages only, or with what is asked of the
+    client in turn."""
     at = 0
     while at < len(payload) and payload[at] in LOGIN_TOKENS:
         at += 3 + int.from_bytes(payload[at + 1:at + 3], "little")
-    return at < len(payload) and payload[at] == tds.Token.LOGIN_ACK
+    return at < len(payload) and payload[at] in (tds.Token.LOGIN_ACK, SSPI_ANSWER, FEDERATED_ANSWER)

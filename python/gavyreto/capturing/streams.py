@@ -1,18 +1,27 @@
 """One side of a connection in order: each of its bytes once, by sequence number (RFC 9293, section 3.4).
 
-Of several copies of a byte the first counts, and one that differs is told; so is what is lacking. What comes before its turn is
-held, in windows of bounded size: of one stream, and of all together. Past them what is lacking counts as lost."""
+Three numbers of TCP count here. The sequence number of a segment is that of its first byte; of one without data it is that of the
+byte that its sender sends next (or the one before that, if it asks whether the other side is there), so it shows how much was sent.
+The acknowledgement number is that of the byte that its sender expects: it shows how much the other side has sent, and that this much
+was received. SYN and FIN take one number each.
+
+Of several copies of a byte the first counts. One that differs is told, as far as the receiver hadn't acknowledged the byte: past
+that, no copy reaches it. What comes before its turn is held, in a window of bounded size; past it what is lacking counts as lost."""
 from __future__ import annotations
 
-from bisect import bisect_right
-from collections import deque
-from typing import NamedTuple, Optional, Union
+import struct
+import zlib
+from bisect import bisect_left
+from typing import NamedTuple, Optional
+
+from gavyreto.capturing.memory import OBJECT, Share
 
 SPACE, HALF = 1 << 32, 1 << 31
 WINDOW = 1 << 20  # bytes that are held of one stream
-ALL_WINDOWS = 1 << 23  # of all streams
-REMEMBERED = 3 << 19  # bytes of all streams, already handed out, that further copies are compared with
-OBJECT = 200  # bytes that each piece costs besides
+REMEMBERED = 1 << 20  # bytes of one stream, handed out and not acknowledged, that copies are compared with
+MARK = struct.Struct(">QI")
+MOST_MARKS = 8 * MARK.size
+MOST_SINGLE = 64  # single bytes before their turn
 
 
 class Piece(NamedTuple):
@@ -28,38 +37,30 @@ class Piece(NamedTuple):
         return self.place + len(self.data)
 
 
-class Memory:
-    """What all streams hold and remember together."""
-
-    def __init__(self) -> None:
-        self.held = 0
-        self._remembered = 0
-        self._order: deque[deque[Piece]] = deque()  # of the streams' memories, as long as their pieces together
-
-    def remember(self, memory: deque[Piece], piece: Piece) -> None:
-        """Remembers a piece of a stream, and forgets the oldest of all."""
-        memory.append(piece)
-        self._order.append(memory)
-        self._remembered += len(piece.data) + OBJECT
-        while self._remembered > REMEMBERED:
-            self._remembered -= len(self._order.popleft().popleft().data) + OBJECT
-
-
 class Stream:
     """One side of a connection. Places count its bytes, from its first sequence number on, without an end."""
 
-    def __init__(self, memory: Memory) -> None:
+    def __init__(self, share: Share) -> None:
         self.place = -1  #: of the next byte in order; below 0 before anything is known
+        self.start = 0  #: of its first byte, as far as that is known
         self.first: Optional[int] = None  #: the sequence number of its SYN
+        self.shown = 0  #: the greatest place that any frame shows to be sent
+        self._shown_before = 0  # the greatest but that
+        self.acknowledged = 0  #: the greatest place that the other side says it has
         self.is_late = False  #: whether its beginning isn't there
         self.delivered = 0  #: bytes handed out
+        self.sum = 0  #: a checksum (CRC-32) of them
+        self.marks = b""  #: after each of the first pieces: how many bytes were handed out, and their checksum
         self.differing = 0  #: bytes of copies that differ from the first
-        self.early = 0  #: bytes that came before the first that counts, or again, unacknowledged, when the first copy was forgotten
+        self.early = 0  #: bytes that came again, unacknowledged, when the first copy was forgotten, or before the first that counts
         self.end: Optional[int] = None  #: its place, after a FIN
         self.held: list[Piece] = []  #: what came before its turn, in order, none twice
         self.held_bytes = 0
-        self._memory, self._is_firm, self._start = memory, False, 0
-        self._handed_out: deque[Piece] = deque()
+        self._share, self._is_firm = share, False
+        self._sent: list[Piece] = []  # handed out and not acknowledged
+        self._sent_bytes = 0
+        self._single: dict[int, Piece] = {}  # single bytes before their turn, which may be none
+        self._sums: dict[int, tuple[int, int]] = {}  # by the place of a piece: its length, and its checksum
 
     # Places.
 
@@ -72,7 +73,24 @@ class Stream:
         """Its first byte has this number; if that isn't firm, it may have a lower one. The places begin so high that none is
         below 0."""
         self.place, self.is_late, self._is_firm = SPACE + sequence, is_late, is_firm
-        self._start = self.place
+        self.start = self.shown = self._shown_before = self.place
+        self.acknowledged = self.place if is_firm or not is_late else 0
+
+    def begin_at(self, place: int) -> None:
+        """Its first byte has this place, as it turns out before there is any."""
+        self.place = self.start = place
+        self.is_late = False
+        self.show(place)
+
+    def go_on(self, sequence: int, delivered: int, checksum: int, marks: bytes) -> None:
+        """It goes on with this number after so many bytes, all of which were acknowledged."""
+        self.place = self.shown = self.acknowledged = SPACE + sequence + delivered
+        self.start, self.delivered, self.sum, self.marks, self._is_firm = self.place - delivered, delivered, checksum, marks, True
+
+    def is_near(self, sequence: int) -> bool:
+        """Whether a number is that of a byte that is there, or close after it."""
+        ahead = (sequence - self.place) % SPACE
+        return ahead < WINDOW or SPACE - ahead <= self.place - self.start
 
     def is_begun(self) -> bool:
         return self.place >= 0
@@ -81,25 +99,71 @@ class Stream:
         """Whether all up to its end was handed out."""
         return self.end is not None and self.place >= self.end
 
+    def lacking(self) -> int:
+        """How many bytes are shown to be sent and weren't handed out. A number more may be that of a FIN that isn't there: no
+        message has one byte."""
+        if not self.is_begun():
+            return 0
+        if self.end is not None:
+            return max(self.end - self.place, self.shown - 1 - self.place, 0)
+        ahead = self.shown - self.place
+        return ahead if ahead > 1 else 0
+
+    def show(self, place: int) -> None:
+        """A frame shows that all up to a place was sent."""
+        if place > self.shown:
+            self._shown_before, self.shown = self.shown, place
+
+    def disown(self, sequence: int) -> None:
+        """The greatest number that was shown is the first one of another connection, if it is this one."""
+        if self.is_begun() and self.shown == self.place_of(sequence) and not self.held:
+            self.shown = self.acknowledged = max(self._shown_before, self.place)
+
     # Bytes.
 
-    def add(self, piece: Piece, acknowledged: int) -> list[Piece]:
-        """Takes a piece, and returns what is in order by it. Its receiver had all up to a place: what comes again from before that
-        place doesn't reach it."""
-        if piece.place == self.place and not self.held:
+    def acknowledge(self, place: int) -> None:
+        """The other side says that it has all up to a place. No copy counts any more of what was handed out before it said so."""
+        self.settle(max(place, self.acknowledged))
+
+    def settle(self, place: int) -> None:
+        """The other side has all up to a place, and no copy of that counts any more."""
+        if place > self.acknowledged:
+            self.acknowledged = place
+            self.show(place)
+        if not self._sent:
+            return
+        count = 0
+        while count < len(self._sent) and self._sent[count].end() <= place:
+            count += 1
+        self._forget(count)
+
+    def add(self, piece: Piece) -> list[Piece]:
+        """Takes a piece, and returns what is in order by it."""
+        if piece.place == self.place and not self.held and not self._single:
             return [self._hand_out(piece)]
         if piece.place < self.place:
             if self._lowers(piece):
-                self.place = self._start = piece.place
+                self.place = self.start = piece.place
             else:
-                compared = self._compare(piece, self._handed_out)
-                known = max(min(piece.end(), self.place) - piece.place, 0)
-                if compared < known and (piece.end() > acknowledged or piece.place < self._start):
-                    self.early += known - compared
+                self._compare_sent(piece)
                 piece = _from(piece, self.place)
         if piece.data:
             self._hold(piece)
-        return self._in_order()
+        pieces = self._in_order()
+        while self._single and self.place in self._single:
+            pieces += [self._hand_out(self._single.pop(self.place)), *self._in_order()]
+        return pieces
+
+    def add_single(self, piece: Piece) -> list[Piece]:
+        """Takes a byte that may only ask whether the other side is there: then it is any byte, with the number of the last one that was
+        sent. So it counts only before any other copy, and if it isn't the last one that is shown."""
+        if piece.place + 1 == self.shown or piece.place < self.place:
+            return []
+        if piece.place == self.place:
+            return self.add(piece)
+        if len(self._single) < MOST_SINGLE:
+            self._single[piece.place] = piece
+        return []
 
     def _lowers(self, piece: Piece) -> bool:
         """Whether a piece is the first of a stream whose beginning isn't there, and of which nothing was handed out."""
@@ -108,28 +172,35 @@ class Stream:
     def _hand_out(self, piece: Piece) -> Piece:
         self.place = piece.end()
         self.delivered += len(piece.data)
-        self._memory.remember(self._handed_out, piece)
+        self.sum = zlib.crc32(piece.data, self.sum)
+        if len(self.marks) < MOST_MARKS:
+            self.marks += MARK.pack(self.delivered, self.sum)
+        self._sent.append(piece)
+        self._sent_bytes += len(piece.data)
+        self._share.count(len(piece.data) + OBJECT)
+        if self._sent_bytes > REMEMBERED:
+            self.shorten(2)
         return piece
 
     def _in_order(self) -> list[Piece]:
-        pieces = []
-        while self.held and self.held[0].place == self.place:
-            pieces.append(self._hand_out(self._release()))
+        count, place = 0, self.place
+        while count < len(self.held) and self.held[count].place == place:
+            place = self.held[count].end()
+            count += 1
+        pieces, self.held[:count] = self.held[:count], []
+        for piece in pieces:
+            self._count_held(-len(piece.data) - OBJECT)
+            self._hand_out(piece)
         return pieces
 
-    def _release(self) -> Piece:
-        piece = self.held.pop(0)
-        self._count(-len(piece.data) - OBJECT)
-        return piece
-
-    def _count(self, size: int) -> None:
+    def _count_held(self, size: int) -> None:
         self.held_bytes += size
-        self._memory.held += size
+        self._share.count(size)
 
     def _hold(self, piece: Piece) -> None:
         """Holds what isn't held of a piece."""
+        at = _first_after(self.held, piece.place)
         self._compare(piece, self.held)
-        at = max(bisect_right(self.held, piece) - 1, 0)
         while piece.data:
             following = self.held[at] if at < len(self.held) else None
             if following and following.end() <= piece.place:
@@ -138,47 +209,88 @@ class Stream:
             free = min(len(piece.data), following.place - piece.place) if following else len(piece.data)
             if free > 0:
                 self.held.insert(at, piece._replace(data=piece.data[:free]))
-                self._count(free + OBJECT)
+                self._count_held(free + OBJECT)
                 at += 1
             piece = _from(piece, max(piece.place + free, following.end())) if following else piece._replace(data=b"")
 
-    def _compare(self, piece: Piece, others: Union[deque[Piece], list[Piece]]) -> int:
+    # Copies.
+
+    def _compare(self, piece: Piece, others: list[Piece]) -> int:
         """Counts the bytes of a piece that differ from an earlier copy of them. Returns how many there is a copy of."""
-        compared = 0
-        for other in reversed(others):
-            if other.end() <= piece.place:
-                break
+        compared, at = 0, _first_after(others, piece.place)
+        while at < len(others) and others[at].place < piece.end():
+            other = others[at]
             start, end = max(piece.place, other.place), min(piece.end(), other.end())
             if start < end:
                 compared += end - start
                 own, first = piece.data[start - piece.place:end - piece.place], other.data[start - other.place:end - other.place]
                 if own != first:
                     self.differing += sum(one != another for one, another in zip(own, first))
+            at += 1
         return compared
+
+    def _compare_sent(self, piece: Piece) -> None:
+        """Compares a copy of what was handed out; as far as its receiver hadn't all of it, there has to be something to compare."""
+        settled = max(self.acknowledged, self.start)
+        self.early += max(min(piece.end(), self.start) - piece.place, 0)
+        self._compare(_up_to(piece, settled), self._sent)
+        copy = _from(piece, settled)
+        lacking = min(copy.end(), self.place) - copy.place - self._compare(copy, self._sent)
+        length, checksum = self._sums.get(piece.place, (0, 0))
+        if lacking > 0 and length != len(piece.data):
+            self.early += lacking
+        elif lacking > 0 and checksum != zlib.crc32(piece.data):
+            self.differing += length
+
+    def shorten(self, share: int = 1) -> None:
+        """Remembers checksums instead of what it remembers, or of the older half of it, or another share."""
+        count = (len(self._sent) + share - 1) // share
+        for piece in self._sent[:count]:
+            self._sums[piece.place] = len(piece.data), zlib.crc32(piece.data)
+            self._share.memory.remember(self._sums, piece.place)
+        self._forget(count)
+
+    def _forget(self, count: int) -> None:
+        """Forgets the first pieces of what it remembers."""
+        if count:
+            size = sum([len(piece.data) for piece in self._sent[:count]])
+            del self._sent[:count]
+            self._sent_bytes -= size
+            self._share.count(-size - count * OBJECT)
 
     # What is lacking.
 
     def is_past_window(self) -> bool:
-        return self.held_bytes > WINDOW or bool(self.held) and self._memory.held > ALL_WINDOWS
+        return self.held_bytes > WINDOW
 
     def give_up(self) -> tuple[int, list[Piece]]:
         """Goes on after what is lacking: how much that is, and what is in order then."""
-        lacking = self.held[0].place - self.place
-        self.place = self.held[0].place
+        lacking = self.jump(self.held[0].place)
         return lacking, self._in_order()
 
     def jump(self, place: int) -> int:
         """Goes on at a place, of a stream that holds nothing before it: how many bytes are lacking."""
-        lacking = place - self.place
-        self.place = place
+        lacking, self.place = place - self.place, place
         return lacking
 
     def close(self) -> None:
-        """Lets go what is held."""
-        self._count(-self.held_bytes)
+        """Lets go what is held and remembered."""
+        self._count_held(-self.held_bytes)
         self.held.clear()
+        self._forget(len(self._sent))
+        self._sums.clear()
 
 
 def _from(piece: Piece, place: int) -> Piece:
     """What a piece has from a place on."""
     return piece._replace(place=max(place, piece.place), data=piece.data[max(place - piece.place, 0):])
+
+
+def _up_to(piece: Piece, place: int) -> Piece:
+    """What a piece has up to a place."""
+    return piece._replace(data=piece.data[:max(place - piece.place, 0)])
+
+
+def _first_after(pieces: list[Piece], place: int) -> int:
+    """Where the first piece is that may have the byte at a place, or one after it."""
+    return max(bisect_left(pieces, Piece(place, b"", 0, 0)) - 1, 0)

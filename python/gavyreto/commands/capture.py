@@ -6,8 +6,9 @@ response is CLIENT-SERVER.NUMBER.csv in the folder OUT, or answer.NUMBER.csv if 
 it if the response can't be read to its end. With --packets its packets are kept beside it, as CLIENT-SERVER.NUMBER.tds. The table
 on standard output is CSV and has a line for each response as it ends: its text, client, server, the time of its first byte (UTC),
 the first words of the statement if the client's side is there, the status, and the first line of tds_replay. A request without an
-answer has a line too, and so has whatever isn't read: bytes that are encrypted, that follow a gap, or that came again with other
-values. If a byte was captured several times, the first copy counts.
+answer has a line too, and so has whatever isn't read: bytes that are encrypted, that follow a gap, that any frame shows to be sent
+and aren't there, or that came again with other values. If a byte was captured several times, the first copy counts. A dump is as good
+as the statements in it: some clients write them there as they are, and one may look like packets.
 
 Standard error has the number of frames that aren't read, by reason, and ends with the sums of frames, connections, requests and
 bytes of servers. Memory doesn't grow with the capture, nor with an answer.
@@ -19,6 +20,7 @@ from __future__ import annotations
 
 import argparse
 import contextlib
+import errno
 import os
 import signal
 import tempfile
@@ -32,8 +34,7 @@ from gavyreto.adapting import Adapter
 from gavyreto.capturing import dumps, files
 from gavyreto.capturing.accounts import Accounts
 from gavyreto.capturing.connections import Connections
-from gavyreto.capturing.conversations import Answer, Sides
-from gavyreto.capturing.frames import WRONG_CHECKSUM
+from gavyreto.capturing.desk import Answer, Sides
 from gavyreto.capturing.keeping import Kept, Room
 from gavyreto.capturing.messages import is_header
 from gavyreto.commands.common import Stopped, add_options_of_program, checked_program, line, number_in, parser_of, put, tell
@@ -83,21 +84,39 @@ class Export:
     def answer(self, sides: Sides, answer: Answer) -> None:
         """Exports an answer whose packets are kept."""
         kept = cast(Kept, answer.kept)
-        run, packets = kept.piped(), ""
-        if run is None:
-            packets = kept.file()
-            if self._asked.adapt:
-                self._adapt(packets)
-            run = self._room.run(packets)
-        status, notes = run.end()
-        outcome = self._outcome(judged(status, notes, os.path.getsize(run.text)), answer)
+        is_whole = answer.packets.is_over and not answer.why
+        data = kept.whole() if is_whole else None
+        packets = kept.file() if self._asked.packets or self._asked.adapt else ""
+        if self._asked.adapt:
+            self._adapt(packets)
+        if data is not None:
+            ending, text = self._room.export(contents(packets) if self._asked.adapt else data)
+        else:
+            run = kept.piped() or self._room.run(packets or kept.file())
+            status, notes = run.end()
+            ending, text = judged(status, notes, os.path.getsize(run.text)), run.text
+        outcome = self._outcome(ending, answer)
         name = self._next_name(sides)
-        ending = ".csv" if outcome.status in (0, SERVER_ERROR) else ".csv.partial"
-        os.replace(run.text, os.path.join(self._asked.out, name + ending))
+        suffix = ".csv" if outcome.status in (0, SERVER_ERROR) else ".csv.partial"
+        self._put_file(text, name + suffix)
         if self._asked.packets:
-            os.replace(packets, os.path.join(self._asked.out, name + ".tds"))
+            self._put_file(packets, name + ".tds")
         kept.drop()
-        self._put(name + ending, sides, answer.time, answer.words(), outcome.status, outcome.line)
+        self._put(name + suffix, sides, answer.time, answer.words(), outcome.status, outcome.line)
+
+    def _put_file(self, path: str, name: str) -> None:
+        """Gives a file its name in the folder, unless another run has put one there."""
+        target = os.path.join(self._asked.out, name)
+        try:
+            os.link(path, target)
+        except FileExistsError:
+            raise Stopped(f"{target} is there: another run writes into this folder", FAILED) from None
+        except OSError as failure:
+            if failure.errno not in (errno.EPERM, errno.EOPNOTSUPP, errno.EMLINK) or os.path.lexists(target):
+                raise
+            os.replace(path, target)  # a file system without links
+            return
+        os.remove(path)
 
     def _adapt(self, packets: str) -> None:
         """Rewrites columns that the program refuses. What can't be followed stays as it is, and the program says why."""
@@ -130,6 +149,12 @@ class Export:
     def note(self, status: int) -> None:
         """Something came to a status."""
         self.worst = max(self.worst, status if status in (0, SERVER_ERROR, BAD_INPUT) else FAILED)
+
+
+def contents(path: str) -> bytes:
+    """The bytes of a file."""
+    with open(path, "rb") as file:
+        return file.read()
 
 
 def moment_of(time: int) -> Optional[str]:
@@ -181,16 +206,19 @@ def capture(asked: argparse.Namespace) -> int:
 
 def take_capture(source: files.Source, export: Export, accounts: Accounts, notes: Notes, ports: set[int]) -> None:
     """Exports the answers in a capture."""
-    connections, cut = Connections(ports, export, accounts), ""
+    connections, drops, cut = Connections(ports, export, accounts), files.Drops(), ""
     put(line(HEADER))
     try:
-        for frame in files.frames(source):
+        for frame in files.frames(source, drops):
             connections.take(frame)
     except files.CutShort as why:
         cut = str(why)
     connections.finish()
-    for reason, count in accounts.unread.most_common():
-        notes.add(f"{count} frames aren't read: {reason}", 0 if reason == WRONG_CHECKSUM else BAD_INPUT)
+    for kinds, status in (accounts.unread, BAD_INPUT), (accounts.foreign, 0):
+        for reason, count in kinds.most_common():
+            notes.add(f"{count} frames aren't read: {reason}", status)
+    if drops.total():
+        notes.add(f"{drops.total()} frames were lost while they were captured, as the capture itself counts them", BAD_INPUT)
     if connections.cut:
         notes.add(f"{connections.cut} frames weren't captured whole: `tcpdump -s 0` keeps all of them", BAD_INPUT)
     others = ", ".join(str(port) for port, _ in connections.others.most_common())

@@ -1,0 +1,147 @@
+"""Connections that have ended, or rest: their numbers and checksums, by which what comes again is known and compared."""
+from __future__ import annotations
+
+from collections import OrderedDict
+from hashlib import blake2b
+from typing import NamedTuple, Optional
+
+from gavyreto.capturing.conversations import FARTHEST, Conversation, Side
+from gavyreto.capturing.internet import ACK, FIN, RESET, SYN, Segment, Tags
+from gavyreto.capturing.memory import Memory, Share
+from gavyreto.capturing.streams import HALF, MARK, SPACE, Piece, Stream
+
+MOST_ENDED = 1 << 14  # whose numbers are kept
+MOST_OF_A_KEY = 4  # of the same addresses
+FILTER = 1 << 25  # bits by which earlier ones are known, as a filter of Bloom has it
+BITS_OF_ONE = 7
+
+
+class Ended(NamedTuple):
+    """A connection that has ended or rests: its tags, its two sides, and whether both were there to their ends."""
+
+    tags: Tags
+    client: Side
+    server: Side
+    is_over: bool
+
+    def sides(self, is_client: bool) -> tuple[Side, Side]:
+        return (self.client, self.server) if is_client else (self.server, self.client)
+
+    def has(self, is_client: bool, segment: Segment) -> bool:
+        """Whether a segment is one more of it: by the number of its SYN, or by both its numbers. Nothing comes after an end."""
+        own, other = self.sides(is_client)
+        if segment.flags & SYN:
+            return segment.sequence == own.first
+        size = len(segment.data) + segment.cut
+        ahead = 1 if self.is_over else FARTHEST
+        return _is_near(own, segment.sequence, size, ahead) and (not segment.flags & ACK or _is_near(other, segment.acknowledged, 0, ahead))
+
+    def is_new(self, is_client: bool, segment: Segment) -> bool:
+        """Whether a segment shows more than is there."""
+        own, other = self.sides(is_client)
+        ahead = (segment.sequence + len(segment.data) + segment.cut - own.place) % SPACE
+        return 1 < ahead < HALF or bool(segment.data) and ahead == 1 or 1 < (segment.acknowledged - other.place) % SPACE < HALF
+
+
+def _is_near(side: Side, sequence: int, size: int, ahead: int) -> bool:
+    """Whether so many bytes from a number on are of a side: none before its SYN, and none that are farther ahead of its last one."""
+    after = (sequence - side.place) % SPACE
+    return after + size <= ahead if after < HALF else SPACE - after <= side.size + 1 and size <= SPACE - after + ahead
+
+
+class Revisit:
+    """A connection that comes again with both its first numbers, as in a file that is joined to itself: the bytes of each side, up to
+    where they ended, to be compared with those that came first."""
+
+    def __init__(self, memory: Memory) -> None:
+        self._share = Share(memory, self._give_up)
+        self._streams = Stream(self._share), Stream(self._share)
+        self._has_syn = [False, False]
+        self._is_given_up = False
+
+    def _give_up(self) -> None:
+        self._is_given_up = True
+        for stream in self._streams:
+            stream.close()
+
+    def take(self, is_client: bool, segment: Segment, end: int) -> None:
+        """One more segment of it, of which the bytes up to a sequence number were there."""
+        stream = self._streams[not is_client]
+        if segment.flags & SYN:
+            self._has_syn[not is_client] = True
+            if not stream.is_begun():
+                stream.begin((segment.sequence + 1) % SPACE, False)
+        elif self._has_syn[not is_client] and segment.data and not segment.is_wrong and not self._is_given_up:
+            place = stream.place_of(segment.sequence)
+            most = stream.place_of(end) - place
+            stream.add(Piece(place, segment.data[:max(most, 0)], 0, 0))
+            stream.acknowledge(stream.place)
+            if stream.is_past_window():
+                self._give_up()
+
+    def differs(self, client: Side, server: Side) -> bool:
+        """Whether both sides began again, and their bytes aren't known to be the same: those of a side that is there to its end, or to
+        where one of its first pieces ended."""
+        found = [_is_same(*it) for it in zip(self._streams, (client, server))]
+        return all(self._has_syn) and (False in found or None in found and all(stream.delivered for stream in self._streams))
+
+    def close(self) -> None:
+        """Lets go what it holds."""
+        self._give_up()
+
+
+def _is_same(again: Stream, first: Side) -> Optional[bool]:
+    """Whether what comes again of a side is the same; None if nothing says."""
+    if again.differing:
+        return False
+    known: dict[int, int] = {size: checksum for size, checksum in MARK.iter_unpack(first.marks)} | {first.size: first.sum, 0: 0}
+    compared = {size: known[size] == checksum for size, checksum in [*MARK.iter_unpack(again.marks), (again.delivered, again.sum)] if size in known}
+    return False if False in compared.values() else compared.get(again.delivered)
+
+
+class Endings:
+    """The connections that have ended or rest, the latest of them by all their numbers, earlier ones by a filter."""
+
+    def __init__(self) -> None:
+        self._ended: OrderedDict[bytes, tuple[Ended, ...]] = OrderedDict()
+        self._filter = bytearray()
+
+    def add(self, key: bytes, conversation: Conversation) -> None:
+        """A connection has ended, or rests."""
+        ended = Ended(conversation.tags, *conversation.ended(), conversation.is_over())
+        before = self._ended.pop(key, ())
+        for it in before[:-MOST_OF_A_KEY + 1 or None] if len(before) >= MOST_OF_A_KEY else ():
+            self._remember(key, it)
+        self._ended[key] = (*before[-MOST_OF_A_KEY + 1:], ended)
+        if len(self._ended) > MOST_ENDED:
+            oldest, all_of_it = self._ended.popitem(last=False)
+            for it in all_of_it:
+                self._remember(oldest, it)
+
+    def find(self, key: bytes, is_client: bool, segment: Segment) -> Optional[Ended]:
+        """The connection that a segment is one more of."""
+        found = [it for it in self._ended.get(key, ()) if it.has(is_client, segment)]
+        found.sort(key=lambda it: (not it.is_new(is_client, segment), it.tags == segment.tags))
+        return found[-1] if found else None
+
+    def take(self, key: bytes, ended: Ended) -> None:
+        """Forgets a connection, which goes on."""
+        left = tuple(it for it in self._ended.pop(key) if it is not ended)
+        if left:
+            self._ended[key] = left
+
+    def _bits(self, key: bytes, first: tuple[Optional[int], Optional[int]]) -> list[int]:
+        digest = blake2b(key + repr(first).encode(), digest_size=4 * BITS_OF_ONE).digest()
+        return [int.from_bytes(digest[at:at + 4], "big") % FILTER for at in range(0, len(digest), 4)]
+
+    def _remember(self, key: bytes, ended: Ended) -> None:
+        if ended.client.first is None and ended.server.first is None:
+            return
+        if not self._filter:
+            self._filter = bytearray(FILTER // 8)
+        for bit in self._bits(key, (ended.client.first, ended.server.first)):
+            self._filter[bit // 8] |= 1 << bit % 8
+
+    def has_been(self, key: bytes, first: tuple[Optional[int], Optional[int]]) -> bool:
+        """Whether a connection with these first numbers seems to have been among those whose numbers aren't kept."""
+        return bool(self._filter) and all(self._filter[bit // 8] >> bit % 8 & 1 for bit in self._bits(key, first))

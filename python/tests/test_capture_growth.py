@@ -1,0 +1,107 @@
+"""Tests of `capture` by what would take long, or much memory: work and memory don't grow with what comes in no good order."""
+from __future__ import annotations
+
+import time
+import tracemalloc
+import unittest
+from collections.abc import Iterable, Iterator
+
+from gavyreto.capturing.accounts import Accounts
+from gavyreto.capturing.connections import Connections
+from gavyreto.capturing.files import Frame
+from tests.capture_cases import ACK, SPACE, Segment, packets
+from tests.test_capture_cases import Desk
+from tests.test_capture_frames import RAW
+from tests.test_capture_ledger import Talk, request
+
+SECONDS = 8  # of the processor, at most; each case takes less than one where others don't run beside it
+RECORD = b"\x17\x03\x03\x00\x50" + bytes(80)
+
+
+def taken(frames: Iterable[bytes]) -> Desk:
+    """What a capture with these frames gives."""
+    desk = Desk()
+    connections = Connections({1433}, desk, Accounts())
+    for frame in frames:
+        connections.take(Frame(1, RAW, frame, len(frame)))
+    connections.finish()
+    return desk
+
+
+def pieces(count: int) -> tuple[Talk, list[Segment]]:
+    """A request, and the segments of its answer, of 50 bytes each."""
+    talk = Talk().open().send(True, request(1))
+    wire, start = packets(4, b"\x81" + bytes(count * 50) + bytes([0xFD]) + bytes(12), 4096, 51), talk.place[False]
+    return talk, [Segment(False, (start + at) % SPACE, talk.place[True], ACK, wire[at:at + 50]) for at in range(0, len(wire), 50)]
+
+
+class Time(unittest.TestCase):
+    def assert_quick(self, talk: Talk, segments: list[Segment]) -> Desk:
+        talk.segments += segments
+        frames, began = talk.frames(), time.process_time()
+        desk = taken(frames)
+        self.assertLess(time.process_time() - began, SECONDS)
+        return desk
+
+    def test_segments_backwards(self) -> None:
+        talk, segments = pieces(20000)
+        self.assertTrue(self.assert_quick(talk, segments[::-1]).told)
+        talk, segments = pieces(4000)
+        desk = self.assert_quick(talk, segments[::-1])
+        self.assertEqual((len(desk.answers), desk.told), (1, []))
+
+    def test_holes(self) -> None:
+        talk, segments = pieces(20000)
+        self.assertTrue(self.assert_quick(talk, segments[::2]).told)
+
+    def test_copies(self) -> None:
+        """Of old segments, before they are acknowledged."""
+        talk, segments = pieces(10000)
+        desk = self.assert_quick(talk, segments + [segments[number * 7 % len(segments)] for number in range(5000)])
+        self.assertEqual((len(desk.answers), desk.told), (1, []))
+
+
+class Memory(unittest.TestCase):
+    def peak(self, frames: Iterable[bytes]) -> int:
+        """The greatest memory that a capture takes, but for the lines of the table."""
+        desk = Desk()
+        connections = Connections({1433}, desk, Accounts())
+        tracemalloc.start()
+        try:
+            for frame in frames:
+                connections.take(Frame(1, RAW, frame, len(frame)))
+                desk.told.clear()
+                desk.answers.clear()
+            return tracemalloc.get_traced_memory()[1]
+        finally:
+            tracemalloc.stop()
+
+    def encrypted(self, count: int, is_client_alone: bool) -> Iterator[bytes]:
+        talk = Talk().open()
+        yield from talk.frames()
+        for number in range(count):
+            talk.segments.clear()
+            talk.send(True, request(number % 100) if is_client_alone else RECORD).send(False, RECORD)
+            talk.segments[1:] = [] if is_client_alone else talk.segments[1:]
+            yield from talk.frames()
+
+    def resting(self, count: int) -> Iterator[bytes]:
+        """Connections that rest, one after the other."""
+        for number in range(count):
+            talk = Talk(1024 + number % 60000, (number * 7919, number * 104729)).open().exchange(1)
+            talk.add(True, ACK)
+            yield from talk.frames()
+
+    def test_memory_does_not_grow(self) -> None:
+        """With encrypted exchanges, and with those of a client's side alone."""
+        for is_client_alone in (False, True):
+            with self.subTest(is_client_alone=is_client_alone):
+                self.assertLess(self.peak(self.encrypted(3000, is_client_alone)), self.peak(self.encrypted(1500, is_client_alone)) + 20000)
+
+    def test_connections_that_rest(self) -> None:
+        """Those that are followed take a few kilobytes each; others about one."""
+        self.assertLess(self.peak(self.resting(3000)) - self.peak(self.resting(1500)), 3 << 20)
+
+
+if __name__ == "__main__":
+    unittest.main()
