@@ -202,8 +202,8 @@ ends_clear _ _ at bytes room clear x =
 -- ---- the forms of the next columns
 
 -- those that a table knows, from a place in a row on
-pub known_ahead : (table : Table) (at : Ahead) (end : ℕ) (n : ℕ) → N.AreLaidOut table.charset table.forms → table.known ≤ length table.forms → 0 < n
-    → at.column + n ≤ end → at.column + n ≤ table.known → table.known ≤ table.count → N.AreAhead table at end (take n (drop at.column table.forms))
+pub known_ahead : (table : Table) (at : Ahead) (end : ℕ) (n : ℕ) → N.AreLaidOut table.charset table.forms.now → table.known ≤ length table.forms.now → 0 < n
+    → at.column + n ≤ end → at.column + n ≤ table.known → table.known ≤ table.count → N.AreAhead table at end (take n (drop at.column table.forms.now))
 known_ahead _ at end n laid fits some within known few =
     let k = at.column in
     let len = N.length-take-le n _ (grind (arith, N.length-drop)) in
@@ -265,22 +265,22 @@ place_known table from a b all within few columns knows is = record {
 }
 
 -- the forms of the rest of such a row
-pub rest_ahead : (table : Table) (at : Ahead) (row : List Form) → table.known ≡ table.count → row ≡ take table.known table.forms
+pub rest_ahead : (table : Table) (at : Ahead) (row : List Form) → table.known ≡ table.count → row ≡ take table.known table.forms.now
     → at.column < table.count
     → N.AreAhead table at table.count (drop at.column row) × (at.column + length (drop at.column row) ≡ table.count)
 rest_ahead table at row all are some =
     let n = table.known - at.column in
     let split : table.known ≡ at.column + n = omega arith in
-    let rest = ap (drop at.column) (are ∙ ap (λ m. take m table.forms) split) ∙ N.drop-take at.column n table.forms in
-    let counted = N.length-take-le n (drop at.column table.forms) (omega (arith, N.length-drop at.column table.forms, table.sized, table.most)) in (
-      rw (sym rest) at (known_ahead table at table.count n table.laid (omega (arith, table.sized, table.most)) (omega arith) (omega arith)
+    let rest = ap (drop at.column) (are ∙ ap (λ m. take m table.forms.now) split) ∙ N.drop-take at.column n table.forms.now in
+    let counted = N.length-take-le n (drop at.column table.forms.now) (omega (arith, N.length-drop at.column table.forms.now, table.there)) in (
+      rw (sym rest) at (known_ahead table at table.count n table.laid (omega (arith, table.there)) (omega arith) (omega arith)
           (omega arith) (omega arith)),
       omega (arith, ap length rest, counted),
     )
 
 -- more cells of the row, whose places are counted from the front of all
 pub rows_far : {from : Ahead} {bytes to : List ℕ} {rows : ℕ} (table : Table) (row : List Form) (at run : N.FormsRun) (new : List ℕ)
-    → table.known ≡ table.count → row ≡ take table.known table.forms → at.cells < table.count → run.cells ≢ at.cells
+    → table.known ≡ table.count → row ≡ take table.known table.forms.now → at.cells < table.count → run.cells ≢ at.cells
     → take at.made new ≡ take at.made to → length new ≡ length to → (at.cells ≤ run.cells) × (at.used ≤ run.used) × (at.made ≤ run.made)
     → N.RunsForms table.charset (drop at.cells row) at.cells true (drop at.used bytes) (length to - at.made) (drop at.made new) (N.done_since at run)
     → RowsRan table from bytes to (record { used = at.used; made = at.made; rows = rows; ahead = record from { column = at.cells } })

@@ -30,8 +30,8 @@ known_kind forms columns n k f c first known some within =
 
 module _ (table : N.Table) (columns : List Column) (at : Ahead) (kind : Kind) (knows : N.Knows table columns) (is : IsAhead table columns at) where
   -- a column that the table knows is next
-  pub next_known : (d : Form) → at.column < table.count → at.column < table.known → table.known ≤ length table.forms
-      → kind ≡ (get_or table.forms at.column d).kind → N.NextColumn columns at kind
+  pub next_known : (d : Form) → at.column < table.count → at.column < table.known → table.known ≤ length table.forms.now
+      → kind ≡ (get_or table.forms.now at.column d).kind → N.NextColumn columns at kind
   next_known d _ known fits is_kind =
       let within : at.column < length columns = omega arith in
       let c : Column = grind arith in

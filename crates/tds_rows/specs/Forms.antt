@@ -5,9 +5,9 @@ use Rattle.tds_rows.specs.declared.cell.layout.Form.{Form}
 use Rattle.tds_rows.specs.CellSteps.{IsInt4}
 use Rattle.tds_rows.specs.Layouts.{IsLaidOut}
 
--- how many columns a table knows by itself
+-- how many columns a table knows by itself at most
 abbrev pub table_length : ℕ
-table_length = 64
+table_length = 1024
 
 -- This holds of each of these forms.
 abbrev pub Each : (Form → Type 0) → List Form → Type 0

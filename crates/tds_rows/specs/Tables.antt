@@ -1,10 +1,12 @@
 -- What a table of a description's columns knows.
-use Rattle.std.specs.Prelude.{◌≡◌, ◌⊎◌, ◌+◌, ◌<◌, ◌≤◌, ℕ, Bool, List, [], ◌∷◌, length, take, drop, map, Option, MatchOption}
+use Rattle.std.specs.Prelude.{◌≡◌, ◌⊎◌, ◌+◌, ◌<◌, ◌≤◌, ℕ, Bool, true, List, [], ◌∷◌, length, take, drop, map, Option, MatchOption}
 use Rattle.tds_values.specs.declared.kind.Kind.{Kind}
 use Rattle.tds_columns.specs.Description.{Column}
 use Rattle.tds_columns.specs.Walking.{columns_left}
 use Rattle.tds_rows.specs.CellSteps.{is_last_column}
-use Rattle.tds_rows.specs.Forms.{AreLaidOut}
+use Rattle.tds_rows.specs.Forms.{AreInt4, AreLaidOut}
+use Rattle.tds_rows.specs.declared.table.Learnt.{Learnt}
+use Rattle.tds_values.specs.declared.charset.Charset.{Charset}
 use Rattle.tds_rows.specs.declared.table.Ahead.{Ahead}
 use Rattle.tds_rows.specs.declared.cell.layout.Form.{Form}
 use Rattle.tds_rows.specs.declared.table.Table.{Table}
@@ -15,9 +17,18 @@ kinds columns = map (λ c. c.kind) columns
 
 -- The table knows these columns: the kinds of the first ones, how many there are, and the walk over those after them.
 pub record Knows (table : Table) (columns : List Column) : Type 0 where
-  pub first : map (λ f. f.kind) (take table.known table.forms) ≡ kinds (take table.known columns)
+  pub first : map (λ f. f.kind) (take table.known table.forms.now) ≡ kinds (take table.known columns)
   pub counted : table.count ≡ length columns
   pub rest : columns_left table.rest ≡ drop table.known columns
+
+-- Of these columns the forms of the first ones are known, how many they are, and the walk over those after them.
+pub record Learns (columns : List Column) (charset : Charset) (forms : List Form) (learnt : Learnt) : Type 0 where
+  pub there : learnt.known ≤ length forms
+  pub few : learnt.known ≤ length columns
+  pub first : map (λ f. f.kind) (take learnt.known forms) ≡ kinds (take learnt.known columns)
+  pub laid : AreLaidOut charset forms
+  pub numbers : learnt.only_numbers ≡ true → AreInt4 forms
+  pub rest : columns_left learnt.rest ≡ drop learnt.known columns
 
 -- The table knows some columns, one at least.
 abbrev pub KnowsSome : Table → Type 0

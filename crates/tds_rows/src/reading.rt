@@ -6,13 +6,16 @@ ghost use Rattle.tds_packet.specs.Payloads.{LeavesPayload, buffered};
 ghost use Rattle.tds_packet.specs.Reads.{KeepsRoom};
 ghost use Rattle.tds_rows.specs.Cells.{Cell};
 ghost use Rattle.tds_rows.specs.CellSteps.{LeavesSmall};
-ghost use Rattle.tds_rows.specs.RowReading.{AwaitsRows, IsReadyForRow};
+ghost use Rattle.tds_rows.specs.Forms.{table_length};
+ghost use Rattle.tds_rows.specs.RowReading.{AwaitsRows, EndsRows, IsReadyForRow};
 ghost use Rattle.tds_rows.specs.RowSteps.{IsEarlierStop, RowPut, RowsRead, StopsAgain};
 ghost use Rattle.tds_rows.specs.Rows.{NbcRow, PlainRow, SpellsNbcRow, SpellsRow, longest_bitmap, nbc_row_start, row_start};
+ghost use Rattle.tds_rows.specs.Tables.{Learns};
 ghost use Rattle.tds_rows.specs.Successes.{BeginNoRow, SpellsRows, SucceedsOn};
 
+use crate::cell::layout::Form;
 use crate::rows::Rows;
-use crate::table::Table;
+use crate::table::{FEW_COLUMNS, Learnt, MANY_COLUMNS, SOME_COLUMNS, Table, blank};
 use std::io::{Read, Write};
 use tds_columns::Columns;
 use tds_csv::Sink;
@@ -61,7 +64,7 @@ pub fn row<R: Read, W: Write>(
     if let Some(stop) = earlier_stop(payload, sink) {
         return Err(stop);
     }
-    let table = Table::of(columns, charset);
+    let table = Table::walked(columns, charset);
     let mut rows = Rows {
         payload,
         sink,
@@ -69,6 +72,59 @@ pub fn row<R: Read, W: Write>(
         table: &table,
     };
     rows.row()
+}
+
+// Reads rows as `read_rows` does, by a table of these forms.
+fn rows_in<'a, R: Read, W: Write>(
+    payload: &mut Payload<R>,
+    columns: Columns<'a>,
+    charset: Charset,
+    forms: &'a [Form],
+    learnt: Learnt<'a>,
+    small: &mut Area,
+    sink: &mut Sink<W>,
+) -> Result<u64, Stop>
+    requires learnt { Learns (columns_of columns.bytes.now) charset forms.now learnt }
+    requires rows { AwaitsRows payload.old sink.old small.old }
+    ensures payload { LeavesPayload payload.old payload.new result }
+    ensures sink { LeavesSink sink.old sink.new result }
+    ensures small { LeavesSmall small.old small.new }
+    ensures ends { IfOk result (λ count. EndsRows PlainRow payload.old payload.new count) }
+    ensures rows { RowsRead R.remaining W.contents PlainRow charset (columns_of columns.entry.bytes.now)
+        payload.old payload.new sink.old sink.new result }
+{
+    let table = Table::of(columns, charset, forms, learnt);
+    let mut rows = Rows {
+        payload,
+        sink,
+        small,
+        table: &table,
+    };
+    rows.rows()
+}
+
+// Reads rows as `read_rows` does, by a table that knows the first `N` columns at most. Its room is a local variable, and a call
+// takes time for each byte of that, so each room has a function of its own.
+#[inline(never)]
+fn rows_by<const N: usize, R: Read, W: Write>(
+    payload: &mut Payload<R>,
+    columns: Columns<'_>,
+    charset: Charset,
+    small: &mut Area,
+    sink: &mut Sink<W>,
+) -> Result<u64, Stop>
+    requires few { N ≤ table_length }
+    requires rows { AwaitsRows payload.old sink.old small.old }
+    ensures payload { LeavesPayload payload.old payload.new result }
+    ensures sink { LeavesSink sink.old sink.new result }
+    ensures small { LeavesSmall small.old small.new }
+    ensures ends { IfOk result (λ count. EndsRows PlainRow payload.old payload.new count) }
+    ensures rows { RowsRead R.remaining W.contents PlainRow charset (columns_of columns.entry.bytes.now)
+        payload.old payload.new sink.old sink.new result }
+{
+    let mut forms = [blank(); N];
+    let learnt = Table::learn(columns, charset, &mut forms);
+    rows_in(payload, columns, charset, &forms, learnt, small, sink)
 }
 
 /// Reads a ROW after its token byte, and the ROWs after it as long as the next token byte is in the packet
@@ -94,14 +150,14 @@ pub fn read_rows<R: Read, W: Write>(
         SpellsRows PlainRow charset (columns_of columns.entry.bytes.now) first later bytes → BeginNoRow PlainRow more →
         SucceedsOn R.remaining payload.old payload.new sink.old sink.new result (bytes ++ more) }
 {
-    let table = Table::of(columns, charset);
-    let mut rows = Rows {
-        payload,
-        sink,
-        small,
-        table: &table,
-    };
-    rows.rows()
+    let count = columns.count() as usize;
+    if count <= FEW_COLUMNS {
+        return rows_by::<FEW_COLUMNS, R, W>(payload, columns, charset, small, sink);
+    }
+    if count <= SOME_COLUMNS {
+        return rows_by::<SOME_COLUMNS, R, W>(payload, columns, charset, small, sink);
+    }
+    rows_by::<MANY_COLUMNS, R, W>(payload, columns, charset, small, sink)
 }
 
 /// Reads an NBCROW after its token byte, and puts its line (MS-TDS, NBCROW). The bitmap is read into
@@ -140,7 +196,7 @@ pub fn nbc_row<R: Read, W: Write>(
     if let Some(stop) = earlier_stop(payload, sink) {
         return Err(stop);
     }
-    let table = Table::of(columns, charset);
+    let table = Table::walked(columns, charset);
     let mut rows = Rows {
         payload,
         sink,
@@ -148,6 +204,67 @@ pub fn nbc_row<R: Read, W: Write>(
         table: &table,
     };
     rows.nbc_row(bitmap)
+}
+
+// Reads NBCROWs as `read_nbc_rows` does, by a table of these forms.
+fn nbc_rows_in<'a, R: Read, W: Write>(
+    payload: &mut Payload<R>,
+    columns: Columns<'a>,
+    charset: Charset,
+    forms: &'a [Form],
+    learnt: Learnt<'a>,
+    bitmap: &mut Area,
+    small: &mut Area,
+    sink: &mut Sink<W>,
+) -> Result<u64, Stop>
+    requires learnt { Learns (columns_of columns.bytes.now) charset forms.now learnt }
+    requires rows { AwaitsRows payload.old sink.old small.old }
+    requires bitmap { longest_bitmap ≤ bitmap.old.room }
+    ensures payload { LeavesPayload payload.old payload.new result }
+    ensures sink { LeavesSink sink.old sink.new result }
+    ensures bitmap { KeepsRoom bitmap.old bitmap.new }
+    ensures small { LeavesSmall small.old small.new }
+    ensures ends { IfOk result (λ count. EndsRows NbcRow payload.old payload.new count) }
+    ensures rows { RowsRead R.remaining W.contents NbcRow charset (columns_of columns.entry.bytes.now)
+        payload.old payload.new sink.old sink.new result }
+{
+    let table = Table::of(columns, charset, forms, learnt);
+    let mut rows = Rows {
+        payload,
+        sink,
+        small,
+        table: &table,
+    };
+    rows.nbc_rows(bitmap)
+}
+
+// Reads rows as `read_nbc_rows` does, by a table that knows the first `N` columns at most. Its room is a local variable, and a call
+// takes time for each byte of that, so each room has a function of its own.
+#[inline(never)]
+fn nbc_rows_by<const N: usize, R: Read, W: Write>(
+    payload: &mut Payload<R>,
+    columns: Columns<'_>,
+    charset: Charset,
+    bitmap: &mut Area,
+    small: &mut Area,
+    sink: &mut Sink<W>,
+) -> Result<u64, Stop>
+    requires few { N ≤ table_length }
+    requires rows { AwaitsRows payload.old sink.old small.old }
+    requires bitmap { longest_bitmap ≤ bitmap.old.room }
+    ensures payload { LeavesPayload payload.old payload.new result }
+    ensures sink { LeavesSink sink.old sink.new result }
+    ensures bitmap { KeepsRoom bitmap.old bitmap.new }
+    ensures small { LeavesSmall small.old small.new }
+    ensures ends { IfOk result (λ count. EndsRows NbcRow payload.old payload.new count) }
+    ensures rows { RowsRead R.remaining W.contents NbcRow charset (columns_of columns.entry.bytes.now)
+        payload.old payload.new sink.old sink.new result }
+{
+    let mut forms = [blank(); N];
+    let learnt = Table::learn(columns, charset, &mut forms);
+    nbc_rows_in(
+        payload, columns, charset, &forms, learnt, bitmap, small, sink,
+    )
 }
 
 /// Reads an NBCROW after its token byte, and the NBCROWs after it as long as the next token byte is in the
@@ -177,12 +294,12 @@ pub fn read_nbc_rows<R: Read, W: Write>(
         SpellsRows NbcRow charset (columns_of columns.entry.bytes.now) first later bytes → BeginNoRow NbcRow more →
         SucceedsOn R.remaining payload.old payload.new sink.old sink.new result (bytes ++ more) }
 {
-    let table = Table::of(columns, charset);
-    let mut rows = Rows {
-        payload,
-        sink,
-        small,
-        table: &table,
-    };
-    rows.nbc_rows(bitmap)
+    let count = columns.count() as usize;
+    if count <= FEW_COLUMNS {
+        return nbc_rows_by::<FEW_COLUMNS, R, W>(payload, columns, charset, bitmap, small, sink);
+    }
+    if count <= SOME_COLUMNS {
+        return nbc_rows_by::<SOME_COLUMNS, R, W>(payload, columns, charset, bitmap, small, sink);
+    }
+    nbc_rows_by::<MANY_COLUMNS, R, W>(payload, columns, charset, bitmap, small, sink)
 }

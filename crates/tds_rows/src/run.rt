@@ -166,7 +166,7 @@ impl<'a> Table<'a> {
         requires numbers { self.now.only_numbers ≡ true }
         requires first { from.column ≡ 0 }
         ensures ahead { result.ahead ≡ from.entry }
-        ensures ends { let row = take self.now.known self.now.forms in
+        ensures ends { let row = take self.now.known self.now.forms.now in
             NumbersEnd row (drop result.used bytes.now) (length to.old - result.made) }
         ensures rows { RowsRan self.now from.entry bytes.now to.new result }
     {
@@ -250,7 +250,7 @@ impl<'a> Table<'a> {
     fn run_fast<const INT4: bool>(&self, at: Ahead<'a>, bytes: &[u8], to: &mut [u8]) -> RowsRun<'a>
         requires known { KnowsAll self.now }
         requires numbers { INT4 ≡ true → self.now.only_numbers ≡ true }
-        ensures numbers { INT4 ≡ true → at.entry.column ≡ 0 → let row = take self.now.known self.now.forms in
+        ensures numbers { INT4 ≡ true → at.entry.column ≡ 0 → let row = take self.now.known self.now.forms.now in
             NumbersEnd row (drop result.used bytes.now) (length to.old - result.made) }
         ensures ends { INT4 ≡ false → FarEnds self.now result.ahead (drop result.used bytes.now) (length to.old - result.made) }
         ensures rows { RowsRan self.now at.entry bytes.now to.new result }

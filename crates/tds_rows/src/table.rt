@@ -1,18 +1,25 @@
 // What the cells of a description's columns need of them, known once for all its rows.
 ghost use Rattle.std.specs.Prelude.{◌≡◌, ◌==◌, ◌⊎◌, ◌+◌, ◌-◌, ◌<◌, ◌≤◌, drop, get_or, length, take, true, false, IfSome, List, MatchOption};
-ghost use Rattle.tds_rows.specs.CellSteps.{is_int4};
+ghost use Rattle.tds_rows.specs.CellSteps.{IsInt4, is_int4};
 ghost use Rattle.tds_rows.specs.Forms.{AreInt4, AreLaidOut, table_length};
+ghost use Rattle.tds_values.specs.declared.charset.Charset.{Charset};
 ghost use Rattle.tds_rows.specs.Layouts.{IsLaidOut};
 
-use crate::cell::layout::Form;
+use crate::cell::layout::{Form, Layout};
 use tds_columns::{Columns, Walk};
 use tds_values::{Charset, Kind};
 
 /// The token byte of a ROW (MS-TDS, ROW).
 pub const ROW: u8 = 0xD1;
 
-/// How many columns a table knows by itself. It takes 8 bytes for each, in a local variable.
-const TABLE_LENGTH: usize = 64;
+/// How many columns a table knows by itself of a description with few of them. It takes 8 bytes for each, in a local variable.
+pub(crate) const FEW_COLUMNS: usize = 8;
+
+/// How many it knows of a description with some more.
+pub(crate) const SOME_COLUMNS: usize = 64;
+
+/// How many it knows of any other.
+pub(crate) const MANY_COLUMNS: usize = 1024;
 
 // Whether the values of a kind are whole numbers of four bytes.
 fn is_int4(kind: &Kind) -> bool
@@ -25,18 +32,37 @@ fn is_int4(kind: &Kind) -> bool
 /// numbers of four bytes, the walk over those after, and the set of single-byte text.
 #[derive(Drop)]
 pub(crate) struct Table<'a> {
-    forms: [Form; TABLE_LENGTH],
+    forms: &'a [Form],
     known: usize,
     pub(crate) only_numbers: bool,
     count: u16,
     rest: Walk<'a>,
     pub(crate) charset: Charset,
-    ghost sized: { length forms ≡ table_length },
-    ghost most: { known ≤ table_length },
+    ghost there: { known ≤ length forms.now },
     ghost few: { known ≤ count },
     ghost fits: { count ≤ 65535 },
-    ghost laid: { AreLaidOut charset forms },
-    ghost numbers: { only_numbers ≡ true → AreInt4 forms },
+    ghost laid: { AreLaidOut charset forms.now },
+    ghost numbers: { only_numbers ≡ true → AreInt4 forms.now },
+}
+
+/// What was learnt of the first columns of a description: how many they are, whether all have only whole numbers of four bytes, and
+/// the walk over those after.
+#[derive(Clone, Copy)]
+pub(crate) struct Learnt<'a> {
+    known: usize,
+    only_numbers: bool,
+    rest: Walk<'a>,
+}
+
+/// What is there before anything is learnt of a column: a form of whole numbers of four bytes.
+pub(crate) fn blank() -> Form
+    ensures number { IsInt4 result.kind }
+    ensures laid { (charset : Charset) → IsLaidOut charset result.kind result.layout }
+{
+    Form {
+        kind: Kind::Int4,
+        layout: Layout::Fixed(4),
+    }
 }
 
 /// A place between the cells of a row: how many columns come before it, and the walk over those ahead that
@@ -50,18 +76,19 @@ pub(crate) struct Ahead<'a> {
 impl<'a> Table<'a> {
     ghost use Rattle.tds_columns.specs.Description as spec;
     ghost use Rattle.tds_columns.specs.View.{columns_of};
-    ghost use Rattle.tds_rows.specs.Tables.{AreAhead, BeginsRow, IsAhead, Knows, NextColumn, NextForm, TakesForm};
+    ghost use Rattle.tds_rows.specs.Tables.{AreAhead, BeginsRow, IsAhead, Knows, Learns, NextColumn, NextForm, TakesForm};
 
-    /// The table of a description's columns, whose single-byte text is in this set.
-    pub(crate) fn of(columns: Columns<'a>, charset: Charset) -> Table<'a>
-        ensures knows { Knows result (columns_of columns.entry.bytes.now) }
-        ensures charset { result.charset ≡ charset }
+    /// Learns what the cells of a description's first columns need, as many as there is room for, if single-byte text is in this set.
+    pub(crate) fn learn(columns: Columns<'a>, charset: Charset, forms: &mut [Form]) -> Learnt<'a>
+        requires few { length forms.old ≤ table_length }
+        requires laid { AreLaidOut charset forms.old }
+        requires numbers { AreInt4 forms.old }
+        ensures { Learns (columns_of columns.entry.bytes.now) charset forms.new result }
     {
-        let mut forms = [Form::of(Kind::Int4, charset); TABLE_LENGTH];
         let mut known = 0;
         let mut only_numbers = true;
         let mut rest = columns.walk();
-        while known < TABLE_LENGTH {
+        while known < forms.len() {
             let Some(column) = rest.next() else {
                 break;
             };
@@ -69,12 +96,46 @@ impl<'a> Table<'a> {
             known += 1;
             only_numbers &= is_int4(&column.kind);
         }
+        Learnt {
+            known,
+            only_numbers,
+            rest,
+        }
+    }
+
+    /// The table of a description's columns, whose single-byte text is in this set, by what was learnt of the first ones.
+    pub(crate) fn of(
+        columns: Columns<'a>,
+        charset: Charset,
+        forms: &'a [Form],
+        learnt: Learnt<'a>,
+    ) -> Table<'a>
+        requires { Learns (columns_of columns.bytes.now) charset forms.now learnt }
+        ensures knows { Knows result (columns_of columns.entry.bytes.now) }
+        ensures charset { result.charset ≡ charset }
+    {
+        let (count, known) = (columns.count(), learnt.known);
         Table {
             forms,
             known,
-            only_numbers: only_numbers && known == columns.count() as usize,
+            only_numbers: learnt.only_numbers && known == count as usize,
+            count,
+            rest: learnt.rest,
+            charset,
+        }
+    }
+
+    /// The table of a description's columns that knows none of them by itself, for one row.
+    pub(crate) fn walked(columns: Columns<'a>, charset: Charset) -> Table<'a>
+        ensures knows { Knows result (columns_of columns.entry.bytes.now) }
+        ensures charset { result.charset ≡ charset }
+    {
+        Table {
+            forms: &[],
+            known: 0,
+            only_numbers: false,
             count: columns.count(),
-            rest,
+            rest: columns.walk(),
             charset,
         }
     }
@@ -142,7 +203,7 @@ impl<'a> Table<'a> {
     #[inline(always)]
     pub(crate) fn row(&self) -> &[Form]
         requires all { self.now.known ≡ self.now.count }
-        ensures row { result.now ≡ take self.now.known self.now.forms }
+        ensures row { result.now ≡ take self.now.known self.now.forms.now }
         ensures few { length result.now ≤ 65535 }
         ensures numbers { self.now.only_numbers ≡ true → AreInt4 result.now }
     {
@@ -157,7 +218,7 @@ impl<'a> Table<'a> {
         ensures ahead { MatchOption result (self.now.count ≤ at.entry.column)
             (λ forms. AreAhead self.now at.entry self.now.count forms.now) }
         ensures whole { IfSome result (λ forms. at.entry.column + length forms.now ≡ self.now.count) }
-        ensures forms { IfSome result (λ forms. forms.now ≡ take (self.now.known - at.entry.column) (drop at.entry.column self.now.forms)) }
+        ensures forms { IfSome result (λ forms. forms.now ≡ take (self.now.known - at.entry.column) (drop at.entry.column self.now.forms.now)) }
     {
         let from = at.column as usize;
         if from >= self.known {

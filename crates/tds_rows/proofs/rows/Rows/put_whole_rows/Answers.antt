@@ -17,3 +17,13 @@ returns-clause-rows g c = λ columns knows.
       puts = kept_text _ _ _ _ _ c.run_far_rows-run.auto.to c.waiting-waiting.ensures run.made c.commit.ensures.gives;
       place_is = omega (arith, ap (λ p. p.place) c.consume.ensures.rest, length-take-le run.used bytes c.run_far_rows-run.ensures.used);
     }
+
+pub returns-then-not-knows_all-clause-rows : goal.returns-then-not-knows_all-clause-rows
+returns-then-not-knows_all-clause-rows g c = λ columns knows. record {
+  bytes = [];
+  text = [];
+  writes = (refl, refl);
+  takes = N.Takes-none (N.seen g.R.Read.remaining c.args.self.now.payload.now) 0;
+  puts = N.Puts-none (N.held g.W.Write.contents c.args.self.now.sink.now) c.requires.in_row.sink.ready.2;
+  place_is = sym (N.add-zero _);
+}

@@ -29,12 +29,12 @@ loop-used-preserved c =
     let forms = known_ahead table from table.count table.known table.laid (search arith) (omega arith)
     (omega arith) (omega arith) table.few in
     let rest = N.take _ _ in
-    let wrote = N.subst (λ (n : N.ℕ). N.FormsWritten table.charset (N.take table.known (N.drop n table.forms)) n N.true rest text run)
+    let wrote = N.subst (λ (n : N.ℕ). N.FormsWritten table.charset (N.take table.known (N.drop n table.forms.now)) n N.true rest text run)
     (sym c.requires.first) (rw c.row-row.ensures.row at (row.row table.charset).cells) in
     let cells = rows_more {cells = record { used = run.used; made = run.made; ahead = end }} text _
     (row.within.some (omega arith)) (search arith) (search arith) (λ columns knows is.
     forms_between table from table.count _ (omega arith) forms N.true
-    (sym (N.eq-eqb _ _ (omega (arith, N.length-take table.known (N.drop from.column table.forms), N.length-drop from.column table.forms))))
+    (sym (N.eq-eqb _ _ (omega (arith, N.length-take table.known (N.drop from.column table.forms.now), N.length-drop from.column table.forms.now))))
     columns knows is end _ _ run
     (omega arith) (after_known {old = from} {new = end} knows is {cells = table.count} (omega arith)
     (omega arith) (inr (omega arith)) refl) wrote) c.loop-used.invariant.ran in
@@ -64,7 +64,7 @@ returns-clause-ends c =
     let bytes = c.args.bytes.now in
     let row = c.row-row.ensures.row in
     let table = c.args.self.now in
-    let some : 0 < length c.row-row.result.now = omega (arith, ap length row, N.length-take table.known table.forms) in
+    let some : 0 < length c.row-row.result.now = omega (arith, ap length row, N.length-take table.known table.forms.now) in
     let late = too_late c.in-Some.ensures some (ap length (sym row)) (N.length-drop l.used bytes) refl in
     elim c.loop-used-test.branch [
       | else-loop-used-test w ↦ inl (late (inl w.loop-used-test.false))

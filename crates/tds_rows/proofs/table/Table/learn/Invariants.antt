@@ -1,12 +1,11 @@
-use Rattle.tds_rows.proofs.table.Table.of.Given as goal
+use Rattle.tds_rows.proofs.table.Table.learn.Given as goal
 use Rattle.tds_rows.proofs.Words as N
 use Rattle.tds_rows.proofs.Words.{◌≡◌, ◌-◌, ◌≤◌}
 
 abbrev pub invariant-loop-known : goal.invariant-loop-known
 invariant-loop-known l = record {
-  most : l.known ≤ 64;
+  most : l.known ≤ N.length l.forms;
   few : l.known ≤ N.length (N.columns_of l.fn.columns.bytes.now);
-  whole : N.length l.forms ≡ 64;
   first : N.map (λ f. f.kind) (N.take l.known l.forms) ≡ N.kinds (N.take l.known (N.columns_of l.fn.columns.bytes.now));
   laid : N.AreLaidOut l.fn.charset l.forms;
   numbers : l.only_numbers ≡ N.true → N.AreInt4 l.forms;
@@ -14,4 +13,4 @@ invariant-loop-known l = record {
 }
 
 abbrev pub decreases-loop-known : goal.decreases-loop-known
-decreases-loop-known l = 64 - l.known
+decreases-loop-known l = N.length l.forms - l.known

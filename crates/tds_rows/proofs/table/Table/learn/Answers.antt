@@ -1,16 +1,15 @@
-use Rattle.tds_rows.proofs.table.Table.of.Goals as goal
-use Rattle.tds_rows.proofs.Words.{◌∙◌, ap, sym, arith, IsInt4, IsLaidOut, columns_of, is_int4, rules}
-use Rattle.tds_rows.proofs.LaidOut.{each_all, each_set, int4_set}
+use Rattle.tds_rows.proofs.table.Table.learn.Goals as goal
+use Rattle.tds_rows.proofs.Words.{◌∙◌, ap, sym, arith, IsLaidOut, columns_of, is_int4, rules}
+use Rattle.tds_rows.proofs.LaidOut.{each_set, int4_set}
 use Rattle.tds_rows.proofs.TableSteps.{first_more, next_column}
 
 pub loop-known-init : goal.loop-known-init
 loop-known-init c = record {
   most = search arith;
   few = search arith;
-  whole = search arith;
   first = search arith;
-  laid = each_all (λ f. IsLaidOut c.args.charset f.kind f.layout) 64 _ c.of-forms.ensures.laid;
-  numbers = λ _. each_all (λ f. IsInt4 f.kind) 64 _ (ap is_int4 c.of-forms.ensures.kind);
+  laid = c.requires.laid;
+  numbers = λ _. c.requires.numbers;
   rest = search arith;
 }
 
@@ -21,14 +20,13 @@ loop-known-preserved c =
     let columns = columns_of c.args.columns.bytes.now in
     let next = next_column columns _ step in
     record {
-      most = search arith;
+      most = search (arith, rules);
       few = omega arith;
-      whole = search (arith, rules);
       first = first_more _ columns _ c.of.result
           (omega arith) inv.first step c.of.ensures.kind;
       laid = each_set (λ f. IsLaidOut c.args.charset f.kind f.layout) _ _ c.of.result inv.laid
           (omega arith) c.of.ensures.laid;
-      numbers = int4_set _ _ c.of.result _ c.is_int4.result inv.numbers
-          (omega arith) (c.is_int4.ensures ∙ ap is_int4 (sym c.of.ensures.kind));
+      numbers = int4_set _ _ c.of.result _ c.is_int4-only_numbers.result inv.numbers
+          (omega arith) (c.is_int4-only_numbers.ensures ∙ ap is_int4 (sym c.of.ensures.kind));
       rest = sym next.1.1;
     }
