@@ -12,7 +12,6 @@ from typing import Any, Callable, Iterator, NamedTuple, Optional, Union
 
 from gavyreto import tds
 from gavyreto.errors import BadAnswer, CertificateRefused, ConnectionFailed, EncryptionRefused, Error, LoginRefused, TimedOut
-from gavyreto.program import Write
 from gavyreto.tds import Encryption, PacketType
 
 PORT = 1433
@@ -427,11 +426,6 @@ class Session:
             if self._unsent:
                 self.close(str(told_of(self._unsent, self._server)))
         return block
-
-    def forward(self, write: Write) -> None:
-        """Hands on the answer as it comes."""
-        while block := self.next():
-            write(block)
 
     def interrupt(self) -> None:
         """Asks the server to stop answering, which may take as long as a login. It may be called while another call waits, as a handler

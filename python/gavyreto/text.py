@@ -264,7 +264,7 @@ class ResultSet:
 
     def fetchone(self) -> Optional[Row]:
         """The next row, or None after the last one (PEP 249)."""
-        with self._sets._guarding():
+        with self._sets._guard:
             for row in self._rows if self._gathered(1) else ():
                 return row
             return None
@@ -272,7 +272,7 @@ class ResultSet:
     def fetchmany(self, size: Optional[int] = None) -> list[Row]:
         """The next rows: so many, or `arraysize` without a number, and fewer at the end (PEP 249)."""
         rows: list[Row] = []
-        with self._sets._guarding():
+        with self._sets._guard:
             left = self.arraysize if size is None else size
             while left > len(rows) and self._gathered(1, rows):
                 rows += islice(self._rows, left - len(rows))
@@ -304,7 +304,7 @@ class ResultSet:
             except BaseException as failure:
                 self._sets._end_by(failure)
                 raise
-            with self._sets._guarding():
+            with self._sets._guard:
                 is_more = self._gathered(1) > 0
 
     def __next__(self) -> Row:
@@ -322,7 +322,7 @@ class ResultSet:
 
     def _batch(self, size: int) -> Columns:
         """The next batch, or nothing after the last one."""
-        with self._sets._guarding():
+        with self._sets._guard:
             if not self._gathered(size):
                 return []
             at = len(self._values[0]) - length_hint(self._first)
@@ -332,7 +332,7 @@ class ResultSet:
 
     def whole(self) -> Columns:
         """The rows that are left, by columns, all of them: an error is raised, and leaves them."""
-        with self._sets._guarding():
+        with self._sets._guard:
             count = self._gathered(sys.maxsize)
             at = len(self._values[0]) - count if self._values else 0
             if self._sets._failure:
@@ -510,9 +510,6 @@ class Sets:
         self._release()
         if self._is_untold:
             self._raise_again()
-
-    def _guarding(self) -> Guard:
-        return self._guard
 
     def _check_closed(self) -> None:
         """Sees to it that nothing is read past a value that is open."""

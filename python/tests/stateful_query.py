@@ -170,7 +170,7 @@ class Conversation(RuleBasedStateMachine):
 
         def ask() -> None:
             session.send("SELECT 1")
-            session.forward(handed.append)
+            handed.extend(iter(session.next, b""))
 
         error = self.beside((lambda: None) if self.is_stale else serve, ask)
         if self.is_stale:
@@ -201,7 +201,7 @@ class Conversation(RuleBasedStateMachine):
 
         def ask() -> None:
             session.send("SELECT 1")
-            session.forward(handed.append)
+            handed.extend(iter(session.next, b""))
 
         self.beside(serve, ask)
         assert not handed and not session.is_ready(), handed

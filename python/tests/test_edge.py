@@ -252,7 +252,11 @@ class Endings(Live):
                 self.assertLess(time.monotonic() - began, 10)
 
     def test_a_server_that_goes_on_after_an_interrupt(self) -> None:
-        """It is told what is waited for, and not for longer than a login may take."""
+        """It is told what is waited for, and not for longer than a login may take, whether it sends more or nothing."""
+        for is_silent in (False, True):
+            self.goes_on(is_silent)
+
+    def goes_on(self, is_silent: bool) -> None:
         begun = threading.Event()
 
         def serve(channel: Channel) -> None:
@@ -261,7 +265,10 @@ class Endings(Live):
             rows = tds.packet(PacketType.ANSWER, b"".join(responses.order_rows(0)), False)
             channel.write(rows)
             begun.set()
-            while True:
+            channel.wait()
+            while is_silent and channel.receive():
+                pass
+            while not is_silent:
                 channel.write(tds.packet(PacketType.ANSWER, tds.counted_body(tds.Token.ORDER, bytes(2)), False))
                 time.sleep(0.02)
 

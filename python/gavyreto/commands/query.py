@@ -39,6 +39,7 @@ GO = re.compile(r"\s*GO(?:\s+(\d+))?\s*;?\s*(?:--.*)?", re.IGNORECASE | re.ASCII
 MOST_TIMES = 2**31 - 1  # that a GO sends a statement
 CHECKED_OUTPUTS = 1000  # outputs that are looked at before anything is sent
 SECONDS_OF_PATIENCE = 1  # after which it is told that the server is waited for
+WAITING = "interrupted: waiting for the server to stop; Ctrl-C again doesn't wait"
 UTF_16 = "is it UTF-16? iconv -f UTF-16 -t UTF-8 makes UTF-8 of it"
 
 
@@ -223,10 +224,12 @@ class Outputs:
 
 
 class Interrupt:
-    """What Ctrl-C does: the first within an answer asks the server to stop, any other ends at once."""
+    """What Ctrl-C does: the first within an answer asks the server to stop, any other ends at once. It is told what is waited for if that
+    takes a while."""
 
     def __init__(self, session: Session) -> None:
         self.came = False
+        self._late: Optional[threading.Timer] = None
         self._session = session
         before = signal.getsignal(signal.SIGINT)
         if callable(before):  # it is ignored of what the shell runs in the background
@@ -242,6 +245,14 @@ class Interrupt:
         self.came = True
         with contextlib.suppress(ConnectionFailed):  # who waits for the answer finds it too
             self._session.interrupt()
+        self._late = threading.Timer(SECONDS_OF_PATIENCE, lambda: common.tell(WAITING))
+        self._late.daemon = True
+        self._late.start()
+
+    def settle(self) -> None:
+        """Nothing is waited for any more."""
+        if self._late:
+            self._late.cancel()
 
 
 def answer(session: Session, statement: str, run: Program, output: program.Output, interrupt: Interrupt) -> Ending:
@@ -259,7 +270,9 @@ def answer(session: Session, statement: str, run: Program, output: program.Outpu
         run.cut()
     ending = run.finish(output)
     if interrupt.came:
-        raise Stopped(ending.line_after(finished(session)), INTERRUPTED)
+        line = ending.line_after(finished(session))
+        interrupt.settle()
+        raise Stopped(line, INTERRUPTED)
     if ended:
         raise Stopped(ended if status == BAD_INPUT else ending.line_after(ended), status)
     if ending.status == DONE and session.unfinished:
@@ -271,15 +284,10 @@ def finished(session: Session) -> str:
     """Waits, after an interrupt, for the server to stop. Returns what there is to say."""
     if session.closed_after:
         return f"interrupted, and {session.closed_after}"
-    late = threading.Timer(SECONDS_OF_PATIENCE, lambda: common.tell("interrupted: waiting for the server to stop; Ctrl-C again doesn't wait"))
-    late.daemon = True
-    late.start()
     try:
         session.finish()
     except ConnectionFailed as failure:
         return f"interrupted, and {failure}"
-    finally:
-        late.cancel()
     return "interrupted"
 
 
