@@ -3,10 +3,16 @@ from __future__ import annotations
 
 import random
 import struct
+import sys
+import tempfile
 import unittest
 from collections.abc import Callable
 from dataclasses import replace
+from unittest import mock
 
+from gavyreto.capturing import progress
+from gavyreto.capturing.accounts import Accounts
+from gavyreto.capturing.files import Frame
 from tests.capture_cases import ACK, PUSH, SYN, Conversation, Link, Segment, checksum, packets, pcap, words
 from tests.test_capture_cases import Read, read
 
@@ -163,6 +169,20 @@ class Frames(unittest.TestCase):
         segments.append(Segment(False, 700, place + len(REQUEST), ACK, ANSWER))
         came = framed(segments, RAW, lambda it: it)
         self.assertEqual((came.answers, came.told.count("no answer to it came"), came.accounts.unanswered), ([ANSWER], 2, 2))
+
+    def test_how_far_a_capture_is_read(self) -> None:
+        """A line on a terminal, written anew and taken away in the end; elsewhere none."""
+        frames = [Frame(1, RAW, b"", 0)] * 3
+        for is_terminal in (True, False):
+            said: list[str] = []
+            with tempfile.TemporaryFile(buffering=0) as file, mock.patch.object(progress, "SECONDS", 0), mock.patch.object(progress, "FRAMES", 1), \
+                    mock.patch.object(sys.stderr, "isatty", lambda: is_terminal), mock.patch.object(sys.stdout, "isatty", lambda: False):
+                file.write(bytes(100))
+                file.seek(50)
+                self.assertEqual(list(progress.Progress(file, Accounts(answers=7), said.append).of(iter(frames))), frames)
+            with self.subTest(is_terminal=is_terminal):
+                self.assertEqual(said[:1], ["\r50 of 100 bytes, 7 answers, 0 seconds left"] * is_terminal)
+                self.assertEqual(said[-1:], ["\r" + " " * (len(said[0]) - 1) + "\r"] if is_terminal else [])
 
     def test_padding_is_no_data(self) -> None:
         """Of an acknowledgement that was captured too late, too."""

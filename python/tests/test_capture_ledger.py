@@ -349,6 +349,11 @@ class Again(unittest.TestCase):
                 it.exchange(2)
             came = of([*first, *(frame for it in talks for frame in it.frames())])
             self.assertEqual((came.answers, came.told, came.accounts.connections), ([answer(1)] * 20 + [answer(2)] * 20, [], 20))
+        for count in (1, 2, 3):
+            rest = [Talk(50000 + number, (number << 27, number << 26)).open().exchange(1).frames() for number in range(20)]
+            with self.subTest(opened=count), mock.patch.object(connections, "MOST_RESTING", 4):
+                came = of([*(frame for it in rest for frame in it[:count]), *(frame for it in rest for frame in it[count:])])
+                self.assertEqual((came.answers, came.told, came.accounts.connections), ([answer(1)] * 20, [], 20))
         talks = [Talk(50000 + number).open().exchange(1) for number in range(20)]
         for most, count in (8, 20), (30, 20), (8, 2):
             rest = [it.frames() for it in talks]

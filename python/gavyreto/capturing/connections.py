@@ -185,7 +185,7 @@ class Connections:
             conversation = self._of_open(key, is_client, segment)
             if conversation is None or conversation.is_far_ahead(is_client, segment):
                 ended = self._endings.find(key, is_client, segment)
-                if ended and (segment.flags & SYN or not ended.is_new(is_client, segment)):
+                if ended and not ended.is_new(is_client, segment):
                     self._compare(key, ended, ended.sides(is_client)[0].place, is_client, segment, time)
                     return None
                 conversation = conversation or self._begin_with(key, segment, ended)

@@ -111,8 +111,10 @@ class Conversation:
         """It has been there, and goes on."""
         for stream, side in ((self.client, client), (self.server, server)):
             stream.first = side.first
-            stream.go_on((side.place - side.size) % SPACE, side.size, side.sum, side.marks)
-        self._answers.go_on()
+            if side.place >= 0:
+                stream.go_on((side.place - side.size) % SPACE, side.size, side.sum, side.marks)
+        if client.size > 0 and server.size > 0:
+            self._answers.go_on()
 
     def take(self, is_client: bool, segment: Segment, time: int) -> None:
         """A segment came. Of one with a wrong checksum only the numbers count: it was sent, and nobody took it."""

@@ -30,8 +30,10 @@ class Ended(NamedTuple):
     def has(self, is_client: bool, segment: Segment) -> bool:
         """Whether a segment is one more of it: by the number of its SYN, or by both its numbers. Nothing comes after an end."""
         own, other = self.sides(is_client)
-        if segment.flags & SYN:
+        if segment.flags & SYN and own.place >= 0:
             return segment.sequence == own.first
+        if own.place < 0 or other.place < 0:  # nothing of a side was there
+            return other.place >= 0 and bool(segment.flags & ACK) and _is_near(other, segment.acknowledged, 0, FARTHEST)
         size = len(segment.data) + segment.cut
         ahead = 1 if self.is_over else FARTHEST
         return _is_near(own, segment.sequence, size, ahead) and (not segment.flags & ACK or _is_near(other, segment.acknowledged, 0, ahead))
@@ -39,6 +41,8 @@ class Ended(NamedTuple):
     def is_new(self, is_client: bool, segment: Segment) -> bool:
         """Whether a segment shows more than is there."""
         own, other = self.sides(is_client)
+        if own.place < 0 or other.place < 0:
+            return own.place < 0 or not segment.flags & SYN
         ahead = (segment.sequence + len(segment.data) + segment.cut - own.place) % SPACE
         return 1 < ahead < HALF or bool(segment.data) and ahead == 1 or 1 < (segment.acknowledged - other.place) % SPACE < HALF
 

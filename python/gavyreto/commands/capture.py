@@ -11,7 +11,7 @@ and aren't there, or that came again with other values. If a byte was captured s
 as the statements in it: some clients write them there as they are, and one may look like packets.
 
 Standard error has the number of frames that aren't read, by reason, and ends with the sums of frames, connections, requests and
-bytes of servers. Memory doesn't grow with the capture, nor with an answer.
+bytes of servers. Where it is a terminal, and standard output is none, a line says how far the capture is read. Memory doesn't grow with the capture, nor with an answer.
 
 The status is the greatest of these: 0 if every answer is whole and there is nothing else to report; 3 if the server reported an
 error in a response, or a response was cancelled; 4 if something can't be read; 5 if a read, a write or the program failed, or the
@@ -37,7 +37,8 @@ from gavyreto.capturing.connections import Connections
 from gavyreto.capturing.desk import Answer, Sides
 from gavyreto.capturing.keeping import Kept, Room
 from gavyreto.capturing.messages import is_header
-from gavyreto.commands.common import Stopped, add_options_of_program, checked_program, line, number_in, parser_of, put, tell
+from gavyreto.capturing.progress import Progress
+from gavyreto.commands.common import Stopped, add_options_of_program, checked_program, line, number_in, parser_of, put, say, tell
 from gavyreto.payload import Ended
 from gavyreto.program import BAD_INPUT, FAILED, OF_SIGNAL, REFUSED, SERVER_ERROR, Ending, judged
 from gavyreto.tds import PacketType
@@ -192,7 +193,7 @@ def capture(asked: argparse.Namespace) -> int:
             export, accounts = Export(asked, room), Accounts()
             notes = Notes(export)
             if files.is_capture(source.head()):
-                take_capture(source, export, accounts, notes, set(asked.port or [1433]))
+                take_capture(source, export, accounts, notes, set(asked.port or [1433]), Progress(file, accounts, say))
             elif is_header(source.head(), (PacketType.ANSWER,)):
                 put(line(HEADER))
                 dumps.take_recorded(source, export, accounts)
@@ -204,12 +205,12 @@ def capture(asked: argparse.Namespace) -> int:
     return export.worst
 
 
-def take_capture(source: files.Source, export: Export, accounts: Accounts, notes: Notes, ports: set[int]) -> None:
+def take_capture(source: files.Source, export: Export, accounts: Accounts, notes: Notes, ports: set[int], progress: Progress) -> None:
     """Exports the answers in a capture."""
     connections, drops, cut = Connections(ports, export, accounts), files.Drops(), ""
     put(line(HEADER))
     try:
-        for frame in files.frames(source, drops):
+        for frame in progress.of(files.frames(source, drops)):
             connections.take(frame)
     except files.CutShort as why:
         cut = str(why)
