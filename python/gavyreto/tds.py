@@ -9,7 +9,7 @@ import struct
 from enum import IntEnum
 from typing import NamedTuple, Optional
 
-from gavyreto.packets import (
+from gavyreto.packets import (  # noqa: F401  whoever reads messages needs their packets
     DONE_LENGTH as DONE_LENGTH, HEADER as HEADER, LAST as LAST, Bytes as Bytes, Framing as Framing, PacketType as PacketType, header as header,
     length_of as length_of, packet as packet, packets as packets, read_fully as read_fully, read_packet as read_packet, tail_of as tail_of,
 )

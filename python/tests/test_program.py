@@ -12,7 +12,7 @@ from unittest import mock
 
 from gavyreto import program, tds
 from gavyreto.errors import Fault, Report, ServerError
-from gavyreto.program import BAD_INPUT, DONE, FAILED, SERVER_ERROR, Ending, Output, OutputFailed, Program, command_of
+from gavyreto.program import BAD_INPUT, DONE, SERVER_ERROR, Ending, Output, OutputFailed, Program, command_of
 from tests.beside import ORDERS, PROGRAM, answered, responses, wait_for, wire
 
 ORDERED = answered(*responses.order_rows(0), tds.done())

@@ -6,7 +6,7 @@ from hashlib import blake2b
 from typing import NamedTuple, Optional
 
 from gavyreto.capturing.conversations import FARTHEST, Conversation, Side
-from gavyreto.capturing.internet import ACK, FIN, RESET, SYN, Segment, Tags
+from gavyreto.capturing.internet import ACK, SYN, Segment, Tags
 from gavyreto.capturing.memory import Memory, Share
 from gavyreto.capturing.streams import HALF, MARK, SPACE, Piece, Stream
 

@@ -8,8 +8,9 @@ returns-then-count-le-FEW_COLUMNS-clause-succeeds g c = λ first later bytes mor
 
 pub returns-then-count-le-SOME_COLUMNS-clause-succeeds : goal.returns-then-count-le-SOME_COLUMNS-clause-succeeds
 returns-then-count-le-SOME_COLUMNS-clause-succeeds g c = λ first later bytes more spelt none.
-    rows_succeed _ _ _ c.args.columns.some g.R.Read.remaining g.W.Write.contents c.args.payload.now c.rows_by-then-count-le-SOME_COLUMNS.new.payload c.args.sink.now
-    c.rows_by-then-count-le-SOME_COLUMNS.new.sink c.rows_by-then-count-le-SOME_COLUMNS.result _ _ _ _ c.rows_by-then-count-le-SOME_COLUMNS.ensures.rows spelt none
+    rows_succeed _ _ _ c.args.columns.some g.R.Read.remaining g.W.Write.contents c.args.payload.now c.rows_by-then-count-le-SOME_COLUMNS.new.payload
+    c.args.sink.now c.rows_by-then-count-le-SOME_COLUMNS.new.sink c.rows_by-then-count-le-SOME_COLUMNS.result _ _ _ _
+    c.rows_by-then-count-le-SOME_COLUMNS.ensures.rows spelt none
 
 pub returns-clause-succeeds : goal.returns-clause-succeeds
 returns-clause-succeeds g c = λ first later bytes more spelt none.
