@@ -24,6 +24,7 @@ if __name__ == "__main__":
         sys.exit(f"{PROGRAM} isn't there: build it by `make build`, or name another program by PROGRAM=")
     sys.dont_write_bytecode = True
     signal.signal(signal.SIGINT, signal.default_int_handler)  # it is ignored in the background, and what is started inherits that
+    signal.signal(signal.SIGHUP, signal.SIG_DFL)  # it is under nohup, too
     folder = os.path.dirname(os.path.abspath(__file__))
     argv = sys.argv if len(sys.argv) > 1 else [sys.argv[0], "discover", "-s", folder, "-t", os.path.dirname(folder)]
     unittest.main(module=None, argv=argv, testRunner=unittest.TextTestRunner(resultclass=Result))

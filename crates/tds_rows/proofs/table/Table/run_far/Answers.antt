@@ -49,8 +49,12 @@ returns-then-begun-forms-clause-ends c =
     let table = c.args.self.now in
     rw c.none.ensures (elim c.then-begun-forms.branch [
       | then-begun-forms-via-then-begun-forms w ↦ inr (inr (λ columns column left knows ahead step. absurd (let e = sym step
-          ∙ none_next _ _ knows.counted (omega (arith, w.if-begun-forms.true, row,
-          N.length-take-le table.known table.forms.now (omega (arith, table.there)))) in
+          ∙ none_next _ _ knows.counted (omega (
+            arith,
+            w.if-begun-forms.true,
+            row,
+            N.length-take-le table.known table.forms.now (omega (arith, table.there)),
+          )) in
           omega (arith, ap length e))))
       | then-begun-forms-via-else-begun-forms+then-bytes-lt-FAR w ↦ inl w.if-bytes-lt-FAR.true
       | then-begun-forms-via-else-begun-forms+else-bytes-lt-FAR+then-to-lt-CELL_ROOM w ↦ inr (inl (omega (arith, w.if-to-lt-CELL_ROOM.true)))
