@@ -133,6 +133,17 @@ def widen(pipe: IO[bytes]) -> None:
         fcntl.fcntl(pipe.fileno(), F_SETPIPE_SZ, ROOM_OF_PIPE)
 
 
+def status_after(process: subprocess.Popen[bytes]) -> int:
+    """The status of a process, once it has ended. An interrupt within a call of Popen can leave its lock taken, for which its
+    own wait would wait without end; and it can lose a status, in whose place the one of a failure stands."""
+    while process.returncode is None:
+        try:
+            process.returncode = os.waitstatus_to_exitcode(os.waitpid(process.pid, 0)[1])
+        except ChildProcessError:
+            process.returncode = FAILED
+    return process.returncode
+
+
 def write_all(descriptor: int, data: bytes) -> None:
     """Writes all bytes, with as many calls as it takes."""
     left = memoryview(data)
@@ -248,7 +259,7 @@ class Program:
             process.kill()
             for pipe in (process.stdout, process.stderr):
                 cast("IO[bytes]", pipe).close()
-            process.wait()
+            status_after(process)
 
     def kill(self) -> None:
         """Ends it, so that who hands over in another thread finds it."""
@@ -368,7 +379,7 @@ class Program:
         if self._said and (self._taken >= written_by(self._said) or not ready):
             self._end(None)
         elif self._process and not self._open:
-            self._end(self._process.wait())
+            self._end(status_after(self._process))
 
     def _take_lines(self) -> None:
         """Takes lines, which come at once. After others than those of a whole response it ends."""

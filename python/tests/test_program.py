@@ -4,6 +4,7 @@ from __future__ import annotations
 import contextlib
 import os
 import random
+import signal
 import tempfile
 import threading
 import unittest
@@ -13,7 +14,7 @@ from unittest import mock
 from gavyreto import program, tds
 from gavyreto.errors import Fault, Report, ServerError
 from gavyreto.program import BAD_INPUT, DONE, SERVER_ERROR, Ending, Output, OutputFailed, Program, command_of
-from tests.beside import ORDERS, PROGRAM, answered, responses, wait_for, wire
+from tests.beside import ORDERS, PROGRAM, SECONDS, answered, responses, wait_for, wire
 
 ORDERED = answered(*responses.order_rows(0), tds.done())
 WITHOUT = answered(tds.done())
@@ -83,6 +84,20 @@ class Runs(unittest.TestCase):
             while run._process and run._process.poll() is None:
                 pass
             self.assertEqual(ended(run, ORDERED)[1], ORDERS)
+
+    def test_a_lock_that_an_interrupt_left_taken(self) -> None:
+        """Popen takes it to ask for a status, and gives it back a line later. The program is ended all the same."""
+        run = Program(command())
+        run.begin()
+        run.hand(ORDERED[:20], Output(2))
+        process = run._process
+        assert process
+        process._waitpid_lock.acquire()  # type: ignore[attr-defined]
+        closing = threading.Thread(target=run.close, daemon=True)
+        closing.start()
+        closing.join(SECONDS)
+        self.assertFalse(closing.is_alive())
+        self.assertEqual(process.returncode, -signal.SIGKILL)
 
     def test_a_response_that_is_left(self) -> None:
         """What was handed over of one doesn't count for the next."""

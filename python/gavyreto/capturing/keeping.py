@@ -37,7 +37,7 @@ class Run:
                 self._process.stdin.close()
             with cast("IO[bytes]", self._process.stderr) as stderr:
                 notes = stderr.read().decode("utf-8", "replace")
-            return self._process.wait(), notes
+            return program.status_after(self._process), notes
         except BaseException:
             self.kill()
             raise
@@ -45,7 +45,7 @@ class Run:
     def kill(self) -> None:
         """Ends it."""
         self._process.kill()
-        self._process.wait()
+        program.status_after(self._process)
 
 
 class Room:
