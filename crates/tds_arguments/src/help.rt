@@ -43,8 +43,7 @@ error, 4 a fault of the input, 5 a failed read or write or a file that can't be
 opened, 6 want of memory.
 
 Examples:
-  tds_replay export response.tds > rows.csv
-  tds_replay export --packet-size 8000 --charset utf-8 < response.tds
+  tds_replay export --packet-size 8000 --charset utf-8 response.tds > rows.csv
   tds_replay export --all responses.tds > texts.csv 2> lines",
 };
 
