@@ -3,6 +3,7 @@ pub mod Rows
 pub mod Characters
 pub mod Utf16Steps
 pub mod Utf8Pushing
+pub mod JoinedText
 pub mod UsualText
 pub mod Spares
 pub mod Sinks

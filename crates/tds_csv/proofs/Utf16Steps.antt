@@ -143,6 +143,15 @@ ends_held {bytes} {to} {used} {made} before held =
 pub ends_there : {bytes to : List ℕ} {used made : ℕ} → N.Converts bytes to used made → used ≡ length bytes → Ended bytes to used made
 ends_there = grind (arith, nil_of_length, N.length-drop, ends_held)
 
+-- no whole unit does
+few_held : (xs : List ℕ) → length xs ≤ 1 → rest xs ≡ xs
+few_held [] few = N.refl
+few_held (x ∷ []) few = N.refl
+few_held (x ∷ y ∷ xs) few = grind arith
+
+pub ends_short : {bytes to : List ℕ} {used made : ℕ} → N.Converts bytes to used made → length bytes < used + 2 → Ended bytes to used made
+ends_short {bytes} {to} {used} before few = ends_held before (few_held (drop used bytes) (omega (arith, N.length-drop used bytes)))
+
 -- ---- withheld bytes of text in UTF-16, with the first ones of a piece
 
 -- where the text goes on after that of the seam

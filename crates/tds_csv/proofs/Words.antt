@@ -3,7 +3,7 @@ pub use Rattle.hex.specs.Hex.{lower_digits, encode_lower}
 pub use Rattle.std.proofs.Common.{◌||◌, ◌≡◌, ◌∙◌, inl, inr, ℕ, ◌+◌, ◌-◌, ◌<◌, ◌≤◌, ◌%◌, true, false, List, [], ◌∷◌, ◌++◌, length, take, Some, None, refl, sym}
 pub use Rattle.std.proofs.Common.{ap, subst, arith, append_assoc, append-nil, length-append, IsUtf8, take_all, ◌≢◌, ◌/◌, drop, length-drop, length-take-le}
 pub use Rattle.std.proofs.Common.{encode_utf8_all, suc, map, get_or, w8, w16, Fits, Bool, Result, Ok, Err, MatchResult, ◌^◌, not, cond, replicate, ap₂, codes}
-pub use Rattle.std.proofs.Common.{slice_index, zero, OnErr, le_refl, ◌⊎◌, ◌*◌, length-take, ◌&&◌, eqb, leb, bit_or, unwrap_or, ⊎_elim, nat_lt, nat_eq, rules}
+pub use Rattle.std.proofs.Common.{slice_index, zero, OnErr, le_refl, ◌⊎◌, ◌*◌, length-take, ◌&&◌, eqb, leb, bit_and, bit_or, unwrap_or, ⊎_elim, nat_lt, nat_eq, rules}
 pub use Rattle.std.proofs.KnownBytes.{Appends-nil, Appends-trans}
 pub use Rattle.std.proofs.Math.ListN.{drop_of_length-le}
 pub use Rattle.std.proofs.Math.Seq.{take-append-add, drop-append-add, take-append_seam, drop-append_seam}
@@ -15,7 +15,7 @@ pub use Rattle.std.proofs.lemmas.List.{append_cancel_left, map-append, take_more
 pub use Rattle.std.proofs.lemmas.List.Sums.{prefix_len-le-length}
 pub use Rattle.std.proofs.lemmas.Simd.{swz_l, map-map, mask_l-mod, length-chunk, chunk-fits, first_set_mask_l, zip2_of_maps, splat_is_map, zip2_splat}
 pub use Rattle.std.proofs.lemmas.Simd.{SwzOk-from_below, length-put_chunk, take_more_put_chunk, Each2-splat, Each1-all, Each1-weaker, below_from_Fits}
-pub use Rattle.std.proofs.lemmas.Simd.{ones-mask_l, zip2-map}
+pub use Rattle.std.proofs.lemmas.Simd.{ones-mask_l, zip2-map, length-zip2, Each1-zip2, Each2-of}
 pub use Rattle.std.proofs.lemmas.Str.{is_utf8-from_IsUtf8, utf8_valid_len_le, IsUtf8-from_is_utf8, IsUtf8-nil, encode_same, utf8_valid_len-IsUtf8}
 pub use Rattle.std.proofs.lemmas.Str.{encodes-append, IsUtf8-append, IsUtf8-drop, IsUtf8-encode, IsCharBoundary-from_take, length-encode, len_utf8_bounds}
 pub use Rattle.std.proofs.str.Laws.{Scalar, Follows, Shape, of1, of2, of3, of4, shape}
@@ -63,7 +63,7 @@ pub use Rattle.tds_packet.specs.Seen.{Seen, Takes, IsBetween}
 pub use Rattle.tds_packet.specs.declared.fault.Fault.{Fault}
 pub use Rattle.tds_packet.specs.declared.fault.Stop.{Stop}
 pub use borrow.Rule.Slice.PartMut.{put_mid, post_of}
-pub use lib.Lanes.{sel_l, Each1, chunk, mask_l, top}
+pub use lib.Lanes.{sel_l, Each1, chunk, fold_l, mask_l, top, zip2}
 pub use lib.Seq.{drop-drop, take-add}
 pub use lib.Utf8.{scalar, scalar_cases}
 pub use native.Mathlib.Decide.{dec_le}

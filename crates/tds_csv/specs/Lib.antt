@@ -13,5 +13,6 @@ pub mod Sinks
 pub mod Spare
 pub mod Cutting
 pub mod Plain
+pub mod Joined
 pub mod Streaming
 pub mod Wide

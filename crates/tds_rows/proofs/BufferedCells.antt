@@ -113,9 +113,9 @@ pub int4_scalar : (kind : Kind) → N.IsInt4 kind → N.is_scalar kind ≡ true
 int4_scalar _ number = grind arith
 
 -- one that may be NULL comes after its length
-pub int4_start : {kind : Kind} {n : ℕ} → N.IsInt4 kind → kind ≡ N.IntN n → (bytes : List ℕ) → (N.is_scalar kind ≡ true)
+pub int4_start : (kind : Kind) → N.IsInt4 kind → N.is_counted kind ≡ true → (bytes : List ℕ) → (N.is_scalar kind ≡ true)
     × ((1 ≡ N.value_start kind) × (N.value_length kind bytes ≡ N.slice_index bytes 0))
-int4_start _ is _ = grind arith
+int4_start _ number counted _ = grind arith
 
 -- a cell whose value is refused is left
 pub refused_left : (kind : Kind) (bytes : List ℕ) (start n : ℕ) → start ≡ N.value_start kind → n ≡ N.value_length kind bytes → n ≢ 0

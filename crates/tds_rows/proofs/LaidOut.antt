@@ -9,12 +9,12 @@ each_all P n f is k d here = grind (arith, N.get_or-replicate, N.length-replicat
 pub each_set : (P : Form → Type 0) (forms : List Form) (k : ℕ) (f : Form) → Each P forms → k < length forms → P f → Each P (N.slice_set forms k f)
 each_set P _ k f all _ is j d here = search N.rules
 
--- one more whole number of four bytes, or a form of another kind
-pub int4_set : (forms : List Form) (k : ℕ) (f : Form) (all one : N.Bool) → (all ≡ true → N.AreInt4 forms) → k < length forms → one ≡ N.is_int4 f.kind
-    → (all && one) ≡ true → N.AreInt4 (N.slice_set forms k f)
-int4_set _ k f true true before _ is _ = search N.rules
-int4_set _ k f true N.false _ _ _ both = cc
-int4_set _ k f N.false _ _ _ _ both = cc
+-- one more form of kinds of which something is said, or a form of another kind
+pub kind_set : (of : Kind → N.Bool) (forms : List Form) (k : ℕ) (f : Form) (all one : N.Bool) → (all ≡ true → Each (λ g. of g.kind ≡ true) forms)
+    → k < length forms → one ≡ of f.kind → (all && one) ≡ true → Each (λ g. of g.kind ≡ true) (N.slice_set forms k f)
+kind_set of forms k f true true before within is _ = each_set (λ g. of g.kind ≡ true) forms k f (before N.refl) within (N.sym is)
+kind_set _ _ k f true N.false _ _ _ both = cc
+kind_set _ _ k f N.false _ _ _ _ both = cc
 
 -- ---- a value that is there
 

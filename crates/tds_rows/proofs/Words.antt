@@ -72,7 +72,7 @@ pub use Rattle.tds_packet.specs.declared.fault.Fault.TheVariants.{PlpLength}
 pub use Rattle.tds_packet.specs.declared.fault.Place.TheVariants.{Payload}
 pub use Rattle.tds_packet.specs.declared.fault.Stop.{Stop}
 pub use Rattle.tds_rows.specs.Blames.{failures_of, StopBlames, Failures}
-pub use Rattle.tds_rows.specs.CellSteps.{StallsCell, IsScalarLeft, cell_so_far, opened, StopsField, IsLeft, WritesKind, is_last_column, IsInt4}
+pub use Rattle.tds_rows.specs.CellSteps.{StallsCell, IsScalarLeft, cell_so_far, opened, StopsField, IsLeft, WritesKind, is_counted, is_last_column, IsInt4}
 pub use Rattle.tds_rows.specs.CellSteps.{is_int4, PutsField, GathersCell, WritesField, whole_size}
 pub use Rattle.tds_rows.specs.Cells.{chunk_fault, ShortData, within_total, ScalarLength, ScalarCell, WholeCell, CountedShape, cell, ChunkLength, value_part}
 pub use Rattle.tds_rows.specs.Cells.{end_of_chunks, ShortLength, cell_start, null_total, cell_add, Null, unknown_total, SpellsChunked, cell_size, unless, shape}
@@ -81,7 +81,7 @@ pub use Rattle.tds_rows.specs.Cells.{SpellsChunk, return_charset, SpellsChunks, 
 pub use Rattle.tds_rows.specs.Cells.{DataCell}
 pub use Rattle.tds_rows.specs.FormRuns.{done_since, FormsWritten, FirstLeft, FieldsWritten, AreNext, WritesForms, FirstUsed, FirstWritten, RunsForms}
 pub use Rattle.tds_rows.specs.FormRuns.{WritesFields}
-pub use Rattle.tds_rows.specs.Forms.{AreInt4, AreLaidOut, Each}
+pub use Rattle.tds_rows.specs.Forms.{AreCounted, AreInt4, AreLaidOut, Each}
 pub use Rattle.tds_rows.specs.Layouts.{shape_of_layout, IsLaidOut}
 pub use Rattle.tds_rows.specs.LongReading.{IsOnSameValue}
 pub use Rattle.tds_rows.specs.LongCells.{RefusesNumber, EndsData, added_text, StopsFilling, StopsEnding, total_of, chunk_length_fault, EndPut, RefusesData}

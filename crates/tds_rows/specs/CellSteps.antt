@@ -52,6 +52,11 @@ is_int4 Int4 = true
 is_int4 (IntN n) = n == 4
 is_int4 kind = false
 
+-- whether whole numbers of a kind come after their length, or are NULL
+abbrev pub is_counted : Kind → Bool
+is_counted (IntN n) = true
+is_counted kind = false
+
 -- The values of this kind are whole numbers of four bytes.
 abbrev pub IsInt4 : Kind → Type 0
 IsInt4 kind = is_int4 kind ≡ true

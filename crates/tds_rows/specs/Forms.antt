@@ -1,8 +1,8 @@
 -- The forms that a table knows.
-use Rattle.std.specs.Prelude.{◌<◌, ℕ, List, length, get_or}
+use Rattle.std.specs.Prelude.{◌≡◌, ◌<◌, ℕ, List, length, get_or, true}
 use Rattle.tds_values.specs.declared.charset.Charset.{Charset}
 use Rattle.tds_rows.specs.declared.cell.layout.Form.{Form}
-use Rattle.tds_rows.specs.CellSteps.{IsInt4}
+use Rattle.tds_rows.specs.CellSteps.{IsInt4, is_counted}
 use Rattle.tds_rows.specs.Layouts.{IsLaidOut}
 
 -- how many columns a table knows by itself at most
@@ -20,3 +20,7 @@ AreLaidOut charset forms = Each (λ f. IsLaidOut charset f.kind f.layout) forms
 -- The values of these forms' kinds are whole numbers of four bytes.
 abbrev pub AreInt4 : List Form → Type 0
 AreInt4 forms = Each (λ f. IsInt4 f.kind) forms
+
+-- The whole numbers of these forms' kinds come after their lengths.
+abbrev pub AreCounted : List Form → Type 0
+AreCounted forms = Each (λ f. is_counted f.kind ≡ true) forms

@@ -4,7 +4,7 @@ use Rattle.tds_values.specs.declared.kind.Kind.{Kind}
 use Rattle.tds_columns.specs.Description.{Column}
 use Rattle.tds_columns.specs.Walking.{columns_left}
 use Rattle.tds_rows.specs.CellSteps.{is_last_column}
-use Rattle.tds_rows.specs.Forms.{AreInt4, AreLaidOut}
+use Rattle.tds_rows.specs.Forms.{AreCounted, AreInt4, AreLaidOut}
 use Rattle.tds_rows.specs.declared.table.Learnt.{Learnt}
 use Rattle.tds_values.specs.declared.charset.Charset.{Charset}
 use Rattle.tds_rows.specs.declared.table.Ahead.{Ahead}
@@ -28,6 +28,7 @@ pub record Learns (columns : List Column) (charset : Charset) (forms : List Form
   pub first : map (λ f. f.kind) (take learnt.known forms) ≡ kinds (take learnt.known columns)
   pub laid : AreLaidOut charset forms
   pub numbers : learnt.only_numbers ≡ true → AreInt4 forms
+  pub counted : learnt.only_counted ≡ true → AreCounted forms
   pub rest : columns_left learnt.rest ≡ drop learnt.known columns
 
 -- The table knows some columns, one at least.

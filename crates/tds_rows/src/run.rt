@@ -159,11 +159,17 @@ impl<'a> Table<'a> {
     }
 
     // Writes whole rows of whole numbers of four bytes, each with the token byte of the next, as long as there are bytes and
-    // room for any row.
+    // room for any row. `COUNTED` says that all come after their lengths.
     #[inline(never)]
-    fn run_numbers(&self, from: Ahead<'a>, bytes: &[u8], to: &mut [u8]) -> RowsRun<'a>
+    fn run_numbers<const COUNTED: bool>(
+        &self,
+        from: Ahead<'a>,
+        bytes: &[u8],
+        to: &mut [u8],
+    ) -> RowsRun<'a>
         requires known { KnowsAll self.now }
         requires numbers { self.now.only_numbers ≡ true }
+        requires counted { COUNTED ≡ true → self.now.only_counted ≡ true }
         requires first { from.column ≡ 0 }
         ensures ahead { result.ahead ≡ from.entry }
         ensures ends { let row = take self.now.known self.now.forms.now in
@@ -178,7 +184,7 @@ impl<'a> Table<'a> {
         let mut made = 0;
         let mut rows = 0;
         while used <= latest.used && made <= latest.made {
-            let Some(run) = run_row(row, &bytes[used..], &mut to[made..]) else {
+            let Some(run) = run_row::<COUNTED>(row, &bytes[used..], &mut to[made..]) else {
                 break;
             };
             let end = used + run.used;
@@ -258,10 +264,13 @@ impl<'a> Table<'a> {
         if !INT4 {
             return self.run_far(at, bytes, to);
         }
-        if at.column == 0 {
-            return self.run_numbers(at, bytes, to);
+        if at.column != 0 {
+            return RowsRun::none(at);
         }
-        RowsRun::none(at)
+        if self.only_counted {
+            return self.run_numbers::<true>(at, bytes, to);
+        }
+        self.run_numbers::<false>(at, bytes, to)
     }
 
     // Writes cell after cell of rows whose columns the table all knows, as far as they are whole in these bytes, aren't in several

@@ -1,7 +1,7 @@
 // What the cells of a description's columns need of them, known once for all its rows.
 ghost use Rattle.std.specs.Prelude.{◌≡◌, ◌==◌, ◌⊎◌, ◌+◌, ◌-◌, ◌<◌, ◌≤◌, drop, get_or, length, take, true, false, IfSome, List, MatchOption};
-ghost use Rattle.tds_rows.specs.CellSteps.{IsInt4, is_int4};
-ghost use Rattle.tds_rows.specs.Forms.{AreInt4, AreLaidOut, table_length};
+ghost use Rattle.tds_rows.specs.CellSteps.{IsInt4, is_counted, is_int4};
+ghost use Rattle.tds_rows.specs.Forms.{AreCounted, AreInt4, AreLaidOut, table_length};
 ghost use Rattle.tds_values.specs.declared.charset.Charset.{Charset};
 ghost use Rattle.tds_rows.specs.Layouts.{IsLaidOut};
 
@@ -28,13 +28,21 @@ fn is_int4(kind: &Kind) -> bool
     matches!(*kind, Kind::Int4 | Kind::IntN(4))
 }
 
+// Whether whole numbers of a kind come after their length, or are NULL.
+pub(crate) fn is_counted(kind: &Kind) -> bool
+    ensures { result ≡ is_counted kind.now }
+{
+    matches!(*kind, Kind::IntN(_))
+}
+
 /// The columns of a description: what the cells of the first ones need, whether these are all and have only whole
-/// numbers of four bytes, the walk over those after, and the set of single-byte text.
+/// numbers of four bytes, whether each of these may be NULL, the walk over those after, and the set of single-byte text.
 #[derive(Drop)]
 pub(crate) struct Table<'a> {
     forms: &'a [Form],
     known: usize,
     pub(crate) only_numbers: bool,
+    pub(crate) only_counted: bool,
     count: u16,
     rest: Walk<'a>,
     pub(crate) charset: Charset,
@@ -43,25 +51,28 @@ pub(crate) struct Table<'a> {
     ghost fits: { count ≤ 65535 },
     ghost laid: { AreLaidOut charset forms.now },
     ghost numbers: { only_numbers ≡ true → AreInt4 forms.now },
+    ghost counted: { only_counted ≡ true → AreCounted forms.now },
 }
 
-/// What was learnt of the first columns of a description: how many they are, whether all have only whole numbers of four bytes, and
-/// the walk over those after.
+/// What was learnt of the first columns of a description: how many they are, whether all have only whole numbers of four bytes, whether
+/// their whole numbers may all be NULL, and the walk over those after.
 #[derive(Clone, Copy)]
 pub(crate) struct Learnt<'a> {
     known: usize,
     only_numbers: bool,
+    only_counted: bool,
     rest: Walk<'a>,
 }
 
-/// What is there before anything is learnt of a column: a form of whole numbers of four bytes.
+/// What is there before anything is learnt of a column: a form of whole numbers of four bytes that may be NULL.
 pub(crate) fn blank() -> Form
     ensures number { IsInt4 result.kind }
+    ensures counted { is_counted result.kind ≡ true }
     ensures laid { (charset : Charset) → IsLaidOut charset result.kind result.layout }
 {
     Form {
-        kind: Kind::Int4,
-        layout: Layout::Fixed(4),
+        kind: Kind::IntN(4),
+        layout: Layout::Counted,
     }
 }
 
@@ -83,10 +94,12 @@ impl<'a> Table<'a> {
         requires few { length forms.old ≤ table_length }
         requires laid { AreLaidOut charset forms.old }
         requires numbers { AreInt4 forms.old }
+        requires counted { AreCounted forms.old }
         ensures { Learns (columns_of columns.entry.bytes.now) charset forms.new result }
     {
         let mut known = 0;
         let mut only_numbers = true;
+        let mut only_counted = true;
         let mut rest = columns.walk();
         while known < forms.len() {
             let Some(column) = rest.next() else {
@@ -95,10 +108,12 @@ impl<'a> Table<'a> {
             forms[known] = Form::of(column.kind, charset);
             known += 1;
             only_numbers &= is_int4(&column.kind);
+            only_counted &= is_counted(&column.kind);
         }
         Learnt {
             known,
             only_numbers,
+            only_counted,
             rest,
         }
     }
@@ -119,6 +134,7 @@ impl<'a> Table<'a> {
             forms,
             known,
             only_numbers: learnt.only_numbers && known == count as usize,
+            only_counted: learnt.only_counted,
             count,
             rest: learnt.rest,
             charset,
@@ -134,6 +150,7 @@ impl<'a> Table<'a> {
             forms: &[],
             known: 0,
             only_numbers: false,
+            only_counted: false,
             count: columns.count(),
             rest: columns.walk(),
             charset,
@@ -206,6 +223,7 @@ impl<'a> Table<'a> {
         ensures row { result.now ≡ take self.now.known self.now.forms.now }
         ensures few { length result.now ≤ 65535 }
         ensures numbers { self.now.only_numbers ≡ true → AreInt4 result.now }
+        ensures counted { self.now.only_counted ≡ true → AreCounted result.now }
     {
         &self.forms[..self.known]
     }

@@ -8,7 +8,7 @@ ghost use Rattle.tds_csv.specs.Wide.{AddsQuads, is_half, is_long, is_wide, pair_
 use crate::convert::encode::put_lanes;
 use crate::convert::lanes::LANES;
 use crate::convert::lanes_utf16::{
-    UNITS, long_units, low_bytes, lowest, surrogate_units, units_of, wide_units,
+    UNITS, has_long, long_units, low_bytes, lowest, surrogate_units, units_of, wide_units,
 };
 use crate::convert::places::{pair_places, quad_places};
 use crate::convert::utf16::Converted;
@@ -209,6 +209,28 @@ pub(crate) fn put_units(to: &mut [u8], at: usize, lanes: u8x16, n: usize) -> Opt
     put_few(to, at, units, wide, long, n)
 }
 
+// Writes the text of eight units as `put_units` does, with one look at whether any of them is long.
+#[inline(always)]
+fn put_full(to: &mut [u8], at: usize, lanes: u8x16) -> Option<usize>
+    requires room { at + 3 * UNITS + LANES ≤ length to.old }
+    ensures most { IfSome result (λ end. end ≤ at + 3 * UNITS) }
+    ensures written { IfSome result (λ end. take end to.new ≡ take at to.old ++ units_text (take UNITS (utf16.units lanes))) }
+    ensures single { IfSome result (λ _. Each1 (λ u. is_half u ≡ false) (take UNITS (utf16.units lanes))) }
+    ensures none { IfNone result (to.new ≡ to.old) }
+{
+    let units = units_of(lanes);
+    let wide = lowest(wide_units(units), UNITS);
+    if wide == 0 {
+        put_lanes(to, at, low_bytes(lanes), UNITS);
+        return Some(at + UNITS);
+    }
+    if !has_long(units) {
+        return Some(put_pairs(to, at, units, wide, UNITS));
+    }
+    let long = lowest(long_units(units), UNITS);
+    put_few(to, at, units, wide, long, UNITS)
+}
+
 // Writes the text of eight units, and returns its end. Writes none if one of them is a surrogate, and with `LONG` none if
 // no one is long, or else none if all are.
 #[inline(always)]
@@ -220,7 +242,7 @@ pub(crate) fn put_eight<const LONG: bool>(to: &mut [u8], at: usize, lanes: u8x16
     ensures none { IfNone result (to.new ≡ to.old) }
 {
     if !LONG {
-        return put_units(to, at, lanes, UNITS);
+        return put_full(to, at, lanes);
     }
     let units = units_of(lanes);
     let long = long_units(units);

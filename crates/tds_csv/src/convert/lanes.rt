@@ -1,7 +1,8 @@
 // Runs of bytes, found 16 or 32 at a time.
-ghost use Rattle.std.specs.Prelude.{◌≡◌, ◌+◌, ◌≤◌, length, drop};
+ghost use Rattle.std.specs.Prelude.{◌≡◌, ◌+◌, ◌<◌, ◌≤◌, length, drop};
 ghost use Rattle.std.specs.List.{prefix_len};
 ghost use Rattle.std.specs.Simd.Lanes.{chunk};
+ghost use Rattle.tds_csv.specs.Joined.{is_joined, pairs_at};
 ghost use Rattle.tds_csv.specs.Plain.{first_set, is_plain, is_unquoted};
 
 use std::simd::prelude::*;
@@ -45,6 +46,22 @@ pub(crate) fn plain_run(bytes: &[u8], at: usize) -> usize
 {
     let lanes = u8x16::from_slice(&bytes[at..]);
     let stops = lanes.simd_eq(u8x16::splat(0x22)) | lanes.simd_ge(u8x16::splat(0x80));
+    first_set(stops.to_bitmask(), LANES)
+}
+
+// How many of the next 16 bytes, each looked at with the byte after it, come before the first that can't be in a text whose
+// characters have one or two bytes, or is a quote.
+#[inline(always)]
+pub(crate) fn joined_run(bytes: &[u8], at: usize) -> usize
+    requires { at + LANES < length bytes.now }
+    ensures { result ≡ prefix_len is_joined (pairs_at at bytes.now) }
+{
+    let here = u8x16::from_slice(&bytes[at..]);
+    let next = u8x16::from_slice(&bytes[at + 1..]);
+    let leads = (here - u8x16::splat(0xC2)).simd_lt(u8x16::splat(30));
+    let trails = (next - u8x16::splat(0x80)).simd_lt(u8x16::splat(64));
+    let others = here.simd_ge(u8x16::splat(0xC0)) ^ leads;
+    let stops = here.simd_eq(u8x16::splat(0x22)) | others | (leads ^ trails);
     first_set(stops.to_bitmask(), LANES)
 }
 

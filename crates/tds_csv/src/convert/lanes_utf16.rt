@@ -1,6 +1,6 @@
 // Units of UTF-16, eight at a time.
-ghost use Rattle.std.specs.Prelude.{◌≡◌, ◌^◌, ◌%◌, ◌≤◌, map};
-ghost use lib.Lanes.{mask_l};
+ghost use Rattle.std.specs.Prelude.{◌≡◌, ◌^◌, ◌%◌, ◌≤◌, map, false};
+ghost use lib.Lanes.{Each1, mask_l};
 ghost use Rattle.tds_csv.specs.Plain.{evens};
 ghost use Rattle.tds_csv.specs.Utf16 as utf16;
 ghost use Rattle.tds_csv.specs.Wide.{is_long, is_half, is_wide};
@@ -41,6 +41,14 @@ pub(crate) fn long_units(units: u16x8) -> u64
     ensures { result ≡ mask_l (map is_long units) }
 {
     units.simd_ge(u16x8::splat(0x800)).to_bitmask()
+}
+
+// Whether one of eight units has a text of three bytes, or is a surrogate.
+#[inline(always)]
+pub(crate) fn has_long(units: u16x8) -> bool
+    ensures { result ≡ false → Each1 (λ u. is_long u ≡ false) units }
+{
+    (units & u16x8::splat(0xF800)).reduce_or() != 0
 }
 
 // Which of eight units are surrogates, the first by the lowest bit.

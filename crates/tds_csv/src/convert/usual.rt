@@ -1,13 +1,15 @@
 // Short text in UTF-8, judged while it is converted from one slice to another.
 ghost use Rattle.std.specs.Prelude.{◌≡◌, ◌+◌, ◌*◌, ◌<◌, ◌≤◌, ◌++◌, length, take, drop, IsUtf8, IfSome};
 ghost use Rattle.std.specs.Int.{is_in_range};
+ghost use Rattle.tds_csv.specs.Joined.{is_lead};
 ghost use Rattle.tds_csv.specs.Plain.{LiesIn};
 ghost use Rattle.tds_csv.specs.Quoting.{doubled};
 ghost use Rattle.tds_csv.specs.Utf8Scan.{Converts};
 
-use crate::convert::encode::{put_doubled, take_plain};
-use crate::convert::lanes::LANES;
+use crate::convert::encode::{put_doubled, put_lanes, take_plain};
+use crate::convert::lanes::{LANES, joined_run};
 use crate::convert::utf16::Converted;
+use std::simd::prelude::*;
 use tds_values::put_byte;
 
 // Whether a byte goes on with a character.
@@ -61,9 +63,73 @@ fn put_few(bytes: &[u8], at: usize, n: usize, to: &mut [u8], made: usize) -> usi
     put_byte(to, two, bytes[at + 2])
 }
 
-// Goes on with the text of characters of two and three bytes.
+// Whether a byte begins a character of two bytes.
 #[inline(always)]
-fn convert_beyond(bytes: &[u8], from: usize, to: &mut [u8], start: usize) -> Converted
+fn begins_two(byte: u8) -> bool
+    ensures { result ≡ is_lead byte }
+{
+    0xC2 <= byte && byte <= 0xDF
+}
+
+// How many of the next 16 bytes are whole characters of one or two bytes, and no quotes.
+#[inline(always)]
+fn joined_characters(bytes: &[u8], source: &[u8], at: usize) -> usize
+    requires from { at ≤ length bytes.now }
+    requires source { LiesIn bytes.now source.now }
+    requires there { at + LANES < length source.now }
+    ensures most { result ≤ LANES }
+    ensures within { at + result ≤ length bytes.now }
+    ensures whole { IsUtf8 (take result (drop at bytes.now)) }
+    ensures unquoted { doubled (take result (drop at bytes.now)) ≡ take result (drop at bytes.now) }
+{
+    let n = joined_run(source, at).min(bytes.len() - at);
+    if n == 0 || goes_on(source[at]) {
+        return 0;
+    }
+    if begins_two(source[at + n - 1]) {
+        return n - 1;
+    }
+    n
+}
+
+// Writes the next whole characters of one or two bytes, up to a quote and of at most 16 bytes, or else one character that
+// `character_of_few` knows, and returns how many bytes they have.
+#[inline(always)]
+fn take_beyond(bytes: &[u8], source: &[u8], at: usize, to: &mut [u8], made: usize) -> usize
+    requires from { at < length bytes.now }
+    requires source { LiesIn bytes.now source.now }
+    requires there { at + LANES < length source.now }
+    requires room { made + LANES ≤ length to.old }
+    ensures within { at + result ≤ length bytes.now }
+    ensures whole { IsUtf8 (take result (drop at bytes.now)) }
+    ensures unquoted { doubled (take result (drop at bytes.now)) ≡ take result (drop at bytes.now) }
+    ensures taken { take (made + result) to.new ≡ take made to.old ++ take result (drop at bytes.now) }
+{
+    if bytes[at] < 0xE0 {
+        let n = joined_characters(bytes, source, at);
+        put_lanes(to, made, u8x16::from_slice(&source[at..]), n);
+        return n;
+    }
+    let n = character_of_few(bytes, at);
+    if n > 0 {
+        put_few(bytes, at, n, to, made);
+    }
+    n
+}
+
+// Goes on with the text of characters beyond ASCII, and of those between them, as long as they begin before `end`.
+#[inline(always)]
+fn convert_beyond(
+    bytes: &[u8],
+    source: &[u8],
+    end: usize,
+    from: usize,
+    to: &mut [u8],
+    start: usize,
+) -> Converted
+    requires source { LiesIn bytes.now source.now }
+    requires within { end ≤ length bytes.now }
+    requires there { 0 < end → end + LANES ≤ length source.now }
     requires room { 2 * length bytes.now + LANES ≤ length to.old }
     requires before { Converts bytes.now to.old from start }
     ensures more { from ≤ result.used }
@@ -71,13 +137,13 @@ fn convert_beyond(bytes: &[u8], from: usize, to: &mut [u8], start: usize) -> Con
 {
     let mut at = from;
     let mut made = start;
-    while at < bytes.len() {
-        let n = character_of_few(bytes, at);
+    while at < end {
+        let n = take_beyond(bytes, source, at, to, made);
         if n == 0 {
             break;
         }
-        made = put_few(bytes, at, n, to, made);
         at += n;
+        made += n;
     }
     Converted { used: at, made }
 }
@@ -94,25 +160,25 @@ pub(crate) fn convert(bytes: &[u8], source: &[u8], to: &mut [u8]) -> Option<usiz
 {
     let mut at = 0;
     let mut made = 0;
-    let end = bytes.len().min((source.len() + 1).saturating_sub(LANES));
+    let end = bytes.len().min(source.len().saturating_sub(LANES));
     while at < end {
+        if bytes[at] >= 0x80 {
+            let run = convert_beyond(bytes, source, end, at, to, made);
+            if run.used == at {
+                break;
+            }
+            at = run.used;
+            made = run.made;
+            continue;
+        }
         let n = take_plain(bytes, source, at, to, made);
         at += n;
         made += n;
-        if n == LANES || at == bytes.len() {
+        if n == LANES || at == bytes.len() || bytes[at] >= 0x80 {
             continue;
         }
-        if bytes[at] < 0x80 {
-            made = put_doubled(to, made, bytes[at]);
-            at += 1;
-            continue;
-        }
-        let run = convert_beyond(bytes, at, to, made);
-        if run.used == at {
-            break;
-        }
-        at = run.used;
-        made = run.made;
+        made = put_doubled(to, made, bytes[at]);
+        at += 1;
     }
     if at < bytes.len() {
         return None;

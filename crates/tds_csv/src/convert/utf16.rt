@@ -270,7 +270,7 @@ fn convert_from(bytes: &[u8], source: &[u8], after: Converted, to: &mut [u8]) ->
 
 // Writes the text of the characters that are fixed. What follows the bytes in the source may be looked at.
 #[inline(always)]
-#[tactic(auto, using(crate::proofs::Utf16Steps::ends_there))]
+#[tactic(auto, using(crate::proofs::Utf16Steps::ends_short))]
 pub(crate) fn convert(bytes: &[u8], source: &[u8], to: &mut [u8]) -> Converted
     requires source { LiesIn bytes.now source.now }
     requires long { 3 * length bytes.now + 2 * LANES ≤ 2 * length to.old }
@@ -279,7 +279,7 @@ pub(crate) fn convert(bytes: &[u8], source: &[u8], to: &mut [u8]) -> Converted
     ensures used { LeavesRest bytes.now 0 result.used }
 {
     let run = convert_run(bytes, source, 0, to, 0);
-    if run.used == bytes.len() {
+    if bytes.len() - run.used < 2 {
         return run;
     }
     convert_from(bytes, source, run, to)

@@ -54,6 +54,20 @@ pub(crate) fn scan_text(bytes: &[u8]) -> Scan
     }
 }
 
+// Writes the text of bytes, all of which are judged first, and returns its length. `None` if they are no text.
+#[inline(never)]
+fn convert_judged(bytes: &[u8], to: &mut [u8]) -> Option<usize>
+    requires room { 2 * length bytes.now + LANES ≤ length to.old }
+    ensures fit { is_some result ≡ is_utf8 bytes.now }
+    ensures short { IfSome result (λ made. made ≤ 2 * length bytes.now) }
+    ensures text { IfSome result (λ made. take made to.new ≡ utf8.text bytes.now) }
+{
+    if simdutf8::compat::from_utf8(bytes).is_err() {
+        return None;
+    }
+    Some(doubling::convert(bytes, to))
+}
+
 // Writes the text of bytes, and returns its length. `None` if they are no text. What follows them in the source may be looked at.
 pub(crate) fn convert_whole(bytes: &[u8], source: &[u8], to: &mut [u8]) -> Option<usize>
     requires source { LiesIn bytes.now source.now }
@@ -67,8 +81,5 @@ pub(crate) fn convert_whole(bytes: &[u8], source: &[u8], to: &mut [u8]) -> Optio
             return Some(made);
         }
     }
-    if simdutf8::compat::from_utf8(bytes).is_err() {
-        return None;
-    }
-    Some(doubling::convert(bytes, to))
+    convert_judged(bytes, to)
 }

@@ -1,8 +1,8 @@
 // A cell that is whole in the packet: its bytes are together. A value in chunks has one at most.
-ghost use Rattle.std.specs.Prelude.{◌≡◌, ◌+◌, ◌-◌, ◌<◌, ◌≤◌, ℕ, drop, length, take, is_ok, false, IfSome, IsTrue, MatchOption};
+ghost use Rattle.std.specs.Prelude.{◌≡◌, ◌+◌, ◌-◌, ◌<◌, ◌≤◌, ℕ, drop, length, take, is_ok, false, true, IfSome, IsTrue, MatchOption};
 ghost use Rattle.tds_csv.specs.Quoting.{in_line, null_field};
 ghost use Rattle.tds_csv.specs.Sinks.{IsReady, PutsPiece};
-ghost use Rattle.tds_rows.specs.CellSteps.{CellWritten, HasInt4, IsInt4, WritesField, whole_size};
+ghost use Rattle.tds_rows.specs.CellSteps.{CellWritten, HasInt4, IsInt4, WritesField, is_counted, whole_size};
 ghost use Rattle.tds_values.specs.Front.{value_bytes};
 ghost use Rattle.tds_values.specs.Scalar.{read_of};
 ghost use Rattle.tds_values.specs.declared.charset.Charset.{Charset};
@@ -18,6 +18,7 @@ ghost use Rattle.tds_rows.specs.Layouts.{IsLaidOut};
 
 use crate::cell::layout::{Form, Layout};
 use crate::cell::lengths::{NULL_LENGTH, NULL_TOTAL, UNKNOWN_TOTAL};
+use crate::table::is_counted;
 use byteorder::{ByteOrder, LittleEndian};
 use std::io::Write;
 use tds_csv::{Content, NULL_ROOM, Sink, field_room, write_field, write_null};
@@ -341,20 +342,34 @@ fn write_int4_at(kind: &Kind, start: usize, bytes: &[u8], to: &mut [u8]) -> Writ
     Written { used, made }
 }
 
-/// Writes the field of the cell at the front of these bytes, as [`write_cell`] does, of a kind whose values are whole
-/// numbers of four bytes. `None` if its length isn't allowed.
+// Whether whole numbers of a kind come after their length. `COUNTED` says that they do.
 #[inline(always)]
-pub(crate) fn write_int4_cell(form: &Form, bytes: &[u8], to: &mut [u8]) -> Option<Written>
+fn comes_counted<const COUNTED: bool>(kind: &Kind) -> bool
+    requires { COUNTED ≡ true → is_counted kind.now ≡ true }
+    ensures { result ≡ is_counted kind.now }
+{
+    COUNTED || is_counted(kind)
+}
+
+/// Writes the field of the cell at the front of these bytes, as [`write_cell`] does, of a kind whose values are whole
+/// numbers of four bytes. `COUNTED` says that it comes after its length. `None` if its length isn't allowed.
+#[inline(always)]
+pub(crate) fn write_int4_cell<const COUNTED: bool>(
+    form: &Form,
+    bytes: &[u8],
+    to: &mut [u8],
+) -> Option<Written>
     requires number { IsInt4 form.now.kind }
+    requires counted { COUNTED ≡ true → is_counted form.now.kind ≡ true }
     requires within { 5 ≤ length bytes.now }
     requires room { NUMBER_ROOM ≤ length to.old }
     ensures most { IfSome result (λ written. (written.used ≤ 5) × (written.made ≤ 11)) }
     ensures whole { IfSome result (λ written. written.used ≡ whole_size form.now.kind bytes.now) }
     ensures field { (charset : Charset) → CellWritten charset form.now.kind bytes.now (length to.old + 1) to.new result }
 {
-    let Kind::IntN(_) = form.kind else {
+    if !comes_counted::<COUNTED>(&form.kind) {
         return Some(write_int4_at(&form.kind, 0, bytes, to));
-    };
+    }
     match bytes[0] {
         4 => Some(write_int4_at(&form.kind, 1, bytes, to)),
         0 => {

@@ -2,7 +2,7 @@
 ghost use Rattle.std.specs.Prelude.{◌≡◌, ◌==◌, ◌&&◌, ◌<◌, ◌≤◌, ◌+◌, ◌-◌, drop, length, take, true, None, IfSome, MatchOption};
 ghost use Rattle.tds_values.specs.declared.charset.Charset.{Charset};
 ghost use Rattle.tds_rows.specs.FormRuns.{AreNumbers, done_since, FirstLeft, IsLatest, IsRefusedAfter, IsWithin, NumbersWithin, RefusesRow, RunsForms, WritesFields};
-ghost use Rattle.tds_rows.specs.Forms.{AreInt4, AreLaidOut};
+ghost use Rattle.tds_rows.specs.Forms.{AreCounted, AreInt4, AreLaidOut};
 ghost use Rattle.tds_rows.specs.Layouts.{IsLaidOut};
 ghost use Rattle.tds_rows.specs.Runs.{AloneWritten};
 
@@ -96,10 +96,16 @@ pub(crate) fn latest_row(forms: &[Form], bytes: &[u8], to: &[u8]) -> Option<Late
 }
 
 // Writes the fields of the next cells as `write_fields` does, whose values are whole numbers of four bytes, and which
-// need no look at the ends of bytes and room.
+// need no look at the ends of bytes and room. `COUNTED` says that all come after their lengths.
 #[inline(always)]
-fn write_numbers(forms: &[Form], column: u16, bytes: &[u8], to: &mut [u8]) -> FormsRun
+fn write_numbers<const COUNTED: bool>(
+    forms: &[Form],
+    column: u16,
+    bytes: &[u8],
+    to: &mut [u8],
+) -> FormsRun
     requires numbers { AreInt4 forms.now }
+    requires counted { COUNTED ≡ true → AreCounted forms.now }
     requires within { NumbersWithin (length forms.now) (length bytes.now) (length to.old) }
     ensures ends { result.cells < length forms.now → IsRefusedAfter forms.now bytes.now result }
     ensures left { result.used < length bytes.now }
@@ -110,7 +116,7 @@ fn write_numbers(forms: &[Form], column: u16, bytes: &[u8], to: &mut [u8]) -> Fo
     let mut made = write_comma(column, to);
     while cells < forms.len() {
         let form = &forms[cells];
-        let Some(written) = write_int4_cell(form, &bytes[used..], &mut to[made..]) else {
+        let Some(written) = write_int4_cell::<COUNTED>(form, &bytes[used..], &mut to[made..]) else {
             break;
         };
         cells += 1;
@@ -257,10 +263,15 @@ pub(crate) fn run_forms(
 }
 
 /// Writes the cells of a whole row as [`run_forms`] does, whose values are whole numbers of four bytes, and for which
-/// there are bytes and room. `None` if one of them is refused.
+/// there are bytes and room. `COUNTED` says that all come after their lengths. `None` if one of them is refused.
 #[inline(always)]
-pub(crate) fn run_row(forms: &[Form], bytes: &[u8], to: &mut [u8]) -> Option<FormsRun>
+pub(crate) fn run_row<const COUNTED: bool>(
+    forms: &[Form],
+    bytes: &[u8],
+    to: &mut [u8],
+) -> Option<FormsRun>
     requires some { 0 < length forms.now }
+    requires counted { COUNTED ≡ true → AreCounted forms.now }
     requires numbers { AreNumbers forms.now (length bytes.now) (length to.old) }
     ensures refused { result ≡ None → RefusesRow forms.now bytes.now }
     ensures row { (charset : Charset) → IfSome result
@@ -269,7 +280,7 @@ pub(crate) fn run_row(forms: &[Form], bytes: &[u8], to: &mut [u8]) -> Option<For
     ensures left { IfSome result (λ run. run.used < length bytes.now) }
     ensures within { IfSome result (λ run. IsWithin run (length forms.now) (length bytes.now) (length to.old)) }
 {
-    let run = write_numbers(forms, 0, bytes, to);
+    let run = write_numbers::<COUNTED>(forms, 0, bytes, to);
     if run.cells < forms.len() {
         return None;
     }

@@ -1,5 +1,5 @@
 use Rattle.tds_rows.proofs.reading.nbc_rows_by.Goals as goal
-use Rattle.tds_rows.proofs.Words.{IsInt4, IsLaidOut}
+use Rattle.tds_rows.proofs.Words.{IsInt4, IsLaidOut, ◌≡◌, is_counted, true}
 use Rattle.tds_rows.proofs.LaidOut.{each_all}
 
 pub learn-learnt-requires-clause-laid : goal.learn-learnt-requires-clause-laid
@@ -7,3 +7,6 @@ learn-learnt-requires-clause-laid g c = each_all (λ f. IsLaidOut c.args.charset
 
 pub learn-learnt-requires-clause-numbers : goal.learn-learnt-requires-clause-numbers
 learn-learnt-requires-clause-numbers g c = each_all (λ f. IsInt4 f.kind) _ _ c.blank-forms.ensures.number
+
+pub learn-learnt-requires-clause-counted : goal.learn-learnt-requires-clause-counted
+learn-learnt-requires-clause-counted g c = each_all (λ f. is_counted f.kind ≡ true) _ _ c.blank-forms.ensures.counted

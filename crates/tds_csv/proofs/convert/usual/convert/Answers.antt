@@ -10,17 +10,12 @@ loop-at-preserved-then-n-eq-LANES c = record {
       c.take_plain-n.result N.refl c.take_plain-n.ensures.within c.take_plain-n.ensures.taken c.take_plain-n.ensures.plain;
 }
 
-pub loop-at-preserved-then-bytes-at-lt128 : goal.loop-at-preserved-then-bytes-at-lt128
-loop-at-preserved-then-bytes-at-lt128 c =
+pub loop-at-preserved : goal.loop-at-preserved
+loop-at-preserved c =
     let plain = added_plain c.args.bytes.now c.loop-at.at c.loop-at.made c.loop-at.invariant.converts (c.loop-at.made + c.take_plain-n.result)
     c.take_plain-n.result N.refl c.take_plain-n.ensures.within c.take_plain-n.ensures.taken c.take_plain-n.ensures.plain in
     record {
       long = search N.rules;
       converts = added_one c.args.bytes.now (c.loop-at.at + c.take_plain-n.result) (c.loop-at.made + c.take_plain-n.result) plain
-          c.put_doubled-made.result (search N.arith) c.if-bytes-at-lt128.true c.put_doubled-made.ensures.most c.put_doubled-made.ensures.written;
+          c.put_doubled-made.result (search N.arith) (search N.rules) c.put_doubled-made.ensures.most c.put_doubled-made.ensures.written;
     }
-
-pub convert_beyond-run-requires-clause-before : goal.convert_beyond-run-requires-clause-before
-convert_beyond-run-requires-clause-before c =
-    added_plain c.args.bytes.now c.loop-at.at c.loop-at.made c.loop-at.invariant.converts (c.loop-at.made + c.take_plain-n.result)
-    c.take_plain-n.result N.refl c.take_plain-n.ensures.within c.take_plain-n.ensures.taken c.take_plain-n.ensures.plain

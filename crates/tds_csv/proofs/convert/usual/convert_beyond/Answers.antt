@@ -6,7 +6,6 @@ pub loop-at-preserved : goal.loop-at-preserved
 loop-at-preserved c = record {
   from = omega N.arith;
   long = search N.rules;
-  converts = added c.args.bytes.now c.loop-at.at c.loop-at.made c.loop-at.invariant.converts c.put_few-made.result c.character_of_few-n.result
-      c.put_few-made.ensures.end c.character_of_few-n.ensures.within c.put_few-made.ensures.written c.character_of_few-n.ensures.whole
-      c.character_of_few-n.ensures.unquoted;
+  converts = added c.args.bytes.now c.loop-at.at c.loop-at.made c.loop-at.invariant.converts _ c.take_beyond-n.result
+      N.refl c.take_beyond-n.ensures.within c.take_beyond-n.ensures.taken c.take_beyond-n.ensures.whole c.take_beyond-n.ensures.unquoted;
 }

@@ -4,7 +4,7 @@ use Rattle.tds_rows.proofs.BufferedCells.{int4_start, null_cell}
 use Rattle.tds_rows.proofs.RunSteps.{writes_scalar}
 
 pub returns-in-0-clause-field : goal.returns-in-0-clause-field
-returns-in-0-clause-field c = λ charset column last.
-    let kind = int4_start c.requires.number c.in-IntN.is c.args.bytes.now in
+returns-in-0-clause-field g c = λ charset column last.
+    let kind = int4_start _ c.requires.number (grind arith) c.args.bytes.now in
     writes_scalar _ _ _ _ _ _ (λ any. null_cell _ _ _ _ _ _ kind.0 _ kind.1.0 (kind.1.1
     ∙ c.in-0.is) (search (arith, rules)) (ap (in_line column last) c.write_null-made.ensures.text))

@@ -6,7 +6,7 @@ use Rattle.tds_rows.proofs.RunSteps.{made_same, scalar_left}
 use Rattle.tds_values.specs.declared.charset.Charset.TheVariants.{Windows1252}
 
 pub loop-cells-preserved : goal.loop-cells-preserved
-loop-cells-preserved c =
+loop-cells-preserved g c =
     let l = c.loop-cells in
     let written = c.in-Some.written in
     let forms = c.args.forms.now in
@@ -24,7 +24,7 @@ loop-cells-preserved c =
     }
 
 pub returns-in_default-clause-ends : goal.returns-in_default-clause-ends
-returns-in_default-clause-ends c = λ few form.
+returns-in_default-clause-ends g c = λ few form.
     let l = c.loop-cells in
     let forms = c.args.forms.now in
     let bytes = c.args.bytes.now in
@@ -36,7 +36,7 @@ returns-in_default-clause-ends c = λ few form.
     (rw (all_after bytes l.used) at (rw there at (c.in_default.ensures.field Windows1252)))
 
 pub returns-in_default-clause-fields : goal.returns-in_default-clause-fields
-returns-in_default-clause-fields c = λ charset.
+returns-in_default-clause-fields g c = λ charset.
     let l = c.loop-cells in
     let at = l.invariant.at in
     let x = l.invariant.writes charset in

@@ -3,7 +3,7 @@ use Rattle.tds_rows.proofs.Words.{length, ◌+◌, ◌*◌, ◌-◌, ◌<◌, �
 use Rattle.tds_rows.proofs.FormSteps.{FieldsAt}
 
 abbrev pub invariant-loop-cells : goal.invariant-loop-cells
-invariant-loop-cells l = record {
+invariant-loop-cells g l = record {
   at : FieldsAt l.forms l.bytes (length l.to) l.cells l.used l.made;
   whole : l.used + 5 * (length l.forms - l.cells) < length l.bytes;
   fits : l.made + 12 * (length l.forms - l.cells) + 25 ≤ length l.to;
@@ -11,4 +11,4 @@ invariant-loop-cells l = record {
 }
 
 abbrev pub decreases-loop-cells : goal.decreases-loop-cells
-decreases-loop-cells l = length l.forms - l.cells
+decreases-loop-cells g l = length l.forms - l.cells

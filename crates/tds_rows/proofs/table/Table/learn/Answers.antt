@@ -1,6 +1,6 @@
 use Rattle.tds_rows.proofs.table.Table.learn.Goals as goal
-use Rattle.tds_rows.proofs.Words.{◌∙◌, ap, sym, arith, IsLaidOut, columns_of, is_int4, rules}
-use Rattle.tds_rows.proofs.LaidOut.{each_set, int4_set}
+use Rattle.tds_rows.proofs.Words.{◌∙◌, ap, sym, arith, IsLaidOut, columns_of, is_counted, is_int4, rules}
+use Rattle.tds_rows.proofs.LaidOut.{each_set, kind_set}
 use Rattle.tds_rows.proofs.TableSteps.{first_more, next_column}
 
 pub loop-known-init : goal.loop-known-init
@@ -10,6 +10,7 @@ loop-known-init c = record {
   first = search arith;
   laid = c.requires.laid;
   numbers = λ _. c.requires.numbers;
+  counted = λ _. c.requires.counted;
   rest = search arith;
 }
 
@@ -26,7 +27,9 @@ loop-known-preserved c =
           (omega arith) inv.first step c.of.ensures.kind;
       laid = each_set (λ f. IsLaidOut c.args.charset f.kind f.layout) _ _ c.of.result inv.laid
           (omega arith) c.of.ensures.laid;
-      numbers = int4_set _ _ c.of.result _ c.is_int4-only_numbers.result inv.numbers
+      numbers = kind_set is_int4 _ _ c.of.result _ c.is_int4-only_numbers.result inv.numbers
           (omega arith) (c.is_int4-only_numbers.ensures ∙ ap is_int4 (sym c.of.ensures.kind));
+      counted = kind_set is_counted _ _ c.of.result _ c.is_counted-only_counted.result inv.counted
+          (omega arith) (c.is_counted-only_counted.ensures ∙ ap is_counted (sym c.of.ensures.kind));
       rest = sym next.1.1;
     }

@@ -9,6 +9,7 @@ invariant-loop-known l = record {
   first : N.map (λ f. f.kind) (N.take l.known l.forms) ≡ N.kinds (N.take l.known (N.columns_of l.fn.columns.bytes.now));
   laid : N.AreLaidOut l.fn.charset l.forms;
   numbers : l.only_numbers ≡ N.true → N.AreInt4 l.forms;
+  counted : l.only_counted ≡ N.true → N.AreCounted l.forms;
   rest : N.columns_left l.rest ≡ N.drop l.known (N.columns_of l.fn.columns.bytes.now);
 }
 

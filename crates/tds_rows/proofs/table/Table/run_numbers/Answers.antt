@@ -11,13 +11,13 @@ use Rattle.tds_rows.proofs.TableRuns.{forms_between, known_ahead, row_begun, row
 use Rattle.tds_rows.proofs.TableSteps.{after_known}
 
 pub returns-in_default-clause-rows : goal.returns-in_default-clause-rows
-returns-in_default-clause-rows c = rw c.none.ensures rows_begin
+returns-in_default-clause-rows g c = rw c.none.ensures rows_begin
 
 pub loop-used-init : goal.loop-used-init
-loop-used-init c = record { same = refl; ran = rows_begin }
+loop-used-init g c = record { same = refl; ran = rows_begin }
 
 pub loop-used-preserved : goal.loop-used-preserved
-loop-used-preserved c =
+loop-used-preserved g c =
     let table = c.args.self.now in
     let from = c.args.from in
     let run = c.in-Some-run_row.run' in
@@ -48,7 +48,7 @@ loop-used-preserved c =
     }
 
 pub returns-clause-rows : goal.returns-clause-rows
-returns-clause-rows c =
+returns-clause-rows g c =
     let l = c.loop-used in
     elim c.loop-used-test.branch [
       | else-loop-used-test w ↦ rw w.to-is l.invariant.ran
@@ -59,7 +59,7 @@ returns-clause-rows c =
     ]
 
 pub returns-clause-ends : goal.returns-clause-ends
-returns-clause-ends c =
+returns-clause-ends g c =
     let l = c.loop-used in
     let bytes = c.args.bytes.now in
     let row = c.row-row.ensures.row in
