@@ -92,9 +92,9 @@ const XML: u8 = 0xF1;
 // Bytes).
 const CHUNKED: u16 = 0xFFFF;
 
-// How many bytes follow a type byte in TYPE_INFO, if it is one of this profile.
+/// How many bytes follow a type byte in TYPE_INFO, if it is one of this profile.
 #[tactic(auto, unfolding(tds_values::specs::TypeInfo::rest_length))]
-fn rest_length(byte: u8) -> Option<usize>
+pub(crate) fn rest_length(byte: u8) -> Option<usize>
     ensures value { result ≡ info.rest_length byte }
     ensures bound { IfSome result (λ n. n ≤ 7) }
 {
