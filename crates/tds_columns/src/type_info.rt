@@ -157,6 +157,7 @@ fn reach(rest: &[u8]) -> Reach
 
 /// The kind that a type byte and the bytes after it name, if they name one, and how many of
 /// these bytes are its own.
+#[inline(always)]
 #[tactic(auto, unfolding(tds_values::specs::TypeInfo::rest_length, tds_values::specs::TypeInfo::named_kind))]
 pub(crate) fn kind_at(byte: u8, rest: &[u8]) -> (Kind, usize)
     requires { (n : ℕ) × (info.rest_length byte ≡ Some n) × (n ≤ length rest.now) }

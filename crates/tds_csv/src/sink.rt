@@ -6,7 +6,7 @@ ghost use Rattle.tds_csv.specs.Quoting.{binary_mark, line_end, null_field, quote
 ghost use Rattle.tds_csv.specs.Sinks.{Delivers, FinishesSink, IsReady, IsWriting, PutsPiece, fresh, held, stop_of};
 ghost use Rattle.tds_csv.specs.Spare.{CommitsPiece, IsLent, KeepsPiece, LendsSpare};
 
-use crate::framing::{BINARY_MARK, LINE_END, NULL, QUOTE};
+use crate::framing::{BINARY_MARK, LINE_END, NULL, QUOTE, write_line_end};
 use std::io::Write;
 use tds_meter::{Area, OUTPUT_ROOM};
 use tds_packet::{Counted, Fault, Place, Stop};
@@ -172,7 +172,12 @@ impl<'a, W: Write> Sink<'a, W> {
         requires { IsReady self.old }
         ensures { PutsPiece W.contents self.old self.new line_end result }
     {
-        self.put(&LINE_END)
+        if self.failed || self.room() < LINE_END.len() {
+            return self.put(&LINE_END);
+        }
+        let waiting = self.output.len();
+        let made = write_line_end(true, 0, self.spare(LINE_END.len()));
+        self.keep(waiting, made)
     }
 
     /// How many bytes may be put before the next delivery is due.
