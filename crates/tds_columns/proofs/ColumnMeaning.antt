@@ -49,7 +49,7 @@ DescribedMeans room N.NoDescription b = b ≡ 255 ∷ 255 ∷ []
 DescribedMeans room (InColumn bytes count cols place) b = WithinMeans room bytes count cols place b
 DescribedMeans room (N.WholeDescription bytes cols) b = (bytes ≡ b) × N.SpellsDescription room cols b
 
-one_more_column : (cols : List Column) (b : List ℕ) (c : Column) (e : List ℕ) → N.SpellsColumns cols b → N.SpellsColumn c e
+pub one_more_column : (cols : List Column) (b : List ℕ) (c : Column) (e : List ℕ) → N.SpellsColumns cols b → N.SpellsColumn c e
     → N.SpellsColumns (cols ++ c ∷ []) (b ++ e)
 one_more_column [] b c e h s = (e, [], ap (λ v. v ++ e) h ∙ N.sym (N.append-nil e), s, N.refl)
 one_more_column (d ∷ cols) b c e h s = (h.0, h.1 ++ e, ap (λ v. v ++ e) h.2 ∙ N.append_assoc h.0 h.1 e, h.3, one_more_column cols h.1 c e h.4 s)

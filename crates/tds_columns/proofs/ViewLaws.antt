@@ -75,7 +75,7 @@ pub record Lies (bytes : List ℕ) : Type 0 where
   pub at : N.column_at bytes ≡ record { kind = kind; name = take (N.name_size bytes) (drop (8 + N.rest_size bytes) bytes) }
   pub valid : N.is_valid kind ≡ true
 
-from_type : (bytes : List ℕ) (n : ℕ) → 7 ≤ length bytes → take (1 + n) (drop 6 bytes) ≡ N.slice_index bytes 6 ∷ take n (drop 7 bytes)
+pub from_type : (bytes : List ℕ) (n : ℕ) → 7 ≤ length bytes → take (1 + n) (drop 6 bytes) ≡ N.slice_index bytes 6 ∷ take n (drop 7 bytes)
 from_type = grind (arith, N.common_steps, N.drop-cons)
 
 pub lies : (bytes : List ℕ) → N.is_column bytes ≡ true → Lies bytes

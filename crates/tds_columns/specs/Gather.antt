@@ -1,5 +1,5 @@
 -- What reading a description from a payload does, on success and on each stop.
-use Rattle.std.specs.Prelude.{◌≡◌, ℕ, ◌+◌, ◌*◌, ◌<◌, ◌≤◌, List, [], ◌∷◌, length, max, Option, Some, None, Result, MatchResult}
+use Rattle.std.specs.Prelude.{◌≡◌, ℕ, ◌+◌, ◌*◌, ◌<◌, ◌≤◌, List, [], ◌∷◌, length, take, max, Option, Some, None, Result, MatchResult}
 use Rattle.tds_values.specs.declared.kind.Kind.{Kind}
 use Rattle.tds_values.specs.TypeInfo.{rest_length}
 use Rattle.tds_meter.specs.Space.{Space}
@@ -11,7 +11,7 @@ use Rattle.tds_packet.specs.Reading.{Reads, StopsReading}
 use Rattle.tds_columns.specs.declared.metadata.Described.{Described}
 use Rattle.tds_columns.specs.declared.metadata.Described.TheVariants.{Columns, NoMetadata}
 use Rattle.tds_columns.specs.Description.{Column, ColumnHead, ColumnInfo, NameCount, DescriptionPart, BeforeCount, InColumn, NoDescription}
-use Rattle.tds_columns.specs.Description.{WholeDescription, SpellsDescription, description, description_bytes, span, with_column}
+use Rattle.tds_columns.specs.Description.{WholeDescription, SpellsColumn, SpellsColumns, SpellsDescription, description, description_bytes, span, with_column}
 
 -- Elements of a description were read, which lead from one state to another, and the area has its bytes.
 pub record Describes (room : ℕ) (from : DescriptionPart) (old new : Seen) (place place' peak : ℕ) (area : Space) (to : DescriptionPart) : Type 0 where
@@ -28,6 +28,19 @@ pub record StopsDescribing (room : ℕ) (from : DescriptionPart) (old new : Seen
   pub kept : area.bytes ≡ description_bytes at
   pub bound : area.peak ≤ max peak (span at)
   pub further : span from ≤ span at
+
+-- A column has this many bytes at the front.
+abbrev pub BeginsColumn : List ℕ → ℕ → Type 0
+BeginsColumn bytes size = (column : Column) × SpellsColumn column (take size bytes) × (size ≤ length bytes)
+
+-- So do this number of columns, one after the other.
+abbrev pub BeginsColumns : List ℕ → (count size : ℕ) → Type 0
+BeginsColumns bytes count size = (columns : List Column) × (length columns ≡ count) × SpellsColumns columns (take size bytes) × (size ≤ length bytes)
+
+-- So does a description of this number of columns.
+abbrev pub BeginsDescription : (room : ℕ) → List ℕ → (count size : ℕ) → Type 0
+BeginsDescription room bytes count size =
+    (columns : List Column) × (length columns ≡ count) × SpellsDescription room columns (take size bytes) × (size ≤ length bytes)
 
 -- This number of bytes follows this type byte, at least one.
 pub record FollowsType (byte rest : ℕ) : Type 0 where

@@ -1,14 +1,15 @@
 // Reading a description from a payload (MS-TDS, COLMETADATA).
-ghost use Rattle.std.specs.Prelude.{◌≡◌, ◌≢◌, ◌+◌, ◌*◌, ◌-◌, ◌<◌, ◌≤◌, [], Some, Err, length, max, IfSome, MatchResult, OnErr, OnOk};
+ghost use Rattle.std.specs.Prelude.{◌≡◌, ◌≢◌, ◌+◌, ◌*◌, ◌-◌, ◌<◌, ◌≤◌, [], Some, None, Ok, Err, length, max, IfSome, MatchResult, OnErr, OnOk};
 ghost use Rattle.tds_columns.specs.Description as spec;
 ghost use Rattle.tds_columns.specs.Elements.{LeavesReading};
-ghost use Rattle.tds_columns.specs.Gather.{ColumnRead, ColumnsRead, CountRead, DescriptionRead, FollowsType, InfoRead, NameRead, TypeRead};
+ghost use Rattle.tds_columns.specs.Gather.{BeginsDescription, ColumnRead, ColumnsRead, CountRead, DescribesAll, DescriptionRead, FollowsType, InfoRead, NameRead, TypeRead};
 ghost use Rattle.tds_packet.specs.Elements.{AreBytes};
-ghost use Rattle.tds_packet.specs.Payloads.{IsGoing, IsSound, LeavesPayload};
+ghost use Rattle.tds_packet.specs.Payloads.{IsGoing, IsSound, LeavesPayload, buffered, seen};
 ghost use Rattle.tds_values.specs.TypeInfo as info;
 
 use crate::element::take_into;
 use crate::type_info::{judge_type, kind_of};
+use crate::whole::{Front, whole_description};
 use byteorder::{ByteOrder, LittleEndian};
 use std::io::Read;
 use tds_meter::Area;
@@ -23,17 +24,17 @@ pub enum Described {
     NoMetadata,
 }
 
-// A Count that says that there is no metadata.
-const NO_METADATA: u16 = 0xFFFF;
+/// A Count that says that there is no metadata.
+pub(crate) const NO_METADATA: u16 = 0xFFFF;
 
-// The bytes of Count.
-const COUNT: usize = 2;
+/// The bytes of Count.
+pub(crate) const COUNT: usize = 2;
 
 // The bytes of UserType, Flags and the type byte.
 const HEAD: usize = 7;
 
-// The fewest bytes that describe a column: its head, and the count of an empty name.
-const LEAST_COLUMN: usize = 8;
+/// The fewest bytes that describe a column: its head, and the count of an empty name.
+pub(crate) const LEAST_COLUMN: usize = 8;
 
 // A column by its number, and how many there are.
 #[derive(Clone, Copy)]
@@ -42,8 +43,8 @@ struct Nth {
     count: u16,
 }
 
-// The numbers of a slice are bytes. It is called for what it ensures.
-fn are_bytes(bytes: &[u8])
+/// The numbers of a slice are bytes. It is called for what it ensures.
+pub(crate) fn are_bytes(bytes: &[u8])
     ensures { AreBytes bytes.now }
 {}
 
@@ -204,6 +205,35 @@ fn read_column<R: Read>(payload: &mut Payload<R>, area: &mut Area, at: Nth) -> R
     read_name(payload, area, at)
 }
 
+// The description that comes next, if it is whole in the packet. `None` if it goes on in another packet, is refused or is that of
+// no metadata.
+fn front<R: Read>(payload: &Payload<R>, room: usize) -> Option<Front>
+    requires { IsSound payload.now }
+    ensures going { IfSome result (λ _. payload.now.stopped ≡ None) }
+    ensures begins { IfSome result (λ front. BeginsDescription room (buffered payload.now) front.count front.size) }
+{
+    if payload.stopped().is_some() {
+        return None;
+    }
+    whole_description(payload.buffered(), room)
+}
+
+// Takes a description that is whole in the packet into an empty area, all of it at once.
+fn take_front<R: Read>(payload: &mut Payload<R>, area: &mut Area, front: Front)
+    requires going { IsGoing payload.old }
+    requires empty { area.old.bytes ≡ [] }
+    requires begins { BeginsDescription area.old.room (buffered payload.old) front.count front.size }
+    ensures leaves { LeavesReading {U = Unit {0}} payload.old payload.new area.old area.new (Ok tt) }
+    ensures gives { DescribesAll area.old.room (seen R.remaining payload.old) (seen R.remaining payload.new)
+        payload.old.place payload.new.place area.old.peak area.new (Described.Columns front.count) }
+{
+    let held = payload.buffered();
+    let Ok(()) = area.append(&held[..front.size]) else {
+        unreachable!()
+    };
+    payload.consume(front.size);
+}
+
 // Reads all columns after Count.
 fn read_columns<R: Read>(payload: &mut Payload<R>, area: &mut Area, count: u16) -> Result<(), Stop>
     requires going { IsGoing payload.old }
@@ -216,6 +246,24 @@ fn read_columns<R: Read>(payload: &mut Payload<R>, area: &mut Area, count: u16) 
         read_column(payload, area, Nth { index, count })?;
     }
     Ok(())
+}
+
+// Reads a description from Count to the last name into an empty area, element by element.
+fn read_elements<R: Read>(payload: &mut Payload<R>, area: &mut Area) -> Result<Described, Stop>
+    requires sound { IsSound payload.old }
+    requires room { COUNT ≤ area.old.room }
+    requires empty { area.old.bytes ≡ [] }
+    ensures leaves { LeavesReading payload.old payload.new area.old area.new result }
+    ensures gives { DescriptionRead R.remaining payload.old payload.new area.old area.new result }
+    ensures again { IfSome payload.old.stopped (λ stop. (result ≡ Err stop) × (payload.new ≡ payload.old)
+        × (area.new.bytes ≡ []) × (area.new.peak ≤ max area.old.peak COUNT)) }
+{
+    let Described::Columns(count) = read_count(payload, area)? else {
+        return Ok(Described::NoMetadata);
+    };
+    read_columns(payload, area, count)?;
+    are_bytes(area.bytes());
+    Ok(Described::Columns(count))
 }
 
 /// Reads a description after the token byte into the area, from Count to the last name; the area is
@@ -236,10 +284,9 @@ pub fn gather<R: Read>(payload: &mut Payload<R>, area: &mut Area) -> Result<Desc
         × (area.new.bytes ≡ []) × (area.new.peak ≤ max area.old.peak COUNT)) }
 {
     area.clear();
-    let Described::Columns(count) = read_count(payload, area)? else {
-        return Ok(Described::NoMetadata);
-    };
-    read_columns(payload, area, count)?;
-    are_bytes(area.bytes());
-    Ok(Described::Columns(count))
+    if let Some(front) = front(payload, area.room()) {
+        take_front(payload, area, front);
+        return Ok(Described::Columns(front.count));
+    }
+    read_elements(payload, area)
 }

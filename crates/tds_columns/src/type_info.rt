@@ -92,9 +92,9 @@ const XML: u8 = 0xF1;
 // Bytes).
 const CHUNKED: u16 = 0xFFFF;
 
-// How many bytes follow a type byte in TYPE_INFO, if it is one of this profile.
+/// How many bytes follow a type byte in TYPE_INFO, if it is one of this profile.
 #[tactic(auto, unfolding(tds_values::specs::TypeInfo::rest_length))]
-fn rest_length(byte: u8) -> Option<usize>
+pub(crate) fn rest_length(byte: u8) -> Option<usize>
     ensures value { result ≡ info.rest_length byte }
     ensures bound { IfSome result (λ n. n ≤ 7) }
 {
@@ -157,6 +157,7 @@ fn reach(rest: &[u8]) -> Reach
 
 /// The kind that a type byte and the bytes after it name, if they name one, and how many of
 /// these bytes are its own.
+#[inline(always)]
 #[tactic(auto, unfolding(tds_values::specs::TypeInfo::rest_length, tds_values::specs::TypeInfo::named_kind))]
 pub(crate) fn kind_at(byte: u8, rest: &[u8]) -> (Kind, usize)
     requires { (n : ℕ) × (info.rest_length byte ≡ Some n) × (n ≤ length rest.now) }

@@ -17,6 +17,7 @@ pub struct Column<'a> {
 }
 
 // The column at the front of these bytes, and how many of them it has.
+#[inline(always)]
 fn column_at<'a>(bytes: &'a [u8]) -> (Column<'a>, usize)
     requires { IsTrue (is_column bytes.now) }
     ensures size { result.1 ≡ column_size bytes.now }

@@ -33,3 +33,10 @@ module _ {W U V : Type 0} {contents : W → N.Option (List ℕ)} {new : N.Sink W
   pub kept_breaks : {e : N.Stop} → N.KeepsPiece {U = U} contents (N.with_spare sink room written) new waiting made (N.Err e)
       → N.PutsPiece {U = V} contents sink new text (N.Err e)
   kept_breaks = grind (arith, spared)
+
+-- so it was, whether a write failed or not
+pub kept : {W U : Type 0} {contents : W → N.Option (List ℕ)} {new : N.Sink W} {made : ℕ} {text : List ℕ} (sink : N.Sink W) (room written : List ℕ)
+    (waiting : ℕ) → length written ≡ length room → waiting ≡ length sink.output.now.bytes → sink.failed ≡ N.false → take made written ≡ text
+    → (r : N.Result U N.Stop) → N.KeepsPiece contents (N.with_spare sink room written) new waiting made r → N.PutsPiece contents sink new text r
+kept sink room written waiting whole at going is (Ok u) k = kept_puts sink room written waiting whole at going is k
+kept sink room written waiting whole at going is (N.Err e) k = kept_breaks sink room written waiting whole at going is k

@@ -68,10 +68,10 @@ fn write_binary(source: &[u8], n: usize, to: &mut [u8]) -> usize
     end
 }
 
-// Writes text in UTF-16, the first `n` of these bytes, as a field.
+/// Writes text in UTF-16, the first `n` of these bytes, as a field.
 #[inline(never)]
 #[tactic(auto, using(crate::proofs::QuotedFields::quoted, std::proofs::lemmas::Grind::common_steps))]
-fn write_utf16(source: &[u8], n: usize, to: &mut [u8]) -> usize
+pub(crate) fn write_utf16(source: &[u8], n: usize, to: &mut [u8]) -> usize
     requires within { n ≤ length source.now }
     requires whole { n % 2 ≡ 0 }
     requires room { field_room Utf16Text n ≤ length to.old }

@@ -21,7 +21,7 @@
 //!
 //! # The way in
 //!
-//! `sink.rt` has the sink, `fields.rt` and `framing.rt` the fields and what is around them, `joiners/` a file for each
+//! `sink.rt` has the sink, `fields.rt`, `names.rt` and `framing.rt` the fields and what is around them, `joiners/` a file for each
 //! kind of data, `convert/` the loops over bytes. `specs/Conversion` says what the text of data is, and `specs/Sinks`
 //! what a sink has put.
 #![tactic(auto)]
@@ -31,6 +31,7 @@ mod fields;
 mod framing;
 mod joiners;
 mod laws;
+mod names;
 mod sink;
 
 pub use fields::{Content, field_room, write_field};
@@ -41,4 +42,5 @@ pub use joiners::utf8::Utf8Joiner;
 pub use joiners::utf16::Utf16Joiner;
 pub use joiners::{JoinFault, Joiner};
 pub use laws::{begins_by_test, joiners_suit};
+pub use names::put_name;
 pub use sink::Sink;

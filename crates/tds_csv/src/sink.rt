@@ -1,12 +1,12 @@
 // Text on its way to a writer.
 ghost use Rattle.std.specs.Borrow.{sem};
-ghost use Rattle.std.specs.Prelude.{◌≡◌, ◌+◌, ◌-◌, ◌<◌, ◌≤◌, [], ◌∷◌, codes, if◌then◌else◌, length, true, Err, None, Ok, Some};
+ghost use Rattle.std.specs.Prelude.{◌≡◌, ◌+◌, ◌-◌, ◌<◌, ◌≤◌, [], ◌∷◌, if◌then◌else◌, length, true, Err, None, Ok, Some};
 ghost use Rattle.tds_csv.specs.Conversion.{closing};
 ghost use Rattle.tds_csv.specs.Quoting.{binary_mark, line_end, null_field, quote};
 ghost use Rattle.tds_csv.specs.Sinks.{Delivers, FinishesSink, IsReady, IsWriting, PutsPiece, fresh, held, stop_of};
 ghost use Rattle.tds_csv.specs.Spare.{CommitsPiece, IsLent, KeepsPiece, LendsSpare};
 
-use crate::framing::{BINARY_MARK, COMMA, LINE_END, NULL, QUOTE};
+use crate::framing::{BINARY_MARK, LINE_END, NULL, QUOTE, write_line_end};
 use std::io::Write;
 use tds_meter::{Area, OUTPUT_ROOM};
 use tds_packet::{Counted, Fault, Place, Stop};
@@ -143,14 +143,6 @@ impl<'a, W: Write> Sink<'a, W> {
         self.put(&NULL)
     }
 
-    /// Puts the text of a scalar field.
-    pub fn plain(&mut self, field: &[u8]) -> Result<(), Stop>
-        requires { IsReady self.old }
-        ensures { PutsPiece W.contents self.old self.new field.now result }
-    {
-        self.put(field)
-    }
-
     /// Puts the quote before a field of characters.
     pub fn open_quoted(&mut self) -> Result<(), Stop>
         requires { IsReady self.old }
@@ -175,20 +167,17 @@ impl<'a, W: Write> Sink<'a, W> {
         self.put(&BINARY_MARK)
     }
 
-    /// Puts the comma between two fields.
-    pub fn comma(&mut self) -> Result<(), Stop>
-        requires { IsReady self.old }
-        ensures { PutsPiece W.contents self.old self.new (codes ",") result }
-    {
-        self.put(&[COMMA])
-    }
-
     /// Puts the end of a line.
     pub fn line_end(&mut self) -> Result<(), Stop>
         requires { IsReady self.old }
         ensures { PutsPiece W.contents self.old self.new line_end result }
     {
-        self.put(&LINE_END)
+        if self.failed || self.room() < LINE_END.len() {
+            return self.put(&LINE_END);
+        }
+        let waiting = self.output.len();
+        let made = write_line_end(true, 0, self.spare(LINE_END.len()));
+        self.keep(waiting, made)
     }
 
     /// How many bytes may be put before the next delivery is due.

@@ -1,7 +1,8 @@
 -- The names of columns, put one after another.
 use Rattle.tds_export.proofs.Words as N
-use Rattle.tds_export.proofs.Words.{Bool, Column, Err, List, Ok, Option, PutsPiece, Result, Sink, Stop, [], ap, arith, before, codes, false, joined}
-use Rattle.tds_export.proofs.Words.{map, more, name_field, not, refl, sym, true, ℕ, ⊤, ◌++◌, ◌∙◌, ◌∷◌, ◌≡◌}
+use Rattle.tds_export.proofs.Words.{Column, Err, List, Ok, Option, PutsPiece, Result, Sink, Stop, [], ap, arith, codes, false, joined}
+use Rattle.tds_export.proofs.Words.{length, map, name_field, refl, suc, sym, true, ℕ, ◌+◌, ◌++◌, ◌<◌, ◌==◌, ◌∙◌, ◌∷◌, ◌≡◌}
+use Rattle.tds_csv.specs.Quoting.{after_comma, in_line}
 
 -- one piece was put, and another after it
 pub then_puts : {W U V : Type 0} {contents : W → Option (List ℕ)} {a b c : Sink W} {u : U} {p q : List ℕ} {r : Result V Stop}
@@ -13,74 +14,92 @@ pub passed_piece : {W U V : Type 0} {contents : W → Option (List ℕ)} {a b : 
     → N.IsErrAnd r (λ stop. stop ≡ e) → PutsPiece {U = U} contents a b p (Err e) → PutsPiece contents a b (p ++ more) r
 passed_piece more is x = N.PutsPiece-passed _ _ _ _ _ _ _ is x
 
-abbrev is_none : List (List ℕ) → Bool
-is_none [] = true
-is_none (f ∷ fs) = false
+-- the comma before a field that isn't the first
+comma_before : (n : ℕ) (f : List ℕ) → after_comma (suc n) f ≡ codes "," ++ f
+comma_before n f = N.choose_false (suc n == 0) f (44 ∷ f) (N.ne_eqb (suc n) 0 (λ e. omega arith))
 
 -- one more field
-joined-snoc : (fs : List (List ℕ)) (f : List ℕ) → joined (fs ++ f ∷ []) ≡ joined fs ++ (N.text_if (not (is_none fs)) (codes ",") ++ f)
+joined-snoc : (fs : List (List ℕ)) (f : List ℕ) → joined (fs ++ f ∷ []) ≡ joined fs ++ after_comma (length fs) f
 joined-snoc [] f = refl
 joined-snoc (a ∷ []) f = N.append_assoc a (codes ",") f
-joined-snoc (a ∷ b ∷ fs) f = cc (joined-snoc (b ∷ fs) f, N.append_assoc (a ++ codes ",") (joined (b ∷ fs)) (codes "," ++ f))
+joined-snoc (a ∷ b ∷ fs) f =
+    let commas = N.append_assoc (a ++ codes ",") (joined (b ∷ fs)) (codes "," ++ f) in
+    cc (joined-snoc (b ∷ fs) f, commas, comma_before (length fs) f, comma_before (suc (length fs)) f)
+
+-- the text of these names, after which those are left: the line ends after the last
+abbrev pub names_text : (done left : List Column) → List ℕ
+names_text done [] = N.header_line done
+names_text done (c ∷ cs) = joined (map name_field done)
+
+none_put : (left : List Column) → 0 < length left → names_text [] left ≡ []
+none_put [] some = absurd (omega arith)
+none_put (c ∷ cs) some = refl
+
+-- a name is put after others
+one_more : (done : List Column) (c : Column) (rest : List Column) (count : ℕ) → count ≡ length done + (1 + length rest)
+    → joined (map name_field done) ++ in_line (length done) (length done + 1 == count) (name_field c) ≡ names_text (done ++ c ∷ []) rest
+one_more done c [] count is =
+    let last : (length done + 1 == count) ≡ true = N.eq-eqb (length done + 1) count (omega arith) in
+    let fields = map name_field done in
+    let snoc = rw N.length-map at (joined-snoc fields (name_field c)) in
+    rw (last, N.map-append name_field done (c ∷ []), snoc) (N.sym (N.append_assoc (joined fields) _ N.line_end))
+one_more done c (d ∷ rest) count is =
+    let last : (length done + 1 == count) ≡ false = N.ne_eqb (length done + 1) count (omega arith) in
+    let fields = map name_field done in
+    let snoc = rw N.length-map at (joined-snoc fields (name_field c)) in
+    rw (last, N.map-append name_field done (c ∷ []), snoc, N.append-nil) refl
+
+-- the header line begins with them
+begins : (done left : List Column) → (more : List ℕ) × (names_text done left ++ more ≡ N.header_line (done ++ left))
+begins done [] = ([], rw (N.append-nil, N.append-nil) refl)
+begins done (c ∷ cs) =
+    let grows = N.joined_more (map name_field done) (map name_field (c ∷ cs)) in
+    (grows.0 ++ N.line_end, rw (N.map-append name_field done (c ∷ cs), ← grows.1) (N.sym (N.append_assoc _ grows.0 N.line_end)))
 
 -- The names of the columns but these last ones were put.
-pub record NamesPut {W : Type 0} (contents : W → Option (List ℕ)) (columns left : List Column) (first : Bool) (before after : Sink W) : Type 0 where
+pub record NamesPut {W : Type 0} (contents : W → Option (List ℕ)) (columns left : List Column) (index : ℕ) (before after : Sink W) : Type 0 where
   pub done : List Column
   pub split : done ++ left ≡ columns
-  pub first_is : first ≡ is_none (map name_field done)
-  pub puts : PutsPiece contents before after (joined (map name_field done)) (Ok (tt {0}))
+  pub index_is : index ≡ length done
+  pub puts : PutsPiece contents before after (names_text done left) (Ok (tt {0}))
 
-pub names_none : {W : Type 0} {contents : W → Option (List ℕ)} {columns left : List Column} {sink : Sink W} → left ≡ columns → N.IsWriting sink
-    → NamesPut contents columns left true sink sink
-names_none {contents = contents} {sink = sink} e going = record { done = []; split = e; first_is = refl; puts = N.PutsPiece-none _ _ _ going }
+pub names_none : {W : Type 0} {contents : W → Option (List ℕ)} {columns left : List Column} {sink : Sink W} → left ≡ columns → 0 < length columns
+    → N.IsWriting sink → NamesPut contents columns left 0 sink sink
+names_none {contents = contents} {left = left} {sink = sink} e some going =
+    record { done = []; split = e; index_is = refl; puts = rw (none_put left (rw e some)) (N.PutsPiece-none _ _ _ going) }
 
-some_fields : (xs : List (List ℕ)) (f : List ℕ) → is_none (xs ++ f ∷ []) ≡ false
-some_fields [] f = refl
-some_fields (x ∷ xs) f = refl
+module _ {W : Type 0} {contents : W → Option (List ℕ)} {columns left rest : List Column} {c : Column} {index : ℕ} {a b : Sink W}
+    (is : left ≡ c ∷ rest) (x : NamesPut contents columns left index a b) where
+  -- how many there are
+  pub some_left : length columns ≡ index + (1 + length rest)
+  some_left = omega (arith, ap length x.split, ap length is, N.length-append x.done left, x.index_is)
 
-regroup : (a b c d : List ℕ) → (a ++ b) ++ (c ++ d) ≡ (a ++ (b ++ c)) ++ d
-regroup a b c d = simp N.append_assoc
+  module _ {count : ℕ} (number : count ≡ length columns) where
+    grown : names_text x.done left ++ in_line index (index + 1 == count) (name_field c) ≡ names_text (x.done ++ c ∷ []) rest
+    grown = rw (is, x.index_is) (one_more x.done c rest count (number ∙ some_left ∙ ap (λ n. n + (1 + length rest)) x.index_is))
 
-module _ {W : Type 0} {contents : W → Option (List ℕ)} {columns left rest : List Column} {c : Column} {first : Bool} {a b : Sink W}
-    (is : left ≡ c ∷ rest) (x : NamesPut contents columns left first a b) where
-  -- the comma before this name, if there are others before it
-  abbrev mark : List ℕ
-  mark = N.text_if (not (is_none (map name_field x.done))) (codes ",")
+    all : (x.done ++ c ∷ []) ++ rest ≡ columns
+    all = N.append_assoc x.done (c ∷ []) rest ∙ ap (λ l. x.done ++ l) (sym is) ∙ x.split
 
-  -- all names begin with those up to this one
-  begins : (more : List ℕ) × ((joined (map name_field x.done) ++ (mark ++ name_field c)) ++ more ≡ joined (map name_field columns))
-  begins =
-      let fields = map name_field x.done in
-      let grows = N.joined_more (fields ++ name_field c ∷ []) (map name_field rest) in (
-        grows.0,
-        cc (
-          joined-snoc fields (name_field c),
-          grows.1,
-          ap (map name_field) (sym x.split ∙ ap (λ l. x.done ++ l) is) ∙ N.map-append name_field x.done (c ∷ rest)
-              ∙ sym (N.append_assoc fields (name_field c ∷ []) _),
-        ),
-      )
-
-  -- the writer failed at the comma
-  pub comma_breaks : {d : Sink W} {stop : Stop} {r : Result (Unit {0}) Stop}
-      → PutsPiece {U = Unit {0}} contents b d (N.text_if (not first) (codes ",")) (Err stop) → N.IsErrAnd r (λ s. s ≡ stop)
-      → PutsPiece contents a d (joined (map name_field columns)) r
-  comma_breaks broke is_passed = rw (← begins.1, ← regroup _ mark _ begins.0)
-      (passed_piece _ is_passed (then_puts x.puts (rw x.first_is at broke)))
-
-  module _ {d e : Sink W} (comma : PutsPiece contents b d (N.text_if (not first) (codes ",")) (Ok (tt {0}))) where
     -- one more name was put
-    pub names_more : PutsPiece contents d e (name_field c) (Ok (tt {0})) → NamesPut contents columns rest false a e
-    names_more name =
-        let more = N.map-append name_field x.done (c ∷ []) in
-        record {
-          done = x.done ++ c ∷ [];
-          split = cc (N.append_assoc x.done (c ∷ []) rest);
-          first_is = simp (more, some_fields);
-          puts = rw (ap joined more ∙ joined-snoc _ (name_field c)) (then_puts x.puts (then_puts (rw x.first_is at comma) name));
-        }
+    pub names_more : {d : Sink W} → PutsPiece contents b d (in_line index (index + 1 == count) (name_field c)) (Ok (tt {0}))
+        → NamesPut contents columns rest (index + 1) a d
+    names_more name = record {
+      done = x.done ++ c ∷ [];
+      split = all;
+      index_is = rw (x.index_is) (sym (N.length-append x.done (c ∷ [])));
+      puts = rw (← grown) (then_puts x.puts name);
+    }
 
     -- the writer failed at the name
-    pub name_breaks : {stop : Stop} {r : Result (Unit {0}) Stop} → PutsPiece {U = Unit {0}} contents d e (name_field c) (Err stop)
-        → N.IsErrAnd r (λ s. s ≡ stop) → PutsPiece contents a e (joined (map name_field columns)) r
-    name_breaks broke is_passed = rw (← begins.1) (passed_piece _ is_passed (then_puts x.puts (then_puts (rw x.first_is at comma) broke)))
+    pub name_breaks : {d : Sink W} {stop : Stop} {r : Result (Unit {0}) Stop}
+        → PutsPiece {U = Unit {0}} contents b d (in_line index (index + 1 == count) (name_field c)) (Err stop) → N.IsErrAnd r (λ s. s ≡ stop)
+        → PutsPiece contents a d (N.header_line columns) r
+    name_breaks broke is_passed =
+        let more = begins (x.done ++ c ∷ []) rest in
+        rw (← ap N.header_line all, ← more.1, ← grown) (passed_piece more.0 is_passed (then_puts x.puts broke))
+
+-- all names were put
+pub names_all : {W : Type 0} {contents : W → Option (List ℕ)} {columns left : List Column} {index : ℕ} {a b : Sink W} → left ≡ []
+    → NamesPut contents columns left index a b → PutsPiece contents a b (N.header_line columns) (Ok (tt {0}))
+names_all none x = rw (← x.split, none, N.append-nil) (rw none at x.puts)

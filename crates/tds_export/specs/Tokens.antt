@@ -7,7 +7,6 @@ use Rattle.tds_csv.specs.Cutting.{whole_within}
 use Rattle.tds_csv.specs.Quoting.{line, line_end}
 use Rattle.tds_csv.specs.Utf16.{characters}
 use Rattle.tds_columns.specs.Description.{Column}
-use Rattle.tds_columns.specs.View.{columns_of}
 use Rattle.tds_rows.specs.Cells.{Cell, field}
 use Rattle.tds_export.specs.ReturnValue.{ReturnValue}
 use Rattle.tds_export.specs.TokenBytes.{Fixed, AStatus, ADone, ADoneInProc, Passed}
@@ -59,10 +58,6 @@ name_field column = long_field Utf16Text column.name
 -- the header line of a set
 abbrev pub header_line : List Column → List ℕ
 header_line columns = line (map name_field columns)
-
--- the fields of the names in a description
-abbrev pub names_of : List ℕ → List (List ℕ)
-names_of bytes = map name_field (columns_of bytes)
 
 -- a text if it is wanted
 abbrev pub text_if : Bool → List ℕ → List ℕ

@@ -97,7 +97,25 @@ impl<'a, R: Read> Payload<'a, R> {
     }
 
     // Sees to it that a byte is ready.
+    #[inline(always)]
     fn ready(&mut self) -> Result<(), Stop>
+        requires { IsSound self.old }
+        ensures payload { AnswersInPlace self.old self.new result }
+        ensures stands { OnOk result (self.new.at < length self.new.packet.now.bytes) }
+        ensures lazy { self.old.at < length self.old.packet.now.bytes → self.new.from.now ≡ self.old.from.now }
+        ensures gives { TakesOrEnds R.remaining self.old self.new (λ _. []) result }
+        ensures ended { IfErr result (λ stop. stop.fault ≡ Fault.MessageEnded → self.old.stopped ≡ None →
+            EndsMessage R.remaining self.old self.new) }
+    {
+        if self.stopped.is_none() && self.at < self.packet.len() {
+            return Ok(());
+        }
+        self.read_on()
+    }
+
+    // Sees to it that a byte is ready, as `ready` does, by packets that it reads if there is none.
+    #[inline(never)]
+    fn read_on(&mut self) -> Result<(), Stop>
         requires { IsSound self.old }
         ensures payload { AnswersInPlace self.old self.new result }
         ensures stands { OnOk result (self.new.at < length self.new.packet.now.bytes) }

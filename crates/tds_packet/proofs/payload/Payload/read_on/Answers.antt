@@ -1,5 +1,5 @@
 use Rattle.tds_packet.proofs as N
-use N.payload.Payload.ready.Goals as goal
+use N.payload.Payload.read_on.Goals as goal
 use N.{◌≡◌, ◌∙◌, [], ap, seen}
 use N.PayloadLaws.{ends_there}
 

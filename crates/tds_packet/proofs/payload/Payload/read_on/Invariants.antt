@@ -1,5 +1,5 @@
 use Rattle.tds_packet.proofs as N
-use N.payload.Payload.ready.Given as goal
+use N.payload.Payload.read_on.Given as goal
 use N.{◌≡◌, ◌-◌, ◌<◌, []}
 
 abbrev pub invariant-loop-self : goal.invariant-loop-self

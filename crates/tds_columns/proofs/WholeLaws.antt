@@ -1,0 +1,80 @@
+-- A description that is whole at the front of bytes.
+use Rattle.std.proofs.Math.Seq.{take-add}
+use Rattle.tds_columns.proofs as N
+use Rattle.tds_packet.proofs.Futures.{Takes-more}
+use N.{◌≡◌, ◌∙◌, ℕ, ◌+◌, ◌-◌, ◌*◌, ◌<◌, ◌≤◌, List, [], ◌∷◌, ◌++◌, length, take, drop, arith, refl, Some}
+use N.ColumnMeaning.{one_more_column}
+use N.ViewLaws.{all_after, from_type}
+use Rattle.tds_columns.specs.Gather.{BeginsColumn, BeginsColumns, BeginsDescription}
+
+-- a byte more
+one_further : (n : ℕ) (bytes : List ℕ) → n + 1 ≤ length bytes → take (n + 1) bytes ≡ take n bytes ++ N.slice_index bytes n ∷ []
+one_further = grind (arith, N.common_steps, take-add, N.drop-cons)
+
+-- the parts of a column
+column_parts : (bytes : List ℕ) (rest units : ℕ) → 8 + rest ≤ length bytes → N.slice_index bytes (7 + rest) ≡ units
+    → take ((8 + rest) + 2 * units) bytes
+    ≡ (take 6 bytes ++ N.slice_index bytes 6 ∷ take rest (drop 7 bytes)) ++ units ∷ take (2 * units) (drop (8 + rest) bytes)
+column_parts bytes rest units fits is =
+    let last : take (8 + rest) bytes ≡ take (7 + rest) bytes ++ units ∷ [] =
+    let e : 8 + rest ≡ (7 + rest) + 1 = omega arith in rw (e, ← is) (one_further (7 + rest) bytes (omega arith)) in
+    let type : take (7 + rest) bytes ≡ take 6 bytes ++ N.slice_index bytes 6 ∷ take rest (drop 7 bytes) =
+    let e : 7 + rest ≡ 6 + (1 + rest) = omega arith in rw (e, ← from_type bytes rest (omega arith)) (take-add 6 (1 + rest) bytes) in
+    rw (take-add (8 + rest) (2 * units) bytes, last, type) (simp N.append_assoc)
+
+-- a column whose type information and name are there
+pub column_begins : (bytes : List ℕ) (rest units : ℕ) {kind : N.Kind} → (8 + rest) + 2 * units ≤ length bytes
+    → N.kind_of (N.slice_index bytes 6 ∷ take (7 + rest - 7) (drop 7 bytes)) ≡ Some kind → N.slice_index bytes (7 + rest) ≡ units → units < 256
+    → BeginsColumn bytes ((8 + rest) + 2 * units)
+column_begins bytes rest units {kind} fits known is byte = (
+  record { kind = kind; name = take (2 * units) (drop (8 + rest) bytes) },
+  record {
+    ignored = take 6 bytes;
+    info = N.slice_index bytes 6 ∷ take rest (drop 7 bytes);
+    units = units;
+    spelt = column_parts bytes rest units (omega arith) is;
+    six = N.length-take-le 6 bytes (omega arith);
+    kind = let e : 7 + rest - 7 ≡ rest = omega arith in rw e at known;
+    counted = N.length-take-le (2 * units) (drop (8 + rest) bytes) (omega (arith, N.length-drop (8 + rest) bytes));
+    byte = byte;
+  },
+  fits,
+)
+
+-- no column
+pub no_columns : (bytes : List ℕ) → BeginsColumns bytes 0 0
+no_columns bytes = ([], refl, refl, omega arith)
+
+-- a further column
+pub columns_begin : (bytes : List ℕ) (count size more : ℕ) → BeginsColumns bytes count size
+    → BeginsColumn (take (length bytes - size) (drop size bytes)) more → BeginsColumns bytes (count + 1) (size + more)
+columns_begin bytes count size more h all = let one = rw (all_after bytes size) at all in (
+  h.0 ++ one.0 ∷ [],
+  omega (arith, N.length-append h.0 (one.0 ∷ []), h.1),
+  rw (take-add size more bytes) (one_more_column h.0 (take size bytes) one.0 (take more (drop size bytes)) h.2 one.1),
+  omega (arith, N.length-drop size bytes, h.3, one.2),
+)
+
+-- the description is taken
+pub takes_whole : (room : ℕ) (bytes : List ℕ) (count size : ℕ) {a b : N.Seen} (before after : N.Space) {place place' : ℕ}
+    → BeginsDescription room bytes count size → N.Takes a b (take size bytes) 0 → before.bytes ≡ []
+    → after ≡ N.appended before (take size bytes) → place' ≡ place + size
+    → (columns : List N.Column) × (length columns ≡ count)
+    × N.Describes room N.BeforeCount a b place place' before.peak after (N.WholeDescription after.bytes columns)
+    × N.Takes a b after.bytes (length after.bytes) × N.SpellsDescription room columns after.bytes
+takes_whole room bytes count size {a} {b} before after {place} {place'} h took none stands at =
+    let same : after.bytes ≡ take size bytes = rw (stands, none) refl in
+    let whole : length (take size bytes) ≡ size = N.length-take-le size bytes h.3 in
+    let all : N.Takes a b (take size bytes) (length (take size bytes)) = Takes-more a b (take size bytes) 0 _ (omega arith) took in (
+      h.0,
+      h.1,
+      record {
+        reads = record { bytes = take size bytes; spelt = rw same (N.ColumnLaws.description_is_read room h.0 (take size bytes) h.2); takes = all };
+        place_is = rw whole at;
+        kept = refl;
+        bound = rw stands (omega (arith, N.ap length none, N.length-append before.bytes (take size bytes)));
+        further = rw (same, whole) (omega (arith, N.ap length h.2.spelt));
+      },
+      rw same all,
+      rw same h.2,
+    )

@@ -1,0 +1,87 @@
+// The name of a column, put as a field of its header line.
+ghost use Rattle.std.specs.Prelude.{◌≡◌, ◌+◌, ◌%◌, ◌≤◌, length, take};
+ghost use Rattle.tds_csv.specs.Conversion.{Utf16Text, long_field};
+ghost use Rattle.tds_csv.specs.Fields.{field_room};
+ghost use Rattle.tds_csv.specs.Quoting.{in_line};
+ghost use Rattle.tds_csv.specs.Sinks.{IsWriting, PutsPiece};
+
+use crate::convert::lanes::LANES;
+use crate::fields::{Content, field_room, write_utf16};
+use crate::framing::{write_comma, write_line_end};
+use crate::sink::Sink;
+use std::io::Write;
+use tds_packet::Stop;
+
+// The room for a name that is converted with other bytes after it.
+const PADDED: usize = 64;
+
+// How many bytes of room the field of a name of 255 units may want in its line.
+const NAME_ROOM: usize = 786;
+
+// Writes the field of a name. A short one is copied to where other bytes are after it, and converted there by vectors.
+fn write_units(units: &[u8], to: &mut [u8]) -> usize
+    requires even { length units.now % 2 ≡ 0 }
+    requires room { field_room Utf16Text (length units.now) ≤ length to.old }
+    ensures most { result + 2 ≤ length to.old }
+    ensures field { take result to.new ≡ long_field Utf16Text units.now }
+{
+    let n = units.len();
+    if n > PADDED - LANES {
+        return write_utf16(units, n, to);
+    }
+    let mut padded = [0u8; PADDED];
+    padded[..n].copy_from_slice(units);
+    write_utf16(&padded, n, to)
+}
+
+// Writes the field of a name in its line to the front of a slice, and returns how many bytes it has.
+fn write_name(units: &[u8], column: u16, last: bool, to: &mut [u8]) -> usize
+    requires even { length units.now % 2 ≡ 0 }
+    requires room { field_room Utf16Text (length units.now) + 1 ≤ length to.old }
+    ensures most { result ≤ length to.old }
+    ensures text { take result to.new ≡ in_line column last (long_field Utf16Text units.now) }
+{
+    let start = write_comma(column, to);
+    let made = write_units(units, &mut to[start..]);
+    write_line_end(last, start + made, to)
+}
+
+// Puts a name as `put_name` does, by a slice of its own.
+#[inline(never)]
+fn put_name_by_copy<W: Write>(
+    units: &[u8],
+    column: u16,
+    last: bool,
+    sink: &mut Sink<'_, W>,
+) -> Result<(), Stop>
+    requires writing { IsWriting sink.old }
+    requires even { length units.now % 2 ≡ 0 }
+    requires few { length units.now ≤ 510 }
+    ensures { PutsPiece W.contents sink.old sink.new (in_line column last (long_field Utf16Text units.now)) result }
+{
+    let mut to = [0u8; NAME_ROOM];
+    let made = write_name(units, column, last, &mut to);
+    sink.put(&to[..made])
+}
+
+/// Puts a name of at most 255 units in UTF-16 as a field of its line: after a comma if it isn't the first, and before the
+/// line's end if it is the last.
+pub fn put_name<W: Write>(
+    units: &[u8],
+    column: u16,
+    last: bool,
+    sink: &mut Sink<'_, W>,
+) -> Result<(), Stop>
+    requires writing { IsWriting sink.old }
+    requires even { length units.now % 2 ≡ 0 }
+    requires few { length units.now ≤ 510 }
+    ensures { PutsPiece W.contents sink.old sink.new (in_line column last (long_field Utf16Text units.now)) result }
+{
+    let most = field_room(Content::Utf16, units.len()) + 1;
+    if sink.room() < most {
+        return put_name_by_copy(units, column, last, sink);
+    }
+    let waiting = sink.waiting() as usize;
+    let made = write_name(units, column, last, sink.spare(most));
+    sink.keep(waiting, made)
+}
