@@ -150,9 +150,9 @@ fn put_two_lines<W: Write>(sink: &mut Sink<'_, W>) -> Result<(), Stop>
     ensures { IsReady sink.new }
 {
     sink.null()?;
-    sink.put(b",")?;
-    sink.put(b"-12.50")?;
-    sink.put(b",")?;
+    sink.comma()?;
+    sink.plain(b"-12.50")?;
+    sink.comma()?;
     sink.open_binary()?;
     sink.put(b"0aff")?;
     sink.line_end()?;

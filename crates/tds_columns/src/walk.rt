@@ -52,6 +52,7 @@ impl<'a> Iterator for Walk<'a> {
 
     ghost remaining = { item_count columns_left };
 
+    #[inline(always)]
     fn next(&mut self) -> Option<Column<'a>> {
         if self.left == 0 {
             return None;

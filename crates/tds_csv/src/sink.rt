@@ -1,12 +1,12 @@
 // Text on its way to a writer.
 ghost use Rattle.std.specs.Borrow.{sem};
-ghost use Rattle.std.specs.Prelude.{◌≡◌, ◌+◌, ◌-◌, ◌<◌, ◌≤◌, [], ◌∷◌, if◌then◌else◌, length, true, Err, None, Ok, Some};
+ghost use Rattle.std.specs.Prelude.{◌≡◌, ◌+◌, ◌-◌, ◌<◌, ◌≤◌, [], ◌∷◌, codes, if◌then◌else◌, length, true, Err, None, Ok, Some};
 ghost use Rattle.tds_csv.specs.Conversion.{closing};
 ghost use Rattle.tds_csv.specs.Quoting.{binary_mark, line_end, null_field, quote};
 ghost use Rattle.tds_csv.specs.Sinks.{Delivers, FinishesSink, IsReady, IsWriting, PutsPiece, fresh, held, stop_of};
 ghost use Rattle.tds_csv.specs.Spare.{CommitsPiece, IsLent, KeepsPiece, LendsSpare};
 
-use crate::framing::{BINARY_MARK, LINE_END, NULL, QUOTE, write_line_end};
+use crate::framing::{BINARY_MARK, COMMA, LINE_END, NULL, QUOTE, write_line_end};
 use std::io::Write;
 use tds_meter::{Area, OUTPUT_ROOM};
 use tds_packet::{Counted, Fault, Place, Stop};
@@ -143,6 +143,14 @@ impl<'a, W: Write> Sink<'a, W> {
         self.put(&NULL)
     }
 
+    /// Puts the text of a scalar field.
+    pub fn plain(&mut self, field: &[u8]) -> Result<(), Stop>
+        requires { IsReady self.old }
+        ensures { PutsPiece W.contents self.old self.new field.now result }
+    {
+        self.put(field)
+    }
+
     /// Puts the quote before a field of characters.
     pub fn open_quoted(&mut self) -> Result<(), Stop>
         requires { IsReady self.old }
@@ -165,6 +173,14 @@ impl<'a, W: Write> Sink<'a, W> {
         ensures { PutsPiece W.contents self.old self.new binary_mark result }
     {
         self.put(&BINARY_MARK)
+    }
+
+    /// Puts the comma between two fields.
+    pub fn comma(&mut self) -> Result<(), Stop>
+        requires { IsReady self.old }
+        ensures { PutsPiece W.contents self.old self.new (codes ",") result }
+    {
+        self.put(&[COMMA])
     }
 
     /// Puts the end of a line.
