@@ -17,7 +17,7 @@ import gavyreto
 from gavyreto import tds
 from gavyreto.adapting import Adapter, variant_text
 from gavyreto.payload import Ended, Payload, descriptions
-from tests.beside import PROGRAM, Live, answered, need, responses, started, wire
+from tests.beside import PROGRAM, Live, answered, need, responses, served, started, wire
 
 from plain import reader  # isort: skip  the tools are on the path after it
 
@@ -78,17 +78,17 @@ class Adapted(unittest.TestCase):
 
     def test_text_of_a_sql_variant_by_character_set(self) -> None:
         column = responses.Column("v", "62491F0000", responses.variant, responses.as_it_is, bytes)
-        data = answered(responses.description([column]), responses.row([column], [b"\xA7\x07" + responses.TEXT_PROPERTIES + "5 €".encode()]), tds.done())
+        data = answered(responses.description([column]), responses.row([column], [b"\xA7\x07" + responses.TEXT_PROPERTIES + "5 €".encode()]), served.done())
         self.assertEqual(exported(adapted(data, "utf-8")), (0, '"v"\r\n"5 €"\r\n'.encode()))
         every = responses.row([column], [b"\xA7\x07" + responses.TEXT_PROPERTIES + bytes(range(0x80, 0xA0))])
         narrow = responses.Column("v", "A72800", responses.long, responses.as_it_is, bytes)
-        own = answered(responses.description([narrow]), responses.row([narrow], [bytes(range(0x80, 0xA0))]), tds.done())
-        self.assertEqual(exported(adapted(answered(responses.description([column]), every, tds.done()))), exported(own))
+        own = answered(responses.description([narrow]), responses.row([narrow], [bytes(range(0x80, 0xA0))]), served.done())
+        self.assertEqual(exported(adapted(answered(responses.description([column]), every, served.done()))), exported(own))
 
     def test_other_sets_and_returned_values(self) -> None:
         """Sets before and after, a returned value of float, and what else a response has."""
         value = b"\xAC\x01\0\x02@\0x\0\x01" + bytes(6) + b"\x6D\x08\x08" + responses.double("0.5")
-        pieces = [*responses.sets(0)][:-1] + [tds.done(1), *responses.refused(0)][:-1] + [tds.done(1), value, *responses.order_rows(5), tds.done()]
+        pieces = [*responses.sets(0)][:-1] + [served.done(1), *responses.refused(0)][:-1] + [served.done(1), value, *responses.order_rows(5), served.done()]
         status, text = exported(adapted(b"".join(tds.packets(pieces, 600))))
         sets = exported(wire("sets"))[1]
         self.assertEqual((status, text), (0, sets + b"\r\n" + refused_text() + b"\r\n" + exported(wire("orders", 5))[1]))
@@ -100,7 +100,7 @@ class Adapted(unittest.TestCase):
             column = responses.Column("x", type_info, cell, responses.as_it_is, bytes)
             values = [it for it in (numbers.randbytes(size) for _ in range(3000)) if struct.unpack(form, it)[0] == struct.unpack(form, it)[0]]
             rows = b"".join(responses.row([column], [value]) for value in values)
-            status, text = exported(adapted(b"".join(tds.packets([responses.description([column]), rows, tds.done()], 4096))))
+            status, text = exported(adapted(b"".join(tds.packets([responses.description([column]), rows, served.done()], 4096))))
             came = [float(line.strip('"')) for line in text.decode().split("\r\n")[1:-1]]
             self.assertEqual((status, [struct.pack(form, it) for it in came]), (0, values))
 
@@ -123,7 +123,7 @@ class Adapted(unittest.TestCase):
             [responses.description([variant]), responses.row([variant], [b"\x29\x01\x00\xFF\xFF\xFF"])],
         ):
             with self.subTest(pieces=pieces), self.assertRaises(ValueError):
-                adapted(answered(*pieces, tds.done()))
+                adapted(answered(*pieces, served.done()))
 
 
     def test_values_of_a_sql_variant_that_none_has(self) -> None:
@@ -162,7 +162,7 @@ class Adapted(unittest.TestCase):
         cases += [(variant, struct.pack("<I", 3) + b"\x38\x07\0")]
         for column, cell in cases:
             with self.subTest(column=column.name, cell=cell[:8]), self.assertRaises(ValueError):
-                adapted(answered(responses.description([column]), b"\xD1" + cell, tds.done()))
+                adapted(answered(responses.description([column]), b"\xD1" + cell, served.done()))
 
     def test_a_later_packet_of_another_type(self) -> None:
         packets = list(tds.packets([*responses.refused_float(0)], 30))
@@ -265,7 +265,7 @@ class Commands(Live):
         self.assertTrue(came.stdout.startswith(b'CREATE TABLE "a""b1" (\n    "id" integer NOT NULL,\n    "note" text\n);\nCREATE TABLE'))
         cases: list[tuple[list[str], bytes, int]] = [
             (["--as", "sqlite", "--table", "t", "sets.tds"], b"", 2), (["nothere"], b"", 5), ([], b"", 4), ([], answered(b"\x99"), 4), (["--as", "x"], b"", 2),
-            (["--as", "sqlite"], answered(responses.description([responses.Column("", "38", responses.fixed, responses.whole(4), int)]), tds.done()), 2),
+            (["--as", "sqlite"], answered(responses.description([responses.Column("", "38", responses.fixed, responses.whole(4), int)]), served.done()), 2),
         ]
         for words, data, status in cases:
             came = self.run_command("columns", *words, data=data)
@@ -277,7 +277,7 @@ class Commands(Live):
         column = responses.Column("data", "22" + responses.LAST + responses.table("t"), responses.after_pointer, responses.as_it_is, bytes)
         with open(self.path("image.tds"), "wb") as file:
             head = responses.description([column]) + b"\xD1\x10" + responses.POINTER + struct.pack("<I", LONG)
-            for packet in tds.packets((head, *(responses.CHUNK for _ in range(LONG // 8000)), tds.done()), 4096):
+            for packet in tds.packets((head, *(responses.CHUNK for _ in range(LONG // 8000)), served.done()), 4096):
                 file.write(packet)
         command = f'/usr/bin/time -f %M -o peak {sys.executable} -m gavyreto adapt image.tds | "$PROGRAM" check'
         came = subprocess.run(["sh", "-c", command], cwd=self.folder, capture_output=True, check=False, **started(PROGRAM=PROGRAM))

@@ -2,7 +2,7 @@
 import struct
 from typing import BinaryIO
 
-from lib import repository  # noqa: F401  after it the Python package is on the path
+from lib import served
 from gavyreto import tds
 
 CLIENT, SERVER = (bytes([192, 0, 2, 10]), 50123), (bytes([192, 0, 2, 20]), 1433)
@@ -23,7 +23,7 @@ def tls_record(kind: int, length: int) -> bytes:
 
 def login_answer() -> bytes:
     """The answer to a login."""
-    return tds.packet(tds.PacketType.ANSWER, tds.login_ack("Server") + tds.done())
+    return tds.packet(tds.PacketType.ANSWER, served.login_ack("Server") + served.done())
 
 
 def sum_of(data: bytes) -> int:
