@@ -260,7 +260,7 @@ def connect(
     trust_server      whether the certificate isn't verified: anyone between can read all then
     packet_size       bytes that are asked for, 512 to 32767
     seconds           the longest that the server may be silent
-    login_seconds     the longest from connecting to the end of the login
+    login_seconds     the longest from the look-up of the name to the end of the login
 
     Raises ConnectionFailed, of which TimedOut, CertificateRefused, EncryptionRefused and LoginRefused are kinds, BadAnswer if what
     answers is no such server, and ValueError or TypeError if an argument is none. A redirection is followed once, and only if it came

@@ -89,7 +89,7 @@ class Conversation(RuleBasedStateMachine):
         ours, theirs = socket.socketpair()
         self.client, self.server, self.encrypt = Channel(ours, 30), Attacked(theirs, 30), encrypt
         self.server.forged = handshake
-        there = Server("localhost", 1433, "localhost", encrypt, self.trusted, 30)
+        there = Server("localhost", 1433, "localhost", encrypt, lambda: self.trusted, 30)
         answer = served.server_error(18456, "no", 1) + served.done(tds.FAILED) if is_refused else served.login_ack("T") + served.done()
 
         def serve() -> None:

@@ -24,7 +24,7 @@ from tests.beside import PROGRAM, certificate_in, context_of, served
 
 COLUMN = b"\x81\x01\0" + bytes(4) + b"\x08\0\x38\x01a\0"
 REFUSED = b"\x81\x01\0" + bytes(4) + b"\x08\0\x3e\x01a\0"
-HERE = Server("localhost", 1433, "localhost", "none", ssl.create_default_context(), 30)
+HERE = Server("localhost", 1433, "localhost", "none", ssl.create_default_context, 30)
 # How an answer ends, and what is raised then.
 KINDS: dict[str, Optional[type[BaseException]]] = {
     "whole": None, "error": gavyreto.ServerError, "cut": gavyreto.ConnectionFailed, "refused": gavyreto.Fault, "cancelled": gavyreto.UnfinishedAnswer,

@@ -13,6 +13,7 @@ import unittest
 from collections.abc import Callable
 from itertools import islice
 from typing import Any, cast
+from unittest import mock
 
 import gavyreto
 from gavyreto import tds
@@ -257,6 +258,19 @@ class Connections(Live):
     def test_a_second_that_is_less_than_one(self) -> None:
         with serving() as port, connected(port, seconds=0.5) as connection, self.assertRaisesRegex(gavyreto.TimedOut, "silent for longer than 0.5 seconds"):
             list(connection.query("x", program=PROGRAM))
+
+    def test_a_name_that_is_looked_up_without_end(self) -> None:
+        """The deadline of a login is that of the look-up too, which is left where it is."""
+        ended, look_up = threading.Event(), socket.getaddrinfo
+
+        def slow(*asked: Any) -> Any:
+            return look_up(*asked) if any(asked[5:]) else ended.wait(SECONDS)
+
+        began = time.monotonic()
+        with mock.patch("socket.getaddrinfo", slow), self.assertRaisesRegex(gavyreto.TimedOut, "the login wasn't done within 0.5 seconds"):
+            gavyreto.connect("slow.example", user="u", password="p", login_seconds=0.5)
+        self.assertLess(time.monotonic() - began, SECONDS / 10)
+        ended.set()
 
     def test_kinds_of_errors(self) -> None:
         for kind in (gavyreto.TimedOut, gavyreto.CertificateRefused, gavyreto.EncryptionRefused):
