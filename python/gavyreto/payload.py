@@ -224,7 +224,7 @@ def after_rows(data: bytes, at: int, ways: list[int]) -> int:
         return at
     try:
         while data[at] == ROW or data[at] == NBCROW:
-            end = _after_row(data, at + 1, ways) if data[at] == ROW else _after_row(data, *_present_ways(data, at + 1, ways))
+            end = after_values(data, at + 1, ways) if data[at] == ROW else after_values(data, *_present_ways(data, at + 1, ways))
             if end > len(data):
                 break
             at = end
@@ -240,7 +240,7 @@ def _present_ways(data: bytes, at: int, ways: list[int]) -> tuple[int, list[int]
     return end, [way for place, way in enumerate(ways) if not bits >> place & 1]
 
 
-def _after_row(data: bytes, at: int, ways: list[int]) -> int:
+def after_values(data: bytes, at: int, ways: list[int]) -> int:
     """Where the values of a row end. Raises IndexError if they aren't whole, or there is no short way over one of them."""
     for way in ways:
         if way >= 0:

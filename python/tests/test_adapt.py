@@ -51,6 +51,19 @@ def refused_text() -> bytes:
     return "".join(line + "\r\n" for line in lines).encode()
 
 
+def shortest_real(data: bytes) -> str:
+    """The text of a real with the fewest digits that reads back to it."""
+    value, = struct.unpack("<f", data)
+    texts = (f"{value:.{digits}g}" for digits in range(1, 10))
+    return next(repr(float(text)) for text in texts if abs(float(text)) < 3.5e38 and struct.pack("<f", float(text)) == data)
+
+
+def payload_of(data: bytes) -> bytes:
+    """The payload of a response."""
+    payload = Payload(io.BytesIO(data).read)
+    return b"".join(iter(lambda: payload.need(len(payload.data) - payload.at) if payload.has(1) else b"", b""))
+
+
 class Adapted(unittest.TestCase):
     def test_what_is_not_refused_stays_byte_for_byte(self) -> None:
         """Packets and all, also empty ones."""
@@ -101,8 +114,29 @@ class Adapted(unittest.TestCase):
             values = [it for it in (numbers.randbytes(size) for _ in range(3000)) if struct.unpack(form, it)[0] == struct.unpack(form, it)[0]]
             rows = b"".join(responses.row([column], [value]) for value in values)
             status, text = exported(adapted(b"".join(tds.packets([responses.description([column]), rows, served.done()], 4096))))
-            came = [float(line.strip('"')) for line in text.decode().split("\r\n")[1:-1]]
-            self.assertEqual((status, [struct.pack(form, it) for it in came]), (0, values))
+            came = [line.strip('"') for line in text.decode().split("\r\n")[1:-1]]
+            self.assertEqual((status, [struct.pack(form, float(it)) for it in came]), (0, values))
+            if size == 4:
+                self.assertEqual(came, [shortest_real(it) for it in values])
+
+    def test_rows_that_are_converted_at_once(self) -> None:
+        """They are as those that are cut by packets, which are converted one by one: beside columns of other kinds, with NULL, as ROW and NBCROW."""
+        kinds = [responses.Column("x", info, cell, responses.as_it_is, bytes) for info, cell in (
+            ("6D08", responses.short), ("6D04", responses.short), ("3E", responses.fixed), ("3B", responses.fixed), ("38", responses.fixed),
+            ("2604", responses.short), ("A72800", responses.long), ("E7FFFF", responses.chunked))]
+        sizes, numbers = [8, 4, 8, 4, 4, 4, 7, 300], random.Random(5)
+        for _ in range(60):
+            chosen = [numbers.randrange(8) for _ in range(numbers.randrange(1, 7))]
+            columns, share = [kinds[it] for it in chosen], numbers.choice((0.0, 0.02, 0.5))
+            rows = b""
+            for _ in range(numbers.choice((1, 40, 200))):
+                values = [struct.pack("<f" if it in (1, 3) else "<d", numbers.uniform(-1, 1) * 10 ** numbers.randrange(-39, 38)) if it < 4
+                          else numbers.randbytes(sizes[it]) for it in chosen]
+                cells: list[Any] = [None if numbers.random() < share and kinds[it].cell is not responses.fixed else value for it, value in zip(chosen, values)]
+                rows += (responses.row_with_bitmap if numbers.random() < share else responses.row)(columns, cells)
+            pieces = [responses.description(columns), rows, served.done()]
+            whole, cut = (adapted(b"".join(tds.packets(pieces, size))) for size in (32767, 40))
+            self.assertEqual(payload_of(whole), payload_of(cut))
 
     def test_responses_that_end_early(self) -> None:
         """What came before is written, so the program names the same place of the wire or the payload."""
@@ -285,6 +319,20 @@ class Commands(Live):
         self.assertLess(int(self.text("peak")), 25_000)
         print(f"adapt of a value of {LONG} bytes: a peak of {self.text('peak').decode().strip()} kilobytes")
         os.remove(self.path("image.tds"))
+
+    def test_a_long_description_in_little_memory(self) -> None:
+        """Names of tables are as long as a server makes them; of a column no more is kept than its values need."""
+        need(self, "time")
+        column = responses.Column("x", "22" + responses.LAST + responses.table("t" * 3000), responses.after_pointer, responses.as_it_is, bytes)
+        with open(self.path("long.tds"), "wb") as file:
+            file.writelines(tds.packets([responses.description([column] * 10_000), served.done()], 4096))
+        self.assertGreater(os.path.getsize(self.path("long.tds")), 60_000_000)
+        command = f'/usr/bin/time -f %M -o peak {sys.executable} -m gavyreto adapt -o adapted.tds long.tds && "$PROGRAM" check adapted.tds'
+        came = subprocess.run(["sh", "-c", command], cwd=self.folder, capture_output=True, check=False, **started(PROGRAM=PROGRAM))
+        self.assertEqual((came.returncode, came.stderr.decode()[:14]), (0, "sets 1 rows 0 "))
+        self.assertLess(int(self.text("peak")), 40_000)
+        os.remove(self.path("long.tds"))
+        os.remove(self.path("adapted.tds"))
 
     def test_what_tsql_prints(self) -> None:
         """FreeTDS reads the refused columns themselves: each number has the same bits, each text is the same."""
