@@ -241,19 +241,20 @@ class Connections:
     # What comes again.
 
     def _compare(self, key: bytes, first: Union[Conversation, Ended], end: int, is_client: bool, segment: Segment, time: int) -> None:
-        """A segment of a connection that was there: if its SYN came again, it is compared up to a place."""
+        """A segment of a connection that was there: if its SYN or its first byte came again, it is compared up to a place."""
         again = self._again.get(key)
-        if again and again.first is not first:
+        begins = bool(segment.flags & SYN) or is_plain(segment) and segment.sequence == first.start_of(is_client)
+        if again and (again.first is not first or begins and again.revisit.has_begun(is_client)):
             self._end_again(key)
             again = None
         if again is None:
-            if not segment.flags & SYN:
+            if not begins:
                 return
             again = self._again[key] = Again(Revisit(self._memory), first, time)
             if len(self._again) > MOST_REVISITED:
                 self._end_again(next(iter(self._again)))
         self._again.move_to_end(key)
-        again.revisit.take(is_client, segment, end % SPACE)
+        again.revisit.take(is_client, segment, first.start_of(is_client), end % SPACE)
 
     def _end_again(self, key: bytes) -> None:
         again = self._again.pop(key)

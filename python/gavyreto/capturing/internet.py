@@ -41,6 +41,11 @@ class Segment(NamedTuple):
     is_wrong: bool  #: whether its checksum is neither its own, nor one left to the adapter: no receiver takes it
 
 
+def is_single(segment: Segment) -> bool:
+    """Whether a segment has one byte, and may only ask whether the other side is there."""
+    return len(segment.data) == 1 and not segment.flags & (PUSH | FIN | SYN)
+
+
 class Other(Exception):
     """A frame has no segment of TCP, or none that is asked for."""
 
