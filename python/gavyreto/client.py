@@ -215,9 +215,9 @@ class Answer(Response):
             self._feeding = Feeding(lambda write: self._hand_on(write, found, block), self._program)
 
     def _hand_on(self, write: Write, found: Descriptions, first: bytes) -> bool:
-        """Hands the answer to the program, and notes its descriptions. Returns whether it was whole."""
+        """Hands the answer to the program, and notes the descriptions that may be asked for. Returns whether it was whole."""
         blocks = Blocks(self._session, write, first)
-        found.watch(Payload(blocks.read))
+        found.note(Payload(blocks.read), 1 if self._is_only else None)
         blocks.finish()
         return self._session.is_ready()
 

@@ -4,6 +4,7 @@ It judges nothing: the program tds_replay does. What it can't follow raises Valu
 from __future__ import annotations
 
 import threading
+from itertools import islice
 from typing import Callable, Iterator, NamedTuple, Optional
 
 from gavyreto import columns, tds
@@ -291,20 +292,24 @@ class Descriptions:
             self._found.pop(place, None)
         return found
 
-    def watch(self, payload: Payload) -> bool:
-        """Reads a payload to its end, and notes its descriptions as far as it can be followed. Returns whether it is whole."""
+    def note(self, payload: Payload, most: Optional[int] = None) -> None:
+        """Notes the descriptions of a payload, at most so many, as far as it can be followed: the program says what is wrong."""
         try:
-            for described in descriptions(payload):
+            for described in islice(descriptions(payload), most):
                 with self._changed:
                     self._found[self._count] = [column.column() for column in described]
                     self._count += 1
                     self._changed.notify_all()
         except (ValueError, Ended):
-            pass  # the program says what is wrong
+            pass
         finally:
             with self._changed:
                 self._is_over = True
                 self._changed.notify_all()
+
+    def watch(self, payload: Payload) -> bool:
+        """Reads a payload to its end, and notes its descriptions. Returns whether it is whole."""
+        self.note(payload)
         try:
             while payload.packet():
                 payload.at = len(payload.data)
