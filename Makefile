@@ -38,7 +38,7 @@ help:
 	@echo "make generated         compares it with a plain reading, response by response"
 	@echo "make recipes           runs the commands of the pages and of examples/recipes"
 	@echo "make python-tests      tests the Python package, also against a stand-in server"
-	@echo "make bench WHAT=W      measures text, values, export, responses or peers"
+	@echo "make bench WHAT=W      measures what bench/run lists, as export or peers"
 	@echo "make clean             removes what was proved and built"
 	@echo "PROGRAM=F uses the program F instead of the one that is built here."
 
@@ -73,7 +73,7 @@ deb: $(BUILT)
 	@mkdir -p bin
 	@tools/deb "$(BIN)" bin
 
-bench: $(if $(filter export responses peers,$(WHAT)),$(BUILT))
+bench: $(if $(filter export responses peers drivers captures,$(WHAT)),$(BUILT))
 	@bench/run "$(WHAT)" "$(BIN)"
 
 # These take the program as it is; `make build` makes it.

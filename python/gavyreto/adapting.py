@@ -5,9 +5,9 @@ varchar(max), image and CLR types varbinary(max); sql_variant nvarchar(max), wit
 from __future__ import annotations
 
 import struct
-from typing import Callable, Iterator, NamedTuple, Optional
+from typing import Callable, Iterator, NamedTuple, Optional, cast
 
-from gavyreto import columns, tds
+from gavyreto import columns, floats, tds
 from gavyreto.columns import FIXED, Described, Type
 from gavyreto.payload import (
     Payload, Read, Write, after_rows, bytes_of_bitmap, cell, head_of_value, rest_of, ways_over,
@@ -16,7 +16,7 @@ from gavyreto.scalars import TEXTS, check_variant
 from gavyreto.tds import DataType, Token
 
 COLLATION = bytes.fromhex("0904D00034")
-NULL_VALUE, NULL_CHUNKS, NO_MORE = b"\xFF\xFF", b"\xFF" * 8, bytes(4)
+NULL_CHUNKS, NO_MORE = b"\xFF" * 8, bytes(4)
 LONGEST_OLD = 2**31 - 1  # bytes of a text, ntext or image
 LONGEST_VARIANT = 8016  # bytes of a sql_variant with its type and properties
 TEXT_OF_FLOAT = 40  # characters at most
@@ -36,7 +36,7 @@ class Adapted(NamedTuple):
 def _float(payload: Payload, type_: Type) -> Iterator[bytes]:
     length = FIXED[type_.byte] if type_.byte in FIXED else payload.number(1)
     if length == 0:
-        yield NULL_VALUE
+        yield floats.NULL_VALUE
         return
     if type_.byte == DataType.FLTN and (length != type_.length or length not in (4, 8)):
         raise ValueError(f"a float of {length} bytes in a column of {type_.length}")
@@ -99,7 +99,7 @@ def windows_1252(data: bytes) -> str:
 
 def adapted(type_: Type, charset: str) -> Optional[Adapted]:
     """What takes the place of a type, or None if it stays."""
-    if type_.byte in (DataType.FLT4, DataType.FLT8, DataType.FLTN):
+    if type_.byte in floats.FLOATS:
         return Adapted(struct.pack("<BH", DataType.VARCHAR, TEXT_OF_FLOAT) + COLLATION, _float)
     if type_.byte == DataType.TEXT:
         return Adapted(bytes([DataType.VARCHAR]) + MAX + type_.info[4:9], _old)
@@ -174,6 +174,7 @@ class Adapter:
         self._columns: Optional[list[Described]] = None
         self._adapted: list[Optional[Adapted]] = []  # what takes the place of each column's type
         self._ways: list[int] = []  # over the values of a row, if none of them changes
+        self._rows: Optional[floats.Rows] = None  # if floats alone change
 
     def run(self) -> None:
         """Reads the response and writes it. Raises `payload.Ended` if its packets end before its last one, and ValueError if it
@@ -199,27 +200,25 @@ class Adapter:
                 self._output.keep(piece)
 
     def _description(self) -> None:
-        """A description of columns is written once it is whole: as it came, or with other types."""
-        came = bytearray([Token.COLUMNS])
+        """Each column of a description is written once it has come: as it came, or with another type."""
+        head = self._payload.need(2)
+        self._output.keep(bytes([Token.COLUMNS]) + head)
+        count, = struct.unpack("<H", head)
+        self._columns, self._adapted = None if count == columns.NO_METADATA else [], []
+        for _ in range(count if self._columns is not None else 0):
+            self._column(columns.read_column(self._payload.need))
+        described, changes = self._columns or [], [it is not None for it in self._adapted]
+        self._ways = [] if any(changes) else ways_over(described)
+        self._rows = floats.Rows(described) if floats.is_planned(described, changes) else None
 
-        def need(length: int) -> bytes:
-            data = self._payload.need(length)
-            came.extend(data)
-            return data
-
-        described = columns.read_description(need)
-        self._columns = described
-        self._adapted = [adapted(column.type, self._charset) for column in described or []]
-        self._ways = [] if any(self._adapted) else ways_over(described or [])
-        if any(self._adapted):
-            heads = [self._described(column, new) for column, new in zip(described or [], self._adapted)]
-            self._output.put(bytes(came[:3]) + b"".join(heads))
+    def _column(self, column: Described) -> None:
+        new = adapted(column.type, self._charset)
+        if new:
+            self._output.put(column.spelt(new.info))
         else:
-            self._output.keep(bytes(came))
-
-    def _described(self, column: Described, new: Optional[Adapted]) -> bytes:
-        info = new.info if new else bytes([column.type.byte]) + column.type.info
-        return struct.pack("<IH", column.user_type, column.flags) + info + column.spelt_name
+            self._output.keep(column.spelt())
+        self._adapted.append(new and new._replace(info=b""))
+        cast("list[Described]", self._columns).append(column.bare())
 
     def _row(self, byte: int) -> None:
         bitmap = self._payload.need(bytes_of_bitmap(byte, self._columns))
@@ -228,7 +227,7 @@ class Adapter:
         for place, (column, new) in enumerate(zip(self._columns or [], self._adapted)):
             if not bits >> place & 1:
                 self._value(column.type, new)
-        self._keep_rows()
+        self._whole_rows()
 
     def _value(self, type_: Type, new: Optional[Adapted]) -> None:
         """A value, as it is or converted. What comes of it in pieces is written in pieces."""
@@ -239,11 +238,15 @@ class Adapter:
             for piece in new.convert(self._payload, type_):
                 self._output.put(piece)
 
-    def _keep_rows(self) -> None:
-        """Keeps the rows that are whole in what was read, if no value of them changes."""
+    def _whole_rows(self) -> None:
+        """Takes the rows that are whole in what was read, if no value of them changes, or floats alone."""
         start = self._payload.at
-        self._payload.at = after_rows(self._payload.data, start, self._ways)
-        self._output.keep(self._payload.data[start:self._payload.at])
+        if self._rows:
+            rows, self._payload.at = self._rows.convert(self._payload.data, start)
+            self._output.put(rows)
+        else:
+            self._payload.at = after_rows(self._payload.data, start, self._ways)
+            self._output.keep(self._payload.data[start:self._payload.at])
 
     def _return_value(self) -> None:
         self._output.keep(bytes([Token.RETURN_VALUE]) + head_of_value(self._payload))

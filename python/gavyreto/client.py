@@ -215,9 +215,9 @@ class Answer(Response):
             self._feeding = Feeding(lambda write: self._hand_on(write, found, block), self._program)
 
     def _hand_on(self, write: Write, found: Descriptions, first: bytes) -> bool:
-        """Hands the answer to the program, and notes its descriptions. Returns whether it was whole."""
+        """Hands the answer to the program, and notes the descriptions that may be asked for. Returns whether it was whole."""
         blocks = Blocks(self._session, write, first)
-        found.watch(Payload(blocks.read))
+        found.note(Payload(blocks.read), 1 if self._is_only else None)
         blocks.finish()
         return self._session.is_ready()
 
@@ -260,7 +260,7 @@ def connect(
     trust_server      whether the certificate isn't verified: anyone between can read all then
     packet_size       bytes that are asked for, 512 to 32767
     seconds           the longest that the server may be silent
-    login_seconds     the longest from connecting to the end of the login
+    login_seconds     the longest from the look-up of the name to the end of the login
 
     Raises ConnectionFailed, of which TimedOut, CertificateRefused, EncryptionRefused and LoginRefused are kinds, BadAnswer if what
     answers is no such server, and ValueError or TypeError if an argument is none. A redirection is followed once, and only if it came

@@ -23,6 +23,7 @@ LONG: dict[int, int] = {
     DataType.VARBINARY: 2, DataType.BINARY: 2, DataType.VARCHAR: 7, DataType.CHAR: 7, DataType.NVARCHAR: 7, DataType.NCHAR: 7,
 }
 MAX = 0xFFFF
+NO_METADATA = 0xFFFF  # the count of a COLMETADATA without columns
 ROWVERSION = 80  # the user type of a rowversion, which is a binary(8) otherwise
 NULLABLE = 0x0001  # a bit of the flags
 
@@ -152,6 +153,14 @@ class Described(NamedTuple):
     type: Type
     spelt_name: bytes  #: a byte that counts UTF-16 units, then the units
 
+    def spelt(self, info: bytes = b"") -> bytes:
+        """As a description has it, or with another type, whose byte comes first."""
+        return struct.pack("<IH", self.user_type, self.flags) + (info or bytes([self.type.byte]) + self.type.info) + self.spelt_name
+
+    def bare(self) -> Described:
+        """Without what only its description needs, which may be long."""
+        return self._replace(type=self.type._replace(info=b""), spelt_name=b"")
+
     @property
     def name(self) -> str:
         return self.spelt_name[1:].decode("utf-16-le", "replace")
@@ -167,14 +176,13 @@ class Described(NamedTuple):
 def read_description(need: Need) -> Optional[list[Described]]:
     """Reads a COLMETADATA after its token byte; None if it has no metadata."""
     count, = struct.unpack("<H", need(2))
-    if count == 0xFFFF:
-        return None
-    columns = []
-    for _ in range(count):
-        user_type, flags = struct.unpack("<IH", need(6))
-        type_ = read_type(need)
-        columns.append(Described(user_type, flags, type_, _counted_by_one(need)))
-    return columns
+    return None if count == NO_METADATA else [read_column(need) for _ in range(count)]
+
+
+def read_column(need: Need) -> Described:
+    """Reads a column of a COLMETADATA."""
+    user_type, flags = struct.unpack("<IH", need(6))
+    return Described(user_type, flags, read_type(need), _counted_by_one(need))
 
 
 # Tables that have room for all values of a column, as `gavyreto.export` gives them.

@@ -7,8 +7,9 @@ import select
 import socket
 import ssl
 import struct
+import threading
 import time
-from typing import Any, Callable, Iterator, NamedTuple, Optional, Union
+from typing import Any, Callable, Iterator, NamedTuple, Optional, Union, cast
 
 from gavyreto import tds
 from gavyreto.errors import BadAnswer, CertificateRefused, ConnectionFailed, EncryptionRefused, Error, LoginRefused, TimedOut
@@ -214,22 +215,18 @@ class Server(NamedTuple):
     port: int
     certified: str  #: the name that its certificate has to have, if that is verified
     encrypt: str
-    context: ssl.SSLContext
+    context: Callable[[], ssl.SSLContext]  #: is called where something is to be encrypted: it may read all authorities of the system
     seconds: float
     login_seconds: float = LOGIN_SECONDS
     until: float = 0.0  #: the end of the login, by the monotonic clock
 
     def reach(self) -> Channel:
         """A connection, before its greeting. Raises ConnectionFailed or OSError."""
-        try:
-            found = socket.getaddrinfo(self.host, self.port, 0, socket.SOCK_STREAM)
-        except ValueError as wrong:  # a name that is too long, say
-            raise ConnectionFailed(f"{self.host}, port {self.port}: no host of a network ({wrong})") from None
         failure = OSError("no address")
-        for family, kind, protocol, _, address in found:
+        for family, kind, protocol, _, address in self._addresses():
             connected = socket.socket(family, kind, protocol)
             try:
-                connected.settimeout(max(self.until - time.monotonic(), 0.001) if self.until else None)
+                connected.settimeout(self._seconds_left())
                 connected.connect(address)
                 connected.setsockopt(socket.IPPROTO_TCP, socket.TCP_NODELAY, 1)
                 return self._limited(Channel(connected, self.seconds))
@@ -240,6 +237,37 @@ class Server(NamedTuple):
                 connected.close()
                 raise
         raise failure
+
+    def _seconds_left(self) -> Optional[float]:
+        """The seconds up to the end of the login; None without one."""
+        return max(self.until - time.monotonic(), 0.001) if self.until else None
+
+    def _addresses(self) -> list[Any]:
+        """The addresses of the host. The system's look-up of a name has no deadline: a thread waits for it, which is left then."""
+        found: list[Any] = []
+        with contextlib.suppress(socket.gaierror):
+            return self._look_up(socket.AI_NUMERICHOST)
+
+        def look_up() -> None:
+            try:
+                found.append(self._look_up(0))
+            except Exception as failure:
+                found.append(failure)
+
+        thread = threading.Thread(target=look_up, daemon=True)
+        thread.start()
+        thread.join(self._seconds_left())
+        if not found:
+            raise TimeoutError(self.too_long())
+        if isinstance(found[0], Exception):
+            raise found[0]
+        return cast("list[Any]", found[0])
+
+    def _look_up(self, flags: int) -> list[Any]:
+        try:
+            return socket.getaddrinfo(self.host, self.port, 0, socket.SOCK_STREAM, 0, flags)
+        except ValueError as wrong:  # a name that is too long, say
+            raise ConnectionFailed(f"{self.host}, port {self.port}: no host of a network ({wrong})") from None
 
     def _limited(self, channel: Channel) -> Channel:
         channel.limit(self.until, self.too_long())
@@ -274,13 +302,19 @@ def context_of(certificates: Optional[str], trust_server: bool) -> ssl.SSLContex
     """What a server has to show: a certificate for its name, of an authority that is trusted. Raises ValueError if the file of
     authorities can't be read, or has none."""
     try:
-        context = ssl.create_default_context(cafile=certificates)
+        context = ssl.create_default_context(cafile=certificates) if certificates or not trust_server else ssl.SSLContext(ssl.PROTOCOL_TLS_CLIENT)
     except OSError as failure:
         raise ValueError(f"the certificates of {certificates} can't be read: {failure.strerror or failure}") from None
     context.maximum_version = ssl.TLSVersion.TLSv1_2  # the greatest within TDS 7.4
     if trust_server:
         context.check_hostname, context.verify_mode = False, ssl.CERT_NONE
     return context
+
+
+def contexts_of(certificates: Optional[str], trust_server: bool) -> Callable[[], ssl.SSLContext]:
+    """The same, made at once if a file has to be read for it, or when it is called."""
+    made = context_of(certificates, trust_server) if certificates else None
+    return lambda: made or context_of(None, trust_server)
 
 
 # What is taken for an answer to a greeting, by the least that is to be encrypted. It isn't authenticated: a byte that is
@@ -312,7 +346,7 @@ def greet(channel: Channel, server: Server) -> Encryption:
     if answered not in ENOUGH[server.encrypt]:
         raise EncryptionRefused(LACKING[answered])
     if answered != Encryption.NOT_SUPPORTED:
-        channel.encrypt(server.context, server_hostname=server.certified)
+        channel.encrypt(server.context(), server_hostname=server.certified)
         channel.expect_nothing()
     return answered
 
@@ -497,7 +531,7 @@ def log_in_to(
     password = Secret(password)
     if encrypt not in ENCRYPT:
         raise ValueError(f"encrypt is one of {', '.join(ENCRYPT)}, not {encrypt}")
-    here = Server(server, port, certificate_name or server, encrypt, context_of(certificates, trust_server), seconds, login_seconds,
+    here = Server(server, port, certificate_name or server, encrypt, contexts_of(certificates, trust_server), seconds, login_seconds,
                   time.monotonic() + login_seconds)
     login = tds.Login(socket.gethostname(), user, password, "gavyreto", server, "", "", database, packet_size)
     channel, accepted = _session(here, login)

@@ -2,12 +2,10 @@
 from __future__ import annotations
 
 import struct
-from collections import deque
 from enum import IntEnum
 from typing import Callable, Iterable, Iterator, Union
 
 Bytes = Union[bytes, bytearray, memoryview]
-ReadAt = Callable[[int, int], Bytes]  # so many bytes from a place on, or fewer at the end
 
 HEADER = 8  # bytes of a packet's header
 LAST = 0x01  # the bit of a packet's status that marks the last one of a message
@@ -25,6 +23,9 @@ class PacketType(IntEnum):
     TRANSACTION = 0x0E
     LOGIN = 0x10
     PRELOGIN = 0x12
+
+
+ANSWER = int(PacketType.ANSWER)  # compared with once a packet
 
 
 def packets(pieces: Iterable[Bytes], size: int, kind: int = PacketType.ANSWER) -> Iterator[bytes]:
@@ -54,23 +55,6 @@ def length_of(header: Bytes) -> int:
     return int.from_bytes(header[2:4], "big")
 
 
-def tail_of(read_at: ReadAt, start: int = 0) -> bytes:
-    """The end of the payload of a message, as long as a DONE if it is as long, by its packets from a place on; b"" if they
-    aren't whole. `read_at` is called as os.pread is, without its descriptor."""
-    last: deque[tuple[int, int]] = deque(maxlen=DONE_LENGTH)  # where the last bodies that aren't empty end, and how long they are
-    at, is_last = start, False
-    while not is_last:
-        header = read_at(HEADER, at)
-        length = length_of(header)
-        if len(header) < HEADER or length < HEADER:
-            return b""
-        at, is_last = at + length, bool(header[1] & LAST)
-        if length > HEADER:
-            last.append((at, length - HEADER))
-    pieces = [(end, min(length, DONE_LENGTH)) for end, length in last]
-    return b"".join(read_at(length, end - length) for end, length in pieces)[-DONE_LENGTH:]
-
-
 def read_fully(read: Callable[[int], bytes], length: int) -> bytes:
     """As many bytes as asked for, or fewer where no more come."""
     data = bytearray()
@@ -91,7 +75,7 @@ def read_packet(read: Callable[[int], bytes]) -> tuple[bytes, bytes, int]:
 
 
 class Framing:
-    """Follows the packets of one answer through blocks that are cut anywhere."""
+    """Follows the packets of one message through blocks that are cut anywhere: those of an answer, unless a subclass says otherwise."""
 
     def __init__(self) -> None:
         self.is_over = False  #: after the last packet, or after a header that is none
@@ -103,8 +87,12 @@ class Framing:
         self._left = 0  # bytes of the body under way that are still to come
         self._is_last = False
 
+    def fits(self, block: bytes, at: int) -> bool:
+        """Whether the header at a place of a block is that of the next packet of the message."""
+        return block[at] == ANSWER and block[at + 2] << 8 | block[at + 3] >= HEADER
+
     def take(self, block: bytes) -> int:
-        """How many bytes of the block, from its beginning, belong to the message."""
+        """How many bytes of the block, from its beginning, belong to the message; a header that is none of it among them."""
         at = 0
         while at < len(block) and not self.is_over:
             if self._left:
@@ -116,9 +104,9 @@ class Framing:
     def _take_packets(self, block: bytes, at: int) -> int:
         """Takes the packets that are whole in the block, and not the last: where the next one begins."""
         end = at
-        while end + HEADER <= len(block) and block[end] == PacketType.ANSWER and not block[end + 1] & LAST:
+        while end + HEADER <= len(block) and not block[end + 1] & LAST:
             length = block[end + 2] << 8 | block[end + 3]
-            if length < HEADER + DONE_LENGTH or end + length > len(block):
+            if length < HEADER + DONE_LENGTH or end + length > len(block) or not self.fits(block, end):
                 break
             self.payload += length - HEADER
             end += length
@@ -138,14 +126,13 @@ class Framing:
         end = min(at + HEADER - len(self._header), len(block))
         self._header += block[at:end]
         if len(self._header) == HEADER:
-            self._left = length_of(self._header) - HEADER
-            self.empty += not self._left
-            self._is_last = bool(self._header[1] & LAST)
-            if self._header[0] == PacketType.ANSWER and self._left >= 0:
+            header, self._header = self._header, b""
+            if self.fits(header, 0):
+                self._left, self._is_last = length_of(header) - HEADER, bool(header[1] & LAST)
+                self.empty += not self._left
                 self._end_packet()
             else:
                 self.is_over = True
-            self._header = b""
         return end
 
     def _end_packet(self) -> None:

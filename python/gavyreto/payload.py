@@ -4,6 +4,7 @@ It judges nothing: the program tds_replay does. What it can't follow raises Valu
 from __future__ import annotations
 
 import threading
+from itertools import islice
 from typing import Callable, Iterator, NamedTuple, Optional
 
 from gavyreto import columns, tds
@@ -224,7 +225,7 @@ def after_rows(data: bytes, at: int, ways: list[int]) -> int:
         return at
     try:
         while data[at] == ROW or data[at] == NBCROW:
-            end = _after_row(data, at + 1, ways) if data[at] == ROW else _after_row(data, *_present_ways(data, at + 1, ways))
+            end = after_values(data, at + 1, ways) if data[at] == ROW else after_values(data, *_present_ways(data, at + 1, ways))
             if end > len(data):
                 break
             at = end
@@ -240,7 +241,7 @@ def _present_ways(data: bytes, at: int, ways: list[int]) -> tuple[int, list[int]
     return end, [way for place, way in enumerate(ways) if not bits >> place & 1]
 
 
-def _after_row(data: bytes, at: int, ways: list[int]) -> int:
+def after_values(data: bytes, at: int, ways: list[int]) -> int:
     """Where the values of a row end. Raises IndexError if they aren't whole, or there is no short way over one of them."""
     for way in ways:
         if way >= 0:
@@ -291,20 +292,24 @@ class Descriptions:
             self._found.pop(place, None)
         return found
 
-    def watch(self, payload: Payload) -> bool:
-        """Reads a payload to its end, and notes its descriptions as far as it can be followed. Returns whether it is whole."""
+    def note(self, payload: Payload, most: Optional[int] = None) -> None:
+        """Notes the descriptions of a payload, at most so many, as far as it can be followed: the program says what is wrong."""
         try:
-            for described in descriptions(payload):
+            for described in islice(descriptions(payload), most):
                 with self._changed:
                     self._found[self._count] = [column.column() for column in described]
                     self._count += 1
                     self._changed.notify_all()
         except (ValueError, Ended):
-            pass  # the program says what is wrong
+            pass
         finally:
             with self._changed:
                 self._is_over = True
                 self._changed.notify_all()
+
+    def watch(self, payload: Payload) -> bool:
+        """Reads a payload to its end, and notes its descriptions. Returns whether it is whole."""
+        self.note(payload)
         try:
             while payload.packet():
                 payload.at = len(payload.data)

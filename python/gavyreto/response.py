@@ -11,7 +11,7 @@ from typing import Any, Callable, Optional, Protocol, Union, cast
 
 from gavyreto import tds
 from gavyreto.errors import Error, Fault, ProgramFailed, Report, ServerError, UnfinishedAnswer
-from gavyreto.program import CHARSETS, COLUMN_ROOM, MAX_WIRE, OF_SIGNAL, PACKET_SIZE, PROGRAM, Ending, Program, Write, command_of
+from gavyreto.program import BLOCK, CHARSETS, COLUMN_ROOM, MAX_WIRE, OF_SIGNAL, PACKET_SIZE, PROGRAM, Ending, Program, Write, command_of
 from gavyreto.payload import Descriptions, LateDescriptions, Payload, Read
 from gavyreto.text import Sets
 from gavyreto.values import Dates, check_dates
@@ -42,7 +42,12 @@ class HeldFile:
         return data
 
     def tail(self) -> bytes:
-        return tds.tail_of(lambda most, place: os.pread(self.descriptor, most, place), self._start)
+        """The end of the payload, which is read again from its first packet on."""
+        framing, at = tds.Framing(), self._start
+        while not framing.is_over and (block := os.pread(self.descriptor, BLOCK, at)):
+            framing.take(block)
+            at += len(block)
+        return framing.tail
 
     def close(self) -> None:
         if self.descriptor >= 0:

@@ -3,7 +3,7 @@ from __future__ import annotations
 
 import struct
 from datetime import date, timedelta
-from typing import Callable
+from typing import Callable, Sequence
 from uuid import UUID
 
 from gavyreto.tds import DataType
@@ -14,6 +14,8 @@ GREATEST_OFFSET = 840  # minutes
 GREATEST_PRECISION = 38
 TIME_LENGTHS = (3, 3, 3, 4, 4, 5, 5, 5)  # bytes of a time, by its scale
 DAYS_LENGTH, OFFSET_LENGTH = 3, 2
+SAFE_DIGITS, MOST_DIGITS = 6, 9  # of a real: that all have, and that are needed at most
+LEAST_NORMAL = 2.0**-126  # of the reals
 
 
 def decimal_text(units: int, scale: int) -> str:
@@ -105,28 +107,38 @@ def _old_date_time(data: bytes, _: int) -> str:
     return f"{_day(days, DAY_1900)} {_clock(thirds // 300)}.{(10 * (thirds % 300) + 1) // 3:03}"
 
 
+def doubles(values: Sequence[float]) -> list[str]:
+    """The shortest texts of numbers of 64 bits that read back to the same bits. Raises ValueError for what is no number."""
+    _check_numbers(values)
+    return list(map(repr, values))
+
+
+def singles(values: Sequence[float]) -> list[str]:
+    """The same of numbers of 32 bits. By way of these bits each decimal of six digits reads back to itself, so where a text has fewer digits
+    it is that of six; only below the least normal number it may be another one."""
+    _check_numbers(values)
+    texts = dict[int, str]()
+    small = [place for place, value in enumerate(values) if 0 < abs(value) < LEAST_NORMAL]
+    for digits in range(1 if small else SAFE_DIGITS, MOST_DIGITS + 1):
+        tried = [place for place in (range(len(values)) if digits >= SAFE_DIGITS else small) if place not in texts]
+        form = f"%.{digits}g"
+        came = [float(form % values[place]) for place in tried]
+        read_back = struct.unpack(f"<{len(came)}f", struct.pack(f"<{len(came)}f", *came))
+        texts.update({place: repr(number) for place, number, other in zip(tried, came, read_back) if other == values[place]})
+    return [texts[place] for place in range(len(values))]
+
+
+def _check_numbers(values: Sequence[float]) -> None:
+    if any([value != value for value in values]):
+        raise ValueError("a float or real that is no number")
+
+
 def _double(data: bytes, _: int) -> str:
-    value, = struct.unpack("<d", data)
-    if value != value:
-        raise ValueError("a float that is no number")
-    return repr(float(value))
+    return doubles(struct.unpack("<d", data))[0]
 
 
 def _single(data: bytes, _: int) -> str:
-    """The shortest text that reads back to the same 32 bits."""
-    value, = struct.unpack("<f", data)
-    if value != value:
-        raise ValueError("a real that is no number")
-    texts = (repr(float(f"{value:.{digits}g}")) for digits in range(1, 10))
-    return next(text for text in texts if _packed(text) == data)
-
-
-def _packed(text: str) -> bytes:
-    """The 32 bits of a number, or nothing if it has none."""
-    try:
-        return struct.pack("<f", float(text))
-    except OverflowError:
-        return b""
+    return singles(struct.unpack("<f", data))[0]
 
 
 TEXTS: dict[int, Callable[[bytes, int], str]] = {

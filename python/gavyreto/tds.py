@@ -11,7 +11,7 @@ from typing import NamedTuple, Optional
 
 from gavyreto.packets import (  # noqa: F401  whoever reads messages needs their packets
     DONE_LENGTH as DONE_LENGTH, HEADER as HEADER, LAST as LAST, Bytes as Bytes, Framing as Framing, PacketType as PacketType, header as header,
-    length_of as length_of, packet as packet, packets as packets, read_fully as read_fully, read_packet as read_packet, tail_of as tail_of,
+    length_of as length_of, packet as packet, packets as packets, read_fully as read_fully, read_packet as read_packet,
 )
 
 
@@ -153,20 +153,15 @@ def _disguised(units: bytes) -> bytes:
     return bytes((byte >> 4 | byte << 4 & 0xF0) ^ 0xA5 for byte in units)
 
 
-def _bared(units: bytes) -> bytes:
-    turned = bytes(byte ^ 0xA5 for byte in units)
-    return bytes(byte >> 4 | byte << 4 & 0xF0 for byte in turned)
-
-
 # Where the table of places and lengths of a LOGIN7 has its texts: those of `Login`, with an unused one in their middle.
-_PLACES = [36, 40, 44, 48, 52, 60, 64, 68]
+PLACES = [36, 40, 44, 48, 52, 60, 64, 68]
 _FIXED = 94  # bytes of a LOGIN7 before its texts
 
 
 def login(asked: Login, process: int) -> bytes:
     """A LOGIN7 of version 7.4. Raises ValueError if a text is too long, or no Unicode."""
     table, data = bytearray(_FIXED - 36), b""
-    for place, name, text in zip(_PLACES, asked._fields, asked):
+    for place, name, text in zip(PLACES, asked._fields, asked):
         units = _checked_units(name, str(text))
         if len(units) > 2 * MOST_UNITS:
             raise ValueError(f"the {name} has more than {MOST_UNITS} characters")
@@ -179,31 +174,12 @@ def login(asked: Login, process: int) -> bytes:
     return fixed + flags + bytes(table) + data
 
 
-def login_of(payload: bytes) -> Login:
-    """What a LOGIN7 says."""
-    texts = {}
-    for place, name in zip(_PLACES, Login._fields):
-        start, units = struct.unpack_from("<HH", payload, place)
-        data = payload[start:start + 2 * units]
-        texts[name] = (_bared(data) if name == "password" else data).decode("utf-16-le")
-    return Login(packet_size=struct.unpack_from("<I", payload, 8)[0], **texts)
-
-
 def statement(text: str) -> bytes:
     """A SQLBatch: its headers (no transaction, one request), and its text. Raises ValueError if that is no Unicode."""
     return struct.pack("<IIHQI", 22, 18, 2, 0, 1) + _checked_units("statement", text)
 
 
-def statement_of(payload: bytes) -> str:
-    """The text of a SQLBatch."""
-    return payload[struct.unpack_from("<I", payload)[0]:].decode("utf-16-le")
-
-
-# Tokens that a server sends (MS-TDS, DONE, ERROR, ENVCHANGE, LOGINACK).
-
-def done(status: int = 0, command: int = 0xC1) -> bytes:
-    return struct.pack("<BHHQ", Token.DONE, status, command, 0)
-
+# What a server sends (MS-TDS, DONE, ERROR, ENVCHANGE, LOGINACK).
 
 def is_cancelled(payload: bytes) -> bool:
     """Whether the end of a message is the DONE that answers an attention."""
@@ -220,36 +196,6 @@ def unfinished(tail: bytes) -> Optional[str]:
     if status & (FAILED | SERVER_FAILED):
         return f"the answer isn't whole: the server ended it with a failure, DONE 0x{status:04x}, and told no error"
     return f"the answer isn't whole: it was cancelled, DONE 0x{status:04x}" if status & CANCELLED else None
-
-
-def counted_body(token: int, body: bytes) -> bytes:
-    """A token whose body has a length of two bytes before it."""
-    return struct.pack("<BH", token, len(body)) + body
-
-
-def counted(text: str) -> bytes:
-    """One byte that counts UTF-16 units, then the units."""
-    return bytes([len(_units(text)) // 2]) + _units(text)
-
-
-def server_error(number: int, message: str, line: int, state: int = 1, severity: int = 16) -> bytes:
-    """An ERROR without names of server and procedure."""
-    body = struct.pack("<iBBH", number, state, severity, len(_units(message)) // 2) + _units(message)
-    return counted_body(Token.ERROR, body + bytes(2) + struct.pack("<i", line))
-
-
-def change(kind: Change, new: bytes, old: bytes) -> bytes:
-    return counted_body(Token.ENV_CHANGE, bytes([kind]) + new + old)
-
-
-def routing(host: str, port: int) -> bytes:
-    """A redirection to another server."""
-    data = struct.pack("<BHH", 0, port, len(_units(host)) // 2) + _units(host)
-    return change(Change.ROUTING, struct.pack("<H", len(data)) + data, bytes(2))
-
-
-def login_ack(program: str) -> bytes:
-    return counted_body(Token.LOGIN_ACK, b"\x01" + VERSION + counted(program) + bytes([16, 0, 0, 0]))
 
 
 class Accepted(NamedTuple):

@@ -474,7 +474,7 @@ class Sets:
         self._rows_before = 0  # of the sets before the current one
         self._failure: Optional[BaseException] = None
         self._is_untold = False  # whether rows before the failure were handed out, and it wasn't raised since
-        self._is_closed = self._is_ended = False
+        self._is_closed = self._is_ended = self._is_only = False  # only: whether there may be one set alone
         self._guard = Guard(self)
 
     @property
@@ -499,6 +499,7 @@ class Sets:
     def only(self) -> ResultSet:
         """The one set that is there. Raises NotOneSet: at once if there is none, after the last row if another set
         follows."""
+        self._is_only = True
         try:
             return self._next_set(True)
         except StopIteration:

@@ -24,12 +24,13 @@ PROGRAM = os.path.abspath(os.environ.get("PROGRAM", os.path.join(ROOT, "bin", "t
 STAND_IN, RESPONSE = (os.path.join(ROOT, "tools", name) for name in ("stand-in", "response"))
 SECONDS = 300  # within which all that is waited for comes, however busy the machine is
 sys.path[:0] = [os.path.join(ROOT, "tools")]
-from lib import packing, sample_responses  # noqa: E402
+from lib import certificates, packing, sample_responses, served as served  # noqa: E402
 
 from gavyreto import tds  # noqa: E402
 from gavyreto.connection import Channel  # noqa: E402
 
-responses = sample_responses  # by the name that tests call it
+responses = sample_responses  # by the names that tests call them
+certificate_in, context_of = certificates.certificate_in, certificates.context_of
 ORDERS = (
     '"id","customer","total","ordered","note"\r\n'
     '1,"Ann ""A"" Lee, Zürich",12.50,2024-02-29 12:34:56.1234567,"two\r\nlines"\r\n'
@@ -214,15 +215,7 @@ def log_in(channel: Channel) -> None:
     channel.read_message()
     channel.write_message(tds.PacketType.ANSWER, tds.prelogin(tds.Encryption.NOT_SUPPORTED))
     channel.read_message()
-    channel.write_message(tds.PacketType.ANSWER, tds.login_ack("Test") + tds.done())
-
-
-def context_of(certificate: str) -> ssl.SSLContext:
-    """What a server encrypts with that has the certificate of a stand-in."""
-    context = ssl.SSLContext(ssl.PROTOCOL_TLS_SERVER)
-    context.maximum_version = ssl.TLSVersion.TLSv1_2  # the greatest within TDS 7.4
-    context.load_cert_chain(certificate, os.path.join(os.path.dirname(certificate), "key.pem"))
-    return context
+    channel.write_message(tds.PacketType.ANSWER, served.login_ack("Test") + served.done())
 
 
 def log_in_encrypted(channel: Channel, context: ssl.SSLContext) -> None:
@@ -231,7 +224,40 @@ def log_in_encrypted(channel: Channel, context: ssl.SSLContext) -> None:
     channel.write_message(tds.PacketType.ANSWER, tds.prelogin(tds.Encryption.ON))
     channel.encrypt(context, server_side=True)
     channel.read_message()
-    channel.write_message(tds.PacketType.ANSWER, tds.login_ack("Test") + tds.done())
+    channel.write_message(tds.PacketType.ANSWER, served.login_ack("Test") + served.done())
+
+
+def serving(*answers: bytes, behind: bytes = b"", pause: float = 0.0) -> contextlib.AbstractContextManager[int]:
+    """A server that gives one answer after the other, and other bytes behind the last one, and ends with the client."""
+    def serve(channel: Channel) -> None:
+        log_in(channel)
+        for place, answer in enumerate(answers, 1):
+            channel.read_message()
+            channel.write(answer + (behind if place == len(answers) and not pause else b""))
+        if pause:
+            time.sleep(pause)
+            channel.write(behind)
+        channel.wait()
+        while channel.receive():
+            pass
+
+    return listening(serve)
+
+
+def saying_goodbye(test: Live, answer: bytes) -> contextlib.AbstractContextManager[int]:
+    """A server that ends TLS right behind its one answer, with the certificate of a stand-in."""
+    context = context_of(test.server(()).variables["CERTIFICATE"])
+
+    def serve(channel: Channel) -> None:
+        log_in_encrypted(channel, context)
+        channel.read_message()
+        channel.write(answer)
+        assert channel.tls
+        with contextlib.suppress(OSError):  # the client's end isn't waited for
+            channel.tls.unwrap()
+        channel.socket.sendall(channel._to_send.read())
+
+    return listening(serve)
 
 
 def ask_port(port: int, *words: str, **options: Any) -> subprocess.CompletedProcess[bytes]:

@@ -263,11 +263,10 @@ def case(seed: int) -> Case:
     verdicts = [verdict(it, segments) for it, segments in there]
     if "cut file" in happening or max(ends) > cut:
         verdicts.append(False)
-    if "equal numbers" in happening:
-        verdicts.append(False if any(it.data for it in again) else True)
-    if {"begins late", "equal numbers"} <= set(happening) or "port reuse" in happening and any(is_late(segments) for _, segments in there):
+    if "port reuse" in happening and any(is_late(segments) for _, segments in there):
         verdicts.append(None)
-    is_whole = None if None in verdicts else all(verdicts)
+    is_other = "equal numbers" in happening and any(it.data for it in again)
+    is_whole = False if is_other else None if None in verdicts else all(verdicts)
     answers = [answer for it, segments in there for answer in _answers(it, segments)]
     names = {answer: name for it in made for answer, name in zip(it.answers, it.names)}
     has_others = any(it.is_other and not it.is_wrong for _, segments in there for it in segments)

@@ -20,12 +20,12 @@ from hypothesis.stateful import RuleBasedStateMachine, precondition, rule, run_s
 from gavyreto import tds
 from gavyreto import program
 from gavyreto.commands import common, many
-from tests.beside import PROGRAM, answered, responses, wire
+from tests.beside import PROGRAM, answered, responses, served, wire
 
 NAMES = ["a", "b", "a.csv", "a.csv.partial", "A", "x\r\ny", 'q"', "ü", "\udcff", "n" * 243]
 CONTENTS = {
     "orders": wire("orders"), "sets": wire("sets"), "error": wire("error"), "float": wire("float"), "cut": wire("orders")[:-20], "empty": b"",
-    "longer": wire("orders", 4), "cancelled": answered(*responses.order_rows(0), tds.done(tds.CANCELLED)),
+    "longer": wire("orders", 4), "cancelled": answered(*responses.order_rows(0), served.done(tds.CANCELLED)),
 }
 ROOMS = ["1048576", "1000000"]  # for descriptions, which change no text
 runs: dict[str, int] = {}

@@ -3,10 +3,8 @@
 usage: python3 -m tests.stateful_query EXAMPLES, in the folder python, by a Python that has hypothesis"""
 from __future__ import annotations
 
-import os
 import socket
 import ssl
-import subprocess
 import sys
 import tempfile
 import threading
@@ -22,25 +20,18 @@ from gavyreto import connection, tds
 from gavyreto.connection import Channel, Server, Session
 from gavyreto.errors import BadAnswer, ConnectionFailed, Error, ServerError
 from gavyreto.tds import Encryption, PacketType
+from tests.beside import certificate_in, context_of, served
 
 LOGIN = tds.login(tds.Login("h", "u", "p", "x", "localhost", "", "", "", 4096), 1)
-ACCEPTED = tds.packet(PacketType.ANSWER, tds.login_ack("T") + tds.done())
-ROWS = tds.packet(PacketType.ANSWER, b"\x81\x01\0" + bytes(4) + b"\x08\0\x38\x01a\0" + b"\xD1\x2A\0\0\0" + tds.done())
-ROUTED = tds.packet(PacketType.ANSWER, tds.login_ack("T") + tds.routing("attacker.example", 1433) + tds.done())
+ACCEPTED = tds.packet(PacketType.ANSWER, served.login_ack("T") + served.done())
+ROWS = tds.packet(PacketType.ANSWER, b"\x81\x01\0" + bytes(4) + b"\x08\0\x38\x01a\0" + b"\xD1\x2A\0\0\0" + served.done())
+ROUTED = tds.packet(PacketType.ANSWER, served.login_ack("T") + served.routing("attacker.example", 1433) + served.done())
 # What is sent where nothing is to be sent: answers that would be believed, beginnings of them, and bytes of any kind.
 NOTHING = [b""] * 12
 ATTACKS = [ACCEPTED, ROWS, ACCEPTED + ROWS, ROUTED, ROWS[:20], b"\x04", b"\x17\x03\x03\0\x05abcde", b"\0"]
 UNASKED, EXTRA, SELDOM = st.sampled_from(ATTACKS), st.sampled_from([*NOTHING, *ATTACKS[:4]]), st.sampled_from([False] * 9 + [True])
 STATUSES = {0: "", 0x10: "", 0x02: "failure", 0x100: "failure", 0x20: "cancelled", 0x22: "failure", 0x30: "cancelled"}
 steps: dict[str, int] = {}
-
-
-def certificate_in(folder: str) -> tuple[str, str]:
-    certificate, key = (os.path.join(folder, name) for name in ("certificate.pem", "key.pem"))
-    subprocess.run(
-        ["openssl", "req", "-x509", "-newkey", "ec", "-pkeyopt", "ec_paramgen_curve:prime256v1", "-nodes", "-days", "1", "-subj", "/CN=localhost",
-         "-addext", "subjectAltName=DNS:localhost", "-keyout", key, "-out", certificate], check=True, stdin=subprocess.DEVNULL, capture_output=True)
-    return certificate, key
 
 
 class Attacked(Channel):
@@ -98,8 +89,8 @@ class Conversation(RuleBasedStateMachine):
         ours, theirs = socket.socketpair()
         self.client, self.server, self.encrypt = Channel(ours, 30), Attacked(theirs, 30), encrypt
         self.server.forged = handshake
-        there = Server("localhost", 1433, "localhost", encrypt, self.trusted, 30)
-        answer = tds.server_error(18456, "no", 1) + tds.done(tds.FAILED) if is_refused else tds.login_ack("T") + tds.done()
+        there = Server("localhost", 1433, "localhost", encrypt, lambda: self.trusted, 30)
+        answer = served.server_error(18456, "no", 1) + served.done(tds.FAILED) if is_refused else served.login_ack("T") + served.done()
 
         def serve() -> None:
             self.server.read_message()
@@ -151,7 +142,7 @@ class Conversation(RuleBasedStateMachine):
         """A statement: only what the server sends after it is its answer, up to the end of the message."""
         assert self.session
         steps["asks"] = steps.get("asks", 0) + 1
-        body = b"\x81\x01\0" + bytes(4) + b"\x08\0\x38\x01a\0" + b"\xD1\x2A\0\0\0" * rows + tds.done(status)
+        body = b"\x81\x01\0" + bytes(4) + b"\x08\0\x38\x01a\0" + b"\xD1\x2A\0\0\0" * rows + served.done(status)
         whole = b"".join(tds.packets([body], size))
         is_cut = cut > 30
         sent = whole[:len(whole) * (cut - 30) // 4] if is_cut else whole
@@ -211,10 +202,8 @@ class Conversation(RuleBasedStateMachine):
 def main() -> None:
     examples = int(sys.argv[1])
     with tempfile.TemporaryDirectory() as folder:
-        certificate, key = certificate_in(folder)
-        Conversation.context = ssl.SSLContext(ssl.PROTOCOL_TLS_SERVER)
-        Conversation.context.maximum_version = ssl.TLSVersion.TLSv1_2
-        Conversation.context.load_cert_chain(certificate, key)
+        certificate = certificate_in(folder)
+        Conversation.context = context_of(certificate)
         Conversation.trusted = connection.context_of(certificate, False)
         run_state_machine_as_test(Conversation, settings=settings(  # type: ignore[no-untyped-call]
             max_examples=examples, stateful_step_count=12, deadline=None, database=None, suppress_health_check=list(HealthCheck), derandomize=True))

@@ -1,5 +1,5 @@
-"""Random walks of a server and of a caller of the API: any answer, any call at any time, two threads, interrupts, against a model of
-which rows may be handed out.
+"""Random walks of a server and of a caller of the API: any answer, any call at any time, two threads, interrupts, in the clear or within
+TLS, of which records are torn and changed, against a model of which rows may be handed out.
 
 usage: python3 -m tests.stateful_readings STEPS, in the folder python"""
 from __future__ import annotations
@@ -9,26 +9,29 @@ import random
 import socket
 import ssl
 import sys
+import tempfile
 import threading
 from collections.abc import Callable
 from itertools import islice
 from typing import Any, Optional, cast
 
 import gavyreto
-from gavyreto import tds
+from gavyreto import connection, tds
 from gavyreto.client import Answer, Connection
 from gavyreto.connection import Channel, Server, Session
 from gavyreto.text import ResultSet
-from tests.beside import PROGRAM
+from tests.beside import PROGRAM, certificate_in, context_of, served
 
 COLUMN = b"\x81\x01\0" + bytes(4) + b"\x08\0\x38\x01a\0"
 REFUSED = b"\x81\x01\0" + bytes(4) + b"\x08\0\x3e\x01a\0"
-HERE = Server("localhost", 1433, "localhost", "none", ssl.create_default_context(), 30)
+HERE = Server("localhost", 1433, "localhost", "none", ssl.create_default_context, 30)
 # How an answer ends, and what is raised then.
 KINDS: dict[str, Optional[type[BaseException]]] = {
     "whole": None, "error": gavyreto.ServerError, "cut": gavyreto.ConnectionFailed, "refused": gavyreto.Fault, "cancelled": gavyreto.UnfinishedAnswer,
     "surplus": None,
 }
+# The same within TLS: how its records come.
+RECORDS: dict[str, Optional[type[BaseException]]] = {"torn": gavyreto.ConnectionFailed, "changed": gavyreto.ConnectionFailed}
 counts: dict[str, int] = {}
 
 
@@ -39,18 +42,23 @@ def count(what: str) -> None:
 class Walk:
     """One connection, and the answers on it until it is closed."""
 
-    def __init__(self, numbers: random.Random) -> None:
+    def __init__(self, numbers: random.Random, own: ssl.SSLContext, trusted: ssl.SSLContext) -> None:
         self.numbers = numbers
         ours, self.theirs = socket.socketpair()
-        self.server = Channel(self.theirs, 30)
-        self.connection = Connection(Session(Channel(ours, 30), HERE, 4096))
+        client, self.server = Channel(ours, 30), Channel(self.theirs, 30)
+        self.kinds = KINDS
+        if numbers.random() < 0.3:
+            self.kinds = KINDS | RECORDS
+            count("within TLS")
+            encrypt(client, self.server, own, trusted)
+        self.connection = Connection(Session(client, HERE, 4096))
         self.next_row, self.is_stale = 0, False
 
     def run(self) -> None:
         """Asks until the connection is closed."""
         try:
             for _ in range(self.numbers.randrange(1, 8)):
-                if not self.ask(self.numbers.choice(["whole"] * 8 + list(KINDS))):
+                if not self.ask(self.numbers.choice(["whole"] * 8 + list(self.kinds))):
                     for _ in range(2):
                         self.assert_closed()
                     return
@@ -74,27 +82,38 @@ class Walk:
             length = self.numbers.choice((0, 1, 5, 300, 3000))
             sets.append(list(range(self.next_row, self.next_row + length)))
             self.next_row += length
-            body += COLUMN + b"".join(b"\xD1" + row.to_bytes(4, "little") for row in sets[-1]) + (tds.done(tds.MORE) if place or kind != "error" else b"")
+            body += COLUMN + b"".join(b"\xD1" + row.to_bytes(4, "little") for row in sets[-1]) + (served.done(tds.MORE) if place or kind != "error" else b"")
         body += REFUSED if kind == "refused" else b""
-        body += tds.server_error(8134, "no", 1) + tds.done(tds.FAILED) if kind == "error" else tds.done(tds.CANCELLED if kind == "cancelled" else 0)
+        body += served.server_error(8134, "no", 1) + served.done(tds.FAILED) if kind == "error" else served.done(tds.CANCELLED if kind == "cancelled" else 0)
         wire = b"".join(tds.packets([body], self.numbers.choice((30, 512, 4096))))
         return sets, wire[:self.numbers.randrange(len(wire))] if kind == "cut" else wire + b"\x04" * (kind == "surplus")
 
-    def serve(self, wire: bytes, is_cut: bool) -> None:
+    def serve(self, wire: bytes, kind: str) -> None:
         with contextlib.suppress(OSError, EOFError, gavyreto.BadAnswer):  # the client may be gone
             self.server.read_message()
             at, step = 0, self.numbers.choice((100, 5000, len(wire) or 1))
-            while at < len(wire):
+            while at < len(wire) - step * (kind in RECORDS):
                 self.server.write(wire[at:at + step])
                 at += step
-            if is_cut:
+            if kind in RECORDS:
+                self.theirs.sendall(self.record_of(wire[at:], kind))
+            if kind in ("cut", *RECORDS):
                 self.theirs.shutdown(socket.SHUT_RDWR)
+
+    def record_of(self, data: bytes, kind: str) -> bytes:
+        """The last record of an answer: a part of it, or all with another byte in its place."""
+        assert self.server.tls
+        self.server.tls.write(data)
+        record = bytearray(self.server._to_send.read())
+        place = self.numbers.randrange(len(record))
+        record[place] ^= 1 << self.numbers.randrange(8)
+        return bytes(record[:place] if kind == "torn" else record)
 
     def ask(self, kind: str) -> bool:
         """One statement. Returns whether the connection can be used on."""
         count(kind)
         sets, wire = self.answer_of(kind)
-        thread = threading.Thread(target=self.serve, args=(wire, kind == "cut"), daemon=True)
+        thread = threading.Thread(target=self.serve, args=(wire, kind), daemon=True)
         if not self.is_stale:
             thread.start()
         try:
@@ -109,10 +128,10 @@ class Walk:
         assert not thread.is_alive()
         self.is_stale = kind == "surplus"
         if ended == "ended":
-            assert KINDS[kind] is None and reading.handed == [row for rows in sets for row in rows], (kind, len(reading.handed))
+            assert self.kinds[kind] is None and reading.handed == [row for rows in sets for row in rows], (kind, len(reading.handed))
         elif ended == "failed":
             assert answer.is_whole == (kind in ("error", "cancelled") and not reading.is_interrupted)
-            wanted = KINDS[kind]
+            wanted = self.kinds[kind]
             assert reading.is_interrupted or wanted and isinstance(reading.failure, wanted), (kind, repr(reading.failure))
         return ended == "ended" or answer.is_whole
 
@@ -223,10 +242,21 @@ class Reading:
         assert len(errors) == 1, errors
 
 
+def encrypt(client: Channel, server: Channel, own: ssl.SSLContext, trusted: ssl.SSLContext) -> None:
+    """The handshake of both sides."""
+    thread = threading.Thread(target=server.encrypt, args=(own,), kwargs={"server_side": True}, daemon=True)
+    thread.start()
+    client.encrypt(trusted, server_hostname="localhost")
+    thread.join(30)
+
+
 def main() -> None:
     steps, numbers = int(sys.argv[1]), random.Random(7)
+    with tempfile.TemporaryDirectory() as folder:
+        certificate = certificate_in(folder)
+        own, trusted = context_of(certificate), connection.context_of(certificate, False)
     while sum(counts.values()) < steps:
-        Walk(numbers).run()
+        Walk(numbers, own, trusted).run()
     print(sum(counts.values()), counts)
 
 

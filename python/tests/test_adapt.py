@@ -17,7 +17,7 @@ import gavyreto
 from gavyreto import tds
 from gavyreto.adapting import Adapter, variant_text
 from gavyreto.payload import Ended, Payload, descriptions
-from tests.beside import PROGRAM, Live, answered, need, responses, started, wire
+from tests.beside import PROGRAM, Live, answered, need, responses, served, started, wire
 
 from plain import reader  # isort: skip  the tools are on the path after it
 
@@ -51,6 +51,19 @@ def refused_text() -> bytes:
     return "".join(line + "\r\n" for line in lines).encode()
 
 
+def shortest_real(data: bytes) -> str:
+    """The text of a real with the fewest digits that reads back to it."""
+    value, = struct.unpack("<f", data)
+    texts = (f"{value:.{digits}g}" for digits in range(1, 10))
+    return next(repr(float(text)) for text in texts if abs(float(text)) < 3.5e38 and struct.pack("<f", float(text)) == data)
+
+
+def payload_of(data: bytes) -> bytes:
+    """The payload of a response."""
+    payload = Payload(io.BytesIO(data).read)
+    return b"".join(iter(lambda: payload.need(len(payload.data) - payload.at) if payload.has(1) else b"", b""))
+
+
 class Adapted(unittest.TestCase):
     def test_what_is_not_refused_stays_byte_for_byte(self) -> None:
         """Packets and all, also empty ones."""
@@ -78,17 +91,17 @@ class Adapted(unittest.TestCase):
 
     def test_text_of_a_sql_variant_by_character_set(self) -> None:
         column = responses.Column("v", "62491F0000", responses.variant, responses.as_it_is, bytes)
-        data = answered(responses.description([column]), responses.row([column], [b"\xA7\x07" + responses.TEXT_PROPERTIES + "5 €".encode()]), tds.done())
+        data = answered(responses.description([column]), responses.row([column], [b"\xA7\x07" + responses.TEXT_PROPERTIES + "5 €".encode()]), served.done())
         self.assertEqual(exported(adapted(data, "utf-8")), (0, '"v"\r\n"5 €"\r\n'.encode()))
         every = responses.row([column], [b"\xA7\x07" + responses.TEXT_PROPERTIES + bytes(range(0x80, 0xA0))])
         narrow = responses.Column("v", "A72800", responses.long, responses.as_it_is, bytes)
-        own = answered(responses.description([narrow]), responses.row([narrow], [bytes(range(0x80, 0xA0))]), tds.done())
-        self.assertEqual(exported(adapted(answered(responses.description([column]), every, tds.done()))), exported(own))
+        own = answered(responses.description([narrow]), responses.row([narrow], [bytes(range(0x80, 0xA0))]), served.done())
+        self.assertEqual(exported(adapted(answered(responses.description([column]), every, served.done()))), exported(own))
 
     def test_other_sets_and_returned_values(self) -> None:
         """Sets before and after, a returned value of float, and what else a response has."""
         value = b"\xAC\x01\0\x02@\0x\0\x01" + bytes(6) + b"\x6D\x08\x08" + responses.double("0.5")
-        pieces = [*responses.sets(0)][:-1] + [tds.done(1), *responses.refused(0)][:-1] + [tds.done(1), value, *responses.order_rows(5), tds.done()]
+        pieces = [*responses.sets(0)][:-1] + [served.done(1), *responses.refused(0)][:-1] + [served.done(1), value, *responses.order_rows(5), served.done()]
         status, text = exported(adapted(b"".join(tds.packets(pieces, 600))))
         sets = exported(wire("sets"))[1]
         self.assertEqual((status, text), (0, sets + b"\r\n" + refused_text() + b"\r\n" + exported(wire("orders", 5))[1]))
@@ -100,9 +113,30 @@ class Adapted(unittest.TestCase):
             column = responses.Column("x", type_info, cell, responses.as_it_is, bytes)
             values = [it for it in (numbers.randbytes(size) for _ in range(3000)) if struct.unpack(form, it)[0] == struct.unpack(form, it)[0]]
             rows = b"".join(responses.row([column], [value]) for value in values)
-            status, text = exported(adapted(b"".join(tds.packets([responses.description([column]), rows, tds.done()], 4096))))
-            came = [float(line.strip('"')) for line in text.decode().split("\r\n")[1:-1]]
-            self.assertEqual((status, [struct.pack(form, it) for it in came]), (0, values))
+            status, text = exported(adapted(b"".join(tds.packets([responses.description([column]), rows, served.done()], 4096))))
+            came = [line.strip('"') for line in text.decode().split("\r\n")[1:-1]]
+            self.assertEqual((status, [struct.pack(form, float(it)) for it in came]), (0, values))
+            if size == 4:
+                self.assertEqual(came, [shortest_real(it) for it in values])
+
+    def test_rows_that_are_converted_at_once(self) -> None:
+        """They are as those that are cut by packets, which are converted one by one: beside columns of other kinds, with NULL, as ROW and NBCROW."""
+        kinds = [responses.Column("x", info, cell, responses.as_it_is, bytes) for info, cell in (
+            ("6D08", responses.short), ("6D04", responses.short), ("3E", responses.fixed), ("3B", responses.fixed), ("38", responses.fixed),
+            ("2604", responses.short), ("A72800", responses.long), ("E7FFFF", responses.chunked))]
+        sizes, numbers = [8, 4, 8, 4, 4, 4, 7, 300], random.Random(5)
+        for _ in range(60):
+            chosen = [numbers.randrange(8) for _ in range(numbers.randrange(1, 7))]
+            columns, share = [kinds[it] for it in chosen], numbers.choice((0.0, 0.02, 0.5))
+            rows = b""
+            for _ in range(numbers.choice((1, 40, 200))):
+                values = [struct.pack("<f" if it in (1, 3) else "<d", numbers.uniform(-1, 1) * 10 ** numbers.randrange(-39, 38)) if it < 4
+                          else numbers.randbytes(sizes[it]) for it in chosen]
+                cells: list[Any] = [None if numbers.random() < share and kinds[it].cell is not responses.fixed else value for it, value in zip(chosen, values)]
+                rows += (responses.row_with_bitmap if numbers.random() < share else responses.row)(columns, cells)
+            pieces = [responses.description(columns), rows, served.done()]
+            whole, cut = (adapted(b"".join(tds.packets(pieces, size))) for size in (32767, 40))
+            self.assertEqual(payload_of(whole), payload_of(cut))
 
     def test_responses_that_end_early(self) -> None:
         """What came before is written, so the program names the same place of the wire or the payload."""
@@ -123,7 +157,7 @@ class Adapted(unittest.TestCase):
             [responses.description([variant]), responses.row([variant], [b"\x29\x01\x00\xFF\xFF\xFF"])],
         ):
             with self.subTest(pieces=pieces), self.assertRaises(ValueError):
-                adapted(answered(*pieces, tds.done()))
+                adapted(answered(*pieces, served.done()))
 
 
     def test_values_of_a_sql_variant_that_none_has(self) -> None:
@@ -162,7 +196,7 @@ class Adapted(unittest.TestCase):
         cases += [(variant, struct.pack("<I", 3) + b"\x38\x07\0")]
         for column, cell in cases:
             with self.subTest(column=column.name, cell=cell[:8]), self.assertRaises(ValueError):
-                adapted(answered(responses.description([column]), b"\xD1" + cell, tds.done()))
+                adapted(answered(responses.description([column]), b"\xD1" + cell, served.done()))
 
     def test_a_later_packet_of_another_type(self) -> None:
         packets = list(tds.packets([*responses.refused_float(0)], 30))
@@ -265,7 +299,7 @@ class Commands(Live):
         self.assertTrue(came.stdout.startswith(b'CREATE TABLE "a""b1" (\n    "id" integer NOT NULL,\n    "note" text\n);\nCREATE TABLE'))
         cases: list[tuple[list[str], bytes, int]] = [
             (["--as", "sqlite", "--table", "t", "sets.tds"], b"", 2), (["nothere"], b"", 5), ([], b"", 4), ([], answered(b"\x99"), 4), (["--as", "x"], b"", 2),
-            (["--as", "sqlite"], answered(responses.description([responses.Column("", "38", responses.fixed, responses.whole(4), int)]), tds.done()), 2),
+            (["--as", "sqlite"], answered(responses.description([responses.Column("", "38", responses.fixed, responses.whole(4), int)]), served.done()), 2),
         ]
         for words, data, status in cases:
             came = self.run_command("columns", *words, data=data)
@@ -277,7 +311,7 @@ class Commands(Live):
         column = responses.Column("data", "22" + responses.LAST + responses.table("t"), responses.after_pointer, responses.as_it_is, bytes)
         with open(self.path("image.tds"), "wb") as file:
             head = responses.description([column]) + b"\xD1\x10" + responses.POINTER + struct.pack("<I", LONG)
-            for packet in tds.packets((head, *(responses.CHUNK for _ in range(LONG // 8000)), tds.done()), 4096):
+            for packet in tds.packets((head, *(responses.CHUNK for _ in range(LONG // 8000)), served.done()), 4096):
                 file.write(packet)
         command = f'/usr/bin/time -f %M -o peak {sys.executable} -m gavyreto adapt image.tds | "$PROGRAM" check'
         came = subprocess.run(["sh", "-c", command], cwd=self.folder, capture_output=True, check=False, **started(PROGRAM=PROGRAM))
@@ -285,6 +319,20 @@ class Commands(Live):
         self.assertLess(int(self.text("peak")), 25_000)
         print(f"adapt of a value of {LONG} bytes: a peak of {self.text('peak').decode().strip()} kilobytes")
         os.remove(self.path("image.tds"))
+
+    def test_a_long_description_in_little_memory(self) -> None:
+        """Names of tables are as long as a server makes them; of a column no more is kept than its values need."""
+        need(self, "time")
+        column = responses.Column("x", "22" + responses.LAST + responses.table("t" * 3000), responses.after_pointer, responses.as_it_is, bytes)
+        with open(self.path("long.tds"), "wb") as file:
+            file.writelines(tds.packets([responses.description([column] * 10_000), served.done()], 4096))
+        self.assertGreater(os.path.getsize(self.path("long.tds")), 60_000_000)
+        command = f'/usr/bin/time -f %M -o peak {sys.executable} -m gavyreto adapt -o adapted.tds long.tds && "$PROGRAM" check adapted.tds'
+        came = subprocess.run(["sh", "-c", command], cwd=self.folder, capture_output=True, check=False, **started(PROGRAM=PROGRAM))
+        self.assertEqual((came.returncode, came.stderr.decode()[:14]), (0, "sets 1 rows 0 "))
+        self.assertLess(int(self.text("peak")), 40_000)
+        os.remove(self.path("long.tds"))
+        os.remove(self.path("adapted.tds"))
 
     def test_what_tsql_prints(self) -> None:
         """FreeTDS reads the refused columns themselves: each number has the same bits, each text is the same."""

@@ -15,16 +15,16 @@ import gavyreto
 from gavyreto import tds
 from gavyreto.connection import Channel
 from gavyreto.tds import Encryption, PacketType
-from tests.beside import ORDERS, PROGRAM, SECONDS, Live, answered, ask_port, command_for, context_of, listening, log_in, responses, started, wire
+from tests.beside import ORDERS, PROGRAM, SECONDS, Live, answered, ask_port, command_for, context_of, listening, log_in, responses, served, serving, started, wire
 
 UNASKED = "the server sent bytes that weren't asked for"
 REPORT = f"sets 1 rows 3 errors 0 infos 0 written {len(ORDERS)}"
-ORDERED, LOGGED_IN = wire("orders"), tds.packet(PacketType.ANSWER, tds.login_ack("Test") + tds.done())
+ORDERED, LOGGED_IN = wire("orders"), tds.packet(PacketType.ANSWER, served.login_ack("Test") + served.done())
 
 
 def rows_that_end(status: int, token: int = tds.Token.DONE) -> bytes:
     """An answer with the rows of orders, whose last DONE has this token and this status."""
-    return answered(*list(responses.order_rows(0)), bytes([token]) + tds.done(status)[1:])
+    return answered(*list(responses.order_rows(0)), bytes([token]) + served.done(status)[1:])
 
 
 class Forger(Channel):
@@ -70,7 +70,7 @@ class BeforeEncryption(Live):
             asked.set()
 
         with contextlib.suppress(ConnectionError), listening(serve) as second:
-            routed = tds.packet(PacketType.ANSWER, tds.login_ack("Test") + tds.routing("127.0.0.1", second) + tds.done())
+            routed = tds.packet(PacketType.ANSWER, served.login_ack("Test") + served.routing("127.0.0.1", second) + served.done())
             self.assert_ends(self.asked(routed), 4, b"", UNASKED)
             self.assertFalse(asked.is_set())
             socket.create_connection(("127.0.0.1", second)).close()  # so that the server ends
@@ -120,7 +120,7 @@ class BeforeStatements(Live):
             channel.read_message()
             channel.write_message(PacketType.ANSWER, tds.prelogin(Encryption.NOT_SUPPORTED))
             channel.read_message()
-            channel.write_message(PacketType.ANSWER, tds.login_ack("Test") + tds.done() + b"".join(responses.order_rows(0)))
+            channel.write_message(PacketType.ANSWER, served.login_ack("Test") + served.done() + b"".join(responses.order_rows(0)))
 
         with listening(serve) as port:
             self.assert_ends(ask_port(port), 4, b"", "what came isn't the answer of a server of TDS 7.4 to a login")
@@ -158,28 +158,16 @@ class Ends(Live):
 
     CASES = ((0x0020, tds.Token.DONE, "cancelled"), (0x0002, tds.Token.DONE, "failure"), (0x0100, tds.Token.DONE, "failure"), (0x0112, tds.Token.DONE_PROC, "failure"))
 
-    def served(self, *answers: bytes) -> contextlib.AbstractContextManager[int]:
-        def serve(channel: Channel) -> None:
-            log_in(channel)
-            for answer in answers:
-                channel.read_message()
-                channel.write(answer)
-            channel.wait()
-            while channel.receive():
-                pass
-
-        return listening(serve)
-
     def test_query(self) -> None:
         for status, token, word in self.CASES:
             for answer in (rows_that_end(status, token), b"".join(tds.packets([rows_that_end(status, token)[tds.HEADER:]], 20))):
-                with self.subTest(status=status), self.served(answer) as port:
+                with self.subTest(status=status), serving(answer) as port:
                     came = ask_port(port, "SELECT 1", "SELECT 2")
                     self.assertEqual((came.returncode, came.stdout), (3, ORDERS))
                     self.assertRegex(came.stderr.decode(), f"^{REPORT}\nthe answer isn't whole: [^\n]*{word}[^\n]* 0x{status:04x}[^\n]*\n$")
 
     def test_an_error_is_told_once(self) -> None:
-        with self.served(answered(*list(responses.order_rows(0)), tds.server_error(1, "no", 1), tds.done(tds.FAILED))) as port:
+        with serving(answered(*list(responses.order_rows(0)), served.server_error(1, "no", 1), served.done(tds.FAILED))) as port:
             came = ask_port(port, "SELECT 1")
             self.assertEqual((came.returncode, came.stdout), (3, ORDERS))
             self.assertEqual(came.stderr.decode().splitlines()[1:], ["server error 1, state 1, class 16, line 1: no"])
@@ -195,7 +183,7 @@ class Ends(Live):
                     with self.subTest(status=status, source=source), self.assertRaises(gavyreto.UnfinishedAnswer) as raised:
                         list(gavyreto.export(source, program=PROGRAM).only())
                     self.assertEqual((raised.exception.rows, raised.exception.report and raised.exception.report.rows), (3, 3))
-            with self.served(data) as port, self.assertRaises(gavyreto.UnfinishedAnswer):
+            with serving(data) as port, self.assertRaises(gavyreto.UnfinishedAnswer):
                 list(gavyreto.query("x", "127.0.0.1", user="u", password="p", port=port, encrypt="none", program=PROGRAM).only())
 
 

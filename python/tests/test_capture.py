@@ -20,7 +20,7 @@ from unittest import mock
 from gavyreto import tds
 from gavyreto.commands.capture import Terminated, ending_by_signal
 from tests.beside import (
-    PROGRAM, ROOT, Live, answered, assert_signalled, is_waiting, lines_of, need, running_in, skip, started, stepped, wait_for, wire,
+    PROGRAM, ROOT, Live, answered, assert_signalled, is_waiting, lines_of, need, running_in, served, skip, started, stepped, wait_for, wire,
 )
 
 sys.path[:0] = [os.path.join(ROOT, "tools")]
@@ -268,7 +268,7 @@ class Captures(unittest.TestCase):
             made = captures.Capture()
             made.open()
             made.send(captures.CLIENT, tds.packet(1, tds.statement("SELECT 1")))
-            made.send(captures.SERVER, answered(tds.done(bit)))
+            made.send(captures.SERVER, answered(served.done(bit)))
             came, table = self.captured(made.frames)
             wanted = f"sets 0 rows 0 errors 0 infos 0 written 0, the answer isn't whole: {said.format(bit)}"
             with self.subTest(bit):

@@ -48,7 +48,7 @@ class Desk:
 
     def answer(self, _: Sides, answer: Answer) -> None:
         assert isinstance(answer.kept, Kept)
-        if answer.why or not answer.packets.is_over:
+        if answer.why or not answer.packets.is_whole:
             self.told.append(answer.why)
         else:
             self.answers.append(answer.kept.data)

@@ -62,17 +62,20 @@ class Time(unittest.TestCase):
 
 
 class Memory(unittest.TestCase):
-    def peak(self, frames: Iterable[bytes]) -> int:
-        """The greatest memory that a capture takes, but for the lines of the table."""
-        desk = Desk()
+    def peaks(self, frames: list[bytes]) -> list[int]:
+        """The greatest memory that each half of a capture takes, but for the lines of the table."""
+        desk, found, half = Desk(), list[int](), len(frames) // 2
         connections = Connections({1433}, desk, Accounts())
         tracemalloc.start()
         try:
-            for frame in frames:
-                connections.take(Frame(1, RAW, frame, len(frame)))
-                desk.told.clear()
-                desk.answers.clear()
-            return tracemalloc.get_traced_memory()[1]
+            for part in (frames[:half], frames[half:]):
+                tracemalloc.reset_peak()
+                for frame in part:
+                    connections.take(Frame(1, RAW, frame, len(frame)))
+                    desk.told.clear()
+                    desk.answers.clear()
+                found.append(tracemalloc.get_traced_memory()[1])
+            return found
         finally:
             tracemalloc.stop()
 
@@ -96,11 +99,13 @@ class Memory(unittest.TestCase):
         """With encrypted exchanges, and with those of a client's side alone."""
         for is_client_alone in (False, True):
             with self.subTest(is_client_alone=is_client_alone):
-                self.assertLess(self.peak(self.encrypted(3000, is_client_alone)), self.peak(self.encrypted(1500, is_client_alone)) + 20000)
+                first, second = self.peaks(list(self.encrypted(3000, is_client_alone)))
+                self.assertLess(second, first + 20000)
 
     def test_connections_that_rest(self) -> None:
         """Those that are followed take a few kilobytes each; others about one."""
-        self.assertLess(self.peak(self.resting(3000)) - self.peak(self.resting(1500)), 3 << 20)
+        first, second = self.peaks(list(self.resting(2400)))
+        self.assertLess(second - first, 1200 * 2000)
 
 
 if __name__ == "__main__":

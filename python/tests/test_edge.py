@@ -16,9 +16,9 @@ from gavyreto import tds
 from gavyreto.commands.query import arguments, server
 from gavyreto.connection import Channel
 from gavyreto.tds import PacketType
-from tests.beside import ORDERS, SECONDS, Live, answered, ask_port, command_for, context_of, listening, log_in, log_in_encrypted, responses, started
+from tests.beside import ORDERS, SECONDS, Live, answered, ask_port, command_for, listening, log_in, responses, saying_goodbye, served, started
 
-ORDERED = answered(*responses.order_rows(0), tds.done())
+ORDERED = answered(*responses.order_rows(0), served.done())
 REPORT = f"sets 1 rows 3 errors 0 infos 0 written {len(ORDERS)}"
 CLOSED = "the server closed the connection"
 NOTHING = "fault 2 InputEnded at wire 0, written 0, unwritten 0"
@@ -159,26 +159,13 @@ class Endings(Live):
             self.assert_ends(self.served(answer), 4, ORDERS, REPORT, "the server sent bytes that weren't asked for")
 
     def test_the_end_of_tls_behind_an_answer(self) -> None:
-        context = context_of(self.server(()).variables["CERTIFICATE"])
-
-        def serve(channel: Channel) -> None:
-            log_in_encrypted(channel, context)
-            channel.read_message()
-            channel.write(ORDERED)
-            assert channel.tls
-            try:
-                channel.tls.unwrap()
-            except OSError:
-                pass  # the client's end isn't waited for
-            channel.socket.sendall(channel._to_send.read())
-
-        with listening(serve) as port:
+        with saying_goodbye(self, ORDERED) as port:
             came = ask_port(port, "--encrypt", "all", "-C", "SELECT 1")
         self.assert_ends(came, 0, ORDERS, REPORT)
 
     def test_an_error_while_a_statement_is_sent(self) -> None:
         """The server refuses a long statement before all of it has come."""
-        refused = answered(tds.server_error(8180, "too long", 1), tds.done(tds.FAILED))
+        refused = answered(served.server_error(8180, "too long", 1), served.done(tds.FAILED))
 
         def serve(channel: Channel) -> None:
             log_in(channel)
@@ -217,7 +204,7 @@ class Endings(Live):
             channel.read_message()
             message = "é\u061c\ufff9" + "東" * 200
             body = struct.pack("<iBBH", 18456, 1, 14, len(message)) + message.encode("utf-16-le") + bytes(6)
-            channel.write_message(PacketType.ANSWER, tds.counted_body(tds.Token.ERROR, body) + tds.done())
+            channel.write_message(PacketType.ANSWER, served.counted_body(tds.Token.ERROR, body) + served.done())
 
         with listening(serve) as port:
             came = ask_port(port)
@@ -269,7 +256,7 @@ class Endings(Live):
             while is_silent and channel.receive():
                 pass
             while not is_silent:
-                channel.write(tds.packet(PacketType.ANSWER, tds.counted_body(tds.Token.ORDER, bytes(2)), False))
+                channel.write(tds.packet(PacketType.ANSWER, served.counted_body(tds.Token.ORDER, bytes(2)), False))
                 time.sleep(0.02)
 
         with listening(serve) as port:

@@ -15,7 +15,7 @@ import unittest
 from collections.abc import Callable, Iterator
 
 from gavyreto import tds
-from tests.beside import PROGRAM, ROOT, SECONDS, answered, is_waiting, need, responses, running_in, skip, started, wait_for, wire
+from tests.beside import PROGRAM, ROOT, SECONDS, answered, is_waiting, need, responses, running_in, served, skip, started, wait_for, wire
 
 sys.path[:0] = [os.path.join(ROOT, "tools")]
 from lib import requirements  # noqa: E402
@@ -381,7 +381,7 @@ class Here(Many):
             self.assertEqual(texts, {b"000.csv", b"outcomes.csv", *(name + b".csv" for name in names[:4])})
 
     def test_a_response_that_the_server_ended_unfinished(self) -> None:
-        self.store(0, cancelled=answered(*list(responses.order_rows(0)), tds.done(tds.CANCELLED)))
+        self.store(0, cancelled=answered(*list(responses.order_rows(0)), served.done(tds.CANCELLED)))
         self.assertEqual(self.many("--program", PROGRAM, "in", "out"), (3, "1 responses: 0 done, 1 with an error of the server, 0 refused, 0 failed"))
         self.assertEqual(self.table(), [("cancelled", 3, "the answer isn't whole: it was cancelled, DONE 0x0020")])
 
@@ -403,7 +403,7 @@ class Here(Many):
         self.assert_texts([])
 
     def test_a_full_disk_for_the_table(self) -> None:
-        self.store(0, **{f"{number:03}": tds.packet(4, tds.done()) for number in range(40)})
+        self.store(0, **{f"{number:03}": tds.packet(4, served.done()) for number in range(40)})
         command = f"ulimit -f 8; trap '' XFSZ; exec {sys.executable} -m gavyreto many -j 1 --program {PROGRAM} in out"
         came = subprocess.run(["sh", "-c", command], cwd=self.folder, capture_output=True, check=False, **started())
         self.assertEqual((came.returncode, came.stdout, came.stderr.decode()), (5, b"", f"{self.path('out', 'outcomes.csv')}: File too large\n"))

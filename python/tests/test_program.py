@@ -14,10 +14,10 @@ from unittest import mock
 from gavyreto import program, tds
 from gavyreto.errors import Fault, Report, ServerError
 from gavyreto.program import BAD_INPUT, DONE, SERVER_ERROR, Ending, Output, OutputFailed, Program, command_of
-from tests.beside import ORDERS, PROGRAM, SECONDS, answered, responses, wait_for, wire
+from tests.beside import ORDERS, PROGRAM, SECONDS, answered, responses, served, wait_for, wire
 
-ORDERED = answered(*responses.order_rows(0), tds.done())
-WITHOUT = answered(tds.done())
+ORDERED = answered(*responses.order_rows(0), served.done())
+WITHOUT = answered(served.done())
 LONG = 20_000_000  # bytes of a value
 
 

@@ -25,8 +25,8 @@ from gavyreto import tds
 from gavyreto.connection import Channel, Session
 from gavyreto.tds import PacketType
 from tests.beside import (
-    ORDERS, PROGRAM, SECONDS, Live, StandIn, ask_port, assert_signalled, command_for, context_of, has_ended, is_waiting, lines_of, listening, log_in,
-    log_in_encrypted, need, responses, started, stepped, wait_for, wire,
+    ORDERS, PROGRAM, SECONDS, Live, StandIn, ask_port, assert_signalled, command_for, context_of, has_ended, is_waiting, lines_of,
+    listening, log_in, log_in_encrypted, need, responses, served, started, stepped, wait_for, wire,
 )
 
 LONG = 200_000_000
@@ -310,7 +310,7 @@ class Silence(Live):
             else:
                 log_in_encrypted(channel, context)
             channel.read_message()
-            channel.write_message(PacketType.ANSWER, b"".join(responses.order_rows(0)) + tds.done())
+            channel.write_message(PacketType.ANSWER, b"".join(responses.order_rows(0)) + served.done())
             channel.read_message()
             channel.wait()
             while channel.receive():
@@ -365,18 +365,18 @@ class Silence(Live):
         """A greeting and a login answered with bytes of any kind end with one line."""
         greeting, login = ("what came isn't the answer of a server of TDS 7.4 to a " + it for it in ("greeting", "login"))
         plain = tds.packet(4, bytes.fromhex("01 0006 0001 FF 02"))
-        acknowledged = tds.login_ack("Test")
+        acknowledged = served.login_ack("Test")
         for answers, line in (
             ([tds.packet(1, b"")], greeting), ([tds.packet(4, bytes.fromhex("01 0006 0001 FF 07"))], greeting), ([tds.packet(4, b"\xFF")], greeting),
             ([b"HTTP/1.1 400 Bad Request\r\n\r\n" * 60000], "a message that is too long came"),
             ([tds.packet(4, bytes(60000))[:-1]], "the server closed the connection"),
-            ([plain, tds.packet(1, b"")], login), ([plain, tds.packet(4, b"")], login), ([plain, tds.packet(4, tds.done())], login),
+            ([plain, tds.packet(1, b"")], login), ([plain, tds.packet(4, b"")], login), ([plain, tds.packet(4, served.done())], login),
             ([plain, tds.packet(4, b"\xAA\x01\x00x")], login), ([plain, tds.packet(4, b"\xE3\x00\x00")], login),
             ([plain, tds.packet(4, b"\xE3\x03\x00\x04\x01x")], login), ([plain, tds.packet(4, b"\xAD\x00\x00")], login),
-            ([plain, tds.packet(4, b"\xE3\x04\x00\x04\x019\x00" + acknowledged + tds.done())], login),
-            ([plain, tds.packet(4, acknowledged.replace(tds.VERSION, bytes.fromhex("730B0003")) + tds.done())], "the server speaks TDS 7.3, and TDS 7.4 is spoken here"),
-            ([plain, tds.packet(4, acknowledged.replace(tds.VERSION, bytes.fromhex("75000001")) + tds.done())], login),
-            ([plain, tds.packet(4, b"\xFF" * 20)], login), ([plain, tds.packet(1, acknowledged + tds.done())], login),
+            ([plain, tds.packet(4, b"\xE3\x04\x00\x04\x019\x00" + acknowledged + served.done())], login),
+            ([plain, tds.packet(4, acknowledged.replace(tds.VERSION, bytes.fromhex("730B0003")) + served.done())], "the server speaks TDS 7.3, and TDS 7.4 is spoken here"),
+            ([plain, tds.packet(4, acknowledged.replace(tds.VERSION, bytes.fromhex("75000001")) + served.done())], login),
+            ([plain, tds.packet(4, b"\xFF" * 20)], login), ([plain, tds.packet(1, acknowledged + served.done())], login),
         ):
             def serve(channel: Channel, answers: list[bytes] = answers) -> None:
                 for answer in answers:
@@ -509,10 +509,10 @@ class Signals(Live):
             channel.read_message()
             channel.write(HELD)
             self.assertEqual(channel.read_message(), (PacketType.ATTENTION, b""))
-            channel.write(tds.packet(PacketType.ANSWER, tds.done(tds.FAILED)))
+            channel.write(tds.packet(PacketType.ANSWER, served.done(tds.FAILED)))
             time.sleep(0.5)  # in which who doesn't wait would end
             ended.append(time.monotonic())
-            channel.write(tds.packet(PacketType.ANSWER, tds.done(tds.CANCELLED)))
+            channel.write(tds.packet(PacketType.ANSWER, served.done(tds.CANCELLED)))
 
         with listening(serve) as port:
             run = self.begin(port)
@@ -573,7 +573,7 @@ class Signals(Live):
             log_in(channel)
             while True:
                 kinds.append(channel.read_message()[0])
-                channel.write(wire("kinds") if kinds[-1] == PacketType.STATEMENT else tds.packet(PacketType.ANSWER, tds.done(tds.CANCELLED)))
+                channel.write(wire("kinds") if kinds[-1] == PacketType.STATEMENT else tds.packet(PacketType.ANSWER, served.done(tds.CANCELLED)))
 
         with listening(serve) as port:
             came = stepped(signal.SIGINT, at, command_for(port, "SELECT 1", "SELECT 2")[3:], *others)

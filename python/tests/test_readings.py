@@ -11,35 +11,18 @@ import time
 import traceback
 import unittest
 from collections.abc import Callable
-from contextlib import AbstractContextManager
 from itertools import islice
 from typing import Any, cast
+from unittest import mock
 
 import gavyreto
 from gavyreto import tds
 from gavyreto.connection import Channel
 from gavyreto.text import Sets
-from tests.beside import PROGRAM, SECONDS, Live, answered, context_of, listening, log_in, log_in_encrypted, responses, wire
+from tests.beside import PROGRAM, SECONDS, Live, answered, context_of, listening, log_in, log_in_encrypted, responses, saying_goodbye, served, serving, wire
 
-ORDERED = answered(*responses.order_rows(0), tds.done())
+ORDERED = answered(*responses.order_rows(0), served.done())
 UNASKED = "the server sent bytes that weren't asked for"
-
-
-def serving(*answers: bytes, behind: bytes = b"", pause: float = 0.0) -> AbstractContextManager[int]:
-    """A server that gives one answer after the other, and other bytes behind the last one, and ends with the client."""
-    def serve(channel: Channel) -> None:
-        log_in(channel)
-        for place, answer in enumerate(answers, 1):
-            channel.read_message()
-            channel.write(answer + (behind if place == len(answers) and not pause else b""))
-        if pause:
-            time.sleep(pause)
-            channel.write(behind)
-        channel.wait()
-        while channel.receive():
-            pass
-
-    return listening(serve)
 
 
 def connected(port: int, **options: Any) -> gavyreto.Connection:
@@ -222,18 +205,7 @@ class Connections(Live):
 
     def test_a_server_that_says_goodbye(self) -> None:
         """The end of TLS right behind a whole answer is no fault."""
-        context = context_of(self.server(()).variables["CERTIFICATE"])
-
-        def serve(channel: Channel) -> None:
-            log_in_encrypted(channel, context)
-            channel.read_message()
-            channel.write(ORDERED)
-            assert channel.tls
-            with contextlib.suppress(Exception):
-                channel.tls.unwrap()
-            channel.socket.sendall(channel._to_send.read())
-
-        with listening(serve) as port, connected(port, encrypt="all", trust_server=True) as connection:
+        with saying_goodbye(self, ORDERED) as port, connected(port, encrypt="all", trust_server=True) as connection:
             self.assertEqual(len(connection.query("x", program=PROGRAM).only().fetchall()), 3)
 
     def test_two_threads_on_one_connection(self) -> None:
@@ -241,9 +213,9 @@ class Connections(Live):
         def serve(channel: Channel) -> None:
             log_in(channel)
             while True:
-                number = int(tds.statement_of(channel.read_message()[1]))
+                number = int(served.statement_of(channel.read_message()[1]))
                 column = [responses.Column("n", "38", responses.fixed, responses.whole(4), int)]
-                channel.write(answered(responses.description(column), responses.row(column, [str(number)]) * 3, tds.done()))
+                channel.write(answered(responses.description(column), responses.row(column, [str(number)]) * 3, served.done()))
 
         wrong: list[Any] = []
         done: list[int] = []
@@ -265,8 +237,8 @@ class Connections(Live):
         self.assertGreater(len(done), 30)
 
     def test_descriptions_of_sets_that_are_left_are_not_kept(self) -> None:
-        one = b"\x81\x01\0" + bytes(4) + b"\x08\0\x38\x01a\0" + tds.done(tds.MORE)
-        sets = b"".join(tds.packets([one] * 2000 + [tds.done()], 4096))
+        one = b"\x81\x01\0" + bytes(4) + b"\x08\0\x38\x01a\0" + served.done(tds.MORE)
+        sets = b"".join(tds.packets([one] * 2000 + [served.done()], 4096))
         with serving(sets) as port, connected(port) as connection, connection.query("x", program=PROGRAM) as answer:
             first = next(answer)
             kept = sum(1 for _ in answer)
@@ -286,6 +258,19 @@ class Connections(Live):
     def test_a_second_that_is_less_than_one(self) -> None:
         with serving() as port, connected(port, seconds=0.5) as connection, self.assertRaisesRegex(gavyreto.TimedOut, "silent for longer than 0.5 seconds"):
             list(connection.query("x", program=PROGRAM))
+
+    def test_a_name_that_is_looked_up_without_end(self) -> None:
+        """The deadline of a login is that of the look-up too, which is left where it is."""
+        ended, look_up = threading.Event(), socket.getaddrinfo
+
+        def slow(*asked: Any) -> Any:
+            return look_up(*asked) if any(asked[5:]) else ended.wait(SECONDS)
+
+        began = time.monotonic()
+        with mock.patch("socket.getaddrinfo", slow), self.assertRaisesRegex(gavyreto.TimedOut, "the login wasn't done within 0.5 seconds"):
+            gavyreto.connect("slow.example", user="u", password="p", login_seconds=0.5)
+        self.assertLess(time.monotonic() - began, SECONDS / 10)
+        ended.set()
 
     def test_kinds_of_errors(self) -> None:
         for kind in (gavyreto.TimedOut, gavyreto.CertificateRefused, gavyreto.EncryptionRefused):
@@ -314,7 +299,7 @@ class DatabaseApi(Live):
     """PEP 249."""
 
     def test_a_cursor(self) -> None:
-        answers = [wire("sets"), answered(tds.done()), wire("broken", 2)]
+        answers = [wire("sets"), answered(served.done()), wire("broken", 2)]
         with serving(*answers) as port, connected(port) as connection:
             connection.query.__func__.__kwdefaults__["program"] = PROGRAM  # type: ignore[attr-defined]
             self.addCleanup(connection.query.__func__.__kwdefaults__.update, program="tds_replay")  # type: ignore[attr-defined]

@@ -17,9 +17,8 @@ from decimal import Decimal
 from typing import Any
 
 import gavyreto
-from gavyreto import tds
 from gavyreto.program import report_of
-from tests.beside import PROGRAM, answered, is_waiting, responses, wait_for, wire
+from tests.beside import PROGRAM, answered, is_waiting, responses, served, wait_for, wire
 
 
 def export(source: Any, **options: Any) -> gavyreto.Response:
@@ -62,7 +61,7 @@ class SetsAndRows(unittest.TestCase):
                 list(sets[0])
 
     def test_a_response_without_sets(self) -> None:
-        came = export(answered(tds.done()))
+        came = export(answered(served.done()))
         self.assertEqual((list(came), came.report), ([], gavyreto.Report(0, 0, 0, 0, 0)))
 
     def test_reading_may_be_left_in_the_middle(self) -> None:
@@ -165,7 +164,7 @@ class Columns(unittest.TestCase):
             self.assertEqual([[row.id for row in some] for some in (rows.fetchmany(), rows.fetchmany(1), rows.fetchall(), rows.fetchmany(3))], [[3, 1], [2], [3, 1], []])
             self.assertIsNone(rows.fetchone())
         column = [responses.Column(name, "38", responses.fixed, responses.whole(4), int) for name in ("count", "a b", "twice", "twice", "", "__len__", "class")]
-        with export(answered(responses.description(column), responses.row(column, [str(number) for number in range(7)]), tds.done())) as came:
+        with export(answered(responses.description(column), responses.row(column, [str(number) for number in range(7)]), served.done())) as came:
             row = next(came.only())
             self.assertEqual((row.count, getattr(row, "a b"), getattr(row, "class"), len(row), tuple(row)), (0, 1, 6, 7, tuple(range(7))))
             self.assertFalse(hasattr(row, "twice"))
@@ -359,7 +358,7 @@ class Notes(unittest.TestCase):
     def test_a_message_that_looks_like_a_line(self) -> None:
         for message in self.messages():
             with self.subTest(message=message):
-                data = answered(b"\x79" + bytes([7, 0, 0, 0]), tds.server_error(1, message, 1), tds.done())
+                data = answered(b"\x79" + bytes([7, 0, 0, 0]), served.server_error(1, message, 1), served.done())
                 with self.assertRaises(gavyreto.ServerError) as stop:
                     all_of(export(data))
                 self.assertEqual(stop.exception.message, message.replace("\n", " "))

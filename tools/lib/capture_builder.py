@@ -2,12 +2,12 @@
 import struct
 from typing import BinaryIO
 
-from lib import repository  # noqa: F401  after it the Python package is on the path
+from lib import served
 from gavyreto import tds
 
 CLIENT, SERVER = (bytes([192, 0, 2, 10]), 50123), (bytes([192, 0, 2, 20]), 1433)
 SEGMENT = 1460
-SYN, PUSH, ACK = 2, 8, 16
+SYN, FIN, PUSH, ACK = 2, 1, 8, 16
 Side = tuple[bytes, int]  # address and port
 
 
@@ -23,7 +23,7 @@ def tls_record(kind: int, length: int) -> bytes:
 
 def login_answer() -> bytes:
     """The answer to a login."""
-    return tds.packet(tds.PacketType.ANSWER, tds.login_ack("Server") + tds.done())
+    return tds.packet(tds.PacketType.ANSWER, served.login_ack("Server") + served.done())
 
 
 def sum_of(data: bytes) -> int:
@@ -38,13 +38,13 @@ def sum_of(data: bytes) -> int:
 class Capture:
     """The frames of a connection; `sent` is how many bytes each side has sent."""
 
-    def __init__(self, client: Side = CLIENT) -> None:
+    def __init__(self, client: Side = CLIENT, server: Side = SERVER) -> None:
         self.frames: list[bytes] = []
-        self.client, self.sent = client, {client: 1000, SERVER: 9000}
+        self.client, self.server, self.sent = client, server, {client: 1000, server: 9000}
 
     def frame(self, source: Side, flags: int, start: int, data: bytes = b"") -> None:
         """Adds a frame of a side, with flags of TCP and data."""
-        target = SERVER if source is self.client else self.client
+        target = self.server if source is self.client else self.client
         answered = self.sent[target] if flags & ACK else 0
         tcp = struct.pack(">HHIIBBHHH", source[1], target[1], start, answered, 5 << 4, flags, 64000, 0, 0) + data
         ends = source[0] + target[0]
@@ -55,7 +55,7 @@ class Capture:
 
     def open(self) -> None:
         """Adds the three frames that open a connection."""
-        for source, flags in (self.client, SYN), (SERVER, SYN | ACK), (self.client, ACK):
+        for source, flags in (self.client, SYN), (self.server, SYN | ACK), (self.client, ACK):
             self.frame(source, flags, self.sent[source])
             self.sent[source] += flags & SYN != 0
 

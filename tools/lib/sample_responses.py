@@ -6,8 +6,8 @@ from decimal import Decimal
 from typing import Any, Optional, Union
 from uuid import UUID
 
-from lib import repository  # noqa: F401  after it the Python package is on the path
-from gavyreto.tds import FAILED, MORE, done, server_error
+from lib.served import done, server_error
+from gavyreto.tds import FAILED, MORE
 
 Written = Union[None, str, bytes]  # a value as SQL writes it, as it is on the wire, or NULL
 

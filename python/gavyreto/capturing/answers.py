@@ -192,7 +192,7 @@ class Answers:
             self._end()
             self._lost = Lost(piece.time, passed=tds.HEADER)
             self._accounts.told += tds.HEADER
-        elif answer.packets.is_over:
+        elif answer.packets.is_whole:
             self._end()
         return used
 
@@ -201,9 +201,9 @@ class Answers:
         answer, self._answer = self._answer, None
         assert answer
         kind = answer.request.kind if answer.request else self._kind_of(answer)
-        if not answer.packets.is_over and not answer.why:
+        if not answer.packets.is_whole and not answer.why:
             answer.why = "the connection ends within it"
-        if kind in (Asked.GREETING, Asked.LOGIN) and answer.packets.is_over and not answer.why:
+        if kind in (Asked.GREETING, Asked.LOGIN) and answer.packets.is_whole and not answer.why:
             self._end_login(answer, kind)
         elif kind is Asked.ATTENTION and answer.length == tds.HEADER + tds.DONE_LENGTH and tds.is_cancelled(answer.packets.tail):
             self._accounts.in_acknowledgements += answer.length
@@ -230,7 +230,7 @@ class Answers:
         if self._channel is not None and channel is not None and channel != self._channel:
             self._desk.tell(self._sides, answer.time, f"the SPID of the answer that follows is {channel}, and was {self._channel}")
         self._channel = self._channel if channel is None else channel
-        if answer.packets.is_over and tds.is_cancelled(answer.packets.tail):
+        if answer.packets.is_whole and tds.is_cancelled(answer.packets.tail):
             self.pending.acknowledge()
         self._accounts.answers += 1
         self._accounts.in_answers += answer.length

@@ -13,63 +13,21 @@ from gavyreto.capturing.conversations import Conversation
 from gavyreto.capturing.desk import Desk, Sides
 from gavyreto.capturing.endings import Ended, Endings, Revisit
 from gavyreto.capturing.files import Frame
-from gavyreto.capturing.frames import segment_of
-from gavyreto.capturing.internet import ACK, FIN, RESET, SYN, Foreign, Other, Segment, Unread, address_of, port_of
+from gavyreto.capturing.frames import ETHERNET, segment_of
+from gavyreto.capturing.internet import ACK, FIN, RESET, SYN, Foreign, Other, Segment, Unread, address_of, is_elsewhere, port_of
 from gavyreto.capturing.memory import Memory
 from gavyreto.capturing.messages import is_header, is_record
-from gavyreto.capturing.streams import HALF, SPACE
+from gavyreto.capturing.runs import Run, is_plain
+from gavyreto.capturing.streams import SPACE
 from gavyreto.tds import PacketType
 
 MOST_RESTING = 1024  # connections that are followed at once, some of which may rest; one that rests goes on by its numbers
 MOST_OPEN = 8192  # of all
 MOST_OF_A_KEY = 8  # of the same addresses and ports
 MOST_REVISITED = 256  # that come again
-MOST_OF_A_RUN = 1 << 16  # bytes of segments that are taken as one
 MOST_PORTS = 64  # of other servers that are named
 WRONG_CHECKSUM = "a wrong checksum of TCP"
 GIVEN_UP = f"more than {MOST_OPEN} connections are open: this one, which was silent for longest, is given up"
-
-
-class Run:
-    """Segments of one side that follow each other in the capture, and that are taken as one; between them the other side only
-    acknowledges some, of which the farthest is kept."""
-
-    def __init__(self, segment: Segment, is_client: bool, time: int) -> None:
-        self.first, self.is_client, self.time = segment, is_client, time
-        self.size = len(segment.data)
-        self.acknowledgement: Optional[Segment] = None
-        self._pieces = [segment.data]
-
-    def add(self, segment: Segment) -> bool:
-        """Adds the next segment, if it is the next, or only acknowledges."""
-        first = self.first
-        if not segment.data:
-            return self._add_acknowledgement(segment)
-        goes_on = (
-            segment.sequence == (first.sequence + self.size) % (1 << 32) and segment.source == first.source and segment.target == first.target
-            and segment.acknowledged == first.acknowledged and segment.tags == first.tags and self.size < MOST_OF_A_RUN and is_plain(segment))
-        if goes_on:
-            self._pieces.append(segment.data)
-            self.size += len(segment.data)
-        return goes_on
-
-    def _add_acknowledgement(self, segment: Segment) -> bool:
-        first, before = self.first, self.acknowledgement
-        goes_on = (
-            segment.flags == ACK and segment.source == first.target and segment.target == first.source and segment.tags == first.tags
-            and not segment.cut and not segment.is_wrong and (before is None or before.sequence == segment.sequence))
-        if goes_on and (before is None or (segment.acknowledged - before.acknowledged) % SPACE < HALF):
-            self.acknowledgement = segment
-        return goes_on
-
-    def segment(self) -> Segment:
-        """All of them as one."""
-        return self.first._replace(data=b"".join(self._pieces)) if len(self._pieces) > 1 else self.first
-
-
-def is_plain(segment: Segment) -> bool:
-    """Whether a segment has only data, of more than one byte, all of which was captured and is sound."""
-    return segment.flags & (SYN | FIN | RESET | ACK) == ACK and len(segment.data) > 1 and not segment.cut and not segment.is_wrong
 
 
 class Again(NamedTuple):
@@ -97,8 +55,15 @@ class Connections:
 
     def take(self, frame: Frame) -> None:
         """Takes a frame."""
-        accounts = self._accounts
+        accounts, run = self._accounts, self._run
         accounts.frames += 1
+        if frame.link == ETHERNET:
+            if run and run.add_frame(frame.data, frame.length):
+                accounts.in_connections += 1
+                return
+            if is_elsewhere(frame.data, frame.length, self._ports):
+                accounts.elsewhere += 1
+                return
         try:
             segment = segment_of(frame.link, frame.data, frame.length, self._ports)
         except Other:
@@ -110,7 +75,7 @@ class Connections:
         except Unread as why:
             accounts.count(accounts.unread, str(why))
             return
-        if self._run and self._run.add(segment):
+        if run and run.add(segment):
             accounts.in_connections += 1
             return
         is_client = self._is_client(segment)
@@ -125,7 +90,7 @@ class Connections:
         self.cut += segment.cut > 0
         self._end_run()
         if is_plain(segment):
-            self._run = Run(segment, is_client, frame.time)
+            self._run = Run(segment, is_client, frame)
         else:
             self._take(segment, is_client, frame.time)
 
@@ -133,8 +98,9 @@ class Connections:
         run, self._run = self._run, None
         if run:
             self._take(run.segment(), run.is_client, run.time)
-            if run.acknowledgement:
-                self._take(run.acknowledgement, not run.is_client, run.time)
+            acknowledgement = run.acknowledgement()
+            if acknowledgement:
+                self._take(acknowledgement, not run.is_client, run.time)
 
     def _is_client(self, segment: Segment) -> Optional[bool]:
         """Whether a client sent a segment, and not its server; None if it is of no connection that is asked for."""
@@ -241,19 +207,20 @@ class Connections:
     # What comes again.
 
     def _compare(self, key: bytes, first: Union[Conversation, Ended], end: int, is_client: bool, segment: Segment, time: int) -> None:
-        """A segment of a connection that was there: if its SYN came again, it is compared up to a place."""
+        """A segment of a connection that was there: if its SYN or its first byte came again, it is compared up to a place."""
         again = self._again.get(key)
-        if again and again.first is not first:
+        begins = bool(segment.flags & SYN) or is_plain(segment) and segment.sequence == first.start_of(is_client)
+        if again and (again.first is not first or begins and again.revisit.has_begun(is_client)):
             self._end_again(key)
             again = None
         if again is None:
-            if not segment.flags & SYN:
+            if not begins:
                 return
             again = self._again[key] = Again(Revisit(self._memory), first, time)
             if len(self._again) > MOST_REVISITED:
                 self._end_again(next(iter(self._again)))
         self._again.move_to_end(key)
-        again.revisit.take(is_client, segment, end % SPACE)
+        again.revisit.take(is_client, segment, first.start_of(is_client), end % SPACE)
 
     def _end_again(self, key: bytes) -> None:
         again = self._again.pop(key)

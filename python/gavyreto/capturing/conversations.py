@@ -7,7 +7,7 @@ from typing import NamedTuple, Optional
 from gavyreto.capturing.accounts import Accounts
 from gavyreto.capturing.answers import Answers
 from gavyreto.capturing.desk import Desk, Sides
-from gavyreto.capturing.internet import ACK, FIN, PUSH, RESET, SYN, Segment, Tags
+from gavyreto.capturing.internet import ACK, FIN, RESET, SYN, Segment, Tags, is_single
 from gavyreto.capturing.memory import OBJECT, Memory, Share
 from gavyreto.capturing.messages import Requests
 from gavyreto.capturing.streams import SPACE, WINDOW, Piece, Stream
@@ -83,6 +83,10 @@ class Conversation:
         """The place of the next byte of a side."""
         return self._streams(is_client)[0].place
 
+    def start_of(self, is_client: bool) -> int:
+        """The sequence number of the first byte of a side."""
+        return self._streams(is_client)[0].start % SPACE
+
     def first(self) -> tuple[Optional[int], Optional[int]]:
         """The sequence numbers of both SYNs, as far as they are there."""
         return self.client.first, self.server.first
@@ -125,9 +129,9 @@ class Conversation:
             self._open(is_client, stream, sequence)
             sequence = (sequence + 1) % SPACE
         data = b"" if flags & RESET else segment.data  # what a reset has besides isn't of the stream
-        is_single = len(data) == 1 and not flags & (PUSH | FIN | SYN)
+        is_only_one = bool(data) and is_single(segment)
         if not stream.is_begun():
-            stream.begin((sequence + is_single) % SPACE, True)
+            stream.begin((sequence + is_only_one) % SPACE, True)
             if not is_client:
                 self._answers.begin_late(time)
         acknowledged = self._acknowledged(is_client, stream, other, segment)
@@ -137,7 +141,7 @@ class Conversation:
         end = place + len(data) + segment.cut
         if data and not segment.is_wrong:
             piece = Piece(place, data, acknowledged, time)
-            self._arrived(stream, stream.add_single(piece) if is_single else stream.add(piece))
+            self._arrived(stream, stream.add_single(piece) if is_only_one else stream.add(piece))
         stream.show(end + bool(flags & FIN))
         if flags & FIN and stream.end is None and not segment.is_wrong:
             stream.end = end

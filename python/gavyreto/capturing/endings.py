@@ -6,7 +6,7 @@ from hashlib import blake2b
 from typing import NamedTuple, Optional
 
 from gavyreto.capturing.conversations import FARTHEST, Conversation, Side
-from gavyreto.capturing.internet import ACK, SYN, Segment, Tags
+from gavyreto.capturing.internet import ACK, SYN, Segment, Tags, is_single
 from gavyreto.capturing.memory import Memory, Share
 from gavyreto.capturing.streams import HALF, MARK, SPACE, Piece, Stream
 
@@ -26,6 +26,11 @@ class Ended(NamedTuple):
 
     def sides(self, is_client: bool) -> tuple[Side, Side]:
         return (self.client, self.server) if is_client else (self.server, self.client)
+
+    def start_of(self, is_client: bool) -> int:
+        """The sequence number of the first byte of a side."""
+        own = self.sides(is_client)[0]
+        return (own.place - own.size) % SPACE
 
     def has(self, is_client: bool, segment: Segment) -> bool:
         """Whether a segment is one more of it: by the number of its SYN, or by both its numbers. Nothing comes after an end."""
@@ -54,8 +59,8 @@ def _is_near(side: Side, sequence: int, size: int, ahead: int) -> bool:
 
 
 class Revisit:
-    """A connection that comes again with both its first numbers, as in a file that is joined to itself: the bytes of each side, up to
-    where they ended, to be compared with those that came first."""
+    """A connection that comes again with its first numbers, as in a file that is joined to itself: the bytes of each side, from the first
+    that were there up to where they ended, to be compared with those that came first."""
 
     def __init__(self, memory: Memory) -> None:
         self._share = Share(memory, self._give_up)
@@ -68,26 +73,33 @@ class Revisit:
         for stream in self._streams:
             stream.close()
 
-    def take(self, is_client: bool, segment: Segment, end: int) -> None:
-        """One more segment of it, of which the bytes up to a sequence number were there."""
+    def take(self, is_client: bool, segment: Segment, start: int, end: int) -> None:
+        """One more segment of it, of which the bytes from a sequence number up to another were there."""
         stream = self._streams[not is_client]
         if segment.flags & SYN:
             self._has_syn[not is_client] = True
             if not stream.is_begun():
                 stream.begin((segment.sequence + 1) % SPACE, False)
-        elif self._has_syn[not is_client] and segment.data and not segment.is_wrong and not self._is_given_up:
+        if not stream.is_begun() and segment.data and segment.sequence == start:
+            stream.begin(start, False)
+        if not segment.flags & SYN and stream.is_begun() and segment.data and not segment.is_wrong and not self._is_given_up:
             place = stream.place_of(segment.sequence)
-            most = stream.place_of(end) - place
-            stream.add(Piece(place, segment.data[:max(most, 0)], 0, 0))
+            piece = Piece(place, segment.data[:max(stream.place_of(end) - place, 0)], 0, 0)
+            stream.add_single(piece) if is_single(segment) else stream.add(piece)
+            stream.show(piece.end())
             stream.acknowledge(stream.place)
             if stream.is_past_window():
                 self._give_up()
 
+    def has_begun(self, is_client: bool) -> bool:
+        """Whether bytes of a side have come."""
+        return self._streams[not is_client].delivered > 0
+
     def differs(self, client: Side, server: Side) -> bool:
-        """Whether both sides began again, and their bytes aren't known to be the same: those of a side that is there to its end, or to
-        where one of its first pieces ended."""
+        """Whether the bytes of a side are known not to be the same, those up to its end or to where one of its first pieces ended; or, of
+        two sides that both began again with a SYN, aren't known to be the same."""
         found = [_is_same(*it) for it in zip(self._streams, (client, server))]
-        return all(self._has_syn) and (False in found or None in found and all(stream.delivered for stream in self._streams))
+        return False in found or all(self._has_syn) and None in found and all(stream.delivered for stream in self._streams)
 
     def close(self) -> None:
         """Lets go what it holds."""

@@ -23,6 +23,8 @@ PART = 384  # bytes of a segment that are summed as one number
 TCP_HEADER = struct.Struct(">HHIIBBHHH")
 IPV4_HEADER = struct.Struct(">BBHHHBBH8s")
 PLAIN = struct.Struct(">12xHBBHHHBBH8sHHIIBBHHH")  # Ethernet, IPv4 without options, TCP
+PORTS = struct.Struct(">12xHBxHxxHxB10xHH")  # of these the type, version, length, fragment, protocol and ports
+ENDS = slice(26, 38)  # their addresses and ports
 U16, U32, BYTE = struct.Struct(">H"), struct.Struct(">I"), struct.Struct("B")
 
 
@@ -39,6 +41,11 @@ class Segment(NamedTuple):
     data: bytes
     cut: int  #: bytes of it that weren't captured
     is_wrong: bool  #: whether its checksum is neither its own, nor one left to the adapter: no receiver takes it
+
+
+def is_single(segment: Segment) -> bool:
+    """Whether a segment has one byte, and may only ask whether the other side is there."""
+    return len(segment.data) == 1 and not segment.flags & (PUSH | FIN | SYN)
 
 
 class Other(Exception):
@@ -195,6 +202,17 @@ def tcp(cursor: Cursor, ports: Container[int]) -> Segment:
     return _segment(cursor.tags, data, at, cursor.end, cursor.addresses, TCP_HEADER.unpack_from(data, at), ports)
 
 
+def is_elsewhere(data: bytes, length: int, ports: Container[int]) -> bool:
+    """Whether a frame of Ethernet has a segment, without tags, options and tunnels, of other ports that doesn't look like TDS."""
+    if len(data) < PLAIN.size:
+        return False
+    kind, version, total, fragment, protocol, source, target = PORTS.unpack_from(data)
+    if source in ports or target in ports or kind != IPV4 or version != 0x45 or protocol != TCP or fragment & 0x3FFF:
+        return False
+    start = 34 + (data[46] >> 4) * 4
+    return 40 <= total <= length - 14 and data[start:start + 1] not in BEGINNINGS
+
+
 def plain(data: bytes, length: int, ports: Container[int]) -> Optional[Segment]:
     """The segment in a frame of Ethernet without tags, options and tunnels; None if it isn't so."""
     if len(data) < PLAIN.size:
@@ -229,8 +247,17 @@ def is_sound(segment: bytes, addresses: bytes, checksum: int) -> bool:
 
     2^16 is 1 modulo 2^16 - 1, so a number's remainder is the sum of its units of 16 bits as RFC 1071 has it; the sum of a few shorter
     numbers is quicker to divide than one that is long."""
+    return is_sum(segment, sum_of_ends(addresses), checksum)
+
+
+def sum_of_ends(addresses: bytes) -> int:
+    """What the addresses and the protocol add to a checksum."""
+    return (int.from_bytes(addresses, "big") + TCP) % 0xFFFF
+
+
+def is_sum(segment: bytes, ends: int, checksum: int) -> bool:
+    """The same, by what the addresses add."""
     length = len(segment)
-    ends = (int.from_bytes(addresses, "big") + TCP) % 0xFFFF
     if checksum == 0 or checksum % 0xFFFF in (ends, (ends + length) % 0xFFFF):
         return True
     if length % 2:

@@ -50,9 +50,11 @@ class Request:
     is_whole: bool = False
 
 
-def is_header(data: bytes, kinds: Container[int]) -> bool:
-    """Whether a packet may begin so."""
-    return len(data) >= tds.HEADER and data[0] in kinds and tds.HEADER <= tds.length_of(data) <= tds.GREATEST_PACKET_SIZE
+def is_header(data: bytes, kinds: Container[int], at: int = 0) -> bool:
+    """Whether a packet may begin so, from a place on."""
+    if len(data) < at + tds.HEADER or data[at] not in kinds:
+        return False
+    return tds.HEADER <= data[at + 2] << 8 | data[at + 3] <= tds.GREATEST_PACKET_SIZE
 
 
 def is_record(data: bytes) -> bool:
@@ -163,55 +165,30 @@ class Requests:
 
 # What a server sends.
 
-class Packets:
-    """Follows the packets of a message of a server through pieces that are cut anywhere."""
+class Packets(tds.Framing):
+    """Follows the packets of a message of a server, which have one SPID, and numbers that follow each other."""
 
     def __init__(self, kinds: tuple[int, ...], is_numbered: bool) -> None:
-        self.is_over = False  #: after the last packet
+        super().__init__()
         self.wrong = ""  #: why what comes next isn't the next packet
         self.channel: Optional[int] = None  #: the SPID of its packets
-        self.tail = b""  #: its last bytes, as many as a DONE has
         self._kinds, self._is_numbered = kinds, is_numbered
-        self._header, self._left, self._is_last = b"", 0, False
         self._number: Optional[int] = None  # of the packet before
         self._is_constant = False  # whether all packets have the number of the first
 
-    def is_within(self) -> bool:
-        """Whether a packet is under way."""
-        return bool(self._left or self._header)
-
-    def take(self, data: bytes) -> int:
-        """How many bytes, from the first on, belong to the message. If something is wrong, a header's bytes too many were taken."""
-        at = 0
-        while at < len(data) and not self.is_over and not self.wrong:
-            if self._left:
-                end = min(at + self._left, len(data))
-                self._left -= end - at
-                self.tail = (self.tail + data[max(at, end - tds.DONE_LENGTH):end])[-tds.DONE_LENGTH:]
-                at = end
-            else:
-                end = at + tds.HEADER - len(self._header)
-                self._header += data[at:end]
-                at = min(end, len(data))
-                if len(self._header) == tds.HEADER:
-                    self._begin()
-            self.is_over = self._is_last and not self._left and not self._header
-        return at
-
-    def _begin(self) -> None:
-        """A header is whole."""
-        header, self._header = self._header, b""
-        number, channel = header[6], header[4] << 8 | header[5]
-        if not is_header(header, self._kinds):
+    def fits(self, block: bytes, at: int) -> bool:
+        number, channel = block[at + 6], block[at + 4] << 8 | block[at + 5]
+        if self.wrong:
+            return False
+        if not is_header(block, self._kinds, at):
             self.wrong = "no packet follows"
         elif self.channel is not None and channel != self.channel:
             self.wrong = f"a packet of SPID {channel} comes within a message of SPID {self.channel}"
         elif not self._follows(number):
             self.wrong = f"packet {number} comes after packet {self._number}" if self._number is not None else f"its first packet has number {number}"
-        if self.wrong:
-            return
-        self.channel, self._number = channel, number
-        self._left, self._is_last = tds.length_of(header) - tds.HEADER, bool(header[1] & tds.LAST)
+        else:
+            self.channel, self._number = channel, number
+        return not self.wrong
 
     def _follows(self, number: int) -> bool:
         """Whether a packet with this number comes next: one more, modulo 256. Where the stream itself shows that none is lacking,

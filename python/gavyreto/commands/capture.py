@@ -85,7 +85,7 @@ class Export:
     def answer(self, sides: Sides, answer: Answer) -> None:
         """Exports an answer whose packets are kept."""
         kept = cast(Kept, answer.kept)
-        is_whole = answer.packets.is_over and not answer.why
+        is_whole = answer.packets.is_whole and not answer.why
         data = kept.whole() if is_whole else None
         packets = kept.file() if self._asked.packets or self._asked.adapt else ""
         if self._asked.adapt:
