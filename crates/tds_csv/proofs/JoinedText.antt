@@ -1,6 +1,7 @@
 -- Text whose characters have one or two bytes, found by a look at each byte with the next one.
 use Rattle.tds_csv.proofs as N
-use N.{◌≡◌, ◌∙◌, ℕ, ◌+◌, ◌-◌, ◌<◌, ◌≤◌, Bool, List, [], ◌∷◌, IsUtf8, ap, arith, doubled, drop, false, get_or, inl, inr, length, not, prefix_len, refl, suc, take, true, zero}
+use N.{◌≡◌, ◌∙◌, ℕ, ◌+◌, ◌-◌, ◌<◌, ◌≤◌, Bool, List, [], ◌∷◌, IsUtf8, ap, arith, doubled, drop, false, get_or, inl, inr}
+use N.{length, not, prefix_len, refl, suc, take, true, zero}
 use N.Singles.{one_utf8}
 use N.Utf8Laws.{two_bytes}
 use Rattle.std.proofs.lemmas.Bool.{cases_Bool}
@@ -56,7 +57,8 @@ joined_text (suc (suc n)) (a ∷ b ∷ []) joined first last = absurd joined.1
 joined_text (suc (suc n)) (a ∷ b ∷ d ∷ xs) joined first last = elim (cases_Bool (is_lead a)) [
   | inl lead ↦
       let trail : is_trail b ≡ true = grind (arith, joined.0) in
-      after_two a b (take n (d ∷ xs)) lead trail (joined_text n (d ∷ xs) joined.1.1 (grind (arith, joined.1.0)) (λ k is. last (suc (suc k)) (ap suc (ap suc is))))
+      let more = joined_text n (d ∷ xs) joined.1.1 (grind (arith, joined.1.0)) (λ k is. last (suc (suc k)) (ap suc (ap suc is))) in
+      after_two a b (take n (d ∷ xs)) lead trail more
   | inr other ↦
       after_one a (take (suc n) (b ∷ d ∷ xs)) (grind (arith, joined.0, first)) (joined_text (suc n) (b ∷ d ∷ xs) joined.1 (grind (arith, joined.0))
       (λ k is. last (suc k) (ap suc is)))

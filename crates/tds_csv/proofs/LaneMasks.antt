@@ -196,8 +196,8 @@ module _ (d : List ℕ) (at : ℕ) (room : at + 16 < length d) where
   unfolding ArePair
   run_of_pairs q fits f lanes same =
       run_before (ℕ × ℕ) 7 16 f (pairs_at at d) pairs_long (omega arith) lanes
-      ∙ same_prefix ArePair (λ p small. same p.0 p.1 small.0.fits small.1.fits) (pairs_at at d)
-      (N.Each1-zip2 _ ArePair _ _ (N.Each2-of (Fits w8) (Fits w8) _ (λ a b x y. (x, y)) _ _ (N.chunk-fits w8 at 16 d fits) (N.chunk-fits w8 (at + 1) 16 d fits)))
+      ∙ same_prefix ArePair (λ p small. same p.0 p.1 small.0.fits small.1.fits) (pairs_at at d) (N.Each1-zip2 _ ArePair _ _
+      (N.Each2-of (Fits w8) (Fits w8) _ (λ a b x y. (x, y)) _ _ (N.chunk-fits w8 at 16 d fits) (N.chunk-fits w8 (at + 1) 16 d fits)))
 
 -- ---- whether a lane is long, by the bits of all
 
@@ -216,8 +216,8 @@ short_units : (us : List ℕ) → Each1 (Fits N.w16) us → Each1 (λ x. x ≡ 0
 short_units [] fits none = tt
 short_units (u ∷ us) fits none = (short_unit u fits.0.fits none.0, short_units us fits.1 none.1)
 
-pub none_long : (us : List ℕ) → length us ≡ 8 → Each1 (Fits N.w16) us → not (N.nat_eq (N.fold_l N.bit_or 0 (N.zip2 N.bit_and us (N.replicate 8 63488))) 0) ≡ false
-    → Each1 (λ u. N.is_long u ≡ false) us
+pub none_long : (us : List ℕ) → length us ≡ 8 → Each1 (Fits N.w16) us
+    → not (N.nat_eq (N.fold_l N.bit_or 0 (N.zip2 N.bit_and us (N.replicate 8 63488))) 0) ≡ false → Each1 (λ u. N.is_long u ≡ false) us
 none_long us long fits none =
     let all = N.fold_l N.bit_or 0 (N.zip2 N.bit_and us (N.replicate 8 63488)) in
     let zero : all ≡ 0 = grind (arith, none) in

@@ -3,7 +3,8 @@ pub use Rattle.hex.specs.Hex.{lower_digits, encode_lower}
 pub use Rattle.std.proofs.Common.{◌||◌, ◌≡◌, ◌∙◌, inl, inr, ℕ, ◌+◌, ◌-◌, ◌<◌, ◌≤◌, ◌%◌, true, false, List, [], ◌∷◌, ◌++◌, length, take, Some, None, refl, sym}
 pub use Rattle.std.proofs.Common.{ap, subst, arith, append_assoc, append-nil, length-append, IsUtf8, take_all, ◌≢◌, ◌/◌, drop, length-drop, length-take-le}
 pub use Rattle.std.proofs.Common.{encode_utf8_all, suc, map, get_or, w8, w16, Fits, Bool, Result, Ok, Err, MatchResult, ◌^◌, not, cond, replicate, ap₂, codes}
-pub use Rattle.std.proofs.Common.{slice_index, zero, OnErr, le_refl, ◌⊎◌, ◌*◌, length-take, ◌&&◌, eqb, leb, bit_and, bit_or, unwrap_or, ⊎_elim, nat_lt, nat_eq, rules}
+pub use Rattle.std.proofs.Common.{slice_index, zero, OnErr, le_refl, ◌⊎◌, ◌*◌, length-take, ◌&&◌, eqb, leb, bit_or, unwrap_or, ⊎_elim, nat_lt, nat_eq, rules}
+pub use Rattle.std.proofs.Common.{bit_and}
 pub use Rattle.std.proofs.KnownBytes.{Appends-nil, Appends-trans}
 pub use Rattle.std.proofs.Math.ListN.{drop_of_length-le}
 pub use Rattle.std.proofs.Math.Seq.{take-append-add, drop-append-add, take-append_seam, drop-append_seam}
