@@ -46,7 +46,7 @@ from typing import NoReturn, Optional  # noqa: E402
 
 from gavyreto import program  # noqa: E402
 from gavyreto.commands import common  # noqa: E402
-from gavyreto.version import __version__  # noqa: E402
+from gavyreto.version import COMMIT, __version__  # noqa: E402
 
 COMMANDS = {
     "query": "asks a server, and writes the rows of its answers as quoted CSV",
@@ -70,7 +70,7 @@ def run(words: list[str]) -> int:
         common.put(USAGE)
         return 0
     if name in ("-V", "--version"):
-        common.put(f"gavyreto {__version__}\n")
+        common.put(f"gavyreto {__version__}{f' (commit {COMMIT})' if COMMIT else ''}\n")
         return 0
     common.tell(f"gavyreto: {f'no command {name}' if name else 'a command is needed'}")
     common.say("\n" + USAGE)
