@@ -55,6 +55,7 @@ COMMANDS = {
     "adapt": "rewrites a response with refused columns, with types that are read",
     "many": "exports many responses, several at once, here or on a Dask cluster",
 }
+OF_PROGRAM = ("export", "check", "recut")  # commands of tds_replay
 USAGE = "usage: gavyreto COMMAND [ARGUMENTS]\n\n" + "".join(f"  {name:9}{does}\n" for name, does in COMMANDS.items()) + (
     "\ngavyreto help COMMAND prints the help of one; gavyreto --version the version\n")
 
@@ -72,7 +73,8 @@ def run(words: list[str]) -> int:
     if name in ("-V", "--version"):
         common.put(f"gavyreto {__version__}{f' (commit {COMMIT})' if COMMIT else ''}\n")
         return 0
-    common.tell(f"gavyreto: {f'no command {name}' if name else 'a command is needed'}")
+    elsewhere = f": tds_replay {name} does that" if name in OF_PROGRAM else ""
+    common.tell(f"gavyreto: {f'no command {name}{elsewhere}' if name else 'a command is needed'}")
     common.say("\n" + USAGE)
     return program.REFUSED
 
