@@ -22,7 +22,7 @@ NEED_RT = command -v rt > /dev/null || { echo "rt isn't there: proving and build
 # Ends with one line if there is no Python.
 NEED_PYTHON = command -v python3 > /dev/null || { echo "python3 isn't there: the scripts in tools/ need Python 3.10 or later" >&2; exit 1; }
 
-.PHONY: help clean try build export install uninstall deb needs test gate lint worked generated recipes python-tests bench try-test refused-memory check
+.PHONY: help clean try build export install uninstall deb release try-release against-server needs test gate lint worked generated recipes python-tests bench try-test refused-memory check
 
 help:
 	@echo "make try FILE=F        exports the response in F, unproved"
@@ -30,6 +30,7 @@ help:
 	@echo "make export FILE=F     builds it, and exports the response in F"
 	@echo "make install PREFIX=P  puts it, man page and completion into P; or uninstall"
 	@echo "make deb               makes a Debian package of it and of all commands"
+	@echo "make release           makes the archives of the tag that is checked out, and sums"
 	@echo "make needs             installs what tests, recipes and pictures need, as root"
 	@echo "make test              proves what isn't proved yet, and runs the crates' tests"
 	@echo "make gate              runs everything: each proof, edit, test and script"
@@ -73,12 +74,21 @@ deb: $(BUILT)
 	@mkdir -p bin
 	@tools/deb "$(BIN)" bin
 
+release: $(BUILT)
+	@tools/release "$(BIN)" bin/release
+
 bench: $(if $(filter export responses peers drivers captures,$(WHAT)),$(BUILT))
 	@bench/run "$(WHAT)" "$(BIN)"
 
 # These take the program as it is; `make build` makes it.
 worked generated recipes refused-memory:
 	@tools/$@ "$(BIN)"
+
+against-server:
+	@tools/against-server --program "$(BIN)"
+
+try-release:
+	@tools/release --trial "$(BIN)"
 
 python-tests:
 	@cd python && PROGRAM="$(abspath $(BIN))" python3 -B -m tests

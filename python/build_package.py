@@ -1,19 +1,23 @@
 """Builds the package for pip, by Python's standard library alone: a backend as PEP 517 and PEP 660 define it.
 
-pip needs nothing but this folder: no network, no setuptools and no wheel. Nothing is left in the folder."""
+pip needs nothing but this folder: no network, no setuptools and no wheel. Nothing is left in the folder. The same sources give the
+same bytes; in a checkout of git, what is built names the commit."""
 from __future__ import annotations
 
 import base64
+import gzip
 import hashlib
 import importlib.util
 import io
 import os
 import re
+import subprocess
 import tarfile
 import zipfile
 from typing import Any, Optional
 
 NAME = "gavyreto"
+VERSION, PAGE = f"{NAME}/version.py", "README.md"
 SUMMARY = "Rows of SQL Server's responses as Python values, by the program tds_replay"
 REQUIRES_PYTHON = ">=3.9"
 TAG = "py3-none-any"
@@ -32,15 +36,44 @@ def read(name: str) -> bytes:
 
 def version() -> str:
     """The version that the package has in its sources."""
-    found = re.search(rb'(?m)^__version__ = "([\d.]+)"$', read(f"{NAME}/version.py"))
+    found = re.search(rb'(?m)^__version__ = "([\d.]+)"$', read(VERSION))
     if not found:
-        raise ValueError(f"no version in {NAME}/version.py")
+        raise ValueError(f"no version in {VERSION}")
     return found[1].decode()
 
 
+def origin() -> tuple[str, int]:
+    """The commit that this folder is of, with `+modified` if its repository differs from it, and its time in seconds; nothing where
+    that isn't known. An archive of the sources has both in a file, in place of what a checkout has there."""
+    top = os.path.dirname(HERE)
+    noted = os.path.join(top, "tools", "lib", "origin.txt")
+    if not os.path.exists(noted):
+        return "", 0
+    if not os.path.exists(os.path.join(top, ".git")):
+        found, when = read(noted).decode().split()
+        return (found, int(when)) if when.isdigit() else ("", 0)
+    try:
+        said, changed = (
+            subprocess.run(["git", "-C", top, *words], capture_output=True, text=True, check=True).stdout.split()
+            for words in (["log", "-1", "--format=%H %ct"], ["status", "--porcelain"]))
+    except (OSError, subprocess.CalledProcessError):
+        return "", 0
+    return said[0] + ("+modified" if changed else ""), int(said[1])
+
+
+def installed(name: str) -> bytes:
+    """The bytes of a file as it is installed: that of the version tells the commit too."""
+    data = read(name)
+    return data.replace(b'COMMIT = ""', b'COMMIT = "%s"' % origin()[0].encode()) if name == VERSION else data
+
+
 def metadata() -> str:
-    """What the package says of itself."""
-    return f"Metadata-Version: 2.1\nName: {NAME}\nVersion: {version()}\nSummary: {SUMMARY}\nRequires-Python: {REQUIRES_PYTHON}\n"
+    """What the package says of itself, and its page."""
+    fields = {
+        "Metadata-Version": "2.1", "Name": NAME, "Version": version(), "Summary": SUMMARY, "Requires-Python": REQUIRES_PYTHON,
+        "Description-Content-Type": "text/markdown",
+    }
+    return "".join(f"{field}: {value}\n" for field, value in fields.items()) + "\n" + read(PAGE).decode()
 
 
 def modules() -> list[str]:
@@ -93,7 +126,7 @@ def remove_compiled() -> None:
 
 def build_wheel(wheel_directory: str, config_settings: Optional[dict[str, Any]] = None, metadata_directory: Optional[str] = None) -> str:
     """Builds the wheel that pip installs (PEP 517)."""
-    return write_wheel(wheel_directory, {path: read(path) for path in modules()})
+    return write_wheel(wheel_directory, {path: installed(path) for path in modules()})
 
 
 def build_editable(wheel_directory: str, config_settings: Optional[dict[str, Any]] = None, metadata_directory: Optional[str] = None) -> str:
@@ -104,12 +137,15 @@ def build_editable(wheel_directory: str, config_settings: Optional[dict[str, Any
 def build_sdist(sdist_directory: str, config_settings: Optional[dict[str, Any]] = None) -> str:
     """Builds an archive of the sources (PEP 517)."""
     top = f"{NAME}-{version()}"
-    files = {path: read(path) for path in ["pyproject.toml", os.path.basename(__file__), *modules()]}
+    files = {path: installed(path) for path in ["pyproject.toml", os.path.basename(__file__), PAGE, *modules()]}
     files["PKG-INFO"] = metadata().encode()
-    with tarfile.open(os.path.join(sdist_directory, f"{top}.tar.gz"), "w:gz", format=tarfile.PAX_FORMAT) as archive:
+    packed = io.BytesIO()
+    with tarfile.open(fileobj=packed, mode="w", format=tarfile.PAX_FORMAT) as archive:
         for path, data in files.items():
             entry = tarfile.TarInfo(f"{top}/{path}")
             entry.size, entry.mode = len(data), 0o644
             archive.addfile(entry, io.BytesIO(data))
+    with open(os.path.join(sdist_directory, f"{top}.tar.gz"), "wb") as file:
+        file.write(gzip.compress(packed.getvalue(), 9, mtime=0))
     remove_compiled()
     return f"{top}.tar.gz"

@@ -11,6 +11,7 @@
 # how many parts there are.
 set -eu
 
+rm -rf farm texts
 mkdir farm
 tools/response kinds 300 > good && tools/response float > refused && tools/response error > failed
 for number in $(seq 1000 1999); do

@@ -46,7 +46,7 @@ from typing import NoReturn, Optional  # noqa: E402
 
 from gavyreto import program  # noqa: E402
 from gavyreto.commands import common  # noqa: E402
-from gavyreto.version import __version__  # noqa: E402
+from gavyreto.version import COMMIT, __version__  # noqa: E402
 
 COMMANDS = {
     "query": "asks a server, and writes the rows of its answers as quoted CSV",
@@ -55,6 +55,7 @@ COMMANDS = {
     "adapt": "rewrites a response with refused columns, with types that are read",
     "many": "exports many responses, several at once, here or on a Dask cluster",
 }
+OF_PROGRAM = ("export", "check", "recut")  # commands of tds_replay
 USAGE = "usage: gavyreto COMMAND [ARGUMENTS]\n\n" + "".join(f"  {name:9}{does}\n" for name, does in COMMANDS.items()) + (
     "\ngavyreto help COMMAND prints the help of one; gavyreto --version the version\n")
 
@@ -70,9 +71,10 @@ def run(words: list[str]) -> int:
         common.put(USAGE)
         return 0
     if name in ("-V", "--version"):
-        common.put(f"gavyreto {__version__}\n")
+        common.put(f"gavyreto {__version__}{f' (commit {COMMIT})' if COMMIT else ''}\n")
         return 0
-    common.tell(f"gavyreto: {f'no command {name}' if name else 'a command is needed'}")
+    elsewhere = f": tds_replay {name} does that" if name in OF_PROGRAM else ""
+    common.tell(f"gavyreto: {f'no command {name}{elsewhere}' if name else 'a command is needed'}")
     common.say("\n" + USAGE)
     return program.REFUSED
 

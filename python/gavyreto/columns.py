@@ -1,6 +1,7 @@
 """Descriptions of columns: their types as SQL writes them (MS-TDS, COLMETADATA, Data Type Definitions)."""
 from __future__ import annotations
 
+import re
 import struct
 from typing import Callable, NamedTuple, Optional, Union
 
@@ -221,7 +222,15 @@ def create_table(table: str, columns: list[Column], type_of: Callable[[Column], 
     if "" in names or len({name.lower() for name in names}) < len(names):
         raise ValueError("a column without a name, or two of one name: name them in the query")
     lines = [f"    {quoted(column.name)} {type_of(column)}{'' if column.nullable else ' NOT NULL'}" for column in columns]
-    return f"CREATE TABLE {quoted(table)} (\n" + ",\n".join(lines) + "\n);\n"
+    return f"CREATE TABLE {table_name(table)} (\n" + ",\n".join(lines) + "\n);\n"
+
+
+def table_name(name: str) -> str:
+    """The name of a table as SQL writes it: a.b is the table b of the schema a, and a part in double quotes is taken as it is."""
+    parts = re.findall(r'("(?:[^"]|"")*"|[^".][^.]*)(?:\.|$)', name)
+    if ".".join(parts) != name or not parts:
+        raise ValueError(f"{name} is no name of a table")
+    return ".".join(part if part.startswith('"') else quoted(part) for part in parts)
 
 
 def quoted(name: str) -> str:

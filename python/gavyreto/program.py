@@ -121,7 +121,8 @@ def path_of(program: str) -> str:
     """The path of a program by its name on the path, or as it is. Raises FileNotFoundError if there is none."""
     found = shutil.which(program)
     if found is None:
-        raise FileNotFoundError(f"the program {program} isn't there, or can't be run")
+        from_where = ": Debian's package gavyreto brings it, and `make install` of the source" if program == PROGRAM else ""
+        raise FileNotFoundError(f"the program {program} isn't there, or can't be run{from_where}")
     return found
 
 

@@ -398,7 +398,7 @@ class Here(Many):
         self.store(1)
         command = f"ulimit -f 8; trap '' XFSZ; exec {sys.executable} -m gavyreto many --program {PROGRAM} in out"
         came = subprocess.run(["sh", "-c", command], cwd=self.folder, capture_output=True, check=False, **started())
-        self.assertEqual((came.returncode, came.stderr.decode()), (5, "1 responses: 0 done, 0 with an error of the server, 0 refused, 1 failed\n"))
+        self.assertEqual((came.returncode, came.stderr.decode().splitlines()[-1]), (5, "1 responses: 0 done, 0 with an error of the server, 0 refused, 1 failed"))
         self.assertRegex(self.table()[0][2], r"\.unfinished: File too large$")
         self.assert_texts([])
 
@@ -475,11 +475,11 @@ class OnCluster(Many):
                     self.scheduler.wait(SECONDS)
                     self.let(ALL)
                     said = process.communicate(timeout=SECONDS)[1].decode().splitlines()
-                self.assertEqual((process.returncode, len(said)), (5, 1), said)
+                self.assertEqual((process.returncode, len(said)), (5, 2), said)
                 lines = self.table()
                 done = [name for name, status, _ in lines if status == 0]
                 self.assertEqual(([name for name, _, _ in lines], {status for _, status, _ in lines}), (names, {0, 5}))
-                self.assertEqual(said, [f"60 responses: {len(done)} done, 0 with an error of the server, 0 refused, {60 - len(done)} failed"])
+                self.assertEqual(said[1:], [f"60 responses: {len(done)} done, 0 with an error of the server, 0 refused, {60 - len(done)} failed"])
                 self.end_all()
                 self.assert_whole(done)
                 self.assertEqual(self.many("--program", PROGRAM, "in", "out"), (0, "60 responses: 60 done, 0 with an error of the server, 0 refused, 0 failed"))

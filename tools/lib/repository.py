@@ -58,11 +58,30 @@ def text_of(*names: str) -> str:
         return file.read()
 
 
+def has_git() -> bool:
+    """Whether this is a checkout: an archive of the sources has no `.git`."""
+    return os.path.exists(path_of(".git"))
+
+
+def said_by_git(*words: str) -> str:
+    """What `git` prints in the repository."""
+    return subprocess.run(["git", *words], cwd=ROOT, capture_output=True, text=True, check=True).stdout.strip()
+
+
 def files() -> list[str]:
-    """The files under version control, and those that will be, by their paths in the repository."""
-    words = ["git", "ls-files", "--cached", "--others", "--exclude-standard"]
-    listed = subprocess.run(words, cwd=ROOT, capture_output=True, text=True, check=True).stdout.split("\n")
-    return [name for name in listed if name and os.path.isfile(path_of(name))]
+    """The files under version control, and those that will be, by their paths in the repository: of an archive all but what is made."""
+    if has_git():
+        names = said_by_git("ls-files", "--cached", "--others", "--exclude-standard").split("\n")
+    else:
+        names = list(files_without(text_of(".gitignore").replace("/", "").split()))
+    return [name for name in names if name and os.path.isfile(path_of(name))]
+
+
+def files_without(left_out: list[str]) -> Iterator[str]:
+    """All files of the repository but those in folders with these names, by their paths in it."""
+    for at, folders, names in os.walk(ROOT):
+        folders[:] = sorted(name for name in folders if name not in left_out)
+        yield from (os.path.relpath(os.path.join(at, name), ROOT) for name in sorted(names))
 
 
 def listed() -> dict[str, list[str]]:
@@ -209,6 +228,11 @@ def put_program() -> None:
 def runner() -> str:
     """The toolchain's program that runs tests which are built."""
     return os.path.join(os.path.dirname(os.path.realpath(shutil.which("rt") or "")), "rattle-test")
+
+
+def kit_path(*names: str) -> str:
+    """A path below the sources of the kit's crates."""
+    return os.path.join(os.path.dirname(os.path.dirname(os.path.realpath(shutil.which("rt") or "/nowhere/bin/rt"))), "rattle", *names)
 
 
 def need_rt() -> None:

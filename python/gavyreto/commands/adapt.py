@@ -28,6 +28,8 @@ def arguments(words: list[str]) -> argparse.Namespace:
 def adapt(asked: argparse.Namespace) -> None:
     out = asked.output or needed(STANDARD_OUTPUT)
     name = asked.output or STREAMS[STANDARD_OUTPUT]
+    if not asked.output and os.isatty(STANDARD_OUTPUT):
+        raise Stopped(f"{name} is a terminal, and packets aren't text: > FILE or -o FILE takes them", REFUSED)
     with open_response(asked.file) as source:
         if is_one_file(out, source.fileno()):
             raise Stopped(f"{name}: the response is read from it", REFUSED)

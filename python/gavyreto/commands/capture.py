@@ -177,11 +177,24 @@ class Notes:
         self._export.note(status)
 
 
+@contextlib.contextmanager
+def folder_of_texts(path: str) -> Iterator[None]:
+    """Makes a folder if it isn't there. What is refused leaves none that it made."""
+    is_new = not os.path.isdir(path)
+    os.makedirs(path, exist_ok=True)
+    try:
+        yield
+    except Stopped:
+        if is_new:
+            with contextlib.suppress(OSError):  # it has something
+                os.rmdir(path)
+        raise
+
+
 def capture(asked: argparse.Namespace) -> int:
     """Exports a capture or a dump, and returns the greatest status."""
-    with files.opened(asked.file) as file:
+    with files.opened(asked.file) as file, folder_of_texts(asked.out):
         source = files.Source(file)
-        os.makedirs(asked.out, exist_ok=True)
         left = [name for name in os.listdir(asked.out) if name.endswith((".csv", ".partial", ".tds"))]
         if left:
             raise Stopped(f"{asked.out} has texts, as {left[0]}: name a folder without them", REFUSED)

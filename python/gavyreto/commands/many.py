@@ -119,6 +119,10 @@ class Table:
     def close(self) -> None:
         os.close(self._descriptor)
 
+    def shown(self) -> str:
+        """The name of the table, from the folder that the command runs in."""
+        return os.path.relpath(self._path)
+
     def add(self, outcome: Outcome) -> None:
         """Gives a text its name, takes away the one that was there before, and writes the line."""
         name = os.path.basename(outcome.file)
@@ -364,10 +368,12 @@ def remove_unfinished(folder: str) -> None:
 
 
 def summed(files: list[str], table: Table) -> int:
-    """Says how many responses ended in each way, and returns the greatest status."""
+    """Says which response failed first, and how many ended in each way, and returns the greatest status."""
     statuses = [table.records[file].status for file in files]
     counts = [statuses.count(status) for status in (DONE, SERVER_ERROR, BAD_INPUT)]
     done, errors, refused = counts
+    if first := next((it for it in map(table.records.__getitem__, files) if it.status not in (DONE, SERVER_ERROR)), None):
+        tell(f"{os.path.relpath(first.file)}: {first.line}; {table.shown()} has a line for each")
     tell(f"{len(files)} responses: {done} done, {errors} with an error of the server, {refused} refused, {len(files) - sum(counts)} failed")
     return FAILED if len(files) > sum(counts) else max(statuses, default=0)
 

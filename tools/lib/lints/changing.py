@@ -14,14 +14,14 @@ PAGE = "docs/CONTRIBUTING.md"
 # A section of the page, and the names by which sources name a token or kind.
 NAMES = {
     "A token": {
-        "ORDER": r"\b(ORDER|Order|AnOrder|order_byte)\b",
+        "ORDER": r"\b(Order|AnOrder|order_byte)\b|\bORDER\b(?! BY)",
         "RETURNSTATUS": r"\b(RETURNSTATUS|RETURN_STATUS|ReturnStatus|return_status|AStatus|return_status_byte)\b",
     },
-    "A scalar kind": {"Money4": r"\bMoney4\b"},
+    "A scalar kind": {"Money4": r"\b(Money4|MONEY4|smallmoney)\b"},
 }
 
-# What no new token or kind has to touch: the edits, the benchmarks, pages that only mention it.
-LEFT_OUT = re.compile(r"crates/\w+/must-fail/|bench/|docs/(?!PROTOCOL)|README|tools/lib/lints/|examples/|python/")
+# What no new token or kind has to touch: the edits, the benchmarks, tests of the package, pages that only mention it.
+LEFT_OUT = re.compile(r"crates/\w+/must-fail/|bench/|docs/(?!PROTOCOL)|crates/README|tools/lib/lints/|examples/|python/tests/")
 
 
 def files_with(pattern: str) -> list[str]:

@@ -11,9 +11,9 @@ from lib import repository as repo
 
 PAGES = ["README.md", *sorted(os.path.relpath(it, repo.ROOT) for it in glob.glob(repo.path_of("docs", "*.md")))]
 INDEX = "docs/README.md"
-BESIDE = ["CHANGELOG.md", "crates/README.md"]  # whose links are looked at
-MOST_WORDS = {"README.md": 1_300, "docs/ARCHITECTURE.md": 2_000, "docs/RECIPES.md": 2_500}
-MOST_IN_DOCS = 20_000
+BESIDE = ["CHANGELOG.md", "crates/README.md", "bench/README.md", "python/README.md"]  # whose words aren't counted
+MOST_WORDS = {"README.md": 1_200, "docs/ARCHITECTURE.md": 2_000, "docs/RECIPES.md": 2_500}
+MOST_IN_DOCS = 17_000
 
 
 def without_code(text: str) -> str:
@@ -106,5 +106,6 @@ def findings() -> Iterator[str]:
     files = repo.files()
     for page in PAGES:
         yield from (*dead_links(page), *wrong_names(page, files), *wrong_targets(page), *wrong_calls(page))
-    yield from (it for page in BESIDE for it in dead_links(page))
+    for page in BESIDE:
+        yield from (*dead_links(page), *wrong_names(page, files), *wrong_targets(page), *wrong_calls(page))
     yield from (*long_pages(), *without_entry())

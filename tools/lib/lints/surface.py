@@ -103,10 +103,10 @@ def wrong_code() -> Iterator[str]:
 
 
 def wrong_version() -> Iterator[str]:
-    """The version of the Python package, and the last one of CHANGELOG, if they aren't the program's."""
+    """The version of the Python package, and the last one of CHANGELOG, if they aren't the program's, and a version without a date."""
     program = re.search(r'VERSION: &str = "([\d.]+)"', repo.text_of(HELP))
     version = program[1] if program else ""
-    for page, pattern in (("python/gavyreto/version.py", r'(?m)^__version__ = "([\d.]+)"$'), ("CHANGELOG.md", r"(?m)^## (\d[\d.]*)$")):
+    for page, pattern in (("python/gavyreto/version.py", r'(?m)^__version__ = "([\d.]+)"$'), ("CHANGELOG.md", r"(?m)^## Unreleased\n(?:.*\n)*?## (\d[\d.]*), \d{4}-\d\d-\d\d$")):
         found = re.search(pattern, repo.text_of(page))
         if found is None or found[1] != version:
             yield f"{page}: version {found[1] if found else 'none'}, the program has {version}"
