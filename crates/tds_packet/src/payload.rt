@@ -167,7 +167,28 @@ impl<'a, R: Read> Payload<'a, R> {
 
     /// Fills a slice with the next bytes. A message that ends before the slice is full stops the
     /// call at the place where it began, and none of its bytes counts as handed out.
+    #[inline(always)]
     pub fn fill(&mut self, to: &mut [u8]) -> Result<(), Stop>
+        requires { IsSound self.old }
+        ensures payload { AnswersAgain self.old self.new result }
+        ensures place { self.new.place ≡ (if is_ok result then self.old.place + length to.new else self.old.place) }
+        ensures all { OnOk result (Takes (seen R.remaining self.old) (seen R.remaining self.new) to.new (length to.new)) }
+        ensures between { OnOk result (IsBetween (seen R.remaining self.new)) }
+        ensures part { IfErr result (λ stop. self.old.stopped ≡ None → CutsFill R.remaining self.old self.new to.new stop) }
+    {
+        let n = to.len();
+        if self.stopped.is_some() || n > self.packet.len() - self.at {
+            return self.fill_on(to);
+        }
+        let held = self.buffered();
+        to.copy_from_slice(&held[..n]);
+        self.consume(n);
+        Ok(())
+    }
+
+    // Fills a slice as `fill` does, piece by piece.
+    #[inline(never)]
+    fn fill_on(&mut self, to: &mut [u8]) -> Result<(), Stop>
         requires { IsSound self.old }
         ensures payload { AnswersAgain self.old self.new result }
         ensures place { self.new.place ≡ (if is_ok result then self.old.place + length to.new else self.old.place) }
@@ -177,13 +198,6 @@ impl<'a, R: Read> Payload<'a, R> {
     {
         if let Some(stop) = self.stopped {
             return Err(stop);
-        }
-        let n = to.len();
-        let held = self.buffered();
-        if n <= held.len() {
-            to.copy_from_slice(&held[..n]);
-            self.consume(n);
-            return Ok(());
         }
         let start = self.place;
         let mut at = 0;

@@ -1,5 +1,5 @@
 use Rattle.tds_packet.proofs as N
-use N.payload.Payload.fill.Goals as goal
+use N.payload.Payload.fill_on.Goals as goal
 use N.{◌≡◌, ◌+◌, ◌-◌, ◌≤◌, rules}
 use N.PayloadLaws.{at_ok, at_err, between_of, ends_there, takes_piece}
 
@@ -10,7 +10,7 @@ loop-at-preserved g c =
     let s = c.piece.follows.lender-at-none in
     let inv = c.loop-at.invariant in
     let bytes = c.in-Ok.bytes.now in
-    let all : c.copy_from_slice-in-Ok.new.self ≡ bytes = search rules in
+    let all : c.copy_from_slice.new.self ≡ bytes = search rules in
     record {
       sound = h.0;
       same = search rules;

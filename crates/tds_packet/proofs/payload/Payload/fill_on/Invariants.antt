@@ -1,5 +1,5 @@
 use Rattle.tds_packet.proofs as N
-use N.payload.Payload.fill.Given as goal
+use N.payload.Payload.fill_on.Given as goal
 use N.{◌≡◌, ◌+◌, ◌-◌, ◌≤◌}
 
 abbrev pub invariant-loop-at : goal.invariant-loop-at
