@@ -88,7 +88,7 @@ pub use Rattle.tds_rows.specs.LongCells.{RefusesNumber, EndsData, added_text, St
 pub use Rattle.tds_rows.specs.LongCells.{StopsData, ReadsNumber, short_length, CutsNumber, total_fault, ending, BreaksData, short_fault, join_stop, opening}
 pub use Rattle.tds_rows.specs.LongCells.{FillsData, CutsData, TakesData}
 pub use Rattle.tds_rows.specs.MarkedRuns.{BreaksMarked, WritesColumn, EndsFar, EndsLeft, MarkedPut, MarkedWritten, AreClear, PutsMarked, WritesMarked}
-pub use Rattle.tds_rows.specs.MarkedRuns.{RunsMarked, WritesNext}
+pub use Rattle.tds_rows.specs.MarkedRuns.{AreSet, RunsMarked, WritesNext, WritesNulls}
 pub use Rattle.tds_rows.specs.PassedCells.{CellPassed, StepsOver, StopsPassing, IsGoodValue, CutsPassing, return_cell, PassesData, PassesCell, AnyData}
 pub use Rattle.tds_rows.specs.RowRuns.{MarkedRead, RunRead}
 pub use Rattle.tds_rows.specs.MarkedRows.{EndsNbcRows, NbcRowsWritten, WritesNbcRows}

@@ -28,6 +28,10 @@ WritesNext charset false kind column last bytes text = WritesWhole (cell_start k
 abbrev pub AreClear : (ℕ → Bool) → ℕ → ℕ → Type 0
 AreClear nulls from end = (k : ℕ) → from ≤ k → k < end → nulls k ≡ false
 
+-- The columns from one up to another are NULL by their bit.
+abbrev pub AreSet : (ℕ → Bool) → ℕ → ℕ → Type 0
+AreSet nulls from end = (k : ℕ) → from ≤ k → k < end → nulls k ≡ true
+
 -- The columns from one up to another, of this number, aren't NULL by their bit; that one, if there is one, is.
 pub record EndsClear (nulls : ℕ → Bool) (from count end : ℕ) : Type 0 where
   pub least : from ≤ end
@@ -48,6 +52,11 @@ WritesMarked charset columns nulls from zero bytes text = (bytes ≡ []) × (tex
 WritesMarked charset columns nulls from (suc n) bytes text = (front : List ℕ) × (rest : List ℕ) × (before : List ℕ) × (more : List ℕ)
     × (bytes ≡ front ++ rest) × (text ≡ before ++ more) × WritesMarked charset columns nulls from n front before
     × WritesColumn charset columns nulls (from + n) rest more
+
+-- This many columns from one on, of all these, are NULL by their bit, and this is their text in their line.
+abbrev pub WritesNulls : (ℕ → Bool) → ℕ → ℕ → ℕ → List ℕ → Type 0
+WritesNulls nulls from count n text = (charset : Charset) (columns : List Column) → length columns ≡ count →
+    WritesMarked charset columns nulls from n [] text
 
 -- Between two places of a row the bytes are the cells, each but those that are NULL by their bit, and this is their text; single-byte text is read in
 -- the table's set.

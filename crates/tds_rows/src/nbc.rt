@@ -1,7 +1,7 @@
 // A row with a bitmap of the columns that are NULL, and such rows after one another (MS-TDS, NBCROW).
-ghost use Rattle.std.specs.Prelude.{◌≡◌, true, ◌*◌, ◌<◌, ◌≤◌, drop, length, ◌+◌, ◌-◌, List, false, IfOk};
+ghost use Rattle.std.specs.Prelude.{◌≡◌, true, ◌*◌, ◌<◌, ◌≤◌, drop, length, take, ◌+◌, ◌-◌, List, false, IfOk};
 ghost use Rattle.tds_rows.specs.MarkedRows.{EndsNbcRows, NbcRowsWritten};
-ghost use Rattle.tds_rows.specs.MarkedRuns.{AreClear, EndsClear, EndsFar, EndsLeft, EndsMarked, MarkedPut, MarkedWritten, room_left};
+ghost use Rattle.tds_rows.specs.MarkedRuns.{AreClear, AreSet, EndsClear, EndsFar, EndsLeft, EndsMarked, MarkedPut, MarkedWritten, WritesNulls, room_left};
 ghost use Rattle.tds_rows.specs.Rows.{bit, NbcRow, bitmap_length, longest_bitmap, nbc_row_start};
 ghost use Rattle.tds_columns.specs.Description.{Column};
 ghost use Rattle.tds_packet.specs.Payloads.{buffered};
@@ -53,6 +53,66 @@ fn clear_end(bitmap: &[u8], from: u16, known: u16, count: u16) -> u16
     count
 }
 
+// NULL in eight columns after one another, each after a comma.
+const NULLS: [u8; NULLS_SIZE] = *b",NULL,NULL,NULL,NULL,NULL,NULL,NULL,NULL";
+
+// How many bytes that has.
+const NULLS_SIZE: usize = 40;
+
+// How many it has for each column.
+const NULL_SIZE: usize = 5;
+
+// How many columns from one on have their bit in the same byte and set, and come before the last one.
+#[inline(always)]
+fn nulls_ahead(bitmap: &[u8], column: u16, count: u16) -> usize
+    requires bitmap { count ≤ 8 * length bitmap.now }
+    requires within { column < count }
+    ensures few { result ≤ 8 }
+    ensures within { column + result < count }
+    ensures set { AreSet (bit bitmap.now) column (column + result) }
+{
+    let bits = bitmap[column as usize / 8] as u32 >> (column % 8) as u32;
+    let left = (count - 1 - column) as usize;
+    left.min(bits.trailing_ones() as usize)
+}
+
+// In how many columns NULL may be written at once.
+const EIGHT: usize = 8;
+
+// In how many columns NULL was written, and how many bytes that made.
+#[derive(Clone, Copy)]
+struct Nulls {
+    columns: usize,
+    made: usize,
+}
+
+// Writes NULL in its line, in the next column, which is NULL by its bit, and in those after it that are too by the bits of the
+// same byte, in `most` columns at most.
+#[inline(always)]
+fn write_nulls(bitmap: &[u8], column: u16, count: u16, most: usize, to: &mut [u8]) -> Nulls
+    requires bitmap { count ≤ 8 * length bitmap.now }
+    requires within { column < count }
+    requires null { bit bitmap.now column ≡ true }
+    requires most { 0 < most }
+    requires room { CELL_ROOM ≤ length to.old }
+    ensures some { 0 < result.columns }
+    ensures most { result.columns ≤ most }
+    ensures within { column + result.columns ≤ count }
+    ensures made { result.made ≤ 40 }
+    ensures nulls { WritesNulls (bit bitmap.now) column count result.columns (take result.made to.new) }
+{
+    let columns = nulls_ahead(bitmap, column, count).min(most);
+    if columns < 2 || column == 0 {
+        let made = write_null(column, column + 1 == count, to);
+        return Nulls { columns: 1, made };
+    }
+    to[..NULLS_SIZE].copy_from_slice(&NULLS);
+    Nulls {
+        columns,
+        made: NULL_SIZE * columns,
+    }
+}
+
 /// How many bytes a run over NBCROWs used, how many it made, and how many rows those are.
 #[derive(Clone, Copy)]
 pub(crate) struct WholeRows {
@@ -72,7 +132,7 @@ impl<'a> Table<'a> {
         bytes: &[u8],
         to: &mut [u8],
     ) -> CellRun<'a>
-        requires known { KnowsAll self.now }
+        requires known { self.now.known ≡ self.now.count }
         requires bitmap { self.now.count ≤ 8 * length bitmap.now }
         ensures used { result.used ≤ length bytes.now }
         ensures made { result.made ≤ length to.old }
@@ -92,8 +152,11 @@ impl<'a> Table<'a> {
                 break;
             };
             let (column, last) = (ahead.column, self.is_last(ahead));
+            let mut columns = 1;
             if is_null(bitmap, column) {
-                made += write_null(column, last, &mut to[made..]);
+                let nulls = write_nulls(bitmap, column, self.count(), EIGHT, &mut to[made..]);
+                made += nulls.made;
+                columns = nulls.columns;
             } else {
                 let charset = self.charset;
                 let next = write_far_alone(&form, charset, column, last, bytes, used, to, made);
@@ -103,7 +166,7 @@ impl<'a> Table<'a> {
                 used += written.used;
                 made += written.made;
             }
-            self.pass(&mut ahead, 1);
+            self.pass(&mut ahead, columns);
         }
         CellRun { used, made, ahead }
     }
@@ -164,11 +227,13 @@ impl<'a> Table<'a> {
         let mut made = 0;
         let mut ahead = from;
         let mut end = 0;
+        let most = if KNOWN { EIGHT } else { 1 };
         while to.len() - made >= CELL_ROOM && ahead.column < self.count() {
             end = clear_end(bitmap, ahead.column, end, self.count());
             if end == ahead.column {
-                made += write_null(end, self.is_last(ahead), &mut to[made..]);
-                self.step(&mut ahead, 1);
+                let nulls = write_nulls(bitmap, end, self.count(), most, &mut to[made..]);
+                made += nulls.made;
+                self.step(&mut ahead, nulls.columns);
                 continue;
             }
             let (rest, room) = (&bytes[used..], &mut to[made..]);
@@ -200,6 +265,9 @@ impl<'a> Table<'a> {
 
 /// The token byte of an NBCROW (MS-TDS, NBCROW).
 pub const NBCROW: u8 = 0xD2;
+
+// How many bytes the text of each cell has of a row that is likely to have room in the block.
+const SHORT_CELL: usize = 4;
 
 /// The most bytes that a bitmap has. A call that reads NBCROWs needs room for it in the bitmap's area.
 pub const LONGEST_BITMAP: usize = 8192;
@@ -268,11 +336,11 @@ impl<'r, 't, 'p, 's, 'c, R: Read, W: Write> Rows<'r, 't, 'p, 's, 'c, R, W> {
         ensures rows { (columns : List Column) → Knows self.old.table.now columns →
             RowsTaken R.remaining W.contents columns self.old self.new result }
     {
-        if !self.table.knows_all() {
+        let room = self.sink.room() - 1;
+        if !self.table.knows_all() || room < SHORT_CELL * self.table.count() as usize {
             return 0;
         }
         let waiting = self.sink.waiting() as usize;
-        let room = self.sink.room() - 1;
         let (bytes, spare) = (self.payload.buffered(), self.sink.spare(room));
         let run = self.table.run_far_rows(bytes, spare);
         self.payload.consume(run.used);

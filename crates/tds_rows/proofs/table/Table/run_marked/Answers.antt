@@ -1,23 +1,19 @@
 use Rattle.tds_rows.proofs.table.Table.run_marked.Goals as goal
 use Rattle.tds_rows.proofs.Words as N
-use Rattle.tds_rows.proofs.Words.{ℕ, ◌≡◌, ◌∙◌, ◌-◌, ◌<◌, ◌≤◌, ◌∷◌, ap, length, arith}
+use Rattle.tds_rows.proofs.Words.{◌≡◌, ◌∙◌, ◌-◌, ◌<◌, ◌≤◌, [], ap, length, arith}
 use Rattle.tds_rows.proofs.table.Table.run_marked.Goals.{else-loop-to-test, then-loop-to-test+else-ahead-count}
 use Rattle.tds_rows.proofs.table.Table.run_marked.Goals.{then-loop-to-test+then-ahead-count+else-end-ahead+then-cells-eq0}
-use Rattle.tds_rows.proofs.TableRuns.{ends_clear, runs_clear, runs_column, runs_more}
-use Rattle.tds_rows.proofs.TableSteps.{last_one, next_any, none_next, takes}
+use Rattle.tds_rows.proofs.TableRuns.{ends_clear, runs_clear, runs_more}
+use Rattle.tds_rows.proofs.TableSteps.{none_next}
 
--- a column that is NULL by its bit
+-- columns that are NULL by their bit
 pub loop-to-preserved-then-end-ahead : goal.loop-to-preserved-then-end-ahead
 loop-to-preserved-then-end-ahead g c =
     let l = c.loop-to in
-    let bits = N.bit c.args.bitmap.now in
-    let end = c.clear_end-end in
-    let made = c.write_null-made.result in
-    let text = c.write_null-made.new.to in
+    let nulls = c.write_nulls-nulls.result in
+    let text = c.write_nulls-nulls.new.to in
     let at = c.if-end-ahead.true in
-    let null = N.subst (λ (k : ℕ). bits k ≡ N.true) at
-    (end.ensures.set (omega arith)) in
-    let within : made ≤ length text = search arith in
+    let within : nulls.made ≤ length text = search arith in
     record {
       used = l.invariant.used;
       made = search arith;
@@ -25,13 +21,14 @@ loop-to-preserved-then-end-ahead g c =
       clear = λ k least most. absurd (omega (arith, at));
       writes = λ columns knows ahead.
           let ran = l.invariant.writes columns knows ahead in
-          let some : l.ahead.column < c.args.self.now.count = omega arith in
-          let one = next_any _ _ _ knows.counted some in
-          let taken = takes one.1 c.step.ensures.further (c.step.ensures.ahead columns knows ran.ahead) in
-          let last = c.is_last.ensures ∙ last_one _ _ _ _ _ knows.counted taken.next in
-          let line = c.write_null-made.ensures.text
-          ∙ ap (λ (k : ℕ). N.in_line k c.is_last.result N.null_field) at ∙ ap (λ (e : N.Bool). N.in_line l.ahead.column e N.null_field) last in
-          rw (N.sym (N.add-zero l.used)) (runs_more _ _ _ _ _ _ _ _ _ l.invariant.made within ran (runs_column taken N.refl (rw null (N.refl, line))));
+          let written = c.write_nulls-nulls.ensures.nulls c.args.self.now.charset columns (N.sym (c.count-then-end-ahead.ensures ∙ knows.counted)) in
+          let more : N.RunsMarked c.args.self.now columns (N.bit c.args.bitmap.now) l.ahead c.step.new.at [] (N.take nulls.made text) = record {
+            count = nulls.columns;
+            ahead = c.step.ensures.ahead columns knows ran.ahead;
+            further = c.step.ensures.further;
+            writes = rw at at written;
+          } in
+          rw (N.sym (N.add-zero l.used)) (runs_more _ _ _ _ _ _ _ _ _ l.invariant.made within ran more);
     }
 
 -- a run over columns that aren't
