@@ -93,6 +93,7 @@ const XML: u8 = 0xF1;
 const CHUNKED: u16 = 0xFFFF;
 
 /// How many bytes follow a type byte in TYPE_INFO, if it is one of this profile.
+#[inline(always)]
 #[tactic(auto, unfolding(tds_values::specs::TypeInfo::rest_length))]
 pub(crate) fn rest_length(byte: u8) -> Option<usize>
     ensures value { result ≡ info.rest_length byte }
@@ -214,6 +215,7 @@ fn is_named(byte: u8, rest: &[u8]) -> bool
 }
 
 /// The kind that a type byte and all the bytes after it describe, if they are a TYPE_INFO.
+#[inline(always)]
 pub(crate) fn kind_of(byte: u8, rest: &[u8]) -> Option<Kind>
     requires { info.rest_length byte ≡ Some (length rest.now) }
     ensures { result ≡ info.kind_of (byte ∷ rest.now) }
