@@ -11,6 +11,7 @@ from lib.lints.pages import PAGES, functions
 from plain.cases import chosen
 
 PROOFS = "docs/PROOFS.md"
+FIGURES = ("functions", "edits", "by search")  # the columns of the gate's figures, after the crate
 RANDOM = 1_000  # responses at random that `make generated` reads by default
 
 
@@ -47,15 +48,22 @@ def wrong_edits() -> Iterator[str]:
     for crate, count in figures("edits").items():
         if len(known.get(crate, ())) != number(count):
             yield f"{PROOFS}: {crate} has {len(known.get(crate, ()))} edits, not {count}"
+    by_search = {crate: number(it) for crate, it in figures("by search").items()}
+    for crate, refused in by_search.items():
+        most = sum(not it.startswith("law_") for it in known.get(crate, ()))
+        if refused > most:
+            yield f"{PROOFS}: {crate} has {most} edits of its code, not {refused}"
     total = sum(map(len, known.values()))
     yield from told("edits", total, r"([\d,]+) wrong changes", "README.md")
     yield from told("edits", total, r"([\d,]+) must-fail edits in all", PROOFS)
+    yield from told("edits refused by search", sum(by_search.values()), r"([\d,]+) of them refused by search", PROOFS)
 
 
 def figures(column: str) -> dict[str, str]:
-    """A column of the gate's figures, `functions` or `edits`, by crates."""
-    rows = re.findall(r"(?m)^\| `(\w+)` \| (\d+) \| (\d+) \|$", repo.text_of(PROOFS).split("## The gate's figures")[1])
-    return {crate: of_functions if column == "functions" else of_edits for crate, of_functions, of_edits in rows}
+    """A column of the gate's figures by crates."""
+    row = r"(?m)^\| `(\w+)` \|" + r" (\d+) \|" * len(FIGURES) + "$"
+    rows = re.findall(row, repo.text_of(PROOFS).split("## The gate's figures")[1])
+    return {crate: counts[FIGURES.index(column)] for crate, *counts in rows}
 
 
 def wrong_functions() -> Iterator[str]:
