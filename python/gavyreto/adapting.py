@@ -8,9 +8,9 @@ import struct
 from typing import Callable, Iterator, NamedTuple, Optional, cast
 
 from gavyreto import columns, floats, tds
-from gavyreto.columns import FIXED, Described, Type
+from gavyreto.columns import FIXED, Column, Described, Type
 from gavyreto.payload import (
-    Payload, Read, Write, after_rows, bytes_of_bitmap, cell, head_of_value, rest_of, ways_over,
+    Ended, Payload, Read, Write, after_rows, bytes_of_bitmap, cell, head_of_value, rest_of, ways_over,
 )
 from gavyreto.scalars import TEXTS, check_variant
 from gavyreto.tds import DataType, Token
@@ -22,6 +22,7 @@ LONGEST_VARIANT = 8016  # bytes of a sql_variant with its type and properties
 TEXT_OF_FLOAT = 40  # characters at most
 MAX = b"\xFF\xFF"
 Convert = Callable[[Payload, Type], Iterator[bytes]]
+Note = Callable[[list[Column]], None]  # is told the columns of each set, as they came
 
 
 class Adapted(NamedTuple):
@@ -168,13 +169,18 @@ class Output:
 class Adapter:
     """Rewrites one response, in fixed memory. What can't be followed raises ValueError."""
 
-    def __init__(self, read: Read, write: Write, charset: str) -> None:
-        self._output, self._charset = Output(write), charset
+    def __init__(self, read: Read, write: Write, charset: str, note: Optional[Note] = None) -> None:
+        self._output, self._charset, self._note = Output(write), charset, note
         self._payload = Payload(read, self._output.came)
         self._columns: Optional[list[Described]] = None
         self._adapted: list[Optional[Adapted]] = []  # what takes the place of each column's type
         self._ways: list[int] = []  # over the values of a row, if none of them changes
         self._rows: Optional[floats.Rows] = None  # if floats alone change
+
+    @property
+    def tail(self) -> bytes:
+        """The end of the payload, once all of it was read."""
+        return self._payload.tail
 
     def run(self) -> None:
         """Reads the response and writes it. Raises `payload.Ended` if its packets end before its last one, and ValueError if it
@@ -205,13 +211,15 @@ class Adapter:
         self._output.keep(bytes([Token.COLUMNS]) + head)
         count, = struct.unpack("<H", head)
         self._columns, self._adapted = None if count == columns.NO_METADATA else [], []
-        for _ in range(count if self._columns is not None else 0):
-            self._column(columns.read_column(self._payload.need))
+        came = [self._column(columns.read_column(self._payload.need)) for _ in range(count if self._columns is not None else 0)]
+        if self._note and came:
+            self._note([column for column in came if column])
         described, changes = self._columns or [], [it is not None for it in self._adapted]
         self._ways = [] if any(changes) else ways_over(described)
         self._rows = floats.Rows(described) if floats.is_planned(described, changes) else None
 
-    def _column(self, column: Described) -> None:
+    def _column(self, column: Described) -> Optional[Column]:
+        """Writes a column, and returns it as it came, if that is to be noted."""
         new = adapted(column.type, self._charset)
         if new:
             self._output.put(column.spelt(new.info))
@@ -219,6 +227,7 @@ class Adapter:
             self._output.keep(column.spelt())
         self._adapted.append(new and new._replace(info=b""))
         cast("list[Described]", self._columns).append(column.bare())
+        return column.column() if self._note else None
 
     def _row(self, byte: int) -> None:
         bitmap = self._payload.need(bytes_of_bitmap(byte, self._columns))
@@ -257,3 +266,35 @@ class Adapter:
         else:
             self._output.keep(bytes([type_.byte]) + type_.info)
         self._value(type_, new)
+
+
+# Responses that are handed over while they come.
+
+class Blocks:
+    """A response that comes in blocks cut anywhere, read as a file is."""
+
+    def __init__(self, following: Callable[[], bytes]) -> None:
+        self._following, self._block, self._at = following, b"", 0
+
+    def read(self, most: int) -> bytes:
+        if self._at == len(self._block):
+            self._block, self._at = self._following(), 0
+        data = self._block[self._at:self._at + most]
+        self._at += len(data)
+        return data
+
+
+def hand_over(following: Callable[[], bytes], write: Write, charset: Optional[str]) -> str:
+    """Writes a response block by block: as it comes, or rewritten if a character set is given. Returns why it can't be followed to where
+    the blocks end, or ""."""
+    if charset is None:
+        while block := following():
+            write(block)
+        return ""
+    try:
+        Adapter(Blocks(following).read, write, charset).run()
+    except ValueError as wrong:
+        return f"the response can't be followed: {wrong}"
+    except Ended:
+        pass  # whoever reads what was written says so
+    return ""

@@ -3,16 +3,19 @@ from __future__ import annotations
 
 import io
 import threading
+from itertools import chain
 from typing import Any, Iterator, Optional, cast
 
-from gavyreto.connection import ENCRYPT, LOGIN_SECONDS, PORT, SECONDS, Secret, Session, log_in_to
+from gavyreto.adapting import Adapter, Blocks as Pieces
+from gavyreto.connection import ENCRYPT, LOGIN_SECONDS, SECONDS, Secret, Session, log_in_to
 from gavyreto.errors import Error, NotSupportedError, ProgrammingError
 from gavyreto.payload import Descriptions, LateDescriptions, Payload, Write
 from gavyreto.program import CHARSETS, COLUMN_ROOM, MAX_WIRE, PACKET_SIZE_ASKED, PROGRAM, Program, command_of, path_of
-from gavyreto.response import Feeding, Response
+from gavyreto.response import Feeding, Response, adapt_all
 from gavyreto.rows import Row
 from gavyreto.text import Described, ResultSet
 from gavyreto.values import Dates, check_dates
+from gavyreto.where import PORT, SCHEME, where
 
 
 class Connection:
@@ -50,7 +53,7 @@ class Connection:
                 self._program.close()
 
     def query(
-        self, statement: str, *, dates: Dates = False, column_room: int = COLUMN_ROOM, max_wire: int = MAX_WIRE,
+        self, statement: str, *, dates: Dates = False, adapt: bool = False, column_room: int = COLUMN_ROOM, max_wire: int = MAX_WIRE,
         charset: str = CHARSETS[0], program: str = PROGRAM,
     ) -> Answer:
         """Asks, and returns an iterator over the result sets of the answer, as `export` does with the same arguments. The
@@ -67,7 +70,7 @@ class Connection:
             run = self._run_of(command_of(program, self._session.packet_size, column_room, max_wire, charset))
             run.begin()
             self._session.send(statement)
-            self._answer = Answer(self._session, run, dates)
+            self._answer = Answer(self._session, run, dates, charset if adapt else None)
             return self._answer
         finally:
             self._lock.release()
@@ -190,11 +193,11 @@ class Blocks:
 class Answer(Response):
     """The result sets of a server's answer, while it comes."""
 
-    def __init__(self, session: Session, program: Program, dates: Dates) -> None:
+    def __init__(self, session: Session, program: Program, dates: Dates, adapts: Optional[str]) -> None:
         self.owns: Optional[Connection] = None  # the connection that was made for this answer
         self.is_left = False  # whether no more of it is read
-        self._session, self._is_begun = session, False
-        super().__init__(program, dates, Descriptions())
+        self._session, self._is_begun, self._charset = session, False, adapts
+        super().__init__(program, dates, Descriptions(), adapts=adapts is not None)
 
     def _read(self, most: int) -> bytes:
         if not self._is_begun:
@@ -208,7 +211,7 @@ class Answer(Response):
             block = self._session.next()
         except Error as failure:
             self._raise(failure)
-        if self._session.is_ready() and self._program.offer(block):
+        if self._charset is None and self._session.is_ready() and self._program.offer(block):
             self._descriptions = LateDescriptions(io.BytesIO(block).read)
         else:
             found = cast(Descriptions, self._descriptions)
@@ -216,6 +219,9 @@ class Answer(Response):
 
     def _hand_on(self, write: Write, found: Descriptions, first: bytes) -> bool:
         """Hands the answer to the program, and notes the descriptions that may be asked for. Returns whether it was whole."""
+        if self._charset is not None:
+            following = chain([first], iter(self._session.next, b""))
+            return adapt_all(Adapter(Pieces(lambda: next(following, b"")).read, write, self._charset, found.add), found)
         blocks = Blocks(self._session, write, first)
         found.note(Payload(blocks.read), 1 if self._is_only else None)
         blocks.finish()
@@ -246,13 +252,16 @@ class Answer(Response):
 
 
 def connect(
-    server: str, *, user: str, password: str, port: int = PORT, database: str = "", encrypt: str = ENCRYPT[0],
-    certificates: Optional[str] = None, certificate_name: str = "", trust_server: bool = False, packet_size: int = PACKET_SIZE_ASKED,
-    seconds: float = SECONDS, login_seconds: float = LOGIN_SECONDS,
+    server: str, *, user: str = "", password: str = "", integrated: bool = False, access_token: Optional[str] = None, port: int = PORT,
+    database: str = "", encrypt: str = ENCRYPT[0], certificates: Optional[str] = None, certificate_name: str = "", trust_server: bool = False,
+    packet_size: int = PACKET_SIZE_ASKED, seconds: float = SECONDS, login_seconds: float = LOGIN_SECONDS,
 ) -> Connection:
-    """Connects to a server, and logs in by SQL authentication.
+    """Connects to a server, and logs in: by user and password, by Kerberos, or by an access token.
 
-    server            the name that its certificate has, or an address
+    server            the name that its certificate has, or an address; HOST\\INSTANCE, whose port is looked up; or a URL,
+                      mssql://USER@HOST:PORT/DATABASE?NAME=VALUE&.., without a password: what it says goes before arguments
+    integrated        whether the login is by Kerberos, for which Python's module gssapi and a ticket have to be there
+    access_token      a token of Entra ID
     database          without it that of the user
     encrypt           minimum encryption: "all", "login" or "none"; a server that asks for more gets it
     certificates      a file of authorities to trust in place of the system's, in PEM
@@ -264,28 +273,50 @@ def connect(
 
     Raises ConnectionFailed, of which TimedOut, CertificateRefused, EncryptionRefused and LoginRefused are kinds, BadAnswer if what
     answers is no such server, and ValueError or TypeError if an argument is none. A redirection is followed once, and only if it came
-    encrypted."""
+    encrypted. Neither a ticket nor a token is sent without encryption."""
     password = Secret(password) if isinstance(password, str) else password
-    return Connection(log_in_to(
-        server, user=user, password=password, port=port, database=database, encrypt=encrypt, certificates=certificates,
-        certificate_name=certificate_name, trust_server=trust_server, packet_size=packet_size, seconds=seconds, login_seconds=login_seconds))
+    access_token = Secret(access_token) if isinstance(access_token, str) else access_token
+    own: dict[str, Any] = {
+        "server": server, "user": user, "password": password, "port": port, "database": database,
+        "encrypt": encrypt, "certificates": certificates, "certificate_name": certificate_name, "trust_server": trust_server,
+        "packet_size": packet_size, "seconds": seconds, "login_seconds": login_seconds, "integrated": integrated,
+        "access_token": access_token}
+    if isinstance(server, str) and server.lower().startswith(SCHEME):
+        own |= _of_url(server)
+    return Connection(log_in_to(**own))
+
+
+def _of_url(url: str) -> dict[str, Any]:
+    """What a URL says, as arguments. Raises ValueError."""
+    found = where(url)
+    given: dict[str, Any] = {"server": f"{found.host}\\{found.instance}" if found.instance else found.host}
+    given |= {name: value for name, value in (("port", found.port), ("user", found.user), ("database", found.database)) if value}
+    for name, value in found.options:
+        if name == "trust-server":
+            given["trust_server"] = value.lower() in ("", "1", "true", "yes")
+        else:
+            given[name.replace("-", "_")] = int(value) if name in ("packet-size", "seconds", "login-seconds") else value
+    return given
 
 
 def query(
-    statement: str, server: str, *, user: str, password: str, port: int = PORT, database: str = "", encrypt: str = ENCRYPT[0],
-    certificates: Optional[str] = None, certificate_name: str = "", trust_server: bool = False, packet_size: int = PACKET_SIZE_ASKED,
-    seconds: float = SECONDS, login_seconds: float = LOGIN_SECONDS, dates: Dates = False, column_room: int = COLUMN_ROOM,
-    max_wire: int = MAX_WIRE, charset: str = CHARSETS[0], program: str = PROGRAM,
+    statement: str, server: str, *, user: str = "", password: str = "", integrated: bool = False, access_token: Optional[str] = None,
+    port: int = PORT, database: str = "", encrypt: str = ENCRYPT[0], certificates: Optional[str] = None, certificate_name: str = "",
+    trust_server: bool = False, packet_size: int = PACKET_SIZE_ASKED, seconds: float = SECONDS, login_seconds: float = LOGIN_SECONDS,
+    dates: Dates = False, adapt: bool = False, column_room: int = COLUMN_ROOM, max_wire: int = MAX_WIRE, charset: str = CHARSETS[0],
+    program: str = PROGRAM,
 ) -> Response:
     """Asks a server one statement, on a connection of its own, and returns an iterator over the result sets of the answer:
     what `connect` and `Connection.query` do with the same arguments."""
     path, password = path_of(program), Secret(password) if isinstance(password, str) else password
+    access_token = Secret(access_token) if isinstance(access_token, str) else access_token
     connection = connect(
-        server, user=user, password=password, port=port, database=database, encrypt=encrypt, certificates=certificates,
-        certificate_name=certificate_name, trust_server=trust_server, packet_size=packet_size, seconds=seconds, login_seconds=login_seconds)
+        server, user=user, password=password, integrated=integrated, access_token=access_token, port=port, database=database, encrypt=encrypt,
+        certificates=certificates, certificate_name=certificate_name, trust_server=trust_server, packet_size=packet_size, seconds=seconds,
+        login_seconds=login_seconds)
     try:
         answer = connection.query(
-            statement, dates=dates, column_room=column_room, max_wire=max_wire, charset=charset, program=path)
+            statement, dates=dates, adapt=adapt, column_room=column_room, max_wire=max_wire, charset=charset, program=path)
     except BaseException:
         connection.close()
         raise

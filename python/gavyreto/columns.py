@@ -44,6 +44,7 @@ LENGTHY: dict[int, str] = {
     DataType.NVARCHAR: "nvarchar", DataType.NCHAR: "nchar",
 }
 WHOLE = ("tinyint", "smallint", "int", "bigint")
+FLOATS = ("float", "real")
 
 
 class Type(NamedTuple):

@@ -13,14 +13,16 @@ from typing import Any, Callable, Iterator, NamedTuple, Optional, Union, cast
 
 from gavyreto import tds
 from gavyreto.errors import BadAnswer, CertificateRefused, ConnectionFailed, EncryptionRefused, Error, LoginRefused, TimedOut
+from gavyreto.logins import Hidden, Proof, Proving, Way, checked_token
 from gavyreto.tds import Encryption, PacketType
+from gavyreto.where import BROWSER, port_of
 
-PORT = 1433
 SECONDS, LOGIN_SECONDS, MOST_SECONDS = 300, 15, 86400
 ENCRYPT = ("all", "login", "none")
 BLOCK = 1 << 18  # bytes that are received at once, at most
 UNASKED = "the server sent bytes that weren't asked for"
 LONGEST_MESSAGE = 1 << 20  # of those that are read whole: greetings and logins
+MOST_TICKETS = 10  # messages with tickets of a server in a login
 MOST_EMPTY = 1000  # packets without a body in an answer
 SLICE = 0.5  # seconds after which it is looked again at how long is waited for, which a signal may change
 AT_THE_END = 0.25  # seconds for which the other side's end is waited for at the end of a session
@@ -219,6 +221,7 @@ class Server(NamedTuple):
     seconds: float
     login_seconds: float = LOGIN_SECONDS
     until: float = 0.0  #: the end of the login, by the monotonic clock
+    instance: str = ""  #: whose port isn't known
 
     def reach(self) -> Channel:
         """A connection, before its greeting. Raises ConnectionFailed or OSError."""
@@ -237,6 +240,18 @@ class Server(NamedTuple):
                 connected.close()
                 raise
         raise failure
+
+    def found(self) -> Server:
+        """The server with the port of its instance. Raises ConnectionFailed or OSError."""
+        if not self.instance:
+            return self
+        there = f"{self.host}\\{self.instance}"
+        try:
+            return self._replace(port=port_of(self._addresses(), self.instance, self.until), instance="")
+        except ValueError as wrong:
+            raise ConnectionFailed(f"{there}: {wrong}: write HOST,PORT") from None
+        except TimeoutError:
+            raise TimedOut(f"{there}: SQL Server Browser didn't answer at port {BROWSER} of UDP within {self.login_seconds:g} seconds: write HOST,PORT") from None
 
     def _seconds_left(self) -> Optional[float]:
         """The seconds up to the end of the login; None without one."""
@@ -332,31 +347,47 @@ LACKING = {
 }
 
 
-def greet(channel: Channel, server: Server) -> Encryption:
-    """Greets, and begins the encryption that is agreed on. Returns what the server answered."""
-    channel.write_message(PacketType.PRELOGIN, tds.prelogin(Encryption.ON if server.encrypt == "all" else Encryption.OFF))
+def greet(channel: Channel, server: Server, proof: Proof) -> tuple[Encryption, bool]:
+    """Greets, and begins the encryption that is agreed on. Returns what the server answered, and whether it requires a token."""
+    channel.write_message(PacketType.PRELOGIN, tds.prelogin(Encryption.ON if server.encrypt == "all" else Encryption.OFF, proof.is_token))
     kind, payload = channel.read_message()
     channel.expect_nothing()
     try:
-        answered = tds.encryption_of(payload)
+        answered, is_required = tds.encryption_of(payload), tds.is_token_required(payload)
     except (ValueError, struct.error):
-        kind, answered = -1, Encryption.NOT_SUPPORTED
+        kind, answered, is_required = -1, Encryption.NOT_SUPPORTED, False
     if kind != PacketType.ANSWER:
         raise BadAnswer("what came isn't the answer of a server of TDS 7.4 to a greeting")
     if answered not in ENOUGH[server.encrypt]:
         raise EncryptionRefused(LACKING[answered])
+    if answered == Encryption.NOT_SUPPORTED and proof.needs_encryption:
+        raise EncryptionRefused("the server, or somebody between, doesn't encrypt: neither a ticket nor a token is sent to it")
     if answered != Encryption.NOT_SUPPORTED:
         channel.encrypt(server.context(), server_hostname=server.certified)
         channel.expect_nothing()
-    return answered
+    return answered, is_required
 
 
-def log_in(channel: Channel, server: Server, login: bytes) -> tds.Accepted:
-    """Greets and logs in. Returns what the server answered."""
-    answered = greet(channel, server)
-    channel.write_message(PacketType.LOGIN, login)
+def log_in(channel: Channel, server: Server, login: Callable[[bool], bytes], proof: Proof = Proof()) -> tds.Accepted:
+    """Greets and logs in, by a message that is told whether a token is required. Returns what the server answered."""
+    answered, is_required = greet(channel, server, proof)
+    channel.write_message(PacketType.LOGIN, login(is_required))
     if answered == Encryption.OFF:
         channel.uncover()
+    accepted = read_answer(channel)
+    for _ in range(MOST_TICKETS):
+        ticket = proof.answer(accepted.ticket) if accepted.ticket else b""
+        if accepted.is_done:
+            proof.check()
+            return accepted
+        if ticket:
+            channel.write_message(PacketType.TICKET, ticket)
+        accepted = read_answer(channel)
+    raise BadAnswer("the server asks for tickets without end")
+
+
+def read_answer(channel: Channel) -> tds.Accepted:
+    """Reads the answer to a login, or to a ticket."""
     kind, payload = channel.read_message()
     try:
         accepted = tds.read_login_answer(payload)
@@ -400,6 +431,11 @@ class Session:
         if self.closed_after is None:
             self.closed_after = why
             self._channel.close()
+
+    def abandon(self) -> None:
+        """Cuts the connection, from another thread than the one that waits for it, which finds that it has ended."""
+        with contextlib.suppress(OSError):
+            self._channel.socket.shutdown(socket.SHUT_RDWR)
 
     def end(self) -> None:
         """Closes the connection once all answers are read. Raises BadAnswer if more has come than them."""
@@ -494,13 +530,6 @@ class Secret(str):
         return "''"
 
 
-class Hidden(bytes):
-    """Bytes with a password in them, which aren't shown either."""
-
-    def __repr__(self) -> str:
-        return "b''"
-
-
 def check_arguments(
     texts: dict[str, object], flags: dict[str, object], numbers: dict[str, tuple[object, float, float]], whole: tuple[str, ...],
 ) -> None:
@@ -520,28 +549,33 @@ def check_arguments(
 
 def log_in_to(
     server: str, *, user: str, password: str, port: int, database: str, encrypt: str, certificates: Optional[str], certificate_name: str,
-    trust_server: bool, packet_size: int, seconds: float, login_seconds: float,
+    trust_server: bool, packet_size: int, seconds: float, login_seconds: float, integrated: bool, access_token: Optional[str],
 ) -> Session:
-    """Connects to a server, and logs in by SQL authentication: what `gavyreto.connect` does with the same arguments."""
+    """Connects to a server, and logs in: what `gavyreto.connect` does with the same arguments."""
+    token = "" if access_token is None else access_token
     check_arguments(
-        {"server": server, "user": user, "password": password, "database": database, "certificate_name": certificate_name},
-        {"trust_server": trust_server},
+        {"server": server, "user": user, "password": password, "database": database, "certificate_name": certificate_name, "access_token": token},
+        {"trust_server": trust_server, "integrated": integrated},
         {"port": (port, 1, 65535), "packet_size": (packet_size, tds.LEAST_PACKET_SIZE, tds.GREATEST_PACKET_SIZE),
          "seconds": (seconds, 0, MOST_SECONDS), "login_seconds": (login_seconds, 0, MOST_SECONDS)}, ("port", "packet_size"))
-    password = Secret(password)
     if encrypt not in ENCRYPT:
         raise ValueError(f"encrypt is one of {', '.join(ENCRYPT)}, not {encrypt}")
-    here = Server(server, port, certificate_name or server, encrypt, contexts_of(certificates, trust_server), seconds, login_seconds,
-                  time.monotonic() + login_seconds)
-    login = tds.Login(socket.gethostname(), user, password, "gavyreto", server, "", "", database, packet_size)
-    channel, accepted = _session(here, login)
+    if integrated + (access_token is not None) + bool(user or password) > 1:
+        raise ValueError("a login is by user and password, integrated, or by an access token: one of them")
+    way = Way(integrated, None if access_token is None else Secret(checked_token(access_token)))
+    host, _, instance = server.partition("\\")
+    here = Server(host, port, certificate_name or host, encrypt, contexts_of(certificates, trust_server), seconds, login_seconds,
+                  time.monotonic() + login_seconds, instance)
+    login = tds.Login(socket.gethostname(), user, Secret(password), "gavyreto", server, "", "", database, packet_size)
+    here = here.found()
+    channel, accepted = _session(here, login, way.proof_of)
     if accepted.routing:
         channel.close()
         host, port = accepted.routing
         here = here._replace(host=host, port=port)
         if len(host) > tds.MOST_UNITS:
             raise BadAnswer(f"the server redirects to a name of more than {tds.MOST_UNITS} characters")
-        channel, accepted = _session(here, login._replace(server=host))
+        channel, accepted = _session(here, login._replace(server=host), way.proof_of)
         if accepted.routing:
             channel.close()
             raise ConnectionFailed(f"the server {host}, port {port}, to which another one redirects, redirects too")
@@ -549,13 +583,20 @@ def log_in_to(
     return Session(channel, here, accepted.packet_size)
 
 
-def _session(server: Server, login: tds.Login) -> tuple[Channel, tds.Accepted]:
+def _session(server: Server, login: tds.Login, proving: Proving) -> tuple[Channel, tds.Accepted]:
     """A connection that is logged in."""
-    message = Hidden(tds.login(login, os.getpid() & 0xFFFF))
+    tds.login(login, 0)  # what is no login is refused before anything is sent
+    proof = proving(server.host, server.port)
+    ticket = proof.ticket()
+
+    def message(is_required: bool) -> bytes:
+        sent = {"token": ticket, "echoes": is_required} if proof.is_token else {"ticket": ticket}
+        return Hidden(tds.login(login, os.getpid() & 0xFFFF, **sent))  # type: ignore[arg-type]
+
     with told(server):
         channel = server.reach()
         try:
-            return channel, log_in(channel, server, message)
+            return channel, log_in(channel, server, message, proof)
         except BaseException:
             channel.close()
             raise

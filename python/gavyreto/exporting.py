@@ -12,10 +12,11 @@ import time
 from typing import NamedTuple, Optional
 
 from gavyreto import program, tds
+from gavyreto.adapting import hand_over
 from gavyreto.commands.common import cause_of
+from gavyreto.outcomes import UNFINISHED
 from gavyreto.program import BAD_INPUT, BLOCK, DONE, FAILED, SERVER_ERROR, Output, OutputFailed, Program
 
-UNFINISHED = ".unfinished"  # at the end of the name of a text that waits
 DIGITS = 16  # of the digest of a program that are kept
 
 
@@ -46,12 +47,13 @@ class Outcome(NamedTuple):
     program: str = ""  #: its name, version and digest
 
 
-def export_file(file: str, folder: str, command: list[str]) -> Outcome:
-    """Exports a file by the program to a text in a folder. One that failed leaves nothing."""
+def export_file(file: str, folder: str, command: list[str], adapts: Optional[str]) -> Outcome:
+    """Exports a file by the program to a text in a folder, with refused columns rewritten if a character set is given for them. One that
+    failed leaves nothing."""
     waiting = os.path.join(folder, f"{socket.gethostname()}.{os.getpid()}.{threading.get_ident()}.{time.monotonic_ns()}{UNFINISHED}")
     outcome = Outcome(file, FAILED, "interrupted")
     try:
-        outcome = _exported(file, waiting, command)
+        outcome = _exported(file, waiting, command, adapts)
     except OSError as failure:
         outcome = Outcome(file, FAILED, f"{failure.filename or folder}: {cause_of(failure)}")
     finally:
@@ -61,7 +63,7 @@ def export_file(file: str, folder: str, command: list[str]) -> Outcome:
     return outcome
 
 
-def _exported(file: str, waiting: str, command: list[str]) -> Outcome:
+def _exported(file: str, waiting: str, command: list[str], adapts: Optional[str]) -> Outcome:
     """The same. Raises OSError if something besides the file can't be read or written."""
     try:
         source = os.open(file, os.O_RDONLY | os.O_NONBLOCK)  # of a pipe that nobody writes to
@@ -71,7 +73,7 @@ def _exported(file: str, waiting: str, command: list[str]) -> Outcome:
         found = os.fstat(source)
         if not stat.S_ISREG(found.st_mode):
             return Outcome(file, FAILED, f"cannot read {file}: no regular file")
-        ending, written, framing = _text_of(source, waiting, running(command))
+        ending, written, framing = _text_of(source, waiting, running(command), adapts)
         if ending.status not in (DONE, SERVER_ERROR, BAD_INPUT):
             return Outcome(file, ending.status, ending.line)
         if stamp_of(os.fstat(source)) != stamp_of(found):
@@ -83,22 +85,28 @@ def _exported(file: str, waiting: str, command: list[str]) -> Outcome:
         os.close(source)
 
 
-def _text_of(source: int, waiting: str, run: Program) -> tuple[program.Ending, int, tds.Framing]:
+def _text_of(source: int, waiting: str, run: Program, adapts: Optional[str]) -> tuple[program.Ending, int, tds.Framing]:
     """How the program ends on the response at the beginning of a file, and the bytes of its text, which is on the disk."""
     framing = tds.Framing()
+
+    def following() -> bytes:
+        block = os.read(source, BLOCK) if run.is_reading and not framing.is_over else b""
+        return block[:framing.take(block)]
+
     with open(waiting, "xb") as out:
         output = Output(out.fileno())
         run.begin()
         try:
-            while not framing.is_over and run.is_reading and (block := os.read(source, BLOCK)):
-                run.hand(block[:framing.take(block)], output)
-            if not framing.is_over:
+            wrong = hand_over(following, lambda data: run.hand(data, output), adapts)
+            if wrong or not framing.is_over:
                 run.cut()
             ending = run.finish(output)
         except OutputFailed as failed:
             run.close()
             raise OSError(failed.failure.errno, failed.failure.strerror, waiting) from None
         os.fsync(out.fileno())
+        if wrong and ending.status in (DONE, SERVER_ERROR, BAD_INPUT):
+            ending = ending._replace(status=BAD_INPUT, line=ending.line_after(wrong))
         return ending, os.fstat(out.fileno()).st_size, framing
 
 

@@ -4,33 +4,116 @@ from __future__ import annotations
 from typing import Any, Optional
 
 from gavyreto.columns import Column
-from gavyreto.text import ResultSet
+from gavyreto.text import Columns, ResultSet
 from gavyreto.values import Value
 
 KINDS = {
     "tinyint": "UInt8", "smallint": "Int16", "int": "Int32", "bigint": "Int64", "bit": "UInt8", "char": "string", "nchar": "string",
     "varchar": "string", "nvarchar": "string",
 }
+FLOATS = {"float": "float64", "real": "float32"}
+MOMENTS = ("date", "smalldatetime", "datetime", "datetime2")
 GREATEST = 2**63 - 1  # of a whole number of pandas
+
+
+class Gathered:
+    """The values of a column, in an array for each batch of rows, and then as a series. Values that a batch has often are held once."""
+
+    def __init__(self, column: Optional[Column], is_dated: bool) -> None:
+        kind = column.type.partition("(")[0] if column else ""
+        self._kind = KINDS.get(kind, "") if kind not in FLOATS else FLOATS[kind]
+        self._is_known = column is not None
+        self._is_moment = is_dated and kind in MOMENTS
+        self._parts: list[Any] = []
+        self._types: set[type] = set()  # of the values of a column whose type in SQL isn't known
+        self._greatest = 0
+
+    def add(self, values: list[Value]) -> None:
+        import numpy
+
+        if self._kind in FLOATS.values():
+            self._parts.append(numpy.array(values, dtype=self._kind))  # None becomes NaN, which no float of a server is
+        elif self._kind in KINDS.values() and self._kind != "string":
+            self._parts.append(_whole_numbers(values, self._kind))
+        else:
+            self._parts.append(_objects(values))
+            if not self._is_known:
+                self._look_at(values)
+
+    def _look_at(self, values: list[Value]) -> None:
+        self._types |= set(map(type, values)) - {type(None)}
+        if self._types == {int}:
+            self._greatest = max(self._greatest, *(abs(value) for value in values if isinstance(value, int)), 0)
+
+    def values(self) -> list[Value]:
+        """The values again."""
+        return [None if value is _missing() or value != value else value for part in self._parts for value in part.tolist()]
+
+    def series(self) -> Any:
+        import numpy
+        import pandas  # type: ignore[import]
+
+        if self._kind in KINDS.values() and self._kind != "string":
+            return pandas.concat([pandas.Series(part) for part in self._parts], ignore_index=True) if self._parts else pandas.Series([], dtype=self._kind)
+        whole = numpy.concatenate(self._parts) if self._parts else numpy.array([], dtype=self._kind if self._kind in FLOATS.values() else object)
+        self._parts = [whole]
+        if self._is_moment:
+            return _moments(pandas, whole)
+        return pandas.Series(whole, dtype=self._kind or self._kind_by_values())
+
+    def _kind_by_values(self) -> str:
+        """The type of a column in pandas, where it isn't given by that in SQL."""
+        if self._types == {int} and self._greatest <= GREATEST:
+            return "Int64"
+        return "string" if self._types == {str} else "object"
+
+
+def _missing() -> Any:
+    import pandas
+
+    return pandas.NA
+
+
+def _whole_numbers(values: list[Value], kind: str) -> Any:
+    """Whole numbers and NULL as pandas has them."""
+    import numpy
+    import pandas
+
+    mask = numpy.array([value is None for value in values]) if None in values else numpy.zeros(len(values), dtype=bool)
+    numbers = [value or 0 for value in values] if None in values else values
+    return pandas.arrays.IntegerArray(numpy.array(numbers, dtype=kind.lower()), mask)
+
+
+def _objects(values: list[Value]) -> Any:
+    """Values as objects; equal texts and binary values are one, if there are many of them."""
+    import numpy
+
+    if isinstance(next((value for value in values if value is not None), None), (str, bytes)):
+        known = {value: value for value in values}
+        values = [known[value] for value in values] if 2 * len(known) < len(values) else values
+    return numpy.fromiter(values, dtype=object, count=len(values))
+
+
+def _moments(pandas: Any, values: Any) -> Any:
+    """Dates and times of a column; they stay objects if one is out of the range that pandas has."""
+    try:
+        return pandas.Series(pandas.to_datetime(pandas.Series(values, dtype=object))).astype("datetime64[ns]")
+    except ValueError:
+        return pandas.Series(values, dtype=object)
 
 
 def frame_of(rows: ResultSet) -> Any:
     """A DataFrame with the rows that are left of a set."""
-    import pandas  # type: ignore[import]
+    import pandas
 
     described = dict(enumerate(rows.columns or []))
-    columns = rows.whole()
-    series = {place: pandas.Series(values, dtype=_kind_of(described.get(place), values)) for place, values in enumerate(columns)}
-    frame = pandas.DataFrame(series)
+    gathered = [Gathered(described.get(place), rows.is_dated) for place in range(len(rows.names))]
+
+    def take(columns: Columns) -> None:
+        for it, values in zip(gathered, columns):
+            it.add(values)
+
+    rows.each(take, lambda: [it.values() for it in gathered])
+    frame = pandas.DataFrame({place: it.series() for place, it in enumerate(gathered)})
     frame.columns = pandas.Index(rows.names)
     return frame
-
-
-def _kind_of(column: Optional[Column], values: list[Value]) -> str:
-    """The type of a column in pandas: by its type in SQL or, where that isn't known, by its values."""
-    if column:
-        return KINDS.get(column.type.partition("(")[0], "object")
-    kinds = {type(value) for value in values} - {type(None)}
-    if kinds == {int} and all(value is None or abs(value) <= GREATEST for value in values if isinstance(value, int)):
-        return "Int64"
-    return "string" if kinds == {str} else "object"

@@ -22,6 +22,7 @@ class PacketType(IntEnum):
     BULK = 0x07
     TRANSACTION = 0x0E
     LOGIN = 0x10
+    TICKET = 0x11
     PRELOGIN = 0x12
 
 

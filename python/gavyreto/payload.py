@@ -296,16 +296,24 @@ class Descriptions:
         """Notes the descriptions of a payload, at most so many, as far as it can be followed: the program says what is wrong."""
         try:
             for described in islice(descriptions(payload), most):
-                with self._changed:
-                    self._found[self._count] = [column.column() for column in described]
-                    self._count += 1
-                    self._changed.notify_all()
+                self.add([column.column() for column in described])
         except (ValueError, Ended):
             pass
         finally:
-            with self._changed:
-                self._is_over = True
-                self._changed.notify_all()
+            self.end()
+
+    def add(self, found: list[Column]) -> None:
+        """Notes the columns of the next set."""
+        with self._changed:
+            self._found[self._count] = found
+            self._count += 1
+            self._changed.notify_all()
+
+    def end(self) -> None:
+        """No more sets come."""
+        with self._changed:
+            self._is_over = True
+            self._changed.notify_all()
 
     def watch(self, payload: Payload) -> bool:
         """Reads a payload to its end, and notes its descriptions. Returns whether it is whole."""

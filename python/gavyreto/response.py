@@ -10,9 +10,10 @@ import threading
 from typing import Any, Callable, Optional, Protocol, Union, cast
 
 from gavyreto import tds
-from gavyreto.errors import Error, Fault, ProgramFailed, Report, ServerError, UnfinishedAnswer
+from gavyreto.adapting import Adapter
+from gavyreto.errors import BadAnswer, Error, Fault, ProgramFailed, Report, ServerError, UnfinishedAnswer
 from gavyreto.program import BLOCK, CHARSETS, COLUMN_ROOM, MAX_WIRE, OF_SIGNAL, PACKET_SIZE, PROGRAM, Ending, Program, Write, command_of
-from gavyreto.payload import Descriptions, LateDescriptions, Payload, Read
+from gavyreto.payload import Descriptions, Ended, LateDescriptions, Payload, Read
 from gavyreto.text import Sets
 from gavyreto.values import Dates, check_dates
 
@@ -88,14 +89,14 @@ class Response(Sets):
 
     def __init__(
         self, program: Program, dates: Dates, descriptions: Descriptions, *, copy: Optional[Copy] = None,
-        tail: Optional[Tail] = None, held: Optional[HeldFile] = None,
+        tail: Optional[Tail] = None, held: Optional[HeldFile] = None, adapts: bool = False,
     ) -> None:
         self.report: Optional[Report] = None  #: once all is read and the server reported no error
         self.is_whole = False  #: once all is read, whether or not the server reported an error
         self._program, self._tail, self._held = program, tail, held
         program.begin()
         self._feeding = Feeding(copy, program) if copy else None
-        super().__init__(self._read, dates, descriptions)
+        super().__init__(self._read, dates, descriptions, adapts)
 
     def _read(self, most: int) -> bytes:
         return self._program.read(most)
@@ -141,7 +142,7 @@ class Response(Sets):
 
 
 def export(
-    source: Source, *, dates: Dates = False, packet_size: int = PACKET_SIZE, column_room: int = COLUMN_ROOM,
+    source: Source, *, dates: Dates = False, adapt: bool = False, packet_size: int = PACKET_SIZE, column_room: int = COLUMN_ROOM,
     max_wire: int = MAX_WIRE, charset: str = CHARSETS[0], program: str = PROGRAM,
 ) -> Response:
     """Runs the program on one response, and returns an iterator over its result sets.
@@ -151,6 +152,8 @@ def export(
                  block
     dates        True if dates, times and GUIDs become date, time, datetime and UUID, but for columns of seven digits of a
                  second; "truncate" if these do too, and lose the seventh
+    adapt        whether columns that the program refuses are rewritten, as the command adapt does; float and real are float then,
+                 and `columns` has the types that came
     packet_size  the greatest packet that is read, in bytes, 512 to 32767
     column_room  the room for the encoded description of columns, in bytes, 10 to 67108864
     max_wire     the most bytes of packets that are read, 8 to 2**56
@@ -162,6 +165,8 @@ def export(
     ServerError or ProgramFailed, and what a method `read` of the source raised."""
     check_dates(dates)
     command = command_of(program, packet_size, column_room, max_wire, charset)
+    if adapt:
+        return _adapted(source, command, dates, charset)
     if isinstance(source, (str, os.PathLike)):
         return _of_path(source, command, dates)
     if isinstance(source, (bytes, bytearray, memoryview)):
@@ -180,6 +185,47 @@ def _of_bytes(data: bytes, command: list[str], dates: Dates) -> Response:
         return framing.is_over
 
     return Response(Program(command), dates, LateDescriptions(io.BytesIO(data).read), copy=copy, tail=lambda: framing.tail)
+
+
+def _adapted(source: Source, command: list[str], dates: Dates, charset: str) -> Response:
+    """A response of any source, which is read here, and rewritten for the program."""
+    read, close = _reading(source)
+    found, adapters = Descriptions(), list[Adapter]()
+
+    def copy(write: Write) -> bool:
+        adapters.append(Adapter(read, write, charset, found.add))
+        try:
+            return adapt_all(adapters[0], found)
+        finally:
+            close()
+
+    return Response(Program(command), dates, found, copy=copy, tail=lambda: adapters[0].tail, adapts=True)
+
+
+def _reading(source: Source) -> tuple[Read, Callable[[], object]]:
+    """What reads a source, and what ends that."""
+    if isinstance(source, (bytes, bytearray, memoryview)):
+        return io.BytesIO(source).read, lambda: None
+    if isinstance(source, (int, io.FileIO, socket.socket)) and not isinstance(source, (bool, ssl.SSLSocket)):
+        own = os.fdopen(os.dup(_descriptor_of(source)), "rb", buffering=0)
+    elif isinstance(source, (str, os.PathLike)):
+        own = open(source, "rb", buffering=0)
+    else:
+        return _read_of(source), lambda: None
+    return lambda most: own.read(most) or b"", own.close
+
+
+def adapt_all(adapter: Adapter, found: Descriptions) -> bool:
+    """Rewrites a response, whose descriptions are noted. Returns whether it was whole. Raises BadAnswer if it can't be followed."""
+    try:
+        adapter.run()
+        return True
+    except Ended:
+        return False
+    except ValueError as wrong:
+        raise BadAnswer(f"the response can't be followed: {wrong}") from None
+    finally:
+        found.end()
 
 
 def _of_path(path: Union[str, os.PathLike[str]], command: list[str], dates: Dates) -> Response:

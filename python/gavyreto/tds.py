@@ -34,9 +34,11 @@ class Token(IntEnum):
     INFO = 0xAB
     RETURN_VALUE = 0xAC
     LOGIN_ACK = 0xAD
+    FEATURES = 0xAE
     ROW = 0xD1
     NBCROW = 0xD2
     ENV_CHANGE = 0xE3
+    TICKET = 0xED
     DONE = 0xFD
     DONE_PROC = 0xFE
     DONE_IN_PROC = 0xFF
@@ -99,25 +101,46 @@ LEAST_PACKET_SIZE, FIRST_PACKET_SIZE, GREATEST_PACKET_SIZE = 512, 4096, 32767  #
 VERSION = bytes.fromhex("74000004")  # 7.4, in the order of a LOGINACK
 OTHER_VERSIONS = range(0x70, 0x74)  # the first byte of each before
 MOST_OF_MESSAGE = 512  # bytes of UTF-8 of a message in a line
+TOKEN_REQUIRED = 6  # the option FEDAUTHREQUIRED of a PRELOGIN
+FED_AUTH, SECURITY_TOKEN = 0x02, 0x01  # a feature of a LOGIN7, and the library that has the token already
 MOST_UNITS = 128  # of a name in a LOGIN7 (MS-TDS, LOGIN7)
 
 
 # What a client sends (MS-TDS, PRELOGIN, LOGIN7, SQLBatch, Attention).
 
-def prelogin(encryption: Encryption) -> bytes:
-    """The options VERSION and ENCRYPTION: for each its number, place and length, then 0xFF, then their bytes."""
-    return struct.pack(">BHHBHHB", 0, 11, 6, 1, 17, 1, 0xFF) + bytes(6) + bytes([encryption])
+def prelogin(encryption: Encryption, is_token: bool = False) -> bytes:
+    """The options VERSION and ENCRYPTION, and FEDAUTHREQUIRED if the login is by a token: for each its number, place and length, then
+    0xFF, then their bytes."""
+    options = [(0, bytes(6)), (1, bytes([encryption])), *([(TOKEN_REQUIRED, b"\x01")] if is_token else [])]
+    table, data, start = b"", b"", 5 * len(options) + 1
+    for number, value in options:
+        table += struct.pack(">BHH", number, start + len(data), len(value))
+        data += value
+    return table + b"\xFF" + data
 
 
 def encryption_of(payload: bytes) -> Encryption:
     """The option ENCRYPTION of a PRELOGIN. Raises ValueError or struct.error if it isn't there, or has another value."""
+    value = _option_of(payload, 1)
+    if value is None:
+        raise ValueError("a PRELOGIN without the option ENCRYPTION")
+    return Encryption(value)
+
+
+def is_token_required(payload: bytes) -> bool:
+    """Whether a PRELOGIN says by FEDAUTHREQUIRED that it takes tokens. Raises struct.error."""
+    return _option_of(payload, TOKEN_REQUIRED) == 1
+
+
+def _option_of(payload: bytes, number: int) -> Optional[int]:
+    """The first byte of an option of a PRELOGIN; None if it isn't there."""
     at = 0
     while payload[at:at + 1] not in (b"", b"\xFF"):
         option, place, length = struct.unpack_from(">BHH", payload, at)
-        if option == 1 and length and place < len(payload):
-            return Encryption(payload[place])
+        if option == number and length and place < len(payload):
+            return int(payload[place])
         at += 5
-    raise ValueError("a PRELOGIN without the option ENCRYPTION")
+    return None
 
 
 class Login(NamedTuple):
@@ -158,8 +181,9 @@ PLACES = [36, 40, 44, 48, 52, 60, 64, 68]
 _FIXED = 94  # bytes of a LOGIN7 before its texts
 
 
-def login(asked: Login, process: int) -> bytes:
-    """A LOGIN7 of version 7.4. Raises ValueError if a text is too long, or no Unicode."""
+def login(asked: Login, process: int, ticket: bytes = b"", token: Optional[bytes] = None, echoes: bool = False) -> bytes:
+    """A LOGIN7 of version 7.4: with a ticket, by which the login is integrated, or a token and whether that was required. Raises ValueError
+    if a text is too long, or no Unicode."""
     table, data = bytearray(_FIXED - 36), b""
     for place, name, text in zip(PLACES, asked._fields, asked):
         units = _checked_units(name, str(text))
@@ -169,9 +193,22 @@ def login(asked: Login, process: int) -> bytes:
         data += _disguised(units) if name == "password" else units
     for place in (56, 78, 82, 86):  # texts that aren't there
         struct.pack_into("<HH", table, place - 36, _FIXED + len(data), 0)
+    if ticket:
+        struct.pack_into("<H", table, 80 - 36, min(len(ticket), 0xFFFF))
+        struct.pack_into("<I", table, 90 - 36, len(ticket) if len(ticket) >= 0xFFFF else 0)
+        data += ticket
+    if token is not None:
+        struct.pack_into("<HH", table, 56 - 36, _FIXED + len(data), 4)
+        data += struct.pack("<I", _FIXED + len(data) + 4) + _feature_of(token, echoes)
     fixed = struct.pack("<I4sIIII", _FIXED + len(data), VERSION[::-1], asked.packet_size, 0, process, 0)
-    flags = struct.pack("<BBBBiI", 0xE0, 0x03, 0, 0, 0, 0x0409)
+    flags = struct.pack("<BBBBiI", 0xE0, 0x83 if ticket else 0x03, 0, 0 if token is None else 0x10, 0, 0x0409)
     return fixed + flags + bytes(table) + data
+
+
+def _feature_of(token: bytes, echoes: bool) -> bytes:
+    """The one feature of a login by a token: FEDAUTH by security token, with the token (MS-TDS, LOGIN7, FEDAUTH)."""
+    data = bytes([SECURITY_TOKEN << 1 | echoes]) + struct.pack("<I", len(token)) + token
+    return struct.pack("<BI", FED_AUTH, len(data)) + data + b"\xFF"
 
 
 def statement(text: str) -> bytes:
@@ -204,6 +241,8 @@ class Accepted(NamedTuple):
 
     packet_size: int
     routing: Optional[tuple[str, int]]
+    ticket: bytes = b""  #: by which the server proves itself
+    is_done: bool = True  #: False if that is all, and the client has to go on
 
 
 class Refused(Exception):
@@ -217,12 +256,16 @@ class OtherVersion(Exception):
 def read_login_answer(payload: bytes) -> Accepted:
     """Reads the answer to a login. Raises `Refused` or `OtherVersion`; or ValueError, IndexError or struct.error if it is no such
     answer."""
-    size, routed, acknowledged, at = FIRST_PACKET_SIZE, None, False, 0
+    size, routed, acknowledged, ticket, at = FIRST_PACKET_SIZE, None, False, b"", 0
     while True:
+        if ticket and at == len(payload) and not acknowledged:
+            return Accepted(size, None, ticket, False)
+        if payload[at:at + 1] == bytes([Token.FEATURES]):
+            at = _after_features(payload, at + 1)
         token, length = struct.unpack_from("<BH", payload, at)
         body = payload[at + 3:at + 3 + length]
         if token == Token.DONE and acknowledged and LEAST_PACKET_SIZE <= size <= GREATEST_PACKET_SIZE and at + DONE_LENGTH == len(payload):
-            return Accepted(size, routed)
+            return Accepted(size, routed, ticket)
         if token == Token.ERROR:
             raise Refused(error_line(body))
         if token == Token.LOGIN_ACK:
@@ -233,9 +276,18 @@ def read_login_answer(payload: bytes) -> Accepted:
             size = int(body[2:2 + 2 * body[1]].decode("utf-16-le"))
         elif token == Token.ENV_CHANGE and body[0] == Change.ROUTING:
             routed = _routing_of(body)
+        elif token == Token.TICKET:
+            ticket = body
         elif token not in (Token.ENV_CHANGE, Token.INFO):
             raise ValueError(f"no token of an answer to a login: 0x{token:02x}")
         at += 3 + length
+
+
+def _after_features(payload: bytes, at: int) -> int:
+    """Where a FEATUREEXTACK ends. Raises IndexError or struct.error if it doesn't."""
+    while payload[at] != 0xFF:
+        at += 5 + int(struct.unpack_from("<I", payload, at + 1)[0])
+    return at + 1
 
 
 def _routing_of(body: bytes) -> tuple[str, int]:

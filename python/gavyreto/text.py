@@ -10,7 +10,7 @@ from itertools import islice
 from operator import length_hint
 from typing import Any, Callable, Iterator, NoReturn, Optional, Protocol, Sequence, TypeVar, Union, cast
 
-from gavyreto.columns import Column
+from gavyreto.columns import FLOATS, Column
 from gavyreto.errors import Error, Interrupted, MalformedText, NotOneSet, PassedOver, UnfinishedText
 from gavyreto.records import SEPARATOR, LongField, LongRecord, OpenField, Read, Records, end_of_set, record_at
 from gavyreto.rows import Row, row_type
@@ -35,11 +35,11 @@ class Describes(Protocol):
 class Parser:
     """The headers of a text and the rows under each. The end of the text within a row is an EOFError."""
 
-    def __init__(self, read: Read, dates: Dates) -> None:
+    def __init__(self, read: Read, dates: Dates, floats: Callable[[int], Sequence[bool]] = lambda _: ()) -> None:
         self.records = Records(read)
         self.sets = self.rows = 0  #: so far
         self.is_over = False  #: nothing is left of the text but `records.rest`
-        self._dates = dates
+        self.dates, self._floats = dates, floats
         self._converters: list[Converter] = []
         self._rows: Optional[re.Pattern[str]] = None  # a row, by the shapes of its columns, if they are known
         self._block, self._at = "", 0  # whole records, and how much of them is used up
@@ -59,7 +59,8 @@ class Parser:
             fields[:], self._at = record_at(self._block, self._at)
         self._rows, self._before = None, ""
         names = [it.value if isinstance(it, LongField) else value_of(it) for it in fields]
-        self._converters = [Converter(name, self._dates) for name in names if isinstance(name, str)]
+        floats = self._floats(self.sets) or [False] * len(names)
+        self._converters = [Converter(name, self.dates, is_float) for name, is_float in zip(names, floats) if isinstance(name, str)]
         if len(self._converters) != len(fields):
             raise ValueError("a header has something else than names in quotes")
         self.sets += 1
@@ -284,7 +285,8 @@ class ResultSet:
 
     def frame(self) -> Any:
         """The rows that are left as a DataFrame of pandas, which has to be there. Whole numbers, bit and text have the types of
-        pandas that hold NULL too; all else are objects. An error is raised in place of a frame that isn't whole; the rows before it
+        pandas that hold NULL too; float and real are float64 and float32, whose NULL is NaN; with `dates=True` dates and times without
+        an offset are datetime64 if pandas has all of them; all else are objects. An error is raised in place of a frame that isn't whole; the rows before it
         are left."""
         from gavyreto.frames import frame_of
 
@@ -330,15 +332,26 @@ class ResultSet:
             self._go_to(at + len(batch[0]))
             return batch
 
-    def whole(self) -> Columns:
-        """The rows that are left, by columns, all of them: an error is raised, and leaves them."""
+    def each(self, take: Callable[[Columns], object], taken: Callable[[], Columns]) -> None:
+        """Hands the rows that are left to a call, some at a time, by columns. If an error comes it is raised, and `taken` gives all of them
+        back: they are left then."""
         with self._sets._guard:
-            count = self._gathered(sys.maxsize)
-            at = len(self._values[0]) - count if self._values else 0
-            if self._sets._failure:
-                self._sets._raise_again()
-            self._go_to(at + count)
-            return [values[at:] for values in self._values] if count else [[] for _ in self.names]
+            try:
+                while self._gathered(1):
+                    at = len(self._values[0]) - length_hint(self._first)
+                    take([values[at:] for values in self._values] if at else self._values)
+                    self._go_to(len(self._values[0]))
+            except Error as failure:
+                handed_out, self._values = self._handed_out(), taken()
+                self._before = handed_out - len(self._values[0])
+                self._go_to(0)
+                failure.rows = self._sets.rows
+                raise
+
+    @property
+    def is_dated(self) -> bool:
+        """Whether dates and times are those of Python."""
+        return bool(self._sets._parser.dates)
 
     def open(self, column: Union[int, str] = 0) -> Union[None, io.BufferedReader, io.BytesIO, io.StringIO, TextFile]:
         """The value of a column in the next row, as a file of bytes or of text that is read once, in fixed memory however long
@@ -465,10 +478,10 @@ class Sets:
     exception from elsewhere, as that of Ctrl-C; after `close` before the end it raises ValueError. A second thread that reads at the
     same time gets a ValueError."""
 
-    def __init__(self, read: Read, dates: Dates, descriptions: Optional[Describes] = None) -> None:
+    def __init__(self, read: Read, dates: Dates, descriptions: Optional[Describes] = None, adapts: bool = False) -> None:
         self.sets = 0  #: handed out so far
-        self._descriptions = descriptions
-        self._parser = Parser(read, dates)
+        self._descriptions, self._adapts = descriptions, adapts
+        self._parser = Parser(read, dates, self._floats_of)
         self._current: Optional[ResultSet] = None
         self._opened: Union[None, ValueFile, TextFile] = None  # the last value that was opened as a file
         self._rows_before = 0  # of the sets before the current one
@@ -476,6 +489,11 @@ class Sets:
         self._is_untold = False  # whether rows before the failure were handed out, and it wasn't raised since
         self._is_closed = self._is_ended = self._is_only = False  # only: whether there may be one set alone
         self._guard = Guard(self)
+
+    def _floats_of(self, place: int) -> list[bool]:
+        """Which columns of a set have texts of floats; nothing if none has."""
+        found = self._descriptions.of(place) if self._adapts and self._descriptions else None
+        return [column.type in FLOATS for column in found or []]
 
     @property
     def rows(self) -> int:

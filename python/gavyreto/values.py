@@ -9,7 +9,7 @@ from uuid import UUID
 
 Dates = Union[bool, Literal["truncate"]]
 DATES: tuple[Dates, ...] = (False, True, "truncate")
-Value = Union[None, int, Decimal, bytes, str, date, time, datetime, UUID]
+Value = Union[None, int, float, Decimal, bytes, str, date, time, datetime, UUID]
 
 
 def check_dates(dates: Dates) -> None:
@@ -27,7 +27,15 @@ class Shape(NamedTuple):
 
 
 def _each(convert: Callable[[str], Value]) -> Callable[[Iterable[str]], list[Value]]:
-    return lambda fields: list(map(convert, fields))
+    """What converts each field; those that come often are converted once."""
+    def values(fields: Iterable[str]) -> list[Value]:
+        fields = list(fields)
+        different = set(fields)
+        if 2 * len(different) > len(fields):
+            return list(map(convert, fields))
+        known = {field: convert(field) for field in different}
+        return [known[field] for field in fields]
+    return values
 
 
 def _texts(fields: Iterable[str]) -> list[Value]:
@@ -41,6 +49,7 @@ def _binaries(fields: Iterable[str]) -> list[Value]:
 DAY, CLOCK, OFFSET = r"[0-9]{4}-[0-9]{2}-[0-9]{2}", r"[0-9]{2}:[0-9]{2}:[0-9]{2}", r" [+-][0-9]{2}:[0-9]{2}"
 GUID = "[0-9a-f]{8}(?:-[0-9a-f]{4}){3}-[0-9a-f]{12}"
 TEXT = Shape("text", r'"[^"]*(?:""[^"]*)*"', _texts)
+FLOAT = Shape("float", '"[-+.0-9e]+"', lambda fields: [float(field[1:-1]) for field in fields])
 BINARY = Shape("binary", "0x(?:[0-9a-f]{2})*", _binaries)
 INTEGER = Shape("integer", "-?[0-9]+", _each(int))
 DECIMAL = re.compile(r"-?[0-9]+\.([0-9]+)")
@@ -88,9 +97,9 @@ def value_of(field: str, dates: Dates = False) -> Value:
 class Converter:
     """Makes values of the fields of a column."""
 
-    def __init__(self, name: str, dates: Dates) -> None:
+    def __init__(self, name: str, dates: Dates, is_float: bool = False) -> None:
         self.name = name
-        self.shape: Optional[Shape] = None  # once a value has come
+        self.shape: Optional[Shape] = FLOAT if is_float else None  # once a value has come
         self._dates = dates
 
     def value(self, field: str) -> Value:

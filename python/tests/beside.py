@@ -104,7 +104,8 @@ class StandIn:
     """A stand-in server that runs until it is closed."""
 
     def __init__(self, folder: str, options: tuple[str, ...], files: list[str]) -> None:
-        command = [sys.executable, STAND_IN, "--connections", "1000", "--seconds", "10000", *options, *files, "--", "sh", "-c", 'echo "$PORT"; echo "$CERTIFICATE"; cat']
+        python = sys.executable if "--keytab" not in options else "/usr/bin/python3"  # which has gssapi
+        command = [python, STAND_IN, "--connections", "1000", "--seconds", "10000", *options, *files, "--", "sh", "-c", 'echo "$PORT"; echo "$CERTIFICATE"; cat']
         self.process = subprocess.Popen(command, cwd=folder, stdin=subprocess.PIPE, stdout=subprocess.PIPE, text=True)
         port, certificate = (cast(IO[str], self.process.stdout).readline().strip() for _ in range(2))
         self.variables = {"PORT": port, "CERTIFICATE": certificate, "SERVER": str(self.process.pid)}
@@ -127,7 +128,7 @@ class Live(unittest.TestCase):
         folder = tempfile.TemporaryDirectory()
         cls.addClassCleanup(folder.cleanup)
         cls.folder, cls.servers = folder.name, {}
-        for name, *number in (["kinds"], ["sets"], ["orders"], ["broken", "5000"], ["float"]):
+        for name, *number in (["kinds"], ["sets"], ["orders"], ["broken", "5000"], ["float"], ["refused"], ["variants"]):
             cls.store(name, *number)
         held = tds.packet(tds.PacketType.ANSWER, b"".join(responses.order_rows(0)), False)
         with open(cls.path("held.tds"), "wb") as file:

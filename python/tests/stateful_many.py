@@ -17,8 +17,7 @@ from hypothesis import HealthCheck, settings
 from hypothesis import strategies as st
 from hypothesis.stateful import RuleBasedStateMachine, precondition, rule, run_state_machine_as_test
 
-from gavyreto import tds
-from gavyreto import program
+from gavyreto import outcomes, program, tds
 from gavyreto.commands import common, many
 from tests.beside import PROGRAM, answered, responses, served, wire
 
@@ -40,7 +39,7 @@ def exported(data: bytes) -> tuple[int, bytes]:
 WANTED = {name: exported(data) for name, data in CONTENTS.items()}
 
 
-class Stop(many.Progress):
+class Stop(outcomes.Progress):
     """Stops a run, as Ctrl-C does, once so many responses are done."""
 
     after: Optional[int] = None
@@ -107,7 +106,7 @@ class Folder(RuleBasedStateMachine):
     @rule()
     def the_table_is_torn(self) -> None:
         """A line is cut, as by a stop of the machine."""
-        path = os.path.join(self.out, many.TABLE)
+        path = os.path.join(self.out, outcomes.TABLE)
         if os.path.exists(path):
             with open(path, "ab") as file:
                 file.write(b'"/torn","')
@@ -145,10 +144,7 @@ class Folder(RuleBasedStateMachine):
         self.texts = dict(self.files)
 
     def lines(self) -> list[many.Record]:
-        with open(os.path.join(self.out, many.TABLE), "rb") as file:
-            records = many._records_in(file.read())
-        assert records is not None
-        return records
+        return [*many.Table(self.out, "", "").records.values()]
 
     @precondition(lambda self: bool(self.files))
     @rule()
@@ -174,7 +170,7 @@ def text_of(name: str, content: str) -> str:
 
 
 def main() -> None:
-    many.Progress = Stop  # type: ignore[misc]
+    setattr(many, "Progress", Stop)
     run_state_machine_as_test(Folder, settings=settings(  # type: ignore[no-untyped-call]
         max_examples=int(sys.argv[1]), stateful_step_count=20, deadline=None, database=None, suppress_health_check=list(HealthCheck), derandomize=True))
     print(sum(runs.values()), runs)

@@ -105,7 +105,7 @@ class Conversation(RuleBasedStateMachine):
 
         def ask() -> None:
             with connection.told(there):
-                accepted = connection.log_in(self.client, there, LOGIN)
+                accepted = connection.log_in(self.client, there, lambda _: LOGIN)
             self.session = Session(self.client, there, accepted.packet_size)
 
         steps["log_in"] = steps.get("log_in", 0) + 1

@@ -10,6 +10,7 @@ import random
 import struct
 import subprocess
 import sys
+import tempfile
 import unittest
 from typing import Any, Optional
 
@@ -17,7 +18,8 @@ import gavyreto
 from gavyreto import tds
 from gavyreto.adapting import Adapter, variant_text
 from gavyreto.payload import Ended, Payload, descriptions
-from tests.beside import PROGRAM, Live, answered, need, responses, served, started, wire
+from tests import test_readings
+from tests.beside import PROGRAM, Live, answered, need, responses, served, serving, started, wire
 
 from plain import reader  # isort: skip  the tools are on the path after it
 
@@ -226,6 +228,40 @@ def variant_text_or_none(byte: int, properties: bytes, data: bytes) -> Optional[
     return None
 
 
+class FromPython(unittest.TestCase):
+    def test_rows_of_each_refused_kind(self) -> None:
+        """Of any source, live and recorded: the values of the text, floats as such, and the columns as they came."""
+        data = wire("refused", 0, 512)
+        with open(os.path.join(tempfile.mkdtemp(), "refused.tds"), "wb") as file:
+            file.write(data)
+        wanted = gavyreto.export(adapted(data), program=PROGRAM).only()
+        kinds, rows = [column.type for column in wanted.columns or []], list(wanted)
+        self.assertEqual(kinds[:4] + kinds[9:10], ["varchar(40)"] * 4 + ["nvarchar(max)"])
+        rows_of_floats = [tuple(None if it is None else float(str(it)) for it in row[:4]) + row[4:] for row in rows]
+        with serving(data, data) as port, test_readings.connected(port) as connection, open(file.name, "rb") as opened:
+            sources: list[Any] = [file.name, data, opened, io.BytesIO(data), opened.fileno()]
+            for source in [*sources, None, None]:
+                opened.seek(0)
+                with gavyreto.export(source, adapt=True, program=PROGRAM) if source else connection.query("x", adapt=True, program=PROGRAM) as response:
+                    came = response.only()
+                    self.assertEqual([it.type for it in came.columns or []], ["real", "float", "real", "float", "text", "ntext", "image", "xml", "db.sys.geography", "sql_variant", "varchar(40)"])
+                    self.assertEqual(repr([tuple(row) for row in came]), repr(rows_of_floats))
+                self.assertTrue(response.is_whole)
+
+    def test_what_cannot_be_followed(self) -> None:
+        float_ = responses.Column("x", "6D08", responses.fixed, responses.as_it_is, bytes)
+        good, bad = b"\x08" + struct.pack("<d", 0.5), b"\x08" + b"\xFF" * 8
+        with gavyreto.export(answered(responses.description([float_]), b"\xD1" + good, b"\xD1" + bad, served.done()), adapt=True, program=PROGRAM) as response:
+            rows = response.only()
+            self.assertEqual(next(rows), (0.5,))
+            with self.assertRaisesRegex(gavyreto.BadAnswer, "the response can't be followed: "):
+                next(rows)
+        for length in range(20, 200, 31):
+            with self.assertRaises(gavyreto.Fault):
+                for one in gavyreto.export(wire("refused")[:length], adapt=True, program=PROGRAM):
+                    list(one)
+
+
 class Commands(Live):
     def run_command(self, *words: str, data: bytes = b"") -> subprocess.CompletedProcess[bytes]:
         given = started()
@@ -337,13 +373,10 @@ class Commands(Live):
     def test_what_tsql_prints(self) -> None:
         """FreeTDS reads the refused columns themselves: each number has the same bits, each text is the same."""
         need(self, "tsql")
-        for name in ("refused", "variants"):
-            self.store(name)
         settings = "[global]\ntds version = 7.4\nclient charset = UTF-8\nencryption = off\n[here]\nhost = 127.0.0.1\nport = %s\n"
         command = (
             f"printf '{settings}' $PORT > freetds.conf; printf 'SELECT * FROM refused\\ngo\\nSELECT * FROM variants\\ngo\\nexit\\n' | "
             "tsql -S here -U reader -P secret -o q -t '|' 2> notes")
-        self.files.extend(["refused.tds", "variants.tds"])
         came = self.beside(("--encrypt", "none"), command, FREETDSCONF=self.path("freetds.conf")).stdout.decode()
         first, variants = came.split("\nvariant\n")
         rows = [line.split("|") for line in first.split("\n")[1:]]

@@ -42,6 +42,24 @@ whole, keeps_index = gavyreto.export(beside.wire("kinds", 3000), program=program
 assert whole.shape == (3000, len(rows.names)) and not keeps_index
 print(list(table.columns), [str(kind) for kind in table.dtypes], table.iloc[1, 3] == decimal.Decimal("99999999999999999999999999999999999.00"))
 """
+# Floats, and dates and times, of which pandas has those of some centuries.
+TYPED = """
+import gavyreto, pandas
+from tests import beside
+frame = gavyreto.export(beside.wire("refused"), adapt=True, program=beside.PROGRAM).only().frame()
+print([str(it) for it in frame.dtypes[:4]], [frame.iloc[:, it].tolist()[0] for it in range(4)], frame.iloc[:, 3].isna().tolist())
+orders = gavyreto.export(beside.wire("orders"), dates=True, program=beside.PROGRAM).only().frame()
+print(orders.dtypes["ordered"], [str(it) for it in orders["ordered"]])
+kinds = gavyreto.export(beside.wire("kinds"), dates=True, program=beside.PROGRAM).only()
+described, frame = kinds.columns, kinds.frame()
+rows = list(gavyreto.export(beside.wire("kinds"), dates=True, program=beside.PROGRAM).only())
+for place, column in enumerate(described):
+    if column.type.partition("(")[0] in ("date", "datetime", "datetime2", "smalldatetime"):
+        values = [row[place] for row in rows]
+        same = [None if pandas.isna(it) else pandas.Timestamp(it) for it in values] if str(frame.dtypes.iloc[place]) == "datetime64[ns]" else values
+        assert [None if pandas.isna(it) else it for it in frame.iloc[:, place]] == same, (column, values)
+print(sorted({str(kind) for kind in frame.dtypes}))
+"""
 # What is read of a server, and where an error ends the rows: no frame is there then, but the rows are.
 LIVE = """
 import gavyreto, pandas
@@ -76,6 +94,17 @@ class Frames(unittest.TestCase):
         self.assertEqual({kind: found[kind] for kind in KINDS if kind in found}, {kind: it for kind, it in KINDS.items() if kind in found})
         self.assertEqual({it for kind, it in found.items() if kind not in KINDS}, {"object"})
         self.assertEqual((empty, text), ("{'id': Int32Dtype()}", "['a', 'b', 'a', 'c'] ['Int64', 'string', 'object', 'object'] True"))
+
+    def test_floats_and_moments(self) -> None:
+        if not requirements.has_module(requirements.DEBIAN_PYTHON, "pandas"):
+            skip(self, "Python's module pandas isn't there: `make needs` installs it")
+        command = [requirements.DEBIAN_PYTHON, "-B", "-c", TYPED]
+        came = subprocess.run(command, cwd=os.path.join(ROOT, "python"), capture_output=True, text=True, check=False, **started(PROGRAM=PROGRAM))
+        self.assertEqual((came.returncode, came.stderr), (0, ""))
+        floats, orders, kinds = came.stdout.splitlines()
+        self.assertEqual(floats, "['float32', 'float64', 'float32', 'float64'] [0.10000000149011612, 0.1, 16777216.0, 123456789.125] [False, False, True]")
+        self.assertEqual(orders, "datetime64[ns] ['2024-02-29 12:34:56.123456700', '2024-03-01 00:00:00', '2024-03-02 23:59:59.999999900']")
+        self.assertEqual(kinds, "['Int16', 'Int32', 'Int64', 'UInt8', 'datetime64[ns]', 'object', 'string']")
 
     def test_frames_of_answers(self) -> None:
         """By the cursor that `pandas.read_sql` takes, and of rows before an error."""

@@ -15,6 +15,7 @@ import unittest
 from collections.abc import Callable, Iterator
 
 from gavyreto import tds
+from tests import test_adapt
 from tests.beside import PROGRAM, ROOT, SECONDS, answered, is_waiting, need, responses, running_in, served, skip, started, wait_for, wire
 
 sys.path[:0] = [os.path.join(ROOT, "tools")]
@@ -164,6 +165,18 @@ class Many(unittest.TestCase):
 
 
 class Here(Many):
+    def test_refused_columns_that_are_rewritten(self) -> None:
+        """Each text is that of `adapt` of its file; with another option a file is done again."""
+        names = ("refused", "variants", "float", "kinds")
+        self.store(0, **{name: wire(name, 0, 512) for name in names}, cut=wire("refused")[:-20])
+        self.assertEqual(self.many("in", "out")[0], 4)
+        self.assertEqual(self.many("--adapt", "in", "out")[0], 4)
+        for name in names:
+            with open(self.path("out", name + ".csv"), "rb") as file:
+                self.assertEqual(file.read(), test_adapt.exported(test_adapt.adapted(wire(name, 0, 512)))[1])
+        with open(self.path("out", "cut.csv.partial"), "rb") as file:
+            self.assertTrue(test_adapt.refused_text().startswith(file.read()))
+
     def test_each_response_has_its_text_and_its_line(self) -> None:
         names = self.store(6, failed=ERROR, refused=FLOAT)
         self.assertEqual(self.many("--program", PROGRAM, "in", "out"), (4, "8 responses: 6 done, 1 with an error of the server, 1 refused, 0 failed"))

@@ -24,9 +24,10 @@ import gavyreto
 from gavyreto import tds
 from gavyreto.connection import Channel, Session
 from gavyreto.tds import PacketType
+from tests import test_adapt
 from tests.beside import (
     ORDERS, PROGRAM, SECONDS, Live, StandIn, ask_port, assert_signalled, command_for, context_of, has_ended, is_waiting, lines_of,
-    listening, log_in, log_in_encrypted, need, responses, served, started, stepped, wait_for, wire,
+    listening, log_in, log_in_encrypted, need, responses, served, serving, started, stepped, wait_for, wire,
 )
 
 LONG = 200_000_000
@@ -120,6 +121,46 @@ class Answers(Live):
         line = f"the server localhost, port {both['PORT']}, to which another one redirects, redirects too"
         self.assert_ends(came, 5, b"", line)
 
+    def test_refused_columns_that_are_rewritten(self) -> None:
+        """The text of each refused kind is that of `adapt` of the packets kept, which are those that came."""
+        names = ["refused", "kinds", "variants", "sets"]
+        for encrypt in ("login", "all"):
+            statements = " ".join(f"'SELECT * FROM {name}'" for name in names)
+            came = self.query(f"TRUSTED --encrypt {encrypt} --packet-size 512 --adapt --packets 'kept{{}}.tds' -o 'rows{{}}.csv' {statements}")
+            self.assertEqual((came.returncode, came.stdout), (0, b""), came.stderr)
+            self.assertEqual(self.text("rows1.csv"), test_adapt.refused_text())
+            for number, name in enumerate(names, 1):
+                with self.subTest(encrypt=encrypt, name=name):
+                    kept = self.text(f"kept{number}.tds")
+                    self.assertEqual(kept, wire(name, 0, 512))
+                    self.assertEqual(self.text(f"rows{number}.csv"), test_adapt.exported(test_adapt.adapted(kept))[1])
+        came = self.query("TRUSTED --adapt 'SELECT * FROM refused' 'SELECT * FROM orders'")
+        self.assertEqual((came.returncode, came.stdout), (0, test_adapt.refused_text() + b"\r\n" + ORDERS))
+
+    def test_packets_that_are_kept(self) -> None:
+        """All of them, also where the program needs no more; of an answer that breaks off what came, under another name."""
+        came = self.query("TRUSTED --packet-size 4096 --packets kept.tds 'SELECT * FROM float'")
+        self.assert_ends(came, 4, b"", "fault 10 RefusedColumn 1 FLTN at payload 15, written 0, unwritten 0")
+        self.assertEqual(self.text("kept.tds"), wire("float"))
+        came = self.query("TRUSTED --packet-size 4096 --packets kept.tds 'SELECT * FROM broken'", ("--cut-after", "9000"))
+        self.assertEqual((came.returncode, self.text("kept.tds"), self.text("kept.tds.partial")), (5, wire("float"), wire("broken", 5000)[:9000]))
+        for words in ("--packets -", "-o x --packets x", "-o 'x{}' --packets 'x1{}'", "-o x --packets x.partial", "-o x.partial --packets ./x"):
+            came = self.query(f"TRUSTED {words} 'SELECT 1'", ("--record", "sent"))
+            with self.subTest(words=words):
+                self.assertEqual((came.returncode, came.stdout, os.path.exists(self.path("sent"))), (2, b"", False), came.stderr)
+        self.assert_ends(self.query("TRUSTED --packets kept.tds 'SELECT 1' 'SELECT 2'"), 2, b"", "2 statements, and one output: a name with {} gets the number of each")
+        for words in ("--packets /dev/full", "--adapt --packets /dev/full"):
+            self.assert_ends(self.query(f"TRUSTED {words} 'SELECT * FROM orders'"), 5, b"", "/dev/full: No space left on device")
+
+    def test_an_answer_that_cannot_be_rewritten(self) -> None:
+        """What came before is written."""
+        float_ = responses.Column("x", "6D08", responses.fixed, responses.as_it_is, bytes)
+        rows = [b"\xD1\x08" + struct.pack("<d", 0.5), b"\xD1\x08" + b"\xFF" * 8]
+        with serving(tds.packet(PacketType.ANSWER, responses.description([float_]) + b"".join(rows) + served.done())) as port:
+            came = ask_port(port, "--adapt", "SELECT 1")
+        self.assertEqual((came.returncode, came.stdout), (4, b'"x"\r\n"0.5"\r\n'))
+        self.assertRegex(came.stderr.decode(), "^the response can't be followed: [^\n]*: fault 2 InputEnded [^\n]*\n$")
+
     def test_a_long_value_in_fixed_memory(self) -> None:
         """The digest of 200 MB, and the peaks of the command and of the program, in kilobytes."""
         need(self, "time")
@@ -200,7 +241,7 @@ class Refusals(Live):
 
     def test_arguments_that_are_refused(self) -> None:
         for words in (
-            "--packet-size 511", "--packet-size 32768", "--seconds 0", "--encrypt some", "-Ns", "--charset latin1", "-S x,0", "-S 'x\\SQLEXPRESS'",
+            "--packet-size 511", "--packet-size 32768", "--seconds 0", "--encrypt some", "-Ns", "--charset latin1", "-S x,0", "-S 'x\\'", "-E", "-S mssql://u:p@h", "-S mssql://h/d?pwd=p",
             "-i file", "-d " + "x" * 129, "-U " + "x" * 70000, "-U $(printf '\\377')", "-d $(printf '\\377')",
         ):
             with self.subTest(words=words[:30]):

@@ -12,17 +12,17 @@ PROGRAMS = {
     "freebcp": "freetds-bin", "pv": "pv", "strip": "binutils", "dpkg-deb": "dpkg", "dpkg": "dpkg", "dask-scheduler": "python3-distributed",
     "dask-worker": "python3-distributed", "time": "time", "mypy": "mypy", "lintian": "lintian", "cc": "gcc",
     "tcpdump": "tcpdump", "editcap": "wireshark-common", "zsh": "zsh", "fish": "fish", "shellcheck": "shellcheck",
-    "flake8": "flake8",
+    "flake8": "flake8", "kinit": "krb5-user", "krb5kdc": "krb5-kdc", "kadmin.local": "krb5-admin-server",
 }
 MODULES = {
     "pandas": "python3-pandas", "distributed": "python3-distributed", "pymssql": "python3-pymssql", "ensurepip": "python3-venv",
-    "matplotlib": "python3-matplotlib", "hypothesis": "python3-hypothesis",
+    "matplotlib": "python3-matplotlib", "hypothesis": "python3-hypothesis", "gssapi": "python3-gssapi",
 }
 
 
 def path() -> str:
-    """The path for programs, with the folders that Debian keeps off it."""
-    return os.pathsep.join([os.environ.get("PATH", os.defpath), *glob.glob(POSTGRESQL)])
+    """The path for programs, with the folders that Debian keeps off it, as some users have none for its daemons."""
+    return os.pathsep.join([os.environ.get("PATH", os.defpath), *glob.glob(POSTGRESQL), "/usr/sbin"])
 
 
 def has_program(name: str) -> bool:

@@ -1,5 +1,6 @@
 """Messages of TDS 7.4 as a server reads and writes them (MS-TDS, LOGIN7, SQLBatch, DONE, ERROR, ENVCHANGE, LOGINACK)."""
 import struct
+from typing import Optional
 
 from lib import repository  # noqa: F401  after it the Python package is on the path
 from gavyreto.tds import PLACES, VERSION, Change, Login, Token
@@ -15,6 +16,25 @@ def login_of(payload: bytes) -> Login:
         data = payload[start:start + 2 * units]
         texts[name] = (bared(data) if name == "password" else data).decode("utf-16-le")
     return Login(packet_size=struct.unpack_from("<I", payload, 8)[0], **texts)
+
+
+def ticket_of(payload: bytes) -> bytes:
+    """The ticket of an integrated LOGIN7, or none."""
+    start, length = struct.unpack_from("<HH", payload, 78)
+    return payload[start:start + (struct.unpack_from("<I", payload, 90)[0] if length == 0xFFFF else length)] if payload[25] & 0x80 else b""
+
+
+def token_of(payload: bytes) -> Optional[tuple[str, bool]]:
+    """The access token of a LOGIN7, and whether it says that the server required one; None without one (MS-TDS, LOGIN7, FEDAUTH)."""
+    if not payload[27] & 0x10:
+        return None
+    place, = struct.unpack_from("<H", payload, 56)
+    at, = struct.unpack_from("<I", payload, place)
+    feature, length, options, size = struct.unpack_from("<BIBI", payload, at)
+    whole = payload[at + 10:at + 10 + size]
+    if feature != 2 or options >> 1 != 1 or length != 5 + size or payload[at + 10 + size:] != b"\xFF":
+        return None
+    return whole.decode("utf-16-le"), bool(options & 1)
 
 
 def bared(units: bytes) -> bytes:
@@ -64,6 +84,21 @@ def routing(host: str, port: int) -> bytes:
     """A redirection to another server."""
     data = struct.pack("<BH", 0, port) + _after_units("<H", host)
     return change(Change.ROUTING, struct.pack("<H", len(data)) + data, bytes(2))
+
+
+def ticket(data: bytes) -> bytes:
+    """By which a server proves itself (MS-TDS, SSPI)."""
+    return counted_body(Token.TICKET, data)
+
+
+def token_acknowledged() -> bytes:
+    """A FEATUREEXTACK of a login by a token."""
+    return bytes([Token.FEATURES, 2]) + bytes(4) + b"\xFF"
+
+
+def prelogin_with_token(encryption: int) -> bytes:
+    """A greeting that requires a token: the options ENCRYPTION and FEDAUTHREQUIRED."""
+    return struct.pack(">BHHBHHB", 1, 11, 1, 6, 12, 1, 0xFF) + bytes([encryption, 1])
 
 
 def login_ack(program: str) -> bytes:

@@ -13,27 +13,21 @@ from __future__ import annotations
 import argparse
 import concurrent.futures
 import contextlib
-import fcntl
 import logging
 import os
 import re
-import sys
 import time
 from concurrent.futures import FIRST_COMPLETED, Future, ThreadPoolExecutor, wait
 from types import TracebackType
 from typing import Any, Iterator, NamedTuple, Optional, Union
 
-from gavyreto import program
-from gavyreto.commands.common import Stopped, add_options_of_program, cause_of, checked_program, line, number_in, parser_of, say, tell
-from gavyreto.exporting import UNFINISHED, Outcome, Stamp, end_all, export_file, stamp_of, version_of
-from gavyreto.program import BAD_INPUT, DONE, FAILED, INTERRUPTED, REFUSED, SERVER_ERROR
-from gavyreto.records import record_at
-from gavyreto.values import value_of
+from gavyreto import outcomes, program
+from gavyreto.commands.common import Stopped, add_options_of_program, cause_of, checked_program, number_in, parser_of
+from gavyreto.exporting import Outcome, Stamp, end_all, export_file, stamp_of, version_of
+from gavyreto.outcomes import PARTIAL, TABLE, TEXT, Kinds, Progress, locked, remove_unfinished, summed
+from gavyreto.program import DONE, FAILED, INTERRUPTED, REFUSED, SERVER_ERROR
 
-TABLE = "outcomes.csv"
-TEXT, PARTIAL = ".csv", ".csv.partial"  # behind the name of a file, that of its text
 SECONDS_OF_SCHEDULER = 30  # the longest that it may be silent, or that its file is waited for
-LONGEST_LINE = 1 << 16  # bytes of a line of the table, more than any has
 
 
 class Record(NamedTuple):
@@ -51,36 +45,22 @@ class Record(NamedTuple):
     options: str
     program: str
 
+    def key(self) -> str:
+        return self.file
+
     def stamp(self) -> Stamp:
         return Stamp(self.size, self.time, self.change, self.inode)
 
 
-HEADER = line(Record._fields).encode()
+KINDS: Kinds = [str, int, str, (str, type(None)), int, int, int, int, int, str, str]  # of its fields
 
 
-class Table:
-    """The table of outcomes, and the texts that it tells of. Its lines are written whole."""
+class Table(outcomes.Table[Record]):
+    """The table of outcomes of files, by their paths."""
 
     def __init__(self, folder: str, options: str, version: str) -> None:
-        self._path, self._folder = os.path.join(folder, TABLE), folder
+        super().__init__(folder, Record, Record._fields, KINDS)
         self._options, self._version = options, version
-        self.records = self._read()
-        self._descriptor = -1
-
-    def _read(self) -> dict[str, Record]:
-        """The lines that are there, by their files, but for one at the end that isn't whole, since its writing was stopped."""
-        if not os.path.lexists(self._path):
-            left = next((name for name in os.listdir(self._folder) if name.endswith((TEXT, PARTIAL))), None)
-            if left:
-                raise Stopped(f"{self._folder} has {left}, and no table of this command: name a folder without texts", REFUSED)
-            return {}
-        records = None
-        if os.path.isfile(self._path):
-            with open(self._path, "rb") as file:
-                records = _records_in(file.read())
-        if records is None:
-            raise Stopped(f"{self._path} isn't a table of this command", REFUSED)
-        return {record.file: record for record in records}
 
     def check(self, files: list[str]) -> None:
         """Refuses files whose text has the name of the table, or of a text of another file."""
@@ -107,40 +87,11 @@ class Table:
         except OSError:
             return False
 
-    def begin(self, files: list[str]) -> None:
-        """Leaves out the lines of files that are to be done again, and of texts that they get, and goes on behind the others."""
-        again, texts = set(files), {os.path.basename(file) + end for file in files for end in (TEXT, PARTIAL)}
-        self.records = {file: record for file, record in self.records.items() if file not in again and record.text not in texts}
-        with open(self._path + UNFINISHED, "wb") as out:
-            out.write(HEADER + b"".join(map(_line_of, self.records.values())))
-        os.replace(out.name, self._path)
-        self._descriptor = os.open(self._path, os.O_WRONLY | os.O_APPEND | os.O_CLOEXEC)
-
-    def close(self) -> None:
-        os.close(self._descriptor)
-
-    def shown(self) -> str:
-        """The name of the table, from the folder that the command runs in."""
-        return os.path.relpath(self._path)
-
-    def add(self, outcome: Outcome) -> None:
-        """Gives a text its name, takes away the one that was there before, and writes the line."""
-        name = os.path.basename(outcome.file)
-        text = None if outcome.waiting is None else name + (PARTIAL if outcome.status == BAD_INPUT else TEXT)
-        if outcome.waiting and text:
-            try:
-                os.replace(outcome.waiting, os.path.join(self._folder, text))
-            except OSError as failure:
-                outcome, text = Outcome(outcome.file, FAILED, f"{text}: {cause_of(failure)}"), None
-        for other in {name + TEXT, name + PARTIAL} - {text}:
-            with contextlib.suppress(OSError):
-                os.remove(os.path.join(self._folder, other))
-        record = Record(outcome.file, outcome.status, outcome.line, text, outcome.written, *outcome.stamp, self._options, outcome.program)
-        try:
-            program.write_all(self._descriptor, _line_of(record))
-        except OSError as failure:
-            raise Stopped(f"{self._path}: {cause_of(failure)}", FAILED) from None
-        self.records[outcome.file] = record
+    def tell(self, outcome: Outcome) -> None:
+        """Gives a text its name, and writes the line."""
+        text, why = self.put(os.path.basename(outcome.file), outcome.waiting, outcome.status)
+        outcome = Outcome(outcome.file, FAILED, why) if why else outcome
+        self.add(Record(outcome.file, outcome.status, outcome.line, text, outcome.written, *outcome.stamp, self._options, outcome.program))
 
 
 def _inode_of(path: str) -> Optional[tuple[int, int]]:
@@ -150,56 +101,6 @@ def _inode_of(path: str) -> Optional[tuple[int, int]]:
     except OSError:
         return None
     return found.st_dev, found.st_ino
-
-
-def _line_of(record: Record) -> bytes:
-    return line(record).encode("utf-8", "surrogateescape")
-
-
-def _records_in(data: bytes) -> Optional[list[Record]]:
-    """The lines of a table, or None if it is another table."""
-    if not data.startswith(HEADER):
-        return [] if not data else None
-    text, at = data.decode("utf-8", "surrogateescape"), len(HEADER)
-    records: list[Record] = []
-    while at < len(text):
-        try:
-            fields, after = record_at(text, at)
-            values = [value_of(field) for field in fields]
-        except ValueError:
-            return records if len(text) - at < LONGEST_LINE else None
-        record = _record_of(values)
-        if record is None:
-            return None
-        records.append(record)
-        at = after
-    return records
-
-
-def _record_of(values: list[Any]) -> Optional[Record]:
-    """The record of some values, if they have its types."""
-    kinds = [str, int, str, (str, type(None)), int, int, int, int, int, str, str]
-    fits = len(values) == len(kinds) and all(isinstance(value, kind) for value, kind in zip(values, kinds))  # type: ignore[arg-type]
-    return Record(*values) if fits else None
-
-
-class Progress:
-    """A line on a terminal, which says how far it is."""
-
-    def __init__(self, count: int, done: int) -> None:
-        self._count, self._done, self._began, self._shows = count, done, time.monotonic(), sys.stderr.isatty()
-        self._last = 0.0
-
-    def step(self, failed: int) -> None:
-        self._done += 1
-        now = time.monotonic()
-        if self._shows and (now - self._last > 0.1 or self._done == self._count):
-            self._last = now
-            say(f"\r\033[K{self._done} of {self._count} responses, {failed} refused or failed, {now - self._began:.0f} seconds")
-
-    def end(self) -> None:
-        if self._shows:
-            say("\n")
 
 
 def files_of(asked: argparse.Namespace) -> list[str]:
@@ -237,13 +138,13 @@ class Here:
     def version(self, name: str) -> str:
         return version_of(name)
 
-    def outcomes(self, files: list[str], folder: str, command: list[str]) -> Iterator[Outcome]:
+    def outcomes(self, files: list[str], folder: str, command: list[str], adapts: Optional[str]) -> Iterator[Outcome]:
         """The outcomes, as they come."""
         with ThreadPoolExecutor(self._jobs) as pool:
             running: set[Future[Outcome]] = set()
             try:
                 for file in files:
-                    running.add(pool.submit(export_file, file, folder, command))
+                    running.add(pool.submit(export_file, file, folder, command, adapts))
                     if len(running) >= 2 * self._jobs:
                         ended, running = wait(running, return_when=FIRST_COMPLETED)
                         yield from (it.result() for it in ended)
@@ -299,11 +200,11 @@ class Cluster:
         except OSError as failure:
             raise Stopped(f"{name}, on a worker: {cause_of(failure)}", REFUSED) from None
 
-    def outcomes(self, files: list[str], folder: str, command: list[str]) -> Iterator[Outcome]:
+    def outcomes(self, files: list[str], folder: str, command: list[str], adapts: Optional[str]) -> Iterator[Outcome]:
         """The outcomes, as they come. A response whose workers or whose scheduler were lost has failed."""
         from distributed import as_completed
 
-        futures = self._client.map(export_file, files, folder=folder, command=command, pure=False)  # type: ignore[no-untyped-call]
+        futures = self._client.map(export_file, files, folder=folder, command=command, adapts=adapts, pure=False)  # type: ignore[no-untyped-call]
         of = dict(zip(futures, files))
         for future in as_completed(futures):  # type: ignore[no-untyped-call]
             yield self._outcome_of(future, of[future])
@@ -315,19 +216,6 @@ class Cluster:
             return outcome
         except (OSError, concurrent.futures.CancelledError):  # of its connection: what a worker raised is returned
             return Outcome(file, FAILED, f"the scheduler {self._where} was lost")
-
-
-@contextlib.contextmanager
-def locked(folder: str) -> Iterator[None]:
-    """Keeps a folder of texts for this command. Raises `Stopped` if another one has it."""
-    descriptor = os.open(folder, os.O_RDONLY)
-    try:
-        fcntl.flock(descriptor, fcntl.LOCK_EX | fcntl.LOCK_NB)
-        yield
-    except BlockingIOError:
-        raise Stopped(f"{folder}: another command writes its texts there", REFUSED) from None
-    finally:
-        os.close(descriptor)
 
 
 def export_all(asked: argparse.Namespace) -> int:
@@ -342,40 +230,22 @@ def export_left(files: list[str], asked: argparse.Namespace) -> int:
     command = program.command_of(asked.program, program.PACKET_SIZE, asked.column_room, program.MAX_WIRE, asked.charset)
     place: Union[Here, Cluster] = Cluster(asked.scheduler) if asked.scheduler else Here(asked.jobs)
     with place:
-        table = Table(asked.out, " ".join(command[2:]), place.version(asked.program))
+        options = " ".join([*command[2:], *(["--adapt"] if asked.adapt else [])])
+        table = Table(asked.out, options, place.version(asked.program))
         table.check(files)
         left = [file for file in files if not table.is_done(file)]
-        table.begin(left)
-        progress, failed = Progress(len(files), len(files) - len(left)), 0
+        table.begin({*left}, map(os.path.basename, left))
+        progress, failed = Progress("responses", len(files), len(files) - len(left)), 0
         try:
-            for outcome in place.outcomes(left, asked.out, command):
-                table.add(outcome)
+            for outcome in place.outcomes(left, asked.out, command, asked.charset if asked.adapt else None):
+                table.tell(outcome)
                 failed += outcome.status not in (DONE, SERVER_ERROR)
                 progress.step(failed)
         finally:
             table.close()
             progress.end()
             remove_unfinished(asked.out)
-    return summed(files, table)
-
-
-def remove_unfinished(folder: str) -> None:
-    """Removes what is left of texts that didn't get their names."""
-    for name in os.listdir(folder):
-        if re.fullmatch(rf".+\.\d+\.\d+\.\d+{re.escape(UNFINISHED)}", name):
-            with contextlib.suppress(FileNotFoundError):
-                os.remove(os.path.join(folder, name))
-
-
-def summed(files: list[str], table: Table) -> int:
-    """Says which response failed first, and how many ended in each way, and returns the greatest status."""
-    statuses = [table.records[file].status for file in files]
-    counts = [statuses.count(status) for status in (DONE, SERVER_ERROR, BAD_INPUT)]
-    done, errors, refused = counts
-    if first := next((it for it in map(table.records.__getitem__, files) if it.status not in (DONE, SERVER_ERROR)), None):
-        tell(f"{os.path.relpath(first.file)}: {first.line}; {table.shown()} has a line for each")
-    tell(f"{len(files)} responses: {done} done, {errors} with an error of the server, {refused} refused, {len(files) - sum(counts)} failed")
-    return FAILED if len(files) > sum(counts) else max(statuses, default=0)
+    return summed("responses", [(os.path.relpath(file), table.records[file]) for file in files], table.shown())
 
 
 def arguments(words: list[str]) -> argparse.Namespace:
@@ -383,6 +253,7 @@ def arguments(words: list[str]) -> argparse.Namespace:
     add = parser.add_argument
     add("-j", "--jobs", metavar="N", type=number_in(1, 1024), default=len(os.sched_getaffinity(0)), help="responses read at once (default: the number of processors)")
     add("--scheduler", metavar="WHERE", help="a Dask cluster: its address, or its scheduler file; each worker must see FILE and OUT under the same paths")
+    add("--adapt", action="store_true", help="rewrite columns that tds_replay refuses, as the command adapt does")
     add_options_of_program(parser)
     add("files", metavar="FILE", nargs="+", help="responses, or folders of them")
     add("out", metavar="OUT", help="the folder of the texts, which is made if it isn't there")

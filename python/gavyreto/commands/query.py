@@ -1,9 +1,17 @@
 """Asks a SQL Server, and writes the rows of its answers as quoted CSV by tds_replay.
 
 The statements are sent on one connection, one after the other. Without a STATEMENT they are read from the files of -i, or from
-standard input; there a line GO ends a statement, and a line GO N sends it N times. On standard output an empty line separates
-two answers, as it separates two result sets. The login is by SQL authentication; the password is read from the variable
-SQLCMDPASSWORD, or asked for. The server's certificate is verified, and everything is encrypted unless --encrypt asks for less.
+standard input; there a line GO ends a statement, and a line GO N sends it N times. On standard output an empty line separates two
+answers, as it separates two result sets.
+
+The login is by SQL authentication with -U, whose password is read from the variable SQLCMDPASSWORD, or asked for; by Kerberos with
+-E; or by an access token of Entra ID, from the file of --access-token-file or the variable SQLCMDACCESSTOKEN. The server's
+certificate is verified, and everything is encrypted unless --encrypt asks for less; tickets and tokens are never sent without.
+
+With --tables each line of a file has a name, and behind it a statement, or a table of which all rows are read; alone it is a table.
+The answer gets the file NAME.csv in the folder of -o once it is whole, or NAME.csv.partial if it is refused, which ends nothing. The
+table outcomes.csv there gets a line for each as it ends: name, status, line, text, its bytes, when it was begun, statement, options
+and program. Begun again all are asked again. The status is the greatest of all.
 
 Standard error gets the lines of tds_replay. The status is 0; 3 if the server reported an error, refused the login, or ended an
 answer as cancelled or failed; 4 if an answer can't be read; 5 if the connection or a write failed; 2 if the arguments are
@@ -16,30 +24,30 @@ import codecs
 import contextlib
 import os
 import re
-import signal
 import stat
-import threading
+import sys
+import time
 from itertools import chain
-from types import FrameType
-from typing import BinaryIO, Iterable, Iterator, NamedTuple, NoReturn, Optional
+from typing import BinaryIO, Callable, Iterable, Iterator, NamedTuple, NoReturn, Optional
 
 from gavyreto import connection, program, tds
+from gavyreto.asking import Asking, Interrupt
 from gavyreto.commands import common
 from gavyreto.commands.common import (
-    STANDARD_INPUT, STANDARD_OUTPUT, STREAMS, Signalled, Stopped, add_options_of_program, cause_of, checked_program, is_one_file, needed,
+    STANDARD_INPUT, STANDARD_OUTPUT, STREAMS, Stopped, add_options_of_program, cause_of, checked_program, is_one_file, needed,
     number_in, parser_of, tell_all,
 )
 from gavyreto.connection import Secret, Session
-from gavyreto.errors import BadAnswer, ConnectionFailed
-from gavyreto.program import BAD_INPUT, DONE, FAILED, INTERRUPTED, REFUSED, SERVER_ERROR, Ending, Program
+from gavyreto.program import DONE, FAILED, REFUSED, SERVER_ERROR, Ending, Program
+from gavyreto.where import PORT, Where, where
 
+OF_PASSWORD, OF_TOKEN = "SQLCMDPASSWORD", "SQLCMDACCESSTOKEN"  # variables
 SEPARATOR = b"\r\n"
 PARTIAL = ".partial"  # behind the name of a text that isn't whole
 GO = re.compile(r"\s*GO(?:\s+(\d+))?\s*;?\s*(?:--.*)?", re.IGNORECASE | re.ASCII | re.DOTALL)
 MOST_TIMES = 2**31 - 1  # that a GO sends a statement
+SECONDS_OF_PROGRESS = 0.5  # between two lines, at least
 CHECKED_OUTPUTS = 1000  # outputs that are looked at before anything is sent
-SECONDS_OF_PATIENCE = 1  # after which it is told that the server is waited for
-WAITING = "interrupted: waiting for the server to stop; Ctrl-C again doesn't wait"
 UTF_16 = "is it UTF-16? iconv -f UTF-16 -t UTF-8 makes UTF-8 of it"
 
 
@@ -111,7 +119,7 @@ def statements_of(asked: argparse.Namespace) -> Iterator[str]:
     elif asked.input:
         found = [batch for path in asked.input for batch in batches_of(path)]
     else:
-        found = list(standard_input()) if asked.output and "{}" not in asked.output else standard_input()
+        found = list(standard_input()) if any("{}" not in it for it in templates_of(asked)) else standard_input()
     if isinstance(found, list):
         found = [batch for batch in found if batch.statement.strip()]
         check(found, asked)
@@ -122,31 +130,46 @@ def statements_of(asked: argparse.Namespace) -> Iterator[str]:
     return chain([first], sent)
 
 
+def templates_of(asked: argparse.Namespace) -> list[str]:
+    """The names of files to write, in which {} stands for a number."""
+    return [it for it in (asked.output, asked.packets) if it]
+
+
 def check(found: list[Batch], asked: argparse.Namespace) -> None:
     """Refuses what can be known before anything is sent: statements that are no text, and outputs that can't be opened."""
     for batch in found:
         encoded(batch.statement)
     count = sum(batch.times for batch in found)
-    if asked.output and "{}" not in asked.output and count > 1:
+    if count > 1 and any("{}" not in it for it in templates_of(asked)):
         raise Stopped(f"{count} statements, and one output: a name with {{}} gets the number of each", REFUSED)
-    links: dict[str, str] = {}
-    for number in range(1, min(count, CHECKED_OUTPUTS) + 1 if asked.output else 0):
-        path = output_of(asked, number)
-        check_apart(path, asked)
-        other = links.setdefault(os.path.realpath(path), path)
+    names = Names(asked)
+    for number in range(1, min(count, CHECKED_OUTPUTS) + 1):
+        for path in (path_of(it, number) for it in templates_of(asked)):
+            names.take(path)
+            where = path if os.path.exists(path) else os.path.dirname(path) or "."
+            if os.path.isdir(path) or not os.access(where, os.W_OK):
+                raise Stopped(f"{path}: can't be written", FAILED)
+
+
+class Names:
+    """The names of files that are written, of which no two may be one file, and none one from which statements are read; also by the name
+    that each has until it is whole."""
+
+    def __init__(self, asked: argparse.Namespace) -> None:
+        self._asked = asked
+        self._links: dict[str, str] = {}  # what names lead to, and the first of them: of the first names, and of all that are links
+
+    def take(self, path: str) -> None:
+        """Takes the next name of an output. Raises `Stopped` if it may not be written."""
+        for source in self._asked.input or ([] if self._asked.statements else ["-"]):
+            for name in (path, path + PARTIAL):
+                if is_one_file(name, STANDARD_INPUT if source == "-" else source):
+                    raise Stopped(f"{name}: the statements are read from it", REFUSED)
+        real = os.path.realpath(path)
+        keeps = os.path.islink(path) or len(self._links) < CHECKED_OUTPUTS
+        other = self._links.setdefault(real, path) if keeps else self._links.get(real, path)
         if other != path:
             raise Stopped(f"{other} and {path} are one file", REFUSED)
-        where = path if os.path.exists(path) else os.path.dirname(path) or "."
-        if os.path.isdir(path) or not os.access(where, os.W_OK):
-            raise Stopped(f"{path}: can't be written", FAILED)
-
-
-def check_apart(path: str, asked: argparse.Namespace) -> None:
-    """Refuses an output from which statements are read, also by its name until it is whole."""
-    for source in asked.input or ([] if asked.statements else ["-"]):
-        for name in (path, path + PARTIAL):
-            if is_one_file(name, STANDARD_INPUT if source == "-" else source):
-                raise Stopped(f"{name}: the statements are read from it", REFUSED)
 
 
 def encoded(statement: str) -> bytes:
@@ -158,30 +181,26 @@ def encoded(statement: str) -> bytes:
 
 # Answers.
 
-def output_of(asked: argparse.Namespace, number: int) -> str:
-    return str(asked.output).replace("{}", str(number))
+def path_of(template: str, number: int) -> str:
+    return template.replace("{}", str(number))
 
 
 class Outputs:
-    """Where the texts go: to standard output, or each to a file, which has its name with .partial behind it until it is whole."""
+    """Where texts or packets go: to standard output, or each to a file, which has its name with .partial behind it until it is whole."""
 
-    def __init__(self, asked: argparse.Namespace) -> None:
-        self._asked = asked
+    def __init__(self, template: Optional[str], names: Names) -> None:
+        self._template, self._names = template, names
         self._is_begun = False  # whether standard output has a text
-        self._links: dict[str, str] = {}  # what the names that are links lead to, and the first of them
         self._path = self._waiting = ""
         self._descriptor = STANDARD_OUTPUT
 
     def open(self, number: int) -> program.Output:
-        """The output for the text of a statement."""
-        if not self._asked.output:
+        """The output for the answer to a statement."""
+        if not self._template:
             return program.Output(STANDARD_OUTPUT, SEPARATOR if self._is_begun else b"")
-        path = output_of(self._asked, number)
-        check_apart(path, self._asked)
+        path = path_of(self._template, number)
+        self._names.take(path)
         self._path = os.path.realpath(path)
-        other = self._links.setdefault(self._path, path) if os.path.islink(path) else self._links.get(self._path, path)
-        if other != path:
-            raise Stopped(f"{other} and {path} are one file", REFUSED)
         try:
             self._descriptor = self._opened()
         except OSError as failure:
@@ -209,120 +228,117 @@ class Outputs:
         """The name of the output, for a line."""
         return STREAMS[STANDARD_OUTPUT] if self._descriptor == STANDARD_OUTPUT else self._path
 
-    def close(self, ending: Optional[Ending]) -> None:
-        """The text is there, whole if it has an ending of this kind: then its file gets its name."""
-        self._is_begun = self._is_begun or bool(ending and ending.written)
+    def write(self, data: bytes) -> None:
+        """Writes bytes. Raises `Stopped` if that fails."""
+        try:
+            program.write_all(self._descriptor, data)
+        except OSError as failure:
+            raise Stopped(f"{self._path}: {cause_of(failure)}", FAILED) from None
+
+    def close(self, is_whole: bool, has_text: bool = False) -> None:
+        """The text is there, or the packets. If they are whole their file gets its name."""
+        self._is_begun = self._is_begun or has_text
         if self._descriptor == STANDARD_OUTPUT:
             return
         os.close(self._descriptor)
         self._descriptor = STANDARD_OUTPUT
-        if self._waiting and ending and ending.status in (DONE, SERVER_ERROR):
+        if self._waiting and is_whole:
             try:
                 os.replace(self._waiting, self._path)
             except OSError as failure:
                 raise Stopped(f"{self._path}: {cause_of(failure)}", FAILED) from None
 
 
-class Interrupt:
-    """What Ctrl-C does: the first within an answer asks the server to stop, any other ends at once. It is told what is waited for if that
-    takes a while."""
+class Progress:
+    """A line on a terminal, which says how much of an answer has come, as long as it comes; none where the rows go there."""
 
-    def __init__(self, session: Session) -> None:
-        self.came = False
-        self._late: Optional[threading.Timer] = None
-        self._session = session
-        before = signal.getsignal(signal.SIGINT)
-        if callable(before):  # it is ignored of what the shell runs in the background
-            self._before = before
-            signal.signal(signal.SIGINT, self._handle)
+    def __init__(self, asked: argparse.Namespace) -> None:
+        self._shows = sys.stderr.isatty() and (bool(asked.output) or not os.isatty(STANDARD_OUTPUT))
+        self._number = self._bytes = 0
+        self._began = self._last = 0.0
 
-    def _handle(self, number: int, frame: Optional[FrameType]) -> None:
-        try:
-            self._before(number, frame)  # it keeps that Ctrl-C came, which decides the status in the end
-        except KeyboardInterrupt:
-            if self.came or self._session.is_ready():
-                raise
-        self.came = True
-        with contextlib.suppress(ConnectionFailed):  # who waits for the answer finds it too
-            self._session.interrupt()
-        self._late = threading.Timer(SECONDS_OF_PATIENCE, lambda: common.tell(WAITING))
-        self._late.daemon = True
-        self._late.start()
+    def begin(self, number: int) -> None:
+        self._number, self._bytes, self._began = number, 0, time.monotonic()
+        self._last = self._began
 
-    def settle(self) -> None:
-        """Nothing is waited for any more."""
-        if self._late:
-            self._late.cancel()
+    def came(self, count: int) -> None:
+        self._bytes += count
+        if self._shows and (now := time.monotonic()) - self._last > SECONDS_OF_PROGRESS:
+            self._last = now
+            common.say(f"\r\033[Kanswer {self._number}: {self._bytes / 1e6:.1f} MB, {now - self._began:.0f} seconds")
 
-
-def answer(session: Session, statement: str, run: Program, output: program.Output, interrupt: Interrupt) -> Ending:
-    """Sends a statement, and runs the program on its answer."""
-    run.begin()
-    session.meanwhile(lambda source, seconds: run.attend(source, seconds, output))
-    ended = ""
-    try:
-        session.send(statement)
-        while run.is_reading and (data := session.next()):
-            run.hand(data, output)
-    except (ConnectionFailed, BadAnswer, Signalled) as failure:
-        ended, status = common.ending_of(failure)
-    if ended or interrupt.came:
-        run.cut()
-    ending = run.finish(output)
-    if interrupt.came:
-        line = ending.line_after(finished(session))
-        interrupt.settle()
-        raise Stopped(line, INTERRUPTED)
-    if ended:
-        raise Stopped(ended if status == BAD_INPUT else ending.line_after(ended), status)
-    if ending.status == DONE and session.unfinished:
-        return ending._replace(status=SERVER_ERROR, notes=f"{ending.notes}{session.unfinished}\n")
-    return ending
-
-
-def finished(session: Session) -> str:
-    """Waits, after an interrupt, for the server to stop. Returns what there is to say."""
-    if session.closed_after:
-        return f"interrupted, and {session.closed_after}"
-    try:
-        session.finish()
-    except ConnectionFailed as failure:
-        return f"interrupted, and {failure}"
-    return "interrupted"
+    def end(self) -> None:
+        if self._last > self._began:
+            common.say("\r\033[K")
 
 
 def ask(asked: argparse.Namespace, statements: Iterator[str], password: str) -> int:
     """Sends the statements, each once the answer before it is read. Returns the first status that isn't 0, or 0."""
-    outputs = Outputs(asked)
-    first = outputs.open(1)  # before the login: a pipe may have no reader yet
-    ending: Optional[Ending] = None
+    names, progress = Names(asked), Progress(asked)
+    texts, packets = Outputs(asked.output, names), Outputs(asked.packets, names) if asked.packets else None
+    first = texts.open(1)  # before the login: a pipe may have no reader yet
     try:
         with session_of(asked, password) as session, Program(program.command_of(
                 asked.program, session.packet_size, asked.column_room, program.MAX_WIRE, asked.charset)) as run:
-            interrupt = Interrupt(session)
+            asking = Asking(session, run, asked.charset if asked.adapt else None, packets.write if packets else None, Interrupt(session))
             for number, statement in enumerate(statements, 1):
                 encoded(statement)
-                output = first if number == 1 else outputs.open(number)
-                ending = None
-                try:
-                    ending = answer(session, statement, run, output, interrupt)
-                except program.OutputFailed as failed:
-                    raise Stopped(f"{outputs.name()}: {cause_of(failed.failure)}", FAILED) from None
-                outputs.close(ending)
+                output = first if number == 1 else texts.open(number)
+                if packets:
+                    packets.open(number)
+                progress.begin(number)
+                ending = answered(asking, statement, output, texts, packets, progress)
                 tell_all(ending.notes)
                 if ending.status:
                     return ending.status
             session.end()
         return DONE
     finally:
-        outputs.close(None)
+        texts.close(False)
+        if packets:
+            packets.close(False)
+
+
+def ask_tables(asked: argparse.Namespace, password: str) -> int:
+    """Sends the statements of a file, each with a text under its name. Returns the greatest status."""
+    from gavyreto import tables
+
+    try:
+        with open(needed(STANDARD_INPUT) if asked.tables == "-" else asked.tables, "rb", closefd=asked.tables != "-") as file:
+            items = tables.items_of(lines_of(file, asked.tables), asked.tables)
+    except OSError as failure:
+        raise Stopped(f"{asked.tables}: {cause_of(failure)}", FAILED) from None
+    for item in items:
+        encoded(item.statement)
+        if any(is_one_file(os.path.join(asked.output, name), asked.tables) for name in tables.texts_of(item)):
+            raise Stopped(f"{asked.tables} would be the text of {item.name}: name another folder", REFUSED)
+    password = password or password_of(asked)
+    asked.options = f"-S {asked.server.host},{asked.server.port or asked.server.instance or PORT} -d {asked.database} --charset {asked.charset}{' --adapt' if asked.adapt else ''}"
+    return tables.export(asked, items, lambda: session_of(asked, password))
+
+
+def answered(
+    asking: Asking, statement: str, output: program.Output, texts: Outputs, packets: Optional[Outputs], progress: Progress,
+) -> Ending:
+    """How the answer to a statement ends. Its text and its packets get their names if they are whole."""
+    try:
+        ending = asking.answer(statement, output, progress.came)
+    except program.OutputFailed as failed:
+        raise Stopped(f"{texts.name()}: {cause_of(failed.failure)}", FAILED) from None
+    finally:
+        progress.end()
+    texts.close(ending.status in (DONE, SERVER_ERROR), ending.written > 0)
+    if packets:
+        packets.close(asking.is_whole())
+    return ending
 
 
 def session_of(asked: argparse.Namespace, password: str) -> Session:
-    host, port = asked.server
+    found = asked.server
+    host = found.host if found.port or not found.instance else f"{found.host}\\{found.instance}"
     try:
         return connection.log_in_to(
-            host, user=asked.user, password=password, port=port, database=asked.database, encrypt=asked.encrypt,
+            host, user=asked.user or "", password=password, port=found.port or PORT, integrated=asked.integrated, access_token=asked.token, database=asked.database, encrypt=asked.encrypt,
             certificates=asked.certificates, certificate_name=asked.certificate_name or "", trust_server=asked.trust_server,
             packet_size=asked.packet_size, seconds=asked.seconds, login_seconds=asked.login_seconds)
     except ValueError as refused:
@@ -335,7 +351,7 @@ def session_of(asked: argparse.Namespace, password: str) -> Session:
 OF_SQLCMD = {
     **dict.fromkeys(("-Q", "-q"), "write the statement itself, as an argument"),
     **dict.fromkeys(("-P", "-Z", "-z", "--password"), "put the password into the variable SQLCMDPASSWORD, or type it when it is asked for"),
-    **dict.fromkeys(("-E", "-G"), "the login is by SQL authentication: write -U NAME"),
+    "-G": "write --access-token-file FILE",
     "-t": "write --seconds N", "-l": "write --login-seconds N", "-a": "write --packet-size N", "-v": "variables aren't replaced",
     "-f": "statements are read in UTF-8, and written so", "-b": "the first error ends the statements", "-r": "standard error has all lines",
     **dict.fromkeys(("-s", "-W", "-w", "-y", "-Y", "-k", "-u", "-R"), "the text is always CSV"),
@@ -381,19 +397,25 @@ def with_encryption(words: list[str]) -> list[str]:
     return changed + words[at:]
 
 
-def server(text: str) -> tuple[str, int]:
-    """The host and the port of `[tcp:]HOST[,PORT]`."""
-    host, comma, port = text[4 * (text[:4].lower() == "tcp:"):].partition(",")
-    if not host or "\\" in host or "@" in host or "/" in host:
-        shown = text if "@" not in host else "what is given"  # it may have a password
-        raise argparse.ArgumentTypeError(f"{shown} is not HOST or HOST,PORT: a named instance has a port of its own")
-    if host.startswith("[") and host.endswith("]"):
-        host = host[1:-1]
-    host = "localhost" if host.lower() in (".", "(local)") else host
-    name, colon, digits = host.partition(":")
-    if colon and digits.isdigit():  # an address of IPv6 has two colons at least
-        raise argparse.ArgumentTypeError(f"{text} is not HOST or HOST,PORT: write {name},{digits}")
-    return host, number_in(1, 65535)(port) if comma else connection.PORT
+def server(text: str) -> Where:
+    """Where a server is, by the value of -S."""
+    try:
+        return where(text)
+    except ValueError as wrong:
+        raise argparse.ArgumentTypeError(str(wrong)) from None
+
+
+def words_of(found: Where) -> list[str]:
+    """What a URL asks for, as options."""
+    named = [("user", found.user), ("database", found.database), *found.options]
+    trusts = [value.lower() in ("", "1", "true", "yes") for name, value in found.options if name == "trust-server"]
+    return [f"--{name}={value}" for name, value in named if value and name != "trust-server"] + ["--trust-server"] * any(trusts)
+
+
+def are_apart(*templates: str) -> bool:
+    """Whether names in which {} stands for a number are those of different files, whatever the numbers, also until these are whole."""
+    one, other = (re.sub(r"(\{\}|[0-9])+", "{}", os.path.realpath(it)) for it in templates)
+    return other not in (one, one + PARTIAL) and one != other + PARTIAL
 
 
 def seconds_of_login() -> int:
@@ -405,15 +427,30 @@ def seconds_of_login() -> int:
         raise Stopped(f"SQLCMDLOGINTIMEOUT: {wrong}", REFUSED) from None
 
 
-def arguments(words: list[str]) -> argparse.Namespace:
-    parser = parser_of("query", __doc__, add_help=False)
-    add = parser.add_argument
-    add("-h", "--help", nargs="?", action=HelpOfSqlcmd, metavar="", help="show this help message and exit")
-    add("-S", "--server", metavar="HOST[,PORT]", type=server, required=True, help="name of the server, as in its certificate, or its address")
-    add("-U", "--user", metavar="NAME", required=True, help="login name")
-    add("-d", "--database", metavar="NAME", default="", help="database to use (default: the user's)")
+def add_login(add: Callable[..., object]) -> None:
+    """The options of where a server is, and of the login."""
+    add("-S", "--server", metavar="HOST[,PORT]", type=server, default=os.environ.get("SQLCMDSERVER") or None,
+        help="name of the server, as in its certificate, or its address; or HOST\\INSTANCE, or mssql://USER@HOST:PORT/DATABASE?OPTION=VALUE (default: SQLCMDSERVER)")
+    add("-U", "--user", metavar="NAME", help="login name (default: SQLCMDUSER)")
+    add("-E", "--integrated", action="store_true", help="login by Kerberos, as the user of the ticket; needs Debian's python3-gssapi")
+    add("--access-token-file", metavar="FILE", help=f"login by the access token of Entra ID in this file (default: the variable {OF_TOKEN})")
+    add("-d", "--database", metavar="NAME", default=os.environ.get("SQLCMDDBNAME", ""), help="database to use (default: SQLCMDDBNAME, else the user's)")
+
+
+def add_outputs(add: Callable[..., object]) -> None:
+    """The options of statements, and of what is written."""
     add("-i", "--input", metavar="FILE", action="append", help="file of statements, in UTF-8; repeat it for several; - is standard input")
     add("-o", "--output", metavar="FILE", help="file to write (default: standard output, as -); {} is the number of the statement, from 1")
+    add("--tables", metavar="FILE", help="on each line a name, then a statement or a table; each answer gets the file NAME.csv in the folder of -o")
+    add("-j", "--jobs", metavar="N", type=number_in(1, 1024), default=1, help="with --tables, the connections (default: 1)")
+    add("--retries", metavar="N", type=number_in(0, 1000), default=0,
+        help="with --tables, how often a statement is sent again whose connection broke (default: 0)")
+    add("--packets", metavar="FILE", help="keep the packets of each answer in a file, as they came; {} is the number of the statement")
+    add("--adapt", action="store_true", help="rewrite columns that tds_replay refuses, as the command adapt does; packets are kept as they came")
+
+
+def add_connection(add: Callable[..., object]) -> None:
+    """The options of a connection."""
     add("--encrypt", choices=connection.ENCRYPT, default=connection.ENCRYPT[0],
         help="minimum encryption (default: all); a server that asks for more gets it")
     add("-N", dest="encrypt", metavar="m|o", help="same as --encrypt all, with o as --encrypt login")
@@ -426,16 +463,61 @@ def arguments(words: list[str]) -> argparse.Namespace:
         help=f"longest time from the look-up of HOST to the end of the login (default: SQLCMDLOGINTIMEOUT, else {connection.LOGIN_SECONDS})")
     add("--packet-size", metavar="N", type=number_in(tds.LEAST_PACKET_SIZE, tds.GREATEST_PACKET_SIZE), default=program.PACKET_SIZE_ASKED,
         help=f"packet size to ask for, 512 to 32767 (default: {program.PACKET_SIZE_ASKED})")
+
+
+def arguments(words: list[str]) -> argparse.Namespace:
+    parser = parser_of("query", __doc__, add_help=False)
+    parser.add_argument("-h", "--help", nargs="?", action=HelpOfSqlcmd, metavar="", help="show this help message and exit")
+    for add in (add_login, add_outputs, add_connection):
+        add(parser.add_argument)
     for flag, instead in OF_SQLCMD.items():
-        add(flag, nargs="?", action=OfSqlcmd, const=instead, help=argparse.SUPPRESS)
+        parser.add_argument(flag, nargs="?", action=OfSqlcmd, const=instead, help=argparse.SUPPRESS)
     add_options_of_program(parser)
-    add("statements", metavar="STATEMENT", nargs="*")
-    asked = parser.parse_args(with_encryption(words))
-    if asked.statements and asked.input:
-        parser.error("statements are arguments, or in files: not both")
+    parser.add_argument("statements", metavar="STATEMENT", nargs="*")
+    words = with_encryption(words)
+    asked = parser.parse_args(words)
+    if asked.server is None:
+        parser.error("-S HOST is needed, or the variable SQLCMDSERVER")
+    if own := words_of(asked.server):
+        asked = parser.parse_args(own + words)
     asked.output = None if asked.output == "-" else asked.output
+    if wrong := wrong_in(asked):
+        parser.error(wrong)
     asked.login_seconds = asked.login_seconds or seconds_of_login()
     return asked
+
+
+def wrong_in(asked: argparse.Namespace) -> str:
+    """Which arguments don't go together; "" if all do."""
+    if asked.integrated + bool(asked.access_token_file) + bool(asked.user) > 1:
+        return "a login is by -U, by -E or by --access-token-file: one of them"
+    if asked.statements and asked.input:
+        return "statements are arguments, or in files: not both"
+    if asked.tables and not asked.output:
+        return "--tables needs the folder of the texts, -o FOLDER"
+    if asked.tables and (asked.statements or asked.input or asked.packets):
+        return "--tables has the statements, and keeps no packets"
+    if asked.packets == "-":
+        return "packets aren't text: --packets needs a FILE"
+    if asked.packets and asked.output and not are_apart(asked.packets, asked.output):
+        return "--packets and -o could be one file: give them different names"
+    return ""
+
+
+def password_of(asked: argparse.Namespace) -> str:
+    """The password, from the terminal, or none for a login without one."""
+    return Secret() if asked.integrated or asked.token else asked_password(asked.user)
+
+
+def token_of(asked: argparse.Namespace, of_environment: str) -> Optional[str]:
+    """The access token that is asked for, from a file or the environment."""
+    if asked.access_token_file:
+        try:
+            with open(asked.access_token_file, encoding="ascii", errors="replace") as file:
+                return Secret(file.read())
+        except OSError as failure:
+            raise Stopped(f"{asked.access_token_file}: {cause_of(failure)}", FAILED) from None
+    return of_environment or None if not asked.user and not asked.integrated else None
 
 
 def asked_password(user: str) -> str:
@@ -454,10 +536,19 @@ def asked_password(user: str) -> str:
 
 def run(words: list[str]) -> int:
     """The command `query`. Returns its exit status, or raises what ended it."""
-    password = Secret(os.environ.pop("SQLCMDPASSWORD", ""))  # the processes that are started from here don't get it
+    password, token = (Secret(os.environ.pop(name, "")) for name in (OF_PASSWORD, OF_TOKEN))  # processes that are started don't get them
     asked = arguments(words)
+    asked.token = token_of(asked, token)
+    if asked.token is None and not asked.integrated and not asked.user:
+        asked.user = os.environ.get("SQLCMDUSER") or None
+        if not asked.user:
+            raise Stopped("a login is needed: -U NAME, -E, --access-token-file FILE, or the variable SQLCMDUSER", REFUSED)
     if not asked.output:
         needed(STANDARD_OUTPUT)
+    asked.output = os.path.abspath(asked.output) if asked.tables else asked.output
     asked.program = checked_program(asked.program)
+    given = "" if asked.integrated or asked.token else password
+    if asked.tables:
+        return ask_tables(asked, given)
     statements = statements_of(asked)
-    return ask(asked, statements, password or asked_password(asked.user))
+    return ask(asked, statements, given or password_of(asked))

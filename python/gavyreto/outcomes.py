@@ -1,0 +1,180 @@
+"""A folder of texts and the table of their outcomes, of which a line is written as each ends: what `many` and the tables of `query` share."""
+from __future__ import annotations
+
+import contextlib
+import fcntl
+import os
+import re
+import sys
+import time
+from typing import Any, Generic, Iterable, Iterator, Optional, Protocol, Sequence, TypeVar, Union
+
+from gavyreto import program
+from gavyreto.commands.common import Stopped, cause_of, line, say, tell
+from gavyreto.program import BAD_INPUT, DONE, FAILED, REFUSED, SERVER_ERROR
+from gavyreto.records import record_at
+from gavyreto.values import value_of
+
+TABLE = "outcomes.csv"
+TEXT, PARTIAL = ".csv", ".csv.partial"  # behind the name of what a text is of
+UNFINISHED = ".unfinished"  # at the end of the name of a text that waits for its own
+LONGEST_LINE = 1 << 20  # characters of a line of the table, more than any has
+Kinds = Sequence[Union[type, tuple[type, ...]]]
+
+
+class Line(Protocol):
+    """A line of a table: what it is of, how that ended, and its text. NULL stands for a text that isn't there."""
+
+    @property
+    def status(self) -> int: ...
+
+    @property
+    def line(self) -> str: ...
+
+    @property
+    def text(self) -> Optional[str]: ...
+
+    @property
+    def written(self) -> int: ...
+
+    def key(self) -> str: ...
+
+    def __iter__(self) -> Iterator[Any]: ...
+
+
+L = TypeVar("L", bound=Line)
+
+
+class Table(Generic[L]):
+    """The table of outcomes, and the texts that it tells of. Its lines are written whole."""
+
+    def __init__(self, folder: str, record: type[L], fields: Sequence[str], kinds: Kinds) -> None:
+        self._path, self._folder = os.path.join(folder, TABLE), folder
+        self._record, self._kinds, self._header = record, kinds, line(fields).encode()
+        self.records = self._read()
+        self._descriptor = -1
+
+    def _read(self) -> dict[str, L]:
+        """The lines that are there, by what they are of, but for one at the end that isn't whole, since its writing was stopped."""
+        if not os.path.lexists(self._path):
+            left = next((name for name in os.listdir(self._folder) if name.endswith((TEXT, PARTIAL))), None)
+            if left:
+                raise Stopped(f"{self._folder} has {left}, and no table of this command: name a folder without texts", REFUSED)
+            return {}
+        records = None
+        if os.path.isfile(self._path):
+            with open(self._path, "rb") as file:
+                records = self._records_in(file.read())
+        if records is None:
+            raise Stopped(f"{self._path} isn't a table of this command", REFUSED)
+        return {record.key(): record for record in records}
+
+    def _records_in(self, data: bytes) -> Optional[list[L]]:
+        """The lines of a table, or None if it is another table."""
+        if not data.startswith(self._header):
+            return [] if not data else None
+        text, at = data.decode("utf-8", "surrogateescape"), len(self._header)
+        records: list[L] = []
+        while at < len(text):
+            try:
+                fields, after = record_at(text, at)
+                values = [value_of(field) for field in fields]
+            except ValueError:
+                return records if len(text) - at < LONGEST_LINE else None
+            if len(values) != len(self._kinds) or not all(isinstance(value, kind) for value, kind in zip(values, self._kinds)):
+                return None
+            records.append(self._record(*values))
+            at = after
+        return records
+
+    def begin(self, again: set[str], names: Iterable[str]) -> None:
+        """Leaves out the lines of what is to be done again, and of texts by these names, and goes on behind the others."""
+        texts = {name + end for name in names for end in (TEXT, PARTIAL)}
+        self.records = {key: record for key, record in self.records.items() if key not in again and record.text not in texts}
+        with open(self._path + UNFINISHED, "wb") as out:
+            out.write(self._header + b"".join(map(_line_of, self.records.values())))
+        os.replace(out.name, self._path)
+        self._descriptor = os.open(self._path, os.O_WRONLY | os.O_APPEND | os.O_CLOEXEC)
+
+    def close(self) -> None:
+        os.close(self._descriptor)
+
+    def shown(self) -> str:
+        """The name of the table, from the folder that the command runs in."""
+        return os.path.relpath(self._path)
+
+    def put(self, name: str, waiting: Optional[str], status: int) -> tuple[Optional[str], str]:
+        """Gives a text its name, and takes away the one that was there before. Returns its name, and why it has none."""
+        text, why = None if waiting is None else name + (PARTIAL if status == BAD_INPUT else TEXT), ""
+        if waiting and text:
+            try:
+                os.replace(waiting, os.path.join(self._folder, text))
+            except OSError as failure:
+                text, why = None, f"{text}: {cause_of(failure)}"
+        for other in {name + TEXT, name + PARTIAL} - {text}:
+            with contextlib.suppress(OSError):
+                os.remove(os.path.join(self._folder, other))
+        return text, why
+
+    def add(self, record: L) -> None:
+        """Writes a line."""
+        try:
+            program.write_all(self._descriptor, _line_of(record))
+        except OSError as failure:
+            raise Stopped(f"{self._path}: {cause_of(failure)}", FAILED) from None
+        self.records[record.key()] = record
+
+
+def _line_of(record: Line) -> bytes:
+    return line(record).encode("utf-8", "surrogateescape")
+
+
+class Progress:
+    """A line on a terminal, which says how far it is."""
+
+    def __init__(self, what: str, count: int, done: int) -> None:
+        self._what, self._count, self._done, self._began, self._shows = what, count, done, time.monotonic(), sys.stderr.isatty()
+        self._last = 0.0
+
+    def step(self, failed: int) -> None:
+        self._done += 1
+        now = time.monotonic()
+        if self._shows and (now - self._last > 0.1 or self._done == self._count):
+            self._last = now
+            say(f"\r\033[K{self._done} of {self._count} {self._what}, {failed} refused or failed, {now - self._began:.0f} seconds")
+
+    def end(self) -> None:
+        if self._shows:
+            say("\n")
+
+
+@contextlib.contextmanager
+def locked(folder: str) -> Iterator[None]:
+    """Keeps a folder of texts for this command. Raises `Stopped` if another one has it."""
+    descriptor = os.open(folder, os.O_RDONLY)
+    try:
+        fcntl.flock(descriptor, fcntl.LOCK_EX | fcntl.LOCK_NB)
+        yield
+    except BlockingIOError:
+        raise Stopped(f"{folder}: another command writes its texts there", REFUSED) from None
+    finally:
+        os.close(descriptor)
+
+
+def remove_unfinished(folder: str) -> None:
+    """Removes what is left of texts that didn't get their names."""
+    for name in os.listdir(folder):
+        if re.fullmatch(rf".+\.\d+\.\d+\.\d+{re.escape(UNFINISHED)}", name):
+            with contextlib.suppress(FileNotFoundError):
+                os.remove(os.path.join(folder, name))
+
+
+def summed(what: str, records: Sequence[tuple[str, Line]], shown: str) -> int:
+    """Says which failed first, by the names that are given, and how many ended in each way, and returns the greatest status."""
+    statuses = [record.status for _, record in records]
+    counts = [statuses.count(status) for status in (DONE, SERVER_ERROR, BAD_INPUT)]
+    done, errors, refused = counts
+    if first := next(((name, it) for name, it in records if it.status not in (DONE, SERVER_ERROR)), None):
+        tell(f"{first[0]}: {first[1].line}; {shown} has a line for each")
+    tell(f"{len(records)} {what}: {done} done, {errors} with an error of the server, {refused} refused, {len(records) - sum(counts)} failed")
+    return FAILED if len(records) > sum(counts) else max(statuses, default=0)

@@ -1,0 +1,258 @@
+"""Many statements, each with a text under its name in a folder, on some connections at once: what `query --tables` does."""
+from __future__ import annotations
+
+import argparse
+import contextlib
+import os
+import queue
+import re
+import threading
+import time
+from typing import Callable, Generator, Iterable, NamedTuple, Optional, Union
+
+from gavyreto import outcomes, program
+from gavyreto.asking import Asking, Broken
+from gavyreto.commands.common import Stopped, cause_of
+from gavyreto.connection import Session
+from gavyreto.errors import CertificateRefused, ConnectionFailed, EncryptionRefused, LoginRefused
+from gavyreto.exporting import version_of
+from gavyreto.outcomes import PARTIAL, TABLE, TEXT, UNFINISHED, Kinds, Progress, locked, remove_unfinished, summed
+from gavyreto.program import BAD_INPUT, DONE, FAILED, INTERRUPTED, REFUSED, SERVER_ERROR, Program
+
+LONGEST_STATEMENT = 100_000  # characters
+LONGEST_NAME = 255 - len(PARTIAL)  # bytes
+SECONDS_TO_STOP = 5  # for which connections under way are waited for, once they were cut
+MOST_PAUSE = 30  # seconds between two attempts
+PART = r'(?:\[(?:[^\]]|\]\])+\]|"(?:[^"]|"")+"|[^\s.\[\]"]+)'
+NAME_OF_TABLE = re.compile(rf"{PART}?(?:\.{PART}?){{0,2}}\.{PART}|{PART}")
+Connect = Callable[[], Session]
+
+
+class Item(NamedTuple):
+    """A line of the file: the name of a text, and the statement whose answer it has."""
+
+    name: str
+    statement: str
+
+
+def items_of(lines: Iterable[str], file: str) -> list[Item]:
+    """The items of a file: on each line a name, and behind it a statement, or a table of which all is read; without it that of the name.
+    Empty lines, and those that begin with two hyphens, are none. Raises `Stopped` for names that are none, or stand twice."""
+    found: dict[str, Item] = {}
+    for number, text in enumerate(lines, 1):
+        name, rest = (text.split(None, 1) + ["", ""])[:2]
+        if not name or name.startswith("--"):
+            continue
+        wrong = _wrong_in(name, rest) or ("stands twice" if name in found else "")
+        if wrong:
+            raise Stopped(f"{file}, line {number}: the name {name[:60]} {wrong}", REFUSED)
+        table = rest.strip() or name
+        found[name] = Item(name, f"SELECT * FROM {table}" if NAME_OF_TABLE.fullmatch(table) else table)
+    if not found:
+        raise Stopped(f"{file}: no table", REFUSED)
+    return list(found.values())
+
+
+def texts_of(item: Item) -> list[str]:
+    """The names that the text of an item may have."""
+    return [item.name + TEXT, item.name + PARTIAL]
+
+
+def _wrong_in(name: str, rest: str) -> str:
+    """What is wrong with the name of a text, and what stands behind it; "" if nothing is."""
+    if "/" in name or "\0" in name or name + TEXT == TABLE:
+        return f"has a slash, or is that of the table of outcomes, {TABLE}"
+    if len(os.fsencode(name)) > LONGEST_NAME:
+        return f"has more than {LONGEST_NAME} bytes"
+    return f"has a statement of more than {LONGEST_STATEMENT} characters" if len(rest) > LONGEST_STATEMENT else ""
+
+
+class Record(NamedTuple):
+    """A line of the table: how the export of a statement ended, and what it was made of. NULL stands for a text that isn't there."""
+
+    name: str
+    status: int
+    line: str
+    text: Optional[str]
+    written: int
+    time: int  #: at which it was begun, in nanoseconds since 1970
+    statement: str
+    options: str
+    program: str
+
+    def key(self) -> str:
+        return self.name
+
+
+KINDS: Kinds = [str, int, str, (str, type(None)), int, int, str, str, str]  # of its fields
+
+
+class Outcome(NamedTuple):
+    """How the export of an item ended: its text waits at `waiting` for its name if the answer itself decided it."""
+
+    item: Item
+    status: int
+    line: str
+    began: int
+    waiting: Optional[str] = None
+    written: int = 0
+
+
+class Worker:
+    """A connection on which items are asked one after the other, made anew where it broke, and the program that reads the answers."""
+
+    def __init__(self, asked: argparse.Namespace, connect: Connect, is_stopped: threading.Event, session: Optional[Session] = None) -> None:
+        self._asked, self._connect, self._is_stopped = asked, connect, is_stopped
+        self._session = session
+        self._run: Optional[Program] = None
+
+    def export(self, item: Item) -> Outcome:
+        """Exports an answer. Raises what ends all of them: a login that was refused, and what isn't of the answer."""
+        began, line = time.time_ns(), ""
+        for attempt in range(self._asked.retries + 1):
+            if attempt > 1:
+                self._is_stopped.wait(min(2 ** (attempt - 2), MOST_PAUSE))
+            try:
+                return self._exported(item, began)
+            except Broken as broken:
+                line = str(broken)
+            if self._is_stopped.is_set():
+                break
+        return Outcome(item, FAILED, line, began)
+
+    def _exported(self, item: Item, began: int) -> Outcome:
+        """The same, once. Raises `Broken` if the connection breaks, or can't be made."""
+        waiting = os.path.join(self._asked.output, f"{os.uname().nodename}.{os.getpid()}.{threading.get_ident()}.{time.monotonic_ns()}{UNFINISHED}")
+        outcome = Outcome(item, FAILED, "interrupted", began)
+        try:
+            with open(waiting, "xb") as out:
+                ending = self._asking().answer(item.statement, program.Output(out.fileno()))
+                os.fsync(out.fileno())
+                is_decided = ending.status in (DONE, SERVER_ERROR, BAD_INPUT)
+                line = ending.notes.splitlines()[0 if ending.status == DONE else -1]
+                outcome = Outcome(item, ending.status, line, began, waiting if is_decided else None, os.fstat(out.fileno()).st_size)
+        except program.OutputFailed as failed:
+            outcome = outcome._replace(line=f"{self._asked.output}: {cause_of(failed.failure)}")
+        except Broken:
+            raise
+        except Stopped as stopped:
+            outcome = outcome._replace(status=stopped.status, line=str(stopped))
+        finally:
+            if self._session and (outcome.waiting is None or not self._session.is_ready()):
+                self._session.close()
+            if outcome.waiting is None:
+                with contextlib.suppress(OSError):
+                    os.remove(waiting)
+        return outcome
+
+    def _asking(self) -> Asking:
+        """What asks on the connection. Raises `Broken` if there is none, and can't be made."""
+        if self._session is None or self._session.closed_after is not None:
+            try:
+                self._session = self._connect()
+            except (CertificateRefused, EncryptionRefused, LoginRefused):
+                raise  # another attempt would be refused too
+            except ConnectionFailed as failure:
+                raise Broken(str(failure), FAILED) from None
+        command = program.command_of(self._asked.program, self._session.packet_size, self._asked.column_room, program.MAX_WIRE, self._asked.charset)
+        if self._run is None or self._run.command != command:
+            if self._run:
+                self._run.close()
+            self._run = Program(command)
+        return Asking(self._session, self._run, self._asked.charset if self._asked.adapt else None)
+
+    def end(self) -> None:
+        """Ends the connection, once all items are asked. Raises BadAnswer if more came than was asked for."""
+        if self._session:
+            self._session.end()
+
+    def abandon(self) -> None:
+        """Cuts the connection, from another thread."""
+        if self._session:
+            self._session.abandon()
+
+    def close(self) -> None:
+        if self._session:
+            self._session.close()
+        if self._run:
+            self._run.close()
+
+
+# All of them.
+
+class Workers:
+    """Threads that export items, each with a connection of its own."""
+
+    def __init__(self, asked: argparse.Namespace, connect: Connect, first: Session) -> None:
+        self._is_stopped = threading.Event()
+        self._done: queue.SimpleQueue[Union[Outcome, BaseException, None]] = queue.SimpleQueue()
+        self._workers = [Worker(asked, connect, self._is_stopped, None if number else first) for number in range(asked.jobs)]
+        self._threads: list[threading.Thread] = []
+
+    def outcomes(self, items: list[Item]) -> Generator[Outcome, None, None]:
+        """The outcomes, as they come. What ends a thread is raised once the others have stopped."""
+        left = iter(items)
+        lock = threading.Lock()
+
+        def following() -> Optional[Item]:
+            with lock:
+                return None if self._is_stopped.is_set() else next(left, None)
+
+        self._threads = [threading.Thread(target=self._work, args=(worker, following), daemon=True) for worker in self._workers[:len(items)]]
+        try:
+            for thread in self._threads:
+                thread.start()
+            for _ in self._threads:
+                while outcome := self._done.get():
+                    if isinstance(outcome, BaseException):
+                        raise outcome
+                    yield outcome
+        except BaseException:
+            self.stop()
+            raise
+
+    def _work(self, worker: Worker, following: Callable[[], Optional[Item]]) -> None:
+        try:
+            while item := following():
+                self._done.put(worker.export(item))
+            worker.end()
+        except BaseException as failure:
+            self._done.put(failure)
+        finally:
+            worker.close()
+            self._done.put(None)
+
+    def stop(self) -> None:
+        """Cuts what is under way, and waits for it a while."""
+        self._is_stopped.set()
+        for worker in self._workers:
+            worker.abandon()
+        until = time.monotonic() + SECONDS_TO_STOP
+        for thread in self._threads:
+            thread.join(max(0.0, until - time.monotonic()))
+
+
+def export(asked: argparse.Namespace, items: list[Item], connect: Connect) -> int:
+    """Exports the answer to each item, and returns the greatest status. The first login comes before anything is written."""
+    os.makedirs(asked.output, exist_ok=True)
+    with locked(asked.output), contextlib.ExitStack() as stack:
+        table = outcomes.Table(asked.output, Record, Record._fields, KINDS)
+        workers, version = Workers(asked, connect, connect()), version_of(asked.program)
+        names = {item.name for item in items}
+        table.begin(names, names)
+        progress, failed = Progress("tables", len(items), 0), 0
+        try:
+            for outcome in stack.enter_context(contextlib.closing(workers.outcomes(items))):
+                text, why = table.put(outcome.item.name, outcome.waiting, outcome.status)
+                outcome = outcome._replace(status=FAILED, line=why, written=0) if why else outcome
+                table.add(Record(outcome.item.name, outcome.status, outcome.line, text, outcome.written, outcome.began, outcome.item.statement, asked.options, version))
+                failed += outcome.status not in (DONE, SERVER_ERROR)
+                progress.step(failed)
+        except KeyboardInterrupt:
+            raise Stopped("interrupted: begun again all are asked again", INTERRUPTED) from None
+        finally:
+            stack.close()
+            table.close()
+            progress.end()
+            remove_unfinished(asked.output)
+    return summed("tables", [(item.name, table.records[item.name]) for item in items], table.shown())
