@@ -9,7 +9,7 @@ import ssl
 import struct
 import threading
 import time
-from typing import Any, Callable, Iterator, NamedTuple, Optional, Union, cast
+from typing import Any, Callable, Iterator, NamedTuple, Optional, TypeVar, Union
 
 from gavyreto import tds
 from gavyreto.errors import BadAnswer, CertificateRefused, ConnectionFailed, EncryptionRefused, Error, LoginRefused, TimedOut
@@ -26,6 +26,7 @@ MOST_TICKETS = 10  # messages with tickets of a server in a login
 MOST_EMPTY = 1000  # packets without a body in an answer
 SLICE = 0.5  # seconds after which it is looked again at how long is waited for, which a signal may change
 AT_THE_END = 0.25  # seconds for which the other side's end is waited for at the end of a session
+T = TypeVar("T")
 Meanwhile = Callable[[int, float], float]  # waits until a descriptor can be read, for at most so many seconds: how long it waited
 
 
@@ -258,25 +259,31 @@ class Server(NamedTuple):
         return max(self.until - time.monotonic(), 0.001) if self.until else None
 
     def _addresses(self) -> list[Any]:
-        """The addresses of the host. The system's look-up of a name has no deadline: a thread waits for it, which is left then."""
-        found: list[Any] = []
+        """The addresses of the host."""
         with contextlib.suppress(socket.gaierror):
             return self._look_up(socket.AI_NUMERICHOST)
+        return self.in_time(lambda: self._look_up(0))
 
-        def look_up() -> None:
+    def in_time(self, ask: Callable[[], T]) -> T:
+        """What is asked of the system, by a call that has no deadline, as the look-up of a name: a thread waits for it, which is left then.
+        Raises TimeoutError."""
+        found: list[T] = []
+        failures: list[Exception] = []
+
+        def wait() -> None:
             try:
-                found.append(self._look_up(0))
+                found.append(ask())
             except Exception as failure:
-                found.append(failure)
+                failures.append(failure)
 
-        thread = threading.Thread(target=look_up, daemon=True)
+        thread = threading.Thread(target=wait, daemon=True)
         thread.start()
         thread.join(self._seconds_left())
+        if failures:
+            raise failures[0]
         if not found:
             raise TimeoutError(self.too_long())
-        if isinstance(found[0], Exception):
-            raise found[0]
-        return cast("list[Any]", found[0])
+        return found[0]
 
     def _look_up(self, flags: int) -> list[Any]:
         try:
@@ -587,7 +594,8 @@ def _session(server: Server, login: tds.Login, proving: Proving) -> tuple[Channe
     """A connection that is logged in."""
     tds.login(login, 0)  # what is no login is refused before anything is sent
     proof = proving(server.host, server.port)
-    ticket = proof.ticket()
+    with told(server):
+        ticket = server.in_time(proof.ticket) if proof.asks_others else proof.ticket()
 
     def message(is_required: bool) -> bytes:
         sent = {"token": ticket, "echoes": is_required} if proof.is_token else {"ticket": ticket}

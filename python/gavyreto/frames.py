@@ -9,7 +9,7 @@ from gavyreto.values import Value
 
 KINDS = {
     "tinyint": "UInt8", "smallint": "Int16", "int": "Int32", "bigint": "Int64", "bit": "UInt8", "char": "string", "nchar": "string",
-    "varchar": "string", "nvarchar": "string",
+    "varchar": "string", "nvarchar": "string", "text": "string", "ntext": "string", "xml": "string", "sql_variant": "string",
 }
 FLOATS = {"float": "float64", "real": "float32"}
 MOMENTS = ("date", "smalldatetime", "datetime", "datetime2")
@@ -32,7 +32,7 @@ class Gathered:
         import numpy
 
         if self._kind in FLOATS.values():
-            self._parts.append(numpy.array(values, dtype=self._kind))  # None becomes NaN, which no float of a server is
+            self._parts.append(numpy.array(values, dtype="float64"))  # None becomes NaN, which no float of a server is
         elif self._kind in KINDS.values() and self._kind != "string":
             self._parts.append(_whole_numbers(values, self._kind))
         else:
@@ -55,7 +55,7 @@ class Gathered:
 
         if self._kind in KINDS.values() and self._kind != "string":
             return pandas.concat([pandas.Series(part) for part in self._parts], ignore_index=True) if self._parts else pandas.Series([], dtype=self._kind)
-        whole = numpy.concatenate(self._parts) if self._parts else numpy.array([], dtype=self._kind if self._kind in FLOATS.values() else object)
+        whole = numpy.concatenate(self._parts) if self._parts else numpy.array([], dtype="float64" if self._kind in FLOATS.values() else object)
         self._parts = [whole]
         if self._is_moment:
             return _moments(pandas, whole)

@@ -21,6 +21,7 @@ class Proof:
 
     needs_encryption = False  #: whether it is sent to nobody but the other side of TLS
     is_token = False
+    asks_others = False  #: whether a ticket is got elsewhere, which may take a while
 
     def ticket(self) -> bytes:
         """What the login has besides. Raises ConnectionFailed if there is none."""
@@ -49,7 +50,7 @@ class AccessToken(Proof):
 class Kerberos(Proof):
     """A ticket for a service, which proves itself too. Raises ValueError if Python's module gssapi isn't there."""
 
-    needs_encryption = True
+    needs_encryption = asks_others = True
 
     def __init__(self, service: str) -> None:
         try:

@@ -47,6 +47,7 @@ TYPED = """
 import gavyreto, pandas
 from tests import beside
 frame = gavyreto.export(beside.wire("refused"), adapt=True, program=beside.PROGRAM).only().frame()
+assert [str(it) for it in frame.dtypes[4:]] == ["string", "string", "object", "string", "object", "string", "string"], frame.dtypes
 print([str(it) for it in frame.dtypes[:4]], [frame.iloc[:, it].tolist()[0] for it in range(4)], frame.iloc[:, 3].isna().tolist())
 orders = gavyreto.export(beside.wire("orders"), dates=True, program=beside.PROGRAM).only().frame()
 print(orders.dtypes["ordered"], [str(it) for it in orders["ordered"]])
@@ -59,6 +60,26 @@ for place, column in enumerate(described):
         same = [None if pandas.isna(it) else pandas.Timestamp(it) for it in values] if str(frame.dtypes.iloc[place]) == "datetime64[ns]" else values
         assert [None if pandas.isna(it) else it for it in frame.iloc[:, place]] == same, (column, values)
 print(sorted({str(kind) for kind in frame.dtypes}))
+"""
+# Rows before an error are left as they were, floats of four bytes too.
+LEFT = """
+import gavyreto
+from tests import beside
+kept = [*beside.responses.refused(0)][:-1]
+failed = beside.answered(*kept, beside.served.server_error(8134, "no", 1), beside.served.done(2))
+for options in ({}, {"dates": True}):
+    wanted = [*map(tuple, gavyreto.export(beside.wire("refused"), adapt=True, program=beside.PROGRAM, **options).only())]
+    rows = gavyreto.export(failed, adapt=True, program=beside.PROGRAM, **options).only()
+    first = [tuple(next(rows))]
+    try:
+        rows.frame()
+    except gavyreto.ServerError as error:
+        print(error.number, error.rows)
+    try:
+        first += map(tuple, rows.fetchall())
+    except gavyreto.ServerError:
+        pass
+    assert repr(first) == repr(wanted), (first, wanted)
 """
 # What is read of a server, and where an error ends the rows: no frame is there then, but the rows are.
 LIVE = """
@@ -105,6 +126,13 @@ class Frames(unittest.TestCase):
         self.assertEqual(floats, "['float32', 'float64', 'float32', 'float64'] [0.10000000149011612, 0.1, 16777216.0, 123456789.125] [False, False, True]")
         self.assertEqual(orders, "datetime64[ns] ['2024-02-29 12:34:56.123456700', '2024-03-01 00:00:00', '2024-03-02 23:59:59.999999900']")
         self.assertEqual(kinds, "['Int16', 'Int32', 'Int64', 'UInt8', 'datetime64[ns]', 'object', 'string']")
+
+    def test_rows_that_are_left(self) -> None:
+        if not requirements.has_module(requirements.DEBIAN_PYTHON, "pandas"):
+            skip(self, "Python's module pandas isn't there: `make needs` installs it")
+        command = [requirements.DEBIAN_PYTHON, "-B", "-c", LEFT]
+        came = subprocess.run(command, cwd=os.path.join(ROOT, "python"), capture_output=True, text=True, check=False, **started(PROGRAM=PROGRAM))
+        self.assertEqual((came.returncode, came.stderr, came.stdout), (0, "", "8134 1\n" * 2))
 
     def test_frames_of_answers(self) -> None:
         """By the cursor that `pandas.read_sql` takes, and of rows before an error."""

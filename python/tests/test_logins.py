@@ -2,6 +2,7 @@
 from __future__ import annotations
 
 import contextlib
+import fcntl
 import os
 import shutil
 import socket
@@ -137,6 +138,16 @@ class Integrated(Live):
         came = self.asked("nobody")
         self.assertEqual((came.returncode, came.stdout, came.stderr.count(b"\n")), (5, b"", 1))
         self.assertRegex(came.stderr.decode(), "^no Kerberos ticket for MSSQLSvc/localhost:")
+
+    def test_a_kdc_that_is_silent(self) -> None:
+        """It counts to the login."""
+        with socket.socket(socket.AF_INET, socket.SOCK_DGRAM) as silent:
+            silent.bind(("127.0.0.1", 0))
+            with open(self.path("krb5.conf"), "w", encoding="ascii") as file:
+                file.write(f"[libdefaults]\ndefault_realm = TEST.EXAMPLE\n[realms]\nTEST.EXAMPLE = {{\nkdc = 127.0.0.1:{silent.getsockname()[1]}\n}}\n")
+            command = f'exec {requirements.DEBIAN_PYTHON} -m gavyreto query -S localhost,$PORT -E --login-seconds 1 --program "$PROGRAM" "SELECT 1"'
+            came = self.beside((), command, KRB5_CONFIG=self.path("krb5.conf"), KRB5CCNAME="FILE:" + self.kdc.path("reader.tickets"))
+        self.assert_ends(came, 5, b"", "the login wasn't done within 1 seconds: --login-seconds allows more")
 
     def test_a_server_that_does_not_prove_itself(self) -> None:
         came = self.asked("reader", "--proves-nothing")
@@ -308,6 +319,13 @@ def told(fields: str) -> bytes:
 
 
 class Instances(Live):
+    def setUp(self) -> None:
+        """There is one port of SQL Server Browser, which tests beside these have too."""
+        super().setUp()
+        lock = open(os.path.join(tempfile.gettempdir(), "gavyreto-1434.lock"), "w", encoding="ascii")
+        self.addCleanup(lock.close)
+        fcntl.flock(lock, fcntl.LOCK_EX)
+
     SALES = "ServerName;DB;InstanceName;SALES;IsClustered;No;Version;16.0.1000.6;tcp;%s;np;\\\\DB\\pipe\\sql;;"
 
     def asked(self, *words: str) -> subprocess.CompletedProcess[bytes]:

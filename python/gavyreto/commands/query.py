@@ -166,7 +166,7 @@ class Names:
                 if is_one_file(name, STANDARD_INPUT if source == "-" else source):
                     raise Stopped(f"{name}: the statements are read from it", REFUSED)
         real = os.path.realpath(path)
-        keeps = os.path.islink(path) or len(self._links) < CHECKED_OUTPUTS
+        keeps = os.path.islink(path) or len(self._links) < 2 * CHECKED_OUTPUTS
         other = self._links.setdefault(real, path) if keeps else self._links.get(real, path)
         if other != path:
             raise Stopped(f"{other} and {path} are one file", REFUSED)
