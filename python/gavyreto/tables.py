@@ -107,7 +107,7 @@ class Worker:
         self._run: Optional[Program] = None
 
     def export(self, item: Item) -> Outcome:
-        """Exports an answer. Raises what ends all of them: a login that was refused, and what isn't of the answer."""
+        """Exports an answer. Raises what ends all of them: a login that was refused."""
         began, line = time.time_ns(), ""
         for attempt in range(self._asked.retries + 1):
             if attempt > 1:
@@ -129,10 +129,12 @@ class Worker:
                 ending = self._asking().answer(item.statement, program.Output(out.fileno()))
                 os.fsync(out.fileno())
                 is_decided = ending.status in (DONE, SERVER_ERROR, BAD_INPUT)
-                line = ending.notes.splitlines()[0 if ending.status == DONE else -1]
+                line = ending.notes.rstrip("\n").split("\n")[0 if ending.status == DONE else -1]
                 outcome = Outcome(item, ending.status, line, began, waiting if is_decided else None, os.fstat(out.fileno()).st_size)
         except program.OutputFailed as failed:
             outcome = outcome._replace(line=f"{self._asked.output}: {cause_of(failed.failure)}")
+        except OSError as failure:
+            outcome = Outcome(item, FAILED, f"{failure.filename or self._asked.output}: {cause_of(failure)}", began)
         except Broken:
             raise
         except Stopped as stopped:

@@ -191,6 +191,18 @@ class Tables(unittest.TestCase):
         came = ask_port(port, "--tables", self.write(["a", "b"]), "-o", self.out, "--retries", "3")
         self.assertEqual((came.returncode, came.stderr.count(b"\n"), os.listdir(self.out)), (5, 1, []))
 
+    def test_texts_that_cannot_be_written(self) -> None:
+        """Each is a line of its own, and no text is left."""
+        file = self.write(["a SELECT t900", "b SELECT t3", "c SELECT t900"])
+        with Server({}).listening() as port:
+            command = ["sh", "-c", "ulimit -f 20; trap '' XFSZ; exec \"$@\"", "sh", *command_for(port, "--tables", file, "-o", self.out)]
+            came = subprocess.run(command, capture_output=True, check=False, timeout=SECONDS, **started())
+        self.assertEqual(came.returncode, 5, came.stderr)
+        self.assertEqual({name: line[1:4] for name, line in self.table().items()}, {
+            "a": ["5", f"{self.out}: File too large", "NULL"], "b": ["0", f"sets 1 rows 4 errors 0 infos 0 written {len(text_of('SELECT t3'))}", "b.csv"],
+            "c": ["5", f"{self.out}: File too large", "NULL"]})
+        self.assertEqual(sorted(os.listdir(self.out)), ["b.csv", "outcomes.csv"])
+
     def test_a_progress_line(self) -> None:
         """On a terminal, of an answer that takes a while; it is gone before the lines come."""
         let = threading.Event()
@@ -211,12 +223,12 @@ class Tables(unittest.TestCase):
             run = subprocess.Popen(command_for(server.getsockname()[1], "-o", os.path.join(self.folder, "rows"), "SELECT 1"), stderr=other, **started())
             threading.Thread(target=lambda: serve(server.accept()[0]), daemon=True).start()
             said, until = b"", time.monotonic() + SECONDS
-            while b"answer 1: 0.0 MB, 1 seconds" not in said and time.monotonic() < until:
+            while not re.search(rb"answer 1: 0\.0 MB, [1-9]\d* seconds", said) and time.monotonic() < until:
                 said += os.read(terminal, 1000) if select.select([terminal], [], [], 1)[0] else b""
             let.set()
             self.assertEqual(run.wait(SECONDS), 0)
         said += os.read(terminal, 1000)
-        self.assertRegex(said.decode(), r"^(\r\x1b\[Kanswer 1: 0\.0 MB, \d seconds)+\r\x1b\[Ksets 1 rows 3 errors 0 infos 0 written 214\r\n$")
+        self.assertRegex(said.decode(), r"^(\r\x1b\[Kanswer 1: 0\.0 MB, \d+ seconds)+\r\x1b\[Ksets 1 rows 3 errors 0 infos 0 written 214\r\n$")
         os.close(terminal)
         os.close(other)
 
