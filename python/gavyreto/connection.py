@@ -353,6 +353,8 @@ LACKING = {
                               "--encrypt none allows it",
 }
 
+NO_TICKETS = "the server, or somebody between, doesn't encrypt: neither a ticket nor a token is sent to it"
+
 
 def greet(channel: Channel, server: Server, proof: Proof) -> tuple[Encryption, bool]:
     """Greets, and begins the encryption that is agreed on. Returns what the server answered, and whether it requires a token."""
@@ -368,7 +370,7 @@ def greet(channel: Channel, server: Server, proof: Proof) -> tuple[Encryption, b
     if answered not in ENOUGH[server.encrypt]:
         raise EncryptionRefused(LACKING[answered])
     if answered == Encryption.NOT_SUPPORTED and proof.needs_encryption:
-        raise EncryptionRefused("the server, or somebody between, doesn't encrypt: neither a ticket nor a token is sent to it")
+        raise EncryptionRefused(NO_TICKETS)
     if answered != Encryption.NOT_SUPPORTED:
         channel.encrypt(server.context(), server_hostname=server.certified)
         channel.expect_nothing()
@@ -387,6 +389,8 @@ def log_in(channel: Channel, server: Server, login: Callable[[bool], bytes], pro
         if accepted.is_done:
             proof.check()
             return accepted
+        if ticket and proof.needs_encryption and not channel.tls:
+            raise EncryptionRefused(NO_TICKETS)
         if ticket:
             channel.write_message(PacketType.TICKET, ticket)
         accepted = read_answer(channel)

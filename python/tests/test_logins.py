@@ -18,7 +18,7 @@ import gavyreto
 from gavyreto import connection, logins, tds, where
 from gavyreto.connection import Channel, Server
 from gavyreto.tds import Encryption, PacketType
-from tests.beside import ORDERS, PROGRAM, ROOT, SECONDS, Live, context_of, served, skip, wait_for
+from tests.beside import ORDERS, PROGRAM, ROOT, SECONDS, Live, certificate_in, context_of, served, skip, wait_for
 
 sys.path[:0] = [os.path.join(ROOT, "tools")]
 from lib import requirements  # noqa: E402
@@ -198,8 +198,8 @@ class Tickets(unittest.TestCase):
     """The messages of a login with tickets, by a proof that is none of Kerberos."""
 
     class Counting(logins.Proof):
-        def __init__(self) -> None:
-            self.came: list[bytes] = []
+        def __init__(self, needs_encryption: bool) -> None:
+            self.came, self.needs_encryption = list[bytes](), needs_encryption
 
         def answer(self, came: bytes) -> bytes:
             self.came.append(came)
@@ -209,32 +209,46 @@ class Tickets(unittest.TestCase):
             if self.came[-1:] != [b"last"]:
                 raise gavyreto.ConnectionFailed("not proved")
 
-    def logged_in(self, *answers: bytes) -> tuple[list[bytes], list[tuple[int, bytes]]]:
+    def logged_in(self, *answers: bytes, encrypt: str = "none") -> tuple[list[bytes], list[tuple[int, bytes]]]:
         """The tickets that came to the client, and the messages that it sent, with these answers of the server."""
         ours, theirs = socket.socketpair()
-        client, server, proof, sent = Channel(ours, 30), Channel(theirs, 30), self.Counting(), list[tuple[int, bytes]]()
+        client, server, proof, sent = Channel(ours, 30), Channel(theirs, 30), self.Counting(encrypt != "none"), list[tuple[int, bytes]]()
+        agreed = {"none": Encryption.NOT_SUPPORTED, "login": Encryption.OFF, "all": Encryption.ON}[encrypt]
 
         def serve() -> None:
             server.read_message()
-            server.write_message(PacketType.ANSWER, tds.prelogin(Encryption.NOT_SUPPORTED))
-            for answer in answers:
-                sent.append(server.read_message())
-                server.write_message(PacketType.ANSWER, answer)
+            server.write_message(PacketType.ANSWER, tds.prelogin(agreed))
+            if encrypt != "none":
+                server.encrypt(context_of(certificate), server_side=True)
+            with contextlib.suppress(EOFError, OSError):
+                for answer in answers:
+                    sent.append(server.read_message())
+                    if encrypt == "login":
+                        server.uncover()
+                    server.write_message(PacketType.ANSWER, answer)
 
-        thread = threading.Thread(target=serve, daemon=True)
-        thread.start()
-        try:
-            connection.log_in(client, Server("h", 1, "h", "none", lambda: context_of(""), 30), lambda _: b"L" * 100, proof)
-        finally:
-            client.close()
-            thread.join(SECONDS)
-            server.close()
+        with tempfile.TemporaryDirectory() as folder:
+            certificate = certificate_in(folder) if encrypt != "none" else ""
+            thread = threading.Thread(target=serve, daemon=True)
+            thread.start()
+            try:
+                there = Server("localhost", 1, "localhost", encrypt, lambda: connection.context_of(certificate, False), 30)
+                connection.log_in(client, there, lambda _: b"L" * 100, proof)
+            finally:
+                client.close()
+                thread.join(SECONDS)
+                server.close()
         return proof.came, sent
 
     def test_tickets_until_the_login_is_done(self) -> None:
         done = served.login_ack("T") + served.done()
         came, sent = self.logged_in(served.ticket(b"one"), served.ticket(b"two"), served.ticket(b"last") + done)
         self.assertEqual((came, sent[1:]), ([b"one", b"two", b"last"], [(0x11, b"T1"), (0x11, b"T2")]))
+        came, sent = self.logged_in(served.ticket(b"one"), served.ticket(b"last") + done, encrypt="all")
+        self.assertEqual((came, sent[1:]), ([b"one", b"last"], [(0x11, b"T1")]))
+        self.logged_in(served.ticket(b"last") + done, encrypt="login")
+        with self.assertRaisesRegex(gavyreto.EncryptionRefused, NO_TLS):
+            self.logged_in(served.ticket(b"one"), served.ticket(b"last") + done, encrypt="login")
         for answers, wanted in (
             ([done], gavyreto.ConnectionFailed), ([served.ticket(b"one") + done], gavyreto.ConnectionFailed), ([served.ticket(b"one")] * 11, gavyreto.BadAnswer),
             ([served.ticket(b"one") + served.server_error(18456, "no", 1) + served.done(2)], gavyreto.LoginRefused),
