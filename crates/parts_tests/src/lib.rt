@@ -13,4 +13,6 @@ mod meter;
 #[cfg(test)]
 mod packet;
 #[cfg(test)]
+mod text;
+#[cfg(test)]
 mod values;

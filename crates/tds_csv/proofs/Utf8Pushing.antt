@@ -1,9 +1,11 @@
 -- Pieces of text in UTF-8, one after the other.
 use Rattle.tds_csv.proofs as N
+use Rattle.tds_text.proofs as T
 use N.{◌≡◌, ◌∙◌, ◌↔◌, ℕ, ◌+◌, ◌-◌, ◌<◌, ◌≤◌, List, [], ◌++◌, length, take, drop, Result, Ok, Err, ap, arith, emit, JoinFault, Odd, BadText, Sink, PushesPiece}
 use N.{TakesUpTo, Held, held}
-use N.Utf8Laws.{joins_utf8, emits}
-use Rattle.tds_csv.specs.Utf8.{Begins, rest, text}
+use T.Begun.{after_kept}
+use T.Utf8Laws.{joins_utf8, emits}
+use Rattle.tds_text.specs.Utf8.{Begins, rest, text}
 
 -- the answer of a push, by where its piece begins in another one
 abbrev pub moved_by : {V : Type 0} → ℕ → Result V JoinFault → Result V JoinFault
@@ -11,14 +13,6 @@ moved_by n (Err (BadText k)) = Err (BadText (n + k))
 moved_by n (Err (N.Stopped stop)) = Err (N.Stopped stop)
 moved_by n (Err Odd) = Err Odd
 moved_by n (Ok v) = Ok v
-
--- the bad byte is after what is withheld
-pub after_kept : (kept piece bytes : List ℕ) (k : ℕ) → bytes ≡ kept ++ piece → Begins kept → (Begins (take (k + 1) bytes) → ⊥) → length kept ≤ k
-after_kept kept piece bytes k is begun bad = elim (N.cases_lt k (length kept)) [
-  | N.inl before ↦ absurd (bad (rw (is, N.take-append-le (k + 1) kept piece (omega arith))
-      (joins_utf8.front _ (drop (k + 1) kept) (rw N.take-append-drop begun))))
-  | N.inr after ↦ after
-]
 
 -- bytes that are withheld, and a piece, taken as one
 up_to_seam : {kept piece bytes new : List ℕ} {a b : Held} {k : ℕ} → bytes ≡ kept ++ piece → Begins kept
@@ -36,7 +30,7 @@ halves : (kept part : List ℕ) {mid : List ℕ} (more : List ℕ) → mid ≡ r
     × (rest (kept ++ (part ++ more)) ≡ rest (mid ++ more)) × (Begins (kept ++ (part ++ more)) ↔ Begins (mid ++ more))
 halves kept part more is =
     let all = kept ++ part in
-    rw (is, ← N.append_assoc kept part more) (emits all more, N.Utf8Laws.rest-append all more, (joins_utf8.inward all more, joins_utf8.outward all more))
+    rw (is, ← N.append_assoc kept part more) (emits all more, T.Utf8Laws.rest-append all more, (joins_utf8.inward all more, joins_utf8.outward all more))
 
 -- what is withheld begins a text
 pub rest_begins : {new : List ℕ} (bytes : List ℕ) → new ≡ rest bytes → Begins bytes → Begins new

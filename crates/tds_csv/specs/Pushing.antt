@@ -2,7 +2,7 @@
 use Rattle.std.specs.Prelude.{◌≡◌, ◌≢◌, ℕ, ◌+◌, ◌<◌, ◌%◌, Bool, true, false, List, [], ◌++◌, length, take, Option, Result, Ok, Err}
 use Rattle.tds_csv.specs.declared.joiners.JoinFault.{JoinFault}
 use Rattle.tds_csv.specs.declared.joiners.JoinFault.TheVariants.{Stopped, Odd, BadText}
-use Rattle.tds_csv.specs.Joining.{emit}
+use Rattle.tds_text.specs.Joining.{emit}
 use Rattle.tds_csv.specs.declared.sink.Sink.{Sink}
 use Rattle.tds_csv.specs.Sinks.{Breaks, Held, IsOnSameSink, IsReady, IsWriting, Puts, held, stop_of}
 

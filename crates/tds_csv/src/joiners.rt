@@ -1,22 +1,23 @@
 // Conversions whose data comes in pieces.
 ghost use Rattle.std.specs.Prelude.{◌≡◌, ◌<◌, ◌%◌, ℕ, Bool, List, [], length, ⊤};
-ghost use Rattle.tds_csv.specs.Joining.{JoinsPieces};
+ghost use Rattle.tds_text.specs.Joining.{JoinsPieces};
 ghost use Rattle.tds_csv.specs.Pushing.{EndsPieces, PushesPiece};
 ghost use Rattle.tds_csv.specs.Sinks.{IsReady};
 ghost use Rattle.tds_csv.specs.declared.joiners.JoinFault.TheVariants.{Stopped};
 
-pub(crate) mod binary;
 pub(crate) mod bytewise;
-pub(crate) mod cp1252;
-pub(crate) mod doubled;
 pub(crate) mod into_area;
 pub(crate) mod parts;
+pub(crate) mod run;
 pub(crate) mod utf16;
 pub(crate) mod utf8;
 
 use crate::sink::Sink;
 use std::io::Write;
 use tds_packet::Stop;
+
+/// How many bytes are converted at a time if the sink has little room.
+pub(crate) const CHUNK: usize = 128;
 
 /// Why a joiner stopped.
 #[derive(Debug, Clone, Copy, PartialEq, Eq)]

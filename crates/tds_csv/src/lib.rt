@@ -1,4 +1,4 @@
-//! Text on its way to a writer, and the conversion of character and binary data into the fields of CSV (RFC 4180).
+//! Text on its way to a writer, and values that come in pieces, as fields of CSV (RFC 4180).
 //!
 //! # Calling it
 //!
@@ -16,31 +16,24 @@
 //! sink.finish()?; // all of it is delivered
 //! ```
 //!
-//! `write_field` writes the field of a value whose bytes are together. The tests of `parts_tests/src/csv.rt` make these
-//! calls, with values cut at each place.
+//! The tests of `parts_tests/src/csv.rt` make these calls, with values cut at each place.
 //!
 //! # The way in
 //!
-//! `sink.rt` has the sink, `fields.rt`, `names.rt` and `framing.rt` the fields and what is around them, `joiners/` a file for each
-//! kind of data, `convert/` the loops over bytes. `specs/Conversion` says what the text of data is, and `specs/Sinks`
-//! what a sink has put.
+//! `sink.rt` has the sink, `names.rt` the field of a column's name, and `joiners/` a file for each kind of data.
+//! `tds_text` converts the bytes. `specs/Sinks` says what a sink has put.
 #![tactic(auto)]
 
-mod convert;
-mod fields;
-mod framing;
 mod joiners;
 mod laws;
 mod names;
 mod sink;
 
-pub use fields::{Content, field_room, write_field};
-pub use framing::{COMMA, NULL_ROOM, write_comma, write_line_end, write_null};
 pub use joiners::bytewise::{Cp1252Joiner, HexJoiner};
 pub use joiners::into_area::utf16_into;
 pub use joiners::utf8::Utf8Joiner;
 pub use joiners::utf16::Utf16Joiner;
 pub use joiners::{JoinFault, Joiner};
-pub use laws::{begins_by_test, joiners_suit};
+pub use laws::joiners_suit;
 pub use names::put_name;
 pub use sink::Sink;

@@ -1,16 +1,16 @@
 // The name of a column, put as a field of its header line.
 ghost use Rattle.std.specs.Prelude.{◌≡◌, ◌+◌, ◌%◌, ◌≤◌, length, take};
-ghost use Rattle.tds_csv.specs.Conversion.{Utf16Text, long_field};
-ghost use Rattle.tds_csv.specs.Fields.{field_room};
-ghost use Rattle.tds_csv.specs.Quoting.{in_line};
+ghost use Rattle.tds_text.specs.Conversion.{Utf16Text, long_field};
+ghost use Rattle.tds_text.specs.Fields.{field_room};
+ghost use Rattle.tds_text.specs.Quoting.{in_line};
 ghost use Rattle.tds_csv.specs.Sinks.{IsWriting, PutsPiece};
 
-use crate::convert::lanes::LANES;
-use crate::fields::{Content, field_room, write_utf16};
-use crate::framing::{write_comma, write_line_end};
 use crate::sink::Sink;
 use std::io::Write;
 use tds_packet::Stop;
+use tds_text::framing::{write_comma, write_line_end};
+use tds_text::lanes::LANES;
+use tds_text::{Content, field_room, write_utf16};
 
 // The room for a name that is converted with other bytes after it.
 const PADDED: usize = 64;

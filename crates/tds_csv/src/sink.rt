@@ -1,15 +1,15 @@
 // Text on its way to a writer.
 ghost use Rattle.std.specs.Borrow.{sem};
 ghost use Rattle.std.specs.Prelude.{◌≡◌, ◌+◌, ◌-◌, ◌<◌, ◌≤◌, [], ◌∷◌, codes, if◌then◌else◌, length, true, Err, None, Ok, Some};
-ghost use Rattle.tds_csv.specs.Conversion.{closing};
-ghost use Rattle.tds_csv.specs.Quoting.{binary_mark, line_end, null_field, quote};
+ghost use Rattle.tds_text.specs.Conversion.{closing};
+ghost use Rattle.tds_text.specs.Quoting.{binary_mark, line_end, null_field, quote};
 ghost use Rattle.tds_csv.specs.Sinks.{Delivers, FinishesSink, IsReady, IsWriting, PutsPiece, fresh, held, stop_of};
 ghost use Rattle.tds_csv.specs.Spare.{CommitsPiece, IsLent, KeepsPiece, LendsSpare};
 
-use crate::framing::{BINARY_MARK, COMMA, LINE_END, NULL, QUOTE, write_line_end};
 use std::io::Write;
 use tds_meter::{Area, OUTPUT_ROOM};
 use tds_packet::{Counted, Fault, Place, Stop};
+use tds_text::framing::{BINARY_MARK, COMMA, LINE_END, NULL, QUOTE, write_line_end};
 
 /// Text on its way to a writer. What is put waits in the output area, which is delivered whole each
 /// time that it holds 4,096 bytes. After [`Fault::WriteFailed`] each call returns the same stop.

@@ -1,5 +1,5 @@
 -- How long the text of so many bytes is at most.
-use Rattle.tds_csv.specs.Utf16 as utf16
+use Rattle.tds_text.specs.Utf16 as utf16
 use Rattle.tds_values.specs.declared.kind.Kind.TheVariants as kinds
 use Rattle.tds_export.proofs.Words as N
 use Rattle.tds_export.proofs.Words.{Conversion, Err, HexDigits, List, None, Ok, Option, Result, Some, [], arith, choose, emit, length, quote, true, utf16_chars}

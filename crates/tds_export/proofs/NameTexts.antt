@@ -2,7 +2,7 @@
 use Rattle.tds_export.proofs.Words as N
 use Rattle.tds_export.proofs.Words.{Column, Err, List, Ok, Option, PutsPiece, Result, Sink, Stop, [], ap, arith, codes, false, joined}
 use Rattle.tds_export.proofs.Words.{length, map, name_field, refl, suc, sym, true, ℕ, ◌+◌, ◌++◌, ◌<◌, ◌==◌, ◌∙◌, ◌∷◌, ◌≡◌}
-use Rattle.tds_csv.specs.Quoting.{after_comma, in_line}
+use Rattle.tds_text.specs.Quoting.{after_comma, in_line}
 
 -- one piece was put, and another after it
 pub then_puts : {W U V : Type 0} {contents : W → Option (List ℕ)} {a b c : Sink W} {u : U} {p q : List ℕ} {r : Result V Stop}

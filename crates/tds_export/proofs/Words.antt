@@ -80,40 +80,41 @@ pub use Rattle.tds_columns.specs.Elements.{TakesInto, EndsInto}
 pub use Rattle.tds_columns.specs.Gather.{Describes, StopsDescribing}
 pub use Rattle.tds_columns.specs.View.{columns_of, IsDescription}
 pub use Rattle.tds_columns.specs.Walking.{columns_left}
-pub use Rattle.tds_csv.proofs.Characters.{doubled_length}
-pub use Rattle.tds_csv.proofs.ConversionLaws.{joins_by_name, fit_by_test, begun_by_test, fit_begins}
-pub use Rattle.tds_csv.proofs.JoiningLemmas.{doubled-append}
+pub use Rattle.tds_text.proofs.Characters.{doubled_length}
+pub use Rattle.tds_text.proofs.ConversionLaws.{joins_by_name, fit_by_test, begun_by_test, fit_begins}
+pub use Rattle.tds_text.proofs.JoiningLemmas.{doubled-append}
 pub use Rattle.tds_csv.proofs.Puttings.{PutsPiece-none, PutsPiece-passed, PutsPiece-trans}
 pub use Rattle.tds_csv.proofs.Sinks.{Breaks-after, Breaks-longer, Puts-trans, Puts-none, Adds-trans}
 pub use Rattle.tds_csv.proofs.Streams.{stops_size, breaks_after, breaks_inside, puts_both, puts_inside}
-pub use Rattle.tds_csv.proofs.Utf16Laws.{joins_utf16}
-pub use Rattle.tds_csv.specs.Conversion.{Conversion, Utf8Text, unit, is_fit, is_begun, HexDigits, conversion_rest, conversion_text, long_field, open_field}
-pub use Rattle.tds_csv.specs.Conversion.{Utf16Text}
+pub use Rattle.tds_text.proofs.Utf16Laws.{joins_utf16}
+pub use Rattle.tds_text.specs.Conversion.{Conversion, Utf8Text, unit, is_fit, is_begun, HexDigits, conversion_rest, conversion_text, long_field, open_field}
+pub use Rattle.tds_text.specs.Conversion.{Utf16Text}
 pub use Rattle.tds_csv.specs.Sinks.{Held, FinishFails, Finishes, held, Breaks, Puts, IsWriting, PutsPiece, Adds, IsOnSameSink, FinishesSink}
-pub use Rattle.tds_csv.specs.Cutting.{whole_within}
-pub use Rattle.tds_csv.specs.Joining.{emit}
+pub use Rattle.tds_text.specs.Cutting.{whole_within}
+pub use Rattle.tds_text.specs.Joining.{emit}
 pub use Rattle.tds_csv.specs.Pushing.{Completes, EndsBy, Pushes, TakesPiece}
-pub use Rattle.tds_csv.specs.Quoting.{doubled, doubled_byte, quote, joined, line, line_end}
+pub use Rattle.tds_text.specs.Quoting.{doubled, doubled_byte, quote, joined, line, line_end}
 pub use Rattle.tds_csv.specs.Streaming.{PutsText, Streams, BreaksStreaming}
-pub use Rattle.tds_csv.specs.Utf16.{characters}
+pub use Rattle.tds_text.specs.Utf16.{characters}
 pub use Rattle.tds_csv.specs.declared.joiners.JoinFault.{JoinFault}
 pub use Rattle.tds_csv.specs.declared.sink.Sink.{Sink}
-pub use Rattle.tds_rows.proofs.GrowingTexts.{joined_more, Grows, grows_all, grows_same, grows_trans, grows_under, row_grows, last_fit, end_fit}
-pub use Rattle.tds_rows.proofs.CellLaws.{cell_is_read}
-pub use Rattle.tds_rows.proofs.CellMeaning.{unless_none, CellMeans, cell_step, start_means}
+pub use Rattle.tds_cells.proofs.GrowingTexts.{joined_more, Grows, grows_all, grows_same, grows_trans, grows_under, row_grows, last_fit, end_fit}
+pub use Rattle.tds_cells.proofs.CellLaws.{cell_is_read}
+pub use Rattle.tds_cells.proofs.CellMeaning.{unless_none, CellMeans, cell_step, start_means}
 pub use Rattle.tds_rows.proofs.CellSteps.{fixed_some}
-pub use Rattle.tds_rows.proofs.RowLaws.{cell_in_row, begins_open, row_is_read, nbc_row_is_read, shape-HasBytes}
-pub use Rattle.tds_rows.proofs.RowMeaning.{RowMeans, row_step, row_start_means}
-pub use Rattle.tds_rows.proofs.RowSteps.{start_quiet}
+pub use Rattle.tds_cells.proofs.RowLaws.{cell_in_row, begins_open, row_is_read, nbc_row_is_read, shape-HasBytes}
+pub use Rattle.tds_cells.proofs.RowMeaning.{RowMeans, row_step, row_start_means}
+pub use Rattle.tds_cells.proofs.RowTexts.{start_quiet}
 pub use Rattle.tds_rows.proofs.Successes.{rose}
-pub use Rattle.tds_rows.specs.Cells.{Cell, Null, ScalarCell, DataCell, shape, CellPart, ScalarBytes, ScalarLength, ShortLength, ShortData, Total, ChunkLength}
-pub use Rattle.tds_rows.specs.Cells.{ChunkData, WholeCell, cell_start, cell_add, cell, within_total, is_total, value_part, return_charset, Shape, field}
-pub use Rattle.tds_rows.specs.Cells.{field_so_far}
-pub use Rattle.tds_rows.specs.Rows.{RowPart, WholeRow, row_add, row, marked, bit, bitmap_length, Bitmap, InCell, next_cell, with_cell, row_start, nbc_row_start}
-pub use Rattle.tds_rows.specs.Rows.{row_so_far, RowToken, token_byte, token_start, NbcRow, PlainRow}
+pub use Rattle.tds_cells.specs.Cells.{Cell, Null, ScalarCell, DataCell, shape, CellPart, ScalarBytes, ScalarLength, ShortLength, ShortData, Total, ChunkLength}
+pub use Rattle.tds_cells.specs.Cells.{ChunkData, WholeCell, cell_start, cell_add, cell, within_total, is_total, value_part, return_charset, Shape, field}
+pub use Rattle.tds_cells.specs.Cells.{field_so_far}
+pub use Rattle.tds_cells.specs.Rows.{RowPart, WholeRow, row_add, row, marked, bit, bitmap_length, Bitmap}
+pub use Rattle.tds_cells.specs.Rows.{InCell, next_cell, with_cell, row_start, nbc_row_start}
+pub use Rattle.tds_cells.specs.Rows.{row_so_far, RowToken, token_byte, token_start, NbcRow, PlainRow}
 pub use Rattle.tds_rows.specs.PassedCells.{PassesCell, StopsPassing}
 pub use Rattle.tds_rows.specs.RowSteps.{ReadsRows, RowsStop, RowStops}
-pub use Rattle.tds_rows.specs.Runs.{RowsPart, lines, rows, rows_so_far, rows_start}
+pub use Rattle.tds_cells.specs.Runs.{RowsPart, lines, rows, rows_so_far, rows_start}
 pub use Rattle.tds_export.specs.Completion.{zeros, zero_chunks, terminator, rest_of_chunks, rest_of_cell, int_column, int_columns, least_info}
 pub use Rattle.tds_export.specs.Completion.{rest_of_description, rest_of_row, rest_of_return, rest_of_token, done, completion, CanBeCompleted}
 pub use Rattle.tds_export.specs.Completion.{rest_of_return_head, rest_of_value, rest_of_cells, all_clear}

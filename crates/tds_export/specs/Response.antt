@@ -3,8 +3,8 @@ use Rattle.std.specs.Prelude.{◌≡◌, ◌*◌, ◌%◌, ◌/◌, ◌<◌, ◌
 use Rattle.tds_values.specs.Numbers.{little}
 use Rattle.tds_columns.specs.Description.{Column, SpellsDescription}
 use Rattle.tds_values.specs.declared.charset.Charset.{Charset}
-use Rattle.tds_rows.specs.Cells.{Cell}
-use Rattle.tds_rows.specs.Rows.{SpellsRow, SpellsNbcRow}
+use Rattle.tds_cells.specs.Cells.{Cell}
+use Rattle.tds_cells.specs.Rows.{SpellsRow, SpellsNbcRow}
 use Rattle.tds_packet.specs.Packets.{Packet, Message, payload_of}
 use Rattle.tds_export.specs.TokenBytes.{APassed, AnOrder, AnEnvChange, AnError, AnInfo, AStatus, ADone, ADoneInProc, Lead, AMetadata, ARow, AnNbcRow}
 use Rattle.tds_export.specs.TokenBytes.{AReturn, WithBody, WithFields}

@@ -6,7 +6,7 @@ use Rattle.tds_packet.specs.Elements.{Grammar}
 use Rattle.tds_packet.specs.declared.fault.Fault.{Fault}
 use Rattle.tds_packet.specs.declared.fault.Fault.TheVariants.{MessageEnded}
 use Rattle.tds_columns.specs.ReturnedType.{TypeHead, TypeRest, return_column, type_part_fault, type_size}
-use Rattle.tds_rows.specs.Cells.{Cell, shape, SpellsCell, CellPart, WholeCell, cell_start, cell_size, cell_fault, cell_add, return_charset}
+use Rattle.tds_cells.specs.Cells.{Cell, shape, SpellsCell, CellPart, WholeCell, cell_start, cell_size, cell_fault, cell_add, return_charset}
 
 -- what a RETURNVALUE says: a name in UTF-16 units, a kind and a value of it
 pub record ReturnValue : Type 0 where

@@ -6,7 +6,7 @@ use Rattle.tds_packet.specs.declared.payload.Payload.{Payload}
 use Rattle.tds_packet.specs.Payloads.{seen}
 use Rattle.tds_packet.specs.Reading.{Reads, StopsReading}
 use Rattle.tds_packet.specs.Seen.{Seen}
-use Rattle.tds_rows.specs.Cells.{cell_start, return_charset, shape}
+use Rattle.tds_cells.specs.Cells.{cell_start, return_charset, shape}
 use Rattle.tds_export.specs.ReturnValue.{ReturnHead, ReturnOrdinal, ReturnPart, ReturnValue, WholeReturn, return_value, with_value}
 
 -- Whole elements of a return value were read, which lead from one part of it to another.

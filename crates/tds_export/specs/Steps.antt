@@ -15,7 +15,7 @@ use Rattle.tds_columns.specs.View.{columns_of}
 use Rattle.tds_csv.specs.Sinks.{Held, Finishes, FinishFails}
 use Rattle.tds_csv.specs.Streaming.{PutsText, Streams, BreaksStreaming}
 use Rattle.tds_values.specs.declared.charset.Charset.{Charset}
-use Rattle.tds_rows.specs.Rows.{nbc_row_byte, nbc_row_start, row_start, row_byte}
+use Rattle.tds_cells.specs.Rows.{nbc_row_byte, nbc_row_start, row_start, row_byte}
 use Rattle.tds_export.specs.TokenBytes.{APassed, AnEnvChange, AnError, AnInfo, AnOrder, Bodied, Fixed, AStatus, ADone, ADoneInProc, Lead, AMetadata}
 use Rattle.tds_export.specs.TokenBytes.{ARow, AnNbcRow, WithBody, WithFields, AReturn, lead_of}
 use Rattle.tds_export.specs.declared.progress.Progress.{Progress}

@@ -1,6 +1,6 @@
 -- The first bytes of tokens, and what they begin (MS-TDS, Packet Data Token Stream Definition). Those of a ROW and an NBCROW are with their cells.
 use Rattle.std.specs.Prelude.{◌==◌, ℕ, Bool, true, false, Option, Some, None, if◌then◌else◌}
-use Rattle.tds_rows.specs.Rows.{nbc_row_byte, row_byte}
+use Rattle.tds_cells.specs.Rows.{nbc_row_byte, row_byte}
 
 -- of a COLMETADATA
 abbrev pub colmetadata_byte : ℕ

@@ -2,12 +2,12 @@
 use Rattle.std.specs.Prelude.{◌==◌, ◌+◌, ◌%◌, ℕ, Bool, true, false, List, [], ◌∷◌, ◌++◌, length, map, max, Option, Some, None, if◌then◌else◌}
 use Rattle.std.specs.Prelude.{slice_index}
 use Rattle.tds_values.specs.Numbers.{little}
-use Rattle.tds_csv.specs.Conversion.{Utf16Text, long_field}
-use Rattle.tds_csv.specs.Cutting.{whole_within}
-use Rattle.tds_csv.specs.Quoting.{line, line_end}
-use Rattle.tds_csv.specs.Utf16.{characters}
+use Rattle.tds_text.specs.Conversion.{Utf16Text, long_field}
+use Rattle.tds_text.specs.Cutting.{whole_within}
+use Rattle.tds_text.specs.Quoting.{line, line_end}
+use Rattle.tds_text.specs.Utf16.{characters}
 use Rattle.tds_columns.specs.Description.{Column}
-use Rattle.tds_rows.specs.Cells.{Cell, field}
+use Rattle.tds_cells.specs.Cells.{Cell, field}
 use Rattle.tds_export.specs.ReturnValue.{ReturnValue}
 use Rattle.tds_export.specs.TokenBytes.{Fixed, AStatus, ADone, ADoneInProc, Passed}
 

@@ -1,10 +1,7 @@
 -- The cells of scalar kinds, as they are read.
 use Rattle.tds_rows.proofs.Words as N
-use Rattle.tds_rows.proofs.Words.{◌≡◌, ◌≢◌, ◌∙◌, ℕ, ◌+◌, ◌<◌, true, List, [], ◌∷◌, ◌++◌, length, refl, sym, ap, arith, Ok, Some, None, ◌||◌, is_ok}
+use Rattle.tds_rows.proofs.Words.{◌≡◌, ◌≢◌, ◌∙◌, ℕ, ◌+◌, ◌<◌, true, List, [], ◌∷◌, ◌++◌, length, refl, sym, ap, arith, Ok, Some, None, is_ok}
 use Rattle.tds_rows.proofs.Words.{if◌then◌else◌, Kind, fixed_length, Space, Stop, Seen, Takes, ScalarBytes, ScalarLength, StallsCell, Payload}
-
-pub scalar_shape : (charset : N.Charset) (kind : Kind) → N.is_scalar kind ≡ true → N.shape charset kind ≡ N.shape_of_length (fixed_length kind)
-scalar_shape _ _ h = grind arith
 
 -- the values of a kind of fixed length have some bytes
 pub fixed_some : (kind : Kind) (n : ℕ) → fixed_length kind ≡ Some n → 0 < n

@@ -1,6 +1,6 @@
 -- What joiners do with the pieces of some content, in the words of their conversion.
 use Rattle.tds_rows.proofs.Words as N
-use Rattle.tds_rows.proofs.Words.{◌≡◌, ◌∙◌, ℕ, ◌+◌, ◌-◌, ◌^◌, ◌<◌, ◌≤◌, Bool, List, [], ◌∷◌, ◌++◌, length, inr, sym, ap, subst, arith, Err, Stop, Seen, Takes}
+use Rattle.tds_rows.proofs.Words.{◌≡◌, ◌∙◌, ℕ, ◌+◌, ◌-◌, ◌^◌, ◌<◌, ◌≤◌, Bool, List, [], ◌++◌, length, inr, sym, ap, subst, arith, Err, Stop, Seen, Takes}
 use Rattle.tds_rows.proofs.Words.{IsBetween, BeginsData, Conversion, IsFit, conversion_rest, emit, Held, joins_by_name}
 use Rattle.tds_rows.proofs.Paths.{At, over}
 use Rattle.tds_csv.specs.declared.joiners.JoinFault.TheVariants as join_faults

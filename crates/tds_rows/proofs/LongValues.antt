@@ -2,11 +2,11 @@
 use Rattle.tds_rows.proofs.Words as N
 use Rattle.tds_rows.proofs.Words.{◌≡◌, ◌∙◌, inl, inr, ℕ, ◌-◌, ◌^◌, ◌<◌, ◌≤◌, Bool, List, [], ◌∷◌, ◌++◌, length, sym, ap, arith, append-nil, Option, Stop, Seen}
 use Rattle.tds_rows.proofs.Words.{Conversion, is_quoted, after_comma, Held, Puts, held, CellPart, cell, PutsField, StopsField, cell_so_far, ending, opening}
-use Rattle.tds_rows.proofs.Words.{◌≢◌, ◌+◌, ChunkLength, ◌⊎◌, suc, true, false, refl, subst, append_assoc, Some, ◌&&◌, ◌||◌, BadText, Spelt, BeginsData, is_fit}
+use Rattle.tds_rows.proofs.Words.{◌≢◌, ◌+◌, ChunkLength, ◌⊎◌, suc, true, false, refl, subst, append_assoc, Some, BadText, Spelt, BeginsData, is_fit}
 use Rattle.tds_rows.proofs.Words.{open_field, added_text, Breaks}
 use Rattle.tds_rows.proofs.Numbers.{Next, short_left, chunk_end, chunk_unfit, chunk_left}
 use Rattle.tds_rows.proofs.Paths.{At, Path, path_both, path_of, path_none, path_stops, over}
-use Rattle.tds_rows.proofs.RowSteps.{line_grows, after_append}
+use Rattle.tds_cells.proofs.RowTexts.{line_grows, after_append}
 
 -- ---- content, byte by byte
 

@@ -4,11 +4,14 @@ use Rattle.tds_rows.proofs.Words.{arith, sym, ◌≡◌, ◌+◌, ℕ, Bool, tru
 use Rattle.tds_rows.proofs.Words.{Ahead, IsInRow, StaysInRow, RowStops, RowPart, marked, ◌∙◌, ◌-◌, ◌^◌, ◌≤◌, ◌<◌, [], ◌++◌, length, ap, before, Seen, Takes}
 use Rattle.tds_rows.proofs.Words.{Held, Puts, Charset, Cell, rows, Kind, Knows}
 use Rattle.tds_rows.proofs.NullSteps.{NearsCells, all_put, bitmap_nears, cell_nears, cell_stops, null_breaks, null_nears, cell_path, marked_stops, row_ends}
-use Rattle.tds_rows.proofs.RowSteps.{ends, ends_marked, coming, nulls_ahead, PutsAt, StopsAt, none_ahead, cell_some}
-use Rattle.tds_rows.proofs.Paths.{At, here, Path, path_both, path_map, path_none, path_of, writes_none, over}
-use Rattle.tds_rows.proofs.TableSteps.{last_one, next_column}
-use Rattle.tds_rows.proofs.RunSteps.{rows_after, whole_breaks, whole_puts, row_among, row_token, made_more, unused, used_more}
-use Rattle.tds_rows.proofs.TableRuns.{run_breaks}
+use Rattle.tds_cells.proofs.RowTexts.{ends, ends_marked, coming, nulls_ahead, none_ahead}
+use Rattle.tds_rows.proofs.RowSteps.{PutsAt, StopsAt, cell_some}
+use Rattle.tds_rows.proofs.Paths.{At, here, Path, path_both, path_map, path_none, path_of, over}
+use Rattle.tds_cells.proofs.GrammarTexts.{writes_none}
+use Rattle.tds_cells.proofs.TableSteps.{last_one, next_column}
+use Rattle.tds_cells.proofs.RunSteps.{rows_after, row_among, row_token}
+use Rattle.tds_rows.proofs.RunPuts.{whole_breaks, whole_puts}
+use Rattle.tds_rows.proofs.RunPuts.{run_breaks}
 
 -- text that doesn't fill the block waits
 pub all_waits : (h j : Held) (text : List ℕ) → Puts h j text → length h.waiting + length text < 4096
@@ -404,51 +407,6 @@ module _ {R W : Type 0} {remaining : R → Option (List ℕ)} {contents : W → 
         rowing_stop (rw t.next at y.1) (cell_read (λ k. false) x knows y.0 t)
 
 -- ---- NBCROWs that are whole in the packet
-
-module _ (used size : ℕ) (bytes : List ℕ) where
-  -- the bitmap and the cells of the row after those that were used
-  abbrev bitmap : List ℕ
-  bitmap = N.take size (unused used bytes)
-
-  abbrev cells : List ℕ
-  cells = unused size (unused used bytes)
-
-  -- one more before the token byte of another, in the bytes that are left and after what was made
-  pub nbc_row_more : (charset : Charset) (columns : List Column) (n u made m : ℕ) (to text left : List ℕ) → made ≤ length to → m ≤ length text
-      → 0 < length (unused u cells) → N.get_or (unused u cells) 0 0 ≡ N.token_byte N.NbcRow → length bitmap ≡ N.bitmap_length (length columns)
-      → N.WritesNbcRows charset columns n (N.take used bytes) (N.take made to)
-      → N.WritesMarked charset columns (N.bit bitmap) 0 (length columns) (N.take u cells) (N.take m text)
-      → N.WritesNbcRows charset columns (n + 1) (N.take (used + (size + u + 1)) bytes) (N.take (made + m) (N.take made to ++ (text ++ left)))
-  nbc_row_more charset columns n u made m to text left within fits more next whole before row =
-      let row_bytes : N.take (size + (u + 1)) (unused used bytes) ≡ (bitmap ++ N.take u cells) ++ N.token_byte N.NbcRow ∷ [] =
-      used_more size (u + 1) (unused used bytes) ∙ ap (λ l. bitmap ++ l) (used_more u 1 cells
-      ∙ ap (λ l. N.take u cells ++ l) (N.take_more (unused u cells) 0 0 more ∙ ap (λ b. b ∷ []) next))
-      ∙ sym (N.append_assoc bitmap (N.take u cells) _) in
-      let place : used + (size + u + 1) ≡ used + (size + (u + 1)) = omega arith in
-      let suc : N.suc n ≡ n + 1 = omega arith in
-      N.subst (λ k. N.WritesNbcRows charset columns k (N.take (used + (size + u + 1)) bytes) (N.take (made + m) (N.take made to ++ (text ++ left)))) suc (
-        N.take used bytes,
-        bitmap ++ N.take u cells,
-        N.take made to,
-        N.take m text,
-        ap (λ k. N.take k bytes) place ∙ used_more used (size + (u + 1)) bytes ∙ ap (λ l. N.take used bytes ++ l) row_bytes,
-        made_more made m to text left within fits,
-        before,
-        record { bitmap = bitmap; cells = N.take u cells; joined = refl; whole = whole; writes = row },
-      )
-
-  -- the row after them isn't written so
-  pub nbc_rows_end : (table : N.Table) (start : Ahead) (made : ℕ) (to text : List ℕ) (run : N.CellRun) → size ≡ N.bitmap_length table.count
-      → start.column ≡ 0 → N.MarkedWritten table (N.bit bitmap) start cells text run
-      → N.EndsFar table (N.bit bitmap) run.ahead (drop run.used cells) (length (unused made to) - run.made)
-      → N.◌⊎◌ (run.ahead.column ≡ table.count → ⊥) (N.BeginNoRow N.NbcRow (unused run.used cells))
-      → N.EndsNbcRows table (N.bitmap_length table.count) (drop used bytes) (length to - made)
-  nbc_rows_end table start made to text run size_is first wrote far end =
-      let all = N.all_after bytes used in
-      let rest = N.all_after (drop used bytes) size in
-      let room = ap length (N.all_after to made) ∙ N.length-drop made to in
-      let last = rw (N.all_after cells run.used, all, rest) at end in
-      N.inr (start, run, text, first, rw (all, rest, size_is) at wrote, rw (all, rest, room, size_is) at far, rw size_is at last)
 
 module _ {charset : Charset} {columns : List Column} {p q : At} where
   -- its bitmap and its cells were handed out, and their text was put

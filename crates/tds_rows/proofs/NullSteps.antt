@@ -2,9 +2,11 @@
 use Rattle.tds_rows.proofs.Words as N
 use Rattle.tds_rows.proofs.Words.{◌≡◌, ◌∙◌, inl, inr, ℕ, ◌+◌, ◌-◌, ◌^◌, ◌<◌, ◌≤◌, Bool, true, false, List, [], ◌∷◌, ◌++◌, length, refl, sym, arith, Stop, Seen}
 use Rattle.tds_rows.proofs.Words.{Column, Held, Charset, Cell, CellPart, RowPart, next_cell, row, row_so_far}
-use Rattle.tds_rows.proofs.RowSteps.{begun_text, coming, ends, line_grows, nulls_ahead, nulls_text, part_text, rest_of, PutsAt, StopsAt, cell_some, StopsCell}
-use Rattle.tds_rows.proofs.RowLaws.{begins_open, cell_in_row}
-use Rattle.tds_rows.proofs.Paths.{At, Path, path_both, path_map, path_none, path_of, path_stops, streams_of, writes_inside, over}
+use Rattle.tds_cells.proofs.RowTexts.{begun_text, coming, ends, line_grows, nulls_ahead, nulls_text, part_text, rest_of}
+use Rattle.tds_rows.proofs.RowSteps.{PutsAt, StopsAt, cell_some, StopsCell}
+use Rattle.tds_cells.proofs.RowLaws.{begins_open, cell_in_row}
+use Rattle.tds_rows.proofs.Paths.{At, Path, path_both, path_map, path_none, path_of, path_stops, streams_of, over}
+use Rattle.tds_cells.proofs.RowTexts.{row_cell}
 
 -- ---- a cell in its row, with the NULLs after it
 
@@ -77,13 +79,6 @@ module _ (charset : Charset) (cells : List Cell) (ks : List (Column × Bool)) wh
       → StopsCell charset c.kind (length cells) (ends ks) b d place i j failed stop
       → N.RowStops charset (N.InCell cells (N.cell_start c.kind (N.shape charset c.kind)) ks) b d place i j failed stop
   marked_stops c x = rw (← begins_open charset cells ks c.kind _) (stops_there (grind arith) x)
-
-  -- a cell in its row, with no NULL by its bit after it
-  pub row_cell : (c : Column) → nulls_ahead (length cells + 1) ks ≡ [] → {bytes made : List ℕ} {v : Cell}
-      → N.Writes (N.cell (length cells)) (N.cell_so_far (length cells) (ends ks)) (N.cell_start c.kind (N.shape charset c.kind)) bytes made (N.WholeCell v)
-      → N.Writes (row charset) row_so_far (next_cell charset cells ((c, false) ∷ ks)) bytes made (next_cell charset (cells ++ v ∷ []) ks)
-  row_cell c none x = rw begins_open at (writes_inside {whole = row_so_far} front (cell_in_row charset cells ks)
-      (grind (arith, N.append-nil, part_text)) x)
 
 -- ---- column after column
 

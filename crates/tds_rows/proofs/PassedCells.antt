@@ -2,10 +2,10 @@
 use Rattle.tds_rows.proofs.Words as N
 use Rattle.tds_rows.proofs.Words.{◌≢◌, ◌≡◌, ◌∙◌, ℕ, ◌+◌, ◌-◌, ◌%◌, ◌<◌, ◌≤◌, true, List, [], ◌++◌, length, refl, arith, Option, Stop, Seen, Conversion, Cell}
 use Rattle.tds_rows.proofs.Words.{CellPart, ChunkLength, shape, return_column, AnyData, PassesData, StepsOver}
-use Rattle.tds_rows.proofs.BufferedCells.{null_cell, value_cell}
-use Rattle.tds_rows.proofs.RunSteps.{whole_of}
+use Rattle.tds_cells.proofs.ValueCells.{null_cell, value_cell}
+use Rattle.tds_cells.proofs.RunSteps.{whole_of}
 use Rattle.tds_rows.proofs.LongValues.{HoldsContent, content_spelt, chunk_holds, short_holds}
-use Rattle.tds_rows.proofs.CellMeaning.{is_ok_value}
+use Rattle.tds_cells.proofs.CellMeaning.{is_ok_value}
 use Rattle.tds_rows.proofs.Numbers.{Next, chunk_start, chunk_left, short_left}
 
 -- ---- elements

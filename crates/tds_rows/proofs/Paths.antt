@@ -2,6 +2,7 @@
 use Rattle.tds_rows.proofs.Words as N
 use Rattle.tds_rows.proofs.Words.{◌≡◌, ℕ, ◌+◌, ◌-◌, ◌^◌, ◌≤◌, List, [], ◌++◌, arith, Fault, Grammar, Option, Writes, Held, Seen}
 use Rattle.tds_packet.specs.declared.payload.Payload.{Payload}
+use Rattle.tds_cells.proofs.GrammarTexts.{writes_both, writes_none}
 
 -- where a reading stands: what the payload is seen to give, how many of its bytes were read, and what the sink holds
 pub record At : Type 0 where
@@ -29,12 +30,6 @@ pub record Path {S : Type 0} (g : Grammar S Fault) (text : S → List ℕ) (s : 
   pub place_is : q.place ≡ p.place + N.length bytes
 
 module _ {S : Type 0} {g : Grammar S Fault} {text : S → List ℕ} where
-  pub writes_none : {s : S} → Writes g text s [] [] s
-  writes_none = search N.rules
-
-  pub writes_both : {s t u : S} {a b p q : List ℕ} → Writes g text s a p t → Writes g text t b q u → Writes g text s (a ++ b) (p ++ q) u
-  writes_both x y = grind (arith, N.Spelt-append, N.append_assoc)
-
   abbrev pub streams_of : {s t : S} {p q : At} → Path g text s p q t → N.Streams g text s p.seen q.seen p.held q.held t
   streams_of x = record { bytes = x.bytes; spelt = x.writes.spelt; takes = x.takes; puts = (x.made, x.writes.text_is, x.puts) }
 
@@ -66,12 +61,6 @@ module _ {S : Type 0} {g : Grammar S Fault} {text : S → List ℕ} where
   pub path_stops : {s t : S} {p q : At} {d : Seen} {j : Held} {failed : N.Bool} {stop : N.Stop} → Path g text s p q t
       → N.StopsStreaming g text t q.seen d q.place q.held j failed stop → N.StopsStreaming g text s p.seen d p.place p.held j failed stop
   path_stops {p = p} x y = N.streaming_after _ _ _ _ _ _ _ _ _ _ p.place _ _ (streams_of x) (rw x.place_is at y)
-
--- a small grammar inside a big one, with a text before it
-pub writes_inside : {S T : Type 0} {small : Grammar S Fault} {big : Grammar T Fault} {lift : S → T} {text : S → List ℕ} {whole : T
-    → List ℕ} {s t : S} {a p : List ℕ} (front : List ℕ) → N.Inside small big lift → ((s : S) → front ++ text s ≡ whole (lift s))
-    → Writes small text s a p t → Writes big whole (lift s) a p (lift t)
-writes_inside _ is text_is x = grind (arith, N.common_steps, N.Inside-Spelt)
 
 -- what is known of all bytes and what they make
 pub path_map : {S T : Type 0} {g : Grammar S Fault} {k : Grammar T Fault} {text : S → List ℕ} {whole : T → List ℕ} {s t : S} {u v : T} {p q : At}

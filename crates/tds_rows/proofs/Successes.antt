@@ -3,9 +3,9 @@ use Rattle.tds_rows.proofs.Words as N
 use Rattle.tds_packet.specs.declared.payload.Payload.{Payload}
 use Rattle.tds_rows.proofs.Words.{◌≡◌, ◌∙◌, inl, inr, ℕ, ◌+◌, ◌<◌, List, [], ◌∷◌, ◌++◌, length, ap, arith, Ok, Err, Option, Some, if◌then◌else◌, Rose, Fault}
 use Rattle.tds_rows.proofs.Words.{Stop, before, Grammar, Spelt, Seen, Cell, Brings}
-use Rattle.tds_rows.proofs.CellLaws.{cell_is_read}
-use Rattle.tds_rows.proofs.RowLaws.{nbc_row_is_read, row_is_read}
-use Rattle.tds_rows.proofs.RunSteps.{row_token, row_among_rows}
+use Rattle.tds_cells.proofs.CellLaws.{cell_is_read}
+use Rattle.tds_cells.proofs.RowLaws.{nbc_row_is_read, row_is_read}
+use Rattle.tds_cells.proofs.RunSteps.{row_token, row_among_rows}
 
 -- a call that fails raises the count
 pub rose : (f : ℕ) → Rose f (N.one_more f)

@@ -1,11 +1,9 @@
 -- What reading a cell and putting it into its line does.
-use Rattle.std.specs.Prelude.{◌≡◌, ◌==◌, ◌⊎◌, ◌+◌, ◌<◌, ◌≤◌, ℕ, Bool, true, false, List, [], ◌∷◌, length, max, take, is_ok, Option}
-use Rattle.std.specs.Prelude.{Some, None, Result, IsTrue, MatchOption, MatchResult, if◌then◌else◌}
+use Rattle.std.specs.Prelude.{◌≡◌, ◌+◌, ◌<◌, ◌≤◌, ℕ, Bool, false, List, [], length, max, is_ok, Option}
+use Rattle.std.specs.Prelude.{None, Result, MatchResult}
 use Rattle.tds_meter.specs.Space.{Space}
 use Rattle.tds_values.specs.declared.kind.Kind.{Kind}
-use Rattle.tds_values.specs.declared.kind.Kind.TheVariants.{Int4, IntN}
 use Rattle.tds_values.specs.Front.{scalar_size, value_bytes, value_length, value_start}
-use Rattle.tds_values.specs.Kind.{is_scalar, is_valid}
 use Rattle.tds_values.specs.Scalar.{read_of}
 use Rattle.tds_packet.specs.declared.fault.Fault.TheVariants.{BadValue}
 use Rattle.tds_packet.specs.declared.fault.Place.TheVariants.{Payload}
@@ -14,87 +12,12 @@ use Rattle.tds_packet.specs.declared.payload.Payload as payloads
 use Rattle.tds_packet.specs.Payloads.{IsGoing, LeavesPayload, seen}
 use Rattle.tds_packet.specs.Reading.{StopsReading}
 use Rattle.tds_packet.specs.Seen.{Seen, Takes, IsBetween}
-use Rattle.tds_columns.specs.Description.{Column}
-use Rattle.tds_csv.specs.Quoting.{after_comma, in_line}
 use Rattle.tds_csv.specs.declared.sink.Sink.{Sink}
 use Rattle.tds_csv.specs.Sinks.{Held, held}
 use Rattle.tds_csv.specs.Streaming.{StopsStreaming, Streams}
 use Rattle.tds_values.specs.declared.charset.Charset.{Charset}
-use Rattle.tds_rows.specs.declared.cell.whole.Written.{Written}
-use Rattle.tds_rows.specs.LongFields.{IsShapeLeft, long_size, reach_of}
-use Rattle.tds_rows.specs.WholeCells.{WritesCell, WritesWhole}
-use Rattle.tds_rows.specs.Cells.{Cell, CellPart, WholeCell, cell, cell_start, field, field_so_far, shape}
-
--- a field that is open, with the comma before it; nothing if it isn't
-abbrev pub opened : ℕ → Option (List ℕ) → List ℕ
-opened column None = []
-opened column (Some text) = after_comma column text
-
--- whether no column follows
-abbrev pub is_last_column : List Column → Bool
-is_last_column [] = true
-is_last_column (c ∷ cs) = false
-
--- the text so far of a cell in its line: nothing before its length is accepted, then a comma unless it is the first, and its field so far; and the
--- end of the line after it if it is the last
-abbrev pub cell_so_far : ℕ → Bool → CellPart → List ℕ
-cell_so_far column last (WholeCell cell) = in_line column last (field cell)
-cell_so_far column last part = opened column (field_so_far part)
-
--- The kind is a scalar one, and its numbers are allowed.
-pub record IsScalarKind (kind : Kind) : Type 0 where
-  pub valid : IsTrue (is_valid kind)
-  pub scalar : IsTrue (is_scalar kind)
-
--- whether the values of a kind are whole numbers of four bytes
-abbrev pub is_int4 : Kind → Bool
-is_int4 Int4 = true
-is_int4 (IntN n) = n == 4
-is_int4 kind = false
-
--- whether whole numbers of a kind come after their length, or are NULL
-abbrev pub is_counted : Kind → Bool
-is_counted (IntN n) = true
-is_counted kind = false
-
--- The values of this kind are whole numbers of four bytes.
-abbrev pub IsInt4 : Kind → Type 0
-IsInt4 kind = is_int4 kind ≡ true
-
--- A whole number of four bytes is the value of the cell at the front of these bytes, so far after it.
-pub record HasInt4 (kind : Kind) (start : ℕ) (bytes : List ℕ) : Type 0 where
-  pub number : IsInt4 kind
-  pub starts : start ≡ value_start kind
-  pub four : value_length kind bytes ≡ 4
-  pub within : start + 4 ≤ length bytes
-
--- how many bytes the cell at the front of these bytes has; of one in several chunks nothing is said
-abbrev pub whole_size : Kind → List ℕ → ℕ
-whole_size kind bytes = if is_scalar kind then scalar_size kind bytes else long_size (reach_of kind) bytes
-
--- The scalar cell at the front of these bytes is left for another way: it isn't whole, or its value is refused.
-abbrev pub IsScalarLeft : Kind → List ℕ → Type 0
-IsScalarLeft kind bytes = (length bytes < scalar_size kind bytes)
-    ⊎ ((0 < value_length kind bytes) × (is_ok (read_of kind (value_bytes kind bytes)) ≡ false))
-
--- The cell at the front of these bytes is left, with this much room.
-abbrev pub IsLeft : Charset → Kind → List ℕ → ℕ → Type 0
-IsLeft charset kind bytes room =
-    ((is_scalar kind ≡ true) × IsScalarLeft kind bytes) ⊎ ((is_scalar kind ≡ false) × IsShapeLeft (shape charset kind) bytes room)
-
--- The bytes are a whole cell of a kind, and this is its text in its line; that of a scalar, in any set, comes only with the last element.
-pub record WritesKind (charset : Charset) (kind : Kind) (column : ℕ) (last : Bool) (bytes text : List ℕ) : Type 0 where
-  pub whole : WritesWhole (cell_start kind (shape charset kind)) column last bytes text
-  pub at_once : is_scalar kind ≡ true → (any : Charset) → WritesCell (cell_start kind (shape any kind)) column last bytes text
-
--- The bytes are a whole cell of a kind, and this is its field, wherever it is in a line.
-abbrev pub WritesField : Charset → Kind → List ℕ → List ℕ → Type 0
-WritesField charset kind bytes field = (column : ℕ) (last : Bool) → WritesKind charset kind column last bytes (in_line column last field)
-
--- The field of the cell at the front of these bytes, this many of them, was written to the front of others; or it is left, with this much room.
-abbrev pub CellWritten : Charset → Kind → List ℕ → ℕ → List ℕ → Option Written → Type 0
-CellWritten charset kind bytes room text result = MatchOption result (IsLeft charset kind bytes room)
-    (λ written. WritesField charset kind (take written.used bytes) (take written.made text))
+use Rattle.tds_cells.specs.Cells.{Cell, CellPart, WholeCell, cell, cell_start, field_so_far, shape}
+use Rattle.tds_cells.specs.CellTexts.{cell_so_far}
 
 -- Reading a cell stopped before it had any text.
 pub record StallsCell (from : CellPart) (column : ℕ) (old new : Seen) (place : ℕ) (stop : Stop) : Type 0 where

@@ -9,15 +9,15 @@ use Rattle.tds_packet.specs.declared.fault.Stop.{Stop}
 use Rattle.tds_packet.specs.declared.payload.Payload as payloads
 use Rattle.tds_packet.specs.Payloads.{seen}
 use Rattle.tds_packet.specs.Seen.{Seen, Takes, Ends, IsBetween, began_at}
-use Rattle.tds_csv.specs.Conversion.{BeginsData, Conversion, IsFit, closing, conversion_rest, conversion_text}
-use Rattle.tds_csv.specs.Joining.{emit}
+use Rattle.tds_text.specs.Conversion.{BeginsData, Conversion, IsFit, closing, conversion_rest, conversion_text}
+use Rattle.tds_text.specs.Joining.{emit}
 use Rattle.tds_csv.specs.declared.joiners.JoinFault.{JoinFault}
 use Rattle.tds_csv.specs.declared.joiners.JoinFault.TheVariants.{Stopped}
 use Rattle.tds_csv.specs.declared.joiners.JoinFault.TheVariants as join_faults
-use Rattle.tds_csv.specs.Quoting.{binary_mark, end_after, quote}
+use Rattle.tds_text.specs.Quoting.{binary_mark, end_after, quote}
 use Rattle.tds_csv.specs.declared.sink.Sink.{Sink}
 use Rattle.tds_csv.specs.Sinks.{Breaks, Held, Puts, held}
-use Rattle.tds_rows.specs.Cells.{is_total, known_total, null_total, unknown_total, unless, within_total}
+use Rattle.tds_cells.specs.Cells.{is_total, known_total, null_total, unknown_total, unless, within_total}
 
 -- what comes before the text of a long value
 abbrev pub opening : Bool → List ℕ

@@ -9,7 +9,7 @@ use Rattle.tds_csv.specs.Sinks.{IsWriting, LeavesSink}
 use Rattle.tds_rows.specs.declared.cell.streamed.LongValue.{LongValue}
 use Rattle.tds_rows.specs.Blames.{Blames, failures_of}
 use Rattle.tds_rows.specs.CellSteps.{FieldPut}
-use Rattle.tds_rows.specs.Cells.{CellPart}
+use Rattle.tds_cells.specs.Cells.{CellPart}
 use Rattle.tds_rows.specs.LongCells.{LengthRead}
 
 -- Data is being joined: the payload hands out bytes, the sink takes text, and some whole data begins with what is withheld.

@@ -8,11 +8,11 @@ use Rattle.tds_packet.specs.Payloads.{seen}
 use Rattle.tds_packet.specs.Reading.{Reads, StopsReading}
 use Rattle.tds_packet.specs.Seen.{Seen, Takes, Ends, IsBetween, began_at}
 use Rattle.tds_columns.specs.ReturnedType.{return_column}
-use Rattle.tds_csv.specs.Conversion.{Conversion, is_begun, is_fit, unit}
+use Rattle.tds_text.specs.Conversion.{Conversion, is_begun, is_fit, unit}
 use Rattle.tds_values.specs.declared.kind.Kind.{Kind}
 use Rattle.tds_values.specs.Scalar.{read_of}
 use Rattle.tds_values.specs.Front.{value_bytes, value_length}
-use Rattle.tds_rows.specs.Cells.{Cell, CellPart, WholeCell, cell}
+use Rattle.tds_cells.specs.Cells.{Cell, CellPart, WholeCell, cell}
 
 -- how such a value is read
 abbrev pub return_cell : Grammar CellPart Fault

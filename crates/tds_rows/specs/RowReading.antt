@@ -6,21 +6,21 @@ use Rattle.tds_packet.specs.declared.payload.Payload.{Payload}
 use Rattle.tds_packet.specs.Payloads.{IsGoing, IsOnSame, IsSound, LeavesPayload, buffered, seen}
 use Rattle.tds_packet.specs.Seen.{Takes}
 use Rattle.tds_columns.specs.Description.{Column}
-use Rattle.tds_csv.specs.Quoting.{in_line, null_field}
+use Rattle.tds_text.specs.Quoting.{in_line, null_field}
 use Rattle.tds_csv.specs.declared.sink.Sink.{Sink}
 use Rattle.tds_csv.specs.Sinks.{IsOnSameSink, IsReady, Puts, held, IsWriting, LeavesSink, PutsPiece}
 use Rattle.tds_rows.specs.declared.rows.Rows.{Rows}
-use Rattle.tds_rows.specs.declared.table.Ahead.{Ahead}
-use Rattle.tds_rows.specs.declared.cell.layout.Form.{Form}
-use Rattle.tds_rows.specs.Layouts.{IsLaidOut}
-use Rattle.tds_rows.specs.Cells.{CellPart}
+use Rattle.tds_cells.specs.declared.table.Ahead.{Ahead}
+use Rattle.tds_cells.specs.declared.layout.Form.{Form}
+use Rattle.tds_cells.specs.Layouts.{IsLaidOut}
+use Rattle.tds_cells.specs.Cells.{CellPart}
 use Rattle.tds_meter.specs.Space.{Space}
 use Rattle.tds_rows.specs.CellSteps.{CellPut, FieldPut, LeavesSmall, longest_cell}
-use Rattle.tds_rows.specs.Rows.{RowPart, RowToken, longest_bitmap, token_byte}
-use Rattle.tds_rows.specs.MarkedRows.{WritesNbcRows}
+use Rattle.tds_cells.specs.Rows.{RowPart, RowToken, longest_bitmap, token_byte}
+use Rattle.tds_cells.specs.MarkedRows.{WritesNbcRows}
 use Rattle.tds_rows.specs.RowSteps.{RowPut}
-use Rattle.tds_rows.specs.Successes.{BeginNoRow}
-use Rattle.tds_rows.specs.Tables.{IsNextKind, KnowsSome}
+use Rattle.tds_cells.specs.Rows.{BeginNoRow}
+use Rattle.tds_cells.specs.Tables.{IsNextKind, KnowsSome}
 
 -- A call may be made that reads a row: payload and sink go on or give their stop again, and the small area has room for a cell.
 pub record IsReadyForRow {R W : Type 0} (payload : Payload R) (sink : Sink W) (small : Space) : Type 0 where

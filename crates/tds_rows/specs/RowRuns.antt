@@ -2,11 +2,11 @@
 use Rattle.std.specs.Prelude.{◌≡◌, ◌+◌, ◌≤◌, ℕ, Bool, false, List, Option, Result, IfOk, MatchResult}
 use Rattle.tds_packet.specs.declared.fault.Stop.{Stop}
 use Rattle.tds_rows.specs.declared.rows.Rows.{Rows}
-use Rattle.tds_rows.specs.declared.run.RowsRun.{RowsRun}
-use Rattle.tds_rows.specs.declared.table.Ahead.{Ahead}
-use Rattle.tds_rows.specs.MarkedRuns.{MarkedBreaks, MarkedPut}
+use Rattle.tds_cells.specs.declared.run.RowsRun.{RowsRun}
+use Rattle.tds_cells.specs.declared.table.Ahead.{Ahead}
+use Rattle.tds_rows.specs.MarkedPuts.{MarkedBreaks, MarkedPut}
 use Rattle.tds_rows.specs.RowReading.{LeavesRows}
-use Rattle.tds_rows.specs.Runs.{RowsPut}
+use Rattle.tds_rows.specs.RunPuts.{RowsPut}
 
 -- The place in the payload is as many bytes further as a run used, which began no more rows than it used bytes.
 abbrev pub IsFurther : ℕ → ℕ → RowsRun → Type 0

@@ -9,9 +9,9 @@ use Rattle.tds_csv.specs.declared.sink.Sink.{Sink}
 use Rattle.tds_csv.specs.Sinks.{Held, held, stop_of}
 use Rattle.tds_csv.specs.Streaming.{StopsStreaming, Streams}
 use Rattle.tds_values.specs.declared.charset.Charset.{Charset}
-use Rattle.tds_rows.specs.Cells.{Cell}
-use Rattle.tds_rows.specs.Rows.{RowPart, RowToken, WholeRow, row, row_so_far}
-use Rattle.tds_rows.specs.Runs.{rows, rows_so_far, rows_start}
+use Rattle.tds_cells.specs.Cells.{Cell}
+use Rattle.tds_cells.specs.Rows.{RowPart, RowToken, WholeRow, row, row_so_far}
+use Rattle.tds_cells.specs.Runs.{rows, rows_so_far, rows_start}
 
 -- A row was read, and its line put.
 pub record ReadsRow (charset : Charset) (start : RowPart) (old new : Seen) (place place' : ℕ) (before after : Held) : Type 0 where

@@ -1,5 +1,5 @@
 -- When a call that reads a payload and puts a text succeeds: what it reads comes whole, and no device fails.
-use Rattle.std.specs.Prelude.{◌≡◌, ◌==◌, ℕ, true, false, List, [], ◌∷◌, ◌++◌, Option, Some, Result, is_ok}
+use Rattle.std.specs.Prelude.{◌≡◌, ℕ, true, List, [], ◌∷◌, ◌++◌, Option, Some, Result, is_ok}
 use Rattle.tds_meter.specs.Counts.{Rose}
 use Rattle.tds_packet.specs.declared.payload.Payload.{Payload}
 use Rattle.tds_packet.specs.Payloads.{seen}
@@ -7,8 +7,8 @@ use Rattle.tds_packet.specs.Seen.{Seen}
 use Rattle.tds_columns.specs.Description.{Column}
 use Rattle.tds_csv.specs.declared.sink.Sink.{Sink}
 use Rattle.tds_values.specs.declared.charset.Charset.{Charset}
-use Rattle.tds_rows.specs.Cells.{Cell}
-use Rattle.tds_rows.specs.Rows.{RowToken, SpellsRowAs, token_byte}
+use Rattle.tds_cells.specs.Cells.{Cell}
+use Rattle.tds_cells.specs.Rows.{RowToken, SpellsRowAs, token_byte}
 
 -- The reader tells what it has left, and with it these bytes are to come.
 pub record Brings (seen : Seen) (bytes : List ℕ) : Type 0 where
@@ -30,8 +30,3 @@ abbrev pub SpellsRows : RowToken → Charset → List Column → List Cell → L
 SpellsRows token charset columns first [] bytes = SpellsRowAs token charset columns first bytes
 SpellsRows token charset columns first (next ∷ later) bytes = (front : List ℕ) × (rest : List ℕ) × (bytes ≡ front ++ token_byte token ∷ rest)
     × SpellsRowAs token charset columns first front × SpellsRows token charset columns next later rest
-
--- The bytes don't begin with a token byte of such a row.
-abbrev pub BeginNoRow : RowToken → List ℕ → Type 0
-BeginNoRow token [] = Unit {0}
-BeginNoRow token (byte ∷ bytes) = (byte == token_byte token) ≡ false

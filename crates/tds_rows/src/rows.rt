@@ -1,31 +1,27 @@
 // The reading of rows, one or several after one another (MS-TDS, ROW).
 ghost use Rattle.std.specs.Prelude.{◌≡◌, ◌+◌, ◌<◌, ◌≤◌, ℕ, Bool, List, length, false, None, IfOk, IfSome, IsTrue};
-ghost use Rattle.tds_csv.specs.Fields.{conversion_of};
-ghost use Rattle.tds_rows.specs.Cells.{LongShape, long_start, Cell};
-ghost use Rattle.tds_rows.specs.Layouts.{IsLaidOut, shape_of_layout};
+ghost use Rattle.tds_text.specs.Fields.{conversion_of};
+ghost use Rattle.tds_cells.specs.Cells.{LongShape, long_start};
+ghost use Rattle.tds_cells.specs.Layouts.{shape_of_layout};
 ghost use Rattle.tds_rows.specs.RowReading.{CellRead, ContentRead, EndsRows, IsAtCell, IsInRow, IsInSomeRow, LeavesRows, StaysInRow, TokenTaken, RowRead};
-ghost use Rattle.tds_rows.specs.Rows.{RowToken, token_byte, PlainRow, row_start};
+ghost use Rattle.tds_cells.specs.Rows.{RowToken, token_byte, PlainRow, row_start};
 ghost use Rattle.tds_columns.specs.Description.{Column};
 ghost use Rattle.tds_packet.specs.Payloads.{buffered};
 ghost use Rattle.tds_rows.specs.RowSteps.{RowsRead};
-ghost use Rattle.tds_rows.specs.Runs.{RowsPut};
-ghost use Rattle.tds_rows.specs.MarkedRuns.{MarkedWritten};
+ghost use Rattle.tds_rows.specs.RunPuts.{RowsPut};
+ghost use Rattle.tds_cells.specs.MarkedRuns.{MarkedWritten};
 ghost use Rattle.tds_rows.specs.RowRuns.{IsFurther, MarkedRead, RunRead};
-ghost use Rattle.tds_rows.specs.Tables.{Knows};
+ghost use Rattle.tds_cells.specs.Tables.{Knows};
 ghost use Rattle.tds_values.specs.Kind as kinds;
 
 use crate::cell::gathered::{LONGEST_CELL, gather_scalar, length_size};
-use crate::cell::layout::{Form, Layout};
 use crate::cell::streamed::stream_long;
-use crate::cell::whole::CELL_ROOM;
-use crate::run::{CellRun, RowsRun};
-use crate::table::{Ahead, ROW, Table};
 use std::io::{Read, Write};
-use tds_csv::{
-    Content, Cp1252Joiner, HexJoiner, Joiner, Sink, Utf8Joiner, Utf16Joiner, joiners_suit,
-};
+use tds_cells::{Ahead, CELL_ROOM, CellRun, Form, Layout, ROW, RowsRun, Table};
+use tds_csv::{Cp1252Joiner, HexJoiner, Joiner, Sink, Utf8Joiner, Utf16Joiner, joiners_suit};
 use tds_meter::Area;
 use tds_packet::{Fault, Payload, Stop};
+use tds_text::Content;
 use tds_values::Reach;
 
 /// The room for the text of a run that may go over the end of a block, or of a cell that no run took.

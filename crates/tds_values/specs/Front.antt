@@ -1,6 +1,6 @@
 -- The value of a scalar kind at the front of bytes, which may go on after it.
 use Rattle.std.specs.Prelude.{◌≡◌, ℕ, ◌+◌, false, List, take, drop, slice_index, is_ok, Option, Some, None, MatchOption}
-use Rattle.tds_values.specs.declared.front.Front.{Front}
+use Rattle.tds_values.specs.declared.span.Span.{Span}
 use Rattle.tds_values.specs.declared.kind.Kind.{Kind}
 use Rattle.tds_values.specs.Kind.{fixed_length}
 use Rattle.tds_values.specs.Scalar.{read_of}
@@ -33,6 +33,6 @@ abbrev pub value_bytes : Kind → List ℕ → List ℕ
 value_bytes kind bytes = take (value_length kind bytes) (drop (value_start kind) bytes)
 
 -- The text of the value was written to the front of a slice, and all its bytes were used; or it is refused.
-abbrev pub FrontWritten : Kind → List ℕ → List ℕ → Option Front → Type 0
+abbrev pub FrontWritten : Kind → List ℕ → List ℕ → Option Span → Type 0
 FrontWritten kind bytes text result = MatchOption result (is_ok (read_of kind (value_bytes kind bytes)) ≡ false)
     (λ front. (front.used ≡ scalar_size kind bytes) × IsTextOf (read_of kind (value_bytes kind bytes)) front.made text)

@@ -5,18 +5,12 @@ ghost use Rattle.tds_values.specs.Kind as kinds;
 
 use crate::kind::Kind;
 use crate::scalar::ValueFault;
+use crate::span::Span;
 use crate::text::TEXT_ROOM;
 use crate::write::{
     write_bit, write_date, write_date_time_n, write_date_time_offset, write_date_time2,
     write_decimal, write_guid, write_integer, write_money, write_time,
 };
-
-/// A value that was written: how many bytes it has, with its length if one precedes it, and how many its text has.
-#[derive(Clone, Copy)]
-pub struct Front {
-    pub used: usize,
-    pub made: usize,
-}
 
 /// How many bytes [`write_front`] needs: one more than the longest value with its length, so that one that is longer
 /// than any kind allows is seen to be.
@@ -59,11 +53,11 @@ fn counted_any(bytes: &[u8]) -> Option<&[u8]>
 
 // What was written of a value that has so many bytes with its length. `None` if it is refused.
 #[inline(always)]
-fn as_front(used: usize, text: Result<usize, ValueFault>) -> Option<Front>
+fn as_front(used: usize, text: Result<usize, ValueFault>) -> Option<Span>
     ensures { MatchResult text (λ made. result ≡ Some (record { used = used; made = made })) (λ _. result ≡ None) }
 {
     match text {
-        Ok(made) => Some(Front { used, made }),
+        Ok(made) => Some(Span { used, made }),
         Err(_) => None,
     }
 }
@@ -74,7 +68,7 @@ fn as_front(used: usize, text: Result<usize, ValueFault>) -> Option<Front>
 ///
 /// `COPY` changes nothing. A loop that gives it another value has a copy of this code of its own, which is inlined there.
 #[inline(always)]
-pub fn write_front<const COPY: bool>(kind: &Kind, bytes: &[u8], to: &mut [u8]) -> Option<Front>
+pub fn write_front<const COPY: bool>(kind: &Kind, bytes: &[u8], to: &mut [u8]) -> Option<Span>
     requires valid { IsTrue (kinds.is_valid kind.now) }
     requires there { FRONT_SIZE ≤ length bytes.now }
     requires room { TEXT_ROOM ≤ length to.old }

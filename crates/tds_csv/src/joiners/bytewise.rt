@@ -1,11 +1,10 @@
 // Data in which each byte has a text of its own, in pieces.
-use crate::joiners::binary::Hex;
-use crate::joiners::cp1252::Windows1252;
-use crate::joiners::parts::{Bytewise, put_text};
+use crate::joiners::parts::put_text;
 use crate::joiners::{JoinFault, Joiner};
 use crate::sink::Sink;
 use std::io::Write;
 use std::marker::PhantomData;
+use tds_text::{Bytewise, Hex, Windows1252};
 
 /// A joiner of data in which each byte has a text of its own. It withholds nothing.
 #[derive(Drop)]

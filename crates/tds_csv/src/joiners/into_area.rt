@@ -1,12 +1,12 @@
 // Text in UTF-16 that is added to an area.
 ghost use Rattle.std.specs.Prelude.{◌≡◌, ◌-◌, ◌%◌, length};
-ghost use Rattle.tds_csv.specs.Cutting.{whole_within};
-ghost use Rattle.tds_csv.specs.Utf16 as utf16;
+ghost use Rattle.tds_text.specs.Cutting.{whole_within};
+ghost use Rattle.tds_text.specs.Utf16 as utf16;
 ghost use Rattle.tds_meter.specs.Space.{appended};
 
-use crate::convert::run::Run;
-use crate::convert::utf16::character_at;
+use crate::joiners::run::Run;
 use tds_meter::Area;
+use tds_text::utf16::character_at;
 
 /// Adds the characters of text in UTF-16 to an area, as far as whole ones fit its room. A surrogate
 /// without a partner becomes U+FFFD, and quotes aren't doubled.

@@ -1,40 +1,17 @@
-// Conversions in which each byte has a text of its own, put part by part.
-ghost use Rattle.std.specs.Prelude.{IfOk, MatchResult, ◌≡◌, ◌+◌, ◌-◌, ◌*◌, ◌<◌, ◌≤◌, List, ℕ, length, take};
-ghost use Rattle.tds_csv.specs.Joining.{HasPart, HasText, IsBytewise};
-ghost use Rattle.tds_csv.specs.Plain.{LiesIn};
+// Text of conversions in which each byte has a text of its own, put part by part.
+ghost use Rattle.std.specs.Prelude.{IfOk, MatchResult, ◌+◌, ◌-◌, ◌*◌, ◌<◌, ◌≤◌, length, take};
+ghost use Rattle.tds_text.specs.Plain.{LiesIn};
 ghost use Rattle.tds_csv.specs.Sinks.{AwaitsPart, IsWriting, PutsPiece};
 
-use crate::convert::lanes::{LANES, WIDE};
-use crate::convert::utf16::Converted;
-use crate::convert::{CHUNK, PART};
+use crate::joiners::CHUNK;
 use crate::sink::Sink;
 use std::io::Write;
 use tds_packet::Stop;
+use tds_text::Bytewise;
+use tds_text::lanes::{LANES, PART, WIDE};
 
 /// How many bytes the text of a chunk has at most, and as many as are written at once.
 const TEXT: usize = 3 * CHUNK + LANES;
-
-/// A conversion in which each byte has a text of its own.
-pub(crate) trait Bytewise {
-    /// The text of bytes.
-    ghost text: { List ℕ → List ℕ };
-
-    /// Writes the text of bytes, and returns its length. What follows them in the source may be looked at.
-    fn convert(bytes: &[u8], source: &[u8], to: &mut [u8]) -> usize
-        requires source { LiesIn bytes.now source.now }
-        requires room { 3 * length bytes.now + LANES ≤ length to.old }
-        ensures { HasText text bytes.now to.new result };
-
-    /// Writes the text of the first bytes, as far as there is room, and says how many those are.
-    fn convert_part(bytes: &[u8], to: &mut [u8]) -> Converted
-        requires wide { WIDE ≤ length bytes.now }
-        requires room { PART ≤ length to.old }
-        ensures { HasPart text bytes.now to.new result.used result.made };
-
-    /// Does nothing: its clause is the law of the text.
-    fn laws()
-        ensures { IsBytewise text };
-}
 
 // Puts the text of a chunk.
 fn put_chunk<C: Bytewise, W: Write>(

@@ -1,20 +1,19 @@
 // Text in UTF-16 that comes in pieces.
 ghost use Rattle.std.specs.Prelude.{◌≡◌, ◌+◌, ◌-◌, ◌*◌, ◌%◌, ◌<◌, ◌≤◌, ◌++◌, true, length, drop, IfOk, ⊤};
-ghost use Rattle.tds_csv.specs.Joining.{Leads, emit};
-ghost use Rattle.tds_csv.specs.Plain.{LiesIn};
+ghost use Rattle.tds_text.specs.Joining.{Leads, emit};
+ghost use Rattle.tds_text.specs.Plain.{LiesIn};
 ghost use Rattle.tds_csv.specs.Pushing.{PushesPiece};
 ghost use Rattle.tds_csv.specs.Sinks.{IsWriting, PutsPiece};
-ghost use Rattle.tds_csv.specs.Utf16 as utf16;
-ghost use Rattle.tds_csv.specs.Utf16Next.{LeavesRest, seam};
+ghost use Rattle.tds_text.specs.Utf16 as utf16;
+ghost use Rattle.tds_text.specs.Utf16Next.{LeavesRest, seam};
 
-use crate::convert::lanes::LANES;
-use crate::convert::run::Run;
-use crate::convert::utf16::{character_at, convert};
-use crate::convert::{CHUNK, units_within};
-use crate::joiners::{JoinFault, Joiner};
+use crate::joiners::run::Run;
+use crate::joiners::{CHUNK, JoinFault, Joiner};
 use crate::sink::Sink;
 use std::io::Write;
 use tds_packet::Stop;
+use tds_text::lanes::LANES;
+use tds_text::utf16::{character_at, convert};
 
 /// How many bytes the text of a chunk has at most, and as many as are written at once.
 const TEXT: usize = 3 * CHUNK / 2 + LANES;
@@ -23,6 +22,15 @@ const TEXT: usize = 3 * CHUNK / 2 + LANES;
 #[derive(Drop)]
 pub struct Utf16Joiner {
     kept: Run<3>,
+}
+
+// Returns how many units, each of which has at most three bytes of text, are converted at a time with
+// `room` bytes of room: those whose text surely fits, or at least `least`.
+fn units_within(room: usize, least: usize) -> usize
+    ensures some { least ≤ result }
+    ensures fits { least < result → 3 * result + LANES ≤ room }
+{
+    (room.saturating_sub(LANES) / 3).max(least)
 }
 
 // Puts the text of the characters that are fixed, of a chunk or of as many bytes as the sink has room for.
@@ -84,7 +92,7 @@ fn last_text(kept: &[u8]) -> Run<4>
 impl Utf16Joiner {
     // Puts the text of the withheld bytes with three bytes of the piece, if any are withheld, and
     // returns where the text of the piece goes on.
-    #[tactic(auto, using(crate::proofs::Utf16Steps::nil_of_length, crate::proofs::Utf16Steps::none_leads))]
+    #[tactic(auto, using(tds_text::proofs::Utf16Steps::nil_of_length, tds_text::proofs::Utf16Steps::none_leads))]
     fn put_withheld<W: Write>(&self, piece: &[u8], sink: &mut Sink<'_, W>) -> Result<usize, Stop>
         requires writing { IsWriting sink.old }
         requires long { 3 ≤ length piece.now }
@@ -175,6 +183,6 @@ impl Joiner for Utf16Joiner {
         Ok(())
     }
 
-    #[tactic(auto, using(crate::proofs::Utf16Laws::joins_utf16))]
+    #[tactic(auto, using(tds_text::proofs::Utf16Laws::joins_utf16))]
     fn laws() {}
 }

@@ -1,19 +1,19 @@
 // Text in UTF-8 that comes in pieces.
 ghost use Rattle.std.specs.Prelude.{◌≤◌, [], true, length, IfOk};
-ghost use Rattle.tds_csv.specs.Joining.{emit};
+ghost use Rattle.tds_text.specs.Joining.{emit};
 ghost use Rattle.tds_csv.specs.Pushing.{CanTake, PushesPiece};
 ghost use Rattle.tds_csv.specs.Sinks.{IsWriting, PutsPiece};
-ghost use Rattle.tds_csv.specs.Utf8 as utf8;
-ghost use Rattle.tds_csv.specs.Utf8Scan.{IsScan};
+ghost use Rattle.tds_text.specs.Utf8 as utf8;
+ghost use Rattle.tds_text.specs.Utf8Scan.{IsScan};
 
-use crate::convert::run::Run;
-use crate::convert::utf8::{Scan, scan_text};
-use crate::joiners::doubled::Doubled;
 use crate::joiners::parts::put_text;
+use crate::joiners::run::Run;
 use crate::joiners::{JoinFault, Joiner};
 use crate::sink::Sink;
 use std::io::Write;
 use tds_packet::Stop;
+use tds_text::Doubled;
+use tds_text::utf8::{Scan, scan_text};
 
 /// Text in UTF-8.
 #[derive(Drop)]
@@ -127,6 +127,6 @@ impl Joiner for Utf8Joiner {
         Ok(())
     }
 
-    #[tactic(auto, using(crate::proofs::Utf8Laws::joins_utf8))]
+    #[tactic(auto, using(tds_text::proofs::Utf8Laws::joins_utf8))]
     fn laws() {}
 }

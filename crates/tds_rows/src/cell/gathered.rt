@@ -1,8 +1,9 @@
 // A scalar cell across the ends of packets: its bytes are gathered in the small area.
 ghost use Rattle.std.specs.Prelude.{◌≡◌, ◌≤◌, IsTrue, None, Some};
 ghost use Rattle.tds_packet.specs.Payloads.{IsGoing};
-ghost use Rattle.tds_rows.specs.Cells.{ScalarBytes, ScalarLength, cell_start, shape};
-ghost use Rattle.tds_rows.specs.CellSteps.{CellGathered, IsGathering, IsScalarKind, LeavesGathering, longest_cell};
+ghost use Rattle.tds_cells.specs.Cells.{ScalarBytes, ScalarLength, cell_start, shape};
+ghost use Rattle.tds_rows.specs.CellSteps.{CellGathered, IsGathering, LeavesGathering, longest_cell};
+ghost use Rattle.tds_cells.specs.CellTexts.{IsScalarKind};
 ghost use Rattle.tds_values.specs.Front.{value_start};
 ghost use Rattle.tds_values.specs.declared.charset.Charset as sets;
 ghost use Rattle.tds_values.specs.Kind as kinds;

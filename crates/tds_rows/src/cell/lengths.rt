@@ -6,16 +6,8 @@ ghost use Rattle.tds_rows.specs.LongReading.{IsAtLength, LengthTaken};
 
 use byteorder::{ByteOrder, LittleEndian};
 use std::io::Read;
+use tds_cells::{NULL_LENGTH, NULL_TOTAL, UNKNOWN_TOTAL};
 use tds_packet::{Fault, Payload, Stop};
-
-/// The length that stands for NULL in a short value.
-pub(crate) const NULL_LENGTH: u64 = 0xFFFF;
-
-/// The total that stands for NULL.
-pub(crate) const NULL_TOTAL: u64 = 0xFFFF_FFFF_FFFF_FFFF;
-
-/// The total that stands for an unknown one.
-pub(crate) const UNKNOWN_TOTAL: u64 = 0xFFFF_FFFF_FFFF_FFFE;
 
 // Reads a number of `size` bytes, the lowest first.
 fn read_number<R: Read>(payload: &mut Payload<R>, size: usize) -> Result<u64, Stop>

@@ -2,9 +2,10 @@
 ghost use Rattle.std.specs.Prelude.{◌<◌, ◌≤◌, IfOk, [], ◌≡◌, ◌++◌, ℕ, List, true, false, length, None, Err, IfSome, IsTrue};
 ghost use Rattle.tds_packet.specs.Payloads.{IsGoing, LeavesPayload, IsSound};
 ghost use Rattle.tds_rows.specs.PassedCells.{DataPassed, PiecePassed, AnyData, CellPassed, IsGoodValue, IsRefusedValue};
-ghost use Rattle.tds_csv.specs.Conversion.{Conversion};
-ghost use Rattle.tds_rows.specs.Cells.{ChunkLength, Cell, LongShape, SpellsCell, cell_start, return_charset, shape};
-ghost use Rattle.tds_rows.specs.CellSteps.{IsScalarKind, LeavesGathering, LeavesSmall, longest_cell};
+ghost use Rattle.tds_text.specs.Conversion.{Conversion};
+ghost use Rattle.tds_cells.specs.Cells.{ChunkLength, Cell, LongShape, SpellsCell, cell_start, return_charset, shape};
+ghost use Rattle.tds_cells.specs.CellTexts.{IsScalarKind};
+ghost use Rattle.tds_rows.specs.CellSteps.{LeavesGathering, LeavesSmall, longest_cell};
 ghost use Rattle.tds_values.specs.Front.{scalar_size};
 ghost use Rattle.tds_rows.specs.Successes.{ReadsOn};
 ghost use Rattle.tds_values.specs.declared.kind.Kind.{Kind};

@@ -1,25 +1,26 @@
 // A long value that passes through in pieces, by a joiner (MS-TDS, Data Stream Types).
 ghost use Rattle.std.specs.Prelude.{◌≡◌, ◌<◌, ◌+◌, ◌^◌, ◌++◌, ℕ, List, IfOk, [], false, IfErr, None};
-ghost use Rattle.tds_csv.specs.Conversion.{BeginsData, Conversion, Suits, closing, conversion_rest};
-ghost use Rattle.tds_csv.specs.Quoting.{after_comma, end_after};
+ghost use Rattle.tds_text.specs.Conversion.{BeginsData, Conversion, Suits, closing, conversion_rest};
+ghost use Rattle.tds_text.specs.Quoting.{after_comma, end_after};
 ghost use Rattle.tds_csv.specs.Sinks.{IsWriting, LeavesSink, PutsPiece, IsReady};
 ghost use Rattle.tds_rows.specs.Blames.{Blames, failures_of};
 ghost use Rattle.tds_rows.specs.LongCells.{DataTaken, EndPut, PieceTaken, good_of, join_stop, opening};
 ghost use Rattle.tds_rows.specs.LongReading.{AwaitsData, AwaitsValue, BlamesDevices, IsFurther, IsJoining, IsOnSameValue, LeavesBoth, LeavesJoining, LeavesValue, ValuePut};
 ghost use Rattle.tds_packet.specs.Payloads.{IsSound, LeavesPayload};
 ghost use Rattle.tds_meter.specs.Counts.{one_more};
-ghost use Rattle.tds_rows.specs.Cells.{Cell, ChunkLength, LongShape, ShortLength, SpellsCell, long_start};
+ghost use Rattle.tds_cells.specs.Cells.{Cell, ChunkLength, LongShape, ShortLength, SpellsCell, long_start};
 ghost use Rattle.tds_rows.specs.CellSteps.{FieldPut};
 ghost use Rattle.tds_rows.specs.RowSteps.{StopsAgain};
 ghost use Rattle.tds_rows.specs.Successes.{SucceedsOn};
 ghost use Rattle.tds_values.specs.declared.kind.Kind.{Kind};
 
 use crate::cell::lengths::{read_chunk_length, read_short_length, read_total};
-use crate::cell::whole::put_null;
+use crate::cell::null::put_null;
 use crate::reading::earlier_stop;
 use std::io::{Read, Write};
-use tds_csv::{JoinFault, Joiner, Sink, write_comma, write_line_end};
+use tds_csv::{JoinFault, Joiner, Sink};
 use tds_packet::{Fault, Payload, Stop};
+use tds_text::{write_comma, write_line_end};
 use tds_values::Reach;
 
 // The most bytes that a piece is asked for.

@@ -1,5 +1,5 @@
 use Rattle.tds_csv.proofs as N
-use Rattle.tds_csv.specs.Quoting.{end_after}
+use Rattle.tds_text.specs.Quoting.{end_after}
 use N.{◌≡◌, ◌∙◌, ℕ, List, ◌+◌, ◌++◌, ◌≤◌, length, take, ap}
 
 -- the comma, and the field that was written after it

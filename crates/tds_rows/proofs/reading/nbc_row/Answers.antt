@@ -1,6 +1,6 @@
 use Rattle.tds_rows.proofs.reading.nbc_row.Goals as goal
 use Rattle.tds_rows.proofs.Words.{refl, ◌≡◌, rules, row_so_far}
-use Rattle.tds_rows.proofs.RowLaws.{nbc_row_is_read, some_bitmap}
+use Rattle.tds_cells.proofs.RowLaws.{nbc_row_is_read, some_bitmap}
 use Rattle.tds_rows.proofs.Successes.{streaming_succeeds}
 
 pub returns-clause-row : goal.returns-clause-row

@@ -1,6 +1,6 @@
 use Rattle.tds_rows.proofs.reading.nbc_rows_by.Goals as goal
 use Rattle.tds_rows.proofs.Words.{IsInt4, IsLaidOut, ◌≡◌, is_counted, true}
-use Rattle.tds_rows.proofs.LaidOut.{each_all}
+use Rattle.tds_cells.proofs.LaidOut.{each_all}
 
 pub learn-learnt-requires-clause-laid : goal.learn-learnt-requires-clause-laid
 learn-learnt-requires-clause-laid g c = each_all (λ f. IsLaidOut c.args.charset f.kind f.layout) _ _ (c.blank-forms.ensures.laid c.args.charset)

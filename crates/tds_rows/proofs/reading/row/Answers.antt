@@ -1,6 +1,6 @@
 use Rattle.tds_rows.proofs.reading.row.Goals as goal
 use Rattle.tds_rows.proofs.Words.{refl, ◌≡◌, rules, row_so_far}
-use Rattle.tds_rows.proofs.RowLaws.{row_is_read}
+use Rattle.tds_cells.proofs.RowLaws.{row_is_read}
 use Rattle.tds_rows.proofs.Successes.{streaming_succeeds}
 
 pub returns-clause-row : goal.returns-clause-row

@@ -1,8 +1,10 @@
 use Rattle.tds_csv.proofs as N
+use Rattle.tds_text.proofs as T
 use N.joiners.utf16.put_from.Goals as goal
 use N.{◌-◌, ◌≤◌, [], drop, arith}
-use N.Utf16Laws.{joins_utf16}
-use N.JoiningLemmas.{Leads-front, Leads-next, Leads-none, Leads-trans, puts_part, puts_whole}
+use T.Utf16Laws.{joins_utf16}
+use N.PutParts.{puts_part, puts_whole}
+use T.JoiningLemmas.{Leads-front, Leads-next, Leads-none, Leads-trans}
 
 pub loop-at-init : goal.loop-at-init
 loop-at-init g c = record {

@@ -1,7 +1,7 @@
 use Rattle.tds_csv.proofs as N
 use N.joiners.utf16.put_from.Given as goal
 use N.{◌-◌, ◌≤◌, ℕ}
-use Rattle.tds_csv.specs.Utf16 as utf16
+use Rattle.tds_text.specs.Utf16 as utf16
 
 -- the text so far was put
 abbrev pub invariant-loop-at : goal.invariant-loop-at

@@ -1,6 +1,6 @@
 use Rattle.tds_rows.proofs.rows.Rows.nbc_row.Goals as goal
 use Rattle.tds_rows.proofs.Words as N
-use Rattle.tds_rows.proofs.Words.{◌<◌, refl, sym, arith, ◌∙◌, ◌≡◌, ap, ◌++◌}
+use Rattle.tds_rows.proofs.Words.{◌<◌, refl, sym, arith, ◌∙◌, ap, ◌++◌}
 use Rattle.tds_rows.proofs.NextSteps.{next_nears, next_stops, run_near, run_stops, leaves_after, stays_after, stays_on}
 use Rattle.tds_rows.proofs.NullSteps.{all_put, bitmap_cut, bitmap_nears, row_ends}
 

@@ -1,7 +1,8 @@
 use Rattle.tds_rows.proofs.rows.Rows.put_across.Goals as goal
 use Rattle.tds_rows.proofs.Words.{[], arith, Puts-none, Takes-none, add-zero, passed, sym}
 use Rattle.tds_rows.proofs.Paths.{here}
-use Rattle.tds_rows.proofs.TableRuns.{marked_rows, rows_begin, runs_rows}
+use Rattle.tds_rows.proofs.RunPuts.{marked_rows, runs_rows}
+use Rattle.tds_cells.proofs.TableRuns.{rows_begin}
 
 pub returns-in_err-ahead : goal.returns-in_err-ahead
 returns-in_err-ahead g c =

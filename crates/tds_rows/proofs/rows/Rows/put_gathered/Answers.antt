@@ -3,8 +3,8 @@ use Rattle.tds_rows.proofs.Words.{◌∙◌, sym, arith, take_all, passed}
 use Rattle.tds_rows.proofs.BufferedCells.{cell_reads, put_cell as cell_put}
 use Rattle.tds_rows.proofs.CellSteps.{left_stalls}
 use Rattle.tds_rows.proofs.RowSteps.{at_once_stalls}
-use Rattle.tds_rows.proofs.RunSteps.{scalar_left, scalar_whole}
-use Rattle.tds_rows.proofs.TableSteps.{last_one}
+use Rattle.tds_cells.proofs.RunSteps.{scalar_left, scalar_whole}
+use Rattle.tds_cells.proofs.TableSteps.{last_one}
 
 pub returns-in_err-gather_scalar : goal.returns-in_err-gather_scalar
 returns-in_err-gather_scalar g c = record {

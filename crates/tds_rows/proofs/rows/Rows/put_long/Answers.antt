@@ -1,7 +1,7 @@
 use Rattle.tds_rows.proofs.rows.Rows.put_long.Goals as goal
 use Rattle.tds_rows.proofs.Words as N
 use Rattle.tds_rows.proofs.Words.{◌∙◌, ap, sym}
-use Rattle.tds_rows.proofs.TableSteps.{last_one}
+use Rattle.tds_cells.proofs.TableSteps.{last_one}
 
 -- a long value is that of its kind
 pub returns-in-None : goal.returns-in-None

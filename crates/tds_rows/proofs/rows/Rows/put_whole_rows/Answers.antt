@@ -1,6 +1,6 @@
 use Rattle.tds_rows.proofs.rows.Rows.put_whole_rows.Goals as goal
 use Rattle.tds_rows.proofs.Words as N
-use Rattle.tds_rows.proofs.Words.{[], ap, arith, length, refl, sym, take, length-take-le}
+use Rattle.tds_rows.proofs.Words.{[], ap, arith, refl, sym, take, length-take-le}
 use Rattle.tds_rows.proofs.BufferedCells.{kept_text}
 
 pub returns-clause-rows : goal.returns-clause-rows

@@ -3,7 +3,7 @@ use Rattle.tds_rows.proofs.Words as N
 use Rattle.tds_rows.proofs.Words.{◌≡◌, ◌+◌, ◌≤◌}
 use Rattle.tds_rows.proofs.BufferedCells.{kept_text}
 use Rattle.tds_rows.proofs.Paths.{at_of, here}
-use Rattle.tds_rows.proofs.TableRuns.{runs_rows}
+use Rattle.tds_rows.proofs.RunPuts.{runs_rows}
 
 pub returns-clause-rows : goal.returns-clause-rows
 returns-clause-rows g c = λ columns knows ahead.

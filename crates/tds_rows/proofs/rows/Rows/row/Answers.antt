@@ -2,7 +2,7 @@ use Rattle.tds_rows.proofs.rows.Rows.row.Goals as goal
 use Rattle.tds_rows.proofs.Words.{sym, passed}
 use Rattle.tds_rows.proofs.NextSteps.{cell_read, stays, stays_after, stays_on}
 use Rattle.tds_rows.proofs.NullSteps.{cell_reads, cell_stops, row_begins, row_ends}
-use Rattle.tds_rows.proofs.RowSteps.{none_ahead}
+use Rattle.tds_cells.proofs.RowTexts.{none_ahead}
 
 pub loop-form-init : goal.loop-form-init
 loop-form-init g c = record {

@@ -2,7 +2,7 @@ use Rattle.tds_rows.proofs.rows.Rows.row.Given as goal
 use Rattle.tds_rows.proofs.Words as N
 use Rattle.tds_rows.proofs.Words.{◌-◌}
 use Rattle.tds_rows.proofs.NullSteps.{Reads}
-use Rattle.tds_rows.proofs.RowSteps.{coming}
+use Rattle.tds_cells.proofs.RowTexts.{coming}
 use Rattle.tds_rows.proofs.Paths.{here}
 
 abbrev pub invariant-loop-form : goal.invariant-loop-form

@@ -2,7 +2,7 @@ use Rattle.tds_csv.proofs as N
 use N.joiners.utf8.Utf8Joiner.take_text.Goals as goal
 use N.{◌≡◌, ◌∙◌, ◌-◌, []}
 use N.Utf8Pushing.{rest_begins}
-use Rattle.tds_csv.specs.Utf8.{Begins, rest, text}
+use Rattle.tds_text.specs.Utf8.{Begins, rest, text}
 
 pub returns-then-scan-bytes : goal.returns-then-scan-bytes
 returns-then-scan-bytes g c =

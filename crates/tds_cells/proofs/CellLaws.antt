@@ -1,0 +1,136 @@
+-- What a cell's spelling is read as.
+use Rattle.tds_cells.proofs.Words as N
+use Rattle.tds_cells.proofs.Words.{◌≡◌, ◌⊎◌, ℕ, ◌+◌, ◌-◌, ◌/◌, ◌%◌, ◌<◌, ◌≤◌, true, List, [], ◌∷◌, ◌++◌, length, refl, ◌∙◌, ap, arith, Ok, Option, Some, ◌==◌}
+use Rattle.tds_cells.proofs.Words.{◌||◌, if◌then◌else◌, concat, Kind, little, Conversion, unit, is_fit, Spelt, Spelt-step, Spelt-append, Null, DataCell, Total}
+use Rattle.tds_cells.proofs.Words.{WholeCell, cell}
+
+-- a fixed shape has bytes
+abbrev pub HasBytes : N.Shape → Type 0
+HasBytes (N.FixedShape n) = 0 < n
+HasBytes s = Unit {0}
+
+pub unless_true : {b : N.Bool} (f : N.Fault) → b ≡ true → N.unless b f ≡ N.None
+unless_true f h = rw h
+
+is_known : {n : ℕ} → n < N.unknown_total → N.known_total n ≡ Some n
+is_known h = grind arith
+
+within_known : {t n : ℕ} → n ≤ t → N.within_total (Some t) n ≡ true
+within_known h = grind arith
+
+is_total_known : (t : ℕ) → N.is_total (Some t) t ≡ true
+is_total_known t = grind arith
+
+module _ (column : ℕ) where
+  fixed_cell : {kind : Kind} {n : ℕ} (v : N.ScalarValue) {bytes : List ℕ} → 0 < n → length bytes ≡ n → N.read_of kind bytes ≡ Ok v
+      → Spelt (cell column) (N.ScalarBytes kind n) bytes (WholeCell (N.ScalarCell v))
+  fixed_cell v {bytes} some l h = Spelt-step _ _ bytes _ (omega arith) l (grind arith) (ap N.value_part h)
+
+  counted_cell : {kind : Kind} {v : N.ScalarValue} {value : List ℕ} → 0 < length value → N.is_length_allowed kind (length value) ≡ true
+      → N.read_of kind value ≡ Ok v → Spelt (cell column) (N.ScalarLength kind) (length value ∷ value) (WholeCell (N.ScalarCell v))
+  counted_cell {v} {value} some allowed h =
+      let head : Spelt _ _ (length value ∷ []) _ =
+      Spelt-step _ _ _ _ (omega arith) refl (grind arith)
+      (grind arith) in
+      Spelt-append _ _ _ _ _ _ head (fixed_cell v some refl h)
+
+  short_data : (c : Conversion) (d : List ℕ) (x : ℕ) (xs : List ℕ) → is_fit c (d ++ x ∷ xs) ≡ true
+      → Spelt (cell column) (N.ShortData c (length xs) d) (x ∷ xs) (WholeCell (DataCell c (d ++ x ∷ xs)))
+  short_data c d x [] h = Spelt-step _ _ _ _ (omega arith) refl
+      (unless_true _ (N.and_from _ _ (N.fit_begins c _ [] (ap (is_fit c) (N.append-nil _) ∙ h)) h)) refl
+  short_data c d x (y ∷ ys) h =
+      let left = N.or_left _ _ (N.test_lt 0 (N.suc (length ys)) (omega arith)) in
+      let k : is_fit c _ ≡ true = rw N.append_assoc h in
+      let one = Spelt-step _ _ _ _ (omega arith) refl
+      (unless_true _ (N.and_from _ _ (N.fit_begins c _ _ k) left)) (search N.rules) in
+      Spelt-append _ _ _ _ _ _ one
+      (rw N.append_assoc at (short_data c (d ++ x ∷ []) y ys k))
+
+  short_length : (c : Conversion) (n : ℕ) → n < 65535 → n % unit c ≡ 0
+      → Spelt (cell column) (N.ShortLength c) (n % 256 ∷ n / 256 ∷ []) (if n == 0 then WholeCell (DataCell c []) else N.ShortData c (n - 1) [])
+  short_length c n less even =
+      let l = N.little-two n in
+      Spelt-step _ _ _ _ (omega arith) refl (grind arith)
+      (grind arith)
+
+  short_cell : (c : Conversion) (d bytes : List ℕ) → is_fit c d ≡ true → N.SpellsShort d bytes
+      → Spelt (cell column) (N.ShortLength c) bytes (WholeCell (DataCell c d))
+  short_cell c [] bytes h s = rw s.counted (short_length c 0 (omega arith) (grind arith))
+  short_cell c (x ∷ xs) _ h s =
+      let to = N.choose_false _ _ _ (N.ne_eqb (length (x ∷ xs)) 0 (λ q. omega arith)) ∙ ap (λ k. N.ShortData c k []) (omega arith) in
+      let head = N.subst (λ v. Spelt (cell column) (N.ShortLength c) (length (x ∷ xs) % 256 ∷ length (x ∷ xs) / 256 ∷ []) v) to
+      (short_length c _ s.least (N.fit_units c _ h)) in
+      rw s.counted (Spelt-append _ _ _ _ _ _ head (short_data c [] x xs h))
+
+  chunk_data : (c : Conversion) (total : Option ℕ) (d : List ℕ) (x : ℕ) (xs more : List ℕ) → is_fit c ((d ++ x ∷ xs) ++ more) ≡ true
+      → Spelt (cell column) (N.ChunkData c total (length xs) d) (x ∷ xs) (N.ChunkLength c total (d ++ x ∷ xs))
+  chunk_data c _ d x [] more h = Spelt-step _ _ _ _ (omega arith) refl (unless_true _ (N.fit_begins c _ _ h)) refl
+  chunk_data c total d x (y ∷ ys) more h =
+      let k = ap (λ v. is_fit c (v ++ more)) (N.append_assoc d _ _) ∙ h in
+      let begun = N.fit_begins c _ _ (ap (is_fit c) (N.sym (N.append_assoc (d ++ x ∷ []) _ more)) ∙ k) in
+      Spelt-append _ _ _ _ _ _ (Spelt-step _ _ _ _ (omega arith) refl (unless_true _ begun) (search N.rules))
+      (rw N.append_assoc at (chunk_data c total (d ++ x ∷ []) y ys more k))
+
+  chunk_cell : (c : Conversion) (total : Option ℕ) (d content bytes more : List ℕ) → is_fit c ((d ++ content) ++ more) ≡ true
+      → N.within_total total (length d + length content) ≡ true → N.SpellsChunk content bytes
+      → Spelt (cell column) (N.ChunkLength c total d) bytes (N.ChunkLength c total (d ++ content))
+  chunk_cell c _ d [] bytes more f w s = grind arith
+  chunk_cell c total d (x ∷ xs) _ _ f w s =
+      let n = s.counted in
+      let head : Spelt _ (N.ChunkLength c total d) s.header (N.ChunkData c total _ d) =
+      Spelt-step _ _ _ _ (omega arith) s.four
+      (grind arith) (rw n (search N.rules)) in
+      rw (N.sym s.spelt) at (Spelt-append _ _ _ _ _ _ head (chunk_data c _ d x _ _ f))
+
+  chunks_cell : (c : Conversion) (total : Option ℕ) (d : List ℕ) (ds : List (List ℕ)) (bytes : List ℕ)
+      → ((n : ℕ) → n ≤ length (d ++ concat ds) → N.within_total total n ≡ true) → N.is_total total (length (d ++ concat ds)) ≡ true
+      → is_fit c (d ++ concat ds) ≡ true → N.SpellsChunks ds bytes
+      → Spelt (cell column) (N.ChunkLength c total d) bytes (WholeCell (DataCell c (d ++ concat ds)))
+  chunks_cell c _ d [] bytes w t f s =
+      let fit = rw N.append-nil at f in
+      let end =
+      N.choose_true _ _ _ (rw N.append-nil at t)
+      ∙ N.choose_true _ _ _ (ap (λ n. n == 0) (N.fit_units c d fit)) ∙ unless_true _ fit in
+      rw (s, N.append-nil) (Spelt-step _ _ _ _ (omega arith) refl end refl)
+  chunks_cell c total d (x ∷ xs) _ w t f s =
+      let a = N.append_assoc d x (concat xs) in
+      let l : length (d ++ (x ++ concat xs)) ≡ length d + (length x + length (concat xs)) = rw N.length-append (rw N.length-append) in
+      let one = chunk_cell c total d x s.0 (concat xs) (rw a f) (w _ (omega arith)) s.3 in
+      let more = rw a at (chunks_cell c total (d ++ x) xs s.1 (rw a w) (rw a t) (rw a f) s.4) in
+      rw s.2 (Spelt-append _ _ s.0 _ s.1 _ one more)
+
+  total_cell : (c : Conversion) (total : List ℕ) → length total ≡ 8 → little total < N.null_total
+      → (N.nat_le N.unknown_total (little total) || (little total % unit c == 0)) ≡ true
+      → Spelt (cell column) (Total c) total (N.ChunkLength c (N.known_total (little total)) [])
+  total_cell c total eight less even = Spelt-step _ _ _ _ (omega arith) eight
+      (unless_true _ even) (grind arith)
+
+  chunked_cell : {c : Conversion} {d bytes : List ℕ} → is_fit c d ≡ true → N.SpellsChunked d bytes
+      → Spelt (cell column) (Total c) bytes (WholeCell (DataCell c d))
+  chunked_cell {c} {d} f s = rw s.spelt (go s.known)
+    where
+      from : (t : Option ℕ) → N.known_total (little s.total) ≡ t → little s.total < N.null_total
+          → (N.nat_le N.unknown_total (little s.total) || (little s.total % unit c == 0)) ≡ true → ((n : ℕ) → n ≤ length d → N.within_total t n ≡ true)
+          → N.is_total t (length d) ≡ true → Spelt (cell column) (Total c) (s.total ++ s.rest) (WholeCell (DataCell c d))
+      from t known less even within whole =
+          let more = rw s.all at (chunks_cell c t [] s.chunks s.rest (rw s.all within) (rw s.all whole) (rw s.all f) s.each) in
+          Spelt-append _ _ s.total _ s.rest _ (rw known at (total_cell c s.total s.eight less even)) more
+
+      go : (little s.total ≡ N.unknown_total) ⊎ ((little s.total ≡ length d) × (length d < N.unknown_total))
+          → Spelt (cell column) (Total c) (s.total ++ s.rest) (WholeCell (DataCell c d))
+      go (N.inl u) = from N.None (ap N.known_total u) (omega arith) (rw u) (λ n h. refl) refl
+      go (N.inr k) =
+          let even = ap (λ n. n % unit c == 0) k.0 ∙ ap (λ n. n == 0) (N.fit_units c d f) in
+          from _ (ap N.known_total k.0 ∙ is_known k.1) (omega arith) (N.or_right _ _ even) (λ _ k. within_known k) (is_total_known _)
+
+  -- What spells a cell is read as that cell.
+  pub cell_is_read : (kind : Kind) (sh : N.Shape) (x : N.Cell) (bytes : List ℕ) → HasBytes sh → N.SpellsCell kind sh x bytes
+      → Spelt (cell column) (N.cell_start kind sh) bytes (WholeCell x)
+  cell_is_read _ (N.FixedShape n) (N.ScalarCell v) _ some h = grind (arith, fixed_cell)
+  cell_is_read _ N.CountedShape Null _ _ h = rw h (Spelt-step _ _ _ _ (omega arith) refl refl refl)
+  cell_is_read _ N.CountedShape (N.ScalarCell v) _ _ h = grind (arith, counted_cell)
+  cell_is_read _ (N.LongShape c N.Short) Null _ _ h = rw h (Spelt-step _ _ _ _ (omega arith) refl refl refl)
+  cell_is_read _ (N.LongShape c N.Short) (DataCell c' d) _ _ h = grind (arith, short_cell)
+  cell_is_read _ (N.LongShape c N.Chunked) Null _ _ h = rw h (Spelt-step _ _ _ _ (omega arith) refl refl refl)
+  cell_is_read _ (N.LongShape c N.Chunked) (DataCell c' d) _ _ h = grind (arith, chunked_cell)
+  cell_is_read _ _ x _ _ h = absurd h

@@ -1,0 +1,173 @@
+-- What the bytes that lead to a part of a cell spell.
+use Rattle.tds_cells.proofs.Words as N
+use Rattle.tds_cells.proofs.Words.{◌≡◌, ℕ, ◌+◌, ◌/◌, ◌%◌, ◌^◌, ◌<◌, true, List, [], ◌∷◌, ◌++◌, length, refl, ◌∙◌, ap, append_assoc, arith, Ok, Option, None}
+use Rattle.tds_cells.proofs.Words.{◌&&◌, ◌||◌, if◌then◌else◌, Kind, Short, Chunked, little, AreBytes, Shape, LongShape, cell_add}
+
+-- a test that gave no fault passed
+pub unless_none : (b : N.Bool) (f : N.Fault) → N.unless b f ≡ None → b ≡ true
+unless_none b f h = grind arith
+
+eight_below : (e : List ℕ) → length e ≡ 8 → AreBytes e → little e < 2 ^ 64
+eight_below e l k = grind (arith, N.common_steps)
+
+pub eight_ones : (e : List ℕ) → length e ≡ 8 → AreBytes e → little e ≡ N.null_total → e ≡ N.replicate 8 255
+eight_ones (a ∷ b ∷ c ∷ d ∷ e ∷ f ∷ g ∷ h ∷ []) l k n = grind arith
+eight_ones e l k n = cc
+
+-- chunks so far, without the terminator
+abbrev pub BeginsChunks : List (List ℕ) → List ℕ → Type 0
+BeginsChunks [] bytes = bytes ≡ []
+BeginsChunks (d ∷ ds) bytes = (front : List ℕ) × (rest : List ℕ) × (bytes ≡ front ++ rest) × N.SpellsChunk d front × BeginsChunks ds rest
+
+more_chunks : (ds : List (List ℕ)) (bytes d front : List ℕ) → BeginsChunks ds bytes → N.SpellsChunk d front
+    → BeginsChunks (ds ++ d ∷ []) (bytes ++ front)
+more_chunks [] bytes d front h s = search N.rules
+more_chunks (x ∷ ds) _ d front h s = (
+  h.0,
+  h.1 ++ front,
+  ap (λ v. v ++ front) h.2 ∙ append_assoc h.0 h.1 front,
+  h.3,
+  more_chunks ds h.1 d front h.4 s,
+)
+
+end_chunks : (ds : List (List ℕ)) (bytes : List ℕ) → BeginsChunks ds bytes → N.SpellsChunks ds (bytes ++ 0 ∷ 0 ∷ 0 ∷ 0 ∷ [])
+end_chunks [] bytes h = cc
+end_chunks (x ∷ ds) _ h = (
+  h.0,
+  h.1 ++ 0 ∷ 0 ∷ 0 ∷ 0 ∷ [],
+  ap (λ v. v ++ 0 ∷ 0 ∷ 0 ∷ 0 ∷ []) h.2 ∙ append_assoc h.0 h.1 _,
+  h.3,
+  end_chunks ds h.1 h.4,
+)
+
+pub record ChunksMean (total : Option ℕ) (content bytes : List ℕ) : Type 0 where
+  pub first : List ℕ
+  pub chunks : List (List ℕ)
+  pub rest : List ℕ
+  pub spelt : bytes ≡ first ++ rest
+  pub eight : length first ≡ 8
+  pub total_is : total ≡ N.known_total (little first)
+  pub below : little first < N.null_total
+  pub begun : BeginsChunks chunks rest
+  pub all : N.concat chunks ≡ content
+
+pub record ChunkMeans (total : Option ℕ) (left : ℕ) (content bytes : List ℕ) : Type 0 where
+  pub before : List ℕ
+  pub whole : List ℕ
+  pub chunks : ChunksMean total before whole
+  pub header : List ℕ
+  pub part : List ℕ
+  pub spelt : bytes ≡ whole ++ (header ++ part)
+  pub four : length header ≡ 4
+  pub counted : little header ≡ length part + (left + 1)
+  pub all : content ≡ before ++ part
+
+-- what the bytes that lead to a part of a cell of this kind and shape spell
+abbrev pub CellMeans : Kind → Shape → N.CellPart → List ℕ → Type 0
+CellMeans kind sh (N.WholeCell x) b = N.SpellsCell kind sh x b
+CellMeans kind (N.FixedShape n) (N.ScalarBytes k m) b = (k ≡ kind) × (m ≡ n) × (b ≡ [])
+CellMeans kind N.CountedShape (N.ScalarLength k) b = (k ≡ kind) × (b ≡ [])
+CellMeans kind N.CountedShape (N.ScalarBytes k m) b = (k ≡ kind) × (b ≡ m ∷ []) × (0 < m) × (N.is_length_allowed kind m ≡ true)
+CellMeans kind (LongShape c Short) (N.ShortLength c') b = (c' ≡ c) × (b ≡ [])
+CellMeans kind (LongShape c Short) (N.ShortData c' left d) b = (c' ≡ c) × (n : ℕ) × (n ≡ length d + (left + 1)) × (n < 65535)
+    × (b ≡ (n % 256 ∷ n / 256 ∷ []) ++ d)
+CellMeans kind (LongShape c Chunked) (N.Total c') b = (c' ≡ c) × (b ≡ [])
+CellMeans kind (LongShape c Chunked) (N.ChunkLength c' total d) b = (c' ≡ c) × ChunksMean total d b
+CellMeans kind (LongShape c Chunked) (N.ChunkData c' total left d) b = (c' ≡ c) × ChunkMeans total left d b
+CellMeans kind sh part b = ⊥
+
+pub is_ok_value : {r : N.Result N.ScalarValue N.ValueFault} → N.is_ok r ≡ true → (v : N.ScalarValue) × (r ≡ Ok v)
+is_ok_value h = grind arith
+
+-- a test that gave no fault passed, and nor did what follows it
+pub guard_none : {b : N.Bool} {o : Option N.Fault} (f : N.Fault) → (if b then o else N.Some f) ≡ None → (b ≡ true) × (o ≡ None)
+guard_none f h = grind arith
+
+module _ (column : ℕ) (kind : Kind) where
+  value_means : (sh : Shape) (e b : List ℕ) → N.is_ok (N.read_of kind e) ≡ true
+      → ((v : N.ScalarValue) → N.read_of kind e ≡ Ok v → N.SpellsCell kind sh (N.ScalarCell v) b) → CellMeans kind sh (N.value_part (N.read_of kind e)) b
+  value_means _ e b h k = grind arith
+
+  short_means : (c : N.Conversion) {n : ℕ} (left : ℕ) {d b : List ℕ} (x : ℕ) → n ≡ length d + (left + 1) → n < 65535
+      → b ≡ (n % 256 ∷ n / 256 ∷ []) ++ d → (N.is_begun c (d ++ x ∷ []) && (N.nat_lt 0 left || N.is_fit c (d ++ x ∷ []))) ≡ true
+      → CellMeans kind (LongShape c Short) (cell_add (N.ShortData c left d) (x ∷ [])) (b ++ x ∷ [])
+  short_means c _ x count less is free = grind (arith, N.length-append)
+
+  chunk_means : (c : N.Conversion) (total : Option ℕ) (d b e : List ℕ) → length e ≡ 4 → ChunksMean total d b
+      → N.chunk_fault column c total d (little e) ≡ None → CellMeans kind (LongShape c Chunked) (cell_add (N.ChunkLength c total d) e) (b ++ e)
+  chunk_means c total d b e four m free =
+      N.choose (λ p. CellMeans kind (LongShape c Chunked) p (b ++ e)) _ _ _ (λ z.
+      let end = N.sym (ap (λ t. (if t then N.end_of_chunks column c total d else N.unless (N.within_total total (length d + little e)) (N.PlpLength column))) z)
+      ∙ free in
+      let e0 : e ≡ 0 ∷ 0 ∷ 0 ∷ 0 ∷ [] = grind (arith, N.common_steps) in (
+        refl,
+        unless_none _ _ (guard_none _ (guard_none _ end).1).1,
+        record {
+          total = m.first;
+          rest = m.rest ++ e;
+          chunks = m.chunks;
+          spelt = ap (λ v. v ++ e) m.spelt
+              ∙ append_assoc m.first m.rest e;
+          eight = m.eight;
+          known = grind arith;
+          each = rw e0 (end_chunks _ _ m.begun);
+          all = m.all;
+        },
+      ))
+      (λ z.
+      let some = N.eq_false _ 0 z in (
+        refl,
+        record {
+          before = d;
+          whole = b;
+          chunks = m;
+          header = e;
+          part = [];
+          spelt = search N.rules;
+          four = four;
+          counted = omega arith;
+          all = search N.rules;
+        },
+      ))
+
+  data_means : (c : N.Conversion) (total : Option ℕ) (left : ℕ) (d b : List ℕ) (x : ℕ) → ChunkMeans total left d b
+      → CellMeans kind (LongShape c Chunked) (cell_add (N.ChunkData c total left d) (x ∷ [])) (b ++ x ∷ [])
+  data_means c _ left d b x m =
+      let la = N.length-append m.part (x ∷ []) in
+      let spelt = ap (λ v. v ++ x ∷ []) m.spelt ∙ append_assoc m.whole _ _ ∙ ap (λ v. m.whole ++ v) (append_assoc m.header m.part _) in
+      let all = ap (λ v. v ++ x ∷ []) m.all ∙ append_assoc m.before m.part _ in
+      N.choose (λ p. CellMeans kind (LongShape c Chunked) p (b ++ x ∷ [])) _ _ _ (λ z.
+      let one : N.SpellsChunk _ _ = grind arith in (
+        refl,
+        record {
+          first = m.chunks.first;
+          chunks = m.chunks.chunks ++ _ ∷ [];
+          rest = m.chunks.rest ++ _;
+          spelt = spelt ∙ ap (λ v. v ++ (m.header ++ (m.part ++ x ∷ []))) m.chunks.spelt ∙ append_assoc m.chunks.first _ _;
+          eight = cc;
+          total_is = cc;
+          below = omega arith;
+          begun = more_chunks _ _ _ _ m.chunks.begun one;
+          all = N.concat-append m.chunks.chunks _ ∙ ap (λ v. v ++ N.concat ((m.part ++ x ∷ []) ∷ [])) m.chunks.all
+              ∙ ap (λ v. m.before ++ v) (N.append-nil _) ∙ N.sym all;
+        },
+      )) (λ z. let some = N.eq_false left 0 z in (grind arith))
+
+  short_length_means : (c : N.Conversion) (e : List ℕ) → length e ≡ 2 → AreBytes e → CellMeans kind (LongShape c Short) (cell_add (N.ShortLength c) e) e
+  short_length_means c e two bytes = grind (arith, N.no_data_is_fit, N.two_bytes)
+
+  total_means : (c : N.Conversion) (e : List ℕ) → length e ≡ 8 → AreBytes e → CellMeans kind (LongShape c Chunked) (cell_add (N.Total c) e) e
+  total_means c e eight bytes = grind (arith, N.append-nil, eight_below, eight_ones)
+
+  pub cell_step : (sh : Shape) (p : N.CellPart) (b e : List ℕ) → AreBytes e → CellMeans kind sh p b → N.IsNext (N.cell column) p e
+      → CellMeans kind sh (cell_add p e) (b ++ e)
+  cell_step _ p b e bytes h n = grind (arith, N.one_byte, chunk_means, data_means, short_length_means, short_means, total_means, unless_none, value_means)
+
+pub start_means : (kind : Kind) (sh : Shape) → CellMeans kind sh (N.cell_start kind sh) []
+start_means _ _ = grind arith
+
+pub cell_is_spelt : {x : N.Cell} {bytes : List ℕ} {column : ℕ} (kind : Kind) (sh : Shape) → AreBytes bytes
+    → N.Spelt (N.cell column) (N.cell_start kind sh) bytes (N.WholeCell x) → N.SpellsCell kind sh x bytes
+cell_is_spelt kind sh are h = N.Spelt-induct _ (λ p b. AreBytes b
+    → CellMeans kind sh p b) (λ p b e m n all. cell_step _ _ _ p b e (N.AreBytes-back b e all) (m (N.AreBytes-front b e all)) n) _ (λ _. start_means _ _)
+    _ _ h are

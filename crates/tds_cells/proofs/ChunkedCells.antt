@@ -1,0 +1,101 @@
+-- Cells of values in one chunk at most whose bytes lie together.
+use Rattle.byteorder.specs.Endian.{little_number}
+use Rattle.tds_cells.proofs.Words as N
+use Rattle.tds_cells.proofs.Words.{◌≡◌, ◌∙◌, ◌==◌, ◌-◌, ℕ, ◌+◌, ◌<◌, ◌≤◌, [], ◌∷◌, ◌++◌, List, length, take, drop, zero, suc, refl, sym, ap, arith, little}
+use Rattle.tds_cells.proofs.Words.{common_steps, slice_index, SpellsChunk, SpellsChunked, chunk_data, chunk_end, HasOneChunk, AreBytes}
+use Rattle.tds_cells.proofs.CellLaws.{cell_is_read}
+use Rattle.tds_cells.proofs.CellMeaning.{eight_ones}
+
+-- the number in some bytes within others
+four_at : (k : ℕ) (bytes : List ℕ) → k + 4 ≤ length bytes
+    → (length (take 4 (drop k bytes)) ≡ 4) × (little (take 4 (drop k bytes)) ≡ little_number 4 (drop k bytes))
+four_at k bytes within = grind (arith, common_steps)
+
+eight_at_front : (bytes : List ℕ) → 8 ≤ length bytes → (length (take 8 bytes) ≡ 8) × (little (take 8 bytes) ≡ little_number 8 bytes)
+eight_at_front bytes within = grind (arith, common_steps)
+
+-- the terminator
+zeros_at : (k : ℕ) (bytes : List ℕ) → k + 4 ≤ length bytes → little_number 4 (drop k bytes) ≡ 0 → take 4 (drop k bytes) ≡ 0 ∷ 0 ∷ 0 ∷ 0 ∷ []
+zeros_at k bytes within none = grind (arith, common_steps)
+
+bytes_are : (n : ℕ) (bytes : List ℕ) → ((i : ℕ) → slice_index bytes i < 256) → AreBytes (take n bytes)
+bytes_are zero bytes low = tt
+bytes_are (suc n) [] low = tt
+bytes_are (suc n) (x ∷ xs) low = (low 0, bytes_are n xs (λ i. low (suc i)))
+
+module _ (bytes : List ℕ) where
+  -- the total alone
+  no_chunk : HasOneChunk bytes 0 → SpellsChunked [] (take 12 bytes)
+  no_chunk x =
+      let total = eight_at_front bytes (omega (arith, x.within)) in
+      record {
+        total = take 8 bytes;
+        rest = take 4 (drop 8 bytes);
+        chunks = [];
+        spelt = N.take-add 8 4 bytes;
+        eight = total.0;
+        known = grind arith;
+        each = zeros_at 8 bytes (omega (arith, x.within)) (sym x.counted);
+        all = refl;
+      }
+
+  -- the chunk's length, its data and the terminator
+  parts : (n : ℕ) → take ((4 + n) + 4) (drop 8 bytes) ≡ (take 4 (drop 8 bytes) ++ chunk_data n bytes) ++ take 4 (drop (12 + n) bytes)
+  parts n =
+      let content = N.take-add 4 n (drop 8 bytes) ∙ ap (λ r. take 4 (drop 8 bytes) ++ take n r) (N.drop-drop 4 8 bytes) in
+      let end : drop (4 + n) (drop 8 bytes) ≡ drop (12 + n) bytes = N.drop-drop (4 + n) 8 bytes ∙ ap (λ (k : ℕ). drop k bytes) (omega arith) in
+      N.take-add (4 + n) 4 (drop 8 bytes) ∙ ap (λ r. r ++ take 4 (drop (4 + n) (drop 8 bytes))) content
+      ∙ ap (λ r. (take 4 (drop 8 bytes) ++ chunk_data n bytes) ++ take 4 r) end
+
+  one_chunk : (n : ℕ) → 0 < n → HasOneChunk bytes n → SpellsChunked (chunk_data n bytes) (take (16 + n) bytes)
+  one_chunk n some x =
+      let within : 16 + n ≤ length bytes = grind arith in
+      let total = eight_at_front bytes (omega (arith, within)) in
+      let header = four_at 8 bytes (omega (arith, within)) in
+      let d = chunk_data n bytes in
+      let counted : length d ≡ n = N.length-take-le n (drop 12 bytes) (omega (arith, within, N.length-drop 12 bytes)) in
+      let chunk : SpellsChunk d (take 4 (drop 8 bytes) ++ d) = record {
+        header = take 4 (drop 8 bytes);
+        spelt = refl;
+        four = header.0;
+        counted = header.1 ∙ sym x.counted ∙ sym counted;
+        some = omega (arith, counted);
+      } in
+      record {
+        total = take 8 bytes;
+        rest = take 4 (drop 8 bytes) ++ d ++ take 4 (drop (12 + n) bytes);
+        chunks = d ∷ [];
+        spelt = ap (λ k. take k bytes) (omega arith) ∙ N.take-add 8 ((4 + n) + 4) bytes ∙ ap (λ r. take 8 bytes ++ r) (parts n);
+        eight = total.0;
+        known = grind arith;
+        each = (
+          take 4 (drop 8 bytes) ++ d,
+          take 4 (drop (12 + n) bytes),
+          refl,
+          chunk,
+          zeros_at (12 + n) bytes (omega (arith, within)) (x.ended some),
+        );
+        all = N.append-nil d;
+      }
+
+  -- one chunk whose total agrees, with the terminator, spells its data
+  chunk_spells : (n : ℕ) → HasOneChunk bytes n → SpellsChunked (chunk_data n bytes) (take (chunk_end n) bytes)
+  chunk_spells n x = N.choose (λ k. SpellsChunked (chunk_data n bytes) (take k bytes)) (n == 0) 12 (16 + n)
+      (λ z. let none = N.eq_true n 0 z in rw none (no_chunk (rw none at x)))
+      (λ z. one_chunk n (omega (arith, N.eq_false n 0 z)) x)
+
+module _ (column : ℕ) (c : N.Conversion) (last : N.Bool) (bytes text : List ℕ) where
+  pub chunked_null : ((i : ℕ) → slice_index bytes i < 256) → 8 ≤ length bytes → N.stated_total bytes ≡ N.null_total
+      → text ≡ N.in_line column last N.null_field → N.WritesWhole (N.Total c) column last (take 8 bytes) text
+  chunked_null low within all is =
+      let total = eight_at_front bytes within in
+      let ones = eight_ones (take 8 bytes) total.0 (bytes_are 8 bytes low) (total.1 ∙ all) in
+      record { value = N.Null; spelt = cell_is_read column (N.Wide N.Chunked) (N.LongShape c N.Chunked) N.Null _ tt ones; text_is = is }
+
+  pub chunked_value : (n : ℕ) → HasOneChunk bytes n → N.is_fit c (chunk_data n bytes) ≡ N.true
+      → text ≡ N.in_line column last (N.long_field c (chunk_data n bytes)) → N.WritesWhole (N.Total c) column last (take (chunk_end n) bytes) text
+  chunked_value n x fit is = record {
+    value = N.DataCell c (chunk_data n bytes);
+    spelt = cell_is_read column (N.Wide N.Chunked) (N.LongShape c N.Chunked) _ _ tt (refl, fit, chunk_spells bytes n x);
+    text_is = is;
+  }

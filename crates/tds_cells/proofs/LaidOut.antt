@@ -1,0 +1,59 @@
+-- Cells by how their values are laid out.
+use Rattle.tds_cells.proofs.Words as N
+use Rattle.tds_cells.proofs.Words.{◌&&◌, ◌≡◌, ℕ, ◌<◌, true, List, length, arith, Kind, Form, Layout, Each}
+use Rattle.tds_cells.specs.declared.layout.Layout.TheVariants.{Chunked, Counted, Fixed, Short as ShortLayout}
+
+pub each_all : (P : Form → Type 0) (n : ℕ) (f : Form) → P f → Each P (N.replicate n f)
+each_all P n f is k d here = grind (arith, N.get_or-replicate, N.length-replicate)
+
+pub each_set : (P : Form → Type 0) (forms : List Form) (k : ℕ) (f : Form) → Each P forms → k < length forms → P f → Each P (N.slice_set forms k f)
+each_set P _ k f all _ is j d here = search N.rules
+
+-- one more form of kinds of which something is said, or a form of another kind
+pub kind_set : (of : Kind → N.Bool) (forms : List Form) (k : ℕ) (f : Form) (all one : N.Bool) → (all ≡ true → Each (λ g. of g.kind ≡ true) forms)
+    → k < length forms → one ≡ of f.kind → (all && one) ≡ true → Each (λ g. of g.kind ≡ true) (N.slice_set forms k f)
+kind_set of forms k f true true before within is _ = each_set (λ g. of g.kind ≡ true) forms k f (before N.refl) within (N.sym is)
+kind_set _ _ k f true N.false _ _ _ both = cc
+kind_set _ _ k f N.false _ _ _ _ both = cc
+
+-- ---- a value that is there
+
+-- The value of a cell that is laid out so is there in these bytes, and has this many: at once, or after a length of one byte.
+abbrev pub HasValueAt : Layout → List ℕ → ℕ → ℕ → Type 0
+HasValueAt (Fixed k) bytes start n = (start ≡ 0) × (n ≡ k)
+HasValueAt Counted bytes start n = (start ≡ 1) × (n ≡ N.slice_index bytes 0)
+HasValueAt layout bytes start n = ⊥
+
+pub fixed_there : {l : Layout} (bytes : List ℕ) {start : ℕ × ℕ} {n : ℕ} → l ≡ Fixed n → start ≡ (0, n) → HasValueAt l bytes start.0 start.1
+fixed_there _ is there = grind arith
+
+-- after a length of one byte
+pub counted_there : {l : Layout} (bytes : List ℕ) {start : ℕ × ℕ} → l ≡ Counted → start ≡ (1, N.slice_index bytes 0)
+    → HasValueAt l bytes start.0 start.1
+counted_there _ is there = grind arith
+
+module _ (charset : N.Charset) (kind : Kind) where
+  -- it is that of a scalar kind
+  pub value_there : (l : Layout) (bytes : List ℕ) (start n : ℕ) → N.IsLaidOut charset kind l → HasValueAt l bytes start n → (N.is_scalar kind ≡ true)
+      × ((start ≡ N.value_start kind) × (n ≡ N.value_length kind bytes))
+  value_there l _ _ n laid h = grind arith
+
+  -- ---- a cell that is left, and a short value
+
+  -- how many bytes its cell has
+  pub short_whole : (content : N.Content) (bytes : List ℕ) → N.IsLaidOut charset kind (ShortLayout content) → N.short_size bytes ≡ N.whole_size kind bytes
+  short_whole _ _ laid = grind arith
+
+  pub chunked_whole : (content : N.Content) (bytes : List ℕ) → N.IsLaidOut charset kind (Chunked content)
+      → N.chunked_size bytes ≡ N.whole_size kind bytes
+  chunked_whole _ _ laid = grind arith
+
+-- where there are no bytes, a cell is left
+pub empty_left : (charset : N.Charset) (kind : Kind) (l : Layout) (bytes : List ℕ) (room : ℕ) → N.IsLaidOut charset kind l
+    → ((content : N.Content) → l ≡ ShortLayout content → ⊥) → length bytes ≡ 0 → N.IsLeft charset kind bytes room
+empty_left _ _ (Fixed n) _ _ _ _ none =
+    grind arith
+empty_left _ _ Counted _ _ _ _ none =
+    grind arith
+empty_left _ _ (ShortLayout content) _ _ _ _ none = grind arith
+empty_left _ _ (Chunked content) _ room laid other none = grind arith

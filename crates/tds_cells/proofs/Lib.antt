@@ -1,0 +1,19 @@
+pub mod Words
+pub mod CellLaws
+pub mod RowLaws
+pub mod CellMeaning
+pub mod RowMeaning
+pub mod RowTexts
+pub mod GrammarTexts
+pub mod GrowingTexts
+pub mod ValueCells
+pub mod LaidOut
+pub mod FormSteps
+pub mod TableRuns
+pub mod TableSteps
+pub mod RunSteps
+mod Bits
+mod ShortCells
+mod ChunkedCells
+pub mod NbcRuns
+mod NullRuns

@@ -1,0 +1,69 @@
+-- NULLs by their bits, in columns after one another.
+use Rattle.tds_cells.proofs.Words as N
+use Rattle.tds_cells.proofs.Words.{◌≡◌, ◌∙◌, ◌==◌, ℕ, ◌+◌, ◌*◌, ◌-◌, ◌≤◌, ◌<◌, Bool, List, [], ◌++◌, zero, suc, length, take, drop, refl, sym, ap, arith}
+use Rattle.tds_cells.proofs.Words.{AreSet, WritesNulls, Column, Charset}
+use Rattle.tds_cells.proofs.TableSteps.{last_one}
+
+-- a column that is NULL by its bit
+null_column : (charset : Charset) (columns : List Column) (nulls : ℕ → Bool) (k : ℕ) → k < length columns → nulls k ≡ N.true
+    → N.WritesColumn charset columns nulls k [] (N.in_line k (k + 1 == length columns) N.null_field)
+null_column _ columns nulls k within null =
+    let c : Column = grind arith in
+    let column = N.get_or columns k c in
+    let next = N.drop_more columns k c within in
+    let last = last_one columns (drop (k + 1) columns) column k (length columns) refl next in
+    record { column = column; left = drop (k + 1) columns; next = next; writes = rw null (refl, ap (λ (e : Bool). N.in_line k e N.null_field) last) }
+
+-- the text of so many, none of which is the first or the last of its row
+abbrev pub nulls_text : ℕ → List ℕ
+nulls_text zero = []
+nulls_text (suc n) = nulls_text n ++ N.in_line 1 N.false N.null_field
+
+nulls_length : (n : ℕ) → length (nulls_text n) ≡ 5 * n
+nulls_length zero = refl
+nulls_length (suc n) = omega (arith, nulls_length n, N.length-append (nulls_text n) (N.in_line 1 N.false N.null_field))
+
+nulls_both : (n m : ℕ) → nulls_text (n + m) ≡ nulls_text n ++ nulls_text m
+nulls_both n zero = rw N.add-zero (sym (N.append-nil (nulls_text n)))
+nulls_both n (suc m) =
+    let at : n + suc m ≡ suc (n + m) = omega arith in
+    rw at (ap (λ l. l ++ N.in_line 1 N.false N.null_field) (nulls_both n m) ∙ N.append_assoc (nulls_text n) (nulls_text m) _)
+
+-- of eight the first ones
+pub first_nulls : (n : ℕ) (rest : List ℕ) → n ≤ 8 → take (5 * n) (nulls_text 8 ++ rest) ≡ nulls_text n
+first_nulls n rest few =
+    let all : 8 ≡ n + (8 - n) = omega arith in
+    let more = nulls_text (8 - n) ++ rest in
+    let text : nulls_text 8 ++ rest ≡ nulls_text n ++ more =
+    ap (λ k. nulls_text k ++ rest) all ∙ ap (λ l. l ++ rest) (nulls_both n (8 - n)) ∙ N.append_assoc (nulls_text n) (nulls_text (8 - n)) rest in
+    ap (take (5 * n)) text ∙ ap (λ k. take k (nulls_text n ++ more)) (sym (nulls_length n)) ∙ N.take-append_seam (nulls_text n) more
+
+-- the text of NULL neither first nor last in its row
+inner_null : (k n : ℕ) → 0 < k → k + 1 < n → N.in_line k (k + 1 == n) N.null_field ≡ N.in_line 1 N.false N.null_field
+inner_null k n some within =
+    let first : (k == 0) ≡ N.false = N.ne_eqb k 0 (λ e. omega arith) in
+    let last : (k + 1 == n) ≡ N.false = N.ne_eqb (k + 1) n (λ e. omega arith) in
+    rw (first, last) refl
+
+-- columns that are NULL by their bit, after the first and before the last
+pub nulls_inside : (nulls : ℕ → Bool) (from n count : ℕ) → 0 < from → from + n < count → AreSet nulls from (from + n)
+    → WritesNulls nulls from count n (nulls_text n)
+nulls_inside nulls from zero count _ _ _ = λ charset columns counted. (refl, refl)
+nulls_inside nulls from (suc n) count some within set = λ charset columns counted.
+    let one = null_column charset columns nulls (from + n) (omega arith) (set (from + n) (omega arith) (omega arith)) in
+    let text = inner_null (from + n) (length columns) (omega arith) (omega arith) in (
+      [],
+      [],
+      nulls_text n,
+      N.in_line 1 N.false N.null_field,
+      refl,
+      refl,
+      nulls_inside nulls from n count some (omega arith) (λ k least most. set k least (omega arith)) charset columns counted,
+      rw text at one,
+    )
+
+-- the next column alone
+pub null_alone : (nulls : ℕ → Bool) (at count : ℕ) → at < count → nulls at ≡ N.true → WritesNulls nulls at count 1 (N.in_line at (at + 1 == count) N.null_field)
+null_alone nulls at count within null = λ charset columns counted.
+    let one = rw counted at (null_column charset columns nulls at (omega arith) null) in
+    ([], [], [], _, refl, refl, (refl, refl), rw (N.add-zero at) one)

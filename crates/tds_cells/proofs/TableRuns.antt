@@ -1,0 +1,266 @@
+-- Runs of cells over the columns that a table knows: more cells after those that were written.
+use Rattle.tds_cells.proofs.Words as N
+use Rattle.tds_cells.proofs.Words.{arith, false, ◌∷◌, ◌≡◌, ◌∙◌, ap, ℕ, ◌+◌, ◌-◌, ◌<◌, ◌≤◌, List, ◌++◌, length, take, drop, Column, Ahead, RowsRan, Table, Cell}
+use Rattle.tds_cells.proofs.Words.{suc, Bool, sym, RunsMarked, inl, ◌⊎◌, ◌==◌, ◌≢◌, Form, IsAhead, Knows, inr, true, []}
+use Rattle.tds_cells.proofs.TableSteps.{none_next}
+use Rattle.tds_cells.proofs.RunSteps.{made_more, marked_writes, rows_both, rows_none, rows_onward, used_more, unused}
+use Rattle.tds_cells.proofs.FormSteps.{some_first}
+
+-- Between two places of rows, over the ends of so many, these bytes are their cells, and this is their text.
+abbrev pub RowsBetween : Table → List Column → Ahead → Ahead → ℕ → List ℕ → List ℕ → Type 0
+RowsBetween table columns old new count bytes text = IsAhead table columns new
+    × ((charset : N.Charset) (cells : List Cell) → table.charset ≡ charset → length cells ≡ old.column
+    → N.WritesRows charset columns cells (drop old.column columns) (drop new.column columns) new.column count bytes text)
+
+pub rows_begin : {table : Table} {from : Ahead} {bytes to : List ℕ}
+    → RowsRan table from bytes to (record { used = 0; made = 0; rows = 0; ahead = from })
+rows_begin = grind (arith, rows_none)
+
+-- the token byte of a ROW is next
+begins_at : (used : ℕ) (bytes : List ℕ) → N.BeginsRow (unused used bytes) → (used < length bytes)
+    × (N.get_or bytes used 0 ≡ 0xD1)
+begins_at _ _ begins = grind (arith, N.drop_more)
+
+-- one row more, after its token byte
+pub row_begun : {table : Table} {from start : Ahead} {bytes to : List ℕ} {run : N.RowsRun} → 0 < table.count → table.count ≤ run.ahead.column
+    → N.BeginsRow (unused run.used bytes) × (start.column ≡ 0)
+    → ((columns : List Column) → Knows table columns → IsAhead table columns run.ahead → IsAhead table columns start)
+    → RowsRan table from bytes to run → RowsRan table from bytes to
+    (record { used = run.used + 1; made = run.made; rows = run.rows + 1; ahead = start })
+row_begun {bytes = bytes} {run = run} some at (begins, first) ahead x =
+    let (within, byte) = begins_at run.used bytes begins in
+    record {
+      used = omega arith;
+      made = x.made;
+      few = omega arith;
+      writes = λ columns knows is.
+          let y = x.writes columns knows is in
+          let none = none_next columns run.ahead.column knows.counted at in (
+            ahead columns knows y.0,
+            λ charset cells set counted. rw first
+                (rows_onward run.used bytes (omega arith) none within byte (y.1 charset cells set counted)),
+          );
+    }
+
+-- more cells of the last row, in the bytes that are left and after what was made
+pub more_in_rows : {table : Table} {columns : List Column} {old new : Ahead} {count : ℕ} (from : Ahead) (used u : ℕ) {made m : ℕ}
+    (bytes to text rest : List ℕ) → made ≤ length to → m ≤ length text → RowsBetween table columns from old count (take used bytes) (take made to)
+    → RunsMarked table columns (λ k. false) old new (take u (unused used bytes)) (take m text)
+    → RowsBetween table columns from new count (take (used + u) bytes) (take (made + m) (take made to ++ (text ++ rest)))
+more_in_rows _ _ u _ _ _ _ within some x y = grind (arith, used_more, made_more, marked_writes)
+
+-- the same of what a run over rows has done
+pub rows_more : {table : Table} {from : Ahead} {bytes to : List ℕ} {run : N.RowsRun} {cells : N.CellRun} (text rest : List ℕ) → 0 < cells.used
+    → cells.used ≤ length (unused run.used bytes) → cells.made ≤ length text
+    → N.CellsWritten table run.ahead (unused run.used bytes) text cells → RowsRan table from bytes to run
+    → RowsRan table from bytes (take run.made to ++ (text ++ rest))
+    (record { used = run.used + cells.used; made = run.made + cells.made; rows = run.rows; ahead = cells.ahead })
+rows_more {from = from} {bytes = bytes} {to = to} {run = run} text rest _ within fits gives x = record {
+  used = omega (arith, N.length-take (length bytes - run.used) (drop run.used bytes));
+  made = omega (arith, N.length-append (take run.made to) (text ++ rest), N.length-append text rest, N.length-take-le run.made to x.made);
+  few = omega arith;
+  writes = λ columns knows is. (let y = x.writes columns knows is in more_in_rows from _ _ _ _ _ _ x.made fits y (gives columns knows y.0));
+}
+
+-- the cells of a run within a row, none of which is NULL by its bit
+pub marked_in_rows : {table : Table} {columns : List Column} {from to : Ahead} {bytes text : List ℕ}
+    → RunsMarked table columns (λ k. false) from to bytes text → RowsBetween table columns from to 0 bytes text
+marked_in_rows y = (y.ahead, λ charset cells set is. rw y.further (marked_writes _ y.count _ _ (rows_none is) (rw set at y.writes)))
+
+-- what stands after what was made may be another
+pub rows_kept : {table : Table} {from : Ahead} {bytes to : List ℕ} {run : N.RowsRun} {new : List ℕ} → length new ≡ length to
+    → take run.made new ≡ take run.made to → RowsRan table from bytes to run → RowsRan table from bytes new run
+rows_kept same is x = grind arith
+
+-- a run, and then another from where it ended
+pub rows_further : {table : Table} {from : Ahead} {bytes to : List ℕ} {run more : N.RowsRun} (text rest : List ℕ)
+    → RowsRan table from bytes to run → RowsRan table run.ahead (unused run.used bytes) text more
+    → RowsRan table from bytes (take run.made to ++ (text ++ rest))
+    (record { used = run.used + more.used; made = run.made + more.made; rows = run.rows + more.rows; ahead = more.ahead })
+rows_further {bytes = bytes} {to = to} {run = run} {more = more} text rest x y = record {
+  used = omega (arith, N.length-take (length bytes - run.used) (drop run.used bytes));
+  made = omega (arith, N.length-append (take run.made to) (text ++ rest), N.length-append text rest, N.length-take-le run.made to x.made);
+  few = omega arith;
+  writes = λ columns knows ahead. (let u = x.writes columns knows ahead in let v = y.writes columns knows u.0 in (
+    v.0,
+    λ charset cells set counted. (let w = u.1 charset cells set counted in rw (
+      used_more run.used more.used bytes,
+      made_more run.made more.made to text rest x.made y.made,
+    ) (rows_both w (grind arith))),
+  ));
+}
+
+-- ---- the cells of an NBCROW
+
+-- no column is NULL by its bit
+abbrev pub none_null : ℕ → Bool
+none_null k = false
+
+module _ (charset : N.Charset) (columns : List Column) where
+  -- so many columns, and then so many more
+  marked_both : (nulls : ℕ → Bool) (from n m : ℕ) (a b p q : List ℕ) → N.WritesMarked charset columns nulls from n a p
+      → N.WritesMarked charset columns nulls (from + n) m b q → N.WritesMarked charset columns nulls from (n + m) (a ++ b) (p ++ q)
+  marked_both _ _ n N.zero a b p q x y = search N.rules
+  marked_both nulls from n (suc m) a b p q x y =
+      let at : (from + n) + m ≡ from + _ = omega arith in
+      let counted : suc _ ≡ n + suc m = omega arith in
+      rw (sym counted) (
+        a ++ y.0,
+        y.1,
+        p ++ y.2,
+        y.3,
+        ap (λ l. a ++ l) y.4 ∙ sym (N.append_assoc a y.0 y.1),
+        ap (λ l. p ++ l) y.5 ∙ sym (N.append_assoc p y.2 y.3),
+        marked_both nulls from n m a y.0 p y.2 x y.6,
+        rw at at y.7,
+      )
+
+  -- columns whose bits are clear
+  pub marked_clear : (nulls : ℕ → Bool) (from n : ℕ) (bytes text : List ℕ) → ((k : ℕ) → from ≤ k → k < from + n → nulls k ≡ false)
+      → N.WritesMarked charset columns none_null from n bytes text → N.WritesMarked charset columns nulls from n bytes text
+  marked_clear _ _ N.zero _ _ _ x = x
+  marked_clear nulls from (suc n) _ _ clear x =
+      let last = x.7 in
+      let one : N.WritesColumn charset columns nulls (from + n) x.1 x.3 =
+      grind arith in
+      (x.0, x.1, x.2, x.3, x.4, x.5, marked_clear _ _ n _ _ (grind arith) x.6, one)
+
+module _ {table : Table} {columns : List Column} {nulls : ℕ → Bool} {at : Ahead} where
+  pub runs_column : {after : Ahead} {kind : N.Kind} {last : Bool} {bytes text : List ℕ} → N.TakesColumn table columns at after kind
+      → last ≡ N.is_last_column (drop after.column columns) → N.WritesNext table.charset (nulls at.column) kind at.column last bytes text
+      → RunsMarked table columns nulls at after bytes text
+  runs_column {bytes = bytes} {text = text} taken end cell =
+      let one : N.WritesColumn _ columns nulls _ bytes text =
+      record { column = taken.column; left = drop _ columns; next = taken.next; writes = rw (taken.kind, end) at cell } in
+      record {
+        count = 1;
+        ahead = taken.ahead;
+        further = cc;
+        writes = grind arith;
+      }
+
+module _ {table : Table} {columns : List Column} {nulls : ℕ → Bool} {from to : Ahead} where
+  -- a run over columns whose bits are clear
+  pub runs_clear : {bytes text : List ℕ} → ((k : ℕ) → from.column ≤ k → k < to.column → nulls k ≡ false)
+      → RunsMarked table columns none_null from to bytes text → RunsMarked table columns nulls from to bytes text
+  runs_clear clear x = grind (arith, marked_clear)
+
+  -- more cells, in the bytes that are left and after what was made
+  pub runs_more : (at : Ahead) (used u made m : ℕ) (bytes text new rest : List ℕ) → made ≤ length text → m ≤ length new
+      → RunsMarked table columns nulls from at (take used bytes) (take made text)
+      → RunsMarked table columns nulls at to (take u (take (length bytes - used) (drop used bytes))) (take m new)
+      → RunsMarked table columns nulls from to (take (used + u) bytes) (take (made + m) (take made text ++ (new ++ rest)))
+  runs_more at used u made m bytes text new rest within some x y = record {
+    count = x.count + y.count;
+    ahead = y.ahead;
+    further = omega arith;
+    writes = rw (used_more, made_more) (marked_both _ _ _ _ _ _ _ _ _ _ x.writes (rw x.further at y.writes));
+  }
+
+-- a run ended before a column whose bit is clear
+pub ends_clear : (table : Table) (nulls : ℕ → Bool) (at : Ahead) (bytes : List ℕ) (room : ℕ) → nulls at.column ≡ false → N.RunEnds table at bytes room
+    → N.EndsLeft table nulls at bytes room
+ends_clear _ _ at bytes room clear x =
+    λ columns column left knows ahead next. elim (x columns column left knows ahead next) [ inl few ↦ inl few | inr y ↦ inr (clear, y.1) ]
+
+-- ---- the forms of the next columns
+
+-- those that a table knows, from a place in a row on
+pub known_ahead : (table : Table) (at : Ahead) (end : ℕ) (n : ℕ) → N.AreLaidOut table.charset table.forms.now → table.known ≤ length table.forms.now → 0 < n
+    → at.column + n ≤ end → at.column + n ≤ table.known → table.known ≤ table.count → N.AreAhead table at end (take n (drop at.column table.forms.now))
+known_ahead _ at end n laid fits some within known few =
+    let k = at.column in
+    let len = N.length-take-le n _ (grind (arith, N.length-drop)) in
+    record {
+      laid = grind (arith, N.common_steps);
+      some = omega arith;
+      within = omega arith;
+      known = grind arith;
+      next = λ columns knows ahead.
+          let first =
+          ap (N.map _) (sym (N.take-take _ _ _ known)) ∙ sym (N.take-map _ _ _) ∙ ap (take _) knows.first
+          ∙ N.take-map _ _ _ ∙ ap N.kinds (N.take-take _ _ columns known) in
+          let forms_are =
+          ap (N.map _) (sym (N.drop-take k n _)) ∙ sym (N.drop-map _ k _) ∙ ap (drop k) first ∙ N.drop-map _ k _
+          ∙ ap N.kinds (N.drop-take k n columns) in
+          forms_are ∙ ap (λ m. N.kinds (take m (drop k columns))) (sym len);
+    }
+
+-- no cell was written where no byte was used
+pub none_written : {cells used : ℕ} → (0 < cells → 0 < used) → used ≡ 0 → cells ≡ 0
+none_written some none = grind arith
+
+module _ (table : Table) (from : Ahead) (end : ℕ) (forms : List Form) (within : end ≤ table.count) (ahead : N.AreAhead table from end forms) where
+  -- the first is that of the next column
+  pub first_next : {form : Form} {rest : List Form} → forms ≡ form ∷ rest → (columns : List Column) → Knows table columns → IsAhead table columns from
+      → N.NextColumn columns from form.kind
+  first_next are _ knows is = grind arith
+
+  module _ (ends : Bool) (end_is : ends ≡ (from.column + length forms == table.count)) where
+    -- what was written by them is between two places of the row
+    pub forms_between : (columns : List Column) → Knows table columns → IsAhead table columns from
+        → (to : Ahead) (bytes text : List ℕ) (run : N.FormsRun) → to.column ≡ from.column + run.cells → IsAhead table columns to
+        → N.FormsWritten table.charset forms from.column ends bytes text run
+        → RunsMarked table columns (λ k. false) from to (take run.used bytes) (take run.made text)
+    forms_between _ knows is _ _ _ _ further there x = grind (arith, N.length-drop)
+
+  pub first_left : {bytes : List ℕ} {room : ℕ} → N.FirstLeft table.charset forms bytes room
+      → (columns : List Column) (column : Column) (left : List Column) → Knows table columns → IsAhead table columns from
+      → drop from.column columns ≡ column ∷ left
+      → (room < N.CELL_ROOM) ⊎ ((false ≡ false) × N.IsLeft table.charset column.kind bytes room)
+  first_left x columns column _ knows is step =
+      let first = some_first _ ahead.some in
+      let n = first_next first.2 columns knows is in
+      elim (x first.0 first.1 first.2) [
+        | inl few ↦ inl few
+        | inr y ↦ inr (grind arith)
+      ]
+
+-- ---- rows that are far from the ends
+
+-- two places of a row, all of whose columns the table knows, are ahead alike
+pub place_known : (table : Table) (from : Ahead) (a b : ℕ) → table.known ≡ table.count → a ≤ table.count → b ≤ table.count
+    → (columns : List Column) → Knows table columns → IsAhead table columns (record from { column = a })
+    → IsAhead table columns (record from { column = b })
+place_known table from a b all within few columns knows is = record {
+  counted = omega (arith, knows.counted);
+  within = λ _. is.within (omega arith);
+  beyond = λ end. (let same : table.known ≡ b = omega arith in is.within (omega arith) ∙ ap (λ n. drop n columns) same);
+}
+
+-- the forms of the rest of such a row
+pub rest_ahead : (table : Table) (at : Ahead) (row : List Form) → table.known ≡ table.count → row ≡ take table.known table.forms.now
+    → at.column < table.count
+    → N.AreAhead table at table.count (drop at.column row) × (at.column + length (drop at.column row) ≡ table.count)
+rest_ahead table at row all are some =
+    let n = table.known - at.column in
+    let split : table.known ≡ at.column + n = omega arith in
+    let rest = ap (drop at.column) (are ∙ ap (λ m. take m table.forms.now) split) ∙ N.drop-take at.column n table.forms.now in
+    let counted = N.length-take-le n (drop at.column table.forms.now) (omega (arith, N.length-drop at.column table.forms.now, table.there)) in (
+      rw (sym rest) at (known_ahead table at table.count n table.laid (omega (arith, table.there)) (omega arith) (omega arith)
+          (omega arith) (omega arith)),
+      omega (arith, ap length rest, counted),
+    )
+
+-- more cells of the row, whose places are counted from the front of all
+pub rows_far : {from : Ahead} {bytes to : List ℕ} {rows : ℕ} (table : Table) (row : List Form) (at run : N.FormsRun) (new : List ℕ)
+    → table.known ≡ table.count → row ≡ take table.known table.forms.now → at.cells < table.count → run.cells ≢ at.cells
+    → take at.made new ≡ take at.made to → length new ≡ length to → (at.cells ≤ run.cells) × (at.used ≤ run.used) × (at.made ≤ run.made)
+    → N.RunsForms table.charset (drop at.cells row) at.cells true (drop at.used bytes) (length to - at.made) (drop at.made new) (N.done_since at run)
+    → RowsRan table from bytes to (record { used = at.used; made = at.made; rows = rows; ahead = record from { column = at.cells } })
+    → RowsRan table from bytes new (record { used = run.used; made = run.made; rows = rows; ahead = record from { column = run.cells } })
+rows_far {from = from} {bytes = bytes} {to = to} table row at run new all are few some same size begun written x =
+    let next = rest_ahead table (record from { column = at.cells }) row all are few in
+    let made = drop at.made new in
+    let rest = N.all_after bytes at.used in
+    let kept : new ≡ take at.made to ++ (made ++ []) =
+    sym (N.take-append-drop at.made new) ∙ ap (λ t. t ++ made) same ∙ ap (λ t. take at.made to ++ t) (sym (N.append-nil made)) in
+    let used : run.used ≡ at.used + (run.used - at.used) = omega (arith, begun) in
+    let end : run.made ≡ at.made + (run.made - at.made) = omega (arith, begun) in
+    let further : run.cells ≡ at.cells + (run.cells - at.cells) = omega (arith, begun) in
+    let within : run.cells ≤ table.count = omega (arith, written.within.cells, next.1) in
+    rw (kept, used, end) (rows_more {cells = record { used = run.used - at.used; made = run.made - at.made; ahead = record from { column = run.cells } }}
+    made [] (written.within.some (omega (arith, begun, some))) (rw rest written.within.used)
+    (omega (arith, written.within.made, N.length-drop at.made new))
+    (λ columns knows is. forms_between _ _ _ _ (omega arith) next.0 _ (sym (N.eq-eqb _ _ next.1)) columns knows is _ _ _ (N.done_since at run) further
+    (place_known table from at.cells run.cells all (omega arith) within columns knows is) (rw rest written.cells)) x)

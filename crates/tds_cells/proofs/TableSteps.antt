@@ -1,0 +1,105 @@
+-- A table of columns, column by column.
+use Rattle.tds_cells.proofs.Words as N
+use Rattle.tds_cells.proofs.Words.{◌≡◌, ◌⊎◌, ◌∙◌, ℕ, ◌+◌, ◌≤◌, ◌<◌, List, [], ◌∷◌, length, take, drop, get_or, sym, ap, arith, map, ◌==◌, Kind, Column}
+use Rattle.tds_cells.proofs.Words.{columns_left, Ahead, Form, IsAhead}
+use Rattle.tds_columns.specs.declared.walk.Column as walks
+
+-- what is ahead begins with the next column
+pub next_column : (columns : List Column) (k : ℕ) {c : Column} {rest : List Column} → drop k columns ≡ c ∷ rest → (k < length columns)
+    × ((get_or columns k c ≡ c) × (drop (k + 1) columns ≡ rest))
+next_column columns k {c} h =
+    let within : k < length columns = omega (arith, N.length-drop k columns, ap length h) in
+    let more = sym (N.drop_more columns k c within) ∙ h in
+    (grind arith)
+
+pub first_more : (forms : List Form) (columns : List Column) (k : ℕ) (f : Form) {c : Column} {rest : List Column} → k < length forms
+    → map (λ f. f.kind) (take k forms) ≡ N.kinds (take k columns) → drop k columns ≡ c ∷ rest → f.kind ≡ c.kind
+    → map (λ f. f.kind) (take (k + 1) (N.slice_set forms k f)) ≡ N.kinds (take (k + 1) columns)
+first_more _ _ k f within first h is = grind (arith, N.common_steps, next_column)
+
+-- the kind of a column that is known
+pub known_kind : (forms : List Form) (columns : List Column) (n k : ℕ) (f : Form) (c : Column)
+    → map (λ f. f.kind) (take n forms) ≡ N.kinds (take n columns) → k < n → n ≤ length forms → k < length columns
+    → (get_or forms k f).kind ≡ (get_or columns k c).kind
+known_kind forms columns n k f c first known some within =
+    let one : k < length _ = omega (arith, N.length-take n forms) in
+    ap (λ (f : Form). f.kind) (sym (N.get_or-take n forms k f known)) ∙ sym (N.get_or-map _ _ k f f.kind one)
+    ∙ ap (λ l. get_or l k f.kind) first
+    ∙ N.get_or-map _ _ k c f.kind (omega (arith, N.length-take n columns))
+    ∙ ap (λ (c : Column). c.kind) (N.get_or-take n columns k c known)
+
+module _ (table : N.Table) (columns : List Column) (at : Ahead) (kind : Kind) (knows : N.Knows table columns) (is : IsAhead table columns at) where
+  -- a column that the table knows is next
+  pub next_known : (d : Form) → at.column < table.count → at.column < table.known → table.known ≤ length table.forms.now
+      → kind ≡ (get_or table.forms.now at.column d).kind → N.NextColumn columns at kind
+  next_known d _ known fits is_kind =
+      let within : at.column < length columns = omega arith in
+      let c : Column = grind arith in
+      record {
+        column = get_or columns at.column c;
+        rest = drop _ columns;
+        next = N.drop_more columns at.column c within;
+        kind = is_kind ∙ known_kind _ _ _ _ d c knows.first known fits within;
+      }
+
+module _ {table : N.Table} {columns : List Column} {old new : Ahead} (knows : N.Knows table columns) (is : IsAhead table columns old) where
+  -- the place after columns that the table knows
+  pub after_known : {cells : ℕ} → new.column ≡ old.column + cells → old.column + cells ≤ table.count → (cells ≡ 0)
+      ⊎ (old.column + cells ≤ table.known) → columns_left new.walk ≡ columns_left old.walk → IsAhead table columns new
+  after_known further _ known same = grind arith
+
+  -- the place after a column that the walk gives
+  pub after_walked : new.column ≡ old.column + 1 → old.column + 1 ≤ table.count → table.known ≤ old.column
+      → columns_left new.walk ≡ drop 1 (columns_left old.walk) → IsAhead table columns new
+  after_walked further some beyond steps =
+      record {
+        counted = omega arith;
+        within = grind arith;
+        beyond = λ _. steps ∙ ap (drop 1) (is.beyond beyond) ∙ N.drop-drop 1 old.column columns
+            ∙ ap (λ (n : ℕ). drop n columns) (omega arith);
+      }
+
+-- what a walk leaves after its next column
+pub walk_after : (walk new : N.Walk) (column : N.Option walks.Column) → N.YieldsFirstBy N.column_value columns_left walk column new
+    → columns_left new ≡ drop 1 (columns_left walk)
+walk_after _ _ _ y = grind arith
+
+pub takes : {table : N.Table} {columns : List Column} {old new : Ahead} {kind : Kind} → N.NextColumn columns old kind → new.column ≡ old.column + 1
+    → IsAhead table columns new → N.TakesColumn table columns old new kind
+takes x further ahead = grind (arith, next_column)
+
+-- a place in a row that isn't at its end is before it
+pub not_end : (columns : List Column) {k n : ℕ} → n ≡ length columns → k ≤ length columns → (k == n) ≡ N.false → k < n
+not_end _ whole within isnt = grind arith
+
+-- a column is the last one where as many as there are lie before what is after it
+pub last_one : (columns rest : List Column) (c : Column) (k n : ℕ) → n ≡ length columns → drop k columns ≡ c ∷ rest
+    → (k + 1 == n) ≡ N.is_last_column rest
+last_one columns [] c k n whole next = N.eq-eqb _ n (omega (arith, N.length-drop k columns, ap length next))
+last_one columns (d ∷ ds) c k n whole next = N.ne_eqb _ n (λ e. omega (arith, N.length-drop k columns, ap length next))
+
+-- none is next where as many as there are lie before
+pub none_next : (columns : List Column) (k : ℕ) {n : ℕ} → n ≡ length columns → n ≤ k → drop k columns ≡ []
+none_next _ k whole all = grind (arith, N.drop_all)
+
+-- before the row's end the next column is ahead, of some kind
+pub next_any : (columns : List Column) (at : Ahead) (n : ℕ) → n ≡ length columns → at.column < n → (kind : Kind) × N.NextColumn columns at kind
+next_any columns at n whole some =
+    let c : Column = grind arith in
+    let column = get_or columns at.column c in (
+      column.kind,
+      record {
+        column = column;
+        rest = drop _ columns;
+        next = N.drop_more columns at.column c (omega arith);
+        kind = N.refl;
+      },
+    )
+
+-- as many lie before where the place is the row's end
+pub all_before : {k n : ℕ} → N.true ≡ (k == n) → n ≤ k
+all_before is = grind arith
+
+-- none is next at the row's end
+pub at_end : (columns : List Column) (k n : ℕ) → n ≡ length columns → (k == n) ≡ N.true → drop k columns ≡ []
+at_end _ k n whole is = grind (arith, none_next)

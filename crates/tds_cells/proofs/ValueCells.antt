@@ -1,0 +1,127 @@
+-- Scalar cells whose bytes lie together.
+use Rattle.std.specs.Prelude.{IsTrue}
+use Rattle.tds_values.specs.Kind.{is_valid}
+use Rattle.tds_values.specs.ScalarText.{text_of}
+use Rattle.tds_cells.proofs.Words as N
+use Rattle.tds_cells.proofs.Words.{◌≡◌, ◌≢◌, ◌∙◌, ℕ, ◌+◌, ◌-◌, ◌<◌, ◌≤◌, Bool, true, List, [], ◌++◌, length, take, drop, Ok, refl, ap, arith, ◌∷◌, ◌||◌, Kind}
+use Rattle.tds_cells.proofs.Words.{shape, WritesCell}
+use Rattle.tds_values.specs.Kind.{fixed_length}
+
+pub scalar_shape : (charset : N.Charset) (kind : Kind) → N.is_scalar kind ≡ true → N.shape charset kind ≡ N.shape_of_length (fixed_length kind)
+scalar_shape _ _ h = grind arith
+
+-- The text is that of a scalar value of these bytes, in its line.
+abbrev pub IsValueText : Kind → ℕ → Bool → List ℕ → List ℕ → Type 0
+IsValueText kind column last bytes text = (value : N.ScalarValue) × (N.read_of kind bytes ≡ Ok value) × (text ≡ N.in_line column last (text_of value))
+
+-- a value that is read has a length that is allowed
+read_allowed : (kind : Kind) (bytes : List ℕ) (value : N.ScalarValue) → N.read_of kind bytes ≡ Ok value → N.is_length_allowed kind (length bytes) ≡ true
+read_allowed _ _ _ h = grind arith
+
+-- no value has no bytes
+allowed_some : (kind : Kind) → IsTrue (is_valid kind) → N.is_scalar kind ≡ true → N.is_length_allowed kind 0 ≡ true → ⊥
+allowed_some kind valid scalar allowed = grind arith
+
+fixed_written : (column : ℕ) (kind : Kind) (n : ℕ) (last : Bool) (bytes text : List ℕ) → 0 < n → n ≤ length bytes
+    → IsValueText kind column last (take n bytes) text → WritesCell (N.ScalarBytes kind n) column last (take n bytes) text
+fixed_written _ kind n _ bytes _ some within x = record {
+  value = N.ScalarCell x.0;
+  front = [];
+  at = N.ScalarBytes kind n;
+  element = take n bytes;
+  joined = refl;
+  spelt = grind arith;
+  next = grind (arith, N.common_steps);
+  whole = cc;
+  quiet = refl;
+  text_is = x.2;
+}
+
+first_of : (bytes : List ℕ) (n : ℕ) → 1 ≤ length bytes → N.slice_index bytes 0 ≡ n → take 1 bytes ≡ n ∷ []
+first_of _ n h is = grind arith
+
+null_written : {column : ℕ} {kind : Kind} {last : Bool} (bytes : List ℕ) {text : List ℕ} → 1 ≤ length bytes → N.slice_index bytes 0 ≡ 0
+    → text ≡ N.in_line column last N.null_field → WritesCell (N.ScalarLength kind) column last (take 1 bytes) text
+null_written {kind} _ within is text_is = rw (first_of _ 0 within is) (record {
+  value = N.Null;
+  front = [];
+  at = N.ScalarLength kind;
+  element = 0 ∷ [];
+  joined = refl;
+  spelt = grind arith;
+  next = grind arith;
+  whole = refl;
+  quiet = refl;
+  text_is = text_is;
+})
+
+counted_written : (column : ℕ) (kind : Kind) (n : ℕ) (last : Bool) (bytes text : List ℕ) → N.slice_index bytes 0 ≡ n → n ≢ 0 → 1 + n ≤ length bytes
+    → IsValueText kind column last (take n (drop 1 bytes)) text
+    → WritesCell (N.ScalarLength kind) column last (take (1 + n) bytes) text
+counted_written column kind n _ bytes _ is some within x =
+    let whole = N.length-take-le n _ (grind arith) in
+    let good = ap (N.is_length_allowed kind) (N.sym whole) ∙ read_allowed kind _ x.0 x.1 in
+    let yes = ap (λ v. v || N.is_length_allowed kind n) (N.ne_eqb n 0 some) ∙ good in
+    let to : (N.cell column).add (N.ScalarLength kind) (n ∷ []) ≡ N.ScalarBytes kind n = grind arith in
+    record {
+      value = N.ScalarCell x.0;
+      front = n ∷ [];
+      at = N.ScalarBytes kind n;
+      element = take n _;
+      joined = N.sym (N.take-add 1 n bytes ∙ ap (λ l. l ++ take n (drop 1 bytes)) (first_of bytes n (omega arith) is));
+      spelt = rw to at (N.Spelt-one (N.cell column) (N.ScalarLength kind) (n ∷ [])
+          (record { some = omega arith; whole = refl; free = cc }));
+      next = grind arith;
+      whole = cc;
+      quiet = refl;
+      text_is = x.2;
+    }
+
+module _ (charset : N.Charset) (kind : Kind) (column : ℕ) (last : Bool) (bytes text : List ℕ) (scalar : N.is_scalar kind ≡ true) where
+  -- NULL at the front of these bytes
+  pub null_cell : (start : ℕ) → start ≡ N.value_start kind → N.value_length kind bytes ≡ 0 → start + 0 ≤ length bytes
+      → text ≡ N.in_line column last N.null_field → WritesCell (N.cell_start kind (shape charset kind)) column last (take (start + 0) bytes) text
+  null_cell _ at none within is = grind (arith, null_written)
+
+  pub value_cell : (start n : ℕ) → start ≡ N.value_start kind → n ≡ N.value_length kind bytes → n ≢ 0 → start + n ≤ length bytes
+      → IsValueText kind column last (take n (drop start bytes)) text
+      → WritesCell (N.cell_start kind (shape charset kind)) column last (take (start + n) bytes) text
+  value_cell start n at many some within is = go _ refl
+    where
+      go : (o : N.Option ℕ) → N.fixed_length kind ≡ o → WritesCell (N.cell_start kind (shape charset kind)) column last (take (start + n) bytes) text
+      go (N.Some m) e =
+          let none = at ∙ ap N.start_after e in
+          let all = many ∙ ap (λ o. N.length_after o bytes) e in
+          let whole : start + n ≡ m = omega arith in
+          rw (scalar_shape, e, whole) (fixed_written column kind m last bytes text (omega arith) (omega arith) (rw (none, all) at is))
+      go N.None e =
+          let one = at ∙ ap N.start_after e in
+          rw (scalar_shape, e, one) (counted_written column kind n last bytes text (grind arith) some (omega arith) (rw one at is))
+
+  -- the value at the front of these bytes
+  pub front_cell : (used : ℕ) → IsTrue (is_valid kind) → used ≡ N.scalar_size kind bytes → used ≤ length bytes
+      → IsValueText kind column last (N.value_bytes kind bytes) text
+      → WritesCell (N.cell_start kind (shape charset kind)) column last (take used bytes) text
+  front_cell used valid is within x =
+      let allowed = read_allowed kind _ x.0 x.1 in
+      rw is (value_cell _ _ refl refl (λ none. absurd (allowed_some kind valid scalar (rw none at allowed))) (omega (arith, is)) x)
+
+-- a whole number of four bytes is read alike in each of its kinds
+pub int4_reads : (kind : Kind) (bytes : List ℕ) → N.IsInt4 kind → length bytes ≡ 4 → (N.is_scalar kind ≡ true)
+    × (N.read_of kind bytes ≡ N.read_of (N.IntN 4) bytes)
+int4_reads _ _ number _ = grind arith
+
+pub int4_scalar : (kind : Kind) → N.IsInt4 kind → N.is_scalar kind ≡ true
+int4_scalar _ number = grind arith
+
+-- one that may be NULL comes after its length
+pub int4_start : (kind : Kind) → N.IsInt4 kind → N.is_counted kind ≡ true → (bytes : List ℕ) → (N.is_scalar kind ≡ true)
+    × ((1 ≡ N.value_start kind) × (N.value_length kind bytes ≡ N.slice_index bytes 0))
+int4_start _ number counted _ = grind arith
+
+-- a cell whose value is refused is left
+pub refused_left : (kind : Kind) (bytes : List ℕ) (start n : ℕ) → start ≡ N.value_start kind → n ≡ N.value_length kind bytes → n ≢ 0
+    → N.is_ok (N.read_of kind (take ((start + n) - start) (drop start bytes))) ≡ N.false → N.IsScalarLeft kind bytes
+refused_left kind bytes start n at many some bad =
+    let after : (start + n) - start ≡ N.value_length kind bytes = omega arith in
+    N.inr (omega arith, rw (after, at) at bad)

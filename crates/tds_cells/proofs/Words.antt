@@ -1,0 +1,79 @@
+-- The words that the proofs of this crate share.
+pub use Rattle.std.proofs.Common.{refl, ◌+◌, subst, take, ◌⊎◌, replicate, arith, suc, zero, length, Result, length-append, inr, Bool, ◌++◌, false}
+pub use Rattle.std.proofs.Common.{ap, add-zero, ◌∙◌, Ok, ◌≡◌, append_assoc, drop, ℕ, ◌≤◌, [], sym, ◌∷◌, ◌%◌, ◌/◌, ◌-◌, inl, append-nil, ◌*◌, ◌≢◌, get_or}
+pub use Rattle.std.proofs.Common.{◌^◌, List, ◌<◌, true, rules}
+pub use Rattle.std.proofs.Math.Seq.{take-append-add, take-add, take-append_seam}
+pub use Rattle.std.proofs.lemmas.Bool.{ne_eqb, eq-eqb, and_from, or_left, or_right}
+pub use Rattle.std.proofs.lemmas.Grind.{common_steps}
+pub use Rattle.std.proofs.lemmas.List.{take_more, get_or-map, length-drop, take-map, length-take, take_more_set, drop_more, drop-map}
+pub use Rattle.std.proofs.lemmas.List.{get_or-replicate, drop-take, get_or-take, length-map, length-take-le, length-replicate, get_or_default}
+pub use Rattle.std.proofs.lemmas.List.{map-append, drop-drop, take_all, take-append-drop, take-take, take-append-le, drop_all}
+pub use Rattle.std.proofs.lemmas.List.Folds.{concat-append}
+pub use Rattle.std.specs.Iterator.{YieldsFirstBy}
+pub use Rattle.std.specs.List.{concat}
+pub use Rattle.std.specs.Prelude.{◌==◌, if◌then◌else◌, slice_set, ◌||◌, is_ok, ◌&&◌, None, slice_index, Option, nat_le, map, codes, Some, nat_lt}
+pub use Rattle.tds_columns.proofs.ByteLemmas.{one_byte, little-two, two_bytes}
+pub use Rattle.tds_columns.proofs.ViewLaws.{all_after}
+pub use Rattle.tds_columns.specs.Description.{Column}
+pub use Rattle.tds_columns.specs.View.{columns_of}
+pub use Rattle.tds_columns.specs.Walking.{columns_left, column_value}
+pub use Rattle.tds_columns.specs.declared.walk.Walk.{Walk}
+pub use Rattle.tds_text.proofs.Begun.{open_closes, open_grows}
+pub use Rattle.tds_text.proofs.ConversionLaws.{no_data_is_fit, fit_begins, fit_units, begun_by_test}
+pub use Rattle.tds_text.specs.Conversion.{is_begun, Conversion, is_fit, long_field, unit}
+pub use Rattle.tds_text.specs.Conversion.{closing, open_field, conversion_text}
+pub use Rattle.tds_text.specs.Quoting.{null_field, joined, after_comma, in_line, line, end_after}
+pub use Rattle.tds_text.specs.declared.fields.Content.{Content}
+pub use Rattle.tds_packet.proofs.Choices.{test_lt, choose_false, choose_true, eq_false, eq_true, choose}
+pub use Rattle.tds_packet.proofs.ElementLaws.{Spelt-induct, AreBytes-back, one_state, Spelt-step, Inside}
+pub use Rattle.tds_packet.proofs.ElementLaws.{refused_for_good, AreBytes-front, Spelt-append, Spelt-one, Inside-Spelt}
+pub use Rattle.tds_packet.proofs.Lifts.{next_some}
+pub use Rattle.tds_packet.specs.Elements.{IsRefused, AreBytes, Grammar, Spelt, IsNext, Leads}
+pub use Rattle.tds_packet.specs.declared.fault.Fault.{Fault}
+pub use Rattle.tds_packet.specs.declared.fault.Fault.TheVariants.{PlpLength}
+pub use Rattle.tds_cells.specs.CellTexts.{IsScalarLeft, cell_so_far, opened, IsLeft, WritesKind, is_counted, is_last_column, IsInt4}
+pub use Rattle.tds_cells.specs.CellTexts.{is_int4, WritesField, whole_size}
+pub use Rattle.tds_cells.specs.Cells.{chunk_fault, ShortData, within_total, ScalarLength, ScalarCell, WholeCell, CountedShape, cell, ChunkLength, value_part}
+pub use Rattle.tds_cells.specs.Cells.{end_of_chunks, ShortLength, cell_start, null_total, cell_add, Null, unknown_total}
+pub use Rattle.tds_cells.specs.Cells.{SpellsChunked, cell_size, unless, shape}
+pub use Rattle.tds_cells.specs.Cells.{ScalarBytes, Total, field, SpellsShort, Shape, known_total, FixedShape, field_so_far, ChunkData, CellPart}
+pub use Rattle.tds_cells.specs.Cells.{SpellsChunk, SpellsChunks, LongShape, shape_of_length, Cell, is_total, SpellsCell}
+pub use Rattle.tds_cells.specs.Cells.{DataCell}
+pub use Rattle.tds_cells.specs.FormRuns.{done_since, FormsWritten, FirstLeft, FieldsWritten, AreNext, WritesForms, FirstUsed, FirstWritten, RunsForms}
+pub use Rattle.tds_cells.specs.FormRuns.{WritesFields}
+pub use Rattle.tds_cells.specs.Forms.{AreCounted, AreInt4, AreLaidOut, Each}
+pub use Rattle.tds_cells.specs.Layouts.{IsLaidOut}
+pub use Rattle.tds_cells.specs.MarkedRuns.{WritesColumn, EndsFar, EndsLeft, MarkedWritten, AreClear, WritesMarked}
+pub use Rattle.tds_cells.specs.MarkedRuns.{RunsMarked, WritesNext}
+pub use Rattle.tds_cells.specs.MarkedRows.{EndsNbcRows, NbcRowsWritten, WritesNbcRows}
+pub use Rattle.tds_cells.specs.Rows.{marked, WholeRow, bitmap_length, row_add, SpellsMarked, bit, RowToken, Bitmap, PlainRow, with_cell, RowPart, SpellsNbcRow}
+pub use Rattle.tds_cells.specs.Rows.{SpellsRow, row, NbcRow, row_so_far, with_field, row_size, InCell, token_byte, row_start, token_start}
+pub use Rattle.tds_cells.specs.Rows.{next_cell, nbc_row_start}
+pub use Rattle.tds_cells.specs.Runs.{RowsRan, rows_so_far, lines, rows, Writes, CellsWritten, after_cells, RunEnds, RowsPart}
+pub use Rattle.tds_cells.specs.Runs.{WritesRows}
+pub use Rattle.tds_cells.specs.ShortCells.{stated_length, short_size}
+pub use Rattle.tds_cells.specs.ChunkedCells.{HasOneChunk, chunk_data, chunk_end, chunked_size, stated_total}
+pub use Rattle.tds_cells.specs.LongFields.{IsShapeLeft}
+pub use Rattle.tds_cells.specs.Rows.{BeginNoRow}
+pub use Rattle.tds_cells.specs.Tables.{BeginsRow, TakesColumn, IsAhead, AreAhead, kinds, Knows, NextColumn}
+pub use Rattle.tds_cells.specs.WholeCells.{WritesCell, WritesWhole}
+pub use Rattle.tds_cells.specs.declared.layout.Form.{Form}
+pub use Rattle.tds_cells.specs.declared.layout.Layout.{Layout}
+pub use Rattle.tds_cells.specs.declared.whole.TheConstants.{CELL_ROOM}
+pub use Rattle.tds_cells.specs.declared.run.CellRun.{CellRun}
+pub use Rattle.tds_cells.specs.declared.run.RowsRun.{RowsRun}
+pub use Rattle.tds_cells.specs.declared.run.forms.FormsRun.{FormsRun}
+pub use Rattle.tds_cells.specs.declared.table.Ahead.{Ahead}
+pub use Rattle.tds_cells.specs.declared.table.Table.{Table}
+pub use Rattle.tds_values.specs.Front.{scalar_size, start_after, length_after, value_length, value_bytes, value_start}
+pub use Rattle.tds_values.proofs.WrittenLemmas.{answered}
+pub use Rattle.tds_values.specs.Kind.{is_length_allowed, fixed_length, is_scalar}
+pub use Rattle.tds_values.specs.Numbers.{little}
+pub use Rattle.tds_values.specs.Scalar.{read_of}
+pub use Rattle.tds_values.specs.declared.charset.Charset.{Charset}
+pub use Rattle.tds_values.specs.declared.kind.Kind.{Kind}
+pub use Rattle.tds_values.specs.declared.kind.Kind.TheVariants.{IntN, Wide}
+pub use Rattle.tds_values.specs.declared.kind.Reach.TheVariants.{Short, Chunked}
+pub use Rattle.tds_values.specs.declared.scalar.ScalarValue.{ScalarValue}
+pub use Rattle.tds_values.specs.declared.scalar.ValueFault.{ValueFault}
+pub use Rattle.tds_cells.specs.MarkedRuns.{AreSet, WritesNulls}

@@ -1,0 +1,39 @@
+use Rattle.tds_cells.proofs.run.forms.write_fields.Goals as goal
+use Rattle.tds_cells.proofs.run.forms.write_fields.Goals.{then-loop-cells-test+else-made-most, else-loop-cells-test}
+use Rattle.tds_cells.proofs.run.forms.write_fields.Goals.{then-loop-cells-test+then-made-most+in_default as left}
+use Rattle.tds_cells.proofs.Words.{inr, ◌≡◌, ◌∙◌, ◌-◌, ℕ, length, drop, get_or, all_after, ap, sym, arith, rules}
+use Rattle.tds_cells.proofs.FormSteps.{fields_more, fields_step, left_after, left_less}
+
+pub loop-cells-preserved : goal.loop-cells-preserved
+loop-cells-preserved c =
+    let l = c.loop-cells in
+    let written = c.in-Some.written in
+    let forms = c.args.forms.now in
+    let form = c.index-forms-cells.result in
+    let bytes = c.args.bytes.now in
+    let rest = l.rest.now in
+    let form_is : form ≡ get_or forms l.cells form = search (arith, rules) in
+    let now = all_after bytes (length bytes - length rest) ∙ sym l.invariant.rest in
+    let whole = rw form_is at (rw (sym now) at c.in-Some.ensures.whole) in
+    let wrote = rw form_is at (rw (sym now) at c.in-Some.ensures.field) in
+    let left = left_after bytes rest written.used l.invariant.within l.invariant.rest (search (arith, rules)) in
+    record {
+      within = omega (arith, left.0);
+      rest = left.1 ∙ ap (λ (n : ℕ). drop n bytes) (sym left.0);
+      at = fields_step written.used written.made form l.invariant.at left.0 (search (arith, rules)) c.loop-cells-test.true (search (arith, rules))
+          (search (arith, rules)) whole;
+      writes = fields_more c.args.charset forms c.args.column bytes l.to c.write_cell.new.to _ l.cells _ written.used _ l.made
+          written.made form left.0 l.invariant.at.fits (search (arith, rules)) c.loop-cells-test.true wrote l.invariant.writes;
+    }
+
+pub returns-clause-ends : goal.returns-clause-ends
+returns-clause-ends c = λ none form rest is. elim c.loop-cells-test.branch [
+  | then-loop-cells-test+else-made-most w ↦ grind arith
+  | else-loop-cells-test w ↦ grind arith
+  | left w ↦ (let l = c.loop-cells in
+      let bytes = c.args.bytes.now in
+      let begun = l.invariant.at.begun none in
+      let all : l.rest.now ≡ bytes = l.invariant.rest ∙ ap (λ (n : ℕ). drop n bytes) begun.0 in
+      let first : w.index-forms-cells.result ≡ form = grind arith in
+      inr (left_less c.args.charset form.kind bytes (grind arith) (rw first at (rw all at w.in_default.ensures.field))))
+]

@@ -1,0 +1,35 @@
+use Rattle.tds_cells.proofs.table.Table.learn.Goals as goal
+use Rattle.tds_cells.proofs.Words.{◌∙◌, ap, sym, arith, IsLaidOut, columns_of, is_counted, is_int4, rules}
+use Rattle.tds_cells.proofs.LaidOut.{each_set, kind_set}
+use Rattle.tds_cells.proofs.TableSteps.{first_more, next_column}
+
+pub loop-known-init : goal.loop-known-init
+loop-known-init c = record {
+  most = search arith;
+  few = search arith;
+  first = search arith;
+  laid = c.requires.laid;
+  numbers = λ _. c.requires.numbers;
+  counted = λ _. c.requires.counted;
+  rest = search arith;
+}
+
+pub loop-known-preserved : goal.loop-known-preserved
+loop-known-preserved c =
+    let inv = c.loop-known.invariant in
+    let step = sym inv.rest ∙ c.in-Some.ensures.steps in
+    let columns = columns_of c.args.columns.bytes.now in
+    let next = next_column columns _ step in
+    record {
+      most = search (arith, rules);
+      few = omega arith;
+      first = first_more _ columns _ c.of.result
+          (omega arith) inv.first step c.of.ensures.kind;
+      laid = each_set (λ f. IsLaidOut c.args.charset f.kind f.layout) _ _ c.of.result inv.laid
+          (omega arith) c.of.ensures.laid;
+      numbers = kind_set is_int4 _ _ c.of.result _ c.is_int4-only_numbers.result inv.numbers
+          (omega arith) (c.is_int4-only_numbers.ensures ∙ ap is_int4 (sym c.of.ensures.kind));
+      counted = kind_set is_counted _ _ c.of.result _ c.is_counted-only_counted.result inv.counted
+          (omega arith) (c.is_counted-only_counted.ensures ∙ ap is_counted (sym c.of.ensures.kind));
+      rest = sym next.1.1;
+    }

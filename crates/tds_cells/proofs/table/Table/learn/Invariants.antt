@@ -1,0 +1,17 @@
+use Rattle.tds_cells.proofs.table.Table.learn.Given as goal
+use Rattle.tds_cells.proofs.Words as N
+use Rattle.tds_cells.proofs.Words.{◌≡◌, ◌-◌, ◌≤◌}
+
+abbrev pub invariant-loop-known : goal.invariant-loop-known
+invariant-loop-known l = record {
+  most : l.known ≤ N.length l.forms;
+  few : l.known ≤ N.length (N.columns_of l.fn.columns.bytes.now);
+  first : N.map (λ f. f.kind) (N.take l.known l.forms) ≡ N.kinds (N.take l.known (N.columns_of l.fn.columns.bytes.now));
+  laid : N.AreLaidOut l.fn.charset l.forms;
+  numbers : l.only_numbers ≡ N.true → N.AreInt4 l.forms;
+  counted : l.only_counted ≡ N.true → N.AreCounted l.forms;
+  rest : N.columns_left l.rest ≡ N.drop l.known (N.columns_of l.fn.columns.bytes.now);
+}
+
+abbrev pub decreases-loop-known : goal.decreases-loop-known
+decreases-loop-known l = N.length l.forms - l.known

@@ -1,0 +1,116 @@
+-- What a run over cells by their forms does, whose columns follow one another in a row.
+use Rattle.std.specs.Prelude.{◌≡◌, ◌==◌, ◌⊎◌, ◌+◌, ◌-◌, ◌<◌, ◌≤◌, ◌*◌, ◌&&◌, ◌∷◌, ◌++◌, ℕ, zero, suc, Bool, false, true, List, [], length, map, take, drop}
+use Rattle.std.specs.Prelude.{get_or}
+use Rattle.tds_columns.specs.Description.{Column}
+use Rattle.tds_text.specs.Quoting.{after_comma}
+use Rattle.tds_values.specs.declared.charset.Charset.{Charset}
+use Rattle.tds_cells.specs.declared.layout.Form.{Form}
+use Rattle.tds_cells.specs.declared.whole.TheConstants.{CELL_ROOM}
+use Rattle.tds_cells.specs.declared.run.forms.FormsRun.{FormsRun}
+use Rattle.tds_values.specs.declared.span.Span.{Span}
+use Rattle.tds_cells.specs.CellTexts.{IsLeft, IsScalarLeft, WritesField, whole_size}
+use Rattle.tds_cells.specs.Forms.{AreInt4}
+use Rattle.tds_cells.specs.MarkedRuns.{WritesMarked}
+use Rattle.tds_cells.specs.Runs.{WritesOne}
+use Rattle.tds_cells.specs.Tables.{BeginsRow, kinds}
+
+-- The forms are those of the next columns, which are the row's last if the forms end it.
+pub record AreNext (forms : List Form) (ends : Bool) (columns : List Column) : Type 0 where
+  pub kinds_are : map (λ f. f.kind) forms ≡ kinds (take (length forms) columns)
+  pub ends_are : ends ≡ (length forms == length columns)
+
+-- A run wrote no more cells than there are, from no more bytes, into no more room; and a cell has some bytes.
+pub record IsWithin (run : FormsRun) (most bytes room : ℕ) : Type 0 where
+  pub cells : run.cells ≤ most
+  pub used : run.used ≤ bytes
+  pub made : run.made ≤ room
+  pub some : 0 < run.cells → 0 < run.used
+  pub none : run.cells ≡ 0 → run.used ≡ 0
+
+-- The first cell is left, with this much room; or there isn't room for every scalar.
+abbrev pub FirstLeft : Charset → List Form → List ℕ → ℕ → Type 0
+FirstLeft charset forms bytes room = (form : Form) (rest : List Form) → forms ≡ form ∷ rest → (room < CELL_ROOM) ⊎ IsLeft charset form.kind bytes room
+
+-- The bytes of the first cell were used, which are this many.
+abbrev pub FirstUsed : List Form → List ℕ → ℕ → Type 0
+FirstUsed forms bytes used = (form : Form) (rest : List Form) → forms ≡ form ∷ rest → used ≡ whole_size form.kind bytes
+
+-- Only the first cell was written so.
+abbrev pub FirstWritten : Charset → List Form → ℕ → Bool → List ℕ → List ℕ → FormsRun → Type 0
+FirstWritten charset forms column ends bytes text run = (form : Form) (rest : List Form) → forms ≡ form ∷ rest
+    → WritesOne charset form.kind column (ends && (1 == length forms)) bytes text run.used run.made
+
+-- The bytes are the cells of this number of forms, and these are their fields after one another, each after its comma.
+abbrev pub WritesForms : Charset → List Form → ℕ → ℕ → List ℕ → List ℕ → Type 0
+WritesForms charset forms column zero bytes text = (bytes ≡ []) × (text ≡ [])
+WritesForms charset forms column (suc n) bytes text = (front : List ℕ) × (rest : List ℕ) × (before : List ℕ) × (field : List ℕ)
+    × (bytes ≡ front ++ rest) × (text ≡ before ++ after_comma (column + n) field) × WritesForms charset forms column n front before
+    × ((form : Form) → WritesField charset (get_or forms n form).kind rest field)
+
+-- A run wrote the fields of the bytes that it used, and the comma of the next one.
+abbrev pub FieldsWritten : Charset → List Form → ℕ → List ℕ → List ℕ → FormsRun → Type 0
+FieldsWritten charset forms column bytes text run = (fields : List ℕ) × WritesForms charset forms column run.cells (take run.used bytes) fields
+    × (take run.made text ≡ fields ++ after_comma (column + run.cells) [])
+
+-- A run wrote the fields of the first cells and the comma after them, with room for the end of the line.
+pub record WritesFields (charset : Charset) (forms : List Form) (column : ℕ) (bytes text : List ℕ) (run : FormsRun) : Type 0 where
+  pub within : IsWithin run (length forms) (length bytes) (length text)
+  pub room : 0 < run.cells → (0 < run.made) × (run.made < length text)
+  pub one : run.cells ≡ 1 → FirstUsed forms bytes run.used
+  pub fields : FieldsWritten charset forms column bytes text run
+
+-- So many cells of whole numbers of four bytes are there with all their bytes and one more, and with room for their fields and the end of the line.
+pub record NumbersWithin (cells bytes room : ℕ) : Type 0 where
+  pub whole : 5 * cells < bytes
+  pub fits : 12 * cells + 25 < room
+
+-- A row of so many numbers that begins no later has all its bytes, one more, and room.
+pub record IsLatest (cells bytes room : ℕ) (latest : Span) : Type 0 where
+  pub used : latest.used + 5 * cells + 1 ≡ bytes
+  pub made : latest.made + 12 * cells + 26 ≡ room
+
+-- The values of these forms' kinds are whole numbers of four bytes, which are there with their bytes and room.
+pub record AreNumbers (forms : List Form) (bytes room : ℕ) : Type 0 where
+  pub numbers : AreInt4 forms
+  pub within : NumbersWithin (length forms) bytes room
+
+-- A run wrote the text of the bytes that it used, which are the next cells.
+abbrev pub FormsWritten : Charset → List Form → ℕ → Bool → List ℕ → List ℕ → FormsRun → Type 0
+FormsWritten charset forms column ends bytes text run = (columns : List Column) → AreNext forms ends (drop column columns) →
+    WritesMarked charset columns (λ k. false) column run.cells (take run.used bytes) (take run.made text)
+
+-- A run over cells by their forms did so much: it wrote the text of what it used, and left the first cell if it wrote none.
+pub record RunsForms (charset : Charset) (forms : List Form) (column : ℕ) (last : Bool) (bytes : List ℕ) (room : ℕ) (text : List ℕ)
+    (run : FormsRun) : Type 0 where
+  pub within : IsWithin run (length forms) (length bytes) room
+  pub ends : run.cells ≡ 0 → FirstLeft charset forms bytes room
+  pub one : run.cells ≡ 1 → FirstWritten charset forms column last bytes text run
+  pub cells : FormsWritten charset forms column last bytes text run
+
+-- what a run did since a place in its row
+abbrev pub done_since : FormsRun → FormsRun → FormsRun
+done_since at run = record { cells = run.cells - at.cells; used = run.used - at.used; made = run.made - at.made }
+
+-- After the cells of a run the next one is refused, which is of a scalar kind.
+abbrev pub IsRefusedAfter : List Form → List ℕ → FormsRun → Type 0
+IsRefusedAfter forms bytes run = (form : Form) → IsScalarLeft (get_or forms run.cells form).kind (drop run.used bytes)
+
+-- Some first cells of a row are at the front of these bytes, and after them one is refused.
+pub record RefusesRow (forms : List Form) (bytes : List ℕ) : Type 0 where
+  pub run : FormsRun
+  pub few : run.cells < length forms
+  pub fields : (charset : Charset) → (text : List ℕ) × WritesForms charset forms 0 run.cells (take run.used bytes) text
+  pub next : IsRefusedAfter forms bytes run
+
+-- A whole row is at the front of these bytes, and no ROW follows it.
+pub record IsLastRow (forms : List Form) (bytes : List ℕ) : Type 0 where
+  pub run : FormsRun
+  pub whole : run.cells ≡ length forms
+  pub room : ℕ
+  pub text : List ℕ
+  pub row : (charset : Charset) → RunsForms charset forms 0 true bytes room text run
+  pub last : BeginsRow (drop run.used bytes) → ⊥
+
+-- A run over rows of numbers ended: bytes or room are too few for any row, or the next row has a cell that is refused or is the last.
+abbrev pub NumbersEnd : List Form → List ℕ → ℕ → Type 0
+NumbersEnd forms bytes room = (NumbersWithin (length forms) (length bytes) room → ⊥) ⊎ (RefusesRow forms bytes ⊎ IsLastRow forms bytes)

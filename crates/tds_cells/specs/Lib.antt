@@ -1,0 +1,15 @@
+pub mod Cells
+pub mod Rows
+pub mod CellTexts
+pub mod Tables
+pub mod Runs
+pub mod FormRuns
+pub mod Layouts
+pub mod Forms
+pub mod ShortCells
+pub mod ChunkedCells
+pub mod LongFields
+pub mod WholeCells
+pub mod MarkedRows
+pub mod MarkedRuns
+pub mod Laws

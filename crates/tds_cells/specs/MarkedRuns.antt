@@ -1,0 +1,84 @@
+-- What a run over the cells of an NBCROW does, which are NULL by their bit or lie whole in the packet.
+use Rattle.std.specs.Prelude.{◌≡◌, ◌⊎◌, ◌+◌, ◌-◌, ◌<◌, ◌≤◌, ℕ, zero, suc, Bool, true, false, List, [], ◌∷◌, ◌++◌, length, take, drop}
+use Rattle.tds_values.specs.declared.kind.Kind.{Kind}
+use Rattle.tds_columns.specs.Description.{Column}
+use Rattle.tds_text.specs.Quoting.{in_line, null_field}
+use Rattle.tds_values.specs.declared.charset.Charset.{Charset}
+use Rattle.tds_cells.specs.declared.run.CellRun.{CellRun}
+use Rattle.tds_cells.specs.declared.whole.TheConstants.{CELL_ROOM, FAR}
+use Rattle.tds_cells.specs.declared.table.Ahead.{Ahead}
+use Rattle.tds_cells.specs.declared.table.Table.{Table}
+use Rattle.tds_cells.specs.Cells.{cell_start, shape}
+use Rattle.tds_cells.specs.CellTexts.{IsLeft, is_last_column}
+use Rattle.tds_cells.specs.Tables.{IsAhead, Knows}
+use Rattle.tds_cells.specs.WholeCells.{WritesWhole}
+
+-- This is a cell's text in its line: that of NULL, which has no bytes, if that is its bit, and of the cell that the bytes are if it isn't.
+abbrev pub WritesNext : Charset → Bool → Kind → ℕ → Bool → List ℕ → List ℕ → Type 0
+WritesNext charset true kind column last bytes text = (bytes ≡ []) × (text ≡ in_line column last null_field)
+WritesNext charset false kind column last bytes text = WritesWhole (cell_start kind (shape charset kind)) column last bytes text
+
+-- The columns from one up to another aren't NULL by their bit.
+abbrev pub AreClear : (ℕ → Bool) → ℕ → ℕ → Type 0
+AreClear nulls from end = (k : ℕ) → from ≤ k → k < end → nulls k ≡ false
+
+-- The columns from one up to another are NULL by their bit.
+abbrev pub AreSet : (ℕ → Bool) → ℕ → ℕ → Type 0
+AreSet nulls from end = (k : ℕ) → from ≤ k → k < end → nulls k ≡ true
+
+-- The columns from one up to another, of this number, aren't NULL by their bit; that one, if there is one, is.
+pub record EndsClear (nulls : ℕ → Bool) (from count end : ℕ) : Type 0 where
+  pub least : from ≤ end
+  pub most : end ≤ count
+  pub clear : AreClear nulls from end
+  pub set : end < count → nulls end ≡ true
+
+-- The bytes are the cell of the column after this number of them, none if it is NULL by its bit, and this is its text in its line.
+pub record WritesColumn (charset : Charset) (columns : List Column) (nulls : ℕ → Bool) (at : ℕ) (bytes text : List ℕ) : Type 0 where
+  pub column : Column
+  pub left : List Column
+  pub next : drop at columns ≡ column ∷ left
+  pub writes : WritesNext charset (nulls at) column.kind at (is_last_column left) bytes text
+
+-- The bytes are the cells of this many columns from one on, each but those that are NULL by their bit, and this is their text in their line.
+abbrev pub WritesMarked : Charset → List Column → (ℕ → Bool) → ℕ → ℕ → List ℕ → List ℕ → Type 0
+WritesMarked charset columns nulls from zero bytes text = (bytes ≡ []) × (text ≡ [])
+WritesMarked charset columns nulls from (suc n) bytes text = (front : List ℕ) × (rest : List ℕ) × (before : List ℕ) × (more : List ℕ)
+    × (bytes ≡ front ++ rest) × (text ≡ before ++ more) × WritesMarked charset columns nulls from n front before
+    × WritesColumn charset columns nulls (from + n) rest more
+
+-- This many columns from one on, of all these, are NULL by their bit, and this is their text in their line.
+abbrev pub WritesNulls : (ℕ → Bool) → ℕ → ℕ → ℕ → List ℕ → Type 0
+WritesNulls nulls from count n text = (charset : Charset) (columns : List Column) → length columns ≡ count →
+    WritesMarked charset columns nulls from n [] text
+
+-- Between two places of a row the bytes are the cells, each but those that are NULL by their bit, and this is their text; single-byte text is read in
+-- the table's set.
+pub record RunsMarked (table : Table) (columns : List Column) (nulls : ℕ → Bool) (from to : Ahead) (bytes text : List ℕ) : Type 0 where
+  pub count : ℕ
+  pub ahead : IsAhead table columns to
+  pub further : to.column ≡ from.column + count
+  pub writes : WritesMarked table.charset columns nulls from.column count bytes text
+
+-- ---- what a run gives, whatever the columns that its table knows
+
+-- The next cell isn't NULL by its bit and is left, with this much room; or there isn't room for every scalar, or none is ahead.
+abbrev pub EndsLeft : Table → (ℕ → Bool) → Ahead → List ℕ → ℕ → Type 0
+EndsLeft table nulls at bytes room = (columns : List Column) (column : Column) (left : List Column) → Knows table columns → IsAhead table columns at
+    → drop at.column columns ≡ column ∷ left →
+    (room < CELL_ROOM) ⊎ ((nulls at.column ≡ false) × IsLeft table.charset column.kind bytes room)
+
+-- A run ended there, or where bytes or room are too few for any scalar.
+abbrev pub EndsFar : Table → (ℕ → Bool) → Ahead → List ℕ → ℕ → Type 0
+EndsFar table nulls at bytes room = (length bytes < FAR) ⊎ ((room < CELL_ROOM) ⊎ EndsLeft table nulls at bytes room)
+
+-- A run wrote the text of the cells between two places, whose bytes it used.
+abbrev pub MarkedWritten : Table → (ℕ → Bool) → Ahead → List ℕ → List ℕ → CellRun → Type 0
+MarkedWritten table nulls from bytes text run = (columns : List Column) → Knows table columns → IsAhead table columns from →
+    RunsMarked table columns nulls from run.ahead (take run.used bytes) (take run.made text)
+
+-- A run used and made no more than there is, and ended where no more could be taken.
+pub record EndsMarked (table : Table) (nulls : ℕ → Bool) (bytes : List ℕ) (room : ℕ) (run : CellRun) : Type 0 where
+  pub used : run.used ≤ length bytes
+  pub made : run.made ≤ room
+  pub left : EndsLeft table nulls run.ahead (drop run.used bytes) (room - run.made)

@@ -1,0 +1,130 @@
+-- What a run of cells does, which lie whole in the packet.
+use Rattle.std.specs.Prelude.{◌≡◌, ◌==◌, ◌<◌, ◌≤◌, ℕ, Bool, false, List, [], ◌∷◌, ◌++◌, length, map, take, drop, Option, Some, None, MatchOption}
+use Rattle.std.specs.Prelude.{if◌then◌else◌, slice_index}
+use Rattle.tds_values.specs.declared.kind.Kind.{Kind}
+use Rattle.tds_packet.specs.declared.fault.Fault.{Fault}
+use Rattle.tds_packet.specs.declared.fault.Fault.TheVariants.{MessageEnded, RefusedToken}
+use Rattle.tds_packet.specs.Elements.{Grammar, Spelt}
+use Rattle.tds_columns.specs.Description.{Column}
+use Rattle.tds_text.specs.Quoting.{line}
+use Rattle.tds_values.specs.declared.charset.Charset.{Charset}
+use Rattle.tds_values.specs.declared.span.Span.{Span}
+use Rattle.tds_cells.specs.declared.run.CellRun.{CellRun}
+use Rattle.tds_cells.specs.declared.run.RowsRun.{RowsRun}
+use Rattle.tds_cells.specs.declared.table.Ahead.{Ahead}
+use Rattle.tds_cells.specs.declared.table.Table.{Table}
+use Rattle.tds_cells.specs.Cells.{Cell, field}
+use Rattle.tds_cells.specs.Rows.{PlainRow, RowPart, RowToken, WholeRow, marked, next_cell, row_add, row_fault, row_size, row_so_far, token_byte}
+use Rattle.tds_cells.specs.Rows.{token_start}
+use Rattle.tds_cells.specs.MarkedRuns.{EndsFar, EndsLeft, MarkedWritten}
+use Rattle.tds_cells.specs.CellTexts.{IsLeft, WritesKind, whole_size}
+use Rattle.tds_cells.specs.Tables.{IsAhead, Knows}
+
+-- The bytes are whole elements, which lead from one state to another, and this is what the text of the second has more than that of the first.
+pub record Writes {S : Type 0} (g : Grammar S Fault) (text : S → List ℕ) (from : S) (bytes made : List ℕ) (to : S) : Type 0 where
+  pub spelt : Spelt g from bytes to
+  pub text_is : text from ++ made ≡ text to
+
+-- a row whose first cells are these, and whose other columns are to come
+abbrev pub after_cells : Charset → List Cell → List Column → RowPart
+after_cells charset cells left = next_cell charset cells (marked left (λ k. false) (length cells))
+
+-- ---- over the ends of rows
+
+-- rows as far as they are read, each but the first after its token byte: those before, and the one that is read
+pub record RowsPart : Type 0 where
+  pub before : List (List Cell)
+  pub at : RowPart
+
+-- before the first element of a row and those that follow it
+abbrev pub rows_start : RowToken → Charset → List Column → RowsPart
+rows_start token charset columns = record { before = []; at = token_start token charset columns }
+
+-- how many bytes the next element of rows has: a token byte after a whole row
+abbrev pub rows_size : RowPart → ℕ
+rows_size (WholeRow cells) = 1
+rows_size part = row_size part
+
+-- the first fault of an element of rows: a token byte that is another token's
+abbrev pub rows_fault : RowToken → RowPart → List ℕ → Option Fault
+rows_fault token (WholeRow cells) element = if slice_index element 0 == token_byte token then None else Some (RefusedToken (slice_index element 0))
+rows_fault token part element = row_fault part element
+
+-- the state after an element of rows
+abbrev pub rows_add : RowToken → Charset → List Column → List (List Cell) → RowPart → List ℕ → RowsPart
+rows_add token charset columns before (WholeRow cells) element = record { before = before ++ cells ∷ []; at = token_start token charset columns }
+rows_add token charset columns before part element = record { before = before; at = row_add charset part element }
+
+-- How rows of one token are read, one after another.
+abbrev pub rows : RowToken → Charset → List Column → Grammar RowsPart Fault
+rows token charset columns = record {
+  size = λ p. rows_size p.at;
+  fault = λ p element. rows_fault token p.at element;
+  add = λ p element. rows_add
+      token charset columns p.before p.at element;
+  end_fault = λ p. Some MessageEnded;
+}
+
+-- the lines of whole rows
+abbrev pub lines : List (List Cell) → List ℕ
+lines [] = []
+lines (r ∷ rs) = line (map field r) ++ lines rs
+
+-- the text so far of rows
+abbrev pub rows_so_far : RowsPart → List ℕ
+rows_so_far p = lines p.before ++ row_so_far p.at
+
+-- The bytes are more cells after these, over the ends of this many rows, and this is their text; the columns left come after.
+pub record WritesRows (charset : Charset) (all : List Column) (cells : List Cell) (columns left : List Column) (column count : ℕ)
+    (bytes made : List ℕ) : Type 0 where
+  pub before : List (List Cell)
+  pub more : List Cell
+  pub rows_counted : length before ≡ count
+  pub counted : length more ≡ column
+  pub writes : Writes (rows PlainRow charset all) rows_so_far (record { before = []; at = after_cells charset cells columns }) bytes made
+      (record { before = before; at = after_cells charset more left })
+
+-- ---- what a run gives, whatever the columns that its table knows, and whatever the cells before it
+
+-- A run within a row used and made no more than there is, went on if it used a byte, and not beyond its end.
+pub record StaysWithin (from : Ahead) (end bytes room : ℕ) (run : CellRun) : Type 0 where
+  pub used : run.used ≤ bytes
+  pub made : run.made ≤ room
+  pub further : 0 < run.used → from.column < run.ahead.column
+  pub before : from.column ≤ end → run.ahead.column ≤ end
+
+-- A run ended at the row's end, without room for every scalar, or before a cell that is left.
+abbrev pub RunEnds : Table → Ahead → List ℕ → ℕ → Type 0
+RunEnds table at bytes room = EndsLeft table (λ k. false) at bytes room
+
+-- A run ended so, or where bytes or room are too few for any scalar.
+abbrev pub FarEnds : Table → Ahead → List ℕ → ℕ → Type 0
+FarEnds table at bytes room = EndsFar table (λ k. false) at bytes room
+
+-- The first bytes, this many, are a whole cell of a kind, and this much of the text is its text in its line.
+pub record WritesOne (charset : Charset) (kind : Kind) (column : ℕ) (last : Bool) (bytes text : List ℕ) (used made : ℕ) : Type 0 where
+  pub size : used ≡ whole_size kind bytes
+  pub writes : WritesKind charset kind column last (take used bytes) (take made text)
+
+-- The cell of this kind was written so, or it is left, with this much room.
+abbrev pub AloneWritten : Charset → Kind → ℕ → Bool → List ℕ → ℕ → List ℕ → Option Span → Type 0
+AloneWritten charset kind column last bytes room text result =
+    MatchOption result (IsLeft charset kind bytes room) (λ written. WritesOne charset kind column last bytes text written.used written.made)
+
+-- A run wrote the text of the cells between two places of a row, whose bytes it used; none of them is NULL by a bit.
+abbrev pub CellsWritten : Table → Ahead → List ℕ → List ℕ → CellRun → Type 0
+CellsWritten table from bytes text run = MarkedWritten table (λ k. false) from bytes text run
+
+-- A run wrote the text of the bytes that it used, over the ends of rows, and ended at a place of a row; single-byte text was read in the table's set.
+abbrev pub RowsWritten : Table → Ahead → List ℕ → List ℕ → RowsRun → Type 0
+RowsWritten table from bytes text run = (columns : List Column) → Knows table columns → IsAhead table columns from →
+    IsAhead table columns run.ahead × ((charset : Charset) (cells : List Cell) → table.charset ≡ charset → length cells ≡ from.column →
+    WritesRows charset columns cells (drop from.column columns) (drop run.ahead.column columns) run.ahead.column run.rows (take run.used bytes)
+    (take run.made text))
+
+-- A run over rows used and made no more than there is, began fewer rows than it used bytes, and wrote the text of what it used.
+pub record RowsRan (table : Table) (from : Ahead) (bytes text : List ℕ) (run : RowsRun) : Type 0 where
+  pub used : run.used ≤ length bytes
+  pub made : run.made ≤ length text
+  pub few : run.rows ≤ run.used
+  pub writes : RowsWritten table from bytes text run

@@ -1,0 +1,268 @@
+// Cells of NBCROWs that are whole in the packet or NULL by their bit (MS-TDS, NBCROW).
+ghost use Rattle.std.specs.Prelude.{true, ◌≡◌, ◌+◌, ◌-◌, ◌*◌, ◌<◌, ◌≤◌, drop, length, take};
+ghost use Rattle.tds_cells.specs.MarkedRows.{EndsNbcRows, NbcRowsWritten};
+ghost use Rattle.tds_cells.specs.MarkedRuns.{AreClear, AreSet, EndsClear, EndsFar, EndsMarked, MarkedWritten, WritesNulls};
+ghost use Rattle.tds_cells.specs.Rows.{bit, bitmap_length, longest_bitmap};
+ghost use Rattle.tds_cells.specs.Tables.{KnowsAll};
+
+use crate::run::CellRun;
+use crate::run::forms::write_far_alone;
+use crate::table::{Ahead, Table};
+use crate::whole::{CELL_ROOM, FAR};
+use tds_text::write_null;
+
+/// The token byte of an NBCROW (MS-TDS, NBCROW).
+pub const NBCROW: u8 = 0xD2;
+
+// How many bytes the bitmap of `columns` columns has.
+pub fn bitmap_size(columns: u16) -> usize
+    ensures value { result ≡ bitmap_length columns }
+    ensures most { result ≤ longest_bitmap }
+{
+    (columns as usize + 7) / 8
+}
+
+// Whether the bit of a column is set. The lowest bit of the first byte is the bit of column 0.
+pub fn is_null(bitmap: &[u8], column: u16) -> bool
+    requires { column < 8 * length bitmap.now }
+    ensures { result ≡ bit bitmap.now column }
+{
+    (bitmap[column as usize / 8] >> (column % 8) as u32) & 1 == 1
+}
+
+// The end of the columns from `from` on whose bits are clear. Those before `known` are known to be clear.
+#[inline(always)]
+fn clear_end(bitmap: &[u8], from: u16, known: u16, count: u16) -> u16
+    requires bitmap { count ≤ 8 * length bitmap.now }
+    requires within { from ≤ count }
+    requires most { known ≤ count }
+    requires clear { AreClear (bit bitmap.now) from known }
+    ensures { EndsClear (bit bitmap.now) from count result }
+{
+    let mut at = from.max(known) as usize;
+    while at < count as usize {
+        let bits = bitmap[at / 8] >> (at % 8) as u32;
+        if bits != 0 {
+            at += bits.trailing_zeros() as usize;
+            return (count as usize).min(at) as u16;
+        }
+        at = at / 8 * 8 + 8;
+    }
+    count
+}
+
+// NULL in eight columns after one another, each after a comma.
+const NULLS: [u8; NULLS_SIZE] = *b",NULL,NULL,NULL,NULL,NULL,NULL,NULL,NULL";
+
+// How many bytes that has.
+const NULLS_SIZE: usize = 40;
+
+// How many it has for each column.
+const NULL_SIZE: usize = 5;
+
+// How many columns from one on have their bit in the same byte and set, and come before the last one.
+#[inline(always)]
+fn nulls_ahead(bitmap: &[u8], column: u16, count: u16) -> usize
+    requires bitmap { count ≤ 8 * length bitmap.now }
+    requires within { column < count }
+    ensures few { result ≤ 8 }
+    ensures within { column + result < count }
+    ensures set { AreSet (bit bitmap.now) column (column + result) }
+{
+    let bits = bitmap[column as usize / 8] as u32 >> (column % 8) as u32;
+    let left = (count - 1 - column) as usize;
+    left.min(bits.trailing_ones() as usize)
+}
+
+// In how many columns NULL may be written at once.
+const EIGHT: usize = 8;
+
+// In how many columns NULL was written, and how many bytes that made.
+#[derive(Clone, Copy)]
+struct Nulls {
+    columns: usize,
+    made: usize,
+}
+
+// Writes NULL in its line, in the next column, which is NULL by its bit, and in those after it that are too by the bits of the
+// same byte, in `most` columns at most.
+#[inline(always)]
+fn write_nulls(bitmap: &[u8], column: u16, count: u16, most: usize, to: &mut [u8]) -> Nulls
+    requires bitmap { count ≤ 8 * length bitmap.now }
+    requires within { column < count }
+    requires null { bit bitmap.now column ≡ true }
+    requires most { 0 < most }
+    requires room { CELL_ROOM ≤ length to.old }
+    ensures some { 0 < result.columns }
+    ensures most { result.columns ≤ most }
+    ensures within { column + result.columns ≤ count }
+    ensures made { result.made ≤ 40 }
+    ensures nulls { WritesNulls (bit bitmap.now) column count result.columns (take result.made to.new) }
+{
+    let columns = nulls_ahead(bitmap, column, count).min(most);
+    if columns < 2 || column == 0 {
+        let made = write_null(column, column + 1 == count, to);
+        return Nulls { columns: 1, made };
+    }
+    to[..NULLS_SIZE].copy_from_slice(&NULLS);
+    Nulls {
+        columns,
+        made: NULL_SIZE * columns,
+    }
+}
+
+/// How many bytes a run over NBCROWs used, how many it made, and how many rows those are.
+#[derive(Clone, Copy)]
+pub struct WholeRows {
+    pub used: usize,
+    pub made: usize,
+    pub rows: usize,
+}
+
+impl<'a> Table<'a> {
+    // Writes cell after cell of an NBCROW whose columns the table all knows, as `run_nulls` does, as long as bytes and room go
+    // on far enough for any scalar.
+    #[inline(always)]
+    fn run_far_marked(
+        &self,
+        from: Ahead<'a>,
+        bitmap: &[u8],
+        bytes: &[u8],
+        to: &mut [u8],
+    ) -> CellRun<'a>
+        requires known { self.now.known ≡ self.now.count }
+        requires bitmap { self.now.count ≤ 8 * length bitmap.now }
+        ensures used { result.used ≤ length bytes.now }
+        ensures made { result.made ≤ length to.old }
+        ensures ends { EndsFar self.now (bit bitmap.now) result.ahead (drop result.used bytes.now) (length to.old - result.made) }
+        ensures cells { MarkedWritten self.now (bit bitmap.now) from.entry bytes.now to.new result }
+    {
+        if bytes.len() < FAR || to.len() < CELL_ROOM {
+            return CellRun::none(from);
+        }
+        let latest = bytes.len() - FAR;
+        let most = to.len() - CELL_ROOM;
+        let mut used = 0;
+        let mut made = 0;
+        let mut ahead = from;
+        while used <= latest && made <= most {
+            let Some(form) = self.known_form(ahead) else {
+                break;
+            };
+            let (column, last) = (ahead.column, self.is_last(ahead));
+            let mut columns = 1;
+            if is_null(bitmap, column) {
+                let nulls = write_nulls(bitmap, column, self.count(), EIGHT, &mut to[made..]);
+                made += nulls.made;
+                columns = nulls.columns;
+            } else {
+                let charset = self.charset;
+                let next = write_far_alone(&form, charset, column, last, bytes, used, to, made);
+                let Some(written) = next else {
+                    break;
+                };
+                used += written.used;
+                made += written.made;
+            }
+            self.pass(&mut ahead, columns);
+        }
+        CellRun { used, made, ahead }
+    }
+
+    // Writes NBCROW after NBCROW, each with the token byte of the next, as long as each of their cells is as `run_far_marked`
+    // takes it.
+    #[inline(never)]
+    pub fn run_far_rows(&self, bytes: &[u8], to: &mut [u8]) -> WholeRows
+        requires known { KnowsAll self.now }
+        ensures used { result.used ≤ length bytes.now }
+        ensures made { result.made ≤ length to.old }
+        ensures few { result.rows ≤ result.used }
+        ensures ends { EndsNbcRows self.now (bitmap_length self.now.count) (drop result.used bytes.now) (length to.old - result.made) }
+        ensures rows { NbcRowsWritten self.now bytes.now to.new result }
+    {
+        let size = bitmap_size(self.count());
+        let mut whole = WholeRows {
+            used: 0,
+            made: 0,
+            rows: 0,
+        };
+        loop {
+            let rest = &bytes[whole.used..];
+            if rest.len() < size {
+                break;
+            }
+            let (bitmap, cells) = (&rest[..size], &rest[size..]);
+            let run = self.run_far_marked(self.start(), bitmap, cells, &mut to[whole.made..]);
+            if !self.is_end(run.ahead) {
+                break;
+            }
+            let after = &cells[run.used..];
+            if after.is_empty() || after[0] != NBCROW {
+                break;
+            }
+            whole.used += size + run.used + 1;
+            whole.made += run.made;
+            whole.rows += 1;
+        }
+        whole
+    }
+
+    // Writes cell after cell of an NBCROW as `run_nulls` does. `KNOWN` says that the table knows all columns.
+    #[inline(never)]
+    fn run_marked<const KNOWN: bool>(
+        &self,
+        from: Ahead<'a>,
+        bitmap: &[u8],
+        bytes: &[u8],
+        to: &mut [u8],
+    ) -> CellRun<'a>
+        requires known { KNOWN ≡ true → self.now.known ≡ self.now.count }
+        requires bitmap { self.now.count ≤ 8 * length bitmap.now }
+        ensures ends { EndsMarked self.now (bit bitmap.now) bytes.now (length to.old) result }
+        ensures cells { MarkedWritten self.now (bit bitmap.now) from.entry bytes.now to.new result }
+    {
+        let mut used = 0;
+        let mut made = 0;
+        let mut ahead = from;
+        let mut end = 0;
+        let most = if KNOWN { EIGHT } else { 1 };
+        while to.len() - made >= CELL_ROOM && ahead.column < self.count() {
+            end = clear_end(bitmap, ahead.column, end, self.count());
+            if end == ahead.column {
+                let nulls = write_nulls(bitmap, end, self.count(), most, &mut to[made..]);
+                made += nulls.made;
+                self.step(&mut ahead, nulls.columns);
+                continue;
+            }
+            let (rest, room) = (&bytes[used..], &mut to[made..]);
+            let cells = self.run_cells::<KNOWN>(ahead, end, rest, room);
+            if cells.used == 0 {
+                break;
+            }
+            used += cells.used;
+            made += cells.made;
+            ahead = cells.ahead;
+        }
+        CellRun { used, made, ahead }
+    }
+
+    // Writes cell after cell of an NBCROW, as far as they are NULL by their bit or whole in these bytes, aren't in several
+    // chunks, and have room. NULLs are written here.
+    #[inline(always)]
+    pub fn run_nulls(
+        &self,
+        from: Ahead<'a>,
+        bitmap: &[u8],
+        bytes: &[u8],
+        to: &mut [u8],
+    ) -> CellRun<'a>
+        requires bitmap { self.now.count ≤ 8 * length bitmap.now }
+        ensures ends { EndsMarked self.now (bit bitmap.now) bytes.now (length to.old) result }
+        ensures cells { MarkedWritten self.now (bit bitmap.now) from.entry bytes.now to.new result }
+    {
+        if self.knows_all() {
+            return self.run_marked::<true>(from, bitmap, bytes, to);
+        }
+        self.run_marked::<false>(from, bitmap, bytes, to)
+    }
+}

@@ -1,0 +1,374 @@
+// A run of cells: as many as are whole in the packet and have room, over the ends of rows.
+ghost use Rattle.std.specs.Prelude.{false, true, ◌≡◌, ◌==◌, ◌+◌, ◌-◌, ◌<◌, ◌≤◌, drop, length, take, IfSome};
+ghost use Rattle.tds_cells.specs.declared.whole.TheConstants.{CELL_ROOM};
+ghost use Rattle.tds_cells.specs.FormRuns.{NumbersEnd};
+ghost use Rattle.tds_cells.specs.Layouts.{IsLaidOut};
+ghost use Rattle.tds_cells.specs.Runs.{AloneWritten, CellsWritten, FarEnds, RowsRan, RunEnds, StaysWithin};
+ghost use Rattle.tds_cells.specs.Tables.{AreAhead, KnowsAll};
+
+use crate::layout::Form;
+use crate::run::forms::{FormsRun, latest_row, run_far_forms, run_forms, run_row};
+use crate::table::{Ahead, Table};
+use crate::whole::{CELL_ROOM, FAR};
+use tds_values::Span;
+
+pub(crate) mod forms;
+
+/// How many bytes a run within a row used, how many it made, and where it ended.
+#[derive(Clone, Copy)]
+pub struct CellRun<'a> {
+    pub used: usize,
+    pub made: usize,
+    pub ahead: Ahead<'a>,
+}
+
+/// How many bytes a run over rows used, how many it made, how many rows it began, and where it ended.
+#[derive(Clone, Copy)]
+pub struct RowsRun<'a> {
+    pub used: usize,
+    pub made: usize,
+    pub rows: usize,
+    pub ahead: Ahead<'a>,
+}
+
+impl<'a> RowsRun<'a> {
+    /// A run that took nothing.
+    pub fn none(at: Ahead<'a>) -> RowsRun<'a>
+        ensures { result ≡ record { used = 0; made = 0; rows = 0; ahead = at.entry } }
+    {
+        RowsRun {
+            used: 0,
+            made: 0,
+            rows: 0,
+            ahead: at,
+        }
+    }
+}
+
+impl<'a> CellRun<'a> {
+    /// A run that took nothing.
+    pub fn none(at: Ahead<'a>) -> CellRun<'a>
+        ensures { result ≡ record { used = 0; made = 0; ahead = at.entry } }
+    {
+        CellRun {
+            used: 0,
+            made: 0,
+            ahead: at,
+        }
+    }
+}
+
+impl<'a> Table<'a> {
+    // Writes cell after cell of a row by the forms of the next ones, as far as they are whole in these bytes, aren't in several
+    // chunks and have room.
+    #[inline(always)]
+    fn run_along(
+        &self,
+        from: Ahead<'a>,
+        end: u16,
+        forms: &[Form],
+        bytes: &[u8],
+        to: &mut [u8],
+    ) -> CellRun<'a>
+        requires within { end ≤ self.now.count }
+        requires ahead { AreAhead self.now from end forms.now }
+        ensures within { StaysWithin from.entry end (length bytes.now) (length to.old) result }
+        ensures ends { result.used ≡ 0 → RunEnds self.now from.entry bytes.now (length to.old) }
+        ensures cells { CellsWritten self.now from.entry bytes.now to.new result }
+    {
+        let ends = self.ends_after(from, forms);
+        let run = run_forms(forms, self.charset, from.column, ends, bytes, to);
+        let mut ahead = from;
+        self.step(&mut ahead, run.cells);
+        CellRun {
+            used: run.used,
+            made: run.made,
+            ahead,
+        }
+    }
+
+    // Writes the next cell of a row, which the table doesn't know, if it is whole in these bytes, isn't in several chunks and has
+    // room.
+    #[inline(never)]
+    fn run_unknown(&self, from: Ahead<'a>, end: u16, bytes: &[u8], to: &mut [u8]) -> CellRun<'a>
+        requires within { end ≤ self.now.count }
+        requires some { from.column < end }
+        ensures within { StaysWithin from.entry end (length bytes.now) (length to.old) result }
+        ensures ends { result.used ≡ 0 → RunEnds self.now from.entry bytes.now (length to.old) }
+        ensures cells { CellsWritten self.now from.entry bytes.now to.new result }
+    {
+        let Some(form) = self.form(from) else {
+            return CellRun::none(from);
+        };
+        let one = [form];
+        self.run_along(from, end, &one, bytes, to)
+    }
+
+    // Writes cell after cell of a row, as far as they are whole in these bytes, aren't in several chunks and have room, up to the
+    // column at which it ends. `KNOWN` says that the table knows all columns.
+    #[inline(always)]
+    pub fn run_cells<const KNOWN: bool>(
+        &self,
+        from: Ahead<'a>,
+        end: u16,
+        bytes: &[u8],
+        to: &mut [u8],
+    ) -> CellRun<'a>
+        requires known { KNOWN ≡ true → self.now.known ≡ self.now.count }
+        requires within { end ≤ self.now.count }
+        ensures within { StaysWithin from.entry end (length bytes.now) (length to.old) result }
+        ensures ends { result.used ≡ 0 → from.entry.column < end →
+            RunEnds self.now from.entry bytes.now (length to.old) }
+        ensures cells { CellsWritten self.now from.entry bytes.now to.new result }
+    {
+        if let Some(forms) = (&*self).forms(from, end) {
+            return self.run_along(from, end, forms, bytes, to);
+        }
+        if KNOWN || from.column >= end {
+            return CellRun::none(from);
+        }
+        self.run_unknown(from, end, bytes, to)
+    }
+
+    /// Writes only the next cell, which is of this form. `None` if it isn't whole in these bytes, is refused or in several chunks, or if there isn't
+    /// the room that the text of a short value may need.
+    #[inline(never)]
+    pub fn write_alone(
+        &self,
+        at: Ahead<'a>,
+        form: &Form,
+        bytes: &[u8],
+        to: &mut [u8],
+    ) -> Option<Span>
+        requires within { at.column < self.now.count }
+        requires laid { IsLaidOut self.now.charset form.now.kind form.now.layout }
+        requires room { CELL_ROOM ≤ length to.old }
+        ensures used { IfSome result (λ written. written.used ≤ length bytes.now) }
+        ensures most { IfSome result (λ written. written.made ≤ length to.old) }
+        ensures cell { AloneWritten self.now.charset form.now.kind at.entry.column (at.entry.column + 1 == self.now.count)
+            bytes.now (length to.old) to.new result }
+    {
+        let one = [*form];
+        let run = run_forms(&one, self.charset, at.column, self.is_last(at), bytes, to);
+        if run.cells == 0 {
+            return None;
+        }
+        Some(Span {
+            used: run.used,
+            made: run.made,
+        })
+    }
+
+    // Writes whole rows of whole numbers of four bytes, each with the token byte of the next, as long as there are bytes and
+    // room for any row. `COUNTED` says that all come after their lengths.
+    #[inline(never)]
+    fn run_numbers<const COUNTED: bool>(
+        &self,
+        from: Ahead<'a>,
+        bytes: &[u8],
+        to: &mut [u8],
+    ) -> RowsRun<'a>
+        requires known { KnowsAll self.now }
+        requires numbers { self.now.only_numbers ≡ true }
+        requires counted { COUNTED ≡ true → self.now.only_counted ≡ true }
+        requires first { from.column ≡ 0 }
+        ensures ahead { result.ahead ≡ from.entry }
+        ensures ends { let row = take self.now.known self.now.forms.now in
+            NumbersEnd row (drop result.used bytes.now) (length to.old - result.made) }
+        ensures rows { RowsRan self.now from.entry bytes.now to.new result }
+    {
+        let row = (&*self).row();
+        let Some(latest) = latest_row(row, bytes, to) else {
+            return RowsRun::none(from);
+        };
+        let mut used = 0;
+        let mut made = 0;
+        let mut rows = 0;
+        while used <= latest.used && made <= latest.made {
+            let Some(run) = run_row::<COUNTED>(row, &bytes[used..], &mut to[made..]) else {
+                break;
+            };
+            let end = used + run.used;
+            if !self.begins_row(&bytes[end..]) {
+                break;
+            }
+            used = end + 1;
+            made += run.made;
+            rows += 1;
+        }
+        RowsRun {
+            used,
+            made,
+            rows,
+            ahead: from,
+        }
+    }
+
+    // Writes cell after cell of rows whose columns the table all knows, as `run_known` does, as long as bytes and room go on
+    // far enough for any scalar.
+    #[inline(never)]
+    fn run_far(&self, from: Ahead<'a>, bytes: &[u8], to: &mut [u8]) -> RowsRun<'a>
+        requires known { KnowsAll self.now }
+        ensures ends { FarEnds self.now result.ahead (drop result.used bytes.now) (length to.old - result.made) }
+        ensures rows { RowsRan self.now from.entry bytes.now to.new result }
+    {
+        let forms = (&*self).row();
+        let begun = from.column as usize;
+        if begun >= forms.len() || bytes.len() < FAR || to.len() < CELL_ROOM {
+            return RowsRun::none(from);
+        }
+        let latest = bytes.len() - FAR;
+        let most = to.len() - CELL_ROOM;
+        let mut at = FormsRun {
+            cells: begun,
+            used: 0,
+            made: 0,
+        };
+        let mut rows = 0;
+        while at.used <= latest && at.made <= most {
+            let run = run_far_forms(forms, self.charset, at, bytes, to);
+            if run.cells == at.cells {
+                break;
+            }
+            at = run;
+            if at.cells < forms.len() {
+                continue;
+            }
+            if !self.row_follows(&bytes[at.used..]) {
+                break;
+            }
+            at.cells = 0;
+            at.used += 1;
+            rows += 1;
+        }
+        let mut ahead = from;
+        ahead.column = at.cells as u16;
+        RowsRun {
+            used: at.used,
+            made: at.made,
+            rows,
+            ahead,
+        }
+    }
+
+    // Writes rows in the way that asks least of each cell: as `run_numbers` does before a row, if `INT4` says that all values
+    // are whole numbers of four bytes, and as `run_far` does if not all are.
+    #[inline(always)]
+    fn run_fast<const INT4: bool>(&self, at: Ahead<'a>, bytes: &[u8], to: &mut [u8]) -> RowsRun<'a>
+        requires known { KnowsAll self.now }
+        requires numbers { INT4 ≡ true → self.now.only_numbers ≡ true }
+        ensures numbers { INT4 ≡ true → at.entry.column ≡ 0 → let row = take self.now.known self.now.forms.now in
+            NumbersEnd row (drop result.used bytes.now) (length to.old - result.made) }
+        ensures ends { INT4 ≡ false → FarEnds self.now result.ahead (drop result.used bytes.now) (length to.old - result.made) }
+        ensures rows { RowsRan self.now at.entry bytes.now to.new result }
+    {
+        if !INT4 {
+            return self.run_far(at, bytes, to);
+        }
+        if at.column != 0 {
+            return RowsRun::none(at);
+        }
+        if self.only_counted {
+            return self.run_numbers::<true>(at, bytes, to);
+        }
+        self.run_numbers::<false>(at, bytes, to)
+    }
+
+    // Writes cell after cell of rows whose columns the table all knows, as far as they are whole in these bytes, aren't in several
+    // chunks and have room, over the ends of rows. `NUMBERS` says that all their values are whole numbers of four bytes.
+    #[inline(never)]
+    fn run_known<const NUMBERS: bool>(
+        &self,
+        from: Ahead<'a>,
+        bytes: &[u8],
+        to: &mut [u8],
+    ) -> RowsRun<'a>
+        requires known { KnowsAll self.now }
+        requires numbers { NUMBERS ≡ true → self.now.only_numbers ≡ true }
+        ensures ends { RunEnds self.now result.ahead (drop result.used bytes.now) (length to.old - result.made) }
+        ensures rows { RowsRan self.now from.entry bytes.now to.new result }
+    {
+        let mut used = 0;
+        let mut made = 0;
+        let mut rows = 0;
+        let mut ahead = from;
+        loop {
+            let fast = self.run_fast::<NUMBERS>(ahead, &bytes[used..], &mut to[made..]);
+            used += fast.used;
+            made += fast.made;
+            rows += fast.rows;
+            ahead = fast.ahead;
+            let Some(forms) = (&*self).rest_of_row(ahead) else {
+                if !self.row_follows(&bytes[used..]) {
+                    break;
+                }
+                used += 1;
+                rows += 1;
+                self.rewind(&mut ahead);
+                continue;
+            };
+            let (rest, room) = (&bytes[used..], &mut to[made..]);
+            let run = run_forms(forms, self.charset, ahead.column, true, rest, room);
+            if run.cells == 0 {
+                break;
+            }
+            used += run.used;
+            made += run.made;
+            self.pass(&mut ahead, run.cells);
+        }
+        RowsRun {
+            used,
+            made,
+            rows,
+            ahead,
+        }
+    }
+
+    // Writes rows as `run_rows` does, whose columns the table doesn't all know.
+    #[inline(never)]
+    fn run_partly_known(&self, from: Ahead<'a>, bytes: &[u8], to: &mut [u8]) -> RowsRun<'a>
+        requires some { 0 < self.now.count }
+        ensures ends { RunEnds self.now result.ahead (drop result.used bytes.now) (length to.old - result.made) }
+        ensures rows { RowsRan self.now from.entry bytes.now to.new result }
+    {
+        let mut run = RowsRun::none(from);
+        loop {
+            if self.is_end(run.ahead) {
+                if !self.row_follows(&bytes[run.used..]) {
+                    break;
+                }
+                run.used += 1;
+                run.rows += 1;
+                run.ahead = self.start();
+                continue;
+            }
+            let (rest, room) = (&bytes[run.used..], &mut to[run.made..]);
+            let cells = self.run_cells::<false>(run.ahead, self.count(), rest, room);
+            if cells.used == 0 {
+                break;
+            }
+            run.used += cells.used;
+            run.made += cells.made;
+            run.ahead = cells.ahead;
+        }
+        run
+    }
+
+    // Writes cell after cell, as far as they are whole in these bytes, aren't in several chunks and have room, over the
+    // ends of rows: after a whole row it goes on if the byte of the next ROW follows.
+    #[inline(always)]
+    pub fn run_rows(&self, from: Ahead<'a>, bytes: &[u8], to: &mut [u8]) -> RowsRun<'a>
+        requires some { 0 < self.now.count }
+        requires room { CELL_ROOM ≤ length to.old }
+        ensures ends { RunEnds self.now result.ahead (drop result.used bytes.now) (length to.old - result.made) }
+        ensures rows { RowsRan self.now from.entry bytes.now to.new result }
+    {
+        if !self.knows_all() {
+            return self.run_partly_known(from, bytes, to);
+        }
+        if self.only_numbers {
+            return self.run_known::<true>(from, bytes, to);
+        }
+        self.run_known::<false>(from, bytes, to)
+    }
+}

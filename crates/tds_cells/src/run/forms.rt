@@ -1,0 +1,282 @@
+// A run over cells by their forms, whose columns follow one another in a row.
+ghost use Rattle.std.specs.Prelude.{◌≡◌, ◌==◌, ◌&&◌, ◌<◌, ◌≤◌, ◌+◌, ◌-◌, drop, length, take, true, None, IfSome, MatchOption};
+ghost use Rattle.tds_values.specs.declared.charset.Charset.{Charset};
+ghost use Rattle.tds_cells.specs.FormRuns.{AreNumbers, done_since, FirstLeft, IsLatest, IsRefusedAfter, IsWithin, NumbersWithin, RefusesRow, RunsForms, WritesFields};
+ghost use Rattle.tds_cells.specs.Forms.{AreCounted, AreInt4, AreLaidOut};
+ghost use Rattle.tds_cells.specs.Layouts.{IsLaidOut};
+ghost use Rattle.tds_cells.specs.Runs.{AloneWritten};
+
+use crate::layout::Form;
+use crate::whole::{
+    CELL_ROOM, FAR, INT4_CELL, NUMBER_FIELD, NUMBER_ROOM, VALUE_ROOM, write_cell, write_far_cell,
+    write_int4_cell,
+};
+use tds_text::{COMMA, write_comma, write_line_end};
+use tds_values::{Charset, Span};
+
+/// How many cells a run wrote, how many bytes they have, and how many their text has.
+#[derive(Clone, Copy)]
+pub(crate) struct FormsRun {
+    pub(crate) cells: usize,
+    pub(crate) used: usize,
+    pub(crate) made: usize,
+}
+
+// Whether `cells` of `count` columns end the row. `ends` says that the last of them is the row's last.
+#[inline(always)]
+fn is_last(ends: bool, cells: usize, count: usize) -> bool
+    ensures { result ≡ (ends && (cells == count)) }
+{
+    ends && cells == count
+}
+
+// Writes the fields of the next cells, each after a comma unless it is the row's first, and a comma after the last
+// of them.
+#[inline(always)]
+fn write_fields(
+    forms: &[Form],
+    charset: Charset,
+    column: u16,
+    bytes: &[u8],
+    to: &mut [u8],
+) -> FormsRun
+    requires laid { AreLaidOut charset forms.now }
+    requires room { CELL_ROOM ≤ length to.old }
+    ensures ends { result.cells ≡ 0 → FirstLeft charset forms.now bytes.now (length to.old) }
+    ensures fields { WritesFields charset forms.now column bytes.now to.new result }
+{
+    let mut cells = 0;
+    let mut rest = bytes;
+    let mut made = write_comma(column, to);
+    let most = to.len() - VALUE_ROOM;
+    while cells < forms.len() && made <= most {
+        let form = &forms[cells];
+        let Some(written) = write_cell(form, charset, rest, &mut to[made..]) else {
+            break;
+        };
+        cells += 1;
+        rest = &rest[written.used..];
+        made += written.made;
+        to[made] = COMMA;
+        made += 1;
+    }
+    FormsRun {
+        cells,
+        used: bytes.len() - rest.len(),
+        made,
+    }
+}
+
+/// Where a row of these forms, whose values are whole numbers of four bytes, begins at the latest if there are to be
+/// bytes and room for any cells, and a byte after them. `None` if there aren't at the front.
+#[inline(always)]
+pub(crate) fn latest_row(forms: &[Form], bytes: &[u8], to: &[u8]) -> Option<Span>
+    requires { length forms.now ≤ 65535 }
+    ensures { MatchOption result (NumbersWithin (length forms.now) (length bytes.now) (length to.now) → ⊥)
+        (λ latest. IsLatest (length forms.now) (length bytes.now) (length to.now) latest) }
+{
+    let (size, room) = (
+        INT4_CELL * forms.len(),
+        NUMBER_FIELD * forms.len() + NUMBER_ROOM,
+    );
+    if size >= bytes.len() || room >= to.len() {
+        return None;
+    }
+    Some(Span {
+        used: bytes.len() - 1 - size,
+        made: to.len() - 1 - room,
+    })
+}
+
+// Writes the fields of the next cells as `write_fields` does, whose values are whole numbers of four bytes, and which
+// need no look at the ends of bytes and room. `COUNTED` says that all come after their lengths.
+#[inline(always)]
+fn write_numbers<const COUNTED: bool>(
+    forms: &[Form],
+    column: u16,
+    bytes: &[u8],
+    to: &mut [u8],
+) -> FormsRun
+    requires numbers { AreInt4 forms.now }
+    requires counted { COUNTED ≡ true → AreCounted forms.now }
+    requires within { NumbersWithin (length forms.now) (length bytes.now) (length to.old) }
+    ensures ends { result.cells < length forms.now → IsRefusedAfter forms.now bytes.now result }
+    ensures left { result.used < length bytes.now }
+    ensures fields { (charset : Charset) → WritesFields charset forms.now column bytes.now to.new result }
+{
+    let mut cells = 0;
+    let mut used = 0;
+    let mut made = write_comma(column, to);
+    while cells < forms.len() {
+        let form = &forms[cells];
+        let Some(written) = write_int4_cell::<COUNTED>(form, &bytes[used..], &mut to[made..]) else {
+            break;
+        };
+        cells += 1;
+        used += written.used;
+        made += written.made;
+        to[made] = COMMA;
+        made += 1;
+    }
+    FormsRun { cells, used, made }
+}
+
+// Writes the fields of a row's cells from one on as `write_fields` does, by the forms of all its cells, as long as bytes and
+// room go on far enough for any scalar. The first of them begins where `at` says, as does its text, with its comma if it isn't
+// the row's first; the result says where the run ended.
+#[inline(always)]
+fn write_far_fields(
+    forms: &[Form],
+    charset: Charset,
+    at: FormsRun,
+    bytes: &[u8],
+    to: &mut [u8],
+) -> FormsRun
+    requires laid { AreLaidOut charset forms.now }
+    requires few { length forms.now ≤ 65535 }
+    requires some { at.cells < length forms.now }
+    requires far { at.used + FAR ≤ length bytes.now }
+    requires room { at.made + CELL_ROOM ≤ length to.old }
+    ensures kept { take at.made to.new ≡ take at.made to.old }
+    ensures begun { (at.cells ≤ result.cells) × (at.used ≤ result.used) × (at.made ≤ result.made) }
+    ensures ends { result.cells ≡ at.cells → FirstLeft charset (drop at.cells forms.now) (drop at.used bytes.now) (length to.old - at.made) }
+    ensures fields { WritesFields charset (drop at.cells forms.now) at.cells (drop at.used bytes.now) (drop at.made to.new) (done_since at result) }
+{
+    let mut cells = at.cells;
+    let mut used = at.used;
+    let mut made = at.made + write_comma(cells as u16, &mut to[at.made..]);
+    let latest = bytes.len() - FAR;
+    let most = to.len() - VALUE_ROOM;
+    while cells < forms.len() && used <= latest && made <= most {
+        let form = &forms[cells];
+        let Some(written) = write_far_cell::<false>(form, charset, bytes, used, to, made) else {
+            break;
+        };
+        cells += 1;
+        used += written.used;
+        made += written.made;
+        to[made] = COMMA;
+        made += 1;
+    }
+    FormsRun { cells, used, made }
+}
+
+/// Writes the cells of a row from one on as [`run_forms`] does, by the forms of all its cells, as long as bytes and room go on
+/// far enough for any scalar. The first of them begins where `at` says, as does its text; the result says where the run ended.
+#[inline(always)]
+pub(crate) fn run_far_forms(
+    forms: &[Form],
+    charset: Charset,
+    at: FormsRun,
+    bytes: &[u8],
+    to: &mut [u8],
+) -> FormsRun
+    requires laid { AreLaidOut charset forms.now }
+    requires few { length forms.now ≤ 65535 }
+    requires some { at.cells < length forms.now }
+    requires far { at.used + FAR ≤ length bytes.now }
+    requires room { at.made + CELL_ROOM ≤ length to.old }
+    ensures kept { take at.made to.new ≡ take at.made to.old }
+    ensures begun { (at.cells ≤ result.cells) × (at.used ≤ result.used) × (at.made ≤ result.made) }
+    ensures cells { RunsForms charset (drop at.cells forms.now) at.cells true (drop at.used bytes.now) (length to.old - at.made)
+        (drop at.made to.new) (done_since at result) }
+{
+    let run = write_far_fields(forms, charset, at, bytes, to);
+    if run.cells == forms.len() {
+        let made = write_line_end(true, run.made - 1, to);
+        return FormsRun { made, ..run };
+    }
+    if run.cells == at.cells {
+        return at;
+    }
+    let made = run.made - 1;
+    FormsRun { made, ..run }
+}
+
+/// Writes the text in its line of the cell that begins at `from`, of the column after `column` others, into the room from `at`
+/// on, far from the ends of both. `None` as for `write_far_cell`.
+#[inline(always)]
+pub(crate) fn write_far_alone(
+    form: &Form,
+    charset: Charset,
+    column: u16,
+    last: bool,
+    bytes: &[u8],
+    from: usize,
+    to: &mut [u8],
+    at: usize,
+) -> Option<Span>
+    requires laid { IsLaidOut charset form.now.kind form.now.layout }
+    requires far { from + FAR ≤ length bytes.now }
+    requires room { at + CELL_ROOM ≤ length to.old }
+    ensures kept { take at to.new ≡ take at to.old }
+    ensures used { IfSome result (λ written. from + written.used ≤ length bytes.now) }
+    ensures most { IfSome result (λ written. at + written.made ≤ length to.old) }
+    ensures cell { AloneWritten charset form.now.kind column last (drop from bytes.now) (length to.old - at) (drop at to.new) result }
+{
+    let start = at + write_comma(column, &mut to[at..]);
+    let written = write_far_cell::<true>(form, charset, bytes, from, to, start)?;
+    let end = write_line_end(last, start + written.made, to);
+    Some(Span {
+        used: written.used,
+        made: end - at,
+    })
+}
+
+/// Writes the cells of the next columns of a row, after its first `column` ones, one after another, as far as they
+/// are whole in these bytes, aren't in several chunks and have room. `ends` says that the last of these columns is the row's
+/// last.
+#[inline(never)]
+pub(crate) fn run_forms(
+    forms: &[Form],
+    charset: Charset,
+    column: u16,
+    ends: bool,
+    bytes: &[u8],
+    to: &mut [u8],
+) -> FormsRun
+    requires { AreLaidOut charset forms.now }
+    ensures { RunsForms charset forms.now column ends bytes.now (length to.old) to.new result }
+{
+    let none = FormsRun {
+        cells: 0,
+        used: 0,
+        made: 0,
+    };
+    if to.len() < CELL_ROOM {
+        return none;
+    }
+    let run = write_fields(forms, charset, column, bytes, to);
+    if run.cells == 0 {
+        return none;
+    }
+    let last = is_last(ends, run.cells, forms.len());
+    let made = write_line_end(last, run.made - 1, to);
+    FormsRun { made, ..run }
+}
+
+/// Writes the cells of a whole row as [`run_forms`] does, whose values are whole numbers of four bytes, and for which
+/// there are bytes and room. `COUNTED` says that all come after their lengths. `None` if one of them is refused.
+#[inline(always)]
+pub(crate) fn run_row<const COUNTED: bool>(
+    forms: &[Form],
+    bytes: &[u8],
+    to: &mut [u8],
+) -> Option<FormsRun>
+    requires some { 0 < length forms.now }
+    requires counted { COUNTED ≡ true → AreCounted forms.now }
+    requires numbers { AreNumbers forms.now (length bytes.now) (length to.old) }
+    ensures refused { result ≡ None → RefusesRow forms.now bytes.now }
+    ensures row { (charset : Charset) → IfSome result
+        (λ run. RunsForms charset forms.now 0 true bytes.now (length to.old) to.new run) }
+    ensures whole { IfSome result (λ run. run.cells ≡ length forms.now) }
+    ensures left { IfSome result (λ run. run.used < length bytes.now) }
+    ensures within { IfSome result (λ run. IsWithin run (length forms.now) (length bytes.now) (length to.old)) }
+{
+    let run = write_numbers::<COUNTED>(forms, 0, bytes, to);
+    if run.cells < forms.len() {
+        return None;
+    }
+    let made = write_line_end(true, run.made - 1, to);
+    Some(FormsRun { made, ..run })
+}

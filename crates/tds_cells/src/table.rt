@@ -1,0 +1,363 @@
+// What the cells of a description's columns need of them, known once for all its rows.
+ghost use Rattle.std.specs.Prelude.{◌≡◌, ◌==◌, ◌⊎◌, ◌+◌, ◌-◌, ◌<◌, ◌≤◌, drop, length, take, true, false, IfSome, List, MatchOption};
+ghost use Rattle.tds_cells.specs.CellTexts.{IsInt4, is_counted, is_int4};
+ghost use Rattle.tds_cells.specs.Forms.{AreCounted, AreInt4, AreLaidOut, table_length};
+ghost use Rattle.tds_values.specs.declared.charset.Charset.{Charset};
+ghost use Rattle.tds_cells.specs.Layouts.{IsLaidOut};
+
+use crate::layout::{Form, Layout};
+use tds_columns::{Columns, Walk};
+use tds_values::{Charset, Kind};
+
+/// The token byte of a ROW (MS-TDS, ROW).
+pub const ROW: u8 = 0xD1;
+
+/// How many columns a table knows by itself of a description with few of them. It takes 8 bytes for each, in a local variable.
+pub const FEW_COLUMNS: usize = 8;
+
+/// How many it knows of a description with some more.
+pub const SOME_COLUMNS: usize = 64;
+
+/// How many it knows of any other.
+pub const MANY_COLUMNS: usize = 1024;
+
+// Whether the values of a kind are whole numbers of four bytes.
+fn is_int4(kind: &Kind) -> bool
+    ensures { result ≡ is_int4 kind.now }
+{
+    matches!(*kind, Kind::Int4 | Kind::IntN(4))
+}
+
+// Whether whole numbers of a kind come after their length, or are NULL.
+pub(crate) fn is_counted(kind: &Kind) -> bool
+    ensures { result ≡ is_counted kind.now }
+{
+    matches!(*kind, Kind::IntN(_))
+}
+
+/// The columns of a description: what the cells of the first ones need, whether these are all and have only whole
+/// numbers of four bytes, whether each of these may be NULL, the walk over those after, and the set of single-byte text.
+#[derive(Drop)]
+pub struct Table<'a> {
+    forms: &'a [Form],
+    known: usize,
+    pub(crate) only_numbers: bool,
+    pub(crate) only_counted: bool,
+    count: u16,
+    rest: Walk<'a>,
+    pub charset: Charset,
+    ghost there: { known ≤ length forms.now },
+    ghost few: { known ≤ count },
+    ghost fits: { count ≤ 65535 },
+    ghost laid: { AreLaidOut charset forms.now },
+    ghost numbers: { only_numbers ≡ true → AreInt4 forms.now },
+    ghost counted: { only_counted ≡ true → AreCounted forms.now },
+}
+
+/// What was learnt of the first columns of a description: how many they are, whether all have only whole numbers of four bytes, whether
+/// their whole numbers may all be NULL, and the walk over those after.
+#[derive(Clone, Copy)]
+pub struct Learnt<'a> {
+    known: usize,
+    only_numbers: bool,
+    only_counted: bool,
+    rest: Walk<'a>,
+}
+
+/// What is there before anything is learnt of a column: a form of whole numbers of four bytes that may be NULL.
+pub fn blank() -> Form
+    ensures number { IsInt4 result.kind }
+    ensures counted { is_counted result.kind ≡ true }
+    ensures laid { (charset : Charset) → IsLaidOut charset result.kind result.layout }
+{
+    Form {
+        kind: Kind::IntN(4),
+        layout: Layout::Counted,
+    }
+}
+
+/// A place between the cells of a row: how many columns come before it, and the walk over those ahead that
+/// the table doesn't know.
+#[derive(Clone, Copy)]
+pub struct Ahead<'a> {
+    walk: Walk<'a>,
+    pub column: u16,
+}
+
+impl<'a> Table<'a> {
+    ghost use Rattle.tds_columns.specs.Description as spec;
+    ghost use Rattle.tds_columns.specs.View.{columns_of};
+    ghost use Rattle.tds_cells.specs.Tables.{AreAhead, BeginsRow, IsAhead, Knows, Learns, NextColumn, NextForm, TakesForm};
+
+    /// Learns what the cells of a description's first columns need, as many as there is room for, if single-byte text is in this set.
+    pub fn learn(columns: Columns<'a>, charset: Charset, forms: &mut [Form]) -> Learnt<'a>
+        requires few { length forms.old ≤ table_length }
+        requires laid { AreLaidOut charset forms.old }
+        requires numbers { AreInt4 forms.old }
+        requires counted { AreCounted forms.old }
+        ensures { Learns (columns_of columns.entry.bytes.now) charset forms.new result }
+    {
+        let mut known = 0;
+        let mut only_numbers = true;
+        let mut only_counted = true;
+        let mut rest = columns.walk();
+        while known < forms.len() {
+            let Some(column) = rest.next() else {
+                break;
+            };
+            forms[known] = Form::of(column.kind, charset);
+            known += 1;
+            only_numbers &= is_int4(&column.kind);
+            only_counted &= is_counted(&column.kind);
+        }
+        Learnt {
+            known,
+            only_numbers,
+            only_counted,
+            rest,
+        }
+    }
+
+    /// The table of a description's columns, whose single-byte text is in this set, by what was learnt of the first ones.
+    pub fn of(
+        columns: Columns<'a>,
+        charset: Charset,
+        forms: &'a [Form],
+        learnt: Learnt<'a>,
+    ) -> Table<'a>
+        requires { Learns (columns_of columns.bytes.now) charset forms.now learnt }
+        ensures knows { Knows result (columns_of columns.entry.bytes.now) }
+        ensures charset { result.charset ≡ charset }
+    {
+        let (count, known) = (columns.count(), learnt.known);
+        Table {
+            forms,
+            known,
+            only_numbers: learnt.only_numbers && known == count as usize,
+            only_counted: learnt.only_counted,
+            count,
+            rest: learnt.rest,
+            charset,
+        }
+    }
+
+    /// The table of a description's columns that knows none of them by itself, for one row.
+    pub fn walked(columns: Columns<'a>, charset: Charset) -> Table<'a>
+        ensures knows { Knows result (columns_of columns.entry.bytes.now) }
+        ensures charset { result.charset ≡ charset }
+    {
+        Table {
+            forms: &[],
+            known: 0,
+            only_numbers: false,
+            only_counted: false,
+            count: columns.count(),
+            rest: columns.walk(),
+            charset,
+        }
+    }
+
+    /// How many columns there are.
+    pub fn count(&self) -> u16
+        ensures { result ≡ self.now.count }
+    {
+        self.count
+    }
+
+    /// The place before the first cell of a row.
+    #[inline(always)]
+    pub fn start(&self) -> Ahead<'a>
+        ensures first { result.column ≡ 0 }
+        ensures ahead { (columns : List spec.Column) → Knows self.now columns → IsAhead self.now columns result }
+    {
+        Ahead {
+            column: 0,
+            walk: self.rest,
+        }
+    }
+
+    /// What the next cell needs. `None` at the row's end.
+    #[inline(always)]
+    pub fn form(&self, at: Ahead<'a>) -> Option<Form>
+        ensures laid { IfSome result (λ form. IsLaidOut self.now.charset form.kind form.layout) }
+        ensures next { (columns : List spec.Column) → Knows self.now columns → IsAhead self.now columns at.entry →
+            NextForm columns at.entry result }
+    {
+        if (at.column as usize) < self.known {
+            return Some(self.forms[at.column as usize]);
+        }
+        let mut walk = at.walk;
+        let column = walk.next()?;
+        Some(Form::of(column.kind, self.charset))
+    }
+
+    /// Whether it knows all columns.
+    #[inline(always)]
+    pub fn knows_all(&self) -> bool
+        ensures { result ≡ (self.now.known == self.now.count) }
+    {
+        self.known == self.count as usize
+    }
+
+    /// What the next cells need, as far as the table knows it, up to column `end` at most. `None` if the table doesn't
+    /// know the next one, or if that comes at `end` or later.
+    #[inline(always)]
+    #[tactic(auto, using(crate::proofs::TableRuns::known_ahead))]
+    pub(crate) fn forms(&self, at: Ahead<'a>, end: u16) -> Option<&[Form]>
+        requires { end ≤ self.now.count }
+        ensures { MatchOption result ((self.now.known ≤ at.entry.column) ⊎ (end ≤ at.entry.column))
+            (λ forms. AreAhead self.now at.entry end forms.now) }
+    {
+        let from = at.column as usize;
+        let until = self.known.min(end as usize);
+        if from >= until {
+            return None;
+        }
+        Some(&self.forms[from..until])
+    }
+
+    /// What the cells of a whole row need, all of whose columns the table knows.
+    #[inline(always)]
+    pub(crate) fn row(&self) -> &[Form]
+        requires all { self.now.known ≡ self.now.count }
+        ensures row { result.now ≡ take self.now.known self.now.forms.now }
+        ensures few { length result.now ≤ 65535 }
+        ensures numbers { self.now.only_numbers ≡ true → AreInt4 result.now }
+        ensures counted { self.now.only_counted ≡ true → AreCounted result.now }
+    {
+        &self.forms[..self.known]
+    }
+
+    /// What the cells of a row that are ahead need, all of whose columns the table knows. `None` at the row's end.
+    #[inline(always)]
+    #[tactic(auto, using(crate::proofs::TableRuns::known_ahead))]
+    pub(crate) fn rest_of_row(&self, at: Ahead<'a>) -> Option<&[Form]>
+        requires all { self.now.known ≡ self.now.count }
+        ensures ahead { MatchOption result (self.now.count ≤ at.entry.column)
+            (λ forms. AreAhead self.now at.entry self.now.count forms.now) }
+        ensures whole { IfSome result (λ forms. at.entry.column + length forms.now ≡ self.now.count) }
+        ensures forms { IfSome result (λ forms. forms.now ≡ take (self.now.known - at.entry.column) (drop at.entry.column self.now.forms.now)) }
+    {
+        let from = at.column as usize;
+        if from >= self.known {
+            return None;
+        }
+        Some(&self.forms[from..self.known])
+    }
+
+    /// What the next cell needs, of a row all of whose columns the table knows. `None` at the row's end.
+    #[inline(always)]
+    pub fn known_form(&self, at: Ahead<'a>) -> Option<Form>
+        requires all { self.now.known ≡ self.now.count }
+        ensures end { result ≡ None → self.now.count ≤ at.entry.column }
+        ensures some { IfSome result (λ _. at.entry.column < self.now.count) }
+        ensures laid { IfSome result (λ form. IsLaidOut self.now.charset form.kind form.layout) }
+        ensures next { (columns : List spec.Column) → Knows self.now columns → IsAhead self.now columns at.entry →
+            IfSome result (λ form. NextColumn columns at.entry form.kind) }
+    {
+        let column = at.column as usize;
+        if column >= self.known {
+            return None;
+        }
+        Some(self.forms[column])
+    }
+
+    /// Whether no cell of the row is ahead.
+    #[inline(always)]
+    pub fn is_end(&self, at: Ahead<'a>) -> bool
+        ensures { result ≡ (at.entry.column == self.now.count) }
+    {
+        at.column == self.count
+    }
+
+    /// Whether the next cell is a row's last.
+    #[inline(always)]
+    pub fn is_last(&self, at: Ahead<'a>) -> bool
+        requires { at.column < self.now.count }
+        ensures { result ≡ (at.entry.column + 1 == self.now.count) }
+    {
+        at.column + 1 == self.count
+    }
+
+    /// Whether the row ends after the cells of the next forms.
+    #[inline(always)]
+    pub(crate) fn ends_after(&self, at: Ahead<'a>, forms: &[Form]) -> bool
+        ensures { result ≡ (at.entry.column + length forms.now == self.now.count) }
+    {
+        at.column as usize + forms.len() == self.count as usize
+    }
+
+    /// Steps over the next `cells` cells, which the table knows or which are at most one.
+    #[inline(always)]
+    pub(crate) fn step(&self, at: &mut Ahead<'a>, cells: usize)
+        requires within { at.old.column + cells ≤ self.now.count }
+        requires known { (at.old.column + cells ≤ self.now.known) ⊎ (cells ≤ 1) }
+        ensures further { at.new.column ≡ at.old.column + cells }
+        ensures ahead { (columns : List spec.Column) → Knows self.now columns → IsAhead self.now columns at.old →
+            IsAhead self.now columns at.new }
+    {
+        if cells > 0 && (at.column as usize) >= self.known {
+            let _ = at.walk.next();
+        }
+        at.column += cells as u16;
+    }
+
+    /// Steps over the next `cells` cells, which the table knows.
+    #[inline(always)]
+    pub(crate) fn pass(&self, at: &mut Ahead<'a>, cells: usize)
+        requires known { at.old.column + cells ≤ self.now.known }
+        ensures further { at.new.column ≡ at.old.column + cells }
+        ensures ahead { (columns : List spec.Column) → Knows self.now columns → IsAhead self.now columns at.old →
+            IsAhead self.now columns at.new }
+    {
+        at.column += cells as u16;
+    }
+
+    /// Whether these bytes begin with the token byte of a ROW.
+    #[inline(always)]
+    pub(crate) fn begins_row(&self, bytes: &[u8]) -> bool
+        requires some { 0 < length bytes.now }
+        ensures begins { result ≡ true → BeginsRow bytes.now }
+        ensures other { result ≡ false → BeginsRow bytes.now → ⊥ }
+    {
+        bytes[0] == ROW
+    }
+
+    /// Whether the token byte of another ROW comes next.
+    #[inline(always)]
+    pub(crate) fn row_follows(&self, rest: &[u8]) -> bool
+        ensures begins { result ≡ true → BeginsRow rest.now }
+        ensures other { result ≡ false → BeginsRow rest.now → ⊥ }
+    {
+        !rest.is_empty() && self.begins_row(rest)
+    }
+
+    /// Steps back to the place before the first cell of a row, all of whose columns the table knows.
+    #[inline(always)]
+    pub(crate) fn rewind(&self, at: &mut Ahead<'a>)
+        requires all { self.now.known ≡ self.now.count }
+        ensures first { at.new.column ≡ 0 }
+        ensures ahead { (columns : List spec.Column) → Knows self.now columns → IsAhead self.now columns at.old →
+            IsAhead self.now columns at.new }
+    {
+        at.column = 0;
+    }
+
+    /// What the next cell needs, and the place after it. `None` at the row's end.
+    #[inline(always)]
+    pub fn next(&self, at: Ahead<'a>) -> Option<(Form, Ahead<'a>)>
+        ensures further { IfSome result (λ taken. at.entry.column < taken.1.column) }
+        ensures within { IfSome result (λ taken. taken.1.column ≤ self.now.count) }
+        ensures laid { IfSome result (λ taken. IsLaidOut self.now.charset taken.0.kind taken.0.layout) }
+        ensures taken { (columns : List spec.Column) → Knows self.now columns → IsAhead self.now columns at.entry →
+            TakesForm self.now columns at.entry result }
+    {
+        if at.column >= self.count {
+            return None;
+        }
+        let form = self.form(at)?;
+        let mut after = at;
+        self.step(&mut after, 1);
+        Some((form, after))
+    }
+}

@@ -1,0 +1,363 @@
+// A cell that is whole in the packet: its bytes are together. A value in chunks has one at most.
+ghost use Rattle.std.specs.Prelude.{◌≡◌, ◌+◌, ◌-◌, ◌<◌, ◌≤◌, ℕ, drop, length, take, is_ok, false, true, IfSome, IsTrue, MatchOption};
+ghost use Rattle.tds_cells.specs.CellTexts.{CellWritten, HasInt4, IsInt4, WritesField, is_counted, whole_size};
+ghost use Rattle.tds_values.specs.Front.{value_bytes};
+ghost use Rattle.tds_values.specs.Scalar.{read_of};
+ghost use Rattle.tds_values.specs.declared.charset.Charset.{Charset};
+ghost use Rattle.tds_cells.specs.Cells.{LongShape, shape};
+ghost use Rattle.tds_cells.specs.ChunkedCells.{HasOneChunk, chunk_end, chunked_size, stated_total};
+ghost use Rattle.tds_cells.specs.LongFields.{LongWritten, long_size};
+ghost use Rattle.tds_cells.specs.ShortCells.{short_size};
+ghost use Rattle.tds_values.specs.declared.kind.Reach.{Reach};
+ghost use Rattle.tds_values.specs.Kind.{is_scalar};
+ghost use Rattle.tds_values.specs.declared.kind.Kind.{Kind};
+ghost use Rattle.tds_text.specs.Fields.{conversion_of};
+ghost use Rattle.tds_cells.specs.Layouts.{IsLaidOut};
+
+use crate::layout::{Form, Layout};
+use crate::table::is_counted;
+use byteorder::{ByteOrder, LittleEndian};
+use tds_text::{Content, NULL_ROOM, field_room, write_field, write_null};
+use tds_values::{
+    Charset, FRONT_SIZE, INTEGER_ROOM, Kind, LONGEST_INT4, Reach, Span, write_front, write_int4,
+    write_scalar,
+};
+
+/// The length that stands for NULL in a short value.
+pub const NULL_LENGTH: u64 = 0xFFFF;
+
+/// The total that stands for NULL.
+pub const NULL_TOTAL: u64 = 0xFFFF_FFFF_FFFF_FFFF;
+
+/// The total that stands for an unknown one.
+pub const UNKNOWN_TOTAL: u64 = 0xFFFF_FFFF_FFFF_FFFE;
+
+/// How many bytes the text of a scalar in its line may want, and a few to spare.
+pub const CELL_ROOM: usize = 66;
+
+/// How many bytes the text of a scalar may want, with the end of its line, and a few to spare.
+pub(crate) const VALUE_ROOM: usize = 65;
+
+// Writes the field of a short value of this content, whose cell is at the front of these bytes. `None` if it isn't
+// whole, or is no text, or if there isn't the room that its text may need. Two bytes of room are left after it.
+#[inline(always)]
+fn write_short(content: Content, bytes: &[u8], to: &mut [u8]) -> Option<Span>
+    requires room { VALUE_ROOM ≤ length to.old }
+    ensures used { IfSome result (λ written. written.used ≤ length bytes.now) }
+    ensures most { IfSome result (λ written. written.made + 2 ≤ length to.old) }
+    ensures whole { IfSome result (λ written. written.used ≡ short_size bytes.now) }
+    ensures field { LongWritten (conversion_of content) Reach.Short bytes.now (length to.old + 1) to.new result }
+{
+    if bytes.len() < 2 {
+        return None;
+    }
+    let n = LittleEndian::read_u16(bytes) as usize;
+    if n == NULL_LENGTH as usize {
+        let made = write_null(0, false, to);
+        return Some(Span { used: 2, made });
+    }
+    let used = 2 + n;
+    if bytes.len() < used || to.len() < field_room(content, n) {
+        return None;
+    }
+    let Some(made) = write_field(content, &bytes[2..], n, to) else {
+        return None;
+    };
+    Some(Span { used, made })
+}
+
+// How many bytes the total before a value in chunks has.
+const TOTAL_SIZE: usize = 8;
+
+// How many bytes the length of a chunk has; the terminator is one.
+const CHUNK_LENGTH_SIZE: usize = 4;
+
+// How many bytes come before the data of the first chunk.
+const CHUNK_START: usize = TOTAL_SIZE + CHUNK_LENGTH_SIZE;
+
+// The most bytes of data that a chunk has which is written at once.
+const LONGEST_CHUNK: usize = 65_535;
+
+// How many bytes of data the value has whose total is at the front of these bytes, if it is whole in one chunk, or in none. `None`
+// if it isn't, or if the total isn't the number of its bytes.
+#[inline(always)]
+fn one_chunk(total: u64, bytes: &[u8]) -> Option<usize>
+    requires some { 12 ≤ length bytes.now }
+    requires total { total ≡ stated_total bytes.now }
+    ensures { MatchOption result ((n : ℕ) → HasOneChunk bytes.now n → ⊥) (λ n. HasOneChunk bytes.now n) }
+{
+    let n = LittleEndian::read_u32(&bytes[TOTAL_SIZE..]) as usize;
+    if n > LONGEST_CHUNK || (total != n as u64 && total != UNKNOWN_TOTAL) {
+        return None;
+    }
+    if n == 0 {
+        return Some(0);
+    }
+    let end = CHUNK_START + n;
+    if bytes.len() < end + CHUNK_LENGTH_SIZE {
+        return None;
+    }
+    if LittleEndian::read_u32(&bytes[end..]) != 0 {
+        return None;
+    }
+    Some(n)
+}
+
+// How many bytes the cell of a value in one chunk with so much data has, or in none.
+#[inline(always)]
+fn chunk_end(n: usize) -> usize
+    requires { n ≤ 65535 }
+    ensures { result ≡ chunk_end n }
+{
+    if n == 0 {
+        return CHUNK_START;
+    }
+    CHUNK_START + n + CHUNK_LENGTH_SIZE
+}
+
+// Writes the field of a value of this content, which is NULL or in one chunk at most, as `write_short` does that of a short one.
+#[inline(never)]
+fn write_chunked(content: Content, bytes: &[u8], to: &mut [u8]) -> Option<Span>
+    requires room { VALUE_ROOM ≤ length to.old }
+    ensures used { IfSome result (λ written. written.used ≤ length bytes.now) }
+    ensures most { IfSome result (λ written. written.made + 2 ≤ length to.old) }
+    ensures whole { IfSome result (λ written. written.used ≡ chunked_size bytes.now) }
+    ensures field { LongWritten (conversion_of content) Reach.Chunked bytes.now (length to.old + 1) to.new result }
+{
+    if bytes.len() < CHUNK_START {
+        return None;
+    }
+    let total = LittleEndian::read_u64(bytes);
+    if total == NULL_TOTAL {
+        let made = write_null(0, false, to);
+        return Some(Span {
+            used: TOTAL_SIZE,
+            made,
+        });
+    }
+    let Some(n) = one_chunk(total, bytes) else {
+        return None;
+    };
+    if to.len() < field_room(content, n) {
+        return None;
+    }
+    let Some(made) = write_field(content, &bytes[CHUNK_START..], n, to) else {
+        return None;
+    };
+    Some(Span {
+        used: chunk_end(n),
+        made,
+    })
+}
+
+// Writes the field of a long value of this content as `write_short` and `write_chunked` do.
+#[inline(always)]
+fn write_long(reach: Reach, content: Content, bytes: &[u8], to: &mut [u8]) -> Option<Span>
+    requires room { VALUE_ROOM ≤ length to.old }
+    ensures used { IfSome result (λ written. written.used ≤ length bytes.now) }
+    ensures most { IfSome result (λ written. written.made + 2 ≤ length to.old) }
+    ensures whole { IfSome result (λ written. written.used ≡ long_size reach bytes.now) }
+    ensures field { (charset : Charset) (kind : Kind) → shape charset kind ≡ LongShape (conversion_of content) reach →
+        CellWritten charset kind bytes.now (length to.old + 1) to.new result }
+{
+    match reach {
+        Reach::Short => write_short(content, bytes, to),
+        Reach::Chunked => write_chunked(content, bytes, to),
+    }
+}
+
+/// Writes the field of the cell at the front of these bytes. `None` if it isn't whole, is refused or in several chunks, or if
+/// there isn't the room that the text of a long value may need. Two bytes of room are left after it.
+#[inline(always)]
+pub(crate) fn write_cell(form: &Form, charset: Charset, bytes: &[u8], to: &mut [u8]) -> Option<Span>
+    requires laid { IsLaidOut charset form.now.kind form.now.layout }
+    requires room { VALUE_ROOM ≤ length to.old }
+    ensures used { IfSome result (λ written. written.used ≤ length bytes.now) }
+    ensures most { IfSome result (λ written. written.made + 2 ≤ length to.old) }
+    ensures whole { IfSome result (λ written. written.used ≡ whole_size form.now.kind bytes.now) }
+    ensures field { CellWritten charset form.now.kind bytes.now (length to.old + 1) to.new result }
+{
+    if let Layout::Short(content) = form.layout {
+        return write_short(content, bytes, to);
+    }
+    if let Layout::Chunked(content) = form.layout {
+        return write_chunked(content, bytes, to);
+    }
+    if bytes.is_empty() {
+        return None;
+    }
+    let (start, n) = match form.layout {
+        Layout::Fixed(n) => (0, n as usize),
+        Layout::Counted => (1, bytes[0] as usize),
+        _ => return None,
+    };
+    let used = start + n;
+    if bytes.len() < used {
+        return None;
+    }
+    if n == 0 {
+        let made = write_null(0, false, to);
+        return Some(Span { used, made });
+    }
+    match write_scalar(&form.kind, &bytes[start..used], to) {
+        Ok(made) => Some(Span { used, made }),
+        Err(_) => None,
+    }
+}
+
+/// How many bytes are there from a cell on that is far from the packet's end: all of a scalar's.
+pub const FAR: usize = FRONT_SIZE;
+
+// Writes the field of the cell of a scalar kind at the front of these bytes, where no value is: that of NULL.
+#[inline(always)]
+fn write_no_value(form: &Form, charset: Charset, bytes: &[u8], to: &mut [u8]) -> Option<Span>
+    requires laid { IsLaidOut charset form.now.kind form.now.layout }
+    requires scalar { IsTrue (is_scalar form.now.kind) }
+    requires far { FAR ≤ length bytes.now }
+    requires room { VALUE_ROOM ≤ length to.old }
+    requires bad { is_ok (read_of form.now.kind (value_bytes form.now.kind bytes.now)) ≡ false }
+    ensures used { IfSome result (λ written. written.used ≤ length bytes.now) }
+    ensures most { IfSome result (λ written. written.made + 2 ≤ length to.old) }
+    ensures whole { IfSome result (λ written. written.used ≡ whole_size form.now.kind bytes.now) }
+    ensures field { CellWritten charset form.now.kind bytes.now (length to.old + 1) to.new result }
+{
+    let Layout::Counted = form.layout else {
+        return None;
+    };
+    if bytes[0] != 0 {
+        return None;
+    }
+    let made = write_null(0, false, to);
+    Some(Span { used: 1, made })
+}
+
+// Writes the field of the cell that begins at `from` as [`write_far_cell`] does, where no value of a scalar kind is: a long
+// value, or NULL.
+#[inline(always)]
+fn write_other(
+    form: &Form,
+    charset: Charset,
+    bytes: &[u8],
+    from: usize,
+    to: &mut [u8],
+    at: usize,
+) -> Option<Span>
+    requires laid { IsLaidOut charset form.now.kind form.now.layout }
+    requires far { from + FAR ≤ length bytes.now }
+    requires room { at + VALUE_ROOM ≤ length to.old }
+    requires bad { is_ok (read_of form.now.kind (value_bytes form.now.kind (drop from bytes.now))) ≡ false }
+    ensures kept { take at to.new ≡ take at to.old }
+    ensures used { IfSome result (λ written. from + written.used ≤ length bytes.now) }
+    ensures most { IfSome result (λ written. at + written.made + 2 ≤ length to.old) }
+    ensures whole { IfSome result (λ written. written.used ≡ whole_size form.now.kind (drop from bytes.now)) }
+    ensures field { CellWritten charset form.now.kind (drop from bytes.now) (length to.old - at + 1) (drop at to.new) result }
+{
+    match form.kind {
+        Kind::Binary(reach) => { write_long(reach, Content::Binary, &bytes[from..], &mut to[at..]) }
+        Kind::Wide(reach) => write_long(reach, Content::Utf16, &bytes[from..], &mut to[at..]),
+        Kind::Narrow(reach) => match charset {
+            Charset::Windows1252 => {
+                write_long(reach, Content::Windows1252, &bytes[from..], &mut to[at..])
+            }
+            Charset::Utf8 => write_long(reach, Content::Utf8, &bytes[from..], &mut to[at..]),
+        },
+        _ => write_no_value(form, charset, &bytes[from..], &mut to[at..]),
+    }
+}
+
+/// Writes the field of the cell that begins at `from`, far from the packet's end, into the room from `at` on, as
+/// [`write_cell`] does. A scalar's kind is matched once, and only other kinds ask how many bytes and how much room are left.
+/// `COPY` is that of [`write_front`].
+#[inline(always)]
+pub(crate) fn write_far_cell<const COPY: bool>(
+    form: &Form,
+    charset: Charset,
+    bytes: &[u8],
+    from: usize,
+    to: &mut [u8],
+    at: usize,
+) -> Option<Span>
+    requires laid { IsLaidOut charset form.now.kind form.now.layout }
+    requires far { from + FAR ≤ length bytes.now }
+    requires room { at + VALUE_ROOM ≤ length to.old }
+    ensures kept { take at to.new ≡ take at to.old }
+    ensures used { IfSome result (λ written. from + written.used ≤ length bytes.now) }
+    ensures most { IfSome result (λ written. at + written.made + 2 ≤ length to.old) }
+    ensures whole { IfSome result (λ written. written.used ≡ whole_size form.now.kind (drop from bytes.now)) }
+    ensures field { CellWritten charset form.now.kind (drop from bytes.now) (length to.old - at + 1) (drop at to.new) result }
+{
+    let Some(front) = write_front::<COPY>(&form.kind, &bytes[from..], &mut to[at..at + VALUE_ROOM])
+    else {
+        return write_other(form, charset, bytes, from, to, at);
+    };
+    Some(Span {
+        used: front.used,
+        made: front.made,
+    })
+}
+
+/// How many bytes a whole number of four bytes has.
+const INT4_SIZE: usize = 4;
+
+/// How many bytes its cell has at most, with a length before it.
+pub(crate) const INT4_CELL: usize = 5;
+
+/// How many bytes its field has at most with the comma after it.
+pub(crate) const NUMBER_FIELD: usize = LONGEST_INT4 + 1;
+
+/// How much room its field wants, in bytes: some bytes after it are written too.
+pub(crate) const NUMBER_ROOM: usize = INTEGER_ROOM;
+
+// Writes the field of a cell whose value is a whole number of four bytes, so far after its front.
+#[inline(always)]
+fn write_int4_at(kind: &Kind, start: usize, bytes: &[u8], to: &mut [u8]) -> Span
+    requires there { HasInt4 kind.now start bytes.now }
+    requires room { NUMBER_ROOM ≤ length to.old }
+    ensures used { result.used ≡ start + 4 }
+    ensures made { result.made ≤ 11 }
+    ensures whole { result.used ≡ whole_size kind.now bytes.now }
+    ensures field { (charset : Charset) →
+        WritesField charset kind.now (take result.used bytes.now) (take result.made to.new) }
+{
+    let used = start + INT4_SIZE;
+    let made = write_int4(&bytes[start..used], to);
+    Span { used, made }
+}
+
+// Whether whole numbers of a kind come after their length. `COUNTED` says that they do.
+#[inline(always)]
+fn comes_counted<const COUNTED: bool>(kind: &Kind) -> bool
+    requires { COUNTED ≡ true → is_counted kind.now ≡ true }
+    ensures { result ≡ is_counted kind.now }
+{
+    COUNTED || is_counted(kind)
+}
+
+/// Writes the field of the cell at the front of these bytes, as [`write_cell`] does, of a kind whose values are whole
+/// numbers of four bytes. `COUNTED` says that it comes after its length. `None` if its length isn't allowed.
+#[inline(always)]
+pub(crate) fn write_int4_cell<const COUNTED: bool>(
+    form: &Form,
+    bytes: &[u8],
+    to: &mut [u8],
+) -> Option<Span>
+    requires number { IsInt4 form.now.kind }
+    requires counted { COUNTED ≡ true → is_counted form.now.kind ≡ true }
+    requires within { 5 ≤ length bytes.now }
+    requires room { NUMBER_ROOM ≤ length to.old }
+    ensures most { IfSome result (λ written. (written.used ≤ 5) × (written.made ≤ 11)) }
+    ensures whole { IfSome result (λ written. written.used ≡ whole_size form.now.kind bytes.now) }
+    ensures field { (charset : Charset) → CellWritten charset form.now.kind bytes.now (length to.old + 1) to.new result }
+{
+    if !comes_counted::<COUNTED>(&form.kind) {
+        return Some(write_int4_at(&form.kind, 0, bytes, to));
+    }
+    match bytes[0] {
+        4 => Some(write_int4_at(&form.kind, 1, bytes, to)),
+        0 => {
+            let made = write_null(0, false, to);
+            Some(Span { used: 1, made })
+        }
+        _ => None,
+    }
+}

@@ -1,4 +1,0 @@
-use Rattle.tds_csv.proofs as N
-
-pub swizzle : N.convert.beyond_ascii.gathered.Goals.swizzle
-swizzle c = N.SwzOk-from_below N.w8 16 1 16 0 c.args.places N.refl (omega N.arith) c.requires.places

@@ -1,4 +1,0 @@
-use Rattle.tds_csv.proofs as N
-
-pub returns : N.convert.lanes_hex.put_digits.Goals.returns
-returns = grind (N.arith, N.length-put_chunk, N.take_more_put_chunk, N.append_assoc, N.chunk)

@@ -1,4 +1,0 @@
-use Rattle.tds_csv.proofs as N
-
-pub returns : N.convert.lanes_utf16.has_long.Goals.returns
-returns c = λ none. N.LaneMasks.none_long c.args.units c.fits-units.0 c.fits-units.1 none

@@ -1,9 +1,0 @@
-use Rattle.tds_csv.proofs as N
-use N.{◌∙◌, ◌++◌, ◌%◌, ap}
-use Rattle.tds_csv.specs.Utf16 as utf16
-
-pub returns-in-None-clause-spells : N.convert.utf16.character_at.Goals.returns-in-None-clause-spells
-returns-in-None-clause-spells c =
-    let len = N.length-drop c.args.at c.args.bytes.now in
-    N.Utf16Steps.spells_held (N.drop c.args.at c.args.bytes.now) (omega N.arith) (ap (λ n. n % 2) len ∙ c.requires.whole) c.in-None.ensures.gives
-    ∙ ap (λ l. N.encode_utf8 65533 ++ utf16.characters l) (N.drop-drop 2 c.args.at c.args.bytes.now)

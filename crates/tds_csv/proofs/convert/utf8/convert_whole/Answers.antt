@@ -1,5 +1,0 @@
-use Rattle.tds_csv.proofs as N
-use N.convert.utf8.convert_whole.Goals as goal
-
-pub returns-in-Some-clause-fit : goal.returns-in-Some-clause-fit
-returns-in-Some-clause-fit c = N.sym (N.is_utf8-from_IsUtf8 c.args.bytes.now c.in-Some.ensures.whole)

@@ -1,0 +1,85 @@
+-- Runs of cells between a payload and a sink.
+use Rattle.tds_rows.proofs.Words as N
+use Rattle.tds_rows.proofs.Words.{false, ◌≡◌, ℕ, ◌+◌, ◌-◌, ◌≤◌, ◌<◌, Bool, List, [], ◌++◌, length, drop, arith, true, Stop, held}
+use Rattle.tds_rows.proofs.Words.{Column, Charset, Cell, cell_start, shape, row_so_far, WritesRows, after_cells}
+use Rattle.tds_rows.proofs.Words.{Kind, ◌^◌}
+use Rattle.tds_cells.proofs.RowTexts.{line_grows}
+use Rattle.tds_rows.proofs.RowSteps.{PutsCell, StopsCell}
+use Rattle.tds_rows.proofs.Words.{Ahead, IsAhead, Table}
+use Rattle.tds_rows.proofs.Paths.{At, over}
+use Rattle.tds_cells.proofs.GrowingTexts.{row_grows}
+use Rattle.tds_cells.proofs.RunSteps.{cell_writes, marked_cells}
+use Rattle.tds_cells.proofs.TableRuns.{marked_in_rows}
+
+-- ---- a cell that lies whole
+
+-- its bytes were passed over and its text put, so it was read
+pub whole_puts : (charset : Charset) (kind : Kind) (column : ℕ) (last : Bool) (p q : At) (bytes text : List ℕ)
+    → N.WritesWhole (cell_start kind (shape charset kind)) column last bytes text
+    → N.Takes p.seen q.seen bytes (length bytes) → q.place ≡ p.place + length bytes → N.Puts p.held q.held text
+    → over (PutsCell charset kind column last) p q
+whole_puts _ _ _ _ p q _ _ x takes at puts =
+    record {
+      value = x.value;
+      streams = grind arith;
+      place_is = at;
+    }
+
+-- its bytes and more were passed over, and a write of its text failed
+pub whole_breaks : {bytes text : List ℕ} {a b : N.Seen} {place : ℕ} {h j : N.Held} {failed : Bool} {stop : Stop} (charset : Charset)
+    (kind : Kind) {column : ℕ} {last : Bool} (rest : List ℕ)
+    → N.WritesWhole (cell_start kind (shape charset kind)) column last bytes text
+    → N.Takes a b (bytes ++ rest) 0 → N.IsBetween b → length h.waiting < 4096 → h.delivered ≤ 2 ^ 64 - 1 → N.Breaks h j text stop → failed ≡ true
+    → StopsCell charset kind column last a b place h j failed stop
+whole_breaks {bytes = bytes} {a = a} {b = b} {h = h} {j = j} {stop = stop} _ _ {column} {last} rest x takes between few delivered breaks failed =
+    let writes = cell_writes _ _ x in
+    let broken = N.breaks_somewhere _ _ (line_grows column last) _ a b h j stop between _ bytes rest _ writes.spelt
+    (grind arith) few delivered writes.text_is breaks in
+    record { at = broken.0; cause = grind arith }
+
+pub put_whole : {W U : Type 0} {column place' : ℕ} {last : Bool} {bytes text : List ℕ} {contents : W → N.Option (List ℕ)} {old new : N.Sink W}
+    {r : N.Result U Stop} (charset : Charset) (kind : Kind) (a b : N.Seen) (place : ℕ) → N.IsWriting old → N.IsBetween b
+    → N.WritesWhole (cell_start kind (shape charset kind)) column last bytes text → N.Takes a b bytes 0 → place' ≡ place + length bytes
+    → N.PutsPiece contents old new text r
+    → N.MatchResult r (λ _. PutsCell charset kind column last a b place place' (held contents old) (held contents new))
+    (λ stop. StopsCell charset kind column last a b place (held contents old) (held contents new) new.failed stop)
+put_whole {bytes = bytes} {r = N.Ok u} _ _ a b _ _ _ x takes at puts =
+    whole_puts _ _ _ _ _ _ _ _ x (grind arith) at puts.gives
+put_whole {r = N.Err stop} _ _ a b _ going between x takes at puts =
+    whole_breaks _ _ [] x (rw N.append-nil takes) between (going.ready.1 going.writing) going.ready.2 (puts.gives going.writing) puts.failed
+
+-- ---- rows
+
+-- what was written of rows was read and put
+pub runs_rows : {charset : N.Charset} {all : List Column} {cells : List Cell} {columns left : List Column} {column count : ℕ} {bytes made : List ℕ}
+    {p q : At} → N.WritesRows charset all cells columns left column count bytes made → N.Takes p.seen q.seen bytes (length bytes)
+    → N.Puts p.held q.held made → q.place ≡ p.place + length bytes
+    → over (N.RunsRows charset all cells columns left column count) p q
+runs_rows x takes puts at = record {
+  before = x.before;
+  more = x.more;
+  rows_counted = cc;
+  counted = x.counted;
+  streams = grind arith;
+  place_is = at;
+}
+
+-- the cells of a run within a row were read and put
+pub marked_rows : {table : Table} {columns : List Column} {from to : Ahead} {p q : At}
+    → over (N.PutsMarked table columns (λ k. false) from to) p q
+    → IsAhead table columns to × ((charset : N.Charset) (cells : List Cell) → table.charset ≡ charset → length cells ≡ from.column
+    → over (N.RunsRows charset columns cells (drop from.column columns) (drop to.column columns) to.column 0) p q)
+marked_rows {p = p} {q = q} x =
+    let ran = marked_in_rows x.runs in
+    (ran.0, λ charset cells set is. runs_rows (ran.1 charset cells set is) (grind arith) x.puts x.place_is)
+
+-- a write of their text failed, in the row that the run began in
+pub run_breaks : {table : Table} {columns : List Column} {from : Ahead} {a b : N.Seen} {h j : N.Held} {place : ℕ} {failed : Bool}
+    {stop : N.Stop} (cells : List Cell) → N.BreaksMarked table columns (λ k. false) from a b h j failed stop → length cells ≡ from.column
+    → length h.waiting < 4096 → h.delivered ≤ 2 ^ 64 - 1
+    → N.RowStops table.charset (N.after_cells table.charset cells (drop from.column columns)) a b place h j failed stop
+run_breaks {table = table} {a = a} {b = b} {h = h} {j = j} {stop = stop} cells y counted few delivered =
+    let x = marked_cells {charset = table.charset} {cells = cells} y.runs.count y.bytes _ counted y.runs.writes in
+    let broken = N.breaks_somewhere _ N.row_so_far (row_grows table.charset) _ a b h j stop y.between _ y.bytes N.[] _ x.writes.spelt
+    (rw N.append-nil (grind arith)) few delivered x.writes.text_is y.breaks in
+    record { at = broken.0; cause = grind arith }

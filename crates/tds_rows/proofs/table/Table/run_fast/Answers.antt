@@ -1,4 +1,0 @@
-use Rattle.tds_rows.proofs.TableRuns.{rows_begin}
-
-pub returns-then-at-ne0-clause-rows : Rattle.tds_rows.proofs.table.Table.run_fast.Goals.returns-then-at-ne0-clause-rows
-returns-then-at-ne0-clause-rows g c = rw c.none.ensures rows_begin

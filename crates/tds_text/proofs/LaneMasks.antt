@@ -1,0 +1,224 @@
+-- Masks of lanes that pass a test.
+use Rattle.tds_text.proofs as N
+use N.{Bool, Each1, Fits, List, [], ap, arith, chunk, drop, false, length, map, mask_l, not, refl, suc, take, top, true, w8, zero, ℕ, ◌%◌, ◌*◌, ◌+◌, ◌-◌, ◌/◌}
+use N.{◌<◌, ◌^◌, ◌∙◌, ◌∷◌, ◌≡◌, ◌≤◌, ◌||◌}
+use Rattle.std.proofs.Math.Nat.{add-mul-mod_self_left, mod-eq_of_lt, mul_assoc, pow-succ'}
+use Rattle.std.proofs.lemmas.List.Sums.{count_by-le-length}
+use Rattle.std.proofs.lemmas.Nat.{pow_pos}
+use Rattle.std.proofs.lemmas.Nat.{le_or_l, le_or_r}
+use Rattle.std.proofs.lemmas.Nat.Bits.{and_high_mask}
+use Rattle.std.specs.Prelude.{count_ones}
+use Rattle.tds_text.specs.Joined.{is_joined, is_lead, is_trail, pairs_at}
+use lib.Bits.{bit_xor}
+use lib.Dec.{ltb}
+use lib.Lanes.{zip2}
+
+-- ---- from the mask of one load to the bytes before the first that stops
+
+-- two tests that are the same on what lists hold
+same_prefix : {A : Type 0} (P : A → Type 0) {p q : A → Bool} → ((x : A) → P x → p x ≡ q x) → (xs : List A) → Each1 P xs → N.prefix_len p xs ≡ N.prefix_len q xs
+same_prefix P same [] each = refl
+same_prefix P same (x ∷ xs) each = N.ap₂ (λ b n. N.cond b (1 + n) 0) (same x each.0) (same_prefix P same xs each.1)
+
+-- so many lanes come before the first whose top bit is set
+run_before : (A : Type 0) (bit n : ℕ) (f : A → ℕ) (v : List A) {z : List ℕ} → length v ≡ n → n ≤ 64 → z ≡ map f v
+    → N.first_set (mask_l (map (top bit) z) % 2 ^ 64) n ≡ N.prefix_len (λ x. not (top bit (f x))) v
+run_before A bit n f v long few lanes =
+    let stops = λ (x : A). top bit (f x) in
+    rw (lanes, N.map-map (top bit) f v, (N.mask_l-mod (map stops v) 64 (omega (arith, N.length-map v stops)))) (N.first_set_mask_l stops v n long few)
+
+-- a lane stops just where q fails
+pub run_in : (n : ℕ) (q : ℕ → Bool) (d : List ℕ) (i : ℕ) {z : List ℕ} → n ≤ 64 → i + n ≤ length d → ((k : ℕ) → Fits w8 (N.get_or d k 0)) → (f : ℕ → ℕ)
+    → z ≡ map f (chunk i n d)
+    → N.agree_below (λ x. not (top 7 (f x))) q 256 ≡ true → N.first_set (mask_l (map (top 7) z) % 2 ^ 64) n ≡ N.prefix_len q (chunk i n d)
+run_in n q d i few room fits f lanes all =
+    run_before ℕ 7 n f (chunk i n d) (N.length-chunk i n d room) few lanes
+    ∙ same_prefix (Fits w8) (λ x small. N.agree_below_at (λ x. not (top 7 (f x))) q 256 x all small.fits) (chunk i n d) (N.chunk-fits w8 i n d fits)
+
+pub run_most : (q : ℕ → Bool) (d : List ℕ) (i n : ℕ) → i + n ≤ length d → N.prefix_len q (chunk i n d) ≤ n
+run_most = grind (arith, N.prefix_len-le-length, N.length-chunk)
+
+-- bytes that lie in others are the same as those
+pub alike : (bytes source : List ℕ) (at n : ℕ) → N.LiesIn bytes source → n ≤ 16 → at + n ≤ length bytes
+    → take n (drop at bytes) ≡ take n (chunk at 16 source)
+alike bytes source at n lies few within =
+    let k = length bytes - at in
+    let all : at + k ≡ length bytes = omega arith in
+    rw (← lies.front, ← all, N.drop-take at k source, N.take-take n k (drop at source) (omega arith), N.take-take n 16 (drop at source) few) refl
+
+-- two functions that are the same on units
+pub same_map : {A : Type 0} {f g : ℕ → A} → ((u : ℕ) → u < 65536 → f u ≡ g u) → (us : List ℕ) → Each1 (Fits N.w16) us → map f us ≡ map g us
+same_map same [] fits = refl
+same_map same (u ∷ us) fits = N.ap₂ (λ x xs. x ∷ xs) (same u fits.0.fits) (same_map same us fits.1)
+
+-- the mask of lanes whose top bit is set just where a test holds
+pub mask_of : (q : ℕ → Bool) (f : ℕ → ℕ) (us : List ℕ) {z : List ℕ} → length us ≡ 8 → Each1 (Fits N.w16) us → z ≡ map f us
+    → ((u : ℕ) → u < 65536 → top 15 (f u) ≡ q u) → mask_l (map (top 15) z) % 2 ^ 64 ≡ mask_l (map q us)
+mask_of q f us long fits lanes same =
+    let stops = λ (u : ℕ). top 15 (f u) in
+    rw (lanes, N.map-map (top 15) f us) (N.mask_l-mod (map stops us) 64 (omega (arith, N.length-map us stops)) ∙ ap mask_l (same_map same us fits))
+
+-- so many lanes have a small mask
+mask_small : (k : ℕ) (ms : List Bool) → length ms ≤ k → mask_l ms < 2 ^ k
+mask_small k [] few = pow_pos k
+mask_small zero (m ∷ ms) few = grind arith
+mask_small (suc k) (m ∷ ms) few = let more = mask_small k ms (omega arith) in grind arith
+
+-- a mask has the bits of its first lanes, and then the others
+mask_parts : (n : ℕ) (ms : List Bool) → mask_l ms ≡ mask_l (take n ms) + 2 ^ n * mask_l (drop n ms)
+mask_parts zero ms = omega arith
+mask_parts (suc n) [] = omega arith
+mask_parts (suc n) (m ∷ ms) =
+    let rest = mask_l (drop n ms) in
+    let twice : 2 ^ suc n * rest ≡ 2 * (2 ^ n * rest) = rw (pow-succ' 2 n) (mul_assoc 2 (2 ^ n) rest) in
+    omega (arith, mask_parts n ms)
+
+mask_first : (n : ℕ) (ms : List Bool) → mask_l (take n ms) < 2 ^ n
+mask_first n ms = mask_small n (take n ms) (omega (arith, N.length-take n ms))
+
+-- the lowest bits of a mask are those of the first lanes
+pub first_lanes : (q : ℕ → Bool) (n : ℕ) (us : List ℕ) {mask : ℕ} → mask ≡ mask_l (map q us) → mask % 2 ^ n ≡ mask_l (map q (take n us))
+first_lanes q n us is =
+    let ms = map q us in
+    rw (is, mask_parts n ms, add-mul-mod_self_left (mask_l (take n ms)) (2 ^ n) (mask_l (drop n ms)), ← N.take-map q n us) (mod-eq_of_lt (mask_first n ms))
+
+-- and those above, the others
+pub last_lanes : (q : ℕ → Bool) (us : List ℕ) {mask : ℕ} → mask ≡ mask_l (map q us) → mask / 16 ≡ mask_l (map q (drop 4 us))
+last_lanes = grind arith
+
+-- and few bits
+pub few_ones : (q : ℕ → Bool) (us : List ℕ) {mask : ℕ} → mask ≡ mask_l (map q us) → count_ones mask ≤ length us
+few_ones q us is = rw (is, N.ones-mask_l q us) (count_by-le-length q us)
+
+-- so the mask of the first of eight lanes
+pub first_mask : (q : ℕ → Bool) (us : List ℕ) (n : ℕ) {mask : ℕ} → length us ≡ 8 → n ≤ 8 → mask ≡ mask_l (map q (take n us))
+    → (mask < 256) × (count_ones mask ≤ n)
+first_mask = grind (arith, N.length-take-le, mask_small, N.length-map, few_ones)
+
+-- none of the lanes of a mask passes
+pub none_passes : (q : ℕ → Bool) (us : List ℕ) → mask_l (map q us) ≡ 0 → Each1 (λ u. q u ≡ false) us
+none_passes q [] is = tt
+none_passes q (u ∷ us) is = let here : q u ≡ false = grind arith in (here, none_passes q us (omega arith))
+
+-- a mask of lanes of which none passes
+pub none_set : (q : ℕ → Bool) (us : List ℕ) → Each1 (λ u. q u ≡ false) us → mask_l (map q us) ≡ 0
+none_set q [] each = refl
+none_set q (u ∷ us) each = rw (each.0, none_set q us each.1) refl
+
+-- all of them pass
+pub all_pass : (q : ℕ → Bool) (n : ℕ) (us : List ℕ) → length us ≤ n → mask_l (map q us) + 1 ≡ 2 ^ n → Each1 (λ u. q u ≡ true) us × (length us ≡ n)
+all_pass q zero [] few is = (tt, refl)
+all_pass q zero (u ∷ us) few is = grind arith
+all_pass q (suc n) [] few is = grind arith
+all_pass q (suc n) (u ∷ us) few is =
+    let here : q u ≡ true = grind arith in
+    let more = all_pass q n us (omega arith) (grind arith) in
+    ((here, more.0), ap suc more.1)
+
+-- none of the first passes, if their mask is empty
+pub none_of_first : (q : ℕ → Bool) (us : List ℕ) (n : ℕ) {mask low : ℕ} → mask ≡ mask_l (map q us) → low ≡ mask % 2 ^ n → low ≡ 0
+    → Each1 (λ u. q u ≡ false) (take n us)
+none_of_first = grind (arith, none_passes, first_lanes)
+
+-- at most eight lanes come before the first that passes
+pub first_few : (q : ℕ → Bool) (us : List ℕ) {mask : ℕ} → length us ≡ 8 → mask ≡ mask_l (map q us) → N.first_set mask 8 ≤ 8
+first_few = grind (arith, N.first_set_mask_l, N.prefix_len-le-length)
+
+-- ---- lanes of one load with those of the load a byte later
+
+-- the first of the pairs of two lists, and the second
+firsts : (xs ys : List ℕ) → length xs ≡ length ys → xs ≡ map (λ (p : ℕ × ℕ). p.0) (zip2 (λ x y. (x, y)) xs ys)
+firsts [] [] same = refl
+firsts [] (y ∷ ys) same = grind arith
+firsts (x ∷ xs) [] same = grind arith
+firsts (x ∷ xs) (y ∷ ys) same = ap (λ l. x ∷ l) (firsts xs ys (omega arith))
+
+seconds : (xs ys : List ℕ) → length xs ≡ length ys → ys ≡ map (λ (p : ℕ × ℕ). p.1) (zip2 (λ x y. (x, y)) xs ys)
+seconds [] [] same = refl
+seconds [] (y ∷ ys) same = grind arith
+seconds (x ∷ xs) [] same = grind arith
+seconds (x ∷ xs) (y ∷ ys) same = ap (λ l. y ∷ l) (seconds xs ys (omega arith))
+
+-- a lane of four tests of a byte and the next one: whether it is a quote, is high or begins a character, and whether the next goes on
+lane_stops : (quote high lead trail : Bool)
+    → top 7 (N.bit_or (N.bit_or (N.cond quote 255 0) (bit_xor (N.cond high 255 0) (N.cond lead 255 0))) (bit_xor (N.cond lead 255 0) (N.cond trail 255 0)))
+    ≡ (quote || (N.cond high (not lead) lead || N.cond lead (not trail) trail))
+lane_stops true true true true = refl
+lane_stops true true true false = refl
+lane_stops true true false true = refl
+lane_stops true true false false = refl
+lane_stops true false true true = refl
+lane_stops true false true false = refl
+lane_stops true false false true = refl
+lane_stops true false false false = refl
+lane_stops false true true true = refl
+lane_stops false true true false = refl
+lane_stops false true false true = refl
+lane_stops false true false false = refl
+lane_stops false false true true = refl
+lane_stops false false true false = refl
+lane_stops false false false true = refl
+lane_stops false false false false = refl
+
+-- so it stops just where a byte and the next one don't go on with a text of characters of one and two bytes
+pub pair_stops : (a b : ℕ) → a < 256 → b < 256 → not (top 7 (N.bit_or
+    (N.bit_or (N.cond (N.eqb a 34) 255 0) (bit_xor (N.cond (N.leb 192 a) 255 0) (N.cond (ltb ((a + 62) % 256) 30) 255 0)))
+    (bit_xor (N.cond (ltb ((a + 62) % 256) 30) 255 0) (N.cond (ltb ((b + 128) % 256) 64) 255 0)))) ≡ is_joined (a, b)
+pair_stops a b small little =
+    let lead : ltb ((a + 62) % 256) 30 ≡ is_lead a = grind arith in
+    let trail : ltb ((b + 128) % 256) 64 ≡ is_trail b = grind arith in
+    rw (lane_stops (N.eqb a 34) (N.leb 192 a) (ltb ((a + 62) % 256) 30) (ltb ((b + 128) % 256) 64), lead, trail) (grind arith)
+
+-- two bytes
+ArePair : ℕ × ℕ → Type 0
+ArePair p = Fits w8 p.0 × Fits w8 p.1
+
+module _ (d : List ℕ) (at : ℕ) (room : at + 16 < length d) where
+  same_long : length (chunk at 16 d) ≡ length (chunk (at + 1) 16 d)
+  same_long = N.length-chunk at 16 d (omega arith) ∙ N.sym (N.length-chunk (at + 1) 16 d (omega arith))
+
+  pub pairs_long : length (pairs_at at d) ≡ 16
+  pairs_long = N.length-zip2 _ (chunk at 16 d) (chunk (at + 1) 16 d) same_long ∙ N.length-chunk at 16 d (omega arith)
+
+  pub pairs_most : (q : ℕ × ℕ → Bool) → N.prefix_len q (pairs_at at d) ≤ 16
+  pairs_most q = grind (arith, N.prefix_len-le-length q (pairs_at at d), pairs_long)
+
+  pub here_lanes : chunk at 16 d ≡ map (λ (p : ℕ × ℕ). p.0) (pairs_at at d)
+  here_lanes = firsts (chunk at 16 d) (chunk (at + 1) 16 d) same_long
+
+  pub next_lanes : chunk (at + 1) 16 d ≡ map (λ (p : ℕ × ℕ). p.1) (pairs_at at d)
+  next_lanes = seconds (chunk at 16 d) (chunk (at + 1) 16 d) same_long
+
+  -- a lane stops just where q fails
+  pub run_of_pairs : (q : ℕ × ℕ → Bool) {z : List ℕ} → ((k : ℕ) → Fits w8 (N.get_or d k 0)) → (f : ℕ × ℕ → ℕ) → z ≡ map f (pairs_at at d)
+      → ((a b : ℕ) → a < 256 → b < 256 → not (top 7 (f (a, b))) ≡ q (a, b))
+      → N.first_set (mask_l (map (top 7) z) % 2 ^ 64) 16 ≡ N.prefix_len q (pairs_at at d)
+  unfolding ArePair
+  run_of_pairs q fits f lanes same =
+      run_before (ℕ × ℕ) 7 16 f (pairs_at at d) pairs_long (omega arith) lanes
+      ∙ same_prefix ArePair (λ p small. same p.0 p.1 small.0.fits small.1.fits) (pairs_at at d) (N.Each1-zip2 _ ArePair _ _
+      (N.Each2-of (Fits w8) (Fits w8) _ (λ a b x y. (x, y)) _ _ (N.chunk-fits w8 at 16 d fits) (N.chunk-fits w8 (at + 1) 16 d fits)))
+
+-- ---- whether a lane is long, by the bits of all
+
+-- lanes that have no bit together have none
+none_joined : (a : ℕ) (xs : List ℕ) → N.fold_l N.bit_or a xs ≡ 0 → (a ≡ 0) × Each1 (λ x. x ≡ 0) xs
+none_joined a [] none = (none, tt)
+none_joined a (x ∷ xs) none =
+    let more = none_joined (N.bit_or a x) xs none in
+    ((omega (arith, more.0, le_or_l a x)), ((omega (arith, more.0, le_or_r a x)), more.1))
+
+-- a unit that has none of the high bits is short
+short_unit : (u : ℕ) → u < 65536 → N.bit_and u 63488 ≡ 0 → N.is_long u ≡ false
+short_unit u small none = grind (arith, and_high_mask 16 11 (omega arith) u small, none)
+
+short_units : (us : List ℕ) → Each1 (Fits N.w16) us → Each1 (λ x. x ≡ 0) (map (λ u. N.bit_and u 63488) us) → Each1 (λ u. N.is_long u ≡ false) us
+short_units [] fits none = tt
+short_units (u ∷ us) fits none = (short_unit u fits.0.fits none.0, short_units us fits.1 none.1)
+
+pub none_long : (us : List ℕ) → length us ≡ 8 → Each1 (Fits N.w16) us
+    → not (N.nat_eq (N.fold_l N.bit_or 0 (N.zip2 N.bit_and us (N.replicate 8 63488))) 0) ≡ false → Each1 (λ u. N.is_long u ≡ false) us
+none_long us long fits none =
+    let all = N.fold_l N.bit_or 0 (N.zip2 N.bit_and us (N.replicate 8 63488)) in
+    let zero : all ≡ 0 = grind (arith, none) in
+    short_units us fits (none_joined 0 _ (rw (N.zip2_splat N.bit_and us 8 63488 long) at zero)).1

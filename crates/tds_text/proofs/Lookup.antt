@@ -1,0 +1,267 @@
+-- What the tables of places have.
+use Rattle.tds_text.proofs as N
+use N.{high_quad, low_quad, pair, Bool, Each1, Fits, List, [], ap, ap₂, arith, cond, drop, get_or, length, map, mask_l, nat_eq, refl, suc, take, top, true, w16}
+use N.{w8, zero, ℕ, ◌%◌, ◌&&◌, ◌*◌, ◌++◌, ◌+◌, ◌/◌, ◌<◌, ◌^◌, ◌∙◌, ◌∷◌, ◌≡◌, ◌≤◌}
+use Rattle.std.proofs.lemmas.List.{get_or-append-add, get_or_append_left}
+use Rattle.std.proofs.lemmas.Nat.{ones-le, ones_cat}
+use Rattle.std.specs.Prelude.{count_ones, flat_map}
+use Rattle.std.specs.Simd.Lanes.{number_l}
+use Rattle.tds_text.specs.Utf16.{units}
+use lib.Lanes.{Each2, digits_l, zip2}
+
+-- ---- bytes that are gathered from lanes by the places of a table
+
+-- lanes at places
+pub looked_up : (xs : List ℕ) (i : ℕ) (js : List ℕ) → i + length js ≤ 16 → Each1 (λ j. j < 16) js → N.swz_l w8 16 xs i js ≡ map (λ j. get_or xs j 0) js
+looked_up xs i [] few small = refl
+looked_up xs i (j ∷ js) few small = grind (arith, looked_up xs (suc i) js (omega arith) small.1)
+
+-- the places of bytes of each lane, for lanes of this width from a place on
+abbrev pub placed : ℕ → ℕ → List (List ℕ) → List ℕ
+placed width at [] = []
+placed width at (ks ∷ kss) = map (λ k. at + k) ks ++ placed width (at + width) kss
+
+-- the bytes of a lane between others
+one_lane : (front lane more ks : List ℕ) → Each1 (λ k. k < length lane) ks
+    → map (λ j. get_or (front ++ (lane ++ more)) j 0) (map (λ k. length front + k) ks) ≡ map (λ k. get_or lane k 0) ks
+one_lane front lane more [] each = refl
+one_lane front lane more (k ∷ ks) each = ap₂ (λ x xs. x ∷ xs) (get_or-append-add front (lane ++ more) k 0
+    ∙ get_or_append_left lane more 0 k each.0) (one_lane front lane more ks each.1)
+
+module _ (size : ℕ) (lane places : ℕ → List ℕ) (wide : (u : ℕ) → length (lane u) ≡ size) (inside : (u : ℕ) → Each1 (λ k. k < length (lane u)) (places u)) where
+  -- the bytes of lanes after others
+  lanes_from : (front us more : List ℕ) → map (λ j. get_or (front ++ (flat_map lane us ++ more)) j 0) (placed size (length front) (map places us))
+      ≡ flat_map (λ u. map (λ k. get_or (lane u) k 0) (places u)) us
+  lanes_from front [] more = refl
+  lanes_from front (u ∷ us) more =
+      let later = flat_map lane us ++ more in
+      let there : length (front ++ lane u) ≡ length front + size = N.length-append front (lane u) ∙ ap (λ n. length front + n) (wide u) in
+      let rest = rw (N.append_assoc front (lane u) later, there) at (lanes_from (front ++ lane u) us more) in
+      rw (N.append_assoc (lane u) (flat_map lane us) more, N.map-append) (ap₂ (λ xs ys. xs ++ ys) (one_lane front (lane u) later (places u) (inside u)) rest)
+
+  -- those of the first lanes, by a row of a table that begins with their places
+  pub gathered_text : (text : ℕ → List ℕ) {row xs : List ℕ} (us more rest : List ℕ) → row ≡ placed size 0 (map places us) ++ rest
+      → xs ≡ flat_map lane us ++ more → flat_map (λ u. map (λ k. get_or (lane u) k 0) (places u)) us ≡ flat_map text us
+      → take (length (flat_map text us)) (map (λ j. get_or xs j 0) row) ≡ flat_map text us
+  gathered_text text us more rest row_is xs_is same =
+      rw (row_is, xs_is, N.map-append, (lanes_from [] us more ∙ same)) (N.take-append_seam (flat_map text us) _)
+
+-- the same text of each lane
+pub same_texts : {P : ℕ → Type 0} {f g : ℕ → List ℕ} → ((u : ℕ) → P u → f u ≡ g u) → (us : List ℕ) → Each1 P us → flat_map f us ≡ flat_map g us
+same_texts same [] each = refl
+same_texts same (u ∷ us) each = ap₂ (λ xs ys. xs ++ ys) (same u each.0) (same_texts same us each.1)
+
+-- the bits of a mask
+abbrev pub bits : ℕ → ℕ → List Bool
+bits zero mask = []
+bits (suc n) mask = nat_eq (mask % 2) 1 ∷ bits n (mask / 2)
+
+lowest_bit : (b : Bool) (n : ℕ) → (nat_eq ((cond b 1 0 + 2 * n) % 2) 1 ≡ b) × ((cond b 1 0 + 2 * n) / 2 ≡ n)
+lowest_bit true = grind arith
+lowest_bit N.false = grind arith
+
+-- a row for two masks of some lanes begins with the places of these lanes
+pub row_begins : (f : Bool → Bool → List ℕ) (width at m : ℕ) (ws ls : List Bool) → length ws ≤ m → length ls ≡ length ws
+    → (rest : List ℕ) × (placed width at (zip2 f (bits m (mask_l ws)) (bits m (mask_l ls))) ≡ placed width at (zip2 f ws ls) ++ rest)
+row_begins f width at m [] [] few same = (placed width at (zip2 f (bits m (mask_l [])) (bits m (mask_l []))), refl)
+row_begins f width at (suc m) (w ∷ ws) (l ∷ ls) few same =
+    let more = row_begins f width (at + width) m ws ls (omega arith) (omega arith) in (
+      more.0,
+      rw (
+        (lowest_bit w (mask_l ws)).0,
+        (lowest_bit w (mask_l ws)).1,
+        (lowest_bit l (mask_l ls)).0,
+        (lowest_bit l (mask_l ls)).1,
+        more.1,
+        N.append_assoc,
+      ) refl,
+    )
+row_begins f width at zero (w ∷ ws) ls few same = grind arith
+row_begins f width at m [] (l ∷ ls) few same = grind arith
+row_begins f width at m (w ∷ ws) [] few same = grind arith
+
+-- where the bytes of a text are in a unit's two: a text of two bytes, or of one
+abbrev pub pair_places : Bool → Bool → List ℕ
+pair_places wide long = cond wide (0 ∷ 1 ∷ []) (0 ∷ [])
+
+-- and in its four: a text of three bytes, of two, or of one
+abbrev pub quad_places : Bool → Bool → List ℕ
+quad_places wide long = cond long (2 ∷ 3 ∷ 1 ∷ []) (cond wide (3 ∷ 1 ∷ []) (0 ∷ []))
+
+-- each of them is below this
+abbrev all_below : ℕ → List ℕ → Bool
+all_below n [] = true
+all_below n (k ∷ ks) = N.nat_lt k n && all_below n ks
+
+each_below : (n : ℕ) (ks : List ℕ) → all_below n ks ≡ true → Each1 (λ k. k < n) ks
+each_below n [] all = tt
+each_below n (k ∷ ks) all = let both = N.and_parts (N.nat_lt k n) (all_below n ks) all in (grind arith, each_below n ks both.1)
+
+-- A row of a table has 16 places in 16 bytes, and begins with these.
+pub record IsRow (row begins : List ℕ) : Type 0 where
+  pub long : length row ≡ 16
+  pub small : Each1 (λ k. k < 16) row
+  pub is : row ≡ begins ++ drop (length begins) row
+
+-- its test
+abbrev is_row : List ℕ → List ℕ → Bool
+is_row row begins = (nat_eq (length row) 16 && all_below 16 row) && N.bytes_eq row (begins ++ drop (length begins) row)
+
+tested : (row begins : List ℕ) → is_row row begins ≡ true → IsRow row begins
+tested row begins h =
+    let all = N.and_parts (nat_eq (length row) 16 && all_below 16 row) (N.bytes_eq row (begins ++ drop (length begins) row)) h in
+    record {
+      long = grind arith;
+      small = each_below 16 row (N.and_parts (nat_eq (length row) 16) (all_below 16 row) all.0).1;
+      is = (N.bytes_eq-Decides _ _).0
+          all.1;
+    }
+
+pub pair_row : (mask : ℕ) → mask < 256 → IsRow (get_or N.PAIRS mask []) (placed 2 0 (zip2 pair_places (bits 8 mask) (bits 8 0)))
+pair_row mask small =
+    tested _ _ (N.agree_below_at (λ i. is_row (get_or N.PAIRS i []) (placed 2 0 (zip2 pair_places (bits 8 i) (bits 8 0)))) (λ _. true) 256 mask refl small)
+
+quad_at : (i : ℕ) → i < 256 → IsRow (get_or N.QUADS i []) (placed 4 0 (zip2 quad_places (bits 4 (i % 16)) (bits 4 (i / 16))))
+quad_at i small =
+    tested _ _ (N.agree_below_at (λ i. is_row (get_or N.QUADS i []) (placed 4 0 (zip2 quad_places (bits 4 (i % 16)) (bits 4 (i / 16))))) (λ _. true) 256 i
+    refl small)
+
+pub quad_row : (wide long : ℕ) → wide < 16 → long < 16
+    → IsRow (get_or N.QUADS (wide + 16 * long) []) (placed 4 0 (zip2 quad_places (bits 4 wide) (bits 4 long)))
+quad_row wide long small small' =
+    let low : (wide + 16 * long) % 16 ≡ wide = omega arith in
+    let high : (wide + 16 * long) / 16 ≡ long = omega arith in
+    rw (low, high) at (quad_at (wide + 16 * long) (omega arith))
+
+-- how many bits are set in two masks of four
+pub ones_of_two : (wide long : ℕ) → wide < 16 → long < 16 → (count_ones (wide + 16 * long) ≡ count_ones wide + count_ones long)
+    × (count_ones (wide + 16 * long) ≤ 8)
+ones_of_two wide long small small' =
+    let index : wide + 16 * long ≡ long * 2 ^ 4 + wide = omega arith in
+    (rw (index, ones_cat 4 long wide small) (omega arith), ones-le 8 (wide + 16 * long) (omega arith))
+
+-- ---- units that are looked at eight at a time, lane by lane
+
+-- lanes that are chosen one by one
+chosen_maps : (m : ℕ → Bool) (f g : ℕ → ℕ) (us : List ℕ) → N.sel_l (map m us) (map f us) (map g us) ≡ map (λ u. cond (m u) (f u) (g u)) us
+chosen_maps m f g [] = refl
+chosen_maps m f g (u ∷ us) = ap (λ xs. cond (m u) (f u) (g u) ∷ xs) (chosen_maps m f g us)
+
+-- and by the tops of others
+pub chosen : (l f g : ℕ → ℕ) (us : List ℕ) {ls xs ys : List ℕ} → ls ≡ map l us → xs ≡ map f us → ys ≡ map g us
+    → N.sel_l (map (top 15) ls) xs ys ≡ map (λ u. cond (top 15 (l u)) (f u) (g u)) us
+chosen = grind (arith, N.map-map, chosen_maps)
+
+-- two bytes are a lane
+pub units_of_bytes : (n : ℕ) (xs : List ℕ) → length xs ≡ 2 * n → Each1 (Fits w8) xs → digits_l 65536 n (number_l 256 xs) ≡ units xs
+units_of_bytes zero [] long fits = refl
+units_of_bytes (suc n) (low ∷ high ∷ xs) long fits = let more = units_of_bytes n xs (omega arith) fits.1.1 in
+    grind arith
+units_of_bytes n xs long fits = grind arith
+
+-- the first byte of a long character, and the two others as a number, low byte first
+abbrev pub lead : ℕ → ℕ
+lead u = 224 + u / 4096
+
+abbrev pub others : ℕ → ℕ
+others u = (128 + u / 64 % 64) + (128 + u % 64) * 256
+
+-- the two bytes of each number
+abbrev bytes_of : List ℕ → List ℕ
+bytes_of [] = []
+bytes_of (x ∷ xs) = (x % 256) ∷ (x / 256 % 256) ∷ bytes_of xs
+
+bytes_of_pairs : (n : ℕ) (xs : List ℕ) → length xs ≡ n → Each1 (λ x. x < 65536) xs → digits_l 256 (2 * n) (number_l 65536 xs) ≡ bytes_of xs
+bytes_of_pairs zero [] long fits = refl
+bytes_of_pairs (suc n) (x ∷ xs) long fits =
+    let two : 2 * suc n ≡ suc (suc (2 * n)) = omega arith in
+    rw two (grind (arith, bytes_of_pairs n xs (omega arith) fits.1))
+bytes_of_pairs n xs long fits = grind arith
+
+-- and of each number that is made of a unit
+bytes_of_map : (f : ℕ → ℕ) (us : List ℕ) → bytes_of (map f us) ≡ flat_map (λ u. N.low_and_high (f u)) us
+bytes_of_map f [] = refl
+bytes_of_map f (u ∷ us) = ap (λ xs. (f u % 256) ∷ (f u / 256 % 256) ∷ xs) (bytes_of_map f us)
+
+pair_fits : (u : ℕ) → u < 65536 → (pair u < 65536) × ((low_quad u < 65536) × (high_quad u < 65536))
+pair_fits = grind arith
+
+each_fits : (us : List ℕ) → Each1 (Fits w16) us → Each1 (λ x. x < 65536) (map pair us)
+each_fits [] fits = tt
+each_fits (u ∷ us) fits = ((pair_fits u fits.0.fits).0, each_fits us fits.1)
+
+-- the bytes of eight pairs
+pub pair_lanes : (us : List ℕ) {z : List ℕ} → length us ≡ 8 → Each1 (Fits w16) us → z ≡ map pair us
+    → digits_l 256 16 (number_l 65536 z) ≡ flat_map N.pair_bytes us
+pair_lanes us long fits is = rw is (bytes_of_pairs 8 (map pair us) (N.length-map us pair ∙ long) (each_fits us fits) ∙ bytes_of_map pair us)
+
+-- of each four bytes the first, the third and the fourth, and then the second
+abbrev pub woven : List ℕ → List ℕ
+woven bs = map (λ k. get_or (bs ++ bs) k 0) (0 ∷ 2 ∷ 3 ∷ 4 ∷ 6 ∷ 7 ∷ 8 ∷ 10 ∷ 11 ∷ 12 ∷ 14 ∷ 15 ∷ 1 ∷ 5 ∷ 9 ∷ 13 ∷ [])
+
+split : (u : ℕ) → u < 65536 → (lead u % 256 ≡ 224 + u / 4096) × (others u % 256 ≡ 128 + u / 64 % 64) × (others u / 256 % 256 ≡ 128 + u % 64)
+    × (lead u < 65536) × (others u < 65536)
+split = grind arith
+
+-- the bytes of four of them
+abbrev four : ℕ → ℕ → ℕ → ℕ → List ℕ
+four a b c d = lead a ∷ others a ∷ lead b ∷ others b ∷ lead c ∷ others c ∷ lead d ∷ others d ∷ []
+
+four_each : (a b c d : ℕ) → a < 65536 → b < 65536 → c < 65536 → d < 65536
+    → take 12 (woven (digits_l 256 16 (number_l 65536 (four a b c d)))) ≡ N.triples (a ∷ b ∷ c ∷ d ∷ [])
+four_each a b c d sa sb sc sd =
+    let fa = split a sa in
+    let fb = split b sb in
+    let fc = split c sc in
+    let fd = split d sd in
+    ap (λ bs. take 12 (woven bs)) (bytes_of_pairs 8 (four a b c d) refl (fa.3, (fa.4, (fb.3, (fb.4, (fc.3, (fc.4, (fd.3, (fd.4, tt))))))))) ∙ (cc)
+
+-- eight of them, each lane beside the other
+abbrev pub beside_first : List ℕ → List ℕ → List ℕ
+beside_first ls os = map (λ k. get_or (ls ++ os) k 0) (0 ∷ 8 ∷ 1 ∷ 9 ∷ 2 ∷ 10 ∷ 3 ∷ 11 ∷ [])
+
+abbrev pub beside_second : List ℕ → List ℕ → List ℕ
+beside_second ls os = map (λ k. get_or (ls ++ os) k 0) (4 ∷ 12 ∷ 5 ∷ 13 ∷ 6 ∷ 14 ∷ 7 ∷ 15 ∷ [])
+
+pub three_each : (us ls os : List ℕ) → length us ≡ 8 → Each1 (Fits w16) us → ls ≡ map lead us → os ≡ map others us
+    → (take 12 (woven (digits_l 256 16 (number_l 65536 (beside_first ls os)))) ≡ take 12 (N.triples us))
+    × (take 12 (woven (digits_l 256 16 (number_l 65536 (beside_second ls os)))) ≡ take 12 (drop 12 (N.triples us)))
+three_each (a ∷ b ∷ c ∷ d ∷ e ∷ f ∷ g ∷ h ∷ []) ls os long (fa, (fb, (fc, (fd, (fe, (ff, (fg, (fh, _)))))))) is_lead is_others =
+    rw (is_lead, is_others) (four_each a b c d fa.fits fb.fits fc.fits fd.fits, four_each e f g h fe.fits ff.fits fg.fits fh.fits)
+three_each us ls os long fits is_lead is_others = grind arith
+
+-- the bytes of four characters, four each
+quad_each : (a b c d : ℕ) → a < 65536 → b < 65536 → c < 65536 → d < 65536
+    → digits_l 256 16 (number_l 65536 (low_quad a ∷ high_quad a ∷ low_quad b ∷ high_quad b ∷ low_quad c ∷ high_quad c ∷ low_quad d ∷ high_quad d
+    ∷ [])) ≡ flat_map N.quad_bytes (a ∷ b ∷ c ∷ d ∷ [])
+quad_each a b c d sa sb sc sd =
+    let fa = (pair_fits a sa).1 in
+    let fb = (pair_fits b sb).1 in
+    let fc = (pair_fits c sc).1 in
+    let fd = (pair_fits d sd).1 in
+    bytes_of_pairs 8 (low_quad a ∷ high_quad a ∷ low_quad b ∷ high_quad b ∷ low_quad c ∷ high_quad c ∷ low_quad d ∷ high_quad d ∷ []) refl
+    (fa.0, (fa.1, (fb.0, (fb.1, (fc.0, (fc.1, (fd.0, (fd.1, tt))))))))
+
+-- and of eight
+pub quad_lanes : (us ls hs : List ℕ) → length us ≡ 8 → Each1 (Fits w16) us → ls ≡ map low_quad us → hs ≡ map high_quad us
+    → (digits_l 256 16 (number_l 65536 (beside_first ls hs)) ≡ flat_map N.quad_bytes (take 4 us))
+    × (digits_l 256 16 (number_l 65536 (beside_second ls hs)) ≡ flat_map N.quad_bytes (drop 4 us))
+quad_lanes (a ∷ b ∷ c ∷ d ∷ e ∷ f ∷ g ∷ h ∷ []) ls hs long (fa, (fb, (fc, (fd, (fe, (ff, (fg, (fh, _)))))))) is_low is_high =
+    rw (is_low, is_high) (quad_each a b c d fa.fits fb.fits fc.fits fd.fits, quad_each e f g h fe.fits ff.fits fg.fits fh.fits)
+quad_lanes us ls hs long fits is_low is_high = grind arith
+
+-- what a lane of the second numbers computes
+pub high_lane : (u : ℕ) → u < 65536
+    → cond (top 15 (cond (N.eqb u 34) 65535 0)) 8738 (((u / 4096 + (u / 64 % 64 * 256) % 65536) % 65536 + cond (top 15 (cond (N.leb 2048 u) 65535 0)) 32992
+    49376)
+    % 65536) ≡ high_quad u
+high_lane = grind arith
+
+-- and of the first
+pub low_lane : (u : ℕ) → u < 65536
+    → cond (top 15 (cond (N.eqb u 34) 65535 0)) 8738 ((u % 256 + ((u % 64 + 128) % 65536 * 256) % 65536) % 65536) ≡ low_quad u
+low_lane = grind arith
+
+-- what holds of one number holds of eight lanes of it
+pub asks_all : (R : ℕ → ℕ → Type 0) (us : List ℕ) (k : ℕ) → ((x : ℕ) → R x k) → Each2 R us (N.replicate 8 k)
+asks_all R us k h = N.Each2-splat R us 8 k (N.Each1-all _ h us)

@@ -1,0 +1,11 @@
+-- A field between quotes, as it is written to a slice.
+use Rattle.tds_text.proofs.Words.{◌≡◌, ℕ, ◌+◌, ◌≤◌, List, [], ◌∷◌, ◌++◌, length, take, refl, arith, slice_set, take-append-le, quote, quoted_field}
+
+opened : (to : List ℕ) → 1 ≤ length to → take 1 (slice_set to 0 quote) ≡ quote ∷ []
+opened [] h = grind arith
+opened (a ∷ to) h = refl
+
+-- a quote, so many bytes of what was written after it, and a quote
+pub quoted : (to new rest text : List ℕ) (m : ℕ) → 1 ≤ length to → m ≤ length new → take m new ≡ text
+    → take (1 + m) (take 1 (slice_set to 0 quote) ++ (new ++ rest)) ++ quote ∷ [] ≡ quoted_field text
+quoted = grind (arith, opened, take-append-le)

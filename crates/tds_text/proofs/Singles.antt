@@ -1,0 +1,119 @@
+-- Data whose bytes each stand alone, put a run after the other.
+use Rattle.tds_text.proofs as N
+use N.{ArePlain, UPPER, List, [], arith, chunk, drop, get_or, is_plain, refl, take, true, ℕ, ◌%◌, ◌++◌, ◌+◌, ◌-◌, ◌/◌, ◌<◌, ◌∙◌}
+use N.{◌∷◌, ◌≡◌}
+use N.{◌≤◌}
+use Rattle.tds_text.specs.Windows1252 as windows_1252
+use Rattle.std.specs.Int.{to_le_bytes, w32}
+use Rattle.std.proofs.Common.{nat_le}
+use Rattle.std.specs.Char.{encode_utf8}
+
+module _ (text : List ℕ → List ℕ) (appends : (x y : List ℕ) → text (x ++ y) ≡ text x ++ text y) where
+  pub runs : (t e : ℕ) (xs : List ℕ) → t ≤ e → text (take t xs) ++ text (take (e - t) (drop t xs)) ≡ text (take e xs)
+  runs t e xs h = let end : t + (e - t) ≡ e = omega arith in rw (← appends (take t xs) (take (e - t) (drop t xs)), ← N.take-add t (e - t) xs, end) refl
+
+  -- which were added to it
+  pub text_taken : {run after : List ℕ} (bytes : List ℕ) (at n : ℕ) → after ≡ run ++ text (take n (drop at bytes)) → run ≡ text (take at bytes)
+      → after ≡ text (take (at + n) bytes)
+  text_taken = grind (arith, N.take-add)
+
+  -- bytes that stand for themselves were
+  pub itself_taken : {run after : List ℕ} (bytes : List ℕ) (at n : ℕ) → after ≡ run ++ take n (drop at bytes)
+      → text (take n (drop at bytes)) ≡ take n (drop at bytes) → run ≡ text (take at bytes) → after ≡ text (take (at + n) bytes)
+  itself_taken {run = run} bytes at n added itself before = text_taken bytes at n (added ∙ N.ap (λ l. run ++ l) (N.sym itself)) before
+
+  -- that of one byte was
+  pub one_taken : {run after : List ℕ} (bytes : List ℕ) (at : ℕ) → at < N.length bytes → after ≡ run ++ text (get_or bytes at 0 ∷ [])
+      → run ≡ text (take at bytes) → after ≡ text (take (at + 1) bytes)
+  one_taken bytes at within one before = one ∙ N.ap (λ l. l ++ text (get_or bytes at 0 ∷ [])) before ∙ N.sym (appends (take at bytes) _)
+      ∙ N.ap text (N.sym (N.take_more bytes at 0 within))
+
+  -- bytes that stand for themselves, up to the first that needn't
+  module _ (q : ℕ → N.Bool) (empty : text [] ≡ []) (itself : (b : ℕ) → q b ≡ true → text (b ∷ []) ≡ b ∷ []) where
+    -- the first of them, so many
+    some_itself : (k : ℕ) (xs : List ℕ) → k ≤ N.prefix_len q xs → text (take k xs) ≡ take k xs
+    some_itself N.zero xs h = empty
+    some_itself (N.suc k) [] h = grind arith
+    some_itself (N.suc k) (b ∷ xs) h = grind (arith, appends (b ∷ []) (take k xs), some_itself k xs)
+
+    -- those that were found among the next `w`
+    lanes_itself : (w : ℕ) (bytes : List ℕ) (at n : ℕ) → n ≤ w → n ≡ N.prefix_len q (chunk at w bytes)
+        → take n (chunk at w bytes) ≡ text (take n (drop at bytes))
+    lanes_itself = grind (arith, some_itself, N.take-take)
+
+-- ---- bytes of Windows-1252 that stand for themselves
+
+-- the bytes of a number, from the lowest on, as many as the highest says
+abbrev pub bytes_of : ℕ → List ℕ
+bytes_of w = take (w / 16777216) ((w % 256) ∷ (w / 256 % 256) ∷ (w / 65536 % 256) ∷ [])
+
+-- what the table has
+table : (k : ℕ) → k < 128 → (bytes_of (get_or UPPER k 0) ≡ windows_1252.text ((128 + k) ∷ [])) × (get_or UPPER k 0 / 16777216 ≤ 3)
+unfolding encode_utf8
+table k h = (
+  (N.bytes_eq-Decides _ _).0 (N.agree_below_at (λ k. N.bytes_eq (bytes_of (get_or UPPER k 0)) (windows_1252.text ((128 + k) ∷ []))) (λ _. true) 128 k refl h),
+  grind (arith, N.nat_tests, (N.agree_below_at (λ k. nat_le (get_or UPPER k 0 / 16777216) 3) (λ _. true) 128 k refl h)),
+)
+
+-- the text of a byte beyond ASCII, from the table
+pub upper_text : (b : ℕ) {w : ℕ} → 128 ≤ b → b < 256 → w ≡ get_or UPPER (b - 128) 0 → (bytes_of w ≡ windows_1252.text (b ∷ [])) × (w / 16777216 ≤ 3)
+upper_text b low high is =
+    let e : 128 + (b - 128) ≡ b = omega arith in
+    rw is (rw e at (table (b - 128) (omega arith)))
+
+-- the bytes of a number were written, and so many of them are that text
+pub upper_put : (b at : ℕ) {w : ℕ} (old new : List ℕ) → 128 ≤ b → b < 256 → w ≡ get_or UPPER (b - 128) 0 → at ≤ N.length old
+    → take (at + 4) new ≡ take at old ++ to_le_bytes w32 w
+    → take (at + w / 16777216) new ≡ take at old ++ windows_1252.text (b ∷ [])
+upper_put b at {w} old new low high is within written =
+    let t = upper_text b low high is in
+    let three = N.Characters.front_written old new _ at 3 4 (omega arith) within written in
+    rw (← t.0) (N.Characters.front_written old new _ at (w / 16777216) 3 t.1 within three)
+
+-- a byte that is plain is its own text
+plain_itself : (b : ℕ) → is_plain b ≡ true → windows_1252.text (b ∷ []) ≡ b ∷ []
+plain_itself = grind (arith, N.Characters.of_one)
+
+-- so are bytes that are
+pub plain_text : (bytes : List ℕ) → ArePlain bytes → windows_1252.text bytes ≡ bytes
+plain_text [] plain = refl
+plain_text (b ∷ bytes) plain = N.SingleLaws.windows_1252-append (b ∷ []) bytes
+    ∙ N.ap₂ (λ x y. x ++ y) (plain_itself b plain.0) (plain_text bytes plain.1)
+
+-- those that were found among the next 32
+pub wide_lanes : (bytes : List ℕ) (at n : ℕ) → n ≤ 32 → n ≡ N.prefix_len is_plain (chunk at 32 bytes)
+    → take n (chunk at 32 bytes) ≡ windows_1252.text (take n (drop at bytes))
+wide_lanes bytes at n few e = lanes_itself windows_1252.text N.SingleLaws.windows_1252-append is_plain refl plain_itself 32 bytes at n few e
+
+-- ---- bytes of ASCII without a quote
+
+-- the first of them, so many
+plain_front : (k : ℕ) (xs : List ℕ) → k ≤ N.prefix_len is_plain xs → ArePlain (take k xs)
+plain_front N.zero xs h = tt
+plain_front (N.suc k) [] h = tt
+plain_front (N.suc k) (b ∷ xs) h = grind (arith, plain_front k xs)
+
+-- some of those that were found among the next 16 of a source
+pub plain_among : (source bytes : List ℕ) (at n : ℕ) → n ≤ N.prefix_len is_plain (chunk at 16 source)
+    → take n (drop at bytes) ≡ take n (chunk at 16 source) → ArePlain (take n (drop at bytes))
+plain_among source bytes at n plains same = rw same (plain_front n (chunk at 16 source) plains)
+
+-- with their quotes doubled they are as they were
+pub plain_doubled : (bytes : List ℕ) → ArePlain bytes → N.doubled bytes ≡ bytes
+plain_doubled [] plain = refl
+plain_doubled (b ∷ bytes) plain = grind (arith, plain_doubled bytes plain.1, plain.0)
+
+-- and they are text in UTF-8
+pub one_utf8 : (b : ℕ) → b < 128 → N.IsUtf8 (b ∷ [])
+one_utf8 b small = N.subst N.IsUtf8 (N.Characters.of_one b small) (N.IsUtf8-encode b (grind arith))
+
+pub plain_utf8 : (bytes : List ℕ) → ArePlain bytes → N.IsUtf8 bytes
+plain_utf8 [] plain = N.IsUtf8-nil
+plain_utf8 (b ∷ bytes) plain = N.IsUtf8-append (b ∷ []) bytes (one_utf8 b (grind (arith, plain.0))) (plain_utf8 bytes plain.1)
+
+-- ---- bytes without a quote
+
+-- those that were found among the next `w`
+pub unquoted_lanes : (w : ℕ) (bytes : List ℕ) (at n : ℕ) → n ≤ w → n ≡ N.prefix_len N.is_unquoted (chunk at w bytes)
+    → take n (chunk at w bytes) ≡ N.doubled (take n (drop at bytes))
+unquoted_lanes w bytes at n few e = lanes_itself N.doubled N.JoiningLemmas.doubled-append N.is_unquoted refl (grind arith) w bytes at n few e

@@ -1,0 +1,109 @@
+-- The laws of UTF-16 in pieces.
+use Rattle.tds_text.proofs.Words.{◌≡◌, ℕ, ◌%◌, ◌≤◌, ◌&&◌, Bool, true, false, cond, List, [], ◌∷◌, ◌++◌, length, refl, ap, ◌∙◌, arith, encode_utf8_all, ⊤}
+use Rattle.tds_text.proofs.Words.{map-append, length-append, encodes-append, utf16_lossy_chars, is_high_surrogate, is_low_surrogate, JoinsPieces, emit, doubled}
+use Rattle.tds_text.proofs.JoiningLemmas.{doubled-append, settled_front}
+use Rattle.tds_text.specs.Utf16.{units, is_high, IsFit, text, rest}
+use Rattle.std.specs.Char.Utf16.{utf16_chars}
+
+-- the first unit is a low surrogate
+unfoldable pub starts_low : List ℕ → Bool
+starts_low [] = false
+starts_low (u ∷ us) = is_low_surrogate u
+
+-- the first unit is a high surrogate
+abbrev starts_high : List ℕ → Bool
+starts_high [] = false
+starts_high (u ∷ us) = is_high_surrogate u
+
+-- no pair lies across the seam of two lists of units
+abbrev pub Apart : List ℕ → List ℕ → Type 0
+Apart [] vs = ⊤
+Apart (u ∷ []) vs = (is_high_surrogate u && starts_low vs) ≡ false
+Apart (u ∷ v ∷ us) vs = Apart (v ∷ us) vs
+
+Apart-tail : (v : ℕ) (us vs : List ℕ) → Apart (v ∷ us) vs → Apart us vs
+Apart-tail = grind arith
+
+-- the characters of units that are cut where no pair lies
+pub chars-apart : (us vs : List ℕ) → Apart us vs → utf16_chars (us ++ vs) ≡ utf16_chars us ++ utf16_chars vs
+unfolding utf16_chars starts_low
+chars-apart [] vs h = refl
+chars-apart (u ∷ []) [] h = refl
+chars-apart (u ∷ []) (v ∷ vs) h = grind arith
+chars-apart (u ∷ v ∷ us) vs h = grind (arith, chars-apart us vs (Apart-tail v us vs h), chars-apart (v ∷ us) vs h)
+
+high_is_not_low : (u : ℕ) → is_high_surrogate u ≡ true → is_low_surrogate u ≡ false
+high_is_not_low = grind arith
+
+-- the bytes before the rest
+abbrev pub front : List ℕ → List ℕ
+front [] = []
+front (odd ∷ []) = []
+front (low ∷ high ∷ []) = cond (is_high low high) [] (low ∷ high ∷ [])
+front (low ∷ high ∷ odd ∷ []) = cond (is_high low high) [] (low ∷ high ∷ [])
+front (low ∷ high ∷ low' ∷ high' ∷ bytes) = low ∷ high ∷ front (low' ∷ high' ∷ bytes)
+
+-- a unit that is no high surrogate is settled, whatever follows
+pub front_step : (low high : ℕ) (bytes : List ℕ) → is_high low high ≡ false → front (low ∷ high ∷ bytes) ≡ low ∷ high ∷ front bytes
+front_step = grind arith
+
+pub rest_step : (low high : ℕ) (bytes : List ℕ) → is_high low high ≡ false → rest (low ∷ high ∷ bytes) ≡ rest bytes
+rest_step = grind arith
+
+-- bytes and what follows them, seen from the bytes that are withheld
+record Seam (a b : List ℕ) : Type 0 where
+  whole : a ≡ front a ++ rest a
+  rest_is : rest (a ++ b) ≡ rest (rest a ++ b)
+  front_is : front (a ++ b) ≡ front a ++ front (rest a ++ b)
+  units_are : units (front a ++ b) ≡ units (front a) ++ units b
+  even : length (front a) % 2 ≡ 0
+  few : length (rest a) ≤ 3
+
+seam : (a b : List ℕ) → Seam a b
+seam [] b = grind arith
+seam (odd ∷ []) b = grind arith
+seam (low ∷ high ∷ []) b = grind arith
+seam (low ∷ high ∷ odd ∷ []) b = grind arith
+seam (low ∷ high ∷ low' ∷ high' ∷ bytes) b = let more = seam (low' ∷ high' ∷ bytes) b in grind arith
+
+-- no pair lies across the end of the front, where no low surrogate comes first after a rest that begins with a high one
+Apart-front : (a vs : List ℕ) → (starts_high (units (rest a)) ≡ true → starts_low vs ≡ false) → Apart (units (front a)) vs
+Apart-front [] vs f = tt
+Apart-front (odd ∷ []) vs f = tt
+Apart-front (low ∷ high ∷ []) vs f = grind arith
+Apart-front (low ∷ high ∷ odd ∷ []) vs f = grind arith
+Apart-front (low ∷ high ∷ low' ∷ high' ∷ bytes) vs f = grind (arith, Apart-front (low' ∷ high' ∷ bytes) vs f)
+
+-- the text of units is that of both parts where no pair lies across
+texts : (us vs : List ℕ) → Apart us vs → doubled (encode_utf8_all (utf16_lossy_chars (us ++ vs))) ≡ doubled (encode_utf8_all (utf16_lossy_chars us))
+    ++ doubled (encode_utf8_all (utf16_lossy_chars vs))
+texts = grind (arith, chars-apart, map-append, encodes-append, doubled-append)
+
+text-front : (a b : List ℕ) → Apart (units (front a)) (units b) → text (front a ++ b) ≡ text (front a) ++ text b
+text-front a b h = ap (λ us. doubled (encode_utf8_all (utf16_lossy_chars us))) (seam a b).units_are ∙ texts (units (front a)) (units b) h
+
+pub emit-front : (a : List ℕ) → emit rest text a ≡ text (front a)
+emit-front a = ap text (settled_front rest a (front a) (seam a []).whole)
+
+emits : (a b : List ℕ) → emit rest text (a ++ b) ≡ emit rest text a ++ emit rest text (rest a ++ b)
+unfolding starts_low
+emits a b =
+    rw (emit-front, emit-front a, emit-front (rest a ++ b), (seam a b).front_is) (text-front a (front (rest a ++ b))
+    (Apart-front a (units (front (rest a ++ b))) (grind (arith, high_is_not_low))))
+
+ends : (a : List ℕ) → text a ≡ emit rest text a ++ text (rest a)
+unfolding starts_low
+ends a =
+    let split = text-front a (rest a) (Apart-front a (units (rest a)) (grind (arith, high_is_not_low))) in
+    cc (emit-front a, (seam a []).whole)
+
+pub short : (a : List ℕ) → length (rest a) ≤ 3
+short a = (seam a []).few
+
+-- bytes are whole units just where their rest is
+parts : (bytes : List ℕ) → length bytes % 2 ≡ length (rest bytes) % 2
+parts bytes = let whole = (seam bytes []).even in omega (arith, ap length (seam bytes []).whole, length-append (front bytes) (rest bytes))
+
+-- text in UTF-16 may come in pieces
+pub joins_utf16 : JoinsPieces IsFit (λ _. ⊤) rest text
+joins_utf16 = grind (arith, emits, seam, short, ends, parts)

@@ -1,0 +1,16 @@
+use Rattle.tds_text.proofs as N
+use N.doubling.convert.Given as goal
+use N.{◌≡◌, ◌*◌, ◌-◌, ◌≤◌, ◌+◌, length}
+
+-- the text so far is that of the bytes so far
+abbrev pub invariant-loop-at : goal.invariant-loop-at
+invariant-loop-at l = record {
+  within : l.at ≤ length l.bytes;
+  long : 2 * length l.bytes + 16 ≤ length l.to;
+  room : l.made ≤ 2 * l.at;
+  text : N.take
+      l.made l.to ≡ N.doubled (N.take l.at l.bytes);
+}
+
+abbrev pub decreases-loop-at : goal.decreases-loop-at
+decreases-loop-at l = length l.bytes - l.at

@@ -1,0 +1,24 @@
+use Rattle.tds_text.proofs as N
+use N.{◌≡◌, ◌+◌, ◌*◌, ◌++◌, ℕ, take, arith}
+use N.SingleLaws.{hex-append}
+use N.Singles.{text_taken}
+
+-- the digits of twice 32 bytes were written
+two_steps : (bytes first second third : N.List ℕ) (at : ℕ) → take (2 * at) first ≡ N.encode_lower (take at bytes)
+    → take (2 * at + 64) second ≡ take (2 * at) first ++ N.encode_lower (N.chunk at 32 bytes)
+    → take (2 * (at + 32) + 64) third ≡ take (2 * (at + 32)) second ++ N.encode_lower (N.chunk (at + 32) 32 bytes)
+    → take (2 * (at + 64)) third ≡ N.encode_lower (take (at + 64) bytes)
+two_steps bytes first second third at before one two =
+    let half : 2 * at + 64 ≡ 2 * (at + 32) = omega arith in
+    let all : 2 * (at + 32) + 64 ≡ 2 * (at + 64) = omega arith in
+    let end : at + 32 + 32 ≡ at + 64 = omega arith in
+    let more = text_taken N.encode_lower (hex-append N.lower_digits) bytes at 32 one before in
+    rw end at (rw all at (text_taken N.encode_lower (hex-append N.lower_digits) bytes (at + 32) 32 two (rw half at more)))
+
+pub loop-at-preserved : N.lanes_hex.encode_wide.Goals.loop-at-preserved
+loop-at-preserved c = record {
+  within = omega arith;
+  room = search N.rules;
+  digits = two_steps _ _ _ _ _
+      c.loop-at.invariant.digits c.put_wide_digits.ensures c.put_wide_digits-in-loop-at.ensures;
+}

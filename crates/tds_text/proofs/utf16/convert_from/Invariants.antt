@@ -1,0 +1,10 @@
+use Rattle.tds_text.proofs.utf16.convert_from.Given as goal
+use Rattle.tds_text.proofs.Words.{◌+◌, ◌≤◌, ◌*◌, ◌-◌, length}
+use Rattle.tds_text.specs.Utf16Next.{Converts}
+
+-- the text so far is that of the bytes so far
+abbrev pub invariant-loop-next : goal.invariant-loop-next
+invariant-loop-next l = record { long : 3 * length l.bytes + 32 ≤ 2 * length l.to; now : Converts l.bytes l.to l.run.used l.run.made }
+
+abbrev pub decreases-loop-next : goal.decreases-loop-next
+decreases-loop-next l = length l.bytes - l.run.used

@@ -1,0 +1,22 @@
+use Rattle.tds_text.proofs as N
+use N.windows_1252.convert_wide.Goals as goal
+use N.Singles.{text_taken}
+use Rattle.tds_text.specs.Windows1252 as windows_1252
+
+pub convert_by_hand-made-requires-clause-before : goal.convert_by_hand-made-requires-clause-before
+convert_by_hand-made-requires-clause-before c =
+    record {
+      room = omega N.arith;
+      text = text_taken windows_1252.text N.SingleLaws.windows_1252-append _ _ _ c.take_wide-n.ensures.taken
+          c.loop-at.invariant.text;
+    }
+
+pub loop-at-preserved-then-n-eq-WIDE : goal.loop-at-preserved-then-n-eq-WIDE
+loop-at-preserved-then-n-eq-WIDE c =
+    record {
+      within = omega N.arith;
+      fits = search N.rules;
+      room = omega N.arith;
+      text = text_taken windows_1252.text N.SingleLaws.windows_1252-append _ _ _
+          c.take_wide-n.ensures.taken c.loop-at.invariant.text;
+    }

@@ -1,0 +1,14 @@
+pub mod Binary
+pub mod Conversion
+pub mod Fields
+pub mod Joining
+pub mod Quoting
+pub mod Utf16
+pub mod Utf8
+pub mod Windows1252
+pub mod Utf8Scan
+pub mod Utf16Next
+pub mod Cutting
+pub mod Plain
+pub mod Joined
+pub mod Wide

@@ -1,0 +1,151 @@
+// The field of a whole value of a long kind, written to a slice.
+ghost use Rattle.std.specs.Prelude.{◌≡◌, ◌+◌, ◌*◌, ◌%◌, ◌<◌, ◌≤◌, ◌++◌, ◌∷◌, [], length, take, IfSome};
+ghost use Rattle.tds_text.specs.Conversion.{HexDigits, Utf16Text, Utf8Text, Windows1252Text, long_field};
+ghost use Rattle.tds_text.specs.Fields.{FieldWritten, conversion_of, field_room};
+ghost use Rattle.tds_text.specs.Quoting.{quote};
+
+use crate::framing::{BINARY_MARK, QUOTE};
+use crate::lanes::{LANES, WIDE};
+use crate::lanes_hex::{encode, put_digits};
+use crate::{utf8, utf16, windows_1252};
+
+// How many bytes of room a field may want besides its text.
+const FIELD_SPARE: usize = 20;
+
+/// What the data of a long value is.
+#[derive(Clone, Copy)]
+pub enum Content {
+    /// Bytes, which become hexadecimal digits.
+    Binary,
+    /// Text in UTF-16, low byte first.
+    Utf16,
+    /// Text in the code page Windows-1252.
+    Windows1252,
+    /// Text in UTF-8.
+    Utf8,
+}
+
+/// How many bytes of room the field of `n` bytes of data may want, a few to spare.
+#[inline(always)]
+pub fn field_room(content: Content, n: usize) -> usize
+    requires { n ≤ 65535 }
+    ensures { result ≡ field_room (conversion_of content) n }
+{
+    match content {
+        Content::Binary => 2 * n + FIELD_SPARE,
+        Content::Utf16 => n + n / 2 + FIELD_SPARE,
+        Content::Windows1252 => 3 * n + FIELD_SPARE,
+        Content::Utf8 => 2 * n + FIELD_SPARE,
+    }
+}
+
+// Writes the quote after the text of a field, and returns how many bytes the field has.
+#[inline(always)]
+fn close_quoted(to: &mut [u8], made: usize) -> usize
+    requires { made < length to.old }
+    ensures end { result ≡ made + 1 }
+    ensures text { take result to.new ≡ take made to.old ++ quote ∷ [] }
+{
+    to[made] = QUOTE;
+    made + 1
+}
+
+// Writes binary data, the first `n` of these bytes, as a field.
+fn write_binary(source: &[u8], n: usize, to: &mut [u8]) -> usize
+    requires within { n ≤ length source.now }
+    requires room { field_room HexDigits n ≤ length to.old }
+    ensures most { result + 2 ≤ length to.old }
+    ensures field { take result to.new ≡ long_field HexDigits (take n source.now) }
+{
+    let end = 2 + 2 * n;
+    to[0] = BINARY_MARK[0];
+    to[1] = BINARY_MARK[1];
+    if n <= LANES && source.len() >= LANES && to.len() >= 2 + 2 * LANES {
+        put_digits(source, 0, &mut to[2..]);
+        return end;
+    }
+    encode(&source[..n], &mut to[2..end]);
+    end
+}
+
+/// Writes text in UTF-16, the first `n` of these bytes, as a field.
+#[inline(never)]
+#[tactic(auto, using(crate::proofs::QuotedFields::quoted, std::proofs::lemmas::Grind::common_steps))]
+pub fn write_utf16(source: &[u8], n: usize, to: &mut [u8]) -> usize
+    requires within { n ≤ length source.now }
+    requires whole { n % 2 ≡ 0 }
+    requires room { field_room Utf16Text n ≤ length to.old }
+    ensures most { result + 2 ≤ length to.old }
+    ensures field { take result to.new ≡ long_field Utf16Text (take n source.now) }
+{
+    to[0] = QUOTE;
+    let made = utf16::convert_whole(&source[..n], source, &mut to[1..]);
+    close_quoted(to, 1 + made)
+}
+
+// Writes text in Windows-1252, the first `n` of these bytes, as a field.
+#[inline(never)]
+#[tactic(auto, using(crate::proofs::QuotedFields::quoted, std::proofs::lemmas::Grind::common_steps))]
+fn write_long_windows_1252(source: &[u8], n: usize, to: &mut [u8]) -> usize
+    requires within { n ≤ length source.now }
+    requires room { field_room Windows1252Text n ≤ length to.old }
+    ensures most { result + 2 ≤ length to.old }
+    ensures field { take result to.new ≡ long_field Windows1252Text (take n source.now) }
+{
+    to[0] = QUOTE;
+    let made = windows_1252::convert(&source[..n], source, &mut to[1..]);
+    close_quoted(to, 1 + made)
+}
+
+// Writes text in Windows-1252 as `write_long_windows_1252` does, which is called only if there are many bytes.
+#[tactic(auto, using(crate::proofs::QuotedFields::quoted, std::proofs::lemmas::Grind::common_steps))]
+fn write_windows_1252(source: &[u8], n: usize, to: &mut [u8]) -> usize
+    requires within { n ≤ length source.now }
+    requires room { field_room Windows1252Text n ≤ length to.old }
+    ensures most { result + 2 ≤ length to.old }
+    ensures field { take result to.new ≡ long_field Windows1252Text (take n source.now) }
+{
+    if n >= WIDE {
+        return write_long_windows_1252(source, n, to);
+    }
+    to[0] = QUOTE;
+    let made = windows_1252::convert_few(&source[..n], source, &mut to[1..]);
+    close_quoted(to, 1 + made)
+}
+
+// Writes text in UTF-8, the first `n` of these bytes, as a field. `None` if they are no text.
+#[inline(never)]
+#[tactic(auto, using(crate::proofs::QuotedFields::quoted, std::proofs::lemmas::Grind::common_steps))]
+fn write_utf8(source: &[u8], n: usize, to: &mut [u8]) -> Option<usize>
+    requires within { n ≤ length source.now }
+    requires room { field_room Utf8Text n ≤ length to.old }
+    ensures most { IfSome result (λ made. made + 2 ≤ length to.old) }
+    ensures gives { FieldWritten Utf8Text (take n source.now) to.new result }
+{
+    to[0] = QUOTE;
+    let made = utf8::convert_whole(&source[..n], source, &mut to[1..])?;
+    Some(close_quoted(to, 1 + made))
+}
+
+/// Writes the field of a whole value, the first `n` of these bytes, to the front of a slice: `0x` and
+/// digits, or the text in quotes. Returns how many bytes it has, or `None` if the data isn't whole: an odd
+/// number of bytes in UTF-16, or bytes that are no UTF-8.
+#[inline(always)]
+pub fn write_field(content: Content, source: &[u8], n: usize, to: &mut [u8]) -> Option<usize>
+    requires within { n ≤ length source.now }
+    requires room { field_room (conversion_of content) n ≤ length to.old }
+    ensures most { IfSome result (λ made. made + 2 ≤ length to.old) }
+    ensures gives { FieldWritten (conversion_of content) (take n source.now) to.new result }
+{
+    match content {
+        Content::Binary => Some(write_binary(source, n, to)),
+        Content::Windows1252 => Some(write_windows_1252(source, n, to)),
+        Content::Utf16 => {
+            if n % 2 == 1 {
+                return None;
+            }
+            Some(write_utf16(source, n, to))
+        }
+        Content::Utf8 => write_utf8(source, n, to),
+    }
+}

@@ -1,0 +1,311 @@
+// Characters of text in UTF-16.
+ghost use Rattle.std.specs.Prelude.{◌≡◌, ◌||◌, ◌+◌, ◌-◌, ◌*◌, ◌<◌, ◌≤◌, ◌%◌, ◌++◌, length, take, drop, slice_index, MatchOption, IfSome};
+ghost use Rattle.std.specs.Char.{encode_utf8};
+ghost use Rattle.std.specs.Char.Utf16.{is_high_surrogate, is_low_surrogate};
+ghost use Rattle.tds_text.specs.Joining.{emit};
+ghost use Rattle.tds_text.specs.Plain.{LiesIn};
+ghost use Rattle.tds_text.specs.Utf16 as utf16;
+ghost use Rattle.tds_text.specs.Utf16Next.{Converts, ConvertsIn, IsCharacter, IsNext, LeavesRest};
+
+use crate::beyond_ascii::{put_eight, put_units};
+use crate::encode::put_quoted;
+use crate::lanes::{LANES, first_set};
+use crate::lanes_utf16::{UNITS, surrogate_units, units_of};
+use std::simd::prelude::*;
+use tds_values::Span;
+
+/// A character, and how many bytes it takes.
+#[derive(Clone, Copy)]
+pub struct Character {
+    pub code: u32,
+    pub len: usize,
+}
+
+// The unit at a place.
+fn unit(bytes: &[u8], at: usize) -> u32
+    requires { at + 1 < length bytes.now }
+    ensures value { result ≡ slice_index bytes.now at + 256 * slice_index bytes.now (at + 1) }
+    ensures range { result < 65536 }
+{
+    u32::from(bytes[at]) + 256 * u32::from(bytes[at + 1])
+}
+
+// Whether a unit is a surrogate, one half of a pair.
+fn is_surrogate(unit: u32) -> bool
+    ensures { result ≡ (is_high_surrogate unit || is_low_surrogate unit) }
+{
+    0xD800 <= unit && unit < 0xE000
+}
+
+// Whether a unit is a low surrogate, the second of a pair.
+fn is_low(unit: u32) -> bool
+    ensures { result ≡ is_low_surrogate unit }
+{
+    0xDC00 <= unit && unit < 0xE000
+}
+
+// The character at a place: U+FFFD for a surrogate without a partner. `None` if that depends on what follows.
+pub(crate) fn next_character(bytes: &[u8], at: usize) -> Option<Character>
+    requires { at ≤ length bytes.now }
+    ensures gives { MatchOption result
+        (utf16.rest (drop at bytes.now) ≡ drop at bytes.now)
+        (λ next. IsNext (drop at bytes.now) next.code next.len) }
+    ensures character { IfSome result (λ next. IsCharacter next.code next.len) }
+    ensures within { IfSome result (λ next. at + next.len ≤ length bytes.now) }
+{
+    if bytes.len() - at < 2 {
+        return None;
+    }
+    let first = unit(bytes, at);
+    if !is_surrogate(first) {
+        return Some(Character {
+            code: first,
+            len: 2,
+        });
+    }
+    if is_low(first) {
+        return Some(Character {
+            code: 0xFFFD,
+            len: 2,
+        });
+    }
+    if bytes.len() - at < 4 {
+        return None;
+    }
+    let second = unit(bytes, at + 2);
+    if !is_low(second) {
+        return Some(Character {
+            code: 0xFFFD,
+            len: 2,
+        });
+    }
+    Some(Character {
+        code: 0x1_0000 + (first - 0xD800) * 0x400 + (second - 0xDC00),
+        len: 4,
+    })
+}
+
+/// The character at a place in whole data: U+FFFD for a surrogate without a partner.
+pub fn character_at(bytes: &[u8], at: usize) -> Character
+    requires some { at + 2 ≤ length bytes.now }
+    requires whole { (length bytes.now - at) % 2 ≡ 0 }
+    ensures spells { let later = drop (at + result.len) bytes.now in
+        utf16.characters (drop at bytes.now) ≡ encode_utf8 result.code ++ utf16.characters later }
+    ensures character { IsCharacter result.code result.len }
+    ensures within { at + result.len ≤ length bytes.now }
+{
+    match next_character(bytes, at) {
+        Some(next) => next,
+        None => Character {
+            code: 0xFFFD,
+            len: 2,
+        },
+    }
+}
+
+// Goes on with the text by one character, if that doesn't depend on what follows.
+#[inline(always)]
+#[tactic(auto, using(crate::proofs::Characters::doubled_length, std::proofs::lemmas::Grind::common_steps))]
+pub(crate) fn convert_one(bytes: &[u8], from: usize, to: &mut [u8], start: usize) -> Span
+    requires long { 3 * length bytes.now + 2 * LANES ≤ 2 * length to.old }
+    requires before { Converts bytes.now to.old from start }
+    ensures more { from ≤ result.used }
+    ensures held { result.used ≡ from → utf16.rest (drop from bytes.now) ≡ drop from bytes.now }
+    ensures after { Converts bytes.now to.new result.used result.made }
+{
+    let Some(next) = next_character(bytes, from) else {
+        return Span {
+            used: from,
+            made: start,
+        };
+    };
+    let made = put_quoted(to, start, next.code);
+    Span {
+        used: from + next.len,
+        made,
+    }
+}
+
+// Goes on with the text by eight units, as long as they begin at `last` at the latest and none of them is a surrogate. With
+// `LONG` one of them has to be long, and otherwise one has to be short.
+#[inline(always)]
+fn convert_eights<const LONG: bool>(
+    bytes: &[u8],
+    last: usize,
+    from: usize,
+    to: &mut [u8],
+    start: usize,
+) -> Span
+    requires last { last + LANES ≤ length bytes.now }
+    requires long { 3 * length bytes.now + 2 * LANES ≤ 2 * length to.old }
+    requires before { Converts bytes.now to.old from start }
+    ensures more { from ≤ result.used }
+    ensures after { Converts bytes.now to.new result.used result.made }
+{
+    let mut at = from;
+    let mut made = start;
+    while at <= last {
+        let lanes = u8x16::from_slice(&bytes[at..]);
+        let Some(end) = put_eight::<LONG>(to, made, lanes) else {
+            break;
+        };
+        at += LANES;
+        made = end;
+    }
+    Span { used: at, made }
+}
+
+// Goes on with the text by eight units that begin at `last` at the latest, up to the next surrogate.
+#[inline(always)]
+fn convert_full(bytes: &[u8], last: usize, from: usize, to: &mut [u8], start: usize) -> Span
+    requires last { last + LANES ≤ length bytes.now }
+    requires long { 3 * length bytes.now + 2 * LANES ≤ 2 * length to.old }
+    requires before { Converts bytes.now to.old from start }
+    ensures more { from ≤ result.used }
+    ensures after { Converts bytes.now to.new result.used result.made }
+{
+    let mut run = Span {
+        used: from,
+        made: start,
+    };
+    loop {
+        let eights = convert_eights::<false>(bytes, last, run.used, to, run.made);
+        let done = convert_eights::<true>(bytes, last, eights.used, to, eights.made);
+        if done.used == eights.used {
+            return done;
+        }
+        run = done;
+    }
+}
+
+// Goes on with the text by at most `most` of the next eight units, if none of these is a surrogate. What comes after the bytes
+// in the source may be looked at.
+#[inline(always)]
+fn convert_some(
+    bytes: &[u8],
+    source: &[u8],
+    from: usize,
+    to: &mut [u8],
+    start: usize,
+    most: usize,
+) -> Span
+    requires most { most ≤ UNITS }
+    requires before { ConvertsIn bytes.now source.now to.old from start }
+    ensures more { from ≤ result.used }
+    ensures after { Converts bytes.now to.new result.used result.made }
+{
+    let n = ((bytes.len() - from) / 2).min(most);
+    let nothing = Span {
+        used: from,
+        made: start,
+    };
+    if n == 0 || source.len() - from < LANES {
+        return nothing;
+    }
+    let Some(made) = put_units(to, start, u8x16::from_slice(&source[from..]), n) else {
+        return nothing;
+    };
+    Span {
+        used: from + 2 * n,
+        made,
+    }
+}
+
+// Goes on with the text up to the next surrogate.
+#[inline(always)]
+fn convert_run(bytes: &[u8], source: &[u8], from: usize, to: &mut [u8], start: usize) -> Span
+    requires { ConvertsIn bytes.now source.now to.old from start }
+    ensures more { from ≤ result.used }
+    ensures after { Converts bytes.now to.new result.used result.made }
+{
+    let mut run = Span {
+        used: from,
+        made: start,
+    };
+    if bytes.len() >= LANES {
+        run = convert_full(bytes, bytes.len() - LANES, from, to, start);
+    }
+    convert_some(bytes, source, run.used, to, run.made, UNITS)
+}
+
+// How many of the next eight units come before the first surrogate among them.
+#[tactic(auto, using(crate::proofs::LaneMasks::first_few))]
+fn units_before(source: &[u8], at: usize) -> usize
+    requires { at ≤ length source.now }
+    ensures { result ≤ UNITS }
+{
+    if source.len() - at < LANES {
+        return 0;
+    }
+    let units = units_of(u8x16::from_slice(&source[at..]));
+    first_set(surrogate_units(units), UNITS)
+}
+
+// Goes on with the text of the characters that are fixed, with surrogates.
+#[inline(never)]
+#[tactic(auto, using(crate::proofs::Utf16Steps::ends_held))]
+fn convert_from(bytes: &[u8], source: &[u8], after: Span, to: &mut [u8]) -> Span
+    requires { ConvertsIn bytes.now source.now to.old after.used after.made }
+    ensures text { take result.made to.new ≡ emit utf16.rest utf16.text bytes.now }
+    ensures used { LeavesRest bytes.now 0 result.used }
+    ensures short { 2 * result.made ≤ 3 * result.used }
+{
+    let mut run = after;
+    loop {
+        let most = units_before(source, run.used);
+        let done = convert_some(bytes, source, run.used, to, run.made, most);
+        let next = convert_one(bytes, done.used, to, done.made);
+        if next.used == done.used {
+            return next;
+        }
+        run = convert_run(bytes, source, next.used, to, next.made);
+    }
+}
+
+/// Writes the text of the characters that are fixed. What follows the bytes in the source may be looked at.
+#[inline(always)]
+#[tactic(auto, using(crate::proofs::Utf16Steps::ends_short))]
+pub fn convert(bytes: &[u8], source: &[u8], to: &mut [u8]) -> Span
+    requires source { LiesIn bytes.now source.now }
+    requires long { 3 * length bytes.now + 2 * LANES ≤ 2 * length to.old }
+    ensures short { 2 * result.made ≤ 3 * result.used }
+    ensures text { take result.made to.new ≡ emit utf16.rest utf16.text bytes.now }
+    ensures used { LeavesRest bytes.now 0 result.used }
+{
+    let run = convert_run(bytes, source, 0, to, 0);
+    if bytes.len() - run.used < 2 {
+        return run;
+    }
+    convert_from(bytes, source, run, to)
+}
+
+// Goes on with the text of whole data, with surrogates, and returns its length. A high surrogate at the end has no partner.
+#[inline(never)]
+fn convert_last(bytes: &[u8], source: &[u8], after: Span, to: &mut [u8]) -> usize
+    requires whole { length bytes.now % 2 ≡ 0 }
+    requires before { ConvertsIn bytes.now source.now to.old after.used after.made }
+    ensures short { 2 * result ≤ 3 * length bytes.now }
+    ensures text { take result to.new ≡ utf16.text bytes.now }
+{
+    let done = convert_from(bytes, source, after, to);
+    if done.used == bytes.len() {
+        return done.made;
+    }
+    put_quoted(to, done.made, 0xFFFD)
+}
+
+// Writes the text of whole data, and returns its length. A high surrogate at the end has no partner.
+#[inline(always)]
+pub(crate) fn convert_whole(bytes: &[u8], source: &[u8], to: &mut [u8]) -> usize
+    requires source { LiesIn bytes.now source.now }
+    requires whole { length bytes.now % 2 ≡ 0 }
+    requires room { 3 * length bytes.now + 2 * LANES ≤ 2 * length to.old }
+    ensures short { 2 * result ≤ 3 * length bytes.now }
+    ensures text { take result to.new ≡ utf16.text bytes.now }
+{
+    let run = convert_run(bytes, source, 0, to, 0);
+    if run.used == bytes.len() {
+        return run.made;
+    }
+    convert_last(bytes, source, run, to)
+}
