@@ -14,7 +14,7 @@ use tds_text::write_null;
 /// The token byte of an NBCROW (MS-TDS, NBCROW).
 pub const NBCROW: u8 = 0xD2;
 
-// How many bytes the bitmap of `columns` columns has.
+/// How many bytes the bitmap of `columns` columns has.
 pub fn bitmap_size(columns: u16) -> usize
     ensures value { result ≡ bitmap_length columns }
     ensures most { result ≤ longest_bitmap }
@@ -22,7 +22,7 @@ pub fn bitmap_size(columns: u16) -> usize
     (columns as usize + 7) / 8
 }
 
-// Whether the bit of a column is set. The lowest bit of the first byte is the bit of column 0.
+/// Whether the bit of a column is set. The lowest bit of the first byte is the bit of column 0.
 pub fn is_null(bitmap: &[u8], column: u16) -> bool
     requires { column < 8 * length bitmap.now }
     ensures { result ≡ bit bitmap.now column }
@@ -169,8 +169,8 @@ impl<'a> Table<'a> {
         CellRun { used, made, ahead }
     }
 
-    // Writes NBCROW after NBCROW, each with the token byte of the next, as long as each of their cells is as `run_far_marked`
-    // takes it.
+    /// Writes NBCROW after NBCROW, each with the token byte of the next, as long as each of their cells is as `run_far_marked`
+    /// takes it.
     #[inline(never)]
     pub fn run_far_rows(&self, bytes: &[u8], to: &mut [u8]) -> WholeRows
         requires known { KnowsAll self.now }
@@ -246,8 +246,8 @@ impl<'a> Table<'a> {
         CellRun { used, made, ahead }
     }
 
-    // Writes cell after cell of an NBCROW, as far as they are NULL by their bit or whole in these bytes, aren't in several
-    // chunks, and have room. NULLs are written here.
+    /// Writes cell after cell of an NBCROW, as far as they are NULL by their bit or whole in these bytes, aren't in several
+    /// chunks, and have room. NULLs are written here.
     #[inline(always)]
     pub fn run_nulls(
         &self,

@@ -104,8 +104,8 @@ impl<'a> Table<'a> {
         self.run_along(from, end, &one, bytes, to)
     }
 
-    // Writes cell after cell of a row, as far as they are whole in these bytes, aren't in several chunks and have room, up to the
-    // column at which it ends. `KNOWN` says that the table knows all columns.
+    /// Writes cell after cell of a row, as far as they are whole in these bytes, aren't in several chunks and have room, up to the
+    /// column at which it ends. `KNOWN` says that the table knows all columns.
     #[inline(always)]
     pub fn run_cells<const KNOWN: bool>(
         &self,
@@ -354,8 +354,8 @@ impl<'a> Table<'a> {
         run
     }
 
-    // Writes cell after cell, as far as they are whole in these bytes, aren't in several chunks and have room, over the
-    // ends of rows: after a whole row it goes on if the byte of the next ROW follows.
+    /// Writes cell after cell, as far as they are whole in these bytes, aren't in several chunks and have room, over the
+    /// ends of rows: after a whole row it goes on if the byte of the next ROW follows.
     #[inline(always)]
     pub fn run_rows(&self, from: Ahead<'a>, bytes: &[u8], to: &mut [u8]) -> RowsRun<'a>
         requires some { 0 < self.now.count }
