@@ -68,7 +68,7 @@ fn lay_out(kind: &Kind, charset: Charset) -> Layout
 
 impl Form {
     /// What a cell of a kind needs if single-byte text is in this set.
-    pub fn of(kind: Kind, charset: Charset) -> Form
+    pub(crate) fn of(kind: Kind, charset: Charset) -> Form
         requires { IsTrue (is_valid kind) }
         ensures kind { result.kind ≡ kind }
         ensures laid { IsLaidOut charset result.kind result.layout }

@@ -134,7 +134,8 @@ impl<'a> Table<'a> {
         requires bitmap { self.now.count ≤ 8 * length bitmap.now }
         ensures used { result.used ≤ length bytes.now }
         ensures made { result.made ≤ length to.old }
-        ensures ends { EndsFar self.now (bit bitmap.now) result.ahead (drop result.used bytes.now) (length to.old - result.made) }
+        ensures ends { EndsFar self.now (bit bitmap.now) result.ahead (drop result.used bytes.now)
+            (length to.old - result.made) }
         ensures cells { MarkedWritten self.now (bit bitmap.now) from.entry bytes.now to.new result }
     {
         if bytes.len() < FAR || to.len() < CELL_ROOM {
@@ -177,7 +178,8 @@ impl<'a> Table<'a> {
         ensures used { result.used ≤ length bytes.now }
         ensures made { result.made ≤ length to.old }
         ensures few { result.rows ≤ result.used }
-        ensures ends { EndsNbcRows self.now (bitmap_length self.now.count) (drop result.used bytes.now) (length to.old - result.made) }
+        ensures ends { EndsNbcRows self.now (bitmap_length self.now.count) (drop result.used bytes.now)
+            (length to.old - result.made) }
         ensures rows { NbcRowsWritten self.now bytes.now to.new result }
     {
         let size = bitmap_size(self.count());

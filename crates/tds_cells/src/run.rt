@@ -33,7 +33,7 @@ pub struct RowsRun<'a> {
 
 impl<'a> RowsRun<'a> {
     /// A run that took nothing.
-    pub fn none(at: Ahead<'a>) -> RowsRun<'a>
+    pub(crate) fn none(at: Ahead<'a>) -> RowsRun<'a>
         ensures { result ≡ record { used = 0; made = 0; rows = 0; ahead = at.entry } }
     {
         RowsRun {
@@ -47,7 +47,7 @@ impl<'a> RowsRun<'a> {
 
 impl<'a> CellRun<'a> {
     /// A run that took nothing.
-    pub fn none(at: Ahead<'a>) -> CellRun<'a>
+    pub(crate) fn none(at: Ahead<'a>) -> CellRun<'a>
         ensures { result ≡ record { used = 0; made = 0; ahead = at.entry } }
     {
         CellRun {

@@ -178,7 +178,7 @@ impl<'a> Table<'a> {
 
     /// What the next cell needs. `None` at the row's end.
     #[inline(always)]
-    pub fn form(&self, at: Ahead<'a>) -> Option<Form>
+    pub(crate) fn form(&self, at: Ahead<'a>) -> Option<Form>
         ensures laid { IfSome result (λ form. IsLaidOut self.now.charset form.kind form.layout) }
         ensures next { (columns : List spec.Column) → Knows self.now columns → IsAhead self.now columns at.entry →
             NextForm columns at.entry result }
@@ -236,7 +236,8 @@ impl<'a> Table<'a> {
         ensures ahead { MatchOption result (self.now.count ≤ at.entry.column)
             (λ forms. AreAhead self.now at.entry self.now.count forms.now) }
         ensures whole { IfSome result (λ forms. at.entry.column + length forms.now ≡ self.now.count) }
-        ensures forms { IfSome result (λ forms. forms.now ≡ take (self.now.known - at.entry.column) (drop at.entry.column self.now.forms.now)) }
+        ensures forms { IfSome result (λ forms. forms.now ≡
+            take (self.now.known - at.entry.column) (drop at.entry.column self.now.forms.now)) }
     {
         let from = at.column as usize;
         if from >= self.known {
@@ -247,7 +248,7 @@ impl<'a> Table<'a> {
 
     /// What the next cell needs, of a row all of whose columns the table knows. `None` at the row's end.
     #[inline(always)]
-    pub fn known_form(&self, at: Ahead<'a>) -> Option<Form>
+    pub(crate) fn known_form(&self, at: Ahead<'a>) -> Option<Form>
         requires all { self.now.known ≡ self.now.count }
         ensures end { result ≡ None → self.now.count ≤ at.entry.column }
         ensures some { IfSome result (λ _. at.entry.column < self.now.count) }

@@ -250,7 +250,8 @@ fn write_other(
     ensures used { IfSome result (λ written. from + written.used ≤ length bytes.now) }
     ensures most { IfSome result (λ written. at + written.made + 2 ≤ length to.old) }
     ensures whole { IfSome result (λ written. written.used ≡ whole_size form.now.kind (drop from bytes.now)) }
-    ensures field { CellWritten charset form.now.kind (drop from bytes.now) (length to.old - at + 1) (drop at to.new) result }
+    ensures field { CellWritten charset form.now.kind (drop from bytes.now) (length to.old - at + 1)
+        (drop at to.new) result }
 {
     match form.kind {
         Kind::Binary(reach) => { write_long(reach, Content::Binary, &bytes[from..], &mut to[at..]) }
@@ -284,7 +285,8 @@ pub(crate) fn write_far_cell<const COPY: bool>(
     ensures used { IfSome result (λ written. from + written.used ≤ length bytes.now) }
     ensures most { IfSome result (λ written. at + written.made + 2 ≤ length to.old) }
     ensures whole { IfSome result (λ written. written.used ≡ whole_size form.now.kind (drop from bytes.now)) }
-    ensures field { CellWritten charset form.now.kind (drop from bytes.now) (length to.old - at + 1) (drop at to.new) result }
+    ensures field { CellWritten charset form.now.kind (drop from bytes.now) (length to.old - at + 1)
+        (drop at to.new) result }
 {
     let Some(front) = write_front::<COPY>(&form.kind, &bytes[from..], &mut to[at..at + VALUE_ROOM])
     else {

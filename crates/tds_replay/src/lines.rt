@@ -227,7 +227,8 @@ fn add_error<W: Write>(
     message: &[u8],
 ) -> Result<(), Unsaid>
     requires { FitsNotice message.now }
-    ensures { Gathers W.contents notes.old notes.new gathered.old.items gathered.new.items (error_line error.now message.now) result }
+    ensures { Gathers W.contents notes.old notes.new gathered.old.items gathered.new.items
+        (error_line error.now message.now) result }
 {
     let Some(error) = error else {
         return Ok(());
@@ -256,7 +257,8 @@ fn add_report<W: Write>(
     message: &[u8],
 ) -> Result<(), Unsaid>
     requires { FitsNotice message.now }
-    ensures { Gathers W.contents notes.old notes.new gathered.old.items gathered.new.items (answer_lines (Ok report.now) message.now) result }
+    ensures { Gathers W.contents notes.old notes.new gathered.old.items gathered.new.items
+        (answer_lines (Ok report.now) message.now) result }
 {
     add_counts(notes, gathered, report)?;
     add_values(notes, gathered, report.return_values)?;
@@ -272,7 +274,8 @@ fn add_answer<W: Write>(
     message: &[u8],
 ) -> Result<(), Unsaid>
     requires { FitsNotice message.now }
-    ensures { Gathers W.contents notes.old notes.new gathered.old.items gathered.new.items (answer_lines answer.now message.now) result }
+    ensures { Gathers W.contents notes.old notes.new gathered.old.items gathered.new.items
+        (answer_lines answer.now message.now) result }
 {
     match answer {
         Ok(report) => add_report(notes, gathered, report, message),

@@ -91,7 +91,8 @@ fn perform_check<R: Read, N: Write>(
     notes: &mut Counted<N>,
 ) -> Status
     ensures asks { Asks memory.old memory.new (areas_size limits) }
-    ensures checks { Checks PerformsExport R.remaining N.contents charset limits from.old from.new notes.old notes.new result }
+    ensures checks { Checks PerformsExport R.remaining N.contents charset limits
+        from.old from.new notes.old notes.new result }
 {
     let mut own = Counted::new(io::sink());
     perform_export(memory, limits, charset, from, &mut own, notes)

@@ -216,7 +216,12 @@ impl<'r, 't, 'p, 's, 'c, R: Read, W: Write> Rows<'r, 't, 'p, 's, 'c, R, W> {
         ensures { RunRead R.remaining W.contents from.entry self.old self.new result }
     {
         if self.table.is_end(from) {
-            return Ok(RowsRun::none(from));
+            return Ok(RowsRun {
+                used: 0,
+                made: 0,
+                rows: 0,
+                ahead: from,
+            });
         }
         let mut text = [0u8; SHORT_TEXT];
         let end = self.table.count();

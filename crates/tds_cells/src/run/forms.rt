@@ -139,8 +139,10 @@ fn write_far_fields(
     requires room { at.made + CELL_ROOM ≤ length to.old }
     ensures kept { take at.made to.new ≡ take at.made to.old }
     ensures begun { (at.cells ≤ result.cells) × (at.used ≤ result.used) × (at.made ≤ result.made) }
-    ensures ends { result.cells ≡ at.cells → FirstLeft charset (drop at.cells forms.now) (drop at.used bytes.now) (length to.old - at.made) }
-    ensures fields { WritesFields charset (drop at.cells forms.now) at.cells (drop at.used bytes.now) (drop at.made to.new) (done_since at result) }
+    ensures ends { result.cells ≡ at.cells → FirstLeft charset (drop at.cells forms.now) (drop at.used bytes.now)
+        (length to.old - at.made) }
+    ensures fields { WritesFields charset (drop at.cells forms.now) at.cells (drop at.used bytes.now)
+        (drop at.made to.new) (done_since at result) }
 {
     let mut cells = at.cells;
     let mut used = at.used;
@@ -178,8 +180,8 @@ pub(crate) fn run_far_forms(
     requires room { at.made + CELL_ROOM ≤ length to.old }
     ensures kept { take at.made to.new ≡ take at.made to.old }
     ensures begun { (at.cells ≤ result.cells) × (at.used ≤ result.used) × (at.made ≤ result.made) }
-    ensures cells { RunsForms charset (drop at.cells forms.now) at.cells true (drop at.used bytes.now) (length to.old - at.made)
-        (drop at.made to.new) (done_since at result) }
+    ensures cells { RunsForms charset (drop at.cells forms.now) at.cells true (drop at.used bytes.now)
+        (length to.old - at.made) (drop at.made to.new) (done_since at result) }
 {
     let run = write_far_fields(forms, charset, at, bytes, to);
     if run.cells == forms.len() {
@@ -212,7 +214,8 @@ pub(crate) fn write_far_alone(
     ensures kept { take at to.new ≡ take at to.old }
     ensures used { IfSome result (λ written. from + written.used ≤ length bytes.now) }
     ensures most { IfSome result (λ written. at + written.made ≤ length to.old) }
-    ensures cell { AloneWritten charset form.now.kind column last (drop from bytes.now) (length to.old - at) (drop at to.new) result }
+    ensures cell { AloneWritten charset form.now.kind column last (drop from bytes.now)
+        (length to.old - at) (drop at to.new) result }
 {
     let start = at + write_comma(column, &mut to[at..]);
     let written = write_far_cell::<true>(form, charset, bytes, from, to, start)?;

@@ -28,7 +28,7 @@ returns-then-is_end g c =
     let rows = c.args.self.now in
     let at = here g.R.Read.remaining g.W.Write.contents rows in
     let begin = rows_begin {bytes = []} {to = []} in
-    rw c.none.ensures (record {
+    record {
       leaves = search arith;
       place = (sym (add-zero _), omega arith);
       cells = λ columns knows ahead.
@@ -37,4 +37,4 @@ returns-then-is_end g c =
             λ charset cells set is. runs_rows {p = at} {q = at} (ran.1 charset cells set is) (Takes-none at.seen 0)
                 (Puts-none at.held c.requires.sink.ready.2) (sym (add-zero _)),
           );
-    })
+    }
