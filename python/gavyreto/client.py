@@ -293,7 +293,7 @@ def _of_url(url: str) -> dict[str, Any]:
     given |= {name: value for name, value in (("port", found.port), ("user", found.user), ("database", found.database)) if value}
     for name, value in found.options:
         if name == "trust-server":
-            given["trust_server"] = value.lower() in ("", "1", "true", "yes")
+            given["trust_server"] = found.trusts()
         else:
             given[name.replace("-", "_")] = int(value) if name in ("packet-size", "seconds", "login-seconds") else value
     return given

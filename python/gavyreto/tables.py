@@ -12,9 +12,9 @@ from typing import Callable, Generator, Iterable, NamedTuple, Optional, Union
 
 from gavyreto import outcomes, program
 from gavyreto.asking import Asking, Broken
-from gavyreto.commands.common import Stopped, cause_of
+from gavyreto.commands.common import Stopped, cause_of, folder_of_texts
 from gavyreto.connection import Session
-from gavyreto.errors import CertificateRefused, ConnectionFailed, EncryptionRefused, LoginRefused
+from gavyreto.errors import BadAnswer, CertificateRefused, ConnectionFailed, EncryptionRefused, LoginRefused
 from gavyreto.exporting import version_of
 from gavyreto.outcomes import PARTIAL, TABLE, TEXT, UNFINISHED, Kinds, Progress, locked, remove_unfinished, summed
 from gavyreto.program import BAD_INPUT, DONE, FAILED, INTERRUPTED, REFUSED, SERVER_ERROR, Program
@@ -24,20 +24,22 @@ LONGEST_NAME = 255 - len(PARTIAL)  # bytes
 SECONDS_TO_STOP = 5  # for which connections under way are waited for, once they were cut
 MOST_PAUSE = 30  # seconds between two attempts
 PART = r'(?:\[(?:[^\]]|\]\])+\]|"(?:[^"]|"")+"|[^\s.\[\]"]+)'
-NAME_OF_TABLE = re.compile(rf"{PART}?(?:\.{PART}?){{0,2}}\.{PART}|{PART}")
+NAME_OF_TABLE = re.compile(rf"({PART}?(?:\.{PART}?){{0,2}}\.{PART}|{PART})(?:\s+--.*)?")  # a comment may follow it
 Connect = Callable[[], Session]
 
 
 class Item(NamedTuple):
-    """A line of the file: the name of a text, and the statement whose answer it has."""
+    """A line of the file: the name of a text, the statement whose answer it has, and whether that reads a table and does nothing else."""
 
     name: str
     statement: str
+    is_table: bool
 
 
 def items_of(lines: Iterable[str], file: str) -> list[Item]:
     """The items of a file: on each line a name, and behind it a statement, or a table of which all is read; without it that of the name.
-    Empty lines, and those that begin with two hyphens, are none. Raises `Stopped` for names that are none, or stand twice."""
+    Empty lines, and what begins with two hyphens behind a table or alone, are none. Raises `Stopped` for names that are none, or stand
+    twice."""
     found: dict[str, Item] = {}
     for number, text in enumerate(lines, 1):
         name, rest = (text.split(None, 1) + ["", ""])[:2]
@@ -46,8 +48,9 @@ def items_of(lines: Iterable[str], file: str) -> list[Item]:
         wrong = _wrong_in(name, rest) or ("stands twice" if name in found else "")
         if wrong:
             raise Stopped(f"{file}, line {number}: the name {name[:60]} {wrong}", REFUSED)
-        table = rest.strip() or name
-        found[name] = Item(name, f"SELECT * FROM {table}" if NAME_OF_TABLE.fullmatch(table) else table)
+        asked = name if rest.startswith("--") else rest.strip() or name
+        table = NAME_OF_TABLE.fullmatch(asked)
+        found[name] = Item(name, f"SELECT * FROM {table[1]}" if table else asked, bool(table))
     if not found:
         raise Stopped(f"{file}: no table", REFUSED)
     return list(found.values())
@@ -99,7 +102,8 @@ class Outcome(NamedTuple):
 
 
 class Worker:
-    """A connection on which items are asked one after the other, made anew where it broke, and the program that reads the answers."""
+    """A connection on which items are asked one after the other, made anew where it broke and after each statement that isn't of a table
+    alone, and the program that reads the answers."""
 
     def __init__(self, asked: argparse.Namespace, connect: Connect, is_stopped: threading.Event, session: Optional[Session] = None) -> None:
         self._asked, self._connect, self._is_stopped = asked, connect, is_stopped
@@ -131,6 +135,10 @@ class Worker:
                 is_decided = ending.status in (DONE, SERVER_ERROR, BAD_INPUT)
                 line = ending.notes.rstrip("\n").split("\n")[0 if ending.status == DONE else -1]
                 outcome = Outcome(item, ending.status, line, began, waiting if is_decided else None, os.fstat(out.fileno()).st_size)
+            if not item.is_table:
+                self.end()  # what it set would hold for what is asked next, as SET ROWCOUNT
+        except BadAnswer as wrong:
+            outcome = outcome._replace(status=BAD_INPUT, line=str(wrong))
         except program.OutputFailed as failed:
             outcome = outcome._replace(line=f"{self._asked.output}: {cause_of(failed.failure)}")
         except OSError as failure:
@@ -236,8 +244,7 @@ class Workers:
 
 def export(asked: argparse.Namespace, items: list[Item], connect: Connect) -> int:
     """Exports the answer to each item, and returns the greatest status. The first login comes before anything is written."""
-    os.makedirs(asked.output, exist_ok=True)
-    with locked(asked.output), contextlib.ExitStack() as stack:
+    with folder_of_texts(asked.output), locked(asked.output), contextlib.ExitStack() as stack:
         table = outcomes.Table(asked.output, Record, Record._fields, KINDS)
         workers, version = Workers(asked, connect, connect()), version_of(asked.program)
         names = {item.name for item in items}

@@ -13,6 +13,7 @@ PORT, BROWSER = 1433, 1434  # the second is that of SQL Server Browser, by UDP
 SCHEME = "mssql://"
 # What a URL may ask for behind its question mark, as options of `query` and arguments of `connect` are called.
 OF_URL = ("encrypt", "certificates", "certificate-name", "trust-server", "packet-size", "seconds", "login-seconds")
+YES, NO = ("", "1", "true", "yes"), ("0", "false", "no")  # what trust-server may be
 NO_PASSWORD = "a password stands in it, where others see it: put it into the variable SQLCMDPASSWORD, or type it when it is asked for"
 LONGEST_INSTANCE = 32  # bytes of a name (MC-SQLR, CLNT_UCAST_INST)
 ASK_ANEW = 1.0  # seconds after which a look-up is sent again: a datagram may be lost
@@ -28,6 +29,10 @@ class Where(NamedTuple):
     user: str = ""
     database: str = ""
     options: tuple[tuple[str, str], ...] = ()
+
+    def trusts(self) -> bool:
+        """Whether a URL asks that any certificate is accepted."""
+        return dict(self.options).get("trust-server") in YES
 
 
 def where(text: str) -> Where:
@@ -64,6 +69,8 @@ def _of_url(text: str) -> Where:
     asked = parse_qsl(parts.query, keep_blank_values=True)
     if parts.password is not None or any(re.search("pass|pwd|token", name, re.IGNORECASE) for name, _ in asked):
         raise ValueError(NO_PASSWORD)
+    if any(name == "trust-server" and value not in YES + NO for name, value in asked):
+        raise ValueError(f"trust-server is one of {', '.join(YES[1:] + NO)}")
     named = next((value for name, value in asked if name == "instance"), "")
     rest = tuple((name, value) for name, value in asked if name != "instance")
     if not host or port == 0 or parts.fragment or "/" in parts.path[1:] or any(name not in OF_URL for name, _ in rest) or len(dict(asked)) < len(asked):

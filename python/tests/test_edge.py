@@ -73,7 +73,7 @@ class Arguments(Live):
              ("db.example", 1500, "A", "Ann Lee", "sales/1", (("encrypt", "login"), ("trust-server", "1")))), ("MSSQL://[::1]:99/", ("::1", 99)),
         ):
             self.assertEqual(server(text), (*wanted, *Where("")[len(wanted):]))
-        for text in ("mssql://", "mssql://h:x", "mssql://h:0", "mssql://h/a/b", "mssql://h?x=1", "mssql://h?encrypt=a&encrypt=b", "mssql://h#x", "h:1433", "h\\", "\\i"):
+        for text in ("mssql://", "mssql://h:x", "mssql://h:0", "mssql://h?trust-server=maybe", "mssql://h/a/b", "mssql://h?x=1", "mssql://h?encrypt=a&encrypt=b", "mssql://h#x", "h:1433", "h\\", "\\i"):
             with self.subTest(text=text), self.assertRaises(argparse.ArgumentTypeError):
                 server(text)
 

@@ -38,7 +38,7 @@ from gavyreto.capturing.desk import Answer, Sides
 from gavyreto.capturing.keeping import Kept, Room
 from gavyreto.capturing.messages import is_header
 from gavyreto.capturing.progress import Progress
-from gavyreto.commands.common import Stopped, add_options_of_program, checked_program, line, number_in, parser_of, put, say, tell
+from gavyreto.commands.common import Stopped, add_options_of_program, checked_program, folder_of_texts, line, number_in, parser_of, put, say, tell
 from gavyreto.payload import Ended
 from gavyreto.program import BAD_INPUT, FAILED, OF_SIGNAL, REFUSED, SERVER_ERROR, Ending, judged
 from gavyreto.tds import PacketType
@@ -175,20 +175,6 @@ class Notes:
     def add(self, text: str, status: int = 0) -> None:
         tell(text)
         self._export.note(status)
-
-
-@contextlib.contextmanager
-def folder_of_texts(path: str) -> Iterator[None]:
-    """Makes a folder if it isn't there. What is refused leaves none that it made."""
-    is_new = not os.path.isdir(path)
-    os.makedirs(path, exist_ok=True)
-    try:
-        yield
-    except Stopped:
-        if is_new:
-            with contextlib.suppress(OSError):  # it has something
-                os.rmdir(path)
-        raise
 
 
 def capture(asked: argparse.Namespace) -> int:

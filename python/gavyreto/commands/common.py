@@ -3,13 +3,14 @@ from __future__ import annotations
 
 import argparse
 import codecs
+import contextlib
 import os
 import re
 import signal
 import stat
 import sys
 import textwrap
-from typing import IO, Any, Callable, Iterable, Optional, Union
+from typing import IO, Any, Callable, Iterable, Iterator, Optional, Union
 
 from gavyreto import program, tds
 from gavyreto.errors import BadAnswer, ConnectionFailed, ServerError, escaped
@@ -101,6 +102,20 @@ def ending_of(failure: BaseException) -> tuple[str, int]:
     if os.environ.get(OF_TESTS):
         raise failure
     return f"gavyreto failed, which it shouldn't: {type(failure).__name__}: {failure}", FAILED
+
+
+@contextlib.contextmanager
+def folder_of_texts(path: str) -> Iterator[None]:
+    """Makes a folder if it isn't there. What fails leaves none that it made, unless something was written there."""
+    is_new = not os.path.isdir(path)
+    os.makedirs(path, exist_ok=True)
+    try:
+        yield
+    except BaseException:
+        if is_new:
+            with contextlib.suppress(OSError):  # it has something
+                os.rmdir(path)
+        raise
 
 
 # Standard input, output and error.

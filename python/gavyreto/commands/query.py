@@ -9,7 +9,7 @@ The login is by SQL authentication with -U, whose password is read from the vari
 certificate is verified, and everything is encrypted unless --encrypt asks for less; tickets and tokens are never sent without.
 
 With --tables each line of a file has a name, and behind it a statement, or a table of which all rows are read; alone it is a table.
-The answer gets the file NAME.csv in the folder of -o once it is whole, or NAME.csv.partial if it is refused, which ends nothing. The
+Tables share connections, and a statement has one of its own, since what it sets would hold for others. The answer gets the file NAME.csv in the folder of -o once it is whole, or NAME.csv.partial if it is refused, which ends nothing. The
 table outcomes.csv there gets a line for each as it ends: name, status, line, text, its bytes, when it was begun, statement, options
 and program. Begun again all are asked again. The status is the greatest of all.
 
@@ -408,8 +408,8 @@ def server(text: str) -> Where:
 def words_of(found: Where) -> list[str]:
     """What a URL asks for, as options."""
     named = [("user", found.user), ("database", found.database), *found.options]
-    trusts = [value.lower() in ("", "1", "true", "yes") for name, value in found.options if name == "trust-server"]
-    return [f"--{name}={value}" for name, value in named if value and name != "trust-server"] + ["--trust-server"] * any(trusts)
+    words = [f"--{name}={value}" for name, value in named if value and name != "trust-server"]
+    return words + ["--trust-server"] * found.trusts()
 
 
 def are_apart(*templates: str) -> bool:
