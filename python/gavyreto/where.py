@@ -108,9 +108,11 @@ def _asked(sockets: list[socket.socket], request: bytes, seconds: float) -> byte
     for it in sockets:
         with contextlib.suppress(OSError):
             it.send(request)
-    until = time.monotonic() + seconds
+    until, events, asked = time.monotonic() + seconds, select.poll(), {it.fileno(): it for it in sockets}
+    for descriptor in asked:
+        events.register(descriptor, select.POLLIN)
     while (left := until - time.monotonic()) > 0:
-        ready = select.select(sockets, [], [], left)[0]
+        ready = [asked[descriptor] for descriptor, _ in events.poll(left * 1000)]
         for it in ready:
             with contextlib.suppress(OSError):  # nobody listens there
                 return it.recv(LONGEST_ANSWER)

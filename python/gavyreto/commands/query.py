@@ -38,6 +38,7 @@ from gavyreto.commands.common import (
     number_in, parser_of, tell_all,
 )
 from gavyreto.connection import Secret, Session
+from gavyreto.logins import LONGEST_TOKEN
 from gavyreto.program import DONE, FAILED, REFUSED, SERVER_ERROR, Ending, Program
 from gavyreto.where import PORT, Where, where
 
@@ -514,7 +515,7 @@ def token_of(asked: argparse.Namespace, of_environment: str) -> Optional[str]:
     if asked.access_token_file:
         try:
             with open(asked.access_token_file, encoding="ascii", errors="replace") as file:
-                return Secret(file.read())
+                return Secret(file.read(LONGEST_TOKEN + 2))  # a line end too
         except OSError as failure:
             raise Stopped(f"{asked.access_token_file}: {cause_of(failure)}", FAILED) from None
     return of_environment or None if not asked.user and not asked.integrated else None
