@@ -264,3 +264,20 @@ rows_far {from = from} {bytes = bytes} {to = to} table row at run new all are fe
     (omega (arith, written.within.made, N.length-drop at.made new))
     (λ columns knows is. forms_between _ _ _ _ (omega arith) next.0 _ (sym (N.eq-eqb _ _ next.1)) columns knows is _ _ _ (N.done_since at run) further
     (place_known table from at.cells run.cells all (omega arith) within columns knows is) (rw rest written.cells)) x)
+
+-- what such a run is with this walk
+abbrev pub known_run : N.Walk → N.KnownRun → N.RowsRun
+known_run walk run = record { used = run.used; made = run.made; rows = run.rows; ahead = N.place walk run.column }
+
+pub ran_at : {table : Table} {column : ℕ} {bytes text : List ℕ} {run : N.KnownRun} → N.KnownRan table column bytes text run
+    → (walk : N.Walk) → RowsRan table (N.place walk column) bytes text (known_run walk run)
+ran_at x walk = record { used = x.used; made = x.made; few = x.few; writes = x.writes walk }
+
+pub known_ran : {table : Table} {column : ℕ} {bytes text : List ℕ} {run : N.KnownRun}
+    → ((walk : N.Walk) → RowsRan table (N.place walk column) bytes text (known_run walk run)) → N.KnownRan table column bytes text run
+known_ran {table = table} x = record {
+  used = (x table.rest).used;
+  made = (x table.rest).made;
+  few = (x table.rest).few;
+  writes = λ walk. (x walk).writes;
+}

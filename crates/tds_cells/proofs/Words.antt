@@ -49,19 +49,20 @@ pub use Rattle.tds_cells.specs.MarkedRows.{EndsNbcRows, NbcRowsWritten, WritesNb
 pub use Rattle.tds_cells.specs.Rows.{marked, WholeRow, bitmap_length, row_add, SpellsMarked, bit, RowToken, Bitmap, PlainRow, with_cell, RowPart, SpellsNbcRow}
 pub use Rattle.tds_cells.specs.Rows.{SpellsRow, row, NbcRow, row_so_far, with_field, row_size, InCell, token_byte, row_start, token_start}
 pub use Rattle.tds_cells.specs.Rows.{next_cell, nbc_row_start}
-pub use Rattle.tds_cells.specs.Runs.{RowsRan, rows_so_far, lines, rows, Writes, CellsWritten, after_cells, RunEnds, RowsPart}
+pub use Rattle.tds_cells.specs.Runs.{KnownRan, RowsRan, rows_so_far, lines, rows, Writes, CellsWritten, after_cells, RunEnds, RowsPart}
 pub use Rattle.tds_cells.specs.Runs.{WritesRows}
 pub use Rattle.tds_cells.specs.ShortCells.{stated_length, short_size}
 pub use Rattle.tds_cells.specs.ChunkedCells.{HasOneChunk, chunk_data, chunk_end, chunked_size, stated_total}
 pub use Rattle.tds_cells.specs.LongFields.{IsShapeLeft}
 pub use Rattle.tds_cells.specs.Rows.{BeginNoRow}
-pub use Rattle.tds_cells.specs.Tables.{BeginsRow, TakesColumn, IsAhead, AreAhead, kinds, Knows, NextColumn}
+pub use Rattle.tds_cells.specs.Tables.{BeginsRow, TakesColumn, IsAhead, AreAhead, kinds, Knows, NextColumn, place}
 pub use Rattle.tds_cells.specs.WholeCells.{WritesCell, WritesWhole}
 pub use Rattle.tds_cells.specs.declared.layout.Form.{Form}
 pub use Rattle.tds_cells.specs.declared.layout.Layout.{Layout}
 pub use Rattle.tds_cells.specs.declared.whole.TheConstants.{CELL_ROOM}
 pub use Rattle.tds_cells.specs.declared.run.CellRun.{CellRun}
 pub use Rattle.tds_cells.specs.declared.run.RowsRun.{RowsRun}
+pub use Rattle.tds_cells.specs.declared.run.KnownRun.{KnownRun}
 pub use Rattle.tds_cells.specs.declared.run.forms.FormsRun.{FormsRun}
 pub use Rattle.tds_cells.specs.declared.table.Ahead.{Ahead}
 pub use Rattle.tds_cells.specs.declared.table.Table.{Table}

@@ -6,11 +6,13 @@ use Rattle.tds_packet.specs.declared.fault.Fault.{Fault}
 use Rattle.tds_packet.specs.declared.fault.Fault.TheVariants.{MessageEnded, RefusedToken}
 use Rattle.tds_packet.specs.Elements.{Grammar, Spelt}
 use Rattle.tds_columns.specs.Description.{Column}
+use Rattle.tds_columns.specs.declared.walk.Walk.{Walk}
 use Rattle.tds_text.specs.Quoting.{line}
 use Rattle.tds_values.specs.declared.charset.Charset.{Charset}
 use Rattle.tds_values.specs.declared.span.Span.{Span}
 use Rattle.tds_cells.specs.declared.run.CellRun.{CellRun}
 use Rattle.tds_cells.specs.declared.run.RowsRun.{RowsRun}
+use Rattle.tds_cells.specs.declared.run.KnownRun.{KnownRun}
 use Rattle.tds_cells.specs.declared.table.Ahead.{Ahead}
 use Rattle.tds_cells.specs.declared.table.Table.{Table}
 use Rattle.tds_cells.specs.Cells.{Cell, field}
@@ -18,7 +20,7 @@ use Rattle.tds_cells.specs.Rows.{PlainRow, RowPart, RowToken, WholeRow, marked, 
 use Rattle.tds_cells.specs.Rows.{token_start}
 use Rattle.tds_cells.specs.MarkedRuns.{EndsFar, EndsLeft, MarkedWritten}
 use Rattle.tds_cells.specs.CellTexts.{IsLeft, WritesKind, whole_size}
-use Rattle.tds_cells.specs.Tables.{IsAhead, Knows}
+use Rattle.tds_cells.specs.Tables.{IsAhead, Knows, place}
 
 -- The bytes are whole elements, which lead from one state to another, and this is what the text of the second has more than that of the first.
 pub record Writes {S : Type 0} (g : Grammar S Fault) (text : S → List ℕ) (from : S) (bytes made : List ℕ) (to : S) : Type 0 where
@@ -128,3 +130,19 @@ pub record RowsRan (table : Table) (from : Ahead) (bytes text : List ℕ) (run :
   pub made : run.made ≤ length text
   pub few : run.rows ≤ run.used
   pub writes : RowsWritten table from bytes text run
+
+-- A run over rows all of whose columns the table knows did so from this column on, whatever the walk.
+pub record KnownRan (table : Table) (column : ℕ) (bytes text : List ℕ) (run : KnownRun) : Type 0 where
+  pub used : run.used ≤ length bytes
+  pub made : run.made ≤ length text
+  pub few : run.rows ≤ run.used
+  pub writes : (walk : Walk) → RowsWritten table (place walk column) bytes text
+      (record { used = run.used; made = run.made; rows = run.rows; ahead = place walk run.column })
+
+-- Such a run ended before this column as other runs do, whatever the walk.
+abbrev pub KnownEnds : Table → ℕ → List ℕ → ℕ → Type 0
+KnownEnds table column bytes room = (walk : Walk) → RunEnds table (place walk column) bytes room
+
+-- It ended so, or where bytes or room are too few for any scalar.
+abbrev pub KnownFarEnds : Table → ℕ → List ℕ → ℕ → Type 0
+KnownFarEnds table column bytes room = (walk : Walk) → FarEnds table (place walk column) bytes room

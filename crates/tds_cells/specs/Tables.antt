@@ -3,6 +3,7 @@ use Rattle.std.specs.Prelude.{◌≡◌, ◌⊎◌, ◌+◌, ◌<◌, ◌≤◌,
 use Rattle.tds_values.specs.declared.kind.Kind.{Kind}
 use Rattle.tds_columns.specs.Description.{Column}
 use Rattle.tds_columns.specs.Walking.{columns_left}
+use Rattle.tds_columns.specs.declared.walk.Walk.{Walk}
 use Rattle.tds_cells.specs.CellTexts.{is_last_column}
 use Rattle.tds_cells.specs.Forms.{AreCounted, AreInt4, AreLaidOut}
 use Rattle.tds_cells.specs.declared.table.Learnt.{Learnt}
@@ -38,6 +39,10 @@ KnowsSome table = (columns : List Column) × Knows table columns × (0 < table.c
 -- The table knows all columns, one at least.
 abbrev pub KnowsAll : Table → Type 0
 KnowsAll table = (table.known ≡ table.count) × (0 < table.count)
+
+-- the place before a column, with this walk
+abbrev pub place : Walk → ℕ → Ahead
+place walk column = record { walk = walk; column = column }
 
 -- The place is one in a row of these columns: its walk is over those ahead that the table doesn't know.
 pub record IsAhead (table : Table) (columns : List Column) (at : Ahead) : Type 0 where

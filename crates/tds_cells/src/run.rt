@@ -3,7 +3,7 @@ ghost use Rattle.std.specs.Prelude.{false, true, ◌≡◌, ◌==◌, ◌+◌, �
 ghost use Rattle.tds_cells.specs.declared.whole.TheConstants.{CELL_ROOM};
 ghost use Rattle.tds_cells.specs.FormRuns.{NumbersEnd};
 ghost use Rattle.tds_cells.specs.Layouts.{IsLaidOut};
-ghost use Rattle.tds_cells.specs.Runs.{AloneWritten, CellsWritten, FarEnds, RowsRan, RunEnds, StaysWithin};
+ghost use Rattle.tds_cells.specs.Runs.{AloneWritten, CellsWritten, KnownEnds, KnownFarEnds, KnownRan, RowsRan, RunEnds, StaysWithin};
 ghost use Rattle.tds_cells.specs.Tables.{AreAhead, KnowsAll};
 
 use crate::layout::Form;
@@ -29,6 +29,30 @@ pub struct RowsRun<'a> {
     pub made: usize,
     pub rows: usize,
     pub ahead: Ahead<'a>,
+}
+
+/// What a run over rows did all of whose columns the table knows: how many bytes it used, how many it made, how many rows it
+/// began, and before which column it ended.
+#[derive(Clone, Copy)]
+pub(crate) struct KnownRun {
+    used: usize,
+    made: usize,
+    rows: usize,
+    column: u16,
+}
+
+impl KnownRun {
+    // A run that took nothing.
+    fn none(column: u16) -> KnownRun
+        ensures { result ≡ record { used = 0; made = 0; rows = 0; column = column } }
+    {
+        KnownRun {
+            used: 0,
+            made: 0,
+            rows: 0,
+            column,
+        }
+    }
 }
 
 impl<'a> RowsRun<'a> {
@@ -162,24 +186,18 @@ impl<'a> Table<'a> {
     // Writes whole rows of whole numbers of four bytes, each with the token byte of the next, as long as there are bytes and
     // room for any row. `COUNTED` says that all come after their lengths.
     #[inline(never)]
-    fn run_numbers<const COUNTED: bool>(
-        &self,
-        from: Ahead<'a>,
-        bytes: &[u8],
-        to: &mut [u8],
-    ) -> RowsRun<'a>
+    fn run_numbers<const COUNTED: bool>(&self, bytes: &[u8], to: &mut [u8]) -> KnownRun
         requires known { KnowsAll self.now }
         requires numbers { self.now.only_numbers ≡ true }
         requires counted { COUNTED ≡ true → self.now.only_counted ≡ true }
-        requires first { from.column ≡ 0 }
-        ensures ahead { result.ahead ≡ from.entry }
+        ensures first { result.column ≡ 0 }
         ensures ends { let row = take self.now.known self.now.forms.now in
             NumbersEnd row (drop result.used bytes.now) (length to.old - result.made) }
-        ensures rows { RowsRan self.now from.entry bytes.now to.new result }
+        ensures rows { KnownRan self.now 0 bytes.now to.new result }
     {
         let row = (&*self).row();
         let Some(latest) = latest_row(row, bytes, to) else {
-            return RowsRun::none(from);
+            return KnownRun::none(0);
         };
         let mut used = 0;
         let mut made = 0;
@@ -196,26 +214,27 @@ impl<'a> Table<'a> {
             made += run.made;
             rows += 1;
         }
-        RowsRun {
+        KnownRun {
             used,
             made,
             rows,
-            ahead: from,
+            column: 0,
         }
     }
 
     // Writes cell after cell of rows whose columns the table all knows, as `run_known` does, as long as bytes and room go on
     // far enough for any scalar.
     #[inline(never)]
-    fn run_far(&self, from: Ahead<'a>, bytes: &[u8], to: &mut [u8]) -> RowsRun<'a>
+    fn run_far(&self, column: u16, bytes: &[u8], to: &mut [u8]) -> KnownRun
         requires known { KnowsAll self.now }
-        ensures ends { FarEnds self.now result.ahead (drop result.used bytes.now) (length to.old - result.made) }
-        ensures rows { RowsRan self.now from.entry bytes.now to.new result }
+        ensures ends { KnownFarEnds self.now result.column
+            (drop result.used bytes.now) (length to.old - result.made) }
+        ensures rows { KnownRan self.now column bytes.now to.new result }
     {
         let forms = (&*self).row();
-        let begun = from.column as usize;
+        let begun = column as usize;
         if begun >= forms.len() || bytes.len() < FAR || to.len() < CELL_ROOM {
-            return RowsRun::none(from);
+            return KnownRun::none(column);
         }
         let latest = bytes.len() - FAR;
         let most = to.len() - CELL_ROOM;
@@ -241,86 +260,81 @@ impl<'a> Table<'a> {
             at.used += 1;
             rows += 1;
         }
-        let mut ahead = from;
-        ahead.column = at.cells as u16;
-        RowsRun {
+        KnownRun {
             used: at.used,
             made: at.made,
             rows,
-            ahead,
+            column: at.cells as u16,
         }
     }
 
     // Writes rows in the way that asks least of each cell: as `run_numbers` does before a row, if `INT4` says that all values
     // are whole numbers of four bytes, and as `run_far` does if not all are.
     #[inline(always)]
-    fn run_fast<const INT4: bool>(&self, at: Ahead<'a>, bytes: &[u8], to: &mut [u8]) -> RowsRun<'a>
+    fn run_fast<const INT4: bool>(&self, column: u16, bytes: &[u8], to: &mut [u8]) -> KnownRun
         requires known { KnowsAll self.now }
         requires numbers { INT4 ≡ true → self.now.only_numbers ≡ true }
-        ensures numbers { INT4 ≡ true → at.entry.column ≡ 0 → let row = take self.now.known self.now.forms.now in
+        ensures numbers { INT4 ≡ true → column ≡ 0 → let row = take self.now.known self.now.forms.now in
             NumbersEnd row (drop result.used bytes.now) (length to.old - result.made) }
-        ensures ends { INT4 ≡ false → FarEnds self.now result.ahead (drop result.used bytes.now) (length to.old - result.made) }
-        ensures rows { RowsRan self.now at.entry bytes.now to.new result }
+        ensures ends { INT4 ≡ false → KnownFarEnds self.now result.column
+            (drop result.used bytes.now) (length to.old - result.made) }
+        ensures rows { KnownRan self.now column bytes.now to.new result }
     {
         if !INT4 {
-            return self.run_far(at, bytes, to);
+            return self.run_far(column, bytes, to);
         }
-        if at.column != 0 {
-            return RowsRun::none(at);
+        if column != 0 {
+            return KnownRun::none(column);
         }
         if self.only_counted {
-            return self.run_numbers::<true>(at, bytes, to);
+            return self.run_numbers::<true>(bytes, to);
         }
-        self.run_numbers::<false>(at, bytes, to)
+        self.run_numbers::<false>(bytes, to)
     }
 
     // Writes cell after cell of rows whose columns the table all knows, as far as they are whole in these bytes, aren't in several
     // chunks and have room, over the ends of rows. `NUMBERS` says that all their values are whole numbers of four bytes.
     #[inline(never)]
-    fn run_known<const NUMBERS: bool>(
-        &self,
-        from: Ahead<'a>,
-        bytes: &[u8],
-        to: &mut [u8],
-    ) -> RowsRun<'a>
+    fn run_known<const NUMBERS: bool>(&self, from: u16, bytes: &[u8], to: &mut [u8]) -> KnownRun
         requires known { KnowsAll self.now }
         requires numbers { NUMBERS ≡ true → self.now.only_numbers ≡ true }
-        ensures ends { RunEnds self.now result.ahead (drop result.used bytes.now) (length to.old - result.made) }
-        ensures rows { RowsRan self.now from.entry bytes.now to.new result }
+        ensures ends { KnownEnds self.now result.column
+            (drop result.used bytes.now) (length to.old - result.made) }
+        ensures rows { KnownRan self.now from bytes.now to.new result }
     {
         let mut used = 0;
         let mut made = 0;
         let mut rows = 0;
-        let mut ahead = from;
+        let mut column = from;
         loop {
-            let fast = self.run_fast::<NUMBERS>(ahead, &bytes[used..], &mut to[made..]);
+            let fast = self.run_fast::<NUMBERS>(column, &bytes[used..], &mut to[made..]);
             used += fast.used;
             made += fast.made;
             rows += fast.rows;
-            ahead = fast.ahead;
-            let Some(forms) = (&*self).rest_of_row(ahead) else {
+            column = fast.column;
+            let Some(forms) = (&*self).rest_of_row(column) else {
                 if !self.row_follows(&bytes[used..]) {
                     break;
                 }
                 used += 1;
                 rows += 1;
-                self.rewind(&mut ahead);
+                column = 0;
                 continue;
             };
             let (rest, room) = (&bytes[used..], &mut to[made..]);
-            let run = run_forms(forms, self.charset, ahead.column, true, rest, room);
+            let run = run_forms(forms, self.charset, column, true, rest, room);
             if run.cells == 0 {
                 break;
             }
             used += run.used;
             made += run.made;
-            self.pass(&mut ahead, run.cells);
+            column += run.cells as u16;
         }
-        RowsRun {
+        KnownRun {
             used,
             made,
             rows,
-            ahead,
+            column,
         }
     }
 
@@ -366,9 +380,18 @@ impl<'a> Table<'a> {
         if !self.knows_all() {
             return self.run_partly_known(from, bytes, to);
         }
-        if self.only_numbers {
-            return self.run_known::<true>(from, bytes, to);
+        let run = if self.only_numbers {
+            self.run_known::<true>(from.column, bytes, to)
+        } else {
+            self.run_known::<false>(from.column, bytes, to)
+        };
+        let mut ahead = from;
+        ahead.column = run.column;
+        RowsRun {
+            used: run.used,
+            made: run.made,
+            rows: run.rows,
+            ahead,
         }
-        self.run_known::<false>(from, bytes, to)
     }
 }

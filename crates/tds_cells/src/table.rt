@@ -87,7 +87,8 @@ pub struct Ahead<'a> {
 impl<'a> Table<'a> {
     ghost use Rattle.tds_columns.specs.Description as spec;
     ghost use Rattle.tds_columns.specs.View.{columns_of};
-    ghost use Rattle.tds_cells.specs.Tables.{AreAhead, BeginsRow, IsAhead, Knows, Learns, NextColumn, NextForm, TakesForm};
+    ghost use Rattle.tds_cells.specs.Tables.{AreAhead, BeginsRow, IsAhead, Knows, Learns, NextColumn, NextForm, TakesForm, place};
+    ghost use Rattle.tds_columns.specs.declared.walk.Walk.{Walk};
 
     /// Learns what the cells of a description's first columns need, as many as there is room for, if single-byte text is in this set.
     pub fn learn(columns: Columns<'a>, charset: Charset, forms: &mut [Form]) -> Learnt<'a>
@@ -231,15 +232,16 @@ impl<'a> Table<'a> {
     /// What the cells of a row that are ahead need, all of whose columns the table knows. `None` at the row's end.
     #[inline(always)]
     #[tactic(auto, using(crate::proofs::TableRuns::known_ahead))]
-    pub(crate) fn rest_of_row(&self, at: Ahead<'a>) -> Option<&[Form]>
+    pub(crate) fn rest_of_row(&self, column: u16) -> Option<&[Form]>
         requires all { self.now.known ≡ self.now.count }
-        ensures ahead { MatchOption result (self.now.count ≤ at.entry.column)
-            (λ forms. AreAhead self.now at.entry self.now.count forms.now) }
-        ensures whole { IfSome result (λ forms. at.entry.column + length forms.now ≡ self.now.count) }
+        ensures end { result ≡ None → self.now.count ≤ column }
+        ensures ahead { (walk : Walk) → IfSome result (λ forms.
+            AreAhead self.now (place walk column) self.now.count forms.now) }
+        ensures whole { IfSome result (λ forms. column + length forms.now ≡ self.now.count) }
         ensures forms { IfSome result (λ forms. forms.now ≡
-            take (self.now.known - at.entry.column) (drop at.entry.column self.now.forms.now)) }
+            take (self.now.known - column) (drop column self.now.forms.now)) }
     {
-        let from = at.column as usize;
+        let from = column as usize;
         if from >= self.known {
             return None;
         }
@@ -331,17 +333,6 @@ impl<'a> Table<'a> {
         ensures other { result ≡ false → BeginsRow rest.now → ⊥ }
     {
         !rest.is_empty() && self.begins_row(rest)
-    }
-
-    /// Steps back to the place before the first cell of a row, all of whose columns the table knows.
-    #[inline(always)]
-    pub(crate) fn rewind(&self, at: &mut Ahead<'a>)
-        requires all { self.now.known ≡ self.now.count }
-        ensures first { at.new.column ≡ 0 }
-        ensures ahead { (columns : List spec.Column) → Knows self.now columns → IsAhead self.now columns at.old →
-            IsAhead self.now columns at.new }
-    {
-        at.column = 0;
     }
 
     /// What the next cell needs, and the place after it. `None` at the row's end.
