@@ -224,7 +224,7 @@ impl<'a> Table<'a> {
 
     // Writes cell after cell of rows whose columns the table all knows, as `run_known` does, as long as bytes and room go on
     // far enough for any scalar.
-    #[inline(never)]
+    #[inline(always)]
     fn run_far(&self, column: u16, bytes: &[u8], to: &mut [u8]) -> KnownRun
         requires known { KnowsAll self.now }
         ensures ends { KnownFarEnds self.now result.column

@@ -91,6 +91,7 @@ impl<'a> Table<'a> {
     ghost use Rattle.tds_columns.specs.declared.walk.Walk.{Walk};
 
     /// Learns what the cells of a description's first columns need, as many as there is room for, if single-byte text is in this set.
+    #[inline(always)]
     pub fn learn(columns: Columns<'a>, charset: Charset, forms: &mut [Form]) -> Learnt<'a>
         requires few { length forms.old ≤ table_length }
         requires laid { AreLaidOut charset forms.old }

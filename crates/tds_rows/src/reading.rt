@@ -75,6 +75,7 @@ pub fn row<R: Read, W: Write>(
 }
 
 // Reads rows as `read_rows` does, by a table of these forms.
+#[inline(always)]
 fn rows_in<'a, R: Read, W: Write>(
     payload: &mut Payload<R>,
     columns: Columns<'a>,
