@@ -35,5 +35,5 @@ pub use joiners::utf8::Utf8Joiner;
 pub use joiners::utf16::Utf16Joiner;
 pub use joiners::{JoinFault, Joiner};
 pub use laws::joiners_suit;
-pub use names::put_name;
+pub use names::{name_room, put_name, write_name};
 pub use sink::Sink;

@@ -34,9 +34,20 @@ fn write_units(units: &[u8], to: &mut [u8]) -> usize
     write_utf16(&padded, n, to)
 }
 
-// Writes the field of a name in its line to the front of a slice, and returns how many bytes it has.
-fn write_name(units: &[u8], column: u16, last: bool, to: &mut [u8]) -> usize
+/// How much room [`write_name`] needs for a name of `n` bytes.
+#[inline(always)]
+pub fn name_room(n: usize) -> usize
+    requires { n ≤ 510 }
+    ensures { result ≡ field_room Utf16Text n + 1 }
+{
+    field_room(Content::Utf16, n) + 1
+}
+
+/// Writes a name in UTF-16 to the front of a slice as [`put_name`] puts it, and returns how many bytes its text has.
+#[inline(always)]
+pub fn write_name(units: &[u8], column: u16, last: bool, to: &mut [u8]) -> usize
     requires even { length units.now % 2 ≡ 0 }
+    requires few { length units.now ≤ 510 }
     requires room { field_room Utf16Text (length units.now) + 1 ≤ length to.old }
     ensures most { result ≤ length to.old }
     ensures text { take result to.new ≡ in_line column last (long_field Utf16Text units.now) }
@@ -77,7 +88,7 @@ pub fn put_name<W: Write>(
     requires few { length units.now ≤ 510 }
     ensures { PutsPiece W.contents sink.old sink.new (in_line column last (long_field Utf16Text units.now)) result }
 {
-    let most = field_room(Content::Utf16, units.len()) + 1;
+    let most = name_room(units.len());
     if sink.room() < most {
         return put_name_by_copy(units, column, last, sink);
     }

@@ -1,8 +1,9 @@
 -- The names of columns, put one after another.
 use Rattle.tds_export.proofs.Words as N
 use Rattle.tds_export.proofs.Words.{Column, Err, List, Ok, Option, PutsPiece, Result, Sink, Stop, [], ap, arith, codes, false, joined}
-use Rattle.tds_export.proofs.Words.{length, map, name_field, refl, suc, sym, true, ℕ, ◌+◌, ◌++◌, ◌<◌, ◌==◌, ◌∙◌, ◌∷◌, ◌≡◌}
-use Rattle.tds_text.specs.Quoting.{after_comma, in_line}
+use Rattle.tds_export.proofs.Words.{Bool, length, map, name_field, refl, suc, sym, take, true, ℕ, ◌+◌, ◌++◌, ◌<◌, ◌≤◌, ◌==◌, ◌∙◌, ◌∷◌, ◌≡◌}
+use Rattle.tds_text.specs.Quoting.{after_comma, end_after, in_line}
+use Rattle.tds_cells.proofs.RunSteps.{made_more}
 
 -- one piece was put, and another after it
 pub then_puts : {W U V : Type 0} {contents : W → Option (List ℕ)} {a b c : Sink W} {u : U} {p q : List ℕ} {r : Result V Stop}
@@ -103,3 +104,55 @@ module _ {W : Type 0} {contents : W → Option (List ℕ)} {columns left rest : 
 pub names_all : {W : Type 0} {contents : W → Option (List ℕ)} {columns left : List Column} {index : ℕ} {a b : Sink W} → left ≡ []
     → NamesPut contents columns left index a b → PutsPiece contents a b (N.header_line columns) (Ok (tt {0}))
 names_all none x = rw (← x.split, none, N.append-nil) (rw none at x.puts)
+
+-- ---- the line between two sets and then the names, written to a slice
+
+between_is : (begun : Bool) → end_after begun ≡ N.between begun
+between_is true = refl
+between_is false = refl
+
+-- The names of the columns but these last ones were written to the front of a slice, after the line between two sets.
+pub record NamesWritten (begun : Bool) (columns left : List Column) (index made : ℕ) (room to : List ℕ) : Type 0 where
+  pub done : List Column
+  pub split : done ++ left ≡ columns
+  pub index_is : index ≡ length done
+  pub same : length to ≡ length room
+  pub within : made ≤ length to
+  pub text : take made to ≡ N.between begun ++ names_text done left
+
+pub names_begun : {begun : Bool} {columns left : List Column} {made : ℕ} {room to : List ℕ} → left ≡ columns → 0 < length columns
+    → length to ≡ length room → made ≤ length to → take made to ≡ end_after begun → NamesWritten begun columns left 0 made room to
+names_begun {begun = begun} {left = left} e some same within is = record {
+  done = [];
+  split = e;
+  index_is = refl;
+  same = same;
+  within = within;
+  text = rw (none_put left (rw e some), N.append-nil) (is ∙ between_is begun);
+}
+
+-- one more name was written after what was made
+pub name_written : {begun : Bool} {columns left rest : List Column} {c : Column} {index made m count : ℕ} {room to : List ℕ} (new more : List ℕ)
+    → left ≡ c ∷ rest → NamesWritten begun columns left index made room to → count ≡ length columns → m ≤ length new
+    → length (take made to ++ (new ++ more)) ≡ length to → take m new ≡ in_line index (index + 1 == count) (name_field c)
+    → NamesWritten begun columns rest (index + 1) (made + m) room (take made to ++ (new ++ more))
+name_written {begun = begun} {left = left} {rest = rest} {c = c} {made = made} {m = m} {count = count} {to = to} new more is x number within same text =
+    let counted : count ≡ length x.done + (1 + length rest) =
+    omega (arith, number, ap length x.split, ap length is, N.length-append x.done left) in
+    let grown = one_more x.done c rest count counted in
+    let front : take made to ≡ N.between begun ++ joined (map name_field x.done) = rw is at x.text in
+    let last : take m new ≡ in_line (length x.done) (length x.done + 1 == count) (name_field c) = rw x.index_is at text in
+    record {
+      done = x.done ++ c ∷ [];
+      split = N.append_assoc x.done (c ∷ []) rest ∙ ap (λ l. x.done ++ l) (sym is) ∙ x.split;
+      index_is = rw (x.index_is) (sym (N.length-append x.done (c ∷ [])));
+      same = same ∙ x.same;
+      within = omega (arith, x.within, N.length-append (take made to) (new ++ more), N.length-append new more, N.length-take-le made to x.within);
+      text = made_more made m to new more x.within within
+          ∙ rw (front, last) (N.append_assoc (N.between begun) (joined (map name_field x.done)) _ ∙ ap (λ t. N.between begun ++ t) grown);
+    }
+
+-- all names were written
+pub names_written : {begun : Bool} {columns left : List Column} {index made : ℕ} {room to : List ℕ} → left ≡ []
+    → NamesWritten begun columns left index made room to → take made to ≡ N.between begun ++ N.header_line columns
+names_written none x = rw (← x.split, none, N.append-nil) (rw none at x.text)

@@ -1,4 +1,4 @@
-use Rattle.tds_export.proofs.set.put_header.Goals as goal
+use Rattle.tds_export.proofs.set.put_by_names.Goals as goal
 use Rattle.tds_export.proofs.NameTexts.{passed_piece, then_puts}
 
 pub returns-in_err-put_between : goal.returns-in_err-put_between
