@@ -10,7 +10,7 @@ use std::io::Write;
 use tds_packet::Stop;
 use tds_text::framing::{write_comma, write_line_end};
 use tds_text::lanes::LANES;
-use tds_text::{Content, field_room, write_utf16};
+use tds_text::{Content, field_room, write_few_utf16, write_utf16};
 
 // The room for a name that is converted with other bytes after it.
 const PADDED: usize = 64;
@@ -18,7 +18,23 @@ const PADDED: usize = 64;
 // How many bytes of room the field of a name of 255 units may want in its line.
 const NAME_ROOM: usize = 786;
 
+// Writes the field of a name of at most eight units. It is copied to where other bytes are after it.
+#[inline(always)]
+fn write_few(units: &[u8], to: &mut [u8]) -> usize
+    requires even { length units.now % 2 ≡ 0 }
+    requires few { length units.now ≤ 16 }
+    requires room { field_room Utf16Text (length units.now) ≤ length to.old }
+    ensures most { result + 2 ≤ length to.old }
+    ensures field { take result to.new ≡ long_field Utf16Text units.now }
+{
+    let n = units.len();
+    let mut padded = [0u8; LANES];
+    padded[..n].copy_from_slice(units);
+    write_few_utf16(&padded, n, to)
+}
+
 // Writes the field of a name. A short one is copied to where other bytes are after it, and converted there by vectors.
+#[inline(always)]
 fn write_units(units: &[u8], to: &mut [u8]) -> usize
     requires even { length units.now % 2 ≡ 0 }
     requires room { field_room Utf16Text (length units.now) ≤ length to.old }
@@ -26,6 +42,9 @@ fn write_units(units: &[u8], to: &mut [u8]) -> usize
     ensures field { take result to.new ≡ long_field Utf16Text units.now }
 {
     let n = units.len();
+    if n <= LANES {
+        return write_few(units, to);
+    }
     if n > PADDED - LANES {
         return write_utf16(units, n, to);
     }

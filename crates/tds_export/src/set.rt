@@ -46,6 +46,7 @@ fn put_by_names<W: Write>(sink: &mut Sink<W>, begun: bool, columns: Columns) -> 
 
 // Writes the header line of a set to the front of a slice as `put_header` puts it, and returns how many bytes it has. `None` if
 // there may not be the room.
+#[inline(always)]
 fn write_header(begun: bool, columns: Columns, to: &mut [u8]) -> Option<usize>
     ensures most { IfSome result (λ made. made ≤ length to.old) }
     ensures text { let columns = columns_of columns.entry.bytes.now in

@@ -264,6 +264,7 @@ impl<'r, 't, 'p, 's, 'c, R: Read, W: Write> Rows<'r, 't, 'p, 's, 'c, R, W> {
     }
 
     /// Reads a row and those that follow it in its packet, and puts their lines. Returns how many they are.
+    #[inline(always)]
     pub(crate) fn rows(&mut self) -> Result<u64, Stop>
         requires { IsInSomeRow self.old }
         ensures leaves { LeavesRows self.old self.new result }

@@ -83,6 +83,21 @@ pub fn write_utf16(source: &[u8], n: usize, to: &mut [u8]) -> usize
     close_quoted(to, 1 + made)
 }
 
+/// Writes text in UTF-16 as [`write_utf16`] does, without a call if there are at most eight units and 16 bytes of source.
+#[inline(always)]
+#[tactic(auto, using(crate::proofs::QuotedFields::quoted, std::proofs::lemmas::Grind::common_steps))]
+pub fn write_few_utf16(source: &[u8], n: usize, to: &mut [u8]) -> usize
+    requires within { n ≤ length source.now }
+    requires whole { n % 2 ≡ 0 }
+    requires room { field_room Utf16Text n ≤ length to.old }
+    ensures most { result + 2 ≤ length to.old }
+    ensures field { take result to.new ≡ long_field Utf16Text (take n source.now) }
+{
+    to[0] = QUOTE;
+    let made = utf16::convert_few(&source[..n], source, &mut to[1..]);
+    close_quoted(to, 1 + made)
+}
+
 // Writes text in Windows-1252, the first `n` of these bytes, as a field.
 #[inline(never)]
 #[tactic(auto, using(crate::proofs::QuotedFields::quoted, std::proofs::lemmas::Grind::common_steps))]

@@ -309,3 +309,19 @@ pub(crate) fn convert_whole(bytes: &[u8], source: &[u8], to: &mut [u8]) -> usize
     }
     convert_last(bytes, source, run, to)
 }
+
+/// Writes the text of whole data as `convert_whole` does, which is better if there are more than eight units.
+#[inline(always)]
+pub(crate) fn convert_few(bytes: &[u8], source: &[u8], to: &mut [u8]) -> usize
+    requires source { LiesIn bytes.now source.now }
+    requires whole { length bytes.now % 2 ≡ 0 }
+    requires room { 3 * length bytes.now + 2 * LANES ≤ 2 * length to.old }
+    ensures short { 2 * result ≤ 3 * length bytes.now }
+    ensures text { take result to.new ≡ utf16.text bytes.now }
+{
+    let run = convert_some(bytes, source, 0, to, 0, UNITS);
+    if run.used == bytes.len() {
+        return run.made;
+    }
+    convert_last(bytes, source, run, to)
+}
