@@ -1,6 +1,6 @@
 -- A table of columns, column by column.
 use Rattle.tds_cells.proofs.Words as N
-use Rattle.tds_cells.proofs.Words.{◌≡◌, ◌⊎◌, ◌∙◌, ℕ, ◌+◌, ◌≤◌, ◌<◌, List, [], ◌∷◌, length, take, drop, get_or, sym, ap, arith, map, ◌==◌, Kind, Column}
+use Rattle.tds_cells.proofs.Words.{◌≡◌, ◌⊎◌, ◌&&◌, ◌∙◌, ℕ, ◌+◌, ◌≤◌, ◌<◌, List, [], ◌∷◌, length, take, drop, get_or, sym, ap, arith, map, ◌==◌, Kind, Column}
 use Rattle.tds_cells.proofs.Words.{columns_left, Ahead, Form, IsAhead}
 use Rattle.tds_columns.specs.declared.walk.Column as walks
 
@@ -16,6 +16,14 @@ pub first_more : (forms : List Form) (columns : List Column) (k : ℕ) (f : Form
     → map (λ f. f.kind) (take k forms) ≡ N.kinds (take k columns) → drop k columns ≡ c ∷ rest → f.kind ≡ c.kind
     → map (λ f. f.kind) (take (k + 1) (N.slice_set forms k f)) ≡ N.kinds (take (k + 1) columns)
 first_more _ _ k f within first h is = grind (arith, N.common_steps, next_column)
+
+-- whether one more column is of such a kind too
+pub all_more : (of : Kind → N.Bool) (columns : List Column) (k : ℕ) {all one : N.Bool} {c : Column} {rest : List Column} → drop k columns ≡ c ∷ rest
+    → all ≡ N.list_all (λ d. of d.kind) (take k columns) → one ≡ of c.kind
+    → (all && one) ≡ N.list_all (λ d. of d.kind) (take (k + 1) columns)
+all_more of columns k {c = c} h before is =
+    let next = next_column columns k h in
+    grind (arith, N.list_all_more (λ d. of d.kind) columns k c next.0)
 
 -- the kind of a column that is known
 pub known_kind : (forms : List Form) (columns : List Column) (n k : ℕ) (f : Form) (c : Column)

@@ -8,9 +8,9 @@ pub use Rattle.std.proofs.lemmas.Grind.{common_steps}
 pub use Rattle.std.proofs.lemmas.List.{take_more, get_or-map, length-drop, take-map, length-take, take_more_set, drop_more, drop-map}
 pub use Rattle.std.proofs.lemmas.List.{get_or-replicate, drop-take, get_or-take, length-map, length-take-le, length-replicate, get_or_default}
 pub use Rattle.std.proofs.lemmas.List.{map-append, drop-drop, take_all, take-append-drop, take-take, take-append-le, drop_all}
-pub use Rattle.std.proofs.lemmas.List.Folds.{concat-append}
+pub use Rattle.std.proofs.lemmas.List.Folds.{concat-append, list_all_more}
 pub use Rattle.std.specs.Iterator.{YieldsFirstBy}
-pub use Rattle.std.specs.List.{concat}
+pub use Rattle.std.specs.List.{concat, list_all}
 pub use Rattle.std.specs.Prelude.{◌==◌, if◌then◌else◌, slice_set, ◌||◌, is_ok, ◌&&◌, None, slice_index, Option, nat_le, map, codes, Some, nat_lt}
 pub use Rattle.tds_columns.proofs.ByteLemmas.{one_byte, little-two, two_bytes}
 pub use Rattle.tds_columns.proofs.ViewLaws.{all_after}
@@ -50,7 +50,7 @@ pub use Rattle.tds_cells.specs.Rows.{marked, WholeRow, bitmap_length, row_add, S
 pub use Rattle.tds_cells.specs.Rows.{SpellsRow, row, NbcRow, row_so_far, with_field, row_size, InCell, token_byte, row_start, token_start}
 pub use Rattle.tds_cells.specs.Rows.{next_cell, nbc_row_start}
 pub use Rattle.tds_cells.specs.Runs.{KnownRan, RowsRan, rows_so_far, lines, rows, Writes, CellsWritten, after_cells, RunEnds, RowsPart}
-pub use Rattle.tds_cells.specs.Runs.{WritesRows}
+pub use Rattle.tds_cells.specs.Runs.{EndsLast, WritesRows}
 pub use Rattle.tds_cells.specs.ShortCells.{stated_length, short_size}
 pub use Rattle.tds_cells.specs.ChunkedCells.{HasOneChunk, chunk_data, chunk_end, chunked_size, stated_total}
 pub use Rattle.tds_cells.specs.LongFields.{IsShapeLeft}

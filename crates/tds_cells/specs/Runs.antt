@@ -20,7 +20,7 @@ use Rattle.tds_cells.specs.Rows.{PlainRow, RowPart, RowToken, WholeRow, marked, 
 use Rattle.tds_cells.specs.Rows.{token_start}
 use Rattle.tds_cells.specs.MarkedRuns.{EndsFar, EndsLeft, MarkedWritten}
 use Rattle.tds_cells.specs.CellTexts.{IsLeft, WritesKind, whole_size}
-use Rattle.tds_cells.specs.Tables.{IsAhead, Knows, place}
+use Rattle.tds_cells.specs.Tables.{BeginsRow, IsAhead, Knows, place}
 
 -- The bytes are whole elements, which lead from one state to another, and this is what the text of the second has more than that of the first.
 pub record Writes {S : Type 0} (g : Grammar S Fault) (text : S → List ℕ) (from : S) (bytes made : List ℕ) (to : S) : Type 0 where
@@ -98,6 +98,10 @@ pub record StaysWithin (from : Ahead) (end bytes room : ℕ) (run : CellRun) : T
 -- A run ended at the row's end, without room for every scalar, or before a cell that is left.
 abbrev pub RunEnds : Table → Ahead → List ℕ → ℕ → Type 0
 RunEnds table at bytes room = EndsLeft table (λ k. false) at bytes room
+
+-- A run that ended at a row's end is followed by no ROW.
+abbrev pub EndsLast : Table → ℕ → List ℕ → Type 0
+EndsLast table column bytes = column ≡ table.count → BeginsRow bytes → ⊥
 
 -- A run ended so, or where bytes or room are too few for any scalar.
 abbrev pub FarEnds : Table → Ahead → List ℕ → ℕ → Type 0

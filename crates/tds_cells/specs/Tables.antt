@@ -4,7 +4,8 @@ use Rattle.tds_values.specs.declared.kind.Kind.{Kind}
 use Rattle.tds_columns.specs.Description.{Column}
 use Rattle.tds_columns.specs.Walking.{columns_left}
 use Rattle.tds_columns.specs.declared.walk.Walk.{Walk}
-use Rattle.tds_cells.specs.CellTexts.{is_last_column}
+use Rattle.std.specs.List.{list_all}
+use Rattle.tds_cells.specs.CellTexts.{is_counted, is_int4, is_last_column}
 use Rattle.tds_cells.specs.Forms.{AreCounted, AreInt4, AreLaidOut}
 use Rattle.tds_cells.specs.declared.table.Learnt.{Learnt}
 use Rattle.tds_values.specs.declared.charset.Charset.{Charset}
@@ -22,7 +23,8 @@ pub record Knows (table : Table) (columns : List Column) : Type 0 where
   pub counted : table.count ≡ length columns
   pub rest : columns_left table.rest ≡ drop table.known columns
 
--- Of these columns the forms of the first ones are known, how many they are, and the walk over those after them.
+-- Of these columns the forms of the first ones are known, as many as there is room for, whether all their values are whole numbers of
+-- four bytes, and come after their lengths, and the walk over those after them.
 pub record Learns (columns : List Column) (charset : Charset) (forms : List Form) (learnt : Learnt) : Type 0 where
   pub there : learnt.known ≤ length forms
   pub few : learnt.known ≤ length columns
@@ -30,6 +32,9 @@ pub record Learns (columns : List Column) (charset : Charset) (forms : List Form
   pub laid : AreLaidOut charset forms
   pub numbers : learnt.only_numbers ≡ true → AreInt4 forms
   pub counted : learnt.only_counted ≡ true → AreCounted forms
+  pub all : (learnt.known ≡ length forms) ⊎ (learnt.known ≡ length columns)
+  pub numbers_are : learnt.only_numbers ≡ list_all (λ c. is_int4 c.kind) (take learnt.known columns)
+  pub counted_are : learnt.only_counted ≡ list_all (λ c. is_counted c.kind) (take learnt.known columns)
   pub rest : columns_left learnt.rest ≡ drop learnt.known columns
 
 -- The table knows some columns, one at least.

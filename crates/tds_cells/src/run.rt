@@ -3,7 +3,8 @@ ghost use Rattle.std.specs.Prelude.{false, true, ◌≡◌, ◌==◌, ◌+◌, �
 ghost use Rattle.tds_cells.specs.declared.whole.TheConstants.{CELL_ROOM};
 ghost use Rattle.tds_cells.specs.FormRuns.{NumbersEnd};
 ghost use Rattle.tds_cells.specs.Layouts.{IsLaidOut};
-ghost use Rattle.tds_cells.specs.Runs.{AloneWritten, CellsWritten, KnownEnds, KnownFarEnds, KnownRan, RowsRan, RunEnds, StaysWithin};
+ghost use Rattle.tds_cells.specs.Runs.{AloneWritten, CellsWritten, EndsLast, KnownEnds, KnownFarEnds, KnownRan, RowsRan, RunEnds};
+ghost use Rattle.tds_cells.specs.Runs.{StaysWithin};
 ghost use Rattle.tds_cells.specs.Tables.{AreAhead, KnowsAll};
 
 use crate::layout::Form;
@@ -300,6 +301,7 @@ impl<'a> Table<'a> {
         requires numbers { NUMBERS ≡ true → self.now.only_numbers ≡ true }
         ensures ends { KnownEnds self.now result.column
             (drop result.used bytes.now) (length to.old - result.made) }
+        ensures last { EndsLast self.now result.column (drop result.used bytes.now) }
         ensures rows { KnownRan self.now from bytes.now to.new result }
     {
         let mut used = 0;
@@ -343,6 +345,7 @@ impl<'a> Table<'a> {
     fn run_partly_known(&self, from: Ahead<'a>, bytes: &[u8], to: &mut [u8]) -> RowsRun<'a>
         requires some { 0 < self.now.count }
         ensures ends { RunEnds self.now result.ahead (drop result.used bytes.now) (length to.old - result.made) }
+        ensures last { EndsLast self.now result.ahead.column (drop result.used bytes.now) }
         ensures rows { RowsRan self.now from.entry bytes.now to.new result }
     {
         let mut run = RowsRun::none(from);
@@ -375,6 +378,7 @@ impl<'a> Table<'a> {
         requires some { 0 < self.now.count }
         requires room { CELL_ROOM ≤ length to.old }
         ensures ends { RunEnds self.now result.ahead (drop result.used bytes.now) (length to.old - result.made) }
+        ensures last { EndsLast self.now result.ahead.column (drop result.used bytes.now) }
         ensures rows { RowsRan self.now from.entry bytes.now to.new result }
     {
         if !self.knows_all() {

@@ -1,5 +1,5 @@
 // What the cells of a description's columns need of them, known once for all its rows.
-ghost use Rattle.std.specs.Prelude.{◌≡◌, ◌==◌, ◌⊎◌, ◌+◌, ◌-◌, ◌<◌, ◌≤◌, drop, length, take, true, false, IfSome, List, MatchOption};
+ghost use Rattle.std.specs.Prelude.{◌≡◌, ◌==◌, ◌&&◌, ◌⊎◌, ◌+◌, ◌-◌, ◌<◌, ◌≤◌, drop, length, take, true, false, IfSome, List, MatchOption, min};
 ghost use Rattle.tds_cells.specs.CellTexts.{IsInt4, is_counted, is_int4};
 ghost use Rattle.tds_cells.specs.Forms.{AreCounted, AreInt4, AreLaidOut, table_length};
 ghost use Rattle.tds_values.specs.declared.charset.Charset.{Charset};
@@ -130,6 +130,9 @@ impl<'a> Table<'a> {
         requires { Learns (columns_of columns.bytes.now) charset forms.now learnt }
         ensures knows { Knows result (columns_of columns.entry.bytes.now) }
         ensures charset { result.charset ≡ charset }
+        ensures known { result.known ≡ learnt.entry.known }
+        ensures numbers { result.only_numbers ≡ (learnt.entry.only_numbers && (result.known == result.count)) }
+        ensures counted { result.only_counted ≡ learnt.entry.only_counted }
     {
         let (count, known) = (columns.count(), learnt.known);
         Table {
@@ -207,8 +210,9 @@ impl<'a> Table<'a> {
     #[tactic(auto, using(crate::proofs::TableRuns::known_ahead))]
     pub(crate) fn forms(&self, at: Ahead<'a>, end: u16) -> Option<&[Form]>
         requires { end ≤ self.now.count }
-        ensures { MatchOption result ((self.now.known ≤ at.entry.column) ⊎ (end ≤ at.entry.column))
+        ensures ahead { MatchOption result ((self.now.known ≤ at.entry.column) ⊎ (end ≤ at.entry.column))
             (λ forms. AreAhead self.now at.entry end forms.now) }
+        ensures all { IfSome result (λ forms. at.entry.column + length forms.now ≡ min self.now.known end) }
     {
         let from = at.column as usize;
         let until = self.known.min(end as usize);

@@ -9,7 +9,10 @@ ghost use Rattle.tds_columns.specs.Description.{Column};
 ghost use Rattle.tds_packet.specs.Payloads.{buffered};
 ghost use Rattle.tds_rows.specs.RowSteps.{RowsRead};
 ghost use Rattle.tds_rows.specs.RunPuts.{RowsPut};
+ghost use Rattle.tds_cells.specs.CellTexts.{IsLeft};
 ghost use Rattle.tds_cells.specs.MarkedRuns.{MarkedWritten};
+ghost use Rattle.tds_cells.specs.Runs.{EndsLast, RunEnds};
+ghost use Rattle.tds_rows.specs.MarkedPuts.{room_left};
 ghost use Rattle.tds_rows.specs.RowRuns.{IsFurther, MarkedRead, RunRead};
 ghost use Rattle.tds_cells.specs.Tables.{Knows};
 ghost use Rattle.tds_values.specs.Kind as kinds;
@@ -112,6 +115,7 @@ impl<'r, 't, 'p, 's, 'c, R: Read, W: Write> Rows<'r, 't, 'p, 's, 'c, R, W> {
     fn put_whole(&mut self, at: Ahead<'c>, form: &Form) -> Option<Result<(), Stop>>
         requires { IsAtCell self.old at form.now }
         ensures none { result ≡ None → self.new ≡ self.old }
+        ensures left { result ≡ None → IsLeft self.old.table.now.charset form.now.kind (buffered self.old.payload.now) 256 }
         ensures cell { IfSome result (λ put. CellRead R.remaining W.contents at.entry form.now.kind self.old self.new put) }
     {
         let mut text = [0u8; SHORT_TEXT];
@@ -197,6 +201,8 @@ impl<'r, 't, 'p, 's, 'c, R: Read, W: Write> Rows<'r, 't, 'p, 's, 'c, R, W> {
         requires room { length self.old.sink.now.output.now.bytes + CELL_ROOM < 4096 }
         ensures stays { StaysInRow self.old self.new }
         ensures place { IsFurther self.old.payload.now.place self.new.payload.now.place result }
+        ensures ends { RunEnds self.old.table.now result.ahead (buffered self.new.payload.now) (room_left self.new.sink.now) }
+        ensures last { EndsLast self.old.table.now result.ahead.column (buffered self.new.payload.now) }
         ensures rows { RowsPut R.remaining W.contents self.old.table.now from.entry
             self.old.payload.now self.new.payload.now self.old.sink.now self.new.sink.now result }
     {

@@ -1,7 +1,8 @@
 use Rattle.tds_cells.proofs.table.Table.learn.Goals as goal
-use Rattle.tds_cells.proofs.Words.{◌∙◌, ap, sym, arith, IsLaidOut, columns_of, is_counted, is_int4, rules}
+use Rattle.tds_cells.proofs.table.Table.learn.Goals.{else-loop-known-test, then-loop-known-test+in_default}
+use Rattle.tds_cells.proofs.Words.{◌∙◌, ap, inl, inr, sym, arith, IsLaidOut, columns_of, is_counted, is_int4, length, length-drop, rules}
 use Rattle.tds_cells.proofs.LaidOut.{each_set, kind_set}
-use Rattle.tds_cells.proofs.TableSteps.{first_more, next_column}
+use Rattle.tds_cells.proofs.TableSteps.{all_more, first_more, next_column}
 
 pub loop-known-init : goal.loop-known-init
 loop-known-init c = record {
@@ -11,6 +12,8 @@ loop-known-init c = record {
   laid = c.requires.laid;
   numbers = λ _. c.requires.numbers;
   counted = λ _. c.requires.counted;
+  numbers_are = search arith;
+  counted_are = search arith;
   rest = search arith;
 }
 
@@ -31,5 +34,32 @@ loop-known-preserved c =
           (omega arith) (c.is_int4-only_numbers.ensures ∙ ap is_int4 (sym c.of.ensures.kind));
       counted = kind_set is_counted _ _ c.of.result _ c.is_counted-only_counted.result inv.counted
           (omega arith) (c.is_counted-only_counted.ensures ∙ ap is_counted (sym c.of.ensures.kind));
+      numbers_are = all_more is_int4 columns _ step inv.numbers_are c.is_int4-only_numbers.ensures;
+      counted_are = all_more is_counted columns _ step inv.counted_are c.is_counted-only_counted.ensures;
       rest = sym next.1.1;
+    }
+
+pub returns : goal.returns
+returns c =
+    let inv = c.loop-known.invariant in
+    let columns = columns_of c.args.columns.bytes.now in
+    record {
+      there = inv.most;
+      few = inv.few;
+      first = inv.first;
+      laid = inv.laid;
+      numbers = inv.numbers;
+      counted = inv.counted;
+      all = elim c.loop-known-test.branch [
+        | else-loop-known-test w ↦ inl (omega (arith, inv.most))
+        | then-loop-known-test+in_default w ↦ inr (omega (
+          arith,
+          inv.few,
+          length-drop c.loop-known.known columns,
+          ap length (sym inv.rest ∙ w.in_default.ensures.steps.0),
+        ))
+      ];
+      numbers_are = inv.numbers_are;
+      counted_are = inv.counted_are;
+      rest = search arith;
     }

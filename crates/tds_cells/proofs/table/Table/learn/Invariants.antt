@@ -10,6 +10,8 @@ invariant-loop-known l = record {
   laid : N.AreLaidOut l.fn.charset l.forms;
   numbers : l.only_numbers ≡ N.true → N.AreInt4 l.forms;
   counted : l.only_counted ≡ N.true → N.AreCounted l.forms;
+  numbers_are : l.only_numbers ≡ N.list_all (λ c. N.is_int4 c.kind) (N.take l.known (N.columns_of l.fn.columns.bytes.now));
+  counted_are : l.only_counted ≡ N.list_all (λ c. N.is_counted c.kind) (N.take l.known (N.columns_of l.fn.columns.bytes.now));
   rest : N.columns_left l.rest ≡ N.drop l.known (N.columns_of l.fn.columns.bytes.now);
 }
 

@@ -66,3 +66,9 @@ returns-then-run-eq0-clause-rows g c =
 
 pub run_forms-run-requires : goal.run_forms-run-requires
 run_forms-run-requires g c = (c.in-Some.ensures.ahead c.args.self.now.rest).laid
+
+pub returns-then-not-row_follows-clause-last : goal.returns-then-not-row_follows-clause-last
+returns-then-not-row_follows-clause-last g c = λ end begins. (rw (N.all_after c.args.bytes.now _) at (c.row_follows.ensures.other (search N.rules))) begins
+
+pub returns-then-run-eq0-clause-last : goal.returns-then-run-eq0-clause-last
+returns-then-run-eq0-clause-last g c = λ end begins. absurd (omega (arith, end, c.in-Some.ensures.whole, (c.in-Some.ensures.ahead c.args.self.now.rest).some))

@@ -1,5 +1,5 @@
 use Rattle.tds_cells.proofs.table.Table.run_partly_known.Goals as goal
-use Rattle.tds_cells.proofs.Words.{arith, ◌≡◌, ◌∙◌, ◌-◌, all_after, drop, length, rules, sym, take}
+use Rattle.tds_cells.proofs.Words.{arith, ◌≡◌, ◌∙◌, ◌-◌, all_after, drop, eq-eqb, length, rules, sym, take}
 use Rattle.tds_cells.proofs.TableRuns.{row_begun, rows_begin, rows_more}
 use Rattle.tds_cells.proofs.TableSteps.{all_before, not_end}
 
@@ -24,3 +24,8 @@ returns-then-cells-eq0-clause-ends c = λ columns column left knows ahead step.
     let before = not_end _ knows.counted ahead.counted (sym c.is_end.ensures ∙ c.if-is_end.false) in
     rw room at (rw (all_after _ l.run.used) at (c.run_cells-cells.ensures.ends c.if-cells-eq0.true (omega arith)))
     columns column left knows ahead step
+
+pub returns-then-cells-eq0-clause-last : goal.returns-then-cells-eq0-clause-last
+returns-then-cells-eq0-clause-last c = λ end begins.
+    let before = sym c.is_end.ensures ∙ c.if-is_end.false in
+    grind (arith, eq-eqb _ _ end)
