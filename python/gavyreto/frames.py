@@ -1,7 +1,7 @@
 """The rows of a result set as a DataFrame of pandas, typed by the columns."""
 from __future__ import annotations
 
-from typing import Any, Optional
+from typing import Any, Optional, cast
 
 from gavyreto.columns import Column
 from gavyreto.text import Columns, ResultSet
@@ -79,18 +79,24 @@ def _whole_numbers(values: list[Value], kind: str) -> Any:
     import numpy
     import pandas
 
-    mask = numpy.array([value is None for value in values]) if None in values else numpy.zeros(len(values), dtype=bool)
-    numbers = [value or 0 for value in values] if None in values else values
-    return pandas.arrays.IntegerArray(numpy.array(numbers, dtype=kind.lower()), mask)
+    try:
+        numbers = numpy.fromiter(cast("list[int]", values), dtype=kind.lower(), count=len(values))
+        mask = numpy.zeros(len(values), dtype=bool)
+    except TypeError:  # for NULL
+        objects = numpy.fromiter(values, dtype=object, count=len(values))
+        mask = objects == None  # noqa: E711 - each of them
+        objects[mask] = 0
+        numbers = objects.astype(kind.lower())
+    return pandas.arrays.IntegerArray(numbers, mask)
 
 
 def _objects(values: list[Value]) -> Any:
-    """Values as objects; equal texts and binary values are one, if there are many of them."""
+    """Values as objects; equal texts and binary values are one."""
     import numpy
 
     if isinstance(next((value for value in values if value is not None), None), (str, bytes)):
-        known = {value: value for value in values}
-        values = [known[value] for value in values] if 2 * len(known) < len(values) else values
+        known: dict[Value, Value] = {}
+        values = list(map(known.setdefault, values, values))
     return numpy.fromiter(values, dtype=object, count=len(values))
 
 

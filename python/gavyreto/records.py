@@ -12,6 +12,7 @@ Read = Callable[[int], bytes]
 BLOCK = 1 << 17  # bytes that are read at once, at most
 LONGEST = 1 << 20  # characters of a row that are held as text; a longer row is read field by field
 SEPARATOR = "\r\n"  # at the end of a record, and alone between two sets
+END = "\ud800"  # of a value: what no text has
 FIELD = re.compile(r'("[^"]*(?:""[^"]*)*"|[^",\r\n]+)(,|\r\n)')
 SHORT = re.compile(r'[^",\r\n]{0,100}')
 QUOTED = re.compile(r'[^"]*(?:""[^"]*)*')
@@ -41,6 +42,18 @@ def record_at(text: str, at: int) -> tuple[list[str], int]:
         if found[2] == "\r\n":
             return fields, at
     raise ValueError(f"no field begins with {text[at:at + 20]!r}")
+
+
+def outlined(records: str) -> tuple[str, list[str]]:
+    """The outline of whole records, in which a quote stands for each value in quotes, and these values. A quote within a value is doubled, so
+    that nothing is between the two."""
+    parts = records.split('"')
+    outside = parts[::2]
+    if "" in outside[1:]:
+        parts[::2] = [""] + [END if part else '"' for part in outside[1:]]
+        outside[1:] = filter(None, outside[1:])
+        return '"'.join(outside), "".join(parts).split(END)[:-1]
+    return '"'.join(outside), parts[1::2]
 
 
 class LongField(NamedTuple):

@@ -6,17 +6,17 @@ import os
 import re
 import sys
 import threading
-from itertools import islice
+from itertools import chain, islice
 from operator import length_hint
 from typing import Any, Callable, Iterator, NoReturn, Optional, Protocol, Sequence, TypeVar, Union, cast
 
 from gavyreto.columns import FLOATS, Column
 from gavyreto.errors import Error, Interrupted, MalformedText, NotOneSet, PassedOver, UnfinishedText
-from gavyreto.records import SEPARATOR, LongField, LongRecord, OpenField, Read, Records, end_of_set, record_at
+from gavyreto.records import SEPARATOR, LongField, LongRecord, OpenField, Read, Records, end_of_set, outlined, record_at
 from gavyreto.rows import Row, row_type
-from gavyreto.values import BINARY, Converter, Dates, Value, check_dates, value_of
+from gavyreto.values import BINARY, QUOTE, Converter, Dates, Value, check_dates, value_of
 
-MOST_GROUPS = 1000  # columns of a set whose rows are read by one pattern
+TO_ZEROS = bytes.maketrans(b"123456789", b"000000000")
 SEVERAL = "several sets: split them first, as docs/RECIPES.md has it in \"Several result sets\""
 
 
@@ -41,7 +41,9 @@ class Parser:
         self.is_over = False  #: nothing is left of the text but `records.rest`
         self.dates, self._floats = dates, floats
         self._converters: list[Converter] = []
-        self._rows: Optional[re.Pattern[str]] = None  # a row, by the shapes of its columns, if they are known
+        self._has_rows = False  # whether rows of the set have come, by which the shapes of its columns are known
+        self._row: Optional[re.Pattern[bytes]] = None  # the outline of a row by these shapes, once it is needed
+        self._known: set[bytes] = set()  # those of the last rows, which match
         self._block, self._at = "", 0  # whole records, and how much of them is used up
         self._is_long = False  # whether the next record is long
         self._wrong: Optional[ValueError] = None  # what is wrong after them
@@ -57,7 +59,7 @@ class Parser:
             fields = self._long_record()
         else:
             fields[:], self._at = record_at(self._block, self._at)
-        self._rows, self._before = None, ""
+        self._has_rows, self._row, self._before = False, None, ""
         names = [it.value if isinstance(it, LongField) else value_of(it) for it in fields]
         floats = self._floats(self.sets) or [False] * len(names)
         self._converters = [Converter(name, self.dates, is_float) for name, is_float in zip(names, floats) if isinstance(name, str)]
@@ -102,15 +104,38 @@ class Parser:
 
     def _rows_up_to(self, end: int) -> Optional[Columns]:
         """The rows up to a place, if the columns of all of them have the shapes that are known."""
-        rows = self._rows.findall(self._block, self._at, end) if self._rows else []
-        if not rows or rows[-1][-1]:
+        if not self._has_rows:
             return None
-        groups = zip(*rows)
-        columns = [it.values(groups) for it in self._converters]
-        if sum(length for _, length in columns) + len(rows) * (len(columns) + 1) != end - self._at:
+        outline, values = outlined(self._block[self._at:end])
+        try:
+            columns = self._columns(outline, values) if self._are_rows(outline) else None
+        except ValueError:
             return None
-        self._at = end
-        return [values for values, _ in columns]
+        self._at = end if columns else self._at
+        return columns
+
+    def _are_rows(self, outline: str) -> bool:
+        """Whether each record of an outline is a row. With 0 for each digit most of them are the same."""
+        different = set(outline[:-len(SEPARATOR)].encode("ascii").translate(TO_ZEROS).split(SEPARATOR.encode()))
+        if self._row is None:
+            self._row, self._known = re.compile(",".join(it.pattern() for it in self._converters).encode()), set()
+        are_rows = all(map(self._row.fullmatch, different - self._known))
+        self._known = different if are_rows else set()
+        return are_rows
+
+    def _columns(self, outline: str, values: Sequence[Optional[str]]) -> Columns:
+        """The rows of an outline by columns, with their values in quotes. Raises ValueError if one has no value."""
+        fields = outline[:-len(SEPARATOR)].replace(SEPARATOR, ",").split(",")
+        width = len(self._converters)
+        columns: list[Sequence[Optional[str]]] = [fields[place::width] for place in range(width)]
+        quoted = [place for place, it in enumerate(self._converters) if it.is_quoted]
+        if len(values) < len(columns[0]) * len(quoted):  # some are NULL
+            left = iter(values)
+            in_turn = chain.from_iterable(zip(*(columns[place] for place in quoted)))
+            values = [next(left) if field == QUOTE else None for field in in_turn]
+        for number, place in enumerate(quoted):
+            columns[place] = values[number::len(quoted)]
+        return [converter.values(fields) for converter, fields in zip(self._converters, columns)]
 
     def _rows_one_by_one(self, end: int) -> Columns:
         """The rows up to a place, or to the first that is none, after which nothing more comes."""
@@ -123,9 +148,7 @@ class Parser:
                 self._at = after
         except ValueError as wrong:
             self._wrong, self._block = wrong, self._block[:self._at]
-        if len(self._converters) <= MOST_GROUPS:
-            # What isn't a row matches as a whole: a row is looked for only where one begins, so the time is linear.
-            self._rows = re.compile(",".join(it.groups() for it in self._converters) + SEPARATOR + r"|([\s\S]+)")
+        self._has_rows, self._row = True, None
         return columns
 
     def _row_of(self, fields: Sequence[Union[str, LongField]]) -> list[Value]:

@@ -4,10 +4,12 @@ from __future__ import annotations
 import re
 from datetime import date, datetime, time
 from decimal import Decimal
-from typing import Callable, Iterable, Iterator, Literal, NamedTuple, Optional, Union
+from typing import Callable, Literal, NamedTuple, Optional, Sequence, Union, cast
 from uuid import UUID
 
 Dates = Union[bool, Literal["truncate"]]
+NULL, QUOTE = "NULL", '"'
+SOME = 100  # fields of a column, which tell whether equal ones come often
 DATES: tuple[Dates, ...] = (False, True, "truncate")
 Value = Union[None, int, float, Decimal, bytes, str, date, time, datetime, UUID]
 
@@ -23,35 +25,27 @@ class Shape(NamedTuple):
 
     name: str
     pattern: str
-    values: Callable[[Iterable[str]], list[Value]]
+    value: Callable[[str], Value]  #: of a field, without quotes around it. Raises ValueError
+    is_quoted: bool = False
 
 
-def _each(convert: Callable[[str], Value]) -> Callable[[Iterable[str]], list[Value]]:
-    """What converts each field; those that come often are converted once."""
-    def values(fields: Iterable[str]) -> list[Value]:
-        fields = list(fields)
-        different = set(fields)
-        if 2 * len(different) > len(fields):
-            return list(map(convert, fields))
-        known = {field: convert(field) for field in different}
-        return [known[field] for field in fields]
-    return values
+def _float(field: str) -> float:
+    if not FLOATS.fullmatch(field):
+        raise ValueError(f"no float: {field[:60]!r}")
+    return float(field)
 
 
-def _texts(fields: Iterable[str]) -> list[Value]:
-    return [field[1:-1].replace('""', '"') for field in fields]
-
-
-def _binaries(fields: Iterable[str]) -> list[Value]:
-    return [bytes.fromhex(field[2:]) for field in fields]
+def _binary(field: str) -> bytes:
+    return bytes.fromhex(field.removeprefix("0x"))
 
 
 DAY, CLOCK, OFFSET = r"[0-9]{4}-[0-9]{2}-[0-9]{2}", r"[0-9]{2}:[0-9]{2}:[0-9]{2}", r" [+-][0-9]{2}:[0-9]{2}"
 GUID = "[0-9a-f]{8}(?:-[0-9a-f]{4}){3}-[0-9a-f]{12}"
-TEXT = Shape("text", r'"[^"]*(?:""[^"]*)*"', _texts)
-FLOAT = Shape("float", '"[-+.0-9e]+"', lambda fields: [float(field[1:-1]) for field in fields])
-BINARY = Shape("binary", "0x(?:[0-9a-f]{2})*", _binaries)
-INTEGER = Shape("integer", "-?[0-9]+", _each(int))
+FLOATS = re.compile("[-+.0-9e]+")
+TEXT = Shape("text", r'"[^"]*(?:""[^"]*)*"', str, True)
+FLOAT = Shape("float", f'"{FLOATS.pattern}"', _float, True)
+BINARY = Shape("binary", "0x(?:[0-9a-f]{2})*", _binary)
+INTEGER = Shape("integer", "-?[0-9]+", int)
 DECIMAL = re.compile(r"-?[0-9]+\.([0-9]+)")
 MOMENT = re.compile(rf"({DAY})?(?:(?(1) )({CLOCK})(?:\.([0-9]{{1,7}}))?)?({OFFSET})?")
 
@@ -62,9 +56,9 @@ def shape_of(field: str, dates: Dates) -> Shape:
         if re.fullmatch(shape.pattern, field):
             return shape
     if found := DECIMAL.fullmatch(field):
-        return Shape("decimal", rf"-?[0-9]+\.[0-9]{{{len(found[1])}}}", _each(Decimal))
+        return Shape("decimal", rf"-?[0-9]+\.[0-9]{{{len(found[1])}}}", Decimal)
     if re.fullmatch(GUID, field):
-        return Shape("guid", GUID, _each(UUID) if dates else list)
+        return Shape("guid", GUID, UUID if dates else str)
     found = MOMENT.fullmatch(field)
     if not field or not found:
         raise ValueError(f"not a field of a text of tds_replay: {field[:60]!r}")
@@ -79,14 +73,14 @@ def _moment(found: re.Match[str], dates: Dates) -> Shape:
     parts = [DAY] * bool(day) + [CLOCK + (rf"\.[0-9]{{{digits}}}" if digits else "")] * bool(clock)
     pattern = " ".join(parts) + (OFFSET if offset else "")
     if not dates or digits == 7 and dates != "truncate":
-        return Shape("moment", pattern, list)
+        return Shape("moment", pattern, str)
     if not clock:
-        return Shape("date", pattern, _each(date.fromisoformat))
+        return Shape("date", pattern, date.fromisoformat)
     kind: Union[type[datetime], type[time]] = datetime if day else time
     missing, cut = ("." if not digits else "") + "0" * (6 - digits), digits == 7  # `fromisoformat` of each version reads six digits
     if offset:
-        return Shape("moment", pattern, _each(lambda field: kind.fromisoformat(field[:-7 - cut] + missing + field[-6:])))
-    return Shape("moment", pattern, _each(lambda field: kind.fromisoformat(field[:len(field) - cut] + missing)))
+        return Shape("moment", pattern, lambda field: kind.fromisoformat(field[:-7 - cut] + missing + field[-6:]))
+    return Shape("moment", pattern, lambda field: kind.fromisoformat(field[:len(field) - cut] + missing))
 
 
 def value_of(field: str, dates: Dates = False) -> Value:
@@ -104,12 +98,12 @@ class Converter:
 
     def value(self, field: str) -> Value:
         """The value of a field. Raises ValueError if it isn't like those before it."""
-        if field == "NULL":
+        if field == NULL:
             return None
         self.shape = self.shape or shape_of(field, self._dates)
         if not re.fullmatch(self.shape.pattern, field):
             raise ValueError(f"in the column {self.name!r} {field[:60]!r} is no {self.shape.name}, as those before it are")
-        return self.shape.values([field])[0]
+        return self.shape.value(field[1:-1].replace('""', '"') if self.shape.is_quoted else field)
 
     def accept(self, shape: Shape) -> None:
         """Sees to it that a value of a shape is like those before it. Raises ValueError if it isn't."""
@@ -117,31 +111,29 @@ class Converter:
         if self.shape.name != shape.name:
             raise ValueError(f"in the column {self.name!r} a {shape.name} is no {self.shape.name}, as those before it are")
 
-    def groups(self) -> str:
-        """The pattern of a field in that of a row. What its groups catch, `values` takes."""
-        if self.shape is None:
-            return "(NULL)"
-        return '(?:"([^"]*(?:""[^"]*)*)"|(NULL))' if self.shape is TEXT else f"(?:({self.shape.pattern})|NULL)"
+    @property
+    def is_quoted(self) -> bool:
+        """Whether the fields have quotes around them."""
+        return self.shape is not None and self.shape.is_quoted
 
-    def values(self, groups: Iterator[tuple[str, ...]]) -> tuple[list[Value], int]:
-        """The values of fields, and how many characters the fields have, by what the groups of this column caught."""
-        fields = next(groups)
-        joined = "".join(fields)
+    def pattern(self) -> str:
+        """The pattern of a field in an outline, where each digit is 0."""
         if self.shape is None:
-            return [None] * len(fields), len(joined)
+            return NULL
+        return f"(?:{QUOTE if self.is_quoted else self.shape.pattern}|{NULL})"
+
+    def values(self, fields: Sequence[Optional[str]]) -> list[Value]:
+        """The values of fields, without quotes around them; NULL is None among those that had some. Raises ValueError if one isn't like those
+        before. Those that come often are made once."""
+        if self.shape is None:
+            return [None] * len(fields)
         if self.shape is TEXT:
-            return _texts_or_nulls(fields, joined, next(groups))
-        nulls = fields.count("")
-        if not nulls:
-            return self.shape.values(fields), len(joined)
-        values = iter(self.shape.values([field for field in fields if field]))
-        return [next(values) if field else None for field in fields], len(joined) + 4 * nulls
-
-
-def _texts_or_nulls(fields: tuple[str, ...], joined: str, marks: tuple[str, ...]) -> tuple[list[Value], int]:
-    """The values of a column of texts, by what is within the quotes, and by NULLs."""
-    texts: list[Value] = [field.replace('""', '"') for field in fields] if '""' in joined else list(fields)
-    nulls = len(marks) - marks.count("")
-    if nulls:
-        texts = [None if mark else text for text, mark in zip(texts, marks)]
-    return texts, len(joined) + 2 * (len(fields) - nulls) + 4 * nulls
+            return list(fields)
+        null = None if self.is_quoted else NULL
+        value, some = cast("Callable[[Optional[str]], Value]", self.shape.value), fields[:SOME]
+        if value is not str and 2 * len(set(some)) < len(some):
+            known = {field: value(field) for field in set(fields) - {null}} | {null: None}
+            return list(map(known.__getitem__, fields))
+        if null in fields:
+            return [None if field == null else value(field) for field in fields]
+        return list(fields if value is str else map(value, fields))

@@ -200,6 +200,21 @@ class Malformed(unittest.TestCase):
                     with self.assertRaises(gavyreto.MalformedText):
                         next(came)
 
+    def test_values_whose_characters_alone_are_right(self) -> None:
+        """Among rows that are read many at once: a binary value that begins with another digit, and texts that only Python takes for floats."""
+        rows = b'"a","b"\r\n0x00,"1.5"\r\n0x01,NULL\r\n'
+        for wrong in (b"1x00", b"000x", b'0x00,"nan"', b'0x00,"1_0"', b'0x00," 1"', b'0x00,"1e"', b'0x00,""', '0x00,"\u0661"'.encode()):
+            pieces = iter([rows, b"".join([b'0x02,"-1e+16"\r\n', wrong, b"" if b"," in wrong else b',"1.0"', b"\r\n"])])
+            with self.subTest(wrong=wrong), self.assertRaises(gavyreto.MalformedText):
+                parser, found = Parser(lambda most: next(pieces, b""), False, lambda _: [False, True]), list[Any]()
+                parser.next_header()
+                try:
+                    while (columns := parser.next_rows()) is not None:
+                        found += zip(*columns)
+                except ValueError as error:
+                    self.assertEqual(found, [(b"\0", 1.5), (b"\1", None), (b"\2", -1e16)])
+                    raise gavyreto.MalformedText(str(error)) from None
+
     def test_a_long_row_of_another_width(self) -> None:
         long = b'"' + b"x" * (LONGEST + 10) + b'"'
         for wrong in (b"1," + long + b",2\r\n", long + b"\r\n", b'1,"x' + long + b"\r\n", b"0x0" + b"0" * LONGEST + b',"x"\r\n'):
