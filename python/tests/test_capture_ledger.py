@@ -134,6 +134,22 @@ class Shown(unittest.TestCase):
                 came = read(pcapng(frames, counted, before))
                 self.assertEqual((came.answers, came.told), ([answer(1)], ["lost frames"] * is_told))
 
+    def test_a_copy_that_differs_of_what_was_acknowledged_before_it_came(self) -> None:
+        """Which copy was received isn't known of a segment that comes after its acknowledgement, whatever an earlier one says behind it; of one
+        that comes before it no copy counts."""
+        ethernet = Plain()
+        ethernet.kind = 1
+        for link, before, is_followed in itertools.product((Plain(), ethernet), range(4), (False, True)):
+            made = Talk().open().exchange(1)
+            *_, first, second, last = made.segments
+            whole = replace(first, is_client=True, sequence=first.acknowledged, acknowledged=made.place[False], flags=ACK, data=b"")
+            made.segments[len(made.segments) - before:len(made.segments) - before] = [whole]
+            made.segments += [replace(whole, acknowledged=second.sequence)] * is_followed
+            made.segments.append(replace(last, data=bytes(byte ^ 1 for byte in last.data)))
+            with self.subTest(kind=link.kind, before=before, is_followed=is_followed):
+                came = read(pcap(link.kind, made.frames(link)))
+                self.assertEqual((came.answers, bool(came.told)), ([answer(1)], before > 0), came.told)
+
     def test_routing_headers(self) -> None:
         """Their packets go to another address than the last: the one that the checksum is of."""
         made = Talk().open().exchange(1)

@@ -176,7 +176,7 @@ class Conversation:
         if segment.is_wrong:
             other.show(place)
         else:
-            other.acknowledge(place)
+            other.settle(place)
         return place
 
     def _arrived(self, stream: Stream, pieces: Iterable[Piece]) -> None:

@@ -87,7 +87,7 @@ class Revisit:
             piece = Piece(place, segment.data[:max(stream.place_of(end) - place, 0)], 0, 0)
             stream.add_single(piece) if is_single(segment) else stream.add(piece)
             stream.show(piece.end())
-            stream.acknowledge(stream.place)
+            stream.settle(stream.place)
             if stream.is_past_window():
                 self._give_up()
 

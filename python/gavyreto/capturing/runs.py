@@ -21,7 +21,8 @@ def is_plain(segment: Segment) -> bool:
 
 
 class Run:
-    """Segments of one side that follow each other; between them the other side only acknowledges some, of which the farthest is kept."""
+    """Segments of one side that follow each other; between them the other side only acknowledges some of those that were there, of which
+    the farthest is kept."""
 
     def __init__(self, segment: Segment, is_client: bool, frame: Frame) -> None:
         self.first, self.is_client, self.time = segment, is_client, frame.time
@@ -60,12 +61,17 @@ class Run:
         first, before = self.first, self._acknowledgement
         goes_on = (
             segment.flags == ACK and segment.source == first.target and segment.target == first.source and segment.tags == first.tags
-            and not segment.cut and not segment.is_wrong and (before is None or before.sequence == segment.sequence))
+            and not segment.cut and not segment.is_wrong and (before is None or before.sequence == segment.sequence)
+            and self._has(segment.acknowledged))
         if goes_on and before is None:
             self._acknowledgement, self._acknowledged = segment, segment.acknowledged
         elif goes_on:
             self._acknowledge(segment.acknowledged)
         return goes_on
+
+    def _has(self, number: int) -> bool:
+        """Whether all up to a number was there. Of what comes after its acknowledgement, another copy may be the one that was received."""
+        return (self.first.sequence + self.size - number) % SPACE < HALF
 
     def _acknowledge(self, number: int) -> None:
         if (number - self._acknowledged) % SPACE < HALF:
@@ -85,7 +91,7 @@ class Run:
             adds = end - start > 1 and flags & (SYN | FIN | RESET | ACK) == ACK and self._is_next(sequence, acknowledged)
         else:
             before = self._acknowledgement
-            adds = ends == self._back and start == end and flags == ACK and before is not None and before.sequence == sequence
+            adds = ends == self._back and start == end and flags == ACK and before is not None and before.sequence == sequence and self._has(acknowledged)
         if not adds or not is_sum(data[34:end], self._sum, checksum):
             return False
         if start == end:

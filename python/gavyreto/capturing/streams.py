@@ -121,12 +121,8 @@ class Stream:
 
     # Bytes.
 
-    def acknowledge(self, place: int) -> None:
-        """The other side says that it has all up to a place. No copy counts any more of what was handed out before it said so."""
-        self.settle(max(place, self.acknowledged))
-
     def settle(self, place: int) -> None:
-        """The other side has all up to a place, and no copy of that counts any more."""
+        """The other side has all up to a place, and no copy counts any more of what was handed out of that."""
         if place > self.acknowledged:
             self.acknowledged = place
             self.show(place)
