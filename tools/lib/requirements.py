@@ -16,7 +16,8 @@ PROGRAMS = {
 }
 MODULES = {
     "pandas": "python3-pandas", "distributed": "python3-distributed", "pymssql": "python3-pymssql", "ensurepip": "python3-venv",
-    "matplotlib": "python3-matplotlib", "hypothesis": "python3-hypothesis", "gssapi": "python3-gssapi",
+    "matplotlib": "python3-matplotlib", "hypothesis": "python3-hypothesis", "gssapi": "python3-gssapi", "nbclient": "python3-nbclient",
+    "ipykernel": "python3-ipykernel",
 }
 
 
