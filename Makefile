@@ -77,7 +77,7 @@ deb: $(BUILT)
 release: $(BUILT)
 	@tools/release "$(BIN)" bin/release
 
-bench: $(if $(filter export responses peers drivers captures,$(WHAT)),$(BUILT))
+bench: $(if $(filter export responses peers drivers tables captures,$(WHAT)),$(BUILT))
 	@bench/run "$(WHAT)" "$(BIN)"
 
 # These take the program as it is; `make build` makes it.
