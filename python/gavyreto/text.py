@@ -16,7 +16,7 @@ from gavyreto.records import SEPARATOR, LongField, LongRecord, OpenField, Read, 
 from gavyreto.rows import Row, row_type
 from gavyreto.values import BINARY, QUOTE, Converter, Dates, Value, check_dates, value_of
 
-TO_ZEROS = bytes.maketrans(b"123456789", b"000000000")
+TO_ZEROS, TO_COMMAS = bytes.maketrans(b"123456789", b"000000000"), bytes.maketrans(b"\n", b",")
 SEVERAL = "several sets: split them first, as docs/RECIPES.md has it in \"Several result sets\""
 
 
@@ -108,24 +108,25 @@ class Parser:
             return None
         outline, values = outlined(self._block[self._at:end])
         try:
-            columns = self._columns(outline, values) if self._are_rows(outline) else None
+            records = outline[:-len(SEPARATOR)].encode("ascii")
+            columns = self._columns(records, values) if self._are_rows(records) else None
         except ValueError:
             return None
         self._at = end if columns else self._at
         return columns
 
-    def _are_rows(self, outline: str) -> bool:
+    def _are_rows(self, outline: bytes) -> bool:
         """Whether each record of an outline is a row. With 0 for each digit most of them are the same."""
-        different = set(outline[:-len(SEPARATOR)].encode("ascii").translate(TO_ZEROS).split(SEPARATOR.encode()))
+        different = set(outline.translate(TO_ZEROS).split(SEPARATOR.encode()))
         if self._row is None:
             self._row, self._known = re.compile(",".join(it.pattern() for it in self._converters).encode()), set()
         are_rows = all(map(self._row.fullmatch, different - self._known))
         self._known = different if are_rows else set()
         return are_rows
 
-    def _columns(self, outline: str, values: Sequence[Optional[str]]) -> Columns:
+    def _columns(self, outline: bytes, values: Sequence[Optional[str]]) -> Columns:
         """The rows of an outline by columns, with their values in quotes. Raises ValueError if one has no value."""
-        fields = outline[:-len(SEPARATOR)].replace(SEPARATOR, ",").split(",")
+        fields = outline.translate(TO_COMMAS, b"\r").decode("ascii").split(",")
         width = len(self._converters)
         columns: list[Sequence[Optional[str]]] = [fields[place::width] for place in range(width)]
         quoted = [place for place, it in enumerate(self._converters) if it.is_quoted]
