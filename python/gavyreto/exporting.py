@@ -5,16 +5,14 @@ import contextlib
 import functools
 import hashlib
 import os
-import socket
 import stat
 import threading
-import time
 from typing import NamedTuple, Optional
 
 from gavyreto import program, tds
 from gavyreto.adapting import hand_over
 from gavyreto.commands.common import cause_of
-from gavyreto.outcomes import UNFINISHED
+from gavyreto.outcomes import waiting_in
 from gavyreto.program import BAD_INPUT, BLOCK, DONE, FAILED, SERVER_ERROR, Output, OutputFailed, Program
 
 DIGITS = 16  # of the digest of a program that are kept
@@ -50,7 +48,7 @@ class Outcome(NamedTuple):
 def export_file(file: str, folder: str, command: list[str], adapts: Optional[str]) -> Outcome:
     """Exports a file by the program to a text in a folder, with refused columns rewritten if a character set is given for them. One that
     failed leaves nothing."""
-    waiting = os.path.join(folder, f"{socket.gethostname()}.{os.getpid()}.{threading.get_ident()}.{time.monotonic_ns()}{UNFINISHED}")
+    waiting = waiting_in(folder)
     outcome = Outcome(file, FAILED, "interrupted")
     try:
         outcome = _exported(file, waiting, command, adapts)

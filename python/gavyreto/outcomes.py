@@ -5,7 +5,9 @@ import contextlib
 import fcntl
 import os
 import re
+import socket
 import sys
+import threading
 import time
 from typing import Any, Generic, Iterable, Iterator, Optional, Protocol, Sequence, TypeVar, Union
 
@@ -159,6 +161,11 @@ def locked(folder: str) -> Iterator[None]:
         raise Stopped(f"{folder}: another command writes its texts there", REFUSED) from None
     finally:
         os.close(descriptor)
+
+
+def waiting_in(folder: str) -> str:
+    """The path of a text that waits for its name, which no other thread, process or machine has."""
+    return os.path.join(folder, f"{socket.gethostname()}.{os.getpid()}.{threading.get_ident()}.{time.monotonic_ns()}{UNFINISHED}")
 
 
 def remove_unfinished(folder: str) -> None:

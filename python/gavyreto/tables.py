@@ -16,7 +16,7 @@ from gavyreto.commands.common import Stopped, cause_of, folder_of_texts
 from gavyreto.connection import Session
 from gavyreto.errors import BadAnswer, CertificateRefused, ConnectionFailed, EncryptionRefused, LoginRefused
 from gavyreto.exporting import version_of
-from gavyreto.outcomes import PARTIAL, TABLE, TEXT, UNFINISHED, Kinds, Progress, locked, remove_unfinished, summed
+from gavyreto.outcomes import PARTIAL, TABLE, TEXT, Kinds, Progress, locked, remove_unfinished, summed, waiting_in
 from gavyreto.program import BAD_INPUT, DONE, FAILED, INTERRUPTED, REFUSED, SERVER_ERROR, Program
 
 LONGEST_STATEMENT = 100_000  # characters
@@ -126,7 +126,7 @@ class Worker:
 
     def _exported(self, item: Item, began: int) -> Outcome:
         """The same, once. Raises `Broken` if the connection breaks, or can't be made."""
-        waiting = os.path.join(self._asked.output, f"{os.uname().nodename}.{os.getpid()}.{threading.get_ident()}.{time.monotonic_ns()}{UNFINISHED}")
+        waiting = waiting_in(self._asked.output)
         outcome = Outcome(item, FAILED, "interrupted", began)
         try:
             with open(waiting, "xb") as out:

@@ -8,7 +8,7 @@ import sys
 import threading
 from itertools import chain, islice
 from operator import length_hint
-from typing import Any, Callable, Iterator, NoReturn, Optional, Protocol, Sequence, TypeVar, Union, cast
+from typing import Any, Callable, Iterator, NoReturn, Optional, Protocol, Sequence, TypeVar, Union
 
 from gavyreto.columns import FLOATS, Column
 from gavyreto.errors import Error, Interrupted, MalformedText, NotOneSet, PassedOver, UnfinishedText
@@ -196,25 +196,26 @@ def pass_over(field: Union[str, OpenField]) -> None:
         pass
 
 
-class ValueFile(io.RawIOBase):
-    """The bytes of a value, read from the text while they come."""
+class Opened(io.IOBase):
+    """A value, read from the text while it comes."""
+
+    _piece: Any  # of it, as far as it wasn't handed out; empty of its type before the first
 
     def __init__(self, sets: Sets, place: int, field: OpenField) -> None:
         self._sets, self._place, self._pieces = sets, place, field.pieces
-        self._piece = b""
 
     def readable(self) -> bool:
         return True
 
-    def readinto(self, buffer: Any) -> int:
+    def _take(self, most: int) -> Any:
+        """What comes next, at most so much, and at least one byte or character; nothing at the end."""
         while not self._piece:
             piece = self._sets._step(lambda: next(self._pieces, None))
             if piece is None:
-                return 0
-            self._piece = cast(bytes, piece)
-        length = min(len(buffer), len(self._piece))
-        buffer[:length], self._piece = self._piece[:length], self._piece[length:]
-        return length
+                break
+            self._piece = piece
+        taken, self._piece = self._piece[:most], self._piece[most:]
+        return taken
 
     def close(self) -> None:
         """Passes over what is left of the row."""
@@ -223,33 +224,27 @@ class ValueFile(io.RawIOBase):
             self._sets._close_row(self._place, self._pieces)
 
 
-class TextFile(io.TextIOBase):
-    """The characters of a value, read from the text while they come."""
+class ValueFile(Opened, io.RawIOBase):
+    """The bytes of a value."""
 
-    def __init__(self, sets: Sets, place: int, field: OpenField) -> None:
-        self._sets, self._place, self._pieces = sets, place, field.pieces
-        self._piece = ""
+    _piece = b""
 
-    def readable(self) -> bool:
-        return True
+    def readinto(self, buffer: Any) -> int:
+        data = self._take(len(buffer))
+        buffer[:len(data)] = data
+        return len(data)
+
+
+class TextFile(Opened, io.TextIOBase):
+    """The characters of a value."""
+
+    _piece = ""
 
     def read(self, size: Optional[int] = -1) -> str:
         """At most so many characters, at least one, or none at the end; all of them without a size."""
         if size is None or size < 0:
             return "".join(iter(lambda: self.read(1 << 16), ""))
-        while not self._piece:
-            piece = self._sets._step(lambda: next(self._pieces, None))
-            if piece is None:
-                return ""
-            self._piece = cast(str, piece)
-        text, self._piece = self._piece[:size], self._piece[size:]
-        return text
-
-    def close(self) -> None:
-        """Passes over what is left of the row."""
-        if not self.closed:
-            super().close()
-            self._sets._close_row(self._place, self._pieces)
+        return str(self._take(size))
 
 
 class ResultSet:

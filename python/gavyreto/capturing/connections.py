@@ -178,9 +178,7 @@ class Connections:
         return next((it for it in found if it.tags == segment.tags), found[0])
 
     def _begin(self, key: bytes, segment: Segment) -> Conversation:
-        half = len(key) // 2
-        sides = Sides(*(f"{host}.{port}" for host, port in (address_of(key[:half]), address_of(key[half:]))))
-        conversation = Conversation(sides, segment.tags, self._desk, self._accounts, self._memory)
+        conversation = Conversation(_sides_of(key), segment.tags, self._desk, self._accounts, self._memory)
         for before in [it for it in self._open.get(key, ()) if it.tags == segment.tags and not segment.is_wrong]:
             before.disown(segment.source + segment.target == key, segment)  # its ports are used again
             self._end(key, before)
@@ -227,9 +225,7 @@ class Connections:
         first = again.first
         client, server = first.ended() if isinstance(first, Conversation) else (first.client, first.server)
         if again.revisit.differs(client, server):
-            half = len(key) // 2
-            sides = Sides(*(f"{host}.{port}" for host, port in (address_of(key[:half]), address_of(key[half:]))))
-            self._desk.tell(sides, again.time, "a connection comes again with the same first numbers, and not with the same bytes: those that came first count")
+            self._desk.tell(_sides_of(key), again.time, "a connection comes again with the same first numbers, and not with the same bytes: those that came first count")
         again.revisit.close()
 
     # Ends.
@@ -256,3 +252,9 @@ class Connections:
             self._end(key, conversation)
         while self._again:
             self._end_again(next(iter(self._again)))
+
+
+def _sides_of(key: bytes) -> Sides:
+    """The names of a client and its server."""
+    half = len(key) // 2
+    return Sides(*(f"{host}.{port}" for host, port in (address_of(key[:half]), address_of(key[half:]))))
