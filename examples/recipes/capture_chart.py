@@ -5,8 +5,9 @@
 
 Needs: `python3`, Python's `matplotlib` (`python3-matplotlib`).
 
-A line of the table without a text, as that of a request without an answer, has a length of 0. The ending of the picture's name says
-what it is: `.svg`, `.png` or `.pdf`. It prints how many answers of each kind the picture has."""
+A line of the table without a text, as that of a request without an answer, has a length of 0. The table of a dump or of a proxy's
+recording has no times, and is refused. The ending of the picture's name says what it is: `.svg`, `.png` or `.pdf`. It prints how many
+answers of each kind the picture has."""
 import re
 import sys
 from datetime import datetime
@@ -21,6 +22,8 @@ KINDS = {0: ("whole", "tab:green"), 3: ("error of the server", "tab:orange"), 4:
 table, picture = sys.argv[1:]
 times, lengths = {status: [] for status in KINDS}, {status: [] for status in KINDS}
 for answer in gavyreto.read(table).only():
+    if answer.time is None:
+        sys.exit(f"{table}: the answers of a dump or a recording have no times")
     written = re.search(r"written (\d+)", answer.line)
     times[answer.status].append(datetime.fromisoformat(answer.time))
     lengths[answer.status].append(int(written[1]) if written else 0)
