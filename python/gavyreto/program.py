@@ -251,6 +251,8 @@ class Program:
     def close(self) -> None:
         """Ends it: between two responses by the end of its input, in the middle of one at once."""
         is_under_way = self._is_under_way()
+        if is_under_way:
+            self.kill()  # before its input ends, to which it would have an answer
         if self._pipe:
             self._close_input()
         while self._process and not is_under_way and self._notes in self._open and self._notes in self._ready(seconds=PATIENCE):
