@@ -4,7 +4,8 @@ from __future__ import annotations
 import codecs
 import io
 import re
-from typing import Callable, Iterator, NamedTuple, Optional, Union
+from itertools import repeat
+from typing import Callable, Iterator, NamedTuple, Optional, Union, cast
 
 from gavyreto.values import BINARY, TEXT, Shape
 
@@ -50,7 +51,7 @@ def outlined(records: str) -> tuple[str, list[str]]:
     parts = records.split('"')
     outside = parts[::2]
     if "" in outside[1:]:
-        parts[::2] = [""] + [END if part else '"' for part in outside[1:]]
+        parts[::2] = ["", *cast("Iterator[str]", map({"": '"'}.get, outside[1:], repeat(END)))]
         outside[1:] = filter(None, outside[1:])
         return '"'.join(outside), "".join(parts).split(END)[:-1]
     return '"'.join(outside), parts[1::2]

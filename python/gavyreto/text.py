@@ -6,15 +6,15 @@ import os
 import re
 import sys
 import threading
-from itertools import chain, islice
+from itertools import chain, islice, repeat
 from operator import length_hint
-from typing import Any, Callable, Iterator, NoReturn, Optional, Protocol, Sequence, TypeVar, Union
+from typing import Any, Callable, Iterator, NoReturn, Optional, Protocol, Sequence, TypeVar, Union, cast
 
 from gavyreto.columns import FLOATS, Column
 from gavyreto.errors import Error, Interrupted, MalformedText, NotOneSet, PassedOver, UnfinishedText
 from gavyreto.records import SEPARATOR, LongField, LongRecord, OpenField, Read, Records, end_of_set, outlined, record_at
 from gavyreto.rows import Row, row_type
-from gavyreto.values import BINARY, QUOTE, Converter, Dates, Value, check_dates, value_of
+from gavyreto.values import BINARY, NULL, QUOTE, Converter, Dates, Value, check_dates, value_of
 
 TO_ZEROS, TO_COMMAS = bytes.maketrans(b"123456789", b"000000000"), bytes.maketrans(b"\n", b",")
 SEVERAL = "several sets: split them first, as docs/RECIPES.md has it in \"Several result sets\""
@@ -131,9 +131,10 @@ class Parser:
         columns: list[Sequence[Optional[str]]] = [fields[place::width] for place in range(width)]
         quoted = [place for place, it in enumerate(self._converters) if it.is_quoted]
         if len(values) < len(columns[0]) * len(quoted):  # some are NULL
-            left = iter(values)
+            left: dict[str, Iterator[Optional[str]]] = {QUOTE: iter(values), NULL: repeat(None)}
             in_turn = chain.from_iterable(zip(*(columns[place] for place in quoted)))
-            values = [next(left) if field == QUOTE else None for field in in_turn]
+            taken = cast("Callable[[Iterator[Optional[str]]], Optional[str]]", next)
+            values = list(map(taken, map(left.__getitem__, cast("Iterator[str]", in_turn))))
         for number, place in enumerate(quoted):
             columns[place] = values[number::len(quoted)]
         return [converter.values(fields) for converter, fields in zip(self._converters, columns)]
