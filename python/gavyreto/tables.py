@@ -23,7 +23,7 @@ LONGEST_STATEMENT = 100_000  # characters
 LONGEST_NAME = 255 - len(PARTIAL)  # bytes
 SECONDS_TO_STOP = 5  # for which connections under way are waited for, once they were cut
 MOST_PAUSE = 30  # seconds between two attempts
-PART = r'(?:\[(?:[^\]]|\]\])+\]|"(?:[^"]|"")+"|[^\s.\[\]"]+)'
+PART = r'(?:\[(?:[^\]]|\]\])+\]|"(?:[^"]|"")+"|[^\s.\[\]";/(]+)'
 NAME_OF_TABLE = re.compile(rf"({PART}?(?:\.{PART}?){{0,2}}\.{PART}|{PART})(?:\s+--.*)?")  # a comment may follow it
 Connect = Callable[[], Session]
 

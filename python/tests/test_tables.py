@@ -75,7 +75,7 @@ class Server:
                 with self._lock:
                     self.asked[statement] += 1
                     data = wire("orders", 1) if is_cut else answer_of(statement)
-                    is_cut = is_cut or "SET ROWCOUNT 1" in statement
+                    is_cut = is_cut or "SET ROWCOUNT 1" in statement.replace("/**/", " ")
                     if self.breaks.get(statement, 0) > 0:
                         self.breaks[statement] -= 1
                         data = data[:len(data) // 2]
@@ -151,9 +151,10 @@ class Tables(unittest.TestCase):
 
     def test_what_a_statement_sets(self) -> None:
         """It holds for no other line, whichever connection that is asked on; a comment behind a table is none of its statement."""
-        lines = ["first SET ROWCOUNT 1 SELECT t5", "t50 -- all", "more\tdbo.t60 -- and more", "second SET ROWCOUNT 1 SELECT t6", "t70"]
+        lines = ["first SET ROWCOUNT 1 SELECT t5", "t50 -- all", "more\tdbo.t60 -- and more", "second SET ROWCOUNT 1 SELECT t6", "t70",
+                 "third t7;SET/**/ROWCOUNT/**/1", "t80"]
         statements = {"first": "SET ROWCOUNT 1 SELECT t5", "t50": "SELECT * FROM t50", "more": "SELECT * FROM dbo.t60",
-                      "second": "SET ROWCOUNT 1 SELECT t6", "t70": "SELECT * FROM t70"}
+                      "second": "SET ROWCOUNT 1 SELECT t6", "t70": "SELECT * FROM t70", "third": "t7;SET/**/ROWCOUNT/**/1", "t80": "SELECT * FROM t80"}
         for jobs in ("1", "2"):
             server = Server({})
             with self.subTest(jobs=jobs), server.listening() as port:
