@@ -22,7 +22,7 @@ NEED_RT = command -v rt > /dev/null || { echo "rt isn't there: proving and build
 # Ends with one line if there is no Python.
 NEED_PYTHON = command -v python3 > /dev/null || { echo "python3 isn't there: the scripts in tools/ need Python 3.10 or later" >&2; exit 1; }
 
-.PHONY: help clean try build export install uninstall deb release try-release against-server needs test gate lint worked generated recipes python-tests bench try-test refused-memory check
+.PHONY: help clean try build export install uninstall deb release try-release against-server needs test gate lint digest worked generated recipes python-tests bench try-test refused-memory check
 
 help:
 	@echo "make try FILE=F        exports the response in F, unproved"
@@ -35,6 +35,7 @@ help:
 	@echo "make test              proves what isn't proved yet, and runs the crates' tests"
 	@echo "make gate              runs everything: each proof, edit, test and script"
 	@echo "make lint              compares pages, help and sources; checks types"
+	@echo "make digest            has --version tell the digest of the sources"
 	@echo "make worked            runs the program over the worked rows"
 	@echo "make generated         compares it with a plain reading, response by response"
 	@echo "make recipes           runs the commands of the pages and of examples/recipes"
@@ -96,7 +97,7 @@ python-tests:
 clean:
 	rm -rf bin crates/*/out
 
-needs test gate lint try-test:
+needs test gate lint digest try-test:
 	@$(NEED_PYTHON)
 	@tools/$@
 

@@ -26,7 +26,7 @@ RETURN_STATUS = re.compile(r"return status (-?\d+)", re.ASCII)
 RESPONSES = re.compile(r"^responses \d+\n\Z", re.ASCII | re.MULTILINE)
 F_SETPIPE_SZ, ROOM_OF_PIPE = 1031, 1 << 20  # of Linux
 ROOM_OF_FEW = 4096  # bytes that each pipe has room for at once
-VERSION = re.compile(rf"{PROGRAM} \d+(\.\d+)*", re.ASCII)
+VERSION = re.compile(rf"({PROGRAM} \d+(?:\.\d+)*)(?: \(sources [0-9a-f]+\))?", re.ASCII)
 BLOCK = 1 << 18  # bytes that are moved at once, at most
 PATIENCE = 5.0  # seconds in which a program ends whose input is over, or text comes that its lines count
 BEGINNING = b"\x04"  # of a packet of an answer
@@ -113,8 +113,8 @@ def _wrong(status: int, line: str) -> Ending:
 def version_of(program: str) -> str:
     """What this program says of its name and version, or "" if it isn't tds_replay. Raises OSError if it can't be started."""
     said = subprocess.run([program, "--version"], stdin=subprocess.DEVNULL, capture_output=True, check=False).stdout
-    version = said.decode("utf-8", "replace").strip()
-    return version if VERSION.fullmatch(version) else ""
+    found = VERSION.fullmatch(said.decode("utf-8", "replace").strip())
+    return found[1] if found else ""
 
 
 def path_of(program: str) -> str:

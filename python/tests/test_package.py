@@ -2,6 +2,7 @@
 from __future__ import annotations
 
 import os
+import re
 import shutil
 import subprocess
 import tempfile
@@ -90,7 +91,7 @@ class Installed(unittest.TestCase):
 
     def test_the_version_is_that_of_the_program(self) -> None:
         said = subprocess.run([PROGRAM, "--version"], capture_output=True, text=True, check=True).stdout
-        self.assertEqual(said, f"tds_replay {gavyreto.__version__}\n")
+        self.assertRegex(said, rf"^tds_replay {re.escape(gavyreto.__version__)} \(sources [0-9a-f]{{16}}\)\n$")
 
     def test_two_packages_for_debian_of_one_commit_are_equal_and_of_two_commits_are_not(self) -> None:
         with tempfile.TemporaryDirectory() as folder:

@@ -108,9 +108,9 @@ def is_program(name: str) -> bool:
     return os.path.exists(path_of("crates", name, "src", "main.rt"))
 
 
-def sources(name: str) -> Iterator[str]:
-    """The files that a crate's proof depends on, by their paths in the repository."""
-    for part in PARTS:
+def sources(name: str, *parts: str) -> Iterator[str]:
+    """The files that a crate's proof depends on, or those of these parts of it, in a fixed order."""
+    for part in parts or PARTS:
         for at, folders, files in os.walk(path_of("crates", name, part)):
             folders.sort()
             yield from (os.path.join(at, file) for file in sorted(files))

@@ -12,9 +12,6 @@ pub(crate) struct Help {
     pub(crate) after_help: &'static str,
 }
 
-/// The version of the program, for `--version`, the man page and the package.
-pub(crate) const VERSION: &str = "1.0.0";
-
 /// What the program does.
 pub(crate) const PROGRAM: &str =
     "Reads the raw packets of a response of SQL Server (TDS 7.4) and writes its rows

@@ -7,6 +7,7 @@ mod job;
 mod options;
 mod parsing;
 mod usage;
+mod version;
 
 pub use job::{Job, Work};
 pub use parsing::parse;

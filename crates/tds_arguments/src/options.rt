@@ -9,6 +9,7 @@ ghost use Rattle.tds_arguments.specs.CommandLine.{packet_size_rule, packet_sizes
 
 use crate::help;
 use crate::help::Help;
+use crate::version::VERSION;
 use clap::builder::ValueParser;
 use clap::{Arg, ArgAction, Command, value_parser};
 use std::alloc::{AllocError, Global};
@@ -214,7 +215,7 @@ fn without_commands<'a>(alloc: Global) -> Result<Command<'a>, AllocError>
     ensures { IfOk result (IsCommand bare_app) }
 {
     Command::new(alloc, "tds_replay")
-        .version(help::VERSION)
+        .version(VERSION)
         .no_binary_name(true)
         .subcommand_required(true)
         .about(help::PROGRAM)

@@ -10,7 +10,7 @@ from lib import repository as repo, worked_rows
 from lib.lints.pages import PAGES, functions
 from plain.cases import chosen
 
-PROOFS = "docs/PROOFS.md"
+PROOFS, CRATES = "docs/PROOFS.md", "crates/README.md"
 FIGURES = ("functions", "edits", "by search")  # the columns of the gate's figures, after the crate
 RANDOM = 1_000  # responses at random that `make generated` reads by default
 
@@ -39,12 +39,13 @@ def told(what: str, count: int, pattern: str, *pages: str) -> Iterator[str]:
 
 
 def wrong_edits() -> Iterator[str]:
-    """Edits that PROOFS names and that aren't there, and counts of edits that aren't so."""
+    """Edits that pages name and that aren't there, and counts of edits that aren't so."""
     known = edits()
-    named = set(re.findall(r"`(\w+_\w+_\w+\w*)`", repo.text_of(PROOFS).split("## Laws")[1].split("## What no contract")[0]))
-    for name in sorted(named - set().union(*known.values()) - functions("*")):
-        if not name.startswith("tds_"):
-            yield f"{PROOFS}: no edit {name}"
+    for page, end in ((PROOFS, "## What no contract"), (CRATES, "## What callers")):
+        named = set(re.findall(r"`(\w+_\w+_\w+\w*)`", repo.text_of(page).split("## Laws")[1].split(end)[0]))
+        for name in sorted(named - set().union(*known.values()) - functions("*")):
+            if not name.startswith("tds_"):
+                yield f"{page}: no edit {name}"
     for crate, count in figures("edits").items():
         if len(known.get(crate, ())) != number(count):
             yield f"{PROOFS}: {crate} has {len(known.get(crate, ()))} edits, not {count}"

@@ -11,7 +11,7 @@ import sys
 from collections.abc import Iterator
 from dataclasses import dataclass
 
-from lib import repository as repo
+from lib import digest, repository as repo
 from lib.lints import shells
 from lib.lints.counts import number
 from lib.lints.pages import PAGES
@@ -103,9 +103,11 @@ def wrong_code() -> Iterator[str]:
 
 
 def wrong_version() -> Iterator[str]:
-    """The version of the Python package, and the last one of CHANGELOG, if they aren't the program's, and a version without a date."""
-    program = re.search(r'VERSION: &str = "([\d.]+)"', repo.text_of(HELP))
+    """The version of the Python package, the last one of CHANGELOG and the digest of the sources, if they aren't the program's, and a version without a date."""
+    program = re.search(r'VERSION: &str = "([\d.]+) ', repo.text_of(digest.VERSION))
     version = program[1] if program else ""
+    if digest.told() != digest.digest():
+        yield f"{digest.VERSION}: the digest of the sources is {digest.digest()}: `make digest` writes it"
     for page, pattern in (("python/gavyreto/version.py", r'(?m)^__version__ = "([\d.]+)"$'), ("CHANGELOG.md", r"(?m)^## Unreleased\n(?:.*\n)*?## (\d[\d.]*), \d{4}-\d\d-\d\d$")):
         found = re.search(pattern, repo.text_of(page))
         if found is None or found[1] != version:
