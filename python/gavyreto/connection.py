@@ -477,6 +477,11 @@ class Session:
         """Whether no answer is under way."""
         return self._framing is None
 
+    def expect_nothing(self) -> None:
+        """Sees to it that nothing has come behind the last answer. Raises BadAnswer if something has, and closes the connection."""
+        with self._open():
+            self._channel.expect_nothing()
+
     def send(self, statement: str) -> None:
         """Sends a statement. Its answer has to be handed on next. Raises ValueError if it is no Unicode, and BadAnswer if something
         has come before."""

@@ -12,8 +12,8 @@ from typing import Callable, Generator, Iterable, NamedTuple, Optional, Union
 
 from gavyreto import outcomes, program
 from gavyreto.asking import Asking, Broken
-from gavyreto.commands.common import Stopped, cause_of, folder_of_texts
-from gavyreto.connection import Session
+from gavyreto.commands.common import Stopped, cause_of, folder_of_texts, tell
+from gavyreto.connection import UNASKED, Session
 from gavyreto.errors import BadAnswer, CertificateRefused, ConnectionFailed, EncryptionRefused, LoginRefused
 from gavyreto.exporting import version_of
 from gavyreto.outcomes import PARTIAL, TABLE, TEXT, Kinds, Progress, locked, remove_unfinished, summed, waiting_in
@@ -109,6 +109,7 @@ class Worker:
         self._asked, self._connect, self._is_stopped = asked, connect, is_stopped
         self._session = session
         self._run: Optional[Program] = None
+        self.has_unasked = False  # whether something came behind an answer whose outcome was told already
 
     def export(self, item: Item) -> Outcome:
         """Exports an answer. Raises what ends all of them: a login that was refused."""
@@ -130,13 +131,16 @@ class Worker:
         outcome = Outcome(item, FAILED, "interrupted", began)
         try:
             with open(waiting, "xb") as out:
-                ending = self._asking().answer(item.statement, program.Output(out.fileno()))
+                session = self._open_session()
+                ending = self._asking(session).answer(item.statement, program.Output(out.fileno()))
                 os.fsync(out.fileno())
                 is_decided = ending.status in (DONE, SERVER_ERROR, BAD_INPUT)
                 line = ending.notes.rstrip("\n").split("\n")[0 if ending.status == DONE else -1]
                 outcome = Outcome(item, ending.status, line, began, waiting if is_decided else None, os.fstat(out.fileno()).st_size)
             if not item.is_table:
-                self.end()  # what it set would hold for what is asked next, as SET ROWCOUNT
+                session.end()  # what it set would hold for what is asked next, as SET ROWCOUNT
+            elif session.is_ready():
+                session.expect_nothing()
         except BadAnswer as wrong:
             outcome = outcome._replace(status=BAD_INPUT, line=str(wrong))
         except program.OutputFailed as failed:
@@ -155,26 +159,38 @@ class Worker:
                     os.remove(waiting)
         return outcome
 
-    def _asking(self) -> Asking:
-        """What asks on the connection. Raises `Broken` if there is none, and can't be made."""
-        if self._session is None or self._session.closed_after is not None:
+    def _open_session(self) -> Session:
+        """The connection, or a new one if there is none on which an answer would count. Raises `Broken` if it can't be made."""
+        if self._session and self._session.closed_after is None:
             try:
-                self._session = self._connect()
-            except (CertificateRefused, EncryptionRefused, LoginRefused):
-                raise  # another attempt would be refused too
-            except ConnectionFailed as failure:
-                raise Broken(str(failure), FAILED) from None
-        command = program.command_of(self._asked.program, self._session.packet_size, self._asked.column_room, program.MAX_WIRE, self._asked.charset)
+                self._session.expect_nothing()
+                return self._session
+            except BadAnswer:
+                self.has_unasked = True
+        try:
+            self._session = self._connect()
+            return self._session
+        except (CertificateRefused, EncryptionRefused, LoginRefused):
+            raise  # another attempt would be refused too
+        except ConnectionFailed as failure:
+            raise Broken(str(failure), FAILED) from None
+
+    def _asking(self, session: Session) -> Asking:
+        """What asks on a connection."""
+        command = program.command_of(self._asked.program, session.packet_size, self._asked.column_room, program.MAX_WIRE, self._asked.charset)
         if self._run is None or self._run.command != command:
             if self._run:
                 self._run.close()
             self._run = Program(command)
-        return Asking(self._session, self._run, self._asked.charset if self._asked.adapt else None)
+        return Asking(session, self._run, self._asked.charset if self._asked.adapt else None)
 
     def end(self) -> None:
-        """Ends the connection, once all items are asked. Raises BadAnswer if more came than was asked for."""
-        if self._session:
-            self._session.end()
+        """Ends the connection, once all items are asked."""
+        try:
+            if self._session:
+                self._session.end()
+        except BadAnswer:
+            self.has_unasked = True
 
     def abandon(self) -> None:
         """Cuts the connection, from another thread."""
@@ -232,6 +248,10 @@ class Workers:
             worker.close()
             self._done.put(None)
 
+    def have_unasked(self) -> bool:
+        """Whether something came behind an answer whose outcome was told already."""
+        return any(worker.has_unasked for worker in self._workers)
+
     def stop(self) -> None:
         """Cuts what is under way, and waits for it a while."""
         self._is_stopped.set()
@@ -264,4 +284,7 @@ def export(asked: argparse.Namespace, items: list[Item], connect: Connect) -> in
             table.close()
             progress.end()
             remove_unfinished(asked.output)
-    return summed("tables", [(item.name, table.records[item.name]) for item in items], table.shown())
+    status = summed("tables", [(item.name, table.records[item.name]) for item in items], table.shown())
+    if workers.have_unasked():
+        tell(UNASKED)
+    return max(status, BAD_INPUT) if workers.have_unasked() else status

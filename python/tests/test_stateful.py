@@ -32,6 +32,9 @@ class Stateful(unittest.TestCase):
     def test_files_that_come_and_go(self) -> None:
         self.run_module("stateful_many", 50, 80)
 
+    def test_tables_that_are_refused_or_break(self) -> None:
+        self.run_module("stateful_tables", 30, 80)
+
 
 if __name__ == "__main__":
     unittest.main()

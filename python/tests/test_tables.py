@@ -19,7 +19,7 @@ from collections import Counter
 from collections.abc import Iterator
 
 from gavyreto import tds
-from gavyreto.connection import Channel
+from gavyreto.connection import UNASKED, Channel
 from tests.beside import PROGRAM, SECONDS, answered, ask_port, command_for, log_in, responses, served, started, wait_for, wire
 
 COLUMNS = 9  # of the table of outcomes
@@ -45,7 +45,6 @@ class Server:
     def __init__(self, breaks: dict[str, int], holds: tuple[str, ...] = ()) -> None:
         self.asked: Counter[str] = Counter()
         self.logins, self.breaks, self.holds, self.is_let = 0, breaks, holds, threading.Event()
-        self.refuses = False
         self._lock = threading.Lock()
 
     @contextlib.contextmanager
@@ -162,21 +161,30 @@ class Tables(unittest.TestCase):
                 self.assertEqual((came.returncode, server.asked), (0, Counter(statements.values())), came.stderr)
                 self.assert_true(statements)
 
-    def test_what_a_statement_leaves(self) -> None:
-        """More than its answer is told of it."""
-        def serve(connected: socket.socket) -> None:
-            channel = Channel(connected, SECONDS)
-            log_in(channel)
-            channel.read_message()
-            channel.write(wire("orders"))
-            channel.write(wire("orders"))
-            channel.wait()
-            channel.receive()
+    def test_what_comes_behind_an_answer(self) -> None:
+        """It is told of that answer, or once it is all that is left; and the other tables are asked."""
+        def serve(server: socket.socket, pause: float) -> None:
+            with server.accept()[0] as connected:
+                channel = Channel(connected, SECONDS)
+                log_in(channel)
+                channel.read_message()
+                channel.write(wire("orders") + (b"" if pause else wire("orders")))
+                time.sleep(pause)
+                channel.write(wire("orders") if pause else b"")
+                channel.wait()
+                with contextlib.suppress(OSError):
+                    channel.receive()
 
-        with socket.create_server(("127.0.0.1", 0)) as server:
-            threading.Thread(target=lambda: serve(server.accept()[0]), daemon=True).start()
-            came = ask_port(server.getsockname()[1], "--tables", self.write(["a SELECT 1"]), "-o", self.out)
-        self.assertEqual((came.returncode, self.table()["a"][1:4]), (4, ["4", "the server sent bytes that weren't asked for", "a.csv.partial"]), came.stderr)
+        whole = "sets 1 rows 3 errors 0 infos 0 written 214"
+        for line, pause, wanted in (
+            ("a SELECT 1", 0.0, ["4", UNASKED, "a.csv.partial"]), ("a", 0.0, ["4", UNASKED, "a.csv.partial"]), ("a", 0.05, ["0", whole, "a.csv"]),
+        ):
+            with self.subTest(line=line, pause=pause), socket.create_server(("127.0.0.1", 0)) as server:
+                thread = threading.Thread(target=serve, args=(server, pause), daemon=True)
+                thread.start()
+                came = ask_port(server.getsockname()[1], "--tables", self.write([line]), "-o", self.out)
+                thread.join(SECONDS)
+                self.assertEqual((came.returncode, self.table()["a"][1:4], UNASKED in came.stderr.decode()), (4, wanted, True), came.stderr)
 
     def test_what_is_refused_before_anything_is_sent(self) -> None:
         server = Server({})
