@@ -12,6 +12,7 @@ from gavyreto.tds import DataType
 
 FLOATS = (DataType.FLT4, DataType.FLT8, DataType.FLTN)
 MOST_PLANS = 256  # that are remembered, by the bitmaps of their rows
+FEW = 16  # rows that are converted value by value
 NULL_VALUE = b"\xFF\xFF"
 LENGTHS = [struct.pack("<H", length) for length in range(64)]  # before a text
 
@@ -57,7 +58,7 @@ class Layout:
         values = struct.unpack_from("<" + self._form * count, data, at)
         columns, starts = list[list[bytes]](), range(at, at + count * self.length, self.length)
         for place, (start, end) in enumerate(self._parts):
-            columns.append([data[it + start:it + end] for it in starts])
+            columns += [[data[it + start:it + end] for it in starts]] if start < end else []
             if place < len(self._sizes):
                 columns.append(spelt(self._sizes[place], values[place::len(self._sizes)]))
         return b"".join(chain.from_iterable(zip(*columns)))
@@ -130,12 +131,13 @@ class Rows:
         found, layout = Found(), self._layout
         try:
             while data[at] == ROW or data[at] == NBCROW:
-                count = layout.count(data, at) if layout.is_there else 0
-                if count:
+                count = layout.count(data, at) if layout.is_there and data[at] == ROW else 1
+                if count > FEW:
                     found.pieces.append(layout.convert(data, at, count))
                     at += count * layout.length
                 else:
-                    at = self._scan(data, at, found)
+                    for _ in range(count or 1):
+                        at = self._scan(data, at, found)
                 found.kept = len(found.pieces)
         except IndexError:
             pass  # this row isn't whole

@@ -14,7 +14,7 @@ GREATEST_OFFSET = 840  # minutes
 GREATEST_PRECISION = 38
 TIME_LENGTHS = (3, 3, 3, 4, 4, 5, 5, 5)  # bytes of a time, by its scale
 DAYS_LENGTH, OFFSET_LENGTH = 3, 2
-SAFE_DIGITS, MOST_DIGITS = 6, 9  # of a real: that all have, and that are needed at most
+SAFE_DIGITS = 6  # of a real, that all have
 LEAST_NORMAL = 2.0**-126  # of the reals
 
 
@@ -117,15 +117,22 @@ def singles(values: Sequence[float]) -> list[str]:
     """The same of numbers of 32 bits. By way of these bits each decimal of six digits reads back to itself, so where a text has fewer digits
     it is that of six; only below the least normal number it may be another one."""
     _check_numbers(values)
-    texts = dict[int, str]()
-    small = [place for place, value in enumerate(values) if 0 < abs(value) < LEAST_NORMAL]
-    for digits in range(1 if small else SAFE_DIGITS, MOST_DIGITS + 1):
-        tried = [place for place in (range(len(values)) if digits >= SAFE_DIGITS else small) if place not in texts]
-        form = f"%.{digits}g"
-        came = [float(form % values[place]) for place in tried]
-        read_back = struct.unpack(f"<{len(came)}f", struct.pack(f"<{len(came)}f", *came))
-        texts.update({place: repr(number) for place, number, other in zip(tried, came, read_back) if other == values[place]})
-    return [texts[place] for place in range(len(values))]
+    texts = [""] * len(values)
+    _spell(texts, values, list(range(len(values))), SAFE_DIGITS)
+    _spell(texts, values, [place for place, value in enumerate(values) if 0 < abs(value) < LEAST_NORMAL], 1)
+    return [text if "." in text and "e" not in text else repr(float(text)) for text in texts]
+
+
+def _spell(texts: list[str], values: Sequence[float], places: list[int], digits: int) -> None:
+    """Puts the first of the texts with so many digits or more that reads back to the same 32 bits, for each of these places."""
+    while places:
+        tried = [values[place] for place in places]
+        came = (f"%.{digits}g " * len(tried) % tuple(tried)).split()
+        for place, text in zip(places, came):
+            texts[place] = text
+        read_back = struct.unpack(f"<{len(came)}f", struct.pack(f"<{len(came)}f", *map(float, came)))
+        places = [place for place, value, other in zip(places, tried, read_back) if value != other]
+        digits += 1
 
 
 def _check_numbers(values: Sequence[float]) -> None:
