@@ -2,7 +2,6 @@
 from __future__ import annotations
 
 from collections import OrderedDict
-from hashlib import blake2b
 from typing import NamedTuple, Optional
 
 from gavyreto.capturing.conversations import FARTHEST, Conversation, Side
@@ -147,6 +146,8 @@ class Endings:
             self._ended[key] = left
 
     def _bits(self, key: bytes, first: tuple[Optional[int], Optional[int]]) -> list[int]:
+        from hashlib import blake2b  # for more connections than most captures have: it takes some megabytes
+
         digest = blake2b(key + repr(first).encode(), digest_size=4 * BITS_OF_ONE).digest()
         return [int.from_bytes(digest[at:at + 4], "big") % FILTER for at in range(0, len(digest), 4)]
 

@@ -22,7 +22,7 @@ DROPPED = (5, 7)  # options of statistics: frames lost so far by the interface (
 UNKNOWN = (1 << 64) - 1  # a count that isn't known
 MOST_OF_A_FRAME = 1 << 20  # bytes; a greater length is no length
 MOST_OF_A_BLOCK = 1 << 24
-BLOCK = 1 << 18  # bytes that are read at once, at most
+BLOCK = 1 << 16  # bytes that are read at once, at most
 HEAD = 4096  # bytes that are looked at before a file is read
 
 
