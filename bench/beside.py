@@ -1,10 +1,14 @@
 """What the benchmarks beside other programs share: the processor's seconds and the peak of a command, and tables of them."""
 from __future__ import annotations
 
+import functools
 import os
+import shutil
 import subprocess
 import tempfile
 from typing import NamedTuple
+
+from lib import repository as repo, requirements
 
 RUNS = 5
 
@@ -18,6 +22,15 @@ class Cost(NamedTuple):
     def cells(self) -> str:
         """The cells of a table."""
         return f"{self.seconds:.2f} | {self.peak:.0f}"
+
+
+@functools.cache
+def compiled() -> tempfile.TemporaryDirectory[str]:
+    """A folder with the package, whose modules are compiled as they are once it is installed."""
+    folder = tempfile.TemporaryDirectory()
+    shutil.copytree(repo.path_of("python", "gavyreto"), os.path.join(folder.name, "gavyreto"))
+    subprocess.run([requirements.DEBIAN_PYTHON, "-m", "compileall", "-q", folder.name], check=True)
+    return folder
 
 
 def cost_of(command: list[str], folder: str, **variables: str) -> Cost:
@@ -40,7 +53,5 @@ def least(command: list[str], folder: str, **variables: str) -> Cost:
 
 def absent(needed: dict[str, str]) -> list[str]:
     """The Debian packages of programs and modules that aren't there."""
-    from lib import requirements
-
     return sorted({package for name, package in needed.items() if not (
         requirements.has_program(name) or requirements.has_module(requirements.DEBIAN_PYTHON, name))})

@@ -13,7 +13,7 @@ from collections.abc import Iterable, Iterator
 from itertools import chain
 
 import beside
-from lib import capture_builder as captures, repository as repo, requirements
+from lib import capture_builder as captures, requirements
 from lib.packing import in_packets
 from lib.served import done
 from gavyreto import tds
@@ -65,7 +65,7 @@ def cost(words: list[str], path: str, folder: str, program: str) -> beside.Cost:
     command = [{"FILE": path, "OUT": out, "PROGRAM": program}.get(word, word) for word in words]
     for _ in range(RUNS):
         shutil.rmtree(out, ignore_errors=True)
-        found.append(beside.cost_of(command, folder, PYTHONPATH=repo.path_of("python")))
+        found.append(beside.cost_of(command, folder, PYTHONPATH=beside.compiled().name))
     return beside.Cost(min(it.seconds for it in found), max(it.peak for it in found))
 
 

@@ -56,7 +56,7 @@ def script(client: str, work: str) -> str:
 
 def measure(program: str) -> None:
     """Prints the table, beside a server whose port is in the environment."""
-    variables = {"PYTHONPATH": repo.path_of("python"), "PROGRAM": program}
+    variables = {"PYTHONPATH": beside.compiled().name, "PROGRAM": program}
     bare = beside.least([requirements.DEBIAN_PYTHON, "-c", ""], ".")
     print(f"Python alone: {bare.seconds:.2f} seconds")
     print("| work | " + " | ".join(f"{client}: seconds | peak, MB" for client in CONNECT) + " |")

@@ -32,7 +32,7 @@ def measured(command: str, folder: str, program: str) -> tuple[float, beside.Cos
     out = os.path.join(folder, "out")
     shutil.rmtree(out, ignore_errors=True)
     began = time.monotonic()
-    cost = beside.cost_of(["sh", "-euc", command], folder, PYTHONPATH=repo.path_of("python"), PROGRAM=program, SQLCMDPASSWORD="secret")
+    cost = beside.cost_of(["sh", "-euc", command], folder, PYTHONPATH=beside.compiled().name, PROGRAM=program, SQLCMDPASSWORD="secret")
     seconds = time.monotonic() - began
     return seconds, cost, sum(os.path.getsize(os.path.join(out, name + ".csv")) for name in NAMES)
 
