@@ -354,6 +354,12 @@ left_less charset kind bytes less left = elim left [
   | inr long ↦ inr (long.0, shape_less (N.shape charset kind) bytes less long.1)
 ]
 
+-- the first cell is left with less room, too
+pub first_less : (charset : Charset) (forms : List Form) (bytes : List ℕ) {fewer room : ℕ} → fewer ≤ room → N.FirstLeft charset forms bytes room
+    → N.FirstLeft charset forms bytes fewer
+first_less charset _ bytes less x form rest are =
+    elim (x form rest are) [ inl few ↦ inl (omega (arith, less, few)) | inr left ↦ inr (left_less charset form.kind bytes less left) ]
+
 -- a row of some numbers that begins later lacks bytes or room
 pub too_late : {cells n bytes room b r used made : ℕ} {latest : Span} → IsLatest cells bytes room latest → 0 < cells → n ≡ cells → b ≡ bytes - used
     → r ≡ room - made → (latest.used < used) ⊎ (latest.made < made) → NumbersWithin n b r → ⊥

@@ -1,8 +1,9 @@
 -- Runs of cells over the columns that a table knows: more cells after those that were written.
+use Rattle.std.proofs.lemmas.List.{get_or-drop}
 use Rattle.tds_cells.proofs.Words as N
 use Rattle.tds_cells.proofs.Words.{arith, false, ◌∷◌, ◌≡◌, ◌∙◌, ap, ℕ, ◌+◌, ◌-◌, ◌<◌, ◌≤◌, List, ◌++◌, length, take, drop, Column, Ahead, RowsRan, Table, Cell}
 use Rattle.tds_cells.proofs.Words.{suc, Bool, sym, RunsMarked, inl, ◌⊎◌, ◌==◌, ◌≢◌, Form, IsAhead, Knows, inr, true, []}
-use Rattle.tds_cells.proofs.TableSteps.{none_next}
+use Rattle.tds_cells.proofs.TableSteps.{known_kind, none_next}
 use Rattle.tds_cells.proofs.RunSteps.{made_more, marked_writes, rows_both, rows_none, rows_onward, used_more, unused}
 use Rattle.tds_cells.proofs.FormSteps.{some_first}
 
@@ -215,6 +216,25 @@ module _ (table : Table) (from : Ahead) (end : ℕ) (forms : List Form) (within 
         | inl few ↦ inl few
         | inr y ↦ inr (grind arith)
       ]
+
+  -- the cell after so many is left as the first of the others is
+  pub next_left : {bytes : List ℕ} {room : ℕ} (k : ℕ) → N.FirstLeft table.charset (drop k forms) bytes room → k < length forms
+      → (columns : List Column) (column : Column) (left : List Column) → Knows table columns → IsAhead table columns from
+      → drop (from.column + k) columns ≡ column ∷ left → (room < N.CELL_ROOM) ⊎ N.IsLeft table.charset column.kind bytes room
+  next_left k x some columns column left knows is step =
+      let (form, rest, are) = some_first (drop k forms) (omega (arith, some, N.length-drop k forms)) in
+      let next = drop from.column columns in
+      let there : drop k next ≡ column ∷ left = N.drop-drop k from.column columns ∙ step in
+      let place : k ≡ k + 0 = omega arith in
+      let first : N.get_or forms k form ≡ form =
+      ap (λ (n : ℕ). N.get_or forms n form) place ∙ sym (get_or-drop k forms 0 form) ∙ ap (λ l. N.get_or l 0 form) are in
+      let second : N.get_or next k column ≡ column =
+      ap (λ (n : ℕ). N.get_or next n column) place ∙ sym (get_or-drop k next 0 column) ∙ ap (λ l. N.get_or l 0 column) there in
+      let kinds_are : N.map (λ f. f.kind) (take (length forms) forms) ≡ N.kinds (take (length forms) next) =
+      ap (N.map _) (N.take_all (length forms) forms (omega arith)) ∙ ahead.next columns knows is in
+      let further : k < length next = omega (arith, ap length there, N.length-drop k next) in
+      let kind_is = rw (first, second) at (known_kind forms next (length forms) k form column kinds_are some (omega arith) further) in
+      elim (x form rest are) [ inl few ↦ inl few | inr y ↦ inr (rw kind_is at y) ]
 
 -- ---- rows that are far from the ends
 

@@ -1,5 +1,5 @@
 -- What a run of cells does, which lie whole in the packet.
-use Rattle.std.specs.Prelude.{◌≡◌, ◌==◌, ◌<◌, ◌≤◌, ℕ, Bool, false, List, [], ◌∷◌, ◌++◌, length, map, take, drop, Option, Some, None, MatchOption}
+use Rattle.std.specs.Prelude.{◌≡◌, ◌==◌, ◌⊎◌, ◌-◌, ◌<◌, ◌≤◌, ℕ, Bool, false, List, [], ◌∷◌, ◌++◌, length, map, take, drop, Option, Some, None, MatchOption}
 use Rattle.std.specs.Prelude.{if◌then◌else◌, slice_index}
 use Rattle.tds_values.specs.declared.kind.Kind.{Kind}
 use Rattle.tds_packet.specs.declared.fault.Fault.{Fault}
@@ -13,6 +13,7 @@ use Rattle.tds_values.specs.declared.span.Span.{Span}
 use Rattle.tds_cells.specs.declared.run.CellRun.{CellRun}
 use Rattle.tds_cells.specs.declared.run.RowsRun.{RowsRun}
 use Rattle.tds_cells.specs.declared.run.KnownRun.{KnownRun}
+use Rattle.tds_cells.specs.declared.whole.TheConstants.{CELL_ROOM}
 use Rattle.tds_cells.specs.declared.table.Ahead.{Ahead}
 use Rattle.tds_cells.specs.declared.table.Table.{Table}
 use Rattle.tds_cells.specs.Cells.{Cell, field}
@@ -98,6 +99,12 @@ pub record StaysWithin (from : Ahead) (end bytes room : ℕ) (run : CellRun) : T
 -- A run ended at the row's end, without room for every scalar, or before a cell that is left.
 abbrev pub RunEnds : Table → Ahead → List ℕ → ℕ → Type 0
 RunEnds table at bytes room = EndsLeft table (λ k. false) at bytes room
+
+-- A run within a row that ended before this column ended before a cell that is left, or without room for every scalar.
+abbrev pub LeavesNext : Table → Ahead → ℕ → List ℕ → ℕ → CellRun → Type 0
+LeavesNext table from until bytes room run = (columns : List Column) (column : Column) (left : List Column) → Knows table columns
+    → IsAhead table columns from → run.ahead.column < until → drop run.ahead.column columns ≡ column ∷ left →
+    (room - run.made < CELL_ROOM) ⊎ IsLeft table.charset column.kind (drop run.used bytes) (room - run.made)
 
 -- A run that ended at a row's end is followed by no ROW.
 abbrev pub EndsLast : Table → ℕ → List ℕ → Type 0

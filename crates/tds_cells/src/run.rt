@@ -1,9 +1,9 @@
 // A run of cells: as many as are whole in the packet and have room, over the ends of rows.
-ghost use Rattle.std.specs.Prelude.{false, true, ◌≡◌, ◌==◌, ◌+◌, ◌-◌, ◌<◌, ◌≤◌, drop, length, take, IfSome};
+ghost use Rattle.std.specs.Prelude.{false, true, ◌≡◌, ◌==◌, ◌+◌, ◌-◌, ◌<◌, ◌≤◌, drop, length, min, take, IfSome};
 ghost use Rattle.tds_cells.specs.declared.whole.TheConstants.{CELL_ROOM};
 ghost use Rattle.tds_cells.specs.FormRuns.{NumbersEnd};
 ghost use Rattle.tds_cells.specs.Layouts.{IsLaidOut};
-ghost use Rattle.tds_cells.specs.Runs.{AloneWritten, CellsWritten, EndsLast, KnownEnds, KnownFarEnds, KnownRan, RowsRan, RunEnds};
+ghost use Rattle.tds_cells.specs.Runs.{AloneWritten, CellsWritten, EndsLast, KnownEnds, KnownFarEnds, KnownRan, LeavesNext, RowsRan, RunEnds};
 ghost use Rattle.tds_cells.specs.Runs.{StaysWithin};
 ghost use Rattle.tds_cells.specs.Tables.{AreAhead, KnowsAll};
 
@@ -99,6 +99,7 @@ impl<'a> Table<'a> {
         requires ahead { AreAhead self.now from end forms.now }
         ensures within { StaysWithin from.entry end (length bytes.now) (length to.old) result }
         ensures ends { result.used ≡ 0 → RunEnds self.now from.entry bytes.now (length to.old) }
+        ensures left { LeavesNext self.now from.entry (from.entry.column + length forms.now) bytes.now (length to.old) result }
         ensures cells { CellsWritten self.now from.entry bytes.now to.new result }
     {
         let ends = self.ends_after(from, forms);
@@ -144,6 +145,7 @@ impl<'a> Table<'a> {
         ensures within { StaysWithin from.entry end (length bytes.now) (length to.old) result }
         ensures ends { result.used ≡ 0 → from.entry.column < end →
             RunEnds self.now from.entry bytes.now (length to.old) }
+        ensures left { LeavesNext self.now from.entry (min self.now.known end) bytes.now (length to.old) result }
         ensures cells { CellsWritten self.now from.entry bytes.now to.new result }
     {
         if let Some(forms) = (&*self).forms(from, end) {

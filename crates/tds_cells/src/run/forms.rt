@@ -43,6 +43,7 @@ fn write_fields(
     requires laid { AreLaidOut charset forms.now }
     requires room { CELL_ROOM ≤ length to.old }
     ensures ends { result.cells ≡ 0 → FirstLeft charset forms.now bytes.now (length to.old) }
+    ensures left { FirstLeft charset (drop result.cells forms.now) (drop result.used bytes.now) (length to.old - result.made + 1) }
     ensures fields { WritesFields charset forms.now column bytes.now to.new result }
 {
     let mut cells = 0;
@@ -239,7 +240,8 @@ pub(crate) fn run_forms(
     to: &mut [u8],
 ) -> FormsRun
     requires { AreLaidOut charset forms.now }
-    ensures { RunsForms charset forms.now column ends bytes.now (length to.old) to.new result }
+    ensures left { FirstLeft charset (drop result.cells forms.now) (drop result.used bytes.now) (length to.old - result.made) }
+    ensures run { RunsForms charset forms.now column ends bytes.now (length to.old) to.new result }
 {
     let none = FormsRun {
         cells: 0,

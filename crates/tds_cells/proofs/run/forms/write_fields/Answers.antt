@@ -1,7 +1,8 @@
 use Rattle.tds_cells.proofs.run.forms.write_fields.Goals as goal
 use Rattle.tds_cells.proofs.run.forms.write_fields.Goals.{then-loop-cells-test+else-made-most, else-loop-cells-test}
 use Rattle.tds_cells.proofs.run.forms.write_fields.Goals.{then-loop-cells-test+then-made-most+in_default as left}
-use Rattle.tds_cells.proofs.Words.{inr, ◌≡◌, ◌∙◌, ◌-◌, ℕ, length, drop, get_or, all_after, ap, sym, arith, rules}
+use Rattle.std.proofs.lemmas.List.{get_or-drop}
+use Rattle.tds_cells.proofs.Words.{inl, inr, ◌≡◌, ◌∙◌, ◌+◌, ◌-◌, ℕ, length, length-drop, drop, get_or, all_after, ap, sym, arith, rules}
 use Rattle.tds_cells.proofs.FormSteps.{fields_more, fields_step, left_after, left_less}
 
 pub loop-cells-preserved : goal.loop-cells-preserved
@@ -36,4 +37,17 @@ returns-clause-ends c = λ none form rest is. elim c.loop-cells-test.branch [
       let all : l.rest.now ≡ bytes = l.invariant.rest ∙ ap (λ (n : ℕ). drop n bytes) begun.0 in
       let first : w.index-forms-cells.result ≡ form = grind arith in
       inr (left_less c.args.charset form.kind bytes (grind arith) (rw first at (rw all at w.in_default.ensures.field))))
+]
+
+pub returns-clause-left : goal.returns-clause-left
+returns-clause-left c = λ form rest is. elim c.loop-cells-test.branch [
+  | then-loop-cells-test+else-made-most w ↦ inl (search (arith, rules))
+  | else-loop-cells-test w ↦ absurd (omega (arith, ap length is, length-drop c.loop-cells.cells c.args.forms.now, w))
+  | left w ↦ (let l = c.loop-cells in
+      let forms = c.args.forms.now in
+      let taken = w.index-forms-cells.result in
+      let here : taken ≡ get_or forms l.cells taken = search (arith, rules) in
+      let place : l.cells ≡ l.cells + 0 = omega arith in
+      let first = here ∙ ap (λ (n : ℕ). get_or forms n taken) place ∙ sym (get_or-drop l.cells forms 0 taken) ∙ ap (λ f. get_or f 0 taken) is in
+      inr (left_less c.args.charset form.kind _ (search (arith, rules)) (rw first at (rw l.invariant.rest at w.in_default.ensures.field))))
 ]

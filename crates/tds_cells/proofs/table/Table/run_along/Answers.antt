@@ -1,7 +1,15 @@
 use Rattle.tds_cells.proofs.table.Table.run_along.Goals as goal
-use Rattle.tds_cells.proofs.TableRuns.{first_left, none_written}
+use Rattle.tds_cells.proofs.Words.{arith, length, ◌<◌}
+use Rattle.tds_cells.proofs.TableRuns.{first_left, next_left, none_written}
 
 pub returns-clause-ends : goal.returns-clause-ends
 returns-clause-ends c = λ none columns column left knows is step.
     let run = c.run_forms-run in
-    first_left _ _ _ _ c.requires.within c.requires.ahead (run.ensures.ends (none_written run.ensures.within.some none)) _ _ _ knows is step
+    first_left _ _ _ _ c.requires.within c.requires.ahead (run.ensures.run.ends (none_written run.ensures.run.within.some none)) _ _ _ knows is step
+
+pub returns-clause-left : goal.returns-clause-left
+returns-clause-left c = λ columns column left knows is few step.
+    let run = c.run_forms-run in
+    let further = c.step.ensures.further in
+    let some : run.result.cells < length c.args.forms.now = omega (arith, few, further) in
+    next_left _ _ _ _ c.requires.within c.requires.ahead _ run.ensures.left some columns column left knows is (rw further at step)

@@ -23,13 +23,13 @@ pub loop-forms-preserved : goal.loop-forms-preserved
 loop-forms-preserved g c =
     let fast = c.run_fast-fast in
     let run = c.run_forms-run in
-    let some = run.ensures.within.some (omega arith) in
+    let some = run.ensures.run.within.some (omega arith) in
     let table = c.args.self.now in
     known_ran (λ walk. rows_more {cells = record { used = run.result.used; made = run.result.made; ahead = place walk (fast.result.column + run.result.cells) }}
     _ _ some (search arith) (search arith)
     (λ columns knows is. forms_between _ _ _ _ (omega arith) (c.in-Some.ensures.ahead walk) _ (N.sym (N.eq-eqb _ _ c.in-Some.ensures.whole)) _ knows is
     _ _ _ run.result refl (place_known table (place walk 0) fast.result.column _ c.requires.known.0 (omega (arith, is.counted, knows.counted))
-    (omega (arith, run.ensures.within.cells, c.in-Some.ensures.whole)) columns knows is) run.ensures.cells)
+    (omega (arith, run.ensures.run.within.cells, c.in-Some.ensures.whole)) columns knows is) run.ensures.run.cells)
     (rows_further fast.new.to _ (ran_at c.loop-forms.invariant walk) (ran_at fast.ensures.rows walk)))
 
 pub returns-then-not-row_follows-clause-ends : goal.returns-then-not-row_follows-clause-ends
@@ -44,7 +44,7 @@ returns-then-run-eq0-clause-ends g c = λ walk columns column left knows ahead s
     let made = l.made + fast.result.made in
     let mid = put_mid l.made (length l.to - l.made) l.to fast.new.to in
     let same = same_len_mid l.made (length l.to - l.made) l.to fast.new.to (search arith) in
-    let left = first_left _ _ _ _ (omega arith) (c.in-Some.ensures.ahead walk) (run.ensures.ends c.if-run-eq0.true) _
+    let left = first_left _ _ _ _ (omega arith) (c.in-Some.ensures.ahead walk) (run.ensures.run.ends c.if-run-eq0.true) _
     _ _ knows ahead step in
     let room : length (N.take (length mid - made) (N.drop made mid)) ≡ length c.args.to.now - made =
     omega (arith, same, N.length-drop made mid) in

@@ -3,10 +3,10 @@ use Rattle.tds_cells.proofs.Words.{arith, refl, inl, inr, []}
 use Rattle.std.proofs.Math.Bool.{and-true}
 
 pub returns-then-run-eq0-clause-cell : goal.returns-then-run-eq0-clause-cell
-returns-then-run-eq0-clause-cell c = elim (c.run_forms-run.ensures.ends c.if-run-eq0.true _ [] refl)
+returns-then-run-eq0-clause-cell c = elim (c.run_forms-run.ensures.run.ends c.if-run-eq0.true _ [] refl)
     [ inl few ↦ absurd (omega arith) | inr left ↦ left ]
 
 pub returns-clause-cell : goal.returns-clause-cell
 returns-clause-cell c =
     let run = c.run_forms-run in
-    rw (and-true _, c.is_last.ensures) at (run.ensures.one (omega arith) _ [] refl)
+    rw (and-true _, c.is_last.ensures) at (run.ensures.run.one (omega arith) _ [] refl)
