@@ -17,3 +17,4 @@ mod ShortCells
 mod ChunkedCells
 pub mod NbcRuns
 mod NullRuns
+mod FarRuns

@@ -7,7 +7,7 @@ use Rattle.tds_packet.specs.declared.fault.Fault.TheVariants.{MessageEnded, Refu
 use Rattle.tds_packet.specs.Elements.{Grammar, Spelt}
 use Rattle.tds_columns.specs.Description.{Column}
 use Rattle.tds_columns.specs.declared.walk.Walk.{Walk}
-use Rattle.tds_text.specs.Quoting.{line}
+use Rattle.tds_text.specs.Quoting.{after_comma, line}
 use Rattle.tds_values.specs.declared.charset.Charset.{Charset}
 use Rattle.tds_values.specs.declared.span.Span.{Span}
 use Rattle.tds_cells.specs.declared.run.CellRun.{CellRun}
@@ -149,6 +149,10 @@ pub record KnownRan (table : Table) (column : ℕ) (bytes text : List ℕ) (run 
   pub few : run.rows ≤ run.used
   pub writes : (walk : Walk) → RowsWritten table (place walk column) bytes text
       (record { used = run.used; made = run.made; rows = run.rows; ahead = place walk run.column })
+
+-- how many bytes the comma before a column's field has
+abbrev pub comma_size : ℕ → ℕ
+comma_size column = length (after_comma column [])
 
 -- Such a run ended before this column as other runs do, whatever the walk.
 abbrev pub KnownEnds : Table → ℕ → List ℕ → ℕ → Type 0

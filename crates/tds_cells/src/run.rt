@@ -4,13 +4,14 @@ ghost use Rattle.tds_cells.specs.declared.whole.TheConstants.{CELL_ROOM};
 ghost use Rattle.tds_cells.specs.FormRuns.{NumbersEnd};
 ghost use Rattle.tds_cells.specs.Layouts.{IsLaidOut};
 ghost use Rattle.tds_cells.specs.Runs.{AloneWritten, CellsWritten, EndsLast, KnownEnds, KnownFarEnds, KnownRan, LeavesNext, RowsRan, RunEnds};
-ghost use Rattle.tds_cells.specs.Runs.{StaysWithin};
+ghost use Rattle.tds_cells.specs.Runs.{StaysWithin, comma_size};
 ghost use Rattle.tds_cells.specs.Tables.{AreAhead, KnowsAll};
 
 use crate::layout::Form;
-use crate::run::forms::{FormsRun, latest_row, run_far_forms, run_forms, run_row};
+use crate::run::forms::{latest_row, run_forms, run_row};
 use crate::table::{Ahead, Table};
-use crate::whole::{CELL_ROOM, FAR};
+use crate::whole::{CELL_ROOM, FAR, VALUE_ROOM, write_far_cell};
+use tds_text::{COMMA, write_comma, write_line_end};
 use tds_values::Span;
 
 pub(crate) mod forms;
@@ -54,6 +55,28 @@ impl KnownRun {
             column,
         }
     }
+
+    // A run that ended before a column.
+    #[inline(always)]
+    fn ended(used: usize, made: usize, rows: usize, column: usize) -> KnownRun
+        requires { column ≤ 65535 }
+        ensures { result ≡ record { used = used; made = made; rows = rows; column = column } }
+    {
+        KnownRun {
+            used,
+            made,
+            rows,
+            column: column as u16,
+        }
+    }
+}
+
+// How many bytes the comma before the field of a column has.
+#[inline(always)]
+fn comma_size(column: usize) -> usize
+    ensures { result ≡ comma_size column }
+{
+    usize::from(column > 0)
 }
 
 impl<'a> RowsRun<'a> {
@@ -226,7 +249,7 @@ impl<'a> Table<'a> {
     }
 
     // Writes cell after cell of rows whose columns the table all knows, as `run_known` does, as long as bytes and room go on
-    // far enough for any scalar.
+    // far enough for any scalar. After a cell that isn't a row's last comes the comma of the next one.
     #[inline(always)]
     fn run_far(&self, column: u16, bytes: &[u8], to: &mut [u8]) -> KnownRun
         requires known { KnowsAll self.now }
@@ -234,41 +257,38 @@ impl<'a> Table<'a> {
             (drop result.used bytes.now) (length to.old - result.made) }
         ensures rows { KnownRan self.now column bytes.now to.new result }
     {
-        let forms = (&*self).row();
-        let begun = column as usize;
-        if begun >= forms.len() || bytes.len() < FAR || to.len() < CELL_ROOM {
+        let (forms, charset) = ((&*self).row(), self.charset);
+        let mut cells = column as usize;
+        if cells >= forms.len() || bytes.len() < FAR || to.len() < CELL_ROOM {
             return KnownRun::none(column);
         }
         let latest = bytes.len() - FAR;
-        let most = to.len() - CELL_ROOM;
-        let mut at = FormsRun {
-            cells: begun,
-            used: 0,
-            made: 0,
-        };
+        let most = to.len() - VALUE_ROOM;
+        let mut used = 0;
+        let mut made = write_comma(column, to);
         let mut rows = 0;
-        while at.used <= latest && at.made <= most {
-            let run = run_far_forms(forms, self.charset, at, bytes, to);
-            if run.cells == at.cells {
+        while used <= latest && made <= most {
+            let form = &forms[cells];
+            let Some(written) = write_far_cell::<false>(form, charset, bytes, used, to, made) else {
                 break;
-            }
-            at = run;
-            if at.cells < forms.len() {
+            };
+            cells += 1;
+            used += written.used;
+            made += written.made;
+            if cells < forms.len() {
+                to[made] = COMMA;
+                made += 1;
                 continue;
             }
-            if !self.row_follows(&bytes[at.used..]) {
-                break;
+            made = write_line_end(true, made, to);
+            if !self.row_follows(&bytes[used..]) {
+                return KnownRun::ended(used, made, rows, cells);
             }
-            at.cells = 0;
-            at.used += 1;
+            cells = 0;
+            used += 1;
             rows += 1;
         }
-        KnownRun {
-            used: at.used,
-            made: at.made,
-            rows,
-            column: at.cells as u16,
-        }
+        KnownRun::ended(used, made - comma_size(cells), rows, cells)
     }
 
     // Writes rows in the way that asks least of each cell: as `run_numbers` does before a row, if `INT4` says that all values

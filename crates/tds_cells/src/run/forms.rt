@@ -1,7 +1,7 @@
 // A run over cells by their forms, whose columns follow one another in a row.
 ghost use Rattle.std.specs.Prelude.{◌≡◌, ◌==◌, ◌&&◌, ◌<◌, ◌≤◌, ◌+◌, ◌-◌, drop, length, take, true, None, IfSome, MatchOption};
 ghost use Rattle.tds_values.specs.declared.charset.Charset.{Charset};
-ghost use Rattle.tds_cells.specs.FormRuns.{AreNumbers, done_since, FirstLeft, IsLatest, IsRefusedAfter, IsWithin, NumbersWithin, RefusesRow, RunsForms, WritesFields};
+ghost use Rattle.tds_cells.specs.FormRuns.{AreNumbers, FirstLeft, IsLatest, IsRefusedAfter, IsWithin, NumbersWithin, RefusesRow, RunsForms, WritesFields};
 ghost use Rattle.tds_cells.specs.Forms.{AreCounted, AreInt4, AreLaidOut};
 ghost use Rattle.tds_cells.specs.Layouts.{IsLaidOut};
 ghost use Rattle.tds_cells.specs.Runs.{AloneWritten};
@@ -120,80 +120,6 @@ fn write_numbers<const COUNTED: bool>(
         made += 1;
     }
     FormsRun { cells, used, made }
-}
-
-// Writes the fields of a row's cells from one on as `write_fields` does, by the forms of all its cells, as long as bytes and
-// room go on far enough for any scalar. The first of them begins where `at` says, as does its text, with its comma if it isn't
-// the row's first; the result says where the run ended.
-#[inline(always)]
-fn write_far_fields(
-    forms: &[Form],
-    charset: Charset,
-    at: FormsRun,
-    bytes: &[u8],
-    to: &mut [u8],
-) -> FormsRun
-    requires laid { AreLaidOut charset forms.now }
-    requires few { length forms.now ≤ 65535 }
-    requires some { at.cells < length forms.now }
-    requires far { at.used + FAR ≤ length bytes.now }
-    requires room { at.made + CELL_ROOM ≤ length to.old }
-    ensures kept { take at.made to.new ≡ take at.made to.old }
-    ensures begun { (at.cells ≤ result.cells) × (at.used ≤ result.used) × (at.made ≤ result.made) }
-    ensures ends { result.cells ≡ at.cells → FirstLeft charset (drop at.cells forms.now) (drop at.used bytes.now)
-        (length to.old - at.made) }
-    ensures fields { WritesFields charset (drop at.cells forms.now) at.cells (drop at.used bytes.now)
-        (drop at.made to.new) (done_since at result) }
-{
-    let mut cells = at.cells;
-    let mut used = at.used;
-    let mut made = at.made + write_comma(cells as u16, &mut to[at.made..]);
-    let latest = bytes.len() - FAR;
-    let most = to.len() - VALUE_ROOM;
-    while cells < forms.len() && used <= latest && made <= most {
-        let form = &forms[cells];
-        let Some(written) = write_far_cell::<false>(form, charset, bytes, used, to, made) else {
-            break;
-        };
-        cells += 1;
-        used += written.used;
-        made += written.made;
-        to[made] = COMMA;
-        made += 1;
-    }
-    FormsRun { cells, used, made }
-}
-
-/// Writes the cells of a row from one on as [`run_forms`] does, by the forms of all its cells, as long as bytes and room go on
-/// far enough for any scalar. The first of them begins where `at` says, as does its text; the result says where the run ended.
-#[inline(always)]
-pub(crate) fn run_far_forms(
-    forms: &[Form],
-    charset: Charset,
-    at: FormsRun,
-    bytes: &[u8],
-    to: &mut [u8],
-) -> FormsRun
-    requires laid { AreLaidOut charset forms.now }
-    requires few { length forms.now ≤ 65535 }
-    requires some { at.cells < length forms.now }
-    requires far { at.used + FAR ≤ length bytes.now }
-    requires room { at.made + CELL_ROOM ≤ length to.old }
-    ensures kept { take at.made to.new ≡ take at.made to.old }
-    ensures begun { (at.cells ≤ result.cells) × (at.used ≤ result.used) × (at.made ≤ result.made) }
-    ensures cells { RunsForms charset (drop at.cells forms.now) at.cells true (drop at.used bytes.now)
-        (length to.old - at.made) (drop at.made to.new) (done_since at result) }
-{
-    let run = write_far_fields(forms, charset, at, bytes, to);
-    if run.cells == forms.len() {
-        let made = write_line_end(true, run.made - 1, to);
-        return FormsRun { made, ..run };
-    }
-    if run.cells == at.cells {
-        return at;
-    }
-    let made = run.made - 1;
-    FormsRun { made, ..run }
 }
 
 /// Writes the text in its line of the cell that begins at `from`, of the column after `column` others, into the room from `at`

@@ -1,92 +1,159 @@
 use Rattle.tds_cells.proofs.table.Table.run_far.Goals as goal
 use Rattle.tds_cells.proofs.Words as N
-use Rattle.tds_cells.proofs.Words.{place, arith, ◌∙◌, ◌+◌, ◌-◌, ◌≤◌, ap, inl, inr, length, length-drop, refl, rules, sym}
-use Rattle.tds_cells.proofs.table.Table.run_far.Goals.{then-begun-forms-via-then-begun-forms, then-begun-forms-via-else-begun-forms+then-bytes-lt-FAR}
-use Rattle.tds_cells.proofs.table.Table.run_far.Goals.{then-begun-forms-via-else-begun-forms+else-bytes-lt-FAR+then-to-lt-CELL_ROOM, else-loop-at-test}
-use Rattle.tds_cells.proofs.table.Table.run_far.Goals.{then-loop-at-test+else-at-most, then-loop-at-test+then-at-most+then-run-at as cell_left}
-use Rattle.tds_cells.proofs.table.Table.run_far.Goals.{then-loop-at-test+then-at-most+else-run-at+else-at-forms+then-not-row_follows as row_last}
-use Rattle.tds_cells.proofs.TableRuns.{known_ran, ran_at, first_left, place_known, rest_ahead, row_begun, rows_begin, rows_far, rows_kept}
+use Rattle.tds_cells.proofs.Words.{place, arith, ◌∙◌, ◌≡◌, ◌==◌, ◌+◌, ◌-◌, ◌≤◌, ◌<◌, ◌++◌, ◌∷◌, []}
+use Rattle.tds_cells.proofs.Words.{ap, inl, inr, length, length-drop, refl, rules, sym, take, drop, get_or, false, true}
+use Rattle.tds_cells.proofs.table.Table.run_far.Goals.{then-cells-forms-via-then-cells-forms, then-cells-forms-via-else-cells-forms+then-bytes-lt-FAR}
+use Rattle.tds_cells.proofs.table.Table.run_far.Goals.{then-cells-forms-via-else-cells-forms+else-bytes-lt-FAR+then-to-lt-CELL_ROOM}
+use Rattle.tds_cells.proofs.table.Table.run_far.Goals.{then-loop-used-test+else-made-most, else-loop-used-test}
+use Rattle.tds_cells.proofs.table.Table.run_far.Goals.{then-loop-used-test+then-made-most+in_default as cell_left}
+use Rattle.tds_cells.proofs.FarRuns.{comma_made, comma_most, comma_one, far_left, far_more, row_length}
+use Rattle.tds_cells.proofs.TableRuns.{known_ran, ran_at, first_left, place_known, rest_ahead, row_begun, rows_begin, rows_kept}
 use Rattle.tds_cells.proofs.TableSteps.{none_next}
+use Rattle.tds_cells.proofs.RowTexts.{after_some_column}
+use Rattle.std.proofs.lemmas.List.{take-set-le}
+use Rattle.tds_cells.specs.Runs.{comma_size}
 
-pub returns-then-begun-forms-clause-rows : goal.returns-then-begun-forms-clause-rows
-returns-then-begun-forms-clause-rows c = known_ran (λ walk. rw c.none.ensures rows_begin)
+pub returns-then-cells-forms-clause-rows : goal.returns-then-cells-forms-clause-rows
+returns-then-cells-forms-clause-rows c = known_ran (λ walk. rw c.none.ensures rows_begin)
 
-pub loop-at-init : goal.loop-at-init
-loop-at-init c = record { size = refl; some = search (arith, rules); ran = known_ran (λ walk. rows_begin) }
+pub returns-then-cells-forms-clause-ends : goal.returns-then-cells-forms-clause-ends
+returns-then-cells-forms-clause-ends c =
+    let table = c.args.self.now in
+    let row = row_length table c.row-forms.result.now c.requires.known.0 c.row-forms.ensures.row in
+    λ walk. rw c.none.ensures (elim c.then-cells-forms.branch [
+      | then-cells-forms-via-then-cells-forms w ↦ inr (inr (λ columns column left knows ahead step. absurd (let e = sym step
+          ∙ none_next _ _ knows.counted (omega (arith, w.if-cells-forms.true, row)) in
+          omega (arith, ap length e))))
+      | then-cells-forms-via-else-cells-forms+then-bytes-lt-FAR w ↦ inl w.if-bytes-lt-FAR.true
+      | then-cells-forms-via-else-cells-forms+else-bytes-lt-FAR+then-to-lt-CELL_ROOM w ↦ inr (inl (omega (arith, w.if-to-lt-CELL_ROOM.true)))
+    ])
 
-pub loop-at-preserved-then-at-forms : goal.loop-at-preserved-then-at-forms
-loop-at-preserved-then-at-forms c =
-    let run = c.run_far_forms-run in
-    let l = c.loop-at in
+pub loop-used-init : goal.loop-used-init
+loop-used-init c =
+    let table = c.args.self.now in
+    let row = row_length table c.row-forms.result.now c.requires.known.0 c.row-forms.ensures.row in
+    let comma = c.write_comma-made in
+    let fits : comma.result ≤ length comma.new.to = search (arith, rules) in
+    let made_is = comma_made comma.result c.args.column comma.new.to fits (comma.ensures.text []) in
+    let none : comma.result - comma_size c.args.column ≡ 0 = omega (arith, made_is) in
     record {
       size = search (arith, rules);
-      some = search (arith, rules);
-      ran = known_ran (λ walk. rows_far c.args.self.now c.row-forms.result.now l.at run.result run.new.to c.requires.known.0
-          c.row-forms.ensures.row l.invariant.some
-          c.if-run-at.false run.ensures.kept (search (arith, rules)) run.ensures.begun run.ensures.cells (ran_at l.invariant.ran walk));
+      some = omega (arith, row, c.if-cells-forms.false);
+      begun = omega (arith, made_is);
+      comma = rw none (sym (N.append-nil (take comma.result comma.new.to)) ∙ comma.ensures.text []);
+      ran = rw none (known_ran (λ walk. rows_begin));
     }
 
-pub loop-at-preserved : goal.loop-at-preserved
-loop-at-preserved c =
-    let run = c.run_far_forms-run in
-    let l = c.loop-at in
+pub loop-used-preserved-then-cells-forms-2 : goal.loop-used-preserved-then-cells-forms-2
+loop-used-preserved-then-cells-forms-2 c =
+    let l = c.loop-used in
     let table = c.args.self.now in
     let all = c.requires.known.0 in
-    let end : table.count ≤ run.result.cells = search (arith, rules) in
+    let forms = c.row-forms.result.now in
+    let row = row_length table forms all c.row-forms.ensures.row in
+    let written = c.in-Some.written in
+    let new = c.write_far_cell.new.to in
+    let end = l.made + written.made in
+    let form = c.index-forms-cells.result in
+    let form_is : form ≡ get_or forms l.cells form = search (arith, rules) in
+    let size : length new ≡ length l.to = search (arith, rules) in
+    let few : l.cells + 1 < table.count = omega (arith, c.if-cells-forms-2.true, row) in
+    let room : end < length new = omega (arith, c.in-Some.ensures.most) in
+    let there : (end + 1) - comma_size (l.cells + 1) ≡ end = omega (arith, comma_one l.cells) in
+    let same = take-set-le end new end 44 (omega arith) in
+    record {
+      size = search (arith, rules);
+      some = few;
+      begun = omega (arith, comma_one l.cells);
+      comma = rw there (N.take_more_set new end 44 room ∙ ap (λ t. t ++ 44 ∷ []) (sym same)
+          ∙ ap (λ t. take end (N.slice_set new end 44) ++ t) (after_some_column (l.cells + 1) (λ e. omega arith)));
+      ran = rw there (known_ran (λ walk. far_more l.cells l.used written.used l.made written.made end form new (N.slice_set new end 44) false
+          all l.invariant.some c.row-forms.ensures.row (sym (N.ne_eqb _ _ (λ e. omega (arith, e, few)))) form_is
+          (l.invariant.begun, (omega (arith, room, size), omega (arith, c.in-Some.ensures.used, length-drop l.used c.args.bytes.now)))
+          l.invariant.comma c.write_far_cell.ensures.kept
+          (omega (arith, room), search (arith, rules)) (same ∙ sym (N.append-nil (take end new)))
+          c.in-Some.ensures.whole c.in-Some.ensures.field (ran_at l.invariant.ran walk)));
+    }
+
+pub returns-then-not-row_follows-clause-rows : goal.returns-then-not-row_follows-clause-rows
+returns-then-not-row_follows-clause-rows c =
+    let l = c.loop-used in
+    let table = c.args.self.now in
+    let all = c.requires.known.0 in
+    let forms = c.row-forms.result.now in
+    let row = row_length table forms all c.row-forms.ensures.row in
+    let written = c.in-Some.written in
+    let new = c.write_far_cell.new.to in
+    let end = c.write_line_end-made in
+    let form = c.index-forms-cells.result in
+    let form_is : form ≡ get_or forms l.cells form = search (arith, rules) in
+    let size : length new ≡ length l.to = search (arith, rules) in
+    let last : l.cells + 1 ≡ table.count = omega (arith, c.if-cells-forms-2.false, row, l.invariant.some) in
+    let fits : end.result ≤ length end.new.to = search (arith, rules) in
+    rw c.ended.ensures (known_ran (λ walk. far_more l.cells l.used written.used l.made written.made end.result form new end.new.to true
+    all l.invariant.some c.row-forms.ensures.row (sym (N.eq-eqb _ _ last)) form_is
+    (l.invariant.begun, (omega (arith, c.in-Some.ensures.most, size), omega (arith, c.in-Some.ensures.used, length-drop l.used c.args.bytes.now)))
+    l.invariant.comma c.write_far_cell.ensures.kept (omega (arith, c.in-Some.ensures.most), fits) end.ensures.text
+    c.in-Some.ensures.whole c.in-Some.ensures.field (ran_at l.invariant.ran walk)))
+
+pub loop-used-preserved : goal.loop-used-preserved
+loop-used-preserved c =
+    let l = c.loop-used in
+    let table = c.args.self.now in
+    let all = c.requires.known.0 in
+    let forms = c.row-forms.result.now in
+    let row = row_length table forms all c.row-forms.ensures.row in
+    let written = c.in-Some.written in
+    let new = c.write_far_cell.new.to in
+    let end = c.write_line_end-made in
+    let form = c.index-forms-cells.result in
+    let form_is : form ≡ get_or forms l.cells form = search (arith, rules) in
+    let size : length new ≡ length l.to = search (arith, rules) in
+    let last : l.cells + 1 ≡ table.count = omega (arith, c.if-cells-forms-2.false, row, l.invariant.some) in
+    let fits : end.result ≤ length end.new.to = search (arith, rules) in
+    let none : end.result - comma_size 0 ≡ end.result = omega arith in
     record {
       size = search (arith, rules);
       some = c.requires.known.1;
-      ran = known_ran (λ walk.
-          let rest = rest_ahead table (place walk l.at.cells) c.row-forms.result.now all c.row-forms.ensures.row l.invariant.some in
-          let within : run.result.cells ≤ table.count = omega (arith, run.ensures.cells.within.cells, run.ensures.begun.0, rest.1) in
-          row_begun {start = place walk 0} c.requires.known.1 end (c.row_follows.ensures.begins (search rules), refl)
-          (place_known table (place walk 0) run.result.cells 0 all within (omega arith))
-          (rows_far table c.row-forms.result.now l.at run.result run.new.to all c.row-forms.ensures.row l.invariant.some
-          c.if-run-at.false run.ensures.kept (search (arith, rules)) run.ensures.begun run.ensures.cells (ran_at l.invariant.ran walk)));
+      begun = omega arith;
+      comma = rw none (sym (N.append-nil (take end.result end.new.to)));
+      ran = rw none (known_ran (λ walk. row_begun {start = place walk 0} c.requires.known.1 (omega (arith, last))
+          (c.row_follows.ensures.begins (search rules), refl)
+          (place_known table (place walk 0) (l.cells + 1) 0 all (omega (arith, last)) (omega arith))
+          (far_more l.cells l.used written.used l.made written.made end.result form new end.new.to true
+          all l.invariant.some c.row-forms.ensures.row (sym (N.eq-eqb _ _ last)) form_is
+          (l.invariant.begun, (omega (arith, c.in-Some.ensures.most, size), omega (arith, c.in-Some.ensures.used, length-drop l.used c.args.bytes.now)))
+          l.invariant.comma c.write_far_cell.ensures.kept (omega (arith, c.in-Some.ensures.most), fits) end.ensures.text
+          c.in-Some.ensures.whole c.in-Some.ensures.field (ran_at l.invariant.ran walk))));
     }
-
-pub returns-then-begun-forms-clause-ends : goal.returns-then-begun-forms-clause-ends
-returns-then-begun-forms-clause-ends c =
-    let row = ap length c.row-forms.ensures.row in
-    let table = c.args.self.now in
-    λ walk. rw c.none.ensures (elim c.then-begun-forms.branch [
-      | then-begun-forms-via-then-begun-forms w ↦ inr (inr (λ columns column left knows ahead step. absurd (let e = sym step
-          ∙ none_next _ _ knows.counted (omega (
-            arith,
-            w.if-begun-forms.true,
-            row,
-            N.length-take-le table.known table.forms.now (omega (arith, table.there)),
-          )) in
-          omega (arith, ap length e))))
-      | then-begun-forms-via-else-begun-forms+then-bytes-lt-FAR w ↦ inl w.if-bytes-lt-FAR.true
-      | then-begun-forms-via-else-begun-forms+else-bytes-lt-FAR+then-to-lt-CELL_ROOM w ↦ inr (inl (omega (arith, w.if-to-lt-CELL_ROOM.true)))
-    ])
 
 pub returns-clause-rows : goal.returns-clause-rows
 returns-clause-rows c =
-    let l = c.loop-at in
-    known_ran (λ walk. elim c.loop-at-test.branch [
-      | else-loop-at-test w ↦ rw (w.to-is, w.at-is) (ran_at l.invariant.ran walk)
-      | then-loop-at-test+else-at-most w ↦ rw (w.to-is, w.at-is) (ran_at l.invariant.ran walk)
-      | cell_left w ↦ rw (w.to-is, w.at-is) (rows_kept (search (arith, rules)) w.run_far_forms-run.ensures.kept (ran_at l.invariant.ran walk))
-      | row_last w ↦ (let run = w.run_far_forms-run in rw (w.to-is, w.at-is) (rows_far c.args.self.now c.row-forms.result.now l.at run.result run.new.to
-          c.requires.known.0 c.row-forms.ensures.row l.invariant.some w.if-run-at.false run.ensures.kept (search (arith, rules)) run.ensures.begun
-          run.ensures.cells (ran_at l.invariant.ran walk)))
-    ])
+    let l = c.loop-used in
+    rw (c.ended-2.ensures, c.comma_size.ensures) (known_ran (λ walk. elim c.loop-used-test.branch [
+      | else-loop-used-test w ↦ rw w.to-is (ran_at l.invariant.ran walk)
+      | then-loop-used-test+else-made-most w ↦ rw w.to-is (ran_at l.invariant.ran walk)
+      | cell_left w ↦ (let at = l.made - comma_size l.cells in let new = w.write_far_cell.new.to in
+          rw w.to-is (rows_kept (search (arith, rules)) (sym (N.take-take at l.made new (omega arith)) ∙ ap (take at) w.write_far_cell.ensures.kept
+          ∙ N.take-take at l.made l.to (omega arith)) (ran_at l.invariant.ran walk)))
+    ]))
 
 pub returns-clause-ends : goal.returns-clause-ends
 returns-clause-ends c =
-    let l = c.loop-at in
+    let l = c.loop-used in
+    let table = c.args.self.now in
+    let all = c.requires.known.0 in
+    let forms = c.row-forms.result.now in
     let bytes = c.args.bytes.now in
-    λ walk. elim c.loop-at-test.branch [
-      | else-loop-at-test w ↦ rw w.at-is (inl (omega (arith, w.loop-at-test.false, length-drop l.at.used bytes)))
-      | then-loop-at-test+else-at-most w ↦ rw w.at-is (inr (inl (omega (arith, w.if-at-most.false, l.invariant.size))))
-      | cell_left w ↦ rw w.at-is (inr (inr (λ columns column left knows ahead step.
-          let run = w.run_far_forms-run in
-          let rest = rest_ahead c.args.self.now (place walk l.at.cells) c.row-forms.result.now c.requires.known.0 c.row-forms.ensures.row
-          l.invariant.some in
-          let cell = first_left _ _ _ _ (omega arith) rest.0 (run.ensures.cells.ends (omega (arith, w.if-run-at.true))) _ _ _ knows ahead step in
-          rw l.invariant.size at cell)))
-      | row_last w ↦ rw w.at-is (inr (inr (λ columns column left knows ahead step. absurd (let e = sym step
-          ∙ none_next _ _ knows.counted (search (arith, rules)) in omega (arith, ap length e)))))
-    ]
+    λ walk. rw (c.ended-2.ensures, c.comma_size.ensures) (elim c.loop-used-test.branch [
+      | else-loop-used-test w ↦ inl (omega (arith, w.loop-used-test.false, length-drop l.used bytes))
+      | then-loop-used-test+else-made-most w ↦ inr (inl (omega (arith, w.if-made-most.false, l.invariant.size, l.invariant.begun, comma_most l.cells)))
+      | cell_left w ↦ inr (inr (λ columns column left knows ahead step.
+          let form = w.index-forms-cells.result in
+          let form_is : form ≡ get_or forms l.cells form = search (arith, rules) in
+          let rest = rest_ahead table (place walk l.cells) forms all c.row-forms.ensures.row l.invariant.some in
+          let less : length c.args.to.now - (l.made - comma_size l.cells) ≤ length l.to - l.made + 1 =
+          omega (arith, l.invariant.size, l.invariant.begun, comma_most l.cells, w.if-made-most.true) in
+          first_left table (place walk l.cells) table.count (drop l.cells forms) (omega arith) rest.0
+          (far_left table forms l.cells form (drop l.used bytes) _ _ form_is less w.in_default.ensures.field) columns column left knows ahead step))
+    ])
