@@ -288,13 +288,6 @@ fields_end to new at size same x = record {
   fields = (x.0, x.1, same ∙ x.2);
 }
 
--- the same beyond `at`, with all as it was
-pub fields_beyond : {charset : Charset} {forms : List Form} {column : ℕ} {bytes : List ℕ} {cells used made : ℕ} (at : ℕ) (to : List ℕ)
-    → FieldsAt forms bytes (length to - at) cells used made
-    → N.FieldsWritten charset forms column bytes (drop at to) (record { cells = cells; used = used; made = made })
-    → N.WritesFields charset forms column bytes (drop at to) (record { cells = cells; used = used; made = made })
-fields_beyond at to x w = fields_end (drop at to) (drop at to) (rw (sym (N.length-drop at to)) at x) refl refl w
-
 -- its last comma gives way to the end of the line, or to nothing
 pub ended_run : {charset : Charset} {forms : List Form} {column cells used : ℕ} {bytes : List ℕ} (at end made : ℕ) (old new e : List ℕ) → 0 < cells
     → N.WritesFields charset forms column bytes (drop at old) (record { cells = cells; used = used; made = made - at }) → at ≤ made

@@ -262,28 +262,27 @@ rest_ahead table at row all are some =
       omega (arith, ap length rest, counted),
     )
 
--- more cells of the row, whose places are counted from the front of all
-pub rows_far : {from : Ahead} {bytes to : List ℕ} {rows : ℕ} (table : Table) (row : List Form) (at run : N.FormsRun) (new : List ℕ)
-    → table.known ≡ table.count → row ≡ take table.known table.forms.now → at.cells < table.count → run.cells ≢ at.cells
-    → take at.made new ≡ take at.made to → length new ≡ length to → (at.cells ≤ run.cells) × (at.used ≤ run.used) × (at.made ≤ run.made)
-    → N.RunsForms table.charset (drop at.cells row) at.cells true (drop at.used bytes) (length to - at.made) (drop at.made new) (N.done_since at run)
-    → RowsRan table from bytes to (record { used = at.used; made = at.made; rows = rows; ahead = record from { column = at.cells } })
-    → RowsRan table from bytes new (record { used = run.used; made = run.made; rows = rows; ahead = record from { column = run.cells } })
-rows_far {from = from} {bytes = bytes} {to = to} table row at run new all are few some same size begun written x =
-    let next = rest_ahead table (record from { column = at.cells }) row all are few in
-    let made = drop at.made new in
-    let rest = N.all_after bytes at.used in
-    let kept : new ≡ take at.made to ++ (made ++ []) =
-    sym (N.take-append-drop at.made new) ∙ ap (λ t. t ++ made) same ∙ ap (λ t. take at.made to ++ t) (sym (N.append-nil made)) in
-    let used : run.used ≡ at.used + (run.used - at.used) = omega (arith, begun) in
-    let end : run.made ≡ at.made + (run.made - at.made) = omega (arith, begun) in
-    let further : run.cells ≡ at.cells + (run.cells - at.cells) = omega (arith, begun) in
-    let within : run.cells ≤ table.count = omega (arith, written.within.cells, next.1) in
-    rw (kept, used, end) (rows_more {cells = record { used = run.used - at.used; made = run.made - at.made; ahead = record from { column = run.cells } }}
-    made [] (written.within.some (omega (arith, begun, some))) (rw rest written.within.used)
-    (omega (arith, written.within.made, N.length-drop at.made new))
-    (λ columns knows is. forms_between _ _ _ _ (omega arith) next.0 _ (sym (N.eq-eqb _ _ next.1)) columns knows is _ _ _ (N.done_since at run) further
-    (place_known table from at.cells run.cells all (omega arith) within columns knows is) (rw rest written.cells)) x)
+-- a whole row more, whose place is counted from the front of all
+pub row_far : {from : Ahead} {bytes to : List ℕ} {rows used made : ℕ} (table : Table) (row : List Form) (run : N.FormsRun) (new : List ℕ)
+    → table.known ≡ table.count → 0 < table.count → row ≡ take table.known table.forms.now → run.cells ≡ table.count
+    → take made new ≡ take made to → length new ≡ length to → (used ≤ run.used) × (made ≤ run.made)
+    → N.RunsForms table.charset row 0 true (drop used bytes) (length to - made) (drop made new) (N.run_since (record { used = used; made = made }) run)
+    → RowsRan table from bytes to (record { used = used; made = made; rows = rows; ahead = record from { column = 0 } })
+    → RowsRan table from bytes new (record { used = run.used; made = run.made; rows = rows; ahead = record from { column = table.count } })
+row_far {from = from} {bytes = bytes} {to = to} {used = u} {made = m} table row run new all some are whole same size begun written x =
+    let next = rest_ahead table (record from { column = 0 }) row all are some in
+    let made = drop m new in
+    let rest = N.all_after bytes u in
+    let kept : new ≡ take m to ++ (made ++ []) =
+    sym (N.take-append-drop m new) ∙ ap (λ t. t ++ made) same ∙ ap (λ t. take m to ++ t) (sym (N.append-nil made)) in
+    let used : run.used ≡ u + (run.used - u) = omega (arith, begun) in
+    let end : run.made ≡ m + (run.made - m) = omega (arith, begun) in
+    rw (kept, used, end) (rows_more {cells = record { used = run.used - u; made = run.made - m; ahead = record from { column = table.count } }}
+    made [] (written.within.some (omega (arith, whole, some))) (rw rest written.within.used)
+    (omega (arith, written.within.made, N.length-drop m new))
+    (λ columns knows is. forms_between _ _ _ _ (omega arith) next.0 _ (sym (N.eq-eqb _ _ next.1)) columns knows is _ _ _
+    (N.run_since (record { used = u; made = m }) run) (omega (arith, whole))
+    (place_known table from 0 table.count all (omega arith) (omega arith) columns knows is) (rw rest written.cells)) x)
 
 -- what such a run is with this walk
 abbrev pub known_run : N.Walk → N.KnownRun → N.RowsRun

@@ -39,7 +39,7 @@ pub use Rattle.tds_cells.specs.Cells.{SpellsChunked, cell_size, unless, shape}
 pub use Rattle.tds_cells.specs.Cells.{ScalarBytes, Total, field, SpellsShort, Shape, known_total, FixedShape, field_so_far, ChunkData, CellPart}
 pub use Rattle.tds_cells.specs.Cells.{SpellsChunk, SpellsChunks, LongShape, shape_of_length, Cell, is_total, SpellsCell}
 pub use Rattle.tds_cells.specs.Cells.{DataCell}
-pub use Rattle.tds_cells.specs.FormRuns.{done_since, FormsWritten, FirstLeft, FieldsWritten, AreNext, WritesForms, FirstUsed, FirstWritten, RunsForms}
+pub use Rattle.tds_cells.specs.FormRuns.{run_since, FormsWritten, FirstLeft, FieldsWritten, AreNext, WritesForms, FirstUsed, FirstWritten, RunsForms}
 pub use Rattle.tds_cells.specs.FormRuns.{WritesFields}
 pub use Rattle.tds_cells.specs.Forms.{AreCounted, AreInt4, AreLaidOut, Each}
 pub use Rattle.tds_cells.specs.Layouts.{IsLaidOut}

@@ -87,9 +87,9 @@ pub record RunsForms (charset : Charset) (forms : List Form) (column : ℕ) (las
   pub one : run.cells ≡ 1 → FirstWritten charset forms column last bytes text run
   pub cells : FormsWritten charset forms column last bytes text run
 
--- what a run did since a place in its row
-abbrev pub done_since : FormsRun → FormsRun → FormsRun
-done_since at run = record { cells = run.cells - at.cells; used = run.used - at.used; made = run.made - at.made }
+-- what a run did that began in these bytes and this text
+abbrev pub run_since : Span → FormsRun → FormsRun
+run_since from run = record { cells = run.cells; used = run.used - from.used; made = run.made - from.made }
 
 -- After the cells of a run the next one is refused, which is of a scalar kind.
 abbrev pub IsRefusedAfter : List Form → List ℕ → FormsRun → Type 0

@@ -229,15 +229,14 @@ impl<'a> Table<'a> {
         let mut made = 0;
         let mut rows = 0;
         while used <= latest.used && made <= latest.made {
-            let Some(run) = run_row::<COUNTED>(row, &bytes[used..], &mut to[made..]) else {
+            let Some(run) = run_row::<COUNTED>(row, Span { used, made }, bytes, to) else {
                 break;
             };
-            let end = used + run.used;
-            if !self.begins_row(&bytes[end..]) {
+            if !self.begins_row(&bytes[run.used..]) {
                 break;
             }
-            used = end + 1;
-            made += run.made;
+            used = run.used + 1;
+            made = run.made;
             rows += 1;
         }
         KnownRun {

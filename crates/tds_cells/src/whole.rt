@@ -354,12 +354,11 @@ pub(crate) fn write_int4_cell<const COUNTED: bool>(
     if !comes_counted::<COUNTED>(&form.kind) {
         return Some(write_int4_at(&form.kind, 0, bytes, to));
     }
-    match bytes[0] {
-        4 => Some(write_int4_at(&form.kind, 1, bytes, to)),
-        0 => {
-            let made = write_null(0, false, to);
-            Some(Span { used: 1, made })
-        }
-        _ => None,
-    }
+    let n = bytes[0] as usize;
+    let made = match n {
+        4 => write_int4_at(&form.kind, 1, bytes, to).made,
+        0 => write_null(0, false, to),
+        _ => return None,
+    };
+    Some(Span { used: 1 + n, made })
 }

@@ -1,7 +1,7 @@
 // A run over cells by their forms, whose columns follow one another in a row.
 ghost use Rattle.std.specs.Prelude.{◌≡◌, ◌==◌, ◌&&◌, ◌<◌, ◌≤◌, ◌+◌, ◌-◌, drop, length, take, true, None, IfSome, MatchOption};
 ghost use Rattle.tds_values.specs.declared.charset.Charset.{Charset};
-ghost use Rattle.tds_cells.specs.FormRuns.{AreNumbers, FirstLeft, IsLatest, IsRefusedAfter, IsWithin, NumbersWithin, RefusesRow, RunsForms, WritesFields};
+ghost use Rattle.tds_cells.specs.FormRuns.{AreNumbers, FirstLeft, IsLatest, IsRefusedAfter, NumbersWithin, RefusesRow, RunsForms, WritesFields, run_since};
 ghost use Rattle.tds_cells.specs.Forms.{AreCounted, AreInt4, AreLaidOut};
 ghost use Rattle.tds_cells.specs.Layouts.{IsLaidOut};
 ghost use Rattle.tds_cells.specs.Runs.{AloneWritten};
@@ -89,25 +89,29 @@ pub(crate) fn latest_row(forms: &[Form], bytes: &[u8], to: &[u8]) -> Option<Span
     })
 }
 
-// Writes the fields of the next cells as `write_fields` does, whose values are whole numbers of four bytes, and which
-// need no look at the ends of bytes and room. `COUNTED` says that all come after their lengths.
+// Writes the fields of a row's first cells as `write_fields` does, whose values are whole numbers of four bytes, and which
+// need no look at the ends of bytes and room. The first of them begins where `from` says, as does its text; the result says
+// where the run ended. `COUNTED` says that all come after their lengths.
 #[inline(always)]
 fn write_numbers<const COUNTED: bool>(
     forms: &[Form],
-    column: u16,
+    from: Span,
     bytes: &[u8],
     to: &mut [u8],
 ) -> FormsRun
     requires numbers { AreInt4 forms.now }
     requires counted { COUNTED ≡ true → AreCounted forms.now }
-    requires within { NumbersWithin (length forms.now) (length bytes.now) (length to.old) }
-    ensures ends { result.cells < length forms.now → IsRefusedAfter forms.now bytes.now result }
+    requires within { NumbersWithin (length forms.now) (length bytes.now - from.used) (length to.old - from.made) }
+    ensures kept { take from.made to.new ≡ take from.made to.old }
+    ensures begun { (from.used ≤ result.used) × (from.made ≤ result.made) }
+    ensures ends { result.cells < length forms.now → IsRefusedAfter forms.now (drop from.used bytes.now) (run_since from result) }
     ensures left { result.used < length bytes.now }
-    ensures fields { (charset : Charset) → WritesFields charset forms.now column bytes.now to.new result }
+    ensures fields { (charset : Charset) →
+        WritesFields charset forms.now 0 (drop from.used bytes.now) (drop from.made to.new) (run_since from result) }
 {
     let mut cells = 0;
-    let mut used = 0;
-    let mut made = write_comma(column, to);
+    let mut used = from.used;
+    let mut made = from.made;
     while cells < forms.len() {
         let form = &forms[cells];
         let Some(written) = write_int4_cell::<COUNTED>(form, &bytes[used..], &mut to[made..]) else {
@@ -187,24 +191,28 @@ pub(crate) fn run_forms(
 }
 
 /// Writes the cells of a whole row as [`run_forms`] does, whose values are whole numbers of four bytes, and for which
-/// there are bytes and room. `COUNTED` says that all come after their lengths. `None` if one of them is refused.
+/// there are bytes and room. The row begins where `from` says, as does its text; the result says where it ended. `COUNTED` says
+/// that all numbers come after their lengths. `None` if one of them is refused.
 #[inline(always)]
 pub(crate) fn run_row<const COUNTED: bool>(
     forms: &[Form],
+    from: Span,
     bytes: &[u8],
     to: &mut [u8],
 ) -> Option<FormsRun>
     requires some { 0 < length forms.now }
     requires counted { COUNTED ≡ true → AreCounted forms.now }
-    requires numbers { AreNumbers forms.now (length bytes.now) (length to.old) }
-    ensures refused { result ≡ None → RefusesRow forms.now bytes.now }
-    ensures row { (charset : Charset) → IfSome result
-        (λ run. RunsForms charset forms.now 0 true bytes.now (length to.old) to.new run) }
+    requires numbers { AreNumbers forms.now (length bytes.now - from.used) (length to.old - from.made) }
+    ensures kept { take from.made to.new ≡ take from.made to.old }
+    ensures refused { result ≡ None → RefusesRow forms.now (drop from.used bytes.now) }
+    ensures row { (charset : Charset) → IfSome result (λ run. RunsForms charset forms.now 0 true (drop from.used bytes.now)
+        (length to.old - from.made) (drop from.made to.new) (run_since from run)) }
     ensures whole { IfSome result (λ run. run.cells ≡ length forms.now) }
     ensures left { IfSome result (λ run. run.used < length bytes.now) }
-    ensures within { IfSome result (λ run. IsWithin run (length forms.now) (length bytes.now) (length to.old)) }
+    ensures begun { IfSome result (λ run. (from.used ≤ run.used) × (from.made ≤ run.made)) }
+    ensures most { IfSome result (λ run. run.made ≤ length to.old) }
 {
-    let run = write_numbers::<COUNTED>(forms, 0, bytes, to);
+    let run = write_numbers::<COUNTED>(forms, from, bytes, to);
     if run.cells < forms.len() {
         return None;
     }

@@ -1,13 +1,18 @@
 use Rattle.tds_cells.proofs.run.forms.write_numbers.Given as goal
-use Rattle.tds_cells.proofs.Words.{length, ◌+◌, ◌*◌, ◌-◌, ◌<◌, ◌≤◌, Charset, FieldsWritten}
+use Rattle.tds_cells.proofs.Words.{length, drop, take, ◌≡◌, ◌+◌, ◌*◌, ◌-◌, ◌<◌, ◌≤◌, Charset, FieldsWritten, run_since}
 use Rattle.tds_cells.proofs.FormSteps.{FieldsAt}
 
 abbrev pub invariant-loop-cells : goal.invariant-loop-cells
 invariant-loop-cells g l = record {
-  at : FieldsAt l.forms l.bytes (length l.to) l.cells l.used l.made;
+  from : l.fn.from.used ≤ l.used;
+  begun : l.fn.from.made ≤ l.made;
+  size : length l.to ≡ length l.fn.to;
+  kept : take l.fn.from.made l.to ≡ take l.fn.from.made l.fn.to;
+  at : FieldsAt l.forms (drop l.fn.from.used l.bytes) (length l.to - l.fn.from.made) l.cells (l.used - l.fn.from.used) (l.made - l.fn.from.made);
   whole : l.used + 5 * (length l.forms - l.cells) < length l.bytes;
   fits : l.made + 12 * (length l.forms - l.cells) + 25 ≤ length l.to;
-  writes : (charset : Charset) → FieldsWritten charset l.forms l.column l.bytes l.to (record { cells = l.cells; used = l.used; made = l.made });
+  writes : (charset : Charset) → FieldsWritten charset l.forms 0 (drop l.fn.from.used l.bytes) (drop l.fn.from.made l.to)
+      (run_since l.fn.from (record { cells = l.cells; used = l.used; made = l.made }));
 }
 
 abbrev pub decreases-loop-cells : goal.decreases-loop-cells
