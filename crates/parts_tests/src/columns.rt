@@ -8,7 +8,7 @@ use crate::checks::{expect, same};
 use std::alloc::{AllocError, Global};
 use std::io::Read;
 use std::test::Fail;
-use tds_columns::{Columns, Described, gather, read_type_info, take_into};
+use tds_columns::{Columns, Described, gather, read_into, read_type_info};
 use tds_meter::Area;
 use tds_packet::rig::{RepeatingReader, ScriptedReader};
 use tds_packet::{Counted, Fault, Payload, Place, Stop};
@@ -88,7 +88,7 @@ fn read_returned<R: Read>(payload: &mut Payload<R>, small: &mut Area) -> Result<
     requires sound { IsSound payload.old }
     requires small { small.old ≡ empty 128 }
 {
-    take_into(payload, small, 8)?;
+    read_into(payload, small, 8)?;
     read_type_info(payload, small)
 }
 

@@ -1,13 +1,13 @@
 -- Runs over rows that are far from the ends, a cell after the comma that stands before it.
 use Rattle.tds_cells.proofs.Words as N
 use Rattle.tds_cells.proofs.Words.{◌≡◌, ◌∙◌, ◌==◌, ℕ, ◌+◌, ◌-◌, ◌≤◌, ◌<◌, Bool, List, [], ◌++◌, length, take, drop, get_or, refl, sym, ap, arith, inr, false}
-use Rattle.tds_cells.proofs.Words.{Ahead, Form, RowsRan, Table, Walk, after_comma, end_after, place}
+use Rattle.tds_cells.proofs.Words.{Cursor, CellFormat, RowsRan, RowFormat, Walk, after_comma, end_after, place}
 use Rattle.std.proofs.lemmas.List.{get_or-drop}
-use Rattle.tds_cells.proofs.FormSteps.{left_less, line_beyond}
+use Rattle.tds_cells.proofs.FormatSteps.{left_less, line_beyond}
 use Rattle.tds_cells.proofs.RowTexts.{after_append, after_some_column}
 use Rattle.tds_cells.proofs.RunSteps.{whole_some}
-use Rattle.tds_cells.proofs.TableRuns.{place_known, rows_more, runs_column}
-use Rattle.tds_cells.proofs.TableSteps.{last_one, next_known, takes}
+use Rattle.tds_cells.proofs.RowFormatRuns.{place_known, rows_more, runs_column}
+use Rattle.tds_cells.proofs.RowFormatSteps.{last_one, next_known, takes}
 use Rattle.tds_cells.specs.Runs.{comma_size}
 
 -- the comma of any column but the first
@@ -23,17 +23,19 @@ comma_most (N.suc n) = let at : N.suc n ≡ n + 1 = omega arith in rw at (omega 
 pub comma_made : (made n : ℕ) (to : List ℕ) → made ≤ length to → take made to ++ [] ≡ after_comma n [] → made ≡ comma_size n
 comma_made made n to within is = sym (N.length-take-le made to within) ∙ ap length (sym (N.append-nil (take made to)) ∙ is)
 
--- a row has as many forms as there are columns
-pub row_length : (table : Table) (row : List Form) → table.known ≡ table.count → row ≡ take table.known table.forms.now → length row ≡ table.count
-row_length table row all are = ap length are ∙ N.length-take-le table.known table.forms.now (omega (arith, table.there)) ∙ all
+-- a row has as many formats as there are columns
+pub row_length : (row_format : RowFormat) (row : List CellFormat) → row_format.known ≡ row_format.count → row
+    ≡ take row_format.known row_format.formats.now → length row ≡ row_format.count
+row_length row_format row all are = ap length are ∙ N.length-take-le row_format.known row_format.formats.now (omega (arith, row_format.there)) ∙ all
 
 -- the next cell of a row is left
-pub far_left : (table : Table) (row : List Form) (cells : ℕ) (d : Form) (bytes : List ℕ) (room more : ℕ) → d ≡ get_or row cells d → room ≤ more
-    → N.IsLeft table.charset d.kind bytes more → N.FirstLeft table.charset (drop cells row) bytes room
-far_left table row cells d bytes room more is less left = λ form rest are.
+pub far_left : (row_format : RowFormat) (row : List CellFormat) (cells : ℕ) (d : CellFormat) (bytes : List ℕ) (room more : ℕ) → d ≡ get_or row cells d
+    → room ≤ more
+    → N.IsLeft row_format.charset d.kind bytes more → N.FirstLeft row_format.charset (drop cells row) bytes room
+far_left row_format row cells d bytes room more is less left = λ format rest are.
     let at : cells ≡ cells + 0 = omega arith in
-    let next : d ≡ form = is ∙ ap (λ (n : ℕ). get_or row n d) at ∙ sym (get_or-drop cells row 0 d) ∙ ap (λ (fs : List Form). get_or fs 0 d) are in
-    inr (left_less _ _ _ less (N.subst (λ (f : Form). N.IsLeft table.charset f.kind bytes more) next left))
+    let next : d ≡ format = is ∙ ap (λ (n : ℕ). get_or row n d) at ∙ sym (get_or-drop cells row 0 d) ∙ ap (λ (fs : List CellFormat). get_or fs 0 d) are in
+    inr (left_less _ _ _ less (N.subst (λ (f : CellFormat). N.IsLeft row_format.charset f.kind bytes more) next left))
 
 -- what stands before the comma of the next cell, that comma, its field and what comes after it
 module _ (cells made m end : ℕ) (old new final e : List ℕ) (begun : comma_size cells ≤ made) (within : made ≤ length old)
@@ -72,16 +74,17 @@ module _ (cells made m end : ℕ) (old new final e : List ℕ) (begun : comma_si
       )
 
 -- one cell more of the row
-pub far_more : {table : Table} {from : Ahead} {walk : Walk} {bytes old : List ℕ} {rows : ℕ} {row : List Form}
-    (cells used u made m end : ℕ) (d : Form) (new final : List ℕ) (last : Bool)
-    → table.known ≡ table.count → cells < table.count → row ≡ take table.known table.forms.now → last ≡ (cells + 1 == table.count)
+pub far_more : {row_format : RowFormat} {from : Cursor} {walk : Walk} {bytes old : List ℕ} {rows : ℕ} {row : List CellFormat}
+    (cells used u made m end : ℕ) (d : CellFormat) (new final : List ℕ) (last : Bool)
+    → row_format.known ≡ row_format.count → cells < row_format.count → row ≡ take row_format.known row_format.formats.now → last
+    ≡ (cells + 1 == row_format.count)
     → d ≡ get_or row cells d → (comma_size cells ≤ made) × ((made ≤ length old) × (u ≤ length (drop used bytes)))
     → take made old ≡ take (made - comma_size cells) old ++ after_comma cells [] → take made new ≡ take made old
     → (made + m ≤ length new) × (end ≤ length final) → take end final ≡ take (made + m) new ++ end_after last
-    → u ≡ N.whole_size d.kind (drop used bytes) → N.WritesField table.charset d.kind (take u (drop used bytes)) (take m (drop made new))
-    → RowsRan table from bytes old (record { used = used; made = made - comma_size cells; rows = rows; ahead = place walk cells })
-    → RowsRan table from bytes final (record { used = used + u; made = end; rows = rows; ahead = place walk (cells + 1) })
-far_more {table = table} {walk = walk} {bytes = bytes} {old = old} {row = row} cells used u made m end d new final last all some are last_is form_is
+    → u ≡ N.whole_size d.kind (drop used bytes) → N.WritesField row_format.charset d.kind (take u (drop used bytes)) (take m (drop made new))
+    → RowsRan row_format from bytes old (record { used = used; made = made - comma_size cells; rows = rows; ahead = place walk cells })
+    → RowsRan row_format from bytes final (record { used = used + u; made = end; rows = rows; ahead = place walk (cells + 1) })
+far_more {row_format = row_format} {walk = walk} {bytes = bytes} {old = old} {row = row} cells used u made m end d new final last all some are last_is format_is
     (begun, (within, few)) comma kept (fits, ends) is whole wrote x =
     let at = made - comma_size cells in
     let text = far_text cells made m end old new final (end_after last) begun within comma kept fits ends is in
@@ -90,15 +93,15 @@ far_more {table = table} {walk = walk} {bytes = bytes} {old = old} {row = row} c
     let final_is : final ≡ take at old ++ (rest ++ []) =
     sym (N.take-append-drop at final) ∙ ap (λ t. t ++ rest) text.1.0 ∙ ap (λ t. take at old ++ t) (sym (N.append-nil rest)) in
     let left = N.all_after bytes used in
-    let known : cells < table.known = omega (arith, all, some) in
-    let row_form = ap (λ (l : List Form). get_or l cells d) are ∙ N.get_or-take table.known table.forms.now cells d known in
-    let kind_is = ap (λ (f : Form). f.kind) (form_is ∙ row_form) in
+    let known : cells < row_format.known = omega (arith, all, some) in
+    let row_form = ap (λ (l : List CellFormat). get_or l cells d) are ∙ N.get_or-take row_format.known row_format.formats.now cells d known in
+    let kind_is = ap (λ (f : CellFormat). f.kind) (format_is ∙ row_form) in
     let size : 0 < u = omega (arith, whole, whole_some d.kind (drop used bytes)) in
     rw (final_is, made_is) (rows_more {cells = record { used = u; made = end - at; ahead = place walk (cells + 1) }} rest [] size
     (rw left few) (omega (arith, ends, N.length-drop at final))
     (λ columns knows ahead.
-    let next = next_known table columns (place walk cells) d.kind knows ahead d some known (omega (arith, table.there)) kind_is in
-    let after = place_known table (place walk cells) cells (cells + 1) all (omega (arith, some)) (omega (arith, some)) columns knows ahead in
+    let next = next_known row_format columns (place walk cells) d.kind knows ahead d some known (omega (arith, row_format.there)) kind_is in
+    let after = place_known row_format (place walk cells) cells (cells + 1) all (omega (arith, some)) (omega (arith, some)) columns knows ahead in
     let taken = takes next refl after in
-    let end_is = last_is ∙ last_one columns (drop (cells + 1) columns) taken.column cells table.count knows.counted taken.next in
+    let end_is = last_is ∙ last_one columns (drop (cells + 1) columns) taken.column cells row_format.count knows.counted taken.next in
     rw (left, text.1.1) (runs_column taken end_is (wrote cells last).whole)) x)

@@ -1,18 +1,20 @@
 -- Cells by how their values are laid out.
 use Rattle.tds_cells.proofs.Words as N
-use Rattle.tds_cells.proofs.Words.{◌&&◌, ◌≡◌, ℕ, ◌<◌, true, List, length, arith, Kind, Form, Layout, Each}
+use Rattle.tds_cells.proofs.Words.{◌&&◌, ◌≡◌, ℕ, ◌<◌, true, List, length, arith, Kind, CellFormat, Layout, Each}
 use Rattle.tds_cells.specs.declared.layout.Layout.TheVariants.{Chunked, Counted, Fixed, Short as ShortLayout}
 
-pub each_all : (P : Form → Type 0) (n : ℕ) (f : Form) → P f → Each P (N.replicate n f)
+pub each_all : (P : CellFormat → Type 0) (n : ℕ) (f : CellFormat) → P f → Each P (N.replicate n f)
 each_all P n f is k d here = grind (arith, N.get_or-replicate, N.length-replicate)
 
-pub each_set : (P : Form → Type 0) (forms : List Form) (k : ℕ) (f : Form) → Each P forms → k < length forms → P f → Each P (N.slice_set forms k f)
+pub each_set : (P : CellFormat → Type 0) (formats : List CellFormat) (k : ℕ) (f : CellFormat) → Each P formats → k < length formats → P f
+    → Each P (N.slice_set formats k f)
 each_set P _ k f all _ is j d here = search N.rules
 
--- one more form of kinds of which something is said, or a form of another kind
-pub kind_set : (of : Kind → N.Bool) (forms : List Form) (k : ℕ) (f : Form) (all one : N.Bool) → (all ≡ true → Each (λ g. of g.kind ≡ true) forms)
-    → k < length forms → one ≡ of f.kind → (all && one) ≡ true → Each (λ g. of g.kind ≡ true) (N.slice_set forms k f)
-kind_set of forms k f true true before within is _ = each_set (λ g. of g.kind ≡ true) forms k f (before N.refl) within (N.sym is)
+-- one more format of kinds of which something is said, or a format of another kind
+pub kind_set : (of : Kind → N.Bool) (formats : List CellFormat) (k : ℕ) (f : CellFormat) (all one : N.Bool) → (all ≡ true → Each (λ g. of g.kind
+    ≡ true) formats)
+    → k < length formats → one ≡ of f.kind → (all && one) ≡ true → Each (λ g. of g.kind ≡ true) (N.slice_set formats k f)
+kind_set of formats k f true true before within is _ = each_set (λ g. of g.kind ≡ true) formats k f (before N.refl) within (N.sym is)
 kind_set _ _ k f true N.false _ _ _ both = cc
 kind_set _ _ k f N.false _ _ _ _ both = cc
 

@@ -8,9 +8,9 @@ pub mod GrammarTexts
 pub mod GrowingTexts
 pub mod ValueCells
 pub mod LaidOut
-pub mod FormSteps
-pub mod TableRuns
-pub mod TableSteps
+pub mod FormatSteps
+pub mod RowFormatRuns
+pub mod RowFormatSteps
 pub mod RunSteps
 mod Bits
 mod ShortCells

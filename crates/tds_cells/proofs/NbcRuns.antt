@@ -1,7 +1,7 @@
 -- NBCROWs that are whole in the packet, one after another.
 use Rattle.tds_cells.proofs.Words as N
 use Rattle.tds_cells.proofs.Words.{arith, sym, ◌≡◌, ◌+◌, ℕ, List, ◌∷◌, drop, refl, Column}
-use Rattle.tds_cells.proofs.Words.{Ahead, ◌∙◌, ◌-◌, ◌≤◌, ◌<◌, [], ◌++◌, length, ap}
+use Rattle.tds_cells.proofs.Words.{Cursor, ◌∙◌, ◌-◌, ◌≤◌, ◌<◌, [], ◌++◌, length, ap}
 use Rattle.tds_cells.proofs.Words.{Charset}
 use Rattle.tds_cells.proofs.RunSteps.{made_more, unused, used_more}
 
@@ -38,12 +38,12 @@ module _ (used size : ℕ) (bytes : List ℕ) where
       )
 
   -- the row after them isn't written so
-  pub nbc_rows_end : (table : N.Table) (start : Ahead) (made : ℕ) (to text : List ℕ) (run : N.CellRun) → size ≡ N.bitmap_length table.count
-      → start.column ≡ 0 → N.MarkedWritten table (N.bit bitmap) start cells text run
-      → N.EndsFar table (N.bit bitmap) run.ahead (drop run.used cells) (length (unused made to) - run.made)
-      → N.◌⊎◌ (run.ahead.column ≡ table.count → ⊥) (N.BeginNoRow N.NbcRow (unused run.used cells))
-      → N.EndsNbcRows table (N.bitmap_length table.count) (drop used bytes) (length to - made)
-  nbc_rows_end table start made to text run size_is first wrote far end =
+  pub nbc_rows_end : (row_format : N.RowFormat) (start : Cursor) (made : ℕ) (to text : List ℕ) (run : N.CellRun) → size ≡ N.bitmap_length row_format.count
+      → start.column ≡ 0 → N.MarkedWritten row_format (N.bit bitmap) start cells text run
+      → N.EndsFar row_format (N.bit bitmap) run.ahead (drop run.used cells) (length (unused made to) - run.made)
+      → N.◌⊎◌ (run.ahead.column ≡ row_format.count → ⊥) (N.BeginNoRow N.NbcRow (unused run.used cells))
+      → N.EndsNbcRows row_format (N.bitmap_length row_format.count) (drop used bytes) (length to - made)
+  nbc_rows_end row_format start made to text run size_is first wrote far end =
       let all = N.all_after bytes used in
       let rest = N.all_after (drop used bytes) size in
       let room = ap length (N.all_after to made) ∙ N.length-drop made to in

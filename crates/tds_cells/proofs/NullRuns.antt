@@ -2,7 +2,7 @@
 use Rattle.tds_cells.proofs.Words as N
 use Rattle.tds_cells.proofs.Words.{◌≡◌, ◌∙◌, ◌==◌, ℕ, ◌+◌, ◌*◌, ◌-◌, ◌≤◌, ◌<◌, Bool, List, [], ◌++◌, zero, suc, length, take, drop, refl, sym, ap, arith}
 use Rattle.tds_cells.proofs.Words.{AreSet, WritesNulls, Column, Charset}
-use Rattle.tds_cells.proofs.TableSteps.{last_one}
+use Rattle.tds_cells.proofs.RowFormatSteps.{last_one}
 
 -- a column that is NULL by its bit
 null_column : (charset : Charset) (columns : List Column) (nulls : ℕ → Bool) (k : ℕ) → k < length columns → nulls k ≡ N.true

@@ -6,7 +6,7 @@ use Rattle.tds_cells.proofs.Words.{rows_so_far, Kind}
 use Rattle.tds_cells.proofs.RowTexts.{row_cell}
 use Rattle.tds_cells.proofs.RowTexts.{coming, none_ahead}
 use Rattle.tds_cells.proofs.GrammarTexts.{writes_both, writes_inside, writes_none}
-use Rattle.tds_cells.proofs.TableSteps.{next_column}
+use Rattle.tds_cells.proofs.RowFormatSteps.{next_column}
 
 -- ---- cells of a row
 

@@ -18,7 +18,7 @@ pub use Rattle.tds_columns.specs.Description.{Column}
 pub use Rattle.tds_columns.specs.View.{columns_of}
 pub use Rattle.tds_columns.specs.Walking.{columns_left, column_value}
 pub use Rattle.tds_columns.specs.declared.walk.Walk.{Walk}
-pub use Rattle.tds_text.proofs.Begun.{open_closes, open_grows}
+pub use Rattle.tds_text.proofs.OpenTexts.{open_closes, open_grows}
 pub use Rattle.tds_text.proofs.ConversionLaws.{no_data_is_fit, fit_begins, fit_units, begun_by_test}
 pub use Rattle.tds_text.specs.Conversion.{is_begun, Conversion, is_fit, long_field, unit}
 pub use Rattle.tds_text.specs.Conversion.{closing, open_field, conversion_text}
@@ -27,7 +27,7 @@ pub use Rattle.tds_text.specs.declared.fields.Content.{Content}
 pub use Rattle.tds_packet.proofs.Choices.{test_lt, choose_false, choose_true, eq_false, eq_true, choose}
 pub use Rattle.tds_packet.proofs.ElementLaws.{Spelt-induct, AreBytes-back, one_state, Spelt-step, Inside}
 pub use Rattle.tds_packet.proofs.ElementLaws.{refused_for_good, AreBytes-front, Spelt-append, Spelt-one, Inside-Spelt}
-pub use Rattle.tds_packet.proofs.Lifts.{next_some}
+pub use Rattle.tds_packet.proofs.InnerGrammars.{next_some}
 pub use Rattle.tds_packet.specs.Elements.{IsRefused, AreBytes, Grammar, Spelt, IsNext, Leads}
 pub use Rattle.tds_packet.specs.declared.fault.Fault.{Fault}
 pub use Rattle.tds_packet.specs.declared.fault.Fault.TheVariants.{PlpLength}
@@ -39,9 +39,9 @@ pub use Rattle.tds_cells.specs.Cells.{SpellsChunked, cell_size, unless, shape}
 pub use Rattle.tds_cells.specs.Cells.{ScalarBytes, Total, field, SpellsShort, Shape, known_total, FixedShape, field_so_far, ChunkData, CellPart}
 pub use Rattle.tds_cells.specs.Cells.{SpellsChunk, SpellsChunks, LongShape, shape_of_length, Cell, is_total, SpellsCell}
 pub use Rattle.tds_cells.specs.Cells.{DataCell}
-pub use Rattle.tds_cells.specs.FormRuns.{run_since, FormsWritten, FirstLeft, FieldsWritten, AreNext, WritesForms, FirstUsed, FirstWritten, RunsForms}
-pub use Rattle.tds_cells.specs.FormRuns.{WritesFields}
-pub use Rattle.tds_cells.specs.Forms.{AreCounted, AreInt4, AreLaidOut, Each}
+pub use Rattle.tds_cells.specs.FormatRuns.{run_since, FormatsWritten, FirstLeft, FieldsWritten, AreNext, WritesFormats, FirstUsed, FirstWritten, RunsFormats}
+pub use Rattle.tds_cells.specs.FormatRuns.{WritesFields}
+pub use Rattle.tds_cells.specs.Formats.{AreCounted, AreInt4, AreLaidOut, Each}
 pub use Rattle.tds_cells.specs.Layouts.{IsLaidOut}
 pub use Rattle.tds_cells.specs.MarkedRuns.{WritesColumn, EndsFar, EndsLeft, MarkedWritten, AreClear, WritesMarked}
 pub use Rattle.tds_cells.specs.MarkedRuns.{RunsMarked, WritesNext}
@@ -55,17 +55,17 @@ pub use Rattle.tds_cells.specs.ShortCells.{stated_length, short_size}
 pub use Rattle.tds_cells.specs.ChunkedCells.{HasOneChunk, chunk_data, chunk_end, chunked_size, stated_total}
 pub use Rattle.tds_cells.specs.LongFields.{IsShapeLeft}
 pub use Rattle.tds_cells.specs.Rows.{BeginNoRow}
-pub use Rattle.tds_cells.specs.Tables.{BeginsRow, TakesColumn, IsAhead, AreAhead, kinds, Knows, NextColumn, place}
+pub use Rattle.tds_cells.specs.RowFormats.{BeginsRow, TakesColumn, IsCursor, AreAtCursor, kinds, Knows, NextColumn, place}
 pub use Rattle.tds_cells.specs.WholeCells.{WritesCell, WritesWhole}
-pub use Rattle.tds_cells.specs.declared.layout.Form.{Form}
+pub use Rattle.tds_cells.specs.declared.layout.CellFormat.{CellFormat}
 pub use Rattle.tds_cells.specs.declared.layout.Layout.{Layout}
 pub use Rattle.tds_cells.specs.declared.whole.TheConstants.{CELL_ROOM}
 pub use Rattle.tds_cells.specs.declared.run.CellRun.{CellRun}
 pub use Rattle.tds_cells.specs.declared.run.RowsRun.{RowsRun}
 pub use Rattle.tds_cells.specs.declared.run.KnownRun.{KnownRun}
-pub use Rattle.tds_cells.specs.declared.run.forms.FormsRun.{FormsRun}
-pub use Rattle.tds_cells.specs.declared.table.Ahead.{Ahead}
-pub use Rattle.tds_cells.specs.declared.table.Table.{Table}
+pub use Rattle.tds_cells.specs.declared.run.formats.FormatsRun.{FormatsRun}
+pub use Rattle.tds_cells.specs.declared.row_format.Cursor.{Cursor}
+pub use Rattle.tds_cells.specs.declared.row_format.RowFormat.{RowFormat}
 pub use Rattle.tds_values.specs.Front.{scalar_size, start_after, length_after, value_length, value_bytes, value_start}
 pub use Rattle.tds_values.proofs.WrittenLemmas.{answered}
 pub use Rattle.tds_values.specs.Kind.{is_length_allowed, fixed_length, is_scalar}

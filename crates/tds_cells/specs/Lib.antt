@@ -1,11 +1,11 @@
 pub mod Cells
 pub mod Rows
 pub mod CellTexts
-pub mod Tables
+pub mod RowFormats
 pub mod Runs
-pub mod FormRuns
+pub mod FormatRuns
 pub mod Layouts
-pub mod Forms
+pub mod Formats
 pub mod ShortCells
 pub mod ChunkedCells
 pub mod LongFields

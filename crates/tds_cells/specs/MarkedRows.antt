@@ -4,12 +4,12 @@ use Rattle.tds_values.specs.declared.charset.Charset.{Charset}
 use Rattle.tds_columns.specs.Description.{Column}
 use Rattle.tds_cells.specs.declared.nulls.WholeRows.{WholeRows}
 use Rattle.tds_cells.specs.declared.run.CellRun.{CellRun}
-use Rattle.tds_cells.specs.declared.table.Ahead.{Ahead}
-use Rattle.tds_cells.specs.declared.table.Table.{Table}
+use Rattle.tds_cells.specs.declared.row_format.Cursor.{Cursor}
+use Rattle.tds_cells.specs.declared.row_format.RowFormat.{RowFormat}
 use Rattle.tds_cells.specs.MarkedRuns.{EndsFar, MarkedWritten, WritesMarked}
 use Rattle.tds_cells.specs.Rows.{NbcRow, bit, bitmap_length, token_byte}
 use Rattle.tds_cells.specs.Rows.{BeginNoRow}
-use Rattle.tds_cells.specs.Tables.{Knows}
+use Rattle.tds_cells.specs.RowFormats.{Knows}
 
 -- The bytes are the bitmap and the cells of an NBCROW, and this is its line.
 pub record WritesNbcRow (charset : Charset) (columns : List Column) (bytes text : List ℕ) : Type 0 where
@@ -27,13 +27,13 @@ WritesNbcRows charset columns (suc n) bytes text = (front : List ℕ) × (row : 
     × WritesNbcRow charset columns row line
 
 -- A run wrote the lines of the NBCROWs that it used.
-abbrev pub NbcRowsWritten : Table → List ℕ → List ℕ → WholeRows → Type 0
-NbcRowsWritten table bytes text run = (columns : List Column) → Knows table columns →
-    WritesNbcRows table.charset columns run.rows (take run.used bytes) (take run.made text)
+abbrev pub NbcRowsWritten : RowFormat → List ℕ → List ℕ → WholeRows → Type 0
+NbcRowsWritten row_format bytes text run = (columns : List Column) → Knows row_format columns →
+    WritesNbcRows row_format.charset columns run.rows (take run.used bytes) (take run.made text)
 
 -- The next NBCROW can't be written so: its bitmap isn't whole, the run over its cells ends before the row does, or that of another doesn't follow.
-abbrev pub EndsNbcRows : Table → ℕ → List ℕ → ℕ → Type 0
-EndsNbcRows table size bytes room = (length bytes < size) ⊎ ((from : Ahead) × (run : CellRun) × (text : List ℕ) × (from.column ≡ 0)
-    × MarkedWritten table (bit (take size bytes)) from (drop size bytes) text run
-    × EndsFar table (bit (take size bytes)) run.ahead (drop run.used (drop size bytes)) (room - run.made)
-    × ((run.ahead.column ≡ table.count → ⊥) ⊎ BeginNoRow NbcRow (drop run.used (drop size bytes))))
+abbrev pub EndsNbcRows : RowFormat → ℕ → List ℕ → ℕ → Type 0
+EndsNbcRows row_format size bytes room = (length bytes < size) ⊎ ((from : Cursor) × (run : CellRun) × (text : List ℕ) × (from.column ≡ 0)
+    × MarkedWritten row_format (bit (take size bytes)) from (drop size bytes) text run
+    × EndsFar row_format (bit (take size bytes)) run.ahead (drop run.used (drop size bytes)) (room - run.made)
+    × ((run.ahead.column ≡ row_format.count → ⊥) ⊎ BeginNoRow NbcRow (drop run.used (drop size bytes))))

@@ -5,12 +5,12 @@ use Rattle.tds_columns.specs.Description.{Column}
 use Rattle.tds_text.specs.Quoting.{in_line, null_field}
 use Rattle.tds_values.specs.declared.charset.Charset.{Charset}
 use Rattle.tds_cells.specs.declared.run.CellRun.{CellRun}
-use Rattle.tds_cells.specs.declared.whole.TheConstants.{CELL_ROOM, FAR}
-use Rattle.tds_cells.specs.declared.table.Ahead.{Ahead}
-use Rattle.tds_cells.specs.declared.table.Table.{Table}
+use Rattle.tds_cells.specs.declared.whole.TheConstants.{CELL_ROOM, LOOKAHEAD}
+use Rattle.tds_cells.specs.declared.row_format.Cursor.{Cursor}
+use Rattle.tds_cells.specs.declared.row_format.RowFormat.{RowFormat}
 use Rattle.tds_cells.specs.Cells.{cell_start, shape}
 use Rattle.tds_cells.specs.CellTexts.{IsLeft, is_last_column}
-use Rattle.tds_cells.specs.Tables.{IsAhead, Knows}
+use Rattle.tds_cells.specs.RowFormats.{IsCursor, Knows}
 use Rattle.tds_cells.specs.WholeCells.{WritesWhole}
 
 -- This is a cell's text in its line: that of NULL, which has no bytes, if that is its bit, and of the cell that the bytes are if it isn't.
@@ -53,32 +53,33 @@ WritesNulls nulls from count n text = (charset : Charset) (columns : List Column
     WritesMarked charset columns nulls from n [] text
 
 -- Between two places of a row the bytes are the cells, each but those that are NULL by their bit, and this is their text; single-byte text is read in
--- the table's set.
-pub record RunsMarked (table : Table) (columns : List Column) (nulls : ℕ → Bool) (from to : Ahead) (bytes text : List ℕ) : Type 0 where
+-- the row format's set.
+pub record RunsMarked (row_format : RowFormat) (columns : List Column) (nulls : ℕ → Bool) (from to : Cursor) (bytes text : List ℕ) : Type 0 where
   pub count : ℕ
-  pub ahead : IsAhead table columns to
+  pub ahead : IsCursor row_format columns to
   pub further : to.column ≡ from.column + count
-  pub writes : WritesMarked table.charset columns nulls from.column count bytes text
+  pub writes : WritesMarked row_format.charset columns nulls from.column count bytes text
 
--- ---- what a run gives, whatever the columns that its table knows
+-- ---- what a run gives, whatever the columns that its row format knows
 
 -- The next cell isn't NULL by its bit and is left, with this much room; or there isn't room for every scalar, or none is ahead.
-abbrev pub EndsLeft : Table → (ℕ → Bool) → Ahead → List ℕ → ℕ → Type 0
-EndsLeft table nulls at bytes room = (columns : List Column) (column : Column) (left : List Column) → Knows table columns → IsAhead table columns at
+abbrev pub EndsLeft : RowFormat → (ℕ → Bool) → Cursor → List ℕ → ℕ → Type 0
+EndsLeft row_format nulls at bytes room = (columns : List Column) (column : Column) (left : List Column) → Knows row_format columns
+    → IsCursor row_format columns at
     → drop at.column columns ≡ column ∷ left →
-    (room < CELL_ROOM) ⊎ ((nulls at.column ≡ false) × IsLeft table.charset column.kind bytes room)
+    (room < CELL_ROOM) ⊎ ((nulls at.column ≡ false) × IsLeft row_format.charset column.kind bytes room)
 
 -- A run ended there, or where bytes or room are too few for any scalar.
-abbrev pub EndsFar : Table → (ℕ → Bool) → Ahead → List ℕ → ℕ → Type 0
-EndsFar table nulls at bytes room = (length bytes < FAR) ⊎ ((room < CELL_ROOM) ⊎ EndsLeft table nulls at bytes room)
+abbrev pub EndsFar : RowFormat → (ℕ → Bool) → Cursor → List ℕ → ℕ → Type 0
+EndsFar row_format nulls at bytes room = (length bytes < LOOKAHEAD) ⊎ ((room < CELL_ROOM) ⊎ EndsLeft row_format nulls at bytes room)
 
 -- A run wrote the text of the cells between two places, whose bytes it used.
-abbrev pub MarkedWritten : Table → (ℕ → Bool) → Ahead → List ℕ → List ℕ → CellRun → Type 0
-MarkedWritten table nulls from bytes text run = (columns : List Column) → Knows table columns → IsAhead table columns from →
-    RunsMarked table columns nulls from run.ahead (take run.used bytes) (take run.made text)
+abbrev pub MarkedWritten : RowFormat → (ℕ → Bool) → Cursor → List ℕ → List ℕ → CellRun → Type 0
+MarkedWritten row_format nulls from bytes text run = (columns : List Column) → Knows row_format columns → IsCursor row_format columns from →
+    RunsMarked row_format columns nulls from run.ahead (take run.used bytes) (take run.made text)
 
 -- A run used and made no more than there is, and ended where no more could be taken.
-pub record EndsMarked (table : Table) (nulls : ℕ → Bool) (bytes : List ℕ) (room : ℕ) (run : CellRun) : Type 0 where
+pub record EndsMarked (row_format : RowFormat) (nulls : ℕ → Bool) (bytes : List ℕ) (room : ℕ) (run : CellRun) : Type 0 where
   pub used : run.used ≤ length bytes
   pub made : run.made ≤ room
-  pub left : EndsLeft table nulls run.ahead (drop run.used bytes) (room - run.made)
+  pub left : EndsLeft row_format nulls run.ahead (drop run.used bytes) (room - run.made)

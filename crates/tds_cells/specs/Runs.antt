@@ -14,14 +14,14 @@ use Rattle.tds_cells.specs.declared.run.CellRun.{CellRun}
 use Rattle.tds_cells.specs.declared.run.RowsRun.{RowsRun}
 use Rattle.tds_cells.specs.declared.run.KnownRun.{KnownRun}
 use Rattle.tds_cells.specs.declared.whole.TheConstants.{CELL_ROOM}
-use Rattle.tds_cells.specs.declared.table.Ahead.{Ahead}
-use Rattle.tds_cells.specs.declared.table.Table.{Table}
+use Rattle.tds_cells.specs.declared.row_format.Cursor.{Cursor}
+use Rattle.tds_cells.specs.declared.row_format.RowFormat.{RowFormat}
 use Rattle.tds_cells.specs.Cells.{Cell, field}
 use Rattle.tds_cells.specs.Rows.{PlainRow, RowPart, RowToken, WholeRow, marked, next_cell, row_add, row_fault, row_size, row_so_far, token_byte}
 use Rattle.tds_cells.specs.Rows.{token_start}
 use Rattle.tds_cells.specs.MarkedRuns.{EndsFar, EndsLeft, MarkedWritten}
 use Rattle.tds_cells.specs.CellTexts.{IsLeft, WritesKind, whole_size}
-use Rattle.tds_cells.specs.Tables.{BeginsRow, IsAhead, Knows, place}
+use Rattle.tds_cells.specs.RowFormats.{BeginsRow, IsCursor, Knows, place}
 
 -- The bytes are whole elements, which lead from one state to another, and this is what the text of the second has more than that of the first.
 pub record Writes {S : Type 0} (g : Grammar S Fault) (text : S → List ℕ) (from : S) (bytes made : List ℕ) (to : S) : Type 0 where
@@ -87,32 +87,32 @@ pub record WritesRows (charset : Charset) (all : List Column) (cells : List Cell
   pub writes : Writes (rows PlainRow charset all) rows_so_far (record { before = []; at = after_cells charset cells columns }) bytes made
       (record { before = before; at = after_cells charset more left })
 
--- ---- what a run gives, whatever the columns that its table knows, and whatever the cells before it
+-- ---- what a run gives, whatever the columns that its row format knows, and whatever the cells before it
 
 -- A run within a row used and made no more than there is, went on if it used a byte, and not beyond its end.
-pub record StaysWithin (from : Ahead) (end bytes room : ℕ) (run : CellRun) : Type 0 where
+pub record StaysWithin (from : Cursor) (end bytes room : ℕ) (run : CellRun) : Type 0 where
   pub used : run.used ≤ bytes
   pub made : run.made ≤ room
   pub further : 0 < run.used → from.column < run.ahead.column
   pub before : from.column ≤ end → run.ahead.column ≤ end
 
 -- A run ended at the row's end, without room for every scalar, or before a cell that is left.
-abbrev pub RunEnds : Table → Ahead → List ℕ → ℕ → Type 0
-RunEnds table at bytes room = EndsLeft table (λ k. false) at bytes room
+abbrev pub RunEnds : RowFormat → Cursor → List ℕ → ℕ → Type 0
+RunEnds row_format at bytes room = EndsLeft row_format (λ k. false) at bytes room
 
 -- A run within a row that ended before this column ended before a cell that is left, or without room for every scalar.
-abbrev pub LeavesNext : Table → Ahead → ℕ → List ℕ → ℕ → CellRun → Type 0
-LeavesNext table from until bytes room run = (columns : List Column) (column : Column) (left : List Column) → Knows table columns
-    → IsAhead table columns from → run.ahead.column < until → drop run.ahead.column columns ≡ column ∷ left →
-    (room - run.made < CELL_ROOM) ⊎ IsLeft table.charset column.kind (drop run.used bytes) (room - run.made)
+abbrev pub LeavesNext : RowFormat → Cursor → ℕ → List ℕ → ℕ → CellRun → Type 0
+LeavesNext row_format from until bytes room run = (columns : List Column) (column : Column) (left : List Column) → Knows row_format columns
+    → IsCursor row_format columns from → run.ahead.column < until → drop run.ahead.column columns ≡ column ∷ left →
+    (room - run.made < CELL_ROOM) ⊎ IsLeft row_format.charset column.kind (drop run.used bytes) (room - run.made)
 
 -- A run that ended at a row's end is followed by no ROW.
-abbrev pub EndsLast : Table → ℕ → List ℕ → Type 0
-EndsLast table column bytes = column ≡ table.count → BeginsRow bytes → ⊥
+abbrev pub EndsLast : RowFormat → ℕ → List ℕ → Type 0
+EndsLast row_format column bytes = column ≡ row_format.count → BeginsRow bytes → ⊥
 
 -- A run ended so, or where bytes or room are too few for any scalar.
-abbrev pub FarEnds : Table → Ahead → List ℕ → ℕ → Type 0
-FarEnds table at bytes room = EndsFar table (λ k. false) at bytes room
+abbrev pub EndsFarInRows : RowFormat → Cursor → List ℕ → ℕ → Type 0
+EndsFarInRows row_format at bytes room = EndsFar row_format (λ k. false) at bytes room
 
 -- The first bytes, this many, are a whole cell of a kind, and this much of the text is its text in its line.
 pub record WritesOne (charset : Charset) (kind : Kind) (column : ℕ) (last : Bool) (bytes text : List ℕ) (used made : ℕ) : Type 0 where
@@ -125,29 +125,29 @@ AloneWritten charset kind column last bytes room text result =
     MatchOption result (IsLeft charset kind bytes room) (λ written. WritesOne charset kind column last bytes text written.used written.made)
 
 -- A run wrote the text of the cells between two places of a row, whose bytes it used; none of them is NULL by a bit.
-abbrev pub CellsWritten : Table → Ahead → List ℕ → List ℕ → CellRun → Type 0
-CellsWritten table from bytes text run = MarkedWritten table (λ k. false) from bytes text run
+abbrev pub CellsWritten : RowFormat → Cursor → List ℕ → List ℕ → CellRun → Type 0
+CellsWritten row_format from bytes text run = MarkedWritten row_format (λ k. false) from bytes text run
 
--- A run wrote the text of the bytes that it used, over the ends of rows, and ended at a place of a row; single-byte text was read in the table's set.
-abbrev pub RowsWritten : Table → Ahead → List ℕ → List ℕ → RowsRun → Type 0
-RowsWritten table from bytes text run = (columns : List Column) → Knows table columns → IsAhead table columns from →
-    IsAhead table columns run.ahead × ((charset : Charset) (cells : List Cell) → table.charset ≡ charset → length cells ≡ from.column →
+-- A run wrote the text of the bytes that it used, over the ends of rows, and ended at a place of a row; single-byte text was read in the row format's set.
+abbrev pub RowsWritten : RowFormat → Cursor → List ℕ → List ℕ → RowsRun → Type 0
+RowsWritten row_format from bytes text run = (columns : List Column) → Knows row_format columns → IsCursor row_format columns from →
+    IsCursor row_format columns run.ahead × ((charset : Charset) (cells : List Cell) → row_format.charset ≡ charset → length cells ≡ from.column →
     WritesRows charset columns cells (drop from.column columns) (drop run.ahead.column columns) run.ahead.column run.rows (take run.used bytes)
     (take run.made text))
 
 -- A run over rows used and made no more than there is, began fewer rows than it used bytes, and wrote the text of what it used.
-pub record RowsRan (table : Table) (from : Ahead) (bytes text : List ℕ) (run : RowsRun) : Type 0 where
+pub record RowsRan (row_format : RowFormat) (from : Cursor) (bytes text : List ℕ) (run : RowsRun) : Type 0 where
   pub used : run.used ≤ length bytes
   pub made : run.made ≤ length text
   pub few : run.rows ≤ run.used
-  pub writes : RowsWritten table from bytes text run
+  pub writes : RowsWritten row_format from bytes text run
 
--- A run over rows all of whose columns the table knows did so from this column on, whatever the walk.
-pub record KnownRan (table : Table) (column : ℕ) (bytes text : List ℕ) (run : KnownRun) : Type 0 where
+-- A run over rows all of whose columns the row format knows did so from this column on, whatever the walk.
+pub record KnownRan (row_format : RowFormat) (column : ℕ) (bytes text : List ℕ) (run : KnownRun) : Type 0 where
   pub used : run.used ≤ length bytes
   pub made : run.made ≤ length text
   pub few : run.rows ≤ run.used
-  pub writes : (walk : Walk) → RowsWritten table (place walk column) bytes text
+  pub writes : (walk : Walk) → RowsWritten row_format (place walk column) bytes text
       (record { used = run.used; made = run.made; rows = run.rows; ahead = place walk run.column })
 
 -- how many bytes the comma before a column's field has
@@ -155,9 +155,9 @@ abbrev pub comma_size : ℕ → ℕ
 comma_size column = length (after_comma column [])
 
 -- Such a run ended before this column as other runs do, whatever the walk.
-abbrev pub KnownEnds : Table → ℕ → List ℕ → ℕ → Type 0
-KnownEnds table column bytes room = (walk : Walk) → RunEnds table (place walk column) bytes room
+abbrev pub KnownEnds : RowFormat → ℕ → List ℕ → ℕ → Type 0
+KnownEnds row_format column bytes room = (walk : Walk) → RunEnds row_format (place walk column) bytes room
 
 -- It ended so, or where bytes or room are too few for any scalar.
-abbrev pub KnownFarEnds : Table → ℕ → List ℕ → ℕ → Type 0
-KnownFarEnds table column bytes room = (walk : Walk) → FarEnds table (place walk column) bytes room
+abbrev pub KnownFarEnds : RowFormat → ℕ → List ℕ → ℕ → Type 0
+KnownFarEnds row_format column bytes room = (walk : Walk) → EndsFarInRows row_format (place walk column) bytes room

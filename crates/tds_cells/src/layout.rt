@@ -24,7 +24,7 @@ pub enum Layout {
 /// What a cell needs of its column: the kind of its values, and how they are laid out. It takes 8 bytes, so that one of many
 /// is found without a product.
 #[derive(Clone, Copy)]
-pub struct Form {
+pub struct CellFormat {
     pub kind: Kind,
     pub layout: Layout,
     pub ghost valid: { IsTrue (is_valid kind) },
@@ -66,14 +66,14 @@ fn lay_out(kind: &Kind, charset: Charset) -> Layout
     }
 }
 
-impl Form {
+impl CellFormat {
     /// What a cell of a kind needs if single-byte text is in this set.
-    pub(crate) fn of(kind: Kind, charset: Charset) -> Form
+    pub(crate) fn of(kind: Kind, charset: Charset) -> CellFormat
         requires { IsTrue (is_valid kind) }
         ensures kind { result.kind ≡ kind }
         ensures laid { IsLaidOut charset result.kind result.layout }
     {
-        Form {
+        CellFormat {
             kind,
             layout: lay_out(&kind, charset),
         }

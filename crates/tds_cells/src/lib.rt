@@ -1,27 +1,29 @@
 //! Cells and runs of cells that are whole in a packet, written from a slice to a slice (MS-TDS, ROW, NBCROW and Data
 //! Stream Types).
 //!
-//! A [`Table`] knows of each column of a description, or of the first 1,024, how its cells are written: its [`Form`]. A
+//! A [`RowFormat`] knows of each column of a description, or of the first 1,024, how its cells are written: its [`CellFormat`]. A
 //! run writes the text of cell after cell, from a place in a row, as far as their bytes are whole and there is room, and
 //! says how many bytes it used and made, and where it ended. Nothing is read or delivered here, and no fault is named: a
 //! cell that isn't whole, is refused or is in several chunks is left to the caller.
 //!
 //! # The way in
 //!
-//! `layout.rt` has the forms, `table.rt` the tables and the places in a row, and `whole.rt` one cell. `run.rt` has the
-//! loops over the cells of ROWs, with those over forms in `run/forms.rt`, and `nulls.rt` those of NBCROWs. `specs/Cells`
+//! `layout.rt` has the formats, `row_format.rt` the row formats and the places in a row, and `whole.rt` one cell. `run.rt` has the
+//! loops over the cells of ROWs, with those over formats in `run/formats.rt`, and `nulls.rt` those of NBCROWs. `specs/Cells`
 //! and `specs/Rows` have the one grammar of cells and rows, to which `tds_rows` is held too.
 #![tactic(auto, using(tds_packet::proofs::Passing::passed))]
 
 pub mod laws;
 mod layout;
 mod nulls;
+mod row_format;
 mod run;
-mod table;
 mod whole;
 
-pub use layout::{Form, Layout};
+pub use layout::{CellFormat, Layout};
 pub use nulls::{NBCROW, WholeRows, bitmap_size, is_null};
+pub use row_format::{
+    Cursor, FEW_COLUMNS, Learnt, MANY_COLUMNS, ROW, RowFormat, SOME_COLUMNS, blank,
+};
 pub use run::{CellRun, RowsRun};
-pub use table::{Ahead, FEW_COLUMNS, Learnt, MANY_COLUMNS, ROW, SOME_COLUMNS, Table, blank};
-pub use whole::{CELL_ROOM, FAR, NULL_LENGTH, NULL_TOTAL, UNKNOWN_TOTAL};
+pub use whole::{CELL_ROOM, LOOKAHEAD, NULL_LENGTH, NULL_TOTAL, UNKNOWN_TOTAL};

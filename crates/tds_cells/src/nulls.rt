@@ -3,12 +3,12 @@ ghost use Rattle.std.specs.Prelude.{true, ◌≡◌, ◌+◌, ◌-◌, ◌*◌, 
 ghost use Rattle.tds_cells.specs.MarkedRows.{EndsNbcRows, NbcRowsWritten};
 ghost use Rattle.tds_cells.specs.MarkedRuns.{AreClear, AreSet, EndsClear, EndsFar, EndsMarked, MarkedWritten, WritesNulls};
 ghost use Rattle.tds_cells.specs.Rows.{bit, bitmap_length, longest_bitmap};
-ghost use Rattle.tds_cells.specs.Tables.{KnowsAll};
+ghost use Rattle.tds_cells.specs.RowFormats.{KnowsAll};
 
+use crate::row_format::{Cursor, RowFormat};
 use crate::run::CellRun;
-use crate::run::forms::write_far_alone;
-use crate::table::{Ahead, Table};
-use crate::whole::{CELL_ROOM, FAR};
+use crate::run::formats::write_far_alone;
+use crate::whole::{CELL_ROOM, LOOKAHEAD};
 use tds_text::write_null;
 
 /// The token byte of an NBCROW (MS-TDS, NBCROW).
@@ -119,13 +119,13 @@ pub struct WholeRows {
     pub rows: usize,
 }
 
-impl<'a> Table<'a> {
-    // Writes cell after cell of an NBCROW whose columns the table all knows, as `run_nulls` does, as long as bytes and room go
+impl<'a> RowFormat<'a> {
+    // Writes cell after cell of an NBCROW whose columns the row format all knows, as `run_nbc` does, as long as bytes and room go
     // on far enough for any scalar.
     #[inline(always)]
     fn run_far_marked(
         &self,
-        from: Ahead<'a>,
+        from: Cursor<'a>,
         bitmap: &[u8],
         bytes: &[u8],
         to: &mut [u8],
@@ -138,16 +138,16 @@ impl<'a> Table<'a> {
             (length to.old - result.made) }
         ensures cells { MarkedWritten self.now (bit bitmap.now) from.entry bytes.now to.new result }
     {
-        if bytes.len() < FAR || to.len() < CELL_ROOM {
+        if bytes.len() < LOOKAHEAD || to.len() < CELL_ROOM {
             return CellRun::none(from);
         }
-        let latest = bytes.len() - FAR;
+        let latest = bytes.len() - LOOKAHEAD;
         let most = to.len() - CELL_ROOM;
         let mut used = 0;
         let mut made = 0;
         let mut ahead = from;
         while used <= latest && made <= most {
-            let Some(form) = self.known_form(ahead) else {
+            let Some(format) = self.known_format(ahead) else {
                 break;
             };
             let (column, last) = (ahead.column, self.is_last(ahead));
@@ -158,7 +158,7 @@ impl<'a> Table<'a> {
                 columns = nulls.columns;
             } else {
                 let charset = self.charset;
-                let next = write_far_alone(&form, charset, column, last, bytes, used, to, made);
+                let next = write_far_alone(&format, charset, column, last, bytes, used, to, made);
                 let Some(written) = next else {
                     break;
                 };
@@ -209,11 +209,11 @@ impl<'a> Table<'a> {
         whole
     }
 
-    // Writes cell after cell of an NBCROW as `run_nulls` does. `KNOWN` says that the table knows all columns.
+    // Writes cell after cell of an NBCROW as `run_nbc` does. `KNOWN` says that the row format knows all columns.
     #[inline(never)]
     fn run_marked<const KNOWN: bool>(
         &self,
-        from: Ahead<'a>,
+        from: Cursor<'a>,
         bitmap: &[u8],
         bytes: &[u8],
         to: &mut [u8],
@@ -251,9 +251,9 @@ impl<'a> Table<'a> {
     /// Writes cell after cell of an NBCROW, as far as they are NULL by their bit or whole in these bytes, aren't in several
     /// chunks, and have room. NULLs are written here.
     #[inline(always)]
-    pub fn run_nulls(
+    pub fn run_nbc(
         &self,
-        from: Ahead<'a>,
+        from: Cursor<'a>,
         bitmap: &[u8],
         bytes: &[u8],
         to: &mut [u8],

@@ -1,27 +1,27 @@
 // A run of cells: as many as are whole in the packet and have room, over the ends of rows.
 ghost use Rattle.std.specs.Prelude.{false, true, ◌≡◌, ◌==◌, ◌+◌, ◌-◌, ◌<◌, ◌≤◌, drop, length, min, take, IfSome};
 ghost use Rattle.tds_cells.specs.declared.whole.TheConstants.{CELL_ROOM};
-ghost use Rattle.tds_cells.specs.FormRuns.{NumbersEnd};
+ghost use Rattle.tds_cells.specs.FormatRuns.{NumbersEnd};
 ghost use Rattle.tds_cells.specs.Layouts.{IsLaidOut};
 ghost use Rattle.tds_cells.specs.Runs.{AloneWritten, CellsWritten, EndsLast, KnownEnds, KnownFarEnds, KnownRan, LeavesNext, RowsRan, RunEnds};
 ghost use Rattle.tds_cells.specs.Runs.{StaysWithin, comma_size};
-ghost use Rattle.tds_cells.specs.Tables.{AreAhead, KnowsAll};
+ghost use Rattle.tds_cells.specs.RowFormats.{AreAtCursor, KnowsAll};
 
-use crate::layout::Form;
-use crate::run::forms::{latest_row, run_forms, run_row};
-use crate::table::{Ahead, Table};
-use crate::whole::{CELL_ROOM, FAR, VALUE_ROOM, write_far_cell};
+use crate::layout::CellFormat;
+use crate::row_format::{Cursor, RowFormat};
+use crate::run::formats::{latest_row, run_formats, run_row};
+use crate::whole::{CELL_ROOM, LOOKAHEAD, VALUE_ROOM, write_far_cell};
 use tds_text::{COMMA, write_comma, write_line_end};
 use tds_values::Span;
 
-pub(crate) mod forms;
+pub(crate) mod formats;
 
 /// How many bytes a run within a row used, how many it made, and where it ended.
 #[derive(Clone, Copy)]
 pub struct CellRun<'a> {
     pub used: usize,
     pub made: usize,
-    pub ahead: Ahead<'a>,
+    pub ahead: Cursor<'a>,
 }
 
 /// How many bytes a run over rows used, how many it made, how many rows it began, and where it ended.
@@ -30,10 +30,10 @@ pub struct RowsRun<'a> {
     pub used: usize,
     pub made: usize,
     pub rows: usize,
-    pub ahead: Ahead<'a>,
+    pub ahead: Cursor<'a>,
 }
 
-/// What a run over rows did all of whose columns the table knows: how many bytes it used, how many it made, how many rows it
+/// What a run over rows did all of whose columns the row format knows: how many bytes it used, how many it made, how many rows it
 /// began, and before which column it ended.
 #[derive(Clone, Copy)]
 pub(crate) struct KnownRun {
@@ -81,7 +81,7 @@ fn comma_size(column: usize) -> usize
 
 impl<'a> RowsRun<'a> {
     /// A run that took nothing.
-    pub(crate) fn none(at: Ahead<'a>) -> RowsRun<'a>
+    pub(crate) fn none(at: Cursor<'a>) -> RowsRun<'a>
         ensures { result ≡ record { used = 0; made = 0; rows = 0; ahead = at.entry } }
     {
         RowsRun {
@@ -95,7 +95,7 @@ impl<'a> RowsRun<'a> {
 
 impl<'a> CellRun<'a> {
     /// A run that took nothing.
-    pub(crate) fn none(at: Ahead<'a>) -> CellRun<'a>
+    pub(crate) fn none(at: Cursor<'a>) -> CellRun<'a>
         ensures { result ≡ record { used = 0; made = 0; ahead = at.entry } }
     {
         CellRun {
@@ -106,27 +106,27 @@ impl<'a> CellRun<'a> {
     }
 }
 
-impl<'a> Table<'a> {
-    // Writes cell after cell of a row by the forms of the next ones, as far as they are whole in these bytes, aren't in several
+impl<'a> RowFormat<'a> {
+    // Writes cell after cell of a row by the formats of the next ones, as far as they are whole in these bytes, aren't in several
     // chunks and have room.
     #[inline(always)]
     fn run_along(
         &self,
-        from: Ahead<'a>,
+        from: Cursor<'a>,
         end: u16,
-        forms: &[Form],
+        formats: &[CellFormat],
         bytes: &[u8],
         to: &mut [u8],
     ) -> CellRun<'a>
         requires within { end ≤ self.now.count }
-        requires ahead { AreAhead self.now from end forms.now }
+        requires ahead { AreAtCursor self.now from end formats.now }
         ensures within { StaysWithin from.entry end (length bytes.now) (length to.old) result }
         ensures ends { result.used ≡ 0 → RunEnds self.now from.entry bytes.now (length to.old) }
-        ensures left { LeavesNext self.now from.entry (from.entry.column + length forms.now) bytes.now (length to.old) result }
+        ensures left { LeavesNext self.now from.entry (from.entry.column + length formats.now) bytes.now (length to.old) result }
         ensures cells { CellsWritten self.now from.entry bytes.now to.new result }
     {
-        let ends = self.ends_after(from, forms);
-        let run = run_forms(forms, self.charset, from.column, ends, bytes, to);
+        let ends = self.ends_after(from, formats);
+        let run = run_formats(formats, self.charset, from.column, ends, bytes, to);
         let mut ahead = from;
         self.step(&mut ahead, run.cells);
         CellRun {
@@ -136,29 +136,29 @@ impl<'a> Table<'a> {
         }
     }
 
-    // Writes the next cell of a row, which the table doesn't know, if it is whole in these bytes, isn't in several chunks and has
+    // Writes the next cell of a row, which the row format doesn't know, if it is whole in these bytes, isn't in several chunks and has
     // room.
     #[inline(never)]
-    fn run_unknown(&self, from: Ahead<'a>, end: u16, bytes: &[u8], to: &mut [u8]) -> CellRun<'a>
+    fn run_unknown(&self, from: Cursor<'a>, end: u16, bytes: &[u8], to: &mut [u8]) -> CellRun<'a>
         requires within { end ≤ self.now.count }
         requires some { from.column < end }
         ensures within { StaysWithin from.entry end (length bytes.now) (length to.old) result }
         ensures ends { result.used ≡ 0 → RunEnds self.now from.entry bytes.now (length to.old) }
         ensures cells { CellsWritten self.now from.entry bytes.now to.new result }
     {
-        let Some(form) = self.form(from) else {
+        let Some(format) = self.format(from) else {
             return CellRun::none(from);
         };
-        let one = [form];
+        let one = [format];
         self.run_along(from, end, &one, bytes, to)
     }
 
     /// Writes cell after cell of a row, as far as they are whole in these bytes, aren't in several chunks and have room, up to the
-    /// column at which it ends. `KNOWN` says that the table knows all columns.
+    /// column at which it ends. `KNOWN` says that the row format knows all columns.
     #[inline(always)]
     pub fn run_cells<const KNOWN: bool>(
         &self,
-        from: Ahead<'a>,
+        from: Cursor<'a>,
         end: u16,
         bytes: &[u8],
         to: &mut [u8],
@@ -171,8 +171,8 @@ impl<'a> Table<'a> {
         ensures left { LeavesNext self.now from.entry (min self.now.known end) bytes.now (length to.old) result }
         ensures cells { CellsWritten self.now from.entry bytes.now to.new result }
     {
-        if let Some(forms) = (&*self).forms(from, end) {
-            return self.run_along(from, end, forms, bytes, to);
+        if let Some(formats) = (&*self).formats(from, end) {
+            return self.run_along(from, end, formats, bytes, to);
         }
         if KNOWN || from.column >= end {
             return CellRun::none(from);
@@ -180,26 +180,26 @@ impl<'a> Table<'a> {
         self.run_unknown(from, end, bytes, to)
     }
 
-    /// Writes only the next cell, which is of this form. `None` if it isn't whole in these bytes, is refused or in several chunks, or if there isn't
+    /// Writes only the next cell, which is of this format. `None` if it isn't whole in these bytes, is refused or in several chunks, or if there isn't
     /// the room that the text of a short value may need.
     #[inline(never)]
-    pub fn write_alone(
+    pub fn write_one(
         &self,
-        at: Ahead<'a>,
-        form: &Form,
+        at: Cursor<'a>,
+        format: &CellFormat,
         bytes: &[u8],
         to: &mut [u8],
     ) -> Option<Span>
         requires within { at.column < self.now.count }
-        requires laid { IsLaidOut self.now.charset form.now.kind form.now.layout }
+        requires laid { IsLaidOut self.now.charset format.now.kind format.now.layout }
         requires room { CELL_ROOM ≤ length to.old }
         ensures used { IfSome result (λ written. written.used ≤ length bytes.now) }
         ensures most { IfSome result (λ written. written.made ≤ length to.old) }
-        ensures cell { AloneWritten self.now.charset form.now.kind at.entry.column (at.entry.column + 1 == self.now.count)
+        ensures cell { AloneWritten self.now.charset format.now.kind at.entry.column (at.entry.column + 1 == self.now.count)
             bytes.now (length to.old) to.new result }
     {
-        let one = [*form];
-        let run = run_forms(&one, self.charset, at.column, self.is_last(at), bytes, to);
+        let one = [*format];
+        let run = run_formats(&one, self.charset, at.column, self.is_last(at), bytes, to);
         if run.cells == 0 {
             return None;
         }
@@ -217,7 +217,7 @@ impl<'a> Table<'a> {
         requires numbers { self.now.only_numbers ≡ true }
         requires counted { COUNTED ≡ true → self.now.only_counted ≡ true }
         ensures first { result.column ≡ 0 }
-        ensures ends { let row = take self.now.known self.now.forms.now in
+        ensures ends { let row = take self.now.known self.now.formats.now in
             NumbersEnd row (drop result.used bytes.now) (length to.old - result.made) }
         ensures rows { KnownRan self.now 0 bytes.now to.new result }
     {
@@ -247,34 +247,35 @@ impl<'a> Table<'a> {
         }
     }
 
-    // Writes cell after cell of rows whose columns the table all knows, as `run_known` does, as long as bytes and room go on
+    // Writes cell after cell of rows whose columns the row format all knows, as `run_known` does, as long as bytes and room go on
     // far enough for any scalar. After a cell that isn't a row's last comes the comma of the next one.
     #[inline(always)]
-    fn run_far(&self, column: u16, bytes: &[u8], to: &mut [u8]) -> KnownRun
+    fn run_unchecked(&self, column: u16, bytes: &[u8], to: &mut [u8]) -> KnownRun
         requires known { KnowsAll self.now }
         ensures ends { KnownFarEnds self.now result.column
             (drop result.used bytes.now) (length to.old - result.made) }
         ensures rows { KnownRan self.now column bytes.now to.new result }
     {
-        let (forms, charset) = ((&*self).row(), self.charset);
+        let (formats, charset) = ((&*self).row(), self.charset);
         let mut cells = column as usize;
-        if cells >= forms.len() || bytes.len() < FAR || to.len() < CELL_ROOM {
+        if cells >= formats.len() || bytes.len() < LOOKAHEAD || to.len() < CELL_ROOM {
             return KnownRun::none(column);
         }
-        let latest = bytes.len() - FAR;
+        let latest = bytes.len() - LOOKAHEAD;
         let most = to.len() - VALUE_ROOM;
         let mut used = 0;
         let mut made = write_comma(column, to);
         let mut rows = 0;
         while used <= latest && made <= most {
-            let form = &forms[cells];
-            let Some(written) = write_far_cell::<false>(form, charset, bytes, used, to, made) else {
+            let format = &formats[cells];
+            let Some(written) = write_far_cell::<false>(format, charset, bytes, used, to, made)
+            else {
                 break;
             };
             cells += 1;
             used += written.used;
             made += written.made;
-            if cells < forms.len() {
+            if cells < formats.len() {
                 to[made] = COMMA;
                 made += 1;
                 continue;
@@ -291,19 +292,19 @@ impl<'a> Table<'a> {
     }
 
     // Writes rows in the way that asks least of each cell: as `run_numbers` does before a row, if `INT4` says that all values
-    // are whole numbers of four bytes, and as `run_far` does if not all are.
+    // are whole numbers of four bytes, and as `run_unchecked` does if not all are.
     #[inline(always)]
     fn run_fast<const INT4: bool>(&self, column: u16, bytes: &[u8], to: &mut [u8]) -> KnownRun
         requires known { KnowsAll self.now }
         requires numbers { INT4 ≡ true → self.now.only_numbers ≡ true }
-        ensures numbers { INT4 ≡ true → column ≡ 0 → let row = take self.now.known self.now.forms.now in
+        ensures numbers { INT4 ≡ true → column ≡ 0 → let row = take self.now.known self.now.formats.now in
             NumbersEnd row (drop result.used bytes.now) (length to.old - result.made) }
         ensures ends { INT4 ≡ false → KnownFarEnds self.now result.column
             (drop result.used bytes.now) (length to.old - result.made) }
         ensures rows { KnownRan self.now column bytes.now to.new result }
     {
         if !INT4 {
-            return self.run_far(column, bytes, to);
+            return self.run_unchecked(column, bytes, to);
         }
         if column != 0 {
             return KnownRun::none(column);
@@ -314,7 +315,7 @@ impl<'a> Table<'a> {
         self.run_numbers::<false>(bytes, to)
     }
 
-    // Writes cell after cell of rows whose columns the table all knows, as far as they are whole in these bytes, aren't in several
+    // Writes cell after cell of rows whose columns the row format all knows, as far as they are whole in these bytes, aren't in several
     // chunks and have room, over the ends of rows. `NUMBERS` says that all their values are whole numbers of four bytes.
     #[inline(never)]
     fn run_known<const NUMBERS: bool>(&self, from: u16, bytes: &[u8], to: &mut [u8]) -> KnownRun
@@ -335,7 +336,7 @@ impl<'a> Table<'a> {
             made += fast.made;
             rows += fast.rows;
             column = fast.column;
-            let Some(forms) = (&*self).rest_of_row(column) else {
+            let Some(formats) = (&*self).rest_of_row(column) else {
                 if !self.row_follows(&bytes[used..]) {
                     break;
                 }
@@ -345,7 +346,7 @@ impl<'a> Table<'a> {
                 continue;
             };
             let (rest, room) = (&bytes[used..], &mut to[made..]);
-            let run = run_forms(forms, self.charset, column, true, rest, room);
+            let run = run_formats(formats, self.charset, column, true, rest, room);
             if run.cells == 0 {
                 break;
             }
@@ -361,9 +362,9 @@ impl<'a> Table<'a> {
         }
     }
 
-    // Writes rows as `run_rows` does, whose columns the table doesn't all know.
+    // Writes rows as `run_rows` does, whose columns the row format doesn't all know.
     #[inline(never)]
-    fn run_partly_known(&self, from: Ahead<'a>, bytes: &[u8], to: &mut [u8]) -> RowsRun<'a>
+    fn run_partly_known(&self, from: Cursor<'a>, bytes: &[u8], to: &mut [u8]) -> RowsRun<'a>
         requires some { 0 < self.now.count }
         ensures ends { RunEnds self.now result.ahead (drop result.used bytes.now) (length to.old - result.made) }
         ensures last { EndsLast self.now result.ahead.column (drop result.used bytes.now) }
@@ -395,7 +396,7 @@ impl<'a> Table<'a> {
     /// Writes cell after cell, as far as they are whole in these bytes, aren't in several chunks and have room, over the
     /// ends of rows: after a whole row it goes on if the byte of the next ROW follows.
     #[inline(always)]
-    pub fn run_rows(&self, from: Ahead<'a>, bytes: &[u8], to: &mut [u8]) -> RowsRun<'a>
+    pub fn run_rows(&self, from: Cursor<'a>, bytes: &[u8], to: &mut [u8]) -> RowsRun<'a>
         requires some { 0 < self.now.count }
         requires room { CELL_ROOM ≤ length to.old }
         ensures ends { RunEnds self.now result.ahead (drop result.used bytes.now) (length to.old - result.made) }

@@ -14,8 +14,8 @@ ghost use Rattle.tds_values.specs.declared.kind.Kind.{Kind};
 ghost use Rattle.tds_text.specs.Fields.{conversion_of};
 ghost use Rattle.tds_cells.specs.Layouts.{IsLaidOut};
 
-use crate::layout::{Form, Layout};
-use crate::table::is_counted;
+use crate::layout::{CellFormat, Layout};
+use crate::row_format::is_counted;
 use byteorder::{ByteOrder, LittleEndian};
 use tds_text::{Content, NULL_ROOM, field_room, write_field, write_null};
 use tds_values::{
@@ -169,24 +169,29 @@ fn write_long(reach: Reach, content: Content, bytes: &[u8], to: &mut [u8]) -> Op
 /// Writes the field of the cell at the front of these bytes. `None` if it isn't whole, is refused or in several chunks, or if
 /// there isn't the room that the text of a long value may need. Two bytes of room are left after it.
 #[inline(always)]
-pub(crate) fn write_cell(form: &Form, charset: Charset, bytes: &[u8], to: &mut [u8]) -> Option<Span>
-    requires laid { IsLaidOut charset form.now.kind form.now.layout }
+pub(crate) fn write_cell(
+    format: &CellFormat,
+    charset: Charset,
+    bytes: &[u8],
+    to: &mut [u8],
+) -> Option<Span>
+    requires laid { IsLaidOut charset format.now.kind format.now.layout }
     requires room { VALUE_ROOM ≤ length to.old }
     ensures used { IfSome result (λ written. written.used ≤ length bytes.now) }
     ensures most { IfSome result (λ written. written.made + 2 ≤ length to.old) }
-    ensures whole { IfSome result (λ written. written.used ≡ whole_size form.now.kind bytes.now) }
-    ensures field { CellWritten charset form.now.kind bytes.now (length to.old + 1) to.new result }
+    ensures whole { IfSome result (λ written. written.used ≡ whole_size format.now.kind bytes.now) }
+    ensures field { CellWritten charset format.now.kind bytes.now (length to.old + 1) to.new result }
 {
-    if let Layout::Short(content) = form.layout {
+    if let Layout::Short(content) = format.layout {
         return write_short(content, bytes, to);
     }
-    if let Layout::Chunked(content) = form.layout {
+    if let Layout::Chunked(content) = format.layout {
         return write_chunked(content, bytes, to);
     }
     if bytes.is_empty() {
         return None;
     }
-    let (start, n) = match form.layout {
+    let (start, n) = match format.layout {
         Layout::Fixed(n) => (0, n as usize),
         Layout::Counted => (1, bytes[0] as usize),
         _ => return None,
@@ -199,29 +204,34 @@ pub(crate) fn write_cell(form: &Form, charset: Charset, bytes: &[u8], to: &mut [
         let made = write_null(0, false, to);
         return Some(Span { used, made });
     }
-    match write_scalar(&form.kind, &bytes[start..used], to) {
+    match write_scalar(&format.kind, &bytes[start..used], to) {
         Ok(made) => Some(Span { used, made }),
         Err(_) => None,
     }
 }
 
 /// How many bytes are there from a cell on that is far from the packet's end: all of a scalar's.
-pub const FAR: usize = FRONT_SIZE;
+pub const LOOKAHEAD: usize = FRONT_SIZE;
 
 // Writes the field of the cell of a scalar kind at the front of these bytes, where no value is: that of NULL.
 #[inline(always)]
-fn write_no_value(form: &Form, charset: Charset, bytes: &[u8], to: &mut [u8]) -> Option<Span>
-    requires laid { IsLaidOut charset form.now.kind form.now.layout }
-    requires scalar { IsTrue (is_scalar form.now.kind) }
-    requires far { FAR ≤ length bytes.now }
+fn write_no_value(
+    format: &CellFormat,
+    charset: Charset,
+    bytes: &[u8],
+    to: &mut [u8],
+) -> Option<Span>
+    requires laid { IsLaidOut charset format.now.kind format.now.layout }
+    requires scalar { IsTrue (is_scalar format.now.kind) }
+    requires far { LOOKAHEAD ≤ length bytes.now }
     requires room { VALUE_ROOM ≤ length to.old }
-    requires bad { is_ok (read_of form.now.kind (value_bytes form.now.kind bytes.now)) ≡ false }
+    requires bad { is_ok (read_of format.now.kind (value_bytes format.now.kind bytes.now)) ≡ false }
     ensures used { IfSome result (λ written. written.used ≤ length bytes.now) }
     ensures most { IfSome result (λ written. written.made + 2 ≤ length to.old) }
-    ensures whole { IfSome result (λ written. written.used ≡ whole_size form.now.kind bytes.now) }
-    ensures field { CellWritten charset form.now.kind bytes.now (length to.old + 1) to.new result }
+    ensures whole { IfSome result (λ written. written.used ≡ whole_size format.now.kind bytes.now) }
+    ensures field { CellWritten charset format.now.kind bytes.now (length to.old + 1) to.new result }
 {
-    let Layout::Counted = form.layout else {
+    let Layout::Counted = format.layout else {
         return None;
     };
     if bytes[0] != 0 {
@@ -235,25 +245,25 @@ fn write_no_value(form: &Form, charset: Charset, bytes: &[u8], to: &mut [u8]) ->
 // value, or NULL.
 #[inline(always)]
 fn write_other(
-    form: &Form,
+    format: &CellFormat,
     charset: Charset,
     bytes: &[u8],
     from: usize,
     to: &mut [u8],
     at: usize,
 ) -> Option<Span>
-    requires laid { IsLaidOut charset form.now.kind form.now.layout }
-    requires far { from + FAR ≤ length bytes.now }
+    requires laid { IsLaidOut charset format.now.kind format.now.layout }
+    requires far { from + LOOKAHEAD ≤ length bytes.now }
     requires room { at + VALUE_ROOM ≤ length to.old }
-    requires bad { is_ok (read_of form.now.kind (value_bytes form.now.kind (drop from bytes.now))) ≡ false }
+    requires bad { is_ok (read_of format.now.kind (value_bytes format.now.kind (drop from bytes.now))) ≡ false }
     ensures kept { take at to.new ≡ take at to.old }
     ensures used { IfSome result (λ written. from + written.used ≤ length bytes.now) }
     ensures most { IfSome result (λ written. at + written.made + 2 ≤ length to.old) }
-    ensures whole { IfSome result (λ written. written.used ≡ whole_size form.now.kind (drop from bytes.now)) }
-    ensures field { CellWritten charset form.now.kind (drop from bytes.now) (length to.old - at + 1)
+    ensures whole { IfSome result (λ written. written.used ≡ whole_size format.now.kind (drop from bytes.now)) }
+    ensures field { CellWritten charset format.now.kind (drop from bytes.now) (length to.old - at + 1)
         (drop at to.new) result }
 {
-    match form.kind {
+    match format.kind {
         Kind::Binary(reach) => { write_long(reach, Content::Binary, &bytes[from..], &mut to[at..]) }
         Kind::Wide(reach) => write_long(reach, Content::Utf16, &bytes[from..], &mut to[at..]),
         Kind::Narrow(reach) => match charset {
@@ -262,7 +272,7 @@ fn write_other(
             }
             Charset::Utf8 => write_long(reach, Content::Utf8, &bytes[from..], &mut to[at..]),
         },
-        _ => write_no_value(form, charset, &bytes[from..], &mut to[at..]),
+        _ => write_no_value(format, charset, &bytes[from..], &mut to[at..]),
     }
 }
 
@@ -271,26 +281,29 @@ fn write_other(
 /// `COPY` is that of [`write_front`].
 #[inline(always)]
 pub(crate) fn write_far_cell<const COPY: bool>(
-    form: &Form,
+    format: &CellFormat,
     charset: Charset,
     bytes: &[u8],
     from: usize,
     to: &mut [u8],
     at: usize,
 ) -> Option<Span>
-    requires laid { IsLaidOut charset form.now.kind form.now.layout }
-    requires far { from + FAR ≤ length bytes.now }
+    requires laid { IsLaidOut charset format.now.kind format.now.layout }
+    requires far { from + LOOKAHEAD ≤ length bytes.now }
     requires room { at + VALUE_ROOM ≤ length to.old }
     ensures kept { take at to.new ≡ take at to.old }
     ensures used { IfSome result (λ written. from + written.used ≤ length bytes.now) }
     ensures most { IfSome result (λ written. at + written.made + 2 ≤ length to.old) }
-    ensures whole { IfSome result (λ written. written.used ≡ whole_size form.now.kind (drop from bytes.now)) }
-    ensures field { CellWritten charset form.now.kind (drop from bytes.now) (length to.old - at + 1)
+    ensures whole { IfSome result (λ written. written.used ≡ whole_size format.now.kind (drop from bytes.now)) }
+    ensures field { CellWritten charset format.now.kind (drop from bytes.now) (length to.old - at + 1)
         (drop at to.new) result }
 {
-    let Some(front) = write_front::<COPY>(&form.kind, &bytes[from..], &mut to[at..at + VALUE_ROOM])
-    else {
-        return write_other(form, charset, bytes, from, to, at);
+    let Some(front) = write_front::<COPY>(
+        &format.kind,
+        &bytes[from..],
+        &mut to[at..at + VALUE_ROOM],
+    ) else {
+        return write_other(format, charset, bytes, from, to, at);
     };
     Some(Span {
         used: front.used,
@@ -339,24 +352,24 @@ fn comes_counted<const COUNTED: bool>(kind: &Kind) -> bool
 /// numbers of four bytes. `COUNTED` says that it comes after its length. `None` if its length isn't allowed.
 #[inline(always)]
 pub(crate) fn write_int4_cell<const COUNTED: bool>(
-    form: &Form,
+    format: &CellFormat,
     bytes: &[u8],
     to: &mut [u8],
 ) -> Option<Span>
-    requires number { IsInt4 form.now.kind }
-    requires counted { COUNTED ≡ true → is_counted form.now.kind ≡ true }
+    requires number { IsInt4 format.now.kind }
+    requires counted { COUNTED ≡ true → is_counted format.now.kind ≡ true }
     requires within { 5 ≤ length bytes.now }
     requires room { NUMBER_ROOM ≤ length to.old }
     ensures most { IfSome result (λ written. (written.used ≤ 5) × (written.made ≤ 11)) }
-    ensures whole { IfSome result (λ written. written.used ≡ whole_size form.now.kind bytes.now) }
-    ensures field { (charset : Charset) → CellWritten charset form.now.kind bytes.now (length to.old + 1) to.new result }
+    ensures whole { IfSome result (λ written. written.used ≡ whole_size format.now.kind bytes.now) }
+    ensures field { (charset : Charset) → CellWritten charset format.now.kind bytes.now (length to.old + 1) to.new result }
 {
-    if !comes_counted::<COUNTED>(&form.kind) {
-        return Some(write_int4_at(&form.kind, 0, bytes, to));
+    if !comes_counted::<COUNTED>(&format.kind) {
+        return Some(write_int4_at(&format.kind, 0, bytes, to));
     }
     let n = bytes[0] as usize;
     let made = match n {
-        4 => write_int4_at(&form.kind, 1, bytes, to).made,
+        4 => write_int4_at(&format.kind, 1, bytes, to).made,
         0 => write_null(0, false, to),
         _ => return None,
     };

@@ -2,7 +2,7 @@
 use Rattle.tds_columns.proofs as N
 use N.{◌≡◌, ◌∙◌, ℕ, ◌+◌, ◌-◌, ◌<◌, List, length, arith, Space}
 
-module _ {S : Type 0} {g : N.Grammar S N.Fault} {s : S} {a b : N.Seen} {before after : Space} where
+module _ {S : Type 0} {g : N.Grammar S N.Fault} {s : S} {a b : N.PayloadView} {before after : Space} where
   -- it is read whole, without a fault
   abbrev pub reads_into : {n : ℕ} {t : S} (e : N.TakesInto a b before after n) → 0 < n → g.size s ≡ n → g.fault s e.element ≡ N.None
       → g.add s e.element ≡ t → N.Reads g s a b t
@@ -27,7 +27,7 @@ pub shrunk : (before : Space) (element : List ℕ) {after cut : Space} {start n 
     × (cut.peak ≡ N.max before.peak (length before.bytes + n))
 shrunk before element stands whole at is = rw (is, at, stands, ← whole) (grind (arith, N.common_steps))
 
-module _ {a b : N.Seen} {before after : Space} {n : ℕ} where
+module _ {a b : N.PayloadView} {before after : Space} {n : ℕ} where
   -- what stands in the area after what it had
   pub element_at : {bytes : List ℕ} {start : ℕ} (e : N.TakesInto a b before after n) → bytes ≡ after.bytes → start ≡ length before.bytes
       → N.take (length bytes - start) (N.drop start bytes) ≡ e.element

@@ -1,6 +1,6 @@
 -- What a description that was read spells.
 use Rattle.tds_columns.proofs as N
-use N.{◌≡◌, ◌∙◌, ℕ, ◌<◌, List, [], ◌∷◌, arith, Seen}
+use N.{◌≡◌, ◌∙◌, ℕ, ◌<◌, List, [], ◌∷◌, arith, PayloadView}
 use N.ColumnMeaning.{DescribedMeans, described_step}
 
 -- the bytes that are kept are those read
@@ -21,7 +21,7 @@ module _ (room : ℕ) where
       (λ _. N.refl) bytes d h are
 
 -- a description that was read whole
-pub gathers : {room : ℕ} {a b : Seen} {place place' peak : ℕ} {area : N.Space} {columns : List N.Column} → N.AreBytes area.bytes
+pub gathers : {room : ℕ} {a b : PayloadView} {place place' peak : ℕ} {area : N.Space} {columns : List N.Column} → N.AreBytes area.bytes
     → N.Describes room N.BeforeCount a b place place' peak area (N.WholeDescription area.bytes columns)
     → N.Takes a b area.bytes (N.length area.bytes) × N.SpellsDescription room columns area.bytes
 gathers {room = room} are x =
@@ -29,7 +29,7 @@ gathers {room = room} are x =
     rw same (x.reads.takes, (described_means room (N.WholeDescription _ _) x.reads.bytes (rw same at are) x.reads.spelt).1)
 
 -- a Count that says that there is no metadata
-pub gathers_none : {a b : Seen} {before after : N.Space} → before.bytes ≡ [] → N.TakesInto a b before after 2 → N.AreBytes after.bytes
+pub gathers_none : {a b : PayloadView} {before after : N.Space} → before.bytes ≡ [] → N.TakesInto a b before after 2 → N.AreBytes after.bytes
     → N.little_number 2 after.bytes ≡ 0xFFFF → N.Takes a b (255 ∷ 255 ∷ []) 2
 gathers_none = grind (arith, N.ByteLemmas.two_bytes)
 
@@ -38,7 +38,8 @@ unfinished : (d : N.DescriptionPart) (b : List ℕ) → Keeps d b → 0 < N.desc
 unfinished = grind arith
 
 -- where a description stops the bytes kept are those of the whole elements
-pub gather_stops : {room : ℕ} {a b : Seen} {place peak : ℕ} {area : N.Space} {stop : N.Stop} → N.StopsDescribing room N.BeforeCount a b place peak area stop
+pub gather_stops : {room : ℕ} {a b : PayloadView} {place peak : ℕ} {area : N.Space} {stop : N.Stop}
+    → N.StopsDescribing room N.BeforeCount a b place peak area stop
     → N.GatherStops room a b place peak area stop
 gather_stops {room = room} x =
     let some : 0 < N.described_size x.at = elim x.stops.cause [ N.inl r ↦ omega (arith, r.0.some, r.0.whole) | N.inr r ↦ omega (arith, r.cut) ] in

@@ -1,6 +1,7 @@
 -- The elements of a description, as they are read into its area.
 use Rattle.tds_columns.proofs as N
-use N.{◌≡◌, ◌≢◌, ◌∙◌, ℕ, ◌+◌, ◌<◌, ◌≤◌, List, [], length, refl, ap, arith, Some, None, Ok, if◌then◌else◌, Space, Stop, Seen, Column, DescriptionPart, span}
+use N.{◌≡◌, ◌≢◌, ◌∙◌, ℕ, ◌+◌, ◌<◌, ◌≤◌, List, [], length, refl, ap, arith, Some, None, Ok, if◌then◌else◌, Space, Stop, PayloadView, Column, DescriptionPart}
+use N.{span}
 use N.{Describes}
 use N.ElementSteps.{cut_into, reads_into, refused_into, shrunk}
 
@@ -14,7 +15,7 @@ spans : (room : ℕ) (s : DescriptionPart) (e : List ℕ) → N.IsNext (N.descri
     → length (N.description_bytes s) + length e ≤ span (N.add_described s e)
 spans = grind (arith, N.bare_type, N.choose, N.eq_true, N.is_some_value, N.length-append)
 
-module _ {room : ℕ} {s : DescriptionPart} {a b : Seen} {before after : Space} where
+module _ {room : ℕ} {s : DescriptionPart} {a b : PayloadView} {before after : Space} where
   -- the next element is cut
   pub description_cut : {place n : ℕ} {stop : Stop} → N.EndsInto a b before after place n stop → N.described_size s ≡ n
       → before.bytes ≡ N.description_bytes s → N.StopsDescribing room s a b place before.peak after stop
@@ -64,7 +65,7 @@ module _ {room : ℕ} {s : DescriptionPart} {a b : Seen} {before after : Space} 
         further = N.le_refl (span s);
       }
 
-module _ {room : ℕ} {s t : DescriptionPart} {a b c : Seen} {p q k : ℕ} {middle after : Space} where
+module _ {room : ℕ} {s t : DescriptionPart} {a b c : PayloadView} {p q k : ℕ} {middle after : Space} where
   pub describes_both : {u : DescriptionPart} {r room' : ℕ} → room' ≡ room → Describes room s a b p q k middle t
       → Describes room' t b c q r middle.peak after u → Describes room s a c p r k after u
   describes_both {u = u} same x z = let y = rw same at z in
@@ -95,8 +96,8 @@ module _ {room : ℕ} {s t : DescriptionPart} {a b c : Seen} {p q k : ℕ} {midd
       }
 
 -- what a call reads from there on is read after the first part
-pub part_after : {U X : Type 0} (r : N.Result U Stop) (to : X → DescriptionPart) (c : Seen) (z : ℕ) (after : Space) {room : ℕ} {s t : DescriptionPart}
-    {a b : Seen} {p q k : ℕ} {middle : Space} → middle.room ≡ room → Describes room s a b p q k middle t
+pub part_after : {U X : Type 0} (r : N.Result U Stop) (to : X → DescriptionPart) (c : PayloadView) (z : ℕ) (after : Space) {room : ℕ} {s t : DescriptionPart}
+    {a b : PayloadView} {p q k : ℕ} {middle : Space} → middle.room ≡ room → Describes room s a b p q k middle t
     → N.MatchResult r (λ _. (x : X) × Describes middle.room t b c q z middle.peak after (to x))
     (λ stop. N.StopsDescribing middle.room t b c q middle.peak after stop)
     → N.MatchResult r (λ _. (x : X) × Describes room s a c p z k after (to x)) (λ stop. N.StopsDescribing room s a c p k after stop)
@@ -109,8 +110,8 @@ pub column_bytes : (bytes : List ℕ) (count : ℕ) (columns : List Column) (col
 column_bytes = grind arith
 
 -- the name after its count is read, or is cut
-pub name_after : {U : Type 0} (r : N.Result U Stop) (c : Seen) (after : Space) (place'' : ℕ) (stopped : N.Option Stop) {room count n : ℕ}
-    {columns : List Column} {kind : N.Kind} {s : DescriptionPart} {a b : Seen} {place place' peak : ℕ} {middle : Space}
+pub name_after : {U : Type 0} (r : N.Result U Stop) (c : PayloadView) (after : Space) (place'' : ℕ) (stopped : N.Option Stop) {room count n : ℕ}
+    {columns : List Column} {kind : N.Kind} {s : DescriptionPart} {a b : PayloadView} {place place' peak : ℕ} {middle : Space}
     → Describes room s a b place place' peak middle (N.InColumn middle.bytes count columns (N.NameUnits kind n)) → n ≢ 0 → stopped ≡ None
     → place'' ≡ (if N.is_ok r then place' + n else place')
     → N.MatchResult r (λ _. N.TakesInto b c middle after n) (λ stop. stopped ≡ None → N.EndsInto b c middle after place' n stop)
@@ -123,11 +124,11 @@ name_after (Ok _) c after place'' stopped {kind = kind} first some going at u = 
 name_after (N.Err stop) c after place'' stopped first some going at e = stops_describing_after refl first (description_cut (e going) refl refl)
 
 -- the element is all that the area has
-count_is : {a b : Seen} {before after : Space} (t : N.TakesInto a b before after 2) → before.bytes ≡ [] → (after.bytes ≡ t.element)
+count_is : {a b : PayloadView} {before after : Space} (t : N.TakesInto a b before after 2) → before.bytes ≡ [] → (after.bytes ≡ t.element)
     × (N.little t.element ≡ N.little_number 2 after.bytes)
 count_is {after = after} t none = let same : after.bytes ≡ t.element = rw (t.stands, none) in (same, rw (same, t.whole))
 
-module _ {room count : ℕ} {a b : Seen} {before after kept : Space} {place : ℕ} (t : N.TakesInto a b before after 2) (none : before.bytes ≡ [])
+module _ {room count : ℕ} {a b : PayloadView} {before after kept : Space} {place : ℕ} (t : N.TakesInto a b before after 2) (none : before.bytes ≡ [])
     (number : count ≡ N.little_number 2 after.bytes) where
   pub count_read : {place' : ℕ} {to : DescriptionPart} → N.count_fault room count ≡ None → N.with_count after.bytes count ≡ to → place' ≡ place + 2
       → kept.peak ≡ after.peak → kept.bytes ≡ N.description_bytes to → Describes room N.BeforeCount a b place place' before.peak kept to

@@ -1,12 +1,12 @@
 -- The type of a returned value, as it is read.
 use Rattle.tds_columns.proofs as N
-use N.{◌≡◌, ◌≢◌, ℕ, ◌+◌, ◌-◌, ◌≤◌, [], ◌∷◌, length, arith, Some, ◌==◌, slice_index, Seen, Reads, TypeHead, returned_type}
+use N.{◌≡◌, ◌≢◌, ℕ, ◌+◌, ◌-◌, ◌≤◌, [], ◌∷◌, length, arith, Some, ◌==◌, slice_index, PayloadView, Reads, TypeHead, returned_type}
 
 pub no_kind : (byte : ℕ) {rest : ℕ} (element : N.List ℕ) → N.rest_length byte ≡ Some rest → length element ≡ rest → N.kind_of (byte ∷ element) ≡ N.None
     → rest ≢ 0
 no_kind = grind (arith, N.bare_type, N.nil_from_length)
 
-module _ {o a : Seen} (head : N.List ℕ) (taken : N.WereTaken o a head) (eight : length head ≡ 8) (rest : ℕ)
+module _ {o a : PayloadView} (head : N.List ℕ) (taken : N.WereTaken o a head) (eight : length head ≡ 8) (rest : ℕ)
     (known : N.rest_length (slice_index head 7) ≡ Some rest) where
   -- the eight bytes were taken, and lead to this state
   abbrev head_read : Reads returned_type TypeHead o a (N.with_type_byte (slice_index head 7) rest)
@@ -14,7 +14,7 @@ module _ {o a : Seen} (head : N.List ℕ) (taken : N.WereTaken o a head) (eight 
       (rw known)
 
   -- a stop after the eight bytes
-  pub stops_after_steps : {b : Seen} {place : ℕ} {stop : N.Stop} → rest ≢ 0 → 8 ≤ place
+  pub stops_after_steps : {b : PayloadView} {place : ℕ} {stop : N.Stop} → rest ≢ 0 → 8 ≤ place
       → N.StopsReading returned_type (N.TypeRest (slice_index head 7)) a b place (N.TypeRest (slice_index head 7)) stop → N.StopsType o b (place - 8) stop
   stops_after_steps {b = b} {place = place} some far q =
       let at : (place - 8) + length head ≡ place = omega arith in
@@ -29,7 +29,7 @@ module _ {o a : Seen} (head : N.List ℕ) (taken : N.WereTaken o a head) (eight 
       }
 
   -- what follows describes the kind
-  pub type_whole : {b : Seen} {before after : N.Space} {kind : N.Kind} (t : N.TakesInto a b before after rest)
+  pub type_whole : {b : PayloadView} {before after : N.Space} {kind : N.Kind} (t : N.TakesInto a b before after rest)
       → N.kind_of (slice_index head 7 ∷ t.element) ≡ Some kind → Reads returned_type TypeHead o b (N.KnownType kind)
   type_whole {b = b} {kind = kind} t found =
       N.choose (λ s. Reads returned_type TypeHead o a s → Reads returned_type TypeHead o b (N.KnownType kind)) (rest == 0) _ _

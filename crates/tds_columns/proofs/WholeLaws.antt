@@ -56,7 +56,7 @@ columns_begin bytes count size more h all = let one = rw (all_after bytes size) 
 )
 
 -- the description is taken
-pub takes_whole : (room : ℕ) (bytes : List ℕ) (count size : ℕ) {a b : N.Seen} (before after : N.Space) {place place' : ℕ}
+pub takes_whole : (room : ℕ) (bytes : List ℕ) (count size : ℕ) {a b : N.PayloadView} (before after : N.Space) {place place' : ℕ}
     → BeginsDescription room bytes count size → N.Takes a b (take size bytes) 0 → before.bytes ≡ []
     → after ≡ N.appended before (take size bytes) → place' ≡ place + size
     → (columns : List N.Column) × (length columns ≡ count)

@@ -30,7 +30,7 @@ pub use Rattle.tds_packet.specs.declared.fault.Stop.{Stop}
 pub use Rattle.tds_packet.specs.Elements.{AreBytes, Spelt, IsNext, Grammar}
 pub use Rattle.tds_packet.specs.Payloads.{IsOnSame, IsGoing, seen}
 pub use Rattle.tds_packet.specs.Reading.{Reads, StopsReading}
-pub use Rattle.tds_packet.specs.Seen.{Seen, Takes}
+pub use Rattle.tds_packet.specs.PayloadView.{PayloadView, Takes}
 pub use Rattle.tds_values.proofs.TypeInfoLemmas.{rest_length_of, bare_type, valid_of}
 pub use Rattle.tds_values.specs.Kind.{is_valid}
 pub use Rattle.tds_values.specs.Numbers.{little}

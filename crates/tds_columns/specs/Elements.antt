@@ -4,10 +4,10 @@ use Rattle.tds_meter.specs.Space.{Space, appended}
 use Rattle.tds_packet.specs.declared.fault.Stop.{Stop}
 use Rattle.tds_packet.specs.declared.payload.Payload.{Payload}
 use Rattle.tds_packet.specs.Payloads.{LeavesPayload, seen}
-use Rattle.tds_packet.specs.Seen.{Seen, Takes, Ends, IsBetween, began_at}
+use Rattle.tds_packet.specs.PayloadView.{PayloadView, Takes, Ends, IsBetween, began_at}
 
 -- This number of bytes was read, and is at the end of the area.
-pub record TakesInto (old new : Seen) (before after : Space) (n : ℕ) : Type 0 where
+pub record TakesInto (old new : PayloadView) (before after : Space) (n : ℕ) : Type 0 where
   pub element : List ℕ
   pub whole : length element ≡ n
   pub takes : Takes old new element n
@@ -15,7 +15,7 @@ pub record TakesInto (old new : Seen) (before after : Space) (n : ℕ) : Type 0 
   pub stands : after ≡ appended before element
 
 -- Fewer were read, and the area has what it had.
-pub record EndsInto (old new : Seen) (before after : Space) (place n : ℕ) (stop : Stop) : Type 0 where
+pub record EndsInto (old new : PayloadView) (before after : Space) (place n : ℕ) (stop : Stop) : Type 0 where
   pub part : List ℕ
   pub fewer : length part < n
   pub own : Stop

@@ -6,7 +6,7 @@ use Rattle.tds_meter.specs.Space.{Space}
 use Rattle.tds_packet.specs.declared.fault.Stop.{Stop}
 use Rattle.tds_packet.specs.declared.payload.Payload.{Payload}
 use Rattle.tds_packet.specs.Payloads.{seen}
-use Rattle.tds_packet.specs.Seen.{Seen, Takes}
+use Rattle.tds_packet.specs.PayloadView.{PayloadView, Takes}
 use Rattle.tds_packet.specs.Reading.{Reads, StopsReading}
 use Rattle.tds_columns.specs.declared.metadata.Described.{Described}
 use Rattle.tds_columns.specs.declared.metadata.Described.TheVariants.{Columns, NoMetadata}
@@ -14,7 +14,7 @@ use Rattle.tds_columns.specs.Description.{Column, ColumnHead, ColumnInfo, NameCo
 use Rattle.tds_columns.specs.Description.{WholeDescription, SpellsColumn, SpellsColumns, SpellsDescription, description, description_bytes, span, with_column}
 
 -- Elements of a description were read, which lead from one state to another, and the area has its bytes.
-pub record Describes (room : ℕ) (from : DescriptionPart) (old new : Seen) (place place' peak : ℕ) (area : Space) (to : DescriptionPart) : Type 0 where
+pub record Describes (room : ℕ) (from : DescriptionPart) (old new : PayloadView) (place place' peak : ℕ) (area : Space) (to : DescriptionPart) : Type 0 where
   pub reads : Reads (description room) from old new to
   pub place_is : place' ≡ place + length reads.bytes
   pub kept : area.bytes ≡ description_bytes to
@@ -22,7 +22,7 @@ pub record Describes (room : ℕ) (from : DescriptionPart) (old new : Seen) (pla
   pub further : span from ≤ span to
 
 -- The reading of a description stopped: the area has the elements that were read whole.
-pub record StopsDescribing (room : ℕ) (from : DescriptionPart) (old new : Seen) (place peak : ℕ) (area : Space) (stop : Stop) : Type 0 where
+pub record StopsDescribing (room : ℕ) (from : DescriptionPart) (old new : PayloadView) (place peak : ℕ) (area : Space) (stop : Stop) : Type 0 where
   pub at : DescriptionPart
   pub stops : StopsReading (description room) from old new place at stop
   pub kept : area.bytes ≡ description_bytes at
@@ -83,7 +83,7 @@ module _ {R U : Type 0} (remaining : R → Option (List ℕ)) (old new : Payload
       (λ (all : (columns : List Column) × (length columns ≡ count)). WholeDescription after.bytes all.0)
 
 -- A Count was read: one of columns whose least bytes the room has; or that of no metadata, and nothing else.
-abbrev pub DescribesCount : (room : ℕ) → (old new : Seen) → (place place' peak : ℕ) → Space → Described → Type 0
+abbrev pub DescribesCount : (room : ℕ) → (old new : PayloadView) → (place place' peak : ℕ) → Space → Described → Type 0
 DescribesCount room old new place place' peak area (Columns count) =
     Describes room BeforeCount old new place place' peak area (InColumn area.bytes count [] ColumnHead)
     × (0 < count) × (length area.bytes + 8 * count ≤ room)
@@ -91,7 +91,7 @@ DescribesCount room old new place place' peak area NoMetadata =
     Describes room BeforeCount old new place place' peak area NoDescription × Takes old new (255 ∷ 255 ∷ []) 2
 
 -- A description was read: the area has its bytes, which are those taken; or a Count of no metadata was.
-abbrev pub DescribesAll : (room : ℕ) → (old new : Seen) → (place place' peak : ℕ) → Space → Described → Type 0
+abbrev pub DescribesAll : (room : ℕ) → (old new : PayloadView) → (place place' peak : ℕ) → Space → Described → Type 0
 DescribesAll room old new place place' peak area (Columns count) = (columns : List Column) × (length columns ≡ count)
     × Describes room BeforeCount old new place place' peak area (WholeDescription area.bytes columns)
     × Takes old new area.bytes (length area.bytes) × SpellsDescription room columns area.bytes
@@ -99,7 +99,7 @@ DescribesAll room old new place place' peak area NoMetadata =
     DescribesCount room old new place place' peak area NoMetadata
 
 -- Reading a description from its Count on stopped: the area's bytes are all those of the whole elements.
-pub record GatherStops (room : ℕ) (old new : Seen) (place peak : ℕ) (area : Space) (stop : Stop) : Type 0 where
+pub record GatherStops (room : ℕ) (old new : PayloadView) (place peak : ℕ) (area : Space) (stop : Stop) : Type 0 where
   pub describing : StopsDescribing room BeforeCount old new place peak area stop
   pub begins : area.bytes ≡ describing.stops.bytes
 

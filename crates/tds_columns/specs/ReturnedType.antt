@@ -10,7 +10,7 @@ use Rattle.tds_packet.specs.declared.fault.Stop.{Stop}
 use Rattle.tds_packet.specs.declared.payload.Payload.{Payload}
 use Rattle.tds_packet.specs.Payloads.{seen}
 use Rattle.tds_packet.specs.Elements.{Grammar}
-use Rattle.tds_packet.specs.Seen.{Seen, Takes, IsBetween}
+use Rattle.tds_packet.specs.PayloadView.{PayloadView, Takes, IsBetween}
 use Rattle.tds_packet.specs.Reading.{StopsReading}
 use Rattle.tds_columns.specs.Description.{type_fault}
 
@@ -78,7 +78,7 @@ pub record LeavesHead {U : Type 0} (before after : Space) (result : Result U Sto
   pub kept : OnErr result (after.bytes ≡ before.bytes)
 
 -- What follows a type byte was read: together they describe the kind.
-pub record ReadsType (byte : ℕ) (old new : Seen) (place place' : ℕ) (kind : Kind) : Type 0 where
+pub record ReadsType (byte : ℕ) (old new : PayloadView) (place place' : ℕ) (kind : Kind) : Type 0 where
   pub rest : List ℕ
   pub info : IsTypeInfo kind (byte ∷ rest)
   pub takes : Takes old new rest (length rest)
@@ -89,10 +89,10 @@ abbrev pub TypeRead : {R : Type 0} → (R → Option (List ℕ)) → (old new : 
 TypeRead remaining old new byte kind = ReadsType byte (seen remaining old) (seen remaining new) old.place new.place kind
 
 -- The reading of such a type stopped.
-pub record StopsType (old new : Seen) (place : ℕ) (stop : Stop) : Type 0 where
+pub record StopsType (old new : PayloadView) (place : ℕ) (stop : Stop) : Type 0 where
   pub at : TypePart
   pub stops : StopsReading returned_type TypeHead old new place at stop
 
 -- These eight bytes were taken from a payload just before.
-abbrev pub WereTaken : Seen → Seen → List ℕ → Type 0
+abbrev pub WereTaken : PayloadView → PayloadView → List ℕ → Type 0
 WereTaken old new head = Takes old new head 8 × IsBetween new

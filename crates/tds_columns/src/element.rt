@@ -9,7 +9,7 @@ use tds_packet::{Payload, Stop};
 
 /// Reads `n` bytes to the end of an area that has room for them. After a stop the area has what it
 /// had; a payload that stopped before gives its stop again.
-pub fn take_into<R: Read>(payload: &mut Payload<R>, area: &mut Area, n: usize) -> Result<(), Stop>
+pub fn read_into<R: Read>(payload: &mut Payload<R>, area: &mut Area, n: usize) -> Result<(), Stop>
     requires sound { IsSound payload.old }
     requires fits { length area.old.bytes + n ≤ area.old.room }
     ensures payload { AnswersAgain payload.old payload.new result }

@@ -7,7 +7,7 @@ ghost use Rattle.tds_packet.specs.Elements.{AreBytes};
 ghost use Rattle.tds_packet.specs.Payloads.{IsGoing, IsSound, LeavesPayload, buffered, seen};
 ghost use Rattle.tds_values.specs.TypeInfo as info;
 
-use crate::element::take_into;
+use crate::element::read_into;
 use crate::type_info::{judge_type, kind_of};
 use crate::whole::{Front, whole_description};
 use byteorder::{ByteOrder, LittleEndian};
@@ -83,7 +83,7 @@ fn read_count<R: Read>(payload: &mut Payload<R>, area: &mut Area) -> Result<Desc
     ensures again { IfSome payload.old.stopped (λ stop. (result ≡ Err stop) × (payload.new ≡ payload.old)) }
 {
     let place = payload.place();
-    take_into(payload, area, COUNT)?;
+    read_into(payload, area, COUNT)?;
     are_bytes(area.bytes());
     let count = LittleEndian::read_u16(area.bytes());
     if count == NO_METADATA {
@@ -131,7 +131,7 @@ fn read_info<R: Read>(
 {
     let info_place = payload.place();
     let start = area.len();
-    take_into(payload, area, rest)?;
+    read_into(payload, area, rest)?;
     match kind_of(byte, &area.bytes()[start..]) {
         Some(_) => Ok(()),
         None => {
@@ -152,7 +152,7 @@ fn read_type<R: Read>(payload: &mut Payload<R>, area: &mut Area, at: Nth) -> Res
 {
     let place = payload.place();
     let start = area.len();
-    take_into(payload, area, HEAD)?;
+    read_into(payload, area, HEAD)?;
     let byte = area.bytes()[start + 6];
     let left = at.count - (at.index + 1);
     let rest = match judge_head(area.room(), start + HEAD, byte, at.index, left) {
@@ -179,7 +179,7 @@ fn read_name<R: Read>(payload: &mut Payload<R>, area: &mut Area, at: Nth) -> Res
 {
     let place = payload.place();
     let start = area.len();
-    take_into(payload, area, 1)?;
+    read_into(payload, area, 1)?;
     let size = 2 * usize::from(area.bytes()[start]);
     let later = LEAST_COLUMN * usize::from(at.count - (at.index + 1));
     if let Some(fault) = too_long(area.room(), start + 1, size + later) {
@@ -189,7 +189,7 @@ fn read_name<R: Read>(payload: &mut Payload<R>, area: &mut Area, at: Nth) -> Res
     if size == 0 {
         return Ok(());
     }
-    take_into(payload, area, size)
+    read_into(payload, area, size)
 }
 
 // Reads a column.

@@ -1,10 +1,10 @@
 pub mod Utf8Pushing
-pub mod Spares
+pub mod LentRooms
 pub mod Sinks
 pub mod Puttings
 pub mod Streams
 pub mod Splits
-pub mod Nears
+pub mod LacksTail
 pub mod Pieces
 pub mod PutParts
 pub mod CutText

@@ -3,21 +3,22 @@ use Rattle.tds_csv.proofs as N
 use N.{◌≡◌, ℕ, ◌-◌, ◌^◌, ◌<◌, ◌≤◌, List, [], ◌∷◌, ◌++◌, concat}
 use Rattle.tds_packet.specs.Elements.{Leads}
 
-module _ {S : Type 0} (g : N.Grammar S N.Fault) (text : S → List ℕ) (grows : N.Nears.Grows g text) (s : S) (a b : N.Seen) (h j : N.Held) (stop : N.Stop)
+module _ {S : Type 0} (g : N.Grammar S N.Fault) (text : S
+    → List ℕ) (grows : N.LacksTail.Grows g text) (s : S) (a b : N.PayloadView) (h j : N.SinkView) (stop : N.Stop)
     (between : N.IsBetween b) where
   -- the elements from a state on, before which all was put
-  breaks_from : (at t : S) (es : List (List ℕ)) (bytes rest : List ℕ) (m : N.Held) (added : List ℕ) → N.Spelt g s bytes at → Leads g at es t
+  breaks_from : (at t : S) (es : List (List ℕ)) (bytes rest : List ℕ) (m : N.SinkView) (added : List ℕ) → N.Spelt g s bytes at → Leads g at es t
       → N.Takes a b ((bytes ++ concat es) ++ rest) 1 → N.PutsText text s at h m → N.length m.waiting < 4096 → text at ++ added ≡ text t
-      → N.Breaks m j added stop
-      → (to : S) × N.BreaksStreaming g text s a b h j to stop
+      → N.WritesPrefix m j added stop
+      → (to : S) × N.WritesPrefixStreaming g text s a b h j to stop
   breaks_from at t [] bytes rest m added spelt leads takes puts few text_is breaks =
       grind (N.arith, N.common_steps, N.append_cancel_left)
   breaks_from at t (e ∷ es) bytes rest m added spelt leads takes puts few text_is breaks =
       let more = grows _ _ leads.0 in
-      let later = N.Nears.grown_leads _ text grows _ _ _ leads.1 in
+      let later = N.LacksTail.grown_leads _ text grows _ _ _ leads.1 in
       let parts = N.append_cancel_left (text at) added (more.0 ++ later.0) (rw (← N.append_assoc (text at) more.0 later.0, more.1, later.1) text_is) in
       let taken = rw (← N.append_assoc bytes e (concat es)) at takes in
-      elim (N.Splits.Breaks_split _ _ more.0 later.0 _ (rw parts at breaks)) [
+      elim (N.Splits.WritesPrefix_split _ _ more.0 later.0 _ (rw parts at breaks)) [
         | N.inl broken ↦ (
           at,
           record {
@@ -44,8 +45,8 @@ module _ {S : Type 0} (g : N.Grammar S N.Fault) (text : S → List ℕ) (grows :
 
   -- a piece was read at once, and a write of its text failed: it failed in that of one of its elements
   pub breaks_somewhere : (t : S) (piece rest : List ℕ) (added : List ℕ) → N.Spelt g s piece t → N.Takes a b (piece ++ rest) 1 → N.length h.waiting < 4096
-      → h.delivered ≤ 2 ^ 64 - 1 → text s ++ added ≡ text t → N.Breaks h j added stop
-      → (at : S) × N.BreaksStreaming g text s a b h j at stop
+      → h.delivered ≤ 2 ^ 64 - 1 → text s ++ added ≡ text t → N.WritesPrefix h j added stop
+      → (at : S) × N.WritesPrefixStreaming g text s a b h j at stop
   breaks_somewhere t piece rest added spelt takes few delivered = breaks_from _ t _ [] rest h added (N.Spelt-none g s) spelt.leads (rw spelt.joined takes) (
     [],
     N.append-nil (text s),

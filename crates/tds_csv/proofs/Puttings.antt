@@ -13,7 +13,7 @@ PutsPiece-trans contents a b c u p q (Ok v) x y =
     let puts = N.Sinks.Puts-trans (held contents a) (held contents b) (held contents c) p q x.gives y.gives in
     grind arith
 PutsPiece-trans contents a b c u p q (Err e) x y =
-    let breaks = N.Sinks.Breaks-after (held contents a) (held contents b) (held contents c) p q e x.gives (y.gives x.failed) in
+    let breaks = N.Sinks.WritesPrefix-after (held contents a) (held contents b) (held contents c) p q e x.gives (y.gives x.failed) in
     grind arith
 
 -- the value of a success says nothing

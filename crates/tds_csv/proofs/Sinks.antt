@@ -1,6 +1,6 @@
 -- What was put into a sink, call after call.
 use Rattle.tds_csv.proofs as N
-use N.{◌≡◌, ℕ, ◌+◌, ◌-◌, ◌^◌, ◌<◌, ◌≤◌, List, [], ◌++◌, length, arith, Stop, Held, Adds, Puts, Breaks}
+use N.{◌≡◌, ℕ, ◌+◌, ◌-◌, ◌^◌, ◌<◌, ◌≤◌, List, [], ◌++◌, length, arith, Stop, SinkView, Adds, Puts, WritesPrefix}
 use Rattle.tds_packet.proofs.Joins.{Stays-Rises, Stays-none, Stays-trans}
 
 pub counted-none : (n : ℕ) → n ≤ 2 ^ 64 - 1 → n ≡ N.counted n 0
@@ -9,13 +9,13 @@ counted-none = omega arith
 pub counted-twice : (n k l : ℕ) → N.counted (N.counted n k) l ≡ N.counted n (k + l)
 counted-twice = omega arith
 
-pub Adds-trans : (a b c : Held) (d f p q : List ℕ) → Adds a b d p → Adds b c f q → Adds a c (d ++ f) (p ++ q)
+pub Adds-trans : (a b c : SinkView) (d f p q : List ℕ) → Adds a b d p → Adds b c f q → Adds a c (d ++ f) (p ++ q)
 Adds-trans = grind (arith, N.append_assoc, N.length-append, N.Appends-trans)
 
-pub Puts-none : (a : Held) → a.delivered ≤ 2 ^ 64 - 1 → Puts a a []
+pub Puts-none : (a : SinkView) → a.delivered ≤ 2 ^ 64 - 1 → Puts a a []
 Puts-none a h = ([], 0, (N.Appends-nil a.had, N.append-nil a.waiting, counted-none a.delivered h), N.refl, Stays-none a.failures)
 
-pub Puts-trans : (a b c : Held) (p q : List ℕ) → Puts a b p → Puts b c q → Puts a c (p ++ q)
+pub Puts-trans : (a b c : SinkView) (p q : List ℕ) → Puts a b p → Puts b c q → Puts a c (p ++ q)
 Puts-trans a b c p q x y = (
   x.0 ++ y.0,
   x.1 + y.1,
@@ -24,8 +24,8 @@ Puts-trans a b c p q x y = (
   Stays-trans _ _ _ x.0 y.0 x.4 y.4,
 )
 
-pub Breaks-after : (a b c : Held) (p q : List ℕ) (e : Stop) → Puts a b p → Breaks b c q e → Breaks a c (p ++ q) e
-Breaks-after a b c p q e x y =
+pub WritesPrefix-after : (a b c : SinkView) (p q : List ℕ) (e : Stop) → Puts a b p → WritesPrefix b c q e → WritesPrefix a c (p ++ q) e
+WritesPrefix-after a b c p q e x y =
     let len = N.length-append x.0 y.0 in (
       x.0 ++ y.0,
       x.1 + y.1,
@@ -39,16 +39,16 @@ Breaks-after a b c p q e x y =
       Stays-Rises x.0 y.0 x.4 y.9,
     )
 
-pub Breaks-longer : (a b : Held) (p more : List ℕ) (e : Stop) → Breaks a b p e → Breaks a b (p ++ more) e
-Breaks-longer = grind (arith, N.take-append-le, N.length-append)
+pub WritesPrefix-longer : (a b : SinkView) (p more : List ℕ) (e : Stop) → WritesPrefix a b p e → WritesPrefix a b (p ++ more) e
+WritesPrefix-longer = grind (arith, N.take-append-le, N.length-append)
 
 -- a block became full, and was delivered, or not
-pub block : {U : Type 0} (a m b : Held) (piece : List ℕ) (r : N.Result U Stop) → m ≡ record a { waiting = a.waiting ++ piece } → length m.waiting ≡ 4096
+pub block : {U : Type 0} (a m b : SinkView) (piece : List ℕ) (r : N.Result U Stop) → m ≡ record a { waiting = a.waiting ++ piece } → length m.waiting ≡ 4096
     → N.OnErr r (0 < length b.waiting)
-    → N.MatchResult r (λ _. N.Sends m b) (λ e. N.FinishFails m b e) → N.MatchResult r (λ _. Puts a b piece) (λ e. Breaks a b piece e)
+    → N.MatchResult r (λ _. N.Sends m b) (λ e. N.FinishFails m b e) → N.MatchResult r (λ _. Puts a b piece) (λ e. WritesPrefix a b piece e)
 block = grind (arith, N.append-nil, N.length-append, N.take_all, N.le_refl)
 
-pub block_going : {U : Type 0} (a m b : Held) (piece : List ℕ) (r : N.Result U Stop) (failed : N.Bool) → m ≡ record a { waiting = a.waiting ++ piece }
+pub block_going : {U : Type 0} (a m b : SinkView) (piece : List ℕ) (r : N.Result U Stop) (failed : N.Bool) → m ≡ record a { waiting = a.waiting ++ piece }
     → length m.waiting ≡ 4096 → N.OnErr r (0 < length b.waiting)
-    → N.MatchResult r (λ _. N.Sends m b) (λ e. N.FinishFails m b e) → N.MatchResult r (λ _. Puts a b piece) (λ e. failed ≡ N.false → Breaks a b piece e)
+    → N.MatchResult r (λ _. N.Sends m b) (λ e. N.FinishFails m b e) → N.MatchResult r (λ _. Puts a b piece) (λ e. failed ≡ N.false → WritesPrefix a b piece e)
 block_going = grind (arith, N.common_steps)

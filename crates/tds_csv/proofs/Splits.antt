@@ -1,15 +1,15 @@
 -- A text that is put in one call could have been put in two.
 use Rattle.tds_csv.proofs as N
-use N.{◌≡◌, ◌∙◌, ◌⊎◌, ℕ, ◌+◌, ◌-◌, ◌*◌, ◌^◌, ◌<◌, ◌≤◌, List, ◌++◌, length, take, drop, refl, sym, ap, arith, ◌/◌, Held, Adds, Puts}
+use N.{◌≡◌, ◌∙◌, ◌⊎◌, ℕ, ◌+◌, ◌-◌, ◌*◌, ◌^◌, ◌<◌, ◌≤◌, List, ◌++◌, length, take, drop, refl, sym, ap, arith, ◌/◌, SinkView, Adds, Puts}
 
 -- what waits and a piece is what is delivered and then waits
-total_of : (a b : Held) (p r sent : List ℕ) → Adds a b sent (p ++ r) → length (a.waiting ++ p) + length r ≡ length sent + length b.waiting
+total_of : (a b : SinkView) (p r sent : List ℕ) → Adds a b sent (p ++ r) → length (a.waiting ++ p) + length r ≡ length sent + length b.waiting
 total_of a b p r sent adds = sym (N.length-append (a.waiting ++ p) r) ∙ ap length (N.append_assoc a.waiting p r ∙ adds.1) ∙ N.length-append sent b.waiting
 
 -- the whole blocks of what waits and comes first are delivered before the rest is put
-split_at : (a b : Held) (p r sent : List ℕ) (n : ℕ) → Adds a b sent (p ++ r) → 4096 * n ≤ length sent → 4096 * n ≤ length (a.waiting ++ p)
+split_at : (a b : SinkView) (p r sent : List ℕ) (n : ℕ) → Adds a b sent (p ++ r) → 4096 * n ≤ length sent → 4096 * n ≤ length (a.waiting ++ p)
     → length (a.waiting ++ p) < 4096 * (n + 1) → (0 < length sent → a.failures < 2 ^ 64 - 1)
-    → (m : Held) × (length m.waiting < 4096) × Puts a m p × Adds m b (drop (4096 * n) sent) r × (m.failures ≡ a.failures) × (m.delivered ≤ 2 ^ 64 - 1)
+    → (m : SinkView) × (length m.waiting < 4096) × Puts a m p × Adds m b (drop (4096 * n) sent) r × (m.failures ≡ a.failures) × (m.delivered ≤ 2 ^ 64 - 1)
     × (0 < length (drop (4096 * n) sent) → m.failures < 2 ^ 64 - 1)
 split_at a b p r sent n adds enough below above asked =
     let k = 4096 * n in
@@ -35,7 +35,7 @@ split_at a b p r sent n adds enough below above asked =
     )
 
 -- a piece that was put in one call could have been put in two
-pub Puts_split : (a b : Held) (p q : List ℕ) → length b.waiting < 4096 → Puts a b (p ++ q) → (m : Held) × (length m.waiting < 4096) × Puts a m p
+pub Puts_split : (a b : SinkView) (p q : List ℕ) → length b.waiting < 4096 → Puts a b (p ++ q) → (m : SinkView) × (length m.waiting < 4096) × Puts a m p
     × Puts m b q × (m.delivered ≤ 2 ^ 64 - 1)
 Puts_split a b p q few x =
     let n = length (a.waiting ++ p) / 4096 in
@@ -44,9 +44,9 @@ Puts_split a b p q few x =
     (s.0, s.1, s.2, (drop (4096 * n) x.0, x.1 - n, s.3, omega (arith, N.length-drop (4096 * n) x.0), (x.4.0 ∙ sym s.4, s.6)), s.5)
 
 -- a write that failed in a piece would have failed in its first part or in its second
-pub Breaks_split : (a b : Held) (p q : List ℕ) (stop : N.Stop) → N.Breaks a b (p ++ q) stop → N.Breaks a b p stop
-    ⊎ ((m : Held) × (length m.waiting < 4096) × Puts a m p × N.Breaks m b q stop × (m.delivered ≤ 2 ^ 64 - 1))
-Breaks_split a b p q stop x = elim (N.dec_le x.2 (length p)) [
+pub WritesPrefix_split : (a b : SinkView) (p q : List ℕ) (stop : N.Stop) → N.WritesPrefix a b (p ++ q) stop → N.WritesPrefix a b p stop
+    ⊎ ((m : SinkView) × (length m.waiting < 4096) × Puts a m p × N.WritesPrefix m b q stop × (m.delivered ≤ 2 ^ 64 - 1))
+WritesPrefix_split a b p q stop x = elim (N.dec_le x.2 (length p)) [
   | yes le ↦ N.inl (x.0, x.1, x.2, N.subst (Adds a b x.0) (N.take-append-le x.2 p q le) x.3, le, x.5, x.6, x.7, x.8, x.9)
   | no above ↦
       let i = x.2 - length p in

@@ -1,20 +1,20 @@
 -- Calls that read by a grammar and put the text of what they read: one after another, and inside a greater grammar.
 use Rattle.tds_csv.proofs as N
-use N.{◌≡◌, ◌∙◌, ℕ, ◌+◌, ◌<◌, List, ◌++◌, ap, Fault, Stop, Grammar, Seen, Held, PutsText}
+use N.{◌≡◌, ◌∙◌, ℕ, ◌+◌, ◌<◌, List, ◌++◌, ap, Fault, Stop, Grammar, PayloadView, SinkView, PutsText}
 
 -- a state where a reading stops has a next element
-pub stops_size : {S : Type 0} (g : Grammar S Fault) (from : S) (a b : Seen) (place : ℕ) (at : S) (stop : Stop) → N.StopsReading g from a b place at stop
+pub stops_size : {S : Type 0} (g : Grammar S Fault) (from : S) (a b : PayloadView) (place : ℕ) (at : S) (stop : Stop) → N.StopsReading g from a b place at stop
     → 0 < g.size at
 stops_size = grind N.arith
 
 -- the text between three states, put by two calls
-pub puts_both : {S : Type 0} (text : S → List ℕ) (s t u : S) (a b c : Held) → PutsText text s t a b → PutsText text t u b c → PutsText text s u a c
+pub puts_both : {S : Type 0} (text : S → List ℕ) (s t u : S) (a b c : SinkView) → PutsText text s t a b → PutsText text t u b c → PutsText text s u a c
 puts_both text s t u a b c x y = (x.0 ++ y.0, N.sym (N.append_assoc (text s) x.0 y.0) ∙ ap (λ l. l ++ y.0) x.1 ∙ y.1, N.Sinks.Puts-trans _ _ _ _ _ x.2 y.2)
 
 module _ {S : Type 0} (g : Grammar S Fault) (text : S → List ℕ) where
   -- a call that reads on, and one whose write fails
-  abbrev pub breaks_after : (s t : S) (a b c : Seen) (h i j : Held) (at : S) (stop : Stop) → N.Words.Streams g text s a b h i t
-      → N.BreaksStreaming g text t b c i j at stop → N.BreaksStreaming g text s a c h j at stop
+  abbrev pub breaks_after : (s t : S) (a b c : PayloadView) (h i j : SinkView) (at : S) (stop : Stop) → N.Words.Streams g text s a b h i t
+      → N.WritesPrefixStreaming g text t b c i j at stop → N.WritesPrefixStreaming g text s a c h j at stop
   breaks_after s t a b c h i j at stop x y = record {
     bytes = x.bytes ++ y.bytes;
     element = y.element;
@@ -33,7 +33,8 @@ module _ {S : Type 0} (g : Grammar S Fault) (text : S → List ℕ) where
 
 module _ {S : Type 0} (g : Grammar S Fault) (text : S → List ℕ) where
   -- what stops a call that puts text stops one that began before it
-  pub streaming_after : (s t : S) (a b c : Seen) (h i j : Held) (place : ℕ) (failed : N.Bool) (stop : Stop) → (x : N.Words.Streams g text s a b h i t)
+  pub streaming_after : (s t : S) (a b c : PayloadView) (h i j : SinkView) (place : ℕ) (failed : N.Bool) (stop : Stop)
+      → (x : N.Words.Streams g text s a b h i t)
       → N.StopsStreaming g text t b c (place + N.length x.bytes) i j failed stop → N.StopsStreaming g text s a c place h j failed stop
   streaming_after s t a b c h i j place failed stop x y = record {
     at = y.at;
@@ -55,12 +56,12 @@ module _ {S T : Type 0} (small : Grammar S Fault) (big : Grammar T Fault) (lift 
   added_inside = grind (N.arith, N.append_assoc)
 
   -- the text between two states of the small grammar is that between those of the big one
-  pub puts_inside : (s t : S) (a b : Held) → PutsText text s t a b → PutsText whole (lift s) (lift t) a b
+  pub puts_inside : (s t : S) (a b : SinkView) → PutsText text s t a b → PutsText whole (lift s) (lift t) a b
   puts_inside s t a b x = (x.0, added_inside s t x.0 x.1, x.2)
 
   -- a write that fails in the text of the small grammar fails in that of the big one
-  abbrev pub breaks_inside : (from : S) (a b : Seen) (h i : Held) (at : S) (stop : Stop) → N.BreaksStreaming small text from a b h i at stop
-      → N.BreaksStreaming big whole (lift from) a b h i (lift at) stop
+  abbrev pub breaks_inside : (from : S) (a b : PayloadView) (h i : SinkView) (at : S) (stop : Stop) → N.WritesPrefixStreaming small text from a b h i at stop
+      → N.WritesPrefixStreaming big whole (lift from) a b h i (lift at) stop
   breaks_inside from a b h i at stop x = record {
     bytes = x.bytes;
     element = x.element;

@@ -2,8 +2,8 @@
 use Rattle.tds_csv.proofs as N
 use Rattle.tds_text.proofs as T
 use N.{◌≡◌, ◌∙◌, ◌↔◌, ℕ, ◌+◌, ◌-◌, ◌<◌, ◌≤◌, List, [], ◌++◌, length, take, drop, Result, Ok, Err, ap, arith, emit, JoinFault, Odd, BadText, Sink, PushesPiece}
-use N.{TakesUpTo, Held, held}
-use T.Begun.{after_kept}
+use N.{TakesUpTo, SinkView, held}
+use T.OpenTexts.{after_kept}
 use T.Utf8Laws.{joins_utf8, emits}
 use Rattle.tds_text.specs.Utf8.{Begins, rest, text}
 
@@ -15,7 +15,7 @@ moved_by n (Err Odd) = Err Odd
 moved_by n (Ok v) = Ok v
 
 -- bytes that are withheld, and a piece, taken as one
-up_to_seam : {kept piece bytes new : List ℕ} {a b : Held} {k : ℕ} → bytes ≡ kept ++ piece → Begins kept
+up_to_seam : {kept piece bytes new : List ℕ} {a b : SinkView} {k : ℕ} → bytes ≡ kept ++ piece → Begins kept
     → TakesUpTo Begins rest text [] new a b bytes k → TakesUpTo Begins rest text kept new a b piece (k - length kept)
 up_to_seam {kept} {k = k} is begun x =
     let past = after_kept _ _ _ _ is begun x.bad in
@@ -41,7 +41,7 @@ kept_tail : (kept part more mid : List ℕ) (at : ℕ) → mid ≡ rest (kept ++
     → take (length (part ++ more) - at) (drop at (part ++ more)) ≡ mid ++ more
 kept_tail = grind (arith, N.length-drop, N.length-append, N.drop-append-add, N.take_all, N.drop-append-le)
 
-module _ {kept mid new : List ℕ} {a b d : Held} {part : List ℕ} (x : N.TakesPiece Begins rest text kept mid a b part) where
+module _ {kept mid new : List ℕ} {a b d : SinkView} {part : List ℕ} (x : N.TakesPiece Begins rest text kept mid a b part) where
   -- a part of a piece was taken, and then the next bytes
   takes_both : (more : List ℕ) → N.TakesPiece Begins rest text [] new b d (mid ++ more) → N.TakesPiece Begins rest text kept new a d (part ++ more)
   takes_both more y =
@@ -61,7 +61,7 @@ module _ {kept mid new : List ℕ} {a b d : Held} {part : List ℕ} (x : N.Takes
       }
 
 -- a byte was bad in the first bytes of a piece
-up_to_first : {kept piece new : List ℕ} {a b : Held} (n k : ℕ) → n ≤ length piece → TakesUpTo Begins rest text kept new a b (take n piece) k
+up_to_first : {kept piece new : List ℕ} {a b : SinkView} (n k : ℕ) → n ≤ length piece → TakesUpTo Begins rest text kept new a b (take n piece) k
     → TakesUpTo Begins rest text kept new a b piece k
 up_to_first = grind (arith, N.length-take-le, N.take-take)
 
@@ -85,7 +85,7 @@ module _ {W U : Type 0} {contents : W → N.Option (List ℕ)} {a b : Sink W} {k
       → N.Pushes {U = U} Begins rest text kept new (held contents a) (held contents b) a.failed piece (Err e)
   first_gives piece n (N.Stopped stop) long x =
       let fixed = rw N.take-append-drop at (halves kept (take n piece) {mid = rest (kept ++ take n piece)} (drop n piece) N.refl).0 in
-      λ going. rw fixed (N.Sinks.Breaks-longer _ _ _ _ _ (x.gives going))
+      λ going. rw fixed (N.Sinks.WritesPrefix-longer _ _ _ _ _ (x.gives going))
   first_gives piece n Odd long x = x.gives
   first_gives piece n (BadText k) long x = up_to_first n k long x.gives
 
@@ -100,7 +100,8 @@ module _ {W U V : Type 0} {contents : W → N.Option (List ℕ)} {a b d : Sink W
   both_give : (r : Result V JoinFault) → PushesPiece contents Begins rest text [] new b d (mid ++ more) r
       → N.Pushes Begins rest text kept new (held contents a) (held contents d) a.failed (part ++ more) (moved_by at r)
   both_give (Ok v) y = takes_both x.gives more y.gives
-  both_give (Err (N.Stopped stop)) y = λ _. rw (halves kept part more x.gives.withheld).0 (N.Sinks.Breaks-after _ _ _ _ _ _ x.gives.put (y.gives x.failed))
+  both_give (Err (N.Stopped stop)) y = λ _. rw (halves kept part more x.gives.withheld).0 (N.Sinks.WritesPrefix-after _ _ _ _ _ _ x.gives.put
+      (y.gives x.failed))
   both_give (Err Odd) y = y.gives
   both_give (Err (BadText k)) y =
       let past = after_kept mid more _ k N.refl x.begun y.gives.bad in

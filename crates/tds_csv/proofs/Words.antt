@@ -20,13 +20,13 @@ pub use Rattle.std.specs.Prelude.{Option, ◌↔◌, if◌then◌else◌}
 pub use Rattle.tds_text.specs.Cutting.{whole_within}
 pub use Rattle.tds_text.specs.Joining.{emit, Leads}
 pub use Rattle.tds_csv.specs.Spare.{held_before, KeepsPiece, with_spare}
-pub use Rattle.tds_csv.specs.Streaming.{BreaksStreaming, PutsText, Streams, StopsStreaming}
+pub use Rattle.tds_csv.specs.Streaming.{WritesPrefixStreaming, PutsText, Streams, StopsStreaming}
 pub use Rattle.tds_text.specs.Utf8Scan.{StopsAt}
 pub use Rattle.tds_text.specs.Conversion.{Conversion, HexDigits, Utf16Text, Windows1252Text, Utf8Text, BeginsData, conversion_rest, conversion_text, is_fit}
 pub use Rattle.tds_text.specs.Conversion.{is_quoted, long_field, open_field, closing}
 pub use Rattle.tds_csv.specs.Pushing.{EndsPieces, PushesPiece, Pushes, TakesPiece, TakesUpTo}
 pub use Rattle.tds_text.specs.Quoting.{doubled, after_comma}
-pub use Rattle.tds_csv.specs.Sinks.{Breaks, Held, Puts, PutsPiece, IsWriting, held, Adds, Sends, FinishFails}
+pub use Rattle.tds_csv.specs.Sinks.{WritesPrefix, SinkView, Puts, PutsPiece, IsWriting, held, Adds, Sends, FinishFails}
 pub use Rattle.tds_csv.specs.declared.joiners.JoinFault.{JoinFault}
 pub use Rattle.tds_csv.specs.declared.joiners.JoinFault.TheVariants.{Stopped, Odd, BadText}
 pub use Rattle.tds_csv.specs.declared.sink.Sink.{Sink}
@@ -37,11 +37,11 @@ pub use Rattle.tds_meter.specs.Lent.{overwritten}
 pub use Rattle.tds_meter.specs.Space.{Space, appended}
 pub use Rattle.tds_packet.proofs.ElementLaws.{Inside, Inside-Spelt, Spelt-append, Spelt-one, Spelt-none}
 pub use Rattle.tds_packet.proofs.Futures.{Takes-more}
-pub use Rattle.tds_packet.proofs.Lifts.{LastInside, last_inside, next_inside, next_some}
+pub use Rattle.tds_packet.proofs.InnerGrammars.{LastInside, last_inside, next_inside, next_some}
 pub use Rattle.tds_packet.proofs.Steps.{takes_both, stops_after, takes_ahead}
 pub use Rattle.tds_packet.specs.Elements.{Grammar, IsNext, Spelt}
 pub use Rattle.tds_packet.specs.Reading.{StopsReading}
-pub use Rattle.tds_packet.specs.Seen.{Seen, Takes, IsBetween}
+pub use Rattle.tds_packet.specs.PayloadView.{PayloadView, Takes, IsBetween}
 pub use Rattle.tds_packet.specs.declared.fault.Fault.{Fault}
 pub use Rattle.tds_packet.specs.declared.fault.Stop.{Stop}
 pub use lib.Seq.{take-add}

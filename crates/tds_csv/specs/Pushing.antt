@@ -4,7 +4,7 @@ use Rattle.tds_csv.specs.declared.joiners.JoinFault.{JoinFault}
 use Rattle.tds_csv.specs.declared.joiners.JoinFault.TheVariants.{Stopped, Odd, BadText}
 use Rattle.tds_text.specs.Joining.{emit}
 use Rattle.tds_csv.specs.declared.sink.Sink.{Sink}
-use Rattle.tds_csv.specs.Sinks.{Breaks, Held, IsOnSameSink, IsReady, IsWriting, Puts, held, stop_of}
+use Rattle.tds_csv.specs.Sinks.{WritesPrefix, SinkView, IsOnSameSink, IsReady, IsWriting, Puts, held, stop_of}
 
 -- A piece can be taken: what is withheld begins some data, and the sink takes text.
 pub record CanTake {W : Type 0} (begins : List ℕ → Type 0) (kept : List ℕ) (sink : Sink W) : Type 0 where
@@ -12,27 +12,27 @@ pub record CanTake {W : Type 0} (begins : List ℕ → Type 0) (kept : List ℕ)
   pub writing : IsWriting sink
 
 -- the piece is taken: its text is put as far as it is fixed, and the rest is withheld
-pub record TakesPiece (begins : List ℕ → Type 0) (rest text : List ℕ → List ℕ) (old new : List ℕ) (before after : Held) (piece : List ℕ) : Type 0
+pub record TakesPiece (begins : List ℕ → Type 0) (rest text : List ℕ → List ℕ) (old new : List ℕ) (before after : SinkView) (piece : List ℕ) : Type 0
   where
     pub begun : begins (old ++ piece)
     pub put : Puts before after (emit rest text (old ++ piece))
     pub withheld : new ≡ rest (old ++ piece)
 
 -- the first k bytes of the piece are taken, and the next one is bad
-pub record TakesUpTo (begins : List ℕ → Type 0) (rest text : List ℕ → List ℕ) (old new : List ℕ) (before after : Held) (piece : List ℕ) (k : ℕ) : Type
+pub record TakesUpTo (begins : List ℕ → Type 0) (rest text : List ℕ → List ℕ) (old new : List ℕ) (before after : SinkView) (piece : List ℕ) (k : ℕ) : Type
     0 where
   pub within : k < length piece
   pub good : TakesPiece begins rest text old new before after (take k piece)
   pub bad : ¬ (begins (old ++ take (k + 1) piece))
 
 -- the withheld bytes are whole, and their text is put
-pub record Completes (fit : List ℕ → Type 0) (text : List ℕ → List ℕ) (old new : List ℕ) (before after : Held) : Type 0 where
+pub record Completes (fit : List ℕ → Type 0) (text : List ℕ → List ℕ) (old new : List ℕ) (before after : SinkView) : Type 0 where
   pub whole : fit old
   pub put : Puts before after (text old)
   pub withheld : new ≡ []
 
 -- the withheld bytes aren't whole, and stay
-pub record LeavesPart (fit : List ℕ → Type 0) (old new : List ℕ) (before after : Held) : Type 0 where
+pub record LeavesPart (fit : List ℕ → Type 0) (old new : List ℕ) (before after : SinkView) : Type 0 where
   pub part : ¬ (fit old)
   pub put : after ≡ before
   pub withheld : new ≡ old
@@ -43,19 +43,19 @@ is_stopped (Err (Stopped stop)) = true
 is_stopped _ = false
 
 -- what a push does, by its result; `failed` says that the sink had stopped before
-abbrev pub Pushes : {U : Type 0} → (begins : List ℕ → Type 0) → (rest text : List ℕ → List ℕ) → (old new : List ℕ) → (before after : Held)
+abbrev pub Pushes : {U : Type 0} → (begins : List ℕ → Type 0) → (rest text : List ℕ → List ℕ) → (old new : List ℕ) → (before after : SinkView)
     → (failed : Bool) → (piece : List ℕ) → Result U JoinFault → Type 0
 Pushes begins rest text old new before after failed piece (Ok _) = TakesPiece begins rest text old new before after piece
 Pushes begins rest text old new before after failed piece (Err (Stopped stop)) = failed ≡ false
-    → Breaks before after (emit rest text (old ++ piece)) stop
+    → WritesPrefix before after (emit rest text (old ++ piece)) stop
 Pushes begins rest text old new before after failed piece (Err Odd) = ⊥
 Pushes begins rest text old new before after failed piece (Err (BadText k)) = TakesUpTo begins rest text old new before after piece k
 
 -- what an end does, by its result; `unit` is the number of bytes of a unit
-abbrev pub EndsBy : {U : Type 0} → (unit : ℕ) → (fit : List ℕ → Type 0) → (text : List ℕ → List ℕ) → (old new : List ℕ) → (before after : Held)
+abbrev pub EndsBy : {U : Type 0} → (unit : ℕ) → (fit : List ℕ → Type 0) → (text : List ℕ → List ℕ) → (old new : List ℕ) → (before after : SinkView)
     → (failed : Bool) → Result U JoinFault → Type 0
 EndsBy unit fit text old new before after failed (Ok _) = Completes fit text old new before after
-EndsBy unit fit text old new before after failed (Err (Stopped stop)) = failed ≡ false → fit old × Breaks before after (text old) stop
+EndsBy unit fit text old new before after failed (Err (Stopped stop)) = failed ≡ false → fit old × WritesPrefix before after (text old) stop
 EndsBy unit fit text old new before after failed (Err Odd) = LeavesPart fit old new before after × (length old % unit ≢ 0)
 EndsBy unit fit text old new before after failed (Err (BadText k)) = LeavesPart fit old new before after × (length old % unit ≡ 0) × (k ≡ 0)
 

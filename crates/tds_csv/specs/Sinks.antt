@@ -10,49 +10,49 @@ use Rattle.tds_packet.specs.Filling.{Rises, Stays}
 use Rattle.tds_csv.specs.declared.sink.Sink.{Sink}
 
 -- what the writer has, if that is known; what waits; how many bytes were delivered; and the writer's count of failures
-pub record Held : Type 0 where
+pub record SinkView : Type 0 where
   pub had : Option (List ℕ)
   pub waiting : List ℕ
   pub delivered : ℕ
   pub failures : ℕ
 
 -- the sink as contracts see it, if this tells the bytes that its writer has
-abbrev pub held : {W : Type 0} → (W → Option (List ℕ)) → Sink W → Held
+abbrev pub held : {W : Type 0} → (W → Option (List ℕ)) → Sink W → SinkView
 held contents s = record { had = contents s.to.now.device; waiting = s.output.now.bytes; delivered = s.delivered; failures = s.to.now.failures }
 
 -- a sink on a writer, to which nothing was put
-abbrev pub fresh : Option (List ℕ) → ℕ → Held
+abbrev pub fresh : Option (List ℕ) → ℕ → SinkView
 fresh had failures = record { had = had; waiting = []; delivered = 0; failures = failures }
 
 -- A piece was added, and these bytes delivered: what is delivered and what waits grew by the piece.
-abbrev pub Adds : Held → Held → List ℕ → List ℕ → Type 0
+abbrev pub Adds : SinkView → SinkView → List ℕ → List ℕ → Type 0
 Adds old new sent piece = Appends old.had new.had sent × (old.waiting ++ piece ≡ sent ++ new.waiting)
     × (new.delivered ≡ counted old.delivered (length sent))
 
 -- the stop of a sink
-abbrev pub stop_of : Held → Stop
+abbrev pub stop_of : SinkView → Stop
 stop_of h = record { fault = WriteFailed; place = Text h.delivered }
 
 -- The piece was added, and blocks of 4,096 bytes delivered.
-abbrev pub Puts : Held → Held → List ℕ → Type 0
+abbrev pub Puts : SinkView → SinkView → List ℕ → Type 0
 Puts old new piece = (sent : List ℕ) × (blocks : ℕ) × Adds old new sent piece × (length sent ≡ 4096 * blocks) × Stays old.failures new.failures sent
 
 -- A write failed in the block after this number of them, and what the writer didn't take of it waits: a beginning of the piece was added.
-abbrev pub Breaks : Held → Held → List ℕ → Stop → Type 0
-Breaks old new piece stop = (sent : List ℕ) × (blocks : ℕ) × (n : ℕ) × Adds old new sent (take n piece) × (n ≤ length piece)
+abbrev pub WritesPrefix : SinkView → SinkView → List ℕ → Stop → Type 0
+WritesPrefix old new piece stop = (sent : List ℕ) × (blocks : ℕ) × (n : ℕ) × Adds old new sent (take n piece) × (n ≤ length piece)
     × (4096 * blocks ≤ length sent) × (length sent < 4096 * (blocks + 1))
     × (length sent + length new.waiting ≡ 4096 * (blocks + 1)) × (stop ≡ stop_of new) × Rises old.failures new.failures sent
 
 -- All was delivered.
-abbrev pub Sends : Held → Held → Type 0
+abbrev pub Sends : SinkView → SinkView → Type 0
 Sends old new = (sent : List ℕ) × Adds old new sent [] × (new.waiting ≡ []) × Stays old.failures new.failures sent
 
 -- All was delivered, and the writer was flushed.
-abbrev pub Finishes : Held → Held → Type 0
+abbrev pub Finishes : SinkView → SinkView → Type 0
 Finishes old new = (sent : List ℕ) × Adds old new sent [] × (new.waiting ≡ []) × (new.failures ≡ old.failures) × (old.failures < 2 ^ 64 - 1)
 
 -- A write or the flush failed.
-abbrev pub FinishFails : Held → Held → Stop → Type 0
+abbrev pub FinishFails : SinkView → SinkView → Stop → Type 0
 FinishFails old new stop = (sent : List ℕ) × Adds old new sent [] × (stop ≡ stop_of new) × Rises old.failures new.failures sent
 
 -- It has room for a block, and less than one waits unless it has stopped.
@@ -81,7 +81,7 @@ pub record PutsPiece {W U : Type 0} (contents : W → Option (List ℕ)) (old ne
   pub same : IsOnSameSink old new
   pub failed : new.failed ≡ (if is_ok result then false else true)
   pub gives : MatchResult result (λ _. Puts (held contents old) (held contents new) text) (λ stop. old.failed ≡ false
-      → Breaks (held contents old) (held contents new) text stop)
+      → WritesPrefix (held contents old) (held contents new) text stop)
   pub again : old.failed ≡ true → (result ≡ Err (stop_of (held contents old))) × (new ≡ old)
 
 -- A delivery of all that waits, which leaves some of it if a write fails.

@@ -7,7 +7,7 @@ use Rattle.tds_meter.specs.Space.{appended}
 use Rattle.tds_csv.specs.declared.sink.Sink.{Sink}
 use Rattle.tds_csv.specs.contracts.sink.Sink.{the_row}
 use Rattle.tds_packet.specs.declared.fault.Stop.{Stop}
-use Rattle.tds_csv.specs.Sinks.{Breaks, Held, IsOnSameSink, IsReady, Puts, held}
+use Rattle.tds_csv.specs.Sinks.{WritesPrefix, SinkView, IsOnSameSink, IsReady, Puts, held}
 
 -- the bytes that are lent come after those that wait, and these are written over them
 abbrev pub with_spare : {W : Type 0} → Sink W → List ℕ → List ℕ → Sink W
@@ -22,7 +22,7 @@ abbrev pub IsLent : {W : Type 0} → Sink W → Type 0
 IsLent s = (4096 ≤ s.output.now.room) × (s.delivered ≤ 2 ^ 64 - 1) × (s.output.now.peak ≤ s.output.now.room) × (s.failed ≡ false)
 
 -- the sink without the bytes after the first `waiting` ones that wait
-abbrev pub held_before : {W : Type 0} → (W → Option (List ℕ)) → Sink W → ℕ → Held
+abbrev pub held_before : {W : Type 0} → (W → Option (List ℕ)) → Sink W → ℕ → SinkView
 held_before contents s waiting = record (held contents s) { waiting = take waiting s.output.now.bytes }
 
 -- After the first `waiting` bytes that wait, `made` of the others were put, and the rest was taken away.
@@ -32,7 +32,7 @@ pub record KeepsPiece {W U : Type 0} (contents : W → Option (List ℕ)) (old n
   pub failed : new.failed ≡ (if is_ok result then false else true)
   pub gives : let piece = take made (drop waiting old.output.now.bytes) in MatchResult result
       (λ _. Puts (held_before contents old waiting) (held contents new) piece)
-      (λ stop. Breaks (held_before contents old waiting) (held contents new) piece stop)
+      (λ stop. WritesPrefix (held_before contents old waiting) (held contents new) piece stop)
 
 -- So it was, and nothing was delivered that could fail.
 abbrev pub CommitsPiece : {W : Type 0} → (W → Option (List ℕ)) → Sink W → Sink W → ℕ → ℕ → Type 0

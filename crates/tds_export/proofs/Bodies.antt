@@ -1,10 +1,11 @@
 -- Tokens with a Length and a body, as they are read.
 use Rattle.tds_export.proofs.Words as N
 use Rattle.tds_export.proofs.Words.{AnError, List, Option, Report, Some, Space, [], ap, arith, empty, first_error, in_length, length, notice_of, refl, sym}
-use Rattle.tds_export.proofs.Words.{text, ℕ, ◌++◌, ◌+◌, ◌-◌, ◌<◌, ◌∙◌, ◌∷◌, ◌≡◌, ◌≤◌, Bool, Err, Kind, NoType, None, Ok, ReadsReturn, Result, Seen, Stop, Takes}
+use Rattle.tds_export.proofs.Words.{text, ℕ, ◌++◌, ◌+◌, ◌-◌, ◌<◌, ◌∙◌, ◌∷◌, ◌≡◌, ◌≤◌, Bool, Err, Kind, NoType, None, Ok, ReadsReturn, Result, PayloadView}
+use Rattle.tds_export.proofs.Words.{Stop, Takes}
 use Rattle.tds_export.proofs.Words.{TypeHead, if◌then◌else◌, returned_type, subst, with_return_units, ◌*◌, BadNotice, Bodied, Token, between, false, inl, inr}
 use Rattle.tds_export.proofs.Words.{is_notice, part_fault, reads_one, response, stops_after, take, true, Charset, View, Ends}
-use Rattle.tds_export.proofs.TokenSteps.{Begun, bare_reads, quietly, stops_quietly, ReadsQuiet, StopsQuiet}
+use Rattle.tds_export.proofs.TokenSteps.{OpenTexts, bare_reads, quietly, stops_quietly, ReadsQuiet, StopsQuiet}
 use Rattle.tds_export.proofs.TokenLaws.{first_next, first_stays, no_errors, tracks_error, tracks_info, tracks_returned, bare_body, tracks_body}
 use Rattle.tds_export.proofs.ResponseLaws.{Agrees, info_is_read, return_name_is_read, value_agrees, read_inside, stop_inside, part_cut, fill_cut, return_agrees}
 use Rattle.tds_export.proofs.ResponseLaws.{body_free, body_is_read, length_free}
@@ -23,7 +24,7 @@ in_body_holds at holds h = grind arith
 errors_are : {s : N.Progress} {tokens : List Token} → N.TracksBefore s tokens → s.report.errors ≡ N.how_many N.is_error tokens
 errors_are tracks = ap (λ (r : Report). r.errors) tracks.report
 
-module _ (charset : Charset) {tokens : List Token} {s : N.Progress} {u : View} {b : Seen} (begun : Begun tokens s u) where
+module _ (charset : Charset) {tokens : List Token} {s : N.Progress} {u : View} {b : PayloadView} (begun : OpenTexts tokens s u) where
   -- a notice is cut or refused
   pub notice_stops : {which : Bodied} {stop : Stop} → N.StopsInNotice charset u.area.room tokens which u.seen b u.place stop
       → StopsQuiet charset (in_length which tokens) u b stop
@@ -60,7 +61,7 @@ module _ (charset : Charset) {tokens : List Token} {s : N.Progress} {u : View} {
 
 -- ---- rETURNVALUE as it is read, and in its response
 
-module _ {s t : N.ReturnPart} {a b c : Seen} {place middle : ℕ} (x : ReadsReturn s t a b place middle) where
+module _ {s t : N.ReturnPart} {a b c : PayloadView} {place middle : ℕ} (x : ReadsReturn s t a b place middle) where
   -- what stops a call stops one that began before it
   pub return_stops_after : {stop : Stop} → N.StopsReturn t b c middle stop → N.StopsReturn s a c place stop
   return_stops_after {stop = stop} y = grind (arith, stops_after)
@@ -76,33 +77,34 @@ module _ {s t : N.ReturnPart} {a b c : Seen} {place middle : ℕ} (x : ReadsRetu
   }
 
 -- the next element was read
-return_read : {s t : N.ReturnPart} {a b : Seen} {place place' n : ℕ} (element : List ℕ) → 0 < n → N.return_size s ≡ n → N.return_fault s element ≡ None
+return_read : {s t : N.ReturnPart} {a b : PayloadView} {place place' n : ℕ} (element : List ℕ) → 0 < n → N.return_size s ≡ n → N.return_fault s element ≡ None
     → N.return_add s element ≡ t → length element ≡ n → Takes a b element n → place' ≡ place + n → ReadsReturn s t a b place place'
 return_read {s = s} {t = t} {a = a} {b = b} element some size free to whole takes at =
     record { reads = reads_one _ s a b _ t (record { some = rw whole some; whole = cc; free = free }) (rw whole takes) to; place_is = rw whole at }
 
 -- ---- the name
 
-module _ {a : Seen} (b : Seen) {place one : ℕ} (ordinal : List ℕ) (counted : length ordinal ≡ 2) (first : Takes a b ordinal 2) (at : one ≡ place + 2)
+module _ {a : PayloadView} (b : PayloadView) {place one : ℕ} (ordinal : List ℕ) (counted : length ordinal ≡ 2) (first : Takes a b ordinal 2) (at : one
+    ≡ place + 2)
   where
     -- the ordinal was read
     pub ordinal_read : ReadsReturn N.ReturnOrdinal N.ReturnNameCount a b place one
     ordinal_read = return_read _ (omega arith) refl refl refl counted first at
 
     -- the ordinal and the count of the name's units were read
-    pub front_read : {c : Seen} {two : ℕ} (element : List ℕ) → length element ≡ 1 → Takes b c element (length element) → two ≡ one + length element
+    pub front_read : {c : PayloadView} {two : ℕ} (element : List ℕ) → length element ≡ 1 → Takes b c element (length element) → two ≡ one + length element
         → ReadsReturn N.ReturnOrdinal (with_return_units (N.slice_index element 0)) a c place two
     front_read element single second at' = return_reads_after ordinal_read (return_read _ (omega arith) (sym single) refl refl refl second at')
 
 -- the name is cut
-pub name_cut : (units : ℕ) {n place : ℕ} {a b : Seen} {own stop : Stop} {part : List ℕ} → n ≡ 2 * units → length part < n → Ends a b part own
+pub name_cut : (units : ℕ) {n place : ℕ} {a b : PayloadView} {own stop : Stop} {part : List ℕ} → n ≡ 2 * units → length part < n → Ends a b part own
     → stop ≡ N.began_at place own → N.StopsReturn (with_return_units units) a b place stop
 name_cut units {n = n} is fewer ends stop_is =
     let some : with_return_units units ≡ N.ReturnName n = rw is (N.choose_false _ _ _ (N.ne_eqb units 0 (λ q. omega arith))) in
     rw some (record { at = N.ReturnName n; stops = part_cut refl refl fewer ends stop_is })
 
 -- the name was read
-pub name_read : (units : ℕ) {n place place' : ℕ} {a b : Seen} {name : List ℕ} → n ≡ 2 * units → length name ≡ n → Takes a b name n
+pub name_read : (units : ℕ) {n place place' : ℕ} {a b : PayloadView} {name : List ℕ} → n ≡ 2 * units → length name ≡ n → Takes a b name n
     → place' ≡ place + n → ReadsReturn (with_return_units units) (N.ReturnHead name) a b place place'
 name_read units {name} is len takes at = record {
   reads = record { bytes = name; spelt = return_name_is_read _ _ (cc); takes = rw len takes };
@@ -132,7 +134,7 @@ type_agrees : {name : List ℕ} (p : N.TypePart) → 0 < returned_type.size p �
 type_agrees p h = grind (arith, byte_read, known_kind)
 
 -- whatever the answer is
-pub type_taken : (r : Result Kind Stop) (name head : List ℕ) (a b c : Seen) (place : ℕ) {middle : ℕ} (place' : ℕ) → length head ≡ 8 → Takes a b head 8
+pub type_taken : (r : Result Kind Stop) (name head : List ℕ) (a b c : PayloadView) (place : ℕ) {middle : ℕ} (place' : ℕ) → length head ≡ 8 → Takes a b head 8
     → middle ≡ place + 8 → N.IfOk r (λ kind. N.ReadsType (N.slice_index head 7) b c middle place' kind)
     → N.MatchResult r (λ kind. N.Reads returned_type TypeHead a c (N.KnownType kind)) (λ stop. N.StopsType a c (middle - 8) stop)
     → N.MatchResult r (λ kind. ReadsReturn (N.ReturnHead name) (N.before_value name kind) a c place place')
@@ -148,7 +150,7 @@ type_taken (Err stop) name head a b c place place' eight takes at x y =
 -- ---- the value
 
 -- the value was passed over, or that stopped
-pub value_passed : {U : Type 0} (r : Result U Stop) (name : List ℕ) (kind : Kind) {a b : Seen} (c : Seen) {place middle : ℕ} (place' : ℕ)
+pub value_passed : {U : Type 0} (r : Result U Stop) (name : List ℕ) (kind : Kind) {a b : PayloadView} (c : PayloadView) {place middle : ℕ} (place' : ℕ)
     → ReadsReturn N.ReturnOrdinal (N.before_value name kind) a b place middle
     → N.MatchResult r (λ _. N.PassesCell (N.cell_start kind (N.shape N.return_charset kind)) b c middle place')
     (λ stop. N.StopsPassing (N.cell_start kind (N.shape N.return_charset kind)) b c middle stop)
@@ -169,7 +171,7 @@ open_return : {area : Space} {tokens : List Token} (p : N.ReturnPart) → 0 < N.
     → (N.text_so_far (N.in_return tokens) ≡ N.text_so_far (N.with_return tokens p)) × N.IsHolding area (N.with_return tokens p)
 open_return p some holds = grind arith
 
-module _ (charset : Charset) {tokens : List Token} {s : N.Progress} {u : View} {b : Seen} (begun : Begun tokens s u) where
+module _ (charset : Charset) {tokens : List Token} {s : N.Progress} {u : View} {b : PayloadView} (begun : OpenTexts tokens s u) where
   -- a return value stopped the call
   pub return_stops : {stop : Stop} → N.StopsReturn N.ReturnOrdinal u.seen b u.place stop → StopsQuiet charset (N.in_return tokens) u b stop
   return_stops x =
@@ -190,17 +192,17 @@ abbrev pub in_body : Bodied → List Token → ℕ → N.Part
 in_body which tokens n = record { tokens = tokens; at = N.TokenBody which n }
 
 -- The Length of a body was read.
-pub record LengthRead (element : List ℕ) (n : ℕ) (a b : Seen) (place middle : ℕ) : Type 0 where
+pub record LengthRead (element : List ℕ) (n : ℕ) (a b : PayloadView) (place middle : ℕ) : Type 0 where
   pub two : length element ≡ 2
   pub is : n ≡ N.little_number 2 element
   pub takes : Takes a b element (length element)
   pub at : middle ≡ place + length element
 
 -- the Length as a number
-pub number_is : {element : List ℕ} {n place middle : ℕ} {a b : Seen} → LengthRead element n a b place middle → N.little element ≡ n
+pub number_is : {element : List ℕ} {n place middle : ℕ} {a b : PayloadView} → LengthRead element n a b place middle → N.little element ≡ n
 number_is {element = element} l = rw l.is (cc)
 
-module _ (charset : Charset) (room : ℕ) {n place middle : ℕ} {tokens : List Token} {which : Bodied} {element : List ℕ} {a b c : Seen}
+module _ (charset : Charset) (room : ℕ) {n place middle : ℕ} {tokens : List Token} {which : Bodied} {element : List ℕ} {a b c : PayloadView}
     (l : LengthRead element n a b place middle) (long : is_notice which ≡ true → 14 ≤ n) where
   -- what stops the reading of the body
   after_length : {stop : Stop} → 0 < n → N.StopsReading (response charset room) (in_body which tokens n) b c middle (in_body which tokens n) stop
@@ -225,8 +227,8 @@ module _ (charset : Charset) (room : ℕ) {n place middle : ℕ} {tokens : List 
 no_notice : {P : Type 0} (which : Bodied) → is_notice which ≡ false → is_notice which ≡ true → P
 no_notice which quiet loud = absurd (cc)
 
-module _ (charset : Charset) {n middle : ℕ} {tokens : List Token} {which : Bodied} {element : List ℕ} {s : N.Progress} {u : View} {b c : Seen}
-    (begun : Begun tokens s u) (quiet : is_notice which ≡ false) (l : LengthRead element n u.seen b u.place middle) where
+module _ (charset : Charset) {n middle : ℕ} {tokens : List Token} {which : Bodied} {element : List ℕ} {s : N.Progress} {u : View} {b c : PayloadView}
+    (begun : OpenTexts tokens s u) (quiet : is_notice which ≡ false) (l : LengthRead element n u.seen b u.place middle) where
   -- a body of which nothing is kept was read
   pub quiet_reads : {place : ℕ} (body : List ℕ) → length body ≡ n → Takes b c body n → place ≡ middle + n
       → ReadsQuiet charset (in_length which tokens) tokens u c place s
@@ -244,12 +246,12 @@ module _ (charset : Charset) {n middle : ℕ} {tokens : List Token} {which : Bod
 
 module _ (charset : Charset) (room : ℕ) {tokens : List Token} {which : Bodied} (notice : is_notice which ≡ true) where
   -- the Length is cut
-  pub length_cut : {to : List ℕ} {a b : Seen} {place : ℕ} {stop : Stop} → length to ≡ 2
+  pub length_cut : {to : List ℕ} {a b : PayloadView} {place : ℕ} {stop : Stop} → length to ≡ 2
       → ((k : ℕ) × (own : Stop) × (k < length to) × Ends a b (take k to) own × (stop ≡ N.began_at place own))
       → N.StopsInNotice charset room tokens which a b place stop
   length_cut two part = record { at = in_length which tokens; stops = fill_cut refl refl two part; in_body = inl refl }
 
-  module _ {element : List ℕ} {n place middle : ℕ} {a b : Seen} (l : LengthRead element n a b place middle) where
+  module _ {element : List ℕ} {n place middle : ℕ} {a b : PayloadView} (l : LengthRead element n a b place middle) where
     -- the Length is too short
     pub length_refused : n < 14 → N.IsBetween b
         → N.StopsInNotice charset room tokens which a b place (record { fault = BadNotice; place = N.Payload place })
@@ -257,7 +259,7 @@ module _ (charset : Charset) (room : ℕ) {tokens : List Token} {which : Bodied}
         let first : part_fault room tokens (N.TokenLength which) element ≡ Some BadNotice = rw (notice, number_is l, N.test_lt n 14 short) refl in
         record { at = in_length which tokens; stops = N.refused_at_once _ _ a b _ _ _ (omega arith) l.two first l.takes between; in_body = inl refl }
 
-    module _ {c : Seen} {before after : Space} (long : 14 ≤ n) where
+    module _ {c : PayloadView} {before after : Space} (long : 14 ≤ n) where
       -- the body is cut
       pub body_cut : {stop : Stop} → N.EndsInto b c before after middle n stop → N.StopsInNotice charset room tokens which a c place stop
       body_cut cut = record {

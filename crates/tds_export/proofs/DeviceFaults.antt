@@ -1,6 +1,7 @@
 -- Where an export stops with the fault of a device, the device's count of failures rose.
 use Rattle.tds_export.proofs.Words as N
-use Rattle.tds_export.proofs.Words.{Bool, Coming, Fault, Given, List, None, Option, Part, ReadFailed, Seen, Some, Stop, WriteFailed, [], ap, arith, before}
+use Rattle.tds_export.proofs.Words.{Bool, Coming, Fault, ExportInput, List, None, Option, Part, ReadFailed, PayloadView, Some, Stop, WriteFailed, [], ap}
+use Rattle.tds_export.proofs.Words.{arith, before}
 use Rattle.tds_export.proofs.Words.{front_packet, if◌then◌else◌, inl, inr, length, message, read, subst, sym, true, ℕ, ⊤, ◌++◌, ◌<◌, ◌∙◌, ◌∷◌, ◌≡◌, ◌⊎◌}
 
 -- a fault that elements may have, or the end of a message
@@ -32,7 +33,7 @@ module _ (charset : N.Charset) (room : ℕ) where
 
 -- ---- a payload that has just begun
 
-ends_of_wire : (size limit : ℕ) {failures : ℕ} (left : Option (List ℕ)) (b : Seen) {bytes : List ℕ} {own : Stop}
+ends_of_wire : (size limit : ℕ) {failures : ℕ} (left : Option (List ℕ)) (b : PayloadView) {bytes : List ℕ} {own : Stop}
     → N.Ends (N.begun size limit left failures) b bytes own → N.IsOfWire own.fault ⊎ ((own.fault ≡ ReadFailed) × (b.failures ≡ N.one_more failures))
 ends_of_wire size limit left b (inl x) =
     inl (rw (← ap (λ (c : Coming). c.stop.fault) (x.2 [])) (N.message_of_wire _ _ _ 0 0 _))
@@ -48,7 +49,7 @@ of_none : (P : Fault → Type 0) → (P WriteFailed → ⊥) → (P ReadFailed �
     → ReadingFault before after fault
 of_none P write read before after fault h = (λ e. write (rw e at h), λ e. absurd (read (rw e at h)))
 
-reading_fault : (charset : N.Charset) (room size limit : ℕ) {failures : ℕ} {left : Option (List ℕ)} {b : Seen} {place : ℕ} (at : Part) (stop : Stop)
+reading_fault : (charset : N.Charset) (room size limit : ℕ) {failures : ℕ} {left : Option (List ℕ)} {b : PayloadView} {place : ℕ} (at : Part) (stop : Stop)
     → N.StopsReading (N.response charset room) N.response_start (N.begun size limit left failures) b place at stop
     → ReadingFault failures b.failures stop.fault
 reading_fault charset room size limit {b} at stop x = elim x.cause [
@@ -65,16 +66,16 @@ reading_fault charset room size limit {b} at stop x = elim x.cause [
 -- ---- an export
 
 -- a device is blamed only where its count rose
-abbrev Blamed : Given → N.Stopped → Type 0
+abbrev Blamed : ExportInput → N.Stopped → Type 0
 Blamed given stopped = (stopped.fault ≡ ReadFailed → N.FailsToRead given) × (stopped.fault ≡ WriteFailed → N.FailsToWrite given)
 
 -- a failed write rose the count, and is no failed read
-by_write : (given : Given) (stopped : N.Stopped) (stop : Stop) (middle after : N.Held) → stopped.fault ≡ stop.fault → stop.fault ≡ WriteFailed
+by_write : (given : ExportInput) (stopped : N.Stopped) (stop : Stop) (middle after : N.SinkView) → stopped.fault ≡ stop.fault → stop.fault ≡ WriteFailed
     → middle.failures ≡ given.before.writer.failures → after.failures ≡ N.one_more middle.failures → after.failures ≡ given.after.writer.failures
     → Blamed given stopped
 by_write given stopped stop middle after is named start failed end = grind arith
 
-pub blamed : {given : Given} {stopped : N.Stopped} → N.StopsExport given stopped → Blamed given stopped
+pub blamed : {given : ExportInput} {stopped : N.Stopped} → N.StopsExport given stopped → Blamed given stopped
 blamed {given} {stopped} x = go x.stops
   where
     is : stopped.fault ≡ x.stop.fault
@@ -103,7 +104,7 @@ unfolding message front_packet
 no_message size limit is e = let no = ap (λ (d : Coming). d.stop.fault) e ∙ is in cc
 
 -- to read a whole message takes a byte
-some_read : (size limit : ℕ) {failures : ℕ} (left : Option (List ℕ)) (q : Seen) (bytes : List ℕ) {n : ℕ}
+some_read : (size limit : ℕ) {failures : ℕ} (left : Option (List ℕ)) (q : PayloadView) (bytes : List ℕ) {n : ℕ}
     (t : N.Takes (N.begun size limit left failures) q bytes n) → N.IsOver q → 0 < length t.0
 some_read size limit left q bytes t o = go t.0 t.1.1
   where
@@ -111,7 +112,7 @@ some_read size limit left q bytes t o = go t.0 t.1.1
     go [] f = absurd (no_message _ _ (cc (o.2 [])) (f []))
     go _ f = omega arith
 
-pub no_failure : (given : Given) (report : N.Report) → N.Reports given report → (N.FailsToRead given → ⊥) × (N.FailsToWrite given → ⊥)
+pub no_failure : (given : ExportInput) (report : N.Report) → N.Reports given report → (N.FailsToRead given → ⊥) × (N.FailsToWrite given → ⊥)
 no_failure given report x =
     let moved = some_read (N.limits_of given).packet_size (N.limits_of given).max_wire _ x.seen
     _ x.completes.whole.takes x.completes.whole.over in

@@ -1,6 +1,7 @@
 -- How an export ended, by the packets of its input.
 use Rattle.tds_export.proofs.Words as N
-use Rattle.tds_export.proofs.Words.{List, Part, Run, Seen, Some, Stop, [], ap, arith, drop, grammar, inl, inr, length, more, refl, subst, sym, take, text, ℕ}
+use Rattle.tds_export.proofs.Words.{List, Part, Run, PayloadView, Some, Stop, [], ap, arith, drop, grammar, inl, inr, length, more, refl, subst, sym, take}
+use Rattle.tds_export.proofs.Words.{text, ℕ}
 use Rattle.tds_export.proofs.Words.{◌++◌, ◌<◌, ◌∙◌, ◌≡◌, limits, ◌+◌}
 
 -- what the area holds at a part is kept, whatever follows
@@ -10,12 +11,12 @@ kept_at area tokens (N.Describing d) rest e = (rest, cc)
 kept_at area tokens at rest e = e
 
 -- the reader's side of a run that began at the front of its input
-pub record ReaderSide (run : Run) (q : Seen) : Type 0 where
+pub record ReaderSide (run : Run) (q : PayloadView) : Type 0 where
   pub bytes : N.AreBytes run.input
   pub left : q.left ≡ Some run.left
   pub failures : q.failures ≡ run.given.after.reader.failures
 
-abbrev pub start : Run → Seen
+abbrev pub start : Run → PayloadView
 start run = N.begun (limits run).packet_size (limits run).max_wire (Some run.input) run.given.before.reader.failures
 
 zero : (n : ℕ) → 0 + n ≡ n
@@ -35,7 +36,7 @@ split_payload bytes element more payload e = grind (arith, N.append_assoc, N.dro
 rest_of : (bytes : List ℕ) {part payload : List ℕ} → payload ≡ bytes ++ part → drop (length bytes) payload ≡ part
 rest_of bytes {part} e = cc (N.drop-append_seam bytes part)
 
-module _ (run : Run) {q : Seen} {part : Part} {bytes : List ℕ} (side : ReaderSide run q) (spelt : N.Spelt (grammar run) N.response_start bytes part)
+module _ (run : Run) {q : PayloadView} {part : Part} {bytes : List ℕ} (side : ReaderSide run q) (spelt : N.Spelt (grammar run) N.response_start bytes part)
     (holds : N.IsHolding run.given.after.areas.description part) (text : N.text_put run ≡ N.text_so_far part) where
   -- what the area holds is kept
   kept : (packets : List N.Packet) → N.Keeps run packets (length bytes) part
@@ -122,7 +123,7 @@ module _ (run : Run) {q : Seen} {part : Part} {bytes : List ℕ} (side : ReaderS
   ]
 
 -- how a run that read stops
-pub reading_stops : {run : Run} {q : Seen} {at : Part} {stop : Stop} → ReaderSide run q
+pub reading_stops : {run : Run} {q : PayloadView} {at : Part} {stop : Stop} → ReaderSide run q
     → N.StopsReading (grammar run) N.response_start (start run) q 0 at stop → N.IsHolding run.given.after.areas.description at
     → N.text_put run ≡ N.text_so_far at → N.Stops run stop.fault stop.place
 reading_stops {run} side s holds text = elim s.cause [

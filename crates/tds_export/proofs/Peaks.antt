@@ -69,7 +69,7 @@ bounded run at are r peak =
       description = omega arith;
     }
 
-module _ (run : Run) (q : N.Seen) (are : N.AreBytes run.input) (left : q.left ≡ Some run.left) where
+module _ (run : Run) (q : N.PayloadView) (are : N.AreBytes run.input) (left : q.left ≡ Some run.left) where
   taken : {at : Part} {bytes : List ℕ} (later : List ℕ) (n : ℕ) → N.Takes (start run) q (bytes ++ later) n → N.IsBetween q
       → Spelt (grammar run) N.response_start bytes at → Reached run at
   taken {bytes = bytes} later n t between spelt =
@@ -116,13 +116,14 @@ module _ (run : Run) (q : N.Seen) (are : N.AreBytes run.input) (left : q.left �
     ]
   ]
 
-  pub reached_broken : {old new : N.Held} {area : N.Space} {stop : N.Stop} (x : N.StopsInWriting (grammar run) N.response_start (start run) q old new area stop)
+  pub reached_broken : {old new : N.SinkView} {area : N.Space} {stop : N.Stop} (x : N.StopsInWriting (grammar run) N.response_start
+      (start run) q old new area stop)
       → Reached run ((grammar run).add x.at x.breaks.element)
   reached_broken x =
       let b = x.breaks in
       taken b.ahead (length (b.bytes ++ b.element)) b.takes b.between (N.Spelt-append _ _ _ _ _ _ b.spelt (N.Spelt-one _ _ _ b.next))
 
-  pub reached_whole : {old new : N.Held} {area : N.Space} (x : N.ReadsWhole (grammar run) N.response_start (start run) q old new area)
+  pub reached_whole : {old new : N.SinkView} {area : N.Space} (x : N.ReadsWhole (grammar run) N.response_start (start run) q old new area)
       → Reached run (N.after_tokens x.tokens)
   reached_whole x =
       let m = N.over_front _ _ _ _ _ q _ _ are left x.takes x.over in

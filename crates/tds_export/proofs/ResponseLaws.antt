@@ -3,7 +3,7 @@ use Rattle.tds_export.proofs.Words as N
 use Rattle.tds_export.proofs.Words.{List, None, Some, Spelt, Stop, arith, length, take, ℕ, ◌++◌, ◌<◌, ◌≡◌, [], ap, drop, line_at, procedure_at, refl, server_at}
 use Rattle.tds_export.proofs.Words.{sym, true, w32, ℤ, ◌*◌, ◌+◌, ◌/◌, ◌∙◌, ◌∷◌, ◌≤◌, Fault, Kind, Option, return_value, with_return_units, Bodied, Bool, Column}
 use Rattle.tds_export.proofs.Words.{Part, Token, after_lead, before, described_after, false, if◌then◌else◌, inl, inr, lead, little, passed, response}
-use Rattle.tds_export.proofs.Words.{with_token, ◌%◌, ◌&&◌, after_tokens, ⊤, Grammar, Spelt-step, Seen, Notice, append_assoc}
+use Rattle.tds_export.proofs.Words.{with_token, ◌%◌, ◌&&◌, after_tokens, ⊤, Grammar, Spelt-step, PayloadView, Notice, append_assoc}
 
 module _ {S : Type 0} {g : Grammar S Fault} {s t : S} where
   -- one element
@@ -14,7 +14,7 @@ module _ {S : Type 0} {g : Grammar S Fault} {s t : S} where
   pub spelt_both : {u : S} {a b : List ℕ} → Spelt g s a t → Spelt g t b u → Spelt g s (a ++ b) u
   spelt_both {u = u} {a = a} {b = b} p q = N.Spelt-append g s a t b u p q
 
-module _ {S : Type 0} {g : Grammar S Fault} {s : S} {a b : Seen} {place n : ℕ} {stop : Stop} where
+module _ {S : Type 0} {g : Grammar S Fault} {s : S} {a b : PayloadView} {place n : ℕ} {stop : Stop} where
   -- fewer bytes than it has came
   pub part_cut : {own : Stop} {part : List ℕ} → g.size s ≡ n → g.end_fault s ≡ Some N.MessageEnded → length part < n → N.Ends a b part own
       → stop ≡ N.began_at place own → N.StopsReading g s a b place s stop
@@ -104,11 +104,11 @@ module _ {S T : Type 0} {small : Grammar S Fault} {big : Grammar T Fault} {lift 
     pub spelt_inside : {bytes : List ℕ} → Spelt small s bytes t → Spelt big (lift s) bytes (lift t)
     spelt_inside x = N.Inside-Spelt _ _ _ inside _ _ _ x
 
-    abbrev pub read_inside : {a b : Seen} → N.Reads small s a b t → N.Reads big (lift s) a b (lift t)
+    abbrev pub read_inside : {a b : PayloadView} → N.Reads small s a b t → N.Reads big (lift s) a b (lift t)
     read_inside {a = a} {b = b} x = N.reads_inside _ _ lift inside _ a b _ x
 
     -- and so is what stops it
-    pub stop_inside : {a b : Seen} {place : ℕ} {stop : Stop} → N.StopsReading small s a b place t stop
+    pub stop_inside : {a b : PayloadView} {place : ℕ} {stop : Stop} → N.StopsReading small s a b place t stop
         → N.StopsReading big (lift s) a b place (lift t) stop
     stop_inside {a = a} {b = b} x = N.stops_inside _ _ _ inside _ a b _ _ _ (all _ (N.stops_size _ _ a b _ _ _ x)).end x
 

@@ -1,6 +1,6 @@
 -- The tokens of a response, one after another.
 use Rattle.tds_export.proofs.Words as N
-use Rattle.tds_export.proofs.Words.{Bool, Held, List, Progress, Report, Space, Stop, [], ap, arith, false, inl, length, refl, response, subst, sym, true, ℕ}
+use Rattle.tds_export.proofs.Words.{Bool, SinkView, List, Progress, Report, Space, Stop, [], ap, arith, false, inl, length, refl, response, subst, sym, true, ℕ}
 use Rattle.tds_export.proofs.Words.{◌++◌, ◌+◌, ◌-◌, ◌^◌, ◌∙◌, ◌≡◌, ◌≤◌, View}
 use Rattle.tds_export.proofs.TokenSteps.{stops_further, stops_quietly, streams_both}
 
@@ -26,7 +26,7 @@ runs_none {u = u} d tracks is noted = record {
 
 module _ {charset : N.Charset} {u v : View} {s : Progress} (x : Runs charset u v s) where
   -- nothing but the payload has changed
-  pub runs_same : {place : ℕ} {held : Held} {t : Progress} {area notice : Space} → place ≡ v.place → held ≡ v.held → t ≡ s → area ≡ v.area
+  pub runs_same : {place : ℕ} {held : SinkView} {t : Progress} {area notice : Space} → place ≡ v.place → held ≡ v.held → t ≡ s → area ≡ v.area
       → notice ≡ v.notice → Runs charset u (record v { place = place; held = held; area = area; notice = notice }) t
   runs_same e1 e2 e3 e4 e5 = rw (e1, e2, e3, e4, e5) x
 
@@ -48,14 +48,14 @@ module _ {charset : N.Charset} {u v : View} {s : Progress} (x : Runs charset u v
         }
 
     -- what stops a step stops the run
-    pub stops_on : {d : N.Seen} {k : Held} {area : Space} {failed : Bool} {stop : Stop}
+    pub stops_on : {d : N.PayloadView} {k : SinkView} {area : Space} {failed : Bool} {stop : Stop}
         → N.StepStops (response charset' v.area.room) (N.after_tokens x.tokens) v.seen d v.place v.held k area failed stop
         → N.StepStops (response charset u.area.room) N.response_start u.seen d u.place u.held k area failed stop
     stops_on y = stops_further x.streams x.place_is (rw (e, f) at y)
 
   -- ---- the message's end
 
-  module _ {c : N.Seen} (t : N.Takes v.seen c [] 1) (o : N.IsOver c) where
+  module _ {c : N.PayloadView} (t : N.Takes v.seen c [] 1) (o : N.IsOver c) where
     -- the message ended after the last token, which wasn't final
     pub stops_end : {failed : Bool} → failed ≡ false → v.held.delivered ≤ 2 ^ 64 - 1 → s.is_final ≡ false
         → N.StepStops (response charset u.area.room) N.response_start u.seen c u.place u.held v.held v.area failed
@@ -80,7 +80,7 @@ module _ {charset : N.Charset} {u v : View} {s : Progress} (x : Runs charset u v
       holds = x.holds;
     }
 
-    abbrev pub completes : {l : Held} {report : Report} → s.is_final ≡ true → N.Finishes v.held l → report ≡ record s.report { written = l.delivered }
+    abbrev pub completes : {l : SinkView} {report : Report} → s.is_final ≡ true → N.Finishes v.held l → report ≡ record s.report { written = l.delivered }
         → N.CompletesResponse (response charset u.area.room) N.response_start u.seen c u.held l report v.area
     completes {l = l} final f is = record {
       middle = v.held;
@@ -90,6 +90,6 @@ module _ {charset : N.Charset} {u v : View} {s : Progress} (x : Runs charset u v
           ∙ ap (λ (r : Report). record r { written = l.delivered }) x.tracks.report;
     }
 
-    pub stops_at_end : {l : Held} {stop : Stop} → s.is_final ≡ true → N.FinishFails v.held l stop
+    pub stops_at_end : {l : SinkView} {stop : Stop} → s.is_final ≡ true → N.FinishFails v.held l stop
         → N.StopsAtEnd (response charset u.area.room) N.response_start u.seen c u.held l v.area stop
     stops_at_end final f = record { middle = v.held; whole = reads_whole final; fails = f }

@@ -2,8 +2,8 @@
 use Rattle.tds_export.proofs.Words as N
 use Rattle.tds_export.proofs.Words.{Bool, Cell, IsNext, List, None, Option, Row, RowsPart, Some, Token, Tracks, [], ap, append_assoc, arith, before, counted}
 use Rattle.tds_export.proofs.Words.{if◌then◌else◌, length, map, refl, response, rows, subst, sym, text, true, with_row, ℕ, ◌++◌, ◌+◌, ◌==◌, ◌∙◌, ◌∷◌, ◌≡◌}
-use Rattle.tds_export.proofs.Words.{Charset, Held, Part, Seen, Takes, after_tokens, between, false, inl, inr, ◌-◌, ◌<◌, ◌^◌, ◌≤◌, columns_of, Stop}
-use Rattle.tds_export.proofs.TokenSteps.{Begun, holds-snoc, quietly, row_stops, row_text, stops_further, same_text, start_text, stops_quietly, streams_both}
+use Rattle.tds_export.proofs.Words.{Charset, SinkView, Part, PayloadView, Takes, after_tokens, between, false, inl, inr, ◌-◌, ◌<◌, ◌^◌, ◌≤◌, columns_of, Stop}
+use Rattle.tds_export.proofs.TokenSteps.{OpenTexts, holds-snoc, quietly, row_stops, row_text, stops_further, same_text, start_text, stops_quietly, streams_both}
 use Rattle.tds_export.proofs.ResponseLaws.{described_after-append, row_agrees, inside, spelt_both, no_row}
 use Rattle.tds_export.proofs.TokenLaws.{text_after-snoc, tracks_row, with_rows}
 
@@ -52,7 +52,7 @@ module _ (which : N.RowToken) (charset : Charset) (room : ℕ) (all : List N.Col
     element_next p e n = row_next _ p e (grind arith)
 
     -- what is read of rows from their start on and put, is read of the response and put
-    abbrev rows_stream : {t : RowsPart} {a b : Seen} {h j : Held}
+    abbrev rows_stream : {t : RowsPart} {a b : PayloadView} {h j : SinkView}
         → N.Streams (rows which charset all) N.rows_so_far (N.rows_start which charset all) a b h j t
         → N.Streams (response charset room) N.text_so_far (with_row tokens (N.token_start which charset all)) a b h j (in_rows t)
     rows_stream {t = t} x =
@@ -104,8 +104,9 @@ pub columns_known : (tokens : List Token) {described : Bool} {bytes : List ℕ} 
     → Describe tokens described → N.described_after None tokens ≡ Some (columns_of bytes)
 columns_known tokens d is k = subst (Describe tokens) d k ∙ ap (λ l. Some (columns_of l)) (sym is)
 
-module _ (which : N.RowToken) (charset : Charset) {columns : List N.Column} {after : Held} {tokens : List Token} {u : N.View} {b : Seen} {s : N.Progress}
-    (described : s.described ≡ true) (shown : columns ≡ columns_of u.area.bytes) (begun : Begun tokens s u) where
+module _ (which : N.RowToken) (charset : Charset) {columns : List N.Column} {after : SinkView} {tokens : List Token} {u : N.View} {b : PayloadView} {s :
+    N.Progress}
+    (described : s.described ≡ true) (shown : columns ≡ columns_of u.area.bytes) (begun : OpenTexts tokens s u) where
   -- rows were read, and their lines put
   pub rows_read : {place count : ℕ} → N.ReadsRows which charset columns count u.seen b u.place place u.held after
       → N.ReadsNext charset (with_row tokens (N.token_start which charset (columns_of u.area.bytes))) tokens u
@@ -156,7 +157,8 @@ pub begins_kind : {charset : Charset} {room : ℕ} {tokens : List Token} {byte :
 begins_kind kind h is d k = begins_lead h.0 h.1 is d k
 
 -- the first byte of a token is read, and nothing put for it
-abbrev first : {charset : Charset} {room byte : ℕ} {tokens : List Token} {to : Part} {a b : Seen} {h : Held} → BeginsToken charset room tokens byte to
+abbrev first : {charset : Charset} {room byte : ℕ} {tokens : List Token} {to : Part} {a b : PayloadView} {h : SinkView}
+    → BeginsToken charset room tokens byte to
     → h.delivered ≤ 2 ^ 64 - 1 → Takes a b (byte ∷ []) 1 → N.Streams (response charset room) N.text_so_far (after_tokens tokens) a b h h to
 first {charset = charset} {room = room} {byte = byte} {tokens = tokens} {to = to} {a = a} {b = b} {h = h} begins d t = record {
   bytes = byte ∷ [];
@@ -165,7 +167,8 @@ first {charset = charset} {room = room} {byte = byte} {tokens = tokens} {to = to
   puts = same_text (after_tokens tokens) to h begins.text_is d;
 }
 
-module _ {charset : Charset} {room byte : ℕ} {tokens : List Token} {to : Part} {a : Seen} (b : Seen) {c : Seen} {place middle : ℕ} {h k : Held}
+module _ {charset : Charset} {room byte : ℕ} {tokens : List Token} {to : Part} {a : PayloadView}
+    (b : PayloadView) {c : PayloadView} {place middle : ℕ} {h k : SinkView}
     {area : N.Space} (begins : BeginsToken charset room tokens byte to) (d : h.delivered ≤ 2 ^ 64 - 1) (t : Takes a b (byte ∷ []) 1)
     (at : middle ≡ place + 1) where
   -- a token is read after its first byte
@@ -186,7 +189,7 @@ module _ {charset : Charset} {room byte : ℕ} {tokens : List Token} {to : Part}
 
 -- ---- between tokens
 
-refused : (charset : Charset) (room : ℕ) (tokens : List Token) (a b : Seen) (place byte : ℕ) (described : Bool) (fault : N.Fault)
+refused : (charset : Charset) (room : ℕ) (tokens : List Token) (a b : PayloadView) (place byte : ℕ) (described : Bool) (fault : N.Fault)
     → Describe tokens described → N.IsRefusedByte described byte fault → Takes a b (byte ∷ []) 1 → N.IsBetween b
     → N.StopsReading (response charset room) (after_tokens tokens) a b place (after_tokens tokens) (record { fault = fault; place = N.Payload place })
 refused charset room tokens a b place byte described fault k (inl x) t between =
@@ -200,7 +203,7 @@ refused charset room tokens a b place byte described fault k (inr x) t between =
     ] in
     N.refused_at_once _ _ a b _ (byte ∷ []) fault (omega arith) refl first t between
 
-module _ (charset : Charset) (room : ℕ) {place : ℕ} {tokens : List Token} {a b : Seen} {h : Held} {area : N.Space} {failed : Bool}
+module _ (charset : Charset) (room : ℕ) {place : ℕ} {tokens : List Token} {a b : PayloadView} {h : SinkView} {area : N.Space} {failed : Bool}
     (d : h.delivered ≤ 2 ^ 64 - 1) (going : failed ≡ false) (holds : N.IsHolding area (after_tokens tokens)) where
   -- a byte begins no token
   pub stops_at_byte : {byte : ℕ} {described : Bool} {fault : N.Fault} → Describe tokens described → N.IsRefusedByte described byte fault

@@ -1,6 +1,7 @@
 -- The tokens, as they are read and their text is put.
 use Rattle.tds_export.proofs.Words as N
-use Rattle.tds_export.proofs.Words.{Bool, Charset, Column, Fault, Grammar, Held, IsHolding, List, Option, Part, Progress, Report, Result, Seen, Space, Stop}
+use Rattle.tds_export.proofs.Words.{Bool, Charset, Column, Fault, Grammar, SinkView, IsHolding, List, Option, Part, Progress, Report, Result, PayloadView}
+use Rattle.tds_export.proofs.Words.{Space, Stop}
 use Rattle.tds_export.proofs.Words.{Takes, Token, View, [], after_tokens, ap, append-nil, arith, between, false, in_fields, in_metadata, inl, inr, length, max}
 use Rattle.tds_export.proofs.Words.{refl, response, subst, sym, text, text_so_far, true, view_of, with_row, ℕ, ◌%◌, ◌++◌, ◌+◌, ◌-◌, ◌<◌, ◌==◌, ◌^◌, ◌∙◌, ◌∷◌}
 use Rattle.tds_export.proofs.Words.{◌≡◌, ◌≤◌}
@@ -9,7 +10,7 @@ use Rattle.tds_export.proofs.TokenLaws.{text_after-snoc, tracks_metadata, tracks
 use Rattle.tds_export.proofs.ResponseLaws.{description_agrees, row_agrees, some_fields, part_at, inside, read_inside, stop_inside}
 
 -- A token has begun: what the tokens before it left is known, and the sink goes on.
-pub record Begun (tokens : List Token) (progress : Progress) (u : View) : Type 0 where
+pub record OpenTexts (tokens : List Token) (progress : Progress) (u : View) : Type 0 where
   pub tracks : N.TracksBefore progress tokens
   pub holds : IsHolding u.area (after_tokens tokens)
   pub noted : N.IsNoted u.notice tokens
@@ -17,18 +18,18 @@ pub record Begun (tokens : List Token) (progress : Progress) (u : View) : Type 0
   pub going : u.failed ≡ false
 
 -- a token was read and no text put
-abbrev pub ReadsQuiet : Charset → Part → List Token → View → Seen → ℕ → Progress → Type 0
+abbrev pub ReadsQuiet : Charset → Part → List Token → View → PayloadView → ℕ → Progress → Type 0
 ReadsQuiet charset from tokens u b place progress = N.ReadsNext charset from tokens u (record u { seen = b; place = place }) progress
 
 -- or that stopped
-abbrev pub StopsQuiet : Charset → Part → View → Seen → Stop → Type 0
+abbrev pub StopsQuiet : Charset → Part → View → PayloadView → Stop → Type 0
 StopsQuiet charset from u b stop = N.StopsIn charset from u (record u { seen = b }) stop
 
 -- nothing more is put for the same text
-pub same_text : (p q : Part) (h : Held) → text_so_far p ≡ text_so_far q → h.delivered ≤ 2 ^ 64 - 1 → N.PutsText text_so_far p q h h
+pub same_text : (p q : Part) (h : SinkView) → text_so_far p ≡ text_so_far q → h.delivered ≤ 2 ^ 64 - 1 → N.PutsText text_so_far p q h h
 same_text p q h e d = ([], simp (append-nil, e), N.Puts-none h d)
 
-module _ {g : Grammar Part Fault} {s t : Part} {a b c : Seen} {h i k : Held} (x : N.Streams g text_so_far s a b h i t) where
+module _ {g : Grammar Part Fault} {s t : Part} {a b c : PayloadView} {h i k : SinkView} (x : N.Streams g text_so_far s a b h i t) where
   -- what is read and put in one call and then in another
   abbrev pub streams_both : {u : Part} → N.Streams g text_so_far t b c i k u → N.Streams g text_so_far s a c h k u
   streams_both {u = u} y = record {
@@ -58,7 +59,7 @@ module _ {g : Grammar Part Fault} {s t : Part} {a b c : Seen} {h i k : Held} (x 
   )
 
 -- a reading that put no text stopped
-pub stops_quietly : {g : Grammar Part Fault} {place : ℕ} {s at : Part} {a b : Seen} {h : Held} {area : Space} {failed : Bool} {stop : Stop}
+pub stops_quietly : {g : Grammar Part Fault} {place : ℕ} {s at : Part} {a b : PayloadView} {h : SinkView} {area : Space} {failed : Bool} {stop : Stop}
     → text_so_far s ≡ text_so_far at → IsHolding area at → h.delivered ≤ 2 ^ 64 - 1 → failed ≡ false → N.StopsReading g s a b place at stop
     → N.StepStops g s a b place h h area failed stop
 stops_quietly {s = s} {at = at} {h = h} same holds d going stops =
@@ -69,15 +70,16 @@ pub holds-snoc : {area : Space} {tokens : List Token} (t : Token) → N.encoded_
     → IsHolding area (after_tokens tokens) → IsHolding area (after_tokens (tokens ++ t ∷ []))
 holds-snoc t e h = grind (arith, encoded_after-append, greatest_span-append)
 
-module _ {tokens : List Token} {s : Progress} {u : View} (begun : Begun tokens s u) where
+module _ {tokens : List Token} {s : Progress} {u : View} (begun : OpenTexts tokens s u) where
   -- the first element after the token byte stopped the call
-  pub stops_first : {g : Grammar Part Fault} {at : N.Open} {a b : Seen} {place : ℕ} {stop : Stop} → N.description_of tokens at ≡ N.encoded_after [] tokens
+  pub stops_first : {g : Grammar Part Fault} {at : N.Open} {a b : PayloadView} {place : ℕ} {stop : Stop} → N.description_of tokens at
+      ≡ N.encoded_after [] tokens
       → N.open_span at ≡ 0 → N.StopsReading g (part_at tokens at) a b place (part_at tokens at) stop
       → N.StepStops g (part_at tokens at) a b place u.held u.held u.area u.failed stop
   stops_first same none stops = stops_quietly refl (record { bytes = cc; peak = rw none begun.holds.peak }) begun.delivered begun.going stops
 
   -- what was read added no error, and the notice is the same
-  pub quietly : {g : Grammar Part Fault} {from : Part} {a b : Seen} {place place' : ℕ} {h k : Held} {t : Progress} {area' : Space}
+  pub quietly : {g : Grammar Part Fault} {from : Part} {a b : PayloadView} {place place' : ℕ} {h k : SinkView} {t : Progress} {area' : Space}
       → t.report.errors ≡ s.report.errors → N.ReadsTokens g from tokens a b place place' h k t area'
       → (x : N.ReadsTokens g from tokens a b place place' h k t area') × N.IsNoted u.notice (tokens ++ x.more)
   quietly same x = (
@@ -87,7 +89,7 @@ module _ {tokens : List Token} {s : Progress} {u : View} (begun : Begun tokens s
   )
 
   -- a token that has no text and describes nothing was read
-  abbrev pub bare_reads : {g : Grammar Part Fault} {from : Part} {progress : Progress} {a b : Seen} {place place' : ℕ} (t : Token)
+  abbrev pub bare_reads : {g : Grammar Part Fault} {from : Part} {progress : Progress} {a b : PayloadView} {place place' : ℕ} (t : Token)
       (r : N.Reads g from a b (N.with_token tokens t)) → place' ≡ place + length r.bytes → text_so_far from ≡ text tokens ++ [] → is_bare t ≡ true
       → N.Tracks progress (tokens ++ t ∷ [])
       → N.ReadsTokens g from tokens a b place place' u.held u.held progress u.area
@@ -108,7 +110,7 @@ module _ {tokens : List Token} {s : Progress} {u : View} (begun : Begun tokens s
         holds = holds-snoc t (so.encoded (N.encoded_after [] tokens)) begun.holds;
       }
 
-module _ (charset : Charset) {tokens : List Token} {s : Progress} {u : View} (begun : Begun tokens s u) (b : Seen) {place : ℕ} where
+module _ (charset : Charset) {tokens : List Token} {s : Progress} {u : View} (begun : OpenTexts tokens s u) (b : PayloadView) {place : ℕ} where
   -- a token with fields of a fixed length was read
   pub fixed_reads : {progress : Progress} {which : N.Fixed} (fields : List ℕ) → place ≡ u.place + N.fields_length which
       → length fields ≡ N.fields_length which → Takes u.seen b fields (N.fields_length which) → N.Tracks progress (tokens ++ N.fixed which fields ∷ [])
@@ -151,7 +153,8 @@ row_holds : {area : Space} {tokens : List Token} (part : N.RowPart) → IsHoldin
 row_holds (N.WholeRow cells) h = holds-snoc _ refl h
 row_holds part h = record { bytes = h.bytes; peak = h.peak }
 
-module _ (charset : Charset) (room : ℕ) {place : ℕ} {start : N.RowPart} {area : Space} {before after : Held} {a b : Seen} {failed : Bool} {stop : Stop}
+module _ (charset : Charset) (room : ℕ) {place : ℕ} {start : N.RowPart} {area : Space} {before after : SinkView} {a b : PayloadView} {failed : Bool} {stop
+    : Stop}
     (tokens : List Token) where
   -- a row stopped the call
   pub row_stops : IsHolding area (after_tokens tokens) → N.RowStops charset start a b place before after failed stop
@@ -204,7 +207,7 @@ some_bytes : (room : ℕ) (area bytes : List ℕ) (columns : List Column) → N.
 some_bytes room area [] columns h = absurd (let same = N.one_state _ _ _ _ _ h (N.Spelt-none _ _) in cc)
 some_bytes room area (x ∷ bytes) columns h = omega arith
 
-module _ (charset : Charset) {tokens : List Token} {s : Progress} {u : View} {area : Space} {b : Seen} (begun : Begun tokens s u) where
+module _ (charset : Charset) {tokens : List Token} {s : Progress} {u : View} {area : Space} {b : PayloadView} (begun : OpenTexts tokens s u) where
   -- a Count of no metadata was read
   pub none_reads : {place : ℕ} → N.Describes u.area.room N.BeforeCount u.seen b u.place place u.area.peak area N.NoDescription
       → N.ReadsNext charset (in_metadata tokens) tokens u (record u { seen = b; place = place; area = area }) (record s { described = false })
@@ -232,7 +235,7 @@ module _ (charset : Charset) {tokens : List Token} {s : Progress} {u : View} {ar
       stops_quietly (simp open_text_none) (open_holds _ _ some x.kept x.bound begun.holds.peak) begun.delivered begun.going
       (stop_inside (description_agrees _ _ _) x.stops)
 
-  module _ {columns : List Column} {place : ℕ} {after : Held} (shown : N.columns_of area.bytes ≡ columns)
+  module _ {columns : List Column} {place : ℕ} {after : SinkView} (shown : N.columns_of area.bytes ≡ columns)
       (x : N.Describes u.area.room N.BeforeCount u.seen b u.place place u.area.peak area (N.WholeDescription area.bytes columns)) where
     -- the description was read, and its header put
     pub metadata_reads : N.Puts u.held after (between (N.nat_lt 0 s.report.sets) ++ N.header_line (N.columns_of area.bytes))
@@ -252,7 +255,7 @@ module _ (charset : Charset) {tokens : List Token} {s : Progress} {u : View} {ar
 
     -- the description was read, and the writer failed at its header
     pub metadata_breaks : {stop : Stop} → length u.held.waiting < 4096 → N.IsBetween b
-        → N.Breaks u.held after (between (N.nat_lt 0 s.report.sets) ++ N.header_line (N.columns_of area.bytes)) stop
+        → N.WritesPrefix u.held after (between (N.nat_lt 0 s.report.sets) ++ N.header_line (N.columns_of area.bytes)) stop
         → N.StopsInWriting (response charset u.area.room) (in_metadata tokens) u.seen b u.held after area stop
     metadata_breaks few between_b breaks =
         let header = between _ ++ N.header_line columns in
@@ -281,13 +284,13 @@ module _ (charset : Charset) {tokens : List Token} {s : Progress} {u : View} {ar
 -- A token has begun where the run goes on.
 pub begun_in : {R W : Type 0} (remaining : R → Option (List ℕ)) (contents : W → Option (List ℕ)) {old : N.Exporter R W} {tokens : List Token}
     → N.IsRunning old → N.TracksBefore old.progress tokens → IsHolding old.description.now (after_tokens tokens) → N.IsNoted old.notice.now tokens
-    → Begun tokens old.progress (view_of remaining contents old)
+    → OpenTexts tokens old.progress (view_of remaining contents old)
 begun_in remaining contents running tracks holds noted = grind arith
 
 -- The token was read, or that stopped, whatever the tokens before it are.
 pub step_read : {R W U : Type 0} {remaining : R → Option (List ℕ)} {contents : W → Option (List ℕ)} {from : List Token
     → Part} {old new : N.Exporter R W} {result : Result U Stop} → N.IsRunning old → N.LeavesRun old new result
-    → ((tokens : List Token) → Begun tokens old.progress (view_of remaining contents old)
+    → ((tokens : List Token) → OpenTexts tokens old.progress (view_of remaining contents old)
     → N.MatchResult result (λ _. N.ReadsNext old.charset (from tokens) tokens (view_of remaining contents old) (view_of remaining contents new)
     new.progress) (λ stop. N.StopsIn old.charset (from tokens) (view_of remaining contents old) (view_of remaining contents new) stop))
     → N.StepRead remaining contents from old new result

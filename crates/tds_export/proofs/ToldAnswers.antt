@@ -1,6 +1,7 @@
 -- What an export answers, where its reader and writer tell their bytes.
 use Rattle.tds_export.proofs.Words as N
-use Rattle.tds_export.proofs.Words.{AreBytes, Bool, Err, Given, Held, IsWriter, List, Ok, Option, Packet, Part, Puts, Rose, Run, Seen, Some, Spelt, Stop, Tells}
+use Rattle.tds_export.proofs.Words.{AreBytes, Bool, Err, ExportInput, SinkView, IsWriter, List, Ok, Option, Packet, Part, Puts, Rose, Run, PayloadView, Some}
+use Rattle.tds_export.proofs.Words.{Spelt, Stop, Tells}
 use Rattle.tds_export.proofs.Words.{[], ap, append-nil, arith, drop, false, fresh_at, grammar, grammar_of, inl, inr, length, length-append, limits, more}
 use Rattle.tds_export.proofs.Words.{payload_of, read, refl, response, response_start, run_of, subst, sym, take, text, text_put, text_so_far, true, wire_of, ℕ}
 use Rattle.tds_export.proofs.Words.{◌%◌, ◌*◌, ◌++◌, ◌+◌, ◌-◌, ◌/◌, ◌<◌, ◌∙◌, ◌∷◌, ◌≡◌, ◌≤◌}
@@ -21,13 +22,14 @@ known_left : (input read : List ℕ) {new : Option (List ℕ)} → N.Consumes (S
 known_left input read c = grind arith
 
 -- the writer gained the first bytes of a text, and the others wait
-record Delivers (given : Given) (l : Held) (text : List ℕ) : Type 0 where
+record Delivers (given : ExportInput) (l : SinkView) (text : List ℕ) : Type 0 where
   gained : List ℕ
   has : N.Appends given.before.writer.bytes given.after.writer.bytes gained
   all : gained ++ given.after.areas.output.bytes ≡ text
   delivered : l.delivered ≡ N.counted 0 (length gained)
 
-abbrev sends : {given : Given} (middle : Held) {l : Held} {put : List ℕ} (piece sent : List ℕ) → IsWriter given l → Puts (fresh_at given) middle put
+abbrev sends : {given : ExportInput} (middle : SinkView) {l : SinkView} {put : List ℕ} (piece sent : List ℕ) → IsWriter given l
+    → Puts (fresh_at given) middle put
     → N.Adds middle l sent piece → Delivers given l (put ++ piece)
 sends {given} middle {l} {put} piece sent writer p a =
     let adds = N.Adds-trans (fresh_at given) middle l p.0 sent put piece p.2 a in
@@ -100,8 +102,8 @@ earlier_text charset room bytes element p q place h whole less k = elim (dec_le 
 ]
 
 -- the writer broke: the last packet read was needed to fill the block
-broken : {run : Run} {q : Seen} {k : Held} (at : Part) (stop : Stop) → ReaderSide run q → IsWriter run.given k
-    → (x : N.BreaksStreaming (grammar run) text_so_far response_start (start run) q (fresh_at run.given) k at stop)
+broken : {run : Run} {q : PayloadView} {k : SinkView} (at : Part) (stop : Stop) → ReaderSide run q → IsWriter run.given k
+    → (x : N.WritesPrefixStreaming (grammar run) text_so_far response_start (start run) q (fresh_at run.given) k at stop)
     → N.IsHolding run.given.after.areas.description ((grammar run).add at x.element)
     → run.gained ≡ (subst (Puts (fresh_at run.given) x.middle) x.puts.1 x.puts.2).0 ++ x.breaks.0
     → text_put run ≡ text_so_far at ++ take x.breaks.2 x.more → N.StopsInText run N.WriteFailed (length run.gained)
@@ -170,7 +172,7 @@ record WholeMessage (run : Run) (tokens : List N.Token) : Type 0 where
   spelt : Spelt (grammar run) response_start (payload_of packets) (N.after_tokens tokens)
   kept : N.Keeps run packets (length (payload_of packets)) (N.after_tokens tokens)
 
-whole_message_of : {run : Run} {q : Seen} {old new : Held} → ReaderSide run q
+whole_message_of : {run : Run} {q : PayloadView} {old new : SinkView} → ReaderSide run q
     → (x : N.ReadsWhole (grammar run) response_start (start run) q old new run.given.after.areas.description) → WholeMessage run x.tokens
 whole_message_of {run} {q = q} side x =
     let m = N.over_front _ _ _ _ _ q _ _ side.bytes side.left x.takes
@@ -192,33 +194,34 @@ failed_at_end w same fails = grind arith
 -- ---- what an export answers
 
 -- the payload of a reader that told its bytes begins with them
-begins_run : (given : Given) {input : List ℕ} → given.before.reader.bytes ≡ Some input → N.begun_at given ≡ start (run_of given input [] [])
+begins_run : (given : ExportInput) {input : List ℕ} → given.before.reader.bytes ≡ Some input → N.begun_at given ≡ start (run_of given input [] [])
 begins_run given e = cc
 
 -- where its reader stands
-reader_side : {given : Given} {input left gained : List ℕ} {q : Seen} → AreBytes input → q.left ≡ Some left → N.IsReader given q
+reader_side : {given : ExportInput} {input left gained : List ℕ} {q : PayloadView} → AreBytes input → q.left ≡ Some left → N.IsReader given q
     → ReaderSide (run_of given input left gained) q
 reader_side {left} are ql reader = record { bytes = are; left = ql; failures = reader.failures }
 
 -- all of the text was put, where the whole response was read
-whole_puts : {g : N.Grammar Part N.Fault} {a q : Seen} {h k : Held} {area : N.Space} → (x : N.ReadsWhole g response_start a q h k area)
+whole_puts : {g : N.Grammar Part N.Fault} {a q : PayloadView} {h k : SinkView} {area : N.Space} → (x : N.ReadsWhole g response_start a q h k area)
     → Puts h k (text x.tokens)
 whole_puts x = rw (x.puts.1 ∙ text_after_tokens x.tokens) at x.puts.2
 
 -- what is told of a stop, with the sink left in this state
-abbrev StopTold : Given → (input left : List ℕ) → Stop → Held → Type 0
+abbrev StopTold : ExportInput → (input left : List ℕ) → Stop → SinkView → Type 0
 StopTold given input left stop l = (gained : List ℕ) × N.Appends given.before.writer.bytes given.after.writer.bytes gained
     × N.AfterStop (run_of given input left gained) (N.stopped_with stop l)
 
-module _ (given : Given) (input left : List ℕ) (q : Seen) (stop : Stop) (are : AreBytes input) (ql : q.left ≡ Some left) (reader : N.IsReader given q)
+module _ (given : ExportInput) (input left : List ℕ) (q : PayloadView) (stop : Stop) (are : AreBytes input) (ql : q.left
+    ≡ Some left) (reader : N.IsReader given q)
     (none : given.after.areas.notice.bytes ≡ []) where
   -- the payload before anything was read of it
-  abbrev began : Seen
+  abbrev began : PayloadView
   began = start (run_of given input left [])
 
   -- the payload stopped
-  stop_reading : {middle l : Held} → IsWriter given l
-      → N.StopsInReading (grammar_of given) response_start began q 0 (fresh_at given) middle given.after.areas.description stop → N.Tidied middle l
+  stop_reading : {middle l : SinkView} → IsWriter given l
+      → N.StopsInReading (grammar_of given) response_start began q 0 (fresh_at given) middle given.after.areas.description stop → N.FlushedOrFailed middle l
       → StopTold given input left stop l
   stop_reading {l} writer y t =
       let p = rw y.puts.1 at y.puts.2 in
@@ -239,7 +242,7 @@ module _ (given : Given) (input left : List ℕ) (q : Seen) (stop : Stop) (are :
       )
 
   -- the writer failed
-  in_text : {k : Held} {gained : List ℕ} → IsWriter given k → N.Appends given.before.writer.bytes given.after.writer.bytes gained
+  in_text : {k : SinkView} {gained : List ℕ} → IsWriter given k → N.Appends given.before.writer.bytes given.after.writer.bytes gained
       → k.delivered ≡ N.counted 0 (length gained)
       → N.StopsInText (run_of given input left gained) N.WriteFailed (length gained) → stop ≡ record { fault = N.WriteFailed; place = N.Text k.delivered }
       → StopTold given input left stop k
@@ -249,7 +252,7 @@ module _ (given : Given) (input left : List ℕ) (q : Seen) (stop : Stop) (are :
       grind (arith, exact, fits)
 
   -- the writer broke
-  stop_writing : (k : Held) → IsWriter given k
+  stop_writing : (k : SinkView) → IsWriter given k
       → N.StopsInWriting (grammar_of given) response_start began q (fresh_at given) k given.after.areas.description stop
       → StopTold given input left stop k
   stop_writing k writer y =
@@ -258,7 +261,7 @@ module _ (given : Given) (input left : List ℕ) (q : Seen) (stop : Stop) (are :
       in_text writer d.has d.delivered (broken _ _ (reader_side are ql reader) writer x y.holds refl d.all) x.breaks.8
 
   -- the last delivery failed
-  stop_at_end : (k : Held) → IsWriter given k
+  stop_at_end : (k : SinkView) → IsWriter given k
       → N.StopsAtEnd (grammar_of given) response_start began q (fresh_at given) k given.after.areas.description stop → StopTold given input left stop k
   stop_at_end k writer y =
       let d = sends _ _ _ writer (whole_puts y.whole) y.fails.1 in
@@ -266,15 +269,15 @@ module _ (given : Given) (input left : List ℕ) (q : Seen) (stop : Stop) (are :
       (Rose given.before.writer.failures) (cc) (N.rose _))) y.fails.2
 
   -- each of these
-  stopped_of : {k l : Held} {failed : Bool} → IsWriter given l
+  stopped_of : {k l : SinkView} {failed : Bool} → IsWriter given l
       → N.RunStops (grammar_of given) response_start began q 0 (fresh_at given) k given.after.areas.description failed stop
-      → (failed ≡ false → N.Tidied k l) → (failed ≡ true → l ≡ k) → StopTold given input left stop l
+      → (failed ≡ false → N.FlushedOrFailed k l) → (failed ≡ true → l ≡ k) → StopTold given input left stop l
   stopped_of {k} {l} writer (inl (inl y)) tidy same = stop_reading writer y.0 (tidy y.1)
   stopped_of {k} writer (inl (inr y)) tidy same = rw (same y.1) (stop_writing k (subst (IsWriter given) (same y.1) writer) y.0)
   stopped_of {k} writer (inr y) tidy same = rw (same y.1) (stop_at_end k (subst (IsWriter given) (same y.1) writer) y.0)
 
   -- the bound on its descriptions
-  stop_bounded : {gained : List ℕ} {k : Held} {failed : Bool}
+  stop_bounded : {gained : List ℕ} {k : SinkView} {failed : Bool}
       → N.RunStops (grammar_of given) response_start began q 0 (fresh_at given) k given.after.areas.description failed stop
       → N.Bounded (run_of given input left gained)
   stop_bounded {gained} (inl (inl y)) = bounded _ _ are (reached_stopped _ q are ql y.0.stops) y.0.holds.peak
@@ -284,11 +287,11 @@ module _ (given : Given) (input left : List ℕ) (q : Seen) (stop : Stop) (are :
       bounded _ _ are (reached_whole _ q are ql y.0.whole) y.0.whole.holds.peak
 
 -- what a run that stopped read
-stops_read : {g : N.Grammar Part N.Fault} {a q : Seen} {h k : Held} {area : N.Space} {failed : Bool} {stop : Stop}
+stops_read : {g : N.Grammar Part N.Fault} {a q : PayloadView} {h k : SinkView} {area : N.Space} {failed : Bool} {stop : Stop}
     → N.RunStops g response_start a q 0 h k area failed stop → (read : List ℕ) × N.Consumes a.left q.left read
 stops_read h8 = grind arith
 
-pub stop_tells : {given : Given} {stopped : N.Stopped} → N.StopsExport given stopped → Tells given (Err stopped)
+pub stop_tells : {given : ExportInput} {stopped : N.Stopped} → N.StopsExport given stopped → Tells given (Err stopped)
 unfolding Tells
 stop_tells {given} x = λ input are e.
     let stops = rw (begins_run given e) at x.stops in
@@ -299,10 +302,10 @@ stop_tells {given} x = λ input are e.
     let outcome = rw (← x.stopped_is) at all.2 in
     (left.0, all.0, cc, all.1, record { outcome = outcome; bounded = most }, outcome_succeeds _ outcome)
 
-pub report_tells : {given : Given} {report : N.Report} → N.Reports given report → Tells given (Ok report)
+pub report_tells : {given : ExportInput} {report : N.Report} → N.Reports given report → Tells given (Ok report)
 unfolding Tells
 report_tells {given} {report} x = λ input are e.
-    let z = subst (λ (a : Seen). (c : N.CompletesResponse (grammar_of given) response_start a x.seen
+    let z = subst (λ (a : PayloadView). (c : N.CompletesResponse (grammar_of given) response_start a x.seen
     (fresh_at given) x.held report given.after.areas.description)
     × (given.after.areas.notice.bytes ≡ N.error_text c.whole.tokens)) (begins_run given e) (x.completes, x.notice) in
     let y = z.0 in

@@ -46,7 +46,7 @@ pub use Rattle.tds_packet.proofs.Steps.{stops_after, takes_both, refused_at_once
 pub use Rattle.tds_packet.proofs.Feeding.{Reading, feed_all, read, state_of, rest_of, fault_of}
 pub use Rattle.tds_packet.proofs.Futures.{Ends-after, Takes-none, Takes-trans, Takes-more}
 pub use Rattle.tds_packet.proofs.Joins.{Stays-none}
-pub use Rattle.tds_packet.proofs.Lifts.{reads_inside, stops_inside, next_inside, next_some, last_inside}
+pub use Rattle.tds_packet.proofs.InnerGrammars.{reads_inside, stops_inside, next_inside, next_some, last_inside}
 pub use Rattle.tds_packet.proofs.MessageLaws.{after_packets as after_last, one_message, read_to_end, message_is_read}
 pub use Rattle.tds_packet.proofs.PacketLaws.{before_are_read, before_packet, read_front}
 pub use Rattle.tds_packet.proofs.Passing.{passed}
@@ -66,7 +66,7 @@ pub use Rattle.tds_packet.specs.Coming.{Coming, before, whole_message}
 pub use Rattle.tds_packet.specs.Elements.{IsRefused, Longest, Spelt, AreBytes, IsNext, Grammar}
 pub use Rattle.tds_packet.specs.Payloads.{IsOnSame, seen, buffered}
 pub use Rattle.tds_packet.specs.Reading.{StopsReading, RefusesNext, Reads, CutsNext}
-pub use Rattle.tds_packet.specs.Seen.{Seen, Takes, Ends, began_at, begun, IsOver, IsBetween}
+pub use Rattle.tds_packet.specs.PayloadView.{PayloadView, Takes, Ends, began_at, begun, IsOver, IsBetween}
 pub use Rattle.tds_columns.proofs.ByteLemmas.{one_byte, two_bytes, split_last}
 pub use Rattle.tds_columns.proofs.ColumnLaws.{fits_in, columns_are_read, description_is_read, byte_and_rest}
 pub use Rattle.tds_columns.proofs.ColumnMeaning.{not_long, not_zero, room_for, known_type, some_kind, DescribedMeans, described_step}
@@ -84,17 +84,17 @@ pub use Rattle.tds_text.proofs.Characters.{doubled_length}
 pub use Rattle.tds_text.proofs.ConversionLaws.{joins_by_name, fit_by_test, begun_by_test, fit_begins}
 pub use Rattle.tds_text.proofs.JoiningLemmas.{doubled-append}
 pub use Rattle.tds_csv.proofs.Puttings.{PutsPiece-none, PutsPiece-passed, PutsPiece-trans}
-pub use Rattle.tds_csv.proofs.Sinks.{Breaks-after, Breaks-longer, Puts-trans, Puts-none, Adds-trans}
+pub use Rattle.tds_csv.proofs.Sinks.{WritesPrefix-after, WritesPrefix-longer, Puts-trans, Puts-none, Adds-trans}
 pub use Rattle.tds_csv.proofs.Streams.{stops_size, breaks_after, breaks_inside, puts_both, puts_inside}
 pub use Rattle.tds_text.proofs.Utf16Laws.{joins_utf16}
 pub use Rattle.tds_text.specs.Conversion.{Conversion, Utf8Text, unit, is_fit, is_begun, HexDigits, conversion_rest, conversion_text, long_field, open_field}
 pub use Rattle.tds_text.specs.Conversion.{Utf16Text}
-pub use Rattle.tds_csv.specs.Sinks.{Held, FinishFails, Finishes, held, Breaks, Puts, IsWriting, PutsPiece, Adds, IsOnSameSink, FinishesSink}
+pub use Rattle.tds_csv.specs.Sinks.{SinkView, FinishFails, Finishes, held, WritesPrefix, Puts, IsWriting, PutsPiece, Adds, IsOnSameSink, FinishesSink}
 pub use Rattle.tds_text.specs.Cutting.{whole_within}
 pub use Rattle.tds_text.specs.Joining.{emit}
 pub use Rattle.tds_csv.specs.Pushing.{Completes, EndsBy, Pushes, TakesPiece}
 pub use Rattle.tds_text.specs.Quoting.{doubled, doubled_byte, quote, joined, line, line_end}
-pub use Rattle.tds_csv.specs.Streaming.{PutsText, Streams, BreaksStreaming}
+pub use Rattle.tds_csv.specs.Streaming.{PutsText, Streams, WritesPrefixStreaming}
 pub use Rattle.tds_text.specs.Utf16.{characters}
 pub use Rattle.tds_csv.specs.declared.joiners.JoinFault.{JoinFault}
 pub use Rattle.tds_csv.specs.declared.sink.Sink.{Sink}
@@ -118,8 +118,8 @@ pub use Rattle.tds_cells.specs.Runs.{RowsPart, lines, rows, rows_so_far, rows_st
 pub use Rattle.tds_export.specs.Completion.{zeros, zero_chunks, terminator, rest_of_chunks, rest_of_cell, int_column, int_columns, least_info}
 pub use Rattle.tds_export.specs.Completion.{rest_of_description, rest_of_row, rest_of_return, rest_of_token, done, completion, CanBeCompleted}
 pub use Rattle.tds_export.specs.Completion.{rest_of_return_head, rest_of_value, rest_of_cells, all_clear}
-pub use Rattle.tds_export.specs.Exports.{StopsExport, begun_at, fresh_at, Reports, IsReader, IsWriter, Tidied, stopped_with}
-pub use Rattle.tds_export.specs.Moments.{Run, Given, grammar_of, limits_of, FailsToRead, FailsToWrite, limits, run_of, text_put, waiting, moment}
+pub use Rattle.tds_export.specs.Exports.{StopsExport, begun_at, fresh_at, Reports, IsReader, IsWriter, FlushedOrFailed, stopped_with}
+pub use Rattle.tds_export.specs.Moments.{Run, ExportInput, grammar_of, limits_of, FailsToRead, FailsToWrite, limits, run_of, text_put, waiting, moment}
 pub use Rattle.tds_export.specs.Outcome.{Outcome, IsAccepted, Packets, Stops, SucceedsIfAccepted, grammar, server_error, signed, EndsInLast, IsKept, Keeps}
 pub use Rattle.tds_export.specs.Outcome.{StopsInPayload, StopsOnWire, Bounded, ReadsPart, AfterStop, Reported, StopsInText, Comes}
 pub use Rattle.tds_export.specs.Response.{Accepted, Response, SpellsNotice, StartsToken, IsFirst, SpellsBody, SpellsMore, SpellsRowToken, SpellsToken}

@@ -4,10 +4,10 @@ use Rattle.tds_meter.specs.Space.{Space, empty}
 use Rattle.tds_packet.specs.declared.fault.Stop.{Stop}
 use Rattle.tds_packet.specs.declared.payload.Payload.{Payload}
 use Rattle.tds_packet.specs.Payloads.{IsGoing, LeavesPayload, seen}
-use Rattle.tds_packet.specs.Seen.{Seen, Takes, IsOver}
+use Rattle.tds_packet.specs.PayloadView.{PayloadView, Takes, IsOver}
 use Rattle.tds_columns.specs.View.{IsDescription}
 use Rattle.tds_csv.specs.declared.sink.Sink.{Sink}
-use Rattle.tds_csv.specs.Sinks.{Held, IsWriting, LeavesSink, held}
+use Rattle.tds_csv.specs.Sinks.{SinkView, IsWriting, LeavesSink, held}
 use Rattle.tds_values.specs.declared.charset.Charset.{Charset}
 use Rattle.tds_export.specs.declared.exporter.Exporter.{Exporter}
 use Rattle.tds_export.specs.declared.progress.Progress.{Progress}
@@ -20,9 +20,9 @@ use Rattle.tds_export.specs.Tokens.{Token}
 -- what a run reads, writes and keeps, at a moment: its payload and the place there, its sink and whether it failed, and its description and notice
 -- areas
 pub record View : Type 0 where
-  pub seen : Seen
+  pub seen : PayloadView
   pub place : ℕ
-  pub held : Held
+  pub held : SinkView
   pub failed : Bool
   pub area : Space
   pub notice : Space

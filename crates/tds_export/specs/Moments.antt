@@ -23,40 +23,40 @@ moment remaining contents areas from to =
     record { areas = areas; reader = device remaining from; writer = device contents to }
 
 -- an export: its character set, and the moments before it and after it
-pub record Given : Type 0 where
+pub record ExportInput : Type 0 where
   pub charset : Charset
   pub before : Moment
   pub after : Moment
 
 -- what an export was given at one moment, and left at another
-abbrev pub given_of : Charset → Moment → Moment → Given
+abbrev pub given_of : Charset → Moment → Moment → ExportInput
 given_of charset before after = record { charset = charset; before = before; after = after }
 
 -- the limits of an export
-abbrev pub limits_of : Given → Limits
+abbrev pub limits_of : ExportInput → Limits
 limits_of given = given.before.areas.limits
 
 -- how its response is read
-abbrev pub grammar_of : Given → Grammar Part Fault
+abbrev pub grammar_of : ExportInput → Grammar Part Fault
 grammar_of given = response given.charset (limits_of given).column_room
 
 -- A read of it failed.
-abbrev pub FailsToRead : Given → Type 0
+abbrev pub FailsToRead : ExportInput → Type 0
 FailsToRead given = Rose given.before.reader.failures given.after.reader.failures
 
 -- A write of it failed.
-abbrev pub FailsToWrite : Given → Type 0
+abbrev pub FailsToWrite : ExportInput → Type 0
 FailsToWrite given = Rose given.before.writer.failures given.after.writer.failures
 
 -- an export whose reader and writer tell their bytes: the reader's before and after, and what the writer gained
 pub record Run : Type 0 where
-  pub given : Given
+  pub given : ExportInput
   pub input : List ℕ
   pub left : List ℕ
   pub gained : List ℕ
 
 -- an export, if it is told that
-abbrev pub run_of : Given → (input left gained : List ℕ) → Run
+abbrev pub run_of : ExportInput → (input left gained : List ℕ) → Run
 run_of given input left gained = record { given = given; input = input; left = left; gained = gained }
 
 -- its limits

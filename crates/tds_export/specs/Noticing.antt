@@ -4,7 +4,7 @@ use Rattle.tds_packet.specs.declared.fault.Stop.{Stop}
 use Rattle.tds_packet.specs.declared.payload.Payload.{Payload}
 use Rattle.tds_packet.specs.Payloads.{seen}
 use Rattle.tds_packet.specs.Reading.{Reads, StopsReading}
-use Rattle.tds_packet.specs.Seen.{Seen}
+use Rattle.tds_packet.specs.PayloadView.{PayloadView}
 use Rattle.tds_values.specs.declared.charset.Charset.{Charset}
 use Rattle.tds_export.specs.Steps.{in_length}
 use Rattle.tds_export.specs.TokenBytes.{Bodied}
@@ -16,13 +16,13 @@ abbrev pub IsInBody : List Token → Bodied → Part → Type 0
 IsInBody tokens which at = (at ≡ in_length which tokens) ⊎ ((n : ℕ) × (at ≡ record { tokens = tokens; at = TokenBody which n }))
 
 -- The Length and the body were read, and this is the body.
-pub record ReadsNotice (charset : Charset) (room : ℕ) (tokens : List Token) (which : Bodied) (old new : Seen) (place place' : ℕ)
+pub record ReadsNotice (charset : Charset) (room : ℕ) (tokens : List Token) (which : Bodied) (old new : PayloadView) (place place' : ℕ)
     (body : List ℕ) : Type 0 where
   pub reads : Reads (response charset room) (in_length which tokens) old new (with_token tokens (bodied which body))
   pub place_is : place' ≡ place + length reads.bytes
 
 -- That stopped before the Length or before the body.
-pub record StopsInNotice (charset : Charset) (room : ℕ) (tokens : List Token) (which : Bodied) (old new : Seen) (place : ℕ) (stop : Stop) : Type 0
+pub record StopsInNotice (charset : Charset) (room : ℕ) (tokens : List Token) (which : Bodied) (old new : PayloadView) (place : ℕ) (stop : Stop) : Type 0
   where
     pub at : Part
     pub stops : StopsReading (response charset room) (in_length which tokens) old new place at stop

@@ -5,17 +5,17 @@ use Rattle.tds_packet.specs.declared.fault.Stop.{Stop}
 use Rattle.tds_packet.specs.declared.payload.Payload.{Payload}
 use Rattle.tds_packet.specs.Payloads.{seen}
 use Rattle.tds_packet.specs.Reading.{Reads, StopsReading}
-use Rattle.tds_packet.specs.Seen.{Seen}
+use Rattle.tds_packet.specs.PayloadView.{PayloadView}
 use Rattle.tds_cells.specs.Cells.{cell_start, return_charset, shape}
 use Rattle.tds_export.specs.ReturnValue.{ReturnHead, ReturnOrdinal, ReturnPart, ReturnValue, WholeReturn, return_value, with_value}
 
 -- Whole elements of a return value were read, which lead from one part of it to another.
-pub record ReadsReturn (from to : ReturnPart) (old new : Seen) (place place' : ℕ) : Type 0 where
+pub record ReadsReturn (from to : ReturnPart) (old new : PayloadView) (place place' : ℕ) : Type 0 where
   pub reads : Reads return_value from old new to
   pub place_is : place' ≡ place + length reads.bytes
 
 -- Reading a return value stopped: at the first fault of an element, or as the payload does.
-pub record StopsReturn (from : ReturnPart) (old new : Seen) (place : ℕ) (stop : Stop) : Type 0 where
+pub record StopsReturn (from : ReturnPart) (old new : PayloadView) (place : ℕ) (stop : Stop) : Type 0 where
   pub at : ReturnPart
   pub stops : StopsReading return_value from old new place at stop
 
@@ -24,12 +24,12 @@ abbrev pub before_value : List ℕ → Kind → ReturnPart
 before_value name kind = with_value name kind (cell_start kind (shape return_charset kind))
 
 -- An ordinal and a name were read.
-pub record ReadsName (old new : Seen) (place place' : ℕ) : Type 0 where
+pub record ReadsName (old new : PayloadView) (place place' : ℕ) : Type 0 where
   pub name : List ℕ
   pub steps : ReadsReturn ReturnOrdinal (ReturnHead name) old new place place'
 
 -- A whole return value was read.
-pub record ReadsValue (old new : Seen) (place place' : ℕ) : Type 0 where
+pub record ReadsValue (old new : PayloadView) (place place' : ℕ) : Type 0 where
   pub value : ReturnValue
   pub steps : ReadsReturn ReturnOrdinal (WholeReturn value) old new place place'
 

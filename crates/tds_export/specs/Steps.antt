@@ -9,11 +9,11 @@ use Rattle.tds_packet.specs.Elements.{Grammar, Spelt}
 use Rattle.tds_packet.specs.Reading.{StopsReading}
 use Rattle.tds_packet.specs.declared.payload.Payload.{Payload}
 use Rattle.tds_packet.specs.Payloads.{seen}
-use Rattle.tds_packet.specs.Seen.{Seen, Takes, Ends, IsBetween, IsOver}
+use Rattle.tds_packet.specs.PayloadView.{PayloadView, Takes, Ends, IsBetween, IsOver}
 use Rattle.tds_columns.specs.Description.{BeforeCount, Column, description_bytes}
 use Rattle.tds_columns.specs.View.{columns_of}
-use Rattle.tds_csv.specs.Sinks.{Held, Finishes, FinishFails}
-use Rattle.tds_csv.specs.Streaming.{PutsText, Streams, BreaksStreaming}
+use Rattle.tds_csv.specs.Sinks.{SinkView, Finishes, FinishFails}
+use Rattle.tds_csv.specs.Streaming.{PutsText, Streams, WritesPrefixStreaming}
 use Rattle.tds_values.specs.declared.charset.Charset.{Charset}
 use Rattle.tds_cells.specs.Rows.{nbc_row_byte, nbc_row_start, row_start, row_byte}
 use Rattle.tds_export.specs.TokenBytes.{APassed, AnEnvChange, AnError, AnInfo, AnOrder, Bodied, Fixed, AStatus, ADone, ADoneInProc, Lead, AMetadata}
@@ -65,7 +65,7 @@ abbrev pub TracksBefore : Progress → List Token → Type 0
 TracksBefore progress tokens = Reflects progress tokens false
 
 -- One token or more were read whole, and their text put.
-pub record ReadsTokens (g : Grammar Part Fault) (from : Part) (tokens : List Token) (old new : Seen) (place place' : ℕ) (before after : Held)
+pub record ReadsTokens (g : Grammar Part Fault) (from : Part) (tokens : List Token) (old new : PayloadView) (place place' : ℕ) (before after : SinkView)
     (progress : Progress) (area : Space) : Type 0 where
   pub more : List Token
   pub streams : Streams g text_so_far from old new before after (after_tokens (tokens ++ more))
@@ -159,7 +159,7 @@ abbrev pub in_kind : Charset → List Column → TokenKind → List Token → Pa
 in_kind charset columns kind = in_lead charset columns (lead kind)
 
 -- A call inside an export stopped in reading: the text of the state that it reached was put.
-pub record StopsInReading (g : Grammar Part Fault) (from : Part) (old new : Seen) (place : ℕ) (before after : Held) (area : Space)
+pub record StopsInReading (g : Grammar Part Fault) (from : Part) (old new : PayloadView) (place : ℕ) (before after : SinkView) (area : Space)
     (stop : Stop) : Type 0 where
   pub at : Part
   pub stops : StopsReading g from old new place at stop
@@ -167,19 +167,19 @@ pub record StopsInReading (g : Grammar Part Fault) (from : Part) (old new : Seen
   pub holds : IsHolding area at
 
 -- A call inside an export stopped in writing the text of an element.
-pub record StopsInWriting (g : Grammar Part Fault) (from : Part) (old new : Seen) (before after : Held) (area : Space) (stop : Stop) : Type 0 where
+pub record StopsInWriting (g : Grammar Part Fault) (from : Part) (old new : PayloadView) (before after : SinkView) (area : Space) (stop : Stop) : Type 0 where
   pub at : Part
-  pub breaks : BreaksStreaming g text_so_far from old new before after at stop
+  pub breaks : WritesPrefixStreaming g text_so_far from old new before after at stop
   pub holds : IsHolding area (g.add at breaks.element)
 
 -- A call inside an export stopped, whether the sink failed or not.
-abbrev pub StepStops : Grammar Part Fault → Part → Seen → Seen → ℕ → Held → Held → Space → Bool → Stop → Type 0
+abbrev pub StepStops : Grammar Part Fault → Part → PayloadView → PayloadView → ℕ → SinkView → SinkView → Space → Bool → Stop → Type 0
 StepStops g from old new place before after area failed stop =
     (StopsInReading g from old new place before after area stop × (failed ≡ false))
     ⊎ (StopsInWriting g from old new before after area stop × (failed ≡ true))
 
 -- The whole response was read, to the message's end, and its text put.
-pub record ReadsWhole (g : Grammar Part Fault) (from : Part) (old new : Seen) (before after : Held) (area : Space) : Type 0 where
+pub record ReadsWhole (g : Grammar Part Fault) (from : Part) (old new : PayloadView) (before after : SinkView) (area : Space) : Type 0 where
   pub tokens : List Token
   pub bytes : List ℕ
   pub spelt : Spelt g from bytes (after_tokens tokens)
@@ -190,32 +190,32 @@ pub record ReadsWhole (g : Grammar Part Fault) (from : Part) (old new : Seen) (b
   pub holds : IsHolding area (after_tokens tokens)
 
 -- The whole response was read and all of its text delivered, and this is its report.
-pub record CompletesResponse (g : Grammar Part Fault) (from : Part) (old new : Seen) (before after : Held) (report : Report) (area : Space) : Type 0
+pub record CompletesResponse (g : Grammar Part Fault) (from : Part) (old new : PayloadView) (before after : SinkView) (report : Report) (area : Space) : Type 0
   where
-    pub middle : Held
+    pub middle : SinkView
     pub whole : ReadsWhole g from old new before middle area
     pub finishes : Finishes middle after
     pub report_is : report ≡ record (report_of whole.tokens) { written = after.delivered }
 
 -- The whole response was read, and then the rest of its text couldn't be delivered, or the writer not be flushed.
-pub record StopsAtEnd (g : Grammar Part Fault) (from : Part) (old new : Seen) (before after : Held) (area : Space) (stop : Stop) : Type 0 where
-  pub middle : Held
+pub record StopsAtEnd (g : Grammar Part Fault) (from : Part) (old new : PayloadView) (before after : SinkView) (area : Space) (stop : Stop) : Type 0 where
+  pub middle : SinkView
   pub whole : ReadsWhole g from old new before middle area
   pub fails : FinishFails middle after stop
 
 -- An export stopped: in a token, at the message's end, or in delivering the rest.
-abbrev pub RunStops : Grammar Part Fault → Part → Seen → Seen → ℕ → Held → Held → Space → Bool → Stop → Type 0
+abbrev pub RunStops : Grammar Part Fault → Part → PayloadView → PayloadView → ℕ → SinkView → SinkView → Space → Bool → Stop → Type 0
 RunStops g from old new place before after area failed stop =
     StepStops g from old new place before after area failed stop ⊎ (StopsAtEnd g from old new before after area stop × (failed ≡ true))
 
 -- The next byte was read, and no packet is cut after it.
-pub record ReadsByte (old new : Seen) (place place' byte : ℕ) : Type 0 where
+pub record ReadsByte (old new : PayloadView) (place place' byte : ℕ) : Type 0 where
   pub takes : Takes old new (byte ∷ []) 1
   pub place_is : place' ≡ place + 1
   pub between : IsBetween new
 
 -- No byte is left, and the message is over.
-pub record ReadsNone (old new : Seen) (place place' : ℕ) : Type 0 where
+pub record ReadsNone (old new : PayloadView) (place place' : ℕ) : Type 0 where
   pub takes : Takes old new [] 1
   pub over : IsOver new
   pub place_is : place' ≡ place

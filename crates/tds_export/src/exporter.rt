@@ -9,11 +9,11 @@ ghost use Rattle.tds_export.specs.Exporters.{BodyRead, ResponseRead, StepRead, T
 ghost use Rattle.tds_export.specs.Lending.{KeepsRooms, lent};
 ghost use Rattle.tds_packet.specs.Payloads.{LeavesPayload};
 
+use crate::header::put_header;
 use crate::notice::{error_of, message_of, take_notice};
 use crate::progress::Progress;
 use crate::report::Report;
-use crate::returned::pass_return;
-use crate::set::put_header;
+use crate::return_value::pass_return;
 use crate::tokens::{TokenKind, judge_token, next_byte};
 use byteorder::{ByteOrder, LittleEndian};
 use std::io::{Read, Write};

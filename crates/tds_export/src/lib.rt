@@ -44,8 +44,8 @@
 //! # Changing it
 //!
 //! `run.rt` has the call, `exporter.rt` the course of a run with a method for each kind of token,
-//! `tokens.rt` what a token's first byte means, `set.rt` the header line of a set, `notice.rt` and
-//! `returned.rt` the bodies that are judged here, `progress.rt` and `report.rt` what is counted.
+//! `tokens.rt` what a token's first byte means, `header.rt` the header line of a set, `notice.rt` and
+//! `return_value.rt` the bodies that are judged here, `progress.rt` and `report.rt` what is counted.
 //!
 //! - The definitions come first. `specs/TokenGrammar` says how each token is read, element by element, and the
 //!   contract of `export` (`specs/Outcome`, `specs/Exports`) is stated only over it. Code that reads
@@ -60,13 +60,13 @@
 #![tactic(auto)]
 
 mod exporter;
+mod header;
 pub mod laws;
 mod notice;
 mod progress;
 mod report;
-mod returned;
+mod return_value;
 mod run;
-mod set;
 mod token_bytes;
 mod tokens;
 

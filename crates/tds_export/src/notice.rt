@@ -10,7 +10,7 @@ ghost use Rattle.tds_packet.specs.Reads.{KeepsRoom};
 use crate::report::ServerError;
 use byteorder::{ByteOrder, LittleEndian};
 use std::io::Read;
-use tds_columns::take_into;
+use tds_columns::read_into;
 use tds_meter::Area;
 use tds_packet::{Fault, Payload, Stop};
 
@@ -103,7 +103,7 @@ pub(crate) fn take_notice<R: Read>(payload: &mut Payload<R>, token: &mut Area) -
         return Err(Stop::in_payload(Fault::BadNotice, place));
     }
     let place = payload.place();
-    take_into(payload, token, usize::from(length))?;
+    read_into(payload, token, usize::from(length))?;
     if !lengths_fit(token.bytes()) {
         return Err(Stop::in_payload(Fault::BadNotice, place));
     }

@@ -1,7 +1,7 @@
 // The export of a whole response.
 ghost use Rattle.std.specs.Prelude.{◌≡◌, ◌+◌, ◌≤◌, [], false, true, IsTrue, OnErr, OnOk};
 ghost use Rattle.tds_csv.specs.Sinks.{IsOnSameSink, IsReady, held};
-ghost use Rattle.tds_export.specs.Exports.{Exports, Tidied, stopped_with};
+ghost use Rattle.tds_export.specs.Exports.{Exports, FlushedOrFailed, stopped_with};
 ghost use Rattle.tds_export.specs.Moments.{moment};
 ghost use Rattle.tds_meter.specs.Counts.{Rose, one_more};
 ghost use Rattle.tds_meter.specs.Rooms.{is_intact, peak_rest};
@@ -20,7 +20,7 @@ fn stop_at<W: Write>(sink: &mut Sink<W>, stop: Stop) -> Stopped
     ensures ready { IsReady sink.new }
     ensures same { IsOnSameSink sink.old sink.new }
     ensures stop { result ≡ stopped_with stop (held W.contents sink.new) }
-    ensures tidied { sink.old.failed ≡ false → Tidied (held W.contents sink.old) (held W.contents sink.new) }
+    ensures tidied { sink.old.failed ≡ false → FlushedOrFailed (held W.contents sink.old) (held W.contents sink.new) }
     ensures failed { sink.old.failed ≡ true → sink.new ≡ sink.old }
 {
     let _ = sink.finish();

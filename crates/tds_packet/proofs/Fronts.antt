@@ -1,7 +1,7 @@
 -- The packets at the front of an input, and what is read of it.
 use Rattle.tds_packet.proofs as N
 use N.{◌≡◌, ◌∙◌, ◌⊎◌, inl, inr, ℕ, suc, ◌+◌, ◌<◌, ◌≤◌, List, [], ◌∷◌, ◌++◌, length, Some, refl, sym, ap, arith, Stop, Packet, wire_of, payload_of, AreBefore}
-use N.{Seen, begun}
+use N.{PayloadView, begun}
 use N.Words.{front_packet, message}
 use N.ElementLaws.{AreBytes-front}
 use N.PacketLaws.{good_header, header_of, front_message}
@@ -27,7 +27,7 @@ all_packets : {size limit : ℕ} {read rest payload : List ℕ} {place : ℕ} {c
 all_packets = grind (arith, N.append-nil, N.length-append, N.nil_from_length)
 
 -- what was taken, right after a packet, came of whole packets at the front of the input
-pub takes_begins : (size limit f : ℕ) (input rest : List ℕ) (q : Seen) (bytes : List ℕ) (n : ℕ) → N.AreBytes input → q.left ≡ Some rest
+pub takes_begins : (size limit f : ℕ) (input rest : List ℕ) (q : PayloadView) (bytes : List ℕ) (n : ℕ) → N.AreBytes input → q.left ≡ Some rest
     → N.Takes (begun size limit (Some input) f) q bytes n → N.IsBetween q
     → BeginsMessage size limit input rest (bytes ++ (q.future []).bytes)
 takes_begins size limit f input rest q bytes n are left t b =
@@ -64,7 +64,7 @@ pub record EndsMessage (size limit : ℕ) (input rest payload : List ℕ) (failu
   pub same : failures' ≡ failures
 
 -- a payload's stop, where its reader tells its bytes
-pub ends_front : (size limit f : ℕ) (input rest : List ℕ) (q : Seen) (payload : List ℕ) (stop : Stop) → N.AreBytes input → q.left ≡ Some rest
+pub ends_front : (size limit f : ℕ) (input rest : List ℕ) (q : PayloadView) (payload : List ℕ) (stop : Stop) → N.AreBytes input → q.left ≡ Some rest
     → N.Ends (begun size limit (Some input) f) q payload stop
     → EndsMessage size limit input rest payload f q.failures stop ⊎ StopsAfterPackets size limit input rest payload f q.failures stop
 ends_front size limit f input rest q payload stop are left (inl x) = grind (arith, front_message size limit input are)
@@ -73,7 +73,7 @@ ends_front size limit f input rest q payload stop are left (inr (inr x)) =
     grind (arith, N.append_assoc, front_message size limit x.0 (AreBytes-front x.0 rest (rw (rw left at x.1) at are)))
 
 -- a message of which all was handed out
-pub over_front : (size limit f : ℕ) (input rest : List ℕ) (q : Seen) (bytes : List ℕ) (n : ℕ) → N.AreBytes input → q.left ≡ Some rest
+pub over_front : (size limit f : ℕ) (input rest : List ℕ) (q : PayloadView) (bytes : List ℕ) (n : ℕ) → N.AreBytes input → q.left ≡ Some rest
     → N.Takes (begun size limit (Some input) f) q bytes n → (o : N.IsOver q)
     → EndsMessage size limit input rest bytes f q.failures o.0
 over_front size limit f input rest q bytes n are = grind (arith, N.append-nil, front_message size limit input are)
@@ -119,7 +119,7 @@ message_before size limit (suc n) from place (p ∷ ps) each within less =
     ∙ ap (λ l. p.body ++ l) (message_before _ _ n _ _ _ each.2 (omega arith) (omega arith))
 
 -- the packets read were needed for n bytes of the payload
-pub in_last : (size limit f n : ℕ) (input rest : List ℕ) (q : Seen) (bytes payload : List ℕ) → q.left ≡ Some rest
+pub in_last : (size limit f n : ℕ) (input rest : List ℕ) (q : PayloadView) (bytes payload : List ℕ) → q.left ≡ Some rest
     → N.Takes (begun size limit (Some input) f) q bytes n
     → (p : BeginsMessage size limit input rest payload) → 0 < length payload → InLast size p.packets n
 in_last size limit f n input rest q bytes payload left t p some =

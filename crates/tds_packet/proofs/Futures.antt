@@ -1,6 +1,6 @@
 -- What is still to come, along a payload's steps.
 use Rattle.tds_packet.proofs as N
-use N.{◌≡◌, inl, inr, ℕ, suc, ◌+◌, ◌-◌, ◌<◌, ◌≤◌, List, [], ◌++◌, length, take, None, arith, Seen, Takes, Ends, buffered, seen, device}
+use N.{◌≡◌, inl, inr, ℕ, suc, ◌+◌, ◌-◌, ◌<◌, ◌≤◌, List, [], ◌++◌, length, take, None, arith, PayloadView, Takes, Ends, buffered, seen, device}
 use N.Words.{front_packet, message, coming_of}
 use N.Joins.{Stays-none, Stays-trans}
 
@@ -49,13 +49,13 @@ further_takes remaining p n =
     let split : buffered p ≡ take n (buffered p) ++ buffered (N.further p n) = N.sym (rw (← N.drop-drop) (N.take-append-drop n _)) in
     grind (arith, hand, N.length-take-le)
 
-pub Takes-none : (a : Seen) (n : ℕ) → Takes a a [] n
+pub Takes-none : (a : PayloadView) (n : ℕ) → Takes a a [] n
 Takes-none = grind arith
 
-pub Takes-more : (a b : Seen) (hs : List ℕ) (n m : ℕ) → n ≤ m → Takes a b hs n → Takes a b hs m
+pub Takes-more : (a b : PayloadView) (hs : List ℕ) (n m : ℕ) → n ≤ m → Takes a b hs n → Takes a b hs m
 Takes-more = grind arith
 
-needs_joined : (a b : Seen) (r s hs : List ℕ) {n m j : ℕ} → n ≤ length hs + m → N.Needs a r n → N.Needs b s m
+needs_joined : (a b : PayloadView) (r s hs : List ℕ) {n m j : ℕ} → n ≤ length hs + m → N.Needs a r n → N.Needs b s m
     → ((zs : List ℕ) → a.future (r ++ zs) ≡ N.before hs (b.future zs)) → j < length (r ++ s) → length (a.future (take j (r ++ s))).bytes < length hs + m
 needs_joined a b r s hs {j} le p q f lt = elim (N.dec_le (length r) j) [
   | yes many ↦ (let all : length r + (j - length r) ≡ j = omega arith in rw (
@@ -67,7 +67,7 @@ needs_joined a b r s hs {j} le p q f lt = elim (N.dec_le (length r) j) [
   | no few ↦ rw (N.take-append-le j r s (omega arith)) (omega arith)
 ]
 
-pub Takes-trans : (a b c : Seen) (hs bs : List ℕ) (n m : ℕ) → n ≤ length hs + m → Takes a b hs n → Takes b c bs m
+pub Takes-trans : (a b c : PayloadView) (hs bs : List ℕ) (n m : ℕ) → n ≤ length hs + m → Takes a b hs n → Takes b c bs m
     → Takes a c (hs ++ bs) (length hs + m)
 Takes-trans a b c hs bs n m le p q =
     let follows : (zs : List ℕ) → a.future _ ≡ N.before (hs ++ bs) (c.future zs) = λ zs. rw (N.append_assoc, p.1.1, q.1.1, N.append_assoc) in
@@ -79,7 +79,7 @@ Takes-trans a b c hs bs n m le p q =
       Stays-trans _ _ _ _ _ p.4 q.4,
     )
 
-pub Ends-after : (a b c : Seen) (hs bs : List ℕ) (n : ℕ) (e : N.Stop) → Takes a b hs n → Ends b c bs e → Ends a c (hs ++ bs) e
+pub Ends-after : (a b c : PayloadView) (hs bs : List ℕ) (n : ℕ) (e : N.Stop) → Takes a b hs n → Ends b c bs e → Ends a c (hs ++ bs) e
 Ends-after a b c hs bs n e p (inl y) = inl (
   p.0 ++ y.0,
   grind (arith, N.Consumes-trans),

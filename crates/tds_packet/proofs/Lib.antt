@@ -10,7 +10,7 @@ pub mod PayloadLaws
 pub mod Fronts
 pub mod Steps
 pub mod Passing
-pub mod Lifts
+pub mod InnerGrammars
 pub mod Recuts
 pub mod Places
 pub mod WireFaults

@@ -3,7 +3,7 @@ use Rattle.tds_packet.proofs as N
 use N.{◌≡◌, ◌∙◌, ℕ, ◌+◌, [], inr, ap, Payload}
 
 -- where a payload stops that had not, and hands out nothing, the message ends at its place if it does
-pub stops_here : {R : Type 0} (remaining : R → N.Option (N.List ℕ)) (p : N.PayloadOf R) (new : N.Seen) (stop : N.Stop) → p.stopped ≡ N.None
+pub stops_here : {R : Type 0} (remaining : R → N.Option (N.List ℕ)) (p : N.PayloadOf R) (new : N.PayloadView) (stop : N.Stop) → p.stopped ≡ N.None
     → N.Ends (N.seen remaining p) new [] stop → stop ≡ N.began_at p.place stop
 stops_here remaining p new stop going ends =
     let stands : (input rest : N.List ℕ) → (N.seen remaining p).future input ≡ record { bytes = []; stop = stop; rest = rest } → stop.fault ≡ N.MessageEnded

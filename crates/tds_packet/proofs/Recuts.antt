@@ -1,12 +1,12 @@
 -- A payload on its way into packets of one size.
 use Rattle.tds_packet.proofs as N
 use N.{PayloadOf, ◌≡◌, ◌∙◌, inr, ℕ, suc, ◌+◌, ◌-◌, ◌*◌, ◌<◌, ◌≤◌, Bool, true, false, List, [], ◌∷◌, ◌++◌, length, drop, Option, None, refl, ap, arith}
-use N.{length-append, Ok, Err, ◌^◌, Counted, Stop, wire_of, seen, Gathers, cut_packet, Seen, Takes}
+use N.{length-append, Ok, Err, ◌^◌, Counted, Stop, wire_of, seen, Gathers, cut_packet, PayloadView, Takes}
 use N.Words.{coming_of, first_packets}
 use N.Futures.{Takes-more}
 
 -- what was gathered, and bytes after it
-pub joined : (a b c : Seen) (hs bs : List ℕ) (n : ℕ) → n ≤ length bs + 1 → Takes a b hs (length hs + 1) → Takes b c bs n
+pub joined : (a b c : PayloadView) (hs bs : List ℕ) (n : ℕ) → n ≤ length bs + 1 → Takes a b hs (length hs + 1) → Takes b c bs n
     → Takes a c (hs ++ bs) (length (hs ++ bs) + 1)
 joined a b c hs bs n le p q =
     Takes-more a c _ _ _ (omega (arith, length-append hs bs))
@@ -104,7 +104,7 @@ unfolding first_packets
 first_is = grind (arith, N.drop-append_seam, N.take_all, first-more)
 
 -- Full packets were written, and these bytes of the payload taken for them. More were ready then.
-pub record Cutting {R W : Type 0} (remaining : R → Option (List ℕ)) (contents : W → Option (List ℕ)) (m : ℕ) (a : Seen) (s : PayloadOf R)
+pub record Cutting {R W : Type 0} (remaining : R → Option (List ℕ)) (contents : W → Option (List ℕ)) (m : ℕ) (a : PayloadView) (s : PayloadOf R)
     (old new : Counted W) (done : N.Written) : Type 0 where
   pub payload : List ℕ
   pub takes : Takes a (seen remaining s) payload (length payload + 1)
@@ -121,7 +121,7 @@ pub cut_none : {R W : Type 0} (remaining : R → Option (List ℕ)) (contents : 
 unfolding first_packets
 cut_none = grind (arith, N.Appends-nil)
 
-module _ {R W : Type 0} {remaining : R → Option (List ℕ)} {contents : W → Option (List ℕ)} {a : Seen} {s t : PayloadOf R} {room : ℕ} {packet : List ℕ}
+module _ {R W : Type 0} {remaining : R → Option (List ℕ)} {contents : W → Option (List ℕ)} {a : PayloadView} {s t : PayloadOf R} {room : ℕ} {packet : List ℕ}
     {old mid : Counted W} {done : N.Written}
     (x : Cutting remaining contents (room - 8) a s old mid done) (going : s.stopped ≡ None) (large : 8 < room) where
   next_parts : {r : N.Result Bool Stop} → Gathers remaining s t room packet r → let all = x.payload ++ drop 8 packet in

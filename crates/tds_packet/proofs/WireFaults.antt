@@ -46,7 +46,7 @@ pub message_of_wire : (size limit fuel wire place : ℕ) (input : List ℕ) → 
 message_of_wire = message_keeps (λ _ c. IsOfWire c.stop.fault) _ (λ _ _ _ _ h. h.0) (λ _ _ _ h. h)
 
 -- a payload that stops blames a device only where a read failed
-pub ends_blame : {R : Type 0} (remaining : R → N.Option (List ℕ)) (p : N.PayloadOf R) (b : N.Seen) (bytes : List ℕ) (own : N.Stop) → p.stopped ≡ None
+pub ends_blame : {R : Type 0} (remaining : R → N.Option (List ℕ)) (p : N.PayloadOf R) (b : N.PayloadView) (bytes : List ℕ) (own : N.Stop) → p.stopped ≡ None
     → N.Ends (seen remaining p) b bytes own
     → (own.fault ≡ WriteFailed → ⊥) × (own.fault ≡ ReadFailed → b.failures ≡ N.one_more p.from.now.failures)
 ends_blame remaining p b bytes own going ends =

@@ -41,7 +41,7 @@ pub use Rattle.tds_packet.specs.Packets.{is_last, no_wire, wire, AfterLast, Befo
 pub use Rattle.tds_packet.specs.Packets.{payload_of, Front, IsNextPacket, Message, wire_end, wire_size, with_packet}
 pub use Rattle.tds_packet.specs.Payloads.{seen, buffered, IsOnSame, IsSound, further, IsGoing, IsUsedUp, NeedsPacket, PassesOver}
 pub use Rattle.tds_packet.specs.Recutting.{cut_packet, Cuts, Gathers, Flushes, Gains, StopsInput, StopsOutput, WritesPacket, before_last, packets_before}
-pub use Rattle.tds_packet.specs.Seen.{Takes, Ends, Seen, IsBetween, IsOver, IsNotOver, began_at, begun, Needs}
+pub use Rattle.tds_packet.specs.PayloadView.{Takes, Ends, PayloadView, IsBetween, IsOver, IsNotOver, began_at, begun, Needs}
 pub use borrow.Rule.Slice.PartMut.{put_mid}
 pub use lib.Seq.{take-append-le, drop-append-le, take-take}
 pub use native.Mathlib.Decide.{dec_le}

@@ -5,7 +5,7 @@ pub mod Coming
 pub mod Devices
 pub mod Filling
 pub mod Reads
-pub mod Seen
+pub mod PayloadView
 pub mod Payloads
 pub mod Reading
 pub mod Recutting

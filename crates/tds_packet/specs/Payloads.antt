@@ -9,14 +9,14 @@ use Rattle.tds_packet.specs.declared.fault.Stop.{Stop}
 use Rattle.tds_packet.specs.declared.payload.Payload.{Payload}
 use Rattle.tds_packet.specs.contracts.payload.Payload.{the_row}
 use Rattle.tds_packet.specs.Coming.{coming_of}
-use Rattle.tds_packet.specs.Seen.{Ends, IsBetween, IsNotOver, IsOver, Seen, Takes, began_at, begun}
+use Rattle.tds_packet.specs.PayloadView.{Ends, IsBetween, IsNotOver, IsOver, PayloadView, Takes, began_at, begun}
 
 -- the bytes of its packet that are not handed out
 abbrev pub buffered : {R : Type 0} → Payload R → List ℕ
 buffered p = drop p.at p.packet.now.bytes
 
 -- the payload as contracts see it, if this tells the bytes that its reader has left
-abbrev pub seen : {R : Type 0} → (R → Option (List ℕ)) → Payload R → Seen
+abbrev pub seen : {R : Type 0} → (R → Option (List ℕ)) → Payload R → PayloadView
 seen remaining p = record {
   left = remaining p.from.now.device;
   future = coming_of p.packet.now.room p.max_wire p.wire p.place p.last p.stopped (buffered p);
@@ -75,7 +75,7 @@ pub record NeedsPacket {R : Type 0} (p : Payload R) : Type 0 where
   pub more : p.last ≡ false
 
 -- A payload at the first byte of its message: nothing was read, its area is empty, and these are its limits.
-pub record IsBegun {R : Type 0} (remaining : R → Option (List ℕ)) (p : Payload R) (from : Counted R) (size most : ℕ) : Type 0 where
+pub record IsNewPayload {R : Type 0} (remaining : R → Option (List ℕ)) (p : Payload R) (from : Counted R) (size most : ℕ) : Type 0 where
   pub sound : IsSound p
   pub room : p.packet.now.room ≡ size
   pub empty : p.packet.now.bytes ≡ []

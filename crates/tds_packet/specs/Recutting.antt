@@ -14,7 +14,7 @@ use Rattle.tds_packet.specs.declared.recutting.Written.{Written}
 use Rattle.tds_packet.specs.Filling.{Rises, Stays}
 use Rattle.tds_packet.specs.Packets.{Packet, packet_bytes, wire_of}
 use Rattle.tds_packet.specs.Payloads.{buffered, seen}
-use Rattle.tds_packet.specs.Seen.{Ends, IsBetween, IsNotOver, IsOver, Seen, Takes, begun}
+use Rattle.tds_packet.specs.PayloadView.{Ends, IsBetween, IsNotOver, IsOver, PayloadView, Takes, begun}
 
 -- the packet after this many others: SPID 0, a PacketID that is 1 for the first and 0 after 255, Window 0 (MS-TDS, Packet Header)
 abbrev pub cut_packet : ℕ → Bool → List ℕ → Packet
@@ -50,7 +50,7 @@ abbrev pub Gains : {W : Type 0} → (W → Option (List ℕ)) → Counted W → 
 Gains contents old new bytes = Appends (contents old.device) (contents new.device) bytes
 
 -- The whole payload was read, and written in packets, and the writer flushed.
-pub record CutsAll {W : Type 0} (contents : W → Option (List ℕ)) (m : ℕ) (a b : Seen) (old new : Counted W) (done : Recut) : Type 0 where
+pub record CutsAll {W : Type 0} (contents : W → Option (List ℕ)) (m : ℕ) (a b : PayloadView) (old new : Counted W) (done : Recut) : Type 0 where
   pub payload : List ℕ
   pub takes : Takes a b payload (length payload + 1)
   pub over : IsOver b
@@ -60,7 +60,7 @@ pub record CutsAll {W : Type 0} (contents : W → Option (List ℕ)) (m : ℕ) (
   pub asked : old.failures < 2 ^ 64 - 1
 
 -- The input stopped after these bytes of the payload. Their packets before the last one were written and the writer flushed, which may have failed.
-pub record StopsInput {W : Type 0} (contents : W → Option (List ℕ)) (m : ℕ) (a b : Seen) (old new : Counted W) (stop : RecutStop) : Type 0 where
+pub record StopsInput {W : Type 0} (contents : W → Option (List ℕ)) (m : ℕ) (a b : PayloadView) (old new : Counted W) (stop : RecutStop) : Type 0 where
   pub payload : List ℕ
   pub ends : Ends a b payload stop.stop
   pub goes_on : stop.stop.fault ≡ MessageEnded → ⊥
@@ -71,7 +71,7 @@ pub record StopsInput {W : Type 0} (contents : W → Option (List ℕ)) (m : ℕ
 
 -- A write or the flush failed after a part of a packet, which is the message's last, or full with more bytes to come. The packets before it were
 -- written.
-pub record StopsOutput {W : Type 0} (contents : W → Option (List ℕ)) (m : ℕ) (a b : Seen) (old new : Counted W) (stop : RecutStop) : Type 0 where
+pub record StopsOutput {W : Type 0} (contents : W → Option (List ℕ)) (m : ℕ) (a b : PayloadView) (old new : Counted W) (stop : RecutStop) : Type 0 where
   pub payload : List ℕ
   pub last : Bool
   pub part : List ℕ
@@ -86,7 +86,7 @@ pub record StopsOutput {W : Type 0} (contents : W → Option (List ℕ)) (m : �
   pub failures : Rises old.failures new.failures (wire_of (packets_before m payload) ++ part)
 
 -- A payload was written in packets with bodies of m bytes, or the input or the writer stopped that.
-abbrev pub Cuts : {W : Type 0} → (W → Option (List ℕ)) → ℕ → Seen → Seen → Counted W → Counted W → Result Recut RecutStop → Type 0
+abbrev pub Cuts : {W : Type 0} → (W → Option (List ℕ)) → ℕ → PayloadView → PayloadView → Counted W → Counted W → Result Recut RecutStop → Type 0
 Cuts contents m a b old new result =
     MatchResult result (λ done. CutsAll contents m a b old new done) (λ stop. StopsInput contents m a b old new stop
     ⊎ StopsOutput contents m a b old new stop)
@@ -94,7 +94,7 @@ Cuts contents m a b old new result =
 -- The same of a reader of packets of at most this size, within this limit of the wire.
 pub record Recuts {R W : Type 0} (remaining : R → Option (List ℕ)) (contents : W → Option (List ℕ)) (size limit m : ℕ) (from from' : Counted R)
     (to to' : Counted W) (result : Result Recut RecutStop) : Type 0 where
-  pub now : Seen
+  pub now : PayloadView
   pub left : now.left ≡ remaining from'.device
   pub failures : now.failures ≡ from'.failures
   pub cuts : Cuts contents m (begun size limit (remaining from.device) from.failures) now to to' result

@@ -2,9 +2,9 @@
 ghost use Rattle.std.specs.Borrow.{sem};
 ghost use Rattle.std.specs.Prelude.{◌≡◌, ℕ, ◌+◌, ◌^◌, ◌<◌, ◌≤◌, [], ◌∷◌, None, Some, length, take, IfErr, IfOk, MatchResult, OnOk, is_ok, if◌then◌else◌};
 ghost use Rattle.tds_meter.specs.LimitFaults.{IsPacketSize};
-ghost use Rattle.tds_packet.specs.Payloads.{AnswersAgain, AnswersInPlace, CutsFill, CutsPass, EndsMessage, IsBegun, IsGoing, IsSound, LendsPiece, NeedsPacket, PassesOver, RestsPayload, TakesOrEnds, TellsEnd, buffered, further, seen};
+ghost use Rattle.tds_packet.specs.Payloads.{AnswersAgain, AnswersInPlace, CutsFill, CutsPass, EndsMessage, IsNewPayload, IsGoing, IsSound, LendsPiece, NeedsPacket, PassesOver, RestsPayload, TakesOrEnds, TellsEnd, buffered, further, seen};
 ghost use Rattle.tds_packet.specs.Reads.{IsOfPackets};
-ghost use Rattle.tds_packet.specs.Seen.{IsBetween, Takes, began_at};
+ghost use Rattle.tds_packet.specs.PayloadView.{IsBetween, Takes, began_at};
 
 use crate::counted::Counted;
 use crate::fault::{Fault, Place, Stop};
@@ -39,7 +39,7 @@ impl<'a, R: Read> Payload<'a, R> {
         requires limit { max_wire ≤ 2 ^ 56 }
         ensures from { result.from.ghost_name ≡ from.entry.ghost_name }
         ensures packet { result.packet.ghost_name ≡ packet.entry.ghost_name }
-        ensures begun { IsBegun R.remaining result from.old packet.old.room max_wire }
+        ensures begun { IsNewPayload R.remaining result from.old packet.old.room max_wire }
     {
         packet.clear();
         Payload {

@@ -2,7 +2,7 @@
 use Rattle.tds_replay.proofs.Words as N
 use N.{◌≡◌, ◌∙◌, ◌+◌, ◌-◌, ◌^◌, ◌<◌, ◌≤◌, ◌⊎◌, ◌++◌, ℕ, List, [], ◌∷◌, Option, None, Some, Result, Ok, Err, inl, inr, refl, sym, ap, subst, arith, length}
 use Rattle.tds_export.specs.Exports.{Tells}
-use N.{Charset, Status, Report, Stopped, Counted, Standing, Telling, Sent, Given, wire_of}
+use N.{Charset, Status, Report, Stopped, Counted, Standing, Telling, Sent, ExportInput, wire_of}
 
 -- ---- what is known of devices
 
@@ -31,13 +31,13 @@ not_one_more a b c is answered more = omega arith
 -- ---- one response
 
 -- an export from an accepted response on, none of whose devices failed
-pub record Succeeded (given : Given) (sent : Sent) (rest : List ℕ) (answer : Result Report Stopped) : Type 0 where
+pub record Succeeded (given : ExportInput) (sent : Sent) (rest : List ℕ) (answer : Result Report Stopped) : Type 0 where
   pub answer_is : answer ≡ Ok (N.report_on sent)
   pub left : given.after.reader.bytes ≡ Some rest
   pub text : N.Appends given.before.writer.bytes given.after.writer.bytes (N.text sent.tokens)
   pub notice : given.after.areas.notice.bytes ≡ N.error_text sent.tokens
 
-module _ (given : Given) (sent : Sent) (rest : List ℕ) (accepted : N.IsAccepted given.charset (N.limits_of given) sent)
+module _ (given : ExportInput) (sent : Sent) (rest : List ℕ) (accepted : N.IsAccepted given.charset (N.limits_of given) sent)
     (bytes : N.AreBytes (wire_of sent.packets ++ rest)) (begins : given.before.reader.bytes ≡ Some (wire_of sent.packets ++ rest)) where
   succeeded : (answer : Result Report Stopped) → Tells given answer → (N.FailsToRead given → ⊥) → (N.FailsToWrite given → ⊥)
       → Succeeded given sent rest answer
@@ -62,7 +62,7 @@ module _ (given : Given) (sent : Sent) (rest : List ℕ) (accepted : N.IsAccepte
       succeeded (Ok report) tells none.0 none.1
 
 -- a report leaves the counts of failures
-counts_stay : (given : Given) (report : Report) → N.ReportsExport given report
+counts_stay : (given : ExportInput) (report : Report) → N.ReportsExport given report
     → (given.after.reader.failures ≡ given.before.reader.failures) × (given.after.writer.failures ≡ given.before.writer.failures)
 counts_stay given report x = (
   sym x.reader.failures ∙ x.completes.whole.takes.4.0,
@@ -121,7 +121,7 @@ module _ {R W M : Type 0} (tell : Telling R W M) (charset : Charset) where
   module _ (a : Standing R W M) (sent : Sent) (rest : List ℕ) (accepted : N.IsAccepted charset a.areas.limits sent)
       (bytes : N.AreBytes (wire_of sent.packets ++ rest)) (begins : tell.remaining a.devices.from.device ≡ Some (wire_of sent.packets ++ rest)) where
     -- what an export of it was given, after a look ahead
-    given : Standing R W M → Standing R W M → Given
+    given : Standing R W M → Standing R W M → ExportInput
     given b c = N.given_of charset (N.moment_of tell b) (N.moment_of tell c)
 
     same_limits : (b c : Standing R W M) → N.Sees tell N.false a b → N.IsAccepted charset (N.limits_of (given b c)) sent

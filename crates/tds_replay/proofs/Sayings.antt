@@ -9,25 +9,25 @@ use Rattle.std.specs.Prelude.{OnErr, codes, decimal, is_ok}
 use Rattle.std.specs.List.{concat}
 use Rattle.tds_packet.specs.declared.counted.Counted.{Counted}
 use Rattle.tds_replay.specs.declared.pieces.Piece.{Piece}
-use Rattle.tds_replay.specs.declared.pieces.Unsaid.{Unsaid}
+use Rattle.tds_replay.specs.declared.pieces.NoteFailed.{NoteFailed}
 use Rattle.tds_replay.specs.Lines.{piece_text, text_of, values_line}
 use Rattle.tds_replay.specs.Saying.{AddsText, Gathers, Says, WritesText}
 
 -- a text was written, and then another, or not
 pub says_then : {N U : Type 0} (contents : N → Option (List ℕ)) (old mid new : Counted N) (a b : List ℕ) → WritesText contents old mid a
-    → (r : Result U Unsaid) → Says contents mid new b r → Says contents old new (a ++ b) r
+    → (r : Result U NoteFailed) → Says contents mid new b r → Says contents old new (a ++ b) r
 says_then contents old mid new a b first (Ok x) says =
     (Appends-trans (contents old.device) (contents mid.device) (contents new.device) a b first.0 says.0, says.1 ∙ first.1)
 says_then contents old mid new a b first (Err x) says = rw first.1 at says
 
 -- the same with a text of another form
-pub says_as : {N U : Type 0} (contents : N → Option (List ℕ)) (old new : Counted N) (a b : List ℕ) → a ≡ b → (r : Result U Unsaid)
+pub says_as : {N U : Type 0} (contents : N → Option (List ℕ)) (old new : Counted N) (a b : List ℕ) → a ≡ b → (r : Result U NoteFailed)
     → Says contents old new a r → Says contents old new b r
 says_as contents old new a b is r says = rw is at says
 
 -- a text was gathered, and then another, or not
 pub gathers_then : {N U : Type 0} {contents : N → Option (List ℕ)} {old mid : Counted N} {had between a : List ℕ} (new : Counted N) (has b : List ℕ)
-    → AddsText contents old mid had between a → (r : Result U Unsaid) → Gathers contents mid new between has b r
+    → AddsText contents old mid had between a → (r : Result U NoteFailed) → Gathers contents mid new between has b r
     → Gathers contents old new had has (a ++ b) r
 gathers_then {contents} {old} {mid} {had} {between} {a} new has b first (Ok x) more =
     let whole : had ++ (a ++ b) ≡ (first.sent ++ more.sent) ++ has =
@@ -37,13 +37,13 @@ gathers_then {contents} {old} {mid} {had} {between} {a} new has b first (Ok x) m
 gathers_then {contents} {old} {mid} new has b first (Err x) more = rw first.writes.1 at more
 
 -- the same with a text of another form
-pub gathers_as : {N U : Type 0} (contents : N → Option (List ℕ)) (old new : Counted N) (had has a b : List ℕ) → a ≡ b → (r : Result U Unsaid)
+pub gathers_as : {N U : Type 0} (contents : N → Option (List ℕ)) (old new : Counted N) (had has a b : List ℕ) → a ≡ b → (r : Result U NoteFailed)
     → Gathers contents old new had has a r → Gathers contents old new had has b r
 gathers_as contents old new had has a b is r gathers = rw is at gathers
 
 -- what was gathered is written, or not
 pub says_gathered : {N U : Type 0} {contents : N → Option (List ℕ)} {old mid : Counted N} {has text : List ℕ} (new : Counted N)
-    → AddsText contents old mid [] has text → (r : Result U Unsaid) → Says contents mid new has r → Says contents old new text r
+    → AddsText contents old mid [] has text → (r : Result U NoteFailed) → Says contents mid new has r → Says contents old new text r
 says_gathered {contents} {old} {mid} {has} {text} new first r says =
     says_as contents old new _ text (sym first.rest) r (says_then contents old mid new first.sent has first.writes r says)
 
@@ -58,7 +58,7 @@ pub adds_after : {N : Type 0} (contents : N → Option (List ℕ)) (old new : Co
 adds_after contents old new had has text is writes = record { sent = had; writes = writes; rest = rw is }
 
 pub adds_none : {N U : Type 0} (contents : N → Option (List ℕ)) (old mid new : Counted N) (had has text : List ℕ) → has ≡ [] → WritesText contents old mid had
-    → (r : Result U Unsaid) → Says contents mid new text r → Gathers contents old new had has text r
+    → (r : Result U NoteFailed) → Says contents mid new text r → Gathers contents old new had has text r
 adds_none contents old mid new had has text none writes (Ok x) says = record {
   sent = had ++ text;
   writes = says_then contents old mid new had text writes (Ok x) says;

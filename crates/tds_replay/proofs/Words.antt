@@ -18,7 +18,7 @@ pub use Rattle.tds_values.specs.declared.charset.Charset.{Charset}
 pub use Rattle.tds_export.specs.declared.report.Report.{Report}
 pub use Rattle.tds_export.specs.declared.report.Stopped.{Stopped}
 pub use Rattle.tds_export.specs.Exports.{Exports, Reports as ReportsExport}
-pub use Rattle.tds_export.specs.Moments.{FailsToRead, FailsToWrite, Given, given_of, limits_of}
+pub use Rattle.tds_export.specs.Moments.{FailsToRead, FailsToWrite, ExportInput, given_of, limits_of}
 pub use Rattle.tds_export.specs.Tokens.{error_text, text}
 pub use Rattle.tds_replay.specs.declared.status.Status.{Status}
 pub use Rattle.tds_replay.specs.declared.status.Status.TheVariants.{Done, OutOfMemory, ServerError}

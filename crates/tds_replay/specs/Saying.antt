@@ -3,14 +3,14 @@ use Rattle.std.specs.Prelude.{◌≡◌, ◌⊎◌, ◌++◌, List, ℕ, Option,
 use Rattle.std.specs.Io.KnownBytes.{Appends}
 use Rattle.tds_meter.specs.Counts.{Rose}
 use Rattle.tds_packet.specs.declared.counted.Counted.{Counted}
-use Rattle.tds_replay.specs.declared.pieces.Unsaid.{Unsaid}
+use Rattle.tds_replay.specs.declared.pieces.NoteFailed.{NoteFailed}
 
 -- The text was written, and no write failed.
 abbrev pub WritesText : {N : Type 0} → (N → Option (List ℕ)) → Counted N → Counted N → List ℕ → Type 0
 WritesText contents old new text = Appends (contents old.device) (contents new.device) text × (new.failures ≡ old.failures)
 
 -- The text was written; or a write failed, which was counted.
-abbrev pub Says : {N U : Type 0} → (N → Option (List ℕ)) → Counted N → Counted N → List ℕ → Result U Unsaid → Type 0
+abbrev pub Says : {N U : Type 0} → (N → Option (List ℕ)) → Counted N → Counted N → List ℕ → Result U NoteFailed → Type 0
 Says contents old new text (Ok _) = WritesText contents old new text
 Says contents old new text (Err _) = Rose old.failures new.failures
 
@@ -25,6 +25,6 @@ pub record AddsText {N : Type 0} (contents : N → Option (List ℕ)) (old new :
   pub rest : had ++ text ≡ sent ++ has
 
 -- The same; or a write failed, which was counted.
-abbrev pub Gathers : {N U : Type 0} → (N → Option (List ℕ)) → Counted N → Counted N → List ℕ → List ℕ → List ℕ → Result U Unsaid → Type 0
+abbrev pub Gathers : {N U : Type 0} → (N → Option (List ℕ)) → Counted N → Counted N → List ℕ → List ℕ → List ℕ → Result U NoteFailed → Type 0
 Gathers contents old new had has text (Ok _) = AddsText contents old new had has text
 Gathers contents old new had has text (Err _) = Rose old.failures new.failures

@@ -12,7 +12,7 @@ mod usage;
 
 pub use lines::{say_answer, say_unreadable, say_want_of_memory};
 pub use memory::Memory;
-pub use pieces::Unsaid;
+pub use pieces::NoteFailed;
 pub use running::{perform, perform_in};
 pub use status::Status;
 pub use tds_arguments::{Job, Usage, Work, parse};

@@ -3,7 +3,7 @@ ghost use Rattle.std.specs.Prelude.{◌≡◌, Ok, map};
 ghost use Rattle.tds_replay.specs.Lines.{FitsNotice, answer_lines, counts_line, error_line, fault_fields, fault_name as name_of_fault, kind_name as name_of_kind, memory_line, place_number, place_unit, recut_lines, responses_line, shown_byte, status_line, stop_line, unreadable_line, values_line};
 ghost use Rattle.tds_replay.specs.Saying.{Gathers, Says};
 
-use crate::pieces::{Gathered, Piece, Unsaid, gather_all, put, say};
+use crate::pieces::{Gathered, NoteFailed, Piece, gather_all, put, say};
 use arrayvec::ArrayVec;
 use std::io::Write;
 use tds_export::{Report, ServerError, Stopped};
@@ -61,7 +61,7 @@ fn add_fields<W: Write>(
     notes: &mut Counted<W>,
     gathered: &mut Gathered,
     fault: &Fault,
-) -> Result<(), Unsaid>
+) -> Result<(), NoteFailed>
     ensures { Gathers W.contents notes.old notes.new gathered.old.items gathered.new.items (fault_fields fault.now) result }
 {
     match *fault {
@@ -117,7 +117,7 @@ fn add_stop<W: Write>(
     notes: &mut Counted<W>,
     gathered: &mut Gathered,
     stopped: &Stopped,
-) -> Result<(), Unsaid>
+) -> Result<(), NoteFailed>
     ensures { Gathers W.contents notes.old notes.new gathered.old.items gathered.new.items (stop_line stopped.now) result }
 {
     gather_all(
@@ -150,7 +150,7 @@ fn add_counts<W: Write>(
     notes: &mut Counted<W>,
     gathered: &mut Gathered,
     report: &Report,
-) -> Result<(), Unsaid>
+) -> Result<(), NoteFailed>
     ensures { Gathers W.contents notes.old notes.new gathered.old.items gathered.new.items (counts_line report.now) result }
 {
     gather_all(
@@ -172,7 +172,7 @@ fn add_values<W: Write>(
     notes: &mut Counted<W>,
     gathered: &mut Gathered,
     values: u64,
-) -> Result<(), Unsaid>
+) -> Result<(), NoteFailed>
     ensures { Gathers W.contents notes.old notes.new gathered.old.items gathered.new.items (values_line values) result }
 {
     if values == 0 {
@@ -190,7 +190,7 @@ fn add_status<W: Write>(
     notes: &mut Counted<W>,
     gathered: &mut Gathered,
     status: Option<i32>,
-) -> Result<(), Unsaid>
+) -> Result<(), NoteFailed>
     ensures { Gathers W.contents notes.old notes.new gathered.old.items gathered.new.items (status_line status) result }
 {
     let Some(status) = status else {
@@ -225,7 +225,7 @@ fn add_error<W: Write>(
     gathered: &mut Gathered,
     error: &Option<ServerError>,
     message: &[u8],
-) -> Result<(), Unsaid>
+) -> Result<(), NoteFailed>
     requires { FitsNotice message.now }
     ensures { Gathers W.contents notes.old notes.new gathered.old.items gathered.new.items
         (error_line error.now message.now) result }
@@ -255,7 +255,7 @@ fn add_report<W: Write>(
     gathered: &mut Gathered,
     report: &Report,
     message: &[u8],
-) -> Result<(), Unsaid>
+) -> Result<(), NoteFailed>
     requires { FitsNotice message.now }
     ensures { Gathers W.contents notes.old notes.new gathered.old.items gathered.new.items
         (answer_lines (Ok report.now) message.now) result }
@@ -272,7 +272,7 @@ fn add_answer<W: Write>(
     gathered: &mut Gathered,
     answer: &Result<Report, Stopped>,
     message: &[u8],
-) -> Result<(), Unsaid>
+) -> Result<(), NoteFailed>
     requires { FitsNotice message.now }
     ensures { Gathers W.contents notes.old notes.new gathered.old.items gathered.new.items
         (answer_lines answer.now message.now) result }
@@ -288,7 +288,7 @@ pub fn say_answer<W: Write>(
     notes: &mut Counted<W>,
     answer: &Result<Report, Stopped>,
     message: &[u8],
-) -> Result<(), Unsaid>
+) -> Result<(), NoteFailed>
     requires { FitsNotice message.now }
     ensures { Says W.contents notes.old notes.new (answer_lines answer.now message.now) result }
 {
@@ -298,7 +298,10 @@ pub fn say_answer<W: Write>(
 }
 
 /// Writes the line of a stop.
-pub(crate) fn say_stop<W: Write>(notes: &mut Counted<W>, stopped: &Stopped) -> Result<(), Unsaid>
+pub(crate) fn say_stop<W: Write>(
+    notes: &mut Counted<W>,
+    stopped: &Stopped,
+) -> Result<(), NoteFailed>
     ensures { Says W.contents notes.old notes.new (stop_line stopped.now) result }
 {
     let mut gathered = Gathered::new();
@@ -310,7 +313,7 @@ pub(crate) fn say_stop<W: Write>(notes: &mut Counted<W>, stopped: &Stopped) -> R
 pub(crate) fn say_recut_answer<W: Write>(
     notes: &mut Counted<W>,
     answer: &Result<Recut, RecutStop>,
-) -> Result<(), Unsaid>
+) -> Result<(), NoteFailed>
     ensures { Says W.contents notes.old notes.new (recut_lines answer.now) result }
 {
     match answer {
@@ -335,7 +338,10 @@ pub(crate) fn say_recut_answer<W: Write>(
 }
 
 /// Writes the line that counts responses.
-pub(crate) fn say_responses<W: Write>(notes: &mut Counted<W>, responses: u64) -> Result<(), Unsaid>
+pub(crate) fn say_responses<W: Write>(
+    notes: &mut Counted<W>,
+    responses: u64,
+) -> Result<(), NoteFailed>
     ensures { Says W.contents notes.old notes.new (responses_line responses) result }
 {
     say(
@@ -345,7 +351,7 @@ pub(crate) fn say_responses<W: Write>(notes: &mut Counted<W>, responses: u64) ->
 }
 
 /// Writes the line of a file that can't be opened.
-pub fn say_unreadable<W: Write>(notes: &mut Counted<W>, path: &str) -> Result<(), Unsaid>
+pub fn say_unreadable<W: Write>(notes: &mut Counted<W>, path: &str) -> Result<(), NoteFailed>
     ensures { Says W.contents notes.old notes.new (unreadable_line path.now) result }
 {
     say(
@@ -359,7 +365,7 @@ pub fn say_unreadable<W: Write>(notes: &mut Counted<W>, path: &str) -> Result<()
 }
 
 /// Writes the line of want of memory.
-pub fn say_want_of_memory<W: Write>(notes: &mut Counted<W>) -> Result<(), Unsaid>
+pub fn say_want_of_memory<W: Write>(notes: &mut Counted<W>) -> Result<(), NoteFailed>
     ensures { Says W.contents notes.old notes.new memory_line result }
 {
     say(notes, &[Piece::Text(b"want of memory\n")])

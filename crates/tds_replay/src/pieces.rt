@@ -22,15 +22,15 @@ pub(crate) enum Piece<'a> {
 
 /// A write failed, which its device counted.
 #[derive(Debug, Clone, Copy)]
-pub struct Unsaid;
+pub struct NoteFailed;
 
 /// Writes bytes.
-pub(crate) fn put<W: Write>(notes: &mut Counted<W>, bytes: &[u8]) -> Result<(), Unsaid>
+pub(crate) fn put<W: Write>(notes: &mut Counted<W>, bytes: &[u8]) -> Result<(), NoteFailed>
     ensures { Says W.contents notes.old notes.new bytes.now result }
 {
     match notes.deliver(bytes) {
         Ok(()) => Ok(()),
-        Err(_) => Err(Unsaid),
+        Err(_) => Err(NoteFailed),
     }
 }
 
@@ -45,7 +45,7 @@ fn gather<W: Write>(
     notes: &mut Counted<W>,
     gathered: &mut Gathered,
     bytes: &[u8],
-) -> Result<(), Unsaid>
+) -> Result<(), NoteFailed>
     ensures { Gathers W.contents notes.old notes.new gathered.old.items gathered.new.items bytes.now result }
 {
     if gathered.try_extend_from_slice(bytes).is_ok() {
@@ -64,7 +64,7 @@ fn gather_byte<W: Write>(
     notes: &mut Counted<W>,
     gathered: &mut Gathered,
     byte: u8,
-) -> Result<(), Unsaid>
+) -> Result<(), NoteFailed>
     ensures { Gathers W.contents notes.old notes.new gathered.old.items gathered.new.items (byte_text byte) result }
 {
     let mut text = *b"0x00";
@@ -79,7 +79,7 @@ fn gather_piece<W: Write>(
     notes: &mut Counted<W>,
     gathered: &mut Gathered,
     piece: &Piece,
-) -> Result<(), Unsaid>
+) -> Result<(), NoteFailed>
     ensures { Gathers W.contents notes.old notes.new gathered.old.items gathered.new.items (piece_text piece.now) result }
 {
     match *piece {
@@ -104,7 +104,7 @@ pub(crate) fn gather_all<W: Write>(
     notes: &mut Counted<W>,
     gathered: &mut Gathered,
     pieces: &[Piece],
-) -> Result<(), Unsaid>
+) -> Result<(), NoteFailed>
     ensures { Gathers W.contents notes.old notes.new gathered.old.items gathered.new.items (text_of pieces.now) result }
 {
     'pieces: for piece in pieces {
@@ -114,7 +114,7 @@ pub(crate) fn gather_all<W: Write>(
 }
 
 /// Writes pieces, one after the other and mostly at once.
-pub(crate) fn say<W: Write>(notes: &mut Counted<W>, pieces: &[Piece]) -> Result<(), Unsaid>
+pub(crate) fn say<W: Write>(notes: &mut Counted<W>, pieces: &[Piece]) -> Result<(), NoteFailed>
     ensures { Says W.contents notes.old notes.new (text_of pieces.now) result }
 {
     let mut gathered = Gathered::new();

@@ -5,14 +5,14 @@ use Rattle.tds_rows.proofs.Words.{held, shape, WritesCell}
 use Rattle.tds_rows.proofs.RowSteps.{ReadsCell, at_once_breaks, at_once_streams, PutsCell, StopsCell}
 
 -- bytes that are a cell were read
-pub cell_reads : {from : N.CellPart} (column : ℕ) (last : Bool) {a b : N.Seen} {place place' : ℕ} (bytes : List ℕ) {text : List ℕ}
+pub cell_reads : {from : N.CellPart} (column : ℕ) (last : Bool) {a b : N.PayloadView} {place place' : ℕ} (bytes : List ℕ) {text : List ℕ}
     → WritesCell from column last bytes text → N.Takes a b bytes (length bytes) → N.IsBetween b → place' ≡ place + length bytes
     → ReadsCell from column last a b place place' text
 cell_reads _ _ _ x takes between = grind arith
 
 -- ---- what is written into the room that a sink lends
 
-module _ (h j : N.Held) (room written : List ℕ) (n : ℕ) (whole : length written ≡ length room) (at : n ≡ length h.waiting) where
+module _ (h j : N.SinkView) (room written : List ℕ) (n : ℕ) (whole : length written ≡ length room) (at : n ≡ length h.waiting) where
   -- what stands in the area once the room that was lent is written
   abbrev lent : List ℕ
   lent = N.overwritten (length h.waiting) written (h.waiting ++ room)
@@ -23,7 +23,7 @@ module _ (h j : N.Held) (room written : List ℕ) (n : ℕ) (whole : length writ
   after : drop n lent ≡ written
   after = grind (arith, N.spare_written)
 
-  abbrev lent_held : N.Held
+  abbrev lent_held : N.SinkView
   lent_held = record h { waiting = take n lent }
 
   same : lent_held ≡ h
@@ -34,7 +34,7 @@ module _ (h j : N.Held) (room written : List ℕ) (n : ℕ) (whole : length writ
   kept_text _ x = grind (arith, after, same)
 
 -- a cell whose text comes at once was read, and the text put by one call of the sink, or a write of it failed
-pub put_cell : {W U : Type 0} {column place place' : ℕ} {last : Bool} {a b : N.Seen} {text : List ℕ} {r : N.Result U N.Stop} (charset : N.Charset)
+pub put_cell : {W U : Type 0} {column place place' : ℕ} {last : Bool} {a b : N.PayloadView} {text : List ℕ} {r : N.Result U N.Stop} (charset : N.Charset)
     (kind : Kind) {contents : W → N.Option (List ℕ)} {old new : N.Sink W} → N.IsWriting old
     → ReadsCell (N.cell_start kind (shape charset kind)) column last a b place place' text → N.PutsPiece contents old new text r
     → N.MatchResult r (λ _. PutsCell charset kind column last a b place place' (held contents old) (held contents new))

@@ -1,7 +1,7 @@
 -- What joiners do with the pieces of some content, in the words of their conversion.
 use Rattle.tds_rows.proofs.Words as N
-use Rattle.tds_rows.proofs.Words.{◌≡◌, ◌∙◌, ℕ, ◌+◌, ◌-◌, ◌^◌, ◌<◌, ◌≤◌, Bool, List, [], ◌++◌, length, inr, sym, ap, subst, arith, Err, Stop, Seen, Takes}
-use Rattle.tds_rows.proofs.Words.{IsBetween, BeginsData, Conversion, IsFit, conversion_rest, emit, Held, joins_by_name}
+use Rattle.tds_rows.proofs.Words.{◌≡◌, ◌∙◌, ℕ, ◌+◌, ◌-◌, ◌^◌, ◌<◌, ◌≤◌, Bool, List, [], ◌++◌, length, inr, sym, ap, subst, arith, Err, Stop, PayloadView, Takes}
+use Rattle.tds_rows.proofs.Words.{IsBetween, BeginsData, Conversion, IsFit, conversion_rest, emit, SinkView, joins_by_name}
 use Rattle.tds_rows.proofs.Paths.{At, over}
 use Rattle.tds_csv.specs.declared.joiners.JoinFault.TheVariants as join_faults
 
@@ -28,7 +28,7 @@ module _ {fit begins : List ℕ → Type 0} {rest text : List ℕ → List ℕ} 
           kept_is = x.withheld ∙ suits.rest_is _ ∙ ap (λ o. conversion_rest c (o ++ piece)) is ∙ sym ((joins_by_name c).keeps content piece all);
         }
 
-    piece_bad : {new : List ℕ} {k : ℕ} {h i : Held} {column most : ℕ} {a b : Seen} {place : ℕ} (piece : List ℕ) → length piece ≤ most
+    piece_bad : {new : List ℕ} {k : ℕ} {h i : SinkView} {column most : ℕ} {a b : PayloadView} {place : ℕ} (piece : List ℕ) → length piece ≤ most
         → Takes a b piece 1 → IsBetween b → N.TakesUpTo begins rest text old new h i piece k
         → N.RefusesData c content column most a b place h i (record { fault = N.BadText column; place = N.Payload (place + k) })
     piece_bad {k = k} {a = a} {b = b} piece short takes between x =
@@ -53,8 +53,8 @@ module _ {fit begins : List ℕ → Type 0} {rest text : List ℕ → List ℕ} 
           stop_is = cc;
         }
 
-    piece_breaks : {most : ℕ} {a b : Seen} {h i : Held} {stop : Stop} (piece : List ℕ) → length piece ≤ most → Takes a b piece 1 → IsBetween b
-        → begins old → N.Breaks h i (emit rest text (old ++ piece)) stop → N.BreaksData c content most a b h i stop
+    piece_breaks : {most : ℕ} {a b : PayloadView} {h i : SinkView} {stop : Stop} (piece : List ℕ) → length piece ≤ most → Takes a b piece 1 → IsBetween b
+        → begins old → N.WritesPrefix h i (emit rest text (old ++ piece)) stop → N.WritesPrefixOfData c content most a b h i stop
     piece_breaks piece short takes between begins_old breaks =
         let f = N.begun_front c old piece (grind arith) in
         let good = N.take f.taken piece in
@@ -69,7 +69,7 @@ module _ {fit begins : List ℕ → Type 0} {rest text : List ℕ → List ℕ} 
           breaks = grind arith;
         }
 
-    pub push_stops : {column most : ℕ} {a b : Seen} {place : ℕ} {h i : Held} {before after : Bool} (new piece : List ℕ) (fault : N.JoinFault)
+    pub push_stops : {column most : ℕ} {a b : PayloadView} {place : ℕ} {h i : SinkView} {before after : Bool} (new piece : List ℕ) (fault : N.JoinFault)
         → length piece ≤ most → Takes a b piece 1 → IsBetween b → begins old → before ≡ N.false → after ≡ N.is_stopped {U = Unit {0}} (Err fault)
         → N.Pushes {U = Unit {0}} begins rest text old new h i before piece (Err fault)
         → N.StopsData c content column most a b place h i after (N.join_stop column place fault)
@@ -82,14 +82,14 @@ module _ {fit begins : List ℕ → Type 0} {rest text : List ℕ → List ℕ} 
     fit_whole : fit old → IsFit c content
     fit_whole h = (joins_by_name c).fit_whole content begun (grind arith)
 
-    pub end_whole : {new : List ℕ} {h i : Held} → N.Completes fit text old new h i → IsFit c content
+    pub end_whole : {new : List ℕ} {h i : SinkView} → N.Completes fit text old new h i → IsFit c content
         × N.Puts h i (N.conversion_text c (conversion_rest c content))
     end_whole x = grind (arith, fit_whole)
 
-    end_part : {new : List ℕ} {h i : Held} → N.LeavesPart fit old new h i → IsFit c content → ⊥
+    end_part : {new : List ℕ} {h i : SinkView} → N.LeavesPart fit old new h i → IsFit c content → ⊥
     end_part x whole = x.part ((suits.fit_is old).1 (subst (IsFit c) (sym is) ((joins_by_name c).fit_rest content whole)))
 
-    pub end_stops : {column place : ℕ} {h i : Held} {before after : Bool} (new : List ℕ) (unit' : ℕ) (last : Bool) (fault : N.JoinFault)
+    pub end_stops : {column place : ℕ} {h i : SinkView} {before after : Bool} (new : List ℕ) (unit' : ℕ) (last : Bool) (fault : N.JoinFault)
         → before ≡ N.false → after ≡ N.is_stopped {U = Unit {0}} (Err fault) → N.EndsBy {U = Unit {0}} unit' fit text old new h i before (Err fault)
         → N.StopsEnding c quoted last content column place h i after (N.join_stop column place fault)
     end_stops _ _ _ (N.Stopped stop) going failed x =
@@ -169,7 +169,7 @@ module _ {c : Conversion} {content kept : List ℕ} {p q : At} {n left : ℕ} (b
     kept_is = y.kept_is ∙ ap (conversion_rest c) (N.append_assoc content x.more y.piece);
   }
 
-  pub filled_stops : {column : ℕ} {d : Seen} {j : Held} {failed : Bool} {stop : Stop} → 0 < left
+  pub filled_stops : {column : ℕ} {d : PayloadView} {j : SinkView} {failed : Bool} {stop : Stop} → 0 < left
       → N.StopsData c (content ++ x.more) column left q.seen d q.place q.held j failed stop
       → N.StopsFilling c content column n p.seen d p.place p.held j failed stop
   filled_stops some y =
@@ -190,4 +190,4 @@ pub end_puts : {W U : Type 0} {contents : W → N.Option (List ℕ)} {b d : N.Si
     → IsFit c content × N.Puts (N.held contents a) (N.held contents b) (N.conversion_text c (conversion_rest c content)) → b.failed ≡ N.false
     → N.PutsPiece contents b d (N.closing quoted ++ N.end_after last) r → N.EndPut contents c quoted last content column place a d r
 end_puts {r = N.Ok u} c _ _ _ _ _ a x _ y = (x.0, N.Puts-trans _ _ _ _ _ x.1 y.gives)
-end_puts {r = Err e} c _ _ _ _ _ a x going y = N.inl (x.0, N.Breaks-after _ _ _ _ _ e x.1 (y.gives going), y.failed)
+end_puts {r = Err e} c _ _ _ _ _ a x going y = N.inl (x.0, N.WritesPrefix-after _ _ _ _ _ e x.1 (y.gives going), y.failed)

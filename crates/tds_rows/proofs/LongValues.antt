@@ -1,9 +1,10 @@
 -- Long values, in the grammar of a cell: the text of their parts, the pieces of their content, and their lengths and ends.
 use Rattle.tds_rows.proofs.Words as N
-use Rattle.tds_rows.proofs.Words.{◌≡◌, ◌∙◌, inl, inr, ℕ, ◌-◌, ◌^◌, ◌<◌, ◌≤◌, Bool, List, [], ◌∷◌, ◌++◌, length, sym, ap, arith, append-nil, Option, Stop, Seen}
-use Rattle.tds_rows.proofs.Words.{Conversion, is_quoted, after_comma, Held, Puts, held, CellPart, cell, PutsField, StopsField, cell_so_far, ending, opening}
+use Rattle.tds_rows.proofs.Words.{◌≡◌, ◌∙◌, inl, inr, ℕ, ◌-◌, ◌^◌, ◌<◌, ◌≤◌, Bool, List, [], ◌∷◌, ◌++◌, length, sym, ap, arith, append-nil, Option, Stop}
+use Rattle.tds_rows.proofs.Words.{PayloadView}
+use Rattle.tds_rows.proofs.Words.{Conversion, is_quoted, after_comma, SinkView, Puts, held, CellPart, cell, PutsField, StopsField, cell_so_far, ending, opening}
 use Rattle.tds_rows.proofs.Words.{◌≢◌, ◌+◌, ChunkLength, ◌⊎◌, suc, true, false, refl, subst, append_assoc, Some, BadText, Spelt, BeginsData, is_fit}
-use Rattle.tds_rows.proofs.Words.{open_field, added_text, Breaks}
+use Rattle.tds_rows.proofs.Words.{open_field, added_text, WritesPrefix}
 use Rattle.tds_rows.proofs.Numbers.{Next, short_left, chunk_end, chunk_unfit, chunk_left}
 use Rattle.tds_rows.proofs.Paths.{At, Path, path_both, path_of, path_none, path_stops, over}
 use Rattle.tds_cells.proofs.RowTexts.{line_grows, after_append}
@@ -100,7 +101,7 @@ module _ {column : ℕ} {c : Conversion} {state : ℕ → List ℕ → CellPart}
       ∙ laws.emits d p (grind arith))
 
   -- the byte after some that are good is refused
-  byte_refused : {a b : Seen} {h i : Held} {m : ℕ} (d good ahead : List ℕ) (y r place : ℕ) → m ≡ length good + suc r → BeginsData c (d ++ good)
+  byte_refused : {a b : PayloadView} {h i : SinkView} {m : ℕ} (d good ahead : List ℕ) (y r place : ℕ) → m ≡ length good + suc r → BeginsData c (d ++ good)
       → N.cell_fault column (state (suc r) (d ++ good)) (y ∷ []) ≡ Some (BadText column) → N.Takes a b (good ++ y ∷ ahead) 1 → N.IsBetween b
       → Puts h i (added_text c d good)
       → StopsField (state m d) column last a b place h i false (record { fault = BadText column; place = N.Payload (place + length good) })
@@ -130,7 +131,7 @@ module _ {column : ℕ} {c : Conversion} {state : ℕ → List ℕ → CellPart}
         );
       }
 
-  module _ (d : List ℕ) (r : ℕ) (a b : Seen) (place : ℕ) (h i : Held) (stop : Stop) (few : length h.waiting < 4096)
+  module _ (d : List ℕ) (r : ℕ) (a b : PayloadView) (place : ℕ) (h i : SinkView) (stop : Stop) (few : length h.waiting < 4096)
       (delivered : h.delivered ≤ 2 ^ 64 - 1) where
     abbrev Stopped : Bool → Type 0
     Stopped failed = StopsField (state (suc r) d) column last a b place h i failed stop
@@ -149,13 +150,13 @@ module _ {column : ℕ} {c : Conversion} {state : ℕ → List ℕ → CellPart}
 
     -- a write of the text of a piece failed, whose bytes lead to a state
     broken : (good ahead added : List ℕ) {to : CellPart} → Spelt (cell column) (state (suc r) d) good to → N.Takes a b (good ++ ahead) 1 → N.IsBetween b
-        → cell_so_far column last (state (suc r) d) ++ added ≡ cell_so_far column last to → Breaks h i added stop → Stopped true
+        → cell_so_far column last (state (suc r) d) ++ added ≡ cell_so_far column last to → WritesPrefix h i added stop → Stopped true
     broken _ _ _ {to} spelt takes between text_is breaks =
         let x = N.breaks_somewhere _ _ (line_grows column last) _ a b h i _ between to _ _ _ spelt takes few delivered text_is breaks in
         record { at = x.0; cause = grind arith }
 
     piece_broken_at : (ahead p : List ℕ) (x : ℕ) → length (p ++ x ∷ []) ≡ suc r → N.Takes a b ((p ++ x ∷ []) ++ ahead) 1 → N.IsBetween b
-        → BeginsData c (d ++ (p ++ x ∷ [])) → Breaks h i (added_text c d (p ++ x ∷ [])) stop → Stopped true
+        → BeginsData c (d ++ (p ++ x ∷ [])) → WritesPrefix h i (added_text c d (p ++ x ∷ [])) stop → Stopped true
     piece_broken_at _ p x all takes between begun breaks =
         let same = sym (append_assoc d p _) in
         elim (holds.ends _ x) [
@@ -163,14 +164,14 @@ module _ {column : ℕ} {c : Conversion} {state : ℕ → List ℕ → CellPart}
               (let fine = subst Good (sym same) whole in
               let w = holds.whole last _ fine in
               broken _ _ _ (content_spelt d _ _ 0 (omega arith) begun (λ _ _. fine)) takes between (text_closed d _ _ r begun w.1)
-              (N.Breaks-longer h i _ _ _ breaks))
+              (N.WritesPrefix-longer h i _ _ _ breaks))
           | inr none ↦
               (let front = (N.joins_by_name c).front _ _ (subst (BeginsData c) same begun) in
               broken p _ _ (front_spelt d p 0 (omega (arith, N.length-append p (x ∷ []))) front) (rw append_assoc at takes) between
               (text_grown d p r 0 front) (rw (adds_none d p x begun none) at breaks))
         ]
 
-    piece_broken : N.BreaksData c d (suc r) a b h i stop → Stopped true
+    piece_broken : N.WritesPrefixOfData c d (suc r) a b h i stop → Stopped true
     piece_broken x =
         elim (N.cases_lt (length x.good) (suc r)) [
           | inl less ↦ broken x.good x.ahead _ (front_spelt d x.good _ (omega arith) x.begun) x.takes x.between
@@ -187,7 +188,7 @@ module _ {column : ℕ} {c : Conversion} {state : ℕ → List ℕ → CellPart}
     piece_stops (inr (inr x)) = rw x.1 (piece_broken x.0)
 
   -- the content stopped in one of its pieces
-  pub filling_stops : {d : List ℕ} {m : ℕ} {p : At} {b : Seen} {i : Held} {failed : Bool} {stop : Stop}
+  pub filling_stops : {d : List ℕ} {m : ℕ} {p : At} {b : PayloadView} {i : SinkView} {failed : Bool} {stop : Stop}
       → N.StopsFilling c d column m p.seen b p.place p.held i failed stop → StopsField (state m d) column last p.seen b p.place p.held i failed stop
   filling_stops {m = m} x =
       let r = m - length x.front - 1 in
@@ -211,7 +212,7 @@ module _ {column : ℕ} {c : Conversion} {state : ℕ → List ℕ → CellPart}
     last_spelt good = grind (arith, content_spelt)
 
     -- all of it was read and its text put, and what ends it
-    pub ends_path : {j : Held} (tail : List ℕ) → Good all_content
+    pub ends_path : {j : SinkView} (tail : List ℕ) → Good all_content
         → after_comma column (open_field c all_content) ++ tail ≡ cell_so_far column last (state 0 all_content) → Puts q.held j tail
         → Path (cell column) (cell_so_far column last) (state m d) p (record q { held = j }) (state 0 all_content)
     ends_path tail good whole puts =
@@ -225,13 +226,13 @@ module _ {column : ℕ} {c : Conversion} {state : ℕ → List ℕ → CellPart}
         })
 
     -- a write of what ends it failed
-    pub ends_break : {j : Held} {stop : Stop} (tail : List ℕ) → Good all_content
-        → after_comma column (open_field c all_content) ++ tail ≡ cell_so_far column last (state 0 all_content) → Breaks q.held j tail stop
+    pub ends_break : {j : SinkView} {stop : Stop} (tail : List ℕ) → Good all_content
+        → after_comma column (open_field c all_content) ++ tail ≡ cell_so_far column last (state 0 all_content) → WritesPrefix q.held j tail stop
         → StopsField (state m d) column last p.seen q.seen p.place p.held j true stop
     ends_break _ good whole breaks =
         let taken = rw (sym (append-nil x.takes.piece)) at x.takes.takes in
         path_stops front_path (broken _ _ _ _ _ _ _ _ x.fills.few x.fills.delivered _ [] _ (last_spelt good) taken x.takes.between
-        (text_closed _ _ _ _ x.takes.begun whole) (N.Breaks-after _ _ _ _ _ _ x.takes.puts breaks))
+        (text_closed _ _ _ _ x.takes.begun whole) (N.WritesPrefix-after _ _ _ _ _ _ x.takes.puts breaks))
 
     -- where the content isn't whole, its last byte is refused
     pub ends_refused : ((e : List ℕ) (y : ℕ) → is_fit c (e ++ y ∷ []) ≡ false → N.cell_fault column (state 1 e) (y ∷ []) ≡ Some (BadText column))
@@ -317,13 +318,13 @@ pub field_puts : {column : ℕ} {last : Bool} {s t : CellPart} {p q r : At} → 
 field_puts x y = field_of (path_both x (path_of y.streams y.place_is))
 
 -- the reading stopped before any text
-pub reading_stops : {column place : ℕ} {s : CellPart} {a b : Seen} {h : Held} {failed : Bool} {stop : Stop} (last : Bool) → h.delivered ≤ 2 ^ 64 - 1
+pub reading_stops : {column place : ℕ} {s : CellPart} {a b : PayloadView} {h : SinkView} {failed : Bool} {stop : Stop} (last : Bool) → h.delivered ≤ 2 ^ 64 - 1
     → failed ≡ false → N.StopsReading (cell column) s a b place s stop → StopsField s column last a b place h h failed stop
 reading_stops {s = s} _ delivered going x = record { at = s; cause = inl (x, ([], append-nil _, N.Puts-none _ delivered), going) }
 
-module _ {column place' : ℕ} {s t : CellPart} {p : At} {b : Seen} (last : Bool) (x : Next column s p.seen b p.place place' t) where
+module _ {column place' : ℕ} {s t : CellPart} {p : At} {b : PayloadView} (last : Bool) (x : Next column s p.seen b p.place place' t) where
   -- an element was read, and its text put
-  pub next_path : {i : Held} (added : List ℕ) → cell_so_far column last s ++ added ≡ cell_so_far column last t → Puts p.held i added
+  pub next_path : {i : SinkView} (added : List ℕ) → cell_so_far column last s ++ added ≡ cell_so_far column last t → Puts p.held i added
       → Path (cell column) (cell_so_far column last) s p (record { seen = b; place = place'; held = i }) t
   next_path added text_is puts = record {
     bytes = x.element;
@@ -336,8 +337,8 @@ module _ {column place' : ℕ} {s t : CellPart} {p : At} {b : Seen} (last : Bool
   }
 
   -- a write of it failed
-  pub next_breaks : {j : Held} {failed : Bool} {stop : Stop} (part rest : List ℕ) → length p.held.waiting < 4096 → p.held.delivered ≤ 2 ^ 64 - 1
-      → failed ≡ true → cell_so_far column last s ++ (part ++ rest) ≡ cell_so_far column last t → Breaks p.held j part stop
+  pub next_breaks : {j : SinkView} {failed : Bool} {stop : Stop} (part rest : List ℕ) → length p.held.waiting < 4096 → p.held.delivered ≤ 2 ^ 64 - 1
+      → failed ≡ true → cell_so_far column last s ++ (part ++ rest) ≡ cell_so_far column last t → WritesPrefix p.held j part stop
       → StopsField s column last p.seen b p.place p.held j failed stop
   next_breaks part rest few delivered broken text_is breaks = record {
     at = s;
@@ -355,14 +356,14 @@ module _ {column place' : ℕ} {s t : CellPart} {p : At} {b : Seen} (last : Bool
         puts = ([], append-nil _, N.Puts-none _ delivered);
         more = part ++ rest;
         text_is = cc;
-        breaks = N.Breaks-longer _ _ _ _ _ breaks;
+        breaks = N.WritesPrefix-longer _ _ _ _ _ breaks;
       },
       broken,
     );
   }
 
 -- NULL was put, or a write of it failed
-pub null_puts : {column place place' : ℕ} {s : CellPart} {a b : Seen} {W U : Type 0} {contents : W
+pub null_puts : {column place place' : ℕ} {s : CellPart} {a b : PayloadView} {W U : Type 0} {contents : W
     → Option (List ℕ)} {h k : N.Sink W} {r : N.Result U Stop} (last : Bool) → Next column s a b place place' (N.WholeCell N.Null)
     → cell_so_far column last s ≡ [] → N.IsWriting h → N.PutsPiece contents h k (N.in_line column last N.null_field) r
     → N.MatchResult r (λ _. PutsField s column last a b place place' (held contents h) (held contents k))
@@ -388,19 +389,20 @@ module _ (column : ℕ) (last : Bool) (c : Conversion) where
   short_text (suc n) = grind (arith, short_open)
 
   -- the value has no bytes, and its end was put, or that stopped
-  pub empty_puts : {p : At} {b : Seen} {place' n : ℕ} {j : Held} (i : Held) → Next column (N.ShortLength c) p.seen b p.place place' (short_left c n [])
+  pub empty_puts : {p : At} {b : PayloadView} {place' n : ℕ} {j : SinkView} (i : SinkView)
+      → Next column (N.ShortLength c) p.seen b p.place place' (short_left c n [])
       → n ≡ 0 → Puts p.held i (after_comma column (opening (is_quoted c))) → Puts i j (ending c (is_quoted c) last [])
       → PutsField (N.ShortLength c) column last p.seen b p.place place' p.held j
   empty_puts {p = p} i x none opened ended = field_of (next_path last (rw none at x) _ empty_open (N.Puts-trans p.held i _ _ _ opened ended))
 
-  pub empty_stops : {p : At} {b : Seen} {place' n : ℕ} {j : Held} {failed : Bool} {stop : Stop} {i : Held} {there : ℕ}
+  pub empty_stops : {p : At} {b : PayloadView} {place' n : ℕ} {j : SinkView} {failed : Bool} {stop : Stop} {i : SinkView} {there : ℕ}
       → Next column (N.ShortLength c) p.seen b p.place place' (short_left c n []) → n ≡ 0 → Puts p.held i (after_comma column (opening (is_quoted c)))
       → length p.held.waiting < 4096 → p.held.delivered ≤ 2 ^ 64 - 1
       → N.StopsEnding c (is_quoted c) last [] column there i j failed stop
       → StopsField (N.ShortLength c) column last p.seen b p.place p.held j failed stop
   empty_stops {p = p} {i} x none opened few delivered (inl y) =
       let text = after_comma column _ ++ ending c _ last [] in
-      next_breaks last (rw none at x) text [] few delivered y.2 (append-nil text ∙ empty_open) (N.Breaks-after p.held i _ _ _ _ opened y.1)
+      next_breaks last (rw none at x) text [] few delivered y.2 (append-nil text ∙ empty_open) (N.WritesPrefix-after p.held i _ _ _ _ opened y.1)
   empty_stops x _ _ _ _ (inr y) = grind arith
 
   -- the value has some bytes: its end was put, or that stopped
@@ -408,12 +410,12 @@ module _ (column : ℕ) (last : Bool) (c : Conversion) where
     abbrev all : List ℕ
     all = x.front ++ x.takes.piece
 
-    pub short_whole : {k : Held} → N.IsFit c all → Puts q.held k (ending c (is_quoted c) last all)
+    pub short_whole : {k : SinkView} → N.IsFit c all → Puts q.held k (ending c (is_quoted c) last all)
         → PutsField (short_left c n []) column last p.seen q.seen p.place q.place p.held k
     short_whole fit puts = let good = (N.fit_by_test c all).1 fit in
         field_of (ends_path last (short_holds column c) x _ good (ending_text column c last all good) puts)
 
-    pub short_end_stops : {k : Held} {failed : Bool} {stop : Stop} → N.StopsEnding c (is_quoted c) last all column (q.place - 1) q.held k failed stop
+    pub short_end_stops : {k : SinkView} {failed : Bool} {stop : Stop} → N.StopsEnding c (is_quoted c) last all column (q.place - 1) q.held k failed stop
         → StopsField (short_left c n []) column last p.seen q.seen p.place p.held k failed stop
     short_end_stops (inl z) = let good = (N.fit_by_test c all).1 z.0 in
         rw z.2 (ends_break last (short_holds column c) x _ good (ending_text column c last all good) z.1)
@@ -439,16 +441,16 @@ pub streamed_none : {column : ℕ} {last : Bool} {c : Conversion} {total : Optio
 streamed_none is delivered = grind (arith, path_none)
 
 module _ {column : ℕ} {last : Bool} {c : Conversion} {total : Option ℕ} {kept : List ℕ} {sum : ℕ} {p q : At} (size : ℕ) (unit_is : size ≡ N.unit c)
-    (x : Streamed column last c total kept sum p q) {d : Seen} {there n : ℕ} (y : N.ReadsNumber 4 q.seen d q.place there n)
+    (x : Streamed column last c total kept sum p q) {d : PayloadView} {there n : ℕ} (y : N.ReadsNumber 4 q.seen d q.place there n)
     (free : N.chunk_length_fault column size total sum n ≡ N.None) where
   -- the terminator was read, and the end put
-  pub chunks_whole : {j : Held} → n ≡ 0 → N.IsFit c x.content → Puts q.held j (ending c (is_quoted c) last x.content)
+  pub chunks_whole : {j : SinkView} → n ≡ 0 → N.IsFit c x.content → Puts q.held j (ending c (is_quoted c) last x.content)
       → PutsField (ChunkLength c total []) column last p.seen d p.place there p.held j
   chunks_whole none fit puts =
       let good = (N.fit_by_test c x.content).1 fit in
       field_of (path_both x.path (next_path last (chunk_end c unit_is x.counted y free none good) _ (ending_text column c last x.content good) puts))
 
-  pub chunks_end_stops : {j : Held} {failed : Bool} {stop : Stop} → length q.held.waiting < 4096 → q.held.delivered ≤ 2 ^ 64 - 1 → n ≡ 0
+  pub chunks_end_stops : {j : SinkView} {failed : Bool} {stop : Stop} → length q.held.waiting < 4096 → q.held.delivered ≤ 2 ^ 64 - 1 → n ≡ 0
       → N.StopsEnding c (is_quoted c) last x.content column q.place q.held j failed stop
       → StopsField (ChunkLength c total []) column last p.seen d p.place p.held j failed stop
   chunks_end_stops few delivered none (inl z) =

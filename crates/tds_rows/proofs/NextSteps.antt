@@ -1,20 +1,21 @@
 -- The next cells of a row, those of a run or one, NULL or not, and rows one after another.
 use Rattle.tds_rows.proofs.Words as N
 use Rattle.tds_rows.proofs.Words.{arith, sym, ◌≡◌, ◌+◌, ℕ, Bool, true, false, List, ◌∷◌, drop, refl, Err, Ok, Option, ◌==◌, Stop, seen, Column, held, Rows}
-use Rattle.tds_rows.proofs.Words.{Ahead, IsInRow, StaysInRow, RowStops, RowPart, marked, ◌∙◌, ◌-◌, ◌^◌, ◌≤◌, ◌<◌, [], ◌++◌, length, ap, before, Seen, Takes}
-use Rattle.tds_rows.proofs.Words.{Held, Puts, Charset, Cell, rows, Kind, Knows}
+use Rattle.tds_rows.proofs.Words.{Cursor, IsInRow, StaysInRow, RowStops, RowPart, marked, ◌∙◌, ◌-◌, ◌^◌, ◌≤◌, ◌<◌, [], ◌++◌, length, ap, before, PayloadView}
+use Rattle.tds_rows.proofs.Words.{Takes}
+use Rattle.tds_rows.proofs.Words.{SinkView, Puts, Charset, Cell, rows, Kind, Knows}
 use Rattle.tds_rows.proofs.NullSteps.{NearsCells, all_put, bitmap_nears, cell_nears, cell_stops, null_breaks, null_nears, cell_path, marked_stops, row_ends}
 use Rattle.tds_cells.proofs.RowTexts.{ends, ends_marked, coming, nulls_ahead, none_ahead}
 use Rattle.tds_rows.proofs.RowSteps.{PutsAt, StopsAt, cell_some}
 use Rattle.tds_rows.proofs.Paths.{At, here, Path, path_both, path_map, path_none, path_of, over}
 use Rattle.tds_cells.proofs.GrammarTexts.{writes_none}
-use Rattle.tds_cells.proofs.TableSteps.{last_one, next_column}
+use Rattle.tds_cells.proofs.RowFormatSteps.{last_one, next_column}
 use Rattle.tds_cells.proofs.RunSteps.{rows_after, row_among, row_token}
 use Rattle.tds_rows.proofs.RunPuts.{whole_breaks, whole_puts}
 use Rattle.tds_rows.proofs.RunPuts.{run_breaks}
 
 -- text that doesn't fill the block waits
-pub all_waits : (h j : Held) (text : List ℕ) → Puts h j text → length h.waiting + length text < 4096
+pub all_waits : (h j : SinkView) (text : List ℕ) → Puts h j text → length h.waiting + length text < 4096
     → length j.waiting ≡ length h.waiting + length text
 all_waits h j text puts few = omega (arith, ap length puts.2.1, N.length-append h.waiting text, N.length-append puts.0 j.waiting)
 
@@ -30,7 +31,7 @@ pub record Passes (p q : At) (bytes text : List ℕ) : Type 0 where
   pub place_is : q.place ≡ p.place + length bytes
 
 -- what was handed out, in two parts
-takes_apart : (a c : Seen) (x y : List ℕ) → Takes a c (x ++ y) 0 → (b : Seen) × Takes a b x 0 × Takes b c y 0 × (N.IsBetween c → N.IsBetween b)
+takes_apart : (a c : PayloadView) (x y : List ℕ) → Takes a c (x ++ y) 0 → (b : PayloadView) × Takes a b x 0 × Takes b c y 0 × (N.IsBetween c → N.IsBetween b)
 takes_apart a c x y takes =
     let f : N.Coming → List ℕ → N.Coming = λ c l. record { bytes = l; stop = c.stop; rest = c.rest } in (
       record { left = c.left; future = λ zs. before y _; wire = c.wire; failures = c.failures },
@@ -68,7 +69,7 @@ module _ {charset : Charset} {start : RowPart} {left : List (Column × Bool)} {p
         place_is = omega arith;
       }
 
-  nears_same : {j : Held} → Puts q.held j [] → NearsCells charset start left p q column
+  nears_same : {j : SinkView} → Puts q.held j [] → NearsCells charset start left p q column
       → NearsCells charset start left p (record q { held = j }) column
   nears_same puts x =
       let n = N.nears_put _ _ _ _ _ _ _ _ _ _ _ x.nears puts in
@@ -107,8 +108,9 @@ module _ (charset : Charset) (start : RowPart) (columns : List Column) (nulls : 
       N.subst (λ (k : ℕ). Near k r) (omega arith) z
 
   -- a write of the text of a column failed, after more was read
-  column_breaks : (at : ℕ) (q : At) (d : Seen) (j : Held) (stop : Stop) (bytes rest text : List ℕ) → N.WritesColumn charset columns nulls at bytes text
-      → Takes q.seen d (bytes ++ rest) 0 → N.IsBetween d → length q.held.waiting < 4096 → q.held.delivered ≤ 2 ^ 64 - 1 → N.Breaks q.held j text stop
+  column_breaks : (at : ℕ) (q : At) (d : PayloadView) (j : SinkView) (stop : Stop) (bytes rest text : List ℕ)
+      → N.WritesColumn charset columns nulls at bytes text
+      → Takes q.seen d (bytes ++ rest) 0 → N.IsBetween d → length q.held.waiting < 4096 → q.held.delivered ≤ 2 ^ 64 - 1 → N.WritesPrefix q.held j text stop
       → Near at q → RowStops charset start p.seen d p.place p.held j true stop
   column_breaks at q d j stop bytes rest text w takes between few delivered breaks x = go _ w.writes (rw w.next at x)
     where
@@ -120,14 +122,14 @@ module _ (charset : Charset) (start : RowPart) (columns : List Column) (nulls : 
           rest v takes between few delivered breaks refl))
 
   -- a write of the text of so many columns failed
-  marked_breaks : (from n : ℕ) (q : At) (d : Seen) (j : Held) (stop : Stop) (bytes rest text : List ℕ)
+  marked_breaks : (from n : ℕ) (q : At) (d : PayloadView) (j : SinkView) (stop : Stop) (bytes rest text : List ℕ)
       → N.WritesMarked charset columns nulls from n bytes text → Takes q.seen d (bytes ++ rest) 0 → N.IsBetween d → length q.held.waiting < 4096
-      → q.held.delivered ≤ 2 ^ 64 - 1 → N.Breaks q.held j text stop → Near from q → RowStops charset start p.seen d p.place p.held j true stop
+      → q.held.delivered ≤ 2 ^ 64 - 1 → N.WritesPrefix q.held j text stop → Near from q → RowStops charset start p.seen d p.place p.held j true stop
   marked_breaks _ N.zero q d j _ _ _ _ w _ _ few _ breaks x =
       grind (arith, N.common_steps)
   marked_breaks from (N.suc n) q d j stop _ rest _ (front, back, first, more, joined, text_is, before, last) takes between few delivered breaks x =
       let read = rw (joined, N.append_assoc front back rest) at takes in
-      elim (N.Breaks_split q.held j first more stop (rw text_is at breaks)) [
+      elim (N.WritesPrefix_split q.held j first more stop (rw text_is at breaks)) [
         | N.inl broken ↦ marked_breaks from n q d j stop front _ first before read between few delivered broken x
         | N.inr m ↦
             let t = takes_apart q.seen d front _ read in
@@ -156,19 +158,19 @@ leaves_after x y = grind arith
 -- ---- the next cell
 
 -- The cells of an NBCROW before a place were read and their text put, but for that of the NULLs by their bit from there on.
-abbrev pub NearsHere : {R W : Type 0} → (R → Option (List ℕ)) → (W → Option (List ℕ)) → List Column → (ℕ → Bool) → At → Rows R W → Ahead → Type 0
-NearsHere remaining contents columns nulls p rows at = N.IsAhead rows.table.now columns at
-    × NearsCells rows.table.now.charset (N.nbc_row_start columns) (marked (drop at.column columns) nulls at.column) p (here remaining contents rows)
+abbrev pub NearsHere : {R W : Type 0} → (R → Option (List ℕ)) → (W → Option (List ℕ)) → List Column → (ℕ → Bool) → At → Rows R W → Cursor → Type 0
+NearsHere remaining contents columns nulls p rows at = N.IsCursor rows.row_format.now columns at
+    × NearsCells rows.row_format.now.charset (N.nbc_row_start columns) (marked (drop at.column columns) nulls at.column) p (here remaining contents rows)
     at.column
 
--- So it is whatever columns the table knows.
-abbrev pub NearsAll : {R W : Type 0} → (R → Option (List ℕ)) → (W → Option (List ℕ)) → (ℕ → Bool) → At → Rows R W → Ahead → Type 0
+-- So it is whatever columns the row format knows.
+abbrev pub NearsAll : {R W : Type 0} → (R → Option (List ℕ)) → (W → Option (List ℕ)) → (ℕ → Bool) → At → Rows R W → Cursor → Type 0
 NearsAll remaining contents nulls p rows at =
-    (columns : List Column) → Knows rows.table.now columns → NearsHere remaining contents columns nulls p rows at
+    (columns : List Column) → Knows rows.row_format.now columns → NearsHere remaining contents columns nulls p rows at
 
-module _ {R W : Type 0} {remaining : R → Option (List ℕ)} {contents : W → Option (List ℕ)} {old new : Rows R W} {nulls : ℕ → Bool} {p : At} {from : Ahead}
+module _ {R W : Type 0} {remaining : R → Option (List ℕ)} {contents : W → Option (List ℕ)} {old new : Rows R W} {nulls : ℕ → Bool} {p : At} {from : Cursor}
     (in_row : IsInRow old) (nears : NearsAll remaining contents nulls p old from) where
-  pub run_near : {to : Ahead} → N.MarkedRead remaining contents nulls from old new (Ok to) → NearsAll remaining contents nulls p new to
+  pub run_near : {to : Cursor} → N.MarkedRead remaining contents nulls from old new (Ok to) → NearsAll remaining contents nulls p new to
   run_near x columns known =
       let kept = stays_after in_row x.leaves in
       let knows = rw kept.same.3 at known in
@@ -188,8 +190,8 @@ module _ {R W : Type 0} {remaining : R → Option (List ℕ)} {contents : W → 
 
   -- a write of their text failed
   pub run_stops : {stop : Stop} → N.MarkedRead remaining contents nulls from old new (Err stop) → (columns : List Column)
-      → Knows old.table.now columns
-      → RowStops old.table.now.charset (N.nbc_row_start columns) p.seen (seen remaining new.payload.now) p.place p.held (held contents new.sink.now)
+      → Knows old.row_format.now columns
+      → RowStops old.row_format.now.charset (N.nbc_row_start columns) p.seen (seen remaining new.payload.now) p.place p.held (held contents new.sink.now)
       new.sink.now.failed stop
   run_stops {stop = stop} x columns knows =
       let near = nears columns knows in
@@ -199,9 +201,9 @@ module _ {R W : Type 0} {remaining : R → Option (List ℕ)} {contents : W → 
       (rw N.append-nil y.takes) y.between (sink.ready.1 sink.writing) sink.ready.2 y.breaks near.1)
 
 -- the next cell was read, or it stopped
-pub cell_read : {R W U : Type 0} {remaining : R → Option (List ℕ)} {contents : W → Option (List ℕ)} {old new : Rows R W} {at after : Ahead}
+pub cell_read : {R W U : Type 0} {remaining : R → Option (List ℕ)} {contents : W → Option (List ℕ)} {old new : Rows R W} {at after : Cursor}
     {kind : Kind} {result : N.Result U Stop} {columns : List Column} (nulls : ℕ → Bool) → N.CellRead remaining contents at kind old new result
-    → Knows old.table.now columns → N.IsAhead old.table.now columns at → (taken : N.TakesColumn old.table.now columns at after kind)
+    → Knows old.row_format.now columns → N.IsCursor old.row_format.now columns at → (taken : N.TakesColumn old.row_format.now columns at after kind)
     → N.KindRead remaining contents at.column (ends (marked (drop after.column columns) nulls (at.column + 1))) taken.column.kind old new result
 cell_read {at = at} {kind = kind} {columns = columns} nulls x knows ahead taken =
     let next : N.IsNextKind _ at kind (N.is_last_column _) =
@@ -218,21 +220,21 @@ cell_read {at = at} {kind = kind} {columns = columns} nulls x knows ahead taken 
     rw (taken.kind, ends_marked _ nulls (at.column + 1)) at (x.cell _ next)
 
 module _ {R W : Type 0} (remaining : R → Option (List ℕ)) (contents : W → Option (List ℕ)) (old new : Rows R W) {columns : List Column} (nulls : ℕ
-    → Bool) {at after : Ahead} {kind : Kind} (knows : Knows old.table.now columns)
-    (taken : N.TakesColumn old.table.now columns at after kind) where
+    → Bool) {at after : Cursor} {kind : Kind} (knows : Knows old.row_format.now columns)
+    (taken : N.TakesColumn old.row_format.now columns at after kind) where
   abbrev left : List (Column × Bool)
   left = marked (drop after.column columns) nulls (at.column + 1)
 
-  last_is : (at.column + 1 == old.table.now.count) ≡ ends left
+  last_is : (at.column + 1 == old.row_format.now.count) ≡ ends left
   last_is = grind (arith, last_one)
 
   module _ (p : At) (in_row : IsInRow old) (before : NearsHere remaining contents columns nulls p old at) where
     left_here : (null : Bool) → nulls at.column ≡ null
-        → NearsCells old.table.now.charset (N.nbc_row_start columns) ((taken.column, null) ∷ left) p (here remaining contents old) at.column
+        → NearsCells old.row_format.now.charset (N.nbc_row_start columns) ((taken.column, null) ∷ left) p (here remaining contents old) at.column
     left_here _ is = grind arith
 
     there : {U : Type 0} {u : U} → N.LeavesRows old new (Ok u)
-        → NearsCells old.table.now.charset (N.nbc_row_start columns) left p (here remaining contents new) (at.column + 1)
+        → NearsCells old.row_format.now.charset (N.nbc_row_start columns) left p (here remaining contents new) (at.column + 1)
         → NearsHere remaining contents columns nulls p new after
     there leaves x = grind arith
 
@@ -245,7 +247,7 @@ module _ {R W : Type 0} (remaining : R → Option (List ℕ)) (contents : W → 
 
     pub next_stops : (U : Type 0) {stop : Stop} (null : Bool) → nulls at.column ≡ null
         → N.NextRead {U = U} remaining contents at kind null old new (Err stop)
-        → RowStops old.table.now.charset (N.nbc_row_start columns) p.seen (seen remaining new.payload.now) p.place p.held (held contents new.sink.now)
+        → RowStops old.row_format.now.charset (N.nbc_row_start columns) p.seen (seen remaining new.payload.now) p.place p.held (held contents new.sink.now)
         new.sink.now.failed stop
     next_stops U true is y = rw (y.0, y.1.failed) (null_breaks [] (N.Takes-none _ 0)
         (grind arith) (left_here _ is) (rw last_is at (y.1.gives in_row.sink.writing)))
@@ -273,7 +275,7 @@ module _ {token : N.RowToken} {charset : Charset} {all : List Column} where
         → RowsAt token charset all p r count more
     rows_on x y = record { before = x.before; counted = x.counted; path = path_both x.path (path_map (λ a m. row_among _ _ _ _) y) }
 
-    pub rows_stop : {part : RowPart} {d : Seen} {j : Held} {failed : Bool} {stop : Stop} → RowsAt token charset all p q count part
+    pub rows_stop : {part : RowPart} {d : PayloadView} {j : SinkView} {failed : Bool} {stop : Stop} → RowsAt token charset all p q count part
         → RowStops charset part q.seen d q.place q.held j failed stop → N.RowsStop token charset all p.seen d p.place p.held j failed stop
     rows_stop {part = part} x y = record {
       earlier = x.before;
@@ -294,7 +296,7 @@ module _ {token : N.RowToken} {charset : Charset} {all : List Column} where
       place_is = cc;
     }
 
-  pub rows_row : {p : At} {count : ℕ} {part : RowPart} {b d : Seen} {middle place' : ℕ} {i j : Held}
+  pub rows_row : {p : At} {count : ℕ} {part : RowPart} {b d : PayloadView} {middle place' : ℕ} {i j : SinkView}
       → RowsAt token charset all p (record { seen = b; place = middle; held = i }) count part → N.ReadsRow charset part b d middle place' i j
       → N.ReadsRows token charset all (count + 1) p.seen d p.place place' p.held j
   rows_row x y = rows_whole (rows_on x (path_of y.streams y.place_is))
@@ -347,17 +349,17 @@ module _ {charset : Charset} {all : List Column} {p q : At} {column count : ℕ}
         let one = cell_path _ c x.counted none y in
         record { cells = x.cells ++ one.0 ∷ []; counted = omega (arith, N.length-append x.cells (one.0 ∷ [])); rows = rows_on x.rows one.1 }
 
-    pub rowing_stop : {d : Seen} {j : Held} {failed : Bool} {stop : Stop} → Rowing charset all ((c, false) ∷ ks) p q column count
+    pub rowing_stop : {d : PayloadView} {j : SinkView} {failed : Bool} {stop : Stop} → Rowing charset all ((c, false) ∷ ks) p q column count
         → StopsAt charset c.kind column (ends ks) q d j failed stop → N.RowsStop N.PlainRow charset all p.seen d p.place p.held j failed stop
     rowing_stop x y = rows_stop x.rows (marked_stops _ _ _ c (rw (N.sym x.counted) at y))
 
--- The reading of ROWs stands at this place of the last one, whatever columns the table knows.
-abbrev pub RowsHere : {R W : Type 0} → (R → Option (List ℕ)) → (W → Option (List ℕ)) → At → Rows R W → Ahead → ℕ → Type 0
-RowsHere remaining contents p rows at count = (columns : List Column) → Knows rows.table.now columns
-    → N.IsAhead rows.table.now columns at × Rowing rows.table.now.charset columns (coming (drop at.column columns) at.column) p
+-- The reading of ROWs stands at this place of the last one, whatever columns the row format knows.
+abbrev pub RowsHere : {R W : Type 0} → (R → Option (List ℕ)) → (W → Option (List ℕ)) → At → Rows R W → Cursor → ℕ → Type 0
+RowsHere remaining contents p rows at count = (columns : List Column) → Knows rows.row_format.now columns
+    → N.IsCursor rows.row_format.now columns at × Rowing rows.row_format.now.charset columns (coming (drop at.column columns) at.column) p
     (here remaining contents rows) at.column count
 
-module _ {R W : Type 0} {remaining : R → Option (List ℕ)} {contents : W → Option (List ℕ)} {p : At} {old new : Rows R W} {from : Ahead} {count : ℕ}
+module _ {R W : Type 0} {remaining : R → Option (List ℕ)} {contents : W → Option (List ℕ)} {p : At} {old new : Rows R W} {from : Cursor} {count : ℕ}
     (reads : RowsHere remaining contents p old from count) where
   pub rows_ran : {run : N.RowsRun} → N.RunRead remaining contents from old new (Ok run) → RowsHere remaining contents p new run.ahead (count + run.rows)
   rows_ran x columns known =
@@ -367,8 +369,8 @@ module _ {R W : Type 0} {remaining : R → Option (List ℕ)} {contents : W → 
       rw same (ran.0, rowing_run y.1 (grind arith))
 
   pub rows_broke : {stop : Stop} → IsInRow old → N.RunRead remaining contents from old new (Err stop) → (columns : List Column)
-      → Knows old.table.now columns
-      → N.RowsStop N.PlainRow old.table.now.charset columns p.seen (seen remaining new.payload.now) p.place p.held (held contents new.sink.now)
+      → Knows old.row_format.now columns
+      → N.RowsStop N.PlainRow old.row_format.now.charset columns p.seen (seen remaining new.payload.now) p.place p.held (held contents new.sink.now)
       new.sink.now.failed stop
   rows_broke in_row x columns knows =
       let sink = in_row.sink in
@@ -376,8 +378,8 @@ module _ {R W : Type 0} {remaining : R → Option (List ℕ)} {contents : W → 
       rows_stop y.1.rows (rw y.1.counted at (run_breaks {place = old.payload.now.place} y.1.cells (x.cells columns knows y.0) y.1.counted
       (sink.ready.1 sink.writing) sink.ready.2))
 
-  module _ {after : Ahead} {kind : Kind} (taken : (columns : List Column) → Knows old.table.now columns → N.IsAhead old.table.now columns from
-      → N.TakesColumn old.table.now columns from after kind) {U : Type 0} where
+  module _ {after : Cursor} {kind : Kind} (taken : (columns : List Column) → Knows old.row_format.now columns → N.IsCursor old.row_format.now columns from
+      → N.TakesColumn old.row_format.now columns from after kind) {U : Type 0} where
     pub rows_cell : {u : U} → N.CellRead remaining contents from kind old new (Ok u) → RowsHere remaining contents p new after count
     rows_cell x columns known =
         let same = x.leaves.same.3 in
@@ -391,15 +393,15 @@ module _ {R W : Type 0} {remaining : R → Option (List ℕ)} {contents : W → 
         )
 
     -- which has some bytes
-    pub cell_further : {u : U} → N.CellRead remaining contents from kind old new (Ok u) → (columns : List Column) → Knows old.table.now columns
+    pub cell_further : {u : U} → N.CellRead remaining contents from kind old new (Ok u) → (columns : List Column) → Knows old.row_format.now columns
         → old.payload.now.place < new.payload.now.place
     cell_further x columns knows =
         let y = reads columns knows in
         cell_some _ _ (cell_read (λ k. false) x knows y.0 (taken columns knows y.0))
 
     pub rows_stopped : {stop : Stop} → N.CellRead {U = U} remaining contents from kind old new (Err stop) → (columns : List Column)
-        → Knows old.table.now columns
-        → N.RowsStop N.PlainRow old.table.now.charset columns p.seen (seen remaining new.payload.now) p.place p.held (held contents new.sink.now)
+        → Knows old.row_format.now columns
+        → N.RowsStop N.PlainRow old.row_format.now.charset columns p.seen (seen remaining new.payload.now) p.place p.held (held contents new.sink.now)
         new.sink.now.failed stop
     rows_stopped x columns knows =
         let y = reads columns knows in
@@ -420,7 +422,7 @@ module _ {charset : Charset} {columns : List Column} {p q : At} where
       let gone : drop (0 + length columns) columns ≡ [] = N.drop_all _ columns (omega arith) in
       row_ends (all_put refl delivered (rw gone at near))
 
-takes_one : (a b : Seen) (bytes : List ℕ) → Takes a b bytes 0 → Takes a b bytes 1
+takes_one : (a b : PayloadView) (bytes : List ℕ) → Takes a b bytes 0 → Takes a b bytes 1
 takes_one _ _ _ x = grind arith
 
 module _ {charset : Charset} {columns : List Column} where
@@ -442,14 +444,14 @@ module _ {charset : Charset} {columns : List Column} where
       let counted : count + N.suc n ≡ count + n + 1 = omega arith in
       rw counted (rows_token some read (takes_one u.0.seen q.seen token u.2.takes) u.2.puts u.2.place_is)
 
--- NBCROWs were read and their lines put, this many, and the token byte of one more, whatever columns the table knows.
+-- NBCROWs were read and their lines put, this many, and the token byte of one more, whatever columns the row format knows.
 abbrev pub NbcRowsHere : {R W : Type 0} → (R → Option (List ℕ)) → (W → Option (List ℕ)) → At → Rows R W → ℕ → Type 0
-NbcRowsHere remaining contents p rows count = (columns : List Column) → Knows rows.table.now columns
-    → RowsAt N.NbcRow rows.table.now.charset columns p (here remaining contents rows) count (N.nbc_row_start columns)
+NbcRowsHere remaining contents p rows count = (columns : List Column) → Knows rows.row_format.now columns
+    → RowsAt N.NbcRow rows.row_format.now.charset columns p (here remaining contents rows) count (N.nbc_row_start columns)
 
 pub rows_taken : {R W : Type 0} {remaining : R → Option (List ℕ)} {contents : W → Option (List ℕ)} {p : At} {old new : Rows R W} {count n : ℕ}
-    → IsInRow old → StaysInRow old new → 0 < old.table.now.count
-    → ((columns : List Column) → Knows old.table.now columns → N.RowsTaken remaining contents columns old new n)
+    → IsInRow old → StaysInRow old new → 0 < old.row_format.now.count
+    → ((columns : List Column) → Knows old.row_format.now columns → N.RowsTaken remaining contents columns old new n)
     → NbcRowsHere remaining contents p old count → NbcRowsHere remaining contents p new (count + n)
 rows_taken {remaining = remaining} {contents = contents} {old = old} {new = new} {n = n} in_row stays some taken reads columns known =
     let knows = rw stays.same.3 at known in

@@ -1,7 +1,8 @@
 -- Rows with NULLs by their bit, column after column, as they are read and their text is put.
 use Rattle.tds_rows.proofs.Words as N
-use Rattle.tds_rows.proofs.Words.{◌≡◌, ◌∙◌, inl, inr, ℕ, ◌+◌, ◌-◌, ◌^◌, ◌<◌, ◌≤◌, Bool, true, false, List, [], ◌∷◌, ◌++◌, length, refl, sym, arith, Stop, Seen}
-use Rattle.tds_rows.proofs.Words.{Column, Held, Charset, Cell, CellPart, RowPart, next_cell, row, row_so_far}
+use Rattle.tds_rows.proofs.Words.{◌≡◌, ◌∙◌, inl, inr, ℕ, ◌+◌, ◌-◌, ◌^◌, ◌<◌, ◌≤◌, Bool, true, false, List, [], ◌∷◌, ◌++◌, length, refl, sym, arith, Stop}
+use Rattle.tds_rows.proofs.Words.{PayloadView}
+use Rattle.tds_rows.proofs.Words.{Column, SinkView, Charset, Cell, CellPart, RowPart, next_cell, row, row_so_far}
 use Rattle.tds_cells.proofs.RowTexts.{begun_text, coming, ends, line_grows, nulls_ahead, nulls_text, part_text, rest_of}
 use Rattle.tds_rows.proofs.RowSteps.{PutsAt, StopsAt, cell_some, StopsCell}
 use Rattle.tds_cells.proofs.RowLaws.{begins_open, cell_in_row}
@@ -27,8 +28,9 @@ module _ (charset : Charset) (cells : List Cell) (ks : List (Column × Bool)) wh
   front = N.joined (N.map N.field cells)
 
   -- a write of the cell's text failed, and so one of the row's
-  breaks_there : {from at : CellPart} {b d : Seen} {i j : Held} {stop : Stop} → 0 < N.cell_size from → N.BreaksStreaming small text from b d i j at stop
-      → N.BreaksStreaming big row_so_far (up from) b d i j (up at) stop
+  breaks_there : {from at : CellPart} {b d : PayloadView} {i j : SinkView} {stop : Stop} → 0 < N.cell_size from
+      → N.WritesPrefixStreaming small text from b d i j at stop
+      → N.WritesPrefixStreaming big row_so_far (up from) b d i j (up at) stop
   breaks_there {at = at} {j = j} {stop = stop} some x =
       let is = cell_in_row charset cells ks in
       let begun = begun_text charset cells ks in
@@ -50,11 +52,11 @@ module _ (charset : Charset) (cells : List Cell) (ks : List (Column × Bool)) wh
         more = x.more ++ rest;
         text_is = N.tail_after _ _ up is text row_so_far front begun grows at to _ rest size x.text_is (part_text charset cells ks to)
             ∙ N.ap row_so_far (sym (is.add at x.element size));
-        breaks = N.Breaks-longer x.middle j x.more rest stop x.breaks;
+        breaks = N.WritesPrefix-longer x.middle j x.more rest stop x.breaks;
       }
 
   -- the cell stopped, and so the row
-  stops_there : {from : CellPart} {b d : Seen} {place : ℕ} {i j : Held} {failed : Bool} {stop : Stop} → 0 < N.cell_size from
+  stops_there : {from : CellPart} {b d : PayloadView} {place : ℕ} {i j : SinkView} {failed : Bool} {stop : Stop} → 0 < N.cell_size from
       → N.StopsStreaming small text from b d place i j failed stop → N.StopsStreaming big row_so_far (up from) b d place i j failed stop
   stops_there some x =
       let is = cell_in_row charset cells ks in
@@ -75,7 +77,7 @@ module _ (charset : Charset) (cells : List Cell) (ks : List (Column × Bool)) wh
         ];
       }
 
-  pub marked_stops : {b d : Seen} {place : ℕ} {i j : Held} {failed : Bool} {stop : Stop} (c : Column)
+  pub marked_stops : {b d : PayloadView} {place : ℕ} {i j : SinkView} {failed : Bool} {stop : Stop} (c : Column)
       → StopsCell charset c.kind (length cells) (ends ks) b d place i j failed stop
       → N.RowStops charset (N.InCell cells (N.cell_start c.kind (N.shape charset c.kind)) ks) b d place i j failed stop
   marked_stops c x = rw (← begins_open charset cells ks c.kind _) (stops_there (grind arith) x)
@@ -92,7 +94,7 @@ pub record Reads (charset : Charset) (start : RowPart) (left : List (Column × B
 pub record NearsCells (charset : Charset) (start : RowPart) (left : List (Column × Bool)) (p q : At) (column : ℕ) : Type 0 where
   pub cells : List Cell
   pub counted : length cells ≡ column
-  pub nears : N.Nears (row charset) row_so_far start p.seen q.seen p.held q.held (next_cell charset cells left) (nulls_ahead column left)
+  pub nears : N.LacksTail (row charset) row_so_far start p.seen q.seen p.held q.held (next_cell charset cells left) (nulls_ahead column left)
   pub place_is : q.place ≡ p.place + length (nears.bytes ++ nears.element)
 
 -- some columns are left, so the line doesn't end there
@@ -102,7 +104,7 @@ all_ahead _ [] nulls some = grind arith
 all_ahead _ (c ∷ cs) _ _ = grind (arith, nulls_text)
 
 -- the bitmap was read
-pub bitmap_nears : {charset : Charset} {p : At} {b : Seen} {place' : ℕ} (columns : List Column) (bitmap : List ℕ) → 0 < length columns
+pub bitmap_nears : {charset : Charset} {p : At} {b : PayloadView} {place' : ℕ} (columns : List Column) (bitmap : List ℕ) → 0 < length columns
     → length bitmap ≡ N.bitmap_length (length columns) → N.Takes p.seen b bitmap (length bitmap) → N.IsBetween b → length p.held.waiting < 4096
     → p.held.delivered ≤ 2 ^ 64 - 1
     → place' ≡ p.place + length bitmap → NearsCells charset (N.nbc_row_start columns) (N.marked columns (N.bit bitmap) 0) p
@@ -117,7 +119,7 @@ bitmap_nears {p = p} _ bitmap some whole takes between few d at =
     }
 
 -- the payload stopped in the bitmap
-pub bitmap_cut : {columns : List Column} {a b : Seen} {place : ℕ} {h : Held} {stop : Stop} (charset : Charset) (part : List ℕ) (own : Stop)
+pub bitmap_cut : {columns : List Column} {a b : PayloadView} {place : ℕ} {h : SinkView} {stop : Stop} (charset : Charset) (part : List ℕ) (own : Stop)
     → length part < N.bitmap_length (length columns) → N.Ends a b part own → stop ≡ N.began_at place own → h.delivered ≤ 2 ^ 64 - 1
     → N.RowStops charset (N.nbc_row_start columns) a b place h h false stop
 bitmap_cut _ _ _ fewer ended is d =
@@ -136,7 +138,7 @@ further a b e l m n k joined first second = grind (arith, N.length-append)
 
 module _ {charset : Charset} {start : RowPart} {c : Column} {ks : List (Column × Bool)} {p q : At} {column : ℕ} where
   -- a NULL by its bit was put
-  pub null_nears : {j : Held} → NearsCells charset start ((c, true) ∷ ks) p q column → N.Puts q.held j (N.in_line column (ends ks) N.null_field)
+  pub null_nears : {j : SinkView} → NearsCells charset start ((c, true) ∷ ks) p q column → N.Puts q.held j (N.in_line column (ends ks) N.null_field)
       → NearsCells charset start ks p (record q { held = j }) (column + 1)
   null_nears x puts = record {
     cells = x.cells ++ N.Null ∷ [];
@@ -146,8 +148,8 @@ module _ {charset : Charset} {start : RowPart} {c : Column} {ks : List (Column �
   }
 
   -- a write of it failed, after more was read
-  pub null_breaks : {d : Seen} {j : Held} {stop : Stop} (rest : List ℕ) → N.Takes q.seen d rest 0 → N.IsBetween d
-      → NearsCells charset start ((c, true) ∷ ks) p q column → N.Breaks q.held j (N.in_line column (ends ks) N.null_field) stop
+  pub null_breaks : {d : PayloadView} {j : SinkView} {stop : Stop} (rest : List ℕ) → N.Takes q.seen d rest 0 → N.IsBetween d
+      → NearsCells charset start ((c, true) ∷ ks) p q column → N.WritesPrefix q.held j (N.in_line column (ends ks) N.null_field) stop
       → N.RowStops charset start p.seen d p.place p.held j true stop
   null_breaks {d = d} rest takes between x breaks =
       let n = x.nears in
@@ -184,7 +186,7 @@ module _ {charset : Charset} {start : RowPart} {c : Column} {ks : List (Column �
       let one = cell_path _ c x.counted none y in
       record { cells = x.cells ++ one.0 ∷ []; counted = omega (arith, N.length-append x.cells (one.0 ∷ [])); path = path_both x.path one.1 }
 
-  pub cell_stops : {d : Seen} {j : Held} {failed : Bool} {stop : Stop} → Reads charset start ((c, false) ∷ ks) p q column
+  pub cell_stops : {d : PayloadView} {j : SinkView} {failed : Bool} {stop : Stop} → Reads charset start ((c, false) ∷ ks) p q column
       → StopsAt charset c.kind column (ends ks) q d j failed stop → N.RowStops charset start p.seen d p.place p.held j failed stop
   cell_stops x y = path_stops x.path (marked_stops _ _ _ c (rw (sym x.counted) at y))
 

@@ -1,6 +1,7 @@
 -- The numbers of a long value, its length or total and those of its chunks, as elements of its cell: how each is judged, and where it leads.
 use Rattle.tds_rows.proofs.Words as N
-use Rattle.tds_rows.proofs.Words.{◌-◌, if◌then◌else◌, ◌≡◌, ◌≢◌, ◌∙◌, ◌⊎◌, ℕ, ◌+◌, ◌<◌, List, [], refl, ap, arith, Option, Some, None, ◌==◌, Fault, Stop, Seen}
+use Rattle.tds_rows.proofs.Words.{◌-◌, if◌then◌else◌, ◌≡◌, ◌≢◌, ◌∙◌, ◌⊎◌, ℕ, ◌+◌, ◌<◌, List, [], refl, ap, arith, Option, Some, None, ◌==◌, Fault, Stop}
+use Rattle.tds_rows.proofs.Words.{PayloadView}
 use Rattle.tds_rows.proofs.Words.{unit, CellPart, ChunkLength, Total, cell}
 use Rattle.tds_packet.specs.declared.payload.Payload.{Payload as Input}
 
@@ -13,7 +14,7 @@ abbrev pub chunk_left : N.Conversion → Option ℕ → ℕ → List ℕ → Cel
 chunk_left c total left content = if left == 0 then ChunkLength c total content else N.ChunkData c total (left - 1) content
 
 -- An element of a cell was read, which leads from one state to another.
-pub record Next (column : ℕ) (s : CellPart) (a b : Seen) (place place' : ℕ) (t : CellPart) : Type 0 where
+pub record Next (column : ℕ) (s : CellPart) (a b : PayloadView) (place place' : ℕ) (t : CellPart) : Type 0 where
   pub element : List ℕ
   pub next : N.IsNext (cell column) s element
   pub to : N.cell_add s element ≡ t
@@ -22,7 +23,7 @@ pub record Next (column : ℕ) (s : CellPart) (a b : Seen) (place place' : ℕ) 
   pub place_is : place' ≡ place + N.length element
 
 -- it was refused, or is cut
-number_stops : {column size place : ℕ} {s : CellPart} {fault : ℕ → Option Fault} {a b : Seen} {stop : Stop} → 0 < size → N.cell_size s ≡ size
+number_stops : {column size place : ℕ} {s : CellPart} {fault : ℕ → Option Fault} {a b : PayloadView} {stop : Stop} → 0 < size → N.cell_size s ≡ size
     → N.cell_end s ≡ Some N.MessageEnded → ((e : List ℕ) (n : ℕ) (f : Fault) → N.little e ≡ n → fault n ≡ Some f → N.cell_fault column s e ≡ Some f)
     → N.RefusesNumber size fault a b place stop ⊎ N.CutsNumber size a b place stop → N.StopsReading (cell column) s a b place s stop
 number_stops {column = column} {place = place} {s = s} {a = a} {b = b} {stop = stop} some is _ first (N.inl x) =
@@ -34,12 +35,12 @@ number_stops _ is end _ (N.inr x) = grind arith
 -- ---- the length of a short value
 
 module _ {column : ℕ} (c : N.Conversion) {size : ℕ} (unit_is : size ≡ unit c) where
-  pub short_stops : {a b : Seen} {place : ℕ} {stop : Stop} → N.RefusesNumber 2 (N.short_fault column size) a b place stop ⊎ N.CutsNumber 2 a b place stop
+  pub short_stops : {a b : PayloadView} {place : ℕ} {stop : Stop} → N.RefusesNumber 2 (N.short_fault column size) a b place stop ⊎ N.CutsNumber 2 a b place stop
       → N.StopsReading (cell column) (N.ShortLength c) a b place (N.ShortLength c) stop
   short_stops x = number_stops (omega arith) refl refl (λ e n f is first. grind arith) x
 
   -- as a call read it
-  module _ {a b : Seen} {place place' : ℕ} {answer : Option ℕ} (x : (n : ℕ) × N.ReadsNumber 2 a b place place' n × (N.short_fault column size n ≡ None)
+  module _ {a b : PayloadView} {place place' : ℕ} {answer : Option ℕ} (x : (n : ℕ) × N.ReadsNumber 2 a b place place' n × (N.short_fault column size n ≡ None)
       × (answer ≡ N.short_length n)) where
     pub short_none : answer ≡ None → Next column (N.ShortLength c) a b place place' (N.WholeCell N.Null)
     short_none is = grind arith
@@ -47,11 +48,11 @@ module _ {column : ℕ} (c : N.Conversion) {size : ℕ} (unit_is : size ≡ unit
     pub short_start : {k : ℕ} → answer ≡ Some k → Next column (N.ShortLength c) a b place place' (short_left c k [])
     short_start is = grind arith
 
-  pub total_stops : {a b : Seen} {place : ℕ} {stop : Stop} → N.RefusesNumber 8 (N.total_fault column size) a b place stop ⊎ N.CutsNumber 8 a b place stop
+  pub total_stops : {a b : PayloadView} {place : ℕ} {stop : Stop} → N.RefusesNumber 8 (N.total_fault column size) a b place stop ⊎ N.CutsNumber 8 a b place stop
       → N.StopsReading (cell column) (Total c) a b place (Total c) stop
   total_stops x = number_stops (omega arith) refl refl (λ e n f is first. grind arith) x
 
-  module _ {a b : Seen} {place place' : ℕ} {answer : Option (Option ℕ)} (x : (n : ℕ) × N.ReadsNumber 8 a b place place' n
+  module _ {a b : PayloadView} {place place' : ℕ} {answer : Option (Option ℕ)} (x : (n : ℕ) × N.ReadsNumber 8 a b place place' n
       × (N.total_fault column size n ≡ None) × (answer ≡ N.total_of n)) where
     pub total_none : answer ≡ None → Next column (Total c) a b place place' (N.WholeCell N.Null)
     total_none is = grind arith
@@ -62,7 +63,7 @@ module _ {column : ℕ} (c : N.Conversion) {size : ℕ} (unit_is : size ≡ unit
 -- ---- the length of a chunk
 
 module _ {column : ℕ} (c : N.Conversion) {size : ℕ} (unit_is : size ≡ unit c) {total : Option ℕ} where
-  module _ {content : List ℕ} {sum : ℕ} (counted : N.length content ≡ sum) {a b : Seen} {place : ℕ} where
+  module _ {content : List ℕ} {sum : ℕ} (counted : N.length content ≡ sum) {a b : PayloadView} {place : ℕ} where
     pub chunk_stops : {stop : Stop} → N.RefusesNumber 4 (λ n. N.chunk_length_fault column size total sum n) a b place stop ⊎ N.CutsNumber 4 a b place stop
         → N.StopsReading (cell column) (ChunkLength c total content) a b place (ChunkLength c total content) stop
     chunk_stops x = number_stops (omega arith) refl refl (λ e n f is first. grind arith) x
@@ -107,7 +108,7 @@ pub total_blames : (column size n : ℕ) → NoDevice (N.total_fault column size
 total_blames _ _ n = grind arith
 
 -- a length that was refused or cut
-pub length_blames : {R : Type 0} {size : ℕ} {b : Seen} {stop : Stop} (remaining : R → Option (List ℕ)) {fault : ℕ → Option Fault} (old : Input R)
+pub length_blames : {R : Type 0} {size : ℕ} {b : PayloadView} {stop : Stop} (remaining : R → Option (List ℕ)) {fault : ℕ → Option Fault} (old : Input R)
     → old.stopped ≡ None → ((n : ℕ) → NoDevice (fault n))
     → N.RefusesNumber size fault (N.seen remaining old) b old.place stop ⊎ N.CutsNumber size (N.seen remaining old) b old.place stop
     → ReadBlames old.from.now.failures b.failures stop

@@ -1,6 +1,7 @@
 -- The value of a RETURNVALUE, as it is passed over.
 use Rattle.tds_rows.proofs.Words as N
-use Rattle.tds_rows.proofs.Words.{◌≢◌, ◌≡◌, ◌∙◌, ℕ, ◌+◌, ◌-◌, ◌%◌, ◌<◌, ◌≤◌, true, List, [], ◌++◌, length, refl, arith, Option, Stop, Seen, Conversion, Cell}
+use Rattle.tds_rows.proofs.Words.{◌≢◌, ◌≡◌, ◌∙◌, ℕ, ◌+◌, ◌-◌, ◌%◌, ◌<◌, ◌≤◌, true, List, [], ◌++◌, length, refl, arith, Option, Stop, PayloadView, Conversion}
+use Rattle.tds_rows.proofs.Words.{Cell}
 use Rattle.tds_rows.proofs.Words.{CellPart, ChunkLength, shape, return_column, AnyData, PassesData, StepsOver}
 use Rattle.tds_cells.proofs.ValueCells.{null_cell, value_cell}
 use Rattle.tds_cells.proofs.RunSteps.{whole_of}
@@ -10,10 +11,10 @@ use Rattle.tds_rows.proofs.Numbers.{Next, chunk_start, chunk_left, short_left}
 
 -- ---- elements
 
-step_none : {s : CellPart} {a : Seen} {place : ℕ} → N.IsBetween a → StepsOver s s a a place place
+step_none : {s : CellPart} {a : PayloadView} {place : ℕ} → N.IsBetween a → StepsOver s s a a place place
 step_none between = record { reads = grind arith; between = between; place_is = omega arith }
 
-steps_both : {s t u : CellPart} {a b d : Seen} {place middle place' : ℕ} → StepsOver s t a b place middle → StepsOver t u b d middle place'
+steps_both : {s t u : CellPart} {a b d : PayloadView} {place middle place' : ℕ} → StepsOver s t a b place middle → StepsOver t u b d middle place'
     → StepsOver s u a d place place'
 steps_both x y = record {
   reads = N.reads_both _ _ _ _ _ _ _ x.reads y.reads;
@@ -24,7 +25,7 @@ steps_both x y = record {
   );
 }
 
-pub stops_after_steps : {s t : CellPart} {a b d : Seen} {place middle : ℕ} {stop : Stop} → StepsOver s t a b place middle
+pub stops_after_steps : {s t : CellPart} {a b d : PayloadView} {place middle : ℕ} {stop : Stop} → StepsOver s t a b place middle
     → N.StopsPassing t b d middle stop → N.StopsPassing s a d place stop
 stops_after_steps x y = grind (arith, N.stops_after)
 
@@ -36,7 +37,7 @@ any_begins any bytes = (N.begun_by_test _ bytes).0 (any.begun bytes)
 module _ {c : Conversion} {state : ℕ → List ℕ → CellPart} {Good : List ℕ → Type 0} (holds : HoldsContent return_column c state Good)
     (begins : (bytes : List ℕ) → N.BeginsData c bytes) where
   -- all the data was handed out
-  data_steps : {m : ℕ} {a b : Seen} {place place' : ℕ} (d : List ℕ) (x : PassesData m a b place place') → Good (d ++ x.bytes)
+  data_steps : {m : ℕ} {a b : PayloadView} {place place' : ℕ} (d : List ℕ) (x : PassesData m a b place place') → Good (d ++ x.bytes)
       → StepsOver (state m d) (state 0 (d ++ x.bytes)) a b place place'
   data_steps d x good = record {
     reads = record {
@@ -49,7 +50,7 @@ module _ {c : Conversion} {state : ℕ → List ℕ → CellPart} {Good : List �
   }
 
   -- the payload stopped in it
-  data_stops : {m : ℕ} {a b : Seen} {place : ℕ} {stop : Stop} (d : List ℕ) → N.CutsPassing m a b place stop → N.StopsPassing (state m d) a b place stop
+  data_stops : {m : ℕ} {a b : PayloadView} {place : ℕ} {stop : Stop} (d : List ℕ) → N.CutsPassing m a b place stop → N.StopsPassing (state m d) a b place stop
   data_stops {m = m} d x =
       let at = state _ _ in
       record {
@@ -68,7 +69,7 @@ module _ {c : Conversion} {state : ℕ → List ℕ → CellPart} {Good : List �
       }
 
 -- a scalar's cell stops as any
-pub scalar_stops : {from : CellPart} {a b : Seen} {place : ℕ} {stop : Stop} → N.StallsCell from return_column a b place stop
+pub scalar_stops : {from : CellPart} {a b : PayloadView} {place : ℕ} {stop : Stop} → N.StallsCell from return_column a b place stop
     → N.StopsPassing from a b place stop
 scalar_stops x = grind arith
 
@@ -92,11 +93,11 @@ scalar_whole charset kind bytes scalar whole good = go _ refl
         let x = value_cell charset kind _ true bytes _ scalar _ _ refl refl (λ z. omega arith) (omega arith) (v.0, v.1, refl) in
         rw (N.take_all (N.value_start kind + N.value_length kind bytes) bytes (omega arith)) at (written_spelt x)
 
-pub passes_none : {n : ℕ} {a : Seen} {place : ℕ} → n ≡ 0 → N.IsBetween a → PassesData n a a place place
+pub passes_none : {n : ℕ} {a : PayloadView} {place : ℕ} → n ≡ 0 → N.IsBetween a → PassesData n a a place place
 passes_none none between =
     grind arith
 
-pub passes_more : {m n k : ℕ} {a b d : Seen} {place middle place' : ℕ} → k ≡ m + n → PassesData m a b place middle → PassesData n b d middle place'
+pub passes_more : {m n k : ℕ} {a b d : PayloadView} {place middle place' : ℕ} → k ≡ m + n → PassesData m a b place middle → PassesData n b d middle place'
     → PassesData k a d place place'
 passes_more {m = m} {n = n} {a = a} {b = b} {d = d} sum x y = record {
   bytes = x.bytes ++ y.bytes;
@@ -107,7 +108,7 @@ passes_more {m = m} {n = n} {a = a} {b = b} {d = d} sum x y = record {
 }
 
 -- the payload stopped after what was passed over
-pub cuts_more : {m n k : ℕ} {a b d : Seen} {place middle : ℕ} {stop : Stop} → m + n ≤ k → PassesData m a b place middle
+pub cuts_more : {m n k : ℕ} {a b d : PayloadView} {place middle : ℕ} {stop : Stop} → m + n ≤ k → PassesData m a b place middle
     → N.CutsPassing n b d middle stop → N.CutsPassing k a d place stop
 cuts_more {m = m} {a = a} {b = b} {d = d} sum x y = record {
   bytes = x.bytes ++ y.bytes;
@@ -118,7 +119,7 @@ cuts_more {m = m} {a = a} {b = b} {d = d} sum x y = record {
 }
 
 -- a scalar cell whose value isn't refused was read
-pub scalar_passes : {kind : N.Kind} {a b : Seen} {place place' : ℕ} {bytes : List ℕ} (charset : N.Charset) → N.is_scalar kind ≡ true
+pub scalar_passes : {kind : N.Kind} {a b : PayloadView} {place place' : ℕ} {bytes : List ℕ} (charset : N.Charset) → N.is_scalar kind ≡ true
     → N.GathersCell kind (N.cell_start kind (shape charset kind)) return_column a b place place' bytes → N.IsGoodValue kind bytes
     → N.PassesCell (N.cell_start kind (shape charset kind)) a b place place'
 scalar_passes {bytes = bytes} _ scalar x good =
@@ -133,12 +134,12 @@ scalar_passes {bytes = bytes} _ scalar x good =
     }
 
 -- a value after what was read of it
-pub cell_after : {s t : CellPart} {a b d : Seen} {place middle place' : ℕ} → StepsOver s t a b place middle → N.PassesCell t b d middle place'
+pub cell_after : {s t : CellPart} {a b d : PayloadView} {place middle place' : ℕ} → StepsOver s t a b place middle → N.PassesCell t b d middle place'
     → N.PassesCell s a d place place'
 cell_after x y = record { value = y.value; steps = steps_both x y.steps }
 
 -- the data of a short value after its length
-module _ {c : Conversion} {size n : ℕ} {a b d : Seen} {place middle : ℕ} (any : AnyData c size)
+module _ {c : Conversion} {size n : ℕ} {a b d : PayloadView} {place middle : ℕ} (any : AnyData c size)
     (x : StepsOver (N.ShortLength c) (short_left c n []) a b place middle) where
   pub short_passes : {place' : ℕ} → n % size ≡ 0 → PassesData n b d middle place' → N.PassesCell (N.ShortLength c) a d place place'
   short_passes even y = cell_after x (record {
@@ -151,20 +152,20 @@ module _ {c : Conversion} {size n : ℕ} {a b d : Seen} {place middle : ℕ} (an
   short_cuts y = stops_after_steps x (data_stops (short_holds return_column c) (any_begins any) [] y)
 
 -- So many bytes of data were passed over, in whole chunks.
-pub record WalksChunks (c : Conversion) (total : Option ℕ) (sum : ℕ) (old new : Seen) (place place' : ℕ) : Type 0 where
+pub record WalksChunks (c : Conversion) (total : Option ℕ) (sum : ℕ) (old new : PayloadView) (place place' : ℕ) : Type 0 where
   pub content : List ℕ
   pub counted : length content ≡ sum
   pub steps : StepsOver (ChunkLength c total []) (ChunkLength c total content) old new place place'
 
-pub chunks_none : {c : Conversion} {total : Option ℕ} {a : Seen} {place : ℕ} → N.IsBetween a → WalksChunks c total 0 a a place place
+pub chunks_none : {c : Conversion} {total : Option ℕ} {a : PayloadView} {place : ℕ} → N.IsBetween a → WalksChunks c total 0 a a place place
 chunks_none between = record { content = []; counted = refl; steps = step_none between }
 
-module _ {c : Conversion} {total : Option ℕ} {sum : ℕ} {a b d : Seen} {place middle there : ℕ} (x : WalksChunks c total sum a b place middle) where
+module _ {c : Conversion} {total : Option ℕ} {sum : ℕ} {a b d : PayloadView} {place middle there : ℕ} (x : WalksChunks c total sum a b place middle) where
   pub chunks_end : StepsOver (ChunkLength c total x.content) (N.WholeCell (N.DataCell c x.content)) b d middle there
       → N.PassesCell (ChunkLength c total []) a d place there
   chunks_end y = record { value = N.DataCell c x.content; steps = steps_both x.steps y }
 
-  module _ {size n : ℕ} {e : Seen} (any : AnyData c size) (y : StepsOver (ChunkLength c total x.content) (chunk_left c total n x.content) b d middle
+  module _ {size n : ℕ} {e : PayloadView} (any : AnyData c size) (y : StepsOver (ChunkLength c total x.content) (chunk_left c total n x.content) b d middle
       there) where
     pub chunks_more : {place' : ℕ} → PassesData n d e there place' → WalksChunks c total (sum + n) a e place place'
     chunks_more z = record {
@@ -180,17 +181,17 @@ module _ {c : Conversion} {total : Option ℕ} {sum : ℕ} {a b d : Seen} {place
 -- ---- lengths and totals
 
 -- an element was read that leads on
-pub steps_of : {s t : CellPart} {a b : Seen} {place place' : ℕ} → Next return_column s a b place place' t → StepsOver s t a b place place'
+pub steps_of : {s t : CellPart} {a b : PayloadView} {place place' : ℕ} → Next return_column s a b place place' t → StepsOver s t a b place place'
 steps_of x = record { reads = N.reads_one _ _ _ _ _ _ x.next x.takes x.to; between = x.between; place_is = x.place_is }
 
 module _ {c : Conversion} {size : ℕ} (any : AnyData c size) where
   -- a short value has whole units
-  pub short_even : {a b : Seen} {place place' k : ℕ} {answer : Option ℕ}
+  pub short_even : {a b : PayloadView} {place place' k : ℕ} {answer : Option ℕ}
       → ((n : ℕ) × N.ReadsNumber 2 a b place place' n × (N.short_fault return_column size n ≡ N.None) × (answer ≡ N.short_length n)) → answer ≡ N.Some k
       → k % size ≡ 0
   short_even x is = grind arith
 
-  module _ {total : Option ℕ} {content : List ℕ} {sum n k place place' : ℕ} {a b : Seen} (counted : length content ≡ sum)
+  module _ {total : Option ℕ} {content : List ℕ} {sum n k place place' : ℕ} {a b : PayloadView} (counted : length content ≡ sum)
       (x : N.ReadsNumber 4 a b place place' n) (free : N.chunk_length_fault return_column size total sum n ≡ N.None) (is : k ≡ n) where
     pub end_steps : k ≡ 0 → StepsOver (ChunkLength c total content) (N.WholeCell (N.DataCell c content)) a b place place'
     end_steps ends = grind (arith, steps_of)

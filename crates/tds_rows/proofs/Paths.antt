@@ -1,14 +1,14 @@
 -- What bytes make by a grammar, and how a call that reads them and puts what they make goes from place to place.
 use Rattle.tds_rows.proofs.Words as N
-use Rattle.tds_rows.proofs.Words.{◌≡◌, ℕ, ◌+◌, ◌-◌, ◌^◌, ◌≤◌, List, [], ◌++◌, arith, Fault, Grammar, Option, Writes, Held, Seen}
+use Rattle.tds_rows.proofs.Words.{◌≡◌, ℕ, ◌+◌, ◌-◌, ◌^◌, ◌≤◌, List, [], ◌++◌, arith, Fault, Grammar, Option, Writes, SinkView, PayloadView}
 use Rattle.tds_packet.specs.declared.payload.Payload.{Payload}
 use Rattle.tds_cells.proofs.GrammarTexts.{writes_both, writes_none}
 
 -- where a reading stands: what the payload is seen to give, how many of its bytes were read, and what the sink holds
 pub record At : Type 0 where
-  pub seen : Seen
+  pub seen : PayloadView
   pub place : ℕ
-  pub held : Held
+  pub held : SinkView
 
 abbrev pub at_of : {R W : Type 0} → (R → Option (List ℕ)) → (W → Option (List ℕ)) → Payload R → N.Sink W → At
 at_of remaining contents payload sink = record { seen = N.seen remaining payload; place = payload.place; held = N.held contents sink }
@@ -17,7 +17,7 @@ abbrev pub here : {R W : Type 0} → (R → Option (List ℕ)) → (W → Option
 here remaining contents rows = at_of remaining contents rows.payload.now rows.sink.now
 
 -- a relation between two places
-abbrev pub over : {T : Type 1} → (Seen → Seen → ℕ → ℕ → Held → Held → T) → At → At → T
+abbrev pub over : {T : Type 1} → (PayloadView → PayloadView → ℕ → ℕ → SinkView → SinkView → T) → At → At → T
 over f p q = f p.seen q.seen p.place q.place p.held q.held
 
 -- From one place to another bytes were read, and what they make was put.
@@ -58,7 +58,7 @@ module _ {S : Type 0} {g : Grammar S Fault} {text : S → List ℕ} where
   }
 
   -- a call that stops after one that doesn't
-  pub path_stops : {s t : S} {p q : At} {d : Seen} {j : Held} {failed : N.Bool} {stop : N.Stop} → Path g text s p q t
+  pub path_stops : {s t : S} {p q : At} {d : PayloadView} {j : SinkView} {failed : N.Bool} {stop : N.Stop} → Path g text s p q t
       → N.StopsStreaming g text t q.seen d q.place q.held j failed stop → N.StopsStreaming g text s p.seen d p.place p.held j failed stop
   path_stops {p = p} x y = N.streaming_after _ _ _ _ _ _ _ _ _ _ p.place _ _ (streams_of x) (rw x.place_is at y)
 

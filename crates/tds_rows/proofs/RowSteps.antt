@@ -1,14 +1,14 @@
 -- Cells that are read, and whose text is put.
 use Rattle.tds_rows.proofs.Words as N
-use Rattle.tds_rows.proofs.Words.{◌≡◌, ◌∙◌, ℕ, ◌+◌, ◌^◌, ◌-◌, ◌<◌, ◌≤◌, Bool, false, List, [], ◌++◌, length, ap, arith, None, Kind, Stop, Seen}
-use Rattle.tds_rows.proofs.Words.{joined, Held, Charset, Cell, CellPart, WholeCell, cell, cell_start, field, cell_so_far}
+use Rattle.tds_rows.proofs.Words.{◌≡◌, ◌∙◌, ℕ, ◌+◌, ◌^◌, ◌-◌, ◌<◌, ◌≤◌, Bool, false, List, [], ◌++◌, length, ap, arith, None, Kind, Stop, PayloadView}
+use Rattle.tds_rows.proofs.Words.{joined, SinkView, Charset, Cell, CellPart, WholeCell, cell, cell_start, field, cell_so_far}
 use Rattle.tds_rows.proofs.Paths.{At, over}
 use Rattle.tds_cells.proofs.RowTexts.{quiet_text, some_bytes, start_quiet}
 
 -- ---- cells that are read
 
 -- A cell was read, of those whose text comes with the last element alone, and this is its text in its line.
-pub record ReadsCell (from : CellPart) (column : ℕ) (last : Bool) (old new : Seen) (place place' : ℕ) (text : List ℕ) : Type 0 where
+pub record ReadsCell (from : CellPart) (column : ℕ) (last : Bool) (old new : PayloadView) (place place' : ℕ) (text : List ℕ) : Type 0 where
   pub value : Cell
   pub front : List ℕ
   pub at : CellPart
@@ -23,29 +23,29 @@ pub record ReadsCell (from : CellPart) (column : ℕ) (last : Bool) (old new : S
   pub text_is : text ≡ N.in_line column last (field value)
 
 -- A cell of a kind was read, and its text put.
-abbrev pub PutsCell : Charset → Kind → ℕ → Bool → Seen → Seen → ℕ → ℕ → Held → Held → Type 0
+abbrev pub PutsCell : Charset → Kind → ℕ → Bool → PayloadView → PayloadView → ℕ → ℕ → SinkView → SinkView → Type 0
 PutsCell charset kind = N.PutsField (cell_start kind (N.shape charset kind))
 
 -- A cell of a kind stopped so.
-abbrev pub StopsCell : Charset → Kind → ℕ → Bool → Seen → Seen → ℕ → Held → Held → Bool → Stop → Type 0
+abbrev pub StopsCell : Charset → Kind → ℕ → Bool → PayloadView → PayloadView → ℕ → SinkView → SinkView → Bool → Stop → Type 0
 StopsCell charset kind = N.StopsField (cell_start kind (N.shape charset kind))
 
 -- A cell of a kind was read and its text put, from one place to another; or it stopped so.
 abbrev pub PutsAt : Charset → Kind → ℕ → Bool → At → At → Type 0
 PutsAt charset kind column last p q = over (PutsCell charset kind column last) p q
 
-abbrev pub StopsAt : Charset → Kind → ℕ → Bool → At → Seen → Held → Bool → Stop → Type 0
+abbrev pub StopsAt : Charset → Kind → ℕ → Bool → At → PayloadView → SinkView → Bool → Stop → Type 0
 StopsAt charset kind column last p d j failed stop = StopsCell charset kind column last p.seen d p.place p.held j failed stop
 
 -- ---- a cell whose text comes with its last element alone
 
 module _ (kind : Kind) (s : N.Shape) (column : ℕ) (last : Bool) where
-  none_put : (at : CellPart) (h : Held) → N.field_so_far at ≡ None → h.delivered ≤ 2 ^ 64 - 1
+  none_put : (at : CellPart) (h : SinkView) → N.field_so_far at ≡ None → h.delivered ≤ 2 ^ 64 - 1
       → N.PutsText (cell_so_far column last) (cell_start kind s) at h h
   none_put at h quiet d = grind (arith, N.Puts-none)
 
   -- it was read, and its text put
-  abbrev pub at_once_streams : {a b : Seen} {place place' : ℕ} {h i : Held} {text : List ℕ}
+  abbrev pub at_once_streams : {a b : PayloadView} {place place' : ℕ} {h i : SinkView} {text : List ℕ}
       (r : ReadsCell (cell_start kind s) column last a b place place' text) → N.Puts h i text
       → N.Streams (cell column) (cell_so_far column last) (cell_start kind s) a b h i (WholeCell r.value)
   at_once_streams {text = text} r x = record {
@@ -56,9 +56,10 @@ module _ (kind : Kind) (s : N.Shape) (column : ℕ) (last : Bool) where
   }
 
   -- it was read, and a write of its text failed
-  pub at_once_breaks : {a b : Seen} {place place' : ℕ} {h i : Held} {text : List ℕ} {stop : Stop} → h.delivered ≤ 2 ^ 64 - 1 → length h.waiting < 4096
-      → (r : ReadsCell (cell_start kind s) column last a b place place' text) → N.Breaks h i text stop
-      → N.BreaksStreaming (cell column) (cell_so_far column last) (cell_start kind s) a b h i r.at stop
+  pub at_once_breaks : {a b : PayloadView} {place place' : ℕ} {h i : SinkView} {text : List ℕ} {stop : Stop} → h.delivered ≤ 2 ^ 64 - 1
+      → length h.waiting < 4096
+      → (r : ReadsCell (cell_start kind s) column last a b place place' text) → N.WritesPrefix h i text stop
+      → N.WritesPrefixStreaming (cell column) (cell_so_far column last) (cell_start kind s) a b h i r.at stop
   at_once_breaks {h = h} {text = text} d few r x = record {
     bytes = r.front;
     element = r.element;
@@ -76,7 +77,7 @@ module _ (kind : Kind) (s : N.Shape) (column : ℕ) (last : Bool) where
   }
 
   -- it stopped before it had any text
-  pub at_once_stalls : {a b : Seen} {place : ℕ} {h : Held} {stop : Stop} → h.delivered ≤ 2 ^ 64 - 1
+  pub at_once_stalls : {a b : PayloadView} {place : ℕ} {h : SinkView} {stop : Stop} → h.delivered ≤ 2 ^ 64 - 1
       → N.StallsCell (cell_start kind s) column a b place stop → N.StopsField (cell_start kind s) column last a b place h h false stop
   at_once_stalls d x = grind (arith, none_put)
 

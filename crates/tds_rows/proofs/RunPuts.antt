@@ -5,11 +5,11 @@ use Rattle.tds_rows.proofs.Words.{Column, Charset, Cell, cell_start, shape, row_
 use Rattle.tds_rows.proofs.Words.{Kind, ◌^◌}
 use Rattle.tds_cells.proofs.RowTexts.{line_grows}
 use Rattle.tds_rows.proofs.RowSteps.{PutsCell, StopsCell}
-use Rattle.tds_rows.proofs.Words.{Ahead, IsAhead, Table}
+use Rattle.tds_rows.proofs.Words.{Cursor, IsCursor, RowFormat}
 use Rattle.tds_rows.proofs.Paths.{At, over}
 use Rattle.tds_cells.proofs.GrowingTexts.{row_grows}
 use Rattle.tds_cells.proofs.RunSteps.{cell_writes, marked_cells}
-use Rattle.tds_cells.proofs.TableRuns.{marked_in_rows}
+use Rattle.tds_cells.proofs.RowFormatRuns.{marked_in_rows}
 
 -- ---- a cell that lies whole
 
@@ -26,10 +26,10 @@ whole_puts _ _ _ _ p q _ _ x takes at puts =
     }
 
 -- its bytes and more were passed over, and a write of its text failed
-pub whole_breaks : {bytes text : List ℕ} {a b : N.Seen} {place : ℕ} {h j : N.Held} {failed : Bool} {stop : Stop} (charset : Charset)
+pub whole_breaks : {bytes text : List ℕ} {a b : N.PayloadView} {place : ℕ} {h j : N.SinkView} {failed : Bool} {stop : Stop} (charset : Charset)
     (kind : Kind) {column : ℕ} {last : Bool} (rest : List ℕ)
     → N.WritesWhole (cell_start kind (shape charset kind)) column last bytes text
-    → N.Takes a b (bytes ++ rest) 0 → N.IsBetween b → length h.waiting < 4096 → h.delivered ≤ 2 ^ 64 - 1 → N.Breaks h j text stop → failed ≡ true
+    → N.Takes a b (bytes ++ rest) 0 → N.IsBetween b → length h.waiting < 4096 → h.delivered ≤ 2 ^ 64 - 1 → N.WritesPrefix h j text stop → failed ≡ true
     → StopsCell charset kind column last a b place h j failed stop
 whole_breaks {bytes = bytes} {a = a} {b = b} {h = h} {j = j} {stop = stop} _ _ {column} {last} rest x takes between few delivered breaks failed =
     let writes = cell_writes _ _ x in
@@ -38,7 +38,7 @@ whole_breaks {bytes = bytes} {a = a} {b = b} {h = h} {j = j} {stop = stop} _ _ {
     record { at = broken.0; cause = grind arith }
 
 pub put_whole : {W U : Type 0} {column place' : ℕ} {last : Bool} {bytes text : List ℕ} {contents : W → N.Option (List ℕ)} {old new : N.Sink W}
-    {r : N.Result U Stop} (charset : Charset) (kind : Kind) (a b : N.Seen) (place : ℕ) → N.IsWriting old → N.IsBetween b
+    {r : N.Result U Stop} (charset : Charset) (kind : Kind) (a b : N.PayloadView) (place : ℕ) → N.IsWriting old → N.IsBetween b
     → N.WritesWhole (cell_start kind (shape charset kind)) column last bytes text → N.Takes a b bytes 0 → place' ≡ place + length bytes
     → N.PutsPiece contents old new text r
     → N.MatchResult r (λ _. PutsCell charset kind column last a b place place' (held contents old) (held contents new))
@@ -65,21 +65,21 @@ runs_rows x takes puts at = record {
 }
 
 -- the cells of a run within a row were read and put
-pub marked_rows : {table : Table} {columns : List Column} {from to : Ahead} {p q : At}
-    → over (N.PutsMarked table columns (λ k. false) from to) p q
-    → IsAhead table columns to × ((charset : N.Charset) (cells : List Cell) → table.charset ≡ charset → length cells ≡ from.column
+pub marked_rows : {row_format : RowFormat} {columns : List Column} {from to : Cursor} {p q : At}
+    → over (N.PutsMarked row_format columns (λ k. false) from to) p q
+    → IsCursor row_format columns to × ((charset : N.Charset) (cells : List Cell) → row_format.charset ≡ charset → length cells ≡ from.column
     → over (N.RunsRows charset columns cells (drop from.column columns) (drop to.column columns) to.column 0) p q)
 marked_rows {p = p} {q = q} x =
     let ran = marked_in_rows x.runs in
     (ran.0, λ charset cells set is. runs_rows (ran.1 charset cells set is) (grind arith) x.puts x.place_is)
 
 -- a write of their text failed, in the row that the run began in
-pub run_breaks : {table : Table} {columns : List Column} {from : Ahead} {a b : N.Seen} {h j : N.Held} {place : ℕ} {failed : Bool}
-    {stop : N.Stop} (cells : List Cell) → N.BreaksMarked table columns (λ k. false) from a b h j failed stop → length cells ≡ from.column
+pub run_breaks : {row_format : RowFormat} {columns : List Column} {from : Cursor} {a b : N.PayloadView} {h j : N.SinkView} {place : ℕ} {failed : Bool}
+    {stop : N.Stop} (cells : List Cell) → N.WritesPrefixMarked row_format columns (λ k. false) from a b h j failed stop → length cells ≡ from.column
     → length h.waiting < 4096 → h.delivered ≤ 2 ^ 64 - 1
-    → N.RowStops table.charset (N.after_cells table.charset cells (drop from.column columns)) a b place h j failed stop
-run_breaks {table = table} {a = a} {b = b} {h = h} {j = j} {stop = stop} cells y counted few delivered =
-    let x = marked_cells {charset = table.charset} {cells = cells} y.runs.count y.bytes _ counted y.runs.writes in
-    let broken = N.breaks_somewhere _ N.row_so_far (row_grows table.charset) _ a b h j stop y.between _ y.bytes N.[] _ x.writes.spelt
+    → N.RowStops row_format.charset (N.after_cells row_format.charset cells (drop from.column columns)) a b place h j failed stop
+run_breaks {row_format = row_format} {a = a} {b = b} {h = h} {j = j} {stop = stop} cells y counted few delivered =
+    let x = marked_cells {charset = row_format.charset} {cells = cells} y.runs.count y.bytes _ counted y.runs.writes in
+    let broken = N.breaks_somewhere _ N.row_so_far (row_grows row_format.charset) _ a b h j stop y.between _ y.bytes N.[] _ x.writes.spelt
     (rw N.append-nil (grind arith)) few delivered x.writes.text_is y.breaks in
     record { at = broken.0; cause = grind arith }

@@ -2,7 +2,7 @@
 use Rattle.tds_rows.proofs.Words as N
 use Rattle.tds_packet.specs.declared.payload.Payload.{Payload}
 use Rattle.tds_rows.proofs.Words.{◌≡◌, ◌∙◌, inl, inr, ℕ, ◌+◌, ◌<◌, List, [], ◌∷◌, ◌++◌, length, ap, arith, Ok, Err, Option, Some, if◌then◌else◌, Rose, Fault}
-use Rattle.tds_rows.proofs.Words.{Stop, before, Grammar, Spelt, Seen, Cell, Brings}
+use Rattle.tds_rows.proofs.Words.{Stop, before, Grammar, Spelt, PayloadView, Cell, Brings}
 use Rattle.tds_cells.proofs.CellLaws.{cell_is_read}
 use Rattle.tds_cells.proofs.RowLaws.{nbc_row_is_read, row_is_read}
 use Rattle.tds_cells.proofs.RunSteps.{row_token, row_among_rows}
@@ -13,7 +13,7 @@ rose f = grind arith
 
 -- ---- the reading of what comes whole
 
-module _ {S : Type 0} (g : Grammar S Fault) (from to : S) (a b : Seen) (front more : List ℕ) (brings : Brings a (front ++ more))
+module _ {S : Type 0} (g : Grammar S Fault) (from to : S) (a b : PayloadView) (front more : List ℕ) (brings : Brings a (front ++ more))
     (last : N.Longest g from (front ++ more) (length front) to) (calm : Rose a.failures b.failures → ⊥) where
   -- what was read is the beginning of what comes
   came : (read : List ℕ) (bytes : List ℕ) → N.Consumes a.left b.left read
@@ -52,7 +52,7 @@ longest_end g _ _ _ more spelt none = N.longest_at g _ _ _ _ spelt (λ d other s
     omega (arith, ap length e, N.length-take-le d more within))
 
 -- a call that reads whole elements to a state at which nothing follows doesn't stop in reading
-none_stops_reading : {S : Type 0} {a b : Seen} {place : ℕ} {at : S} {stop : Stop} (g : Grammar S Fault) (from to : S) (front more : List ℕ)
+none_stops_reading : {S : Type 0} {a b : PayloadView} {place : ℕ} {at : S} {stop : Stop} (g : Grammar S Fault) (from to : S) (front more : List ℕ)
     → Brings a (front ++ more) → Spelt g from front to → g.size to ≡ 0
     → (Rose a.failures b.failures → ⊥) → N.StopsReading g from a b place at stop → ⊥
 none_stops_reading {stop = stop} g from to front more brings spelt none reads x =
@@ -61,7 +61,7 @@ none_stops_reading {stop = stop} g from to front more brings spelt none reads x 
     omega (arith, ap g.size there)
 
 -- a call that reads whole elements to a state at which nothing follows, and puts their text, doesn't stop
-pub none_stops : {S : Type 0} {a b : Seen} {place : ℕ} {h i : N.Held} {failed : N.Bool} {stop : Stop} {g : Grammar S Fault} {text : S
+pub none_stops : {S : Type 0} {a b : PayloadView} {place : ℕ} {h i : N.SinkView} {failed : N.Bool} {stop : Stop} {g : Grammar S Fault} {text : S
     → List ℕ} {from to : S} {front : List ℕ} (more : List ℕ) → Brings a (front ++ more) → Spelt g from front to → g.size to ≡ 0
     → (Rose a.failures b.failures → ⊥) → (Rose h.failures i.failures → ⊥) → N.StopsStreaming g text from a b place h i failed stop → ⊥
 none_stops {g} _ brings spelt none reads writes x = elim x.cause [
@@ -135,7 +135,7 @@ module _ (token : N.RowToken) (charset : N.Charset) (columns : List N.Column) (s
   longest_rows _ _ _ _ (byte ∷ more) spelt none = N.longest_refused _ _ _ _ _ _ spelt
       (record { some = omega arith; whole = omega arith; first = ap (λ b. if b then N.None else Some (N.RefusedToken byte)) none })
 
-  rows_stop_not : {a b : Seen} {place : ℕ} {h i : N.Held} {failed : N.Bool} {stop : Stop} (first : List Cell) (later : List (List Cell))
+  rows_stop_not : {a b : PayloadView} {place : ℕ} {h i : N.SinkView} {failed : N.Bool} {stop : Stop} (first : List Cell) (later : List (List Cell))
       (front more : List ℕ) → Brings a (front ++ more) → N.SpellsRows token charset columns first later front → N.BeginNoRow token more
       → (Rose a.failures b.failures → ⊥) → (Rose h.failures i.failures → ⊥) → N.RowsStop token charset columns a b place h i failed stop → ⊥
   rows_stop_not {place = place} {stop = stop} first later front more brings spelt none reads writes x = elim x.stops.cause [

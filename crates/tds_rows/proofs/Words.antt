@@ -14,15 +14,16 @@ pub use Rattle.std.specs.Prelude.{◌==◌, if◌then◌else◌, is_ok, None, �
 pub use Rattle.tds_columns.specs.Description.{Column}
 pub use Rattle.tds_columns.specs.Elements.{TakesInto, EndsInto}
 pub use Rattle.tds_columns.specs.ReturnedType.{return_column}
-pub use Rattle.tds_text.proofs.Begun.{begun_front, open_closes, unfit_adds_none, open_grows}
+pub use Rattle.tds_text.proofs.OpenTexts.{begun_front, open_closes, unfit_adds_none, open_grows}
 pub use Rattle.tds_text.proofs.ConversionLaws.{no_data_is_fit, joins_by_name, begun_by_test, fit_by_test}
-pub use Rattle.tds_csv.proofs.Nears.{nears_done, Nears, nears_breaks, last_read, nears_after, nears_from, added_between, nears_inside, tail_after, nears_put}
+pub use Rattle.tds_csv.proofs.LacksTail.{nears_done, LacksTail, nears_breaks, last_read, nears_after, nears_from, added_between, nears_inside, tail_after}
+pub use Rattle.tds_csv.proofs.LacksTail.{nears_put}
 pub use Rattle.tds_csv.proofs.Pieces.{breaks_somewhere}
 pub use Rattle.tds_csv.proofs.Puttings.{PutsPiece-trans}
 pub use Rattle.tds_text.proofs.SingleLaws.{hex-nil}
-pub use Rattle.tds_csv.proofs.Sinks.{Puts-trans, Breaks-after, Breaks-longer, Puts-none}
-pub use Rattle.tds_csv.proofs.Spares.{spare_before, spare_written}
-pub use Rattle.tds_csv.proofs.Splits.{Breaks_split, Puts_split}
+pub use Rattle.tds_csv.proofs.Sinks.{Puts-trans, WritesPrefix-after, WritesPrefix-longer, Puts-none}
+pub use Rattle.tds_csv.proofs.LentRooms.{spare_before, spare_written}
+pub use Rattle.tds_csv.proofs.Splits.{WritesPrefix_split, Puts_split}
 pub use Rattle.tds_csv.proofs.Streams.{stops_size, streaming_after}
 pub use Rattle.tds_text.proofs.Utf16Steps.{nil_of_length, text_nil}
 pub use Rattle.tds_text.specs.Conversion.{is_begun, IsFit, is_quoted, Conversion, BeginsData, Utf16Text, Suits, is_fit, long_field, unit, conversion_rest}
@@ -30,8 +31,8 @@ pub use Rattle.tds_text.specs.Conversion.{closing, HexDigits, Windows1252Text, o
 pub use Rattle.tds_text.specs.Joining.{emit}
 pub use Rattle.tds_csv.specs.Pushing.{TakesUpTo, Completes, EndsBy, Pushes, is_stopped, LeavesPart, TakesPiece}
 pub use Rattle.tds_text.specs.Quoting.{null_field, joined, after_comma, quote, in_line, binary_mark, end_after}
-pub use Rattle.tds_csv.specs.Sinks.{IsWriting, held, PutsPiece, Breaks, IsOnSameSink, Puts, Held}
-pub use Rattle.tds_csv.specs.Streaming.{StopsStreaming, Streams, PutsText, BreaksStreaming}
+pub use Rattle.tds_csv.specs.Sinks.{IsWriting, held, PutsPiece, WritesPrefix, IsOnSameSink, Puts, SinkView}
+pub use Rattle.tds_csv.specs.Streaming.{StopsStreaming, Streams, PutsText, WritesPrefixStreaming}
 pub use Rattle.tds_csv.specs.declared.joiners.JoinFault.{JoinFault}
 pub use Rattle.tds_csv.specs.declared.joiners.JoinFault.TheVariants.{Stopped, Odd}
 pub use Rattle.tds_csv.specs.declared.sink.Sink.{Sink}
@@ -41,7 +42,7 @@ pub use Rattle.tds_meter.specs.Space.{appended, Space}
 pub use Rattle.tds_packet.proofs.ElementLaws.{no_further, longest_at, Spelt-step, one_longest}
 pub use Rattle.tds_packet.proofs.ElementLaws.{Spelt-append, longest_cut, longest_refused, Spelt-one, Inside-Spelt}
 pub use Rattle.tds_packet.proofs.Futures.{Ends-after, Takes-more, Takes-none, Takes-trans}
-pub use Rattle.tds_packet.proofs.Lifts.{stops_inside, next_some}
+pub use Rattle.tds_packet.proofs.InnerGrammars.{stops_inside, next_some}
 pub use Rattle.tds_packet.proofs.Passing.{passed_on, passed}
 pub use Rattle.tds_packet.proofs.PayloadLaws.{at_ok, at_err, between_of}
 pub use Rattle.tds_packet.proofs.Places.{stops_here}
@@ -51,7 +52,7 @@ pub use Rattle.tds_packet.specs.Coming.{before, Coming}
 pub use Rattle.tds_packet.specs.Elements.{IsRefused, Grammar, Spelt, IsNext, Longest}
 pub use Rattle.tds_packet.specs.Payloads.{seen, buffered, IsOnSame, IsGoing}
 pub use Rattle.tds_packet.specs.Reading.{StopsReading, CutsNext, RefusesNext}
-pub use Rattle.tds_packet.specs.Seen.{Takes, began_at, IsBetween, Ends, Seen}
+pub use Rattle.tds_packet.specs.PayloadView.{Takes, began_at, IsBetween, Ends, PayloadView}
 pub use Rattle.tds_packet.specs.declared.fault.Fault.{Fault}
 pub use Rattle.tds_packet.specs.declared.fault.Fault.TheVariants.{BadValue, ReadFailed, BadValueLength, MessageEnded, WriteFailed, BadText, RefusedToken}
 pub use Rattle.tds_packet.specs.declared.fault.Place.TheVariants.{Payload}
@@ -68,9 +69,10 @@ pub use Rattle.tds_cells.specs.Cells.{DataCell}
 pub use Rattle.tds_cells.specs.Layouts.{IsLaidOut}
 pub use Rattle.tds_rows.specs.LongReading.{IsOnSameValue}
 pub use Rattle.tds_rows.specs.LongCells.{RefusesNumber, EndsData, added_text, StopsFilling, StopsEnding, total_of, chunk_length_fault, EndPut, RefusesData}
-pub use Rattle.tds_rows.specs.LongCells.{StopsData, ReadsNumber, short_length, CutsNumber, total_fault, ending, BreaksData, short_fault, join_stop, opening}
+pub use Rattle.tds_rows.specs.LongCells.{StopsData, ReadsNumber, short_length, CutsNumber, total_fault, ending, WritesPrefixOfData, short_fault, join_stop}
+pub use Rattle.tds_rows.specs.LongCells.{opening}
 pub use Rattle.tds_rows.specs.LongCells.{FillsData, CutsData, TakesData}
-pub use Rattle.tds_rows.specs.MarkedPuts.{BreaksMarked, PutsMarked}
+pub use Rattle.tds_rows.specs.MarkedPuts.{WritesPrefixMarked, PutsMarked}
 pub use Rattle.tds_cells.specs.MarkedRuns.{WritesColumn, WritesMarked}
 pub use Rattle.tds_cells.specs.MarkedRuns.{WritesNext}
 pub use Rattle.tds_rows.specs.PassedCells.{CellPassed, StepsOver, StopsPassing, IsGoodValue, CutsPassing, return_cell, PassesData, PassesCell, AnyData}
@@ -86,12 +88,12 @@ pub use Rattle.tds_rows.specs.RunPuts.{RunsRows}
 pub use Rattle.tds_cells.specs.Runs.{WritesRows}
 pub use Rattle.tds_rows.specs.Successes.{SpellsRows, ReadsOn, SucceedsOn, Brings}
 pub use Rattle.tds_cells.specs.Rows.{BeginNoRow}
-pub use Rattle.tds_cells.specs.Tables.{IsNextKind, TakesColumn, IsAhead, KnowsSome, Knows}
+pub use Rattle.tds_cells.specs.RowFormats.{IsNextKind, TakesColumn, IsCursor, KnowsSome, Knows}
 pub use Rattle.tds_cells.specs.WholeCells.{WritesCell, WritesWhole}
 pub use Rattle.tds_rows.specs.declared.rows.Rows.{Rows}
 pub use Rattle.tds_cells.specs.declared.run.RowsRun.{RowsRun}
-pub use Rattle.tds_cells.specs.declared.table.Ahead.{Ahead}
-pub use Rattle.tds_cells.specs.declared.table.Table.{Table}
+pub use Rattle.tds_cells.specs.declared.row_format.Cursor.{Cursor}
+pub use Rattle.tds_cells.specs.declared.row_format.RowFormat.{RowFormat}
 pub use Rattle.tds_values.specs.Front.{scalar_size, start_after, length_after, value_length, value_bytes, value_start}
 pub use Rattle.tds_values.specs.Kind.{is_length_allowed, fixed_length, is_scalar}
 pub use Rattle.tds_values.specs.Numbers.{little}

@@ -11,32 +11,32 @@ use Rattle.tds_packet.specs.declared.fault.Stop.{Stop}
 use Rattle.tds_packet.specs.declared.payload.Payload as payloads
 use Rattle.tds_packet.specs.Payloads.{IsGoing, LeavesPayload, seen}
 use Rattle.tds_packet.specs.Reading.{StopsReading}
-use Rattle.tds_packet.specs.Seen.{Seen, Takes, IsBetween}
+use Rattle.tds_packet.specs.PayloadView.{PayloadView, Takes, IsBetween}
 use Rattle.tds_csv.specs.declared.sink.Sink.{Sink}
-use Rattle.tds_csv.specs.Sinks.{Held, held}
+use Rattle.tds_csv.specs.Sinks.{SinkView, held}
 use Rattle.tds_csv.specs.Streaming.{StopsStreaming, Streams}
 use Rattle.tds_values.specs.declared.charset.Charset.{Charset}
 use Rattle.tds_cells.specs.Cells.{Cell, CellPart, WholeCell, cell, cell_start, field_so_far, shape}
 use Rattle.tds_cells.specs.CellTexts.{cell_so_far}
 
 -- Reading a cell stopped before it had any text.
-pub record StallsCell (from : CellPart) (column : ℕ) (old new : Seen) (place : ℕ) (stop : Stop) : Type 0 where
+pub record StallsCell (from : CellPart) (column : ℕ) (old new : PayloadView) (place : ℕ) (stop : Stop) : Type 0 where
   pub at : CellPart
   pub stops : StopsReading (cell column) from old new place at stop
   pub quiet : field_so_far at ≡ None
 
 -- A cell was read from its first element on, and its text put.
-pub record PutsField (from : CellPart) (column : ℕ) (last : Bool) (old new : Seen) (place place' : ℕ) (before after : Held) : Type 0 where
+pub record PutsField (from : CellPart) (column : ℕ) (last : Bool) (old new : PayloadView) (place place' : ℕ) (before after : SinkView) : Type 0 where
   pub value : Cell
   pub streams : Streams (cell column) (cell_so_far column last) from old new before after (WholeCell value)
   pub place_is : place' ≡ place + length streams.bytes
 
 -- A cell wasn't read whole or is refused, or a write of its text failed.
-abbrev pub StopsField : CellPart → ℕ → Bool → Seen → Seen → ℕ → Held → Held → Bool → Stop → Type 0
+abbrev pub StopsField : CellPart → ℕ → Bool → PayloadView → PayloadView → ℕ → SinkView → SinkView → Bool → Stop → Type 0
 StopsField from column last = StopsStreaming (cell column) (cell_so_far column last) from
 
 -- The bytes of a scalar cell were read, whose length is allowed; and if its value is refused, this is the stop.
-pub record GathersCell (kind : Kind) (from : CellPart) (column : ℕ) (old new : Seen) (place place' : ℕ) (bytes : List ℕ) : Type 0 where
+pub record GathersCell (kind : Kind) (from : CellPart) (column : ℕ) (old new : PayloadView) (place place' : ℕ) (bytes : List ℕ) : Type 0 where
   pub whole : length bytes ≡ scalar_size kind bytes
   pub takes : Takes old new bytes (length bytes)
   pub between : IsBetween new

@@ -8,7 +8,7 @@ use Rattle.tds_packet.specs.declared.fault.Place.TheVariants.{Payload}
 use Rattle.tds_packet.specs.declared.fault.Stop.{Stop}
 use Rattle.tds_packet.specs.declared.payload.Payload as payloads
 use Rattle.tds_packet.specs.Payloads.{seen}
-use Rattle.tds_packet.specs.Seen.{Seen, Takes, Ends, IsBetween, began_at}
+use Rattle.tds_packet.specs.PayloadView.{PayloadView, Takes, Ends, IsBetween, began_at}
 use Rattle.tds_text.specs.Conversion.{BeginsData, Conversion, IsFit, closing, conversion_rest, conversion_text}
 use Rattle.tds_text.specs.Joining.{emit}
 use Rattle.tds_csv.specs.declared.joiners.JoinFault.{JoinFault}
@@ -16,7 +16,7 @@ use Rattle.tds_csv.specs.declared.joiners.JoinFault.TheVariants.{Stopped}
 use Rattle.tds_csv.specs.declared.joiners.JoinFault.TheVariants as join_faults
 use Rattle.tds_text.specs.Quoting.{binary_mark, end_after, quote}
 use Rattle.tds_csv.specs.declared.sink.Sink.{Sink}
-use Rattle.tds_csv.specs.Sinks.{Breaks, Held, Puts, held}
+use Rattle.tds_csv.specs.Sinks.{WritesPrefix, SinkView, Puts, held}
 use Rattle.tds_cells.specs.Cells.{is_total, known_total, null_total, unknown_total, unless, within_total}
 
 -- what comes before the text of a long value
@@ -27,7 +27,7 @@ opening false = binary_mark
 -- ---- lengths
 
 -- A length or total of this many bytes was read, and this is its number.
-pub record ReadsNumber (size : ℕ) (old new : Seen) (place place' n : ℕ) : Type 0 where
+pub record ReadsNumber (size : ℕ) (old new : PayloadView) (place place' n : ℕ) : Type 0 where
   pub element : List ℕ
   pub whole : length element ≡ size
   pub number : little element ≡ n
@@ -36,7 +36,7 @@ pub record ReadsNumber (size : ℕ) (old new : Seen) (place place' n : ℕ) : Ty
   pub place_is : place' ≡ place + size
 
 -- The payload stopped in it.
-pub record CutsNumber (size : ℕ) (old new : Seen) (place : ℕ) (stop : Stop) : Type 0 where
+pub record CutsNumber (size : ℕ) (old new : PayloadView) (place : ℕ) (stop : Stop) : Type 0 where
   pub part : List ℕ
   pub own : Stop
   pub fewer : length part < size
@@ -44,7 +44,7 @@ pub record CutsNumber (size : ℕ) (old new : Seen) (place : ℕ) (stop : Stop) 
   pub stop_is : stop ≡ began_at place own
 
 -- It was read, and is refused with this fault.
-pub record RefusesNumber (size : ℕ) (fault : ℕ → Option Fault) (old new : Seen) (place : ℕ) (stop : Stop) : Type 0 where
+pub record RefusesNumber (size : ℕ) (fault : ℕ → Option Fault) (old new : PayloadView) (place : ℕ) (stop : Stop) : Type 0 where
   pub n : ℕ
   pub place' : ℕ
   pub reads : ReadsNumber size old new place place' n
@@ -97,7 +97,7 @@ abbrev pub added_text : Conversion → List ℕ → List ℕ → List ℕ
 added_text c content more = emit (conversion_rest c) (conversion_text c) (conversion_rest c content ++ more)
 
 -- This number of bytes after this content was read in a piece, and their text put; what is withheld then is the rest of all of it.
-pub record TakesData (c : Conversion) (content kept : List ℕ) (old new : Seen) (place place' : ℕ) (before after : Held) (n : ℕ) : Type 0 where
+pub record TakesData (c : Conversion) (content kept : List ℕ) (old new : PayloadView) (place place' : ℕ) (before after : SinkView) (n : ℕ) : Type 0 where
   pub piece : List ℕ
   pub counted : length piece ≡ n
   pub some : 0 < n
@@ -109,14 +109,15 @@ pub record TakesData (c : Conversion) (content kept : List ℕ) (old new : Seen)
   pub kept_is : kept ≡ conversion_rest c (content ++ piece)
 
 -- The payload stopped before the next byte.
-pub record CutsData (old new : Seen) (place : ℕ) (before after : Held) (stop : Stop) : Type 0 where
+pub record CutsData (old new : PayloadView) (place : ℕ) (before after : SinkView) (stop : Stop) : Type 0 where
   pub own : Stop
   pub ends : Ends old new [] own
   pub stop_is : stop ≡ began_at place own
   pub same : after ≡ before
 
 -- A piece was read; its first bytes and their text are good, and the next one is bad.
-pub record RefusesData (c : Conversion) (content : List ℕ) (column most : ℕ) (old new : Seen) (place : ℕ) (before after : Held) (stop : Stop) : Type 0
+pub record RefusesData (c : Conversion) (content : List ℕ) (column most : ℕ) (old new : PayloadView) (place : ℕ) (before after : SinkView)
+    (stop : Stop) : Type 0
   where
     pub good : List ℕ
     pub bad : ℕ
@@ -130,21 +131,21 @@ pub record RefusesData (c : Conversion) (content : List ℕ) (column most : ℕ)
     pub stop_is : stop ≡ record { fault = BadText column; place = Payload (place + length good) }
 
 -- A piece was read, and a write of the text of its first bytes failed.
-pub record BreaksData (c : Conversion) (content : List ℕ) (most : ℕ) (old new : Seen) (before after : Held) (stop : Stop) : Type 0 where
+pub record WritesPrefixOfData (c : Conversion) (content : List ℕ) (most : ℕ) (old new : PayloadView) (before after : SinkView) (stop : Stop) : Type 0 where
   pub good : List ℕ
   pub ahead : List ℕ
   pub within : length good ≤ most
   pub takes : Takes old new (good ++ ahead) 1
   pub between : IsBetween new
   pub begun : BeginsData c (content ++ good)
-  pub breaks : Breaks before after (added_text c content good) stop
+  pub breaks : WritesPrefix before after (added_text c content good) stop
 
 -- The next piece of the content stopped, of at most this many bytes.
-abbrev pub StopsData : Conversion → List ℕ → ℕ → ℕ → Seen → Seen → ℕ → Held → Held → Bool → Stop → Type 0
+abbrev pub StopsData : Conversion → List ℕ → ℕ → ℕ → PayloadView → PayloadView → ℕ → SinkView → SinkView → Bool → Stop → Type 0
 StopsData c content column most old new place before after failed stop =
     (CutsData old new place before after stop × (failed ≡ false))
     ⊎ ((RefusesData c content column most old new place before after stop × (failed ≡ false))
-    ⊎ (BreaksData c content most old new before after stop × (failed ≡ true)))
+    ⊎ (WritesPrefixOfData c content most old new before after stop × (failed ≡ true)))
 
 -- The next piece of the content was read and its text put, or that stopped.
 abbrev pub PieceTaken : {R W : Type 0} → (R → Option (List ℕ)) → (W → Option (List ℕ)) → Conversion → List ℕ → List ℕ → ℕ → ℕ → payloads.Payload R
@@ -155,7 +156,7 @@ PieceTaken remaining contents c content kept column most old new before after re
     after.failed stop)
 
 -- Bytes after this content were read piece by piece, and their text put.
-pub record FillsData (c : Conversion) (content : List ℕ) (old new : Seen) (place place' : ℕ) (before after : Held) (more : List ℕ) : Type 0 where
+pub record FillsData (c : Conversion) (content : List ℕ) (old new : PayloadView) (place place' : ℕ) (before after : SinkView) (more : List ℕ) : Type 0 where
   pub takes : Takes old new more (length more)
   pub between : IsBetween new
   pub place_is : place' ≡ place + length more
@@ -165,23 +166,23 @@ pub record FillsData (c : Conversion) (content : List ℕ) (old new : Seen) (pla
   pub delivered : after.delivered ≤ 2 ^ 64 - 1
 
 -- Bytes were read so, and then a last piece.
-pub record EndsData (c : Conversion) (content kept : List ℕ) (old new : Seen) (place place' : ℕ) (before after : Held) (n : ℕ) : Type 0 where
+pub record EndsData (c : Conversion) (content kept : List ℕ) (old new : PayloadView) (place place' : ℕ) (before after : SinkView) (n : ℕ) : Type 0 where
   pub front : List ℕ
-  pub middle : Seen
+  pub middle : PayloadView
   pub there : ℕ
-  pub between : Held
+  pub between : SinkView
   pub fills : FillsData c content old middle place there before between front
   pub last : ℕ
   pub takes : TakesData c (content ++ front) kept middle new there place' between after last
   pub counted : length front + last ≡ n
 
 -- Bytes were read so, fewer than all, and then a piece stopped.
-pub record StopsFilling (c : Conversion) (content : List ℕ) (column n : ℕ) (old new : Seen) (place : ℕ) (before after : Held) (failed : Bool)
+pub record StopsFilling (c : Conversion) (content : List ℕ) (column n : ℕ) (old new : PayloadView) (place : ℕ) (before after : SinkView) (failed : Bool)
     (stop : Stop) : Type 0 where
   pub front : List ℕ
-  pub middle : Seen
+  pub middle : PayloadView
   pub there : ℕ
-  pub between : Held
+  pub between : SinkView
   pub fewer : length front < n
   pub fills : FillsData c content old middle place there before between front
   pub stops : StopsData c (content ++ front) column (n - length front) middle new there between after failed stop
@@ -211,9 +212,9 @@ abbrev pub ending : Conversion → Bool → Bool → List ℕ → List ℕ
 ending c quoted last content = conversion_text c (conversion_rest c content) ++ (closing quoted ++ end_after last)
 
 -- The content is whole, and a write of its end failed; or it isn't, and nothing was put.
-abbrev pub StopsEnding : Conversion → Bool → Bool → List ℕ → ℕ → ℕ → Held → Held → Bool → Stop → Type 0
+abbrev pub StopsEnding : Conversion → Bool → Bool → List ℕ → ℕ → ℕ → SinkView → SinkView → Bool → Stop → Type 0
 StopsEnding c quoted last content column place before after failed stop =
-    (IsFit c content × Breaks before after (ending c quoted last content) stop × (failed ≡ true))
+    (IsFit c content × WritesPrefix before after (ending c quoted last content) stop × (failed ≡ true))
     ⊎ ((¬ (IsFit c content)) × (after ≡ before) × (stop ≡ record { fault = BadText column; place = Payload place }) × (failed ≡ false))
 
 -- The content is whole and its end was put, or that stopped.

@@ -6,7 +6,7 @@ use Rattle.tds_packet.specs.Elements.{Grammar}
 use Rattle.tds_packet.specs.declared.payload.Payload as payloads
 use Rattle.tds_packet.specs.Payloads.{seen}
 use Rattle.tds_packet.specs.Reading.{Reads, StopsReading}
-use Rattle.tds_packet.specs.Seen.{Seen, Takes, Ends, IsBetween, began_at}
+use Rattle.tds_packet.specs.PayloadView.{PayloadView, Takes, Ends, IsBetween, began_at}
 use Rattle.tds_columns.specs.ReturnedType.{return_column}
 use Rattle.tds_text.specs.Conversion.{Conversion, is_begun, is_fit, unit}
 use Rattle.tds_values.specs.declared.kind.Kind.{Kind}
@@ -33,7 +33,7 @@ abbrev pub IsGoodValue : Kind → List ℕ → Type 0
 IsGoodValue kind bytes = 0 < value_length kind bytes → is_ok (read_of kind (value_bytes kind bytes)) ≡ true
 
 -- This number of bytes was handed out.
-pub record PassesData (n : ℕ) (old new : Seen) (place place' : ℕ) : Type 0 where
+pub record PassesData (n : ℕ) (old new : PayloadView) (place place' : ℕ) : Type 0 where
   pub bytes : List ℕ
   pub counted : length bytes ≡ n
   pub takes : Takes old new bytes n
@@ -41,7 +41,7 @@ pub record PassesData (n : ℕ) (old new : Seen) (place place' : ℕ) : Type 0 w
   pub place_is : place' ≡ place + n
 
 -- The payload stopped before this number of bytes; if the message ended, the stop is at the byte that is missing.
-pub record CutsPassing (n : ℕ) (old new : Seen) (place : ℕ) (stop : Stop) : Type 0 where
+pub record CutsPassing (n : ℕ) (old new : PayloadView) (place : ℕ) (stop : Stop) : Type 0 where
   pub bytes : List ℕ
   pub own : Stop
   pub fewer : length bytes < n
@@ -61,18 +61,18 @@ PiecePassed remaining old new result = MatchResult result
     (λ stop. CutsPassing 1 (seen remaining old) (seen remaining new) old.place stop)
 
 -- Whole elements of a value were read without a fault, which lead from one state to another.
-pub record StepsOver (from to : CellPart) (old new : Seen) (place place' : ℕ) : Type 0 where
+pub record StepsOver (from to : CellPart) (old new : PayloadView) (place place' : ℕ) : Type 0 where
   pub reads : Reads return_cell from old new to
   pub between : IsBetween new
   pub place_is : place' ≡ place + length reads.bytes
 
 -- Reading a value stopped: at the first fault of an element, or as the payload does.
-pub record StopsPassing (from : CellPart) (old new : Seen) (place : ℕ) (stop : Stop) : Type 0 where
+pub record StopsPassing (from : CellPart) (old new : PayloadView) (place : ℕ) (stop : Stop) : Type 0 where
   pub at : CellPart
   pub stops : StopsReading return_cell from old new place at stop
 
 -- A whole value was read, and no byte after it.
-pub record PassesCell (from : CellPart) (old new : Seen) (place place' : ℕ) : Type 0 where
+pub record PassesCell (from : CellPart) (old new : PayloadView) (place place' : ℕ) : Type 0 where
   pub value : Cell
   pub steps : StepsOver from (WholeCell value) old new place place'
 

@@ -4,14 +4,14 @@ use Rattle.tds_values.specs.declared.kind.Kind.{Kind}
 use Rattle.tds_packet.specs.declared.fault.Stop.{Stop}
 use Rattle.tds_packet.specs.declared.payload.Payload.{Payload}
 use Rattle.tds_packet.specs.Payloads.{IsGoing, IsOnSame, IsSound, LeavesPayload, buffered, seen}
-use Rattle.tds_packet.specs.Seen.{Takes}
+use Rattle.tds_packet.specs.PayloadView.{Takes}
 use Rattle.tds_columns.specs.Description.{Column}
 use Rattle.tds_text.specs.Quoting.{in_line, null_field}
 use Rattle.tds_csv.specs.declared.sink.Sink.{Sink}
 use Rattle.tds_csv.specs.Sinks.{IsOnSameSink, IsReady, Puts, held, IsWriting, LeavesSink, PutsPiece}
 use Rattle.tds_rows.specs.declared.rows.Rows.{Rows}
-use Rattle.tds_cells.specs.declared.table.Ahead.{Ahead}
-use Rattle.tds_cells.specs.declared.layout.Form.{Form}
+use Rattle.tds_cells.specs.declared.row_format.Cursor.{Cursor}
+use Rattle.tds_cells.specs.declared.layout.CellFormat.{CellFormat}
 use Rattle.tds_cells.specs.Layouts.{IsLaidOut}
 use Rattle.tds_cells.specs.Cells.{CellPart}
 use Rattle.tds_meter.specs.Space.{Space}
@@ -20,7 +20,7 @@ use Rattle.tds_cells.specs.Rows.{RowPart, RowToken, longest_bitmap, token_byte}
 use Rattle.tds_cells.specs.MarkedRows.{WritesNbcRows}
 use Rattle.tds_rows.specs.RowSteps.{RowPut}
 use Rattle.tds_cells.specs.Rows.{BeginNoRow}
-use Rattle.tds_cells.specs.Tables.{IsNextKind, KnowsSome}
+use Rattle.tds_cells.specs.RowFormats.{IsNextKind, KnowsSome}
 
 -- A call may be made that reads a row: payload and sink go on or give their stop again, and the small area has room for a cell.
 pub record IsReadyForRow {R W : Type 0} (payload : Payload R) (sink : Sink W) (small : Space) : Type 0 where
@@ -43,32 +43,32 @@ pub record IsInRow {R W : Type 0} (rows : Rows R W) : Type 0 where
 -- A row of some columns is being read.
 pub record IsInSomeRow {R W : Type 0} (rows : Rows R W) : Type 0 where
   pub in_row : IsInRow rows
-  pub knows : KnowsSome rows.table.now
+  pub knows : KnowsSome rows.row_format.now
 
--- A row is being read, and its next cell is of this form.
-pub record IsAtCell {R W : Type 0} (rows : Rows R W) (at : Ahead) (form : Form) : Type 0 where
+-- A row is being read, and its next cell is of this format.
+pub record IsAtCell {R W : Type 0} (rows : Rows R W) (at : Cursor) (format : CellFormat) : Type 0 where
   pub in_row : IsInRow rows
-  pub within : at.column < rows.table.now.count
-  pub laid : IsLaidOut rows.table.now.charset form.kind form.layout
+  pub within : at.column < rows.row_format.now.count
+  pub laid : IsLaidOut rows.row_format.now.charset format.kind format.layout
 
 -- A row is being read whose bitmap is these bytes.
 pub record IsInMarkedRow {R W : Type 0} (rows : Rows R W) (bitmap : List ℕ) : Type 0 where
   pub in_row : IsInRow rows
-  pub whole : rows.table.now.count ≤ 8 * length bitmap
+  pub whole : rows.row_format.now.count ≤ 8 * length bitmap
 
--- Two readings are on the same payload, sink and area, by the same table.
+-- Two readings are on the same payload, sink and area, by the same row format.
 abbrev pub IsOnSameRows : {R W : Type 0} → Rows R W → Rows R W → Type 0
 IsOnSameRows old new = (new.payload.ghost_name ≡ old.payload.ghost_name) × (new.sink.ghost_name ≡ old.sink.ghost_name)
-    × (new.small.ghost_name ≡ old.small.ghost_name) × (new.table ≡ old.table)
+    × (new.small.ghost_name ≡ old.small.ghost_name) × (new.row_format ≡ old.row_format)
 
--- A call left the reading on the same devices and area, by the same table, with no more than a cell gathered, and, if it returned no error, going on.
+-- A call left the reading on the same devices and area, by the same row format, with no more than a cell gathered, and, if it returned no error, going on.
 pub record LeavesRows {R W U : Type 0} (old new : Rows R W) (result : Result U Stop) : Type 0 where
   pub same : IsOnSameRows old new
   pub payload : LeavesPayload old.payload.now new.payload.now result
   pub sink : LeavesSink old.sink.now new.sink.now result
   pub small : LeavesSmall old.small.now new.small.now
 
--- A row is still being read, on the same devices and area, by the same table, with no more than a cell gathered.
+-- A row is still being read, on the same devices and area, by the same row format, with no more than a cell gathered.
 pub record StaysInRow {R W : Type 0} (old new : Rows R W) : Type 0 where
   pub in_row : IsInRow new
   pub same : IsOnSameRows old new
@@ -86,20 +86,20 @@ ContentRead remaining contents start column last old new result =
 abbrev pub KindRead : {R W U : Type 0} → (R → Option (List ℕ)) → (W → Option (List ℕ)) → ℕ → Bool → Kind → Rows R W → Rows R W → Result U Stop
     → Type 0
 KindRead remaining contents column last kind old new result =
-    CellPut remaining contents old.table.now.charset kind column last old.payload.now new.payload.now old.sink.now new.sink.now result
+    CellPut remaining contents old.row_format.now.charset kind column last old.payload.now new.payload.now old.sink.now new.sink.now result
 
 -- The next cell, of this kind, was read and its text put, or the call stopped.
-pub record CellRead {R W U : Type 0} (remaining : R → Option (List ℕ)) (contents : W → Option (List ℕ)) (at : Ahead) (kind : Kind) (old new : Rows R W)
+pub record CellRead {R W U : Type 0} (remaining : R → Option (List ℕ)) (contents : W → Option (List ℕ)) (at : Cursor) (kind : Kind) (old new : Rows R W)
     (result : Result U Stop) : Type 0 where
   pub leaves : LeavesRows old new result
-  pub cell : (last : Bool) → IsNextKind old.table.now at kind last → KindRead remaining contents at.column last kind old new result
+  pub cell : (last : Bool) → IsNextKind old.row_format.now at kind last → KindRead remaining contents at.column last kind old new result
 
 -- The next cell was put, NULL or, of this kind, as it was read, or the call stopped.
-abbrev pub NextRead : {R W U : Type 0} → (R → Option (List ℕ)) → (W → Option (List ℕ)) → Ahead → Kind → Bool → Rows R W → Rows R W → Result U Stop
+abbrev pub NextRead : {R W U : Type 0} → (R → Option (List ℕ)) → (W → Option (List ℕ)) → Cursor → Kind → Bool → Rows R W → Rows R W → Result U Stop
     → Type 0
 NextRead remaining contents at kind true old new result =
     (new.payload.now ≡ old.payload.now) × PutsPiece contents old.sink.now new.sink.now
-    (in_line at.column (at.column + 1 == old.table.now.count) null_field) result
+    (in_line at.column (at.column + 1 == old.row_format.now.count) null_field) result
 NextRead remaining contents at kind false old new result = CellRead remaining contents at kind old new result
 
 -- A bitmap can be read into the area: it is empty, and has room for the longest.
@@ -111,14 +111,14 @@ pub record AwaitsBitmap (bitmap : Space) : Type 0 where
 -- A row was read from this state on and its line put, or the call stopped.
 abbrev pub RowRead : {R W U : Type 0} → (R → Option (List ℕ)) → (W → Option (List ℕ)) → RowPart → Rows R W → Rows R W → Result U Stop → Type 0
 RowRead remaining contents start old new result =
-    RowPut remaining contents old.table.now.charset start old.payload.now new.payload.now old.sink.now new.sink.now result
+    RowPut remaining contents old.row_format.now.charset start old.payload.now new.payload.now old.sink.now new.sink.now result
 
 -- This many NBCROWs were read from this state on, without a packet, each before the token byte of the next, which was read too; and their lines were put.
 pub record RowsTaken {R W : Type 0} (remaining : R → Option (List ℕ)) (contents : W → Option (List ℕ)) (columns : List Column) (old new : Rows R W)
     (count : ℕ) : Type 0 where
   pub bytes : List ℕ
   pub text : List ℕ
-  pub writes : WritesNbcRows old.table.now.charset columns count bytes text
+  pub writes : WritesNbcRows old.row_format.now.charset columns count bytes text
   pub takes : Takes (seen remaining old.payload.now) (seen remaining new.payload.now) bytes 0
   pub puts : Puts (held contents old.sink.now) (held contents new.sink.now) text
   pub place_is : new.payload.now.place ≡ old.payload.now.place + length bytes

@@ -3,8 +3,8 @@ use Rattle.std.specs.Prelude.{◌≡◌, ◌+◌, ◌≤◌, ℕ, Bool, false, L
 use Rattle.tds_packet.specs.declared.fault.Stop.{Stop}
 use Rattle.tds_rows.specs.declared.rows.Rows.{Rows}
 use Rattle.tds_cells.specs.declared.run.RowsRun.{RowsRun}
-use Rattle.tds_cells.specs.declared.table.Ahead.{Ahead}
-use Rattle.tds_rows.specs.MarkedPuts.{MarkedBreaks, MarkedPut}
+use Rattle.tds_cells.specs.declared.row_format.Cursor.{Cursor}
+use Rattle.tds_rows.specs.MarkedPuts.{WritesPrefixOfCells, PutsMarkedCells}
 use Rattle.tds_rows.specs.RowReading.{LeavesRows}
 use Rattle.tds_rows.specs.RunPuts.{RowsPut}
 
@@ -13,18 +13,18 @@ abbrev pub IsFurther : ℕ → ℕ → RowsRun → Type 0
 IsFurther old new run = (new ≡ old + run.used) × (run.rows ≤ run.used)
 
 -- The cells of a run were read and their text put; or a write of it failed, in the row that the run began in.
-pub record RunRead {R W : Type 0} (remaining : R → Option (List ℕ)) (contents : W → Option (List ℕ)) (from : Ahead) (old new : Rows R W)
+pub record RunRead {R W : Type 0} (remaining : R → Option (List ℕ)) (contents : W → Option (List ℕ)) (from : Cursor) (old new : Rows R W)
     (result : Result RowsRun Stop) : Type 0 where
   pub leaves : LeavesRows old new result
   pub place : IfOk result (λ run. IsFurther old.payload.now.place new.payload.now.place run)
   pub cells : MatchResult result
-      (λ run. RowsPut remaining contents old.table.now from old.payload.now new.payload.now old.sink.now new.sink.now run)
-      (λ stop. MarkedBreaks remaining contents old.table.now (λ k. false) from old.payload.now new.payload.now old.sink.now new.sink.now stop)
+      (λ run. RowsPut remaining contents old.row_format.now from old.payload.now new.payload.now old.sink.now new.sink.now run)
+      (λ stop. WritesPrefixOfCells remaining contents old.row_format.now (λ k. false) from old.payload.now new.payload.now old.sink.now new.sink.now stop)
 
 -- The cells of a run within a row were read and their text put; or a write of it failed.
-pub record MarkedRead {R W : Type 0} (remaining : R → Option (List ℕ)) (contents : W → Option (List ℕ)) (nulls : ℕ → Bool) (from : Ahead)
-    (old new : Rows R W) (result : Result Ahead Stop) : Type 0 where
+pub record MarkedRead {R W : Type 0} (remaining : R → Option (List ℕ)) (contents : W → Option (List ℕ)) (nulls : ℕ → Bool) (from : Cursor)
+    (old new : Rows R W) (result : Result Cursor Stop) : Type 0 where
   pub leaves : LeavesRows old new result
   pub cells : MatchResult result
-      (λ to. MarkedPut remaining contents old.table.now nulls from old.payload.now new.payload.now old.sink.now new.sink.now to)
-      (λ stop. MarkedBreaks remaining contents old.table.now nulls from old.payload.now new.payload.now old.sink.now new.sink.now stop)
+      (λ to. PutsMarkedCells remaining contents old.row_format.now nulls from old.payload.now new.payload.now old.sink.now new.sink.now to)
+      (λ stop. WritesPrefixOfCells remaining contents old.row_format.now nulls from old.payload.now new.payload.now old.sink.now new.sink.now stop)

@@ -3,10 +3,10 @@ use Rattle.std.specs.Prelude.{◌≡◌, ◌⊎◌, ◌+◌, ℕ, Bool, List, le
 use Rattle.tds_packet.specs.declared.fault.Stop.{Stop}
 use Rattle.tds_packet.specs.declared.payload.Payload.{Payload}
 use Rattle.tds_packet.specs.Payloads.{seen}
-use Rattle.tds_packet.specs.Seen.{Seen}
+use Rattle.tds_packet.specs.PayloadView.{PayloadView}
 use Rattle.tds_columns.specs.Description.{Column}
 use Rattle.tds_csv.specs.declared.sink.Sink.{Sink}
-use Rattle.tds_csv.specs.Sinks.{Held, held, stop_of}
+use Rattle.tds_csv.specs.Sinks.{SinkView, held, stop_of}
 use Rattle.tds_csv.specs.Streaming.{StopsStreaming, Streams}
 use Rattle.tds_values.specs.declared.charset.Charset.{Charset}
 use Rattle.tds_cells.specs.Cells.{Cell}
@@ -14,13 +14,13 @@ use Rattle.tds_cells.specs.Rows.{RowPart, RowToken, WholeRow, row, row_so_far}
 use Rattle.tds_cells.specs.Runs.{rows, rows_so_far, rows_start}
 
 -- A row was read, and its line put.
-pub record ReadsRow (charset : Charset) (start : RowPart) (old new : Seen) (place place' : ℕ) (before after : Held) : Type 0 where
+pub record ReadsRow (charset : Charset) (start : RowPart) (old new : PayloadView) (place place' : ℕ) (before after : SinkView) : Type 0 where
   pub cells : List Cell
   pub streams : Streams (row charset) row_so_far start old new before after (WholeRow cells)
   pub place_is : place' ≡ place + length streams.bytes
 
 -- Reading a row stopped: at an element that is refused or cut, with the text of the state that it reached; or in writing.
-abbrev pub RowStops : Charset → RowPart → Seen → Seen → ℕ → Held → Held → Bool → Stop → Type 0
+abbrev pub RowStops : Charset → RowPart → PayloadView → PayloadView → ℕ → SinkView → SinkView → Bool → Stop → Type 0
 RowStops charset = StopsStreaming (row charset) row_so_far
 
 -- A row was read and its line put, or the call stopped.
@@ -32,8 +32,8 @@ RowPut remaining contents charset start old new before after result = MatchResul
     stop)
 
 -- Rows were read, this many, and their lines put.
-pub record ReadsRows (token : RowToken) (charset : Charset) (columns : List Column) (count : ℕ) (old new : Seen) (place place' : ℕ)
-    (before after : Held) : Type 0 where
+pub record ReadsRows (token : RowToken) (charset : Charset) (columns : List Column) (count : ℕ) (old new : PayloadView) (place place' : ℕ)
+    (before after : SinkView) : Type 0 where
   pub earlier : List (List Cell)
   pub last : List Cell
   pub counted : count ≡ length earlier + 1
@@ -42,12 +42,12 @@ pub record ReadsRows (token : RowToken) (charset : Charset) (columns : List Colu
   pub place_is : place' ≡ place + length streams.bytes
 
 -- Rows were read and their lines put, as far as a place in a row, and there the reading of that row stopped.
-pub record RowsStop (token : RowToken) (charset : Charset) (columns : List Column) (old new : Seen) (place : ℕ) (before after : Held) (failed : Bool)
+pub record RowsStop (token : RowToken) (charset : Charset) (columns : List Column) (old new : PayloadView) (place : ℕ) (before after : SinkView) (failed : Bool)
     (stop : Stop) : Type 0 where
   pub earlier : List (List Cell)
   pub part : RowPart
-  pub middle : Seen
-  pub between : Held
+  pub middle : PayloadView
+  pub between : SinkView
   pub streams : Streams (rows token charset columns) rows_so_far (rows_start token charset columns) old middle before between
       (record { before = earlier; at = part })
   pub stops : RowStops charset part middle new (place + length streams.bytes) between after failed stop

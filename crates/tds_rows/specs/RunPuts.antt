@@ -2,23 +2,23 @@
 use Rattle.std.specs.Prelude.{◌≡◌, ◌+◌, ℕ, List, [], length, drop, Option}
 use Rattle.tds_packet.specs.declared.payload.Payload.{Payload}
 use Rattle.tds_packet.specs.Payloads.{seen}
-use Rattle.tds_packet.specs.Seen.{Seen}
+use Rattle.tds_packet.specs.PayloadView.{PayloadView}
 use Rattle.tds_columns.specs.Description.{Column}
 use Rattle.tds_csv.specs.declared.sink.Sink.{Sink}
-use Rattle.tds_csv.specs.Sinks.{Held, held}
+use Rattle.tds_csv.specs.Sinks.{SinkView, held}
 use Rattle.tds_csv.specs.Streaming.{Streams}
 use Rattle.tds_values.specs.declared.charset.Charset.{Charset}
 use Rattle.tds_cells.specs.declared.run.RowsRun.{RowsRun}
-use Rattle.tds_cells.specs.declared.table.Ahead.{Ahead}
-use Rattle.tds_cells.specs.declared.table.Table.{Table}
+use Rattle.tds_cells.specs.declared.row_format.Cursor.{Cursor}
+use Rattle.tds_cells.specs.declared.row_format.RowFormat.{RowFormat}
 use Rattle.tds_cells.specs.Cells.{Cell}
 use Rattle.tds_cells.specs.Rows.{PlainRow}
-use Rattle.tds_cells.specs.Tables.{IsAhead, Knows}
+use Rattle.tds_cells.specs.RowFormats.{IsCursor, Knows}
 use Rattle.tds_cells.specs.Runs.{after_cells, rows, rows_so_far}
 
 -- More cells after these were read, over the ends of this many rows, and their text put.
-pub record RunsRows (charset : Charset) (all : List Column) (cells : List Cell) (columns left : List Column) (column count : ℕ) (old new : Seen)
-    (place place' : ℕ) (earlier after : Held) : Type 0 where
+pub record RunsRows (charset : Charset) (all : List Column) (cells : List Cell) (columns left : List Column) (column count : ℕ) (old new : PayloadView)
+    (place place' : ℕ) (earlier after : SinkView) : Type 0 where
   pub before : List (List Cell)
   pub more : List Cell
   pub rows_counted : length before ≡ count
@@ -28,9 +28,9 @@ pub record RunsRows (charset : Charset) (all : List Column) (cells : List Cell) 
   pub place_is : place' ≡ place + length streams.bytes
 
 -- The same between a payload and a sink.
-abbrev pub RowsPut : {R W : Type 0} → (R → Option (List ℕ)) → (W → Option (List ℕ)) → Table → Ahead → Payload R → Payload R → Sink W → Sink W
+abbrev pub RowsPut : {R W : Type 0} → (R → Option (List ℕ)) → (W → Option (List ℕ)) → RowFormat → Cursor → Payload R → Payload R → Sink W → Sink W
     → RowsRun → Type 0
-RowsPut remaining contents table from old new before after run = (columns : List Column) → Knows table columns → IsAhead table columns from →
-    IsAhead table columns run.ahead × ((charset : Charset) (cells : List Cell) → table.charset ≡ charset → length cells ≡ from.column →
+RowsPut remaining contents row_format from old new before after run = (columns : List Column) → Knows row_format columns → IsCursor row_format columns from →
+    IsCursor row_format columns run.ahead × ((charset : Charset) (cells : List Cell) → row_format.charset ≡ charset → length cells ≡ from.column →
     RunsRows charset columns cells (drop from.column columns) (drop run.ahead.column columns) run.ahead.column run.rows (seen remaining old)
     (seen remaining new) old.place new.place (held contents before) (held contents after))

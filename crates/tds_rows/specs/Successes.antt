@@ -3,7 +3,7 @@ use Rattle.std.specs.Prelude.{◌≡◌, ℕ, true, List, [], ◌∷◌, ◌++�
 use Rattle.tds_meter.specs.Counts.{Rose}
 use Rattle.tds_packet.specs.declared.payload.Payload.{Payload}
 use Rattle.tds_packet.specs.Payloads.{seen}
-use Rattle.tds_packet.specs.Seen.{Seen}
+use Rattle.tds_packet.specs.PayloadView.{PayloadView}
 use Rattle.tds_columns.specs.Description.{Column}
 use Rattle.tds_csv.specs.declared.sink.Sink.{Sink}
 use Rattle.tds_values.specs.declared.charset.Charset.{Charset}
@@ -11,7 +11,7 @@ use Rattle.tds_cells.specs.Cells.{Cell}
 use Rattle.tds_cells.specs.Rows.{RowToken, SpellsRowAs, token_byte}
 
 -- The reader tells what it has left, and with it these bytes are to come.
-pub record Brings (seen : Seen) (bytes : List ℕ) : Type 0 where
+pub record Brings (seen : PayloadView) (bytes : List ℕ) : Type 0 where
   pub input : List ℕ
   pub left : seen.left ≡ Some input
   pub comes : (seen.future input).bytes ≡ bytes

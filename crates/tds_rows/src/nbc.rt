@@ -1,7 +1,7 @@
 // A row with a bitmap of the columns that are NULL, and such rows after one another (MS-TDS, NBCROW).
 ghost use Rattle.std.specs.Prelude.{◌*◌, ◌<◌, ◌≤◌, ◌+◌, ◌-◌, List, IfOk};
 ghost use Rattle.tds_cells.specs.MarkedRuns.{EndsLeft};
-ghost use Rattle.tds_rows.specs.MarkedPuts.{MarkedPut, room_left};
+ghost use Rattle.tds_rows.specs.MarkedPuts.{PutsMarkedCells, room_left};
 ghost use Rattle.tds_cells.specs.Rows.{bit, NbcRow, longest_bitmap, nbc_row_start};
 ghost use Rattle.tds_columns.specs.Description.{Column};
 ghost use Rattle.tds_packet.specs.Payloads.{buffered};
@@ -9,13 +9,13 @@ ghost use Rattle.tds_packet.specs.Reads.{KeepsRoom};
 ghost use Rattle.tds_rows.specs.RowReading.{AwaitsBitmap, IsAtCell, EndsRows, IsInMarkedRow, IsInSomeRow, LeavesRows, NextRead, RowRead, RowsTaken, StaysInRow};
 ghost use Rattle.tds_rows.specs.RowRuns.{MarkedRead};
 ghost use Rattle.tds_rows.specs.RowSteps.{RowsRead};
-ghost use Rattle.tds_cells.specs.Tables.{Knows};
+ghost use Rattle.tds_cells.specs.RowFormats.{Knows};
 
 use crate::cell::null::put_null;
-use crate::rows::{BLOCK_END, Rows, SHORT_TEXT};
+use crate::rows::{BLOCK_END, Rows, SCRATCH};
 use std::io::{Read, Write};
-use tds_cells::{Ahead, Form, NBCROW, bitmap_size, is_null};
-use tds_columns::take_into;
+use tds_cells::{CellFormat, Cursor, NBCROW, bitmap_size, is_null};
+use tds_columns::read_into;
 use tds_meter::Area;
 use tds_packet::Stop;
 
@@ -29,18 +29,18 @@ impl<'r, 't, 'p, 's, 'c, R: Read, W: Write> Rows<'r, 't, 'p, 's, 'c, R, W> {
     // Takes the next cells of an NBCROW, as many as are NULL by their bit or whole in the packet, aren't in several
     // chunks and have room in the block, puts their text where it waits, and returns the place after them. It reads
     // nothing and delivers nothing.
-    fn put_nulls_within(&mut self, from: Ahead<'c>, bitmap: &[u8]) -> Ahead<'c>
+    fn put_nulls_within(&mut self, from: Cursor<'c>, bitmap: &[u8]) -> Cursor<'c>
         requires { IsInMarkedRow self.old bitmap.now }
         ensures stays { StaysInRow self.old self.new }
-        ensures ends { EndsLeft self.old.table.now (bit bitmap.now) result (buffered self.new.payload.now)
+        ensures ends { EndsLeft self.old.row_format.now (bit bitmap.now) result (buffered self.new.payload.now)
             (room_left self.new.sink.now) }
-        ensures cells { MarkedPut R.remaining W.contents self.old.table.now (bit bitmap.now) from.entry
+        ensures cells { PutsMarkedCells R.remaining W.contents self.old.row_format.now (bit bitmap.now) from.entry
             self.old.payload.now self.new.payload.now self.old.sink.now self.new.sink.now result }
     {
         let waiting = self.sink.waiting() as usize;
         let room = self.sink.room() - 1;
         let (bytes, spare) = (self.payload.buffered(), self.sink.spare(room));
-        let run = self.table.run_nulls(from, bitmap, bytes, spare);
+        let run = self.row_format.run_nbc(from, bitmap, bytes, spare);
         self.payload.consume(run.used);
         self.sink.commit(waiting, run.made);
         run.ahead
@@ -48,19 +48,19 @@ impl<'r, 't, 'p, 's, 'c, R: Read, W: Write> Rows<'r, 't, 'p, 's, 'c, R, W> {
 
     // Takes the next cells of an NBCROW, as many as are NULL by their bit or whole in the packet, aren't in several chunks and
     // have room in a small text, puts that text over the end of the block, and returns the place after them.
-    fn put_nulls_across(&mut self, from: Ahead<'c>, bitmap: &[u8]) -> Result<Ahead<'c>, Stop>
+    fn put_nulls_across(&mut self, from: Cursor<'c>, bitmap: &[u8]) -> Result<Cursor<'c>, Stop>
         requires { IsInMarkedRow self.old bitmap.now }
         ensures { MarkedRead R.remaining W.contents (bit bitmap.now) from.entry self.old self.new result }
     {
-        let mut text = [0u8; SHORT_TEXT];
+        let mut text = [0u8; SCRATCH];
         let bytes = self.payload.buffered();
-        let run = self.table.run_nulls(from, bitmap, bytes, &mut text);
+        let run = self.row_format.run_nbc(from, bitmap, bytes, &mut text);
         self.put_made(run, &text)
     }
 
     // Takes the next cells of an NBCROW, as many as are NULL by their bit or whole in the packet, aren't in several chunks and
     // have room, puts their text, and returns the place after them.
-    fn put_nulls(&mut self, from: Ahead<'c>, bitmap: &[u8]) -> Result<Ahead<'c>, Stop>
+    fn put_nulls(&mut self, from: Cursor<'c>, bitmap: &[u8]) -> Result<Cursor<'c>, Stop>
         requires { IsInMarkedRow self.old bitmap.now }
         ensures { MarkedRead R.remaining W.contents (bit bitmap.now) from.entry self.old self.new result }
     {
@@ -78,31 +78,31 @@ impl<'r, 't, 'p, 's, 'c, R: Read, W: Write> Rows<'r, 't, 'p, 's, 'c, R, W> {
         requires { IsInSomeRow self.old }
         ensures stays { StaysInRow self.old self.new }
         ensures few { self.old.payload.now.place + result ≤ self.new.payload.now.place }
-        ensures rows { (columns : List Column) → Knows self.old.table.now columns →
+        ensures rows { (columns : List Column) → Knows self.old.row_format.now columns →
             RowsTaken R.remaining W.contents columns self.old self.new result }
     {
         let room = self.sink.room() - 1;
-        if !self.table.knows_all() || room < SHORT_CELL * self.table.count() as usize {
+        if !self.row_format.knows_all() || room < SHORT_CELL * self.row_format.count() as usize {
             return 0;
         }
         let waiting = self.sink.waiting() as usize;
         let (bytes, spare) = (self.payload.buffered(), self.sink.spare(room));
-        let run = self.table.run_far_rows(bytes, spare);
+        let run = self.row_format.run_far_rows(bytes, spare);
         self.payload.consume(run.used);
         self.sink.commit(waiting, run.made);
         run.rows as u64
     }
 
     // Puts the next cell: NULL, or the cell that it reads.
-    fn put_next(&mut self, at: Ahead<'c>, form: &Form, null: bool) -> Result<(), Stop>
-        requires { IsAtCell self.old at form.now }
+    fn put_next(&mut self, at: Cursor<'c>, format: &CellFormat, null: bool) -> Result<(), Stop>
+        requires { IsAtCell self.old at format.now }
         ensures leaves { LeavesRows self.old self.new result }
-        ensures cell { NextRead R.remaining W.contents at.entry form.now.kind null self.old self.new result }
+        ensures cell { NextRead R.remaining W.contents at.entry format.now.kind null self.old self.new result }
     {
         if null {
-            return put_null(at.column, self.table.is_last(at), self.sink);
+            return put_null(at.column, self.row_format.is_last(at), self.sink);
         }
-        self.put_cell(at, form)
+        self.put_cell(at, format)
     }
 
     /// Reads an NBCROW after its token byte, its bitmap into an empty area, and puts its line.
@@ -112,18 +112,18 @@ impl<'r, 't, 'p, 's, 'c, R: Read, W: Write> Rows<'r, 't, 'p, 's, 'c, R, W> {
         requires awaits { AwaitsBitmap bitmap.old }
         ensures leaves { LeavesRows self.old self.new result }
         ensures bitmap { KeepsRoom bitmap.old bitmap.new }
-        ensures row { (columns : List Column) → Knows self.old.table.now columns →
+        ensures row { (columns : List Column) → Knows self.old.row_format.now columns →
             RowRead R.remaining W.contents (nbc_row_start columns) self.old self.new result }
     {
-        take_into(self.payload, bitmap, bitmap_size(self.table.count()))?;
-        let mut ahead = self.table.start();
+        read_into(self.payload, bitmap, bitmap_size(self.row_format.count()))?;
+        let mut ahead = self.row_format.start();
         loop {
             let at = self.put_nulls(ahead, bitmap.bytes())?;
-            let Some((form, after)) = self.table.next(at) else {
+            let Some((format, after)) = self.row_format.next(at) else {
                 return Ok(());
             };
             let null = is_null(bitmap.bytes(), at.column);
-            self.put_next(at, &form, null)?;
+            self.put_next(at, &format, null)?;
             ahead = after;
         }
     }
@@ -137,8 +137,8 @@ impl<'r, 't, 'p, 's, 'c, R: Read, W: Write> Rows<'r, 't, 'p, 's, 'c, R, W> {
         ensures leaves { LeavesRows self.old self.new result }
         ensures bitmap { KeepsRoom bitmap.old bitmap.new }
         ensures ends { IfOk result (λ count. EndsRows NbcRow self.old.payload.now self.new.payload.now count) }
-        ensures rows { (columns : List Column) → Knows self.old.table.now columns →
-            RowsRead R.remaining W.contents NbcRow self.old.table.now.charset columns
+        ensures rows { (columns : List Column) → Knows self.old.row_format.now columns →
+            RowsRead R.remaining W.contents NbcRow self.old.row_format.now.charset columns
             self.old.payload.now self.new.payload.now self.old.sink.now self.new.sink.now result }
     {
         let mut ended: u64 = 0;

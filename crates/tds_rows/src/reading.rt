@@ -6,17 +6,17 @@ ghost use Rattle.tds_packet.specs.Payloads.{LeavesPayload, buffered};
 ghost use Rattle.tds_packet.specs.Reads.{KeepsRoom};
 ghost use Rattle.tds_cells.specs.Cells.{Cell};
 ghost use Rattle.tds_rows.specs.CellSteps.{LeavesSmall};
-ghost use Rattle.tds_cells.specs.Forms.{table_length};
+ghost use Rattle.tds_cells.specs.Formats.{most_known};
 ghost use Rattle.tds_rows.specs.RowReading.{AwaitsRows, EndsRows, IsReadyForRow};
 ghost use Rattle.tds_rows.specs.RowSteps.{IsEarlierStop, RowPut, RowsRead, StopsAgain};
 ghost use Rattle.tds_cells.specs.Rows.{NbcRow, PlainRow, SpellsNbcRow, SpellsRow, longest_bitmap, nbc_row_start, row_start};
-ghost use Rattle.tds_cells.specs.Tables.{Learns};
+ghost use Rattle.tds_cells.specs.RowFormats.{Learns};
 ghost use Rattle.tds_cells.specs.Rows.{BeginNoRow};
 ghost use Rattle.tds_rows.specs.Successes.{SpellsRows, SucceedsOn};
 
 use crate::rows::Rows;
 use std::io::{Read, Write};
-use tds_cells::{FEW_COLUMNS, Form, Learnt, MANY_COLUMNS, SOME_COLUMNS, Table, blank};
+use tds_cells::{CellFormat, FEW_COLUMNS, Learnt, MANY_COLUMNS, RowFormat, SOME_COLUMNS, blank};
 use tds_columns::Columns;
 use tds_csv::Sink;
 use tds_meter::Area;
@@ -64,28 +64,28 @@ pub fn row<R: Read, W: Write>(
     if let Some(stop) = earlier_stop(payload, sink) {
         return Err(stop);
     }
-    let table = Table::walked(columns, charset);
+    let row_format = RowFormat::walked(columns, charset);
     let mut rows = Rows {
         payload,
         sink,
         small,
-        table: &table,
+        row_format: &row_format,
     };
     rows.row()
 }
 
-// Reads rows as `read_rows` does, by a table of these forms.
+// Reads rows as `read_rows` does, by a row format of these formats.
 #[inline(always)]
 fn rows_in<'a, R: Read, W: Write>(
     payload: &mut Payload<R>,
     columns: Columns<'a>,
     charset: Charset,
-    forms: &'a [Form],
+    formats: &'a [CellFormat],
     learnt: Learnt<'a>,
     small: &mut Area,
     sink: &mut Sink<W>,
 ) -> Result<u64, Stop>
-    requires learnt { Learns (columns_of columns.bytes.now) charset forms.now learnt }
+    requires learnt { Learns (columns_of columns.bytes.now) charset formats.now learnt }
     requires rows { AwaitsRows payload.old sink.old small.old }
     ensures payload { LeavesPayload payload.old payload.new result }
     ensures sink { LeavesSink sink.old sink.new result }
@@ -94,17 +94,17 @@ fn rows_in<'a, R: Read, W: Write>(
     ensures rows { RowsRead R.remaining W.contents PlainRow charset (columns_of columns.entry.bytes.now)
         payload.old payload.new sink.old sink.new result }
 {
-    let table = Table::of(columns, charset, forms, learnt);
+    let row_format = RowFormat::of(columns, charset, formats, learnt);
     let mut rows = Rows {
         payload,
         sink,
         small,
-        table: &table,
+        row_format: &row_format,
     };
     rows.rows()
 }
 
-// Reads rows as `read_rows` does, by a table that knows the first `N` columns at most. Its room is a local variable, and a call
+// Reads rows as `read_rows` does, by a row format that knows the first `N` columns at most. Its room is a local variable, and a call
 // takes time for each byte of that, so each room has a function of its own.
 #[inline(never)]
 fn rows_by<const N: usize, R: Read, W: Write>(
@@ -114,7 +114,7 @@ fn rows_by<const N: usize, R: Read, W: Write>(
     small: &mut Area,
     sink: &mut Sink<W>,
 ) -> Result<u64, Stop>
-    requires few { N ≤ table_length }
+    requires few { N ≤ most_known }
     requires rows { AwaitsRows payload.old sink.old small.old }
     ensures payload { LeavesPayload payload.old payload.new result }
     ensures sink { LeavesSink sink.old sink.new result }
@@ -123,9 +123,9 @@ fn rows_by<const N: usize, R: Read, W: Write>(
     ensures rows { RowsRead R.remaining W.contents PlainRow charset (columns_of columns.entry.bytes.now)
         payload.old payload.new sink.old sink.new result }
 {
-    let mut forms = [blank(); N];
-    let learnt = Table::learn(columns, charset, &mut forms);
-    rows_in(payload, columns, charset, &forms, learnt, small, sink)
+    let mut formats = [blank(); N];
+    let learnt = RowFormat::learn(columns, charset, &mut formats);
+    rows_in(payload, columns, charset, &formats, learnt, small, sink)
 }
 
 /// Reads a ROW after its token byte, and the ROWs after it as long as the next token byte is in the packet
@@ -197,28 +197,28 @@ pub fn nbc_row<R: Read, W: Write>(
     if let Some(stop) = earlier_stop(payload, sink) {
         return Err(stop);
     }
-    let table = Table::walked(columns, charset);
+    let row_format = RowFormat::walked(columns, charset);
     let mut rows = Rows {
         payload,
         sink,
         small,
-        table: &table,
+        row_format: &row_format,
     };
     rows.nbc_row(bitmap)
 }
 
-// Reads NBCROWs as `read_nbc_rows` does, by a table of these forms.
+// Reads NBCROWs as `read_nbc_rows` does, by a row format of these formats.
 fn nbc_rows_in<'a, R: Read, W: Write>(
     payload: &mut Payload<R>,
     columns: Columns<'a>,
     charset: Charset,
-    forms: &'a [Form],
+    formats: &'a [CellFormat],
     learnt: Learnt<'a>,
     bitmap: &mut Area,
     small: &mut Area,
     sink: &mut Sink<W>,
 ) -> Result<u64, Stop>
-    requires learnt { Learns (columns_of columns.bytes.now) charset forms.now learnt }
+    requires learnt { Learns (columns_of columns.bytes.now) charset formats.now learnt }
     requires rows { AwaitsRows payload.old sink.old small.old }
     requires bitmap { longest_bitmap ≤ bitmap.old.room }
     ensures payload { LeavesPayload payload.old payload.new result }
@@ -229,17 +229,17 @@ fn nbc_rows_in<'a, R: Read, W: Write>(
     ensures rows { RowsRead R.remaining W.contents NbcRow charset (columns_of columns.entry.bytes.now)
         payload.old payload.new sink.old sink.new result }
 {
-    let table = Table::of(columns, charset, forms, learnt);
+    let row_format = RowFormat::of(columns, charset, formats, learnt);
     let mut rows = Rows {
         payload,
         sink,
         small,
-        table: &table,
+        row_format: &row_format,
     };
     rows.nbc_rows(bitmap)
 }
 
-// Reads rows as `read_nbc_rows` does, by a table that knows the first `N` columns at most. Its room is a local variable, and a call
+// Reads rows as `read_nbc_rows` does, by a row format that knows the first `N` columns at most. Its room is a local variable, and a call
 // takes time for each byte of that, so each room has a function of its own.
 #[inline(never)]
 fn nbc_rows_by<const N: usize, R: Read, W: Write>(
@@ -250,7 +250,7 @@ fn nbc_rows_by<const N: usize, R: Read, W: Write>(
     small: &mut Area,
     sink: &mut Sink<W>,
 ) -> Result<u64, Stop>
-    requires few { N ≤ table_length }
+    requires few { N ≤ most_known }
     requires rows { AwaitsRows payload.old sink.old small.old }
     requires bitmap { longest_bitmap ≤ bitmap.old.room }
     ensures payload { LeavesPayload payload.old payload.new result }
@@ -261,10 +261,10 @@ fn nbc_rows_by<const N: usize, R: Read, W: Write>(
     ensures rows { RowsRead R.remaining W.contents NbcRow charset (columns_of columns.entry.bytes.now)
         payload.old payload.new sink.old sink.new result }
 {
-    let mut forms = [blank(); N];
-    let learnt = Table::learn(columns, charset, &mut forms);
+    let mut formats = [blank(); N];
+    let learnt = RowFormat::learn(columns, charset, &mut formats);
     nbc_rows_in(
-        payload, columns, charset, &forms, learnt, bitmap, small, sink,
+        payload, columns, charset, &formats, learnt, bitmap, small, sink,
     )
 }
 

@@ -14,13 +14,13 @@ ghost use Rattle.tds_cells.specs.MarkedRuns.{MarkedWritten};
 ghost use Rattle.tds_cells.specs.Runs.{EndsLast, RunEnds};
 ghost use Rattle.tds_rows.specs.MarkedPuts.{room_left};
 ghost use Rattle.tds_rows.specs.RowRuns.{IsFurther, MarkedRead, RunRead};
-ghost use Rattle.tds_cells.specs.Tables.{Knows};
+ghost use Rattle.tds_cells.specs.RowFormats.{Knows};
 ghost use Rattle.tds_values.specs.Kind as kinds;
 
 use crate::cell::gathered::{LONGEST_CELL, gather_scalar, length_size};
 use crate::cell::streamed::stream_long;
 use std::io::{Read, Write};
-use tds_cells::{Ahead, CELL_ROOM, CellRun, Form, Layout, ROW, RowsRun, Table};
+use tds_cells::{CELL_ROOM, CellFormat, CellRun, Cursor, Layout, ROW, RowFormat, RowsRun};
 use tds_csv::{Cp1252Joiner, HexJoiner, Joiner, Sink, Utf8Joiner, Utf16Joiner, joiners_suit};
 use tds_meter::Area;
 use tds_packet::{Fault, Payload, Stop};
@@ -28,18 +28,18 @@ use tds_text::Content;
 use tds_values::Reach;
 
 /// The room for the text of a run that may go over the end of a block, or of a cell that no run took.
-pub(crate) const SHORT_TEXT: usize = 256;
+pub(crate) const SCRATCH: usize = 256;
 
 /// The room in a block in which no run is begun, since its cells may want more: it goes on with a small text.
 pub(crate) const BLOCK_END: usize = 128;
 
-/// The reading of rows: the payload, the sink, the area in which a cell is gathered, and the table of the columns.
+/// The reading of rows: the payload, the sink, the area in which a cell is gathered, and the row format of the columns.
 #[derive(Drop)]
 pub(crate) struct Rows<'r, 't, 'p, 's, 'c, R, W> {
     pub(crate) payload: &'r mut Payload<'p, R>,
     pub(crate) sink: &'r mut Sink<'s, W>,
     pub(crate) small: &'r mut Area,
-    pub(crate) table: &'t Table<'c>,
+    pub(crate) row_format: &'t RowFormat<'c>,
 }
 
 impl<'r, 't, 'p, 's, 'c, R: Read, W: Write> Rows<'r, 't, 'p, 's, 'c, R, W> {
@@ -61,20 +61,20 @@ impl<'r, 't, 'p, 's, 'c, R: Read, W: Write> Rows<'r, 't, 'p, 's, 'c, R, W> {
 
     // Reads the next cell of a scalar kind, and puts its text: one across the end of a packet, or one that stops the
     // row. Its bytes are gathered in the small area, where it is judged.
-    fn put_gathered(&mut self, at: Ahead<'c>, form: &Form) -> Result<(), Stop>
-        requires next { IsAtCell self.old at form.now }
-        requires scalar { IsTrue (kinds.is_scalar form.now.kind) }
-        ensures { CellRead R.remaining W.contents at.entry form.now.kind self.old self.new result }
+    fn put_gathered(&mut self, at: Cursor<'c>, format: &CellFormat) -> Result<(), Stop>
+        requires next { IsAtCell self.old at format.now }
+        requires scalar { IsTrue (kinds.is_scalar format.now.kind) }
+        ensures { CellRead R.remaining W.contents at.entry format.now.kind self.old self.new result }
     {
         let place = self.payload.place();
-        gather_scalar(self.payload, &form.kind, at.column, self.small)?;
+        gather_scalar(self.payload, &format.kind, at.column, self.small)?;
         let mut text = [0u8; CELL_ROOM];
         let Some(cell) = self
-            .table
-            .write_alone(at, form, self.small.bytes(), &mut text)
+            .row_format
+            .write_one(at, format, self.small.bytes(), &mut text)
         else {
             let fault = Fault::BadValue { column: at.column };
-            return Err(Stop::in_payload(fault, place + length_size(&form.kind) as u64));
+            return Err(Stop::in_payload(fault, place + length_size(&format.kind) as u64));
         };
         self.sink.put(&text[..cell.made])
     }
@@ -112,50 +112,50 @@ impl<'r, 't, 'p, 's, 'c, R: Read, W: Write> Rows<'r, 't, 'p, 's, 'c, R, W> {
 
     // Puts the text of the next cell if it is whole in the packet, isn't refused and has room in a small text. `None` if
     // not, where nothing was done.
-    fn put_whole(&mut self, at: Ahead<'c>, form: &Form) -> Option<Result<(), Stop>>
-        requires { IsAtCell self.old at form.now }
+    fn put_whole(&mut self, at: Cursor<'c>, format: &CellFormat) -> Option<Result<(), Stop>>
+        requires { IsAtCell self.old at format.now }
         ensures none { result ≡ None → self.new ≡ self.old }
-        ensures left { result ≡ None → IsLeft self.old.table.now.charset form.now.kind (buffered self.old.payload.now) 256 }
-        ensures cell { IfSome result (λ put. CellRead R.remaining W.contents at.entry form.now.kind self.old self.new put) }
+        ensures left { result ≡ None → IsLeft self.old.row_format.now.charset format.now.kind (buffered self.old.payload.now) 256 }
+        ensures cell { IfSome result (λ put. CellRead R.remaining W.contents at.entry format.now.kind self.old self.new put) }
     {
-        let mut text = [0u8; SHORT_TEXT];
+        let mut text = [0u8; SCRATCH];
         let cell = self
-            .table
-            .write_alone(at, form, self.payload.buffered(), &mut text)?;
+            .row_format
+            .write_one(at, format, self.payload.buffered(), &mut text)?;
         self.payload.consume(cell.used);
         Some(self.sink.put(&text[..cell.made]))
     }
 
     // Reads the next cell, of a scalar kind, and puts its text. One near the packet's end, which is likely to be cut by
     // it, is gathered.
-    fn put_scalar(&mut self, at: Ahead<'c>, form: &Form) -> Result<(), Stop>
-        requires next { IsAtCell self.old at form.now }
-        requires scalar { IsTrue (kinds.is_scalar form.now.kind) }
-        ensures { CellRead R.remaining W.contents at.entry form.now.kind self.old self.new result }
+    fn put_scalar(&mut self, at: Cursor<'c>, format: &CellFormat) -> Result<(), Stop>
+        requires next { IsAtCell self.old at format.now }
+        requires scalar { IsTrue (kinds.is_scalar format.now.kind) }
+        ensures { CellRead R.remaining W.contents at.entry format.now.kind self.old self.new result }
     {
         if self.payload.buffered().len() < LONGEST_CELL {
-            return self.put_gathered(at, form);
+            return self.put_gathered(at, format);
         }
-        match self.put_whole(at, form) {
+        match self.put_whole(at, format) {
             Some(put) => put,
-            None => self.put_gathered(at, form),
+            None => self.put_gathered(at, format),
         }
     }
 
     // Reads the next cell, a long value of this content, and puts its field.
     fn put_long(
         &mut self,
-        at: Ahead<'c>,
-        form: &Form,
+        at: Cursor<'c>,
+        format: &CellFormat,
         content: Content,
         reach: Reach,
     ) -> Result<(), Stop>
-        requires next { IsAtCell self.old at form.now }
-        requires long { shape_of_layout form.now.layout ≡ LongShape (conversion_of content) reach }
-        ensures { CellRead R.remaining W.contents at.entry form.now.kind self.old self.new result }
+        requires next { IsAtCell self.old at format.now }
+        requires long { shape_of_layout format.now.layout ≡ LongShape (conversion_of content) reach }
+        ensures { CellRead R.remaining W.contents at.entry format.now.kind self.old self.new result }
     {
-        let last = self.table.is_last(at);
-        match self.put_whole(at, form) {
+        let last = self.row_format.is_last(at);
+        match self.put_whole(at, format) {
             Some(put) => put,
             None => self.put_joined(content, reach, at.column, last),
         }
@@ -163,27 +163,27 @@ impl<'r, 't, 'p, 's, 'c, R: Read, W: Write> Rows<'r, 't, 'p, 's, 'c, R, W> {
 
     /// Reads the next cell, whatever its kind, and puts its text.
     #[inline(never)]
-    pub(crate) fn put_cell(&mut self, at: Ahead<'c>, form: &Form) -> Result<(), Stop>
-        requires { IsAtCell self.old at form.now }
-        ensures { CellRead R.remaining W.contents at.entry form.now.kind self.old self.new result }
+    pub(crate) fn put_cell(&mut self, at: Cursor<'c>, format: &CellFormat) -> Result<(), Stop>
+        requires { IsAtCell self.old at format.now }
+        ensures { CellRead R.remaining W.contents at.entry format.now.kind self.old self.new result }
     {
-        match form.layout {
-            Layout::Fixed(_) | Layout::Counted => self.put_scalar(at, form),
-            Layout::Short(content) => self.put_long(at, form, content, Reach::Short),
-            Layout::Chunked(content) => self.put_long(at, form, content, Reach::Chunked),
+        match format.layout {
+            Layout::Fixed(_) | Layout::Counted => self.put_scalar(at, format),
+            Layout::Short(content) => self.put_long(at, format, content, Reach::Short),
+            Layout::Chunked(content) => self.put_long(at, format, content, Reach::Chunked),
         }
     }
 
     /// Passes over the bytes of a run within a row, and puts its text, which may go over the end of the block. Returns the
     /// place after it.
     #[inline(always)]
-    pub(crate) fn put_made(&mut self, run: CellRun<'c>, text: &[u8]) -> Result<Ahead<'c>, Stop>
+    pub(crate) fn put_made(&mut self, run: CellRun<'c>, text: &[u8]) -> Result<Cursor<'c>, Stop>
         requires in_row { IsInRow self.old }
         requires used { run.used ≤ length (buffered self.old.payload.now) }
         requires made { run.made ≤ length text.now }
         ensures place { IfOk result (λ _. self.new.payload.now.place ≡ self.old.payload.now.place + run.entry.used) }
-        ensures run { (nulls : ℕ → Bool) (from : Ahead) →
-            MarkedWritten self.old.table.now nulls from (buffered self.old.payload.now) text.now run.entry →
+        ensures run { (nulls : ℕ → Bool) (from : Cursor) →
+            MarkedWritten self.old.row_format.now nulls from (buffered self.old.payload.now) text.now run.entry →
             MarkedRead R.remaining W.contents nulls from self.old self.new result }
     {
         self.payload.consume(run.used);
@@ -195,21 +195,21 @@ impl<'r, 't, 'p, 's, 'c, R: Read, W: Write> Rows<'r, 't, 'p, 's, 'c, R, W> {
 impl<'r, 't, 'p, 's, 'c, R: Read, W: Write> Rows<'r, 't, 'p, 's, 'c, R, W> {
     // Reads the next cells, as many as are whole in the packet, aren't in several chunks and have room in the block, over the
     // ends of rows, and puts their text where it waits. It reads nothing and delivers nothing.
-    fn put_within(&mut self, from: Ahead<'c>) -> RowsRun<'c>
+    fn put_within(&mut self, from: Cursor<'c>) -> RowsRun<'c>
         requires in_row { IsInRow self.old }
-        requires some { 0 < self.old.table.now.count }
+        requires some { 0 < self.old.row_format.now.count }
         requires room { length self.old.sink.now.output.now.bytes + CELL_ROOM < 4096 }
         ensures stays { StaysInRow self.old self.new }
         ensures place { IsFurther self.old.payload.now.place self.new.payload.now.place result }
-        ensures ends { RunEnds self.old.table.now result.ahead (buffered self.new.payload.now) (room_left self.new.sink.now) }
-        ensures last { EndsLast self.old.table.now result.ahead.column (buffered self.new.payload.now) }
-        ensures rows { RowsPut R.remaining W.contents self.old.table.now from.entry
+        ensures ends { RunEnds self.old.row_format.now result.ahead (buffered self.new.payload.now) (room_left self.new.sink.now) }
+        ensures last { EndsLast self.old.row_format.now result.ahead.column (buffered self.new.payload.now) }
+        ensures rows { RowsPut R.remaining W.contents self.old.row_format.now from.entry
             self.old.payload.now self.new.payload.now self.old.sink.now self.new.sink.now result }
     {
         let waiting = self.sink.waiting() as usize;
         let room = self.sink.room() - 1;
         let (bytes, spare) = (self.payload.buffered(), self.sink.spare(room));
-        let run = self.table.run_rows(from, bytes, spare);
+        let run = self.row_format.run_rows(from, bytes, spare);
         self.payload.consume(run.used);
         self.sink.commit(waiting, run.made);
         run
@@ -217,11 +217,11 @@ impl<'r, 't, 'p, 's, 'c, R: Read, W: Write> Rows<'r, 't, 'p, 's, 'c, R, W> {
 
     // Reads the next cells of the row, as many as are whole in the packet, aren't in several chunks and have room in a small
     // text, and puts that text over the end of the block. Does nothing at the row's end.
-    fn put_across(&mut self, from: Ahead<'c>) -> Result<RowsRun<'c>, Stop>
+    fn put_via_scratch(&mut self, from: Cursor<'c>) -> Result<RowsRun<'c>, Stop>
         requires { IsInRow self.old }
         ensures { RunRead R.remaining W.contents from.entry self.old self.new result }
     {
-        if self.table.is_end(from) {
+        if self.row_format.is_end(from) {
             return Ok(RowsRun {
                 used: 0,
                 made: 0,
@@ -229,10 +229,12 @@ impl<'r, 't, 'p, 's, 'c, R: Read, W: Write> Rows<'r, 't, 'p, 's, 'c, R, W> {
                 ahead: from,
             });
         }
-        let mut text = [0u8; SHORT_TEXT];
-        let end = self.table.count();
+        let mut text = [0u8; SCRATCH];
+        let end = self.row_format.count();
         let bytes = self.payload.buffered();
-        let run = self.table.run_cells::<false>(from, end, bytes, &mut text);
+        let run = self
+            .row_format
+            .run_cells::<false>(from, end, bytes, &mut text);
         let ahead = self.put_made(run, &text)?;
         Ok(RowsRun {
             used: run.used,
@@ -243,13 +245,13 @@ impl<'r, 't, 'p, 's, 'c, R: Read, W: Write> Rows<'r, 't, 'p, 's, 'c, R, W> {
     }
 
     // Reads the next cells, as many as are whole in the packet, aren't in several chunks and have room, and puts their text.
-    fn put_run(&mut self, from: Ahead<'c>) -> Result<RowsRun<'c>, Stop>
+    fn put_run(&mut self, from: Cursor<'c>) -> Result<RowsRun<'c>, Stop>
         requires in_row { IsInRow self.old }
-        requires some { 0 < self.old.table.now.count }
+        requires some { 0 < self.old.row_format.now.count }
         ensures { RunRead R.remaining W.contents from.entry self.old self.new result }
     {
         if self.sink.room() <= BLOCK_END {
-            return self.put_across(from);
+            return self.put_via_scratch(from);
         }
         Ok(self.put_within(from))
     }
@@ -258,12 +260,12 @@ impl<'r, 't, 'p, 's, 'c, R: Read, W: Write> Rows<'r, 't, 'p, 's, 'c, R, W> {
     pub(crate) fn row(&mut self) -> Result<(), Stop>
         requires { IsInRow self.old }
         ensures leaves { LeavesRows self.old self.new result }
-        ensures row { (columns : List Column) → Knows self.old.table.now columns →
-            RowRead R.remaining W.contents (row_start self.old.table.now.charset columns) self.old self.new result }
+        ensures row { (columns : List Column) → Knows self.old.row_format.now columns →
+            RowRead R.remaining W.contents (row_start self.old.row_format.now.charset columns) self.old self.new result }
     {
-        let mut at = self.table.start();
-        while let Some((form, after)) = self.table.next(at) {
-            self.put_cell(at, &form)?;
+        let mut at = self.row_format.start();
+        while let Some((format, after)) = self.row_format.next(at) {
+            self.put_cell(at, &format)?;
             at = after;
         }
         Ok(())
@@ -275,11 +277,11 @@ impl<'r, 't, 'p, 's, 'c, R: Read, W: Write> Rows<'r, 't, 'p, 's, 'c, R, W> {
         requires { IsInSomeRow self.old }
         ensures leaves { LeavesRows self.old self.new result }
         ensures ends { IfOk result (λ count. EndsRows PlainRow self.old.payload.now self.new.payload.now count) }
-        ensures rows { (columns : List Column) → Knows self.old.table.now columns →
-            RowsRead R.remaining W.contents PlainRow self.old.table.now.charset columns
+        ensures rows { (columns : List Column) → Knows self.old.row_format.now columns →
+            RowsRead R.remaining W.contents PlainRow self.old.row_format.now.charset columns
             self.old.payload.now self.new.payload.now self.old.sink.now self.new.sink.now result }
     {
-        let mut ahead = self.table.start();
+        let mut ahead = self.row_format.start();
         let mut ended: u64 = 0;
         loop {
             let run = self.put_run(ahead)?;
@@ -288,15 +290,15 @@ impl<'r, 't, 'p, 's, 'c, R: Read, W: Write> Rows<'r, 't, 'p, 's, 'c, R, W> {
             if run.used > 0 && self.sink.room() <= BLOCK_END {
                 continue;
             }
-            let Some((form, after)) = self.table.next(ahead) else {
+            let Some((format, after)) = self.row_format.next(ahead) else {
                 if !self.take_token(ROW) {
                     return Ok(ended + 1);
                 }
                 ended += 1;
-                ahead = self.table.start();
+                ahead = self.row_format.start();
                 continue;
             };
-            self.put_cell(ahead, &form)?;
+            self.put_cell(ahead, &format)?;
             ahead = after;
         }
     }

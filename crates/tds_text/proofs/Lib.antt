@@ -13,6 +13,6 @@ pub mod JoiningLemmas
 pub mod LaneMasks
 pub mod Lookup
 pub mod WideText
-pub mod Begun
+pub mod OpenTexts
 pub mod Words
 pub use Words.*

@@ -74,9 +74,9 @@ impl Bytewise for Windows1252 {
 }
 
 /// Text in UTF-8 whose quotes are doubled.
-pub struct Doubled;
+pub struct QuoteEscaped;
 
-impl Bytewise for Doubled {
+impl Bytewise for QuoteEscaped {
     ghost text = { doubled };
 
     fn convert(bytes: &[u8], _source: &[u8], to: &mut [u8]) -> usize {

@@ -30,7 +30,7 @@ pub mod utf16;
 pub mod utf8;
 mod windows_1252;
 
-pub use bytewise::{Bytewise, Doubled, Hex, Windows1252};
+pub use bytewise::{Bytewise, Hex, QuoteEscaped, Windows1252};
 pub use fields::{Content, field_room, write_few_utf16, write_field, write_utf16};
 pub use framing::{COMMA, NULL_ROOM, write_comma, write_line_end, write_null};
 pub use laws::begins_by_test;

@@ -70,7 +70,7 @@ units_last top scale skipped n few fits needed small =
     (λ h. inr (N.le-div (10 ^ k) n (10 ^ scale) some (let e : k + scale ≡ top - skipped = omega arith in rw (← pow-add 10 k scale, e) h))) needed in
     rw width (decimal_last k (n / 10 ^ scale) low below (omega arith))
 
--- with the needless zeros of top + 1 digits, but for the last before the point
+-- with the leading zeros of top + 1 digits, but for the last before the point
 pub decimal_units : (top scale zeros n : ℕ) → scale ≤ top → n < 10 ^ 64 → zeros ≤ top → n < 10 ^ (suc top - zeros) → (zeros ≡ top) ⊎ (10 ^ (top - zeros) ≤ n)
     → decimal (n / 10 ^ scale) ≡ last_digits (suc top - scale - min zeros (top - scale)) (n / 10 ^ scale)
 decimal_units top scale zeros n few small most fits needed = N.⊎_elim

@@ -4,7 +4,7 @@ use Rattle.tds_values.proofs.Words.{◌≡◌, ◌⊎◌, inl, inr, ℕ, zero, s
 use Rattle.tds_values.proofs.Words.{refl, ap, ◌∙◌, arith, Bool, ◌==◌, decimal, last_digits, min, append_assoc}
 use Rattle.tds_values.proofs.DigitLemmas.{decimal_units, last_digits-add, last_digits-mod}
 use Rattle.tds_values.proofs.WordLemmas.{digits_left, end_digits, front_put, word_of}
-use Rattle.tds_values.proofs.ZeroLemmas.{IsNeedless}
+use Rattle.tds_values.proofs.ZeroLemmas.{HasLeadingZeros}
 use Rattle.std.proofs.Math.Seq.{drop-append-add}
 use Rattle.std.proofs.lemmas.List.{drop-append-le}
 use Rattle.std.specs.Int.{to_le_bytes, w64}
@@ -39,26 +39,26 @@ forty n fits is a b c d e =
     (word_before 8 16 n _ (ap (λ gs. get_or gs 2 0) is) c
     (word_before 8 8 n _ (ap (λ gs. get_or gs 3 0) is) d (word_before 8 0 n _ (ap (λ gs. get_or gs 4 0) is ∙ omega arith) e refl))))
 
--- needless zeros of the digits above the last p, which are at most eight
-pub zeros_after : (p n z : ℕ) → p ≤ 32 → 10 ^ p ≤ n → IsNeedless 7 (n / 10 ^ p) z → IsNeedless 39 n (32 - p + z)
-zeros_after p n z few more needless =
+-- leading zeros of the digits above the last p, which are at most eight
+pub zeros_after : (p n z : ℕ) → p ≤ 32 → 10 ^ p ≤ n → HasLeadingZeros 7 (n / 10 ^ p) z → HasLeadingZeros 39 n (32 - p + z)
+zeros_after p n z few more leading_zeros =
     let some = N.one-le-pow p 10 (omega arith) in
-    let above : 8 - z + p ≡ 40 - (32 - p + z) = omega (arith, needless.0) in
-    let below : 7 - z + p ≡ 39 - (32 - p + z) = omega (arith, needless.0) in
+    let above : 8 - z + p ≡ 40 - (32 - p + z) = omega (arith, leading_zeros.0) in
+    let below : 7 - z + p ≡ 39 - (32 - p + z) = omega (arith, leading_zeros.0) in
     let high = rw above at (N.pow-add 10 (8 - z) p) in
     let low = rw below at (N.pow-add 10 (7 - z) p) in
     grind (arith, (N.le-div (10 ^ (8 - z)) n (10 ^ p) some), (N.le-div 1 n (10 ^ p) some), (N.div_below n (10 ^ p) (10 ^ (7 - z)) some))
 
 -- a sign and the digits before the point, in front of those after it
 pub whole_joined : (negative : Bool) (n scale zeros at : ℕ) (new t : List ℕ) {xs ds : List ℕ} → ds ≡ last_digits 40 n
-    → xs ≡ t ++ minus_if (negative && not (n == 0)) → length xs ≡ at → n < 2 ^ 128 → scale ≤ 38 → IsNeedless 39 n zeros
+    → xs ≡ t ++ minus_if (negative && not (n == 0)) → length xs ≡ at → n < 2 ^ 128 → scale ≤ 38 → HasLeadingZeros 39 n zeros
     → take (at + (40 - min zeros (39 - scale))) new ≡ xs ++ drop (min zeros (39 - scale)) ds
     → take (at + (40 - min zeros (39 - scale)) - scale) new ≡ t ++ minus_if (negative && not (n == 0)) ++ decimal (n / 10 ^ scale)
-whole_joined negative n scale zeros at new t {xs} ed ex long fits few needless is =
+whole_joined negative n scale zeros at new t {xs} ed ex long fits few leading_zeros is =
     let first = min zeros (39 - scale) in
     let k = 40 - scale - first in
     let rest : 40 - (40 - first) ≡ first = omega arith in
     let digits = rw rest at (end_digits 40 (40 - first) n (omega arith)) in
     let end : at + (40 - first) - scale ≡ at + k = omega arith in
-    let whole = decimal_units 39 scale zeros n (omega arith) (omega arith) needless.0 needless.1.0 needless.1.1 in
+    let whole = decimal_units 39 scale zeros n (omega arith) (omega arith) leading_zeros.0 leading_zeros.1.0 leading_zeros.1.1 in
     rw (end, whole, ← ex) (front_put xs new at k scale (40 - first) n long (omega arith) (rw (ed, digits) at is))

@@ -43,20 +43,20 @@ low_zeros (suc a) r m =
     let even : 2 ^ suc a * m % 2 ≡ 0 = rw (N.pow-succ' 2 a) (omega arith) in
     rw (N.suc-add, half, even, low_zeros a r m) (omega arith)
 
--- of k + 1 digits the first t are needless
-abbrev pub IsNeedless : ℕ → ℕ → ℕ → Type 0
-IsNeedless k n t = (t ≤ k) × ((n < 10 ^ (suc k - t)) × ((t ≡ k) ⊎ (10 ^ (k - t) ≤ n)))
+-- of k + 1 digits the first t are leading zeros
+abbrev pub HasLeadingZeros : ℕ → ℕ → ℕ → Type 0
+HasLeadingZeros k n t = (t ≤ k) × ((n < 10 ^ (suc k - t)) × ((t ≡ k) ⊎ (10 ^ (k - t) ≤ n)))
 
-next : (k n t s : ℕ) → s ≡ suc t → IsNeedless k n t → IsNeedless (suc k) n s
+next : (k n t s : ℕ) → s ≡ suc t → HasLeadingZeros k n t → HasLeadingZeros (suc k) n s
 next k n t s e h = grind arith
 
 -- none is, where the first is set
-first_set : (k n t : ℕ) → t < 8 → n < 10 ^ suc k → (k ≡ 0) ⊎ (10 ^ k ≤ n) → IsNeedless k n (t / 8)
+first_set : (k n t : ℕ) → t < 8 → n < 10 ^ suc k → (k ≡ 0) ⊎ (10 ^ k ≤ n) → HasLeadingZeros k n (t / 8)
 first_set k n t e small large = grind arith
 
-needless : (k n : ℕ) → n < 10 ^ suc k → IsNeedless k n (count_trailing_zeros (8 * suc k) (values_of k n) / 8)
-needless zero n h = first_set 0 n _ (simp N.add-zero at (low_bit 8 0 (n % 10 + 16) 0 (omega arith) (omega arith))) h (inl refl)
-needless (suc k) n h =
+leading_zeros : (k n : ℕ) → n < 10 ^ suc k → HasLeadingZeros k n (count_trailing_zeros (8 * suc k) (values_of k n) / 8)
+leading_zeros zero n h = first_set 0 n _ (simp N.add-zero at (low_bit 8 0 (n % 10 + 16) 0 (omega arith) (omega arith))) h (inl refl)
+leading_zeros (suc k) n h =
     let d = n / 10 ^ suc k in
     let v = values_of k n in
     let some = N.one-le-pow (suc k) 10 (omega arith) in
@@ -67,10 +67,11 @@ needless (suc k) n h =
     (λ less. let none : d ≡ 0 = N.div-eq_of_lt less in rw (
       none,
       N.zero-add,
-    ) (next k n _ _ (omega (arith, low_zeros 8 (8 * suc k) v)) (needless k n less)))
+    ) (next k n _ _ (omega (arith, low_zeros 8 (8 * suc k) v)) (leading_zeros k n less)))
     (λ more. first_set (suc k) n _ (low_bit 8 (8 * suc k) d v (N.le-div 1 n (10 ^ suc k) some (omega arith)) (omega arith)) h (inr more))
     (N.cases_lt n (10 ^ suc k)))
 
--- a number of k + 1 digits in a word has as many needless zeros as bytes are 0 without 48
-pub zeros_of : (k n w : ℕ) → n < 10 ^ suc k → w ≡ word_of (N.last_digits (suc k) n) → IsNeedless k n (count_trailing_zeros (8 * suc k) (w - offset_of k) / 8)
-zeros_of k n w h e = let values : w - offset_of k ≡ values_of k n = omega (arith, word_values k n) in rw values (needless k n h)
+-- a number of k + 1 digits in a word has as many leading zeros as bytes are 0 without 48
+pub zeros_of : (k n w : ℕ) → n < 10 ^ suc k → w ≡ word_of (N.last_digits (suc k) n)
+    → HasLeadingZeros k n (count_trailing_zeros (8 * suc k) (w - offset_of k) / 8)
+zeros_of k n w h e = let values : w - offset_of k ≡ values_of k n = omega (arith, word_values k n) in rw values (leading_zeros k n h)

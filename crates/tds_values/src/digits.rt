@@ -138,10 +138,10 @@ pub(crate) fn put_end(to: &mut [u8], at: usize, k: usize, n: u32) -> usize
     at + k
 }
 
-// How many of eight digits are needless zeros: their bytes are 0 once each loses 48, and one bit more in the
+// How many of eight digits are leading zeros: their bytes are 0 once each loses 48, and one bit more in the
 // last byte keeps the last digit.
 #[inline(always)]
-pub(crate) fn needless(n: u32) -> usize
+pub(crate) fn leading_zeros(n: u32) -> usize
     requires { n < 100000000 }
     ensures few { result ≤ 7 }
     ensures fits { n < 10 ^ (8 - result) }
@@ -153,7 +153,7 @@ pub(crate) fn needless(n: u32) -> usize
 
 // A number of at most four digits.
 #[inline(always)]
-fn put_head(to: &mut [u8], at: usize, n: u32) -> usize
+fn put_4(to: &mut [u8], at: usize, n: u32) -> usize
     requires room { at + 4 ≤ length to.old }
     requires small { n < 10000 }
     ensures end { result ≤ at + 4 }
@@ -167,28 +167,28 @@ fn put_head(to: &mut [u8], at: usize, n: u32) -> usize
 
 // A number of at most eight digits.
 #[inline(always)]
-fn put_short(to: &mut [u8], at: usize, n: u32) -> usize
+fn put_8(to: &mut [u8], at: usize, n: u32) -> usize
     requires room { at + 8 ≤ length to.old }
     requires small { n < 100000000 }
     ensures end { result ≤ at + 8 }
     ensures written { take result to.new ≡ take at to.old ++ decimal n }
 {
-    put_after(to, at, needless(n), n)
+    put_after(to, at, leading_zeros(n), n)
 }
 
 // A number of 32 bits that has more than eight digits.
 #[inline(always)]
-fn put_long(to: &mut [u8], at: usize, n: u32) -> usize
+fn put_10(to: &mut [u8], at: usize, n: u32) -> usize
     requires room { at + 16 ≤ length to.old }
     requires large { 100000000 ≤ n }
     ensures end { result ≤ at + 16 }
     ensures written { take result to.new ≡ take at to.old ++ decimal n }
 {
-    let at = put_head(to, at, n / 100_000_000);
+    let at = put_4(to, at, n / 100_000_000);
     put_tail(to, at, 8, n % 100_000_000)
 }
 
-// A number without needless zeros.
+// A number without leading zeros.
 #[inline(always)]
 pub(crate) fn put_number(to: &mut [u8], at: usize, n: u64) -> usize
     requires { at + 24 ≤ length to.old }
@@ -196,18 +196,18 @@ pub(crate) fn put_number(to: &mut [u8], at: usize, n: u64) -> usize
     ensures written { take result to.new ≡ take at to.old ++ decimal n }
 {
     if n < 100_000_000 {
-        return put_short(to, at, n as u32);
+        return put_8(to, at, n as u32);
     }
     if n <= u32::MAX as u64 {
-        return put_long(to, at, n as u32);
+        return put_10(to, at, n as u32);
     }
     let low = (n % 100_000_000) as u32;
     if n < 10_000_000_000_000_000 {
-        let at = put_short(to, at, (n / 100_000_000) as u32);
+        let at = put_8(to, at, (n / 100_000_000) as u32);
         return put_tail(to, at, 8, low);
     }
     let middle = (n / 100_000_000 % 100_000_000) as u32;
-    let at = put_head(to, at, (n / 10_000_000_000_000_000) as u32);
+    let at = put_4(to, at, (n / 10_000_000_000_000_000) as u32);
     let at = put_tail(to, at, 8, middle);
     put_tail(to, at, 8, low)
 }

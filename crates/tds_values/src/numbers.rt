@@ -3,7 +3,7 @@ ghost use Rattle.std.specs.Prelude.{◌≡◌, ◌+◌, ◌-◌, ◌<◌, ◌≤
 ghost use Rattle.std.specs.Fmt.{signed_decimal};
 ghost use Rattle.tds_values.specs.ScalarText.{last_digits, fraction_text, minus_if, decimal_text};
 
-use crate::digits::{needless, put_after, put_byte, put_end, put_minus, put_number, put_tail};
+use crate::digits::{leading_zeros, put_after, put_byte, put_end, put_minus, put_number, put_tail};
 use crate::text::LONGEST_TEXT;
 
 // The last k digits of a number, if they are more than eight.
@@ -175,7 +175,7 @@ fn put_few_units(to: &mut [u8], at: usize, scale: usize, n: u32) -> usize
     ensures written { take result to.new ≡
         take at to.old ++ (decimal (n / 10 ^ scale) ++ (codes "." ++ last_digits scale n)) }
 {
-    let skipped = needless(n).min(7 - scale);
+    let skipped = leading_zeros(n).min(7 - scale);
     put_pointed(to, at, skipped, scale, n)
 }
 

@@ -3,7 +3,7 @@ ghost use Rattle.std.specs.Prelude.{◌≡◌, ◌+◌, ◌-◌, ◌≤◌, ◌<
 ghost use Rattle.std.specs.{Int.{to_le_bytes, w64}, List.{flat_map}};
 ghost use Rattle.tds_values.specs.{Numbers.{groups_of}, ScalarText.{last_digits, decimal_text}};
 
-use crate::digits::{needless, put_byte, put_piece, put_word, word};
+use crate::digits::{leading_zeros, put_byte, put_piece, put_word, word};
 use crate::numbers::put_sign;
 use crate::text::{LONGEST_TEXT, TEXT_ROOM};
 
@@ -39,30 +39,30 @@ fn groups(n: u128) -> [u32; GROUPS]
     ]
 }
 
-// How many of the forty digits of a number in groups are needless zeros.
+// How many of the forty digits of a number in groups are leading zeros.
 #[inline(always)]
-fn needless_zeros(n: u128, groups: &[u32; GROUPS]) -> usize
+fn wide_leading_zeros(n: u128, groups: &[u32; GROUPS]) -> usize
     requires { groups.now ≡ groups_of n }
     ensures few { result ≤ 39 }
     ensures fits { n < 10 ^ (40 - result) }
     ensures needed { (result ≡ 39) ⊎ (10 ^ (39 - result) ≤ n) }
 {
     if n >= 1_00000000_00000000_00000000_00000000 {
-        return needless(groups[0]);
+        return leading_zeros(groups[0]);
     }
     if n >= 1_00000000_00000000_00000000 {
-        return 8 + needless(groups[1]);
+        return 8 + leading_zeros(groups[1]);
     }
     if n >= 1_00000000_00000000 {
-        return 16 + needless(groups[2]);
+        return 16 + leading_zeros(groups[2]);
     }
     if n >= 1_00000000 {
-        return 24 + needless(groups[3]);
+        return 24 + leading_zeros(groups[3]);
     }
-    32 + needless(groups[4])
+    32 + leading_zeros(groups[4])
 }
 
-// The forty digits of a number, as the bytes of words, and how many of them are needless zeros.
+// The forty digits of a number, as the bytes of words, and how many of them are leading zeros.
 #[inline(always)]
 fn digits(n: u128) -> ([u64; GROUPS], usize)
     ensures words { flat_map (to_le_bytes w64) result.0 ≡ last_digits 40 n }
@@ -78,7 +78,7 @@ fn digits(n: u128) -> ([u64; GROUPS], usize)
         word(groups[3]),
         word(groups[4]),
     ];
-    (words, needless_zeros(n, &groups))
+    (words, wide_leading_zeros(n, &groups))
 }
 
 // The bytes of words, the lowest of each first, without the first bytes of all, which aren't wanted.
@@ -110,10 +110,10 @@ pub(crate) fn put_wide_decimal(
     ensures end { result ≤ at + LONGEST_TEXT }
     ensures written { take result to.new ≡ take at to.old ++ decimal_text negative magnitude scale }
 {
-    let (words, needless) = digits(magnitude);
+    let (words, leading_zeros) = digits(magnitude);
     let scale = scale as usize;
     let at = put_sign(to, at, negative, magnitude == 0);
-    let end = put_from(to, at, &words, needless.min(DIGITS - 1 - scale));
+    let end = put_from(to, at, &words, leading_zeros.min(DIGITS - 1 - scale));
     if scale == 0 {
         return end;
     }

@@ -194,7 +194,11 @@ fn arguments_without_a_job_are_refused(rt: HostRuntime) -> Result<(), Fail> {
     let mut notes = writer(Failing::Never);
     let version = run(&rt, &["--version"], &mut from, &mut to, &mut notes);
     assert!(rt; (version, notes.device().taken()) == (0, 0));
-    assert!(rt; to.device().kept().starts_with(b"tds_replay 1.0.0 (sources "));
+    assert!(rt;
+        to.device()
+            .kept()
+            .starts_with(b"tds_replay 1.0.0 (sources ")
+    );
     assert!(rt; from.device().left().len() == 1);
     Ok(())
 }

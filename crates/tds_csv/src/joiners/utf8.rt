@@ -12,7 +12,7 @@ use crate::joiners::{JoinFault, Joiner};
 use crate::sink::Sink;
 use std::io::Write;
 use tds_packet::Stop;
-use tds_text::Doubled;
+use tds_text::QuoteEscaped;
 use tds_text::utf8::{Scan, scan_text};
 
 /// Text in UTF-8.
@@ -28,7 +28,7 @@ fn put_whole<W: Write>(bytes: &[u8], sink: &mut Sink<'_, W>) -> Result<Scan, Sto
     ensures scanned { IfOk result (λ scan. IsScan bytes.now scan.whole scan.good) }
 {
     let scan = scan_text(bytes);
-    put_text::<Doubled, W>(&bytes[..scan.whole], sink)?;
+    put_text::<QuoteEscaped, W>(&bytes[..scan.whole], sink)?;
     Ok(scan)
 }
 
@@ -122,7 +122,7 @@ impl Joiner for Utf8Joiner {
         if str::from_utf8(self.kept.bytes()).is_err() {
             return Err(JoinFault::BadText(0));
         }
-        put_text::<Doubled, W>(self.kept.bytes(), sink)?;
+        put_text::<QuoteEscaped, W>(self.kept.bytes(), sink)?;
         self.kept.clear();
         Ok(())
     }

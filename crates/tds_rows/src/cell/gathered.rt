@@ -9,7 +9,7 @@ ghost use Rattle.tds_values.specs.declared.charset.Charset as sets;
 ghost use Rattle.tds_values.specs.Kind as kinds;
 
 use std::io::Read;
-use tds_columns::take_into;
+use tds_columns::read_into;
 use tds_meter::Area;
 use tds_packet::{Fault, Payload, Stop};
 use tds_values::Kind;
@@ -49,7 +49,7 @@ fn gather_fixed<R: Read>(
     ensures cell { CellGathered R.remaining kind.now (ScalarBytes kind.now n) column
         payload.old payload.new small.new.bytes result }
 {
-    take_into(payload, small, n as usize)
+    read_into(payload, small, n as usize)
 }
 
 // Reads the length of a cell and its value into an empty area.
@@ -67,7 +67,7 @@ fn gather_counted<R: Read>(
         payload.old payload.new small.new.bytes result }
 {
     let place = payload.place();
-    take_into(payload, small, 1)?;
+    read_into(payload, small, 1)?;
     let n = small.bytes()[0];
     if n == 0 {
         return Ok(());
@@ -75,7 +75,7 @@ fn gather_counted<R: Read>(
     if !kind.length_allowed(n) {
         return Err(Stop::in_payload(Fault::BadValueLength { column }, place));
     }
-    take_into(payload, small, n as usize)
+    read_into(payload, small, n as usize)
 }
 
 /// Reads a cell of a scalar kind into the small area, which is emptied first.

@@ -1,7 +1,7 @@
 use Rattle.tds_cells.proofs.whole.write_far_cell.Goals as goal
 use Rattle.tds_cells.proofs.Words.{◌∙◌, all_after, ap, arith, drop, in_line, length-drop, rules}
 use Rattle.tds_cells.proofs.ValueCells.{front_cell}
-use Rattle.tds_cells.proofs.FormSteps.{beyond_kept}
+use Rattle.tds_cells.proofs.FormatSteps.{beyond_kept}
 use Rattle.tds_cells.proofs.RunSteps.{writes_scalar}
 
 pub returns-clause-field : goal.returns-clause-field

@@ -15,7 +15,7 @@ returns-clause-field g c = λ charset column last.
           let null = w.write_null-made in
           let within : 1 + 0 ≤ length bytes = omega (arith, c.requires.within) in
           let text : in_line column last (take null.result null.new.to) ≡ in_line column last null_field = ap (in_line column last) null.ensures.text in
-          let cell : WritesKind charset c.args.form.now.kind column last (take (1 + 0) bytes) (in_line column last (take null.result null.new.to)) =
+          let cell : WritesKind charset c.args.format.now.kind column last (take (1 + 0) bytes) (in_line column last (take null.result null.new.to)) =
           writes_scalar _ _ _ _ _ _ (λ any. null_cell _ _ _ _ _ _ kind.0 _ kind.1.0 (kind.1.1 ∙ w.in-0.is) within text) in
           rw (w.to-is, w.made-is, none) cell)
     ]

@@ -3,24 +3,24 @@ use N.metadata.read_info.Goals as goal
 use N.{◌≡◌, ◌∙◌, ◌∷◌, refl, None}
 use N.ElementSteps.{element_at}
 
-pub returns-in_err-take_into-clause-gives : goal.returns-in_err-take_into-clause-gives
-returns-in_err-take_into-clause-gives g c =
+pub returns-in_err-read_into-clause-gives : goal.returns-in_err-read_into-clause-gives
+returns-in_err-read_into-clause-gives g c =
     λ count columns number. N.passed _ _ _ _ c.from_residual.ensures.1
-    (N.GatherSteps.description_cut (c.in_err-take_into.ensures.gives c.requires.going.going) (rw c.requires.follows.known) refl)
+    (N.GatherSteps.description_cut (c.in_err-read_into.ensures.gives c.requires.going.going) (rw c.requires.follows.known) refl)
 
 pub returns-in-Some-clause-gives : goal.returns-in-Some-clause-gives
 returns-in-Some-clause-gives g c = λ count columns number.
-    let t = c.in_ok-take_into.ensures.gives in
+    let t = c.in_ok-read_into.ensures.gives in
     let found : N.kind_of (c.args.byte ∷ t.element) ≡ N.Some c.in-Some.field-0 = rw (element_at t c.bytes.ensures.value c.len-start.ensures.value) at
     (N.sym c.kind_of.ensures ∙ c.in-Some.is) in (
       c.in-Some.field-0,
       N.GatherSteps.description_read t c.requires.follows.some (rw c.requires.follows.known) (rw found) (rw (t.stands, found))
-          c.in_ok-take_into.ensures.place refl refl refl,
+          c.in_ok-read_into.ensures.place refl refl refl,
     )
 
 pub returns-in-None-clause-gives : goal.returns-in-None-clause-gives
 returns-in-None-clause-gives g c = λ count columns number.
-    let t = c.in_ok-take_into.ensures.gives in
+    let t = c.in_ok-read_into.ensures.gives in
     let none : N.kind_of (c.args.byte ∷ t.element) ≡ None = rw (element_at t c.bytes.ensures.value c.len-start.ensures.value) at (N.sym c.kind_of.ensures
     ∙ c.in-None.is) in
     rw (c.in_payload.ensures, c.place-info_place.ensures)

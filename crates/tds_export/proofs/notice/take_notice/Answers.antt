@@ -13,9 +13,9 @@ returns-then-length-lt-LEAST_NOTICE-clause-gives g c = λ charset room tokens wh
     { two = search rules; is = c.read_u16-length.ensures; takes = c.in_ok-fill.ensures.all; at = c.in_ok-fill.ensures.place })
     c.if-length-lt-LEAST_NOTICE.true c.in_ok-fill.ensures.between)
 
-pub returns-in_err-take_into-clause-gives : goal.returns-in_err-take_into-clause-gives
-returns-in_err-take_into-clause-gives g c = λ charset room tokens which notice.
-    passed _ _ _ _ c.from_residual-in_err-take_into.ensures.1
+pub returns-in_err-read_into-clause-gives : goal.returns-in_err-read_into-clause-gives
+returns-in_err-read_into-clause-gives g c = λ charset room tokens which notice.
+    passed _ _ _ _ c.from_residual-in_err-read_into.ensures.1
     (body_cut _ _ notice (record {
       two = search rules;
       is = c.from.ensures
@@ -23,13 +23,13 @@ returns-in_err-take_into-clause-gives g c = λ charset room tokens which notice.
       takes = c.in_ok-fill.ensures.all;
       at = c.in_ok-fill.ensures.place;
     })
-    (omega (arith, c.if-length-lt-LEAST_NOTICE.false, c.from.ensures)) (c.in_err-take_into.ensures.gives c.in_ok-fill.ensures.payload.going))
+    (omega (arith, c.if-length-lt-LEAST_NOTICE.false, c.from.ensures)) (c.in_err-read_into.ensures.gives c.in_ok-fill.ensures.payload.going))
 
 pub returns-then-not-lengths_fit-clause-gives : goal.returns-then-not-lengths_fit-clause-gives
 returns-then-not-lengths_fit-clause-gives g c = λ charset room tokens which notice.
-    let t = c.in_ok-take_into.ensures.gives in
-    let is : c.take_into.new.area.bytes ≡ t.element = rw (t.stands, c.clear.ensures.value) refl in
-    let passes : holds_notice c.take_into.new.area.bytes ≡ false = search rules in
+    let t = c.in_ok-read_into.ensures.gives in
+    let is : c.read_into.new.area.bytes ≡ t.element = rw (t.stands, c.clear.ensures.value) refl in
+    let passes : holds_notice c.read_into.new.area.bytes ≡ false = search rules in
     rw (
       c.in_payload-then-not-lengths_fit.ensures,
       c.place-place-2.ensures,
@@ -44,9 +44,9 @@ returns-then-not-lengths_fit-clause-gives g c = λ charset room tokens which not
 
 pub returns-clause-gives : goal.returns-clause-gives
 returns-clause-gives g c = λ charset room tokens which notice.
-    let t = c.in_ok-take_into.ensures.gives in
-    let is : c.take_into.new.area.bytes ≡ t.element = rw (t.stands, c.clear.ensures.value) refl in
-    let holds : holds_notice c.take_into.new.area.bytes ≡ true = search rules in
+    let t = c.in_ok-read_into.ensures.gives in
+    let is : c.read_into.new.area.bytes ≡ t.element = rw (t.stands, c.clear.ensures.value) refl in
+    let holds : holds_notice c.read_into.new.area.bytes ≡ true = search rules in
     rw is (body_taken _ _ notice (record {
       two = search rules;
       is = c.from.ensures
@@ -54,4 +54,4 @@ returns-clause-gives g c = λ charset room tokens which notice.
       takes = c.in_ok-fill.ensures.all;
       at = c.in_ok-fill.ensures.place;
     })
-    (omega (arith, c.if-length-lt-LEAST_NOTICE.false, c.from.ensures)) t c.in_ok-take_into.ensures.place (rw is at holds))
+    (omega (arith, c.if-length-lt-LEAST_NOTICE.false, c.from.ensures)) t c.in_ok-read_into.ensures.place (rw is at holds))

@@ -1,5 +1,5 @@
 use Rattle.tds_export.proofs.run.export.Goals as goal
-use Rattle.tds_export.proofs.Words.{Given, Reports, Space, StopsExport, ap, arith, held, moment, refl, rules, ◌≡◌}
+use Rattle.tds_export.proofs.Words.{ExportInput, Reports, Space, StopsExport, ap, arith, held, moment, refl, rules, ◌≡◌}
 use Rattle.tds_export.proofs.DeviceFaults.{blamed, no_failure}
 use Rattle.tds_export.proofs.Endings.{exports, rooms, stops_export}
 use Rattle.tds_export.proofs.ToldAnswers.{report_tells, stop_tells}
@@ -7,7 +7,7 @@ use Rattle.tds_export.proofs.run.export.Given.{Over}
 
 -- ---- the answer is a report
 
-abbrev reported : (g : Over) → goal.In-Ok g → Given
+abbrev reported : (g : Over) → goal.In-Ok g → ExportInput
 reported g c = let at = moment g.R.Read.remaining g.W.Write.contents in record {
   charset = c.args.charset;
   before = at c.args.areas.now c.args.from.now c.args.to.now;
@@ -47,7 +47,7 @@ returns-in-Ok-clause-no_failure g c = let none = no_failure _ _ (all_read g c) i
 
 -- ---- the answer is a stop
 
-abbrev stopped : (g : Over) → goal.After-to-in-Err-1 g → Given
+abbrev stopped : (g : Over) → goal.After-to-in-Err-1 g → ExportInput
 stopped g c = let at = moment g.R.Read.remaining g.W.Write.contents in record {
   charset = c.args.charset;
   before = at c.args.areas.now c.args.from.now c.args.to.now;

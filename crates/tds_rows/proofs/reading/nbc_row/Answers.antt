@@ -5,7 +5,7 @@ use Rattle.tds_rows.proofs.Successes.{streaming_succeeds}
 
 pub returns-clause-row : goal.returns-clause-row
 returns-clause-row g c = λ _ _.
-    let x = rw c.walked-table.ensures.charset at (c.nbc_row.ensures.row _ c.walked-table.ensures.knows) in
+    let x = rw c.walked-row_format.ensures.charset at (c.nbc_row.ensures.row _ c.walked-row_format.ensures.knows) in
     let payload : c.nbc_row.new.self.payload.now ≡ c.payload-1.given.0 = search rules in
     let sink : c.nbc_row.new.self.sink.now ≡ c.sink-1.given.0 = search rules in
     rw (payload, sink) at x

@@ -4,10 +4,10 @@ use Rattle.tds_rows.proofs.Words.{◌<◌, refl, sym, arith, ◌∙◌, ap, ◌+
 use Rattle.tds_rows.proofs.NextSteps.{next_nears, next_stops, run_near, run_stops, leaves_after, stays_after, stays_on}
 use Rattle.tds_rows.proofs.NullSteps.{all_put, bitmap_cut, bitmap_nears, row_ends}
 
-pub returns-in_err-take_into-clause-row : goal.returns-in_err-take_into-clause-row
-returns-in_err-take_into-clause-row g c = λ columns known.
+pub returns-in_err-read_into-clause-row : goal.returns-in_err-read_into-clause-row
+returns-in_err-read_into-clause-row g c = λ columns known.
     let sink = c.requires.some.in_row.sink in
-    let x = c.in_err-take_into.ensures.gives c.requires.some.in_row.payload.going in
+    let x = c.in_err-read_into.ensures.gives c.requires.some.in_row.payload.going in
     N.passed _ _ _ _ c.from_residual.ensures.1 (rw sink.writing
     (bitmap_cut _ x.part x.own (omega arith) x.ends x.stop_is
     sink.ready.2))
@@ -15,18 +15,18 @@ returns-in_err-take_into-clause-row g c = λ columns known.
 pub loop-at-init : goal.loop-at-init
 loop-at-init g c =
     let sink = c.requires.some.in_row.sink in
-    let x = c.in_ok-take_into.ensures.gives in
+    let x = c.in_ok-read_into.ensures.gives in
     let bytes = ap (λ (s : N.Space). s.bytes) x.stands
     ∙ ap (λ (l : N.List N.ℕ). l ++ x.element) c.requires.awaits.empty in
     record {
       stays = record {
         in_row = record {
-          payload = record { sound = c.in_ok-take_into.ensures.payload.sound; going = c.in_ok-take_into.ensures.payload.going };
+          payload = record { sound = c.in_ok-read_into.ensures.payload.sound; going = c.in_ok-read_into.ensures.payload.going };
           sink = sink;
           room = c.requires.some.in_row.room;
         };
         same = (refl, refl, refl, refl);
-        payload = c.in_ok-take_into.ensures.payload.same;
+        payload = c.in_ok-read_into.ensures.payload.same;
         sink = (refl, refl, refl);
         small = record { room = refl; bound = omega arith };
       };
@@ -38,7 +38,7 @@ loop-at-init g c =
           let some : 0 < N.length columns = omega (arith, knows.counted) in
           let taken = rw (sym x.whole) at x.takes in
           let near = bitmap_nears columns x.element some whole taken x.between (sink.ready.1 sink.writing) sink.ready.2
-          (omega (arith, c.in_ok-take_into.ensures.place)) in
+          (omega (arith, c.in_ok-read_into.ensures.place)) in
           (c.start-ahead.ensures.ahead columns knows, rw (c.start-ahead.ensures.first, bytes) near);
     }
 

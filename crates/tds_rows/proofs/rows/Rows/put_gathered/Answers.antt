@@ -4,7 +4,7 @@ use Rattle.tds_rows.proofs.BufferedCells.{cell_reads, put_cell as cell_put}
 use Rattle.tds_rows.proofs.CellSteps.{left_stalls}
 use Rattle.tds_rows.proofs.RowSteps.{at_once_stalls}
 use Rattle.tds_cells.proofs.RunSteps.{scalar_left, scalar_whole}
-use Rattle.tds_cells.proofs.TableSteps.{last_one}
+use Rattle.tds_cells.proofs.RowFormatSteps.{last_one}
 
 pub returns-in_err-gather_scalar : goal.returns-in_err-gather_scalar
 returns-in_err-gather_scalar g c = record {
@@ -18,7 +18,7 @@ pub returns-in_default : goal.returns-in_default
 returns-in_default g c = record {
   leaves = search arith;
   cell = λ last next.
-      let x = rw (sym c.bytes.ensures.value) at (c.in_ok-gather_scalar.ensures.cell c.args.self.now.table.now.charset) in
+      let x = rw (sym c.bytes.ensures.value) at (c.in_ok-gather_scalar.ensures.cell c.args.self.now.row_format.now.charset) in
       let stops = left_stalls x (scalar_left _ _ _ _ c.requires.scalar c.in_default.ensures.cell) in
       rw (
         c.requires.next.in_row.sink.writing,
@@ -32,8 +32,8 @@ pub returns : goal.returns
 returns g c = record {
   leaves = search arith;
   cell = λ last next.
-      let kind = c.args.form.now.kind in
-      let charset = c.args.self.now.table.now.charset in
+      let kind = c.args.format.now.kind in
+      let charset = c.args.self.now.row_format.now.charset in
       let bytes = c.bytes.result.now in
       let end = last_one _ _ _ _ _ next.knows.counted next.next ∙ sym next.last in
       let alone = rw end at c.in-Some.ensures.cell in

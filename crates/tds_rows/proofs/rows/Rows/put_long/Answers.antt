@@ -1,7 +1,7 @@
 use Rattle.tds_rows.proofs.rows.Rows.put_long.Goals as goal
 use Rattle.tds_rows.proofs.Words as N
 use Rattle.tds_rows.proofs.Words.{◌∙◌, ap, sym}
-use Rattle.tds_cells.proofs.TableSteps.{last_one}
+use Rattle.tds_cells.proofs.RowFormatSteps.{last_one}
 
 -- a long value is that of its kind
 pub returns-in-None : goal.returns-in-None
@@ -11,6 +11,6 @@ returns-in-None g c =
       leaves = rw same at c.put_joined.ensures.leaves;
       cell = λ last next.
           let end = c.is_last-last.ensures ∙ last_one _ _ _ _ _ next.knows.counted next.next ∙ sym next.last in
-          let start = sym (ap (N.cell_start c.args.form.now.kind) (c.requires.next.laid ∙ c.requires.long)) in
+          let start = sym (ap (N.cell_start c.args.format.now.kind) (c.requires.next.laid ∙ c.requires.long)) in
           rw start at (rw end at (rw same at c.put_joined.ensures.field));
     }

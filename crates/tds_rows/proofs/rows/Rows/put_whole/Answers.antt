@@ -2,7 +2,7 @@ use Rattle.tds_rows.proofs.rows.Rows.put_whole.Goals as goal
 use Rattle.tds_rows.proofs.Words as N
 use Rattle.tds_rows.proofs.Words.{◌≡◌, ◌∙◌, ◌+◌, ◌≤◌, ap, sym}
 use Rattle.tds_rows.proofs.RunPuts.{put_whole}
-use Rattle.tds_cells.proofs.TableSteps.{last_one}
+use Rattle.tds_cells.proofs.RowFormatSteps.{last_one}
 
 pub returns-clause-cell : goal.returns-clause-cell
 returns-clause-cell g c =

@@ -4,8 +4,8 @@ use Rattle.tds_rows.proofs.NextSteps.{cell_read, stays, stays_after, stays_on}
 use Rattle.tds_rows.proofs.NullSteps.{cell_reads, cell_stops, row_begins, row_ends}
 use Rattle.tds_cells.proofs.RowTexts.{none_ahead}
 
-pub loop-form-init : goal.loop-form-init
-loop-form-init g c = record {
+pub loop-format-init : goal.loop-format-init
+loop-format-init g c = record {
   stays = stays c.requires;
   reads = λ columns knows. (
     c.start-at.ensures.ahead columns knows,
@@ -15,15 +15,15 @@ loop-form-init g c = record {
 
 pub returns-in_err-put_cell-clause-row : goal.returns-in_err-put_cell-clause-row
 returns-in_err-put_cell-clause-row g c =
-    let l = c.loop-form in
+    let l = c.loop-format in
     rw (← l.invariant.stays.same.3) (λ columns knows.
     let reads = l.invariant.reads columns knows in
     let taken = c.in-Some.ensures.taken columns knows reads.0 in
     passed _ _ _ _ c.from_residual.ensures.1 (cell_stops (rw taken.next at reads.1) (cell_read _ c.in_err-put_cell.ensures knows reads.0 taken)))
 
-pub loop-form-preserved : goal.loop-form-preserved
-loop-form-preserved g c =
-    let l = c.loop-form in
+pub loop-format-preserved : goal.loop-format-preserved
+loop-format-preserved g c =
+    let l = c.loop-format in
     let done = c.in_ok-put_cell.ensures in
     record {
       stays = stays_on l.invariant.stays (stays_after l.invariant.stays.in_row done.leaves);
@@ -36,7 +36,7 @@ loop-form-preserved g c =
 
 pub returns-clause-row : goal.returns-clause-row
 returns-clause-row g c =
-    let l = c.loop-form in
+    let l = c.loop-format in
     rw (← l.invariant.stays.same.3) (λ columns knows.
     let reads = l.invariant.reads columns knows in
     row_ends (rw (c.in_default.ensures.taken columns knows reads.0) at reads.1))

@@ -5,13 +5,13 @@ use Rattle.tds_rows.proofs.NullSteps.{Reads}
 use Rattle.tds_cells.proofs.RowTexts.{coming}
 use Rattle.tds_rows.proofs.Paths.{here}
 
-abbrev pub invariant-loop-form : goal.invariant-loop-form
-invariant-loop-form g l = record {
+abbrev pub invariant-loop-format : goal.invariant-loop-format
+invariant-loop-format g l = record {
   stays : N.StaysInRow l.initial.self l.self;
-  reads : (columns : N.List N.Column) → N.Knows l.self.table.now columns → N.IsAhead l.self.table.now columns l.at
-      × Reads l.self.table.now.charset (N.row_start l.self.table.now.charset columns) (coming (N.drop l.at.column columns) l.at.column)
+  reads : (columns : N.List N.Column) → N.Knows l.self.row_format.now columns → N.IsCursor l.self.row_format.now columns l.at
+      × Reads l.self.row_format.now.charset (N.row_start l.self.row_format.now.charset columns) (coming (N.drop l.at.column columns) l.at.column)
       (here g.R.Read.remaining g.W.Write.contents l.initial.self) (here g.R.Read.remaining g.W.Write.contents l.self) l.at.column;
 }
 
-abbrev pub decreases-loop-form : goal.decreases-loop-form
-decreases-loop-form g l = l.self.table.now.count - l.at.column
+abbrev pub decreases-loop-format : goal.decreases-loop-format
+decreases-loop-format g l = l.self.row_format.now.count - l.at.column

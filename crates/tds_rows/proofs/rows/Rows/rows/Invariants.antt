@@ -6,7 +6,7 @@ use Rattle.tds_rows.proofs.Paths.{here}
 abbrev pub invariant-loop-run : goal.invariant-loop-run
 invariant-loop-run g l = record {
   stays : StaysInRow l.initial.self l.self;
-  knows : KnowsSome l.self.table.now;
+  knows : KnowsSome l.self.row_format.now;
   few : l.initial.self.payload.now.place + l.ended ≤ l.self.payload.now.place;
   reads : RowsHere g.R.Read.remaining g.W.Write.contents (here g.R.Read.remaining g.W.Write.contents l.initial.self) l.self l.ahead l.ended;
 }

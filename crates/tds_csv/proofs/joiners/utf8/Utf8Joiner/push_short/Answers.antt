@@ -2,7 +2,7 @@ use Rattle.tds_csv.proofs as N
 use N.joiners.utf8.Utf8Joiner.push_short.Goals as goal
 use N.{◌≡◌, ◌++◌}
 use N.Utf8Pushing.{pushes_seam}
-use Rattle.tds_text.proofs.Begun.{after_kept}
+use Rattle.tds_text.proofs.OpenTexts.{after_kept}
 
 pub overflow_sub-result : goal.overflow_sub-result
 overflow_sub-result g c =

@@ -1,0 +1,311 @@
+-- Runs of cells over the columns that a row format knows: more cells after those that were written.
+use Rattle.std.proofs.lemmas.List.{get_or-drop}
+use Rattle.tds_cells.proofs.Words as N
+use Rattle.tds_cells.proofs.Words.{arith, false, ◌∷◌, ◌≡◌, ◌∙◌, ap, ℕ, ◌+◌, ◌-◌, ◌<◌, ◌≤◌, List, ◌++◌, length, take, drop, Column, Cursor, RowsRan, RowFormat}
+use Rattle.tds_cells.proofs.Words.{Cell}
+use Rattle.tds_cells.proofs.Words.{suc, Bool, sym, RunsMarked, inl, ◌⊎◌, ◌==◌, ◌≢◌, CellFormat, IsCursor, Knows, inr, true, []}
+use Rattle.tds_cells.proofs.RowFormatSteps.{known_kind, none_next}
+use Rattle.tds_cells.proofs.RunSteps.{made_more, marked_writes, rows_both, rows_none, rows_onward, used_more, unused}
+use Rattle.tds_cells.proofs.FormatSteps.{some_first}
+
+-- Between two places of rows, over the ends of so many, these bytes are their cells, and this is their text.
+abbrev pub RowsBetween : RowFormat → List Column → Cursor → Cursor → ℕ → List ℕ → List ℕ → Type 0
+RowsBetween row_format columns old new count bytes text = IsCursor row_format columns new
+    × ((charset : N.Charset) (cells : List Cell) → row_format.charset ≡ charset → length cells ≡ old.column
+    → N.WritesRows charset columns cells (drop old.column columns) (drop new.column columns) new.column count bytes text)
+
+pub rows_begin : {row_format : RowFormat} {from : Cursor} {bytes to : List ℕ}
+    → RowsRan row_format from bytes to (record { used = 0; made = 0; rows = 0; ahead = from })
+rows_begin = grind (arith, rows_none)
+
+-- the token byte of a ROW is next
+begins_at : (used : ℕ) (bytes : List ℕ) → N.BeginsRow (unused used bytes) → (used < length bytes)
+    × (N.get_or bytes used 0 ≡ 0xD1)
+begins_at _ _ begins = grind (arith, N.drop_more)
+
+-- one row more, after its token byte
+pub row_begun : {row_format : RowFormat} {from start : Cursor} {bytes to : List ℕ} {run : N.RowsRun} → 0 < row_format.count
+    → row_format.count ≤ run.ahead.column
+    → N.BeginsRow (unused run.used bytes) × (start.column ≡ 0)
+    → ((columns : List Column) → Knows row_format columns → IsCursor row_format columns run.ahead → IsCursor row_format columns start)
+    → RowsRan row_format from bytes to run → RowsRan row_format from bytes to
+    (record { used = run.used + 1; made = run.made; rows = run.rows + 1; ahead = start })
+row_begun {bytes = bytes} {run = run} some at (begins, first) ahead x =
+    let (within, byte) = begins_at run.used bytes begins in
+    record {
+      used = omega arith;
+      made = x.made;
+      few = omega arith;
+      writes = λ columns knows is.
+          let y = x.writes columns knows is in
+          let none = none_next columns run.ahead.column knows.counted at in (
+            ahead columns knows y.0,
+            λ charset cells set counted. rw first
+                (rows_onward run.used bytes (omega arith) none within byte (y.1 charset cells set counted)),
+          );
+    }
+
+-- more cells of the last row, in the bytes that are left and after what was made
+pub more_in_rows : {row_format : RowFormat} {columns : List Column} {old new : Cursor} {count : ℕ} (from : Cursor) (used u : ℕ) {made m : ℕ}
+    (bytes to text rest : List ℕ) → made ≤ length to → m ≤ length text → RowsBetween row_format columns from old count (take used bytes) (take made to)
+    → RunsMarked row_format columns (λ k. false) old new (take u (unused used bytes)) (take m text)
+    → RowsBetween row_format columns from new count (take (used + u) bytes) (take (made + m) (take made to ++ (text ++ rest)))
+more_in_rows _ _ u _ _ _ _ within some x y = grind (arith, used_more, made_more, marked_writes)
+
+-- the same of what a run over rows has done
+pub rows_more : {row_format : RowFormat} {from : Cursor} {bytes to : List ℕ} {run : N.RowsRun} {cells : N.CellRun} (text rest : List ℕ) → 0 < cells.used
+    → cells.used ≤ length (unused run.used bytes) → cells.made ≤ length text
+    → N.CellsWritten row_format run.ahead (unused run.used bytes) text cells → RowsRan row_format from bytes to run
+    → RowsRan row_format from bytes (take run.made to ++ (text ++ rest))
+    (record { used = run.used + cells.used; made = run.made + cells.made; rows = run.rows; ahead = cells.ahead })
+rows_more {from = from} {bytes = bytes} {to = to} {run = run} text rest _ within fits gives x = record {
+  used = omega (arith, N.length-take (length bytes - run.used) (drop run.used bytes));
+  made = omega (arith, N.length-append (take run.made to) (text ++ rest), N.length-append text rest, N.length-take-le run.made to x.made);
+  few = omega arith;
+  writes = λ columns knows is. (let y = x.writes columns knows is in more_in_rows from _ _ _ _ _ _ x.made fits y (gives columns knows y.0));
+}
+
+-- the cells of a run within a row, none of which is NULL by its bit
+pub marked_in_rows : {row_format : RowFormat} {columns : List Column} {from to : Cursor} {bytes text : List ℕ}
+    → RunsMarked row_format columns (λ k. false) from to bytes text → RowsBetween row_format columns from to 0 bytes text
+marked_in_rows y = (y.ahead, λ charset cells set is. rw y.further (marked_writes _ y.count _ _ (rows_none is) (rw set at y.writes)))
+
+-- what stands after what was made may be another
+pub rows_kept : {row_format : RowFormat} {from : Cursor} {bytes to : List ℕ} {run : N.RowsRun} {new : List ℕ} → length new ≡ length to
+    → take run.made new ≡ take run.made to → RowsRan row_format from bytes to run → RowsRan row_format from bytes new run
+rows_kept same is x = grind arith
+
+-- a run, and then another from where it ended
+pub rows_further : {row_format : RowFormat} {from : Cursor} {bytes to : List ℕ} {run more : N.RowsRun} (text rest : List ℕ)
+    → RowsRan row_format from bytes to run → RowsRan row_format run.ahead (unused run.used bytes) text more
+    → RowsRan row_format from bytes (take run.made to ++ (text ++ rest))
+    (record { used = run.used + more.used; made = run.made + more.made; rows = run.rows + more.rows; ahead = more.ahead })
+rows_further {bytes = bytes} {to = to} {run = run} {more = more} text rest x y = record {
+  used = omega (arith, N.length-take (length bytes - run.used) (drop run.used bytes));
+  made = omega (arith, N.length-append (take run.made to) (text ++ rest), N.length-append text rest, N.length-take-le run.made to x.made);
+  few = omega arith;
+  writes = λ columns knows ahead. (let u = x.writes columns knows ahead in let v = y.writes columns knows u.0 in (
+    v.0,
+    λ charset cells set counted. (let w = u.1 charset cells set counted in rw (
+      used_more run.used more.used bytes,
+      made_more run.made more.made to text rest x.made y.made,
+    ) (rows_both w (grind arith))),
+  ));
+}
+
+-- ---- the cells of an NBCROW
+
+-- no column is NULL by its bit
+abbrev pub none_null : ℕ → Bool
+none_null k = false
+
+module _ (charset : N.Charset) (columns : List Column) where
+  -- so many columns, and then so many more
+  marked_both : (nulls : ℕ → Bool) (from n m : ℕ) (a b p q : List ℕ) → N.WritesMarked charset columns nulls from n a p
+      → N.WritesMarked charset columns nulls (from + n) m b q → N.WritesMarked charset columns nulls from (n + m) (a ++ b) (p ++ q)
+  marked_both _ _ n N.zero a b p q x y = search N.rules
+  marked_both nulls from n (suc m) a b p q x y =
+      let at : (from + n) + m ≡ from + _ = omega arith in
+      let counted : suc _ ≡ n + suc m = omega arith in
+      rw (sym counted) (
+        a ++ y.0,
+        y.1,
+        p ++ y.2,
+        y.3,
+        ap (λ l. a ++ l) y.4 ∙ sym (N.append_assoc a y.0 y.1),
+        ap (λ l. p ++ l) y.5 ∙ sym (N.append_assoc p y.2 y.3),
+        marked_both nulls from n m a y.0 p y.2 x y.6,
+        rw at at y.7,
+      )
+
+  -- columns whose bits are clear
+  pub marked_clear : (nulls : ℕ → Bool) (from n : ℕ) (bytes text : List ℕ) → ((k : ℕ) → from ≤ k → k < from + n → nulls k ≡ false)
+      → N.WritesMarked charset columns none_null from n bytes text → N.WritesMarked charset columns nulls from n bytes text
+  marked_clear _ _ N.zero _ _ _ x = x
+  marked_clear nulls from (suc n) _ _ clear x =
+      let last = x.7 in
+      let one : N.WritesColumn charset columns nulls (from + n) x.1 x.3 =
+      grind arith in
+      (x.0, x.1, x.2, x.3, x.4, x.5, marked_clear _ _ n _ _ (grind arith) x.6, one)
+
+module _ {row_format : RowFormat} {columns : List Column} {nulls : ℕ → Bool} {at : Cursor} where
+  pub runs_column : {after : Cursor} {kind : N.Kind} {last : Bool} {bytes text : List ℕ} → N.TakesColumn row_format columns at after kind
+      → last ≡ N.is_last_column (drop after.column columns) → N.WritesNext row_format.charset (nulls at.column) kind at.column last bytes text
+      → RunsMarked row_format columns nulls at after bytes text
+  runs_column {bytes = bytes} {text = text} taken end cell =
+      let one : N.WritesColumn _ columns nulls _ bytes text =
+      record { column = taken.column; left = drop _ columns; next = taken.next; writes = rw (taken.kind, end) at cell } in
+      record {
+        count = 1;
+        ahead = taken.ahead;
+        further = cc;
+        writes = grind arith;
+      }
+
+module _ {row_format : RowFormat} {columns : List Column} {nulls : ℕ → Bool} {from to : Cursor} where
+  -- a run over columns whose bits are clear
+  pub runs_clear : {bytes text : List ℕ} → ((k : ℕ) → from.column ≤ k → k < to.column → nulls k ≡ false)
+      → RunsMarked row_format columns none_null from to bytes text → RunsMarked row_format columns nulls from to bytes text
+  runs_clear clear x = grind (arith, marked_clear)
+
+  -- more cells, in the bytes that are left and after what was made
+  pub runs_more : (at : Cursor) (used u made m : ℕ) (bytes text new rest : List ℕ) → made ≤ length text → m ≤ length new
+      → RunsMarked row_format columns nulls from at (take used bytes) (take made text)
+      → RunsMarked row_format columns nulls at to (take u (take (length bytes - used) (drop used bytes))) (take m new)
+      → RunsMarked row_format columns nulls from to (take (used + u) bytes) (take (made + m) (take made text ++ (new ++ rest)))
+  runs_more at used u made m bytes text new rest within some x y = record {
+    count = x.count + y.count;
+    ahead = y.ahead;
+    further = omega arith;
+    writes = rw (used_more, made_more) (marked_both _ _ _ _ _ _ _ _ _ _ x.writes (rw x.further at y.writes));
+  }
+
+-- a run ended before a column whose bit is clear
+pub ends_clear : (row_format : RowFormat) (nulls : ℕ → Bool) (at : Cursor) (bytes : List ℕ) (room : ℕ) → nulls at.column ≡ false
+    → N.RunEnds row_format at bytes room
+    → N.EndsLeft row_format nulls at bytes room
+ends_clear _ _ at bytes room clear x =
+    λ columns column left knows ahead next. elim (x columns column left knows ahead next) [ inl few ↦ inl few | inr y ↦ inr (clear, y.1) ]
+
+-- ---- the formats of the next columns
+
+-- those that a row format knows, from a place in a row on
+pub known_ahead : (row_format : RowFormat) (at : Cursor) (end : ℕ) (n : ℕ) → N.AreLaidOut row_format.charset row_format.formats.now
+    → row_format.known ≤ length row_format.formats.now → 0 < n
+    → at.column + n ≤ end → at.column + n ≤ row_format.known → row_format.known ≤ row_format.count
+    → N.AreAtCursor row_format at end (take n (drop at.column row_format.formats.now))
+known_ahead _ at end n laid fits some within known few =
+    let k = at.column in
+    let len = N.length-take-le n _ (grind (arith, N.length-drop)) in
+    record {
+      laid = grind (arith, N.common_steps);
+      some = omega arith;
+      within = omega arith;
+      known = grind arith;
+      next = λ columns knows ahead.
+          let first =
+          ap (N.map _) (sym (N.take-take _ _ _ known)) ∙ sym (N.take-map _ _ _) ∙ ap (take _) knows.first
+          ∙ N.take-map _ _ _ ∙ ap N.kinds (N.take-take _ _ columns known) in
+          let formats_are =
+          ap (N.map _) (sym (N.drop-take k n _)) ∙ sym (N.drop-map _ k _) ∙ ap (drop k) first ∙ N.drop-map _ k _
+          ∙ ap N.kinds (N.drop-take k n columns) in
+          formats_are ∙ ap (λ m. N.kinds (take m (drop k columns))) (sym len);
+    }
+
+-- no cell was written where no byte was used
+pub none_written : {cells used : ℕ} → (0 < cells → 0 < used) → used ≡ 0 → cells ≡ 0
+none_written some none = grind arith
+
+module _ (row_format : RowFormat) (from : Cursor) (end : ℕ) (formats : List CellFormat) (within : end ≤ row_format.count)
+    (ahead : N.AreAtCursor row_format from end formats) where
+  -- the first is that of the next column
+  pub first_next : {format : CellFormat} {rest : List CellFormat} → formats ≡ format ∷ rest → (columns : List Column) → Knows row_format columns
+      → IsCursor row_format columns from
+      → N.NextColumn columns from format.kind
+  first_next are _ knows is = grind arith
+
+  module _ (ends : Bool) (end_is : ends ≡ (from.column + length formats == row_format.count)) where
+    -- what was written by them is between two places of the row
+    pub formats_between : (columns : List Column) → Knows row_format columns → IsCursor row_format columns from
+        → (to : Cursor) (bytes text : List ℕ) (run : N.FormatsRun) → to.column ≡ from.column + run.cells → IsCursor row_format columns to
+        → N.FormatsWritten row_format.charset formats from.column ends bytes text run
+        → RunsMarked row_format columns (λ k. false) from to (take run.used bytes) (take run.made text)
+    formats_between _ knows is _ _ _ _ further there x = grind (arith, N.length-drop)
+
+  pub first_left : {bytes : List ℕ} {room : ℕ} → N.FirstLeft row_format.charset formats bytes room
+      → (columns : List Column) (column : Column) (left : List Column) → Knows row_format columns → IsCursor row_format columns from
+      → drop from.column columns ≡ column ∷ left
+      → (room < N.CELL_ROOM) ⊎ ((false ≡ false) × N.IsLeft row_format.charset column.kind bytes room)
+  first_left x columns column _ knows is step =
+      let first = some_first _ ahead.some in
+      let n = first_next first.2 columns knows is in
+      elim (x first.0 first.1 first.2) [
+        | inl few ↦ inl few
+        | inr y ↦ inr (grind arith)
+      ]
+
+  -- the cell after so many is left as the first of the others is
+  pub next_left : {bytes : List ℕ} {room : ℕ} (k : ℕ) → N.FirstLeft row_format.charset (drop k formats) bytes room → k < length formats
+      → (columns : List Column) (column : Column) (left : List Column) → Knows row_format columns → IsCursor row_format columns from
+      → drop (from.column + k) columns ≡ column ∷ left → (room < N.CELL_ROOM) ⊎ N.IsLeft row_format.charset column.kind bytes room
+  next_left k x some columns column left knows is step =
+      let (format, rest, are) = some_first (drop k formats) (omega (arith, some, N.length-drop k formats)) in
+      let next = drop from.column columns in
+      let there : drop k next ≡ column ∷ left = N.drop-drop k from.column columns ∙ step in
+      let place : k ≡ k + 0 = omega arith in
+      let first : N.get_or formats k format ≡ format =
+      ap (λ (n : ℕ). N.get_or formats n format) place ∙ sym (get_or-drop k formats 0 format) ∙ ap (λ l. N.get_or l 0 format) are in
+      let second : N.get_or next k column ≡ column =
+      ap (λ (n : ℕ). N.get_or next n column) place ∙ sym (get_or-drop k next 0 column) ∙ ap (λ l. N.get_or l 0 column) there in
+      let kinds_are : N.map (λ f. f.kind) (take (length formats) formats) ≡ N.kinds (take (length formats) next) =
+      ap (N.map _) (N.take_all (length formats) formats (omega arith)) ∙ ahead.next columns knows is in
+      let further : k < length next = omega (arith, ap length there, N.length-drop k next) in
+      let kind_is = rw (first, second) at (known_kind formats next (length formats) k format column kinds_are some (omega arith) further) in
+      elim (x format rest are) [ inl few ↦ inl few | inr y ↦ inr (rw kind_is at y) ]
+
+-- ---- rows that are far from the ends
+
+-- two places of a row, all of whose columns the row format knows, are ahead alike
+pub place_known : (row_format : RowFormat) (from : Cursor) (a b : ℕ) → row_format.known ≡ row_format.count → a ≤ row_format.count → b ≤ row_format.count
+    → (columns : List Column) → Knows row_format columns → IsCursor row_format columns (record from { column = a })
+    → IsCursor row_format columns (record from { column = b })
+place_known row_format from a b all within few columns knows is = record {
+  counted = omega (arith, knows.counted);
+  within = λ _. is.within (omega arith);
+  beyond = λ end. (let same : row_format.known ≡ b = omega arith in is.within (omega arith) ∙ ap (λ n. drop n columns) same);
+}
+
+-- the formats of the rest of such a row
+pub rest_ahead : (row_format : RowFormat) (at : Cursor) (row : List CellFormat) → row_format.known ≡ row_format.count → row
+    ≡ take row_format.known row_format.formats.now
+    → at.column < row_format.count
+    → N.AreAtCursor row_format at row_format.count (drop at.column row) × (at.column + length (drop at.column row) ≡ row_format.count)
+rest_ahead row_format at row all are some =
+    let n = row_format.known - at.column in
+    let split : row_format.known ≡ at.column + n = omega arith in
+    let rest = ap (drop at.column) (are ∙ ap (λ m. take m row_format.formats.now) split) ∙ N.drop-take at.column n row_format.formats.now in
+    let counted = N.length-take-le n (drop at.column row_format.formats.now) (omega
+    (arith, N.length-drop at.column row_format.formats.now, row_format.there)) in (
+      rw (sym rest) at (known_ahead row_format at row_format.count n row_format.laid (omega (arith, row_format.there)) (omega arith) (omega arith)
+          (omega arith) (omega arith)),
+      omega (arith, ap length rest, counted),
+    )
+
+-- a whole row more, whose place is counted from the front of all
+pub row_far : {from : Cursor} {bytes to : List ℕ} {rows used made : ℕ} (row_format : RowFormat) (row : List CellFormat) (run : N.FormatsRun) (new : List ℕ)
+    → row_format.known ≡ row_format.count → 0 < row_format.count → row ≡ take row_format.known row_format.formats.now → run.cells ≡ row_format.count
+    → take made new ≡ take made to → length new ≡ length to → (used ≤ run.used) × (made ≤ run.made)
+    → N.RunsFormats row_format.charset row 0 true (drop used bytes) (length to - made) (drop made new) (N.run_since (record { used = used; made = made }) run)
+    → RowsRan row_format from bytes to (record { used = used; made = made; rows = rows; ahead = record from { column = 0 } })
+    → RowsRan row_format from bytes new (record { used = run.used; made = run.made; rows = rows; ahead = record from { column = row_format.count } })
+row_far {from = from} {bytes = bytes} {to = to} {used = u} {made = m} row_format row run new all some are whole same size begun written x =
+    let next = rest_ahead row_format (record from { column = 0 }) row all are some in
+    let made = drop m new in
+    let rest = N.all_after bytes u in
+    let kept : new ≡ take m to ++ (made ++ []) =
+    sym (N.take-append-drop m new) ∙ ap (λ t. t ++ made) same ∙ ap (λ t. take m to ++ t) (sym (N.append-nil made)) in
+    let used : run.used ≡ u + (run.used - u) = omega (arith, begun) in
+    let end : run.made ≡ m + (run.made - m) = omega (arith, begun) in
+    rw (kept, used, end) (rows_more {cells = record { used = run.used - u; made = run.made - m; ahead = record from { column = row_format.count } }}
+    made [] (written.within.some (omega (arith, whole, some))) (rw rest written.within.used)
+    (omega (arith, written.within.made, N.length-drop m new))
+    (λ columns knows is. formats_between _ _ _ _ (omega arith) next.0 _ (sym (N.eq-eqb _ _ next.1)) columns knows is _ _ _
+    (N.run_since (record { used = u; made = m }) run) (omega (arith, whole))
+    (place_known row_format from 0 row_format.count all (omega arith) (omega arith) columns knows is) (rw rest written.cells)) x)
+
+-- what such a run is with this walk
+abbrev pub known_run : N.Walk → N.KnownRun → N.RowsRun
+known_run walk run = record { used = run.used; made = run.made; rows = run.rows; ahead = N.place walk run.column }
+
+pub ran_at : {row_format : RowFormat} {column : ℕ} {bytes text : List ℕ} {run : N.KnownRun} → N.KnownRan row_format column bytes text run
+    → (walk : N.Walk) → RowsRan row_format (N.place walk column) bytes text (known_run walk run)
+ran_at x walk = record { used = x.used; made = x.made; few = x.few; writes = x.writes walk }
+
+pub known_ran : {row_format : RowFormat} {column : ℕ} {bytes text : List ℕ} {run : N.KnownRun}
+    → ((walk : N.Walk) → RowsRan row_format (N.place walk column) bytes text (known_run walk run)) → N.KnownRan row_format column bytes text run
+known_ran {row_format = row_format} x = record {
+  used = (x row_format.rest).used;
+  made = (x row_format.rest).made;
+  few = (x row_format.rest).few;
+  writes = λ walk. (x walk).writes;
+}

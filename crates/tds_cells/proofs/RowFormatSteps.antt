@@ -1,0 +1,114 @@
+-- A row format of columns, column by column.
+use Rattle.tds_cells.proofs.Words as N
+use Rattle.tds_cells.proofs.Words.{◌≡◌, ◌⊎◌, ◌&&◌, ◌∙◌, ℕ, ◌+◌, ◌≤◌, ◌<◌, List, [], ◌∷◌, length, take, drop, get_or, sym, ap, arith, map, ◌==◌, Kind, Column}
+use Rattle.tds_cells.proofs.Words.{columns_left, Cursor, CellFormat, IsCursor}
+use Rattle.tds_columns.specs.declared.walk.Column as walks
+
+-- what is ahead begins with the next column
+pub next_column : (columns : List Column) (k : ℕ) {c : Column} {rest : List Column} → drop k columns ≡ c ∷ rest → (k < length columns)
+    × ((get_or columns k c ≡ c) × (drop (k + 1) columns ≡ rest))
+next_column columns k {c} h =
+    let within : k < length columns = omega (arith, N.length-drop k columns, ap length h) in
+    let more = sym (N.drop_more columns k c within) ∙ h in
+    (grind arith)
+
+pub first_more : (formats : List CellFormat) (columns : List Column) (k : ℕ) (f : CellFormat) {c : Column} {rest : List Column} → k < length formats
+    → map (λ f. f.kind) (take k formats) ≡ N.kinds (take k columns) → drop k columns ≡ c ∷ rest → f.kind ≡ c.kind
+    → map (λ f. f.kind) (take (k + 1) (N.slice_set formats k f)) ≡ N.kinds (take (k + 1) columns)
+first_more _ _ k f within first h is = grind (arith, N.common_steps, next_column)
+
+-- whether one more column is of such a kind too
+pub all_more : (of : Kind → N.Bool) (columns : List Column) (k : ℕ) {all one : N.Bool} {c : Column} {rest : List Column} → drop k columns ≡ c ∷ rest
+    → all ≡ N.list_all (λ d. of d.kind) (take k columns) → one ≡ of c.kind
+    → (all && one) ≡ N.list_all (λ d. of d.kind) (take (k + 1) columns)
+all_more of columns k {c = c} h before is =
+    let next = next_column columns k h in
+    grind (arith, N.list_all_more (λ d. of d.kind) columns k c next.0)
+
+-- the kind of a column that is known
+pub known_kind : (formats : List CellFormat) (columns : List Column) (n k : ℕ) (f : CellFormat) (c : Column)
+    → map (λ f. f.kind) (take n formats) ≡ N.kinds (take n columns) → k < n → n ≤ length formats → k < length columns
+    → (get_or formats k f).kind ≡ (get_or columns k c).kind
+known_kind formats columns n k f c first known some within =
+    let one : k < length _ = omega (arith, N.length-take n formats) in
+    ap (λ (f : CellFormat). f.kind) (sym (N.get_or-take n formats k f known)) ∙ sym (N.get_or-map _ _ k f f.kind one)
+    ∙ ap (λ l. get_or l k f.kind) first
+    ∙ N.get_or-map _ _ k c f.kind (omega (arith, N.length-take n columns))
+    ∙ ap (λ (c : Column). c.kind) (N.get_or-take n columns k c known)
+
+module _ (row_format : N.RowFormat) (columns : List Column) (at : Cursor) (kind : Kind) (knows : N.Knows row_format columns)
+    (is : IsCursor row_format columns at) where
+  -- a column that the row format knows is next
+  pub next_known : (d : CellFormat) → at.column < row_format.count → at.column < row_format.known → row_format.known ≤ length row_format.formats.now
+      → kind ≡ (get_or row_format.formats.now at.column d).kind → N.NextColumn columns at kind
+  next_known d _ known fits is_kind =
+      let within : at.column < length columns = omega arith in
+      let c : Column = grind arith in
+      record {
+        column = get_or columns at.column c;
+        rest = drop _ columns;
+        next = N.drop_more columns at.column c within;
+        kind = is_kind ∙ known_kind _ _ _ _ d c knows.first known fits within;
+      }
+
+module _ {row_format : N.RowFormat} {columns : List Column} {old new : Cursor} (knows : N.Knows row_format columns) (is : IsCursor row_format columns old) where
+  -- the place after columns that the row format knows
+  pub after_known : {cells : ℕ} → new.column ≡ old.column + cells → old.column + cells ≤ row_format.count → (cells ≡ 0)
+      ⊎ (old.column + cells ≤ row_format.known) → columns_left new.walk ≡ columns_left old.walk → IsCursor row_format columns new
+  after_known further _ known same = grind arith
+
+  -- the place after a column that the walk gives
+  pub after_walked : new.column ≡ old.column + 1 → old.column + 1 ≤ row_format.count → row_format.known ≤ old.column
+      → columns_left new.walk ≡ drop 1 (columns_left old.walk) → IsCursor row_format columns new
+  after_walked further some beyond steps =
+      record {
+        counted = omega arith;
+        within = grind arith;
+        beyond = λ _. steps ∙ ap (drop 1) (is.beyond beyond) ∙ N.drop-drop 1 old.column columns
+            ∙ ap (λ (n : ℕ). drop n columns) (omega arith);
+      }
+
+-- what a walk leaves after its next column
+pub walk_after : (walk new : N.Walk) (column : N.Option walks.Column) → N.YieldsFirstBy N.column_value columns_left walk column new
+    → columns_left new ≡ drop 1 (columns_left walk)
+walk_after _ _ _ y = grind arith
+
+pub takes : {row_format : N.RowFormat} {columns : List Column} {old new : Cursor} {kind : Kind} → N.NextColumn columns old kind → new.column ≡ old.column + 1
+    → IsCursor row_format columns new → N.TakesColumn row_format columns old new kind
+takes x further ahead = grind (arith, next_column)
+
+-- a place in a row that isn't at its end is before it
+pub not_end : (columns : List Column) {k n : ℕ} → n ≡ length columns → k ≤ length columns → (k == n) ≡ N.false → k < n
+not_end _ whole within isnt = grind arith
+
+-- a column is the last one where as many as there are lie before what is after it
+pub last_one : (columns rest : List Column) (c : Column) (k n : ℕ) → n ≡ length columns → drop k columns ≡ c ∷ rest
+    → (k + 1 == n) ≡ N.is_last_column rest
+last_one columns [] c k n whole next = N.eq-eqb _ n (omega (arith, N.length-drop k columns, ap length next))
+last_one columns (d ∷ ds) c k n whole next = N.ne_eqb _ n (λ e. omega (arith, N.length-drop k columns, ap length next))
+
+-- none is next where as many as there are lie before
+pub none_next : (columns : List Column) (k : ℕ) {n : ℕ} → n ≡ length columns → n ≤ k → drop k columns ≡ []
+none_next _ k whole all = grind (arith, N.drop_all)
+
+-- before the row's end the next column is ahead, of some kind
+pub next_any : (columns : List Column) (at : Cursor) (n : ℕ) → n ≡ length columns → at.column < n → (kind : Kind) × N.NextColumn columns at kind
+next_any columns at n whole some =
+    let c : Column = grind arith in
+    let column = get_or columns at.column c in (
+      column.kind,
+      record {
+        column = column;
+        rest = drop _ columns;
+        next = N.drop_more columns at.column c (omega arith);
+        kind = N.refl;
+      },
+    )
+
+-- as many lie before where the place is the row's end
+pub all_before : {k n : ℕ} → N.true ≡ (k == n) → n ≤ k
+all_before is = grind arith
+
+-- none is next at the row's end
+pub at_end : (columns : List Column) (k n : ℕ) → n ≡ length columns → (k == n) ≡ N.true → drop k columns ≡ []
+at_end _ k n whole is = grind (arith, none_next)

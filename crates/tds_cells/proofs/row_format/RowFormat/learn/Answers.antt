@@ -1,0 +1,65 @@
+use Rattle.tds_cells.proofs.row_format.RowFormat.learn.Goals as goal
+use Rattle.tds_cells.proofs.row_format.RowFormat.learn.Goals.{else-loop-known-test, then-loop-known-test+in_default}
+use Rattle.tds_cells.proofs.Words.{◌∙◌, ap, inl, inr, sym, arith, IsLaidOut, columns_of, is_counted, is_int4, length, length-drop, rules}
+use Rattle.tds_cells.proofs.LaidOut.{each_set, kind_set}
+use Rattle.tds_cells.proofs.RowFormatSteps.{all_more, first_more, next_column}
+
+pub loop-known-init : goal.loop-known-init
+loop-known-init c = record {
+  most = search arith;
+  few = search arith;
+  first = search arith;
+  laid = c.requires.laid;
+  numbers = λ _. c.requires.numbers;
+  counted = λ _. c.requires.counted;
+  numbers_are = search arith;
+  counted_are = search arith;
+  rest = search arith;
+}
+
+pub loop-known-preserved : goal.loop-known-preserved
+loop-known-preserved c =
+    let inv = c.loop-known.invariant in
+    let step = sym inv.rest ∙ c.in-Some.ensures.steps in
+    let columns = columns_of c.args.columns.bytes.now in
+    let next = next_column columns _ step in
+    record {
+      most = search (arith, rules);
+      few = omega arith;
+      first = first_more _ columns _ c.of.result
+          (omega arith) inv.first step c.of.ensures.kind;
+      laid = each_set (λ f. IsLaidOut c.args.charset f.kind f.layout) _ _ c.of.result inv.laid
+          (omega arith) c.of.ensures.laid;
+      numbers = kind_set is_int4 _ _ c.of.result _ c.is_int4-only_numbers.result inv.numbers
+          (omega arith) (c.is_int4-only_numbers.ensures ∙ ap is_int4 (sym c.of.ensures.kind));
+      counted = kind_set is_counted _ _ c.of.result _ c.is_counted-only_counted.result inv.counted
+          (omega arith) (c.is_counted-only_counted.ensures ∙ ap is_counted (sym c.of.ensures.kind));
+      numbers_are = all_more is_int4 columns _ step inv.numbers_are c.is_int4-only_numbers.ensures;
+      counted_are = all_more is_counted columns _ step inv.counted_are c.is_counted-only_counted.ensures;
+      rest = sym next.1.1;
+    }
+
+pub returns : goal.returns
+returns c =
+    let inv = c.loop-known.invariant in
+    let columns = columns_of c.args.columns.bytes.now in
+    record {
+      there = inv.most;
+      few = inv.few;
+      first = inv.first;
+      laid = inv.laid;
+      numbers = inv.numbers;
+      counted = inv.counted;
+      all = elim c.loop-known-test.branch [
+        | else-loop-known-test w ↦ inl (omega (arith, inv.most))
+        | then-loop-known-test+in_default w ↦ inr (omega (
+          arith,
+          inv.few,
+          length-drop c.loop-known.known columns,
+          ap length (sym inv.rest ∙ w.in_default.ensures.steps.0),
+        ))
+      ];
+      numbers_are = inv.numbers_are;
+      counted_are = inv.counted_are;
+      rest = search arith;
+    }

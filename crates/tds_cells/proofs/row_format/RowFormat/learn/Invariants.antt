@@ -1,0 +1,19 @@
+use Rattle.tds_cells.proofs.row_format.RowFormat.learn.Given as goal
+use Rattle.tds_cells.proofs.Words as N
+use Rattle.tds_cells.proofs.Words.{◌≡◌, ◌-◌, ◌≤◌}
+
+abbrev pub invariant-loop-known : goal.invariant-loop-known
+invariant-loop-known l = record {
+  most : l.known ≤ N.length l.formats;
+  few : l.known ≤ N.length (N.columns_of l.fn.columns.bytes.now);
+  first : N.map (λ f. f.kind) (N.take l.known l.formats) ≡ N.kinds (N.take l.known (N.columns_of l.fn.columns.bytes.now));
+  laid : N.AreLaidOut l.fn.charset l.formats;
+  numbers : l.only_numbers ≡ N.true → N.AreInt4 l.formats;
+  counted : l.only_counted ≡ N.true → N.AreCounted l.formats;
+  numbers_are : l.only_numbers ≡ N.list_all (λ c. N.is_int4 c.kind) (N.take l.known (N.columns_of l.fn.columns.bytes.now));
+  counted_are : l.only_counted ≡ N.list_all (λ c. N.is_counted c.kind) (N.take l.known (N.columns_of l.fn.columns.bytes.now));
+  rest : N.columns_left l.rest ≡ N.drop l.known (N.columns_of l.fn.columns.bytes.now);
+}
+
+abbrev pub decreases-loop-known : goal.decreases-loop-known
+decreases-loop-known l = N.length l.formats - l.known

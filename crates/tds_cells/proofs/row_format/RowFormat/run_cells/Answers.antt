@@ -1,0 +1,12 @@
+use Rattle.tds_cells.proofs.row_format.RowFormat.run_cells.Goals as goal
+use Rattle.tds_cells.proofs.Words.{arith}
+
+pub returns-in-Some-clause-ends : goal.returns-in-Some-clause-ends
+returns-in-Some-clause-ends g c = λ none some. c.run_along.ensures.ends none
+
+pub returns-clause-ends : goal.returns-clause-ends
+returns-clause-ends g c = λ none some. c.run_unknown.ensures.ends none
+
+pub returns-in-Some-clause-left : goal.returns-in-Some-clause-left
+returns-in-Some-clause-left g c = λ columns column left knows is few step.
+    c.run_along.ensures.left columns column left knows is (omega (arith, few, c.in-Some.ensures.all)) step

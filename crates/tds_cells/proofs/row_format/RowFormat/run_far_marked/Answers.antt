@@ -1,0 +1,54 @@
+use Rattle.tds_cells.proofs.row_format.RowFormat.run_far_marked.Goals as goal
+use Rattle.tds_cells.proofs.Words as N
+use Rattle.tds_cells.proofs.Words.{◌∙◌, ◌+◌, ◌≤◌, [], length, arith}
+use Rattle.tds_cells.proofs.row_format.RowFormat.run_far_marked.Goals.{then-is_null, else-is_null+in-Some-next}
+use Rattle.tds_cells.proofs.FormatSteps.{written_after}
+use Rattle.tds_cells.proofs.RowFormatRuns.{runs_column, runs_more}
+use Rattle.tds_cells.proofs.RowFormatSteps.{last_one, takes}
+
+pub loop-used-preserved : goal.loop-used-preserved
+loop-used-preserved c =
+    let l = c.loop-used in
+    elim c.if-is_null.branch [
+      -- columns that are NULL by their bit
+      | then-is_null w ↦
+          let nulls = w.write_nulls-nulls.result in
+          let text = w.write_nulls-nulls.new.to in
+          let within : nulls.made ≤ length text = search arith in
+          rw (w.to-is, w.used-is, w.made-is) (record {
+            used = l.invariant.used;
+            made = search arith;
+            room = search arith;
+            writes = λ columns knows ahead.
+                let ran = l.invariant.writes columns knows ahead in
+                let written = w.write_nulls-nulls.ensures.nulls c.args.self.now.charset columns (N.sym (w.count.ensures ∙ knows.counted)) in
+                let more : N.RunsMarked c.args.self.now columns (N.bit c.args.bitmap.now) l.ahead c.pass.new.at [] (N.take nulls.made text) = record {
+                  count = nulls.columns;
+                  ahead = c.pass.ensures.ahead columns knows ran.ahead;
+                  further = c.pass.ensures.further ∙ N.ap (λ n. l.ahead.column + n) w.columns-is;
+                  writes = written;
+                } in
+                rw (N.sym (N.add-zero l.used)) (runs_more _ _ _ _ _ _ _ _ _ l.invariant.made within ran more);
+          })
+      -- one that isn't
+      | else-is_null+in-Some-next w ↦
+          let made = w.in-Some-next.written.made in
+          let far = w.write_far_alone-next in
+          let new = far.new.to in
+          let cell = w.in-Some-next.ensures.cell in
+          let clear = N.sym c.is_null.ensures ∙ w.if-is_null.false in
+          let new_is = written_after l.made l.to new l.invariant.made (search arith) far.ensures.kept in
+          let within : made ≤ length (N.drop l.made new) = omega (arith, w.in-Some-next.ensures.most, far.auto.to, N.length-drop l.made new) in
+          rw (w.to-is, w.used-is, w.made-is) (record {
+            used = search arith;
+            made = search arith;
+            room = search arith;
+            writes = λ columns knows ahead.
+                let ran = l.invariant.writes columns knows ahead in
+                let further = c.pass.ensures.further ∙ N.ap (λ n. l.ahead.column + n) w.columns-is in
+                let taken = takes (c.in-Some.ensures.next columns knows ran.ahead) further (c.pass.ensures.ahead columns knows ran.ahead) in
+                let last = c.is_last-last.ensures ∙ last_one _ _ _ _ _ knows.counted taken.next in
+                let whole = rw last at (rw (N.sym (N.all_after c.args.bytes.now l.used)) at cell.writes.whole) in
+                rw new_is (runs_more _ _ _ _ _ _ _ _ _ l.invariant.made within ran (runs_column taken N.refl (rw clear whole)));
+          })
+    ]

@@ -1,0 +1,15 @@
+use Rattle.tds_cells.proofs.row_format.RowFormat.run_far_marked.Given as goal
+use Rattle.tds_cells.proofs.Words as N
+use Rattle.tds_cells.proofs.Words.{◌-◌, ◌≤◌, ◌≡◌}
+
+abbrev pub invariant-loop-used : goal.invariant-loop-used
+invariant-loop-used l = record {
+  used : l.used ≤ N.length l.fn.bytes;
+  made : l.made ≤ N.length l.to;
+  room : N.length l.to ≡ N.length l.fn.to;
+  writes : (columns : N.List N.Column) → N.Knows l.fn.self columns → N.IsCursor l.fn.self columns l.fn.from
+      → N.RunsMarked l.fn.self columns (N.bit l.fn.bitmap) l.fn.from l.ahead (N.take l.used l.fn.bytes) (N.take l.made l.to);
+}
+
+abbrev pub decreases-loop-used : goal.decreases-loop-used
+decreases-loop-used l = l.fn.self.count - l.ahead.column

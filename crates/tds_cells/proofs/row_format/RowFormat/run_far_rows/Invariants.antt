@@ -1,0 +1,15 @@
+use Rattle.tds_cells.proofs.row_format.RowFormat.run_far_rows.Given as goal
+use Rattle.tds_cells.proofs.Words as N
+use Rattle.tds_cells.proofs.Words.{◌-◌, ◌≤◌, ◌≡◌}
+
+abbrev pub invariant-loop-rest : goal.invariant-loop-rest
+invariant-loop-rest l = record {
+  used : l.whole.used ≤ N.length l.fn.bytes;
+  made : l.whole.made ≤ N.length l.to;
+  room : N.length l.to ≡ N.length l.fn.to;
+  few : l.whole.rows ≤ l.whole.used;
+  rows : N.NbcRowsWritten l.fn.self l.fn.bytes l.to l.whole;
+}
+
+abbrev pub decreases-loop-rest : goal.decreases-loop-rest
+decreases-loop-rest l = N.length l.fn.bytes - l.whole.used

@@ -1,0 +1,16 @@
+use Rattle.tds_cells.proofs.row_format.RowFormat.run_fast.Goals as goal
+use Rattle.tds_cells.proofs.RowFormatRuns.{known_ran, rows_begin}
+use Rattle.tds_cells.proofs.Words.{arith, ◌≡◌}
+
+pub returns-then-column-ne0-clause-rows : goal.returns-then-column-ne0-clause-rows
+returns-then-column-ne0-clause-rows g c = known_ran (λ walk. rw c.none.ensures rows_begin)
+
+pub returns-then-self-clause-rows : goal.returns-then-self-clause-rows
+returns-then-self-clause-rows g c =
+    let first : c.args.column ≡ 0 = omega (arith, c.if-column-ne0.false) in
+    rw first c.run_numbers.ensures.rows
+
+pub returns-clause-rows : goal.returns-clause-rows
+returns-clause-rows g c =
+    let first : c.args.column ≡ 0 = omega (arith, c.if-column-ne0.false) in
+    rw first c.run_numbers-2.ensures.rows

@@ -1,0 +1,75 @@
+use Rattle.tds_cells.proofs.row_format.RowFormat.run_known.Goals as goal
+use borrow.Rule.Slice.PartMut.{put_mid, same_len_mid}
+use Rattle.tds_cells.proofs.Words as N
+use Rattle.tds_cells.proofs.Words.{place, refl, arith, ◌≡◌, ◌∙◌, ◌+◌, ◌-◌, length}
+use Rattle.tds_cells.proofs.RunSteps.{made_same}
+use Rattle.tds_cells.proofs.RowFormatRuns.{known_ran, ran_at, first_left, formats_between, place_known, row_begun, rows_begin, rows_further, rows_kept}
+use Rattle.tds_cells.proofs.RowFormatRuns.{rows_more}
+use Rattle.tds_cells.proofs.RowFormatSteps.{none_next}
+
+pub loop-formats-init : goal.loop-formats-init
+loop-formats-init g c = known_ran (λ walk. rows_begin)
+
+pub loop-formats-preserved-in_default : goal.loop-formats-preserved-in_default
+loop-formats-preserved-in_default g c =
+    let fast = c.run_fast-fast in
+    let row_format = c.args.self.now in
+    let end = c.in_default.ensures.end refl in
+    known_ran (λ walk. row_begun {start = place walk 0} c.requires.known.1 end (c.row_follows.ensures.begins (search N.rules), refl)
+    (λ columns knows is. place_known row_format (place walk 0) fast.result.column 0 c.requires.known.0
+    (omega (arith, is.counted, knows.counted)) (omega arith) columns knows is)
+    (rows_further fast.new.to _ (ran_at c.loop-formats.invariant walk) (ran_at fast.ensures.rows walk)))
+
+pub loop-formats-preserved : goal.loop-formats-preserved
+loop-formats-preserved g c =
+    let fast = c.run_fast-fast in
+    let run = c.run_formats-run in
+    let some = run.ensures.run.within.some (omega arith) in
+    let row_format = c.args.self.now in
+    known_ran (λ walk. rows_more {cells = record { used = run.result.used; made = run.result.made; ahead = place walk (fast.result.column + run.result.cells) }}
+    _ _ some (search arith) (search arith)
+    (λ columns knows is. formats_between _ _ _ _ (omega arith) (c.in-Some.ensures.ahead walk) _ (N.sym (N.eq-eqb _ _ c.in-Some.ensures.whole)) _ knows is
+    _ _ _ run.result refl (place_known row_format (place walk 0) fast.result.column _ c.requires.known.0 (omega (arith, is.counted, knows.counted))
+    (omega (arith, run.ensures.run.within.cells, c.in-Some.ensures.whole)) columns knows is) run.ensures.run.cells)
+    (rows_further fast.new.to _ (ran_at c.loop-formats.invariant walk) (ran_at fast.ensures.rows walk)))
+
+pub returns-then-not-row_follows-clause-ends : goal.returns-then-not-row_follows-clause-ends
+returns-then-not-row_follows-clause-ends g c = λ walk columns column left knows ahead step. absurd (let e = N.sym step
+    ∙ none_next _ _ knows.counted (c.in_default.ensures.end refl) in omega (arith, N.ap length e))
+
+pub returns-then-run-eq0-clause-ends : goal.returns-then-run-eq0-clause-ends
+returns-then-run-eq0-clause-ends g c = λ walk columns column left knows ahead step.
+    let l = c.loop-formats in
+    let fast = c.run_fast-fast in
+    let run = c.run_formats-run in
+    let made = l.made + fast.result.made in
+    let mid = put_mid l.made (length l.to - l.made) l.to fast.new.to in
+    let same = same_len_mid l.made (length l.to - l.made) l.to fast.new.to (search arith) in
+    let left = first_left _ _ _ _ (omega arith) (c.in-Some.ensures.ahead walk) (run.ensures.run.ends c.if-run-eq0.true) _
+    _ _ knows ahead step in
+    let room : length (N.take (length mid - made) (N.drop made mid)) ≡ length c.args.to.now - made =
+    omega (arith, same, N.length-drop made mid) in
+    rw room at (rw (N.all_after c.args.bytes.now _) at left)
+
+pub returns-then-not-row_follows-clause-rows : goal.returns-then-not-row_follows-clause-rows
+returns-then-not-row_follows-clause-rows g c = known_ran (λ walk. rows_further c.run_fast-fast.new.to _ (ran_at c.loop-formats.invariant walk)
+    (ran_at c.run_fast-fast.ensures.rows walk))
+
+pub returns-then-run-eq0-clause-rows : goal.returns-then-run-eq0-clause-rows
+returns-then-run-eq0-clause-rows g c =
+    let l = c.loop-formats in
+    let fast = c.run_fast-fast in
+    let made = l.made + fast.result.made in
+    let mid = put_mid l.made _ l.to fast.new.to in
+    known_ran (λ walk.
+    let ran = rows_further fast.new.to _ (ran_at l.invariant walk) (ran_at fast.ensures.rows walk) in
+    rows_kept (same_len_mid made _ mid _ (search arith)) (made_same made mid _ ran.made) ran)
+
+pub run_formats-run-requires : goal.run_formats-run-requires
+run_formats-run-requires g c = (c.in-Some.ensures.ahead c.args.self.now.rest).laid
+
+pub returns-then-not-row_follows-clause-last : goal.returns-then-not-row_follows-clause-last
+returns-then-not-row_follows-clause-last g c = λ end begins. (rw (N.all_after c.args.bytes.now _) at (c.row_follows.ensures.other (search N.rules))) begins
+
+pub returns-then-run-eq0-clause-last : goal.returns-then-run-eq0-clause-last
+returns-then-run-eq0-clause-last g c = λ end begins. absurd (omega (arith, end, c.in-Some.ensures.whole, (c.in-Some.ensures.ahead c.args.self.now.rest).some))

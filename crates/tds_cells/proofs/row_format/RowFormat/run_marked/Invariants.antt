@@ -1,0 +1,16 @@
+use Rattle.tds_cells.proofs.row_format.RowFormat.run_marked.Given as goal
+use Rattle.tds_cells.proofs.Words as N
+use Rattle.tds_cells.proofs.Words.{◌-◌, ◌≤◌}
+
+abbrev pub invariant-loop-to : goal.invariant-loop-to
+invariant-loop-to g l = record {
+  used : l.used ≤ N.length l.fn.bytes;
+  made : l.made ≤ N.length l.to;
+  most : l.end ≤ l.fn.self.count;
+  clear : N.AreClear (N.bit l.fn.bitmap) l.ahead.column l.end;
+  writes : (columns : N.List N.Column) → N.Knows l.fn.self columns → N.IsCursor l.fn.self columns l.fn.from
+      → N.RunsMarked l.fn.self columns (N.bit l.fn.bitmap) l.fn.from l.ahead (N.take l.used l.fn.bytes) (N.take l.made l.to);
+}
+
+abbrev pub decreases-loop-to : goal.decreases-loop-to
+decreases-loop-to g l = l.fn.self.count - l.ahead.column

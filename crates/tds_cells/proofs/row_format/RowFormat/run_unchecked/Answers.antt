@@ -1,0 +1,160 @@
+use Rattle.tds_cells.proofs.row_format.RowFormat.run_unchecked.Goals as goal
+use Rattle.tds_cells.proofs.Words as N
+use Rattle.tds_cells.proofs.Words.{place, arith, ◌∙◌, ◌≡◌, ◌==◌, ◌+◌, ◌-◌, ◌≤◌, ◌<◌, ◌++◌, ◌∷◌, []}
+use Rattle.tds_cells.proofs.Words.{ap, inl, inr, length, length-drop, refl, rules, sym, take, drop, get_or, false, true}
+use Rattle.tds_cells.proofs.row_format.RowFormat.run_unchecked.Goals.{then-cells-formats-via-then-cells-formats}
+use Rattle.tds_cells.proofs.row_format.RowFormat.run_unchecked.Goals.{then-cells-formats-via-else-cells-formats+then-bytes-lt-LOOKAHEAD}
+use Rattle.tds_cells.proofs.row_format.RowFormat.run_unchecked.Goals.{then-cells-formats-via-else-cells-formats+else-bytes-lt-LOOKAHEAD+then-to-lt-CELL_ROOM}
+use Rattle.tds_cells.proofs.row_format.RowFormat.run_unchecked.Goals.{then-loop-used-test+else-made-most, else-loop-used-test}
+use Rattle.tds_cells.proofs.row_format.RowFormat.run_unchecked.Goals.{then-loop-used-test+then-made-most+in_default as cell_left}
+use Rattle.tds_cells.proofs.FarRuns.{comma_made, comma_most, comma_one, far_left, far_more, row_length}
+use Rattle.tds_cells.proofs.RowFormatRuns.{known_ran, ran_at, first_left, place_known, rest_ahead, row_begun, rows_begin, rows_kept}
+use Rattle.tds_cells.proofs.RowFormatSteps.{none_next}
+use Rattle.tds_cells.proofs.RowTexts.{after_some_column}
+use Rattle.std.proofs.lemmas.List.{take-set-le}
+use Rattle.tds_cells.specs.Runs.{comma_size}
+
+pub returns-then-cells-formats-clause-rows : goal.returns-then-cells-formats-clause-rows
+returns-then-cells-formats-clause-rows c = known_ran (λ walk. rw c.none.ensures rows_begin)
+
+pub returns-then-cells-formats-clause-ends : goal.returns-then-cells-formats-clause-ends
+returns-then-cells-formats-clause-ends c =
+    let row_format = c.args.self.now in
+    let row = row_length row_format c.row-formats.result.now c.requires.known.0 c.row-formats.ensures.row in
+    λ walk. rw c.none.ensures (elim c.then-cells-formats.branch [
+      | then-cells-formats-via-then-cells-formats w ↦ inr (inr (λ columns column left knows ahead step. absurd (let e = sym step
+          ∙ none_next _ _ knows.counted (omega (arith, w.if-cells-formats.true, row)) in
+          omega (arith, ap length e))))
+      | then-cells-formats-via-else-cells-formats+then-bytes-lt-LOOKAHEAD w ↦ inl w.if-bytes-lt-LOOKAHEAD.true
+      | then-cells-formats-via-else-cells-formats+else-bytes-lt-LOOKAHEAD+then-to-lt-CELL_ROOM w ↦ inr (inl (omega (arith, w.if-to-lt-CELL_ROOM.true)))
+    ])
+
+pub loop-used-init : goal.loop-used-init
+loop-used-init c =
+    let row_format = c.args.self.now in
+    let row = row_length row_format c.row-formats.result.now c.requires.known.0 c.row-formats.ensures.row in
+    let comma = c.write_comma-made in
+    let fits : comma.result ≤ length comma.new.to = search (arith, rules) in
+    let made_is = comma_made comma.result c.args.column comma.new.to fits (comma.ensures.text []) in
+    let none : comma.result - comma_size c.args.column ≡ 0 = omega (arith, made_is) in
+    record {
+      size = search (arith, rules);
+      some = omega (arith, row, c.if-cells-formats.false);
+      begun = omega (arith, made_is);
+      comma = rw none (sym (N.append-nil (take comma.result comma.new.to)) ∙ comma.ensures.text []);
+      ran = rw none (known_ran (λ walk. rows_begin));
+    }
+
+pub loop-used-preserved-then-cells-formats-2 : goal.loop-used-preserved-then-cells-formats-2
+loop-used-preserved-then-cells-formats-2 c =
+    let l = c.loop-used in
+    let row_format = c.args.self.now in
+    let all = c.requires.known.0 in
+    let formats = c.row-formats.result.now in
+    let row = row_length row_format formats all c.row-formats.ensures.row in
+    let written = c.in-Some.written in
+    let new = c.write_far_cell.new.to in
+    let end = l.made + written.made in
+    let format = c.index-formats-cells.result in
+    let format_is : format ≡ get_or formats l.cells format = search (arith, rules) in
+    let size : length new ≡ length l.to = search (arith, rules) in
+    let few : l.cells + 1 < row_format.count = omega (arith, c.if-cells-formats-2.true, row) in
+    let room : end < length new = omega (arith, c.in-Some.ensures.most) in
+    let there : (end + 1) - comma_size (l.cells + 1) ≡ end = omega (arith, comma_one l.cells) in
+    let same = take-set-le end new end 44 (omega arith) in
+    record {
+      size = search (arith, rules);
+      some = few;
+      begun = omega (arith, comma_one l.cells);
+      comma = rw there (N.take_more_set new end 44 room ∙ ap (λ t. t ++ 44 ∷ []) (sym same)
+          ∙ ap (λ t. take end (N.slice_set new end 44) ++ t) (after_some_column (l.cells + 1) (λ e. omega arith)));
+      ran = rw there (known_ran (λ walk. far_more l.cells l.used written.used l.made written.made end format new (N.slice_set new end 44) false
+          all l.invariant.some c.row-formats.ensures.row (sym (N.ne_eqb _ _ (λ e. omega (arith, e, few)))) format_is
+          (l.invariant.begun, (omega (arith, room, size), omega (arith, c.in-Some.ensures.used, length-drop l.used c.args.bytes.now)))
+          l.invariant.comma c.write_far_cell.ensures.kept
+          (omega (arith, room), search (arith, rules)) (same ∙ sym (N.append-nil (take end new)))
+          c.in-Some.ensures.whole c.in-Some.ensures.field (ran_at l.invariant.ran walk)));
+    }
+
+pub returns-then-not-row_follows-clause-rows : goal.returns-then-not-row_follows-clause-rows
+returns-then-not-row_follows-clause-rows c =
+    let l = c.loop-used in
+    let row_format = c.args.self.now in
+    let all = c.requires.known.0 in
+    let formats = c.row-formats.result.now in
+    let row = row_length row_format formats all c.row-formats.ensures.row in
+    let written = c.in-Some.written in
+    let new = c.write_far_cell.new.to in
+    let end = c.write_line_end-made in
+    let format = c.index-formats-cells.result in
+    let format_is : format ≡ get_or formats l.cells format = search (arith, rules) in
+    let size : length new ≡ length l.to = search (arith, rules) in
+    let last : l.cells + 1 ≡ row_format.count = omega (arith, c.if-cells-formats-2.false, row, l.invariant.some) in
+    let fits : end.result ≤ length end.new.to = search (arith, rules) in
+    rw c.ended.ensures (known_ran (λ walk. far_more l.cells l.used written.used l.made written.made end.result format new end.new.to true
+    all l.invariant.some c.row-formats.ensures.row (sym (N.eq-eqb _ _ last)) format_is
+    (l.invariant.begun, (omega (arith, c.in-Some.ensures.most, size), omega (arith, c.in-Some.ensures.used, length-drop l.used c.args.bytes.now)))
+    l.invariant.comma c.write_far_cell.ensures.kept (omega (arith, c.in-Some.ensures.most), fits) end.ensures.text
+    c.in-Some.ensures.whole c.in-Some.ensures.field (ran_at l.invariant.ran walk)))
+
+pub loop-used-preserved : goal.loop-used-preserved
+loop-used-preserved c =
+    let l = c.loop-used in
+    let row_format = c.args.self.now in
+    let all = c.requires.known.0 in
+    let formats = c.row-formats.result.now in
+    let row = row_length row_format formats all c.row-formats.ensures.row in
+    let written = c.in-Some.written in
+    let new = c.write_far_cell.new.to in
+    let end = c.write_line_end-made in
+    let format = c.index-formats-cells.result in
+    let format_is : format ≡ get_or formats l.cells format = search (arith, rules) in
+    let size : length new ≡ length l.to = search (arith, rules) in
+    let last : l.cells + 1 ≡ row_format.count = omega (arith, c.if-cells-formats-2.false, row, l.invariant.some) in
+    let fits : end.result ≤ length end.new.to = search (arith, rules) in
+    let none : end.result - comma_size 0 ≡ end.result = omega arith in
+    record {
+      size = search (arith, rules);
+      some = c.requires.known.1;
+      begun = omega arith;
+      comma = rw none (sym (N.append-nil (take end.result end.new.to)));
+      ran = rw none (known_ran (λ walk. row_begun {start = place walk 0} c.requires.known.1 (omega (arith, last))
+          (c.row_follows.ensures.begins (search rules), refl)
+          (place_known row_format (place walk 0) (l.cells + 1) 0 all (omega (arith, last)) (omega arith))
+          (far_more l.cells l.used written.used l.made written.made end.result format new end.new.to true
+          all l.invariant.some c.row-formats.ensures.row (sym (N.eq-eqb _ _ last)) format_is
+          (l.invariant.begun, (omega (arith, c.in-Some.ensures.most, size), omega (arith, c.in-Some.ensures.used, length-drop l.used c.args.bytes.now)))
+          l.invariant.comma c.write_far_cell.ensures.kept (omega (arith, c.in-Some.ensures.most), fits) end.ensures.text
+          c.in-Some.ensures.whole c.in-Some.ensures.field (ran_at l.invariant.ran walk))));
+    }
+
+pub returns-clause-rows : goal.returns-clause-rows
+returns-clause-rows c =
+    let l = c.loop-used in
+    rw (c.ended-2.ensures, c.comma_size.ensures) (known_ran (λ walk. elim c.loop-used-test.branch [
+      | else-loop-used-test w ↦ rw w.to-is (ran_at l.invariant.ran walk)
+      | then-loop-used-test+else-made-most w ↦ rw w.to-is (ran_at l.invariant.ran walk)
+      | cell_left w ↦ (let at = l.made - comma_size l.cells in let new = w.write_far_cell.new.to in
+          rw w.to-is (rows_kept (search (arith, rules)) (sym (N.take-take at l.made new (omega arith)) ∙ ap (take at) w.write_far_cell.ensures.kept
+          ∙ N.take-take at l.made l.to (omega arith)) (ran_at l.invariant.ran walk)))
+    ]))
+
+pub returns-clause-ends : goal.returns-clause-ends
+returns-clause-ends c =
+    let l = c.loop-used in
+    let row_format = c.args.self.now in
+    let all = c.requires.known.0 in
+    let formats = c.row-formats.result.now in
+    let bytes = c.args.bytes.now in
+    λ walk. rw (c.ended-2.ensures, c.comma_size.ensures) (elim c.loop-used-test.branch [
+      | else-loop-used-test w ↦ inl (omega (arith, w.loop-used-test.false, length-drop l.used bytes))
+      | then-loop-used-test+else-made-most w ↦ inr (inl (omega (arith, w.if-made-most.false, l.invariant.size, l.invariant.begun, comma_most l.cells)))
+      | cell_left w ↦ inr (inr (λ columns column left knows ahead step.
+          let format = w.index-formats-cells.result in
+          let format_is : format ≡ get_or formats l.cells format = search (arith, rules) in
+          let rest = rest_ahead row_format (place walk l.cells) formats all c.row-formats.ensures.row l.invariant.some in
+          let less : length c.args.to.now - (l.made - comma_size l.cells) ≤ length l.to - l.made + 1 =
+          omega (arith, l.invariant.size, l.invariant.begun, comma_most l.cells, w.if-made-most.true) in
+          first_left row_format (place walk l.cells) row_format.count (drop l.cells formats) (omega arith) rest.0
+          (far_left row_format formats l.cells format (drop l.used bytes) _ _ format_is less w.in_default.ensures.field) columns column left knows ahead step))
+    ])

@@ -1,9 +1,0 @@
-use Rattle.tds_cells.proofs.Words.{refl, arith}
-use Rattle.tds_cells.proofs.TableSteps.{next_known}
-
-pub returns-then-at-self : Rattle.tds_cells.proofs.table.Table.form.Goals.returns-then-at-self
-returns-then-at-self c = record {
-  laid = c.args.self.now.laid _ _ (search arith);
-  next = λ columns knows ahead.
-      next_known _ _ _ _ knows ahead _ (search arith) c.if-at-self.true (search arith) refl;
-}

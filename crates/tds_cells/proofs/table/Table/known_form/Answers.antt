@@ -1,6 +1,0 @@
-use Rattle.tds_cells.proofs.Words.{refl, arith}
-use Rattle.tds_cells.proofs.TableSteps.{next_known}
-
-pub returns-clause-next : Rattle.tds_cells.proofs.table.Table.known_form.Goals.returns-clause-next
-returns-clause-next c = λ columns knows ahead.
-    next_known _ _ _ _ knows ahead _ (search arith) (search arith) (search arith) refl

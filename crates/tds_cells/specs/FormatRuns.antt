@@ -1,0 +1,117 @@
+-- What a run over cells by their formats does, whose columns follow one another in a row.
+use Rattle.std.specs.Prelude.{◌≡◌, ◌==◌, ◌⊎◌, ◌+◌, ◌-◌, ◌<◌, ◌≤◌, ◌*◌, ◌&&◌, ◌∷◌, ◌++◌, ℕ, zero, suc, Bool, false, true, List, [], length, map, take, drop}
+use Rattle.std.specs.Prelude.{get_or}
+use Rattle.tds_columns.specs.Description.{Column}
+use Rattle.tds_text.specs.Quoting.{after_comma}
+use Rattle.tds_values.specs.declared.charset.Charset.{Charset}
+use Rattle.tds_cells.specs.declared.layout.CellFormat.{CellFormat}
+use Rattle.tds_cells.specs.declared.whole.TheConstants.{CELL_ROOM}
+use Rattle.tds_cells.specs.declared.run.formats.FormatsRun.{FormatsRun}
+use Rattle.tds_values.specs.declared.span.Span.{Span}
+use Rattle.tds_cells.specs.CellTexts.{IsLeft, IsScalarLeft, WritesField, whole_size}
+use Rattle.tds_cells.specs.Formats.{AreInt4}
+use Rattle.tds_cells.specs.MarkedRuns.{WritesMarked}
+use Rattle.tds_cells.specs.Runs.{WritesOne}
+use Rattle.tds_cells.specs.RowFormats.{BeginsRow, kinds}
+
+-- The formats are those of the next columns, which are the row's last if the formats end it.
+pub record AreNext (formats : List CellFormat) (ends : Bool) (columns : List Column) : Type 0 where
+  pub kinds_are : map (λ f. f.kind) formats ≡ kinds (take (length formats) columns)
+  pub ends_are : ends ≡ (length formats == length columns)
+
+-- A run wrote no more cells than there are, from no more bytes, into no more room; and a cell has some bytes.
+pub record IsWithin (run : FormatsRun) (most bytes room : ℕ) : Type 0 where
+  pub cells : run.cells ≤ most
+  pub used : run.used ≤ bytes
+  pub made : run.made ≤ room
+  pub some : 0 < run.cells → 0 < run.used
+  pub none : run.cells ≡ 0 → run.used ≡ 0
+
+-- The first cell is left, with this much room; or there isn't room for every scalar.
+abbrev pub FirstLeft : Charset → List CellFormat → List ℕ → ℕ → Type 0
+FirstLeft charset formats bytes room = (format : CellFormat) (rest : List CellFormat) → formats ≡ format ∷ rest
+    → (room < CELL_ROOM) ⊎ IsLeft charset format.kind bytes room
+
+-- The bytes of the first cell were used, which are this many.
+abbrev pub FirstUsed : List CellFormat → List ℕ → ℕ → Type 0
+FirstUsed formats bytes used = (format : CellFormat) (rest : List CellFormat) → formats ≡ format ∷ rest → used ≡ whole_size format.kind bytes
+
+-- Only the first cell was written so.
+abbrev pub FirstWritten : Charset → List CellFormat → ℕ → Bool → List ℕ → List ℕ → FormatsRun → Type 0
+FirstWritten charset formats column ends bytes text run = (format : CellFormat) (rest : List CellFormat) → formats ≡ format ∷ rest
+    → WritesOne charset format.kind column (ends && (1 == length formats)) bytes text run.used run.made
+
+-- The bytes are the cells of this number of formats, and these are their fields after one another, each after its comma.
+abbrev pub WritesFormats : Charset → List CellFormat → ℕ → ℕ → List ℕ → List ℕ → Type 0
+WritesFormats charset formats column zero bytes text = (bytes ≡ []) × (text ≡ [])
+WritesFormats charset formats column (suc n) bytes text = (front : List ℕ) × (rest : List ℕ) × (before : List ℕ) × (field : List ℕ)
+    × (bytes ≡ front ++ rest) × (text ≡ before ++ after_comma (column + n) field) × WritesFormats charset formats column n front before
+    × ((format : CellFormat) → WritesField charset (get_or formats n format).kind rest field)
+
+-- A run wrote the fields of the bytes that it used, and the comma of the next one.
+abbrev pub FieldsWritten : Charset → List CellFormat → ℕ → List ℕ → List ℕ → FormatsRun → Type 0
+FieldsWritten charset formats column bytes text run = (fields : List ℕ) × WritesFormats charset formats column run.cells (take run.used bytes) fields
+    × (take run.made text ≡ fields ++ after_comma (column + run.cells) [])
+
+-- A run wrote the fields of the first cells and the comma after them, with room for the end of the line.
+pub record WritesFields (charset : Charset) (formats : List CellFormat) (column : ℕ) (bytes text : List ℕ) (run : FormatsRun) : Type 0 where
+  pub within : IsWithin run (length formats) (length bytes) (length text)
+  pub room : 0 < run.cells → (0 < run.made) × (run.made < length text)
+  pub one : run.cells ≡ 1 → FirstUsed formats bytes run.used
+  pub fields : FieldsWritten charset formats column bytes text run
+
+-- So many cells of whole numbers of four bytes are there with all their bytes and one more, and with room for their fields and the end of the line.
+pub record NumbersWithin (cells bytes room : ℕ) : Type 0 where
+  pub whole : 5 * cells < bytes
+  pub fits : 12 * cells + 25 < room
+
+-- A row of so many numbers that begins no later has all its bytes, one more, and room.
+pub record IsLatest (cells bytes room : ℕ) (latest : Span) : Type 0 where
+  pub used : latest.used + 5 * cells + 1 ≡ bytes
+  pub made : latest.made + 12 * cells + 26 ≡ room
+
+-- The values of these formats' kinds are whole numbers of four bytes, which are there with their bytes and room.
+pub record AreNumbers (formats : List CellFormat) (bytes room : ℕ) : Type 0 where
+  pub numbers : AreInt4 formats
+  pub within : NumbersWithin (length formats) bytes room
+
+-- A run wrote the text of the bytes that it used, which are the next cells.
+abbrev pub FormatsWritten : Charset → List CellFormat → ℕ → Bool → List ℕ → List ℕ → FormatsRun → Type 0
+FormatsWritten charset formats column ends bytes text run = (columns : List Column) → AreNext formats ends (drop column columns) →
+    WritesMarked charset columns (λ k. false) column run.cells (take run.used bytes) (take run.made text)
+
+-- A run over cells by their formats did so much: it wrote the text of what it used, and left the first cell if it wrote none.
+pub record RunsFormats (charset : Charset) (formats : List CellFormat) (column : ℕ) (last : Bool) (bytes : List ℕ) (room : ℕ) (text : List ℕ)
+    (run : FormatsRun) : Type 0 where
+  pub within : IsWithin run (length formats) (length bytes) room
+  pub ends : run.cells ≡ 0 → FirstLeft charset formats bytes room
+  pub one : run.cells ≡ 1 → FirstWritten charset formats column last bytes text run
+  pub cells : FormatsWritten charset formats column last bytes text run
+
+-- what a run did that began in these bytes and this text
+abbrev pub run_since : Span → FormatsRun → FormatsRun
+run_since from run = record { cells = run.cells; used = run.used - from.used; made = run.made - from.made }
+
+-- After the cells of a run the next one is refused, which is of a scalar kind.
+abbrev pub IsRefusedAfter : List CellFormat → List ℕ → FormatsRun → Type 0
+IsRefusedAfter formats bytes run = (format : CellFormat) → IsScalarLeft (get_or formats run.cells format).kind (drop run.used bytes)
+
+-- Some first cells of a row are at the front of these bytes, and after them one is refused.
+pub record RefusesRow (formats : List CellFormat) (bytes : List ℕ) : Type 0 where
+  pub run : FormatsRun
+  pub few : run.cells < length formats
+  pub fields : (charset : Charset) → (text : List ℕ) × WritesFormats charset formats 0 run.cells (take run.used bytes) text
+  pub next : IsRefusedAfter formats bytes run
+
+-- A whole row is at the front of these bytes, and no ROW follows it.
+pub record IsLastRow (formats : List CellFormat) (bytes : List ℕ) : Type 0 where
+  pub run : FormatsRun
+  pub whole : run.cells ≡ length formats
+  pub room : ℕ
+  pub text : List ℕ
+  pub row : (charset : Charset) → RunsFormats charset formats 0 true bytes room text run
+  pub last : BeginsRow (drop run.used bytes) → ⊥
+
+-- A run over rows of numbers ended: bytes or room are too few for any row, or the next row has a cell that is refused or is the last.
+abbrev pub NumbersEnd : List CellFormat → List ℕ → ℕ → Type 0
+NumbersEnd formats bytes room = (NumbersWithin (length formats) (length bytes) room → ⊥) ⊎ (RefusesRow formats bytes ⊎ IsLastRow formats bytes)

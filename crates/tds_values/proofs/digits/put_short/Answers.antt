@@ -1,5 +1,0 @@
-use Rattle.tds_values.proofs.Words.{◌-◌, arith}
-use Rattle.tds_values.proofs.DigitLemmas.{decimal_last}
-
-pub returns-clause-written : Rattle.tds_values.proofs.digits.put_short.Goals.returns-clause-written
-returns-clause-written c = grind (arith, (decimal_last (7 - c.needless.result) c.args.n))

@@ -1,5 +1,0 @@
-use Rattle.tds_values.proofs.Words.{append_assoc}
-
-pub returns-clause-items : Rattle.tds_values.proofs.text_by_kit.push_local.Goals.returns-clause-items
-returns-clause-items c =
-    simp (c.push_fraction.ensures.items, c.push_seconds.ensures.items, c.push.ensures.items, c.push_date.ensures.items, append_assoc)
