@@ -102,6 +102,13 @@ class Channel:
         except ssl.SSLWantReadError:
             return bool(self._received.pending)
 
+    def is_over(self) -> bool:
+        """Whether the other side has closed, where nothing more has come."""
+        try:
+            return not self.socket.recv(1, socket.MSG_DONTWAIT | socket.MSG_PEEK)
+        except BlockingIOError:
+            return False
+
     def finish(self, seconds: float) -> bool:
         """Says that nothing more is sent, and waits for the other side's end. Returns whether bytes came before it."""
         self.limit(time.monotonic() + seconds, "")
@@ -478,9 +485,12 @@ class Session:
         return self._framing is None
 
     def expect_nothing(self) -> None:
-        """Sees to it that nothing has come behind the last answer. Raises BadAnswer if something has, and closes the connection."""
-        with self._open():
+        """Sees to it that nothing has come behind the last answer. Raises BadAnswer if something has, and closes the connection then, and
+        where the server ended it."""
+        with contextlib.suppress(ConnectionFailed), self._open():
             self._channel.expect_nothing()
+            if self._channel.is_over():
+                raise ConnectionFailed("the server closed the connection")
 
     def send(self, statement: str) -> None:
         """Sends a statement. Its answer has to be handed on next. Raises ValueError if it is no Unicode, and BadAnswer if something

@@ -164,9 +164,10 @@ class Worker:
         if self._session and self._session.closed_after is None:
             try:
                 self._session.expect_nothing()
-                return self._session
             except BadAnswer:
                 self.has_unasked = True
+            if self._session.closed_after is None:
+                return self._session
         try:
             self._session = self._connect()
             return self._session

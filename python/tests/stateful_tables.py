@@ -85,7 +85,8 @@ def item_of(name: str, kind: int, answer: str, breaks: int, cut: float, surplus:
 class Server:
     """A server that answers items, each connection in a thread."""
 
-    def __init__(self, items: list[Item]) -> None:
+    def __init__(self, items: list[Item], closes: bool) -> None:
+        self.closes = closes  # each connection behind its first answer
         self.items = {item.statement(): item for item in items}
         self.asked: Counter[str] = Counter()
         self._lock = threading.Lock()
@@ -124,6 +125,8 @@ class Server:
                         connected.setsockopt(socket.SOL_SOCKET, socket.SO_LINGER, struct.pack("ii", 1, 0))
                     return
                 channel.write(data + (ANSWERS["orders"] if item.surplus else b""))
+                if self.closes and not item.surplus:
+                    return
 
 
 class Stop(outcomes.Progress):
@@ -156,12 +159,12 @@ class Folder(RuleBasedStateMachine):
     def teardown(self) -> None:
         shutil.rmtree(self.root)
 
-    @rule(items=st.lists(ITEM, min_size=1, max_size=6, unique_by=name_of), jobs=st.integers(1, 3), retries=st.integers(0, 2), stop=st.one_of(st.none(), st.integers(0, 4)))
-    def runs(self, items: list[Item], jobs: int, retries: int, stop: Optional[int]) -> None:
-        """A run to its end, or one that is stopped."""
+    @rule(items=st.lists(ITEM, min_size=1, max_size=6, unique_by=name_of), jobs=st.integers(1, 3), retries=st.integers(0, 3), stop=st.one_of(st.none(), st.integers(0, 4)), closes=st.booleans())
+    def runs(self, items: list[Item], jobs: int, retries: int, stop: Optional[int], closes: bool) -> None:
+        """A run to its end, or one that is stopped. A connection may break by being closed, too, where another attempt is left."""
         with open(self.file, "w", encoding="utf-8") as file:
             file.writelines(item.line() for item in items)
-        server, Stop.after = Server(items), stop
+        server, Stop.after = Server(items, closes and retries > max(item.breaks for item in items)), stop
         os.environ["SQLCMDPASSWORD"] = "secret"
         with server.listening() as port, contextlib.redirect_stderr(io.StringIO()) as said:
             words = command_for(port, "--tables", self.file, "-o", self.out, "-j", str(jobs), "--retries", str(retries))
