@@ -20,6 +20,7 @@ from hypothesis.stateful import RuleBasedStateMachine, precondition, rule, run_s
 from gavyreto import outcomes, program, tds
 from gavyreto.commands import common, many
 from tests.beside import PROGRAM, answered, responses, served, wire
+from tests.stopping import Stop
 
 NAMES = ["a", "b", "a.csv", "a.csv.partial", "A", "x\r\ny", 'q"', "ü", "\udcff", "n" * 243]
 CONTENTS = {
@@ -37,18 +38,6 @@ def exported(data: bytes) -> tuple[int, bytes]:
 
 
 WANTED = {name: exported(data) for name, data in CONTENTS.items()}
-
-
-class Stop(outcomes.Progress):
-    """Stops a run, as Ctrl-C does, once so many responses are done."""
-
-    after: Optional[int] = None
-
-    def step(self, failed: int) -> None:
-        if Stop.after is not None:
-            Stop.after -= 1
-            if Stop.after < 0:
-                raise KeyboardInterrupt
 
 
 class Folder(RuleBasedStateMachine):

@@ -27,6 +27,7 @@ from gavyreto import outcomes, program, tables, tds
 from gavyreto.commands import common, query
 from gavyreto.connection import Channel
 from tests.beside import PROGRAM, SECONDS, answered, command_for, log_in, responses, served, wire
+from tests.stopping import Stop
 
 ANSWERS = {
     "orders": wire("orders"), "longer": wire("orders", 40), "sets": wire("sets"), "kinds": wire("kinds"), "error": wire("error"), "float": wire("float"),
@@ -127,18 +128,6 @@ class Server:
                 channel.write(data + (ANSWERS["orders"] if item.surplus else b""))
                 if self.closes and not item.surplus:
                     return
-
-
-class Stop(outcomes.Progress):
-    """Stops a run, as Ctrl-C does, once so many answers are done."""
-
-    after: Optional[int] = None
-
-    def step(self, failed: int) -> None:
-        if Stop.after is not None:
-            Stop.after -= 1
-            if Stop.after < 0:
-                raise KeyboardInterrupt
 
 
 ITEM = st.builds(
