@@ -488,7 +488,10 @@ class Session:
         """Sees to it that nothing has come behind the last answer. Raises BadAnswer if something has, and closes the connection then, and
         where the server ended it."""
         with contextlib.suppress(ConnectionFailed), self._open():
-            self._channel.expect_nothing()
+            try:
+                self._channel.expect_nothing()
+            except ssl.SSLError:  # what came is no TLS
+                raise BadAnswer(UNASKED) from None
             if self._channel.is_over():
                 raise ConnectionFailed("the server closed the connection")
 

@@ -20,7 +20,8 @@ from collections.abc import Iterator
 
 from gavyreto import tds
 from gavyreto.connection import UNASKED, Channel
-from tests.beside import PROGRAM, SECONDS, answered, ask_port, command_for, log_in, responses, served, started, wait_for, wire
+from tests.beside import PROGRAM, SECONDS, answered, ask_port, certificate_in, command_for, context_of, log_in, log_in_encrypted, need, responses, served
+from tests.beside import started, wait_for, wire
 
 COLUMNS = 9  # of the table of outcomes
 RETRIED = "SELECT * FROM retried"
@@ -185,6 +186,25 @@ class Tables(unittest.TestCase):
                 came = ask_port(server.getsockname()[1], "--tables", self.write([line]), "-o", self.out)
                 thread.join(SECONDS)
                 self.assertEqual((came.returncode, self.table()["a"][1:4], UNASKED in came.stderr.decode()), (4, wanted, True), came.stderr)
+
+    def test_what_is_no_tls_behind_an_answer(self) -> None:
+        need(self, "openssl")
+        context = context_of(certificate_in(self.folder))
+
+        def serve(server: socket.socket) -> None:
+            with server.accept()[0] as connected:
+                channel = Channel(connected, SECONDS)
+                log_in_encrypted(channel, context)
+                channel.read_message()
+                assert channel.tls
+                channel.tls.write(wire("orders"))
+                connected.sendall(channel._to_send.read() + b"no TLS, but bytes")
+                connected.recv(1)
+
+        with socket.create_server(("127.0.0.1", 0)) as server:
+            threading.Thread(target=serve, args=(server,), daemon=True).start()
+            came = ask_port(server.getsockname()[1], "--encrypt", "all", "-C", "--tables", self.write(["a"]), "-o", self.out)
+        self.assertEqual((came.returncode, self.table()["a"][1:4]), (4, ["4", UNASKED, "a.csv.partial"]), came.stderr)
 
     def test_what_is_refused_before_anything_is_sent(self) -> None:
         server = Server({})
