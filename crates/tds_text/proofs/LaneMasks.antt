@@ -1,11 +1,15 @@
 -- Masks of lanes that pass a test.
 use Rattle.tds_text.proofs as N
 use N.{Bool, Each1, Fits, List, [], ap, arith, chunk, drop, false, length, map, mask_l, not, refl, suc, take, top, true, w8, zero, ℕ, ◌%◌, ◌*◌, ◌+◌, ◌-◌, ◌/◌}
-use N.{◌<◌, ◌^◌, ◌∙◌, ◌∷◌, ◌≡◌, ◌≤◌, ◌||◌}
+use N.{◌++◌, ◌<◌, ◌^◌, ◌∙◌, ◌∷◌, ◌≡◌, ◌≤◌, ◌||◌}
 use Rattle.std.proofs.Math.Nat.{add-mul-mod_self_left, mod-eq_of_lt, mul_assoc, pow-succ'}
 use Rattle.std.proofs.lemmas.List.Sums.{count_by-le-length}
 use Rattle.std.proofs.lemmas.Nat.{pow_pos}
-use Rattle.std.proofs.lemmas.Nat.{le_or_l, le_or_r}
+use Rattle.std.proofs.lemmas.Nat.{and_mask, le_or_l, le_or_r}
+use Rattle.std.proofs.lemmas.List.{drop-map}
+use Rattle.std.proofs.lemmas.Simd.{Each1-replicate}
+use Rattle.std.proofs.Math.Seq.{drop-append_seam}
+use Rattle.std.specs.Int.Bits.{and_zero_r}
 use Rattle.std.proofs.lemmas.Nat.Bits.{and_high_mask}
 use Rattle.std.specs.Prelude.{count_ones}
 use Rattle.tds_text.specs.Joined.{is_joined, is_lead, is_trail, pairs_at}
@@ -120,6 +124,41 @@ pub none_of_first : (q : ℕ → Bool) (us : List ℕ) (n : ℕ) {mask low : ℕ
     → Each1 (λ u. q u ≡ false) (take n us)
 none_of_first = grind (arith, none_passes, first_lanes)
 
+-- the mask of lanes of which only the first may pass, as the others are zero
+pub zeros_after : (q : ℕ → Bool) (n : ℕ) (us : List ℕ) (m : ℕ) {mask : ℕ} → mask ≡ mask_l (map q us) → drop n us ≡ N.replicate m 0 → q 0 ≡ false
+    → mask ≡ mask_l (map q (take n us))
+zeros_after q n us m is zeros fails =
+    let ms = map q us in
+    let none = none_set q (N.replicate m 0) (Each1-replicate (λ u. q u ≡ false) m 0 fails) in
+    let rest : mask_l (drop n ms) ≡ 0 = rw (drop-map q n us, zeros) none in
+    is ∙ mask_parts n ms ∙ rw (rest, N.take-map q n us) (omega arith)
+
+-- ---- the first units
+
+-- all bits of a unit are the unit
+whole_unit : (u : ℕ) → u < 65536 → N.bit_and u 65535 ≡ u
+whole_unit u small = and_mask u 16 ∙ mod-eq_of_lt small
+
+first_kept : (n m : ℕ) (us : List ℕ) → length us ≡ n + m → Each1 (Fits N.w16) us
+    → zip2 N.bit_and us (N.replicate n 65535 ++ N.replicate m 0) ≡ take n us ++ N.replicate m 0
+first_kept zero zero [] long fits = refl
+first_kept zero (suc m) (u ∷ us) long fits = N.ap₂ (λ x xs. x ∷ xs) (and_zero_r u) (first_kept zero m us (omega arith) fits.1)
+first_kept (suc n) m (u ∷ us) long fits = N.ap₂ (λ x xs. x ∷ xs) (whole_unit u fits.0.fits) (first_kept n m us (omega arith) fits.1)
+first_kept n m us long fits = grind arith
+
+-- a row of the table has the bits of so many units
+first_row : (n : ℕ) → n < 9 → N.get_or N.FIRST n [] ≡ N.replicate n 65535 ++ N.replicate (8 - n) 0
+first_row n few = (N.bytes_eq-Decides _ _).0
+    (N.agree_below_at (λ i. N.bytes_eq (N.get_or N.FIRST i []) (N.replicate i 65535 ++ N.replicate (8 - i) 0)) (λ _. true) 9 n refl few)
+
+pub first_of : (n : ℕ) (us : List ℕ) {row : List ℕ} → length us ≡ 8 → n ≤ 8 → Each1 (Fits N.w16) us → row ≡ N.get_or N.FIRST n []
+    → (take n (zip2 N.bit_and us row) ≡ take n us) × (drop n (zip2 N.bit_and us row) ≡ N.replicate (8 - n) 0)
+first_of n us {row} long few fits is =
+    let zeros = N.replicate (8 - n) 0 in
+    let same : zip2 N.bit_and us row ≡ take n us ++ zeros = rw (is, (first_row n (omega arith))) (first_kept n (8 - n) us (omega arith) fits) in
+    let counted = N.length-take-le n us (omega arith) in
+    ((rw (same) (rw counted at (N.take-append_seam (take n us) zeros))), (rw (same) (rw counted at (drop-append_seam (take n us) zeros))))
+
 -- at most eight lanes come before the first that passes
 pub first_few : (q : ℕ → Bool) (us : List ℕ) {mask : ℕ} → length us ≡ 8 → mask ≡ mask_l (map q us) → N.first_set mask 8 ≤ 8
 first_few = grind (arith, N.first_set_mask_l, N.prefix_len-le-length)
@@ -199,7 +238,7 @@ module _ (d : List ℕ) (at : ℕ) (room : at + 16 < length d) where
       ∙ same_prefix ArePair (λ p small. same p.0 p.1 small.0.fits small.1.fits) (pairs_at at d) (N.Each1-zip2 _ ArePair _ _
       (N.Each2-of (Fits w8) (Fits w8) _ (λ a b x y. (x, y)) _ _ (N.chunk-fits w8 at 16 d fits) (N.chunk-fits w8 (at + 1) 16 d fits)))
 
--- ---- whether a lane is long, by the bits of all
+-- ---- whether a lane is long or not of ASCII, by the bits of all
 
 -- lanes that have no bit together have none
 none_joined : (a : ℕ) (xs : List ℕ) → N.fold_l N.bit_or a xs ≡ 0 → (a ≡ 0) × Each1 (λ x. x ≡ 0) xs
@@ -222,3 +261,20 @@ none_long us long fits none =
     let all = N.fold_l N.bit_or 0 (N.zip2 N.bit_and us (N.replicate 8 63488)) in
     let zero : all ≡ 0 = grind (arith, none) in
     short_units us fits (none_joined 0 _ (rw (N.zip2_splat N.bit_and us 8 63488 long) at zero)).1
+
+-- a unit that has none of more bits, and is no quote, is a character of ASCII with a text of one byte
+plain_unit : (u : ℕ) → u < 65536 → N.bit_and u 65408 ≡ 0 → N.eqb u 34 ≡ false → N.is_wide u ≡ false
+plain_unit u small none other = grind (arith, and_high_mask 16 7 (omega arith) u small, none, other)
+
+plain_units : (us : List ℕ) → Each1 (Fits N.w16) us → Each1 (λ x. x ≡ 0) (map (λ u. N.bit_and u 65408) us) → Each1 (λ u. N.eqb u 34 ≡ false) us
+    → Each1 (λ u. N.is_wide u ≡ false) us
+plain_units [] fits none other = tt
+plain_units (u ∷ us) fits none other = (plain_unit u fits.0.fits none.0 other.0, plain_units us fits.1 none.1 other.1)
+
+pub all_plain : (us : List ℕ) {z : List ℕ} → length us ≡ 8 → Each1 (Fits N.w16) us
+    → N.fold_l N.bit_or 0 (N.zip2 N.bit_and us (N.replicate 8 65408)) ≡ 0 → z ≡ map (λ u. N.cond (N.eqb u 34) 65535 0) us
+    → N.nat_eq (mask_l (map (top 15) z) % 2 ^ 64) 0 ≡ true → Each1 (λ u. N.is_wide u ≡ false) us
+all_plain us {z} long fits none lanes tested =
+    let quotes : mask_l (map (top 15) z) % 2 ^ 64 ≡ 0 = grind (arith, tested) in
+    let masked = mask_of (λ u. N.eqb u 34) (λ u. N.cond (N.eqb u 34) 65535 0) us long fits lanes (grind arith) in
+    plain_units us fits (none_joined 0 _ (rw (N.zip2_splat N.bit_and us 8 65408 long) at none)).1 (none_passes _ us (N.sym masked ∙ quotes))

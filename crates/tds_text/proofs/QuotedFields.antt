@@ -9,3 +9,8 @@ opened (a ∷ to) h = refl
 pub quoted : (to new rest text : List ℕ) (m : ℕ) → 1 ≤ length to → m ≤ length new → take m new ≡ text
     → take (1 + m) (take 1 (slice_set to 0 quote) ++ (new ++ rest)) ++ quote ∷ [] ≡ quoted_field text
 quoted = grind (arith, opened, take-append-le)
+
+-- a quote, and so many bytes of what was written after it, with a quote at their end
+pub closed : (to new rest text : List ℕ) (m : ℕ) → 1 ≤ length to → m ≤ length new → take m new ≡ text ++ quote ∷ []
+    → take (1 + m) (take 1 (slice_set to 0 quote) ++ (new ++ rest)) ≡ quoted_field text
+closed = grind (arith, opened, take-append-le)

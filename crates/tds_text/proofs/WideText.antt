@@ -1,7 +1,7 @@
 -- The text of units that are characters of at most three bytes.
 use Rattle.tds_text.proofs as N
-use N.{is_half, is_long, is_wide, quad_bytes, triples, unit_text, units_text, ◌-◌, refl, chunk, Bool, Each1, Fits, List, [], ap, arith, drop, mask_l, false}
-use N.{get_or, length, map, suc, sym, take, true, w16, zero, ℕ, ◌%◌, ◌*◌, ◌++◌, ◌+◌, ◌/◌, ◌<◌, ◌∙◌, ◌∷◌, ◌≡◌, ◌≤◌, ◌^◌}
+use N.{is_half, is_long, is_other, is_wide, quad_bytes, triples, unit_text, units_text, ◌-◌, refl, chunk, Bool, Each1, Fits, List, [], ap, arith}
+use N.{drop, mask_l, false, get_or, length, map, suc, sym, take, true, w16, zero, ℕ, ◌%◌, ◌*◌, ◌++◌, ◌+◌, ◌/◌, ◌<◌, ◌∙◌, ◌∷◌, ◌≡◌, ◌≤◌, ◌^◌}
 use N.LaneMasks.{alike, first_lanes}
 use N.LaneMasks.{first_mask, last_lanes, none_set}
 use N.Characters.{of_one, of_two, of_three, doubled_character}
@@ -52,7 +52,7 @@ in_quad false false = (omega arith, tt)
 unit_range : (us : List ℕ) → Each1 (Fits w16) us → Each1 (λ u. u < 65536) us
 unit_range = N.below_from_Fits w16
 
-each_taken : (P : ℕ → Type 0) (n : ℕ) (us : List ℕ) → Each1 P us → Each1 P (take n us)
+pub each_taken : (P : ℕ → Type 0) (n : ℕ) (us : List ℕ) → Each1 P us → Each1 P (take n us)
 each_taken P zero us each = tt
 each_taken P (suc n) [] each = tt
 each_taken P (suc n) (u ∷ us) each = (each.0, each_taken P n us each.1)
@@ -143,18 +143,36 @@ module _ (us : List ℕ) (n : ℕ) {old new xs : List ℕ} {at end m wide long :
       (rw (others.0, first.0, N.append_assoc, ← split_lanes unit_text 4 vs) refl, omega (arith, first.1, others.1))
 
 -- long characters have three bytes each
-long_texts : (us : List ℕ) → Each1 (λ u. u < 65536) us → Each1 (λ u. is_long u ≡ true) us → triples us ≡ units_text us
-long_texts [] small each = refl
-long_texts (u ∷ us) small each = rw (long_text u small.0 each.0, long_texts us small.1 each.1) refl
+long_texts : (n : ℕ) (us : List ℕ) → Each1 (λ u. u < 65536) us → Each1 (λ u. is_long u ≡ true) (take n us) → take (3 * n) (triples us) ≡ units_text (take n us)
+long_texts zero us small each = refl
+long_texts (suc n) [] small each =
+    let three : 3 * suc n ≡ suc (suc (suc (3 * n))) = omega arith in
+    rw three refl
+long_texts (suc n) (u ∷ us) small each =
+    let three : 3 * suc n ≡ suc (suc (suc (3 * n))) = omega arith in
+    rw (three, long_text u small.0 each.0, ← long_texts n us small.1 each.1) refl
 
-triples_whole : (us : List ℕ) → length us ≡ 8 → take 12 (triples us) ++ take 12 (drop 12 (triples us)) ≡ triples us
-triples_whole (a ∷ b ∷ c ∷ d ∷ e ∷ f ∷ g ∷ h ∷ []) long = refl
-triples_whole us long = grind arith
+-- the text of the first of them is in the first half, or in two
+module _ (us low old new : List ℕ) (at n : ℕ) (fits : Each1 (Fits w16) us) (long : Each1 (λ u. is_long u ≡ true) (take n us))
+    (low_is : take 12 low ≡ take 12 (triples us)) where
+  pub in_one_half : n ≤ 4 → take (at + 3 * n) new ≡ take at old ++ take (3 * n) low → take (at + 3 * n) new ≡ take at old ++ units_text (take n us)
+  in_one_half few written =
+      let front : take (3 * n) low ≡ take (3 * n) (triples us) =
+      rw (← N.take-take (3 * n) 12 low (omega arith), low_is, N.take-take (3 * n) 12 (triples us) (omega arith)) refl in
+      rw (written, front, long_texts n us (unit_range us fits) long) refl
 
--- the text of eight is in two halves
-pub both_halves : (us low high : List ℕ) → length us ≡ 8 → Each1 (Fits w16) us → Each1 (λ u. is_long u ≡ true) us
-    → take 12 low ≡ take 12 (triples us) → take 12 high ≡ take 12 (drop 12 (triples us)) → take 12 low ++ take 12 high ≡ units_text us
-both_halves = grind (arith, triples_whole, long_texts, unit_range)
+  pub in_two_halves : (high middle : List ℕ) → 4 < n → n ≤ 8 → take 12 high ≡ take 12 (drop 12 (triples us))
+      → take (at + 12) middle ≡ take at old ++ take 12 low → take (at + 12 + (3 * n - 12)) new ≡ take (at + 12) middle ++ take (3 * n - 12) high
+      → take (at + 3 * n) new ≡ take at old ++ units_text (take n us)
+  in_two_halves high middle many most high_is first second =
+      let k = 3 * n - 12 in
+      let end : at + 12 + k ≡ at + 3 * n = omega arith in
+      let all : 12 + k ≡ 3 * n = omega arith in
+      let back : take k high ≡ take k (drop 12 (triples us)) =
+      rw (← N.take-take k 12 high (omega arith), high_is, N.take-take k 12 (drop 12 (triples us)) (omega arith)) refl in
+      let joined : take 12 (triples us) ++ take k (drop 12 (triples us)) ≡ units_text (take n us) =
+      sym (N.take-add 12 k (triples us)) ∙ rw all (long_texts n us (unit_range us fits) long) in
+      rw (← end, second, first, back, low_is, N.append_assoc, joined) refl
 
 -- the low bytes of characters of ASCII are their text
 plain_texts : (n : ℕ) (ys : List ℕ) → Each1 (λ u. is_wide u ≡ false) (take n (units ys)) → take n (N.evens ys) ≡ units_text (take n (units ys))
@@ -170,6 +188,10 @@ no_half = grind arith
 pub not_long : (u : ℕ) → is_wide u ≡ false → is_long u ≡ false
 not_long = grind arith
 
+-- what isn't one of the others is long and no surrogate
+pub no_other : (u : ℕ) → is_other u ≡ false → (is_long u ≡ true) × (is_half u ≡ false)
+no_other = grind arith
+
 -- two bytes are a unit
 length-units : (xs : List ℕ) → length (units xs) ≡ length xs / 2
 length-units [] = grind arith
@@ -181,11 +203,11 @@ eight_units : (ys : List ℕ) {us : List ℕ} → length ys ≡ 16 → us ≡ un
 eight_units ys long is = omega (arith, ap length is, length-units ys)
 
 -- the first of eight are characters of ASCII, and were written
-pub plain_added : (ys old new : List ℕ) {us low : List ℕ} {wide mask at : ℕ} (n : ℕ) → length ys ≡ 16 → n ≤ 8 → at ≤ length old → us ≡ units ys
-    → mask ≡ mask_l (map is_wide us) → wide ≡ mask % 2 ^ n → wide ≡ 0 → low ≡ N.evens ys → take (at + 8) new ≡ take at old ++ take 8 low
+pub plain_added : (ys old new kept : List ℕ) {us low : List ℕ} {at : ℕ} (n : ℕ) → length ys ≡ 16 → n ≤ 8 → at ≤ length old → us ≡ units ys
+    → take n kept ≡ take n us → Each1 (λ u. is_wide u ≡ false) kept → low ≡ N.evens ys → take (at + 8) new ≡ take at old ++ take 8 low
     → (take (at + n) new ≡ take at old ++ units_text (take n (units ys))) × Each1 (λ u. is_half u ≡ false) (take n (units ys))
-plain_added ys old new {us} {low} {at = at} n long few within is masked lowest none low_is written =
-    let plain = rw is at (N.LaneMasks.none_of_first is_wide us n masked lowest none) in (
+plain_added ys old new kept {low = low} {at = at} n long few within is same none low_is written =
+    let plain = rw (same, is) at (each_taken _ n kept none) in (
       (rw (N.take-take n 8 low few, low_is) at (N.Characters.front_written old new (take 8 low) at n 8 few within written)) ∙ ap (λ l. take at old ++ l)
           (plain_texts n ys plain),
       N.Each1-weaker _ _ (λ u h. no_half u (not_long u h)) _ plain,
@@ -220,9 +242,8 @@ units_more {bytes} {source} {at = at} n lies room few single within small writte
     record { within = within; room = omega arith; leads = rw written (Leads-trans before.leads next) }
 
 -- so were eight units of the bytes
-pub eight_more : {bytes old new : List ℕ} {at made after : ℕ} → at + 16 ≤ length bytes → Each1 (λ u. is_half u ≡ false) (units (chunk at 16 bytes))
-    → after ≤ made + 24 → take after new ≡ take made old ++ units_text (units (chunk at 16 bytes)) → N.Converts bytes old at made
+pub eight_more : {bytes old new : List ℕ} {at made after : ℕ} → at + 16 ≤ length bytes
+    → Each1 (λ u. is_half u ≡ false) (take 8 (units (chunk at 16 bytes))) → after ≤ made + 24
+    → take after new ≡ take made old ++ units_text (take 8 (units (chunk at 16 bytes))) → N.Converts bytes old at made
     → N.Converts bytes new (at + 16) after
-eight_more {bytes} {at = at} room single small written before =
-    let all = N.take_all 8 (units (chunk at 16 bytes)) (omega (arith, eight_units _ (N.length-chunk at 16 bytes room) refl)) in
-    units_more 8 (lies_itself bytes) room (omega arith) (rw all single) room small (rw all written) before
+eight_more {bytes} room single small written before = units_more 8 (lies_itself bytes) room (omega arith) single room small written before

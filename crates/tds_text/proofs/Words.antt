@@ -36,9 +36,9 @@ pub use Rattle.tds_text.specs.Plain.{ArePlain, LiesIn, first_set, is_plain, even
 pub use Rattle.tds_text.specs.Quoting.{quote, doubled, doubled_byte, quoted_field, binary_field, line, after_comma}
 pub use Rattle.tds_text.specs.declared.windows_1252.TheConstants.{UPPER}
 pub use Rattle.tds_text.specs.Utf16Next.{Converts, LeavesRest, seam}
-pub use Rattle.tds_text.specs.Wide.{AddsQuads, high_quad, is_half, is_long, is_wide, low_and_high, low_quad, pair, pair_bytes, quad_bytes, triples, unit_text}
-pub use Rattle.tds_text.specs.Wide.{units_text}
-pub use Rattle.tds_text.specs.declared.places.TheConstants.{PAIRS, QUADS}
+pub use Rattle.tds_text.specs.Wide.{AddsQuads, high_quad, is_half, is_long, is_other, is_wide, low_and_high, low_quad, pair, pair_bytes, quad_bytes}
+pub use Rattle.tds_text.specs.Wide.{triples, unit_text, units_text}
+pub use Rattle.tds_text.specs.declared.places.TheConstants.{FIRST, PAIRS, QUADS}
 pub use borrow.Rule.Slice.PartMut.{put_mid, post_of}
 pub use lib.Lanes.{sel_l, Each1, chunk, fold_l, mask_l, top, zip2}
 pub use lib.Seq.{drop-drop, take-add}

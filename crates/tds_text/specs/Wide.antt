@@ -27,6 +27,10 @@ is_long unit = not (nat_lt unit 2048)
 abbrev pub is_half : ℕ → Bool
 is_half unit = is_high_surrogate unit || is_low_surrogate unit
 
+-- it isn't the one unit of a character whose text has three bytes
+abbrev pub is_other : ℕ → Bool
+is_other unit = not (is_long unit) || is_half unit
+
 -- the two bytes of a text of two as a number, low byte first, or the byte of a text of one
 abbrev pub pair : ℕ → ℕ
 pair unit = if unit == quote then quote + 256 * quote else if nat_lt unit 128 then unit else (192 + unit / 64) + 256 * (128 + unit % 64)

@@ -1,5 +1,5 @@
 // Characters in UTF-16 that are one unit, eight at a time.
-ghost use Rattle.std.specs.Prelude.{◌≡◌, ◌+◌, ◌*◌, ◌<◌, ◌≤◌, ◌++◌, length, take, drop, map, get_or, flat_map, false, true, IfSome, IfNone};
+ghost use Rattle.std.specs.Prelude.{◌≡◌, ◌+◌, ◌-◌, ◌*◌, ◌<◌, ◌≤◌, ◌++◌, length, take, drop, map, get_or, flat_map, replicate, false, true, IfSome, IfNone};
 ghost use Rattle.std.specs.Simd.Lanes.{Each1};
 ghost use lib.Lanes.{mask_l};
 ghost use Rattle.tds_text.specs.Utf16 as utf16;
@@ -8,17 +8,14 @@ ghost use Rattle.tds_text.specs.Wide.{AddsQuads, is_half, is_long, is_wide, pair
 use crate::encode::put_lanes;
 use crate::lanes::LANES;
 use crate::lanes_utf16::{
-    UNITS, has_long, long_units, low_bytes, lowest, surrogate_units, units_of, wide_units,
+    UNITS, are_plain, first_units, has_long, long_units, low_bytes, lowest, other_units,
+    surrogate_units, units_of, wide_units,
 };
 use crate::places::{pair_places, quad_places};
 use std::simd::prelude::*;
-use tds_values::Span;
 
 // How many units are written at a time whose text may have three bytes each.
 const HALF: usize = 4;
-
-// The mask of all of eight units.
-const EVERY: u64 = 0xFF;
 
 // The lanes at places.
 #[inline(always)]
@@ -136,58 +133,47 @@ fn put_mixed(to: &mut [u8], at: usize, units: u16x8, wide: u64, long: u64, n: us
     put_quads(to, middle, second, wide / 16, long / 16, n - HALF)
 }
 
-// Writes the text of eight long characters.
+// Writes the text of the first `n` of eight long characters.
 #[inline(always)]
-fn put_triples(to: &mut [u8], at: usize, units: u16x8)
-    requires long { Each1 (λ u. is_long u ≡ true) units }
-    requires room { at + 3 * UNITS + LANES ≤ length to.old }
-    ensures { take (at + 3 * UNITS) to.new ≡ take at to.old ++ units_text units }
+fn put_triples(to: &mut [u8], at: usize, units: u16x8, n: usize)
+    requires most { n ≤ UNITS }
+    requires long { Each1 (λ u. is_long u ≡ true) (take n units) }
+    requires room { at + 3 * n + LANES ≤ length to.old }
+    ensures { take (at + 3 * n) to.new ≡ take at to.old ++ units_text (take n units) }
 {
     let (low, high) = triples(units);
-    put_lanes(to, at, low, 12);
-    put_lanes(to, at + 12, high, 12);
-}
-
-// Writes the text of eight characters, with the mask of the long ones.
-#[inline(always)]
-#[tactic(auto, using(std::proofs::lemmas::Grind::common_steps))]
-fn put_longs(to: &mut [u8], at: usize, units: u16x8, long: u64) -> usize
-    requires long { long ≡ mask_l (map is_long units) }
-    requires room { at + 3 * UNITS + LANES ≤ length to.old }
-    ensures most { result ≤ at + 3 * UNITS }
-    ensures written { take result to.new ≡ take at to.old ++ units_text units }
-{
-    if long == EVERY {
-        put_triples(to, at, units);
-        return at + 3 * UNITS;
+    if n <= HALF {
+        put_lanes(to, at, low, 3 * n);
+        return;
     }
-    put_mixed(to, at, units, wide_units(units), long, UNITS)
+    put_lanes(to, at, low, 12);
+    put_lanes(to, at + 12, high, 3 * n - 12);
 }
 
-// Writes the text of the first `n` of eight characters, some of them long, and returns its end. Writes none if one of
-// them is a surrogate or all of the eight are long.
+// Writes the text of the first `n` of eight characters, some of them long, and returns its end. Only zeros come after these.
+// Writes none if one of them is a surrogate.
 #[inline(always)]
-#[tactic(auto, using(crate::proofs::LaneMasks::none_of_first))]
-fn put_few(to: &mut [u8], at: usize, units: u16x8, wide: u64, long: u64, n: usize) -> Option<usize>
+fn put_longs(to: &mut [u8], at: usize, units: u16x8, n: usize) -> Option<usize>
     requires most { n ≤ UNITS }
-    requires wide { wide ≡ mask_l (map is_wide (take n units)) }
-    requires long { long ≡ mask_l (map is_long (take n units)) }
+    requires zeros { drop n units ≡ replicate (UNITS - n) 0 }
     requires room { at + 3 * n + LANES ≤ length to.old }
     ensures most { IfSome result (λ end. end ≤ at + 3 * n) }
     ensures written { IfSome result (λ end. take end to.new ≡ take at to.old ++ units_text (take n units)) }
     ensures single { IfSome result (λ _. Each1 (λ u. is_half u ≡ false) (take n units)) }
     ensures none { IfNone result (to.new ≡ to.old) }
 {
-    if long == EVERY || lowest(surrogate_units(units), n) != 0 {
+    if lowest(other_units(units), n) == 0 {
+        put_triples(to, at, units, n);
+        return Some(at + 3 * n);
+    }
+    if surrogate_units(units) != 0 {
         return None;
     }
-    Some(put_mixed(to, at, units, wide, long, n))
+    Some(put_mixed(to, at, units, wide_units(units), long_units(units), n))
 }
 
-// Writes the text of the first `n` of eight units, and returns its end. Writes none if one of them is a surrogate or all of
-// the eight are long.
+// Writes the text of the first `n` of eight units, and returns its end. Writes none if one of them is a surrogate.
 #[inline(always)]
-#[tactic(auto, using(crate::proofs::LaneMasks::first_lanes, crate::proofs::LaneMasks::none_of_first))]
 pub(crate) fn put_units(to: &mut [u8], at: usize, lanes: u8x16, n: usize) -> Option<usize>
     requires most { n ≤ UNITS }
     requires room { at + 3 * n + LANES ≤ length to.old }
@@ -196,58 +182,13 @@ pub(crate) fn put_units(to: &mut [u8], at: usize, lanes: u8x16, n: usize) -> Opt
     ensures single { IfSome result (λ _. Each1 (λ u. is_half u ≡ false) (take n (utf16.units lanes))) }
     ensures none { IfNone result (to.new ≡ to.old) }
 {
-    let units = units_of(lanes);
-    let wide = lowest(wide_units(units), n);
-    if wide == 0 {
+    let units = first_units(units_of(lanes), n);
+    if has_long(units) {
+        return put_longs(to, at, units, n);
+    }
+    if are_plain(units) {
         put_lanes(to, at, low_bytes(lanes), UNITS);
         return Some(at + n);
     }
-    let long = lowest(long_units(units), n);
-    if long == 0 {
-        return Some(put_pairs(to, at, units, wide, n));
-    }
-    put_few(to, at, units, wide, long, n)
-}
-
-// Writes the text of eight units as `put_units` does, with one look at whether any of them is long.
-#[inline(always)]
-fn put_full(to: &mut [u8], at: usize, lanes: u8x16) -> Option<usize>
-    requires room { at + 3 * UNITS + LANES ≤ length to.old }
-    ensures most { IfSome result (λ end. end ≤ at + 3 * UNITS) }
-    ensures written { IfSome result (λ end. take end to.new ≡ take at to.old ++ units_text (take UNITS (utf16.units lanes))) }
-    ensures single { IfSome result (λ _. Each1 (λ u. is_half u ≡ false) (take UNITS (utf16.units lanes))) }
-    ensures none { IfNone result (to.new ≡ to.old) }
-{
-    let units = units_of(lanes);
-    let wide = lowest(wide_units(units), UNITS);
-    if wide == 0 {
-        put_lanes(to, at, low_bytes(lanes), UNITS);
-        return Some(at + UNITS);
-    }
-    if !has_long(units) {
-        return Some(put_pairs(to, at, units, wide, UNITS));
-    }
-    let long = lowest(long_units(units), UNITS);
-    put_few(to, at, units, wide, long, UNITS)
-}
-
-// Writes the text of eight units, and returns its end. Writes none if one of them is a surrogate, and with `LONG` none if
-// no one is long, or else none if all are.
-#[inline(always)]
-pub(crate) fn put_eight<const LONG: bool>(to: &mut [u8], at: usize, lanes: u8x16) -> Option<usize>
-    requires { at + 3 * UNITS + LANES ≤ length to.old }
-    ensures most { IfSome result (λ end. end ≤ at + 3 * UNITS) }
-    ensures written { IfSome result (λ end. take end to.new ≡ take at to.old ++ units_text (utf16.units lanes)) }
-    ensures single { IfSome result (λ _. Each1 (λ u. is_half u ≡ false) (utf16.units lanes)) }
-    ensures none { IfNone result (to.new ≡ to.old) }
-{
-    if !LONG {
-        return put_full(to, at, lanes);
-    }
-    let units = units_of(lanes);
-    let long = long_units(units);
-    if long == 0 || surrogate_units(units) != 0 {
-        return None;
-    }
-    Some(put_longs(to, at, units, long))
+    Some(put_pairs(to, at, units, wide_units(units), n))
 }

@@ -70,7 +70,7 @@ fn write_binary(source: &[u8], n: usize, to: &mut [u8]) -> usize
 
 /// Writes text in UTF-16, the first `n` of these bytes, as a field.
 #[inline(never)]
-#[tactic(auto, using(crate::proofs::QuotedFields::quoted, std::proofs::lemmas::Grind::common_steps))]
+#[tactic(auto, using(crate::proofs::QuotedFields::closed, std::proofs::lemmas::Grind::common_steps))]
 pub fn write_utf16(source: &[u8], n: usize, to: &mut [u8]) -> usize
     requires within { n ≤ length source.now }
     requires whole { n % 2 ≡ 0 }
@@ -79,8 +79,9 @@ pub fn write_utf16(source: &[u8], n: usize, to: &mut [u8]) -> usize
     ensures field { take result to.new ≡ long_field Utf16Text (take n source.now) }
 {
     to[0] = QUOTE;
-    let made = utf16::convert_whole(&source[..n], source, &mut to[1..]);
-    close_quoted(to, 1 + made)
+    let rest = &mut to[1..];
+    let made = utf16::convert_whole(&source[..n], source, rest);
+    1 + close_quoted(rest, made)
 }
 
 /// Writes text in UTF-16 as [`write_utf16`] does, without a call if there are at most eight units and 16 bytes of source.

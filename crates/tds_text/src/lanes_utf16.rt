@@ -1,10 +1,11 @@
 // Units of UTF-16, eight at a time.
-ghost use Rattle.std.specs.Prelude.{◌≡◌, ◌^◌, ◌%◌, ◌≤◌, map, false};
+ghost use Rattle.std.specs.Prelude.{◌≡◌, ◌^◌, ◌%◌, ◌≤◌, ◌-◌, map, false, take, drop, replicate, true};
 ghost use lib.Lanes.{Each1, mask_l};
 ghost use Rattle.tds_text.specs.Plain.{evens};
 ghost use Rattle.tds_text.specs.Utf16 as utf16;
-ghost use Rattle.tds_text.specs.Wide.{is_long, is_half, is_wide};
+ghost use Rattle.tds_text.specs.Wide.{is_long, is_half, is_other, is_wide};
 
+use crate::places::first_bits;
 use std::simd::prelude::*;
 
 /// How many units are looked at together.
@@ -16,6 +17,16 @@ pub(crate) fn units_of(bytes: u8x16) -> u16x8
     ensures { result ≡ utf16.units bytes }
 {
     u16x8::from_le_bytes(bytes)
+}
+
+// The first `n` of eight units, and zeros.
+#[inline(always)]
+pub(crate) fn first_units(units: u16x8, n: usize) -> u16x8
+    requires { n ≤ UNITS }
+    ensures first { take n result ≡ take n units }
+    ensures zeros { drop n result ≡ replicate (UNITS - n) 0 }
+{
+    units & u16x8::from_array(first_bits(n))
 }
 
 // The low bytes of eight units.
@@ -49,6 +60,27 @@ pub(crate) fn has_long(units: u16x8) -> bool
     ensures { result ≡ false → Each1 (λ u. is_long u ≡ false) units }
 {
     (units & u16x8::splat(0xF800)).reduce_or() != 0
+}
+
+// Whether each of eight units is a character of ASCII, and none is a quote.
+#[inline(always)]
+pub(crate) fn are_plain(units: u16x8) -> bool
+    ensures { result ≡ true → Each1 (λ u. is_wide u ≡ false) units }
+{
+    if (units & u16x8::splat(0xFF80)).reduce_or() != 0 {
+        return false;
+    }
+    units.simd_eq(u16x8::splat(0x22)).to_bitmask() == 0
+}
+
+// Which of eight units have a text of fewer than three bytes, or are surrogates, the first by the lowest bit.
+#[inline(always)]
+pub(crate) fn other_units(units: u16x8) -> u64
+    ensures { result ≡ mask_l (map is_other units) }
+{
+    let from_first = units - u16x8::splat(0xD800);
+    let others = units.simd_lt(u16x8::splat(0x800)) | from_first.simd_lt(u16x8::splat(0x800));
+    others.to_bitmask()
 }
 
 // Which of eight units are surrogates, the first by the lowest bit.

@@ -1,4 +1,4 @@
-// Where the bytes of characters stand among lanes of bytes, as tables by masks of units.
+// Where the bytes of characters stand among lanes of bytes, as tables by masks of units, and the masks of the first units.
 ghost use Rattle.std.specs.Prelude.{◌≡◌, ◌<◌, [], get_or};
 
 // The 16 first of these places.
@@ -42,6 +42,21 @@ static QUADS: [[u8; 16]; 256] = rows!([0 1 2 3 4 5 6 7] [
     [[[12] [14 15 13]] [[15 13] [14 15 13]]]
 ]);
 
+// For a number of units, eight at most: all bits of so many of the first of eight, and none of the others.
+static FIRST: [[u16; 8]; 9] = [
+    [0, 0, 0, 0, 0, 0, 0, 0],
+    [0xFFFF, 0, 0, 0, 0, 0, 0, 0],
+    [0xFFFF, 0xFFFF, 0, 0, 0, 0, 0, 0],
+    [0xFFFF, 0xFFFF, 0xFFFF, 0, 0, 0, 0, 0],
+    [0xFFFF, 0xFFFF, 0xFFFF, 0xFFFF, 0, 0, 0, 0],
+    [0xFFFF, 0xFFFF, 0xFFFF, 0xFFFF, 0xFFFF, 0, 0, 0],
+    [0xFFFF, 0xFFFF, 0xFFFF, 0xFFFF, 0xFFFF, 0xFFFF, 0, 0],
+    [0xFFFF, 0xFFFF, 0xFFFF, 0xFFFF, 0xFFFF, 0xFFFF, 0xFFFF, 0],
+    [
+        0xFFFF, 0xFFFF, 0xFFFF, 0xFFFF, 0xFFFF, 0xFFFF, 0xFFFF, 0xFFFF,
+    ],
+];
+
 // The places of the texts of eight short characters, by the mask of the wide ones.
 #[inline(always)]
 pub(crate) fn pair_places(wide: u64) -> [u8; 16]
@@ -58,4 +73,13 @@ pub(crate) fn quad_places(index: usize) -> [u8; 16]
     ensures { result ≡ get_or QUADS index [] }
 {
     QUADS[index]
+}
+
+// All bits of the first `n` of eight units, and none of the others.
+#[inline(always)]
+pub(crate) fn first_bits(n: usize) -> [u16; 8]
+    requires { n < 9 }
+    ensures { result ≡ get_or FIRST n [] }
+{
+    FIRST[n]
 }

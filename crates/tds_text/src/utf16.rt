@@ -7,7 +7,7 @@ ghost use Rattle.tds_text.specs.Plain.{LiesIn};
 ghost use Rattle.tds_text.specs.Utf16 as utf16;
 ghost use Rattle.tds_text.specs.Utf16Next.{Converts, ConvertsIn, IsCharacter, IsNext, LeavesRest};
 
-use crate::beyond_ascii::{put_eight, put_units};
+use crate::beyond_ascii::put_units;
 use crate::encode::put_quoted;
 use crate::lanes::{LANES, first_set};
 use crate::lanes_utf16::{UNITS, surrogate_units, units_of};
@@ -126,16 +126,10 @@ pub(crate) fn convert_one(bytes: &[u8], from: usize, to: &mut [u8], start: usize
     }
 }
 
-// Goes on with the text by eight units, as long as they begin at `last` at the latest and none of them is a surrogate. With
-// `LONG` one of them has to be long, and otherwise one has to be short.
+// Goes on with the text by eight units, of which the last begin at `last` at the latest, up to the next surrogate.
 #[inline(always)]
-fn convert_eights<const LONG: bool>(
-    bytes: &[u8],
-    last: usize,
-    from: usize,
-    to: &mut [u8],
-    start: usize,
-) -> Span
+fn convert_full(bytes: &[u8], last: usize, from: usize, to: &mut [u8], start: usize) -> Span
+    requires some { from ≤ last }
     requires last { last + LANES ≤ length bytes.now }
     requires long { 3 * length bytes.now + 2 * LANES ≤ 2 * length to.old }
     requires before { Converts bytes.now to.old from start }
@@ -144,42 +138,22 @@ fn convert_eights<const LONG: bool>(
 {
     let mut at = from;
     let mut made = start;
-    while at <= last {
+    loop {
         let lanes = u8x16::from_slice(&bytes[at..]);
-        let Some(end) = put_eight::<LONG>(to, made, lanes) else {
+        let Some(end) = put_units(to, made, lanes, UNITS) else {
             break;
         };
         at += LANES;
         made = end;
+        if at > last {
+            break;
+        }
     }
     Span { used: at, made }
 }
 
-// Goes on with the text by eight units that begin at `last` at the latest, up to the next surrogate.
-#[inline(always)]
-fn convert_full(bytes: &[u8], last: usize, from: usize, to: &mut [u8], start: usize) -> Span
-    requires last { last + LANES ≤ length bytes.now }
-    requires long { 3 * length bytes.now + 2 * LANES ≤ 2 * length to.old }
-    requires before { Converts bytes.now to.old from start }
-    ensures more { from ≤ result.used }
-    ensures after { Converts bytes.now to.new result.used result.made }
-{
-    let mut run = Span {
-        used: from,
-        made: start,
-    };
-    loop {
-        let eights = convert_eights::<false>(bytes, last, run.used, to, run.made);
-        let done = convert_eights::<true>(bytes, last, eights.used, to, eights.made);
-        if done.used == eights.used {
-            return done;
-        }
-        run = done;
-    }
-}
-
-// Goes on with the text by at most `most` of the next eight units, if none of these is a surrogate. What comes after the bytes
-// in the source may be looked at.
+// Goes on with the text by the next `n` units, if none of these is a surrogate. What comes after the bytes in the source may be
+// looked at.
 #[inline(always)]
 fn convert_some(
     bytes: &[u8],
@@ -187,14 +161,14 @@ fn convert_some(
     from: usize,
     to: &mut [u8],
     start: usize,
-    most: usize,
+    n: usize,
 ) -> Span
-    requires most { most ≤ UNITS }
+    requires most { n ≤ UNITS }
+    requires within { from + 2 * n ≤ length bytes.now }
     requires before { ConvertsIn bytes.now source.now to.old from start }
     ensures more { from ≤ result.used }
     ensures after { Converts bytes.now to.new result.used result.made }
 {
-    let n = ((bytes.len() - from) / 2).min(most);
     let nothing = Span {
         used: from,
         made: start,
@@ -211,21 +185,19 @@ fn convert_some(
     }
 }
 
-// Goes on with the text up to the next surrogate.
+// Goes on with the text up to the next surrogate: by the units that are left over when eight are taken at a time, then by eight.
 #[inline(always)]
 fn convert_run(bytes: &[u8], source: &[u8], from: usize, to: &mut [u8], start: usize) -> Span
     requires { ConvertsIn bytes.now source.now to.old from start }
     ensures more { from ≤ result.used }
     ensures after { Converts bytes.now to.new result.used result.made }
 {
-    let mut run = Span {
-        used: from,
-        made: start,
-    };
-    if bytes.len() >= LANES {
-        run = convert_full(bytes, bytes.len() - LANES, from, to, start);
+    let few = (bytes.len() - from) / 2 % UNITS;
+    let run = convert_some(bytes, source, from, to, start, few);
+    if bytes.len() - run.used < LANES {
+        return run;
     }
-    convert_some(bytes, source, run.used, to, run.made, UNITS)
+    convert_full(bytes, bytes.len() - LANES, run.used, to, run.made)
 }
 
 // How many of the next eight units come before the first surrogate among them.
@@ -252,8 +224,8 @@ fn convert_from(bytes: &[u8], source: &[u8], after: Span, to: &mut [u8]) -> Span
 {
     let mut run = after;
     loop {
-        let most = units_before(source, run.used);
-        let done = convert_some(bytes, source, run.used, to, run.made, most);
+        let n = units_before(source, run.used).min((bytes.len() - run.used) / 2);
+        let done = convert_some(bytes, source, run.used, to, run.made, n);
         let next = convert_one(bytes, done.used, to, done.made);
         if next.used == done.used {
             return next;
@@ -319,7 +291,8 @@ pub(crate) fn convert_few(bytes: &[u8], source: &[u8], to: &mut [u8]) -> usize
     ensures short { 2 * result ≤ 3 * length bytes.now }
     ensures text { take result to.new ≡ utf16.text bytes.now }
 {
-    let run = convert_some(bytes, source, 0, to, 0, UNITS);
+    let n = (bytes.len() / 2).min(UNITS);
+    let run = convert_some(bytes, source, 0, to, 0, n);
     if run.used == bytes.len() {
         return run.made;
     }

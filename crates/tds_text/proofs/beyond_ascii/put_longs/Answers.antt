@@ -1,5 +1,23 @@
 use Rattle.tds_text.proofs as N
+use N.{◌∙◌}
+use N.beyond_ascii.put_longs.Goals as goal
+use N.LaneMasks.{none_of_first, none_passes, zeros_after}
+use N.WideText.{each_taken, no_other}
 
-pub put_triples-requires-clause-long : N.beyond_ascii.put_longs.Goals.put_triples-requires-clause-long
-put_triples-requires-clause-long c =
-    (N.LaneMasks.all_pass N.is_long 8 c.args.units (omega N.arith) (omega N.arith)).0
+pub put_triples-requires-clause-long : goal.put_triples-requires-clause-long
+put_triples-requires-clause-long c = N.Each1-weaker _ _ (λ u h. (no_other u h).0) _
+    (none_of_first N.is_other c.args.units c.args.n c.other_units.ensures c.lowest.ensures c.if-lowest-eq0.true)
+
+pub returns-then-lowest-eq0-clause-single : goal.returns-then-lowest-eq0-clause-single
+returns-then-lowest-eq0-clause-single c = N.Each1-weaker _ _ (λ u h. (no_other u h).1) _
+    (none_of_first N.is_other c.args.units c.args.n c.other_units.ensures c.lowest.ensures c.if-lowest-eq0.true)
+
+pub put_mixed-requires-clause-wide : goal.put_mixed-requires-clause-wide
+put_mixed-requires-clause-wide c = zeros_after N.is_wide c.args.n c.args.units _ c.wide_units.ensures c.requires.zeros N.refl
+
+pub put_mixed-requires-clause-long : goal.put_mixed-requires-clause-long
+put_mixed-requires-clause-long c = zeros_after N.is_long c.args.n c.args.units _ c.long_units.ensures c.requires.zeros N.refl
+
+pub returns-clause-single : goal.returns-clause-single
+returns-clause-single c = each_taken _ c.args.n c.args.units
+    (none_passes N.is_half c.args.units (N.sym c.surrogate_units.ensures ∙ c.if-surrogate_units-ne0.false))

@@ -1,14 +1,10 @@
 use Rattle.tds_text.proofs as N
-use N.{◌≡◌, ◌+◌}
+use N.beyond_ascii.put_triples.Goals as goal
+use N.WideText.{in_one_half, in_two_halves}
 
-pub returns : N.beyond_ascii.put_triples.Goals.returns
-returns c =
-    let end : c.args.at + 12 + 12 ≡ c.args.at + 24 = omega N.arith in
-    rw (
-      ← end,
-      c.put_lanes-2.ensures,
-      c.put_lanes.ensures,
-      N.append_assoc,
-      (N.WideText.both_halves c.args.units _ _ c.fits-units.0 c.fits-units.1 c.requires.long
-          c.triples.ensures.0 c.triples.ensures.1),
-    ) N.refl
+pub returns-then-n-le-HALF : goal.returns-then-n-le-HALF
+returns-then-n-le-HALF c = in_one_half c.args.units _ _ _ _ c.args.n c.fits-units.1 c.requires.long c.triples.ensures.0 (omega N.arith) c.put_lanes.ensures
+
+pub returns : goal.returns
+returns c = in_two_halves c.args.units _ _ _ _ c.args.n c.fits-units.1 c.requires.long c.triples.ensures.0 _ _ (omega N.arith) (omega N.arith)
+    c.triples.ensures.1 c.put_lanes-2.ensures c.put_lanes-3.ensures

@@ -1,0 +1,16 @@
+use Rattle.tds_text.proofs as N
+use N.utf16.convert_full.Goals as goal
+use N.WideText.{eight_more}
+
+pub loop-end-preserved : goal.loop-end-preserved
+loop-end-preserved c =
+    let end = c.in-Some.ensures in
+    record {
+      more = omega N.arith;
+      room = omega N.arith;
+      long = search N.rules;
+      now = eight_more (omega N.arith) end.single end.most end.written c.loop-end.invariant.now;
+    }
+
+pub returns-then-at-last-clause-after : goal.returns-then-at-last-clause-after
+returns-then-at-last-clause-after c = let end = c.in-Some.ensures in eight_more (omega N.arith) end.single end.most end.written c.loop-end.invariant.now
