@@ -12,6 +12,9 @@ use crate::{utf8, utf16, windows_1252};
 // How many bytes of room a field may want besides its text.
 const FIELD_SPARE: usize = 20;
 
+// How many bytes a text in Windows-1252 has at least that is written by a call; a shorter one is better off without.
+const MANY: usize = 2 * WIDE;
+
 /// What the data of a long value is.
 #[derive(Clone, Copy)]
 pub enum Content {
@@ -121,7 +124,7 @@ fn write_windows_1252(source: &[u8], n: usize, to: &mut [u8]) -> usize
     ensures most { result + 2 ≤ length to.old }
     ensures field { take result to.new ≡ long_field Windows1252Text (take n source.now) }
 {
-    if n >= WIDE {
+    if n >= MANY {
         return write_long_windows_1252(source, n, to);
     }
     to[0] = QUOTE;

@@ -188,7 +188,7 @@ fn convert_rest(bytes: &[u8], source: &[u8], after: Span, to: &mut [u8]) -> usiz
     convert_by_hand(bytes, at, bytes.len(), to, made)
 }
 
-// Writes the text of bytes as `convert` does, in the way that is best for fewer than 32: it makes no call.
+// Writes the text of bytes as `convert` does, in the way that is best for fewer than 64: it makes no call.
 #[inline(always)]
 pub(crate) fn convert_few(bytes: &[u8], source: &[u8], to: &mut [u8]) -> usize
     requires source { LiesIn bytes.now source.now }
