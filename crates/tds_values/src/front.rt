@@ -80,6 +80,8 @@ pub fn write_front<const COPY: bool>(kind: &Kind, bytes: &[u8], to: &mut [u8]) -
         Kind::Int2 => as_front(2, write_integer(2, &bytes[..2], to)),
         Kind::Int4 => as_front(4, write_integer(4, &bytes[..4], to)),
         Kind::Int8 => as_front(8, write_integer(8, &bytes[..8], to)),
+        Kind::IntN(4) => as_front(5, write_integer(4, counted(4, bytes)?, to)),
+        Kind::IntN(8) => as_front(9, write_integer(8, counted(8, bytes)?, to)),
         Kind::IntN(n) => as_front(
             1 + n as usize,
             write_integer(n, counted(n as usize, bytes)?, to),
@@ -88,12 +90,14 @@ pub fn write_front<const COPY: bool>(kind: &Kind, bytes: &[u8], to: &mut [u8]) -
         Kind::BitN => as_front(2, write_bit(counted(1, bytes)?, to)),
         Kind::Money4 => as_front(4, write_money(4, &bytes[..4], to)),
         Kind::Money8 => as_front(8, write_money(8, &bytes[..8], to)),
+        Kind::MoneyN(8) => as_front(9, write_money(8, counted(8, bytes)?, to)),
         Kind::MoneyN(n) => as_front(
             1 + n as usize,
             write_money(n, counted(n as usize, bytes)?, to),
         ),
         Kind::DateTime4 => as_front(4, write_date_time_n(4, &bytes[..4], to)),
         Kind::DateTime8 => as_front(8, write_date_time_n(8, &bytes[..8], to)),
+        Kind::DateTimeN(8) => as_front(9, write_date_time_n(8, counted(8, bytes)?, to)),
         Kind::DateTimeN(n) => {
             as_front(
                 1 + n as usize,
@@ -115,6 +119,8 @@ pub fn write_front<const COPY: bool>(kind: &Kind, bytes: &[u8], to: &mut [u8]) -
             let value = counted_any(bytes)?;
             as_front(1 + value.len(), write_date_time2(scale, value, to))
         }
+        Kind::DateTimeOffset(3) => as_front(10, write_date_time_offset(3, counted(9, bytes)?, to)),
+        Kind::DateTimeOffset(7) => as_front(11, write_date_time_offset(7, counted(10, bytes)?, to)),
         Kind::DateTimeOffset(scale) => {
             let value = counted_any(bytes)?;
             as_front(1 + value.len(), write_date_time_offset(scale, value, to))
