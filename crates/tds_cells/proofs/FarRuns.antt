@@ -1,11 +1,12 @@
 -- Runs over rows that are far from the ends, a cell after the comma that stands before it.
 use Rattle.tds_cells.proofs.Words as N
-use Rattle.tds_cells.proofs.Words.{◌≡◌, ◌∙◌, ◌==◌, ℕ, ◌+◌, ◌-◌, ◌≤◌, ◌<◌, Bool, List, [], ◌++◌, length, take, drop, get_or, refl, sym, ap, arith, inr, false}
+use Rattle.tds_cells.proofs.Words.{◌≡◌, ◌∙◌, ◌==◌, ℕ, ◌+◌, ◌-◌, ◌≤◌, ◌<◌, Bool, List, []}
+use Rattle.tds_cells.proofs.Words.{◌++◌, ◌∷◌, length, take, drop, get_or, refl, sym, ap, arith, inr, false}
 use Rattle.tds_cells.proofs.Words.{Cursor, CellFormat, RowsRan, RowFormat, Walk, after_comma, end_after, place}
 use Rattle.std.proofs.lemmas.List.{get_or-drop}
 use Rattle.tds_cells.proofs.FormatSteps.{left_less, line_beyond}
 use Rattle.tds_cells.proofs.RowTexts.{after_append, after_some_column}
-use Rattle.tds_cells.proofs.RunSteps.{whole_some}
+use Rattle.tds_cells.proofs.RunSteps.{unused, whole_some}
 use Rattle.tds_cells.proofs.RowFormatRuns.{place_known, rows_more, runs_column}
 use Rattle.tds_cells.proofs.RowFormatSteps.{last_one, next_known, takes}
 use Rattle.tds_cells.specs.Runs.{comma_size}
@@ -105,3 +106,34 @@ far_more {row_format = row_format} {walk = walk} {bytes = bytes} {old = old} {ro
     let taken = takes next refl after in
     let end_is = last_is ∙ last_one columns (drop (cells + 1) columns) taken.column cells row_format.count knows.counted taken.next in
     rw (left, text.1.1) (runs_column taken end_is (wrote cells last).whole)) x)
+
+-- ---- a run that keeps what is left of the bytes
+
+-- what follows the rest follows all of them
+pub begins_in : (bytes rest : List ℕ) (u n : ℕ) → unused u rest ≡ drop n bytes → N.BeginsRow (unused u rest) → N.BeginsRow (unused n bytes)
+begins_in bytes rest u n is begins = rw (N.all_after bytes n) (rw is at begins)
+
+-- one cell more of the row, at the front of what is left
+pub rest_more : {row_format : RowFormat} {from : Cursor} {walk : Walk} {bytes old : List ℕ} {rows : ℕ} {row : List CellFormat}
+    (rest : List ℕ) (cells u made m end now : ℕ) (d : CellFormat) (new final : List ℕ) (last : Bool)
+    → length rest ≤ length bytes → rest ≡ drop (length bytes - length rest) bytes → now ≡ (length bytes - length rest) + u
+    → row_format.known ≡ row_format.count → cells < row_format.count → row ≡ take row_format.known row_format.formats.now
+    → last ≡ (cells + 1 == row_format.count)
+    → d ≡ get_or row cells d → (comma_size cells ≤ made) × ((made ≤ length old) × (u ≤ length rest))
+    → take made old ≡ take (made - comma_size cells) old ++ after_comma cells [] → take made new ≡ take made old
+    → (made + m ≤ length new) × (end ≤ length final) → take end final ≡ take (made + m) new ++ end_after last
+    → u ≡ N.whole_size d.kind rest → N.WritesField row_format.charset d.kind (take u rest) (take m (drop made new))
+    → RowsRan row_format from bytes old (record { used = length bytes - length rest; made = made - comma_size cells; rows = rows; ahead = place walk cells })
+    → RowsRan row_format from bytes final (record { used = now; made = end; rows = rows; ahead = place walk (cells + 1) })
+rest_more {row_format = row_format} {bytes = bytes} rest cells u made m end now d new final last within rest_is now_is all some are last_is format_is
+    (begun, (fits, few)) comma kept room is whole wrote x =
+    let used = length bytes - length rest in
+    let less : u ≤ length (drop used bytes) = omega (arith, few, within, N.length-drop used bytes) in
+    rw now_is (far_more cells used u made m end d new final last all some are last_is format_is (begun, (fits, less)) comma kept room is
+    (whole ∙ ap (N.whole_size d.kind) rest_is)
+    (N.subst (λ (l : List ℕ). N.WritesField row_format.charset d.kind (take u l) (take m (drop made new))) rest_is wrote) x)
+
+-- what begins a row has a byte
+pub begins_some : (bytes : List ℕ) → N.BeginsRow bytes → 1 ≤ length bytes
+begins_some [] begins = absurd begins
+begins_some (byte ∷ bytes) begins = omega arith

@@ -261,33 +261,32 @@ impl<'a> RowFormat<'a> {
         if cells >= formats.len() || bytes.len() < LOOKAHEAD || to.len() < CELL_ROOM {
             return KnownRun::none(column);
         }
-        let latest = bytes.len() - LOOKAHEAD;
         let most = to.len() - VALUE_ROOM;
-        let mut used = 0;
+        let mut rest = bytes;
         let mut made = write_comma(column, to);
         let mut rows = 0;
-        while used <= latest && made <= most {
+        while rest.len() >= LOOKAHEAD && made <= most {
             let format = &formats[cells];
-            let Some(written) = write_far_cell::<false>(format, charset, bytes, used, to, made)
-            else {
+            let Some(written) = write_far_cell::<false>(format, charset, rest, 0, to, made) else {
                 break;
             };
             cells += 1;
-            used += written.used;
+            rest = &rest[written.used..];
             made += written.made;
+            to[made] = COMMA;
+            made += 1;
             if cells < formats.len() {
-                to[made] = COMMA;
-                made += 1;
                 continue;
             }
-            made = write_line_end(true, made, to);
-            if !self.row_follows(&bytes[used..]) {
-                return KnownRun::ended(used, made, rows, cells);
+            made = write_line_end(true, made - 1, to);
+            if !self.row_follows(rest) {
+                return KnownRun::ended(bytes.len() - rest.len(), made, rows, cells);
             }
             cells = 0;
-            used += 1;
+            rest = &rest[1..];
             rows += 1;
         }
+        let used = bytes.len() - rest.len();
         KnownRun::ended(used, made - comma_size(cells), rows, cells)
     }
 

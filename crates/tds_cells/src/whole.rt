@@ -6,7 +6,7 @@ ghost use Rattle.tds_values.specs.Scalar.{read_of};
 ghost use Rattle.tds_values.specs.declared.charset.Charset.{Charset};
 ghost use Rattle.tds_cells.specs.Cells.{LongShape, shape};
 ghost use Rattle.tds_cells.specs.ChunkedCells.{HasOneChunk, chunk_end, chunked_size, stated_total};
-ghost use Rattle.tds_cells.specs.LongFields.{LongWritten, long_size};
+ghost use Rattle.tds_cells.specs.LongFields.{LongWritten, long_size, some_written};
 ghost use Rattle.tds_cells.specs.ShortCells.{short_size};
 ghost use Rattle.tds_values.specs.declared.kind.Reach.{Reach};
 ghost use Rattle.tds_values.specs.Kind.{is_scalar};
@@ -116,8 +116,8 @@ fn chunk_end(n: usize) -> usize
 }
 
 // Writes the field of a value of this content, which is NULL or in one chunk at most, as `write_short` does that of a short one.
-#[inline(never)]
-fn write_chunked(content: Content, bytes: &[u8], to: &mut [u8]) -> Option<Span>
+#[inline(always)]
+fn write_one_chunk(content: Content, bytes: &[u8], to: &mut [u8]) -> Option<Span>
     requires room { VALUE_ROOM ≤ length to.old }
     ensures used { IfSome result (λ written. written.used ≤ length bytes.now) }
     ensures most { IfSome result (λ written. written.made + 2 ≤ length to.old) }
@@ -148,6 +148,44 @@ fn write_chunked(content: Content, bytes: &[u8], to: &mut [u8]) -> Option<Span>
         used: chunk_end(n),
         made,
     })
+}
+
+// What was written of a cell, if any of its bytes were used.
+#[inline(always)]
+fn some_written(written: Span) -> Option<Span>
+    ensures { result ≡ some_written written }
+{
+    if written.used == 0 {
+        return None;
+    }
+    Some(written)
+}
+
+// Writes as `write_one_chunk` does, and uses no byte where that is `None`: a span comes in registers, an option of one in memory.
+#[inline(never)]
+fn write_apart(content: Content, bytes: &[u8], to: &mut [u8]) -> Span
+    requires room { VALUE_ROOM ≤ length to.old }
+    ensures used { IfSome (some_written result) (λ written. written.used ≤ length bytes.now) }
+    ensures most { IfSome (some_written result) (λ written. written.made + 2 ≤ length to.old) }
+    ensures whole { IfSome (some_written result) (λ written. written.used ≡ chunked_size bytes.now) }
+    ensures field { LongWritten (conversion_of content) Reach.Chunked bytes.now (length to.old + 1) to.new (some_written result) }
+{
+    match write_one_chunk(content, bytes, to) {
+        Some(written) => written,
+        None => Span { used: 0, made: 0 },
+    }
+}
+
+// Writes as `write_one_chunk` does, by code that isn't inlined.
+#[inline(always)]
+fn write_chunked(content: Content, bytes: &[u8], to: &mut [u8]) -> Option<Span>
+    requires room { VALUE_ROOM ≤ length to.old }
+    ensures used { IfSome result (λ written. written.used ≤ length bytes.now) }
+    ensures most { IfSome result (λ written. written.made + 2 ≤ length to.old) }
+    ensures whole { IfSome result (λ written. written.used ≡ chunked_size bytes.now) }
+    ensures field { LongWritten (conversion_of content) Reach.Chunked bytes.now (length to.old + 1) to.new result }
+{
+    some_written(write_apart(content, bytes, to))
 }
 
 // Writes the field of a long value of this content as `write_short` and `write_chunked` do.

@@ -1,16 +1,18 @@
 use Rattle.tds_cells.proofs.row_format.RowFormat.run_unchecked.Goals as goal
 use Rattle.tds_cells.proofs.Words as N
 use Rattle.tds_cells.proofs.Words.{place, arith, ◌∙◌, ◌≡◌, ◌==◌, ◌+◌, ◌-◌, ◌≤◌, ◌<◌, ◌++◌, ◌∷◌, []}
-use Rattle.tds_cells.proofs.Words.{ap, inl, inr, length, length-drop, refl, rules, sym, take, drop, get_or, false, true}
+use Rattle.tds_cells.proofs.Words.{ap, inl, inr, length, length-drop, refl, rules, sym, take, drop, get_or, end_after, false, true, List, ℕ}
 use Rattle.tds_cells.proofs.row_format.RowFormat.run_unchecked.Goals.{then-cells-formats-via-then-cells-formats}
 use Rattle.tds_cells.proofs.row_format.RowFormat.run_unchecked.Goals.{then-cells-formats-via-else-cells-formats+then-bytes-lt-LOOKAHEAD}
 use Rattle.tds_cells.proofs.row_format.RowFormat.run_unchecked.Goals.{then-cells-formats-via-else-cells-formats+else-bytes-lt-LOOKAHEAD+then-to-lt-CELL_ROOM}
-use Rattle.tds_cells.proofs.row_format.RowFormat.run_unchecked.Goals.{then-loop-used-test+else-made-most, else-loop-used-test}
-use Rattle.tds_cells.proofs.row_format.RowFormat.run_unchecked.Goals.{then-loop-used-test+then-made-most+in_default as cell_left}
-use Rattle.tds_cells.proofs.FarRuns.{comma_made, comma_most, comma_one, far_left, far_more, row_length}
+use Rattle.tds_cells.proofs.row_format.RowFormat.run_unchecked.Goals.{then-loop-rest-test+else-made-most, else-loop-rest-test}
+use Rattle.tds_cells.proofs.row_format.RowFormat.run_unchecked.Goals.{then-loop-rest-test+then-made-most+in_default as cell_left}
+use Rattle.tds_cells.proofs.FarRuns.{begins_in, begins_some, comma_made, comma_most, comma_one, far_left, rest_more, row_length}
+use Rattle.tds_cells.proofs.FormatSteps.{left_after}
 use Rattle.tds_cells.proofs.RowFormatRuns.{known_ran, ran_at, first_left, place_known, rest_ahead, row_begun, rows_begin, rows_kept}
 use Rattle.tds_cells.proofs.RowFormatSteps.{none_next}
 use Rattle.tds_cells.proofs.RowTexts.{after_some_column}
+use Rattle.tds_cells.proofs.RunSteps.{unused}
 use Rattle.std.proofs.lemmas.List.{take-set-le}
 use Rattle.tds_cells.specs.Runs.{comma_size}
 
@@ -29,25 +31,28 @@ returns-then-cells-formats-clause-ends c =
       | then-cells-formats-via-else-cells-formats+else-bytes-lt-LOOKAHEAD+then-to-lt-CELL_ROOM w ↦ inr (inl (omega (arith, w.if-to-lt-CELL_ROOM.true)))
     ])
 
-pub loop-used-init : goal.loop-used-init
-loop-used-init c =
+pub loop-rest-init : goal.loop-rest-init
+loop-rest-init c =
     let row_format = c.args.self.now in
     let row = row_length row_format c.row-formats.result.now c.requires.known.0 c.row-formats.ensures.row in
     let comma = c.write_comma-made in
     let fits : comma.result ≤ length comma.new.to = search (arith, rules) in
     let made_is = comma_made comma.result c.args.column comma.new.to fits (comma.ensures.text []) in
     let none : comma.result - comma_size c.args.column ≡ 0 = omega (arith, made_is) in
+    let unused_none : length c.args.bytes.now - length c.args.bytes.now ≡ 0 = omega arith in
     record {
+      within = omega arith;
+      rest = ap (λ (n : ℕ). drop n c.args.bytes.now) (sym unused_none);
       size = search (arith, rules);
       some = omega (arith, row, c.if-cells-formats.false);
       begun = omega (arith, made_is);
       comma = rw none (sym (N.append-nil (take comma.result comma.new.to)) ∙ comma.ensures.text []);
-      ran = rw none (known_ran (λ walk. rows_begin));
+      ran = rw (none, unused_none) (known_ran (λ walk. rows_begin));
     }
 
-pub loop-used-preserved-then-cells-formats-2 : goal.loop-used-preserved-then-cells-formats-2
-loop-used-preserved-then-cells-formats-2 c =
-    let l = c.loop-used in
+pub loop-rest-preserved-then-cells-formats-2 : goal.loop-rest-preserved-then-cells-formats-2
+loop-rest-preserved-then-cells-formats-2 c =
+    let l = c.loop-rest in
     let row_format = c.args.self.now in
     let all = c.requires.known.0 in
     let formats = c.row-formats.result.now in
@@ -62,15 +67,19 @@ loop-used-preserved-then-cells-formats-2 c =
     let room : end < length new = omega (arith, c.in-Some.ensures.most) in
     let there : (end + 1) - comma_size (l.cells + 1) ≡ end = omega (arith, comma_one l.cells) in
     let same = take-set-le end new end 44 (omega arith) in
+    let bytes = c.args.bytes.now in
+    let left = left_after bytes l.rest.now written.used l.invariant.within l.invariant.rest (omega (arith, c.in-Some.ensures.used)) in
     record {
+      within = omega (arith, left.0);
+      rest = left.1 ∙ ap (λ (n : ℕ). drop n bytes) (sym left.0);
       size = search (arith, rules);
       some = few;
       begun = omega (arith, comma_one l.cells);
       comma = rw there (N.take_more_set new end 44 room ∙ ap (λ t. t ++ 44 ∷ []) (sym same)
           ∙ ap (λ t. take end (N.slice_set new end 44) ++ t) (after_some_column (l.cells + 1) (λ e. omega arith)));
-      ran = rw there (known_ran (λ walk. far_more l.cells l.used written.used l.made written.made end format new (N.slice_set new end 44) false
-          all l.invariant.some c.row-formats.ensures.row (sym (N.ne_eqb _ _ (λ e. omega (arith, e, few)))) format_is
-          (l.invariant.begun, (omega (arith, room, size), omega (arith, c.in-Some.ensures.used, length-drop l.used c.args.bytes.now)))
+      ran = rw there (known_ran (λ walk. rest_more l.rest.now l.cells written.used l.made written.made end _ format new (N.slice_set new end 44) false
+          l.invariant.within l.invariant.rest left.0 all l.invariant.some c.row-formats.ensures.row (sym (N.ne_eqb _ _ (λ e. omega (arith, e, few)))) format_is
+          (l.invariant.begun, (omega (arith, room, size), omega (arith, c.in-Some.ensures.used)))
           l.invariant.comma c.write_far_cell.ensures.kept
           (omega (arith, room), search (arith, rules)) (same ∙ sym (N.append-nil (take end new)))
           c.in-Some.ensures.whole c.in-Some.ensures.field (ran_at l.invariant.ran walk)));
@@ -78,7 +87,7 @@ loop-used-preserved-then-cells-formats-2 c =
 
 pub returns-then-not-row_follows-clause-rows : goal.returns-then-not-row_follows-clause-rows
 returns-then-not-row_follows-clause-rows c =
-    let l = c.loop-used in
+    let l = c.loop-rest in
     let row_format = c.args.self.now in
     let all = c.requires.known.0 in
     let formats = c.row-formats.result.now in
@@ -91,15 +100,20 @@ returns-then-not-row_follows-clause-rows c =
     let size : length new ≡ length l.to = search (arith, rules) in
     let last : l.cells + 1 ≡ row_format.count = omega (arith, c.if-cells-formats-2.false, row, l.invariant.some) in
     let fits : end.result ≤ length end.new.to = search (arith, rules) in
-    rw c.ended.ensures (known_ran (λ walk. far_more l.cells l.used written.used l.made written.made end.result format new end.new.to true
-    all l.invariant.some c.row-formats.ensures.row (sym (N.eq-eqb _ _ last)) format_is
-    (l.invariant.begun, (omega (arith, c.in-Some.ensures.most, size), omega (arith, c.in-Some.ensures.used, length-drop l.used c.args.bytes.now)))
-    l.invariant.comma c.write_far_cell.ensures.kept (omega (arith, c.in-Some.ensures.most), fits) end.ensures.text
+    let bytes = c.args.bytes.now in
+    let left = left_after bytes l.rest.now written.used l.invariant.within l.invariant.rest (omega (arith, c.in-Some.ensures.used)) in
+    let at = l.made + written.made in
+    let before : (at + 1) - 1 ≡ at = omega arith in
+    let text = rw before at end.ensures.text ∙ ap (λ (t : List ℕ). t ++ end_after true) (take-set-le at new at 44 (omega arith)) in
+    rw c.ended.ensures (known_ran (λ walk. rest_more l.rest.now l.cells written.used l.made written.made end.result _ format new end.new.to true
+    l.invariant.within l.invariant.rest left.0 all l.invariant.some c.row-formats.ensures.row (sym (N.eq-eqb _ _ last)) format_is
+    (l.invariant.begun, (omega (arith, c.in-Some.ensures.most, size), omega (arith, c.in-Some.ensures.used)))
+    l.invariant.comma c.write_far_cell.ensures.kept (omega (arith, c.in-Some.ensures.most), fits) text
     c.in-Some.ensures.whole c.in-Some.ensures.field (ran_at l.invariant.ran walk)))
 
-pub loop-used-preserved : goal.loop-used-preserved
-loop-used-preserved c =
-    let l = c.loop-used in
+pub loop-rest-preserved : goal.loop-rest-preserved
+loop-rest-preserved c =
+    let l = c.loop-rest in
     let row_format = c.args.self.now in
     let all = c.requires.known.0 in
     let formats = c.row-formats.result.now in
@@ -112,28 +126,38 @@ loop-used-preserved c =
     let size : length new ≡ length l.to = search (arith, rules) in
     let last : l.cells + 1 ≡ row_format.count = omega (arith, c.if-cells-formats-2.false, row, l.invariant.some) in
     let fits : end.result ≤ length end.new.to = search (arith, rules) in
+    let bytes = c.args.bytes.now in
+    let left = left_after bytes l.rest.now written.used l.invariant.within l.invariant.rest (omega (arith, c.in-Some.ensures.used)) in
+    let at = l.made + written.made in
+    let before : (at + 1) - 1 ≡ at = omega arith in
+    let text = rw before at end.ensures.text ∙ ap (λ (t : List ℕ). t ++ end_after true) (take-set-le at new at 44 (omega arith)) in
     let none : end.result - comma_size 0 ≡ end.result = omega arith in
+    let begins = c.row_follows.ensures.begins (search rules) in
+    let next = left_after bytes (unused written.used l.rest.now) 1 (omega (arith, left.0)) (left.1 ∙ ap (λ (n : ℕ). drop n bytes) (sym left.0))
+    (begins_some (unused written.used l.rest.now) begins) in
     record {
+      within = omega (arith, next.0);
+      rest = next.1 ∙ ap (λ (n : ℕ). drop n bytes) (sym next.0);
       size = search (arith, rules);
       some = c.requires.known.1;
       begun = omega arith;
       comma = rw none (sym (N.append-nil (take end.result end.new.to)));
-      ran = rw none (known_ran (λ walk. row_begun {start = place walk 0} c.requires.known.1 (omega (arith, last))
-          (c.row_follows.ensures.begins (search rules), refl)
+      ran = rw (none, next.0, left.0) (known_ran (λ walk. row_begun {start = place walk 0} c.requires.known.1 (omega (arith, last))
+          (begins_in bytes l.rest.now written.used _ left.1 begins, refl)
           (place_known row_format (place walk 0) (l.cells + 1) 0 all (omega (arith, last)) (omega arith))
-          (far_more l.cells l.used written.used l.made written.made end.result format new end.new.to true
-          all l.invariant.some c.row-formats.ensures.row (sym (N.eq-eqb _ _ last)) format_is
-          (l.invariant.begun, (omega (arith, c.in-Some.ensures.most, size), omega (arith, c.in-Some.ensures.used, length-drop l.used c.args.bytes.now)))
-          l.invariant.comma c.write_far_cell.ensures.kept (omega (arith, c.in-Some.ensures.most), fits) end.ensures.text
+          (rest_more l.rest.now l.cells written.used l.made written.made end.result _ format new end.new.to true
+          l.invariant.within l.invariant.rest refl all l.invariant.some c.row-formats.ensures.row (sym (N.eq-eqb _ _ last)) format_is
+          (l.invariant.begun, (omega (arith, c.in-Some.ensures.most, size), omega (arith, c.in-Some.ensures.used)))
+          l.invariant.comma c.write_far_cell.ensures.kept (omega (arith, c.in-Some.ensures.most), fits) text
           c.in-Some.ensures.whole c.in-Some.ensures.field (ran_at l.invariant.ran walk))));
     }
 
 pub returns-clause-rows : goal.returns-clause-rows
 returns-clause-rows c =
-    let l = c.loop-used in
-    rw (c.ended-2.ensures, c.comma_size.ensures) (known_ran (λ walk. elim c.loop-used-test.branch [
-      | else-loop-used-test w ↦ rw w.to-is (ran_at l.invariant.ran walk)
-      | then-loop-used-test+else-made-most w ↦ rw w.to-is (ran_at l.invariant.ran walk)
+    let l = c.loop-rest in
+    rw (c.ended-2.ensures, c.comma_size.ensures) (known_ran (λ walk. elim c.loop-rest-test.branch [
+      | else-loop-rest-test w ↦ rw w.to-is (ran_at l.invariant.ran walk)
+      | then-loop-rest-test+else-made-most w ↦ rw w.to-is (ran_at l.invariant.ran walk)
       | cell_left w ↦ (let at = l.made - comma_size l.cells in let new = w.write_far_cell.new.to in
           rw w.to-is (rows_kept (search (arith, rules)) (sym (N.take-take at l.made new (omega arith)) ∙ ap (take at) w.write_far_cell.ensures.kept
           ∙ N.take-take at l.made l.to (omega arith)) (ran_at l.invariant.ran walk)))
@@ -141,14 +165,14 @@ returns-clause-rows c =
 
 pub returns-clause-ends : goal.returns-clause-ends
 returns-clause-ends c =
-    let l = c.loop-used in
+    let l = c.loop-rest in
     let row_format = c.args.self.now in
     let all = c.requires.known.0 in
     let formats = c.row-formats.result.now in
     let bytes = c.args.bytes.now in
-    λ walk. rw (c.ended-2.ensures, c.comma_size.ensures) (elim c.loop-used-test.branch [
-      | else-loop-used-test w ↦ inl (omega (arith, w.loop-used-test.false, length-drop l.used bytes))
-      | then-loop-used-test+else-made-most w ↦ inr (inl (omega (arith, w.if-made-most.false, l.invariant.size, l.invariant.begun, comma_most l.cells)))
+    λ walk. rw (c.ended-2.ensures, c.comma_size.ensures) (elim c.loop-rest-test.branch [
+      | else-loop-rest-test w ↦ inl (omega (arith, w.loop-rest-test.false, l.invariant.within, length-drop (length bytes - length l.rest.now) bytes))
+      | then-loop-rest-test+else-made-most w ↦ inr (inl (omega (arith, w.if-made-most.false, l.invariant.size, l.invariant.begun, comma_most l.cells)))
       | cell_left w ↦ inr (inr (λ columns column left knows ahead step.
           let format = w.index-formats-cells.result in
           let format_is : format ≡ get_or formats l.cells format = search (arith, rules) in
@@ -156,5 +180,6 @@ returns-clause-ends c =
           let less : length c.args.to.now - (l.made - comma_size l.cells) ≤ length l.to - l.made + 1 =
           omega (arith, l.invariant.size, l.invariant.begun, comma_most l.cells, w.if-made-most.true) in
           first_left row_format (place walk l.cells) row_format.count (drop l.cells formats) (omega arith) rest.0
-          (far_left row_format formats l.cells format (drop l.used bytes) _ _ format_is less w.in_default.ensures.field) columns column left knows ahead step))
+          (far_left row_format formats l.cells format _ _ _ format_is less (rw l.invariant.rest at w.in_default.ensures.field))
+          columns column left knows ahead step))
     ])

@@ -1,4 +1,4 @@
-use Rattle.tds_cells.proofs.whole.write_chunked.Goals as goal
+use Rattle.tds_cells.proofs.whole.write_one_chunk.Goals as goal
 use Rattle.tds_cells.proofs.Words.{all_after, ap, arith, in_line, rules}
 use Rattle.tds_cells.proofs.ChunkedCells.{chunked_null, chunked_value}
 
