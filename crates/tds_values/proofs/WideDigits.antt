@@ -1,43 +1,39 @@
--- Forty digits of a number, in words of eight.
+-- Forty digits of a number, in groups of eight.
 use Rattle.tds_values.proofs.Words as N
 use Rattle.tds_values.proofs.Words.{◌≡◌, ◌⊎◌, inl, inr, ℕ, zero, suc, ◌+◌, ◌-◌, ◌*◌, ◌/◌, ◌%◌, ◌^◌, ◌<◌, ◌≤◌, List, [], ◌∷◌, ◌++◌, take, drop, length, get_or}
 use Rattle.tds_values.proofs.Words.{refl, ap, ◌∙◌, arith, Bool, ◌==◌, decimal, last_digits, min, append_assoc}
 use Rattle.tds_values.proofs.DigitLemmas.{decimal_units, last_digits-add, last_digits-mod}
-use Rattle.tds_values.proofs.WordLemmas.{digits_left, end_digits, front_put, word_of}
+use Rattle.tds_values.proofs.WordLemmas.{end_digits, front_put}
 use Rattle.tds_values.proofs.ZeroLemmas.{HasLeadingZeros}
-use Rattle.std.proofs.Math.Seq.{drop-append-add}
-use Rattle.std.proofs.lemmas.List.{drop-append-le}
-use Rattle.std.specs.Int.{to_le_bytes, w64}
-use Rattle.std.specs.List.{flat_map}
+use Rattle.std.proofs.lemmas.List.{drop-take}
 use Rattle.std.specs.Prelude.{◌&&◌, not}
 use Rattle.tds_values.specs.Numbers.{groups_of}
 use Rattle.tds_values.specs.ScalarText.{minus_if}
 
--- the bytes of words from a byte on
-pub bytes_from : (i j : ℕ) (words : List ℕ) → i < length words → j ≤ 8
-    → drop (8 * i + j) (flat_map (to_le_bytes w64) words) ≡ drop j (to_le_bytes w64 (get_or words i 0)) ++ flat_map (to_le_bytes w64) (drop (i + 1) words)
-bytes_from i j [] some few = absurd (omega arith)
-bytes_from zero j (w ∷ words) some few = rw N.zero-add (drop-append-le j (to_le_bytes w64 w) (flat_map (to_le_bytes w64) words) few)
-bytes_from (suc i) j (w ∷ words) some few =
-    let e : 8 * suc i + j ≡ 8 + (8 * i + j) = omega arith in
-    let next : suc i + 1 ≡ suc (i + 1) = omega arith in
-    rw (e, next) (drop-append-add (to_le_bytes w64 w) (flat_map (to_le_bytes w64) words) (8 * i + j) ∙ bytes_from i j words (omega arith) few)
+-- m bytes put from digit s on hold the digits from there up to the fortieth
+pub digits_from : (xs new ds : List ℕ) (at s m : ℕ) → length xs ≡ at → s ≤ 40 → 40 - s ≤ m → take (at + m) new ≡ xs ++ take m (drop s ds)
+    → take (at + (40 - s)) new ≡ xs ++ drop s (take 40 ds)
+digits_from xs new ds at s m long few more e =
+    let forty : s + (40 - s) ≡ 40 = omega arith in
+    let digits = rw forty at (drop-take s (40 - s) ds) in
+    let put = N.take-append-add xs (take m (drop s ds)) (40 - s) in
+    cc (N.take-take (at + (40 - s)) (at + m) new (omega arith), put, N.take-take (40 - s) m (drop s ds) more, digits)
 
--- a word of the digits above the last k, and these
-word_before : (m k n g : ℕ) {w : ℕ} {rest : List ℕ} → g ≡ n / 10 ^ k % 10 ^ m → w ≡ word_of (last_digits m g) → rest ≡ last_digits k n
-    → N.bytes_low_first 0 m w ++ rest ≡ last_digits (m + k) n
-word_before m k n g eg ew er =
-    rw (last_digits-add m k n, er, ← last_digits-mod m (n / 10 ^ k), ← eg) (ap (λ bytes. bytes ++ last_digits k n) (digits_left 0 m m g (omega arith) ew))
+-- the digits above the last k, of which a group has eight, and that group
+group_after : (a k n g : ℕ) {front : List ℕ} → g ≡ n / 10 ^ k % 10 ^ 8 → front ≡ last_digits a (n / 10 ^ (k + 8))
+    → front ++ last_digits 8 g ≡ last_digits (a + 8) (n / 10 ^ k)
+group_after a k n g eg ef =
+    rw (last_digits-add a 8 (n / 10 ^ k), N.div-div-eq-div-mul n (10 ^ k) (10 ^ 8), ← N.pow-add 10 k 8, ef, eg, last_digits-mod 8 (n / 10 ^ k)) refl
 
 -- five groups of eight digits
-pub forty : (n : ℕ) {gs : List ℕ} {a b c d e : ℕ} → n < 2 ^ 128 → gs ≡ groups_of n → a ≡ word_of (last_digits 8 (get_or gs 0 0))
-    → b ≡ word_of (last_digits 8 (get_or gs 1 0)) → c ≡ word_of (last_digits 8 (get_or gs 2 0)) → d ≡ word_of (last_digits 8 (get_or gs 3 0))
-    → e ≡ word_of (last_digits 8 (get_or gs 4 0)) → flat_map (to_le_bytes w64) (a ∷ b ∷ c ∷ d ∷ e ∷ []) ≡ last_digits 40 n
+pub forty : (n : ℕ) {gs front one two three four : List ℕ} → n < 2 ^ 128 → gs ≡ groups_of n → front ≡ last_digits 8 (get_or gs 0 0)
+    → one ≡ front ++ last_digits 8 (get_or gs 1 0) → two ≡ one ++ last_digits 8 (get_or gs 2 0)
+    → three ≡ two ++ last_digits 8 (get_or gs 3 0) → four ≡ three ++ last_digits 8 (get_or gs 4 0) → four ≡ last_digits 40 n
 forty n fits is a b c d e =
-    word_before 8 32 n _ (ap (λ gs. get_or gs 0 0) is ∙ omega arith) a
-    (word_before 8 24 n _ (ap (λ gs. get_or gs 1 0) is) b
-    (word_before 8 16 n _ (ap (λ gs. get_or gs 2 0) is) c
-    (word_before 8 8 n _ (ap (λ gs. get_or gs 3 0) is) d (word_before 8 0 n _ (ap (λ gs. get_or gs 4 0) is ∙ omega arith) e refl))))
+    let two = group_after 8 24 n _ (ap (λ gs. get_or gs 1 0) is) (a ∙ ap (λ gs. last_digits 8 (get_or gs 0 0)) is) in
+    let three = group_after 16 16 n _ (ap (λ gs. get_or gs 2 0) is) (b ∙ two) in
+    let four = group_after 24 8 n _ (ap (λ gs. get_or gs 3 0) is) (c ∙ three) in
+    e ∙ group_after 32 0 n _ (ap (λ gs. get_or gs 4 0) is ∙ omega arith) (d ∙ four) ∙ ap (λ m. last_digits 40 m) (omega arith)
 
 -- leading zeros of the digits above the last p, which are at most eight
 pub zeros_after : (p n z : ℕ) → p ≤ 32 → 10 ^ p ≤ n → HasLeadingZeros 7 (n / 10 ^ p) z → HasLeadingZeros 39 n (32 - p + z)

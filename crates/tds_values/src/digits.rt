@@ -1,6 +1,5 @@
 // Digits and other bytes, written to a slice from a place on. Each call returns the place after what it wrote.
-ghost use Rattle.std.specs.Prelude.{◌≡◌, ◌+◌, ◌-◌, ◌<◌, ◌≤◌, ◌^◌, ◌/◌, ◌*◌, ◌%◌, [], ◌∷◌, ◌++◌, ◌⊎◌, take, drop, length, decimal};
-ghost use Rattle.std.specs.Int.{to_le_bytes, w64};
+ghost use Rattle.std.specs.Prelude.{◌≡◌, ◌+◌, ◌-◌, ◌<◌, ◌≤◌, ◌^◌, ◌/◌, ◌*◌, ◌%◌, [], ◌∷◌, ◌++◌, ◌⊎◌, take, length, decimal};
 ghost use Rattle.tds_values.specs.ScalarText.{last_digits, minus_if};
 ghost use Rattle.byteorder.specs.Endian.{little_number};
 
@@ -81,19 +80,6 @@ pub(crate) fn word(n: u32) -> u64
     ensures { result ≡ little_number 8 (last_digits 8 n) }
 {
     four(n / 10_000) as u64 + four(n % 10_000) as u64 * 0x1_0000_0000
-}
-
-// The bytes of a word, the lowest first, without the first ones, which aren't wanted.
-#[inline(always)]
-pub(crate) fn put_word(to: &mut [u8], at: usize, skipped: usize, word: u64) -> usize
-    requires room { at + 8 ≤ length to.old }
-    requires few { skipped ≤ 7 }
-    ensures end { result ≡ at + (8 - skipped) }
-    ensures written { take result to.new ≡ take at to.old ++ drop skipped (to_le_bytes w64 word) }
-{
-    let bytes = word >> (8 * skipped as u32);
-    put_piece::<8>(to, at, &bytes.to_le_bytes());
-    at + (8 - skipped)
 }
 
 // The digits of eight that come after some zeros, or after digits that aren't wanted.

@@ -1,9 +1,8 @@
 // The texts of decimals of up to 128 bits.
 ghost use Rattle.std.specs.Prelude.{◌≡◌, ◌+◌, ◌-◌, ◌≤◌, ◌<◌, ◌^◌, ◌++◌, ◌⊎◌, take, drop, length};
-ghost use Rattle.std.specs.{Int.{to_le_bytes, w64}, List.{flat_map}};
 ghost use Rattle.tds_values.specs.{Numbers.{groups_of}, ScalarText.{last_digits, decimal_text}};
 
-use crate::digits::{leading_zeros, put_byte, put_piece, put_word, word};
+use crate::digits::{leading_zeros, put_byte, put_piece, put_tail};
 use crate::numbers::put_sign;
 use crate::text::{LONGEST_TEXT, TEXT_ROOM};
 
@@ -12,6 +11,12 @@ const DIGITS: usize = 40;
 
 // How many groups of eight digits these are.
 const GROUPS: usize = DIGITS / 8;
+
+// How many bytes hold them, so that as many can be copied from each digit on.
+const DIGITS_ROOM: usize = 2 * DIGITS;
+
+// How many digits are copied where no more are wanted.
+const FEW_DIGITS: usize = 16;
 
 // What a group of eight digits counts to.
 const GROUP: u64 = 100_000_000;
@@ -62,38 +67,50 @@ fn wide_leading_zeros(n: u128, groups: &[u32; GROUPS]) -> usize
     32 + leading_zeros(groups[4])
 }
 
-// The forty digits of a number, as the bytes of words, and how many of them are leading zeros.
+// The forty digits of a number, and how many of them are leading zeros.
 #[inline(always)]
-fn digits(n: u128) -> ([u64; GROUPS], usize)
-    ensures words { flat_map (to_le_bytes w64) result.0 ≡ last_digits 40 n }
+fn digits(n: u128) -> ([u8; DIGITS_ROOM], usize)
+    ensures digits { take 40 result.0 ≡ last_digits 40 n }
     ensures few { result.1 ≤ 39 }
     ensures fits { n < 10 ^ (40 - result.1) }
     ensures needed { (result.1 ≡ 39) ⊎ (10 ^ (39 - result.1) ≤ n) }
 {
     let groups = groups(n);
-    let words = [
-        word(groups[0]),
-        word(groups[1]),
-        word(groups[2]),
-        word(groups[3]),
-        word(groups[4]),
-    ];
-    (words, wide_leading_zeros(n, &groups))
+    let mut digits = [0; DIGITS_ROOM];
+    let at = put_tail(&mut digits, 0, 8, groups[0]);
+    let at = put_tail(&mut digits, at, 8, groups[1]);
+    let at = put_tail(&mut digits, at, 8, groups[2]);
+    let at = put_tail(&mut digits, at, 8, groups[3]);
+    put_tail(&mut digits, at, 8, groups[4]);
+    (digits, wide_leading_zeros(n, &groups))
 }
 
-// The bytes of words, the lowest of each first, without the first bytes of all, which aren't wanted.
+// Forty digits without the first ones, which aren't wanted. As many bytes are copied in any case.
 #[inline(always)]
-fn put_from(to: &mut [u8], at: usize, words: &[u64; GROUPS], skipped: usize) -> usize
-    requires room { at + (48 - skipped) ≤ length to.old }
-    requires few { skipped ≤ 39 }
+fn put_from(to: &mut [u8], at: usize, digits: &[u8; DIGITS_ROOM], skipped: usize) -> usize
+    requires room { at + 40 ≤ length to.old }
+    requires few { skipped ≤ 40 }
     ensures end { result ≡ at + (40 - skipped) }
-    ensures written { take result to.new ≡ take at to.old ++ drop skipped (flat_map (to_le_bytes w64) words.now) }
+    ensures written { take result to.new ≡ take at to.old ++ drop skipped (take 40 digits.now) }
 {
-    let mut end = put_word(to, at, skipped % 8, words[skipped / 8]);
-    for i in skipped / 8 + 1..GROUPS {
-        end = put_piece::<8>(to, end, &words[i].to_le_bytes());
+    put_piece::<DIGITS>(to, at, &digits[skipped..skipped + DIGITS]);
+    at + (DIGITS - skipped)
+}
+
+// The last digits of forty, as many as the scale says.
+#[inline(always)]
+fn put_last(to: &mut [u8], at: usize, digits: &[u8; DIGITS_ROOM], scale: usize) -> usize
+    requires few { scale ≤ 40 }
+    requires room { at + scale + 23 ≤ length to.old }
+    ensures end { result ≡ at + scale }
+    ensures written { take result to.new ≡ take at to.old ++ drop (40 - scale) (take 40 digits.now) }
+{
+    let first = DIGITS - scale;
+    if scale > FEW_DIGITS {
+        return put_from(to, at, digits, first);
     }
-    end
+    put_piece::<FEW_DIGITS>(to, at, &digits[first..first + FEW_DIGITS]);
+    at + scale
 }
 
 // A decimal.
@@ -110,13 +127,13 @@ pub(crate) fn put_wide_decimal(
     ensures end { result ≤ at + LONGEST_TEXT }
     ensures written { take result to.new ≡ take at to.old ++ decimal_text negative magnitude scale }
 {
-    let (words, leading_zeros) = digits(magnitude);
+    let (digits, leading_zeros) = digits(magnitude);
     let scale = scale as usize;
     let at = put_sign(to, at, negative, magnitude == 0);
-    let end = put_from(to, at, &words, leading_zeros.min(DIGITS - 1 - scale));
+    let end = put_from(to, at, &digits, leading_zeros.min(DIGITS - 1 - scale));
     if scale == 0 {
         return end;
     }
     let at = put_byte(to, end - scale, b'.');
-    put_from(to, at, &words, DIGITS - scale)
+    put_last(to, at, &digits, scale)
 }

@@ -1,6 +1,6 @@
-use Rattle.tds_values.proofs.wide.put_from.Goals as goal
-use Rattle.tds_values.proofs.Words.{◌/◌, ◌%◌, arith, append_assoc}
-use Rattle.tds_values.proofs.WideDigits.{bytes_from}
+use Rattle.tds_values.proofs.Words.{arith, length-take-le, take}
+use Rattle.tds_values.proofs.WideDigits.{digits_from}
 
-pub loop-i-init : goal.loop-i-init
-loop-i-init c = grind (arith, append_assoc, (bytes_from (c.args.skipped / 8) (c.args.skipped % 8) c.args.words.now))
+pub returns-clause-written : Rattle.tds_values.proofs.wide.put_from.Goals.returns-clause-written
+returns-clause-written c =
+    grind (arith, (digits_from (take c.args.at c.args.to.now) c.put_piece.new.to c.args.digits.now c.args.at c.args.skipped 40), length-take-le)
