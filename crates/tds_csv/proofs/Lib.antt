@@ -8,5 +8,6 @@ pub mod LacksTail
 pub mod Pieces
 pub mod PutParts
 pub mod CutText
+pub mod PaddedUnits
 pub mod Words
 pub use Words.*

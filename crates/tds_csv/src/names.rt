@@ -1,16 +1,23 @@
 // The name of a column, put as a field of its header line.
+ghost use Rattle.byteorder.specs.Endian.{little_number};
 ghost use Rattle.std.specs.Prelude.{◌≡◌, ◌+◌, ◌%◌, ◌≤◌, length, take};
 ghost use Rattle.tds_text.specs.Conversion.{Utf16Text, long_field};
 ghost use Rattle.tds_text.specs.Fields.{field_room};
+ghost use Rattle.tds_text.specs.Plain.{LiesIn};
 ghost use Rattle.tds_text.specs.Quoting.{in_line};
 ghost use Rattle.tds_csv.specs.Sinks.{IsWriting, PutsPiece};
 
 use crate::sink::Sink;
+use byteorder::{ByteOrder, LittleEndian};
 use std::io::Write;
+use std::simd::prelude::*;
 use tds_packet::Stop;
 use tds_text::framing::{write_comma, write_line_end};
 use tds_text::lanes::LANES;
 use tds_text::{Content, field_room, write_few_utf16, write_utf16};
+
+// How many bytes are read as one number.
+const WORD: usize = 8;
 
 // The room for a name that is converted with other bytes after it.
 const PADDED: usize = 64;
@@ -18,7 +25,41 @@ const PADDED: usize = 64;
 // How many bytes of room the field of a name of 255 units may want in its line.
 const NAME_ROOM: usize = 786;
 
-// Writes the field of a name of at most eight units. It is copied to where other bytes are after it.
+// At most four units as one number, the lowest byte first.
+#[inline(always)]
+fn four_units(units: &[u8]) -> u64
+    requires even { length units.now % 2 ≡ 0 }
+    requires few { length units.now ≤ 8 }
+    ensures { result ≡ little_number (length units.now) units.now }
+{
+    match units.len() {
+        0 => 0,
+        2 => u64::from(LittleEndian::read_u16(units)),
+        4 => u64::from(LittleEndian::read_u32(units)),
+        6 => {
+            let last = u64::from(LittleEndian::read_u16(&units[4..]));
+            u64::from(LittleEndian::read_u32(units)) + last * 0x1_0000_0000
+        }
+        _ => LittleEndian::read_u64(units),
+    }
+}
+
+// At most eight units, and zeros after them. They pass by registers: a vector of bytes that were just stored in pieces is waited for.
+#[inline(always)]
+fn padded(units: &[u8]) -> u8x16
+    requires even { length units.now % 2 ≡ 0 }
+    requires few { length units.now ≤ 16 }
+    ensures { LiesIn units.now result }
+{
+    let words = if units.len() <= WORD {
+        [four_units(units), 0]
+    } else {
+        [LittleEndian::read_u64(units), four_units(&units[WORD..])]
+    };
+    u64x2::from_array(words).to_le_bytes()
+}
+
+// Writes the field of a name of at most eight units, to which others are added.
 #[inline(always)]
 fn write_few(units: &[u8], to: &mut [u8]) -> usize
     requires even { length units.now % 2 ≡ 0 }
@@ -27,13 +68,27 @@ fn write_few(units: &[u8], to: &mut [u8]) -> usize
     ensures most { result + 2 ≤ length to.old }
     ensures field { take result to.new ≡ long_field Utf16Text units.now }
 {
-    let n = units.len();
-    let mut padded = [0u8; LANES];
-    padded[..n].copy_from_slice(units);
-    write_few_utf16(&padded, n, to)
+    write_few_utf16(units, padded(units), to)
 }
 
-// Writes the field of a name. A short one is copied to where other bytes are after it, and converted there by vectors.
+// Writes the field of a name that may have many units. Up to 24 are copied to where other bytes are after them.
+#[inline(never)]
+fn write_longer(units: &[u8], to: &mut [u8]) -> usize
+    requires even { length units.now % 2 ≡ 0 }
+    requires room { field_room Utf16Text (length units.now) ≤ length to.old }
+    ensures most { result + 2 ≤ length to.old }
+    ensures field { take result to.new ≡ long_field Utf16Text units.now }
+{
+    let n = units.len();
+    if n > PADDED - LANES {
+        return write_utf16(units, n, to);
+    }
+    let mut padded = [0u8; PADDED];
+    padded[..n].copy_from_slice(units);
+    write_utf16(&padded, n, to)
+}
+
+// Writes the field of a name, without a call if it has at most eight units.
 #[inline(always)]
 fn write_units(units: &[u8], to: &mut [u8]) -> usize
     requires even { length units.now % 2 ≡ 0 }
@@ -41,16 +96,10 @@ fn write_units(units: &[u8], to: &mut [u8]) -> usize
     ensures most { result + 2 ≤ length to.old }
     ensures field { take result to.new ≡ long_field Utf16Text units.now }
 {
-    let n = units.len();
-    if n <= LANES {
+    if units.len() <= LANES {
         return write_few(units, to);
     }
-    if n > PADDED - LANES {
-        return write_utf16(units, n, to);
-    }
-    let mut padded = [0u8; PADDED];
-    padded[..n].copy_from_slice(units);
-    write_utf16(&padded, n, to)
+    write_longer(units, to)
 }
 
 /// How much room [`write_name`] needs for a name of `n` bytes.

@@ -193,7 +193,7 @@ pub no_other : (u : ℕ) → is_other u ≡ false → (is_long u ≡ true) × (i
 no_other = grind arith
 
 -- two bytes are a unit
-length-units : (xs : List ℕ) → length (units xs) ≡ length xs / 2
+pub length-units : (xs : List ℕ) → length (units xs) ≡ length xs / 2
 length-units [] = grind arith
 length-units (low ∷ []) = grind arith
 length-units (low ∷ high ∷ xs) = let more = length-units xs in grind arith
@@ -217,7 +217,7 @@ leads_unit : (low high : ℕ) (more : List ℕ) → is_half (low + 256 * high) �
 leads_unit = grind (arith, N.Utf16Steps.next_one)
 
 -- so many of the units lead on
-leads_front : (k : ℕ) (ys more : List ℕ) → k ≤ length (units ys) → Each1 (λ u. is_half u ≡ false) (take k (units ys))
+pub leads_front : (k : ℕ) (ys more : List ℕ) → k ≤ length (units ys) → Each1 (λ u. is_half u ≡ false) (take k (units ys))
     → N.Leads rest text (take (2 * k) ys ++ more) more (units_text (take k (units ys)))
 leads_front zero ys more few each = Leads-none
 leads_front (suc k) (low ∷ high ∷ ys) more few each =

@@ -2,12 +2,14 @@
 ghost use Rattle.std.specs.Prelude.{◌≡◌, ◌+◌, ◌*◌, ◌%◌, ◌<◌, ◌≤◌, ◌++◌, ◌∷◌, [], length, take, IfSome};
 ghost use Rattle.tds_text.specs.Conversion.{HexDigits, Utf16Text, Utf8Text, Windows1252Text, long_field};
 ghost use Rattle.tds_text.specs.Fields.{FieldWritten, conversion_of, field_room};
+ghost use Rattle.tds_text.specs.Plain.{LiesIn};
 ghost use Rattle.tds_text.specs.Quoting.{quote};
 
 use crate::framing::{BINARY_MARK, QUOTE};
 use crate::lanes::{LANES, WIDE};
 use crate::lanes_hex::{encode, put_digits};
 use crate::{utf8, utf16, windows_1252};
+use std::simd::prelude::*;
 
 // How many bytes of room a field may want besides its text.
 const FIELD_SPARE: usize = 20;
@@ -87,18 +89,20 @@ pub fn write_utf16(source: &[u8], n: usize, to: &mut [u8]) -> usize
     1 + close_quoted(rest, made)
 }
 
-/// Writes text in UTF-16 as [`write_utf16`] does, without a call if there are at most eight units and 16 bytes of source.
+/// Writes text in UTF-16 of at most eight units, which are the first of these lanes, as [`write_utf16`] does, without a call if none is
+/// a surrogate.
 #[inline(always)]
 #[tactic(auto, using(crate::proofs::QuotedFields::quoted, std::proofs::lemmas::Grind::common_steps))]
-pub fn write_few_utf16(source: &[u8], n: usize, to: &mut [u8]) -> usize
-    requires within { n ≤ length source.now }
-    requires whole { n % 2 ≡ 0 }
-    requires room { field_room Utf16Text n ≤ length to.old }
+pub fn write_few_utf16(units: &[u8], lanes: u8x16, to: &mut [u8]) -> usize
+    requires few { length units.now ≤ 16 }
+    requires lanes { LiesIn units.now lanes }
+    requires whole { length units.now % 2 ≡ 0 }
+    requires room { field_room Utf16Text (length units.now) ≤ length to.old }
     ensures most { result + 2 ≤ length to.old }
-    ensures field { take result to.new ≡ long_field Utf16Text (take n source.now) }
+    ensures field { take result to.new ≡ long_field Utf16Text units.now }
 {
     to[0] = QUOTE;
-    let made = utf16::convert_few(&source[..n], source, &mut to[1..]);
+    let made = utf16::convert_few(units, lanes, &mut to[1..]);
     close_quoted(to, 1 + made)
 }
 

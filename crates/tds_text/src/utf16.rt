@@ -282,19 +282,18 @@ pub(crate) fn convert_whole(bytes: &[u8], source: &[u8], to: &mut [u8]) -> usize
     convert_last(bytes, source, run, to)
 }
 
-/// Writes the text of whole data as `convert_whole` does, which is better if there are more than eight units.
+/// Writes the text of whole data of at most eight units, which are the first of these lanes, and returns its length.
 #[inline(always)]
-pub(crate) fn convert_few(bytes: &[u8], source: &[u8], to: &mut [u8]) -> usize
-    requires source { LiesIn bytes.now source.now }
+pub(crate) fn convert_few(bytes: &[u8], lanes: u8x16, to: &mut [u8]) -> usize
+    requires few { length bytes.now ≤ 16 }
+    requires lanes { LiesIn bytes.now lanes }
     requires whole { length bytes.now % 2 ≡ 0 }
     requires room { 3 * length bytes.now + 2 * LANES ≤ 2 * length to.old }
     ensures short { 2 * result ≤ 3 * length bytes.now }
     ensures text { take result to.new ≡ utf16.text bytes.now }
 {
-    let n = (bytes.len() / 2).min(UNITS);
-    let run = convert_some(bytes, source, 0, to, 0, n);
-    if run.used == bytes.len() {
-        return run.made;
-    }
-    convert_last(bytes, source, run, to)
+    let Some(made) = put_units(to, 0, lanes, bytes.len() / 2) else {
+        return convert_last(bytes, bytes, Span { used: 0, made: 0 }, to);
+    };
+    made
 }

@@ -1,16 +1,23 @@
 use Rattle.tds_text.proofs as N
 use N.utf16.convert_few.Goals as goal
-use N.{◌≡◌, ◌∙◌, ◌++◌, [], ap, append-nil, arith, drop, length, sym}
+use N.{◌≡◌, ◌∙◌, ◌++◌, ◌*◌, ◌%◌, ◌/◌, List, ℕ, [], ap, append-nil, arith, length, sym, take}
+use N.JoiningLemmas.{emit_held}
 use N.Utf16Laws.{joins_utf16}
-use N.Utf16Steps.{ends_there, nil_of_length, text_nil}
-use Rattle.tds_text.specs.Utf16 as utf16
+use N.Utf16Steps.{text_nil}
+use Rattle.tds_text.specs.Utf16.{rest, text}
 
-pub returns-then-run-bytes-clause-text : goal.returns-then-run-bytes-clause-text
-returns-then-run-bytes-clause-text c =
+-- what leads to nothing is the whole text
+all_led : (bytes out : List ℕ) → length bytes % 2 ≡ 0 → N.Leads rest text bytes [] out → text bytes ≡ out
+all_led bytes out whole leads =
+    let none = ap (λ l. out ++ l) (emit_held rest text [] text_nil N.refl) ∙ append-nil out in
+    joins_utf16.ends bytes whole ∙ ap (λ l. N.emit rest text bytes ++ l) (ap text leads.keeps ∙ text_nil) ∙ append-nil _ ∙ leads.emits ∙ none
+
+pub returns-clause-text : goal.returns-clause-text
+returns-clause-text c =
     let bytes = c.args.bytes.now in
-    let used = c.convert_some-run.result.used in
-    let x = ends_there c.convert_some-run.ensures.after c.if-run-bytes.true in
-    let none : drop used bytes ≡ [] = nil_of_length (drop used bytes) (omega (arith, N.length-drop used bytes, c.if-run-bytes.true)) in
-    let rest : utf16.text (utf16.rest bytes) ≡ [] = ap utf16.text (sym x.leaves.rest ∙ none) ∙ text_nil in
-    let emitted = N.emit utf16.rest utf16.text bytes in
-    x.emits ∙ sym (joins_utf16.ends bytes c.requires.whole ∙ ap (λ l. emitted ++ l) rest ∙ append-nil emitted)
+    let n = length bytes / 2 in
+    let end = c.in-Some.ensures in
+    let all : 2 * n ≡ length bytes = omega (arith, c.requires.whole) in
+    let front : take (2 * n) c.args.lanes ++ [] ≡ bytes = rw all (append-nil _ ∙ c.requires.lanes.front) in
+    let leads = rw front at (N.WideText.leads_front n c.args.lanes [] (omega (arith, N.WideText.length-units c.args.lanes)) end.single) in
+    end.written ∙ sym (all_led bytes _ c.requires.whole leads)
