@@ -122,7 +122,8 @@ impl<'a> RowFormat<'a> {
         requires ahead { AreAtCursor self.now from end formats.now }
         ensures within { StaysWithin from.entry end (length bytes.now) (length to.old) result }
         ensures ends { result.used ≡ 0 → RunEnds self.now from.entry bytes.now (length to.old) }
-        ensures left { LeavesNext self.now from.entry (from.entry.column + length formats.now) bytes.now (length to.old) result }
+        ensures left { LeavesNext self.now from.entry (from.entry.column + length formats.now)
+            bytes.now (length to.old) result }
         ensures cells { CellsWritten self.now from.entry bytes.now to.new result }
     {
         let ends = self.ends_after(from, formats);
@@ -180,8 +181,8 @@ impl<'a> RowFormat<'a> {
         self.run_unknown(from, end, bytes, to)
     }
 
-    /// Writes only the next cell, which is of this format. `None` if it isn't whole in these bytes, is refused or in several chunks, or if there isn't
-    /// the room that the text of a short value may need.
+    /// Writes only the next cell, which is of this format. `None` if it isn't whole in these bytes, is refused or in
+    /// several chunks, or if there isn't the room that the text of a short value may need.
     #[inline(never)]
     pub fn write_one(
         &self,
@@ -195,8 +196,8 @@ impl<'a> RowFormat<'a> {
         requires room { CELL_ROOM ≤ length to.old }
         ensures used { IfSome result (λ written. written.used ≤ length bytes.now) }
         ensures most { IfSome result (λ written. written.made ≤ length to.old) }
-        ensures cell { AloneWritten self.now.charset format.now.kind at.entry.column (at.entry.column + 1 == self.now.count)
-            bytes.now (length to.old) to.new result }
+        ensures cell { AloneWritten self.now.charset format.now.kind at.entry.column
+            (at.entry.column + 1 == self.now.count) bytes.now (length to.old) to.new result }
     {
         let one = [*format];
         let run = run_formats(&one, self.charset, at.column, self.is_last(at), bytes, to);

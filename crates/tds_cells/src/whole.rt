@@ -400,7 +400,8 @@ pub(crate) fn write_int4_cell<const COUNTED: bool>(
     requires room { NUMBER_ROOM ≤ length to.old }
     ensures most { IfSome result (λ written. (written.used ≤ 5) × (written.made ≤ 11)) }
     ensures whole { IfSome result (λ written. written.used ≡ whole_size format.now.kind bytes.now) }
-    ensures field { (charset : Charset) → CellWritten charset format.now.kind bytes.now (length to.old + 1) to.new result }
+    ensures field { (charset : Charset) →
+        CellWritten charset format.now.kind bytes.now (length to.old + 1) to.new result }
 {
     if !comes_counted::<COUNTED>(&format.kind) {
         return Some(write_int4_at(&format.kind, 0, bytes, to));

@@ -147,7 +147,8 @@ fn read_type<R: Read>(payload: &mut Payload<R>, area: &mut Area, at: Nth) -> Res
     requires among { at.index < at.count }
     requires fits { length area.old.bytes + LEAST_COLUMN * (at.count - at.index) ≤ area.old.room }
     ensures leaves { LeavesReading payload.old payload.new area.old area.new result }
-    ensures fits { OnOk result (length area.new.bytes + 1 + LEAST_COLUMN * (at.count - (at.index + 1)) ≤ area.new.room) }
+    ensures fits { OnOk result (length area.new.bytes + 1
+        + LEAST_COLUMN * (at.count - (at.index + 1)) ≤ area.new.room) }
     ensures gives { TypeRead R.remaining payload.old payload.new area.old area.new result at.count at.index }
 {
     let place = payload.place();

@@ -33,8 +33,10 @@ pub fn read_type_info<R: Read>(payload: &mut Payload<R>, small: &mut Area) -> Re
     requires head { HoldsHead payload.old small.old }
     ensures payload { LeavesPayload payload.old payload.new result }
     ensures area { LeavesHead small.old small.new result }
-    ensures kind { IfOk result (λ kind. TypeRead R.remaining payload.old payload.new (slice_index small.old.bytes 7) kind) }
-    ensures gives { (before : PayloadView) → WereTaken before (seen R.remaining payload.old) small.old.bytes → MatchResult result
+    ensures kind { IfOk result (λ kind.
+        TypeRead R.remaining payload.old payload.new (slice_index small.old.bytes 7) kind) }
+    ensures gives { (before : PayloadView) → WereTaken before (seen R.remaining payload.old) small.old.bytes →
+        MatchResult result
         (λ kind. Reads returned_type TypeHead before (seen R.remaining payload.new) (KnownType kind))
         (λ stop. StopsType before (seen R.remaining payload.new) (payload.old.place - TYPE_HEAD) stop) }
 {

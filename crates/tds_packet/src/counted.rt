@@ -73,7 +73,8 @@ impl<R: Read> Counted<R> {
     // One read.
     fn read(&mut self, to: &mut [u8]) -> Result<usize, Failed>
         ensures bound { IfOk result (λ n. n ≤ length to.old) }
-        ensures ok { IfOk result (λ n. Consumes (R.remaining self.old.device) (R.remaining self.new.device) (take n to.new)) }
+        ensures ok { IfOk result (λ n.
+            Consumes (R.remaining self.old.device) (R.remaining self.new.device) (take n to.new)) }
         ensures end { IfOk result (λ n. n ≡ 0 → 0 < length to.old → IsAtEnd (R.remaining self.new.device)) }
         ensures counts { CountsCall self.old.failures self.new.failures result }
         ensures err { OnErr result (Keeps (R.remaining self.old.device) (R.remaining self.new.device)) }
@@ -132,7 +133,8 @@ impl<W: Write> Counted<W> {
     // One write of a slice that isn't empty.
     fn write(&mut self, bytes: &[u8]) -> Result<usize, Failed>
         ensures bound { IfOk result (λ n. (0 < n) × (n ≤ length bytes.now)) }
-        ensures ok { IfOk result (λ n. Appends (W.contents self.old.device) (W.contents self.new.device) (take n bytes.now)) }
+        ensures ok { IfOk result (λ n.
+            Appends (W.contents self.old.device) (W.contents self.new.device) (take n bytes.now)) }
         ensures counts { CountsCall self.old.failures self.new.failures result }
         ensures err { OnErr result (Keeps (W.contents self.old.device) (W.contents self.new.device)) }
     {
@@ -157,7 +159,8 @@ impl<W: Write> Counted<W> {
     pub fn deliver(&mut self, bytes: &[u8]) -> Result<(), usize>
         ensures ok { OnOk result (Appends (W.contents self.old.device) (W.contents self.new.device) bytes.now) }
         ensures stays { OnOk result (Stays self.old.failures self.new.failures bytes.now) }
-        ensures err { IfErr result (λ k. Appends (W.contents self.old.device) (W.contents self.new.device) (take k bytes.now)) }
+        ensures err { IfErr result (λ k.
+            Appends (W.contents self.old.device) (W.contents self.new.device) (take k bytes.now)) }
         ensures part { IfErr result (λ k. k < length bytes.now) }
         ensures counted { IfErr result (λ k. Rises self.old.failures self.new.failures (take k bytes.now)) }
     {

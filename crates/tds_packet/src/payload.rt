@@ -172,9 +172,11 @@ impl<'a, R: Read> Payload<'a, R> {
         requires { IsSound self.old }
         ensures payload { AnswersAgain self.old self.new result }
         ensures place { self.new.place ≡ (if is_ok result then self.old.place + length to.new else self.old.place) }
-        ensures all { OnOk result (Takes (seen R.remaining self.old) (seen R.remaining self.new) to.new (length to.new)) }
+        ensures all { OnOk result (Takes (seen R.remaining self.old) (seen R.remaining self.new)
+            to.new (length to.new)) }
         ensures between { OnOk result (IsBetween (seen R.remaining self.new)) }
-        ensures part { IfErr result (λ stop. self.old.stopped ≡ None → CutsFill R.remaining self.old self.new to.new stop) }
+        ensures part { IfErr result (λ stop. self.old.stopped ≡ None →
+            CutsFill R.remaining self.old self.new to.new stop) }
     {
         let n = to.len();
         if self.stopped.is_some() || n > self.packet.len() - self.at {
@@ -192,9 +194,11 @@ impl<'a, R: Read> Payload<'a, R> {
         requires { IsSound self.old }
         ensures payload { AnswersAgain self.old self.new result }
         ensures place { self.new.place ≡ (if is_ok result then self.old.place + length to.new else self.old.place) }
-        ensures all { OnOk result (Takes (seen R.remaining self.old) (seen R.remaining self.new) to.new (length to.new)) }
+        ensures all { OnOk result (Takes (seen R.remaining self.old) (seen R.remaining self.new)
+            to.new (length to.new)) }
         ensures between { OnOk result (IsBetween (seen R.remaining self.new)) }
-        ensures part { IfErr result (λ stop. self.old.stopped ≡ None → CutsFill R.remaining self.old self.new to.new stop) }
+        ensures part { IfErr result (λ stop. self.old.stopped ≡ None →
+            CutsFill R.remaining self.old self.new to.new stop) }
     {
         if let Some(stop) = self.stopped {
             return Err(stop);

@@ -62,7 +62,8 @@ fn add_fields<W: Write>(
     gathered: &mut Gathered,
     fault: &Fault,
 ) -> Result<(), NoteFailed>
-    ensures { Gathers W.contents notes.old notes.new gathered.old.items gathered.new.items (fault_fields fault.now) result }
+    ensures { Gathers W.contents notes.old notes.new gathered.old.items gathered.new.items
+        (fault_fields fault.now) result }
 {
     match *fault {
         Fault::WrongPacketType(byte) | Fault::RefusedToken(byte) => {
@@ -118,7 +119,8 @@ fn add_stop<W: Write>(
     gathered: &mut Gathered,
     stopped: &Stopped,
 ) -> Result<(), NoteFailed>
-    ensures { Gathers W.contents notes.old notes.new gathered.old.items gathered.new.items (stop_line stopped.now) result }
+    ensures { Gathers W.contents notes.old notes.new gathered.old.items gathered.new.items
+        (stop_line stopped.now) result }
 {
     gather_all(
         notes,
@@ -151,7 +153,8 @@ fn add_counts<W: Write>(
     gathered: &mut Gathered,
     report: &Report,
 ) -> Result<(), NoteFailed>
-    ensures { Gathers W.contents notes.old notes.new gathered.old.items gathered.new.items (counts_line report.now) result }
+    ensures { Gathers W.contents notes.old notes.new gathered.old.items gathered.new.items
+        (counts_line report.now) result }
 {
     gather_all(
         notes,

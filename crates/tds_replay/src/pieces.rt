@@ -80,7 +80,8 @@ fn gather_piece<W: Write>(
     gathered: &mut Gathered,
     piece: &Piece,
 ) -> Result<(), NoteFailed>
-    ensures { Gathers W.contents notes.old notes.new gathered.old.items gathered.new.items (piece_text piece.now) result }
+    ensures { Gathers W.contents notes.old notes.new gathered.old.items gathered.new.items
+        (piece_text piece.now) result }
 {
     match *piece {
         Piece::Text(text) => gather(notes, gathered, text),

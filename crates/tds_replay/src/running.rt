@@ -107,7 +107,8 @@ fn perform_check_all<R: BufRead, N: Write>(
     notes: &mut Counted<N>,
 ) -> Status
     ensures asks { Asks memory.old memory.new (areas_size limits) }
-    ensures checks { Checks PerformsAll R.remaining N.contents charset limits from.old from.new notes.old notes.new result }
+    ensures checks { Checks PerformsAll R.remaining N.contents charset limits
+        from.old from.new notes.old notes.new result }
 {
     let mut own = Counted::new(io::sink());
     perform_all(memory, limits, charset, from, &mut own, notes)

@@ -56,7 +56,8 @@ pub fn row<R: Read, W: Write>(
     ensures row { payload.old.stopped ≡ None → sink.old.failed ≡ false →
         RowPut R.remaining W.contents charset (row_start charset (columns_of columns.entry.bytes.now))
         payload.old payload.new sink.old sink.new result }
-    ensures succeeds { payload.old.stopped ≡ None → sink.old.failed ≡ false → (cells : List Cell) (bytes more : List ℕ) →
+    ensures succeeds { payload.old.stopped ≡ None → sink.old.failed ≡ false →
+        (cells : List Cell) (bytes more : List ℕ) →
         SpellsRow charset (columns_of columns.entry.bytes.now) cells bytes →
         SucceedsOn R.remaining payload.old payload.new sink.old sink.new result (bytes ++ more) }
     ensures again { StopsAgain W.contents payload.old payload.new sink.old sink.new result }
@@ -188,7 +189,8 @@ pub fn nbc_row<R: Read, W: Write>(
     ensures row { payload.old.stopped ≡ None → sink.old.failed ≡ false →
         RowPut R.remaining W.contents charset (nbc_row_start (columns_of columns.entry.bytes.now))
         payload.old payload.new sink.old sink.new result }
-    ensures succeeds { payload.old.stopped ≡ None → sink.old.failed ≡ false → (cells : List Cell) (bytes more : List ℕ) →
+    ensures succeeds { payload.old.stopped ≡ None → sink.old.failed ≡ false →
+        (cells : List Cell) (bytes more : List ℕ) →
         SpellsNbcRow charset (columns_of columns.entry.bytes.now) cells bytes →
         SucceedsOn R.remaining payload.old payload.new sink.old sink.new result (bytes ++ more) }
     ensures again { StopsAgain W.contents payload.old payload.new sink.old sink.new result }

@@ -115,8 +115,10 @@ impl<'r, 't, 'p, 's, 'c, R: Read, W: Write> Rows<'r, 't, 'p, 's, 'c, R, W> {
     fn put_whole(&mut self, at: Cursor<'c>, format: &CellFormat) -> Option<Result<(), Stop>>
         requires { IsAtCell self.old at format.now }
         ensures none { result ≡ None → self.new ≡ self.old }
-        ensures left { result ≡ None → IsLeft self.old.row_format.now.charset format.now.kind (buffered self.old.payload.now) 256 }
-        ensures cell { IfSome result (λ put. CellRead R.remaining W.contents at.entry format.now.kind self.old self.new put) }
+        ensures left { result ≡ None →
+            IsLeft self.old.row_format.now.charset format.now.kind (buffered self.old.payload.now) 256 }
+        ensures cell { IfSome result (λ put.
+            CellRead R.remaining W.contents at.entry format.now.kind self.old self.new put) }
     {
         let mut text = [0u8; SCRATCH];
         let cell = self
@@ -201,7 +203,8 @@ impl<'r, 't, 'p, 's, 'c, R: Read, W: Write> Rows<'r, 't, 'p, 's, 'c, R, W> {
         requires room { length self.old.sink.now.output.now.bytes + CELL_ROOM < 4096 }
         ensures stays { StaysInRow self.old self.new }
         ensures place { IsFurther self.old.payload.now.place self.new.payload.now.place result }
-        ensures ends { RunEnds self.old.row_format.now result.ahead (buffered self.new.payload.now) (room_left self.new.sink.now) }
+        ensures ends { RunEnds self.old.row_format.now result.ahead
+            (buffered self.new.payload.now) (room_left self.new.sink.now) }
         ensures last { EndsLast self.old.row_format.now result.ahead.column (buffered self.new.payload.now) }
         ensures rows { RowsPut R.remaining W.contents self.old.row_format.now from.entry
             self.old.payload.now self.new.payload.now self.old.sink.now self.new.sink.now result }
@@ -261,7 +264,8 @@ impl<'r, 't, 'p, 's, 'c, R: Read, W: Write> Rows<'r, 't, 'p, 's, 'c, R, W> {
         requires { IsInRow self.old }
         ensures leaves { LeavesRows self.old self.new result }
         ensures row { (columns : List Column) → Knows self.old.row_format.now columns →
-            RowRead R.remaining W.contents (row_start self.old.row_format.now.charset columns) self.old self.new result }
+            RowRead R.remaining W.contents (row_start self.old.row_format.now.charset columns)
+            self.old self.new result }
     {
         let mut at = self.row_format.start();
         while let Some((format, after)) = self.row_format.next(at) {

@@ -178,7 +178,8 @@ pub(crate) fn put_units(to: &mut [u8], at: usize, lanes: u8x16, n: usize) -> Opt
     requires most { n ≤ UNITS }
     requires room { at + 3 * n + LANES ≤ length to.old }
     ensures most { IfSome result (λ end. end ≤ at + 3 * n) }
-    ensures written { IfSome result (λ end. take end to.new ≡ take at to.old ++ units_text (take n (utf16.units lanes))) }
+    ensures written { IfSome result (λ end. take end to.new ≡ take at to.old
+        ++ units_text (take n (utf16.units lanes))) }
     ensures single { IfSome result (λ _. Each1 (λ u. is_half u ≡ false) (take n (utf16.units lanes))) }
     ensures none { IfNone result (to.new ≡ to.old) }
 {

@@ -69,7 +69,8 @@ pub(crate) fn put_minutes(to: &mut [u8], at: usize, minutes: u32) -> usize
     ensures end { result ≡ at + 5 }
     ensures written { take result to.new ≡ take at to.old ++ minutes_text minutes }
     ensures colon { take (result + 1) to.new ≡ take result to.new ++ codes ":" }
-    ensures seconds { take (result + 3) to.new ≡ take at to.old ++ (minutes_text minutes ++ codes ":" ++ last_digits 2 0) }
+    ensures seconds { take (result + 3) to.new ≡ take at to.old
+        ++ (minutes_text minutes ++ codes ":" ++ last_digits 2 0) }
 {
     put_piece::<8>(to, at, minute(minutes));
     at + 5

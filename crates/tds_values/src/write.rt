@@ -102,7 +102,8 @@ fn units_before(more: usize, scale: u8, bytes: &[u8]) -> Result<u64, ValueFault>
     requires { more ≤ 5 }
     ensures units { IfOk result (λ units. units ≡ little_number (time_length_of scale) bytes.now) }
     ensures whole { IfOk result (λ _. length bytes.now ≡ time_length_of scale + more) }
-    ensures other { IfErr result (λ fault. (fault ≡ ValueFault.Length) × (length bytes.now ≢ time_length_of scale + more)) }
+    ensures other { IfErr result (λ fault.
+        (fault ≡ ValueFault.Length) × (length bytes.now ≢ time_length_of scale + more)) }
 {
     check_length(time_length(scale) as usize + more, bytes)?;
     Ok(units_in(scale, bytes))

@@ -43,7 +43,8 @@ fn write_fields(
     requires laid { AreLaidOut charset formats.now }
     requires room { CELL_ROOM ≤ length to.old }
     ensures ends { result.cells ≡ 0 → FirstLeft charset formats.now bytes.now (length to.old) }
-    ensures left { FirstLeft charset (drop result.cells formats.now) (drop result.used bytes.now) (length to.old - result.made + 1) }
+    ensures left { FirstLeft charset (drop result.cells formats.now) (drop result.used bytes.now)
+        (length to.old - result.made + 1) }
     ensures fields { WritesFields charset formats.now column bytes.now to.new result }
 {
     let mut cells = 0;
@@ -104,7 +105,8 @@ fn write_numbers<const COUNTED: bool>(
     requires within { NumbersWithin (length formats.now) (length bytes.now - from.used) (length to.old - from.made) }
     ensures kept { take from.made to.new ≡ take from.made to.old }
     ensures begun { (from.used ≤ result.used) × (from.made ≤ result.made) }
-    ensures ends { result.cells < length formats.now → IsRefusedAfter formats.now (drop from.used bytes.now) (run_since from result) }
+    ensures ends { result.cells < length formats.now →
+        IsRefusedAfter formats.now (drop from.used bytes.now) (run_since from result) }
     ensures left { result.used < length bytes.now }
     ensures fields { (charset : Charset) →
         WritesFields charset formats.now 0 (drop from.used bytes.now) (drop from.made to.new) (run_since from result) }
@@ -171,7 +173,8 @@ pub(crate) fn run_formats(
     to: &mut [u8],
 ) -> FormatsRun
     requires { AreLaidOut charset formats.now }
-    ensures left { FirstLeft charset (drop result.cells formats.now) (drop result.used bytes.now) (length to.old - result.made) }
+    ensures left { FirstLeft charset (drop result.cells formats.now) (drop result.used bytes.now)
+        (length to.old - result.made) }
     ensures run { RunsFormats charset formats.now column ends bytes.now (length to.old) to.new result }
 {
     let none = FormatsRun {
@@ -206,7 +209,8 @@ pub(crate) fn run_row<const COUNTED: bool>(
     requires numbers { AreNumbers formats.now (length bytes.now - from.used) (length to.old - from.made) }
     ensures kept { take from.made to.new ≡ take from.made to.old }
     ensures refused { result ≡ None → RefusesRow formats.now (drop from.used bytes.now) }
-    ensures row { (charset : Charset) → IfSome result (λ run. RunsFormats charset formats.now 0 true (drop from.used bytes.now)
+    ensures row { (charset : Charset) → IfSome result (λ run.
+        RunsFormats charset formats.now 0 true (drop from.used bytes.now)
         (length to.old - from.made) (drop from.made to.new) (run_since from run)) }
     ensures whole { IfSome result (λ run. run.cells ≡ length formats.now) }
     ensures left { IfSome result (λ run. run.used < length bytes.now) }

@@ -213,7 +213,8 @@ pub(crate) fn stream_long<J: Joiner, R: Read, W: Write>(
     ensures leaves { LeavesBoth payload.old payload.new sink.old sink.new result }
     ensures blames { Blames (failures_of payload.old sink.old) (failures_of payload.new sink.new) result }
     ensures field { (c : Conversion) → Suits J.fit J.begins J.rest J.text J.UNIT J.QUOTED c →
-        FieldPut R.remaining W.contents (long_start c reach) column last payload.old payload.new sink.old sink.new result }
+        FieldPut R.remaining W.contents (long_start c reach) column last
+        payload.old payload.new sink.old sink.new result }
 {
     let mut value = LongValue {
         payload,
