@@ -11,7 +11,8 @@ from lib.lints.pages import PAGES, functions
 from plain.cases import chosen
 
 PROOFS, CRATES = "docs/PROOFS.md", "crates/README.md"
-FIGURES = ("functions", "edits", "by search")  # the columns of the gate's figures, after the crate
+KINDS = ("by search", "by a shown value", "by an answer alone")  # what refuses an edit, as `tools/edits-by-search` tells it
+FIGURES = ("functions", "edits", *KINDS)  # the columns of the gate's figures, after the crate
 RANDOM = 1_000  # responses at random that `make generated` reads by default
 
 
@@ -49,15 +50,46 @@ def wrong_edits() -> Iterator[str]:
     for crate, count in figures("edits").items():
         if len(known.get(crate, ())) != number(count):
             yield f"{PROOFS}: {crate} has {len(known.get(crate, ()))} edits, not {count}"
-    by_search = {crate: number(it) for crate, it in figures("by search").items()}
-    for crate, refused in by_search.items():
-        most = sum(not it.startswith("law_") for it in known.get(crate, ()))
-        if refused > most:
-            yield f"{PROOFS}: {crate} has {most} edits of its code, not {refused}"
+    refused = {kind: {crate: number(it) for crate, it in figures(kind).items()} for kind in KINDS}
+    for crate in figures("edits"):
+        kinds = sum(counts[crate] for counts in refused.values())
+        if kinds != len(known.get(crate, ())):
+            yield f"{PROOFS}: {crate} has {len(known.get(crate, ()))} edits, and {kinds} of them are told to be refused"
     total = sum(map(len, known.values()))
     yield from told("edits", total, r"([\d,]+) wrong changes", "README.md")
     yield from told("edits", total, r"([\d,]+) must-fail edits in all", PROOFS)
-    yield from told("edits refused by search", sum(by_search.values()), r"([\d,]+) of them refused by search", PROOFS)
+    for kind, counts in refused.items():
+        yield from told(f"edits refused {kind}", sum(counts.values()), rf"([\d,]+) (?:of them )?(?:refused )?{kind}\b", PROOFS)
+
+
+def changed(crate: str) -> set[tuple[str, str]]:
+    """The texts that edits of a crate change, each after its file."""
+    found: set[tuple[str, str]] = set()
+    file = ""
+    for name in sorted(glob.glob(repo.path_of("crates", crate, "must-fail", "*.edit"))):
+        for line in repo.text_of(name).split("\n"):
+            file = line.removeprefix("file: ").strip() if line.startswith("file: ") else file
+            if line.startswith("old: "):
+                found.add((file, line.removeprefix("old: ")))
+    return found
+
+
+def unchanged() -> Iterator[str]:
+    """The public functions whose own code no edit changes, but laws."""
+    for crate in repo.CRATES:
+        texts = changed(crate)
+        for path in sorted(glob.glob(repo.path_of("crates", crate, "src", "**", "*.rt"), recursive=True)):
+            file = os.path.relpath(path, repo.path_of("crates", crate))
+            for it in re.finditer(r"(?ms)^( *)pub fn (\w+).*?^\1\}", "" if file.endswith("laws.rt") else repo.text_of(path)):
+                if not any(name == file and text in it[0] for name, text in texts):
+                    yield it[2]
+
+
+def wrong_unchanged() -> Iterator[str]:
+    """Public functions that no edit changes and that the page doesn't tell of, or the other way round."""
+    known = {name for sentence in re.findall(r"`pub` and no law has one in its own code but (.*?\.)", repo.text_of(PROOFS)) for name in re.findall(r"(\w+)`", sentence)}
+    for name in sorted({*unchanged()} ^ known):
+        yield f"{PROOFS}: an edit changes {name}, or it is not told that none does"
 
 
 def figures(column: str) -> dict[str, str]:
@@ -106,5 +138,5 @@ def wrong_faults() -> Iterator[str]:
 
 def findings() -> Iterator[str]:
     """Counts that aren't so."""
-    for check in (wrong_edits, wrong_functions, wrong_tests, wrong_rows, wrong_faults):
+    for check in (wrong_edits, wrong_unchanged, wrong_functions, wrong_tests, wrong_rows, wrong_faults):
         yield from check()
