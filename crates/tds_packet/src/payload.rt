@@ -221,7 +221,25 @@ impl<'a, R: Read> Payload<'a, R> {
     /// Hands out the next `n` bytes and passes over them in place: nothing is kept. A message
     /// that ends before the last of them stops the call at the place where it began, and none of them
     /// counts as handed out.
+    #[inline(always)]
     pub fn pass(&mut self, n: usize) -> Result<(), Stop>
+        requires { IsSound self.old }
+        ensures payload { AnswersAgain self.old self.new result }
+        ensures place { self.new.place ≡ (if is_ok result then self.old.place + n else self.old.place) }
+        ensures all { OnOk result (PassesOver R.remaining self.old self.new n) }
+        ensures between { OnOk result (IsBetween (seen R.remaining self.new)) }
+        ensures part { IfErr result (λ stop. self.old.stopped ≡ None → CutsPass R.remaining self.old self.new n stop) }
+    {
+        if self.stopped.is_some() || n > self.packet.len() - self.at {
+            return self.pass_on(n);
+        }
+        self.consume(n);
+        Ok(())
+    }
+
+    // Passes over the next `n` bytes as `pass` does, piece by piece.
+    #[inline(never)]
+    fn pass_on(&mut self, n: usize) -> Result<(), Stop>
         requires { IsSound self.old }
         ensures payload { AnswersAgain self.old self.new result }
         ensures place { self.new.place ≡ (if is_ok result then self.old.place + n else self.old.place) }

@@ -1,5 +1,5 @@
 use Rattle.tds_packet.proofs as N
-use N.payload.Payload.pass.Given as goal
+use N.payload.Payload.pass_on.Given as goal
 use N.{◌≡◌, ◌+◌, ◌-◌, ◌≤◌}
 
 abbrev pub invariant-loop-passed : goal.invariant-loop-passed
