@@ -17,7 +17,7 @@ pub record ByteAndRest (kind : Kind) (info : List ℕ) : Type 0 where
 pub byte_and_rest : (kind : Kind) (info : List ℕ) → N.IsTypeInfo kind info → ByteAndRest kind info
 byte_and_rest = grind arith
 
-length-SpellsColumn : (c : Column) (bytes : List ℕ) (h : N.SpellsColumn c bytes) → length bytes ≡ (6 + length h.info) + (1 + length c.name)
+pub length-SpellsColumn : (c : Column) (bytes : List ℕ) (h : N.SpellsColumn c bytes) → length bytes ≡ (6 + length h.info) + (1 + length c.name)
 length-SpellsColumn c bytes h = rw h.spelt (simp length-append (omega arith))
 
 -- a column takes at least 8 bytes
@@ -64,7 +64,7 @@ module _ (room : ℕ) where
     name_is_read kind units (x ∷ xs) l = grind (arith, N.Spelt-step, N.choose_false, N.ne_eqb)
 
   -- what spells a column is read as it
-  column_is_read : (b : List ℕ) (count : ℕ) (cols : List Column) (c : Column) (bytes : List ℕ)
+  pub column_is_read : (b : List ℕ) (count : ℕ) (cols : List Column) (c : Column) (bytes : List ℕ)
       → (length b + length bytes) + 8 * (count - (length cols + 1)) ≤ room → N.SpellsColumn c bytes
       → Spelt (description room) (InColumn b count cols N.ColumnHead) bytes (N.with_column (b ++ bytes) count cols c)
   column_is_read b count cols c bytes fits h =

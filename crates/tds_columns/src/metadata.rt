@@ -1,5 +1,5 @@
 // Reading a description from a payload (MS-TDS, COLMETADATA).
-ghost use Rattle.std.specs.Prelude.{◌≡◌, ◌≢◌, ◌+◌, ◌*◌, ◌-◌, ◌<◌, ◌≤◌, [], Some, None, Ok, Err, length, max, IfSome, MatchResult, OnErr, OnOk};
+ghost use Rattle.std.specs.Prelude.{◌≡◌, ◌≢◌, ◌+◌, ◌*◌, ◌-◌, ◌<◌, ◌≤◌, [], false, true, Some, None, Ok, Err, length, max, IfSome, MatchResult, OnErr, OnOk};
 ghost use Rattle.tds_columns.specs.Description as spec;
 ghost use Rattle.tds_columns.specs.Elements.{LeavesReading};
 ghost use Rattle.tds_columns.specs.Gather.{BeginsDescription, ColumnRead, ColumnsRead, CountRead, DescribesAll, DescriptionRead, FollowsType, InfoRead, NameRead, TypeRead};
@@ -9,7 +9,7 @@ ghost use Rattle.tds_values.specs.TypeInfo as info;
 
 use crate::element::read_into;
 use crate::type_info::{judge_type, kind_of};
-use crate::whole::{Front, whole_description};
+use crate::whole::{Front, column_size, whole_description};
 use byteorder::{ByteOrder, LittleEndian};
 use std::io::Read;
 use tds_meter::Area;
@@ -193,8 +193,34 @@ fn read_name<R: Read>(payload: &mut Payload<R>, area: &mut Area, at: Nth) -> Res
     read_into(payload, area, size)
 }
 
-// Reads a column.
-fn read_column<R: Read>(payload: &mut Payload<R>, area: &mut Area, at: Nth) -> Result<(), Stop>
+// Takes the next column, all of it at once, if it is whole in the packet, isn't refused and leaves room for the least bytes of those
+// after it. Returns whether it did.
+fn take_column<R: Read>(payload: &mut Payload<R>, area: &mut Area, at: Nth) -> bool
+    requires going { IsGoing payload.old }
+    requires among { at.index < at.count }
+    ensures leaves { LeavesReading {U = Unit {0}} payload.old payload.new area.old area.new (Ok tt) }
+    ensures none { result ≡ false → (payload.new ≡ payload.old) × (area.new ≡ area.old) }
+    ensures fits { result ≡ true → length area.new.bytes + LEAST_COLUMN * (at.count - (at.index + 1)) ≤ area.new.room }
+    ensures gives { result ≡ true →
+        ColumnRead {U = Unit {0}} R.remaining payload.old payload.new area.old area.new (Ok tt) at.count at.index }
+{
+    let held = payload.buffered();
+    let Some(size) = column_size(held) else {
+        return false;
+    };
+    let later = LEAST_COLUMN * usize::from(at.count - (at.index + 1));
+    if size + later > area.free() {
+        return false;
+    }
+    let Ok(()) = area.append(&held[..size]) else {
+        unreachable!()
+    };
+    payload.consume(size);
+    true
+}
+
+// Reads a column element by element.
+fn read_parts<R: Read>(payload: &mut Payload<R>, area: &mut Area, at: Nth) -> Result<(), Stop>
     requires going { IsGoing payload.old }
     requires among { at.index < at.count }
     requires fits { length area.old.bytes + LEAST_COLUMN * (at.count - at.index) ≤ area.old.room }
@@ -204,6 +230,21 @@ fn read_column<R: Read>(payload: &mut Payload<R>, area: &mut Area, at: Nth) -> R
 {
     read_type(payload, area, at)?;
     read_name(payload, area, at)
+}
+
+// Reads a column.
+fn read_column<R: Read>(payload: &mut Payload<R>, area: &mut Area, at: Nth) -> Result<(), Stop>
+    requires going { IsGoing payload.old }
+    requires among { at.index < at.count }
+    requires fits { length area.old.bytes + LEAST_COLUMN * (at.count - at.index) ≤ area.old.room }
+    ensures leaves { LeavesReading payload.old payload.new area.old area.new result }
+    ensures fits { OnOk result (length area.new.bytes + LEAST_COLUMN * (at.count - (at.index + 1)) ≤ area.new.room) }
+    ensures gives { ColumnRead R.remaining payload.old payload.new area.old area.new result at.count at.index }
+{
+    if take_column(payload, area, at) {
+        return Ok(());
+    }
+    read_parts(payload, area, at)
 }
 
 // The description that comes next, if it is whole in the packet. `None` if it goes on in another packet, is refused or is that of

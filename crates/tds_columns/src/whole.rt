@@ -13,8 +13,8 @@ pub(crate) struct Front {
     pub(crate) size: usize,
 }
 
-// How many bytes the column at the front has. `None` if it isn't whole there or is refused.
-fn column_size(bytes: &[u8]) -> Option<usize>
+/// How many bytes the column at the front has. `None` if it isn't whole there or is refused.
+pub(crate) fn column_size(bytes: &[u8]) -> Option<usize>
     ensures { IfSome result (BeginsColumn bytes.now) }
 {
     if bytes.len() < LEAST_COLUMN {

@@ -1,5 +1,5 @@
 use Rattle.tds_columns.proofs as N
-use N.metadata.read_column.Goals as goal
+use N.metadata.read_parts.Goals as goal
 
 pub returns-clause-gives : goal.returns-clause-gives
 returns-clause-gives g c = λ columns number.
