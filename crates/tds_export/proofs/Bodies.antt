@@ -259,6 +259,14 @@ module _ (charset : Charset) (room : ℕ) {tokens : List Token} {which : Bodied}
         let first : part_fault room tokens (N.TokenLength which) element ≡ Some BadNotice = rw (notice, number_is l, N.test_lt n 14 short) refl in
         record { at = in_length which tokens; stops = N.refused_at_once _ _ a b _ _ _ (omega arith) l.two first l.takes between; in_body = inl refl }
 
+    -- the body was read
+    pub body_passed : {c : PayloadView} → 14 ≤ n → (body : List ℕ) {place' : ℕ} → length body ≡ n → Takes b c body n → place' ≡ middle + n
+        → N.holds_notice body ≡ true → N.ReadsNotice charset room tokens which a c place place' body
+    body_passed long body whole takes at holds = record {
+      reads = body_reads _ _ l (λ e. long) body whole takes (λ e. holds);
+      place_is = omega (arith, N.length-append element body);
+    }
+
     module _ {c : PayloadView} {before after : Space} (long : 14 ≤ n) where
       -- the body is cut
       pub body_cut : {stop : Stop} → N.EndsInto b c before after middle n stop → N.StopsInNotice charset room tokens which a c place stop
@@ -280,13 +288,7 @@ module _ (charset : Charset) (room : ℕ) {tokens : List Token} {which : Bodied}
               in_body = inr (n, refl);
             }
 
-        -- the body was read
+        -- the body was read into an area
         pub body_taken : {place' : ℕ} → place' ≡ middle + n → N.holds_notice t.element ≡ true
             → N.ReadsNotice charset room tokens which a c place place' t.element
-        body_taken at holds = record {
-          reads = body_reads _ _ l (λ e. long) _ t.whole t.takes (λ e. holds);
-          place_is = omega (
-            arith,
-            N.length-append element t.element,
-          );
-        }
+        body_taken at holds = body_passed long t.element t.whole t.takes at holds

@@ -1,5 +1,6 @@
 -- What reading the body of an ERROR or INFO does.
-use Rattle.std.specs.Prelude.{◌≡◌, ◌⊎◌, ◌+◌, ℕ, true, List, length, Option, Result, MatchResult}
+use Rattle.std.specs.Prelude.{◌≡◌, ◌⊎◌, ◌+◌, ◌≤◌, ℕ, true, List, length, take, drop, Option, Result, MatchResult}
+use Rattle.byteorder.specs.Endian.{little_number}
 use Rattle.tds_packet.specs.declared.fault.Stop.{Stop}
 use Rattle.tds_packet.specs.declared.payload.Payload.{Payload}
 use Rattle.tds_packet.specs.Payloads.{seen}
@@ -8,8 +9,15 @@ use Rattle.tds_packet.specs.PayloadView.{PayloadView}
 use Rattle.tds_values.specs.declared.charset.Charset.{Charset}
 use Rattle.tds_export.specs.Steps.{in_length}
 use Rattle.tds_export.specs.TokenBytes.{Bodied}
-use Rattle.tds_export.specs.TokenGrammar.{Part, TokenBody, bodied, is_notice, response, with_token}
+use Rattle.tds_export.specs.TokenGrammar.{Part, TokenBody, bodied, holds_notice, is_notice, response, with_token}
 use Rattle.tds_export.specs.Tokens.{Token}
+
+-- The bytes begin with a Length of this number, and with a body of so many bytes whose inner lengths stay within it.
+pub record BeginsNotice (bytes : List ℕ) (n : ℕ) : Type 0 where
+  pub is : n ≡ little_number 2 bytes
+  pub least : 14 ≤ n
+  pub whole : 2 + n ≤ length bytes
+  pub holds : holds_notice (take n (drop 2 bytes)) ≡ true
 
 -- Before the body of a token, or before its Length.
 abbrev pub IsInBody : List Token → Bodied → Part → Type 0

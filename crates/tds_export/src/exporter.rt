@@ -10,7 +10,7 @@ ghost use Rattle.tds_export.specs.Lending.{KeepsRooms, lent};
 ghost use Rattle.tds_packet.specs.Payloads.{LeavesPayload};
 
 use crate::header::put_header;
-use crate::notice::{error_of, message_of, take_notice};
+use crate::notice::{error_of, message_of, pass_notice, take_notice};
 use crate::progress::Progress;
 use crate::report::Report;
 use crate::return_value::pass_return;
@@ -146,11 +146,13 @@ impl<'a, 'p, 's, R: Read, W: Write> Exporter<'a, 'p, 's, R, W> {
         requires { IsInToken self.old }
         ensures { StepRead R.remaining W.contents (in_length AnError) self.old self.new result }
     {
-        take_notice(self.payload, self.token)?;
-        self.progress.report.errors += 1;
-        if self.progress.report.errors > 1 {
+        if self.progress.report.errors > 0 {
+            pass_notice(self.payload, self.token)?;
+            self.progress.report.errors += 1;
             return Ok(());
         }
+        take_notice(self.payload, self.token)?;
+        self.progress.report.errors += 1;
         let body = self.token.bytes();
         self.progress.report.first_error = Some(error_of(body));
         self.notice.clear();
@@ -163,7 +165,7 @@ impl<'a, 'p, 's, R: Read, W: Write> Exporter<'a, 'p, 's, R, W> {
         requires { IsInToken self.old }
         ensures { StepRead R.remaining W.contents (in_length AnInfo) self.old self.new result }
     {
-        take_notice(self.payload, self.token)?;
+        pass_notice(self.payload, self.token)?;
         self.progress.report.infos += 1;
         Ok(())
     }

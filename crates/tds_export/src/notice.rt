@@ -1,7 +1,7 @@
 // The bodies of ERROR and INFO (MS-TDS, ERROR and INFO).
-ghost use Rattle.std.specs.Prelude.{◌≡◌, ◌%◌, ◌<◌, ◌≤◌, length, OnOk};
+ghost use Rattle.std.specs.Prelude.{◌≡◌, ◌%◌, ◌<◌, ◌≤◌, ℕ, List, length, IfSome, OnOk};
 ghost use Rattle.tds_export.specs.Lending.{LeavesFurther};
-ghost use Rattle.tds_export.specs.Noticing.{NoticeRead};
+ghost use Rattle.tds_export.specs.Noticing.{BeginsNotice, NoticeRead};
 ghost use Rattle.tds_export.specs.Outcome.{server_error};
 ghost use Rattle.tds_export.specs.TokenGrammar.{IsNoticeBody, holds_notice, line_at, notice_of, procedure_at, server_at};
 ghost use Rattle.tds_packet.specs.Payloads.{IsGoing};
@@ -60,6 +60,24 @@ pub(crate) fn lengths_fit(body: &[u8]) -> bool
     line_start(body) + 4 <= body.len()
 }
 
+/// How many bytes the Length has.
+const LENGTH_SIZE: usize = 2;
+
+// The Length at the front, if the body of an ERROR or INFO that it counts is whole after it, and isn't refused.
+fn whole_notice(bytes: &[u8]) -> Option<usize>
+    ensures { IfSome result (BeginsNotice bytes.now) }
+{
+    if bytes.len() < LENGTH_SIZE {
+        return None;
+    }
+    let length = LittleEndian::read_u16(bytes);
+    let end = LENGTH_SIZE + usize::from(length);
+    if length < LEAST_NOTICE || bytes.len() < end || !lengths_fit(&bytes[LENGTH_SIZE..end]) {
+        return None;
+    }
+    Some(usize::from(length))
+}
+
 /// What a body says of an error, except its message.
 pub(crate) fn error_of(body: &[u8]) -> ServerError
     requires { IsNoticeBody body.now }
@@ -108,4 +126,22 @@ pub(crate) fn take_notice<R: Read>(payload: &mut Payload<R>, token: &mut Area) -
         return Err(Stop::in_payload(Fault::BadNotice, place));
     }
     Ok(())
+}
+
+/// Reads the Length and the body of an ERROR or INFO after its token byte, and keeps nothing of them. A body that is whole in the
+/// packet is judged there; one that isn't is read into the token area.
+pub(crate) fn pass_notice<R: Read>(payload: &mut Payload<R>, token: &mut Area) -> Result<(), Stop>
+    requires going { IsGoing payload.old }
+    requires room { 65535 ≤ token.old.room }
+    ensures leaves { LeavesFurther payload.old payload.new result }
+    ensures area { KeepsRoom token.old token.new }
+    ensures gives { (body : List ℕ) × NoticeRead R.remaining payload.old payload.new body result }
+{
+    token.clear();
+    if let Some(length) = whole_notice(payload.buffered()) {
+        payload.consume(LENGTH_SIZE);
+        payload.consume(length);
+        return Ok(());
+    }
+    take_notice(payload, token)
 }

@@ -4,14 +4,17 @@ use Rattle.tds_export.proofs.Words.{Space, ap, arith, length, refl, subst, sym, 
 use Rattle.tds_export.proofs.Bodies.{first_error_reads, later_error_reads, notice_stops, within_room}
 use Rattle.tds_export.proofs.TokenSteps.{step_read}
 
-pub returns-in_err-take_notice : goal.returns-in_err-take_notice
-returns-in_err-take_notice g c = step_read c.requires.running (search N.rules)
-    (λ tokens begun. N.passed _ _ _ _ c.from_residual.ensures.1 (notice_stops _ begun (c.in_err-take_notice.ensures.gives _ _ tokens N.AnError refl)))
+pub returns-in_err-pass_notice : goal.returns-in_err-pass_notice
+returns-in_err-pass_notice g c = step_read c.requires.running (search N.rules) (λ tokens begun.
+    N.passed _ _ _ _ c.from_residual.ensures.1 (notice_stops _ begun (c.in_err-pass_notice.ensures.gives.1 _ _ tokens N.AnError refl)))
 
-pub returns-then-self-gt1 : goal.returns-then-self-gt1
-returns-then-self-gt1 g c = step_read c.requires.running (search N.rules) (λ tokens begun.
-    let some : 0 < c.args.self.now.progress.report.errors = grind (arith, N.nat_tests, c.if-self-gt1.true) in
-    later_error_reads _ begun some (c.in_ok-take_notice.ensures.gives _ _ tokens N.AnError refl))
+pub returns-then-self-gt0 : goal.returns-then-self-gt0
+returns-then-self-gt0 g c = step_read c.requires.running (search N.rules)
+    (λ tokens begun. later_error_reads _ begun c.if-self-gt0.true (c.in_ok-pass_notice.ensures.gives.1 _ _ tokens N.AnError refl))
+
+pub returns-in_err-take_notice : goal.returns-in_err-take_notice
+returns-in_err-take_notice g c = step_read c.requires.running (search N.rules) (λ tokens begun.
+    N.passed _ _ _ _ c.from_residual-in_err-take_notice.ensures.1 (notice_stops _ begun (c.in_err-take_notice.ensures.gives _ _ tokens N.AnError refl)))
 
 pub returns : goal.returns
 returns g c =
@@ -22,7 +25,7 @@ returns g c =
       subst (λ (s : Space). s.peak ≤ s.room) (sym c.utf16_into.ensures)
           (within_room (N.characters c.message_of.result.now) empty c.clear.ensures.peak),
     )) (λ tokens begun.
-    let none : c.args.self.now.progress.report.errors ≡ 0 = grind (arith, N.nat_tests, c.if-self-gt1.false) in
+    let none : c.args.self.now.progress.report.errors ≡ 0 = grind (arith, N.nat_tests, c.if-self-gt0.false) in
     let body = c.bytes-body.ensures.value in
     let error = c.error_of.ensures
     ∙ ap (λ l. N.server_error (N.notice_of l)) body in
