@@ -1,5 +1,5 @@
 -- What a run over cells by their formats does, whose columns follow one another in a row.
-use Rattle.std.specs.Prelude.{◌≡◌, ◌==◌, ◌⊎◌, ◌+◌, ◌-◌, ◌<◌, ◌≤◌, ◌*◌, ◌&&◌, ◌∷◌, ◌++◌, ℕ, zero, suc, Bool, false, true, List, [], length, map, take, drop}
+use Rattle.std.specs.Prelude.{◌≡◌, ◌==◌, ◌⊎◌, ◌+◌, ◌-◌, ◌<◌, ◌≤◌, ◌*◌, ◌&&◌, ◌∷◌, ◌++◌, ℕ, zero, suc, Bool, false, List, [], length, map, take, drop}
 use Rattle.std.specs.Prelude.{get_or}
 use Rattle.tds_columns.specs.Description.{Column}
 use Rattle.tds_text.specs.Quoting.{after_comma}
@@ -103,15 +103,9 @@ pub record RefusesRow (formats : List CellFormat) (bytes : List ℕ) : Type 0 wh
   pub fields : (charset : Charset) → (text : List ℕ) × WritesFormats charset formats 0 run.cells (take run.used bytes) text
   pub next : IsRefusedAfter formats bytes run
 
--- A whole row is at the front of these bytes, and no ROW follows it.
-pub record IsLastRow (formats : List CellFormat) (bytes : List ℕ) : Type 0 where
-  pub run : FormatsRun
-  pub whole : run.cells ≡ length formats
-  pub room : ℕ
-  pub text : List ℕ
-  pub row : (charset : Charset) → RunsFormats charset formats 0 true bytes room text run
-  pub last : BeginsRow (drop run.used bytes) → ⊥
-
--- A run over rows of numbers ended: bytes or room are too few for any row, or the next row has a cell that is refused or is the last.
-abbrev pub NumbersEnd : List CellFormat → List ℕ → ℕ → Type 0
-NumbersEnd formats bytes room = (NumbersWithin (length formats) (length bytes) room → ⊥) ⊎ (RefusesRow formats bytes ⊎ IsLastRow formats bytes)
+-- A run over rows of numbers ended before this column: before a row for which bytes or room are too few or of which a cell is refused, or after a row
+-- that no other follows.
+abbrev pub NumbersEnd : List CellFormat → ℕ → List ℕ → ℕ → Type 0
+NumbersEnd formats column bytes room =
+    ((column ≡ 0) × ((NumbersWithin (length formats) (length bytes) room → ⊥) ⊎ RefusesRow formats bytes))
+    ⊎ ((column ≡ length formats) × (BeginsRow bytes → ⊥))

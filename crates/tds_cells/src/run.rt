@@ -210,16 +210,15 @@ impl<'a> RowFormat<'a> {
         })
     }
 
-    // Writes whole rows of whole numbers of four bytes, each with the token byte of the next, as long as there are bytes and
-    // room for any row. `COUNTED` says that all come after their lengths.
+    // Writes whole rows of whole numbers of four bytes, as long as the token byte of another follows and there are bytes and room
+    // for any row. `COUNTED` says that all come after their lengths.
     #[inline(never)]
     fn run_numbers<const COUNTED: bool>(&self, bytes: &[u8], to: &mut [u8]) -> KnownRun
         requires known { KnowsAll self.now }
         requires numbers { self.now.only_numbers ≡ true }
         requires counted { COUNTED ≡ true → self.now.only_counted ≡ true }
-        ensures first { result.column ≡ 0 }
         ensures ends { let row = take self.now.known self.now.formats.now in
-            NumbersEnd row (drop result.used bytes.now) (length to.old - result.made) }
+            NumbersEnd row result.column (drop result.used bytes.now) (length to.old - result.made) }
         ensures rows { KnownRan self.now 0 bytes.now to.new result }
     {
         let row = (&*self).row();
@@ -234,7 +233,7 @@ impl<'a> RowFormat<'a> {
                 break;
             };
             if !self.begins_row(&bytes[run.used..]) {
-                break;
+                return KnownRun::ended(run.used, run.made, rows, row.len());
             }
             used = run.used + 1;
             made = run.made;
@@ -298,7 +297,7 @@ impl<'a> RowFormat<'a> {
         requires known { KnowsAll self.now }
         requires numbers { INT4 ≡ true → self.now.only_numbers ≡ true }
         ensures numbers { INT4 ≡ true → column ≡ 0 → let row = take self.now.known self.now.formats.now in
-            NumbersEnd row (drop result.used bytes.now) (length to.old - result.made) }
+            NumbersEnd row result.column (drop result.used bytes.now) (length to.old - result.made) }
         ensures ends { INT4 ≡ false → KnownFarEnds self.now result.column
             (drop result.used bytes.now) (length to.old - result.made) }
         ensures rows { KnownRan self.now column bytes.now to.new result }

@@ -1,6 +1,5 @@
 use Rattle.tds_cells.proofs.row_format.RowFormat.run_numbers.Goals as goal
 use Rattle.tds_cells.proofs.Words as N
-use Rattle.tds_cells.specs.FormatRuns.{IsLastRow}
 use Rattle.tds_cells.proofs.Words.{place, inl, ap, refl, inr, arith, sym, ◌∙◌, ◌≡◌, ◌+◌, ◌-◌, ◌<◌, ℕ, length, drop}
 use Rattle.tds_cells.proofs.FarRuns.{row_length}
 use Rattle.tds_cells.proofs.RowFormatRuns.{known_ran, place_known, ran_at, row_begun, row_far, rows_begin, rows_kept}
@@ -34,25 +33,12 @@ returns-in_default-run_row-clause-rows g c =
 
 pub returns-then-not-begins_row-clause-rows : goal.returns-then-not-begins_row-clause-rows
 returns-then-not-begins_row-clause-rows g c =
-    let ran = c.loop-used.invariant.ran in
-    known_ran (λ walk. rows_kept (search (arith, N.rules)) c.run_row.ensures.kept (ran_at ran walk))
-
-pub returns-then-not-begins_row-clause-ends : goal.returns-then-not-begins_row-clause-ends
-returns-then-not-begins_row-clause-ends g c =
     let l = c.loop-used in
-    let bytes = c.args.bytes.now in
-    let row = c.row-row.ensures.row in
+    let row_format = c.args.self.now in
+    let known = c.requires.known in
     let run = c.in-Some-run_row.run' in
-    let split : l.used + (run.used - l.used) ≡ run.used = omega (arith, c.in-Some-run_row.ensures.begun) in
-    let same : drop (run.used - l.used) (drop l.used bytes) ≡ drop run.used bytes =
-    N.drop-drop (run.used - l.used) l.used bytes ∙ ap (λ (n : ℕ). drop n bytes) split in
-    let last = rw (N.all_after bytes run.used, sym same) at (c.begins_row.ensures.other c.if-not-begins_row.true) in
-    let alone : IsLastRow _ _ = record {
-      run = N.run_since (record { used = l.used; made = l.made }) run;
-      whole = c.in-Some-run_row.ensures.whole;
-      room = length l.to - l.made;
-      text = drop l.made c.run_row.new.to;
-      row = c.in-Some-run_row.ensures.row;
-      last = last;
-    } in
-    inr (inr (rw row at alone))
+    let row = c.in-Some-run_row.ensures in
+    let all : length c.row-row.result.now ≡ row_format.count = row_length row_format c.row-row.result.now known.0 c.row-row.ensures.row in
+    let whole : run.cells ≡ row_format.count = row.whole ∙ all in
+    rw (c.ended.ensures, all) (known_ran (λ walk. row_far row_format c.row-row.result.now run c.run_row.new.to known.0 known.1 c.row-row.ensures.row whole row.kept
+    (search (arith, N.rules)) row.begun (row.row row_format.charset) (ran_at l.invariant.ran walk)))
