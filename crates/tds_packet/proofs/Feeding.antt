@@ -1,6 +1,6 @@
 -- A reading byte by byte, which worked rows are computed by.
 use Rattle.tds_packet.proofs as N
-use N.{◌==◌, ℕ, true, false, List, [], ◌∷◌, ◌++◌, None, Grammar}
+use N.{◌==◌, ℕ, true, false, List, [], ◌∷◌, ◌++◌, Grammar}
 
 -- How far a reading has come, byte by byte.
 pub data Progress (S F : Type 0) : Type 0 where
@@ -11,7 +11,7 @@ pub data Progress (S F : Type 0) : Type 0 where
 
 -- the element is judged
 abbrev pub judged : {S F : Type 0} → Grammar S F → S → List ℕ → N.Option F → Progress S F
-judged g s element None = Reading (g.add s element) []
+judged g s element N.None = Reading (g.add s element) []
 judged g s element (N.Some fault) = Refused s element fault
 
 -- an element is judged as soon as it is whole

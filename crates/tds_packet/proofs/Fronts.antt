@@ -1,7 +1,7 @@
 -- The packets at the front of an input, and what is read of it.
 use Rattle.tds_packet.proofs as N
 use N.{◌≡◌, ◌∙◌, ◌⊎◌, inl, inr, ℕ, suc, ◌+◌, ◌<◌, ◌≤◌, List, [], ◌∷◌, ◌++◌, length, Some, refl, sym, ap, arith, Stop, Packet, wire_of, payload_of, AreBefore}
-use N.{PayloadView, begun}
+use N.{begun}
 use N.Words.{front_packet, message}
 use N.ElementLaws.{AreBytes-front}
 use N.PacketLaws.{good_header, header_of, front_message}
@@ -20,16 +20,14 @@ pub wire_goes_on : (size limit : ℕ) (input : List ℕ) (packets : List Packet)
 wire_goes_on = grind arith
 
 -- an input that begins with nothing but packets
-all_packets : {size limit : ℕ} {read rest payload : List ℕ} {place : ℕ} {c : N.Coming} → N.IsFrontMessage size limit read c → c.bytes ≡ payload
-    → c.rest ≡ []
+all_packets : {size limit : ℕ} {read rest payload : List ℕ} {place : ℕ} {c : N.Coming} → N.IsFrontMessage size limit read c → c.bytes ≡ payload → c.rest ≡ []
     → ((c.stop.fault ≡ N.MessageEnded) ⊎ (c.stop ≡ record { fault = N.InputEnded; place = N.Wire place })) → place ≡ length read
     → BeginsMessage size limit (read ++ rest) rest payload
 all_packets = grind (arith, N.append-nil, N.length-append, N.nil_from_length)
 
 -- what was taken, right after a packet, came of whole packets at the front of the input
-pub takes_begins : (size limit f : ℕ) (input rest : List ℕ) (q : PayloadView) (bytes : List ℕ) (n : ℕ) → N.AreBytes input → q.left ≡ Some rest
-    → N.Takes (begun size limit (Some input) f) q bytes n → N.IsBetween q
-    → BeginsMessage size limit input rest (bytes ++ (q.future []).bytes)
+pub takes_begins : (size limit f : ℕ) (input rest : List ℕ) (q : N.PayloadView) (bytes : List ℕ) (n : ℕ) → N.AreBytes input → q.left ≡ Some rest
+    → N.Takes (begun size limit (Some input) f) q bytes n → N.IsBetween q → BeginsMessage size limit input rest (bytes ++ (q.future []).bytes)
 takes_begins size limit f input rest q bytes n are left t b =
     let split = rw left at t.1.0 in
     rw split (all_packets (rw (rw N.append-nil at (t.1.1 [])) at
@@ -64,18 +62,17 @@ pub record EndsMessage (size limit : ℕ) (input rest payload : List ℕ) (failu
   pub same : failures' ≡ failures
 
 -- a payload's stop, where its reader tells its bytes
-pub ends_front : (size limit f : ℕ) (input rest : List ℕ) (q : PayloadView) (payload : List ℕ) (stop : Stop) → N.AreBytes input → q.left ≡ Some rest
+pub ends_front : (size limit f : ℕ) (input rest : List ℕ) (q : N.PayloadView) (payload : List ℕ) (stop : Stop) → N.AreBytes input → q.left ≡ Some rest
     → N.Ends (begun size limit (Some input) f) q payload stop
     → EndsMessage size limit input rest payload f q.failures stop ⊎ StopsAfterPackets size limit input rest payload f q.failures stop
 ends_front size limit f input rest q payload stop are left (inl x) = grind (arith, front_message size limit input are)
 ends_front size limit f input rest q payload stop are left (inr (inl x)) = grind (arith, N.append-nil, front_message size limit input are)
 ends_front size limit f input rest q payload stop are left (inr (inr x)) =
-    grind (arith, N.append_assoc, front_message size limit x.0 (AreBytes-front x.0 rest (rw (rw left at x.1) at are)))
+    grind (arith, N.append_assoc, front_message size limit x.0 (grind (arith, AreBytes-front)))
 
 -- a message of which all was handed out
-pub over_front : (size limit f : ℕ) (input rest : List ℕ) (q : PayloadView) (bytes : List ℕ) (n : ℕ) → N.AreBytes input → q.left ≡ Some rest
-    → N.Takes (begun size limit (Some input) f) q bytes n → (o : N.IsOver q)
-    → EndsMessage size limit input rest bytes f q.failures o.0
+pub over_front : (size limit f : ℕ) (input rest : List ℕ) (q : N.PayloadView) (bytes : List ℕ) (n : ℕ) → N.AreBytes input → q.left ≡ Some rest
+    → N.Takes (begun size limit (Some input) f) q bytes n → (o : N.IsOver q) → EndsMessage size limit input rest bytes f q.failures o.0
 over_front size limit f input rest q bytes n are = grind (arith, N.append-nil, front_message size limit input are)
 
 -- these packets come before the last, and have fewer bytes of the payload
@@ -101,11 +98,9 @@ front_whole : {size limit : ℕ} (from : ℕ) {p : Packet} {more : List ℕ} →
 front_whole {size} {limit} from {p} {more} each last within =
     let size_is : N.header_length (header_of p) ≡ N.packet_length p = omega arith in
     rw N.append_assoc (rw (size_is, last) at (N.Joins.whole_packet size limit from (header_of p) (record {
-      length = N.header_length
-          (header_of p);
+      length = N.header_length (header_of p);
       last = N.is_last p;
-    }) (omega arith)
-    (rw good_header) p.body more (omega arith)))
+    }) (omega arith) (rw good_header) p.body more (omega arith)))
 
 -- what comes of packets none of which is the last
 message_before : (size limit n from place : ℕ) (packets : List Packet) → AreBefore size packets → from + length (wire_of packets) ≤ limit
@@ -119,26 +114,14 @@ message_before size limit (suc n) from place (p ∷ ps) each within less =
     ∙ ap (λ l. p.body ++ l) (message_before _ _ n _ _ _ each.2 (omega arith) (omega arith))
 
 -- the packets read were needed for n bytes of the payload
-pub in_last : (size limit f n : ℕ) (input rest : List ℕ) (q : PayloadView) (bytes payload : List ℕ) → q.left ≡ Some rest
-    → N.Takes (begun size limit (Some input) f) q bytes n
-    → (p : BeginsMessage size limit input rest payload) → 0 < length payload → InLast size p.packets n
+pub in_last : (size limit f n : ℕ) (input rest : List ℕ) (q : N.PayloadView) (bytes payload : List ℕ) → q.left ≡ Some rest
+    → N.Takes (begun size limit (Some input) f) q bytes n → (p : BeginsMessage size limit input rest payload) → 0 < length payload → InLast size p.packets n
 in_last size limit f n input rest q bytes payload left t p some =
-    let filled = λ (ps : List Packet). elim ps as (λ ps. payload_of ps ≡ payload
-    → 0 < length ps) [ [] ↦ grind arith | ◌∷◌ x _ ↦ omega arith ] in
+    let filled = λ (ps : List Packet). elim ps as (λ ps. payload_of ps ≡ payload → 0 < length ps) [ [] ↦ grind arith | ◌∷◌ x _ ↦ omega arith ] in
     let l = split_last _ p.each (filled _ p.payload_is) in
     let split = rw left at t.1.0 in
     let wires = ap wire_of (sym l.2) ∙ simp (N.flat_map-append, N.append-nil) in
     let read = N.append_cancel_right t.0 (wire_of l.0 ++ N.packet_bytes l.1) rest (sym split ∙ sym p.begin ∙ ap (λ w. w ++ rest) wires) in
     let long = N.length-append (wire_of l.0) (N.packet_bytes l.1) in
     let front : N.take (length (wire_of l.0)) t.0 ≡ wire_of l.0 = rw read (N.take-append_seam _ _) in
-    record {
-      before = l.0;
-      last = l.1;
-      split = l.2;
-      none_last = l.3;
-      earlier = rw (
-        ← (message_before size limit (suc (length (wire_of l.0))) 0 0 l.0 l.3
-            (omega (arith, ap length wires)) (omega arith)),
-        ← front,
-      ) (t.3 _ (omega (arith, ap length read)));
-    }
+    record { before = l.0; last = l.1; split = l.2; none_last = l.3; earlier = grind (arith, message_before) }

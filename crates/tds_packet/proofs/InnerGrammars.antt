@@ -21,7 +21,7 @@ module _ {S T : Type 0} (small : N.Grammar S N.Fault) (big : N.Grammar T N.Fault
       → N.StopsReading small from a b place at stop → N.StopsReading big (lift from) a b place (lift at) stop
   stops_inside from a b place at stop end r = record {
     bytes = r.bytes;
-    spelt = Inside-Spelt _ _ _ is _ _ at r.spelt;
+    spelt = grind (arith, Inside-Spelt);
     cause = elim r.cause [ N.inl x ↦ N.inl (grind arith) | N.inr x ↦ N.inr (grind arith) ];
   }
 
@@ -40,12 +40,7 @@ module _ {S T : Type 0} (small : N.Grammar S N.Fault) (big : N.Grammar T N.Fault
       → LastInside from (front ++ N.concat (e ∷ es)) to
   last_of from s front e [] to spelt leads = grind (arith, N.append-nil, Inside-Spelt)
   last_of from s front e (f ∷ es) to spelt leads =
-      grind (
-        arith,
-        N.append_assoc,
-        last_of from (small.add s e) (front ++ e) f es to
-            (Spelt-append small from front s e _ spelt (Spelt-one small s e leads.0)) leads.1,
-      )
+      grind (arith, N.append_assoc, last_of from (small.add s e) (front ++ e) f es to (grind (arith, Spelt-append, Spelt-one)) leads.1)
 
   pub last_inside : (from : S) (bytes : List ℕ) (to : S) → N.Spelt small from bytes to → 0 < N.length bytes → LastInside from bytes to
   last_inside from bytes to spelt some = rw spelt.joined at (elim spelt.elements as (λ es. N.concat es ≡ bytes → N.Leads small from es to

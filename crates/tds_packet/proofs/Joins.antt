@@ -1,11 +1,11 @@
 -- The parts of a packet's read, joined.
 use Rattle.tds_packet.proofs as N
-use N.{◌≡◌, ◌∙◌, ℕ, ◌+◌, ◌-◌, ◌^◌, ◌<◌, List, [], ◌++◌, length, Ok, Err, false, arith, if◌then◌else◌, Device, Stays, Fault, Header}
+use N.{◌≡◌, ◌∙◌, ℕ, ◌+◌, ◌-◌, ◌^◌, ◌<◌, List, [], ◌++◌, length, Ok, Err, arith, if◌then◌else◌, Device, Stays, Fault, Header}
 use N.Words.{front_packet}
 use N.Choices.{test_lt}
 
 pub Stays-none : (f : ℕ) → Stays f f []
-Stays-none f = (N.refl, grind arith)
+Stays-none f = grind arith
 
 pub Stays-trans : (f g h : ℕ) (r s : List ℕ) → Stays f g r → Stays g h s → Stays f h (r ++ s)
 Stays-trans = grind (arith, N.common_steps, N.length-append)
@@ -28,20 +28,18 @@ after_header : (size limit wire : ℕ) (hdr ys : List ℕ) {o : N.Option Fault} 
     → front_packet size limit wire (hdr ++ ys) ≡ N.packet_after_header hdr ys o
 unfolding front_packet
 after_header size limit wire hdr ys e f =
-    let long : N.nat_lt (length hdr + length ys) 8 ≡ false = grind (arith, N.nat_tests) in
+    let long : N.nat_lt (length hdr + length ys) 8 ≡ N.false = grind arith in
     rw (N.length-append, long, ← e, N.take-append_seam, N.drop-append_seam, e, f)
 
 -- a body that is whole, and one that is cut
 whole_at : {last : N.Bool} {len : ℕ} {bs ys : List ℕ} {n : ℕ} → n ≡ length bs
     → (if N.nat_lt (length (bs ++ ys)) n then N.NoPacket N.InputEnded [] else N.WholePacket (N.take n (bs ++ ys)) last len
-    (N.drop n (bs ++ ys))) ≡ N.WholePacket bs
-    last len ys
+    (N.drop n (bs ++ ys))) ≡ N.WholePacket bs last len ys
 whole_at = grind (arith, N.length-append, N.take-append_seam, N.drop-append_seam)
 
 module _ (size limit wire : ℕ) (hdr : List ℕ) (h : Header) (eight : length hdr ≡ 8) (good : N.header_of size limit wire hdr ≡ Ok h) where
   -- a packet whose header says so
-  pub whole_packet : (bs ys : List ℕ) → length bs + 8 ≡ h.length
-      → front_packet size limit wire (hdr ++ (bs ++ ys)) ≡ N.WholePacket bs h.last h.length ys
+  pub whole_packet : (bs ys : List ℕ) → length bs + 8 ≡ h.length → front_packet size limit wire (hdr ++ (bs ++ ys)) ≡ N.WholePacket bs h.last h.length ys
   whole_packet = grind (arith, after_header, whole_at)
 
   -- an input that ends in the body
@@ -52,11 +50,8 @@ module _ (size limit wire : ℕ) (hdr : List ℕ) (h : Header) (eight : length h
   cut : (body : List ℕ) (j : ℕ) → length body + 8 ≡ h.length → j < length (hdr ++ body)
       → front_packet size limit wire (N.take j (hdr ++ body)) ≡ N.NoPacket N.InputEnded []
   cut body j fits lt = elim (N.dec_le 8 j) [
-    | yes many ↦ (let all : length hdr + (j - 8) ≡ j = omega arith in rw (
-      ← all,
-      N.take-append-add,
-    ) (ended_body _ (omega (arith, N.length-append hdr body, N.length-take (j - 8) body))))
-    | no few ↦ short_input _ _ _ _ (omega (arith, N.length-take j (hdr ++ body)))
+    | yes many ↦ (let all : length hdr + (j - 8) ≡ j = omega arith in rw (← all, N.take-append-add) (grind (arith, ended_body, N.length-append, N.length-take)))
+    | no few ↦ short_input _ _ _ _ (grind (arith, N.length-take))
   ]
 
 -- A good header was read.

@@ -23,8 +23,7 @@ module _ (size limit : ℕ) where
       rw (
         N.ElementLaws.feed_all-append,
         feed-Spelt _ N.no_wire w _ (rw m.spelt at (message_is_read [] packets m.each (rw m.spelt m.within))),
-        feed_part (wire size limit)
-            (after_packets packets) [] more (omega N.arith),
+        feed_part (wire size limit) (after_packets packets) [] more (omega N.arith),
       )
 
   -- no input begins with two messages

@@ -4,8 +4,7 @@ use N.{◌≡◌, ℕ, ◌+◌, ◌-◌, ◌/◌, ◌%◌, ◌≤◌, true, fals
 use N.{length-append, ◌⊎◌, None, ◌==◌, if◌then◌else◌, AreBytes, Spelt, Packet, wire_of, is_last, IsPacket, AreBefore, WirePlace, BeforeBody, WirePart, no_wire}
 use N.{header_length, wire, ◌<◌, nat_lt, payload_of, before}
 use N.Words.{front_packet, message}
-use N.ElementLaws.{Spelt-step, Spelt-append, Spelt-none, Spelt-induct}
-use N.ElementLaws.{AreBytes-front, AreBytes-back, one_state, longest_cut}
+use N.ElementLaws.{Spelt-step, Spelt-append, Spelt-none, Spelt-induct, AreBytes-front, AreBytes-back, one_state, longest_cut}
 use N.Choices.{choose, eq_true}
 
 pub one_more : (size : ℕ) (ps : List Packet) (p : Packet) → AreBefore size ps → IsPacket size p → is_last p ≡ false → AreBefore size (ps ++ p ∷ [])
@@ -49,24 +48,21 @@ module _ (size limit : ℕ) where
   wire_step {packets} N.BeforeHeader b {e} bytes h n =
       let good = free_is_good _ _ packets e n.whole bytes n.free in
       choose (λ w. WireMeans size limit w.packets w.place (b ++ e)) (header_length e == 8) (N.with_packet packets _)
-      (record { packets = packets; place = BeforeBody e })
-      (λ z. (let eight = eq_true (header_length e) 8 z in rw h.0
-      (rw append-nil at (with_means [] h.1 good (omega arith))))) (λ z. (rw h.0 refl, h.1, good))
+      (record { packets = packets; place = BeforeBody e }) (λ z. (let eight = eq_true (header_length e) 8 z in rw h.0
+      (rw append-nil at (with_means [] h.1 good (omega arith))))) (grind arith)
   wire_step (BeforeBody header) b bytes h n = grind (arith, append_assoc, with_means)
 
   -- what is read of a wire are the packets that it begins with
-  wire_is_spelt : (bytes : List ℕ) (w : WirePart) → AreBytes bytes → Spelt (wire size limit) no_wire bytes w
-      → WireMeans size limit w.packets w.place bytes
+  wire_is_spelt : (bytes : List ℕ) (w : WirePart) → AreBytes bytes → Spelt (wire size limit) no_wire bytes w → WireMeans size limit w.packets w.place bytes
   wire_is_spelt bytes w are h = Spelt-induct _ (λ q b. AreBytes b → WireMeans size limit q.packets q.place b)
-      (λ q b e k n t. wire_step _ b (AreBytes-back b e t) (k (AreBytes-front b e t)) n) no_wire (λ t. (refl, tt, omega arith)) bytes w h are
+      (grind (arith, wire_step, AreBytes-back, AreBytes-front)) no_wire (grind arith) bytes w h are
 
 -- the header of a packet
 abbrev pub header_of : Packet → List ℕ
 header_of p = 4 ∷ p.status ∷ N.packet_length p / 256 ∷ N.packet_length p % 256 ∷ p.id
 
 module _ (size limit : ℕ) where
-  pub good_header : (before : ℕ) {p : Packet} → IsPacket size p → before + N.packet_length p ≤ limit
-      → N.header_fault size limit before (header_of p) ≡ None
+  pub good_header : (before : ℕ) {p : Packet} → IsPacket size p → before + N.packet_length p ≤ limit → N.header_fault size limit before (header_of p) ≡ None
   good_header = grind (arith, N.nat_tests)
 
   abbrev pub before_packet : List Packet → WirePart
@@ -77,26 +73,20 @@ module _ (size limit : ℕ) where
       → Spelt (wire size limit) (before_packet packets) (N.packet_bytes p) (N.with_packet packets p)
   packet_is_read packets p i f =
       let g = wire size limit in
-      let eight : length (header_of p) ≡ 8 = omega arith in
       let good = good_header _ i f in
       elim p.body as (λ b. p.body ≡ b → Spelt g (before_packet packets) (header_of p ++ b)
       (N.with_packet packets (record { status = p.status; id = p.id; body = b }))) [
-        | [] ↦ λ e. (let size_is : (header_length (header_of p) == 8) ≡ true = grind arith in rw append-nil
-            (Spelt-step g _ _ _ (omega arith) eight good (cc)))
-        | ◌∷◌ x (xs → _) ↦ λ e.
-            (let inside : WirePart = record { packets = packets; place = BeforeBody (header_of p) } in
+        | [] ↦ λ e. grind (arith, header_of, append-nil, Spelt-step)
+        | ◌∷◌ x (xs → _) ↦ λ e. (let inside : WirePart = record { packets = packets; place = BeforeBody (header_of p) } in
             let n : N.packet_length p ≡ 8 + length (x ∷ xs) = rw e in
             let off : (header_length (header_of p) == 8) ≡ false = grind (arith, N.nat_tests) in
-            Spelt-append g _ (header_of p) inside (x ∷ xs) _ (Spelt-step g _ (header_of p) inside (omega arith) eight good (rw off))
-            (Spelt-step g _ _ _ (omega arith) (omega arith) refl refl))
+            Spelt-append g _ (header_of p) inside (x ∷ xs) _ (grind (arith, Spelt-step, header_of)) (grind (arith, Spelt-step)))
       ] refl
 
   -- a packet before the last is read, and what follows it
   pub one_is_read : {done : List Packet} {p : Packet} (packets : List Packet) {place : WirePlace} → IsPacket size p × (is_last p ≡ false)
-      → length (wire_of (done ++ p ∷ packets)) ≤ limit
-      → (length (wire_of ((done ++ p ∷ []) ++ packets)) ≤ limit
-      → Spelt (wire size limit) (before_packet (done ++ p ∷ [])) (wire_of packets)
-      (record { packets = (done ++ p ∷ []) ++ packets; place = place }))
+      → length (wire_of (done ++ p ∷ packets)) ≤ limit → (length (wire_of ((done ++ p ∷ []) ++ packets)) ≤ limit
+      → Spelt (wire size limit) (before_packet (done ++ p ∷ [])) (wire_of packets) (record { packets = (done ++ p ∷ []) ++ packets; place = place }))
       → Spelt (wire size limit) (before_packet done) (wire_of (p ∷ packets)) (record { packets = done ++ p ∷ packets; place = place })
   one_is_read {done} {p} packets h f more =
       let long : length (wire_of (done ++ p ∷ packets)) ≡ length (wire_of done) + (N.packet_length p + length (wire_of packets)) =
@@ -116,14 +106,14 @@ module _ (size limit : ℕ) where
       → (header ≡ []) ⊎ ((length header ≡ 8) × (place ≡ BeforeBody header)) → (next : Packet) → N.IsNextPacket size limit input packets next → ⊥
   no_next {input} {taken} {packets} {place} {header} l before is cause next f =
       let all = wire_of packets ++ N.packet_bytes next in
-      let front : take (length all) input ≡ all = rw f.spelt (N.take-append_seam all f.more) in
+      let front : take (length all) input ≡ all = grind (arith, N.take-append_seam) in
       let long = length-append (wire_of packets) (N.packet_bytes next) in
-      let size_is : length (N.packet_bytes next) ≡ N.packet_length next = omega (arith, length-append next.id next.body) in
-      let read = Spelt-append _ _ _ _ _ _ (before_are_read _ _ before (omega arith)) (packet_is_read _ _ f.rules (omega arith)) in
-      let within = l.longest (length all) (N.with_packet packets next) (omega (arith, ap length f.spelt, length-append all f.more)) (rw front read) in
+      let size_is : length (N.packet_bytes next) ≡ N.packet_length next = grind (arith, length-append) in
+      let read = Spelt-append _ _ _ _ _ _ (before_are_read _ _ before (omega arith)) (grind (arith, packet_is_read)) in
+      let within = l.longest (length all) (N.with_packet packets next) (grind (arith, length-append)) (rw front read) in
       let counted = N.sym (N.length-take-le taken input l.within) ∙ ap length is ∙ length-append _ header in
       let one : length all ≡ taken → place ≡ (if is_last next then N.AfterLast else N.BeforeHeader) =
-      λ same. ap (λ w. w.place) (one_state _ no_wire _ _ (N.with_packet packets next) l.spelt (rw (← same, front) read)) in
+      λ same. ap (λ w. w.place) (one_state _ no_wire _ _ (N.with_packet packets next) l.spelt (grind arith)) in
       grind arith
 
   -- What is read at most of an input are the packets at its front.
@@ -142,7 +132,7 @@ module _ (size limit : ℕ) where
         arith,
         append_assoc,
         N.take-append-drop taken input,
-        no_next l k.1 k.0 (inr (k.2.eight, refl)),
+        no_next l k.1 k.0 (grind arith),
       )
       go _ l k = grind (arith, N.take-append-drop taken input)
 
@@ -174,29 +164,26 @@ module _ (size limit : ℕ) (packets : List Packet) where
 -- with this much fuel, what comes after any packets before the last is the message at the front
 abbrev Comes : ℕ → ℕ → ℕ → Type 0
 Comes size limit n = (packets : List Packet) (rest : List ℕ) → AreBytes (wire_of packets ++ rest) → AreBefore size packets
-    → length (wire_of packets) ≤ limit → length rest < n
-    → N.IsFrontMessage size limit (wire_of packets ++ rest)
+    → length (wire_of packets) ≤ limit → length rest < n → N.IsFrontMessage size limit (wire_of packets ++ rest)
     (before (payload_of packets) (message size limit n (length (wire_of packets)) (length (payload_of packets)) rest))
 
 module _ (size limit n : ℕ) (packets : List Packet) (each : AreBefore size packets) (within : length (wire_of packets) ≤ limit) where
   -- a packet is whole
   whole_gives : (p : Packet) (wired more : List ℕ) (last : N.Bool) (count : ℕ) → Comes size limit n → AreBytes (wire_of packets ++ (wired ++ more))
-      → (N.packet_bytes p ≡ wired) × IsPacket size p → length wired ≡ count
-      → length (wire_of packets) + count ≤ limit → length more < n → is_last p ≡ last
+      → (N.packet_bytes p ≡ wired) × IsPacket size p → length wired ≡ count → length (wire_of packets) + count ≤ limit → length more < n → is_last p ≡ last
       → Gives size limit packets n (wire_of packets ++ (wired ++ more)) (N.WholePacket p.body last count more)
   whole_gives p wired more last count comes are fits long limited less is =
       let joined : wire_of (packets ++ p ∷ []) ≡ wire_of packets ++ wired = simp (N.flat_map-append, append-nil, fits.0) in
       let bodies : payload_of (packets ++ p ∷ []) ≡ payload_of packets ++ p.body = simp (N.flat_map-append, append-nil) in
       elim last as (λ t. is_last p ≡ t → Gives _ _ _ n _ (N.WholePacket p.body t count more)) [
-        | true ↦ λ e. (let all = last_one _ each fits.1 e in grind (arith, append-nil, append_assoc, length-append))
+        | true ↦ λ e. grind (arith, last_one, append-nil, append_assoc, length-append)
         | false ↦ λ e. simp (
           joined,
           bodies,
           length-append,
           append_assoc,
           long,
-        ) at (comes (packets ++ p ∷ []) more (rw (joined, append_assoc) are) (one_more _ _ p each fits.1 e)
-            (rw (joined, length-append, long) limited) less)
+        ) at (comes (packets ++ p ∷ []) more (rw (joined, append_assoc) are) (one_more _ _ p each fits.1 e) (grind (arith, length-append)) less)
       ] is
 
   -- a header is whole
@@ -206,10 +193,10 @@ module _ (size limit n : ℕ) (packets : List Packet) (each : AreBefore size pac
   header_gives header rest (N.Some fault) comes are eight less is =
       let first : take 8 (header ++ rest) ≡ header = rw (← eight) (N.take-append_seam header rest) in
       stops_at _ _ _ _ _ _ _ _ are each (before_are_read _ _ _ _ each within)
-      (inl (record { some = omega arith; whole = omega (arith, length-append header rest); first = rw first is })) (append-nil _) refl
+      (inl (record { some = omega arith; whole = grind (arith, length-append); first = rw first is })) (append-nil _) refl
   header_gives header rest None comes are eight less free =
       let m = header_length header - 8 in
-      let good = free_is_good _ _ _ _ eight (AreBytes-front _ rest (AreBytes-back _ (header ++ rest) are)) free in
+      let good = free_is_good _ _ _ _ eight (grind (arith, AreBytes-front, AreBytes-back)) free in
       elim (N.dec_le m (length rest)) [
         | yes enough ↦
             (let test : nat_lt (length rest) m ≡ false = grind arith in
@@ -218,14 +205,13 @@ module _ (size limit n : ℕ) (packets : List Packet) (each : AreBefore size pac
             grind arith in
             let all : (header ++ take m rest) ++ drop m rest ≡ header ++ rest = rw (append_assoc, N.take-append-drop) in
             rw (test, ← all) (whole_gives _ (header ++ take m rest) _ _ _ comes (rw all are) again
-            (omega (arith, length-append header (take m rest))) good.within (omega (arith, N.length-drop m rest)) refl))
+            (grind (arith, length-append)) good.within (omega (arith, N.length-drop m rest)) refl))
         | no short ↦
             (let test : nat_lt (length rest) m ≡ true = grind arith in
             let off : (header_length header == 8) ≡ false = grind arith in
             let inside = Spelt-step _ _ header (at size limit packets (BeforeBody header)) (omega arith) eight free (rw off) in
             let read = Spelt-append _ _ _ _ _ _ (before_are_read size limit [] packets each within) inside in
-            rw (test, ← append_assoc) (stops_at size limit packets _ rest _ _ _ (rw append_assoc are) each read (inr (omega arith, refl))
-            (append-nil _) refl))
+            rw (test, ← append_assoc) (stops_at size limit packets _ rest _ _ _ (rw append_assoc are) each read (inr (omega arith, refl)) (append-nil _) refl))
       ]
 
 -- what comes after any packets before the last is the message at the front
@@ -237,11 +223,10 @@ comes_front {size} {limit} (N.suc n) packets rest are each within less = elim (N
       (let test : nat_lt (length rest) 8 ≡ false = grind arith in
       let all = N.take-append-drop 8 rest in
       rw test (rw all at (header_gives size limit n packets each within _ (drop 8 rest) _ (comes_front n) (rw all are)
-      (N.length-take-le 8 rest long) (omega (arith, N.length-drop 8 rest)) refl)))
+      (N.length-take-le 8 rest long) (grind arith) refl)))
   | no short ↦
       (let test : nat_lt (length rest) 8 ≡ true = grind arith in
-      rw test (stops_at size limit _ _ _ _ _ _ are each (before_are_read _ _ _ _ each within) (inr (omega arith, refl))
-      (append-nil _) refl))
+      rw test (stops_at size limit _ _ _ _ _ _ are each (before_are_read _ _ _ _ each within) (grind arith) (append-nil _) refl))
 ]
 
 -- What comes of an input is the message at its front.

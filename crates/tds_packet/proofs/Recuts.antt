@@ -1,15 +1,14 @@
 -- A payload on its way into packets of one size.
 use Rattle.tds_packet.proofs as N
 use N.{PayloadOf, ◌≡◌, ◌∙◌, inr, ℕ, suc, ◌+◌, ◌-◌, ◌*◌, ◌<◌, ◌≤◌, Bool, true, false, List, [], ◌∷◌, ◌++◌, length, drop, Option, None, refl, ap, arith}
-use N.{length-append, Ok, Err, ◌^◌, Counted, Stop, wire_of, seen, Gathers, cut_packet, PayloadView, Takes}
+use N.{length-append, Ok, Err, ◌^◌, Counted, Stop, wire_of, seen, Gathers, cut_packet, Takes}
 use N.Words.{coming_of, first_packets}
 use N.Futures.{Takes-more}
 
 -- what was gathered, and bytes after it
-pub joined : (a b c : PayloadView) (hs bs : List ℕ) (n : ℕ) → n ≤ length bs + 1 → Takes a b hs (length hs + 1) → Takes b c bs n
+pub joined : (a b c : N.PayloadView) (hs bs : List ℕ) (n : ℕ) → n ≤ length bs + 1 → Takes a b hs (length hs + 1) → Takes b c bs n
     → Takes a c (hs ++ bs) (length (hs ++ bs) + 1)
-joined a b c hs bs n le p q =
-    Takes-more a c _ _ _ (omega (arith, length-append hs bs))
+joined a b c hs bs n le p q = Takes-more a c _ _ _ (omega (arith, length-append hs bs))
     (N.Futures.Takes-trans a b c _ _ _ _ (omega arith) p (Takes-more b c _ n _ le q))
 
 -- So many bytes were taken after those of a header.
@@ -42,8 +41,7 @@ module _ {R : Type 0} (remaining : R → Option (List ℕ)) (o s t : PayloadOf R
     module _ (q : Takes (seen remaining s) (seen remaining t) [] 1) (stays : t.place ≡ s.place) where
       -- the packet is full, or no byte is left
       pub gathered_ok : {last : Bool} → N.IsBetween (seen remaining t) → (N.IsTrue last → N.IsOver (seen remaining t))
-          → (last ≡ false → (length packet ≡ room) × (0 < length (N.buffered t)) × N.IsNotOver (seen remaining t))
-          → Gathers remaining o t room packet (Ok last)
+          → (last ≡ false → (length packet ≡ room) × (0 < length (N.buffered t)) × N.IsNotOver (seen remaining t)) → Gathers remaining o t room packet (Ok last)
       gathered_ok = grind (arith, asked)
 
       -- bytes that lay ready were taken
@@ -75,12 +73,10 @@ first-more : (m k : ℕ) (xs ys : List ℕ) → k * m ≤ length xs → first_pa
 unfolding first_packets
 first-more m N.zero xs ys h = refl
 first-more m (suc k) xs ys h =
-    let long : k * m + m ≤ length xs = omega arith in
     rw (
       first-more m k xs ys (omega arith),
-      N.drop-append-le (k * m) xs ys (omega (arith, long)),
-      N.take-append-le m (drop (k * m) xs) ys (omega
-          (arith, long, N.length-drop (k * m) xs)),
+      N.drop-append-le (k * m) xs ys (grind arith),
+      N.take-append-le m (drop (k * m) xs) ys (grind (arith, N.length-drop)),
     )
 
 first-length : (m k : ℕ) (xs : List ℕ) → length (first_packets m k xs) ≡ k
@@ -104,7 +100,7 @@ unfolding first_packets
 first_is = grind (arith, N.drop-append_seam, N.take_all, first-more)
 
 -- Full packets were written, and these bytes of the payload taken for them. More were ready then.
-pub record Cutting {R W : Type 0} (remaining : R → Option (List ℕ)) (contents : W → Option (List ℕ)) (m : ℕ) (a : PayloadView) (s : PayloadOf R)
+pub record Cutting {R W : Type 0} (remaining : R → Option (List ℕ)) (contents : W → Option (List ℕ)) (m : ℕ) (a : N.PayloadView) (s : PayloadOf R)
     (old new : Counted W) (done : N.Written) : Type 0 where
   pub payload : List ℕ
   pub takes : Takes a (seen remaining s) payload (length payload + 1)
@@ -121,29 +117,27 @@ pub cut_none : {R W : Type 0} (remaining : R → Option (List ℕ)) (contents : 
 unfolding first_packets
 cut_none = grind (arith, N.Appends-nil)
 
-module _ {R W : Type 0} {remaining : R → Option (List ℕ)} {contents : W → Option (List ℕ)} {a : PayloadView} {s t : PayloadOf R} {room : ℕ} {packet : List ℕ}
+module _ {R W : Type 0} {remaining : R → Option (List ℕ)} {contents : W → Option (List ℕ)} {a : N.PayloadView} {s t : PayloadOf R} {room : ℕ} {packet : List ℕ}
     {old mid : Counted W} {done : N.Written}
     (x : Cutting remaining contents (room - 8) a s old mid done) (going : s.stopped ≡ None) (large : 8 < room) where
   next_parts : {r : N.Result Bool Stop} → Gathers remaining s t room packet r → let all = x.payload ++ drop 8 packet in
       (N.before_last (room - 8) (length all) ≡ done.packets) × (N.packets_before (room - 8) all ≡ first_packets (room - 8) done.packets x.payload)
       × (drop (done.packets * (room - 8)) all ≡ drop 8 packet)
-  next_parts {r = r} made = parts _ _ _ _ x.whole (omega (arith, made.fits, N.length-drop 8 packet)) (omega (arith, large))
-      (λ h. some_ready _ r made going large (x.more h))
+  next_parts {r} made = parts _ _ _ _ x.whole (grind (arith, N.length-drop)) (grind arith) (grind (arith, some_ready))
 
   next_takes : {last : Bool} → Gathers remaining s t room packet (Ok last)
       → Takes a (seen remaining t) (x.payload ++ drop 8 packet) (length (x.payload ++ drop 8 packet) + 1)
   next_takes made = joined a _ _ _ _ _ (N.le_refl _) x.takes made.gives
 
-  next_full : {last : Bool} → Gathers remaining s t room packet (Ok last) → last ≡ false
-      → length (x.payload ++ drop 8 packet) ≡ (done.packets + 1) * (room - 8)
+  next_full : {last : Bool} → Gathers remaining s t room packet (Ok last) → last ≡ false → length (x.payload ++ drop 8 packet) ≡ (done.packets + 1) * (room - 8)
   next_full = grind (arith, N.common_steps, length-append, N.suc-mul)
 
   -- a full packet was written
   pub cut_more : {new : Counted W} {last : Bool} {more : N.Written} → last ≡ false → Gathers remaining s t room packet (Ok last)
       → N.WritesPacket contents mid new done (N.packet_bytes (cut_packet done.packets false (drop 8 packet))) (Ok more)
       → Cutting remaining contents (room - 8) a t old new more
-  cut_more {new = new} test made writes =
-      let full : length (drop 8 packet) ≡ room - 8 = omega (arith, N.length-drop 8 packet, (made.full test).0) in
+  cut_more {new} test made writes =
+      let full : length (drop 8 packet) ≡ room - 8 = grind (arith, N.length-drop) in
       let firsts = ap wire_of (first_is _ _ (done.packets + 1) x.payload (drop 8 packet) (omega arith) x.whole full)
       ∙ wire-more (first_packets (room - 8) done.packets x.payload) (cut_packet done.packets false (drop 8 packet)) in
       let takes = next_takes made in
@@ -157,7 +151,7 @@ module _ {R W : Type 0} {remaining : R → Option (List ℕ)} {contents : W → 
   pub cut_broken : {new : Counted W} {last : Bool} {is : Bool} {stop : N.RecutStop} → last ≡ is → Gathers remaining s t room packet (Ok last)
       → N.WritesPacket contents mid new done (N.packet_bytes (cut_packet done.packets is (drop 8 packet))) (Err stop)
       → N.StopsOutput contents (room - 8) a (seen remaining t) old new stop
-  cut_broken {new = new} {is} test made writes =
+  cut_broken {new} {is} test made writes =
       let p = next_parts made in
       record {
         payload = x.payload ++ drop 8 packet;
@@ -166,11 +160,11 @@ module _ {R W : Type 0} {remaining : R → Option (List ℕ)} {contents : W → 
         rest = writes.1;
         takes = next_takes made;
         between = made.between;
-        over = λ e. made.over (test ∙ e);
-        goes_on = λ e. ((made.full (test ∙ e)).2, rw p.0 (next_full made (test ∙ e)));
-        split = rw (p.0, p.2) writes.2;
-        wrote = rw p.1 (N.Appends-trans (contents old.device) (contents mid.device) (contents new.device) _ writes.0 x.wrote writes.3);
-        stop_is = rw (p.1, length-append, ← x.bytes_are) writes.4;
+        over = grind arith;
+        goes_on = grind (arith, next_full);
+        split = grind arith;
+        wrote = grind (arith, N.Appends-trans);
+        stop_is = grind (arith, length-append);
         failures = rw p.1 (N.Joins.Stays-Rises _ _ x.stays writes.5);
       }
 
@@ -192,7 +186,7 @@ module _ {R W : Type 0} {remaining : R → Option (List ℕ)} {contents : W → 
         N.append-nil bytes,
         N.Appends-kept (contents mid.device) _ (contents new.device) bytes writes.0 flushes.0,
         rw writes.1 at flushes.1.0,
-        (flushes.1.1 ∙ ap N.one_more writes.2.0, writes.2.1),
+        grind (arith, N.one_more),
       ))
 
   -- the input stopped, and the writer was flushed
@@ -200,7 +194,7 @@ module _ {R W : Type 0} {remaining : R → Option (List ℕ)} {contents : W → 
       → N.Keeps (contents mid.device) (contents new.device)
       → (N.IsTrue flushed → (new.failures ≡ mid.failures) × (mid.failures < 2 ^ 64 - 1)) → (flushed ≡ false → new.failures ≡ N.one_more mid.failures)
       → N.StopsInput contents (room - 8) a (seen remaining t) old new (record { stop = stop; written = done.bytes; unwritten = 0 })
-  cut_stopped {new = new} {stop = stop} made =
+  cut_stopped {new} {stop} made =
       let p = next_parts made in
       let ends = N.Futures.Ends-after a _ (seen remaining t) x.payload (drop 8 packet) _ stop x.takes made.gives in
       grind (arith, length-append)

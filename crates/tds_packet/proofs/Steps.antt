@@ -34,18 +34,17 @@ module _ {S : Type 0} (g : N.Grammar S N.Fault) where
   reads_both s t u a b c p q = record {
     bytes = p.bytes ++ q.bytes;
     spelt = Spelt-append g s _ t _ u p.spelt q.spelt;
-    takes = takes_both a
-        b c _ _ p.takes q.takes;
+    takes = takes_both a b c _ _ p.takes q.takes;
   }
 
   -- what stops a call stops one that began before it
   pub stops_after : (s t : S) (a b c : PayloadView) (place : ℕ) (at : S) (stop : Stop) → (p : Reads g s a b t)
       → N.StopsReading g t b c (place + length p.bytes) at stop → N.StopsReading g s a c place at stop
   stops_after s t a b c place at stop p q =
-      let placed : (place + length p.bytes) + length q.bytes ≡ place + length _ = omega (arith, N.length-append p.bytes q.bytes) in
+      let placed : (place + length p.bytes) + length q.bytes ≡ place + length _ = grind (arith, N.length-append) in
       record {
         bytes = p.bytes ++ q.bytes;
-        spelt = Spelt-append g s _ t _ at p.spelt q.spelt;
+        spelt = grind (arith, Spelt-append);
         cause = elim q.cause [
           | N.inl x ↦
               (let r = x.0 in
@@ -56,8 +55,7 @@ module _ {S : Type 0} (g : N.Grammar S N.Fault) where
                   some = r.some;
                   whole = r.whole;
                   first = r.first;
-                  takes = rw
-                      (N.append_assoc p.bytes q.bytes _) (takes_ahead a b c _ _ _ p.takes r.takes);
+                  takes = rw (N.append_assoc p.bytes q.bytes _) (takes_ahead a b c _ _ _ p.takes r.takes);
                   between = r.between;
                 },
                 x.1 ∙ N.ap N.Payload placed,
@@ -67,7 +65,7 @@ module _ {S : Type 0} (g : N.Grammar S N.Fault) where
             cut = x.cut;
             own = x.own;
             ends = rw N.append_assoc (N.Futures.Ends-after a b c _ _ _ _ p.takes x.ends);
-            stop_is = rw placed at x.stop_is;
+            stop_is = grind arith;
           })
         ];
       }
@@ -77,8 +75,7 @@ module _ {S : Type 0} (g : N.Grammar S N.Fault) where
       → g.fault s element ≡ N.Some fault → Takes a b element (length element) → N.IsBetween b
       → N.StopsReading g s a b place s (record { fault = fault; place = N.Payload place })
   refused_at_once s a b place element fault some whole first takes between =
-      let refused : N.RefusesNext g a b [] s fault =
-      record { element = element; ahead = []; some = some; whole = whole; first = first; takes = rw N.append-nil takes; between = between } in
+      let refused : N.RefusesNext g a b [] s fault = grind (arith, N.append-nil) in
       grind arith
 
   -- the payload stopped in the first element

@@ -1,12 +1,12 @@
 -- Which faults the payload itself may have.
 use Rattle.tds_packet.proofs as N
-use N.{◌≡◌, ◌∙◌, inr, ℕ, ◌+◌, List, [], None, ⊤, Fault, ReadFailed, WriteFailed, seen}
+use N.{◌≡◌, ◌∙◌, inr, ℕ, ◌+◌, List, [], None, ⊤, Fault, seen}
 use N.Words.{coming_of, front_packet, message}
 
 -- a fault that the wire or the end of a message may have
 abbrev pub IsOfWire : Fault → Type 0
-IsOfWire ReadFailed = ⊥
-IsOfWire WriteFailed = ⊥
+IsOfWire N.ReadFailed = ⊥
+IsOfWire N.WriteFailed = ⊥
 IsOfWire fault = ⊤
 
 -- no fault of a packet is the message's end
@@ -28,8 +28,7 @@ module _ (P : ℕ → N.Coming → Type 0) (ended : (place : ℕ) (rest : List �
   message_keeps : (size limit fuel wire place : ℕ) (input : List ℕ) → P place (message size limit fuel wire place input)
   unfolding message
   message_keeps size limit N.zero wire place input = faulty wire place _ input (tt, λ e. cc)
-  message_keeps size limit (N.suc fuel) wire place input =
-      packet_keeps _ wire (front_faults size limit wire input) (message_keeps size limit fuel)
+  message_keeps size limit (N.suc fuel) wire place input = packet_keeps _ wire (front_faults size limit wire input) (message_keeps size limit fuel)
 
   -- so it does of what comes of a payload that has not stopped
   pub seen_keeps : {R : Type 0} (remaining : R → N.Option (List ℕ)) (p : N.PayloadOf R) (input : List ℕ) → p.stopped ≡ None
@@ -47,14 +46,12 @@ message_of_wire = message_keeps (λ _ c. IsOfWire c.stop.fault) _ (λ _ _ _ _ h.
 
 -- a payload that stops blames a device only where a read failed
 pub ends_blame : {R : Type 0} (remaining : R → N.Option (List ℕ)) (p : N.PayloadOf R) (b : N.PayloadView) (bytes : List ℕ) (own : N.Stop) → p.stopped ≡ None
-    → N.Ends (seen remaining p) b bytes own
-    → (own.fault ≡ WriteFailed → ⊥) × (own.fault ≡ ReadFailed → b.failures ≡ N.one_more p.from.now.failures)
+    → N.Ends (seen remaining p) b bytes own → (own.fault ≡ N.WriteFailed → ⊥) × (own.fault ≡ N.ReadFailed → b.failures ≡ N.one_more p.from.now.failures)
 ends_blame remaining p b bytes own going ends =
     let of_wire : (input rest : List ℕ) → (seen remaining p).future input ≡ record { bytes = bytes; stop = own; rest = rest }
-    → (own.fault ≡ WriteFailed → ⊥) × (own.fault ≡ ReadFailed → b.failures ≡ N.one_more p.from.now.failures) = λ input rest e.
+    → (own.fault ≡ N.WriteFailed → ⊥) × (own.fault ≡ N.ReadFailed → b.failures ≡ N.one_more p.from.now.failures) = λ input rest e.
     (let h = rw e at (seen_keeps (λ _ c. IsOfWire c.stop.fault) _ (λ _ _ _ _ h. h.0) (λ _ _ _ h. h) remaining p input going) in (
-      λ w. rw
-          w at h,
+      λ w. rw w at h,
       λ r. absurd (rw r at h),
     )) in
     elim ends [

@@ -1,6 +1,6 @@
-use Rattle.tds_packet.proofs as N
 use N.recutting.gather_packet.Goals as goal
-use N.{◌≡◌, ◌∙◌, ◌+◌, ◌-◌, ◌++◌, false, length, rules, arith}
+use Rattle.tds_packet.proofs as N
+use N.{◌≡◌, ◌∙◌, ◌+◌, ◌-◌, ◌++◌, length, rules, arith}
 
 pub returns-in_err-at_end-clause-body : goal.returns-in_err-at_end-clause-body
 returns-in_err-at_end-clause-body g c =
@@ -12,18 +12,16 @@ returns-in_err-at_end-clause-body g c =
 pub returns-then-n-eq0-clause-body : goal.returns-then-n-eq0-clause-body
 returns-then-n-eq0-clause-body g c =
     let inv = c.loop-payload.invariant in
-    let more : c.in_ok-at_end.field-0 ≡ false = search rules in
+    let more : c.in_ok-at_end.field-0 ≡ N.false = search rules in
     let room : c.loop-payload.output.room ≡ c.args.output.now.room = search rules in
-    let up : c.min-n.result ≡ N.min (length (N.buffered c.at_end.new.self)) (c.loop-payload.output.room - length c.loop-payload.output.bytes) =
-    search rules in
+    let up : c.min-n.result ≡ N.min (length (N.buffered c.at_end.new.self)) (c.loop-payload.output.room - length c.loop-payload.output.bytes) = search rules in
     let none : c.min-n.result ≡ 0 = search rules in
     let ready = c.in_ok-at_end.ensures.tells.ready more in
     N.Recuts.gathered_ok _ _ _ _ _ _ inv.body c.in_ok-at_end.ensures.gives c.in_ok-at_end.ensures.payload.place
     c.in_ok-at_end.ensures.between (λ e. cc) (grind arith)
 
 pub returns-clause-body : goal.returns-clause-body
-returns-clause-body g c =
-    N.Recuts.gathered_ok _ _ _ _ _ _ c.loop-payload.invariant.body c.in_ok-at_end.ensures.gives
+returns-clause-body g c = N.Recuts.gathered_ok _ _ _ _ _ _ c.loop-payload.invariant.body c.in_ok-at_end.ensures.gives
     c.in_ok-at_end.ensures.payload.place c.in_ok-at_end.ensures.between (λ _. c.in_ok-at_end.ensures.tells.over (search rules)) (λ e. cc)
 
 pub loop-payload-preserved : goal.loop-payload-preserved

@@ -10,8 +10,7 @@ returns-in-Err-clause-writes g c =
       N.take k all,
       N.drop k all,
       N.take-append-drop k all,
-      rw (← is)
-          c.in-Err.ensures.err,
+      rw (← is) c.in-Err.ensures.err,
       rw (N.length-take-le k all (omega (N.arith, c.in-Err.ensures.part, N.ap N.length is)), N.length-drop k all, ← len) c.write_failed.ensures,
       N.subst (λ l. N.Rises c.args.to.now.failures c.deliver.new.self.failures (N.take k l)) is c.in-Err.ensures.counted,
     )

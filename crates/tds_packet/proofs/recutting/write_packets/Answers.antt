@@ -24,8 +24,7 @@ pub returns-in_err-done-in-Ok-false-clause-cuts : goal.returns-in_err-done-in-Ok
 returns-in_err-done-in-Ok-false-clause-cuts g c =
     let inv = c.loop-to.invariant in
     rw (sym inv.room) (passed_on _ _ (N.Cuts g.W.Write.contents (c.loop-to.output.room - 8) (seen g.R.Read.remaining c.args.payload.now)
-    (seen g.R.Read.remaining c.gather_packet.new.payload) c.args.to.now c.write_packet-in-Ok-false.new.to)
-    c.from_residual-in_err-done-in-Ok-false.ensures.1
+    (seen g.R.Read.remaining c.gather_packet.new.payload) c.args.to.now c.write_packet-in-Ok-false.new.to) c.from_residual-in_err-done-in-Ok-false.ensures.1
     (N.inr (N.Recuts.cut_broken inv.cutting inv.going.going (omega (arith, inv.room, c.requires.room)) c.in-Ok-false.field-0-test
     c.in-Ok-false.ensures.body c.in_err-done-in-Ok-false.ensures.writes)))
 
@@ -51,6 +50,5 @@ loop-to-preserved g c =
       room = same ∙ inv.room;
       few = omega (arith, ap (λ w. w.packets) writes.1, inv.few, made.place, len, inv.room, c.requires.room);
       short = omega (arith, ap (λ w. w.bytes) writes.1, size, inv.short, made.place, len, inv.room, c.requires.room);
-      cutting = rw same (N.Recuts.cut_more inv.cutting inv.going.going (omega (arith, inv.room, c.requires.room))
-          c.in-Ok-false.field-0-test made writes);
+      cutting = rw same (N.Recuts.cut_more inv.cutting inv.going.going (omega (arith, inv.room, c.requires.room)) c.in-Ok-false.field-0-test made writes);
     }

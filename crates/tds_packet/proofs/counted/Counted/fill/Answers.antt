@@ -14,8 +14,7 @@ loop-at-preserved g c =
       same = search rules;
       within = search rules;
       stays = grind N.arith;
-      read = rw (← (take_put _ _ _ inv.within bound))
-          (N.Consumes-trans _ _ _ _ _ inv.read c.in-Ok.ensures.ok);
+      read = rw (← (take_put _ _ _ inv.within bound)) (N.Consumes-trans _ _ _ _ _ inv.read c.in-Ok.ensures.ok);
     }
 
 pub returns-in-Err : goal.returns-in-Err

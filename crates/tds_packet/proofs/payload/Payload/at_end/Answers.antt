@@ -14,12 +14,7 @@ pub returns-in-MessageEnded-clause-tells : goal.returns-in-MessageEnded-clause-t
 returns-in-MessageEnded-clause-tells g c =
     let s = record c.ready.new.self { stopped = N.None } in
     let ends = c.in-Err.ensures.ended c.in-MessageEnded.is c.in_default.is in
-    record {
-      over = λ _. over g.R.Read.remaining s ends.last N.refl (N.drop_of_length-le s.packet.now.bytes (omega N.arith));
-      more = λ e.
-          cc;
-      ready = λ e. cc;
-    }
+    record { over = λ _. over g.R.Read.remaining s ends.last N.refl (N.drop_of_length-le s.packet.now.bytes (omega N.arith)); more = λ e. cc; ready = λ e. cc }
 
 pub returns-in-Some-clause-gives : goal.returns-in-Some-clause-gives
 returns-in-Some-clause-gives g c = N.Futures.stopped_ends g.R.Read.remaining c.args.self.now c.in-Some.is

@@ -18,17 +18,14 @@ loop-at-preserved g c =
       within = search rules;
       place = omega N.arith;
       going = k.3;
-      takes =
-          rw all (N.subst (λ l. N.Takes (N.seen g.R.Read.remaining c.args.self.now) (N.seen g.R.Read.remaining s) l (c.loop-at.at + N.length bytes)) (N.sym
+      takes = rw all (N.subst (λ l. N.Takes (N.seen g.R.Read.remaining c.args.self.now) (N.seen g.R.Read.remaining s) l (c.loop-at.at + N.length bytes)) (N.sym
           (N.take-put_mid c.loop-at.at ((c.loop-at.at + N.length bytes) - c.loop-at.at) c.loop-at.to bytes (c.loop-at.at + N.length bytes)
-          (omega N.arith) inv.within))
-          (takes_piece g.R.Read.remaining c.args.self.now c.loop-at.self s (N.take c.loop-at.at c.loop-at.to) bytes
+          (omega N.arith) inv.within)) (takes_piece g.R.Read.remaining c.args.self.now c.loop-at.self s (N.take c.loop-at.at c.loop-at.to) bytes
           (N.length-take-le c.loop-at.at c.loop-at.to inv.within) c.in-Ok.ensures.len.0 inv.takes k.0));
     }
 
 pub returns-in-Err-clause-part : goal.returns-in-Err-clause-part
-returns-in-Err-clause-part g c = λ _.
-    let s = c.piece.follows.lender-at-none in
+returns-in-Err-clause-part g c = λ _. let s = c.piece.follows.lender-at-none in
     let left : g.R.Read.remaining c.cut.new.self.from.now.device ≡ g.R.Read.remaining s.from.now.device = search rules in
     let count : c.cut.new.self.from.now.failures ≡ s.from.now.failures = search rules in (
       c.loop-at.at,

@@ -31,8 +31,7 @@ returns g c =
             rw (value, m) (N.Futures.Takes-trans (seen g.R.Read.remaining c.args.self.now) (seen g.R.Read.remaining s)
                 (seen g.R.Read.remaining (N.further s n)) []
                 (N.take n (N.buffered s)) 1 1 (N.le_refl 1) ready.gives (N.Futures.further_takes g.R.Read.remaining s n 1 fits going)),
-            between_of g.R.Read.remaining
-                (N.further s n) going,
+            between_of g.R.Read.remaining (N.further s n) going,
             rw (value, m) (omega arith),
             going,
           ),
