@@ -32,16 +32,15 @@ doubled_length = grind (arith, of_one, doubled_character, N.cases_lt, of_two, of
 
 -- two bytes
 pub two_more : (t u v : List ℕ) (a b : ℕ) → u ≡ t ++ a ∷ [] → v ≡ u ++ b ∷ [] → v ≡ t ++ a ∷ b ∷ []
-two_more t u v a b eu ev = simp (ev, eu, N.append_assoc)
+two_more = grind (arith, N.append_assoc)
 
 -- three
 pub three_more : (t u v w : List ℕ) (a b c : ℕ) → u ≡ t ++ a ∷ [] → v ≡ u ++ b ∷ [] → w ≡ v ++ c ∷ [] → w ≡ t ++ a ∷ b ∷ c ∷ []
-three_more t u v w a b c eu ev ew = simp (ew, ev, eu, N.append_assoc)
+three_more = grind (arith, N.append_assoc)
 
 -- four
-pub four_more : (t u v w x : List ℕ) (a b c d : ℕ) → u ≡ t ++ a ∷ [] → v ≡ u ++ b ∷ [] → w ≡ v ++ c ∷ [] → x ≡ w ++ d ∷ []
-    → x ≡ t ++ a ∷ b ∷ c ∷ d ∷ []
-four_more t u v w x a b c d eu ev ew ex = simp (ex, ew, ev, eu, N.append_assoc)
+pub four_more : (t u v w x : List ℕ) (a b c d : ℕ) → u ≡ t ++ a ∷ [] → v ≡ u ++ b ∷ [] → w ≡ v ++ c ∷ [] → x ≡ w ++ d ∷ [] → x ≡ t ++ a ∷ b ∷ c ∷ d ∷ []
+four_more = grind (arith, N.append_assoc)
 
 -- a character that isn't a quote is as long as it is without doubling
 pub doubled_as_long : (c k : ℕ) → 128 ≤ c → length (encode_utf8 c) ≡ k → length (doubled (encode_utf8 c)) ≡ k
@@ -55,5 +54,5 @@ added_doubled = grind (arith, doubled_character)
 pub front_written : (old new bytes : List ℕ) (at n m : ℕ) → n ≤ m → at ≤ length old → take (at + m) new ≡ take at old ++ bytes
     → take (at + n) new ≡ take at old ++ take n bytes
 front_written old new bytes at n m few within written =
-    let place : at + n ≡ length (take at old) + n = omega (arith, N.length-take-le at old within) in
+    let place : at + n ≡ length (take at old) + n = grind (arith, N.length-take-le) in
     rw (← N.take-take (at + n) (at + m) new (omega arith), written, place) (N.take-append-add (take at old) bytes n)

@@ -1,6 +1,6 @@
 -- The tests of the conversions tell their facts.
 use Rattle.tds_text.proofs as N
-use N.{◌≡◌, ℕ, ◌%◌, true, List, [], ◌++◌, arith, ◌↔◌, Conversion, HexDigits, Utf16Text, Windows1252Text, Utf8Text, is_fit}
+use N.{◌≡◌, ℕ, ◌%◌, true, List, [], ◌++◌, arith, ◌↔◌, Conversion, is_fit}
 
 pub fit_by_test : (c : Conversion) (bytes : List ℕ) → (is_fit c bytes ≡ true) ↔ N.IsFit c bytes
 fit_by_test = grind (arith, N.IsUtf8-from_is_utf8, N.is_utf8-from_IsUtf8)
@@ -9,10 +9,10 @@ pub begun_by_test : (c : Conversion) (bytes : List ℕ) → (N.is_begun c bytes 
 begun_by_test = grind (arith, N.Utf8Laws.none_begins, N.Utf8Laws.begins_none)
 
 pub joins_by_name : (c : Conversion) → N.JoinsPieces (N.IsFit c) (N.BeginsData c) (N.conversion_rest c) (N.conversion_text c)
-joins_by_name HexDigits = N.SingleLaws.joins_binary
-joins_by_name Utf16Text = N.Utf16Laws.joins_utf16
-joins_by_name Windows1252Text = N.SingleLaws.joins_windows_1252
-joins_by_name Utf8Text = N.Utf8Laws.joins_utf8
+joins_by_name N.HexDigits = N.SingleLaws.joins_binary
+joins_by_name N.Utf16Text = N.Utf16Laws.joins_utf16
+joins_by_name N.Windows1252Text = N.SingleLaws.joins_windows_1252
+joins_by_name N.Utf8Text = N.Utf8Laws.joins_utf8
 
 -- no data is whole
 pub no_data_is_fit : (c : Conversion) → is_fit c [] ≡ true

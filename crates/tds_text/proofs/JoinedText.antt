@@ -1,7 +1,7 @@
 -- Text whose characters have one or two bytes, found by a look at each byte with the next one.
 use Rattle.tds_text.proofs as N
-use N.{◌≡◌, ◌∙◌, ℕ, ◌+◌, ◌-◌, ◌<◌, ◌≤◌, Bool, List, [], ◌∷◌, IsUtf8, ap, arith, doubled, drop, false, get_or, inl, inr}
-use N.{length, not, prefix_len, refl, suc, take, true, zero}
+use N.{◌≡◌, ◌∙◌, ℕ, ◌+◌, ◌-◌, ◌<◌, ◌≤◌, Bool, List, [], ◌∷◌, IsUtf8, ap, arith, doubled, drop, false, get_or, inl, inr, length, not, refl, suc, take, true}
+use N.{zero}
 use N.Singles.{one_utf8}
 use N.Utf8Laws.{two_bytes}
 use Rattle.std.proofs.lemmas.Bool.{cases_Bool}
@@ -18,7 +18,7 @@ AreJoined (suc n) xs = ⊥
 -- ---- from a run of lanes to its bytes
 
 run_joins : (k : ℕ) (xs : List ℕ) (n : ℕ) → k < length xs
-    → n ≤ prefix_len is_joined (zip2 (λ b next. (b, next)) (take k xs) (take k (drop 1 xs))) → AreJoined n xs
+    → n ≤ N.prefix_len is_joined (zip2 (λ b next. (b, next)) (take k xs) (take k (drop 1 xs))) → AreJoined n xs
 unfolding AreJoined
 run_joins k xs zero long few = tt
 run_joins zero xs (suc n) long few = grind arith
@@ -26,11 +26,10 @@ run_joins (suc k) [] (suc n) long few = grind arith
 run_joins (suc k) (a ∷ []) (suc n) long few = grind arith
 run_joins (suc k) (a ∷ b ∷ xs) (suc n) long few =
     let here : is_joined (a, b) ≡ true = grind arith in
-    (here, run_joins k (b ∷ xs) n (omega arith) (grind (arith, here)))
+    (here, run_joins k (b ∷ xs) n (omega arith) (grind arith))
 
-joined_at : (source : List ℕ) (at n : ℕ) → at + 16 < length source → n ≤ prefix_len is_joined (pairs_at at source) → AreJoined n (drop at source)
-joined_at source at n there few =
-    run_joins 16 (drop at source) n (omega (arith, N.length-drop at source)) (rw (drop-drop 1 at source) few)
+joined_at : (source : List ℕ) (at n : ℕ) → at + 16 < length source → n ≤ N.prefix_len is_joined (pairs_at at source) → AreJoined n (drop at source)
+joined_at source at n there few = run_joins 16 (drop at source) n (grind (arith, N.length-drop)) (rw (drop-drop 1 at source) few)
 
 -- ---- the text of such bytes
 
@@ -40,28 +39,26 @@ after_one a text plain more = (N.IsUtf8-append (a ∷ []) text (one_utf8 a (grin
 
 after_two : (a b : ℕ) (text : List ℕ) → is_lead a ≡ true → is_trail b ≡ true → IsUtf8 text × (doubled text ≡ text)
     → IsUtf8 (a ∷ b ∷ text) × (doubled (a ∷ b ∷ text) ≡ a ∷ b ∷ text)
-after_two a b text lead trail more =
-    (N.IsUtf8-append (a ∷ b ∷ []) text (two_bytes a b (grind arith) (grind arith) (grind arith) (grind arith)) more.0, grind (arith, more.1))
+after_two a b text lead trail more = (N.IsUtf8-append (a ∷ b ∷ []) text (grind (arith, two_bytes)) more.0, grind (arith, more.1))
 
 -- whole bytes of it, the last of which begins no character of two bytes
 joined_text : (n : ℕ) (xs : List ℕ) → AreJoined n xs → is_trail (get_or xs 0 0) ≡ false → ((k : ℕ) → n ≡ suc k → is_lead (get_or xs k 0) ≡ false)
     → IsUtf8 (take n xs) × (doubled (take n xs) ≡ take n xs)
 unfolding AreJoined
-joined_text zero xs joined first last = (N.IsUtf8-nil, refl)
+joined_text zero xs joined first last = grind arith
 joined_text (suc n) [] joined first last = absurd joined
 joined_text (suc n) (a ∷ []) joined first last = absurd joined
 joined_text (suc zero) (a ∷ b ∷ xs) joined first last =
     let other : is_lead a ≡ false = last 0 refl in
-    after_one a [] (grind (arith, joined.0, first)) (N.IsUtf8-nil, refl)
+    after_one a [] (grind arith) (N.IsUtf8-nil, refl)
 joined_text (suc (suc n)) (a ∷ b ∷ []) joined first last = absurd joined.1
 joined_text (suc (suc n)) (a ∷ b ∷ d ∷ xs) joined first last = elim (cases_Bool (is_lead a)) [
   | inl lead ↦
-      let trail : is_trail b ≡ true = grind (arith, joined.0) in
-      let more = joined_text n (d ∷ xs) joined.1.1 (grind (arith, joined.1.0)) (λ k is. last (suc (suc k)) (ap suc (ap suc is))) in
+      let trail : is_trail b ≡ true = grind arith in
+      let more = joined_text n (d ∷ xs) joined.1.1 (grind arith) (λ k is. last (suc (suc k)) (ap suc (ap suc is))) in
       after_two a b (take n (d ∷ xs)) lead trail more
   | inr other ↦
-      after_one a (take (suc n) (b ∷ d ∷ xs)) (grind (arith, joined.0, first)) (joined_text (suc n) (b ∷ d ∷ xs) joined.1 (grind (arith, joined.0))
-      (λ k is. last (suc k) (ap suc is)))
+      after_one a (take (suc n) (b ∷ d ∷ xs)) (grind arith) (joined_text (suc n) (b ∷ d ∷ xs) joined.1 (grind arith) (λ k is. last (suc k) (ap suc is)))
 ]
 
 -- before a byte that begins a character of two bytes no other one does
@@ -69,37 +66,32 @@ lead_after : (n : ℕ) (xs : List ℕ) → AreJoined (suc (suc n)) xs → is_lea
 unfolding AreJoined
 lead_after n [] joined last = absurd joined
 lead_after n (a ∷ []) joined last = absurd joined
-lead_after zero (a ∷ b ∷ xs) joined last = grind (arith, joined.0, last)
+lead_after zero (a ∷ b ∷ xs) joined last = grind arith
 lead_after (suc n) (a ∷ b ∷ xs) joined last = lead_after n (b ∷ xs) joined.1 last
 
 module _ (bytes source : List ℕ) (at : ℕ) (lies : N.LiesIn bytes source) (there : at + 16 < length source)
-    (first : is_trail (get_or source at 0) ≡ false) (n : ℕ) (within : at + n ≤ length bytes) (few : n ≤ prefix_len is_joined (pairs_at at source)) where
+    (first : is_trail (get_or source at 0) ≡ false) (n : ℕ) (within : at + n ≤ length bytes) (few : n ≤ N.prefix_len is_joined (pairs_at at source)) where
   most : n ≤ 16
   most = omega (arith, few, N.LaneMasks.pairs_most source at there is_joined)
 
   begins : is_trail (get_or (drop at source) 0 0) ≡ false
-  begins =
-      let here : at + 0 ≡ at = omega arith in
-      rw (N.get_or-drop at source 0 0, here) first
+  begins = grind (arith, N.get_or-drop)
 
   text_of : (k : ℕ) → k ≤ n → ((j : ℕ) → k ≡ suc j → is_lead (get_or (drop at source) j 0) ≡ false)
       → IsUtf8 (take k (drop at bytes)) × (doubled (take k (drop at bytes)) ≡ take k (drop at bytes))
   text_of k less last =
       rw (N.LaneMasks.alike bytes source at k lies (omega (arith, most)) (omega arith), N.take-take k 16 (drop at source) (omega (arith, most)))
-      (joined_text k (drop at source) (joined_at source at k there (omega arith)) begins last)
+      (joined_text k (drop at source) (grind (arith, joined_at)) begins last)
 
   last_at : (k : ℕ) → n ≡ suc k → get_or (drop at source) k 0 ≡ get_or source (at + n - 1) 0
-  last_at k is =
-      let place : at + k ≡ at + n - 1 = omega arith in
-      N.get_or-drop at source k 0 ∙ ap (λ j. get_or source j 0) place
+  last_at = grind (arith, N.get_or-drop)
 
   -- the first bytes of a run up to one that begins no character of two bytes are text
   pub run_text : (0 < n → is_lead (get_or source (at + n - 1) 0) ≡ false)
       → IsUtf8 (take n (drop at bytes)) × (doubled (take n (drop at bytes)) ≡ take n (drop at bytes))
-  run_text last = text_of n (omega arith) (λ k is. rw (last_at k is) (last (omega arith)))
+  run_text last = text_of n (omega arith) (grind (arith, last_at))
 
   -- so are those before one that does
   pub run_text_before : 0 < n → is_lead (get_or source (at + n - 1) 0) ≡ true
       → IsUtf8 (take (n - 1) (drop at bytes)) × (doubled (take (n - 1) (drop at bytes)) ≡ take (n - 1) (drop at bytes))
-  run_text_before some last = text_of (n - 1) (omega arith)
-      (λ k is. lead_after k (drop at source) (joined_at source at (suc (suc k)) there (omega arith)) (rw (last_at (suc k) (omega arith)) last))
+  run_text_before some last = text_of (n - 1) (omega arith) (grind (arith, lead_after, joined_at, last_at))

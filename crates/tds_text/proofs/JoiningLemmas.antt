@@ -14,7 +14,7 @@ settled_front = grind (arith, N.length-append, N.take_at)
 
 module _ {rest text : List ℕ → List ℕ} where
   pub Leads-none : {xs : List ℕ} → Leads rest text xs xs []
-  Leads-none = record { emits = N.refl; keeps = N.refl }
+  Leads-none = grind arith
 
   pub Leads-trans : {xs ys zs p q : List ℕ} → Leads rest text xs ys p → Leads rest text ys zs q → Leads rest text xs zs (p ++ q)
   Leads-trans = grind (arith, N.append_assoc)
@@ -35,8 +35,7 @@ module _ {rest text : List ℕ → List ℕ} {fit begins : List ℕ → Type 0} 
 
   -- one more chunk, whose rest begins after so many bytes
   pub Leads-next : (xs : List ℕ) (at n used : ℕ) → begins (drop at xs) → used ≤ length (take n (drop at xs))
-      → drop used (take n (drop at xs)) ≡ rest (take n (drop at xs))
-      → Leads rest text (drop at xs) (drop (at + used) xs) (emit rest text (take n (drop at xs)))
+      → drop used (take n (drop at xs)) ≡ rest (take n (drop at xs)) → Leads rest text (drop at xs) (drop (at + used) xs) (emit rest text (take n (drop at xs)))
   Leads-next xs at n used h le e = rw (← N.drop-drop used at xs) (Leads-from (drop at xs) _ _ used (N.sym (N.take-append-drop n (drop at xs))) h le e)
 
   -- withheld bytes with the first ones of a piece are the first chunk of both

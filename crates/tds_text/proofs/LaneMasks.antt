@@ -4,8 +4,7 @@ use N.{Bool, Each1, Fits, List, [], ap, arith, chunk, drop, false, length, map, 
 use N.{◌++◌, ◌<◌, ◌^◌, ◌∙◌, ◌∷◌, ◌≡◌, ◌≤◌, ◌||◌}
 use Rattle.std.proofs.Math.Nat.{add-mul-mod_self_left, mod-eq_of_lt, mul_assoc, pow-succ'}
 use Rattle.std.proofs.lemmas.List.Sums.{count_by-le-length}
-use Rattle.std.proofs.lemmas.Nat.{pow_pos}
-use Rattle.std.proofs.lemmas.Nat.{and_mask, le_or_l, le_or_r}
+use Rattle.std.proofs.lemmas.Nat.{pow_pos, and_mask, le_or_l, le_or_r}
 use Rattle.std.proofs.lemmas.List.{drop-map}
 use Rattle.std.proofs.lemmas.Simd.{Each1-replicate}
 use Rattle.std.proofs.Math.Seq.{drop-append_seam}
@@ -29,22 +28,20 @@ run_before : (A : Type 0) (bit n : ℕ) (f : A → ℕ) (v : List A) {z : List �
     → N.first_set (mask_l (map (top bit) z) % 2 ^ 64) n ≡ N.prefix_len (λ x. not (top bit (f x))) v
 run_before A bit n f v long few lanes =
     let stops = λ (x : A). top bit (f x) in
-    rw (lanes, N.map-map (top bit) f v, (N.mask_l-mod (map stops v) 64 (omega (arith, N.length-map v stops)))) (N.first_set_mask_l stops v n long few)
+    rw (lanes, N.map-map (top bit) f v, (N.mask_l-mod (map stops v) 64 (grind (arith, N.length-map)))) (N.first_set_mask_l stops v n long few)
 
 -- a lane stops just where q fails
 pub run_in : (n : ℕ) (q : ℕ → Bool) (d : List ℕ) (i : ℕ) {z : List ℕ} → n ≤ 64 → i + n ≤ length d → ((k : ℕ) → Fits w8 (N.get_or d k 0)) → (f : ℕ → ℕ)
     → z ≡ map f (chunk i n d)
     → N.agree_below (λ x. not (top 7 (f x))) q 256 ≡ true → N.first_set (mask_l (map (top 7) z) % 2 ^ 64) n ≡ N.prefix_len q (chunk i n d)
-run_in n q d i few room fits f lanes all =
-    run_before ℕ 7 n f (chunk i n d) (N.length-chunk i n d room) few lanes
+run_in n q d i few room fits f lanes all = run_before ℕ 7 n f (chunk i n d) (N.length-chunk i n d room) few lanes
     ∙ same_prefix (Fits w8) (λ x small. N.agree_below_at (λ x. not (top 7 (f x))) q 256 x all small.fits) (chunk i n d) (N.chunk-fits w8 i n d fits)
 
 pub run_most : (q : ℕ → Bool) (d : List ℕ) (i n : ℕ) → i + n ≤ length d → N.prefix_len q (chunk i n d) ≤ n
 run_most = grind (arith, N.prefix_len-le-length, N.length-chunk)
 
 -- bytes that lie in others are the same as those
-pub alike : (bytes source : List ℕ) (at n : ℕ) → N.LiesIn bytes source → n ≤ 16 → at + n ≤ length bytes
-    → take n (drop at bytes) ≡ take n (chunk at 16 source)
+pub alike : (bytes source : List ℕ) (at n : ℕ) → N.LiesIn bytes source → n ≤ 16 → at + n ≤ length bytes → take n (drop at bytes) ≡ take n (chunk at 16 source)
 alike bytes source at n lies few within =
     let k = length bytes - at in
     let all : at + k ≡ length bytes = omega arith in
@@ -60,7 +57,7 @@ pub mask_of : (q : ℕ → Bool) (f : ℕ → ℕ) (us : List ℕ) {z : List ℕ
     → ((u : ℕ) → u < 65536 → top 15 (f u) ≡ q u) → mask_l (map (top 15) z) % 2 ^ 64 ≡ mask_l (map q us)
 mask_of q f us long fits lanes same =
     let stops = λ (u : ℕ). top 15 (f u) in
-    rw (lanes, N.map-map (top 15) f us) (N.mask_l-mod (map stops us) 64 (omega (arith, N.length-map us stops)) ∙ ap mask_l (same_map same us fits))
+    rw (lanes, N.map-map (top 15) f us) (N.mask_l-mod (map stops us) 64 (grind (arith, N.length-map)) ∙ ap mask_l (same_map same us fits))
 
 -- so many lanes have a small mask
 mask_small : (k : ℕ) (ms : List Bool) → length ms ≤ k → mask_l ms < 2 ^ k
@@ -78,7 +75,7 @@ mask_parts (suc n) (m ∷ ms) =
     omega (arith, mask_parts n ms)
 
 mask_first : (n : ℕ) (ms : List Bool) → mask_l (take n ms) < 2 ^ n
-mask_first n ms = mask_small n (take n ms) (omega (arith, N.length-take n ms))
+mask_first = grind (arith, mask_small, N.length-take)
 
 -- the lowest bits of a mask are those of the first lanes
 pub first_lanes : (q : ℕ → Bool) (n : ℕ) (us : List ℕ) {mask : ℕ} → mask ≡ mask_l (map q us) → mask % 2 ^ n ≡ mask_l (map q (take n us))
@@ -117,7 +114,7 @@ all_pass q (suc n) [] few is = grind arith
 all_pass q (suc n) (u ∷ us) few is =
     let here : q u ≡ true = grind arith in
     let more = all_pass q n us (omega arith) (grind arith) in
-    ((here, more.0), ap suc more.1)
+    grind arith
 
 -- none of the first passes, if their mask is empty
 pub none_of_first : (q : ℕ → Bool) (us : List ℕ) (n : ℕ) {mask low : ℕ} → mask ≡ mask_l (map q us) → low ≡ mask % 2 ^ n → low ≡ 0
@@ -130,7 +127,7 @@ pub zeros_after : (q : ℕ → Bool) (n : ℕ) (us : List ℕ) (m : ℕ) {mask :
 zeros_after q n us m is zeros fails =
     let ms = map q us in
     let none = none_set q (N.replicate m 0) (Each1-replicate (λ u. q u ≡ false) m 0 fails) in
-    let rest : mask_l (drop n ms) ≡ 0 = rw (drop-map q n us, zeros) none in
+    let rest : mask_l (drop n ms) ≡ 0 = grind (arith, drop-map) in
     is ∙ mask_parts n ms ∙ rw (rest, N.take-map q n us) (omega arith)
 
 -- ---- the first units
@@ -148,16 +145,15 @@ first_kept n m us long fits = grind arith
 
 -- a row of the table has the bits of so many units
 first_row : (n : ℕ) → n < 9 → N.get_or N.FIRST n [] ≡ N.replicate n 65535 ++ N.replicate (8 - n) 0
-first_row n few = (N.bytes_eq-Decides _ _).0
-    (N.agree_below_at (λ i. N.bytes_eq (N.get_or N.FIRST i []) (N.replicate i 65535 ++ N.replicate (8 - i) 0)) (λ _. true) 9 n refl few)
+first_row = grind (arith, N.bytes_eq-Decides, N.agree_below_at)
 
 pub first_of : (n : ℕ) (us : List ℕ) {row : List ℕ} → length us ≡ 8 → n ≤ 8 → Each1 (Fits N.w16) us → row ≡ N.get_or N.FIRST n []
     → (take n (zip2 N.bit_and us row) ≡ take n us) × (drop n (zip2 N.bit_and us row) ≡ N.replicate (8 - n) 0)
 first_of n us {row} long few fits is =
     let zeros = N.replicate (8 - n) 0 in
-    let same : zip2 N.bit_and us row ≡ take n us ++ zeros = rw (is, (first_row n (omega arith))) (first_kept n (8 - n) us (omega arith) fits) in
+    let same : zip2 N.bit_and us row ≡ take n us ++ zeros = rw (is, (first_row n (omega arith))) (grind (arith, first_kept)) in
     let counted = N.length-take-le n us (omega arith) in
-    ((rw (same) (rw counted at (N.take-append_seam (take n us) zeros))), (rw (same) (rw counted at (drop-append_seam (take n us) zeros))))
+    ((rw (same) (grind (arith, N.take-append_seam))), (rw (same) (grind (arith, drop-append_seam))))
 
 -- at most eight lanes come before the first that passes
 pub first_few : (q : ℕ → Bool) (us : List ℕ) {mask : ℕ} → length us ≡ 8 → mask ≡ mask_l (map q us) → N.first_set mask 8 ≤ 8
@@ -182,22 +178,7 @@ seconds (x ∷ xs) (y ∷ ys) same = ap (λ l. y ∷ l) (seconds xs ys (omega ar
 lane_stops : (quote high lead trail : Bool)
     → top 7 (N.bit_or (N.bit_or (N.cond quote 255 0) (bit_xor (N.cond high 255 0) (N.cond lead 255 0))) (bit_xor (N.cond lead 255 0) (N.cond trail 255 0)))
     ≡ (quote || (N.cond high (not lead) lead || N.cond lead (not trail) trail))
-lane_stops true true true true = refl
-lane_stops true true true false = refl
-lane_stops true true false true = refl
-lane_stops true true false false = refl
-lane_stops true false true true = refl
-lane_stops true false true false = refl
-lane_stops true false false true = refl
-lane_stops true false false false = refl
-lane_stops false true true true = refl
-lane_stops false true true false = refl
-lane_stops false true false true = refl
-lane_stops false true false false = refl
-lane_stops false false true true = refl
-lane_stops false false true false = refl
-lane_stops false false false true = refl
-lane_stops false false false false = refl
+lane_stops = grind arith
 
 -- so it stops just where a byte and the next one don't go on with a text of characters of one and two bytes
 pub pair_stops : (a b : ℕ) → a < 256 → b < 256 → not (top 7 (N.bit_or
@@ -206,7 +187,7 @@ pub pair_stops : (a b : ℕ) → a < 256 → b < 256 → not (top 7 (N.bit_or
 pair_stops a b small little =
     let lead : ltb ((a + 62) % 256) 30 ≡ is_lead a = grind arith in
     let trail : ltb ((b + 128) % 256) 64 ≡ is_trail b = grind arith in
-    rw (lane_stops (N.eqb a 34) (N.leb 192 a) (ltb ((a + 62) % 256) 30) (ltb ((b + 128) % 256) 64), lead, trail) (grind arith)
+    grind (arith, lane_stops, N.eqb, N.leb)
 
 -- two bytes
 ArePair : ℕ × ℕ → Type 0
@@ -220,21 +201,19 @@ module _ (d : List ℕ) (at : ℕ) (room : at + 16 < length d) where
   pairs_long = N.length-zip2 _ (chunk at 16 d) (chunk (at + 1) 16 d) same_long ∙ N.length-chunk at 16 d (omega arith)
 
   pub pairs_most : (q : ℕ × ℕ → Bool) → N.prefix_len q (pairs_at at d) ≤ 16
-  pairs_most q = grind (arith, N.prefix_len-le-length q (pairs_at at d), pairs_long)
+  pairs_most = grind (arith, N.prefix_len-le-length, pairs_long)
 
   pub here_lanes : chunk at 16 d ≡ map (λ (p : ℕ × ℕ). p.0) (pairs_at at d)
-  here_lanes = firsts (chunk at 16 d) (chunk (at + 1) 16 d) same_long
+  here_lanes = grind (arith, firsts, same_long)
 
   pub next_lanes : chunk (at + 1) 16 d ≡ map (λ (p : ℕ × ℕ). p.1) (pairs_at at d)
-  next_lanes = seconds (chunk at 16 d) (chunk (at + 1) 16 d) same_long
+  next_lanes = grind (arith, seconds, same_long)
 
   -- a lane stops just where q fails
   pub run_of_pairs : (q : ℕ × ℕ → Bool) {z : List ℕ} → ((k : ℕ) → Fits w8 (N.get_or d k 0)) → (f : ℕ × ℕ → ℕ) → z ≡ map f (pairs_at at d)
-      → ((a b : ℕ) → a < 256 → b < 256 → not (top 7 (f (a, b))) ≡ q (a, b))
-      → N.first_set (mask_l (map (top 7) z) % 2 ^ 64) 16 ≡ N.prefix_len q (pairs_at at d)
+      → ((a b : ℕ) → a < 256 → b < 256 → not (top 7 (f (a, b))) ≡ q (a, b)) → N.first_set (mask_l (map (top 7) z) % 2 ^ 64) 16 ≡ N.prefix_len q (pairs_at at d)
   unfolding ArePair
-  run_of_pairs q fits f lanes same =
-      run_before (ℕ × ℕ) 7 16 f (pairs_at at d) pairs_long (omega arith) lanes
+  run_of_pairs q fits f lanes same = run_before (ℕ × ℕ) 7 16 f (pairs_at at d) pairs_long (omega arith) lanes
       ∙ same_prefix ArePair (λ p small. same p.0 p.1 small.0.fits small.1.fits) (pairs_at at d) (N.Each1-zip2 _ ArePair _ _
       (N.Each2-of (Fits w8) (Fits w8) _ (λ a b x y. (x, y)) _ _ (N.chunk-fits w8 at 16 d fits) (N.chunk-fits w8 (at + 1) 16 d fits)))
 
@@ -259,7 +238,7 @@ pub none_long : (us : List ℕ) → length us ≡ 8 → Each1 (Fits N.w16) us
     → not (N.nat_eq (N.fold_l N.bit_or 0 (N.zip2 N.bit_and us (N.replicate 8 63488))) 0) ≡ false → Each1 (λ u. N.is_long u ≡ false) us
 none_long us long fits none =
     let all = N.fold_l N.bit_or 0 (N.zip2 N.bit_and us (N.replicate 8 63488)) in
-    let zero : all ≡ 0 = grind (arith, none) in
+    let zero : all ≡ 0 = grind arith in
     short_units us fits (none_joined 0 _ (rw (N.zip2_splat N.bit_and us 8 63488 long) at zero)).1
 
 -- a unit that has none of more bits, and is no quote, is a character of ASCII with a text of one byte
@@ -275,6 +254,6 @@ pub all_plain : (us : List ℕ) {z : List ℕ} → length us ≡ 8 → Each1 (Fi
     → N.fold_l N.bit_or 0 (N.zip2 N.bit_and us (N.replicate 8 65408)) ≡ 0 → z ≡ map (λ u. N.cond (N.eqb u 34) 65535 0) us
     → N.nat_eq (mask_l (map (top 15) z) % 2 ^ 64) 0 ≡ true → Each1 (λ u. N.is_wide u ≡ false) us
 all_plain us {z} long fits none lanes tested =
-    let quotes : mask_l (map (top 15) z) % 2 ^ 64 ≡ 0 = grind (arith, tested) in
+    let quotes : mask_l (map (top 15) z) % 2 ^ 64 ≡ 0 = grind arith in
     let masked = mask_of (λ u. N.eqb u 34) (λ u. N.cond (N.eqb u 34) 65535 0) us long fits lanes (grind arith) in
-    plain_units us fits (none_joined 0 _ (rw (N.zip2_splat N.bit_and us 8 65408 long) at none)).1 (none_passes _ us (N.sym masked ∙ quotes))
+    plain_units us fits (none_joined 0 _ (rw (N.zip2_splat N.bit_and us 8 65408 long) at none)).1 (none_passes _ us (grind arith))

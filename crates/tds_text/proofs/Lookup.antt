@@ -1,7 +1,7 @@
 -- What the tables of places have.
 use Rattle.tds_text.proofs as N
-use N.{high_quad, low_quad, pair, Bool, Each1, Fits, List, [], ap, ap₂, arith, cond, drop, get_or, length, map, mask_l, nat_eq, refl, suc, take, top, true, w16}
-use N.{w8, zero, ℕ, ◌%◌, ◌&&◌, ◌*◌, ◌++◌, ◌+◌, ◌/◌, ◌<◌, ◌^◌, ◌∙◌, ◌∷◌, ◌≡◌, ◌≤◌}
+use N.{high_quad, low_quad, pair, Bool, Each1, Fits, List, [], ap, ap₂, arith, cond, drop, get_or, length, map, nat_eq, refl, suc, take, top, true, w16, w8}
+use N.{zero, ℕ, ◌%◌, ◌&&◌, ◌*◌, ◌++◌, ◌+◌, ◌/◌, ◌<◌, ◌^◌, ◌∙◌, ◌∷◌, ◌≡◌, ◌≤◌}
 use Rattle.std.proofs.lemmas.List.{get_or-append-add, get_or_append_left}
 use Rattle.std.proofs.lemmas.Nat.{ones-le, ones_cat}
 use Rattle.std.specs.Prelude.{count_ones, flat_map}
@@ -35,7 +35,7 @@ module _ (size : ℕ) (lane places : ℕ → List ℕ) (wide : (u : ℕ) → len
   lanes_from front [] more = refl
   lanes_from front (u ∷ us) more =
       let later = flat_map lane us ++ more in
-      let there : length (front ++ lane u) ≡ length front + size = N.length-append front (lane u) ∙ ap (λ n. length front + n) (wide u) in
+      let there : length (front ++ lane u) ≡ length front + size = grind (arith, N.length-append) in
       let rest = rw (N.append_assoc front (lane u) later, there) at (lanes_from (front ++ lane u) us more) in
       rw (N.append_assoc (lane u) (flat_map lane us) more, N.map-append) (ap₂ (λ xs ys. xs ++ ys) (one_lane front (lane u) later (places u) (inside u)) rest)
 
@@ -43,8 +43,7 @@ module _ (size : ℕ) (lane places : ℕ → List ℕ) (wide : (u : ℕ) → len
   pub gathered_text : (text : ℕ → List ℕ) {row xs : List ℕ} (us more rest : List ℕ) → row ≡ placed size 0 (map places us) ++ rest
       → xs ≡ flat_map lane us ++ more → flat_map (λ u. map (λ k. get_or (lane u) k 0) (places u)) us ≡ flat_map text us
       → take (length (flat_map text us)) (map (λ j. get_or xs j 0) row) ≡ flat_map text us
-  gathered_text text us more rest row_is xs_is same =
-      rw (row_is, xs_is, N.map-append, (lanes_from [] us more ∙ same)) (N.take-append_seam (flat_map text us) _)
+  gathered_text text us more rest row_is xs_is same = rw (row_is, xs_is, N.map-append, (lanes_from [] us more ∙ same)) (N.take-append_seam (flat_map text us) _)
 
 -- the same text of each lane
 pub same_texts : {P : ℕ → Type 0} {f g : ℕ → List ℕ} → ((u : ℕ) → P u → f u ≡ g u) → (us : List ℕ) → Each1 P us → flat_map f us ≡ flat_map g us
@@ -57,25 +56,14 @@ bits zero mask = []
 bits (suc n) mask = nat_eq (mask % 2) 1 ∷ bits n (mask / 2)
 
 lowest_bit : (b : Bool) (n : ℕ) → (nat_eq ((cond b 1 0 + 2 * n) % 2) 1 ≡ b) × ((cond b 1 0 + 2 * n) / 2 ≡ n)
-lowest_bit true = grind arith
-lowest_bit N.false = grind arith
+lowest_bit = grind arith
 
 -- a row for two masks of some lanes begins with the places of these lanes
 pub row_begins : (f : Bool → Bool → List ℕ) (width at m : ℕ) (ws ls : List Bool) → length ws ≤ m → length ls ≡ length ws
-    → (rest : List ℕ) × (placed width at (zip2 f (bits m (mask_l ws)) (bits m (mask_l ls))) ≡ placed width at (zip2 f ws ls) ++ rest)
-row_begins f width at m [] [] few same = (placed width at (zip2 f (bits m (mask_l [])) (bits m (mask_l []))), refl)
+    → (rest : List ℕ) × (placed width at (zip2 f (bits m (N.mask_l ws)) (bits m (N.mask_l ls))) ≡ placed width at (zip2 f ws ls) ++ rest)
+row_begins f width at m [] [] few same = grind (arith, placed, bits)
 row_begins f width at (suc m) (w ∷ ws) (l ∷ ls) few same =
-    let more = row_begins f width (at + width) m ws ls (omega arith) (omega arith) in (
-      more.0,
-      rw (
-        (lowest_bit w (mask_l ws)).0,
-        (lowest_bit w (mask_l ws)).1,
-        (lowest_bit l (mask_l ls)).0,
-        (lowest_bit l (mask_l ls)).1,
-        more.1,
-        N.append_assoc,
-      ) refl,
-    )
+    let more = row_begins f width (at + width) m ws ls (omega arith) (omega arith) in grind (arith, lowest_bit, N.append_assoc)
 row_begins f width at zero (w ∷ ws) ls few same = grind arith
 row_begins f width at m [] (l ∷ ls) few same = grind arith
 row_begins f width at m (w ∷ ws) [] few same = grind arith
@@ -108,14 +96,7 @@ abbrev is_row : List ℕ → List ℕ → Bool
 is_row row begins = (nat_eq (length row) 16 && all_below 16 row) && N.bytes_eq row (begins ++ drop (length begins) row)
 
 tested : (row begins : List ℕ) → is_row row begins ≡ true → IsRow row begins
-tested row begins h =
-    let all = N.and_parts (nat_eq (length row) 16 && all_below 16 row) (N.bytes_eq row (begins ++ drop (length begins) row)) h in
-    record {
-      long = grind arith;
-      small = each_below 16 row (N.and_parts (nat_eq (length row) 16) (all_below 16 row) all.0).1;
-      is = (N.bytes_eq-Decides _ _).0
-          all.1;
-    }
+tested row begins h = grind (arith, N.and_parts, nat_eq, all_below, each_below, N.bytes_eq-Decides)
 
 pub pair_row : (mask : ℕ) → mask < 256 → IsRow (get_or N.PAIRS mask []) (placed 2 0 (zip2 pair_places (bits 8 mask) (bits 8 0)))
 pair_row mask small =
@@ -226,8 +207,7 @@ beside_second ls os = map (λ k. get_or (ls ++ os) k 0) (4 ∷ 12 ∷ 5 ∷ 13 �
 pub three_each : (us ls os : List ℕ) → length us ≡ 8 → Each1 (Fits w16) us → ls ≡ map lead us → os ≡ map others us
     → (take 12 (woven (digits_l 256 16 (number_l 65536 (beside_first ls os)))) ≡ take 12 (N.triples us))
     × (take 12 (woven (digits_l 256 16 (number_l 65536 (beside_second ls os)))) ≡ take 12 (drop 12 (N.triples us)))
-three_each (a ∷ b ∷ c ∷ d ∷ e ∷ f ∷ g ∷ h ∷ []) ls os long (fa, (fb, (fc, (fd, (fe, (ff, (fg, (fh, _)))))))) is_lead is_others =
-    rw (is_lead, is_others) (four_each a b c d fa.fits fb.fits fc.fits fd.fits, four_each e f g h fe.fits ff.fits fg.fits fh.fits)
+three_each (a ∷ b ∷ c ∷ d ∷ e ∷ f ∷ g ∷ h ∷ []) ls os long (fa, (fb, (fc, (fd, (fe, (ff, (fg, (fh, _)))))))) is_lead is_others = grind (arith, four_each)
 three_each us ls os long fits is_lead is_others = grind arith
 
 -- the bytes of four characters, four each
@@ -247,19 +227,17 @@ pub quad_lanes : (us ls hs : List ℕ) → length us ≡ 8 → Each1 (Fits w16) 
     → (digits_l 256 16 (number_l 65536 (beside_first ls hs)) ≡ flat_map N.quad_bytes (take 4 us))
     × (digits_l 256 16 (number_l 65536 (beside_second ls hs)) ≡ flat_map N.quad_bytes (drop 4 us))
 quad_lanes (a ∷ b ∷ c ∷ d ∷ e ∷ f ∷ g ∷ h ∷ []) ls hs long (fa, (fb, (fc, (fd, (fe, (ff, (fg, (fh, _)))))))) is_low is_high =
-    rw (is_low, is_high) (quad_each a b c d fa.fits fb.fits fc.fits fd.fits, quad_each e f g h fe.fits ff.fits fg.fits fh.fits)
+    rw (is_low, is_high) (grind (arith, quad_each))
 quad_lanes us ls hs long fits is_low is_high = grind arith
 
 -- what a lane of the second numbers computes
 pub high_lane : (u : ℕ) → u < 65536
     → cond (top 15 (cond (N.eqb u 34) 65535 0)) 8738 (((u / 4096 + (u / 64 % 64 * 256) % 65536) % 65536 + cond (top 15 (cond (N.leb 2048 u) 65535 0)) 32992
-    49376)
-    % 65536) ≡ high_quad u
+    49376) % 65536) ≡ high_quad u
 high_lane = grind arith
 
 -- and of the first
-pub low_lane : (u : ℕ) → u < 65536
-    → cond (top 15 (cond (N.eqb u 34) 65535 0)) 8738 ((u % 256 + ((u % 64 + 128) % 65536 * 256) % 65536) % 65536) ≡ low_quad u
+pub low_lane : (u : ℕ) → u < 65536 → cond (top 15 (cond (N.eqb u 34) 65535 0)) 8738 ((u % 256 + ((u % 64 + 128) % 65536 * 256) % 65536) % 65536) ≡ low_quad u
 low_lane = grind arith
 
 -- what holds of one number holds of eight lanes of it

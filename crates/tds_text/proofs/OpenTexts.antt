@@ -26,16 +26,14 @@ all_begun = grind (arith, N.take_all)
 
 -- a byte of the piece is bad
 stopped_front : (old piece : List ℕ) {whole good : ℕ} → utf8.Begins old → N.StopsAt (old ++ piece) whole good → BegunFront N.Utf8Text old piece
-stopped_front old piece {good = good} begins stops =
+stopped_front old piece {good} begins stops =
     let after = after_kept old piece (old ++ piece) good refl begins stops.bad in
     let at : good ≡ length old + (good - length old) = omega arith in
     grind (arith, after_kept, N.take-append-add, N.length-append)
 
-utf8_front : (old piece : List ℕ) (fault : N.Option ℕ) → N.utf8_error_len (utf8.rest (old ++ piece)) ≡ fault → utf8.Begins old
-    → BegunFront N.Utf8Text old piece
+utf8_front : (old piece : List ℕ) (fault : N.Option ℕ) → N.utf8_error_len (utf8.rest (old ++ piece)) ≡ fault → utf8.Begins old → BegunFront N.Utf8Text old piece
 utf8_front old piece N.None is begins = all_begun N.Utf8Text old piece (N.Utf8Laws.none_begins (old ++ piece) is)
-utf8_front old piece (N.Some k) is begins =
-    stopped_front old piece begins (N.Utf8Laws.stops_at (old ++ piece) _ k _ refl is refl)
+utf8_front old piece (N.Some k) is begins = stopped_front old piece begins (N.Utf8Laws.stops_at (old ++ piece) _ k _ refl is refl)
 
 -- after data that begins, the first bytes of any piece begin too and fix all the text that the piece fixes
 pub begun_front : (c : Conversion) (old piece : List ℕ) → N.BeginsData c old → BegunFront c old piece
@@ -45,7 +43,7 @@ begun_front = grind (arith, utf8_front, N.take_all)
 odd_front : (d : List ℕ) (x : ℕ) → (length (d ++ x ∷ []) % 2 ≡ 0 → ⊥) → utf16_laws.front (d ++ x ∷ []) ≡ utf16_laws.front d
 odd_front [] x odd = refl
 odd_front (low ∷ high ∷ []) x odd = refl
-odd_front (low ∷ high ∷ low' ∷ high' ∷ bytes) x odd = N.ap (λ l. low ∷ high ∷ l) (odd_front (low' ∷ high' ∷ bytes) x (λ e. odd (omega arith)))
+odd_front (low ∷ high ∷ low' ∷ high' ∷ bytes) x odd = N.ap (λ l. low ∷ high ∷ l) (odd_front (low' ∷ high' ∷ bytes) x (grind arith))
 odd_front bytes x odd = grind arith
 
 -- a byte after which no character ends completes none
@@ -58,9 +56,8 @@ unfit_front d x unfit =
     let fits = N.utf8_valid_len_le d in
     let same = N.take-append-le n d (x ∷ []) fits in
     rw (utf8_laws.valid_len_is all n (omega arith) (rw same (utf8_laws.front_is d)) (λ m more within u. elim (N.cases_lt m (length all)) [
-      | N.inl less ↦ utf8_laws.longest_is d m more (omega arith) (rw (N.take-append-le m d (x ∷ []) (omega arith)) at u)
-      | N.inr whole ↦ unfit
-          (rw (N.take_all m all whole) at u)
+      | N.inl less ↦ utf8_laws.longest_is d m more (omega arith) (grind (arith, N.take-append-le))
+      | N.inr whole ↦ grind (arith, N.take_all)
     ])) same
 
 -- a byte after which the data isn't whole adds no text
@@ -68,11 +65,11 @@ pub unfit_adds_none : (c : Conversion) (d : List ℕ) (x : ℕ) → N.is_fit c (
     → emit (N.conversion_rest c) (N.conversion_text c) (d ++ x ∷ []) ≡ emit (N.conversion_rest c) (N.conversion_text c) d
 unfit_adds_none N.HexDigits d x unfit = cc
 unfit_adds_none N.Utf16Text d x unfit =
-    let same = odd_front d x (λ e. cc ((fit_by_test N.Utf16Text (d ++ x ∷ [])).1 e)) in
+    let same = odd_front d x (grind (arith, fit_by_test)) in
     rw (utf16_laws.emit-front, utf16_laws.emit-front, same) refl
 unfit_adds_none N.Windows1252Text d x unfit = cc
 unfit_adds_none N.Utf8Text d x unfit =
-    let same = unfit_front d x (λ u. cc (N.is_utf8-from_IsUtf8 (d ++ x ∷ []) u)) in
+    let same = unfit_front d x (grind (arith, N.is_utf8-from_IsUtf8)) in
     rw (utf8_laws.emit-front, utf8_laws.emit-front, same) refl
 
 -- a piece grows the open field by the text of what was withheld and the piece

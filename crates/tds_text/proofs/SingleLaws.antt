@@ -31,8 +31,7 @@ pub hex-front : (n m : ℕ) (xs : List ℕ) → n ≤ length xs → N.take (2 * 
 hex-front n m xs within =
     let front = N.encode_lower (N.take n xs) in
     let size : 2 * n ≡ length front = omega (N.arith, hex-length N.lower_digits (N.take n xs), N.length-take-le n xs within) in
-    N.ap (λ l. N.take (2 * n) (N.encode_lower l)) (N.take-add n m xs)
-    ∙ N.ap (N.take (2 * n)) (hex-append N.lower_digits (N.take n xs) (N.take m (N.drop n xs)))
+    N.ap (λ l. N.take (2 * n) (N.encode_lower l)) (N.take-add n m xs) ∙ N.ap (N.take (2 * n)) (hex-append N.lower_digits (N.take n xs) (N.take m (N.drop n xs)))
     ∙ N.ap (λ (k : ℕ). N.take k (front ++ N.encode_lower (N.take m (N.drop n xs)))) size ∙ N.take-append_seam front _
 
 -- bytes as hexadecimal digits may come in pieces

@@ -1,16 +1,14 @@
 -- Data whose bytes each stand alone, put a run after the other.
 use Rattle.tds_text.proofs as N
-use N.{ArePlain, UPPER, List, [], arith, chunk, drop, get_or, is_plain, refl, take, true, ℕ, ◌%◌, ◌++◌, ◌+◌, ◌-◌, ◌/◌, ◌<◌, ◌∙◌}
-use N.{◌∷◌, ◌≡◌}
-use N.{◌≤◌}
-use Rattle.tds_text.specs.Windows1252 as windows_1252
+use N.{ArePlain, UPPER, List, [], arith, chunk, drop, get_or, is_plain, refl, take, true, ℕ, ◌%◌, ◌++◌, ◌+◌, ◌-◌, ◌/◌, ◌<◌, ◌∙◌, ◌∷◌, ◌≡◌, ◌≤◌}
 use Rattle.std.specs.Int.{to_le_bytes, w32}
 use Rattle.std.proofs.Common.{nat_le}
 use Rattle.std.specs.Char.{encode_utf8}
+use Rattle.tds_text.specs.Windows1252 as windows_1252
 
 module _ (text : List ℕ → List ℕ) (appends : (x y : List ℕ) → text (x ++ y) ≡ text x ++ text y) where
   pub runs : (t e : ℕ) (xs : List ℕ) → t ≤ e → text (take t xs) ++ text (take (e - t) (drop t xs)) ≡ text (take e xs)
-  runs t e xs h = let end : t + (e - t) ≡ e = omega arith in rw (← appends (take t xs) (take (e - t) (drop t xs)), ← N.take-add t (e - t) xs, end) refl
+  runs t e xs h = let end : t + (e - t) ≡ e = omega arith in grind (arith, N.take-add)
 
   -- which were added to it
   pub text_taken : {run after : List ℕ} (bytes : List ℕ) (at n : ℕ) → after ≡ run ++ text (take n (drop at bytes)) → run ≡ text (take at bytes)
@@ -20,13 +18,12 @@ module _ (text : List ℕ → List ℕ) (appends : (x y : List ℕ) → text (x 
   -- bytes that stand for themselves were
   pub itself_taken : {run after : List ℕ} (bytes : List ℕ) (at n : ℕ) → after ≡ run ++ take n (drop at bytes)
       → text (take n (drop at bytes)) ≡ take n (drop at bytes) → run ≡ text (take at bytes) → after ≡ text (take (at + n) bytes)
-  itself_taken {run = run} bytes at n added itself before = text_taken bytes at n (added ∙ N.ap (λ l. run ++ l) (N.sym itself)) before
+  itself_taken {run} bytes at n added itself before = text_taken bytes at n (grind arith) before
 
   -- that of one byte was
   pub one_taken : {run after : List ℕ} (bytes : List ℕ) (at : ℕ) → at < N.length bytes → after ≡ run ++ text (get_or bytes at 0 ∷ [])
       → run ≡ text (take at bytes) → after ≡ text (take (at + 1) bytes)
-  one_taken bytes at within one before = one ∙ N.ap (λ l. l ++ text (get_or bytes at 0 ∷ [])) before ∙ N.sym (appends (take at bytes) _)
-      ∙ N.ap text (N.sym (N.take_more bytes at 0 within))
+  one_taken = grind (arith, N.take_more)
 
   -- bytes that stand for themselves, up to the first that needn't
   module _ (q : ℕ → N.Bool) (empty : text [] ≡ []) (itself : (b : ℕ) → q b ≡ true → text (b ∷ []) ≡ b ∷ []) where
@@ -63,8 +60,7 @@ upper_text b low high is =
 
 -- the bytes of a number were written, and so many of them are that text
 pub upper_put : (b at : ℕ) {w : ℕ} (old new : List ℕ) → 128 ≤ b → b < 256 → w ≡ get_or UPPER (b - 128) 0 → at ≤ N.length old
-    → take (at + 4) new ≡ take at old ++ to_le_bytes w32 w
-    → take (at + w / 16777216) new ≡ take at old ++ windows_1252.text (b ∷ [])
+    → take (at + 4) new ≡ take at old ++ to_le_bytes w32 w → take (at + w / 16777216) new ≡ take at old ++ windows_1252.text (b ∷ [])
 upper_put b at {w} old new low high is within written =
     let t = upper_text b low high is in
     let three = N.Characters.front_written old new _ at 3 4 (omega arith) within written in
@@ -77,8 +73,7 @@ plain_itself = grind (arith, N.Characters.of_one)
 -- so are bytes that are
 pub plain_text : (bytes : List ℕ) → ArePlain bytes → windows_1252.text bytes ≡ bytes
 plain_text [] plain = refl
-plain_text (b ∷ bytes) plain = N.SingleLaws.windows_1252-append (b ∷ []) bytes
-    ∙ N.ap₂ (λ x y. x ++ y) (plain_itself b plain.0) (plain_text bytes plain.1)
+plain_text (b ∷ bytes) plain = N.SingleLaws.windows_1252-append (b ∷ []) bytes ∙ N.ap₂ (λ x y. x ++ y) (plain_itself b plain.0) (plain_text bytes plain.1)
 
 -- those that were found among the next 32
 pub wide_lanes : (bytes : List ℕ) (at n : ℕ) → n ≤ 32 → n ≡ N.prefix_len is_plain (chunk at 32 bytes)
@@ -96,7 +91,7 @@ plain_front (N.suc k) (b ∷ xs) h = grind (arith, plain_front k xs)
 -- some of those that were found among the next 16 of a source
 pub plain_among : (source bytes : List ℕ) (at n : ℕ) → n ≤ N.prefix_len is_plain (chunk at 16 source)
     → take n (drop at bytes) ≡ take n (chunk at 16 source) → ArePlain (take n (drop at bytes))
-plain_among source bytes at n plains same = rw same (plain_front n (chunk at 16 source) plains)
+plain_among = grind (arith, plain_front)
 
 -- with their quotes doubled they are as they were
 pub plain_doubled : (bytes : List ℕ) → ArePlain bytes → N.doubled bytes ≡ bytes
@@ -109,7 +104,7 @@ one_utf8 b small = N.subst N.IsUtf8 (N.Characters.of_one b small) (N.IsUtf8-enco
 
 pub plain_utf8 : (bytes : List ℕ) → ArePlain bytes → N.IsUtf8 bytes
 plain_utf8 [] plain = N.IsUtf8-nil
-plain_utf8 (b ∷ bytes) plain = N.IsUtf8-append (b ∷ []) bytes (one_utf8 b (grind (arith, plain.0))) (plain_utf8 bytes plain.1)
+plain_utf8 (b ∷ bytes) plain = N.IsUtf8-append (b ∷ []) bytes (grind (arith, one_utf8)) (plain_utf8 bytes plain.1)
 
 -- ---- bytes without a quote
 

@@ -7,33 +7,22 @@ use Rattle.tds_text.specs.Utf8Scan.{Converts}
 
 -- the next two bytes, and the next three
 two_next : (xs : List ℕ) → 2 ≤ length xs → take 2 xs ≡ get_or xs 0 0 ∷ get_or xs 1 0 ∷ []
-two_next (a ∷ b ∷ xs) h = N.refl
-two_next xs h = grind arith
+two_next = grind arith
 
 three_next : (xs : List ℕ) → 3 ≤ length xs → take 3 xs ≡ get_or xs 0 0 ∷ get_or xs 1 0 ∷ get_or xs 2 0 ∷ []
-three_next (a ∷ b ∷ d ∷ xs) h = N.refl
-three_next xs h = grind arith
+three_next = grind arith
 
-pub two_there : (bytes : List ℕ) (at : ℕ) → at + 2 ≤ length bytes
-    → take 2 (drop at bytes) ≡ get_or bytes at 0 ∷ get_or bytes (at + 1) 0 ∷ []
-two_there bytes at within = grind (arith, two_next (drop at bytes), N.length-drop, N.get_or-drop at bytes 0 0, N.get_or-drop at bytes 1 0)
+pub two_there : (bytes : List ℕ) (at : ℕ) → at + 2 ≤ length bytes → take 2 (drop at bytes) ≡ get_or bytes at 0 ∷ get_or bytes (at + 1) 0 ∷ []
+two_there = grind (arith, two_next, N.length-drop, N.get_or-drop)
 
 pub three_there : (bytes : List ℕ) (at : ℕ) → at + 3 ≤ length bytes
     → take 3 (drop at bytes) ≡ get_or bytes at 0 ∷ get_or bytes (at + 1) 0 ∷ get_or bytes (at + 2) 0 ∷ []
-three_there bytes at within = grind (
-  arith,
-  three_next (drop at bytes),
-  N.length-drop,
-  N.get_or-drop at bytes 0 0,
-  N.get_or-drop at bytes 1 0,
-  N.get_or-drop at bytes 2 0,
-)
+three_there = grind (arith, three_next, N.length-drop, N.get_or-drop)
 
 -- three bytes were put one after the other
 pub three_put : (old : List ℕ) {one two three next : List ℕ} (a b d : ℕ) → one ≡ old ++ a ∷ [] → two ≡ one ++ b ∷ [] → three ≡ two ++ d ∷ []
     → next ≡ a ∷ b ∷ d ∷ [] → three ≡ old ++ next
-three_put old a b d first second third is =
-    rw (third, second, first, is, N.append_assoc old (a ∷ []) (b ∷ []), N.append_assoc old (a ∷ b ∷ []) (d ∷ [])) N.refl
+three_put = grind (arith, N.append_assoc)
 
 -- a text after a text
 whole_after : (bytes : List ℕ) (at n : ℕ) → IsUtf8 (take at bytes) → IsUtf8 (take n (drop at bytes)) → IsUtf8 (take (at + n) bytes)
@@ -45,22 +34,22 @@ module _ (bytes : List ℕ) (at made : ℕ) {old new : List ℕ} (before : Conve
       → doubled (take n (drop at bytes)) ≡ take n (drop at bytes) → Converts bytes new (at + n) end
   added n ends within written whole itself = record {
     within = within;
-    room = omega (arith, before.room);
-    whole = whole_after bytes at n before.whole whole;
+    room = grind arith;
+    whole = grind (arith, whole_after);
     text = itself_taken doubled doubled-append bytes at n written itself before.text;
   }
 
   -- so were bytes of ASCII
   pub added_plain : (n : ℕ) → end ≡ made + n → at + n ≤ length bytes → take end new ≡ take made old ++ take n (drop at bytes)
       → N.ArePlain (take n (drop at bytes)) → Converts bytes new (at + n) end
-  added_plain n ends within written plain = added n ends within written (plain_utf8 _ plain) (plain_doubled _ plain)
+  added_plain = grind (arith, added, plain_utf8, plain_doubled)
 
   -- a byte of ASCII was added, twice if it is a quote
   pub added_one : at < length bytes → get_or bytes at 0 < 128 → end ≤ made + 2
       → take end new ≡ take made old ++ doubled (get_or bytes at 0 ∷ []) → Converts bytes new (at + 1) end
   added_one within ascii most written = record {
     within = omega arith;
-    room = omega (arith, before.room);
+    room = grind arith;
     whole = rw (N.take_more bytes at 0 within) (N.IsUtf8-append (take at bytes) (get_or bytes at 0 ∷ []) before.whole (one_utf8 _ ascii));
     text = one_taken doubled doubled-append bytes at within written before.text;
   }

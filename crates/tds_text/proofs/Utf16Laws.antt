@@ -1,24 +1,24 @@
 -- The laws of UTF-16 in pieces.
-use Rattle.tds_text.proofs.Words.{◌≡◌, ℕ, ◌%◌, ◌≤◌, ◌&&◌, Bool, true, false, cond, List, [], ◌∷◌, ◌++◌, length, refl, ap, ◌∙◌, arith, encode_utf8_all, ⊤}
-use Rattle.tds_text.proofs.Words.{map-append, length-append, encodes-append, utf16_lossy_chars, is_high_surrogate, is_low_surrogate, JoinsPieces, emit, doubled}
-use Rattle.tds_text.proofs.JoiningLemmas.{doubled-append, settled_front}
+use Rattle.tds_text.proofs as N
+use N.{◌≡◌, ℕ, ◌%◌, ◌≤◌, ◌&&◌, Bool, true, false, cond, List, [], ◌∷◌, ◌++◌, length, refl, ap, ◌∙◌, arith, ⊤, emit, doubled}
+use N.JoiningLemmas.{doubled-append, settled_front}
 use Rattle.tds_text.specs.Utf16.{units, is_high, IsFit, text, rest}
 use Rattle.std.specs.Char.Utf16.{utf16_chars}
 
 -- the first unit is a low surrogate
 unfoldable pub starts_low : List ℕ → Bool
 starts_low [] = false
-starts_low (u ∷ us) = is_low_surrogate u
+starts_low (u ∷ us) = N.is_low_surrogate u
 
 -- the first unit is a high surrogate
 abbrev starts_high : List ℕ → Bool
 starts_high [] = false
-starts_high (u ∷ us) = is_high_surrogate u
+starts_high (u ∷ us) = N.is_high_surrogate u
 
 -- no pair lies across the seam of two lists of units
 abbrev pub Apart : List ℕ → List ℕ → Type 0
 Apart [] vs = ⊤
-Apart (u ∷ []) vs = (is_high_surrogate u && starts_low vs) ≡ false
+Apart (u ∷ []) vs = (N.is_high_surrogate u && starts_low vs) ≡ false
 Apart (u ∷ v ∷ us) vs = Apart (v ∷ us) vs
 
 Apart-tail : (v : ℕ) (us vs : List ℕ) → Apart (v ∷ us) vs → Apart us vs
@@ -30,9 +30,9 @@ unfolding utf16_chars starts_low
 chars-apart [] vs h = refl
 chars-apart (u ∷ []) [] h = refl
 chars-apart (u ∷ []) (v ∷ vs) h = grind arith
-chars-apart (u ∷ v ∷ us) vs h = grind (arith, chars-apart us vs (Apart-tail v us vs h), chars-apart (v ∷ us) vs h)
+chars-apart (u ∷ v ∷ us) vs h = grind (arith, chars-apart us vs (grind arith), chars-apart (v ∷ us) vs h)
 
-high_is_not_low : (u : ℕ) → is_high_surrogate u ≡ true → is_low_surrogate u ≡ false
+high_is_not_low : (u : ℕ) → N.is_high_surrogate u ≡ true → N.is_low_surrogate u ≡ false
 high_is_not_low = grind arith
 
 -- the bytes before the rest
@@ -75,20 +75,19 @@ Apart-front (low ∷ high ∷ odd ∷ []) vs f = grind arith
 Apart-front (low ∷ high ∷ low' ∷ high' ∷ bytes) vs f = grind (arith, Apart-front (low' ∷ high' ∷ bytes) vs f)
 
 -- the text of units is that of both parts where no pair lies across
-texts : (us vs : List ℕ) → Apart us vs → doubled (encode_utf8_all (utf16_lossy_chars (us ++ vs))) ≡ doubled (encode_utf8_all (utf16_lossy_chars us))
-    ++ doubled (encode_utf8_all (utf16_lossy_chars vs))
-texts = grind (arith, chars-apart, map-append, encodes-append, doubled-append)
+texts : (us vs : List ℕ) → Apart us vs → doubled (N.encode_utf8_all (N.utf16_lossy_chars (us ++ vs))) ≡ doubled (N.encode_utf8_all (N.utf16_lossy_chars us))
+    ++ doubled (N.encode_utf8_all (N.utf16_lossy_chars vs))
+texts = grind (arith, chars-apart, N.map-append, N.encodes-append, doubled-append)
 
 text-front : (a b : List ℕ) → Apart (units (front a)) (units b) → text (front a ++ b) ≡ text (front a) ++ text b
-text-front a b h = ap (λ us. doubled (encode_utf8_all (utf16_lossy_chars us))) (seam a b).units_are ∙ texts (units (front a)) (units b) h
+text-front a b h = ap (λ us. doubled (N.encode_utf8_all (N.utf16_lossy_chars us))) (seam a b).units_are ∙ texts (units (front a)) (units b) h
 
 pub emit-front : (a : List ℕ) → emit rest text a ≡ text (front a)
 emit-front a = ap text (settled_front rest a (front a) (seam a []).whole)
 
 emits : (a b : List ℕ) → emit rest text (a ++ b) ≡ emit rest text a ++ emit rest text (rest a ++ b)
 unfolding starts_low
-emits a b =
-    rw (emit-front, emit-front a, emit-front (rest a ++ b), (seam a b).front_is) (text-front a (front (rest a ++ b))
+emits a b = rw (emit-front, emit-front a, emit-front (rest a ++ b), (seam a b).front_is) (text-front a (front (rest a ++ b))
     (Apart-front a (units (front (rest a ++ b))) (grind (arith, high_is_not_low))))
 
 ends : (a : List ℕ) → text a ≡ emit rest text a ++ text (rest a)
@@ -102,8 +101,8 @@ short a = (seam a []).few
 
 -- bytes are whole units just where their rest is
 parts : (bytes : List ℕ) → length bytes % 2 ≡ length (rest bytes) % 2
-parts bytes = let whole = (seam bytes []).even in omega (arith, ap length (seam bytes []).whole, length-append (front bytes) (rest bytes))
+parts bytes = let whole = (seam bytes []).even in omega (arith, ap length (seam bytes []).whole, N.length-append (front bytes) (rest bytes))
 
 -- text in UTF-16 may come in pieces
-pub joins_utf16 : JoinsPieces IsFit (λ _. ⊤) rest text
+pub joins_utf16 : N.JoinsPieces IsFit (λ _. ⊤) rest text
 joins_utf16 = grind (arith, emits, seam, short, ends, parts)

@@ -3,8 +3,7 @@ use Rattle.tds_text.proofs as N
 use N.{seam, List, [], ap, arith, drop, emit, false, get_or, is_low_surrogate, length, refl, take, true, unwrap_or, ℕ, ◌%◌, ◌&&◌, ◌*◌, ◌++◌, ◌+◌, ◌-◌, ◌<◌}
 use N.{◌||◌, ◌∙◌, ◌∷◌, ◌≡◌, ◌≤◌, ◌⊎◌}
 use N.JoiningLemmas.{doubled-append, Leads-none, Leads-seam, emit_held}
-use N.Utf16Laws.{emit-front, front, front_step, joins_utf16}
-use N.Utf16Laws.{rest_step, short, starts_low}
+use N.Utf16Laws.{emit-front, front, front_step, joins_utf16, rest_step, short, starts_low}
 use Rattle.std.specs.Char.Utf16.{utf16_chars}
 use Rattle.tds_text.specs.Utf16.{characters, is_high, rest, text, units}
 use Rattle.tds_text.specs.Utf16Next.{IsNext}
@@ -33,7 +32,7 @@ spells_one = grind (arith, chars_one)
 spells_pair : (low high low' high' : ℕ) (bytes : List ℕ) → is_high low high ≡ true → is_low_surrogate (low' + 256 * high') ≡ true
     → characters (low ∷ high ∷ low' ∷ high' ∷ bytes) ≡ N.encode_utf8 (N.surrogate_pair_char (low + 256 * high) (low' + 256 * high')) ++ characters bytes
 unfolding utf16_chars
-spells_pair low high low' high' bytes h l = simp (h, l)
+spells_pair = grind arith
 
 -- the text of a front, from its characters
 emits_by : (bytes more : List ℕ) (code : ℕ) → characters (front bytes) ≡ N.encode_utf8 code ++ characters (front more)
@@ -44,9 +43,9 @@ emits_by = grind (arith, emit-front, doubled-append)
 pub next_one : (low high : ℕ) (bytes : List ℕ) (code : ℕ) → is_high low high ≡ false → unwrap_or (N.lone_unit_char (low + 256 * high)) 0xFFFD ≡ code
     → IsNext (low ∷ high ∷ bytes) code 2
 next_one low high bytes code h e = record {
-  emits = emits_by (low ∷ high ∷ bytes) bytes code (rw (front_step low high bytes h) (spells_one low high (front bytes) code e (λ t. cc)));
-  keeps = rest_step low high bytes h;
-  spells = spells_one low high bytes code e (λ t. cc);
+  emits = emits_by (low ∷ high ∷ bytes) bytes code (grind (arith, front_step, spells_one, front));
+  keeps = grind arith;
+  spells = grind (arith, spells_one);
 }
 
 pub lone_other : (u : ℕ) → N.is_high_surrogate u ≡ false → is_low_surrogate u ≡ false → unwrap_or (N.lone_unit_char u) 0xFFFD ≡ u
@@ -70,8 +69,7 @@ unfolding starts_low
 next_alone low high low' high' bytes h l =
     let lone = lone_half (low + 256 * high) (N.inl h) in
     record {
-      emits = emits_by (low ∷ high ∷ low' ∷ high' ∷ bytes) (low' ∷ high' ∷ bytes) 0xFFFD
-          (spells_one low high (front (low' ∷ high' ∷ bytes)) 0xFFFD lone (grind arith));
+      emits = emits_by (low ∷ high ∷ low' ∷ high' ∷ bytes) (low' ∷ high' ∷ bytes) 0xFFFD (grind (arith, spells_one, front));
       keeps = refl;
       spells = spells_one low high (low' ∷ high' ∷ bytes) 0xFFFD lone (λ _. l);
     }
@@ -83,9 +81,9 @@ next_pair low high low' high' bytes h l =
     let second : is_high low' high' ≡ false = grind arith in
     record {
       emits = emits_by (low ∷ high ∷ low' ∷ high' ∷ bytes) bytes (N.surrogate_pair_char (low + 256 * high) (low' + 256 * high'))
-          (rw (front_step low' high' bytes second) (spells_pair low high low' high' (front bytes) h l));
-      keeps = rest_step low' high' bytes second;
-      spells = spells_pair low high low' high' bytes h l;
+          (grind (arith, front_step, spells_pair, front));
+      keeps = grind (arith, rest_step);
+      spells = grind (arith, spells_pair);
     }
 
 -- whole data of which all is withheld is a high surrogate
@@ -117,10 +115,10 @@ module _ (xs : List ℕ) (i : ℕ) {u v : ℕ} (within : i + 3 < length xs) (fir
   second_is = grind arith
 
   pub alone_at : is_low_surrogate v ≡ false → IsNext (drop i xs) 0xFFFD 2
-  alone_at low = rw drop_four (next_alone _ _ _ _ _ (rw first at high) (rw second_is at low))
+  alone_at low = rw drop_four (next_alone _ _ _ _ _ (rw first at high) (grind arith))
 
   pub pair_at : is_low_surrogate v ≡ true → IsNext (drop i xs) (N.surrogate_pair_char u v) 4
-  pair_at low = rw (drop_four, first, second_is) (next_pair _ _ _ _ _ (rw first at high) (rw second_is at low))
+  pair_at low = rw (drop_four, first, second_is) (next_pair _ _ _ _ _ (rw first at high) (grind arith))
 
 -- ---- where a conversion of UTF-16 has come to what is withheld
 
@@ -130,8 +128,7 @@ pub record Ended (bytes to : List ℕ) (used made : ℕ) : Type 0 where
   pub leaves : N.LeavesRest bytes 0 used
 
 -- nothing after this place is fixed
-pub ends_held : {bytes to : List ℕ} {used made : ℕ} → N.Converts bytes to used made → rest (drop used bytes) ≡ drop used bytes
-    → Ended bytes to used made
+pub ends_held : {bytes to : List ℕ} {used made : ℕ} → N.Converts bytes to used made → rest (drop used bytes) ≡ drop used bytes → Ended bytes to used made
 ends_held {bytes} {to} {used} {made} before held =
     let run = take made to in
     record {
@@ -145,12 +142,10 @@ ends_there = grind (arith, nil_of_length, N.length-drop, ends_held)
 
 -- no whole unit does
 few_held : (xs : List ℕ) → length xs ≤ 1 → rest xs ≡ xs
-few_held [] few = N.refl
-few_held (x ∷ []) few = N.refl
-few_held (x ∷ y ∷ xs) few = grind arith
+few_held = grind arith
 
 pub ends_short : {bytes to : List ℕ} {used made : ℕ} → N.Converts bytes to used made → length bytes < used + 2 → Ended bytes to used made
-ends_short {bytes} {to} {used} before few = ends_held before (few_held (drop used bytes) (omega (arith, N.length-drop used bytes)))
+ends_short = grind (arith, ends_held, few_held, N.length-drop)
 
 -- ---- withheld bytes of text in UTF-16, with the first ones of a piece
 
@@ -165,7 +160,7 @@ Leads-after (byte ∷ kept) piece = N.JoiningLemmas.Leads-seam-front joins_utf16
 
 -- nothing is withheld
 pub none_leads : {kept : List ℕ} (piece : List ℕ) → kept ≡ [] → N.Leads rest text (kept ++ piece) piece (emit rest text (seam kept piece))
-none_leads piece none = rw none (Leads-after [] piece)
+none_leads = grind (arith, Leads-after)
 
 -- some bytes are withheld
 seam_some : (kept piece : List ℕ) → 0 < length kept → seam kept piece ≡ kept ++ take 3 piece
@@ -174,7 +169,6 @@ seam_some = grind arith
 pub some_leads : {kept own : List ℕ} (piece bytes : List ℕ) (used : ℕ) → kept ≡ own → 0 < length kept → 3 ≤ length piece
     → bytes ≡ kept ++ take 3 piece → N.LeavesRest bytes 0 used
     → N.Leads rest text (own ++ piece) (drop (used - length kept) piece) (emit rest text (seam own piece))
-some_leads {kept = kept} piece bytes used same some long is left =
-    let three : length (take 3 piece) ≡ 3 = N.length-take-le 3 piece long in
-    rw (← same, seam_some kept piece some, ← is) (Leads-seam joins_utf16 kept piece bytes 3 used is tt
-    (omega (arith, ap length is, N.length-append kept (take 3 piece))) left.within left.rest)
+some_leads {kept} piece bytes used same some long is left =
+    let three : length (take 3 piece) ≡ 3 = grind arith in
+    rw (← same, seam_some kept piece some, ← is) (Leads-seam joins_utf16 kept piece bytes 3 used is tt (grind (arith, N.length-append)) left.within left.rest)

@@ -1,7 +1,7 @@
 -- The laws of UTF-8 in pieces.
 use Rattle.tds_text.proofs as N
-use N.{Bool, IsUtf8, List, None, Some, [], ap, arith, cases_lt, cond, drop, emit, encode_utf8, false, get_or, inl, inr, is_utf8, length, nat_tests, of3, of4}
-use N.{refl, scalar, second_byte_max, second_byte_min, suc, sym, take, true, zero, ℕ, ◌*◌, ◌++◌, ◌+◌, ◌-◌, ◌<◌, ◌∙◌, ◌∷◌, ◌≡◌, ◌≤◌, ◌⊎◌}
+use N.{Bool, IsUtf8, List, None, Some, [], ap, arith, cases_lt, cond, emit, encode_utf8, false, get_or, inl, inr, is_utf8, length, nat_tests, of3, of4, refl}
+use N.{second_byte_max, second_byte_min, suc, sym, take, true, zero, ℕ, ◌*◌, ◌++◌, ◌+◌, ◌-◌, ◌<◌, ◌∙◌, ◌∷◌, ◌≡◌, ◌≤◌, ◌⊎◌}
 use N.JoiningLemmas.{doubled-append, settled_front}
 use Rattle.std.specs.Str.Lossy.{utf8_error_len, utf8_valid_len}
 use Rattle.tds_text.specs.Utf8.{Begins, IsFit, rest, text}
@@ -9,8 +9,7 @@ use Rattle.tds_text.specs.Utf8.{Begins, IsFit, rest, text}
 -- what is found going down is UTF-8, and nothing longer is
 front_up_to : (bs : List ℕ) (n : ℕ) → IsUtf8 (take (N.valid_len_up_to bs n) bs)
 front_up_to bs zero = N.IsUtf8-nil
-front_up_to bs (suc n) =
-    elim (is_utf8 (take (suc n) bs)) as (λ t. is_utf8 (take (suc n) bs) ≡ t → IsUtf8 (take (cond t (suc n) (N.valid_len_up_to bs n)) bs))
+front_up_to bs (suc n) = elim (is_utf8 (take (suc n) bs)) as (λ t. is_utf8 (take (suc n) bs) ≡ t → IsUtf8 (take (cond t (suc n) (N.valid_len_up_to bs n)) bs))
     [ true ↦ N.IsUtf8-from_is_utf8 (take (suc n) bs) | false ↦ λ e. front_up_to bs n ] refl
 
 longest_up_to : (bs : List ℕ) (n m : ℕ) → N.valid_len_up_to bs n < m → m ≤ n → IsUtf8 (take m bs) → ⊥
@@ -48,8 +47,7 @@ front-rest bs = sym (N.take-append-drop _ bs)
 -- what follows a text in a text is a text
 after_text : (w z : List ℕ) → IsUtf8 w → IsUtf8 (w ++ z) → IsUtf8 z
 after_text w z u whole =
-    rw (N.drop_at w z (length w) refl) at (N.IsUtf8-drop (w ++ z) (length w) whole (N.IsCharBoundary-from_take (w ++ z) (length w) whole
-    (omega (arith, N.length-append w z)) (rw (N.take_at w z (length w) refl) u)))
+    rw (N.drop_at w z (length w) refl) at (N.IsUtf8-drop (w ++ z) (length w) whole (grind (arith, N.IsCharBoundary-from_take, N.length-append, N.take_at)))
 
 -- a text at the front than which no longer one stands there
 pub valid_len_is : (bs : List ℕ) (n : ℕ) → n ≤ length bs → IsUtf8 (take n bs) → ((m : ℕ) → n < m → m ≤ length bs → IsUtf8 (take m bs) → ⊥)
@@ -64,17 +62,16 @@ valid_len-past w y u =
     let k = utf8_valid_len y in
     let sum = N.length-append w y in
     valid_len_is (w ++ y) (length w + k) (omega (arith, N.utf8_valid_len_le y)) (rw (N.take-append-add w y k) (N.IsUtf8-append w (take k y) u (front_is y)))
-    (λ m more within whole.
-    let n = m - length w in
+    (λ m more within whole. let n = m - length w in
     let split : m ≡ length w + n = omega arith in
-    longest_is y n (omega arith) (omega arith) (after_text w (take n y) u (rw (split, N.take-append-add w y n) at whole)))
+    longest_is y n (omega arith) (omega arith) (after_text w (take n y) u (grind (arith, N.take-append-add))))
 
 regrouped : (a b : List ℕ) → a ++ b ≡ front a ++ (rest a ++ b)
 regrouped a b = cc (front-rest a, N.append_assoc (front a) (rest a) b)
 
 -- the front of two pieces, and their rest
 valid_len-append : (a b : List ℕ) → utf8_valid_len (a ++ b) ≡ length (front a) + utf8_valid_len (rest a ++ b)
-valid_len-append a b = rw regrouped (valid_len-past (front a) (rest a ++ b) (front_is a))
+valid_len-append = grind (arith, regrouped, valid_len-past, front, rest, front_is)
 
 front-append : (a b : List ℕ) → front (a ++ b) ≡ front a ++ front (rest a ++ b)
 unfolding front
@@ -103,14 +100,12 @@ NoText r = (n : ℕ) → 0 < n → n ≤ length r → IsUtf8 (take n r) → ⊥
 -- the rest of bytes has no text at its front
 pub no_text : (bytes : List ℕ) → NoText (rest bytes)
 unfolding NoText
-no_text bytes n some within u =
-    longest_is bytes (utf8_valid_len bytes + n) (omega arith) (omega (arith, N.length-drop (utf8_valid_len bytes) bytes))
+no_text bytes n some within u = longest_is bytes (utf8_valid_len bytes + n) (omega arith) (grind (arith, N.length-drop))
     (rw take-front (N.IsUtf8-append (front bytes) (take n (rest bytes)) (front_is bytes) u))
 
 -- the list is empty, or a beginning of a character, as what follows shows
 abbrev IsBegun : List ℕ → List ℕ → Type 0
-IsBegun r more = (r ≡ []) ⊎ ((c : ℕ) × (tail : List ℕ) × (scalar c ≡ true) × (encode_utf8 c ++ tail ≡ r ++ more)
-    × (length r < length (encode_utf8 c)))
+IsBegun r more = (r ≡ []) ⊎ ((c : ℕ) × (tail : List ℕ) × (N.scalar c ≡ true) × (encode_utf8 c ++ tail ≡ r ++ more) × (length r < length (encode_utf8 c)))
 
 -- the rest of what begins a text is so
 begun_rest : (a : List ℕ) → (b : Begins a) → IsBegun (rest a) b.0
@@ -122,23 +117,19 @@ begun_rest a b =
     go : (cs : List ℕ) → N.all_scalars cs ≡ true → N.encode_utf8_all cs ≡ rest a ++ b.0 → IsBegun (rest a) b.0
     go [] valid e = inl (N.nil_from_length (rest a) (omega (arith, ap length e, N.length-append (rest a) b.0)))
     go (c ∷ cs) valid e = elim (cases_lt (length (rest a)) (length (encode_utf8 c))) [
-      | inl less ↦ inr (c, N.encode_utf8_all cs, (N.and_parts (scalar c) (N.all_scalars cs) valid).0, e, less)
+      | inl less ↦ grind (arith, N.encode_utf8_all, N.and_parts, valid)
       | inr more ↦
           let k = length (encode_utf8 c) in
           let found : take k (rest a) ≡ encode_utf8 c =
-          rw (← N.take-append-le k (rest a) b.0 more, ← e) (N.take_at (encode_utf8 c) (N.encode_utf8_all cs) k refl) in
+          rw (← N.take-append-le k (rest a) b.0 more, ← e) (grind (arith, N.take_at, N.encode_utf8_all)) in
           absurd (no_text a k (omega (arith, N.length-encode c, N.len_utf8_bounds c)) more
-          (rw found (N.IsUtf8-encode c (N.and_parts (scalar c) (N.all_scalars cs) valid).0)))
+          (grind (arith, N.IsUtf8-encode, N.and_parts, valid)))
     ]
 
 short : (a : List ℕ) → Begins a → length (rest a) ≤ 3
 short a begins = elim (begun_rest a begins) [
-  | inl none ↦ omega (arith, ap length none)
-  | inr part ↦ omega (
-    arith,
-    N.length-encode part.0,
-    N.len_utf8_bounds part.0,
-  )
+  | inl none ↦ grind arith
+  | inr part ↦ grind (arith, N.length-encode, part, N.len_utf8_bounds)
 ]
 
 -- what follows, seen from the front
@@ -154,7 +145,7 @@ joins_utf8 = record {
   ends = λ bytes _. ends bytes;
   fit_rest = λ bytes u. after_text (front bytes) (rest bytes) (front_is bytes) (rw (← front-rest bytes) u);
   fit_whole = λ bytes _ u. rw (front-rest bytes) (N.IsUtf8-append (front bytes) (rest bytes) (front_is bytes) u);
-  front = λ a b h. (b ++ h.0, rw (← N.append_assoc a b h.0) h.1);
+  front = grind (arith, N.append_assoc);
   inward = λ a b h. (h.0, after_text (front a) ((rest a ++ b) ++ h.0) (front_is a) (rw (← seam a b h.0) h.1));
   outward = λ a b h. (h.0, rw (seam a b h.0) (N.IsUtf8-append (front a) ((rest a ++ b) ++ h.0) (front_is a) h.1));
 }
@@ -177,7 +168,7 @@ front_none c (x ∷ y ∷ r) more tail k (N.of2 a b l u f s e') e short = grind 
 front_none c (x ∷ []) more tail k (of3 a b d l u f g s e') e short = grind arith
 front_none c (x ∷ y ∷ []) more tail k (of3 a b d l u f g s e') e short = grind (arith, N.length-encode, N.⊎_elim, nat_tests)
 front_none c (x ∷ y ∷ z ∷ r) more tail k (of3 a b d l u f g s e') e short = grind arith
-front_none c (x ∷ []) more tail k (of4 a b d w l u f g h s e') e short = grind (arith, N.⊎_elim, nat_tests)
+front_none c (x ∷ []) more tail k (of4 a b d w l u f g h s e') e short = grind arith
 front_none c (x ∷ y ∷ []) more tail k (of4 a b d w l u f g h s e') e short = grind (arith, four, N.length-encode, nat_tests)
 front_none c (x ∷ y ∷ z ∷ []) more tail k (of4 a b d w l u f g h s e') e short = grind (arith, four, N.length-encode, nat_tests)
 front_none c (x ∷ y ∷ z ∷ v ∷ r) more tail k (of4 a b d w l u f g h s e') e short = grind arith
@@ -193,17 +184,11 @@ pub two_bytes : (a b : ℕ) → 194 ≤ a → a < 224 → second_byte_min a ≤ 
 two_bytes a b l u lo hi = N.of_two (a ∷ b ∷ []) 0 (omega arith) (l, u) (grind arith)
 
 pub three_bytes : (a b d : ℕ) → 224 ≤ a → a < 240 → second_byte_min a ≤ b → b ≤ second_byte_max a → 128 ≤ d → d < 192 → IsUtf8 (a ∷ b ∷ d ∷ [])
-three_bytes a b d l u lo hi dl dh = N.of_three (a ∷ b ∷ d ∷ []) 0 (omega arith) (l, u) (grind arith) (
-  dl,
-  dh,
-) (grind arith) (grind arith)
+three_bytes a b d l u lo hi dl dh = N.of_three (a ∷ b ∷ d ∷ []) 0 (omega arith) (l, u) (grind arith) (dl, dh) (grind arith) (grind arith)
 
 four_bytes : (a b d w : ℕ) → 240 ≤ a → a ≤ 244 → second_byte_min a ≤ b → b ≤ second_byte_max a → 128 ≤ d → d < 192 → 128 ≤ w → w < 192
     → IsUtf8 (a ∷ b ∷ d ∷ w ∷ [])
-four_bytes a b d w l u lo hi dl dh wl wh = N.of_four (a ∷ b ∷ d ∷ w ∷ []) 0 (omega arith) l (grind arith) (dl, dh) (
-  wl,
-  wh,
-) (grind arith)
+four_bytes a b d w l u lo hi dl dh wl wh = N.of_four (a ∷ b ∷ d ∷ w ∷ []) 0 (omega arith) l (grind arith) (dl, dh) (wl, wh) (grind arith)
 
 Completes : List ℕ → Type 0
 Completes r = (more : List ℕ) × IsUtf8 (r ++ more)
@@ -212,7 +197,7 @@ Completes r = (more : List ℕ) × IsUtf8 (r ++ more)
 three_complete : (a b d : ℕ) → 224 ≤ a → a ≤ 244 → second_byte_min a ≤ b → b ≤ second_byte_max a → 128 ≤ d → d < 192 → Completes (a ∷ b ∷ d ∷ [])
 unfolding Completes
 three_complete a b d l h lo hi dl dh = elim (cases_lt a 240) [
-  | inl three ↦ ([], three_bytes a b d l three lo hi dl dh)
+  | inl three ↦ grind (arith, three_bytes)
   | inr four ↦ (128 ∷ [], four_bytes a b d 128 four h lo hi dl dh (omega arith) (omega arith))
 ]
 
@@ -231,8 +216,7 @@ more_than_two : (a b : ℕ) (r : List ℕ) → 194 ≤ a → second_byte_min a �
 unfolding NoText
 more_than_two a b r l lo hi none = elim (cases_lt a 224) [
   | inl two ↦ absurd (none 2 (omega arith) (omega arith) (two_bytes a b l two lo hi))
-  | inr
-      more ↦ more
+  | inr more ↦ more
 ]
 
 two_complete : (a b : ℕ) → 194 ≤ a → a ≤ 244 → second_byte_min a ≤ b → b ≤ second_byte_max a → NoText (a ∷ b ∷ []) → Completes (a ∷ b ∷ [])
@@ -280,9 +264,8 @@ record Good (r : List ℕ) (j : ℕ) : Type 0 where
 
 -- the number of good bytes of four or more, by the tests of three
 by_tests : (f s n : Bool) (k : ℕ) (P : ℕ → Type 0) → cond f (cond s (cond n (Some 3) (Some 2)) (Some 1)) (Some 1) ≡ Some k
-    → (f ≡ false → P 0) → (f ≡ true → s ≡ false → P 1) → (f ≡ true → s ≡ true → n ≡ false → P 2) → (f ≡ true → s ≡ true → n ≡ true → P 3)
-    → P (cond f k 0)
-by_tests f s n k P = grind arith
+    → (f ≡ false → P 0) → (f ≡ true → s ≡ false → P 1) → (f ≡ true → s ≡ true → n ≡ false → P 2) → (f ≡ true → s ≡ true → n ≡ true → P 3) → P (cond f k 0)
+by_tests = grind arith
 
 -- the number of good bytes, from the fault
 good_of : (r : List ℕ) (k : ℕ) → utf8_error_len r ≡ Some k → Good r (cond (is_first (get_or r 0 0)) k 0)
@@ -292,16 +275,14 @@ good_of (x ∷ []) k e = grind arith
 good_of (x ∷ y ∷ []) k e = grind (arith, N.common_steps)
 good_of (x ∷ y ∷ z ∷ []) k e = grind (arith, N.common_steps)
 good_of (x ∷ y ∷ z ∷ w ∷ t) k e =
-    by_tests (is_first x) (is_second x y) (is_next z) k (Good (x ∷ y ∷ z ∷ w ∷ t)) (sym (fault_four x y z w t)
-    ∙ e) (grind arith) (grind arith) (grind arith) (grind (arith, N.nat_eq, nat_tests, N.nat_lt))
+    by_tests (is_first x) (is_second x y) (is_next z) k (Good (x ∷ y ∷ z ∷ w ∷ t)) (grind arith) (grind arith) (grind arith) (grind arith) (grind arith)
 
 -- a part of what has no text at its front has none either
 rest_part : (r : List ℕ) (j : ℕ) → NoText r → j ≤ length r → rest (take j r) ≡ take j r
 unfolding NoText
 rest_part r j without le =
     let len = N.length-take-le j r le in
-    rw (valid_len_is (take j r) 0 (omega arith) N.IsUtf8-nil
-    (λ m some within u. without m some (omega arith) (rw (N.take-take m j r (omega arith)) at u))) refl
+    rw (valid_len_is (take j r) 0 (omega arith) N.IsUtf8-nil (λ m some within u. without m some (omega arith) (grind (arith, N.take-take)))) refl
 
 -- a text, and a part of what follows it
 rest_after : (bytes : List ℕ) (j : ℕ) → j ≤ length (rest bytes) → rest (take (utf8_valid_len bytes + j) bytes) ≡ take j (rest bytes)
@@ -317,10 +298,9 @@ stops bytes k e =
     let part = rest_after bytes j (omega arith) in
     let next : rest (take ((v + j) + 1) bytes) ≡ take (j + 1) (rest bytes) = ap (λ n. rest (take n bytes)) {y = v + (j + 1)} (omega arith)
     ∙ rest_after bytes (j + 1) (omega arith) in
-    let cut = take-front bytes j ∙ ap (λ l. front bytes ++ l) (sym part) in
-    grind (arith, front, front-rest, N.length-drop, N.utf8_valid_len_le, none_begins, begins_none, settled_front, emit-front)
+    grind (arith, take-front, front, front-rest, N.length-drop, N.utf8_valid_len_le, none_begins, begins_none, settled_front, emit-front)
 
-pub stops_at : (bytes : List ℕ) (whole k good : ℕ) → whole ≡ utf8_valid_len bytes → utf8_error_len (drop whole bytes) ≡ Some k
+pub stops_at : (bytes : List ℕ) (whole k good : ℕ) → whole ≡ utf8_valid_len bytes → utf8_error_len (N.drop whole bytes) ≡ Some k
     → good ≡ cond (is_first (get_or bytes whole 0)) k 0 → N.StopsAt bytes whole (whole + good)
 stops_at bytes whole k good is e found =
     rw (found, ← (N.get_or-drop whole bytes 0 0 ∙ ap (λ n. get_or bytes n 0) {x = whole + 0} {y = whole} (omega arith)), is) (stops bytes k (rw is at e))

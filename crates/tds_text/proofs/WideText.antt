@@ -1,12 +1,10 @@
 -- The text of units that are characters of at most three bytes.
 use Rattle.tds_text.proofs as N
-use N.{is_half, is_long, is_other, is_wide, quad_bytes, triples, unit_text, units_text, ◌-◌, refl, chunk, Bool, Each1, Fits, List, [], ap, arith}
-use N.{drop, mask_l, false, get_or, length, map, suc, sym, take, true, w16, zero, ℕ, ◌%◌, ◌*◌, ◌++◌, ◌+◌, ◌/◌, ◌<◌, ◌∙◌, ◌∷◌, ◌≡◌, ◌≤◌, ◌^◌}
-use N.LaneMasks.{alike, first_lanes}
-use N.LaneMasks.{first_mask, last_lanes, none_set}
+use N.{is_half, is_long, is_wide, quad_bytes, triples, unit_text, units_text, ◌-◌, refl, chunk, Bool, Each1, Fits, List, [], ap, arith, drop, mask_l, false}
+use N.{get_or, length, map, suc, sym, take, true, w16, zero, ℕ, ◌%◌, ◌*◌, ◌++◌, ◌+◌, ◌/◌, ◌<◌, ◌∙◌, ◌∷◌, ◌≡◌, ◌≤◌, ◌^◌}
+use N.LaneMasks.{alike, first_lanes, first_mask, last_lanes, none_set}
 use N.Characters.{of_one, of_two, of_three, doubled_character}
-use N.Lookup.{bits, placed, same_texts, IsRow}
-use N.Lookup.{pair_places, quad_places}
+use N.Lookup.{bits, placed, same_texts, IsRow, pair_places, quad_places}
 use N.JoiningLemmas.{Leads-none, Leads-trans}
 use Rattle.tds_text.specs.Utf16.{units, rest, text}
 use Rattle.std.specs.List.{count_by}
@@ -33,20 +31,17 @@ unit_size = grind (arith, of_one, of_two, of_three, doubled_character)
 units_size : (us : List ℕ) → Each1 (λ u. u < 65536) us → length (units_text us) ≡ length us + (count_by is_wide us + count_by is_long us)
 units_size [] small = refl
 units_size (u ∷ us) small = let one = unit_size u small.0 in let more = units_size us small.1 in
-    N.length-append (unit_text u) (units_text us) ∙ grind (arith, N.common_steps)
+    grind (arith, N.length-append, N.common_steps)
 
 text_size : (us : List ℕ) {wide long : ℕ} → Each1 (λ u. u < 65536) us → wide ≡ mask_l (map is_wide us) → long ≡ mask_l (map is_long us)
     → length (units_text us) ≡ length us + (count_ones wide + count_ones long)
-text_size us small wide_is long_is = rw (wide_is, long_is, N.ones-mask_l is_wide us, N.ones-mask_l is_long us) (units_size us small)
+text_size = grind (arith, N.ones-mask_l, units_size)
 
 in_pair : (wide long : Bool) → Each1 (λ k. k < 2) (pair_places wide long)
-in_pair true long = (omega arith, (omega arith, tt))
-in_pair false long = (omega arith, tt)
+in_pair = grind arith
 
 in_quad : (wide long : Bool) → Each1 (λ k. k < 4) (quad_places wide long)
-in_quad wide true = (omega arith, (omega arith, (omega arith, tt)))
-in_quad true false = (omega arith, (omega arith, tt))
-in_quad false false = (omega arith, tt)
+in_quad = grind arith
 
 -- units are numbers of 16 bits
 unit_range : (us : List ℕ) → Each1 (Fits w16) us → Each1 (λ u. u < 65536) us
@@ -64,7 +59,7 @@ each_left P (suc n) (u ∷ us) each = each_left P n us each.1
 
 -- the first and the other units
 split_lanes : (lane : ℕ → List ℕ) (n : ℕ) (us : List ℕ) → flat_map lane us ≡ flat_map lane (take n us) ++ flat_map lane (drop n us)
-split_lanes lane n us = sym (ap (flat_map lane) (N.take-append-drop n us)) ∙ N.flat_map-append lane (take n us) (drop n us)
+split_lanes lane n us = sym (grind (arith, N.take-append-drop)) ∙ N.flat_map-append lane (take n us) (drop n us)
 
 -- the text of units is gathered from their bytes by a row for their masks
 row_taken : (width m : ℕ) (lane : ℕ → List ℕ) (f : Bool → Bool → List ℕ) → ((u : ℕ) → length (lane u) ≡ width)
@@ -73,24 +68,22 @@ row_taken : (width m : ℕ) (lane : ℕ → List ℕ) (f : Bool → Bool → Lis
     → wide ≡ mask_l (map is_wide us) → long ≡ mask_l (map is_long us) → Each1 (λ u. u < 65536) us
     → flat_map (λ u. map (λ k. get_or (lane u) k 0) (f (is_wide u) (is_long u))) us ≡ units_text us
     → take (length us + (count_ones wide + count_ones long)) (map (λ j. get_or xs j 0) row) ≡ units_text us
-row_taken width m lane f same inside us more {row} {wide = wide} {long = long} is_row few is wide_is long_is range texts =
+row_taken width m lane f same inside us more {row} {wide} {long} is_row few is wide_is long_is range texts =
     let places = λ (u : ℕ). f (is_wide u) (is_long u) in
-    let begins = N.Lookup.row_begins f width 0 m (map is_wide us) (map is_long us) (omega (arith, N.length-map us is_wide)) (N.length-map us is_long
-    ∙ sym (N.length-map us is_wide)) in
+    let begins = N.Lookup.row_begins f width 0 m (map is_wide us) (map is_long us) (grind (arith, N.length-map)) (grind (arith, N.length-map)) in
     let rest = drop (length (placed width 0 (zip2 f (bits m wide) (bits m long)))) row in
     rw (← text_size us range wide_is long_is) (N.Lookup.gathered_text width lane places same inside unit_text us more (begins.0 ++ rest)
-    (is_row.is ∙ ap (λ l. l ++ rest) (rw (wide_is, long_is, begins.1, (N.zip2-map f is_wide is_long us)) refl) ∙ N.append_assoc (placed width 0 (map places us))
-    begins.0 rest) is texts)
+    (grind (arith, N.zip2-map, N.append_assoc, placed)) is texts)
 
 -- that of short characters from the bytes of eight
 pub pairs_taken : (us : List ℕ) (n : ℕ) {xs : List ℕ} {wide : ℕ} → length us ≡ 8 → n ≤ 8 → Each1 (Fits w16) us → xs ≡ flat_map N.pair_bytes us
     → wide ≡ mask_l (map is_wide (take n us)) → Each1 (λ u. is_long u ≡ false) (take n us)
     → take (n + count_ones wide) (map (λ j. get_or xs j 0) (get_or N.PAIRS wide [])) ≡ units_text (take n us)
-pairs_taken us n {wide = wide} eight few fits bytes is short =
+pairs_taken us n {wide} eight few fits bytes is short =
     let vs = take n us in
     let counted : length vs ≡ n = N.length-take-le n us (omega arith) in
     let size : length vs + (count_ones wide + count_ones 0) ≡ n + count_ones wide = omega (arith, N.ones-mask_l is_long []) in
-    rw size at (row_taken 2 8 N.pair_bytes pair_places (λ u. refl) (λ u. in_pair (is_wide u) (is_long u)) vs (flat_map N.pair_bytes (drop n us))
+    rw size at (row_taken 2 8 N.pair_bytes pair_places (λ u. refl) (grind (arith, in_pair)) vs (flat_map N.pair_bytes (drop n us))
     (N.Lookup.pair_row wide (first_mask is_wide us n eight few is).0)
     (omega arith) (bytes ∙ split_lanes N.pair_bytes n us) is (sym (none_set is_long vs short)) (unit_range vs (each_taken (Fits w16) n us fits))
     (same_texts pair_text vs short))
@@ -99,8 +92,8 @@ pairs_taken us n {wide = wide} eight few fits bytes is short =
 pub quads_taken : (us more : List ℕ) {xs : List ℕ} {wide long : ℕ} → length us ≤ 4 → wide < 16 → long < 16 → xs ≡ flat_map quad_bytes us ++ more
     → wide ≡ mask_l (map is_wide us) → long ≡ mask_l (map is_long us) → Each1 (λ u. u < 65536) us
     → take (length us + count_ones (wide + 16 * long)) (map (λ j. get_or xs j 0) (get_or N.QUADS (wide + 16 * long) [])) ≡ units_text us
-quads_taken us more {wide = wide} {long = long} few small small' is wide_is long_is range =
-    rw (← (N.Lookup.ones_of_two wide long small small').0) at (row_taken 4 4 quad_bytes quad_places (λ u. refl) (λ u. in_quad (is_wide u) (is_long u)) us more
+quads_taken us more {wide} {long} few small small' is wide_is long_is range =
+    rw (← (N.Lookup.ones_of_two wide long small small').0) at (row_taken 4 4 quad_bytes quad_places (λ u. refl) (grind (arith, in_quad)) us more
     (N.Lookup.quad_row wide long small small') few is wide_is long_is range (same_texts quad_text us range))
 
 take_both : (n m : ℕ) (us : List ℕ) → take n (take m us) ≡ take m (take n us)
@@ -118,29 +111,27 @@ module _ (us : List ℕ) (n : ℕ) {old new xs : List ℕ} {at end m wide long :
   first_added counted =
       let vs = take n us in
       adds.adds (take 4 vs) (flat_map quad_bytes (drop n (take 4 us))) counted (is ∙ rw (take_both n 4 us) at (split_lanes quad_bytes n (take 4 us)))
-      (first_lanes is_wide 4 vs wide_is) (first_lanes is_long 4 vs long_is) (each_taken _ 4 vs (each_taken _ n us (unit_range us fits.1)))
+      (first_lanes is_wide 4 vs wide_is) (grind arith) (grind (arith, each_taken, unit_range))
 
   pub few_added : n ≤ 4 → m ≡ n → (take end new ≡ take at old ++ units_text (take n us)) × (end ≤ at + 3 * n)
   few_added small counted =
       let size = N.length-take-le n us (omega arith) in
-      let all = N.take_all 4 (take n us) (omega arith) in
-      rw (all, counted) at (first_added (omega (arith, ap length all, size)))
+      grind (arith, N.take_all, first_added)
 
   pub middle_added : 4 ≤ n → m ≡ 4 → end ≤ at + 12
-  middle_added many counted = omega (arith, (first_added (omega (arith, N.length-take 4 (take n us), N.length-take-le n us (omega (arith, fits.0))))).1)
+  middle_added = grind (arith, first_added, N.length-take, N.length-take-le)
 
   pub all_added : {last ys : List ℕ} {stop : ℕ} → 4 ≤ n → m ≡ 4 → ys ≡ flat_map quad_bytes (drop 4 us)
-      → N.AddsQuads new last end stop (n - 4) ys (wide / 16) (long / 16)
-      → (take stop last ≡ take at old ++ units_text (take n us)) × (stop ≤ at + 3 * n)
+      → N.AddsQuads new last end stop (n - 4) ys (wide / 16) (long / 16) → (take stop last ≡ take at old ++ units_text (take n us)) × (stop ≤ at + 3 * n)
   all_added many counted ys_is more =
       let vs = take n us in
       let size = N.length-take-le n us (omega arith) in
-      let first = first_added (omega (arith, N.length-take 4 vs, size)) in
+      let first = first_added (grind (arith, N.length-take)) in
       let all : 4 + (n - 4) ≡ n = omega arith in
-      let others = more.adds (drop 4 vs) (flat_map quad_bytes (drop (n - 4) (drop 4 us))) (omega (arith, N.length-drop 4 vs, size))
-      (ys_is ∙ rw (← N.drop-take 4 (n - 4) us, all) at (split_lanes quad_bytes (n - 4) (drop 4 us))) (last_lanes is_wide vs wide_is)
-      (last_lanes is_long vs long_is) (each_left _ 4 vs (each_taken _ n us (unit_range us fits.1))) in
-      (rw (others.0, first.0, N.append_assoc, ← split_lanes unit_text 4 vs) refl, omega (arith, first.1, others.1))
+      let others = more.adds (drop 4 vs) (flat_map quad_bytes (drop (n - 4) (drop 4 us))) (grind (arith, N.length-drop))
+      (grind (arith, N.drop-take, split_lanes)) (last_lanes is_wide vs wide_is)
+      (last_lanes is_long vs long_is) (grind (arith, each_left, each_taken, unit_range)) in
+      grind (arith, N.append_assoc, split_lanes)
 
 -- long characters have three bytes each
 long_texts : (n : ℕ) (us : List ℕ) → Each1 (λ u. u < 65536) us → Each1 (λ u. is_long u ≡ true) (take n us) → take (3 * n) (triples us) ≡ units_text (take n us)
@@ -159,7 +150,7 @@ module _ (us low old new : List ℕ) (at n : ℕ) (fits : Each1 (Fits w16) us) (
   in_one_half few written =
       let front : take (3 * n) low ≡ take (3 * n) (triples us) =
       rw (← N.take-take (3 * n) 12 low (omega arith), low_is, N.take-take (3 * n) 12 (triples us) (omega arith)) refl in
-      rw (written, front, long_texts n us (unit_range us fits) long) refl
+      grind (arith, long_texts, unit_range)
 
   pub in_two_halves : (high middle : List ℕ) → 4 < n → n ≤ 8 → take 12 high ≡ take 12 (drop 12 (triples us))
       → take (at + 12) middle ≡ take at old ++ take 12 low → take (at + 12 + (3 * n - 12)) new ≡ take (at + 12) middle ++ take (3 * n - 12) high
@@ -172,7 +163,7 @@ module _ (us low old new : List ℕ) (at n : ℕ) (fits : Each1 (Fits w16) us) (
       rw (← N.take-take k 12 high (omega arith), high_is, N.take-take k 12 (drop 12 (triples us)) (omega arith)) refl in
       let joined : take 12 (triples us) ++ take k (drop 12 (triples us)) ≡ units_text (take n us) =
       sym (N.take-add 12 k (triples us)) ∙ rw all (long_texts n us (unit_range us fits) long) in
-      rw (← end, second, first, back, low_is, N.append_assoc, joined) refl
+      grind (arith, N.append_assoc)
 
 -- the low bytes of characters of ASCII are their text
 plain_texts : (n : ℕ) (ys : List ℕ) → Each1 (λ u. is_wide u ≡ false) (take n (units ys)) → take n (N.evens ys) ≡ units_text (take n (units ys))
@@ -189,7 +180,7 @@ pub not_long : (u : ℕ) → is_wide u ≡ false → is_long u ≡ false
 not_long = grind arith
 
 -- what isn't one of the others is long and no surrogate
-pub no_other : (u : ℕ) → is_other u ≡ false → (is_long u ≡ true) × (is_half u ≡ false)
+pub no_other : (u : ℕ) → N.is_other u ≡ false → (is_long u ≡ true) × (is_half u ≡ false)
 no_other = grind arith
 
 -- two bytes are a unit
@@ -200,17 +191,17 @@ length-units (low ∷ high ∷ xs) = let more = length-units xs in grind arith
 
 -- so 16 bytes are eight
 eight_units : (ys : List ℕ) {us : List ℕ} → length ys ≡ 16 → us ≡ units ys → length us ≡ 8
-eight_units ys long is = omega (arith, ap length is, length-units ys)
+eight_units = grind (arith, length-units)
 
 -- the first of eight are characters of ASCII, and were written
 pub plain_added : (ys old new kept : List ℕ) {us low : List ℕ} {at : ℕ} (n : ℕ) → length ys ≡ 16 → n ≤ 8 → at ≤ length old → us ≡ units ys
     → take n kept ≡ take n us → Each1 (λ u. is_wide u ≡ false) kept → low ≡ N.evens ys → take (at + 8) new ≡ take at old ++ take 8 low
     → (take (at + n) new ≡ take at old ++ units_text (take n (units ys))) × Each1 (λ u. is_half u ≡ false) (take n (units ys))
-plain_added ys old new kept {low = low} {at = at} n long few within is same none low_is written =
+plain_added ys old new kept {low} {at} n long few within is same none low_is written =
     let plain = rw (same, is) at (each_taken _ n kept none) in (
       (rw (N.take-take n 8 low few, low_is) at (N.Characters.front_written old new (take 8 low) at n 8 few within written)) ∙ ap (λ l. take at old ++ l)
           (plain_texts n ys plain),
-      N.Each1-weaker _ _ (λ u h. no_half u (not_long u h)) _ plain,
+      N.Each1-weaker _ _ (grind arith) _ plain,
     )
 
 leads_unit : (low high : ℕ) (more : List ℕ) → is_half (low + 256 * high) ≡ false → N.Leads rest text (low ∷ high ∷ more) more (unit_text (low + 256 * high))
@@ -234,7 +225,7 @@ pub units_more : {bytes source old new : List ℕ} {at made after : ℕ} (n : �
     → Each1 (λ u. is_half u ≡ false) (take n (units (chunk at 16 source))) → at + 2 * n ≤ length bytes → after ≤ made + 3 * n
     → take after new ≡ take made old ++ units_text (take n (units (chunk at 16 source))) → N.Converts bytes old at made
     → N.Converts bytes new (at + 2 * n) after
-units_more {bytes} {source} {at = at} n lies room few single within small written before =
+units_more {bytes} {source} {at} n lies room few single within small written before =
     let ys = chunk at 16 source in
     let eight : length (units ys) ≡ 8 = omega (arith, length-units ys, N.length-chunk at 16 source room) in
     let next = rw (← (alike bytes source at (2 * n) lies (omega arith) within), N.take-append-drop, N.drop-drop (2 * n) at bytes) at
@@ -244,6 +235,5 @@ units_more {bytes} {source} {at = at} n lies room few single within small writte
 -- so were eight units of the bytes
 pub eight_more : {bytes old new : List ℕ} {at made after : ℕ} → at + 16 ≤ length bytes
     → Each1 (λ u. is_half u ≡ false) (take 8 (units (chunk at 16 bytes))) → after ≤ made + 24
-    → take after new ≡ take made old ++ units_text (take 8 (units (chunk at 16 bytes))) → N.Converts bytes old at made
-    → N.Converts bytes new (at + 16) after
+    → take after new ≡ take made old ++ units_text (take 8 (units (chunk at 16 bytes))) → N.Converts bytes old at made → N.Converts bytes new (at + 16) after
 eight_more {bytes} room single small written before = units_more 8 (lies_itself bytes) room (omega arith) single room small written before

@@ -1,7 +1,8 @@
-use Rattle.tds_text.proofs.beyond_ascii.put_mixed.Goals as goal
-use Rattle.tds_text.proofs.Words.{arith}
-use Rattle.tds_text.proofs.LaneMasks.{first_mask}
-use Rattle.tds_text.proofs.WideText.{all_added, few_added}
+use Rattle.tds_text.proofs as N
+use N.beyond_ascii.put_mixed.Goals as goal
+use N.{arith}
+use N.LaneMasks.{first_mask}
+use N.WideText.{all_added, few_added}
 use Rattle.tds_text.specs.Wide.{is_long, is_wide}
 
 pub returns-then-n-le-HALF-clause-most : goal.returns-then-n-le-HALF-clause-most
@@ -9,12 +10,10 @@ returns-then-n-le-HALF-clause-most c = (few_added c.args.units c.args.n c.fits-u
     c.put_quads-middle.ensures (omega arith) (omega arith)).1
 
 pub put_quads-requires-clause-wide : goal.put_quads-requires-clause-wide
-put_quads-requires-clause-wide c =
-    omega (arith, (first_mask is_wide c.args.units c.args.n c.fits-units.0 c.requires.most c.requires.wide).0)
+put_quads-requires-clause-wide c = omega (arith, (first_mask is_wide c.args.units c.args.n c.fits-units.0 c.requires.most c.requires.wide).0)
 
 pub put_quads-requires-clause-long : goal.put_quads-requires-clause-long
-put_quads-requires-clause-long c =
-    omega (arith, (first_mask is_long c.args.units c.args.n c.fits-units.0 c.requires.most c.requires.long).0)
+put_quads-requires-clause-long c = omega (arith, (first_mask is_long c.args.units c.args.n c.fits-units.0 c.requires.most c.requires.long).0)
 
 pub returns-clause-most : goal.returns-clause-most
 returns-clause-most c = (all_added c.args.units c.args.n c.fits-units c.requires.most c.requires.wide c.requires.long c.quads.ensures.0

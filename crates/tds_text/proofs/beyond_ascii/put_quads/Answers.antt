@@ -12,8 +12,7 @@ returns c = record {
       c.put_lanes.ensures,
       c.gathered.ensures,
       c.quad_places.ensures,
-      (rw long at (N.WideText.quads_taken units more (omega (N.arith, long)) c.requires.wide
-          c.requires.long is wide_is long_is range)),
+      (rw long at (N.WideText.quads_taken units more (omega (N.arith, long)) c.requires.wide c.requires.long is wide_is long_is range)),
     ),
     omega (
       N.arith,

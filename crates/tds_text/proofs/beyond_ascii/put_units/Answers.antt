@@ -11,8 +11,7 @@ returns-then-are_plain-clause-single c = (plain_added c.args.lanes _ _ _ c.args.
     c.units_of.ensures c.first_units-units.ensures.first (c.if-are_plain.ensures N.refl) c.low_bytes.ensures c.put_lanes.ensures).1
 
 pub put_pairs-requires-clause-wide : goal.put_pairs-requires-clause-wide
-put_pairs-requires-clause-wide c =
-    N.LaneMasks.zeros_after N.is_wide c.args.n _ _ c.wide_units.ensures c.first_units-units.ensures.zeros N.refl
+put_pairs-requires-clause-wide c = N.LaneMasks.zeros_after N.is_wide c.args.n _ _ c.wide_units.ensures c.first_units-units.ensures.zeros N.refl
 
 pub returns-clause-single : goal.returns-clause-single
 returns-clause-single c = rw (c.first_units-units.ensures.first, c.units_of.ensures) at

@@ -16,7 +16,6 @@ returns c =
     (zip2_of_maps _ _ _ us (zip2_of_maps _ _ _ us (zip2_of_maps _ _ _ us id parts) parts) byte))
     (chosen _ _ _ us (zip2_of_maps (λ a b. N.cond (N.leb a b) 65535 0) _ _ us (splat_is_map us 8 2048 n) id) (splat_is_map us 8 32992 n)
     (splat_is_map us 8 49376 n)) in
-    N.Lookup.quad_lanes us _ _ n c.fits-units.1
-    (chosen _ _ _ us quotes both (zip2_of_maps _ _ _ us (zip2_of_maps _ _ _ us id byte) (zip2_of_maps _ _ _ us
+    N.Lookup.quad_lanes us _ _ n c.fits-units.1 (chosen _ _ _ us quotes both (zip2_of_maps _ _ _ us (zip2_of_maps _ _ _ us id byte) (zip2_of_maps _ _ _ us
     (zip2_of_maps _ _ _ us (zip2_of_maps _ _ _ us id parts) (splat_is_map us 8 128 n)) byte)) ∙ same_map N.Lookup.low_lane us c.fits-units.1)
     (chosen _ _ _ us quotes both high ∙ same_map N.Lookup.high_lane us c.fits-units.1)

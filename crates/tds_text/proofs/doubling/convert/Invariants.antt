@@ -8,8 +8,7 @@ invariant-loop-at l = record {
   within : l.at ≤ length l.bytes;
   long : 2 * length l.bytes + 16 ≤ length l.to;
   room : l.made ≤ 2 * l.at;
-  text : N.take
-      l.made l.to ≡ N.doubled (N.take l.at l.bytes);
+  text : N.take l.made l.to ≡ N.doubled (N.take l.at l.bytes);
 }
 
 abbrev pub decreases-loop-at : goal.decreases-loop-at

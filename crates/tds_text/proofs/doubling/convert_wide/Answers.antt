@@ -5,8 +5,7 @@ use N.Singles.{text_taken}
 
 pub loop-at-preserved : goal.loop-at-preserved
 loop-at-preserved c =
-    let so_far = text_taken N.doubled doubled-append c.args.bytes.now c.loop-at.at c.take_wide-n.result c.take_wide-n.ensures.taken
-    c.loop-at.invariant.text in
+    let so_far = text_taken N.doubled doubled-append c.args.bytes.now c.loop-at.at c.take_wide-n.result c.take_wide-n.ensures.taken c.loop-at.invariant.text in
     grind (N.arith, N.common_steps, doubled-append, N.take_more)
 
 pub loop-at-preserved-then-n-eq-WIDE : goal.loop-at-preserved-then-n-eq-WIDE
@@ -15,6 +14,5 @@ loop-at-preserved-then-n-eq-WIDE c =
       within = omega N.arith;
       fits = search N.rules;
       room = omega N.arith;
-      text = text_taken N.doubled doubled-append c.args.bytes.now c.loop-at.at
-          c.take_wide-n.result c.take_wide-n.ensures.taken c.loop-at.invariant.text;
+      text = text_taken N.doubled doubled-append c.args.bytes.now c.loop-at.at c.take_wide-n.result c.take_wide-n.ensures.taken c.loop-at.invariant.text;
     }

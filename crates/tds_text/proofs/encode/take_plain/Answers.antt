@@ -13,8 +13,5 @@ pub put_lanes-requires : goal.put_lanes-requires
 put_lanes-requires c =
     let room = c.requires.there in (
       omega arith,
-      (
-        N.length-chunk c.args.at 16 c.args.source.now room,
-        ((omega (arith, run_most N.is_plain c.args.source.now c.args.at 16 room)), (omega arith)),
-      ),
+      (N.length-chunk c.args.at 16 c.args.source.now room, ((omega (arith, run_most N.is_plain c.args.source.now c.args.at 16 room)), (omega arith))),
     )

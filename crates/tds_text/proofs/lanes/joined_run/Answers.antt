@@ -10,11 +10,9 @@ returns c =
     let v = pairs_at at d in
     let long = pairs_long d at c.requires in
     let here = here_lanes d at c.requires in
-    c.first_set.ensures
-    ∙ run_of_pairs d at c.requires is_joined c.type_inv.bytes _ (zip2_of_maps _ _ _ v
+    c.first_set.ensures ∙ run_of_pairs d at c.requires is_joined c.type_inv.bytes _ (zip2_of_maps _ _ _ v
     (zip2_of_maps _ _ _ v (zip2_of_maps _ _ _ v here (splat_is_map v 16 34 long))
     (zip2_of_maps _ _ _ v (zip2_of_maps (λ a b. N.cond (N.leb a b) 255 0) _ _ v (splat_is_map v 16 192 long) here)
     (zip2_of_maps _ _ _ v (zip2_of_maps _ _ _ v here (splat_is_map v 16 194 long)) (splat_is_map v 16 30 long))))
     (zip2_of_maps _ _ _ v (zip2_of_maps _ _ _ v (zip2_of_maps _ _ _ v here (splat_is_map v 16 194 long)) (splat_is_map v 16 30 long))
-    (zip2_of_maps _ _ _ v (zip2_of_maps _ _ _ v (next_lanes d at c.requires) (splat_is_map v 16 128 long)) (splat_is_map v 16 64 long))))
-    pair_stops
+    (zip2_of_maps _ _ _ v (zip2_of_maps _ _ _ v (next_lanes d at c.requires) (splat_is_map v 16 128 long)) (splat_is_map v 16 64 long)))) pair_stops

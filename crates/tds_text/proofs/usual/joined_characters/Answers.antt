@@ -18,8 +18,7 @@ returns-then-begins_two-clause-unquoted c = (run_text_before c.args.bytes.now c.
     c.min-n.result (omega N.arith) (omega N.arith) (omega N.arith) (grind N.arith)).1
 
 pub returns-clause-most : goal.returns-clause-most
-returns-clause-most c =
-    omega (N.arith, c.min-n.ensures, c.joined_run.ensures, pairs_most c.args.source.now c.args.at c.requires.there is_joined)
+returns-clause-most c = omega (N.arith, c.min-n.ensures, c.joined_run.ensures, pairs_most c.args.source.now c.args.at c.requires.there is_joined)
 
 pub returns-clause-whole : goal.returns-clause-whole
 returns-clause-whole c = (run_text c.args.bytes.now c.args.source.now c.args.at c.requires.source c.requires.there (grind N.arith)

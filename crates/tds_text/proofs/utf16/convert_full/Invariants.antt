@@ -1,6 +1,7 @@
-use Rattle.tds_text.proofs.utf16.convert_full.Given as goal
-use Rattle.tds_text.proofs.Words.{◌+◌, ◌≤◌, ◌*◌, ◌-◌, length}
+use Rattle.tds_text.proofs as N
+use N.{◌+◌, ◌≤◌, ◌*◌, ◌-◌, length}
 use Rattle.tds_text.specs.Utf16Next.{Converts}
+use N.utf16.convert_full.Given as goal
 
 -- the text so far is that of the bytes so far
 abbrev pub invariant-loop-end : goal.invariant-loop-end

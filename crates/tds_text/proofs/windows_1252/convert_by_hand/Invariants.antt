@@ -12,8 +12,7 @@ invariant-loop-at l = record {
   most : l.made ≤ l.start + 3 * (l.at - l.from);
   fits : l.start + 3 * (l.end - l.from) + 1 ≤ N.length l.to;
   room : l.made ≤ 3 * l.at;
-  text : N.take l.made
-      l.to ≡ windows_1252.text (N.take l.at l.bytes);
+  text : N.take l.made l.to ≡ windows_1252.text (N.take l.at l.bytes);
 }
 
 abbrev pub decreases-loop-at : goal.decreases-loop-at

@@ -9,8 +9,7 @@ invariant-loop-at l = record {
   within : l.at ≤ length l.bytes;
   long : 3 * length l.bytes + 16 ≤ length l.to;
   room : l.made ≤ 3 * l.at;
-  text : N.take
-      l.made l.to ≡ windows_1252.text (N.take l.at l.bytes);
+  text : N.take l.made l.to ≡ windows_1252.text (N.take l.at l.bytes);
 }
 
 abbrev pub decreases-loop-at : goal.decreases-loop-at

@@ -7,8 +7,7 @@ pub convert_by_hand-made-requires-clause-before : goal.convert_by_hand-made-requ
 convert_by_hand-made-requires-clause-before c =
     record {
       room = omega N.arith;
-      text = text_taken windows_1252.text N.SingleLaws.windows_1252-append _ _ _ c.take_wide-n.ensures.taken
-          c.loop-at.invariant.text;
+      text = text_taken windows_1252.text N.SingleLaws.windows_1252-append _ _ _ c.take_wide-n.ensures.taken c.loop-at.invariant.text;
     }
 
 pub loop-at-preserved-then-n-eq-WIDE : goal.loop-at-preserved-then-n-eq-WIDE
@@ -17,6 +16,5 @@ loop-at-preserved-then-n-eq-WIDE c =
       within = omega N.arith;
       fits = search N.rules;
       room = omega N.arith;
-      text = text_taken windows_1252.text N.SingleLaws.windows_1252-append _ _ _
-          c.take_wide-n.ensures.taken c.loop-at.invariant.text;
+      text = text_taken windows_1252.text N.SingleLaws.windows_1252-append _ _ _ c.take_wide-n.ensures.taken c.loop-at.invariant.text;
     }
