@@ -44,8 +44,7 @@ module _ (room : ℕ) where
     -- up to the name's count
     head_is_read : (ignored : List ℕ) (byte n : ℕ) → length ignored ≡ 6 → N.rest_length byte ≡ Some n
         → ((length b + 7) + ((n + 1) + 8 * (count - (length cols + 1)))) ≤ room
-        → Spelt (description room) (InColumn b count cols N.ColumnHead) (ignored ++ byte ∷ [])
-        (N.with_type (b ++ (ignored ++ byte ∷ [])) count cols byte n)
+        → Spelt (description room) (InColumn b count cols N.ColumnHead) (ignored ++ byte ∷ []) (N.with_type (b ++ (ignored ++ byte ∷ [])) count cols byte n)
     head_is_read = grind (arith, N.Spelt-step, N.get_or-append_seam, length-append)
 
     info_is_read : (byte : ℕ) (rest : List ℕ) (kind : Kind) → N.rest_length byte ≡ Some (length rest) → N.kind_of (byte ∷ rest) ≡ Some kind
@@ -57,8 +56,7 @@ module _ (room : ℕ) where
         → Spelt (description room) (InColumn b count cols (N.NameCount kind)) (units ∷ []) (N.with_units (b ++ units ∷ []) count cols kind units)
     units_are_read = grind (arith, N.Spelt-step)
 
-    name_is_read : (kind : Kind) (units : ℕ) (name : List ℕ) → length name ≡ 2 * units
-        → Spelt (description room) (N.with_units b count cols kind units) name
+    name_is_read : (kind : Kind) (units : ℕ) (name : List ℕ) → length name ≡ 2 * units → Spelt (description room) (N.with_units b count cols kind units) name
         (N.with_column (b ++ name) count cols (record { kind = kind; name = name }))
     name_is_read kind units [] l = grind (arith, N.Spelt-none, N.append-nil, N.choose_true)
     name_is_read kind units (x ∷ xs) l = grind (arith, N.Spelt-step, N.choose_false, N.ne_eqb)
@@ -106,5 +104,4 @@ module _ (room : ℕ) where
       let la : length bytes ≡ 2 + length h.rest = rw h.spelt (omega arith) in
       let free = count_free room n count h.some h.most (omega (arith, la, h.within, least-SpellsColumns cs h.rest h.each)) in
       rw h.spelt (N.Spelt-append (description room) _ _ _ _ _ (N.Spelt-step (description room) N.BeforeCount count (after_columns count n [])
-      (omega arith) N.refl (rw two free.0) (rw two free.1))
-      (all_are_read count n [] cs h.rest (omega arith) (omega (arith, la, h.within)) h.each))
+      (omega arith) N.refl (rw two free.0) (rw two free.1)) (all_are_read count n [] cs h.rest (omega arith) (omega (arith, la, h.within)) h.each))

@@ -27,8 +27,7 @@ abbrev pub ColumnMeans : ℕ → List ℕ → N.ColumnPlace → List ℕ → Typ
 ColumnMeans room b N.ColumnHead part = part ≡ []
 ColumnMeans room b (N.ColumnInfo byte) part = (ignored : List ℕ) × (part ≡ ignored ++ byte ∷ []) × (length ignored ≡ 6) × (n : ℕ)
     × (N.rest_length byte ≡ Some n)
-ColumnMeans room b (N.NameCount kind) part = (ignored : List ℕ) × (info : List ℕ) × (part ≡ ignored ++ info) × (length ignored ≡ 6)
-    × N.IsTypeInfo kind info
+ColumnMeans room b (N.NameCount kind) part = (ignored : List ℕ) × (info : List ℕ) × (part ≡ ignored ++ info) × (length ignored ≡ 6) × N.IsTypeInfo kind info
 ColumnMeans room b (N.NameUnits kind n) part = (ignored : List ℕ) × (info : List ℕ) × (units : ℕ) × (part ≡ (ignored ++ info) ++ units ∷ [])
     × (length ignored ≡ 6) × N.IsTypeInfo kind info × (n ≡ 2 * units) × (units < 256) × (length b + n ≤ room)
 
@@ -62,8 +61,7 @@ module _ (room : ℕ) where
   module _ {have : List ℕ} {count : ℕ} {cols : List Column} {place : N.ColumnPlace} {b : List ℕ} (h : WithinMeans room have count cols place b)
       (e : List ℕ) where
     -- a whole column
-    with_means : (c : Column) → N.SpellsColumn c (h.part ++ e) → length (b ++ e) ≤ room
-        → DescribedMeans room (N.with_column (have ++ e) count cols c) (b ++ e)
+    with_means : (c : Column) → N.SpellsColumn c (h.part ++ e) → length (b ++ e) ≤ room → DescribedMeans room (N.with_column (have ++ e) count cols c) (b ++ e)
     with_means c col =
         let spelt = longer b e (count % 256 ∷ count / 256 ∷ []) h.front h.part h.spelt in
         let la = N.length-append cols (c ∷ []) in
@@ -77,8 +75,7 @@ module _ (room : ℕ) where
       let one = last_of 0 e n.whole in
       let spelt = longer b e (count % 256 ∷ count / 256 ∷ []) h.front h.part h.spelt in
       choose (λ s. DescribedMeans room s (b ++ e)) (N.slice_index e 0 == 0) _ _
-      (grind (arith, N.length-append, N.eq_true, (with_means h e (record { kind = kind; name = [] }))))
-      (grind (arith, N.length-append, N.nat_tests))
+      (grind (arith, N.length-append, N.eq_true, (with_means h e (record { kind = kind; name = [] })))) (grind (arith, N.length-append, N.nat_tests))
 
   -- each element keeps the meaning
   pub described_step : (d : N.DescriptionPart) (b e : List ℕ) → N.AreBytes e → DescribedMeans room d b → N.IsNext (N.description room) d e

@@ -6,15 +6,13 @@ module _ {S : Type 0} {g : N.Grammar S N.Fault} {s : S} {a b : N.PayloadView} {b
   -- it is read whole, without a fault
   abbrev pub reads_into : {n : ℕ} {t : S} (e : N.TakesInto a b before after n) → 0 < n → g.size s ≡ n → g.fault s e.element ≡ N.None
       → g.add s e.element ≡ t → N.Reads g s a b t
-  reads_into {t = t} e some size free leads =
-      N.reads_one g s a b e.element t (record { some = omega (arith, e.whole, some); whole = e.whole ∙ N.sym size; free = free }) (rw e.whole e.takes)
-      leads
+  reads_into {t} e some size free leads =
+      N.reads_one g s a b e.element t (record { some = omega (arith, e.whole, some); whole = e.whole ∙ N.sym size; free = free }) (rw e.whole e.takes) leads
 
   -- it is refused
   pub refused_into : {n place : ℕ} {fault : N.Fault} (e : N.TakesInto a b before after n) → 0 < n → g.size s ≡ n → g.fault s e.element ≡ N.Some fault
       → N.StopsReading g s a b place s (record { fault = fault; place = N.Payload place })
-  refused_into e some size first = N.refused_at_once g s a b _ e.element _ (omega (arith, e.whole)) (e.whole
-      ∙ N.sym size) first (rw e.whole e.takes) e.between
+  refused_into e some size first = N.refused_at_once g s a b _ e.element _ (omega (arith, e.whole)) (e.whole ∙ N.sym size) first (rw e.whole e.takes) e.between
 
   -- it is cut
   pub cut_into : {n place : ℕ} {stop : N.Stop} → N.EndsInto a b before after place n stop → g.size s ≡ n → g.end_fault s ≡ N.Some N.MessageEnded

@@ -1,8 +1,7 @@
 -- The elements of a description, as they are read into its area.
 use Rattle.tds_columns.proofs as N
 use N.{◌≡◌, ◌≢◌, ◌∙◌, ℕ, ◌+◌, ◌<◌, ◌≤◌, List, [], length, refl, ap, arith, Some, None, Ok, if◌then◌else◌, Space, Stop, PayloadView, Column, DescriptionPart}
-use N.{span}
-use N.{Describes}
+use N.{span, Describes}
 use N.ElementSteps.{cut_into, reads_into, refused_into, shrunk}
 
 -- a state that something follows
@@ -19,33 +18,23 @@ module _ {room : ℕ} {s : DescriptionPart} {a b : PayloadView} {before after : 
   -- the next element is cut
   pub description_cut : {place n : ℕ} {stop : Stop} → N.EndsInto a b before after place n stop → N.described_size s ≡ n
       → before.bytes ≡ N.description_bytes s → N.StopsDescribing room s a b place before.peak after stop
-  description_cut {n = n} e size kept =
+  description_cut {n} e size kept =
       let o = open_state s n size (omega arith) in
-      record {
-        at = s;
-        stops = cut_into e size o.0;
-        kept = e.stands
-            ∙ kept;
-        bound = omega (arith, ap length kept);
-        further = N.le_refl (span s);
-      }
+      record { at = s; stops = cut_into e size o.0; kept = e.stands ∙ kept; bound = omega (arith, ap length kept); further = N.le_refl (span s) }
 
   -- the next element is read whole, without a fault
   pub description_read : {kept : Space} {place place' n : ℕ} {to : DescriptionPart} (t : N.TakesInto a b before after n) → 0 < n → N.described_size s ≡ n
       → N.described_fault room s t.element ≡ None → N.add_described s t.element ≡ to → place' ≡ place + n
       → before.bytes ≡ N.description_bytes s → kept.peak ≡ after.peak → kept.bytes ≡ N.description_bytes to
       → Describes room s a b place place' before.peak kept to
-  description_read {n = n} t some size free leads at had peak bytes =
+  description_read {n} t some size free leads at had peak bytes =
       let within = rw (leads, t.whole) at (spans room s t.element (record { some = omega (arith, t.whole, some); whole = t.whole ∙ N.sym size; free = free }))
       in
       record {
         reads = reads_into t some size free leads;
         place_is = rw t.whole at;
         kept = bytes;
-        bound = rw (
-          peak,
-          t.stands,
-        ) (omega (arith, N.length-append before.bytes t.element, t.whole, within, ap length had));
+        bound = rw (peak, t.stands) (omega (arith, N.length-append before.bytes t.element, t.whole, within, ap length had));
         further = omega (arith, within, (open_state s n size some).1);
       }
 
@@ -54,13 +43,12 @@ module _ {room : ℕ} {s : DescriptionPart} {a b : PayloadView} {before after : 
       → N.described_fault room s t.element ≡ Some fault → before.bytes ≡ N.description_bytes s → start ≡ length before.bytes
       → cut ≡ N.holding after (N.take start after.bytes)
       → N.StopsDescribing room s a b place before.peak cut (record { fault = fault; place = N.Payload place })
-  description_refused {n = n} t some size first kept at is =
+  description_refused {n} t some size first kept at is =
       let cut = shrunk before t.element t.stands t.whole at is in
       record {
         at = s;
         stops = refused_into t some size first;
-        kept = cut.0
-            ∙ kept;
+        kept = cut.0 ∙ kept;
         bound = omega (arith, (open_state s n size some).1, ap length kept);
         further = N.le_refl (span s);
       }
@@ -68,25 +56,18 @@ module _ {room : ℕ} {s : DescriptionPart} {a b : PayloadView} {before after : 
 module _ {room : ℕ} {s t : DescriptionPart} {a b c : PayloadView} {p q k : ℕ} {middle after : Space} where
   pub describes_both : {u : DescriptionPart} {r room' : ℕ} → room' ≡ room → Describes room s a b p q k middle t
       → Describes room' t b c q r middle.peak after u → Describes room s a c p r k after u
-  describes_both {u = u} same x z = let y = rw same at z in
+  describes_both {u} same x z = let y = rw same at z in
       record {
         reads = N.reads_both (N.description room) s t u a b c x.reads y.reads;
-        place_is = omega (
-          arith,
-          y.place_is,
-          N.length-append x.reads.bytes y.reads.bytes,
-        );
+        place_is = omega (arith, y.place_is, N.length-append x.reads.bytes y.reads.bytes);
         kept = y.kept;
         bound = omega (arith, x.bound);
-        further = omega (
-          arith,
-          x.further,
-        );
+        further = omega (arith, x.further);
       }
 
   pub stops_describing_after : {room' : ℕ} {stop : Stop} → room' ≡ room → Describes room s a b p q k middle t
       → N.StopsDescribing room' t b c q middle.peak after stop → N.StopsDescribing room s a c p k after stop
-  stops_describing_after {stop = stop} same x z = let y = rw same at z in
+  stops_describing_after {stop} same x z = let y = rw same at z in
       record {
         at = y.at;
         stops = N.stops_after (N.description room) s t a b c p y.at stop x.reads (rw (← x.place_is) y.stops);
@@ -117,7 +98,7 @@ pub name_after : {U : Type 0} (r : N.Result U Stop) (c : PayloadView) (after : S
     → N.MatchResult r (λ _. N.TakesInto b c middle after n) (λ stop. stopped ≡ None → N.EndsInto b c middle after place' n stop)
     → N.MatchResult r (λ _. (column : Column) × Describes room s a c place place'' peak after (N.with_column after.bytes count columns column))
     (λ stop. N.StopsDescribing room s a c place peak after stop)
-name_after (Ok _) c after place'' stopped {kind = kind} first some going at u = (
+name_after (Ok _) c after place'' stopped {kind} first some going at u = (
   record { kind = kind; name = u.element },
   describes_both refl first (description_read u (omega (arith, some)) refl refl (rw u.stands) at refl refl (column_bytes _ _ _ _)),
 )
@@ -126,7 +107,7 @@ name_after (N.Err stop) c after place'' stopped first some going at e = stops_de
 -- the element is all that the area has
 count_is : {a b : PayloadView} {before after : Space} (t : N.TakesInto a b before after 2) → before.bytes ≡ [] → (after.bytes ≡ t.element)
     × (N.little t.element ≡ N.little_number 2 after.bytes)
-count_is {after = after} t none = let same : after.bytes ≡ t.element = rw (t.stands, none) in (same, rw (same, t.whole))
+count_is {after} t none = let same : after.bytes ≡ t.element = rw (t.stands, none) in (same, rw (same, t.whole))
 
 module _ {room count : ℕ} {a b : PayloadView} {before after kept : Space} {place : ℕ} (t : N.TakesInto a b before after 2) (none : before.bytes ≡ [])
     (number : count ≡ N.little_number 2 after.bytes) where

@@ -25,10 +25,8 @@ laid c front ignored info rest more byte units spelt split six known kind counte
     let at6 = item ignored (rest ++ units ∷ tail) byte 6 (sym six) in
     let info_is : take (1 + length rest) (drop 6 bytes) ≡ byte ∷ rest =
     rw (parted ignored (byte ∷ (rest ++ units ∷ tail)) 6 (sym six)).0 (parted (byte ∷ rest) (units ∷ tail) (1 + length rest) (omega arith)).1 in
-    let count : N.slice_index bytes (7 + length rest) ≡ units =
-    rw N.append_assoc at (item (ignored ++ byte ∷ rest) tail units (7 + length rest) (sym head)) in
-    let at8 : drop (8 + length rest) bytes ≡ tail =
-    simp N.append_assoc at (parted ((ignored ++ byte ∷ rest) ++ units ∷ []) tail (8 + length rest)
+    let count : N.slice_index bytes (7 + length rest) ≡ units = rw N.append_assoc at (item (ignored ++ byte ∷ rest) tail units (7 + length rest) (sym head)) in
+    let at8 : drop (8 + length rest) bytes ≡ tail = simp N.append_assoc at (parted ((ignored ++ byte ∷ rest) ++ units ∷ []) tail (8 + length rest)
     (omega (arith, N.length-append (ignored ++ byte ∷ rest) (units ∷ []), head))).0 in
     let same : front ++ more ≡ bytes = rw (spelt, split) (simp N.append_assoc) in
     let size : (8 + length rest) + 2 * units ≡ length front =
@@ -46,8 +44,7 @@ front_of c front more h =
     laid c front h.ignored h.info type.rest more type.byte h.units h.spelt type.spelt h.six type.whole type.allowed h.counted
 
 -- columns that are spelt lie there
-columns_lie : (cs : List Column) (bytes : List ℕ) → N.SpellsColumns cs bytes → (N.columns_in (length cs) bytes ≡ cs)
-    × (N.are_columns (length cs) bytes ≡ true)
+columns_lie : (cs : List Column) (bytes : List ℕ) → N.SpellsColumns cs bytes → (N.columns_in (length cs) bytes ≡ cs) × (N.are_columns (length cs) bytes ≡ true)
 columns_lie [] bytes h = (refl, refl)
 columns_lie (c ∷ cs) bytes h = grind (arith, N.drop-append_seam, N.and_from, (front_of c h.0 h.1 h.3), (columns_lie cs h.1 h.4))
 

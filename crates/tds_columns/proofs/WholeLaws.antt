@@ -1,10 +1,10 @@
 -- A description that is whole at the front of bytes.
-use Rattle.std.proofs.Math.Seq.{take-add}
 use Rattle.tds_columns.proofs as N
-use Rattle.tds_packet.proofs.Futures.{Takes-more}
-use N.{◌≡◌, ◌∙◌, ℕ, ◌+◌, ◌-◌, ◌*◌, ◌<◌, ◌≤◌, List, [], ◌∷◌, ◌++◌, length, take, drop, arith, refl, Some}
+use N.{◌≡◌, ◌∙◌, ℕ, ◌+◌, ◌-◌, ◌*◌, ◌<◌, ◌≤◌, List, [], ◌∷◌, ◌++◌, length, take, drop, arith, refl}
 use N.ColumnMeaning.{one_more_column}
 use N.ViewLaws.{all_after, from_type}
+use Rattle.std.proofs.Math.Seq.{take-add}
+use Rattle.tds_packet.proofs.Futures.{Takes-more}
 use Rattle.tds_columns.specs.Gather.{BeginsColumn, BeginsColumns, BeginsDescription}
 
 -- a byte more
@@ -12,8 +12,7 @@ one_further : (n : ℕ) (bytes : List ℕ) → n + 1 ≤ length bytes → take (
 one_further = grind (arith, N.common_steps, take-add, N.drop-cons)
 
 -- the parts of a column
-column_parts : (bytes : List ℕ) (rest units : ℕ) → 8 + rest ≤ length bytes → N.slice_index bytes (7 + rest) ≡ units
-    → take ((8 + rest) + 2 * units) bytes
+column_parts : (bytes : List ℕ) (rest units : ℕ) → 8 + rest ≤ length bytes → N.slice_index bytes (7 + rest) ≡ units → take ((8 + rest) + 2 * units) bytes
     ≡ (take 6 bytes ++ N.slice_index bytes 6 ∷ take rest (drop 7 bytes)) ++ units ∷ take (2 * units) (drop (8 + rest) bytes)
 column_parts bytes rest units fits is =
     let last : take (8 + rest) bytes ≡ take (7 + rest) bytes ++ units ∷ [] =
@@ -24,7 +23,7 @@ column_parts bytes rest units fits is =
 
 -- a column whose type information and name are there
 pub column_begins : (bytes : List ℕ) (rest units : ℕ) {kind : N.Kind} → (8 + rest) + 2 * units ≤ length bytes
-    → N.kind_of (N.slice_index bytes 6 ∷ take (7 + rest - 7) (drop 7 bytes)) ≡ Some kind → N.slice_index bytes (7 + rest) ≡ units → units < 256
+    → N.kind_of (N.slice_index bytes 6 ∷ take (7 + rest - 7) (drop 7 bytes)) ≡ N.Some kind → N.slice_index bytes (7 + rest) ≡ units → units < 256
     → BeginsColumn bytes ((8 + rest) + 2 * units)
 column_begins bytes rest units {kind} fits known is byte = (
   record { kind = kind; name = take (2 * units) (drop (8 + rest) bytes) },
@@ -58,8 +57,7 @@ columns_begin bytes count size more h all = let one = rw (all_after bytes size) 
 -- the description is taken
 pub takes_whole : (room : ℕ) (bytes : List ℕ) (count size : ℕ) {a b : N.PayloadView} (before after : N.Space) {place place' : ℕ}
     → BeginsDescription room bytes count size → N.Takes a b (take size bytes) 0 → before.bytes ≡ []
-    → after ≡ N.appended before (take size bytes) → place' ≡ place + size
-    → (columns : List N.Column) × (length columns ≡ count)
+    → after ≡ N.appended before (take size bytes) → place' ≡ place + size → (columns : List N.Column) × (length columns ≡ count)
     × N.Describes room N.BeforeCount a b place place' before.peak after (N.WholeDescription after.bytes columns)
     × N.Takes a b after.bytes (length after.bytes) × N.SpellsDescription room columns after.bytes
 takes_whole room bytes count size {a} {b} before after {place} {place'} h took none stands at =

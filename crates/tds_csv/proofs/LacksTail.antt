@@ -29,8 +29,7 @@ Grows {S} g text = (s : S) (element : List ℕ) → N.IsNext g s element → (mo
 module _ {S : Type 0} (g : Grammar S Fault) (text : S → List ℕ) where
   -- an element was read after what was read and put
   abbrev pub nears_from : (s at : S) (a b c : PayloadView) (h i : SinkView) (element tail : List ℕ) → N.Words.Streams g text s a b h i at
-      → N.IsNext g at element
-      → N.Takes b c element (length element) → N.IsBetween c → length i.waiting < 4096 → i.delivered ≤ 2 ^ 64 - 1
+      → N.IsNext g at element → N.Takes b c element (length element) → N.IsBetween c → length i.waiting < 4096 → i.delivered ≤ 2 ^ 64 - 1
       → text at ++ tail ≡ text (g.add at element) → LacksTail g text s a c h i (g.add at element) tail
   nears_from s at a b c h i element tail x next takes between few delivered text_is = record {
     bytes = x.bytes;
@@ -147,8 +146,7 @@ module _ {S : Type 0} (g : Grammar S Fault) where
 module _ {S T : Type 0} (small : Grammar S Fault) (big : Grammar T Fault) (lift : S → T) (is : N.Inside small big lift) (text : S → List ℕ) (whole : T
     → List ℕ) (front : List ℕ) (text_is : (s : S) → 0 < small.size s → front ++ text s ≡ whole (lift s)) (grows : Grows small text) where
   -- what is added to the small text between two states with a next element is added to the big one
-  pub added_between : (s t : S) (more : List ℕ) → 0 < small.size s → 0 < small.size t → text s ++ more ≡ text t
-      → whole (lift s) ++ more ≡ whole (lift t)
+  pub added_between : (s t : S) (more : List ℕ) → 0 < small.size s → 0 < small.size t → text s ++ more ≡ text t → whole (lift s) ++ more ≡ whole (lift t)
   added_between = grind (arith, append_assoc)
 
   -- after the small text the big one has a tail

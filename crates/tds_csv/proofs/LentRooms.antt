@@ -26,8 +26,7 @@ spared = grind (arith, spare_before, spare_written)
 module _ {W U V : Type 0} {contents : W → N.Option (List ℕ)} {new : N.Sink W} {made : ℕ} {text : List ℕ} (sink : N.Sink W) (room written : List ℕ)
     (waiting : ℕ) (whole : length written ≡ length room) (at : waiting ≡ length sink.output.now.bytes) (going : sink.failed ≡ N.false)
     (is : take made written ≡ text) where
-  pub kept_puts : {u : U} {v : V} → N.KeepsPiece contents (N.with_spare sink room written) new waiting made (Ok u)
-      → N.PutsPiece contents sink new text (Ok v)
+  pub kept_puts : {u : U} {v : V} → N.KeepsPiece contents (N.with_spare sink room written) new waiting made (Ok u) → N.PutsPiece contents sink new text (Ok v)
   kept_puts = grind (arith, spared)
 
   pub kept_breaks : {e : N.Stop} → N.KeepsPiece {U = U} contents (N.with_spare sink room written) new waiting made (N.Err e)

@@ -1,6 +1,6 @@
 -- Bytes as one number, and the bytes of that: they are the same, and zeros after them. Cited where a short name is read.
-use Rattle.tds_csv.proofs.Words as N
-use Rattle.tds_csv.proofs.Words.{◌≡◌, ℕ, ◌+◌, ◌*◌, ◌/◌, ◌%◌, ◌^◌, ◌<◌, ◌≤◌, List, [], ◌∷◌, length, take, drop, refl, arith, ◌∙◌, take_all}
+use Rattle.tds_csv.proofs as N
+use N.{◌≡◌, ℕ, ◌+◌, ◌*◌, ◌/◌, ◌%◌, ◌^◌, ◌<◌, ◌≤◌, List, [], ◌∷◌, length, take, drop, refl, arith, ◌∙◌}
 use Rattle.byteorder.specs.Endian.{little_from, little_number}
 use Rattle.byteorder.specs.Numbers.{little_from-cons}
 use Rattle.std.specs.Prelude.{zero, suc, slice_index}
@@ -30,7 +30,7 @@ words_hold : (xs : List ℕ) (low high : ℕ) → ((i : ℕ) → slice_index xs 
     → LiesIn xs (digits_l 256 16 (number_l (2 ^ 64) (low ∷ high ∷ [])))
 words_hold xs low high bytes few is =
     let number : number_l (2 ^ 64) (low ∷ high ∷ []) ≡ little_number (length xs) xs = omega (arith, is) in
-    let front = rw number (spelt (length xs) 16 xs bytes (omega arith) few) ∙ take_all (length xs) xs (omega arith) in
+    let front = rw number (spelt (length xs) 16 xs bytes (omega arith) few) ∙ N.take_all (length xs) xs (omega arith) in
     record { within = few; front = front }
 
 -- at most eight bytes are in the first word

@@ -9,10 +9,8 @@ module _ {S : Type 0} (g : N.Grammar S N.Fault) (text : S
   -- the elements from a state on, before which all was put
   breaks_from : (at t : S) (es : List (List ℕ)) (bytes rest : List ℕ) (m : N.SinkView) (added : List ℕ) → N.Spelt g s bytes at → Leads g at es t
       → N.Takes a b ((bytes ++ concat es) ++ rest) 1 → N.PutsText text s at h m → N.length m.waiting < 4096 → text at ++ added ≡ text t
-      → N.WritesPrefix m j added stop
-      → (to : S) × N.WritesPrefixStreaming g text s a b h j to stop
-  breaks_from at t [] bytes rest m added spelt leads takes puts few text_is breaks =
-      grind (N.arith, N.common_steps, N.append_cancel_left)
+      → N.WritesPrefix m j added stop → (to : S) × N.WritesPrefixStreaming g text s a b h j to stop
+  breaks_from at t [] bytes rest m added spelt leads takes puts few text_is breaks = grind (N.arith, N.common_steps, N.append_cancel_left)
   breaks_from at t (e ∷ es) bytes rest m added spelt leads takes puts few text_is breaks =
       let more = grows _ _ leads.0 in
       let later = N.LacksTail.grown_leads _ text grows _ _ _ leads.1 in
@@ -45,8 +43,7 @@ module _ {S : Type 0} (g : N.Grammar S N.Fault) (text : S
 
   -- a piece was read at once, and a write of its text failed: it failed in that of one of its elements
   pub breaks_somewhere : (t : S) (piece rest : List ℕ) (added : List ℕ) → N.Spelt g s piece t → N.Takes a b (piece ++ rest) 1 → N.length h.waiting < 4096
-      → h.delivered ≤ 2 ^ 64 - 1 → text s ++ added ≡ text t → N.WritesPrefix h j added stop
-      → (at : S) × N.WritesPrefixStreaming g text s a b h j at stop
+      → h.delivered ≤ 2 ^ 64 - 1 → text s ++ added ≡ text t → N.WritesPrefix h j added stop → (at : S) × N.WritesPrefixStreaming g text s a b h j at stop
   breaks_somewhere t piece rest added spelt takes few delivered = breaks_from _ t _ [] rest h added (N.Spelt-none g s) spelt.leads (rw spelt.joined takes) (
     [],
     N.append-nil (text s),

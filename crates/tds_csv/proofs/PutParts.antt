@@ -1,8 +1,8 @@
 -- Text that is put a part after the other.
 use Rattle.tds_csv.proofs as N
-use Rattle.tds_text.proofs as T
-use N.{Err, List, Ok, PutsPiece, Sink, Stop, [], Leads, drop, emit, seam, take, ℕ, ◌++◌, ◌+◌, ◌-◌, ◌≡◌, ◌≤◌}
+use N.{Err, List, Ok, PutsPiece, Sink, Stop, [], drop, emit, take, ℕ, ◌++◌, ◌+◌, ◌-◌, ◌≡◌, ◌≤◌}
 use N.Puttings.{PutsPiece-trans}
+use Rattle.tds_text.proofs as T
 use Rattle.tds_text.specs.Utf16 as utf16
 
 -- ---- data whose bytes each stand alone, a run after the other
@@ -27,31 +27,29 @@ module _ (text : List ℕ → List ℕ) (appends : (x y : List ℕ) → text (x 
   puts_some t e n xs few p q = N.Puttings.PutsPiece-ok _ _ (rw (
     N.take-take n (e - t) (drop t xs) few,
     ← appends (take t xs) (take n (drop t xs)),
-    ← N.take-add t n
-        xs,
-  ) at
-      (PutsPiece-trans _ _ _ _ _ _ _ _ p q))
+    ← N.take-add t n xs,
+  ) at (PutsPiece-trans _ _ _ _ _ _ _ _ p q))
 
   -- some of them are all of it, as far as a write failed
   pub puts_less : {W U V : Type 0} {contents : W → N.Option (List ℕ)} {a d : Sink W} {stop : Stop} (n : ℕ) (xs : List ℕ)
       → PutsPiece {U = U} contents a d (text (take n xs)) (Err stop) → PutsPiece {U = V} contents a d (text xs) (Err stop)
-  puts_less {V = V} n xs p = rw (← appends (take n xs) (drop n xs), N.take-append-drop) at (N.Puttings.PutsPiece-longer {V = V} _ (text (drop n xs)) p)
+  puts_less {V} n xs p = rw (← appends (take n xs) (drop n xs), N.take-append-drop) at (N.Puttings.PutsPiece-longer {V = V} _ (text (drop n xs)) p)
 
 -- ---- the fixed text of some bytes
 
 module _ {rest text : List ℕ → List ℕ} where
   -- the part before was put, and then what follows was, or a write of it failed
   pub puts_whole : {W U V : Type 0} {contents : W → N.Option (List ℕ)} {a b d : Sink W} {xs ys p : List ℕ} {u : U} {r : N.Result V Stop}
-      → Leads rest text xs ys p → PutsPiece contents a b p (Ok u) → PutsPiece contents b d (emit rest text ys) r
+      → N.Leads rest text xs ys p → PutsPiece contents a b p (Ok u) → PutsPiece contents b d (emit rest text ys) r
       → PutsPiece contents a d (emit rest text xs) r
   puts_whole l x y = rw l.emits (PutsPiece-trans _ _ _ _ _ _ _ _ x y)
 
   -- a write failed in the part before
-  pub puts_part : {W U : Type 0} {contents : W → N.Option (List ℕ)} {a b : Sink W} {xs ys p : List ℕ} {e : Stop} → Leads rest text xs ys p
+  pub puts_part : {W U : Type 0} {contents : W → N.Option (List ℕ)} {a b : Sink W} {xs ys p : List ℕ} {e : Stop} → N.Leads rest text xs ys p
       → PutsPiece {U = U} contents a b p (Err e) → PutsPiece {U = U} contents a b (emit rest text xs) (Err e)
   puts_part l x = rw l.emits (N.Puttings.PutsPiece-longer _ _ x)
 
 -- nothing is withheld
 pub none_put : {W : Type 0} {contents : W → N.Option (List ℕ)} {a : Sink W} {kept : List ℕ} (piece : List ℕ) → kept ≡ [] → N.IsWriting a
-    → PutsPiece {U = ℕ} contents a a (emit utf16.rest utf16.text (seam kept piece)) (Ok 0)
+    → PutsPiece {U = ℕ} contents a a (emit utf16.rest utf16.text (N.seam kept piece)) (Ok 0)
 none_put piece none going = rw (none, T.Utf16Steps.text_nil) (N.Puttings.PutsPiece-none _ _ 0 going)

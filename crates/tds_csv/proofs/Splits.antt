@@ -24,8 +24,7 @@ split_at a b p r sent n adds enough below above asked =
       (
         (let all_sent : N.Appends a.had b.had (first ++ drop k sent) = N.subst (N.Appends a.had b.had)
             (sym (N.take-append-drop k sent) ∙ ap (λ l. l ++ drop k sent) (rw (← N.take-append-le k sent b.waiting enough, ← joined) (N.take-append-le k
-            all r below)))
-            adds.0 in grind (arith, N.append_assoc)),
+            all r below))) adds.0 in grind (arith, N.append_assoc)),
         sym (N.drop-append-le k all r below) ∙ ap (drop k) joined ∙ N.drop-append-le k sent b.waiting enough,
         adds.2 ∙ ap (N.counted a.delivered) sizes ∙ sym (N.Sinks.counted-twice a.delivered (length first) (length (drop k sent))),
       ),
@@ -61,18 +60,7 @@ WritesPrefix_split a b p q stop x = elim (N.dec_le x.2 (length p)) [
         s.0,
         s.1,
         s.2,
-        (
-          drop (4096 * n) x.0,
-          x.1 - n,
-          i,
-          s.3,
-          fits,
-          omega arith,
-          omega arith,
-          omega arith,
-          x.8,
-          (x.9.0 ∙ ap N.one_more (sym s.4), s.6),
-        ),
+        (drop (4096 * n) x.0, x.1 - n, i, s.3, fits, omega arith, omega arith, omega arith, x.8, (x.9.0 ∙ ap N.one_more (sym s.4), s.6)),
         s.5,
       )
 ]

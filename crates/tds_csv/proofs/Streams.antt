@@ -1,9 +1,10 @@
 -- Calls that read by a grammar and put the text of what they read: one after another, and inside a greater grammar.
 use Rattle.tds_csv.proofs as N
-use N.{◌≡◌, ◌∙◌, ℕ, ◌+◌, ◌<◌, List, ◌++◌, ap, Fault, Stop, Grammar, PayloadView, SinkView, PutsText}
+use N.{◌≡◌, ◌∙◌, ℕ, ◌+◌, ◌<◌, List, ◌++◌, ap, Fault, Stop, Grammar, SinkView, PutsText}
 
 -- a state where a reading stops has a next element
-pub stops_size : {S : Type 0} (g : Grammar S Fault) (from : S) (a b : PayloadView) (place : ℕ) (at : S) (stop : Stop) → N.StopsReading g from a b place at stop
+pub stops_size : {S : Type 0} (g : Grammar S Fault) (from : S) (a b : N.PayloadView) (place : ℕ) (at : S) (stop : Stop)
+    → N.StopsReading g from a b place at stop
     → 0 < g.size at
 stops_size = grind N.arith
 
@@ -13,7 +14,7 @@ puts_both text s t u a b c x y = (x.0 ++ y.0, N.sym (N.append_assoc (text s) x.0
 
 module _ {S : Type 0} (g : Grammar S Fault) (text : S → List ℕ) where
   -- a call that reads on, and one whose write fails
-  abbrev pub breaks_after : (s t : S) (a b c : PayloadView) (h i j : SinkView) (at : S) (stop : Stop) → N.Words.Streams g text s a b h i t
+  abbrev pub breaks_after : (s t : S) (a b c : N.PayloadView) (h i j : SinkView) (at : S) (stop : Stop) → N.Words.Streams g text s a b h i t
       → N.WritesPrefixStreaming g text t b c i j at stop → N.WritesPrefixStreaming g text s a c h j at stop
   breaks_after s t a b c h i j at stop x y = record {
     bytes = x.bytes ++ y.bytes;
@@ -33,7 +34,7 @@ module _ {S : Type 0} (g : Grammar S Fault) (text : S → List ℕ) where
 
 module _ {S : Type 0} (g : Grammar S Fault) (text : S → List ℕ) where
   -- what stops a call that puts text stops one that began before it
-  pub streaming_after : (s t : S) (a b c : PayloadView) (h i j : SinkView) (place : ℕ) (failed : N.Bool) (stop : Stop)
+  pub streaming_after : (s t : S) (a b c : N.PayloadView) (h i j : SinkView) (place : ℕ) (failed : N.Bool) (stop : Stop)
       → (x : N.Words.Streams g text s a b h i t)
       → N.StopsStreaming g text t b c (place + N.length x.bytes) i j failed stop → N.StopsStreaming g text s a c place h j failed stop
   streaming_after s t a b c h i j place failed stop x y = record {
@@ -60,7 +61,7 @@ module _ {S T : Type 0} (small : Grammar S Fault) (big : Grammar T Fault) (lift 
   puts_inside s t a b x = (x.0, added_inside s t x.0 x.1, x.2)
 
   -- a write that fails in the text of the small grammar fails in that of the big one
-  abbrev pub breaks_inside : (from : S) (a b : PayloadView) (h i : SinkView) (at : S) (stop : Stop) → N.WritesPrefixStreaming small text from a b h i at stop
+  abbrev pub breaks_inside : (from : S) (a b : N.PayloadView) (h i : SinkView) (at : S) (stop : Stop) → N.WritesPrefixStreaming small text from a b h i at stop
       → N.WritesPrefixStreaming big whole (lift from) a b h i (lift at) stop
   breaks_inside from a b h i at stop x = record {
     bytes = x.bytes;

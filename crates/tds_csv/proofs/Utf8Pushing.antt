@@ -1,11 +1,11 @@
 -- Pieces of text in UTF-8, one after the other.
 use Rattle.tds_csv.proofs as N
-use Rattle.tds_text.proofs as T
 use N.{◌≡◌, ◌∙◌, ◌↔◌, ℕ, ◌+◌, ◌-◌, ◌<◌, ◌≤◌, List, [], ◌++◌, length, take, drop, Result, Ok, Err, ap, arith, emit, JoinFault, Odd, BadText, Sink, PushesPiece}
-use N.{TakesUpTo, SinkView, held}
+use N.{TakesUpTo, held}
 use T.OpenTexts.{after_kept}
 use T.Utf8Laws.{joins_utf8, emits}
 use Rattle.tds_text.specs.Utf8.{Begins, rest, text}
+use Rattle.tds_text.proofs as T
 
 -- the answer of a push, by where its piece begins in another one
 abbrev pub moved_by : {V : Type 0} → ℕ → Result V JoinFault → Result V JoinFault
@@ -15,9 +15,9 @@ moved_by n (Err Odd) = Err Odd
 moved_by n (Ok v) = Ok v
 
 -- bytes that are withheld, and a piece, taken as one
-up_to_seam : {kept piece bytes new : List ℕ} {a b : SinkView} {k : ℕ} → bytes ≡ kept ++ piece → Begins kept
+up_to_seam : {kept piece bytes new : List ℕ} {a b : N.SinkView} {k : ℕ} → bytes ≡ kept ++ piece → Begins kept
     → TakesUpTo Begins rest text [] new a b bytes k → TakesUpTo Begins rest text kept new a b piece (k - length kept)
-up_to_seam {kept} {k = k} is begun x =
+up_to_seam {kept} {k} is begun x =
     let past = after_kept _ _ _ _ is begun x.bad in
     let j = k - length kept in
     let split : k ≡ length kept + j = omega arith in
@@ -41,7 +41,7 @@ kept_tail : (kept part more mid : List ℕ) (at : ℕ) → mid ≡ rest (kept ++
     → take (length (part ++ more) - at) (drop at (part ++ more)) ≡ mid ++ more
 kept_tail = grind (arith, N.length-drop, N.length-append, N.drop-append-add, N.take_all, N.drop-append-le)
 
-module _ {kept mid new : List ℕ} {a b d : SinkView} {part : List ℕ} (x : N.TakesPiece Begins rest text kept mid a b part) where
+module _ {kept mid new : List ℕ} {a b d : N.SinkView} {part : List ℕ} (x : N.TakesPiece Begins rest text kept mid a b part) where
   -- a part of a piece was taken, and then the next bytes
   takes_both : (more : List ℕ) → N.TakesPiece Begins rest text [] new b d (mid ++ more) → N.TakesPiece Begins rest text kept new a d (part ++ more)
   takes_both more y =
@@ -61,7 +61,7 @@ module _ {kept mid new : List ℕ} {a b d : SinkView} {part : List ℕ} (x : N.T
       }
 
 -- a byte was bad in the first bytes of a piece
-up_to_first : {kept piece new : List ℕ} {a b : SinkView} (n k : ℕ) → n ≤ length piece → TakesUpTo Begins rest text kept new a b (take n piece) k
+up_to_first : {kept piece new : List ℕ} {a b : N.SinkView} (n k : ℕ) → n ≤ length piece → TakesUpTo Begins rest text kept new a b (take n piece) k
     → TakesUpTo Begins rest text kept new a b piece k
 up_to_first = grind (arith, N.length-take-le, N.take-take)
 
@@ -80,8 +80,7 @@ module _ {W U : Type 0} {contents : W → N.Option (List ℕ)} {a b : Sink W} {k
   }
 
   -- a push of the first bytes of a piece failed
-  first_gives : (piece : List ℕ) (n : ℕ) (e : JoinFault) → n ≤ length piece
-      → PushesPiece {U = U} contents Begins rest text kept new a b (take n piece) (Err e)
+  first_gives : (piece : List ℕ) (n : ℕ) (e : JoinFault) → n ≤ length piece → PushesPiece {U = U} contents Begins rest text kept new a b (take n piece) (Err e)
       → N.Pushes {U = U} Begins rest text kept new (held contents a) (held contents b) a.failed piece (Err e)
   first_gives piece n (N.Stopped stop) long x =
       let fixed = rw N.take-append-drop at (halves kept (take n piece) {mid = rest (kept ++ take n piece)} (drop n piece) N.refl).0 in
@@ -116,11 +115,10 @@ module _ {W U V : Type 0} {contents : W → N.Option (List ℕ)} {a b d : Sink W
 
 -- the first three bytes of a piece were taken, and then what was withheld was pushed with the others
 pub pushes_long : {W U V : Type 0} {contents : W → N.Option (List ℕ)} {a b d : Sink W} {kept mid new : List ℕ} {u : U} {r : Result V JoinFault}
-    {piece held' : List ℕ} → 3 ≤ length piece → held' ≡ mid → length mid ≤ 3
-    → PushesPiece contents Begins rest text kept mid a b (take 3 piece) (Ok u)
+    {piece held' : List ℕ} → 3 ≤ length piece → held' ≡ mid → length mid ≤ 3 → PushesPiece contents Begins rest text kept mid a b (take 3 piece) (Ok u)
     → PushesPiece contents Begins rest text [] new b d (take (length piece - (3 - length held')) (drop (3 - length held') piece)) r
     → PushesPiece contents Begins rest text kept new a d piece (moved_by (3 - length held') r)
-pushes_long {kept = kept} {mid = mid} {piece = piece} {held' = held'} long same le x y =
+pushes_long {kept} {mid} {piece} {held'} long same le x y =
     let at = 3 - length held' in
     let whole : at + length mid ≡ length (take 3 piece) = omega (arith, ap length same, N.length-take-le 3 piece long) in
     rw N.take-append-drop at (pushes_both (drop 3 piece) at whole x (rw (rw N.take-append-drop at

@@ -11,13 +11,11 @@ returns-in-Ok-fill-clause-gives g c =
       whole = n;
       takes = rw n at c.in-Ok-fill.ensures.all;
       between = c.in-Ok-fill.ensures.between;
-      stands = N.grown
-          _ _ _ c.fill.auto.to;
+      stands = N.grown _ _ _ c.fill.auto.to;
     }
 
 pub returns-in-Err-clause-gives : goal.returns-in-Err-clause-gives
-returns-in-Err-clause-gives g c = λ going.
-    let back = shrunk _ _ (N.grown _ _ c.fill.new.to c.fill.auto.to) (c.fill.auto.to
+returns-in-Err-clause-gives g c = λ going. let back = shrunk _ _ (N.grown _ _ c.fill.new.to c.fill.auto.to) (c.fill.auto.to
     ∙ c.grow_within-lent.ensures.value) c.len-start.ensures.value c.truncate.ensures in
     let part = c.in-Err.ensures.part going in
     record {

@@ -1,6 +1,6 @@
-use Rattle.tds_columns.proofs as N
 use N.metadata.read_count.Goals as goal
-use N.{◌≡◌, ◌∙◌, refl, rules, None}
+use Rattle.tds_columns.proofs as N
+use N.{◌≡◌, ◌∙◌, refl, rules}
 use N.ColumnMeaning.{not_zero, room_for}
 use N.GatherSteps.{count_read}
 
@@ -23,7 +23,7 @@ returns-then-count-clause-gives g c =
 pub returns-in-None-clause-gives : goal.returns-in-None-clause-gives
 returns-in-None-clause-gives g c =
     let t = c.in_ok-read_into.ensures.gives in
-    let free : N.count_fault _ c.read_u16-count.result ≡ None =
+    let free : N.count_fault _ c.read_u16-count.result ≡ N.None =
     rw (← (c.room.ensures ∙ c.in_ok-read_into.ensures.area.room)) (search rules) in (
       count_read t c.requires.empty (search rules) free (N.choose_false _ _ _ (N.ne_eqb c.read_u16-count.result 0xFFFF (search rules)))
           c.in_ok-read_into.ensures.place refl refl,

@@ -1,16 +1,14 @@
-use Rattle.tds_columns.proofs as N
 use N.metadata.read_info.Goals as goal
-use N.{◌≡◌, ◌∙◌, ◌∷◌, refl, None}
+use Rattle.tds_columns.proofs as N
+use N.{◌≡◌, ◌∙◌, ◌∷◌, refl}
 use N.ElementSteps.{element_at}
 
 pub returns-in_err-read_into-clause-gives : goal.returns-in_err-read_into-clause-gives
-returns-in_err-read_into-clause-gives g c =
-    λ count columns number. N.passed _ _ _ _ c.from_residual.ensures.1
+returns-in_err-read_into-clause-gives g c = λ count columns number. N.passed _ _ _ _ c.from_residual.ensures.1
     (N.GatherSteps.description_cut (c.in_err-read_into.ensures.gives c.requires.going.going) (rw c.requires.follows.known) refl)
 
 pub returns-in-Some-clause-gives : goal.returns-in-Some-clause-gives
-returns-in-Some-clause-gives g c = λ count columns number.
-    let t = c.in_ok-read_into.ensures.gives in
+returns-in-Some-clause-gives g c = λ count columns number. let t = c.in_ok-read_into.ensures.gives in
     let found : N.kind_of (c.args.byte ∷ t.element) ≡ N.Some c.in-Some.field-0 = rw (element_at t c.bytes.ensures.value c.len-start.ensures.value) at
     (N.sym c.kind_of.ensures ∙ c.in-Some.is) in (
       c.in-Some.field-0,
@@ -19,9 +17,8 @@ returns-in-Some-clause-gives g c = λ count columns number.
     )
 
 pub returns-in-None-clause-gives : goal.returns-in-None-clause-gives
-returns-in-None-clause-gives g c = λ count columns number.
-    let t = c.in_ok-read_into.ensures.gives in
-    let none : N.kind_of (c.args.byte ∷ t.element) ≡ None = rw (element_at t c.bytes.ensures.value c.len-start.ensures.value) at (N.sym c.kind_of.ensures
+returns-in-None-clause-gives g c = λ count columns number. let t = c.in_ok-read_into.ensures.gives in
+    let none : N.kind_of (c.args.byte ∷ t.element) ≡ N.None = rw (element_at t c.bytes.ensures.value c.len-start.ensures.value) at (N.sym c.kind_of.ensures
     ∙ c.in-None.is) in
     rw (c.in_payload.ensures, c.place-info_place.ensures)
     (N.GatherSteps.description_refused t c.requires.follows.some (rw c.requires.follows.known) (rw (none, number)) refl c.len-start.ensures.value

@@ -15,25 +15,21 @@ no_fault : (room so_far byte rest index left : ℕ) → N.rest_length byte ≡ N
 no_fault = grind arith
 
 pub returns-in_err-read_into-clause-gives : goal.returns-in_err-read_into-clause-gives
-returns-in_err-read_into-clause-gives g c =
-    λ columns number. N.passed _ _ _ _ c.from_residual.ensures.1
+returns-in_err-read_into-clause-gives g c = λ columns number. N.passed _ _ _ _ c.from_residual.ensures.1
     (N.GatherSteps.description_cut (c.in_err-read_into.ensures.gives c.requires.going.going) refl refl)
 
 pub returns-in-Err-clause-gives : goal.returns-in-Err-clause-gives
-returns-in-Err-clause-gives g c = λ columns number.
-    let t = c.in_ok-read_into.ensures.gives in
+returns-in-Err-clause-gives g c = λ columns number. let t = c.in_ok-read_into.ensures.gives in
     let first = rw (
       byte_at t 6 c.bytes.ensures.value c.len-start.ensures.value,
       c.len-start.ensures.value,
-      c.room.ensures
-          ∙ c.in_ok-read_into.ensures.area.room,
+      c.room.ensures ∙ c.in_ok-read_into.ensures.area.room,
     ) at c.in-Err.ensures in
     rw (c.in_payload.ensures, c.place-place.ensures) (N.GatherSteps.description_refused t (omega arith) refl (rw number first) refl c.len-start.ensures.value
     c.truncate.ensures)
 
 pub returns-then-rest-eq0-clause-gives : goal.returns-then-rest-eq0-clause-gives
-returns-then-rest-eq0-clause-gives g c = λ columns number.
-    let t = c.in_ok-read_into.ensures.gives in
+returns-then-rest-eq0-clause-gives g c = λ columns number. let t = c.in_ok-read_into.ensures.gives in
     let known = rw (byte_at t 6 c.bytes.ensures.value c.len-start.ensures.value) at c.in-Ok.ensures.0 in
     let kind = bare (c.args.area.now.bytes ++ t.element) c.read_into.new.area.bytes c.args.at.count columns (N.slice_index t.element 6) c.in-Ok.rest known
     c.if-rest-eq0.true (rw t.stands) in (
@@ -43,8 +39,7 @@ returns-then-rest-eq0-clause-gives g c = λ columns number.
     )
 
 pub returns-clause-gives : goal.returns-clause-gives
-returns-clause-gives g c = λ columns number.
-    let t = c.in_ok-read_into.ensures.gives in
+returns-clause-gives g c = λ columns number. let t = c.in_ok-read_into.ensures.gives in
     let byte = byte_at t 6 c.bytes.ensures.value c.len-start.ensures.value in
     let known = rw byte at c.in-Ok.ensures.0 in
     part_after _ _ _ _ _ c.in_ok-read_into.ensures.area.room

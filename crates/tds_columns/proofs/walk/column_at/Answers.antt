@@ -21,16 +21,7 @@ at_front {bytes} {kind} {rest} {units} l known named is =
     let size : 8 + rest + 2 * units - (8 + rest) ≡ N.name_size bytes = omega (arith, is, N.ap (λ n. N.get_or bytes n 0) byte) in
     let k = named l.kind (rw (all_after bytes 7, r) l.named) in (
       rw k l.valid,
-      rw size (omega (
-        arith,
-        N.length-take-le (N.name_size bytes) (drop (8 + rest) bytes) (omega (
-          arith,
-          l.enough,
-          r,
-          N.length-drop
-              (8 + rest) bytes,
-        )),
-      )),
+      rw size (omega (arith, N.length-take-le (N.name_size bytes) (drop (8 + rest) bytes) (omega (arith, l.enough, r, N.length-drop (8 + rest) bytes)))),
       rw (k, size, r) (N.sym l.at),
     )
 

@@ -1,7 +1,8 @@
-use Rattle.tds_csv.proofs.Words.{ℕ, ◌≡◌, ◌-◌, ◌<◌, arith, drop, length, length-drop, take, take_all}
-use Rattle.tds_csv.proofs.PaddedUnits.{one_word, two_words}
+use Rattle.tds_csv.proofs as N
+use N.names.padded.Goals as goal
+use N.{ℕ, ◌≡◌, ◌-◌, ◌<◌, drop}
+use N.PaddedUnits.{one_word, two_words}
 use Rattle.std.specs.Prelude.{slice_index}
-use Rattle.tds_csv.proofs.names.padded.Goals as goal
 use goal.{then-units-le-WORD, else-units-le-WORD}
 
 pub returns : goal.returns
@@ -12,7 +13,7 @@ returns c =
       | then-units-le-WORD w ↦ rw w.words-is (one_word units bytes w.if-units-le-WORD.true w.four_units.ensures)
       | else-units-le-WORD w ↦
           let more = w.if-units-le-WORD.false in
-          let rest : take (length units - 8) (drop 8 units) ≡ drop 8 units = take_all _ _ (omega (arith, length-drop 8 units)) in
+          let rest : N.take (N.length units - 8) (drop 8 units) ≡ drop 8 units = N.take_all _ _ (omega (N.arith, N.length-drop 8 units)) in
           let high = rw rest at w.four_units-else-units-le-WORD.ensures in
-          rw w.words-is (two_words units bytes (omega (arith, more)) c.requires.few w.read_u64.ensures high)
+          rw w.words-is (two_words units bytes (omega (N.arith, more)) c.requires.few w.read_u64.ensures high)
     ]

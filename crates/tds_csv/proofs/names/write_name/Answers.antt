@@ -1,9 +1,9 @@
 use Rattle.tds_csv.proofs as N
+use N.{◌≡◌, ◌∙◌, ℕ, List, ◌+◌, ◌++◌, ◌≤◌, take, ap}
 use Rattle.tds_text.specs.Quoting.{end_after}
-use N.{◌≡◌, ◌∙◌, ℕ, List, ◌+◌, ◌++◌, ◌≤◌, length, take, ap}
 
 -- the comma, and the field that was written after it
-in_place : (column start made : ℕ) (first new rest text : List ℕ) → start ≤ length first → made ≤ length new → take made new ≡ text
+in_place : (column start made : ℕ) (first new rest text : List ℕ) → start ≤ N.length first → made ≤ N.length new → take made new ≡ text
     → ((t : List ℕ) → take start first ++ t ≡ N.after_comma column t) → take (start + made) (take start first ++ (new ++ rest)) ≡ N.after_comma column text
 in_place column start made first new rest text there within is comma =
     let l = N.length-take-le start first there in

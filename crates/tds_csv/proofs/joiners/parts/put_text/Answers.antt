@@ -16,8 +16,7 @@ loop-taken-preserved g c = record {
 }
 
 pub returns-in_err-used : goal.returns-in_err-used
-returns-in_err-used g c =
-    puts_break g.C.Bytewise.text c.laws.ensures.appends c.loop-taken.taken (N.length c.args.bytes.now) c.args.bytes.now (omega arith)
+returns-in_err-used g c = puts_break g.C.Bytewise.text c.laws.ensures.appends c.loop-taken.taken (N.length c.args.bytes.now) c.args.bytes.now (omega arith)
     c.loop-taken.invariant.puts c.in_err-used.ensures.puts c.from_residual.ensures.1
 
 pub loop-taken-preserved-then-room-ge-PART : goal.loop-taken-preserved-then-room-ge-PART

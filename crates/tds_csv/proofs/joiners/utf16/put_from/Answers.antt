@@ -7,15 +7,7 @@ use N.PutParts.{puts_part, puts_whole}
 use T.JoiningLemmas.{Leads-front, Leads-next, Leads-none, Leads-trans}
 
 pub loop-at-init : goal.loop-at-init
-loop-at-init g c = record {
-  within = c.requires.from;
-  after = omega arith;
-  puts = (
-    [],
-    N.Puttings.PutsPiece-none _ _ tt c.requires.writing,
-    Leads-none,
-  );
-}
+loop-at-init g c = record { within = c.requires.from; after = omega arith; puts = ([], N.Puttings.PutsPiece-none _ _ tt c.requires.writing, Leads-none) }
 
 pub returns-in_err-at-clause-puts : goal.returns-in_err-at-clause-puts
 returns-in_err-at-clause-puts g c =

@@ -9,8 +9,7 @@ returns-in_err-push g c = N.PutParts.puts_break (λ l. l) (λ x y. N.refl) _ (c.
 pub loop-taken-preserved : goal.loop-taken-preserved
 loop-taken-preserved g c = record {
   within = search N.rules;
-  puts = N.PutParts.puts_more (λ l. l) (λ x y. N.refl) _ (c.loop-taken.taken + _) _ (omega N.arith)
-      c.loop-taken.invariant.puts c.in_ok-push.ensures;
+  puts = N.PutParts.puts_more (λ l. l) (λ x y. N.refl) _ (c.loop-taken.taken + _) _ (omega N.arith) c.loop-taken.invariant.puts c.in_ok-push.ensures;
 }
 
 pub returns : goal.returns

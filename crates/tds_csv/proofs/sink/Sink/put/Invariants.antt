@@ -5,8 +5,7 @@ use N.{◌-◌, ◌≤◌}
 abbrev pub invariant-loop-taken : goal.invariant-loop-taken
 invariant-loop-taken g l = record {
   within : l.taken ≤ N.length l.piece;
-  puts : N.PutsPiece g.W.Write.contents l.initial.self l.self
-      (N.take l.taken l.piece) (N.Ok (tt {0}));
+  puts : N.PutsPiece g.W.Write.contents l.initial.self l.self (N.take l.taken l.piece) (N.Ok (tt {0}));
 }
 
 abbrev pub decreases-loop-taken : goal.decreases-loop-taken

@@ -9,11 +9,9 @@ pub returns-in-Ok : goal.returns-in-Ok
 returns-in-Ok g c = pushes_long c.requires.long c.bytes.ensures.value c.bytes.ensures.fits c.in_ok-push_short.ensures c.in-Ok.ensures
 
 pub returns-in-Err-BadText : goal.returns-in-Err-BadText
-returns-in-Err-BadText g c =
-    pushes_long c.requires.long c.bytes.ensures.value c.bytes.ensures.fits c.in_ok-push_short.ensures
+returns-in-Err-BadText g c = pushes_long c.requires.long c.bytes.ensures.value c.bytes.ensures.fits c.in_ok-push_short.ensures
     (rw c.in-Err-BadText.field-0-is at c.in-Err-BadText.ensures)
 
 pub returns-in-Err-Stopped : goal.returns-in-Err-Stopped
-returns-in-Err-Stopped g c =
-    pushes_long c.requires.long c.bytes.ensures.value c.bytes.ensures.fits c.in_ok-push_short.ensures
+returns-in-Err-Stopped g c = pushes_long c.requires.long c.bytes.ensures.value c.bytes.ensures.fits c.in_ok-push_short.ensures
     (rw c.in-Err-Stopped.field-0-is at c.in-Err-Stopped.ensures)
