@@ -1,34 +1,31 @@
 -- Tokens with a Length and a body, as they are read.
-use Rattle.tds_export.proofs.Words as N
-use Rattle.tds_export.proofs.Words.{AnError, List, Option, Report, Some, Space, [], ap, arith, empty, first_error, in_length, length, notice_of, refl, sym}
-use Rattle.tds_export.proofs.Words.{text, ℕ, ◌++◌, ◌+◌, ◌-◌, ◌<◌, ◌∙◌, ◌∷◌, ◌≡◌, ◌≤◌, Bool, Err, Kind, NoType, None, Ok, ReadsReturn, Result, PayloadView}
-use Rattle.tds_export.proofs.Words.{Stop, Takes}
-use Rattle.tds_export.proofs.Words.{TypeHead, if◌then◌else◌, returned_type, subst, with_return_units, ◌*◌, BadNotice, Bodied, Token, between, false, inl, inr}
-use Rattle.tds_export.proofs.Words.{is_notice, part_fault, reads_one, response, stops_after, take, true, Charset, View, Ends}
-use Rattle.tds_export.proofs.TokenSteps.{OpenTexts, bare_reads, quietly, stops_quietly, ReadsQuiet, StopsQuiet}
-use Rattle.tds_export.proofs.TokenLaws.{first_next, first_stays, no_errors, tracks_error, tracks_info, tracks_returned, bare_body, tracks_body}
-use Rattle.tds_export.proofs.ResponseLaws.{Agrees, info_is_read, return_name_is_read, value_agrees, read_inside, stop_inside, part_cut, fill_cut, return_agrees}
-use Rattle.tds_export.proofs.ResponseLaws.{body_free, body_is_read, length_free}
+use Rattle.tds_export.proofs as N
+use N.{AnError, List, Report, Some, Space, [], ap, arith, empty, first_error, in_length, length, notice_of, refl, sym, text, ℕ, ◌++◌, ◌+◌, ◌-◌, ◌<◌, ◌∙◌, ◌∷◌}
+use N.{◌≡◌, ◌≤◌, Err, Kind, Ok, ReadsReturn, PayloadView, Stop, Takes, if◌then◌else◌, ◌*◌, Bodied, Token, between, false, inl, inr, is_notice, reads_one}
+use N.{response, true, Charset, View, Ends}
+use N.TokenSteps.{OpenTexts, bare_reads, quietly, stops_quietly, ReadsQuiet, StopsQuiet}
+use N.TokenLaws.{first_next, first_stays, no_errors, tracks_error, tracks_info, tracks_returned, bare_body, tracks_body}
+use N.ResponseLaws.{Agrees, info_is_read, return_name_is_read, value_agrees, read_inside, stop_inside, part_cut, fill_cut, return_agrees, body_free}
+use N.ResponseLaws.{body_is_read, length_free}
 
 -- a text as far as it fits stays within the room
-pub within_room : {s : Space} (text : List ℕ) → s.bytes ≡ [] → s.peak ≤ s.room
-    → (N.appended s (N.whole_within (s.room - length s.bytes) text)).peak ≤ s.room
-within_room text empty peak = grind (arith, N.length-append, N.length-take, N.utf8_valid_len_le)
+pub within_room : {s : Space} (text : List ℕ) → s.bytes ≡ [] → s.peak ≤ s.room → (N.appended s (N.whole_within (s.room - length s.bytes) text)).peak ≤ s.room
+within_room = grind (arith, N.length-append, N.length-take, N.utf8_valid_len_le)
 
 -- before or after the Length no text is added, and the area holds what it held
 in_body_holds : {area : Space} {tokens : List Token} {which : Bodied} (at : N.Part) → N.IsHolding area (N.after_tokens tokens) → N.IsInBody tokens which at
     → (N.text_so_far (in_length which tokens) ≡ N.text_so_far at) × N.IsHolding area at
-in_body_holds at holds h = grind arith
+in_body_holds = grind arith
 
 -- the ERRORs so far are counted
 errors_are : {s : N.Progress} {tokens : List Token} → N.TracksBefore s tokens → s.report.errors ≡ N.how_many N.is_error tokens
-errors_are tracks = ap (λ (r : Report). r.errors) tracks.report
+errors_are = grind arith
 
 module _ (charset : Charset) {tokens : List Token} {s : N.Progress} {u : View} {b : PayloadView} (begun : OpenTexts tokens s u) where
   -- a notice is cut or refused
   pub notice_stops : {which : Bodied} {stop : Stop} → N.StopsInNotice charset u.area.room tokens which u.seen b u.place stop
       → StopsQuiet charset (in_length which tokens) u b stop
-  notice_stops x = let there = in_body_holds _ begun.holds x.in_body in stops_quietly there.0 there.1 begun.delivered begun.going x.stops
+  notice_stops x = let there = in_body_holds _ begun.holds x.in_body in grind (arith, stops_quietly)
 
   module _ {place : ℕ} {body : List ℕ} where
     -- an INFO was read
@@ -36,7 +33,7 @@ module _ (charset : Charset) {tokens : List Token} {s : N.Progress} {u : View} {
         → ReadsQuiet charset (in_length N.AnInfo tokens) tokens u b place (record s { report = record s.report { infos = s.report.infos + 1 } })
     info_reads x = quietly begun refl (bare_reads begun _ x.reads x.place_is refl refl (tracks_info begun.tracks _))
 
-    abbrev error_reads : {first : Option N.ServerError} → first ≡ N.option_map N.server_error (first_error (tokens ++ N.Error (notice_of body) ∷ []))
+    abbrev error_reads : {first : N.Option N.ServerError} → first ≡ N.option_map N.server_error (first_error (tokens ++ N.Error (notice_of body) ∷ []))
         → N.ReadsNotice charset u.area.room tokens AnError u.seen b u.place place body
         → N.ReadsTokens (response charset u.area.room) (in_length AnError tokens) tokens u.seen b u.place place u.held u.held
         (record s { report = record s.report { errors = s.report.errors + 1; first_error = first } }) u.area
@@ -48,39 +45,30 @@ module _ (charset : Charset) {tokens : List Token} {s : N.Progress} {u : View} {
         → N.ReadsNotice charset u.area.room tokens AnError u.seen b u.place place body
         → N.ReadsNext charset (in_length AnError tokens) tokens u (record u { seen = b; place = place; notice = after })
         (record s { report = record s.report { errors = s.report.errors + 1; first_error = Some (N.server_error (notice_of body)) } })
-    first_error_reads cleared {after = after} none no_bytes room_is put x =
-        let first = first_next tokens (notice_of body) (no_errors tokens (sym (errors_are {s = s} begun.tracks) ∙ none)) in
+    first_error_reads cleared {after} none no_bytes room_is put x =
+        let first = first_next tokens (notice_of body) (grind (arith, no_errors, errors_are)) in
         (error_reads (cc) x, cc)
 
     -- a later ERROR was read
     pub later_error_reads : 0 < s.report.errors → N.ReadsNotice charset u.area.room tokens AnError u.seen b u.place place body
         → ReadsQuiet charset (in_length AnError tokens) tokens u b place (record s { report = record s.report { errors = s.report.errors + 1 } })
-    later_error_reads some x =
-        let first = first_stays tokens (N.Error (notice_of body) ∷ []) (rw (← errors_are begun.tracks) some) in
-        (error_reads (ap (λ (r : Report). r.first_error) begun.tracks.report ∙ ap (N.option_map N.server_error) (sym first)) x, cc)
+    later_error_reads = grind (arith, first_stays, errors_are, error_reads)
 
 -- ---- rETURNVALUE as it is read, and in its response
 
 module _ {s t : N.ReturnPart} {a b c : PayloadView} {place middle : ℕ} (x : ReadsReturn s t a b place middle) where
   -- what stops a call stops one that began before it
   pub return_stops_after : {stop : Stop} → N.StopsReturn t b c middle stop → N.StopsReturn s a c place stop
-  return_stops_after {stop = stop} y = grind (arith, stops_after)
+  return_stops_after = grind (arith, N.stops_after)
 
   -- and so it is where nothing stops
   pub return_reads_after : {u : N.ReturnPart} {place' : ℕ} → ReadsReturn t u b c middle place' → ReadsReturn s u a c place place'
-  return_reads_after {u = u} y = record {
-    reads = N.reads_both _ s t u a b c x.reads y.reads;
-    place_is = omega (
-      arith,
-      N.length-append x.reads.bytes y.reads.bytes,
-    );
-  }
+  return_reads_after {u} y = record { reads = grind (arith, N.reads_both); place_is = grind (arith, N.length-append) }
 
 -- the next element was read
-return_read : {s t : N.ReturnPart} {a b : PayloadView} {place place' n : ℕ} (element : List ℕ) → 0 < n → N.return_size s ≡ n → N.return_fault s element ≡ None
+return_read : {s t : N.ReturnPart} {a b : PayloadView} {place place' n : ℕ} (element : List ℕ) → 0 < n → N.return_size s ≡ n → N.return_fault s element ≡ N.None
     → N.return_add s element ≡ t → length element ≡ n → Takes a b element n → place' ≡ place + n → ReadsReturn s t a b place place'
-return_read {s = s} {t = t} {a = a} {b = b} element some size free to whole takes at =
-    record { reads = reads_one _ s a b _ t (record { some = rw whole some; whole = cc; free = free }) (rw whole takes) to; place_is = rw whole at }
+return_read {s} {t} {a} {b} element some size free to whole takes at = record { reads = grind (arith, reads_one); place_is = rw whole at }
 
 -- ---- the name
 
@@ -93,19 +81,19 @@ module _ {a : PayloadView} (b : PayloadView) {place one : ℕ} (ordinal : List �
 
     -- the ordinal and the count of the name's units were read
     pub front_read : {c : PayloadView} {two : ℕ} (element : List ℕ) → length element ≡ 1 → Takes b c element (length element) → two ≡ one + length element
-        → ReadsReturn N.ReturnOrdinal (with_return_units (N.slice_index element 0)) a c place two
+        → ReadsReturn N.ReturnOrdinal (N.with_return_units (N.slice_index element 0)) a c place two
     front_read element single second at' = return_reads_after ordinal_read (return_read _ (omega arith) (sym single) refl refl refl second at')
 
 -- the name is cut
 pub name_cut : (units : ℕ) {n place : ℕ} {a b : PayloadView} {own stop : Stop} {part : List ℕ} → n ≡ 2 * units → length part < n → Ends a b part own
-    → stop ≡ N.began_at place own → N.StopsReturn (with_return_units units) a b place stop
-name_cut units {n = n} is fewer ends stop_is =
-    let some : with_return_units units ≡ N.ReturnName n = rw is (N.choose_false _ _ _ (N.ne_eqb units 0 (λ q. omega arith))) in
+    → stop ≡ N.began_at place own → N.StopsReturn (N.with_return_units units) a b place stop
+name_cut units {n} is fewer ends stop_is =
+    let some : N.with_return_units units ≡ N.ReturnName n = grind (arith, N.choose_false, N.ne_eqb) in
     rw some (record { at = N.ReturnName n; stops = part_cut refl refl fewer ends stop_is })
 
 -- the name was read
 pub name_read : (units : ℕ) {n place place' : ℕ} {a b : PayloadView} {name : List ℕ} → n ≡ 2 * units → length name ≡ n → Takes a b name n
-    → place' ≡ place + n → ReadsReturn (with_return_units units) (N.ReturnHead name) a b place place'
+    → place' ≡ place + n → ReadsReturn (N.with_return_units units) (N.ReturnHead name) a b place place'
 name_read units {name} is len takes at = record {
   reads = record { bytes = name; spelt = return_name_is_read _ _ (cc); takes = rw len takes };
   place_is = rw len at;
@@ -115,28 +103,27 @@ name_read units {name} is len takes at = record {
 
 -- a type that is read after a name
 abbrev after_name : List ℕ → N.TypePart → N.ReturnPart
-after_name name TypeHead = N.ReturnHead name
+after_name name N.TypeHead = N.ReturnHead name
 after_name name (N.TypeRest byte) = N.ReturnInfo name byte
 after_name name (N.KnownType kind) = N.before_value name kind
-after_name name NoType = N.ReturnOrdinal
+after_name name N.NoType = N.ReturnOrdinal
 
 -- a kind that is known, and a type byte that was read, lead to the same
-known_kind : (name : List ℕ) (o : Option Kind) → N.with_return_kind name o ≡ after_name name (N.with_known o)
-known_kind name o = grind arith
+known_kind : (name : List ℕ) (o : N.Option Kind) → N.with_return_kind name o ≡ after_name name (N.with_known o)
+known_kind = grind arith
 
-byte_read : (name : List ℕ) (byte : ℕ) (z : Bool)
-    → (if z then N.with_return_kind name (N.kind_of (byte ∷ [])) else N.ReturnInfo name byte) ≡ after_name name
+byte_read : (name : List ℕ) (byte : ℕ) (z : N.Bool) → (if z then N.with_return_kind name (N.kind_of (byte ∷ [])) else N.ReturnInfo name byte) ≡ after_name name
     (if z then N.with_known (N.kind_of (byte ∷ [])) else N.TypeRest byte)
-byte_read name byte z = grind (arith, known_kind)
+byte_read = grind arith
 
 -- a type is read in its return value as by itself
-type_agrees : {name : List ℕ} (p : N.TypePart) → 0 < returned_type.size p → Agrees returned_type N.return_value (after_name name) p
+type_agrees : {name : List ℕ} (p : N.TypePart) → 0 < N.returned_type.size p → Agrees N.returned_type N.Words.return_value (after_name name) p
 type_agrees p h = grind (arith, byte_read, known_kind)
 
 -- whatever the answer is
-pub type_taken : (r : Result Kind Stop) (name head : List ℕ) (a b c : PayloadView) (place : ℕ) {middle : ℕ} (place' : ℕ) → length head ≡ 8 → Takes a b head 8
+pub type_taken : (r : N.Result Kind Stop) (name head : List ℕ) (a b c : PayloadView) (place : ℕ) {middle : ℕ} (place' : ℕ) → length head ≡ 8 → Takes a b head 8
     → middle ≡ place + 8 → N.IfOk r (λ kind. N.ReadsType (N.slice_index head 7) b c middle place' kind)
-    → N.MatchResult r (λ kind. N.Reads returned_type TypeHead a c (N.KnownType kind)) (λ stop. N.StopsType a c (middle - 8) stop)
+    → N.MatchResult r (λ kind. N.Reads N.returned_type N.TypeHead a c (N.KnownType kind)) (λ stop. N.StopsType a c (middle - 8) stop)
     → N.MatchResult r (λ kind. ReadsReturn (N.ReturnHead name) (N.before_value name kind) a c place place')
     (λ stop. N.StopsReturn (N.ReturnHead name) a c place stop)
 type_taken (Ok kind) name head a b c place place' eight takes at x y =
@@ -144,24 +131,23 @@ type_taken (Ok kind) name head a b c place place' eight takes at x y =
     return_reads_after (return_read _ (omega arith) refl (rw known refl) (rw known refl) eight takes at)
     (record { reads = record { bytes = x.rest; spelt = info_is_read _ _ _ known x.info; takes = x.takes }; place_is = x.place_is })
 type_taken (Err stop) name head a b c place place' eight takes at x y =
-    let z = subst (λ n. N.StopsType a c n stop) (omega arith) y in
+    let z = N.subst (λ n. N.StopsType a c n stop) (omega arith) y in
     record { at = after_name name z.at; stops = stop_inside (type_agrees) z.stops }
 
 -- ---- the value
 
 -- the value was passed over, or that stopped
-pub value_passed : {U : Type 0} (r : Result U Stop) (name : List ℕ) (kind : Kind) {a b : PayloadView} (c : PayloadView) {place middle : ℕ} (place' : ℕ)
+pub value_passed : {U : Type 0} (r : N.Result U Stop) (name : List ℕ) (kind : Kind) {a b : PayloadView} (c : PayloadView) {place middle : ℕ} (place' : ℕ)
     → ReadsReturn N.ReturnOrdinal (N.before_value name kind) a b place middle
     → N.MatchResult r (λ _. N.PassesCell (N.cell_start kind (N.shape N.return_charset kind)) b c middle place')
     (λ stop. N.StopsPassing (N.cell_start kind (N.shape N.return_charset kind)) b c middle stop)
     → N.MatchResult r (λ _. N.ReadsValue a c place place') (λ stop. N.StopsReturn N.ReturnOrdinal a c place stop)
-value_passed (Ok u) name kind {b = b} c place' x y =
+value_passed (Ok u) name kind {b} c place' x y =
     record {
       value = record { name = name; kind = kind; value = y.value };
-      steps = return_reads_after x
-          (record { reads = read_inside (value_agrees _ _) y.steps.reads; place_is = y.steps.place_is });
+      steps = return_reads_after x (record { reads = read_inside (value_agrees _ _) y.steps.reads; place_is = y.steps.place_is });
     }
-value_passed (Err stop) name kind {b = b} c place' x y =
+value_passed (Err stop) name kind {b} c place' x y =
     return_stops_after x (record { at = N.with_value name kind y.at; stops = stop_inside (value_agrees _ _) y.stops })
 
 -- ---- in its response
@@ -169,15 +155,14 @@ value_passed (Err stop) name kind {b = b} c place' x y =
 -- a part of it has no text, and the area holds what it held
 open_return : {area : Space} {tokens : List Token} (p : N.ReturnPart) → 0 < N.return_size p → N.IsHolding area (N.after_tokens tokens)
     → (N.text_so_far (N.in_return tokens) ≡ N.text_so_far (N.with_return tokens p)) × N.IsHolding area (N.with_return tokens p)
-open_return p some holds = grind arith
+open_return = grind arith
 
 module _ (charset : Charset) {tokens : List Token} {s : N.Progress} {u : View} {b : PayloadView} (begun : OpenTexts tokens s u) where
   -- a return value stopped the call
   pub return_stops : {stop : Stop} → N.StopsReturn N.ReturnOrdinal u.seen b u.place stop → StopsQuiet charset (N.in_return tokens) u b stop
   return_stops x =
-      let there = open_return _ (N.stops_size _ _ _ b _ _ _ x.stops) begun.holds in
-      stops_quietly there.0 there.1 begun.delivered begun.going
-      (stop_inside (return_agrees _ _ _) x.stops)
+      let there = open_return _ (grind arith) begun.holds in
+      stops_quietly there.0 there.1 begun.delivered begun.going (stop_inside (return_agrees _ _ _) x.stops)
 
   -- a return value was read
   pub return_reads : {place : ℕ} → N.ReadsValue u.seen b u.place place
@@ -200,19 +185,17 @@ pub record LengthRead (element : List ℕ) (n : ℕ) (a b : PayloadView) (place 
 
 -- the Length as a number
 pub number_is : {element : List ℕ} {n place middle : ℕ} {a b : PayloadView} → LengthRead element n a b place middle → N.little element ≡ n
-number_is {element = element} l = rw l.is (cc)
+number_is = grind arith
 
 module _ (charset : Charset) (room : ℕ) {n place middle : ℕ} {tokens : List Token} {which : Bodied} {element : List ℕ} {a b c : PayloadView}
     (l : LengthRead element n a b place middle) (long : is_notice which ≡ true → 14 ≤ n) where
   -- what stops the reading of the body
   after_length : {stop : Stop} → 0 < n → N.StopsReading (response charset room) (in_body which tokens n) b c middle (in_body which tokens n) stop
       → N.StopsReading (response charset room) (in_length which tokens) a c place (in_body which tokens n) stop
-  after_length {stop = stop} some stops =
-      let to : (response charset room).add (in_length which tokens) element ≡ in_body which tokens n =
-      rw (number_is l) (N.choose_false _ _ _ (N.ne_eqb n 0 (λ z. omega arith))) in
-      stops_after _ _ _ a b c _ _ _ (reads_one _ _ a b _ _ (record { some = omega arith; whole = l.two; free = length_free room tokens _ _ long (number_is l) })
-      l.takes to)
-      (rw l.at at stops)
+  after_length {stop} some stops =
+      let to : (response charset room).add (in_length which tokens) element ≡ in_body which tokens n = grind (arith, number_is, N.choose_false, N.ne_eqb) in
+      N.stops_after _ _ _ a b c _ _ _ (reads_one _ _ a b _ _ (record { some = omega arith; whole = l.two; free = grind (arith, length_free, number_is) })
+      l.takes to) (rw l.at at stops)
 
   -- the body was read
   abbrev pub body_reads : (body : List ℕ) → length body ≡ n → Takes b c body n → (is_notice which ≡ true → N.holds_notice body ≡ true)
@@ -225,7 +208,7 @@ module _ (charset : Charset) (room : ℕ) {n place middle : ℕ} {tokens : List 
 
 -- no token is a notice and isn't one
 no_notice : {P : Type 0} (which : Bodied) → is_notice which ≡ false → is_notice which ≡ true → P
-no_notice which quiet loud = absurd (cc)
+no_notice = grind arith
 
 module _ (charset : Charset) {n middle : ℕ} {tokens : List Token} {which : Bodied} {element : List ℕ} {s : N.Progress} {u : View} {b c : PayloadView}
     (begun : OpenTexts tokens s u) (quiet : is_notice which ≡ false) (l : LengthRead element n u.seen b u.place middle) where
@@ -233,30 +216,28 @@ module _ (charset : Charset) {n middle : ℕ} {tokens : List Token} {which : Bod
   pub quiet_reads : {place : ℕ} (body : List ℕ) → length body ≡ n → Takes b c body n → place ≡ middle + n
       → ReadsQuiet charset (in_length which tokens) tokens u c place s
   quiet_reads body len takes at =
-      quietly begun refl (bare_reads begun _ (body_reads _ _ l (no_notice _ quiet) _ len takes (no_notice _ quiet)) (omega
-      (arith, N.length-append element body)) refl (bare_body _ _)
+      quietly begun refl (bare_reads begun _ (body_reads _ _ l (no_notice _ quiet) _ len takes (no_notice _ quiet)) (grind (arith, N.length-append)) refl
+      (bare_body _ _)
       (tracks_body begun.tracks _ _ quiet))
 
   -- it was cut
   pub quiet_stops : {own stop : Stop} {part : List ℕ} → length part < n → Ends b c part own → stop ≡ N.began_at middle own
       → StopsQuiet charset (in_length which tokens) u c stop
-  quiet_stops fewer ends is =
-      stops_quietly refl (record { bytes = begun.holds.bytes; peak = begun.holds.peak }) begun.delivered begun.going
+  quiet_stops fewer ends is = stops_quietly refl (record { bytes = begun.holds.bytes; peak = begun.holds.peak }) begun.delivered begun.going
       (after_length _ _ l (no_notice _ quiet) (omega arith) (part_cut refl refl fewer ends is))
 
 module _ (charset : Charset) (room : ℕ) {tokens : List Token} {which : Bodied} (notice : is_notice which ≡ true) where
   -- the Length is cut
   pub length_cut : {to : List ℕ} {a b : PayloadView} {place : ℕ} {stop : Stop} → length to ≡ 2
-      → ((k : ℕ) × (own : Stop) × (k < length to) × Ends a b (take k to) own × (stop ≡ N.began_at place own))
+      → ((k : ℕ) × (own : Stop) × (k < length to) × Ends a b (N.take k to) own × (stop ≡ N.began_at place own))
       → N.StopsInNotice charset room tokens which a b place stop
   length_cut two part = record { at = in_length which tokens; stops = fill_cut refl refl two part; in_body = inl refl }
 
   module _ {element : List ℕ} {n place middle : ℕ} {a b : PayloadView} (l : LengthRead element n a b place middle) where
     -- the Length is too short
-    pub length_refused : n < 14 → N.IsBetween b
-        → N.StopsInNotice charset room tokens which a b place (record { fault = BadNotice; place = N.Payload place })
+    pub length_refused : n < 14 → N.IsBetween b → N.StopsInNotice charset room tokens which a b place (record { fault = N.BadNotice; place = N.Payload place })
     length_refused short between =
-        let first : part_fault room tokens (N.TokenLength which) element ≡ Some BadNotice = rw (notice, number_is l, N.test_lt n 14 short) refl in
+        let first : N.part_fault room tokens (N.TokenLength which) element ≡ Some N.BadNotice = grind (arith, number_is, N.test_lt) in
         record { at = in_length which tokens; stops = N.refused_at_once _ _ a b _ _ _ (omega arith) l.two first l.takes between; in_body = inl refl }
 
     -- the body was read
@@ -270,18 +251,14 @@ module _ (charset : Charset) (room : ℕ) {tokens : List Token} {which : Bodied}
     module _ {c : PayloadView} {before after : Space} (long : 14 ≤ n) where
       -- the body is cut
       pub body_cut : {stop : Stop} → N.EndsInto b c before after middle n stop → N.StopsInNotice charset room tokens which a c place stop
-      body_cut cut = record {
-        at = in_body which tokens n;
-        stops = after_length _ _ l (λ e. long) (omega arith) (N.cut_into cut refl refl);
-        in_body = inr (n, refl);
-      }
+      body_cut cut = record { at = in_body which tokens n; stops = after_length _ _ l (λ e. long) (omega arith) (grind arith); in_body = inr (n, refl) }
 
       module _ (t : N.TakesInto b c before after n) where
         -- the inner lengths pass the body
         pub body_refused : N.holds_notice t.element ≡ false
-            → N.StopsInNotice charset room tokens which a c place (record { fault = BadNotice; place = N.Payload middle })
+            → N.StopsInNotice charset room tokens which a c place (record { fault = N.BadNotice; place = N.Payload middle })
         body_refused passes =
-            let first : part_fault room tokens (N.TokenBody which n) t.element ≡ Some BadNotice = rw (notice, passes) refl in
+            let first : N.part_fault room tokens (N.TokenBody which n) t.element ≡ Some N.BadNotice = grind arith in
             record {
               at = in_body which tokens n;
               stops = after_length _ _ l (λ e. long) (omega arith) (N.refused_into t (omega arith) refl first);

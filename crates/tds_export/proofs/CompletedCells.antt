@@ -1,22 +1,21 @@
 -- What completes a cell and a row is read as their rest.
-use Rattle.tds_export.proofs.Words as N
-use Rattle.tds_export.proofs.Words.{Bool, Cell, CellPart, ChunkData, ChunkLength, Column, Conversion, Decimal, IntN, Kind, List, None, Null, Ok, Option, Result}
-use Rattle.tds_export.proofs.Words.{ShortData, Some, Spelt, Time, Utf8Text, WholeCell, WholeRow, Windows1252, [], ap, arith, before, begun, bit, cell, cell_add}
-use Rattle.tds_export.proofs.Words.{choose, eq_false, false, is_length_allowed, is_valid, le_true, length, marked, nat_le, next_cell, refl, row, subst, suc}
-use Rattle.tds_export.proofs.Words.{sym, true, unit, zero, zeros, ℕ, ⊤, ◌%◌, ◌&&◌, ◌++◌, ◌+◌, ◌<◌, ◌∙◌, ◌∷◌, ◌≡◌, ◌≤◌}
-use Rattle.tds_export.proofs.ResponseLaws.{spelt_both, spelt_one}
-use Rattle.tds_export.proofs.SomeBytes.{exactly, little_below, one_of_four, one_of_two}
+use Rattle.tds_export.proofs as N
+use N.{Bool, Cell, CellPart, ChunkData, ChunkLength, Column, Conversion, Decimal, Kind, List, None, Null, Ok, Option, Result, ShortData, Some, Spelt, Time}
+use N.{WholeCell, WholeRow, Windows1252, [], ap, arith, before, begun, bit, cell, choose, false, is_valid, le_true, length, marked, nat_le, refl, row, suc, sym}
+use N.{true, unit, zero, zeros, ℕ, ⊤, ◌%◌, ◌&&◌, ◌++◌, ◌+◌, ◌<◌, ◌∙◌, ◌∷◌, ◌≡◌, ◌≤◌}
+use N.ResponseLaws.{spelt_both, spelt_one}
+use N.SomeBytes.{exactly, little_below, one_of_four, one_of_two}
 
 -- the conversions that Windows-1252 names: none judges data before its end
 abbrev pub is_plain : Conversion → Bool
-is_plain Utf8Text = false
+is_plain N.Utf8Text = false
 is_plain c = true
 
 plain_begun : (c : Conversion) (b : List ℕ) → is_plain c ≡ true → N.is_begun c b ≡ true
-plain_begun c b h = grind arith
+plain_begun = grind arith
 
 plain_fit : (c : Conversion) (b : List ℕ) → is_plain c ≡ true → length b % unit c ≡ 0 → N.is_fit c b ≡ true
-plain_fit c b h e = grind arith
+plain_fit = grind arith
 
 -- a known total is of whole units, and the sum may still become it
 abbrev pub HoldsTotal : Conversion → Option ℕ → ℕ → Type 0
@@ -25,7 +24,7 @@ HoldsTotal c (Some total) sum = (sum ≤ total) × (total % unit c ≡ 0)
 
 -- what is known of a part of a cell that bytes led to
 abbrev pub CellReached : CellPart → Type 0
-CellReached (N.ScalarBytes kind n) = (0 < n) × (is_valid kind ≡ true) × (N.is_scalar kind ≡ true) × (is_length_allowed kind n ≡ true)
+CellReached (N.ScalarBytes kind n) = (0 < n) × (is_valid kind ≡ true) × (N.is_scalar kind ≡ true) × (N.is_length_allowed kind n ≡ true)
 CellReached (N.ScalarLength kind) = (is_valid kind ≡ true) × (N.is_scalar kind ≡ true)
 CellReached (N.ShortLength c) = is_plain c ≡ true
 CellReached (ShortData c left content) = (is_plain c ≡ true) × ((length content + (left + 1)) % unit c ≡ 0)
@@ -36,7 +35,7 @@ CellReached (WholeCell x) = ⊤
 
 -- numbers up to 7
 below_eight : (P : ℕ → Bool) → (P 0 && P 1 && P 2 && P 3 && P 4 && P 5 && P 6 && P 7) ≡ true → (s : ℕ) → s ≤ 7 → P s ≡ true
-below_eight P h s l = grind arith
+below_eight = grind arith
 
 -- a value was read
 abbrev IsRead : Result N.ScalarValue N.ValueFault → Type 0
@@ -53,22 +52,18 @@ are_read kind n = N.is_ok (N.read_of kind (zeros n))
 abbrev ZerosAre : Kind → ℕ → Type 0
 ZerosAre kind n = are_read kind n ≡ true
 
-zero_decimal : (d p s n : ℕ) → is_valid (Decimal d p s) ≡ true → is_length_allowed (Decimal d p s) n ≡ true → ZerosAre (Decimal d p s) n
-zero_decimal d p s n valid allowed =
-    let one = N.and_parts (N.is_decimal_length d && nat_le 1 p && nat_le p 38) (nat_le s p) valid in
-    let long : is_length_allowed (Decimal d p s) (length (zeros n)) ≡ true = simp (N.length-replicate, allowed) in
-    rw (long, N.test_le s 38 (omega (arith, le_true s p one.1, le_true p 38 (N.and_parts _ (nat_le p 38) one.0).1))) refl
+zero_decimal : (d p s n : ℕ) → is_valid (Decimal d p s) ≡ true → N.is_length_allowed (Decimal d p s) n ≡ true → ZerosAre (Decimal d p s) n
+zero_decimal d p s n valid allowed = grind (arith, N.and_parts, N.test_le, le_true)
 
-zeros_are_a_value : (kind : Kind) (n : ℕ) → is_valid kind ≡ true → N.is_scalar kind ≡ true → is_length_allowed kind n ≡ true → ZerosAre kind n
-zeros_are_a_value (IntN d) n v s h = exactly (ZerosAre (IntN d)) n d h (one_of_four (λ d. ZerosAre (IntN d) d) 1 2 4 8 d v refl refl refl refl)
-zeros_are_a_value N.BitN n v s h = exactly (ZerosAre N.BitN) n 1 h refl
-zeros_are_a_value (N.MoneyN d) n v s h = exactly (ZerosAre (N.MoneyN d)) n d h (one_of_two (λ d. ZerosAre (N.MoneyN d) d) 4 8 d v refl refl)
-zeros_are_a_value (N.DateTimeN d) n v s h = exactly (ZerosAre (N.DateTimeN d)) n d h (one_of_two (λ d. ZerosAre (N.DateTimeN d) d) 4 8 d v refl refl)
-zeros_are_a_value N.Guid n v s h = exactly (ZerosAre N.Guid) n 16 h refl
-zeros_are_a_value (Decimal d p sc) n v s h = zero_decimal d p _ n v h
-zeros_are_a_value N.Date n v s h = exactly (ZerosAre N.Date) n 3 h refl
-zeros_are_a_value (Time sc) n v s h =
-    exactly (ZerosAre (Time sc)) n _ h (below_eight (λ sc. are_read (Time sc) (N.time_length sc)) refl _ (le_true _ 7 v))
+zeros_are_a_value : (kind : Kind) (n : ℕ) → is_valid kind ≡ true → N.is_scalar kind ≡ true → N.is_length_allowed kind n ≡ true → ZerosAre kind n
+zeros_are_a_value (N.IntN d) n v s h = grind (arith, exactly, one_of_four)
+zeros_are_a_value N.BitN n v s h = grind (arith, exactly)
+zeros_are_a_value (N.MoneyN d) n v s h = grind (arith, exactly, one_of_two)
+zeros_are_a_value (N.DateTimeN d) n v s h = grind (arith, exactly, one_of_two)
+zeros_are_a_value N.Guid n v s h = grind (arith, exactly)
+zeros_are_a_value (Decimal d p sc) n v s h = grind arith
+zeros_are_a_value N.Date n v s h = grind (arith, exactly)
+zeros_are_a_value (Time sc) n v s h = exactly (ZerosAre (Time sc)) n _ h (below_eight (λ sc. are_read (Time sc) (N.time_length sc)) refl _ (le_true _ 7 v))
 zeros_are_a_value (N.DateTime2 sc) n v s h =
     exactly (ZerosAre (N.DateTime2 sc)) n _ h (below_eight (λ sc. are_read (N.DateTime2 sc) (N.time_length sc + 3)) refl _ (le_true _ 7 v))
 zeros_are_a_value (N.DateTimeOffset sc) n v s h =
@@ -76,14 +71,14 @@ zeros_are_a_value (N.DateTimeOffset sc) n v s h =
 zeros_are_a_value (N.Binary r) n v s h = cc
 zeros_are_a_value (N.Narrow r) n v s h = cc
 zeros_are_a_value (N.Wide r) n v s h = cc
-zeros_are_a_value kind n v s h = exactly (ZerosAre kind) n _ h refl
+zeros_are_a_value kind n v s h = grind (arith, exactly)
 
 zeros_next : (n : ℕ) → 0 ∷ zeros (n + 1) ≡ zeros (suc n + 1)
-zeros_next n = cc (N.add-one n, N.add-one (suc n))
+zeros_next = grind arith
 
 -- a sum that stays below that of a known total may still become it
 within : (total : Option ℕ) (m k : ℕ) → N.is_total total m ≡ true → k ≤ m → N.within_total total k ≡ true
-within total m k h le = grind (arith, N.eq_true, N.test_le)
+within = grind arith
 
 -- one zero byte where the sum is odd makes it even
 made_even : (c : Conversion) (n : ℕ) → (n + n % unit c) % unit c ≡ 0
@@ -95,44 +90,35 @@ module _ (column : ℕ) where
       × Spelt (cell column) (ShortData c left content) (zeros (left + 1)) (WholeCell x)
   short_ends c zero content (plain, even) = (
     N.DataCell c (content ++ 0 ∷ []),
-    spelt_one (omega arith) refl (rw (
-      plain_begun c (content ++ 0 ∷ []) plain,
-      plain_fit c _ plain (ap (λ v. v % unit c)
-          (N.length-append content (0 ∷ [])) ∙ even),
-    ) refl) refl,
+    spelt_one (omega arith) refl (grind (arith, plain_begun, plain_fit, N.length-append)) refl,
   )
   short_ends c (suc left) content (plain, even) =
-      let to : cell_add (ShortData c (suc left) content) (0 ∷ []) ≡ ShortData c left (content ++ 0 ∷ []) = grind (arith, N.nat_tests) in
-      let same : length (content ++ 0 ∷ []) + (left + 1) ≡ length content + (suc left + 1) = omega (arith, N.length-append content (0 ∷ [])) in
+      let to : N.cell_add (ShortData c (suc left) content) (0 ∷ []) ≡ ShortData c left (content ++ 0 ∷ []) = grind arith in
+      let same : length (content ++ 0 ∷ []) + (left + 1) ≡ length content + (suc left + 1) = grind (arith, N.length-append) in
       let more = short_ends c left (content ++ 0 ∷ []) (plain, cc) in (
         more.0,
-        rw (← zeros_next left) (spelt_both (spelt_one (omega arith) refl (rw (
-          plain_begun c (content ++ 0 ∷ []) plain,
-          N.test_lt 0 (suc left)
-              (omega arith),
-        ) refl) to) more.1),
+        rw (← zeros_next left) (spelt_both (spelt_one (omega arith) refl (grind (arith, plain_begun, N.test_lt)) to) more.1),
       )
 
   -- the rest of a chunk
   chunk_ends : {c : Conversion} {total : Option ℕ} (left : ℕ) {content : List ℕ} → is_plain c ≡ true
       → Spelt (cell column) (ChunkData c total left content) (zeros (left + 1)) (ChunkLength c total (content ++ zeros (left + 1)))
-  chunk_ends {c} zero {content} plain = spelt_one (omega arith) refl (rw (plain_begun c (content ++ 0 ∷ []) plain) refl) refl
+  chunk_ends {c} zero {content} plain = spelt_one (omega arith) refl (grind (arith, plain_begun)) refl
   chunk_ends {c} {total} (suc left) {content} plain =
-      let to : cell_add (ChunkData c total (suc left) content) (0 ∷ []) ≡ ChunkData c total left (content ++ 0 ∷ []) = grind (arith, N.nat_tests) in
-      rw (← zeros_next left, ← N.append_assoc content (0 ∷ []) (zeros (left + 1))) (spelt_both (spelt_one (omega arith) refl (rw (plain_begun c
-      (content ++ 0 ∷ []) plain) refl) to) (chunk_ends _ plain))
+      let to : N.cell_add (ChunkData c total (suc left) content) (0 ∷ []) ≡ ChunkData c total left (content ++ 0 ∷ []) = grind arith in
+      rw (← zeros_next left, ← N.append_assoc content (0 ∷ []) (zeros (left + 1)))
+      (spelt_both (spelt_one (omega arith) refl (grind (arith, plain_begun)) to) (chunk_ends _ plain))
 
   -- so many chunks of one zero byte, and the terminator
   chunks_end : {c : Conversion} {total : Option ℕ} (n : ℕ) {content : List ℕ} → is_plain c ≡ true → N.is_total total (length content + n) ≡ true
       → (length content + n) % unit c ≡ 0 → (x : Cell) × Spelt (cell column) (ChunkLength c total content) (N.zero_chunks n ++ N.terminator) (WholeCell x)
   chunks_end {c} zero {content} plain all even =
       let same : length content + 0 ≡ length content = omega arith in
-      let sum = ap (λ v. v % unit c) (sym same) ∙ even in
-      (N.DataCell c content, spelt_one (omega arith) refl (rw (rw same at all, sum, plain_fit c content plain sum) refl) refl)
+      (N.DataCell c content, spelt_one (omega arith) refl (grind (arith, plain_fit)) refl)
   chunks_end {c} {total} (suc n) {content} plain all even =
-      let same : length content + suc n ≡ length (content ++ 0 ∷ []) + n = omega (arith, N.length-append content (0 ∷ [])) in
+      let same : length content + suc n ≡ length (content ++ 0 ∷ []) + n = grind (arith, N.length-append) in
       let one : Spelt (cell column) (ChunkLength c total content) (1 ∷ 0 ∷ 0 ∷ 0 ∷ []) (ChunkData c total 0 content) =
-      spelt_one (omega arith) refl (rw (within total _ (length content + 1) all (omega arith)) refl) refl in
+      spelt_one (omega arith) refl (grind (arith, within)) refl in
       let more = chunks_end n plain (rw same at all) (rw same at even) in
       (more.0, spelt_both (spelt_both one (chunk_ends 0 plain)) more.1)
 
@@ -163,19 +149,19 @@ module _ (column : ℕ) where
   value_reached r = grind arith
 
   -- Each element keeps what is known.
-  pub cell_keeps : (p : CellPart) {e : List ℕ} → N.AreBytes e → CellReached p → N.IsNext (cell column) p e → CellReached (cell_add p e)
+  pub cell_keeps : (p : CellPart) {e : List ℕ} → N.AreBytes e → CellReached p → N.IsNext (cell column) p e → CellReached (N.cell_add p e)
   cell_keeps (N.ScalarBytes kind m) are h n = value_reached _
-  cell_keeps (N.ScalarLength kind) are (valid, scalar) n = grind (arith, choose, eq_false, N.unless_none)
-  cell_keeps (N.ShortLength c) are plain n = grind (arith, choose, eq_false, N.eq_true, N.unless_none)
-  cell_keeps (ShortData c left content) are (plain, even) n = grind (arith, choose, eq_false, N.length-append)
-  cell_keeps (N.Total c) are plain n = grind (arith, choose, eq_false, little_below, N.eq_true, le_true, N.or_cases, N.unless_none)
-  cell_keeps (ChunkLength c total content) are (plain, h) n = grind (arith, choose, N.choose_false, eq_false, N.unless_none, le_true)
-  cell_keeps (ChunkData c total left content) are (plain, h) n = grind (arith, choose, eq_false, N.eq_true, N.length-append)
+  cell_keeps (N.ScalarLength kind) are (valid, scalar) n = grind arith
+  cell_keeps (N.ShortLength c) are plain n = grind arith
+  cell_keeps (ShortData c left content) are (plain, even) n = grind (arith, choose, N.eq_false, N.length-append)
+  cell_keeps (N.Total c) are plain n = grind (arith, choose, N.eq_false, little_below, N.eq_true, le_true, N.or_cases, N.unless_none)
+  cell_keeps (ChunkLength c total content) are (plain, h) n = grind arith
+  cell_keeps (ChunkData c total left content) are (plain, h) n = grind (arith, choose, N.eq_false, N.eq_true, N.length-append)
   cell_keeps (WholeCell x) are h n = tt
 
 -- A cell of a valid kind begins so.
 pub start_reached : (kind : Kind) → is_valid kind ≡ true → CellReached (N.cell_start kind (N.shape Windows1252 kind))
-start_reached kind v = grind (arith, N.fixed_some)
+start_reached = grind arith
 
 -- the kinds of the columns are valid
 abbrev pub AreValid : List Column → Type 0
@@ -203,20 +189,20 @@ marked_valid [] nulls k h = tt
 marked_valid (c ∷ cs) nulls k (v, h) = (v, marked_valid cs nulls _ h)
 
 starts_open : (kind : Kind) (sh : N.Shape) → IsOpenCell (N.cell_start kind sh)
-starts_open kind sh = grind arith
+starts_open = grind arith
 
-pub next_reached : (cells : List Cell) (ks : List (Column × Bool)) → AreMarkedValid ks → RowReached (next_cell Windows1252 cells ks)
+pub next_reached : (cells : List Cell) (ks : List (Column × Bool)) → AreMarkedValid ks → RowReached (N.next_cell Windows1252 cells ks)
 next_reached cells [] h = tt
 next_reached cells ((k, true) ∷ ks) (v, h) = next_reached _ ks h
-next_reached cells ((k, false) ∷ ks) (v, h) = (starts_open _ _, start_reached _ v, h)
+next_reached cells ((k, false) ∷ ks) (v, h) = grind arith
 
 -- Each element keeps what is known.
 pub row_keeps : {p : N.RowPart} {e : List ℕ} → N.AreBytes e → RowReached p → N.IsNext (row Windows1252) p e → RowReached (N.row_add Windows1252 p e)
-row_keeps are h3 n = grind (arith, cell_keeps, marked_valid, next_reached)
+row_keeps = grind (arith, cell_keeps, marked_valid, next_reached)
 
 -- the cell that is read, and those to come
 part_ends : (before : List Cell) (part : CellPart) (ks : List (Column × Bool)) → CellReached part
-    → ((b : List Cell) → (cells : List Cell) × Spelt (row Windows1252) (next_cell Windows1252 b ks) (N.rest_of_cells ks) (WholeRow cells))
+    → ((b : List Cell) → (cells : List Cell) × Spelt (row Windows1252) (N.next_cell Windows1252 b ks) (N.rest_of_cells ks) (WholeRow cells))
     → (cells : List Cell) × Spelt (row Windows1252) (N.with_cell Windows1252 before ks part) (N.rest_of_cell part ++ N.rest_of_cells ks) (WholeRow cells)
 part_ends before part ks h next =
     let one = cell_ends _ _ h in
@@ -225,11 +211,10 @@ part_ends before part ks h next =
 
 -- the cells to come
 cells_end : (before : List Cell) (ks : List (Column × Bool)) → AreMarkedValid ks → (cells : List Cell)
-    × Spelt (row Windows1252) (next_cell Windows1252 before ks) (N.rest_of_cells ks) (WholeRow cells)
+    × Spelt (row Windows1252) (N.next_cell Windows1252 before ks) (N.rest_of_cells ks) (WholeRow cells)
 cells_end before [] h = (before, N.Spelt-none _ _)
 cells_end before ((k, true) ∷ ks) (v, h) = cells_end (before ++ Null ∷ []) ks h
-cells_end before ((k, false) ∷ ks) (v, h) =
-    rw (← N.begins_open Windows1252 before ks k.kind _) (part_ends before _ ks (start_reached k.kind v) (λ b. cells_end b ks h))
+cells_end before ((k, false) ∷ ks) (v, h) = rw (← N.begins_open Windows1252 before ks k.kind _) (part_ends before _ ks (grind arith) (λ b. cells_end b ks h))
 
 stays_open : {cells : List Cell} {ks : List (Column × Bool)} {part : CellPart} → IsOpenCell part
     → N.with_cell Windows1252 cells ks part ≡ N.InCell cells part ks
@@ -253,10 +238,10 @@ pub row_ends : (p : N.RowPart) → RowReached p → (cells : List Cell) × Spelt
 row_ends (N.Bitmap columns) (some, h) =
     let n = N.bitmap_length (length columns) in
     let l = N.length-replicate n 0 in
-    let one : Spelt (row Windows1252) (N.Bitmap columns) (zeros n) (next_cell Windows1252 [] (marked columns (bit (zeros n)) 0)) =
+    let one : Spelt (row Windows1252) (N.Bitmap columns) (zeros n) (N.next_cell Windows1252 [] (marked columns (bit (zeros n)) 0)) =
     spelt_one (omega (arith, l)) l refl refl in
     let clear = marked_clear _ _ 0 (clear_at n) in
-    let more = cells_end _ _ (subst AreMarkedValid clear (marked_valid _ _ 0 h)) in
+    let more = cells_end _ _ (N.subst AreMarkedValid clear (marked_valid _ _ 0 h)) in
     (more.0, spelt_both (rw clear at one) more.1)
 row_ends (N.InCell cells part ks) (begun, h, m) = rw (← stays_open begun) (part_ends _ _ _ h (λ b. cells_end b _ m))
 row_ends (WholeRow cells) h = (cells, N.Spelt-none _ _)

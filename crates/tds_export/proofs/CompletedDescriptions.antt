@@ -1,30 +1,29 @@
 -- What completes a description is read as its rest.
-use Rattle.tds_export.proofs.Words as N
-use Rattle.tds_export.proofs.Words.{BeforeCount, Column, ColumnHead, InColumn, List, NoDescription, None, Some, [], ap, arith, description, if◌then◌else◌}
-use Rattle.tds_export.proofs.Words.{int_columns, length, more, named_kind, refl, rest_length, suc, true, with_column, zero, zeros, ℕ, ◌*◌, ◌++◌, ◌+◌, ◌-◌, ◌<◌}
-use Rattle.tds_export.proofs.Words.{◌==◌, ◌∙◌, ◌∷◌, ◌≡◌, ◌≤◌, ⊤}
-use Rattle.tds_export.proofs.CompletedCells.{AreValid}
-use Rattle.tds_export.proofs.LeastTypes.{least_type}
-use Rattle.tds_export.proofs.ResponseLaws.{spelt_both, spelt_one}
+use Rattle.tds_export.proofs as N
+use N.{Column, ColumnHead, InColumn, List, None, [], ap, arith, if◌then◌else◌, int_columns, length, more, refl, suc, true, zero, zeros, ℕ, ◌*◌, ◌++◌, ◌+◌, ◌-◌}
+use N.{◌<◌, ◌==◌, ◌∙◌, ◌∷◌, ◌≡◌, ◌≤◌, ⊤}
+use N.Words.{named_kind, rest_length}
+use N.CompletedCells.{AreValid}
+use N.LeastTypes.{least_type}
+use N.ResponseLaws.{spelt_both, spelt_one}
 
 -- what is known of the place in a column after these bytes, with so many columns to follow: the room is enough for what must still come
 abbrev pub PlaceReached : ℕ → List ℕ → ℕ → N.ColumnPlace → Type 0
 PlaceReached room bytes left ColumnHead = length bytes + (8 + 8 * left) ≤ room
-PlaceReached room bytes left (N.ColumnInfo byte) = (n : ℕ) × (rest_length byte ≡ Some n) × (0 < n) × (length bytes + ((n + 1) + 8 * left) ≤ room)
+PlaceReached room bytes left (N.ColumnInfo byte) = (n : ℕ) × (rest_length byte ≡ N.Some n) × (0 < n) × (length bytes + ((n + 1) + 8 * left) ≤ room)
 PlaceReached room bytes left (N.NameCount kind) = (N.is_valid kind ≡ true) × (length bytes + (1 + 8 * left) ≤ room)
 PlaceReached room bytes left (N.NameUnits kind n) = (N.is_valid kind ≡ true) × (0 < n) × (length bytes + (n + 8 * left) ≤ room)
 
 -- what is known of a part of a description that bytes led to
 abbrev pub DescribedReached : ℕ → N.DescriptionPart → Type 0
-DescribedReached room BeforeCount = ⊤
-DescribedReached room NoDescription = ⊤
-DescribedReached room (InColumn bytes count cols place) = (length cols < count) × AreValid cols
-    × PlaceReached room bytes (count - (length cols + 1)) place
+DescribedReached room N.BeforeCount = ⊤
+DescribedReached room N.NoDescription = ⊤
+DescribedReached room (InColumn bytes count cols place) = (length cols < count) × AreValid cols × PlaceReached room bytes (count - (length cols + 1)) place
 DescribedReached room (N.WholeDescription bytes cols) = (0 < length cols) × AreValid cols
 
 -- a part of a description that isn't all of it
 abbrev pub IsOpenDescription : N.DescriptionPart → Type 0
-IsOpenDescription BeforeCount = ⊤
+IsOpenDescription N.BeforeCount = ⊤
 IsOpenDescription (InColumn bytes count cols place) = ⊤
 IsOpenDescription d = ⊥
 
@@ -34,13 +33,13 @@ AreValid-append (d ∷ cs) c h v = (h.0, AreValid-append cs c h.1 v)
 
 module _ (room : ℕ) where
   column_reached : (bytes : List ℕ) {count : ℕ} (cols : List Column) (c : Column) → length cols < count → AreValid cols → N.is_valid c.kind ≡ true
-      → length bytes + 8 * (count - (length cols + 1)) ≤ room → DescribedReached room (with_column bytes count cols c)
-  column_reached bytes cols c fewer valid v fits = grind (arith, AreValid-append, N.choose, N.eq_false, N.length-append)
+      → length bytes + 8 * (count - (length cols + 1)) ≤ room → DescribedReached room (N.with_column bytes count cols c)
+  column_reached = grind (arith, AreValid-append, N.choose, N.eq_false, N.length-append)
 
   -- Each element keeps what is known.
-  pub described_keeps : {d : N.DescriptionPart} {e : List ℕ} → N.AreBytes e → DescribedReached room d → N.IsNext (description room) d e
+  pub described_keeps : {d : N.DescriptionPart} {e : List ℕ} → N.AreBytes e → DescribedReached room d → N.IsNext (N.description room) d e
       → DescribedReached room (N.add_described d e)
-  described_keeps are h n = grind (
+  described_keeps = grind (
     arith,
     N.choose,
     column_reached,
@@ -75,7 +74,7 @@ length-int_columns (suc n) = let l = length-int_columns n in omega arith
 
 -- the rest of a description, up to its end
 abbrev Ends : ℕ → N.DescriptionPart → List ℕ → Type 0
-Ends room d rest = (bytes : List ℕ) × (cols : List Column) × N.Spelt (description room) d rest (N.WholeDescription bytes cols)
+Ends room d rest = (bytes : List ℕ) × (cols : List Column) × N.Spelt (N.description room) d rest (N.WholeDescription bytes cols)
 
 module _ (room : ℕ) where
   -- the columns that aren't begun
@@ -90,47 +89,43 @@ module _ (room : ℕ) where
 
   -- after a column
   column_ends : (bytes : List ℕ) (count : ℕ) (cols : List Column) (c : Column) (n : ℕ) → count ≡ length cols + (1 + n) → length bytes + 8 * n ≤ room
-      → Ends room (with_column bytes count cols c) (int_columns n)
+      → Ends room (N.with_column bytes count cols c) (int_columns n)
   column_ends bytes count cols c zero e fits = (
     bytes,
     cols ++ c ∷ [],
     rw (N.choose_true (length cols + 1 == count) (N.WholeDescription bytes (cols ++ c ∷ [])) (InColumn bytes count (cols ++ c ∷ []) ColumnHead)
-        (grind (arith, N.nat_tests))) (N.Spelt-none _ _),
+        (grind arith)) (N.Spelt-none _ _),
   )
   column_ends bytes count cols c (suc n) e fits =
-      let to : with_column bytes count cols c ≡ InColumn bytes count (cols ++ c ∷ []) ColumnHead =
-      N.choose_false _ _ _ (N.ne_eqb (length cols + 1) count (λ q. omega arith)) in
-      rw to (ints_end _ _ _ n (omega (arith, N.length-append cols (c ∷ []))) (omega arith))
+      let to : N.with_column bytes count cols c ≡ InColumn bytes count (cols ++ c ∷ []) ColumnHead = grind (arith, N.choose_false, N.ne_eqb) in
+      rw to (ints_end _ _ _ n (grind (arith, N.length-append)) (omega arith))
 
   -- an element, and what follows it
-  then_ends : {d to : N.DescriptionPart} {e rest : List ℕ} → N.Spelt (description room) d e to → Ends room to rest → Ends room d (e ++ rest)
-  then_ends one (bytes, cols, more) = (bytes, cols, spelt_both one more)
+  then_ends : {d to : N.DescriptionPart} {e rest : List ℕ} → N.Spelt (N.description room) d e to → Ends room to rest → Ends room d (e ++ rest)
+  then_ends = grind (arith, spelt_both)
 
   count_ends : (bytes : List ℕ) (count : ℕ) (cols : List Column) (kind : N.Kind) (n : ℕ) → n ≡ count - (length cols + 1) → length cols < count
       → length bytes + (1 + 8 * n) ≤ room → Ends room (InColumn bytes count cols (N.NameCount kind)) (0 ∷ int_columns n)
-  count_ends bytes count cols kind n is fewer fits =
-      then_ends {e = 0 ∷ []} (spelt_one (omega arith) refl (N.fits_in _ _ _ (omega arith)) refl)
-      (column_ends _ _ _ _ n (omega arith) (omega (arith, N.length-append bytes (0 ∷ []))))
+  count_ends bytes count cols kind n is fewer fits = then_ends {e = 0 ∷ []} (spelt_one (omega arith) refl (grind arith) refl)
+      (grind (arith, column_ends, N.length-append))
 
   info_ends : (bytes : List ℕ) (count : ℕ) (cols : List Column) (byte : ℕ) (n : ℕ) → n ≡ count - (length cols + 1) → length cols < count
       → PlaceReached room bytes n (N.ColumnInfo byte) → Ends room (InColumn bytes count cols (N.ColumnInfo byte)) (N.least_info byte ++ (0 ∷ int_columns n))
   info_ends bytes count cols byte n is fewer (m, known, some, fits) =
       let least = least_type known in
-      then_ends {e = N.least_info byte} (spelt_one (omega arith) (cc) (ap (λ o. (if N.is_some o then None else Some (N.BadTypeInfo
-      (length cols)))) least.described) (ap (λ o. N.with_kind (bytes ++ N.least_info byte) count cols o) least.described))
-      (count_ends _ _ _ _ n is fewer (omega (arith, N.length-append bytes (N.least_info byte) ∙ ap (λ v. length bytes + v) least.whole)))
+      then_ends {e = N.least_info byte} (spelt_one (omega arith) (cc) (grind arith)
+      (ap (λ o. N.with_kind (bytes ++ N.least_info byte) count cols o) least.described))
+      (grind (arith, count_ends, N.length-append))
 
   -- A part of a description that isn't all of it, followed by what completes it, is a whole one.
   pub described_ends : 10 ≤ room → (d : N.DescriptionPart) → IsOpenDescription d → DescribedReached room d → Ends room d (N.rest_of_description d)
-  described_ends ten BeforeCount o h =
-      let one : N.Spelt (description room) BeforeCount (1 ∷ 0 ∷ []) (InColumn (1 ∷ 0 ∷ []) 1 [] ColumnHead) =
-      spelt_one (omega arith) refl (N.fits_in _ 2 8 (omega arith)) refl in
+  described_ends ten N.BeforeCount o h =
+      let one : N.Spelt (N.description room) N.BeforeCount (1 ∷ 0 ∷ []) (InColumn (1 ∷ 0 ∷ []) 1 [] ColumnHead) = grind (arith, spelt_one, N.fits_in) in
       then_ends one (ints_end _ 1 _ 0 refl (omega arith))
-  described_ends ten (InColumn bytes count cols ColumnHead) o (fewer, valid, fits) = ints_end _ _ _ _ (omega arith) fits
+  described_ends ten (InColumn bytes count cols ColumnHead) o (fewer, valid, fits) = grind (arith, ints_end)
   described_ends ten (InColumn bytes count cols (N.ColumnInfo byte)) o (fewer, valid, fits) = rw N.append_assoc (info_ends _ _ _ _ _ refl fewer fits)
   described_ends ten (InColumn bytes count cols (N.NameCount kind)) o (fewer, valid, (v, fits)) = count_ends _ _ _ _ _ refl fewer fits
   described_ends ten (InColumn bytes count cols (N.NameUnits kind m)) o (fewer, valid, (v, some, fits)) =
       let l : length (zeros m) ≡ m = N.length-replicate m 0 in
-      then_ends {e = zeros m} (spelt_one (omega arith) l refl refl)
-      (column_ends _ _ _ _ _ (omega arith) (omega (arith, N.length-append bytes (zeros m) ∙ ap (λ v. length bytes + v) l)))
+      then_ends {e = zeros m} (spelt_one (omega arith) l refl refl) (grind (arith, column_ends, N.length-append))
   described_ends ten d o h = absurd o

@@ -1,17 +1,16 @@
 -- What completes a response is read as its rest, and is bytes.
-use Rattle.tds_export.proofs.Words as N
-use Rattle.tds_export.proofs.Words.{AreBytes, Bool, Column, Done, InRow, List, None, Open, Option, Part, Some, Spelt, Token, Windows1252, [], after_tokens}
-use Rattle.tds_export.proofs.Words.{arith, begun, described_after, done_byte, false, length, passed, refl, response, suc, true, zero, zeros, ℕ, ⊤, ◌++◌, ◌<◌}
-use Rattle.tds_export.proofs.Words.{◌∙◌, ◌∷◌, ◌≡◌, ◌≤◌}
-use Rattle.tds_export.proofs.SomeBytes.{AreBytes-append, AreBytes-replicate, bytes_induct}
-use Rattle.tds_export.proofs.CompletedDescriptions.{DescribedReached, IsOpenDescription, described_ends, described_keeps}
-use Rattle.tds_export.proofs.CompletedReturns.{ReturnReached, return_ends, return_keeps}
-use Rattle.tds_export.proofs.CompletedCells.{RowReached, AreValid, marked_valid, next_reached, row_ends, row_keeps}
-use Rattle.tds_export.proofs.LeastTypes.{least_type}
-use Rattle.tds_export.proofs.ResponseMeaning.{response_is_spelt}
-use Rattle.tds_export.proofs.ResponseLaws.{spelt_both, spelt_one, body_free, body_is_read, described_after-append, length_free, some_fields, description_agrees}
-use Rattle.tds_export.proofs.ResponseLaws.{row_agrees, return_agrees, part_at, spelt_inside}
-use Rattle.tds_export.proofs.TokenLaws.{bare, bare_body, bare_fixed, is_bare, is_final-snoc}
+use Rattle.tds_export.proofs as N
+use N.{AreBytes, Column, Done, InRow, List, None, Open, Option, Part, Spelt, Token, Windows1252, [], arith, begun, described_after, false, length, passed, refl}
+use N.{response, suc, true, zero, zeros, ℕ, ⊤, ◌++◌, ◌<◌, ◌∙◌, ◌∷◌, ◌≡◌, ◌≤◌}
+use N.SomeBytes.{AreBytes-append, AreBytes-replicate, bytes_induct}
+use N.CompletedDescriptions.{DescribedReached, IsOpenDescription, described_ends, described_keeps}
+use N.CompletedReturns.{ReturnReached, return_ends, return_keeps}
+use N.CompletedCells.{RowReached, AreValid, marked_valid, next_reached, row_ends, row_keeps}
+use N.LeastTypes.{least_type}
+use N.ResponseMeaning.{response_is_spelt}
+use N.ResponseLaws.{spelt_both, spelt_one, body_free, body_is_read, described_after-append, length_free, some_fields, description_agrees, row_agrees}
+use N.ResponseLaws.{return_agrees, part_at, spelt_inside}
+use N.TokenLaws.{bare, bare_body, bare_fixed, is_bare, is_final-snoc}
 
 -- a row, and a return value, that isn't whole
 abbrev pub IsOpenRow : N.RowPart → Type 0
@@ -31,10 +30,10 @@ OpenReached room (N.TokenBody b n) = (0 < n) × (N.is_notice b ≡ true → 14 �
 OpenReached room at = ⊤
 
 AreBytes-zeros : (n : ℕ) → AreBytes (zeros n)
-AreBytes-zeros n = AreBytes-replicate n 0 (omega arith)
+AreBytes-zeros = grind (arith, AreBytes-replicate)
 
 AreBytes-int : AreBytes N.int_column
-AreBytes-int = AreBytes-append (zeros 6) (0x38 ∷ 0 ∷ []) (AreBytes-zeros 6) (omega arith, (omega arith, tt))
+AreBytes-int = grind arith
 
 AreBytes-ints : (n : ℕ) → AreBytes (N.int_columns n)
 AreBytes-ints zero = tt
@@ -47,20 +46,20 @@ AreBytes-zero_chunks (suc n) = (omega arith, AreBytes-append (zeros 4) _ (AreByt
 AreBytes-cell : (p : N.CellPart) → AreBytes (N.rest_of_cell p)
 AreBytes-cell p = grind (arith, AreBytes-append, AreBytes-zero_chunks, AreBytes-zeros)
 
-AreBytes-cells : (ks : List (Column × Bool)) → AreBytes (N.rest_of_cells ks)
+AreBytes-cells : (ks : List (Column × N.Bool)) → AreBytes (N.rest_of_cells ks)
 AreBytes-cells [] = tt
 AreBytes-cells ((k, true) ∷ ks) = AreBytes-cells ks
-AreBytes-cells ((k, false) ∷ ks) = AreBytes-append _ _ (AreBytes-cell (N.cell_start k.kind _)) (AreBytes-cells ks)
+AreBytes-cells ((k, false) ∷ ks) = AreBytes-append _ _ (grind (arith, AreBytes-cell)) (AreBytes-cells ks)
 
 AreBytes-head : AreBytes N.rest_of_return_head
-AreBytes-head = AreBytes-append (zeros 7) (0x24 ∷ 16 ∷ 0 ∷ []) (AreBytes-zeros 7) (omega arith, (omega arith, (omega arith, tt)))
+AreBytes-head = grind arith
 
 AreBytes-value : (o : Option N.Kind) → AreBytes (N.rest_of_value o)
 AreBytes-value o = grind arith
 
 AreBytes-return : (p : N.ReturnPart) → ReturnReached p → AreBytes (N.rest_of_return p)
-AreBytes-return N.ReturnOrdinal h = AreBytes-append (zeros 3) N.rest_of_return_head (AreBytes-zeros 3) AreBytes-head
-AreBytes-return N.ReturnNameCount h = AreBytes-append (zeros 1) N.rest_of_return_head (AreBytes-zeros 1) AreBytes-head
+AreBytes-return N.ReturnOrdinal h = grind (arith, AreBytes-append, AreBytes-zeros, AreBytes-head)
+AreBytes-return N.ReturnNameCount h = grind (arith, AreBytes-append, AreBytes-zeros, AreBytes-head)
 AreBytes-return (N.ReturnName n) h = AreBytes-append _ _ (AreBytes-zeros n) AreBytes-head
 AreBytes-return (N.ReturnHead name) h = AreBytes-head
 AreBytes-return (N.ReturnInfo name byte) (n, known, some) = AreBytes-append _ _ (least_type known).bytes (AreBytes-value _)
@@ -68,26 +67,16 @@ AreBytes-return (N.InReturnCell name kind part) h = AreBytes-cell part
 AreBytes-return (N.WholeReturn r) h = tt
 
 AreBytes-token : (room : ℕ) (at : Open) → OpenReached room at → AreBytes (N.rest_of_token at)
-AreBytes-token room at h = grind (
-  arith,
-  least_type,
-  AreBytes-int,
-  AreBytes-ints,
-  AreBytes-return,
-  AreBytes-append,
-  AreBytes-cell,
-  AreBytes-cells,
-  AreBytes-zeros,
-)
+AreBytes-token = grind (arith, least_type, AreBytes-int, AreBytes-ints, AreBytes-return, AreBytes-append, AreBytes-cell, AreBytes-cells, AreBytes-zeros)
 
 -- What completes a part that bytes led to are bytes.
 AreBytes-completion : (room : ℕ) (p : Part) → OpenReached room p.at → AreBytes (N.completion p)
-AreBytes-completion room p h = AreBytes-append _ _ (AreBytes-token _ _ h) (omega arith, AreBytes-zeros 12)
+AreBytes-completion = grind (arith, AreBytes-append, AreBytes-token)
 
 -- the columns that are described are some, of valid kinds
 abbrev CurrentReached : Option (List Column) → Type 0
 CurrentReached None = ⊤
-CurrentReached (Some columns) = (0 < length columns) × AreValid columns
+CurrentReached (N.Some columns) = (0 < length columns) × AreValid columns
 
 -- what is known of a part of a response that bytes led to
 abbrev PartReached : ℕ → Part → Type 0
@@ -95,66 +84,64 @@ PartReached room p = CurrentReached (described_after None p.tokens) × OpenReach
 
 -- a notice of zero bytes holds its inner lengths
 zeros_hold : (n : ℕ) → 14 ≤ n → N.holds_notice (zeros n) ≡ true
-zeros_hold n h = grind (arith, N.common_steps, zeros, N.test_le, N.test_lt)
+zeros_hold = grind (arith, N.common_steps, N.test_le, N.test_lt)
 
 module _ (room : ℕ) where
   -- a token that describes nothing
   token_reached : (tokens : List Token) (t : Token) → ((c : Option (List Column)) → described_after c (t ∷ []) ≡ c)
       → CurrentReached (described_after None tokens) → PartReached room (N.with_token tokens t)
-  token_reached tokens t same h = (rw (described_after-append None tokens (t ∷ []) ∙ same _) h, tt)
+  token_reached = grind (arith, described_after-append)
 
-  bare_reached : (tokens : List Token) (t : Token) → is_bare t ≡ true → CurrentReached (described_after None tokens)
-      → PartReached room (N.with_token tokens t)
-  bare_reached tokens t is h = token_reached tokens t (bare is).columns h
+  bare_reached : (tokens : List Token) (t : Token) → is_bare t ≡ true → CurrentReached (described_after None tokens) → PartReached room (N.with_token tokens t)
+  bare_reached = grind (arith, token_reached, bare)
 
   described_reached : (tokens : List Token) (d : N.DescriptionPart) → CurrentReached (described_after None tokens) → DescribedReached room d
       → PartReached room (N.with_described tokens d)
-  described_reached tokens d h r = grind (arith, described_after-append)
+  described_reached = grind (arith, described_after-append)
 
   row_reached : (tokens : List Token) (part : N.RowPart) → CurrentReached (described_after None tokens) → RowReached part
       → PartReached room (N.with_row tokens part)
-  row_reached tokens part h r = grind (arith, token_reached)
+  row_reached = grind (arith, token_reached)
 
   return_reached : (tokens : List Token) (part : N.ReturnPart) → CurrentReached (described_after None tokens) → ReturnReached part
       → PartReached room (N.with_return tokens part)
-  return_reached tokens part h r = grind (arith, bare_reached)
+  return_reached = grind (arith, bare_reached)
 
   row_starts : (tokens : List Token) (start : List Column → N.RowPart)
       → ((columns : List Column) → (0 < length columns) × AreValid columns → RowReached (start columns)) → (current : Option (List Column))
       → described_after None tokens ≡ current → CurrentReached current → PartReached room (N.start_of_row tokens start current)
-  row_starts tokens start begins current is h = grind (arith, row_reached)
+  row_starts = grind (arith, row_reached)
 
   lead_reached : (tokens : List Token) (begun : Option N.Lead) → CurrentReached (described_after None tokens)
       → PartReached room (N.after_first Windows1252 tokens begun)
-  lead_reached tokens begun h = grind (arith, marked_valid, next_reached, row_starts)
+  lead_reached = grind (arith, marked_valid, next_reached, row_starts)
 
   -- Each element keeps what is known.
   open_keeps : {tokens : List Token} (at : Open) {e : List ℕ} → AreBytes e → CurrentReached (described_after None tokens) → OpenReached room at
       → N.IsNext (response Windows1252 room) (part_at tokens at) e → PartReached room (N.part_add Windows1252 tokens at e)
   open_keeps {tokens} N.Between are h o n = lead_reached tokens _ h
-  open_keeps (N.Describing d) {e} are h (begun, r) n = described_reached _ _ h (described_keeps _ are r (grind arith))
-  open_keeps (InRow part) {e} are h (begun, r) n = row_reached _ _ h (row_keeps are r (grind arith))
-  open_keeps (N.InReturn part) {e} are h (begun, r) n = return_reached _ _ h (return_keeps _ are r (grind arith))
+  open_keeps (N.Describing d) {e} are h (begun, r) n = grind (arith, described_reached, described_keeps)
+  open_keeps (InRow part) {e} are h (begun, r) n = grind (arith, row_reached, row_keeps)
+  open_keeps (N.InReturn part) {e} are h (begun, r) n = grind (arith, return_reached, return_keeps)
   open_keeps (N.TokenLength b) are h o n = grind (arith, bare_body, bare_reached, N.choose, N.eq_false, N.nat_tests)
   open_keeps {tokens} (N.TokenBody b m) {e} are h o n = bare_reached tokens _ (bare_body b e) h
   open_keeps {tokens} (N.Fields f) {e} are h o n = bare_reached tokens _ (bare_fixed f e) h
 
   part_reached : {bytes : List ℕ} {p : Part} → AreBytes bytes → Spelt (response Windows1252 room) N.response_start bytes p → PartReached room p
-  part_reached {p} are h =
-      bytes_induct (λ q b. PartReached room q) (λ q b e r are n. open_keeps _ are r.0 r.1 n) _ (tt, tt) _ p are h
+  part_reached {p} are h = bytes_induct (λ q b. PartReached room q) (grind (arith, open_keeps)) _ (tt, tt) _ p are h
 
   -- the rest of a token, up to its end
   abbrev Ends : List Token → Open → List ℕ → Type 0
-  Ends tokens at rest = (ts : List Token) × Spelt (response Windows1252 room) (part_at tokens at) rest (after_tokens ts)
+  Ends tokens at rest = (ts : List Token) × Spelt (response Windows1252 room) (part_at tokens at) rest (N.after_tokens ts)
 
   described_opens : (tokens : List Token) (d : N.DescriptionPart) → IsOpenDescription d → N.with_described tokens d ≡ part_at tokens (N.Describing d)
-  described_opens tokens d h = grind arith
+  described_opens = grind arith
 
   row_opens : (tokens : List Token) (part : N.RowPart) → IsOpenRow part → N.with_row tokens part ≡ part_at tokens (InRow part)
-  row_opens tokens part h = grind arith
+  row_opens = grind arith
 
   return_opens : (tokens : List Token) (part : N.ReturnPart) → IsOpenReturn part → N.with_return tokens part ≡ part_at tokens (N.InReturn part)
-  return_opens tokens part h = grind arith
+  return_opens = grind arith
 
   -- The rest of the token that is read ends it.
   token_ends : 10 ≤ room → (tokens : List Token) (at : Open) → OpenReached room at → Ends tokens at (N.rest_of_token at)
@@ -172,21 +159,19 @@ module _ (room : ℕ) where
       (tokens ++ N.PassedOver passed [] ∷ [], body_is_read Windows1252 _ (zeros 2) _ refl refl refl refl)
   token_ends ten tokens (N.TokenLength b) o = (
     tokens ++ N.bodied b (zeros 14) ∷ [],
-    body_is_read Windows1252 _ (14 ∷ 0 ∷ []) (zeros 14) refl refl (length_free room tokens b (14 ∷ 0 ∷ []) (λ e. omega arith) refl)
-        (body_free b (zeros 14) (λ e. zeros_hold 14 (omega arith))),
+    body_is_read Windows1252 _ (14 ∷ 0 ∷ []) (zeros 14) refl refl (grind (arith, length_free)) grind (arith, body_free, zeros_hold),
   )
   token_ends ten tokens (N.TokenBody b n) (some, long) =
       let l : length (zeros n) ≡ n = N.length-replicate n 0 in
-      (tokens ++ N.bodied b (zeros n) ∷ [], spelt_one (omega arith) l (body_free b (zeros n) (λ e. zeros_hold n (long e))) refl)
+      (tokens ++ N.bodied b (zeros n) ∷ [], spelt_one (omega arith) l (grind (arith, body_free, zeros_hold)) refl)
   token_ends ten tokens (N.Fields f) o =
       let l = N.length-replicate (N.fields_length f) 0 in
-      (tokens ++ N.fixed f _ ∷ [], spelt_one (rw l (some_fields f)) l refl refl)
+      (tokens ++ N.fixed f _ ∷ [], spelt_one (grind arith) l refl refl)
 
-  done_ends : (tokens : List Token) → Spelt (response Windows1252 room) (after_tokens tokens) N.done (N.with_token tokens (Done false))
+  done_ends : (tokens : List Token) → Spelt (response Windows1252 room) (N.after_tokens tokens) N.done (N.with_token tokens (Done false))
   done_ends tokens =
-      let byte : Spelt (response Windows1252 room) (after_tokens tokens) (done_byte ∷ []) (part_at tokens (N.Fields N.ADone)) =
-      spelt_one (omega arith) refl refl refl in
-      spelt_both byte (spelt_one (omega arith) refl refl refl)
+      let byte : Spelt (response Windows1252 room) (N.after_tokens tokens) (N.done_byte ∷ []) (part_at tokens (N.Fields N.ADone)) = grind (arith, spelt_one) in
+      spelt_both byte (grind (arith, spelt_one))
 
 -- Whatever has been read can be completed.
 pub can_be_completed : N.CanBeCompleted

@@ -1,10 +1,10 @@
 -- What completes a return value is read as its rest.
-use Rattle.tds_export.proofs.Words as N
-use Rattle.tds_export.proofs.Words.{Guid, Kind, List, None, Option, ReturnNameCount, ReturnValue, Some, Spelt, [], ap, arith, begun, if◌then◌else◌, more}
-use Rattle.tds_export.proofs.Words.{named_kind, refl, rest_length, return_value, true, zeros, ℕ, ◌++◌, ◌<◌, ◌∷◌, ◌≡◌, ⊤}
-use Rattle.tds_export.proofs.CompletedCells.{CellReached, cell_ends, cell_keeps, start_reached, IsOpenCell}
-use Rattle.tds_export.proofs.ResponseLaws.{accepted, spelt_inside, value_agrees, spelt_both, spelt_one}
-use Rattle.tds_export.proofs.LeastTypes.{least_type}
+use Rattle.tds_export.proofs as N
+use N.{Guid, Kind, List, None, Some, Spelt, [], ap, arith, begun, if◌then◌else◌, more, refl, true, ℕ, ◌++◌, ◌<◌, ◌∷◌, ◌≡◌, ⊤}
+use N.Words.{return_value, named_kind, rest_length}
+use N.CompletedCells.{CellReached, cell_ends, cell_keeps, start_reached, IsOpenCell}
+use N.ResponseLaws.{accepted, spelt_inside, value_agrees, spelt_both, spelt_one}
+use N.LeastTypes.{least_type}
 
 -- what is known of a part of a return value that bytes led to
 abbrev pub ReturnReached : N.ReturnPart → Type 0
@@ -14,34 +14,33 @@ ReturnReached (N.InReturnCell name kind part) = IsOpenCell part × CellReached p
 ReturnReached part = ⊤
 
 value_reached : (name : List ℕ) (kind : Kind) (part : N.CellPart) → CellReached part → ReturnReached (N.with_value name kind part)
-value_reached name kind part h = grind arith
+value_reached = grind arith
 
-kind_reached : (name : List ℕ) {kind : Kind} {o : Option Kind} → o ≡ Some kind → N.is_valid kind ≡ true → ReturnReached (N.with_return_kind name o)
-kind_reached name is v = rw is (value_reached _ _ _ (start_reached _ v))
+kind_reached : (name : List ℕ) {kind : Kind} {o : N.Option Kind} → o ≡ Some kind → N.is_valid kind ≡ true → ReturnReached (N.with_return_kind name o)
+kind_reached = grind arith
 
 -- Each element keeps what is known.
 pub return_keeps : (p : N.ReturnPart) {e : List ℕ} → N.AreBytes e → ReturnReached p → N.IsNext return_value p e → ReturnReached (N.return_add p e)
-return_keeps ReturnNameCount are h n = grind (arith, N.choose, N.eq_false)
-return_keeps (N.ReturnHead name) are h n = grind (arith, accepted, N.bare_type, N.choose, N.eq_false, N.eq_true, kind_reached, N.valid_of)
-return_keeps (N.ReturnInfo name byte) {e} are h n = let k = N.is_some_value _ (N.some_kind _ _ n.free) in kind_reached _ k.1 (N.valid_of _ (byte ∷ e) k.1)
-return_keeps (N.InReturnCell name kind part) {e} are (begun, h) n =
-    value_reached _ _ _ (cell_keeps _ _ are h (record { some = n.some; whole = n.whole; free = n.free }))
+return_keeps N.ReturnNameCount are h n = grind arith
+return_keeps (N.ReturnHead name) are h n = grind arith
+return_keeps (N.ReturnInfo name byte) {e} are h n = grind (arith, N.is_some_value, kind_reached)
+return_keeps (N.InReturnCell name kind part) {e} are (begun, h) n = grind (arith, value_reached, cell_keeps)
 return_keeps p are h n = tt
 
 -- the rest of a return value, up to its end
 abbrev Ends : N.ReturnPart → List ℕ → Type 0
-Ends p rest = (r : ReturnValue) × Spelt return_value p rest (N.WholeReturn r)
+Ends p rest = (r : N.ReturnValue) × Spelt return_value p rest (N.WholeReturn r)
 
 -- an element, and what follows it
 then_ends : {p to : N.ReturnPart} {e rest : List ℕ} → Spelt return_value p e to → Ends to rest → Ends p (e ++ rest)
-then_ends one (r, more) = (r, spelt_both one more)
+then_ends = grind (arith, spelt_both)
 
 value_ends : (name : List ℕ) (kind : Kind) (part : N.CellPart) → CellReached part → Ends (N.with_value name kind part) (N.rest_of_cell part)
 value_ends name kind part h =
     let x = cell_ends _ _ h in
     (record { name = name; kind = kind; value = x.0 }, spelt_inside (value_agrees _ _) x.1)
 
-kind_ends : (name : List ℕ) {kind : Kind} {o : Option Kind} → o ≡ Some kind → N.is_valid kind ≡ true → Ends (N.with_return_kind name o) (N.rest_of_value o)
+kind_ends : (name : List ℕ) {kind : Kind} {o : N.Option Kind} → o ≡ Some kind → N.is_valid kind ≡ true → Ends (N.with_return_kind name o) (N.rest_of_value o)
 kind_ends name is v = rw is (value_ends _ _ _ (start_reached _ v))
 
 stays_open : {name : List ℕ} {kind : Kind} {part : N.CellPart} → IsOpenCell part → N.with_value name kind part ≡ N.InReturnCell name kind part
@@ -50,29 +49,26 @@ stays_open h = grind arith
 head_ends : {name : List ℕ} → Ends (N.ReturnHead name) N.rest_of_return_head
 unfolding rest_length named_kind
 head_ends {name} =
-    let type : Spelt return_value (N.ReturnHead name) (zeros 7 ++ 0x24 ∷ []) (N.ReturnInfo name 0x24) = spelt_one (omega arith) refl refl refl in
-    let info : Spelt return_value (N.ReturnInfo name 0x24) (16 ∷ []) (N.InReturnCell name Guid (N.ScalarLength Guid)) =
-    spelt_one (omega arith) refl refl refl in
-    let null : ReturnValue = record { name = name; kind = Guid; value = N.Null } in
-    (null, spelt_both type (spelt_both info (spelt_one (omega arith) refl refl refl)))
+    let type : Spelt return_value (N.ReturnHead name) (N.zeros 7 ++ 0x24 ∷ []) (N.ReturnInfo name 0x24) = grind (arith, spelt_one) in
+    let info : Spelt return_value (N.ReturnInfo name 0x24) (16 ∷ []) (N.InReturnCell name Guid (N.ScalarLength Guid)) = grind (arith, spelt_one) in
+    let null : N.ReturnValue = record { name = name; kind = Guid; value = N.Null } in
+    (null, spelt_both type (spelt_both info (grind (arith, spelt_one))))
 
-count_ends : Ends ReturnNameCount (0 ∷ N.rest_of_return_head)
-count_ends = let one : Spelt return_value ReturnNameCount (0 ∷ []) (N.ReturnHead []) = spelt_one (omega arith) refl refl refl in
+count_ends : Ends N.ReturnNameCount (0 ∷ N.rest_of_return_head)
+count_ends = let one : Spelt return_value N.ReturnNameCount (0 ∷ []) (N.ReturnHead []) = grind (arith, spelt_one) in
     then_ends one (head_ends)
 
 -- A part of a return value followed by what completes it is a whole one.
-pub return_ends : (p : N.ReturnPart) → ReturnReached p → (r : ReturnValue) × Spelt return_value p (N.rest_of_return p) (N.WholeReturn r)
-return_ends N.ReturnOrdinal h = let one : Spelt return_value N.ReturnOrdinal (zeros 2) ReturnNameCount = spelt_one (omega arith) refl refl refl in
+pub return_ends : (p : N.ReturnPart) → ReturnReached p → (r : N.ReturnValue) × Spelt return_value p (N.rest_of_return p) (N.WholeReturn r)
+return_ends N.ReturnOrdinal h = let one : Spelt return_value N.ReturnOrdinal (N.zeros 2) N.ReturnNameCount = grind (arith, spelt_one) in
     then_ends one count_ends
-return_ends ReturnNameCount h = count_ends
+return_ends N.ReturnNameCount h = count_ends
 return_ends (N.ReturnName n) h =
     let l = N.length-replicate n 0 in
     then_ends (spelt_one (omega arith) l refl refl) (head_ends)
 return_ends (N.ReturnHead name) h = head_ends
 return_ends (N.ReturnInfo name byte) (n, known, some) =
     let least = least_type known in
-    then_ends {e = N.least_info byte} (spelt_one (omega arith) (cc) (ap (λ o. (if N.is_some o then None else Some
-    (N.BadTypeInfo N.return_column))) least.described) refl)
-    (kind_ends _ least.described (N.valid_of _ (byte ∷ N.least_info byte) least.described))
+    then_ends {e = N.least_info byte} (spelt_one (omega arith) (cc) (grind arith) refl) (kind_ends _ least.described (grind (arith, N.valid_of)))
 return_ends (N.InReturnCell name kind part) (begun, h) = rw (← stays_open begun) (value_ends _ _ _ h)
 return_ends (N.WholeReturn r) h = (r, N.Spelt-none _ _)

@@ -1,64 +1,61 @@
 -- Where an export stops with the fault of a device, the device's count of failures rose.
-use Rattle.tds_export.proofs.Words as N
-use Rattle.tds_export.proofs.Words.{Bool, Coming, Fault, ExportInput, List, None, Option, Part, ReadFailed, PayloadView, Some, Stop, WriteFailed, [], ap}
-use Rattle.tds_export.proofs.Words.{arith, before}
-use Rattle.tds_export.proofs.Words.{front_packet, if◌then◌else◌, inl, inr, length, message, read, subst, sym, true, ℕ, ⊤, ◌++◌, ◌<◌, ◌∙◌, ◌∷◌, ◌≡◌, ◌⊎◌}
+use Rattle.tds_export.proofs as N
+use N.{Coming, Fault, List, Option, Part, ReadFailed, Some, Stop, [], ap, arith, before, if◌then◌else◌, inl, inr, read, subst, sym, ℕ, ⊤, ◌++◌, ◌<◌, ◌∙◌, ◌∷◌}
+use N.{◌≡◌, ◌⊎◌}
+use N.Words.{front_packet, message}
 
 -- a fault that elements may have, or the end of a message
 abbrev pub IsOfPayload : Fault → Type 0
 IsOfPayload ReadFailed = ⊥
-IsOfPayload WriteFailed = ⊥
+IsOfPayload N.WriteFailed = ⊥
 IsOfPayload fault = ⊤
 
 -- no fault, or one of these
 abbrev AtMostOfPayload : Option Fault → Type 0
-AtMostOfPayload None = ⊤
+AtMostOfPayload N.None = ⊤
 AtMostOfPayload (Some fault) = IsOfPayload fault
 
-if_payload : (b : Bool) (x y : Option Fault) → AtMostOfPayload x → AtMostOfPayload y → AtMostOfPayload (if b then x else y)
-if_payload b x y p q = grind arith
+if_payload : (b : N.Bool) (x y : Option Fault) → AtMostOfPayload x → AtMostOfPayload y → AtMostOfPayload (if b then x else y)
+if_payload = grind arith
 
 part_payload : (room : ℕ) (tokens : List N.Token) (at : N.Open) (e : List ℕ) → AtMostOfPayload (N.part_fault room tokens at e)
 part_payload room tokens at e = grind (arith, if_payload)
 
 end_payload : (tokens : List N.Token) (at : N.Open) → AtMostOfPayload (N.part_end tokens at)
-end_payload tokens at = grind (arith, if_payload)
+end_payload = grind arith
 
 module _ (charset : N.Charset) (room : ℕ) where
   element_fault : (p : Part) (e : List ℕ) (fault : Fault) → (N.response charset room).fault p e ≡ Some fault → IsOfPayload fault
-  element_fault p e fault h = rw h at (part_payload room p.tokens p.at e)
+  element_fault = grind (arith, part_payload)
 
   end_fault : (p : Part) (fault : Fault) → (N.response charset room).end_fault p ≡ Some fault → IsOfPayload fault
-  end_fault p fault h = rw h at (end_payload p.tokens p.at)
+  end_fault = grind arith
 
 -- ---- a payload that has just begun
 
-ends_of_wire : (size limit : ℕ) {failures : ℕ} (left : Option (List ℕ)) (b : PayloadView) {bytes : List ℕ} {own : Stop}
+ends_of_wire : (size limit : ℕ) {failures : ℕ} (left : Option (List ℕ)) (b : N.PayloadView) {bytes : List ℕ} {own : Stop}
     → N.Ends (N.begun size limit left failures) b bytes own → N.IsOfWire own.fault ⊎ ((own.fault ≡ ReadFailed) × (b.failures ≡ N.one_more failures))
-ends_of_wire size limit left b (inl x) =
-    inl (rw (← ap (λ (c : Coming). c.stop.fault) (x.2 [])) (N.message_of_wire _ _ _ 0 0 _))
-ends_of_wire size limit left b (inr (inl x)) = inl (rw (← ap (λ (c : Coming). c.stop.fault) x.3) (N.message_of_wire _ _ _ 0 0 _))
+ends_of_wire size limit left b (inl x) = inl (rw (← ap (λ (c : Coming). c.stop.fault) (x.2 [])) (N.message_of_wire _ _ _ 0 0 _))
+ends_of_wire size limit left b (inr (inl x)) = inl (grind (arith, N.message_of_wire))
 ends_of_wire size limit left b (inr (inr x)) = inr (x.2, x.4.0)
 
 -- what stops the reading of a response
 abbrev ReadingFault : ℕ → ℕ → Fault → Type 0
-ReadingFault before after fault = ((fault ≡ WriteFailed) → ⊥) × ((fault ≡ ReadFailed) → after ≡ N.one_more before)
+ReadingFault before after fault = ((fault ≡ N.WriteFailed) → ⊥) × ((fault ≡ ReadFailed) → after ≡ N.one_more before)
 
 -- a fault of which no device's is one
-of_none : (P : Fault → Type 0) → (P WriteFailed → ⊥) → (P ReadFailed → ⊥) → (before after : ℕ) (fault : Fault) → P fault
-    → ReadingFault before after fault
-of_none P write read before after fault h = (λ e. write (rw e at h), λ e. absurd (read (rw e at h)))
+of_none : (P : Fault → Type 0) → (P N.WriteFailed → ⊥) → (P ReadFailed → ⊥) → (before after : ℕ) (fault : Fault) → P fault → ReadingFault before after fault
+of_none = grind arith
 
-reading_fault : (charset : N.Charset) (room size limit : ℕ) {failures : ℕ} {left : Option (List ℕ)} {b : PayloadView} {place : ℕ} (at : Part) (stop : Stop)
-    → N.StopsReading (N.response charset room) N.response_start (N.begun size limit left failures) b place at stop
-    → ReadingFault failures b.failures stop.fault
+reading_fault : (charset : N.Charset) (room size limit : ℕ) {failures : ℕ} {left : Option (List ℕ)} {b : N.PayloadView} {place : ℕ} (at : Part) (stop : Stop)
+    → N.StopsReading (N.response charset room) N.response_start (N.begun size limit left failures) b place at stop → ReadingFault failures b.failures stop.fault
 reading_fault charset room size limit {b} at stop x = elim x.cause [
   | inl y ↦ of_none IsOfPayload (λ h. h) (λ h. h) _ _ _ (element_fault charset _ at y.0.element stop.fault y.0.first)
   | inr y ↦ elim y.stop_is [
-    | inl z ↦ rw (ap (λ (s : Stop). s.fault) z.1.2) (of_none IsOfPayload (λ h. h) (λ h. h) _ _ _ (end_fault charset room at z.1.0 z.1.1))
+    | inl z ↦ grind (arith, of_none, end_fault)
     | inr z ↦ rw (ap (λ (s : Stop). s.fault) z.1) (elim (ends_of_wire _ _ _ b y.ends) [
-      | inl w ↦ of_none N.IsOfWire (λ h. h) (λ h. h) _ _ _ w
-      | inr w ↦ (λ e. (cc), λ e. w.1)
+      | inl w ↦ grind (arith, of_none)
+      | inr w ↦ grind arith
     ])
   ]
 ]
@@ -66,54 +63,49 @@ reading_fault charset room size limit {b} at stop x = elim x.cause [
 -- ---- an export
 
 -- a device is blamed only where its count rose
-abbrev Blamed : ExportInput → N.Stopped → Type 0
-Blamed given stopped = (stopped.fault ≡ ReadFailed → N.FailsToRead given) × (stopped.fault ≡ WriteFailed → N.FailsToWrite given)
+abbrev Blamed : N.ExportInput → N.Stopped → Type 0
+Blamed given stopped = (stopped.fault ≡ ReadFailed → N.FailsToRead given) × (stopped.fault ≡ N.WriteFailed → N.FailsToWrite given)
 
 -- a failed write rose the count, and is no failed read
-by_write : (given : ExportInput) (stopped : N.Stopped) (stop : Stop) (middle after : N.SinkView) → stopped.fault ≡ stop.fault → stop.fault ≡ WriteFailed
+by_write : (given : N.ExportInput) (stopped : N.Stopped) (stop : Stop) (middle after : N.SinkView) → stopped.fault ≡ stop.fault → stop.fault ≡ N.WriteFailed
     → middle.failures ≡ given.before.writer.failures → after.failures ≡ N.one_more middle.failures → after.failures ≡ given.after.writer.failures
     → Blamed given stopped
-by_write given stopped stop middle after is named start failed end = grind arith
+by_write = grind arith
 
-pub blamed : {given : ExportInput} {stopped : N.Stopped} → N.StopsExport given stopped → Blamed given stopped
+pub blamed : {given : N.ExportInput} {stopped : N.Stopped} → N.StopsExport given stopped → Blamed given stopped
 blamed {given} {stopped} x = go x.stops
   where
     is : stopped.fault ≡ x.stop.fault
     is = cc
 
-    ends : (failed : x.failed ≡ true) → x.middle.failures ≡ given.after.writer.failures
-    ends failed = cc (x.same failed)
+    ends : (failed : x.failed ≡ N.true) → x.middle.failures ≡ given.after.writer.failures
+    ends = grind arith
 
     go : N.RunStops (N.grammar_of given) N.response_start (N.begun_at given) x.seen 0 (N.fresh_at given) x.middle given.after.areas.description x.failed x.stop
         → Blamed given stopped
     go (inl (inl y)) =
         let r = reading_fault _ _ _ _ _ _ y.0.stops in
-        (λ e. subst (N.Rose given.before.reader.failures) (cc (r.1 (sym is ∙ e))) (N.rose _), λ e. absurd (r.0 (cc)))
-    go (inl (inr y)) =
-        let b = y.0.breaks.breaks in
-        by_write given stopped x.stop y.0.breaks.middle x.middle is (cc) y.0.breaks.puts.2.4.0 b.9.0 (ends y.1)
-    go (inr y) =
-        let f = y.0.fails in
-        by_write given stopped x.stop y.0.middle x.middle is (cc) y.0.whole.puts.2.4.0 f.3.0 (ends y.1)
+        grind arith
+    go (inl (inr y)) = grind (arith, by_write, is, ends)
+    go (inr y) = grind (arith, by_write, is, ends)
 
 -- ---- no device failed
 
 -- an input of no byte is over before the message is
 no_message : (size limit : ℕ) {c : Coming} → c.stop.fault ≡ N.MessageEnded → N.whole_message size limit [] ≡ c → ⊥
 unfolding message front_packet
-no_message size limit is e = let no = ap (λ (d : Coming). d.stop.fault) e ∙ is in cc
+no_message = grind arith
 
 -- to read a whole message takes a byte
-some_read : (size limit : ℕ) {failures : ℕ} (left : Option (List ℕ)) (q : PayloadView) (bytes : List ℕ) {n : ℕ}
-    (t : N.Takes (N.begun size limit left failures) q bytes n) → N.IsOver q → 0 < length t.0
+some_read : (size limit : ℕ) {failures : ℕ} (left : Option (List ℕ)) (q : N.PayloadView) (bytes : List ℕ) {n : ℕ}
+    (t : N.Takes (N.begun size limit left failures) q bytes n) → N.IsOver q → 0 < N.length t.0
 some_read size limit left q bytes t o = go t.0 t.1.1
   where
-    go : (read : List ℕ) → ((zs : List ℕ) → N.whole_message size limit (read ++ zs) ≡ before bytes (q.future zs)) → 0 < length read
+    go : (read : List ℕ) → ((zs : List ℕ) → N.whole_message size limit (read ++ zs) ≡ before bytes (q.future zs)) → 0 < N.length read
     go [] f = absurd (no_message _ _ (cc (o.2 [])) (f []))
     go _ f = omega arith
 
-pub no_failure : (given : ExportInput) (report : N.Report) → N.Reports given report → (N.FailsToRead given → ⊥) × (N.FailsToWrite given → ⊥)
+pub no_failure : (given : N.ExportInput) (report : N.Report) → N.Reports given report → (N.FailsToRead given → ⊥) × (N.FailsToWrite given → ⊥)
 no_failure given report x =
-    let moved = some_read (N.limits_of given).packet_size (N.limits_of given).max_wire _ x.seen
-    _ x.completes.whole.takes x.completes.whole.over in
-    grind (arith, some_read)
+    let moved = some_read (N.limits_of given).packet_size (N.limits_of given).max_wire _ x.seen _ x.completes.whole.takes x.completes.whole.over in
+    grind arith

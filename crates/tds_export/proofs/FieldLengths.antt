@@ -1,10 +1,10 @@
 -- How long the text of so many bytes is at most.
+use Rattle.tds_export.proofs as N
+use N.{Conversion, HexDigits, List, Ok, [], arith, choose, emit, length, true, ℕ, ◌*◌, ◌++◌, ◌+◌, ◌-◌, ◌<◌, ◌==◌, ◌^◌, ◌∷◌, ◌≡◌, ◌≤◌, ⊤}
+use N.Words.{utf16_chars}
+use N.SomeBytes.{AreBytes-drop, byte_below, little_below, one_of_four}
 use Rattle.tds_text.specs.Utf16 as utf16
 use Rattle.tds_values.specs.declared.kind.Kind.TheVariants as kinds
-use Rattle.tds_export.proofs.Words as N
-use Rattle.tds_export.proofs.Words.{Conversion, Err, HexDigits, List, None, Ok, Option, Result, Some, [], arith, choose, emit, length, quote, true, utf16_chars}
-use Rattle.tds_export.proofs.Words.{ℕ, ◌*◌, ◌++◌, ◌+◌, ◌-◌, ◌<◌, ◌==◌, ◌^◌, ◌∷◌, ◌≡◌, ◌≤◌, ⊤}
-use Rattle.tds_export.proofs.SomeBytes.{AreBytes-drop, byte_below, little_below, one_of_four}
 
 -- ---- the text of data
 
@@ -28,7 +28,7 @@ chars_length (u ∷ v ∷ us) = grind (arith, choose, (chars_length (v ∷ us)),
 
 -- a byte is doubled at most
 byte_doubled : (b : ℕ) → length (N.doubled_byte b) ≤ 2
-byte_doubled b = choose (λ v. length v ≤ 2) (b == quote) _ _ (λ z. omega arith) (λ z. omega arith)
+byte_doubled = grind arith
 
 -- so are all bytes
 doubled_most : (bytes : List ℕ) → length (N.doubled bytes) ≤ 2 * length bytes
@@ -37,11 +37,11 @@ doubled_most (b ∷ bytes) = omega (arith, byte_doubled b, doubled_most bytes, N
 
 -- four bytes for each byte
 conversion_length : (c : Conversion) (bytes : List ℕ) → length (N.conversion_text c bytes) ≤ 4 * length bytes
-conversion_length c bytes = grind (arith, characters_length, chars_length, doubled_most, N.length-encode_with, N.length-map, units_length)
+conversion_length = grind (arith, characters_length, chars_length, doubled_most, N.length-encode_with, N.length-map, units_length)
 
 -- nor is the fixed text longer
 emit_length : (c : Conversion) (bytes : List ℕ) → length (emit (N.conversion_rest c) (N.conversion_text c) bytes) ≤ 4 * length bytes
-emit_length c bytes = grind (arith, conversion_length, N.length-take)
+emit_length = grind (arith, conversion_length, N.length-take)
 
 -- a field that begins
 pub open_length : (c : Conversion) → length (N.open_field c []) ≤ 2
@@ -51,7 +51,7 @@ open_length c = omega (arith, emit_length c [])
 -- a whole field
 pub long_length : (c : Conversion) (bytes : List ℕ) → length (N.long_field c bytes) ≤ 2 + 4 * length bytes
 long_length HexDigits bytes = omega (arith, conversion_length HexDigits bytes)
-long_length c bytes = omega (arith, conversion_length c bytes, N.length-append (N.conversion_text c bytes) (quote ∷ []))
+long_length c bytes = omega (arith, conversion_length c bytes, N.length-append (N.conversion_text c bytes) (N.quote ∷ []))
 
 -- what a piece adds
 emit_more : (c : Conversion) (a b : List ℕ) → N.is_begun c (a ++ b) ≡ true
@@ -80,35 +80,35 @@ open_more c a b h = omega (arith, emit_more c a b h)
 -- the end adds the text that was withheld, and a quote
 pub long_more : (c : Conversion) (a : List ℕ) → N.is_fit c a ≡ true → N.is_begun c a ≡ true → length (N.long_field c a) ≤ length (N.open_field c a) + 13
 long_more HexDigits a h b = omega (arith, text_more HexDigits a h b)
-long_more c a h b = omega (arith, text_more c a h b, N.length-append (N.conversion_text c a) (quote ∷ []))
+long_more c a h b = omega (arith, text_more c a h b, N.length-append (N.conversion_text c a) (N.quote ∷ []))
 
 -- ---- the text of a scalar
 
 -- signed numbers of 16, 32 and 64 bits
 signed_fits : (n : ℕ) → (N.unsigned_abs (N.cast_signed N.w16 n) < 2 ^ 64) × (N.unsigned_abs (N.cast_signed N.w32 n) < 2 ^ 64)
     × (N.unsigned_abs (N.cast_signed N.w64 n) < 2 ^ 64)
-signed_fits n = (grind (arith, N.nat_tests), grind (arith, N.nat_tests), grind (arith, N.nat_tests))
+signed_fits n = grind arith
 
 -- an integer fits
 integer_fits : (n : ℕ) (xs : List ℕ) → N.AreBytes xs → N.unsigned_abs (N.integer_of n xs) < 2 ^ 64
-integer_fits n xs h = grind (arith, byte_below, choose, signed_fits)
+integer_fits = grind (arith, byte_below, choose, signed_fits)
 
 -- an amount of money fits
 money_fits : (n : ℕ) (xs : List ℕ) → N.unsigned_abs (N.money_of n xs) < 2 ^ 64
-money_fits n xs = grind (arith, choose, N.unsigned_abs, signed_fits)
+money_fits = grind arith
 
 -- a magnitude fits
 magnitude_fits : (n : ℕ) (xs : List ℕ) → N.AreBytes xs → N.is_decimal_length n ≡ true → N.little_number (n - 1) xs < 2 ^ 128
-magnitude_fits n xs h k = grind (arith, little_below, one_of_four)
+magnitude_fits = grind (arith, little_below, one_of_four)
 
 -- the numbers of a value, if there is one, fit
-abbrev AllFit : Option N.ScalarValue → Type 0
-AllFit None = ⊤
-AllFit (Some v) = N.FitsWidths v
+abbrev AllFit : N.Option N.ScalarValue → Type 0
+AllFit N.None = ⊤
+AllFit (N.Some v) = N.FitsWidths v
 
 -- a date and time has no wide number
 datetime_fits : (n : ℕ) (e : List ℕ) → N.FitsWidths (N.datetime_of n e)
-datetime_fits n e = choose N.FitsWidths (n == 4) _ _ (λ z. tt) (λ z. tt)
+datetime_fits = grind arith
 
 -- the bytes of a kind spell numbers that fit
 values_fit : (kind : N.Kind) (e : List ℕ) → N.AreBytes e → N.is_length_allowed kind (length e) ≡ true → AllFit (N.value_of kind e)
@@ -123,18 +123,18 @@ values_fit (kinds.MoneyN n) e h k = money_fits n e
 values_fit kinds.DateTime4 e h k = datetime_fits 4 e
 values_fit kinds.DateTime8 e h k = datetime_fits 8 e
 values_fit (kinds.DateTimeN n) e h k = datetime_fits n e
-values_fit (kinds.Decimal n precision scale) e h k = magnitude_fits _ _ (AreBytes-drop 1 e h) (N.and_parts _ _ k).0
+values_fit (kinds.Decimal n precision scale) e h k = grind (arith, magnitude_fits, N.and_parts)
 values_fit kind e h k = tt
 
 -- the text of a value that is read
-abbrev pub ReadShort : Result N.ScalarValue N.ValueFault → Type 0
+abbrev pub ReadShort : N.Result N.ScalarValue N.ValueFault → Type 0
 ReadShort (Ok v) = length (N.text_of v) ≤ 41
-ReadShort (Err f) = ⊤
+ReadShort (N.Err f) = ⊤
 
 -- a value in its range has a short text
-checked_short : (o : Option N.ScalarValue) → AllFit o → ReadShort (N.checked o)
+checked_short : (o : N.Option N.ScalarValue) → AllFit o → ReadShort (N.checked o)
 checked_short o h = grind (arith, choose, N.length-text_of)
 
 -- so has each value that is read
 pub read_short : (kind : N.Kind) (e : List ℕ) → N.AreBytes e → ReadShort (N.read_of kind e)
-read_short kind e h = choose ReadShort _ _ _ (λ z. checked_short (N.value_of kind e) (values_fit kind e h z)) (λ z. tt)
+read_short = grind (arith, choose, checked_short, values_fit)

@@ -1,32 +1,33 @@
 -- The least TYPE_INFO of each type byte.
-use Rattle.tds_export.proofs.Words.{AreBytes, Bool, Kind, List, None, Option, Some, [], and_parts, arith, eq_false, eq_true, false, kind_of, least_info, length}
-use Rattle.tds_export.proofs.Words.{lt_true, named_kind, nat_lt, nat_tests, refl, rest_length, suc, true, zero, ℕ, ◌&&◌, ◌<◌, ◌==◌, ◌∷◌, ◌≡◌}
+use Rattle.tds_export.proofs as N
+use N.{Bool, Kind, List, None, Option, Some, [], arith, false, least_info, refl, suc, true, zero, ℕ, ◌&&◌, ◌<◌, ◌==◌, ◌∷◌, ◌≡◌}
+use N.Words.{named_kind, rest_length}
 
 -- after this type byte the least rest is of so many bytes, and describes a kind
 pub record IsLeast (byte n : ℕ) : Type 0 where
   pub kind : Kind
-  pub described : kind_of (byte ∷ least_info byte) ≡ Some kind
-  pub whole : length (least_info byte) ≡ n
-  pub bytes : AreBytes (least_info byte)
+  pub described : N.kind_of (byte ∷ least_info byte) ≡ Some kind
+  pub whole : N.length (least_info byte) ≡ n
+  pub bytes : N.AreBytes (least_info byte)
 
 -- whether these are bytes
 abbrev are_bytes : List ℕ → Bool
 are_bytes [] = true
-are_bytes (x ∷ xs) = nat_lt x 256 && are_bytes xs
+are_bytes (x ∷ xs) = N.nat_lt x 256 && are_bytes xs
 
-bytes_true : (xs : List ℕ) → are_bytes xs ≡ true → AreBytes xs
+bytes_true : (xs : List ℕ) → are_bytes xs ≡ true → N.AreBytes xs
 bytes_true [] h = tt
-bytes_true (x ∷ xs) h = let both = and_parts (nat_lt x 256) (are_bytes xs) h in (lt_true x _ both.0, bytes_true xs both.1)
+bytes_true (x ∷ xs) h = let both = N.and_parts (N.nat_lt x 256) (are_bytes xs) h in (N.lt_true x _ both.0, bytes_true xs both.1)
 
 -- whether a rest of this length, if there is one, has it, is of bytes, and describes a kind
 abbrev holds : Option ℕ → List ℕ → Option Kind → Bool
 holds None rest kind = true
 holds (Some n) rest None = false
-holds (Some n) rest (Some kind) = length rest == n && are_bytes rest
+holds (Some n) rest (Some kind) = N.length rest == n && are_bytes rest
 
 -- whether the least rest is one, where the type byte is accepted
 has_least : ℕ → Bool
-has_least byte = holds (rest_length byte) (least_info byte) (kind_of (byte ∷ least_info byte))
+has_least byte = holds (rest_length byte) (least_info byte) (N.kind_of (byte ∷ least_info byte))
 
 -- whether all numbers below this one pass a test
 all_below : ℕ → (ℕ → Bool) → Bool
@@ -35,12 +36,12 @@ all_below (suc n) p = p n && all_below n p
 
 one_below : (n : ℕ) (p : ℕ → Bool) → all_below n p ≡ true → (k : ℕ) → k < n → p k ≡ true
 unfolding all_below
-one_below zero p h k l = absurd (omega arith)
+one_below zero p h k l = grind arith
 one_below (suc n) p h k l =
-    let both = and_parts (p n) (all_below n p) h in
+    let both = N.and_parts (p n) (all_below n p) h in
     elim (k == n) as (λ t. (k == n) ≡ t → p k ≡ true) [
-      | true ↦ λ e. rw (eq_true k n e) both.0
-      | false ↦ λ e. one_below n p both.1 k (let other = eq_false k n e in omega arith)
+      | true ↦ grind (arith, N.eq_true)
+      | false ↦ λ e. one_below n p both.1 k (grind (arith, N.eq_false))
     ] refl
 
 -- each byte passes
@@ -51,11 +52,11 @@ every_byte = refl
 -- and a number above is no type byte
 beyond : (byte n : ℕ) → rest_length byte ≡ Some n → byte < 256
 unfolding rest_length
-beyond byte n h = grind (arith, nat_tests)
+beyond = grind (arith, N.nat_tests)
 
-found : (byte n : ℕ) (r : Option ℕ) (k : Option Kind) → holds r (least_info byte) k ≡ true → r ≡ Some n → kind_of (byte ∷ least_info byte) ≡ k
+found : (byte n : ℕ) (r : Option ℕ) (k : Option Kind) → holds r (least_info byte) k ≡ true → r ≡ Some n → N.kind_of (byte ∷ least_info byte) ≡ k
     → IsLeast byte n
-found byte n r k h e d = grind (arith, and_parts, bytes_true, eq_true)
+found = grind (arith, N.and_parts, bytes_true, N.eq_true)
 
 -- After each type byte that is accepted its least rest describes a kind.
 pub least_type : {byte n : ℕ} → rest_length byte ≡ Some n → IsLeast byte n

@@ -23,3 +23,4 @@ mod CompletedCells
 mod CompletedDescriptions
 mod CompletedReturns
 mod CompletedResponses
+pub use Words.*

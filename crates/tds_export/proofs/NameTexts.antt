@@ -1,7 +1,7 @@
 -- The names of columns, put one after another.
-use Rattle.tds_export.proofs.Words as N
-use Rattle.tds_export.proofs.Words.{Column, Err, List, Ok, Option, PutsPiece, Result, Sink, Stop, [], ap, arith, codes, false, joined}
-use Rattle.tds_export.proofs.Words.{Bool, length, map, name_field, refl, suc, sym, take, true, ℕ, ◌+◌, ◌++◌, ◌<◌, ◌≤◌, ◌==◌, ◌∙◌, ◌∷◌, ◌≡◌}
+use Rattle.tds_export.proofs as N
+use N.{Column, Err, List, Ok, Option, PutsPiece, Result, Sink, Stop, [], ap, arith, codes, false, joined, Bool, length, map, name_field, refl, suc, sym, take}
+use N.{true, ℕ, ◌+◌, ◌++◌, ◌<◌, ◌≤◌, ◌==◌, ◌∙◌, ◌∷◌, ◌≡◌}
 use Rattle.tds_text.specs.Quoting.{after_comma, end_after, in_line}
 use Rattle.tds_cells.proofs.RunSteps.{made_more}
 
@@ -17,7 +17,7 @@ passed_piece more is x = N.PutsPiece-passed _ _ _ _ _ _ _ is x
 
 -- the comma before a field that isn't the first
 comma_before : (n : ℕ) (f : List ℕ) → after_comma (suc n) f ≡ codes "," ++ f
-comma_before n f = N.choose_false (suc n == 0) f (44 ∷ f) (N.ne_eqb (suc n) 0 (λ e. omega arith))
+comma_before = grind arith
 
 -- one more field
 joined-snoc : (fs : List (List ℕ)) (f : List ℕ) → joined (fs ++ f ∷ []) ≡ joined fs ++ after_comma (length fs) f
@@ -33,29 +33,19 @@ names_text done [] = N.header_line done
 names_text done (c ∷ cs) = joined (map name_field done)
 
 none_put : (left : List Column) → 0 < length left → names_text [] left ≡ []
-none_put [] some = absurd (omega arith)
-none_put (c ∷ cs) some = refl
+none_put = grind arith
 
 -- a name is put after others
 one_more : (done : List Column) (c : Column) (rest : List Column) (count : ℕ) → count ≡ length done + (1 + length rest)
     → joined (map name_field done) ++ in_line (length done) (length done + 1 == count) (name_field c) ≡ names_text (done ++ c ∷ []) rest
-one_more done c [] count is =
-    let last : (length done + 1 == count) ≡ true = N.eq-eqb (length done + 1) count (omega arith) in
-    let fields = map name_field done in
-    let snoc = rw N.length-map at (joined-snoc fields (name_field c)) in
-    rw (last, N.map-append name_field done (c ∷ []), snoc) (N.sym (N.append_assoc (joined fields) _ N.line_end))
-one_more done c (d ∷ rest) count is =
-    let last : (length done + 1 == count) ≡ false = N.ne_eqb (length done + 1) count (omega arith) in
-    let fields = map name_field done in
-    let snoc = rw N.length-map at (joined-snoc fields (name_field c)) in
-    rw (last, N.map-append name_field done (c ∷ []), snoc, N.append-nil) refl
+one_more = grind (arith, N.eq-eqb, N.length-map, joined-snoc, N.map-append, N.append_assoc, joined, N.ne_eqb, N.append-nil)
 
 -- the header line begins with them
 begins : (done left : List Column) → (more : List ℕ) × (names_text done left ++ more ≡ N.header_line (done ++ left))
-begins done [] = ([], rw (N.append-nil, N.append-nil) refl)
+begins done [] = grind (arith, N.append-nil)
 begins done (c ∷ cs) =
     let grows = N.joined_more (map name_field done) (map name_field (c ∷ cs)) in
-    (grows.0 ++ N.line_end, rw (N.map-append name_field done (c ∷ cs), ← grows.1) (N.sym (N.append_assoc _ grows.0 N.line_end)))
+    (grows.0 ++ N.line_end, rw (N.map-append name_field done (c ∷ cs), ← grows.1) (grind (arith, N.append_assoc)))
 
 -- The names of the columns but these last ones were put.
 pub record NamesPut {W : Type 0} (contents : W → Option (List ℕ)) (columns left : List Column) (index : ℕ) (before after : Sink W) : Type 0 where
@@ -66,31 +56,26 @@ pub record NamesPut {W : Type 0} (contents : W → Option (List ℕ)) (columns l
 
 pub names_none : {W : Type 0} {contents : W → Option (List ℕ)} {columns left : List Column} {sink : Sink W} → left ≡ columns → 0 < length columns
     → N.IsWriting sink → NamesPut contents columns left 0 sink sink
-names_none {contents = contents} {left = left} {sink = sink} e some going =
+names_none {contents} {left} {sink} e some going =
     record { done = []; split = e; index_is = refl; puts = rw (none_put left (rw e some)) (N.PutsPiece-none _ _ _ going) }
 
 module _ {W : Type 0} {contents : W → Option (List ℕ)} {columns left rest : List Column} {c : Column} {index : ℕ} {a b : Sink W}
     (is : left ≡ c ∷ rest) (x : NamesPut contents columns left index a b) where
   -- how many there are
   pub some_left : length columns ≡ index + (1 + length rest)
-  some_left = omega (arith, ap length x.split, ap length is, N.length-append x.done left, x.index_is)
+  some_left = grind (arith, N.length-append)
 
   module _ {count : ℕ} (number : count ≡ length columns) where
     grown : names_text x.done left ++ in_line index (index + 1 == count) (name_field c) ≡ names_text (x.done ++ c ∷ []) rest
-    grown = rw (is, x.index_is) (one_more x.done c rest count (number ∙ some_left ∙ ap (λ n. n + (1 + length rest)) x.index_is))
+    grown = grind (arith, one_more, some_left)
 
     all : (x.done ++ c ∷ []) ++ rest ≡ columns
-    all = N.append_assoc x.done (c ∷ []) rest ∙ ap (λ l. x.done ++ l) (sym is) ∙ x.split
+    all = grind (arith, N.append_assoc)
 
     -- one more name was put
     pub names_more : {d : Sink W} → PutsPiece contents b d (in_line index (index + 1 == count) (name_field c)) (Ok (tt {0}))
         → NamesPut contents columns rest (index + 1) a d
-    names_more name = record {
-      done = x.done ++ c ∷ [];
-      split = all;
-      index_is = rw (x.index_is) (sym (N.length-append x.done (c ∷ [])));
-      puts = rw (← grown) (then_puts x.puts name);
-    }
+    names_more name = record { done = x.done ++ c ∷ []; split = all; index_is = grind (arith, N.length-append); puts = rw (← grown) (then_puts x.puts name) }
 
     -- the writer failed at the name
     pub name_breaks : {d : Sink W} {stop : Stop} {r : Result (Unit {0}) Stop}
@@ -103,13 +88,12 @@ module _ {W : Type 0} {contents : W → Option (List ℕ)} {columns left rest : 
 -- all names were put
 pub names_all : {W : Type 0} {contents : W → Option (List ℕ)} {columns left : List Column} {index : ℕ} {a b : Sink W} → left ≡ []
     → NamesPut contents columns left index a b → PutsPiece contents a b (N.header_line columns) (Ok (tt {0}))
-names_all none x = rw (← x.split, none, N.append-nil) (rw none at x.puts)
+names_all = grind (arith, N.append-nil)
 
 -- ---- the line between two sets and then the names, written to a slice
 
 between_is : (begun : Bool) → end_after begun ≡ N.between begun
-between_is true = refl
-between_is false = refl
+between_is = grind arith
 
 -- The names of the columns but these last ones were written to the front of a slice, after the line between two sets.
 pub record NamesWritten (begun : Bool) (columns left : List Column) (index made : ℕ) (room to : List ℕ) : Type 0 where
@@ -122,37 +106,27 @@ pub record NamesWritten (begun : Bool) (columns left : List Column) (index made 
 
 pub names_begun : {begun : Bool} {columns left : List Column} {made : ℕ} {room to : List ℕ} → left ≡ columns → 0 < length columns
     → length to ≡ length room → made ≤ length to → take made to ≡ end_after begun → NamesWritten begun columns left 0 made room to
-names_begun {begun = begun} {left = left} e some same within is = record {
-  done = [];
-  split = e;
-  index_is = refl;
-  same = same;
-  within = within;
-  text = rw (none_put left (rw e some), N.append-nil) (is ∙ between_is begun);
-}
+names_begun = grind arith
 
 -- one more name was written after what was made
 pub name_written : {begun : Bool} {columns left rest : List Column} {c : Column} {index made m count : ℕ} {room to : List ℕ} (new more : List ℕ)
     → left ≡ c ∷ rest → NamesWritten begun columns left index made room to → count ≡ length columns → m ≤ length new
     → length (take made to ++ (new ++ more)) ≡ length to → take m new ≡ in_line index (index + 1 == count) (name_field c)
     → NamesWritten begun columns rest (index + 1) (made + m) room (take made to ++ (new ++ more))
-name_written {begun = begun} {left = left} {rest = rest} {c = c} {made = made} {m = m} {count = count} {to = to} new more is x number within same text =
-    let counted : count ≡ length x.done + (1 + length rest) =
-    omega (arith, number, ap length x.split, ap length is, N.length-append x.done left) in
+name_written {begun} {left} {rest} {c} {made} {m} {count} {to} new more is x number within same text =
+    let counted : count ≡ length x.done + (1 + length rest) = grind (arith, N.length-append) in
     let grown = one_more x.done c rest count counted in
-    let front : take made to ≡ N.between begun ++ joined (map name_field x.done) = rw is at x.text in
     let last : take m new ≡ in_line (length x.done) (length x.done + 1 == count) (name_field c) = rw x.index_is at text in
     record {
       done = x.done ++ c ∷ [];
-      split = N.append_assoc x.done (c ∷ []) rest ∙ ap (λ l. x.done ++ l) (sym is) ∙ x.split;
-      index_is = rw (x.index_is) (sym (N.length-append x.done (c ∷ [])));
+      split = grind (arith, N.append_assoc);
+      index_is = grind (arith, N.length-append);
       same = same ∙ x.same;
-      within = omega (arith, x.within, N.length-append (take made to) (new ++ more), N.length-append new more, N.length-take-le made to x.within);
-      text = made_more made m to new more x.within within
-          ∙ rw (front, last) (N.append_assoc (N.between begun) (joined (map name_field x.done)) _ ∙ ap (λ t. N.between begun ++ t) grown);
+      within = grind (arith, N.length-append, N.length-take-le);
+      text = grind (arith, made_more, N.append_assoc, N.between, joined);
     }
 
 -- all names were written
 pub names_written : {begun : Bool} {columns left : List Column} {index made : ℕ} {room to : List ℕ} → left ≡ []
     → NamesWritten begun columns left index made room to → take made to ≡ N.between begun ++ N.header_line columns
-names_written none x = rw (← x.split, none, N.append-nil) (rw none at x.text)
+names_written = grind (arith, N.append-nil)

@@ -1,8 +1,6 @@
 -- How an export ended, by the packets of its input.
-use Rattle.tds_export.proofs.Words as N
-use Rattle.tds_export.proofs.Words.{List, Part, Run, PayloadView, Some, Stop, [], ap, arith, drop, grammar, inl, inr, length, more, refl, subst, sym, take}
-use Rattle.tds_export.proofs.Words.{text, ℕ}
-use Rattle.tds_export.proofs.Words.{◌++◌, ◌<◌, ◌∙◌, ◌≡◌, limits, ◌+◌}
+use Rattle.tds_export.proofs as N
+use N.{List, Part, Run, Some, Stop, [], ap, arith, drop, grammar, inl, inr, length, more, subst, sym, text, ℕ, ◌++◌, ◌<◌, ◌∙◌, ◌≡◌, limits, ◌+◌}
 
 -- what the area holds at a part is kept, whatever follows
 pub kept_at : (area : N.Space) (tokens : List N.Token) (at : N.Open) (rest : List ℕ) → area.bytes ≡ N.description_of tokens at
@@ -11,12 +9,12 @@ kept_at area tokens (N.Describing d) rest e = (rest, cc)
 kept_at area tokens at rest e = e
 
 -- the reader's side of a run that began at the front of its input
-pub record ReaderSide (run : Run) (q : PayloadView) : Type 0 where
+pub record ReaderSide (run : Run) (q : N.PayloadView) : Type 0 where
   pub bytes : N.AreBytes run.input
   pub left : q.left ≡ Some run.left
   pub failures : q.failures ≡ run.given.after.reader.failures
 
-abbrev pub start : Run → PayloadView
+abbrev pub start : Run → N.PayloadView
 start run = N.begun (limits run).packet_size (limits run).max_wire (Some run.input) run.given.before.reader.failures
 
 zero : (n : ℕ) → 0 + n ≡ n
@@ -25,26 +23,26 @@ zero n = omega arith
 -- an element's end lies in the last of the packets that were needed for it
 ends_in_last : {run : Run} {part : Part} {packets : List N.Packet} (bytes element : List ℕ) → length element ≡ (grammar run).size part
     → N.InLast (limits run).packet_size packets (length (bytes ++ element)) → N.EndsInLast run packets (length bytes) part
-ends_in_last bytes element whole l = grind (arith, N.length-append)
+ends_in_last = grind (arith, N.length-append)
 
 -- a payload that begins with whole elements and one more
 split_payload : (bytes element more payload : List ℕ) → payload ≡ (bytes ++ element) ++ more → (payload ≡ bytes ++ (element ++ more))
-    × (drop (length bytes) payload ≡ element ++ more) × (take (length bytes) payload ≡ bytes)
-split_payload bytes element more payload e = grind (arith, N.append_assoc, N.drop-append_seam, N.take-append_seam)
+    × (drop (length bytes) payload ≡ element ++ more) × (N.take (length bytes) payload ≡ bytes)
+split_payload = grind (arith, N.append_assoc, N.drop-append_seam, N.take-append_seam)
 
 -- the bytes after a state, where they hold no whole element
 rest_of : (bytes : List ℕ) {part payload : List ℕ} → payload ≡ bytes ++ part → drop (length bytes) payload ≡ part
-rest_of bytes {part} e = cc (N.drop-append_seam bytes part)
+rest_of = grind (arith, N.drop-append_seam)
 
-module _ (run : Run) {q : PayloadView} {part : Part} {bytes : List ℕ} (side : ReaderSide run q) (spelt : N.Spelt (grammar run) N.response_start bytes part)
+module _ (run : Run) {q : N.PayloadView} {part : Part} {bytes : List ℕ} (side : ReaderSide run q) (spelt : N.Spelt (grammar run) N.response_start bytes part)
     (holds : N.IsHolding run.given.after.areas.description part) (text : N.text_put run ≡ N.text_so_far part) where
   -- what the area holds is kept
   kept : (packets : List N.Packet) → N.Keeps run packets (length bytes) part
-  kept packets = kept_at run.given.after.areas.description part.tokens part.at _ holds.bytes
+  kept = grind (arith, kept_at)
 
   -- an element was refused
   refused_in_payload : {fault : N.Fault} → N.RefusesNext (grammar run) (start run) q bytes part fault → N.StopsInPayload run fault (length bytes)
-  refused_in_payload {fault = fault} x =
+  refused_in_payload {fault} x =
       let g = grammar run in
       let e = x.element in
       let b = N.takes_begins _ _ _ _ _ q _ _ side.bytes side.left x.takes x.between in
@@ -55,15 +53,7 @@ module _ (run : Run) {q : PayloadView} {part : Part} {bytes : List ℕ} (side : 
         part = part;
         stands = record { begin = b.begin; each = b.each; within = b.within };
         leads = rw s.0 (N.longest_refused g _ _ _ _ _ spelt refused);
-        first = inl (
-          rw s.1 refused,
-          ends_in_last _ e x.whole (N.in_last _ _ _ _ _ _ q _ _ side.left x.takes b (omega (
-            arith,
-            N.length-append ((bytes ++ e) ++ x.ahead) (q.future []).bytes,
-            N.length-append (bytes ++ e) x.ahead,
-            N.length-append bytes e,
-          ))),
-        );
+        first = inl (rw s.1 refused, ends_in_last _ e x.whole (N.in_last _ _ _ _ _ _ q _ _ side.left x.takes b (grind (arith, N.length-append))));
         written = text;
         kept = kept b.packets;
       }
@@ -78,7 +68,7 @@ module _ (run : Run) {q : PayloadView} {part : Part} {bytes : List ℕ} (side : 
       part = part;
       stands = record { begin = m.begin; each = inl m.each; within = m.within };
       leads = rw m.payload_is (N.longest_cut _ _ _ _ _ spelt short);
-      first = inr (m.each, (omega arith, rw (rest_of _ m.payload_is) short), end);
+      first = grind (arith, rest_of);
       written = text;
       kept = kept m.packets;
     }
@@ -95,13 +85,13 @@ module _ (run : Run) {q : PayloadView} {part : Part} {bytes : List ℕ} (side : 
           begin = x.begin;
           before = x.each;
           within = x.within;
-          taken_is = refl;
+          taken_is = N.refl;
           first = elim x.cause [
-            | inl c ↦ inl (c.0, record { read = c.2.read; split = c.2.split; cut = c.2.cut; failed = grind arith })
+            | inl c ↦ grind arith
             | inr c ↦ inr c.0
           ];
           leads = rw x.payload_is (N.longest_cut (grammar run) _ bytes cut part spelt short);
-          none_refused = λ f r. (omega (arith, ap length (rest_of bytes x.payload_is)));
+          none_refused = grind (arith, rest_of);
           written = text;
           kept = kept x.packets;
         }
@@ -114,16 +104,13 @@ module _ (run : Run) {q : PayloadView} {part : Part} {bytes : List ℕ} (side : 
       | inr e ↦ absurd (e.0 (cc))
     ]
     | inr x ↦ elim c.stop_is [
-      | inl e ↦ absurd (elim x.cause [
-        | inl y ↦ (cc)
-        | inr y ↦ N.wire_goes_on _ _ _ _ _ y.0 e.0
-      ])
-      | inr e ↦ rw e.1 (subst (N.Stops run c.own.fault) (sym x.place) (stopped_on_wire _ c.cut x))
+      | inl e ↦ grind (arith, N.wire_goes_on)
+      | inr e ↦ rw e.1 (grind (arith, stopped_on_wire))
     ]
   ]
 
 -- how a run that read stops
-pub reading_stops : {run : Run} {q : PayloadView} {at : Part} {stop : Stop} → ReaderSide run q
+pub reading_stops : {run : Run} {q : N.PayloadView} {at : Part} {stop : Stop} → ReaderSide run q
     → N.StopsReading (grammar run) N.response_start (start run) q 0 at stop → N.IsHolding run.given.after.areas.description at
     → N.text_put run ≡ N.text_so_far at → N.Stops run stop.fault stop.place
 reading_stops {run} side s holds text = elim s.cause [

@@ -1,9 +1,8 @@
 -- What is read grows by each element: the text so far, and the greatest span.
-use Rattle.tds_export.proofs.Words as N
-use Rattle.tds_export.proofs.Words.{Grows, IsNext, List, NoDescription, None, Open, Option, Part, Some, Token, [], arith, begun, false, grows_same, max, row}
-use Rattle.tds_export.proofs.Words.{text, text_so_far, ℕ, ◌++◌, ◌==◌, ◌∷◌, ◌≡◌, ◌≤◌, ⊤}
-use Rattle.tds_export.proofs.TokenLaws.{begun_after, greatest_span-append, text_after-snoc}
-use Rattle.tds_export.proofs.ResponseLaws.{part_at}
+use Rattle.tds_export.proofs as N
+use N.{Grows, IsNext, List, None, Open, Part, Token, [], arith, begun, grows_same, row, text, text_so_far, ℕ, ◌++◌, ◌==◌, ◌∷◌, ◌≡◌, ◌≤◌, ⊤}
+use N.TokenLaws.{begun_after, greatest_span-append, text_after-snoc}
+use N.ResponseLaws.{part_at}
 
 -- what a token byte other than that of a row begins
 abbrev pub IsFresh : Open → Type 0
@@ -12,22 +11,22 @@ IsFresh (N.InRow part) = ⊥
 IsFresh at = ⊤
 
 -- the cases of what a byte begins
-pub lead_cases : (charset : N.Charset) (P : Part → Type 0) (tokens : List Token) (begun : Option N.Lead)
+pub lead_cases : (charset : N.Charset) (P : Part → Type 0) (tokens : List Token) (begun : N.Option N.Lead)
     → ((at : Open) → IsFresh at → P (part_at tokens at)) → P (N.start_of_row tokens (N.row_start charset) (N.described_after None tokens))
     → P (N.start_of_row tokens N.nbc_row_start (N.described_after None tokens)) → P (N.after_first charset tokens begun)
-lead_cases charset P tokens begun same row nbc = grind arith
+lead_cases = grind arith
 
 -- ---- the text
 
 -- a token that is whole
 token_grows : (tokens : List Token) (t : Token) → Grows (text tokens ++ []) (text_so_far (N.with_token tokens t))
 token_grows tokens t =
-    let m = N.text_after (begun_after false tokens) (t ∷ []) in
-    (m, cc (N.append-nil (text tokens), N.append-nil (text tokens ++ m), text_after-snoc false _ t))
+    let m = N.text_after (begun_after N.false tokens) (t ∷ []) in
+    (m, cc (N.append-nil (text tokens), N.append-nil (text tokens ++ m), text_after-snoc N.false _ t))
 
 -- what has just begun has no text
 fresh_text : (at : Open) → IsFresh at → N.open_text at ≡ []
-fresh_text at h = grind arith
+fresh_text = grind arith
 
 -- what has just begun leaves the text
 same_grows : (tokens : List Token) (at : Open) → IsFresh at → Grows (text tokens ++ []) (text_so_far (part_at tokens at))
@@ -35,17 +34,17 @@ same_grows tokens at h = rw (fresh_text at h) (grows_same _)
 
 -- a row in its response
 with_row_grows : (tokens : List Token) (part : N.RowPart) → Grows (text tokens ++ N.row_so_far part) (text_so_far (N.with_row tokens part))
-with_row_grows tokens part = grind (arith, N.append-nil, grows_same, text_after-snoc)
+with_row_grows = grind (arith, N.append-nil, grows_same, text_after-snoc)
 
 -- a row that begins
-start_grows : (tokens : List Token) (start : List N.Column → N.RowPart) (current : Option (List N.Column))
+start_grows : (tokens : List Token) (start : List N.Column → N.RowPart) (current : N.Option (List N.Column))
     → Grows (text tokens ++ []) (text_so_far (N.start_of_row tokens start current))
 start_grows tokens start None = grows_same _
-start_grows tokens start (Some columns) = N.grows_trans _ _ _ (N.grows_under (text tokens) [] _ (N.grows_all _)) (with_row_grows tokens (start columns))
+start_grows tokens start (N.Some columns) = N.grows_trans _ _ _ (N.grows_under (text tokens) [] _ (N.grows_all _)) (with_row_grows tokens (start columns))
 
 -- a description in its response
 with_described_grows : (tokens : List Token) (d : N.DescriptionPart) → Grows (text tokens ++ []) (text_so_far (N.with_described tokens d))
-with_described_grows tokens NoDescription = token_grows tokens N.NoMetadata
+with_described_grows tokens N.NoDescription = token_grows tokens N.NoMetadata
 with_described_grows tokens (N.WholeDescription bytes columns) = token_grows tokens _
 with_described_grows tokens d = grows_same _
 
@@ -66,31 +65,26 @@ module _ (charset : N.Charset) (room : ℕ) where
   part_grows : (tokens : List Token) (at : Open) (e : List ℕ) → IsNext (N.response charset room) (part_at tokens at) e
       → Grows (text tokens ++ N.open_text at) (text_so_far (N.part_add charset tokens at e))
   part_grows tokens N.Between e n = lead_cases charset (λ p. Grows (text tokens ++ []) (text_so_far p)) tokens _ (same_grows tokens)
-      (start_grows tokens (N.row_start charset) _) (start_grows tokens N.nbc_row_start _)
-  part_grows tokens (N.Describing d) e n = with_described_grows tokens (N.add_described d e)
-  part_grows tokens (N.InRow part) e n =
-      N.grows_trans _ _ _
-      (N.grows_under (text tokens) (N.row_so_far part) _ (N.row_grows charset part e (grind arith)))
-      (with_row_grows tokens _)
-  part_grows tokens (N.InReturn part) e n = with_return_grows tokens (N.return_add part e)
+      (grind (arith, start_grows)) (grind (arith, start_grows))
+  part_grows tokens (N.Describing d) e n = grind (arith, with_described_grows)
+  part_grows tokens (N.InRow part) e n = N.grows_trans _ _ _ (grind (arith, N.grows_under, N.row_grows)) (with_row_grows tokens _)
+  part_grows tokens (N.InReturn part) e n = grind (arith, with_return_grows)
   part_grows tokens (N.TokenLength b) e n = N.choose (λ p. Grows (text tokens ++ []) (text_so_far p)) (N.little e == 0) _ _
-      (λ z. token_grows tokens (N.bodied b [])) (λ z. grows_same (text tokens ++ []))
+      (grind (arith, token_grows)) (grind (arith, grows_same))
   part_grows tokens (N.TokenBody b m) e n = token_grows tokens (N.bodied b e)
   part_grows tokens (N.Fields f) e n = token_grows tokens (N.fixed f e)
 
   -- each element adds to the span, by where it is read
   part_span : {tokens : List Token} (at : Open) (e : List ℕ) → IsNext (N.response charset room) (part_at tokens at) e
-      → max (N.greatest_span tokens) (N.open_span at) ≤ N.span_so_far (N.part_add charset tokens at e)
-  part_span at e n = grind (arith, N.choose, description_span, lead_cases, greatest_span-append)
+      → N.max (N.greatest_span tokens) (N.open_span at) ≤ N.span_so_far (N.part_add charset tokens at e)
+  part_span = grind (arith, N.choose, description_span, lead_cases, greatest_span-append)
 
   -- all elements between two states add to the text
   pub text_along : {p q : Part} {bytes : List ℕ} → N.Spelt (N.response charset room) p bytes q → (more : List ℕ) × (text_so_far p ++ more ≡ text_so_far q)
   text_along {p} {q} s =
-      let adds = λ (r : Part) (b e : List ℕ) (h : Grows (text_so_far p) (text_so_far r)) (n : IsNext _ r e).
-      N.grows_trans _ _ _ h (part_grows _ _ e n) in
+      let adds = λ (r : Part) (b e : List ℕ) (h : Grows (text_so_far p) (text_so_far r)) (n : IsNext _ r e). N.grows_trans _ _ _ h (part_grows _ _ e n) in
       N.Spelt-induct _ _ adds p (grows_same _) _ q s
 
   -- and to the span
   pub span_along : (p q : Part) (bytes : List ℕ) → N.Spelt (N.response charset room) p bytes q → N.span_so_far p ≤ N.span_so_far q
-  span_along p q bytes s = N.Spelt-induct _ (λ r b. N.span_so_far p ≤ N.span_so_far r) (λ r b e h n. omega (arith, part_span r.at e n)) p
-      (omega arith) _ q s
+  span_along p q bytes s = N.Spelt-induct _ (λ r b. N.span_so_far p ≤ N.span_so_far r) (grind (arith, part_span)) p (omega arith) _ q s

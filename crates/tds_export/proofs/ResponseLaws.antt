@@ -1,36 +1,36 @@
 -- What a response's spelling is read as.
-use Rattle.tds_export.proofs.Words as N
-use Rattle.tds_export.proofs.Words.{List, None, Some, Spelt, Stop, arith, length, take, ℕ, ◌++◌, ◌<◌, ◌≡◌, [], ap, drop, line_at, procedure_at, refl, server_at}
-use Rattle.tds_export.proofs.Words.{sym, true, w32, ℤ, ◌*◌, ◌+◌, ◌/◌, ◌∙◌, ◌∷◌, ◌≤◌, Fault, Kind, Option, return_value, with_return_units, Bodied, Bool, Column}
-use Rattle.tds_export.proofs.Words.{Part, Token, after_lead, before, described_after, false, if◌then◌else◌, inl, inr, lead, little, passed, response}
-use Rattle.tds_export.proofs.Words.{with_token, ◌%◌, ◌&&◌, after_tokens, ⊤, Grammar, Spelt-step, PayloadView, Notice, append_assoc}
+use Rattle.tds_export.proofs as N
+use N.{List, None, Some, Spelt, Stop, arith, length, take, ℕ, ◌++◌, ◌<◌, ◌≡◌, [], ap, drop, line_at, refl, sym, true, w32, ℤ, ◌*◌, ◌+◌, ◌/◌, ◌∙◌, ◌∷◌, ◌≤◌}
+use N.{Fault, Kind, Option, Bodied, Column, Part, Token, before, described_after, if◌then◌else◌, inl, inr, lead, little, passed, response}
+use N.Words.{return_value}
+use N.{with_token, ◌%◌, ◌&&◌, after_tokens, ⊤, Grammar, Spelt-step, Notice, append_assoc}
 
 module _ {S : Type 0} {g : Grammar S Fault} {s t : S} where
   -- one element
   pub spelt_one : {e : List ℕ} → 0 < length e → length e ≡ g.size s → g.fault s e ≡ None → g.add s e ≡ t → Spelt g s e t
-  spelt_one {e = e} some whole free to = Spelt-step g s e t some whole free to
+  spelt_one = grind (arith, Spelt-step)
 
   -- some, and those after them
   pub spelt_both : {u : S} {a b : List ℕ} → Spelt g s a t → Spelt g t b u → Spelt g s (a ++ b) u
-  spelt_both {u = u} {a = a} {b = b} p q = N.Spelt-append g s a t b u p q
+  spelt_both = grind (arith, N.Spelt-append)
 
-module _ {S : Type 0} {g : Grammar S Fault} {s : S} {a b : PayloadView} {place n : ℕ} {stop : Stop} where
+module _ {S : Type 0} {g : Grammar S Fault} {s : S} {a b : N.PayloadView} {place n : ℕ} {stop : Stop} where
   -- fewer bytes than it has came
   pub part_cut : {own : Stop} {part : List ℕ} → g.size s ≡ n → g.end_fault s ≡ Some N.MessageEnded → length part < n → N.Ends a b part own
       → stop ≡ N.began_at place own → N.StopsReading g s a b place s stop
-  part_cut {own = own} size end fewer ends is = N.cut_at_once g s a b _ _ _ _ (rw size fewer) ends (N.began_is_cut _ _ _ _ end is)
+  part_cut {own} size end fewer ends is = N.cut_at_once g s a b _ _ _ _ (rw size fewer) ends (grind arith)
 
   -- the slice that it is to fill isn't filled
   pub fill_cut : {to : List ℕ} → g.size s ≡ n → g.end_fault s ≡ Some N.MessageEnded → length to ≡ n
       → ((k : ℕ) × (own : Stop) × (k < length to) × N.Ends a b (take k to) own × (stop ≡ N.began_at place own)) → N.StopsReading g s a b place s stop
-  fill_cut {to = to} size end len part = part_cut size end (omega (arith, N.length-take part.0 to)) part.3 part.4
+  fill_cut = grind (arith, part_cut, N.length-take)
 
 -- ---- what the lengths within the body of a notice say, and what it is read as
 
 -- the parts of a body that holds lie within it
-pub parts_within : (body : List ℕ) → N.holds_notice body ≡ true → (server_at body < length body) × (procedure_at body < length body)
+pub parts_within : (body : List ℕ) → N.holds_notice body ≡ true → (N.server_at body < length body) × (N.procedure_at body < length body)
     × (line_at body + 4 ≤ length body)
-parts_within body h = grind (arith, N.and_parts, N.le_true, N.lt_true)
+parts_within = grind arith
 
 -- a number of 32 bits as one with a sign
 pub signed_is : (n : ℕ) → N.cast_signed w32 n ≡ N.signed n
@@ -41,7 +41,7 @@ pub error_is : (body : List ℕ) {number line : ℤ} (at : ℕ) → 14 ≤ lengt
     → number ≡ N.cast_signed w32 (N.little_number 4 body) → line ≡ N.cast_signed w32 (N.little_number 4 (drop at body))
     → ◌≡◌ {A = N.ServerError} (record { number = number; state = N.slice_index body 4; class = N.slice_index body 5; line = line })
     (N.server_error (N.notice_of body))
-error_is body at long is within e f = grind (arith, N.length-drop, signed_is)
+error_is = grind arith
 
 -- what stands after the first n bytes begins with k known ones
 piece : (body : List ℕ) (n k : ℕ) (a b : List ℕ) → drop n body ≡ a ++ b → length a ≡ k → (take k (drop n body) ≡ a) × (drop (n + k) body ≡ b)
@@ -53,7 +53,7 @@ byte_of body n x b e = ap (N.slice_index body) (omega arith) ∙ sym (N.get_or-d
 
 same_notice : {a b c : ℕ} {d : List ℕ} {e : ℕ} {n : Notice} → a ≡ n.number → b ≡ n.state → c ≡ n.class → d ≡ n.message → e ≡ n.line_number
     → ◌≡◌ {A = Notice} (record { number = a; state = b; class = c; message = d; line_number = e }) n
-same_notice p q r s t = λ i. record { number = p i; state = q i; class = r i; message = s i; line_number = t i }
+same_notice = grind arith
 
 -- the body of a notice is read as it
 pub notice_is_read : {n : Notice} {body : List ℕ} → N.SpellsNotice n body → (14 ≤ length body) × (N.holds_notice body ≡ true) × (N.notice_of body ≡ n)
@@ -66,22 +66,13 @@ notice_is_read {n} {body} h =
     let class = (piece body 4 1 (n.state ∷ []) _ head.1 refl).1 in
     let units = piece body 6 2 h.units _ (piece body 5 1 (n.class ∷ []) _ class refl).1 h.message.0 in
     let message = piece body 8 (2 * u) n.message _ units.1 h.message.1 in
-    let server_is : server_at body ≡ 8 + 2 * u = rw units.0 refl in
     let procedure = (piece body (8 + 2 * u) (1 + 2 * s) (s ∷ h.server) _ message.1 (omega arith)).1 in
-    let procedure_is : procedure_at body ≡ (8 + 2 * u) + (1 + 2 * s) = rw (server_is, byte_of body (8 + 2 * u) s _ message.1) (omega arith) in
     let line = (piece body ((8 + 2 * u) + (1 + 2 * s)) (1 + 2 * p) (p ∷ h.procedure) _ procedure (omega arith)).1 in
-    let line_is : line_at body ≡ ((8 + 2 * u) + (1 + 2 * s)) + (1 + 2 * p) =
-    rw (procedure_is, byte_of body ((8 + 2 * u) + (1 + 2 * s)) p _ procedure) (omega arith) in
-    let long : line_at body + 4 ≤ length body = omega (
-      arith,
-      ap length line,
-      N.length-drop (((8 + 2 * u) + (1 + 2 * s)) + (1 + 2 * p)) body,
-      N.length-append h.last h.ignored,
-    ) in (
+    let line_is : line_at body ≡ ((8 + 2 * u) + (1 + 2 * s)) + (1 + 2 * p) = grind (arith, byte_of) in
+    let long : line_at body + 4 ≤ length body = grind (arith, N.length-drop, N.length-append) in (
       omega arith,
       grind (arith, N.test_lt, N.test_le),
-      same_notice (rw head.0 h.number.1) (byte_of body 4 _ _ head.1) (byte_of body 5 _ _ class)
-          (rw (units.0, message.0) refl) (rw (line_is, (piece body _ 4 h.last h.ignored line h.line.0).0) h.line.1),
+      same_notice (grind arith) (grind arith) (grind arith) (grind arith) (rw (line_is, (piece body _ 4 h.last h.ignored line h.line.0).0) h.line.1),
     )
 
 -- ---- what a return value's spelling is read as, and what the bytes that lead to a part of it spell
@@ -97,42 +88,42 @@ pub record Agrees {S T : Type 0} (small : Grammar S Fault) (big : Grammar T Faul
 module _ {S T : Type 0} {small : Grammar S Fault} {big : Grammar T Fault} {lift : S → T} (all : (s : S) → 0 < small.size s
     → Agrees small big lift s) where
   pub inside : N.Inside small big lift
-  inside = record { size = λ s h. (all s h).size; fault = λ s e h. (all s h).fault e; add = λ s e h. (all s h).add e }
+  inside = grind arith
 
   module _ {s t : S} where
     -- what it reads is read by the big one
     pub spelt_inside : {bytes : List ℕ} → Spelt small s bytes t → Spelt big (lift s) bytes (lift t)
     spelt_inside x = N.Inside-Spelt _ _ _ inside _ _ _ x
 
-    abbrev pub read_inside : {a b : PayloadView} → N.Reads small s a b t → N.Reads big (lift s) a b (lift t)
-    read_inside {a = a} {b = b} x = N.reads_inside _ _ lift inside _ a b _ x
+    abbrev pub read_inside : {a b : N.PayloadView} → N.Reads small s a b t → N.Reads big (lift s) a b (lift t)
+    read_inside {a} {b} x = N.reads_inside _ _ lift inside _ a b _ x
 
     -- and so is what stops it
-    pub stop_inside : {a b : PayloadView} {place : ℕ} {stop : Stop} → N.StopsReading small s a b place t stop
+    pub stop_inside : {a b : N.PayloadView} {place : ℕ} {stop : Stop} → N.StopsReading small s a b place t stop
         → N.StopsReading big (lift s) a b place (lift t) stop
-    stop_inside {a = a} {b = b} x = N.stops_inside _ _ _ inside _ a b _ _ _ (all _ (N.stops_size _ _ a b _ _ _ x)).end x
+    stop_inside = grind (arith, N.stops_inside, inside)
 
 -- a value is read in its token as by itself
 pub value_agrees : (name : List ℕ) (kind : Kind) (p : N.CellPart) → 0 < (N.cell N.return_column).size p
     → Agrees (N.cell N.return_column) return_value (N.with_value name kind) p
-value_agrees name kind p h = grind arith
+value_agrees = grind arith
 
-pub return_name_is_read : (units : ℕ) (name : List ℕ) → length name ≡ 2 * units → Spelt return_value (with_return_units units) name (N.ReturnHead name)
-return_name_is_read units [] l = grind (arith, N.Spelt-none, N.choose_true, N.nat_tests)
+pub return_name_is_read : (units : ℕ) (name : List ℕ) → length name ≡ 2 * units → Spelt return_value (N.with_return_units units) name (N.ReturnHead name)
+return_name_is_read units [] l = grind arith
 return_name_is_read units (x ∷ xs) l = grind (arith, Spelt-step, N.choose_false, N.ne_eqb)
 
 front_is_read : {name front : List ℕ} → N.SpellsReturnName name front → Spelt return_value N.ReturnOrdinal front (N.ReturnHead name)
 front_is_read h =
-    let next : Spelt return_value N.ReturnNameCount (h.units ∷ []) (with_return_units h.units) = spelt_one (omega arith) refl refl refl in
+    let next : Spelt return_value N.ReturnNameCount (h.units ∷ []) (N.with_return_units h.units) = grind (arith, spelt_one) in
     rw h.spelt (spelt_both (spelt_one (omega arith) h.two refl refl) (spelt_both next (return_name_is_read _ _ h.counted)))
 
 head_is_read : {name : List ℕ} (ignored : List ℕ) (byte : ℕ) {n : ℕ} → length ignored ≡ 7 → N.rest_length byte ≡ Some n
     → Spelt return_value (N.ReturnHead name) (ignored ++ byte ∷ []) (N.with_return_type name byte n)
-head_is_read ignored byte seven known = grind (arith, Spelt-step, N.get_or-append_seam, N.length-append)
+head_is_read = grind (arith, Spelt-step, N.get_or-append_seam, N.length-append)
 
 pub info_is_read : (name : List ℕ) (byte : ℕ) (rest : List ℕ) {kind : Kind} → N.rest_length byte ≡ Some (length rest)
     → N.kind_of (byte ∷ rest) ≡ Some kind → Spelt return_value (N.with_return_type name byte (length rest)) rest (N.with_return_kind name (Some kind))
-info_is_read name byte [] n k = rw k (N.Spelt-none _ _)
+info_is_read name byte [] n k = grind arith
 info_is_read name byte (x ∷ xs) n k = grind (arith, Spelt-step, N.choose_false, N.ne_eqb)
 
 -- What spells a return value is read as it.
@@ -142,8 +133,7 @@ return_is_read {r} h =
     rw h.spelt (spelt_both (front_is_read h.named) (spelt_both (rw (append_assoc h.ignored (info.byte ∷ []) info.rest
     ∙ ap (λ v. h.ignored ++ v) (sym info.spelt)) at (spelt_both (head_is_read _ _ h.seven info.whole)
     (info_is_read r.name info.byte info.rest info.whole info.allowed))) (spelt_inside (value_agrees r.name r.kind)
-    (N.cell_is_read N.return_column r.kind _ r.value h.value (N.shape-HasBytes N.return_charset r.kind)
-    h.cell))))
+    (N.cell_is_read N.return_column r.kind _ r.value h.value (grind (arith, N.shape-HasBytes)) h.cell))))
 
 -- the bytes up to the value's, and what is read of it
 pub record ValueMeans (name : List ℕ) (kind : Kind) (part : N.CellPart) (b : List ℕ) : Type 0 where
@@ -168,57 +158,50 @@ ReturnMeans (N.ReturnInfo name byte) b = (front : List ℕ) × (ignored : List �
 ReturnMeans (N.InReturnCell name kind part) b = ValueMeans name kind part b
 ReturnMeans (N.WholeReturn r) b = N.SpellsReturnValue r b
 
-with_value_means : {name : List ℕ} {kind : Kind} {part : N.CellPart} {b : List ℕ} → ValueMeans name kind part b
-    → ReturnMeans (N.with_value name kind part) b
+with_value_means : {name : List ℕ} {kind : Kind} {part : N.CellPart} {b : List ℕ} → ValueMeans name kind part b → ReturnMeans (N.with_value name kind part) b
 with_value_means h = grind arith
 
 value_begins : {name : List ℕ} {o : Option Kind} {kind : Kind} {b front : List ℕ} (ignored info : List ℕ) → o ≡ Some kind → b ≡ front ++ (ignored ++ info)
     → N.SpellsReturnName name front → length ignored ≡ 7 → N.IsTypeInfo kind info → ReturnMeans (N.with_return_kind name o) b
-value_begins ignored info is spelt named seven type = grind (arith, N.append-nil, N.start_means, with_value_means)
+value_begins = grind (arith, N.append-nil, N.start_means, with_value_means)
 
 pub accepted : (byte : ℕ) (o : Option ℕ) → N.type_fault N.return_column byte o ≡ None → (n : ℕ) × (o ≡ Some n)
-accepted byte o h = grind arith
+accepted = grind arith
 
 type_begins : (name : List ℕ) (byte n : ℕ) (b front ignored : List ℕ) → b ≡ front ++ (ignored ++ byte ∷ []) → N.SpellsReturnName name front
     → length ignored ≡ 7 → N.rest_length byte ≡ Some n → ReturnMeans (N.with_return_type name byte n) b
-type_begins name byte n b front ignored spelt named seven known =
-    N.choose (λ p. ReturnMeans p b) _ _ _
-    (λ z.
+type_begins name byte n b front ignored spelt named seven known = N.choose (λ p. ReturnMeans p b) _ _ _ (λ z.
     let k = N.bare_type _ (rw (N.eq_true n 0 z) at known) in
-    value_begins _ _ k.1 spelt named seven k.1)
-    (λ z. (front, ignored, spelt, named, seven, n, known))
+    value_begins _ _ k.1 spelt named seven k.1) (λ z. (front, ignored, spelt, named, seven, n, known))
 
 -- each element keeps the meaning
 pub return_step : (p : N.ReturnPart) (b e : List ℕ) → N.AreBytes e → ReturnMeans p b → N.IsNext return_value p e → ReturnMeans (N.return_add p e) (b ++ e)
 return_step N.ReturnOrdinal b e bytes h n = cc
 return_step N.ReturnNameCount b e bytes h n = grind (arith, N.choose, N.eq_true, N.one_byte)
-return_step (N.ReturnName m) b e bytes h n =
-    record { ordinal = h.0; units = h.1; spelt = cc (append_assoc h.0 (h.1 ∷ []) e); two = h.3; counted = cc; byte = h.5 }
+return_step (N.ReturnName m) b e bytes h n = grind (arith, append_assoc)
 return_step (N.ReturnHead name) b e bytes h n =
     let s = N.split_last 7 e n.whole in
-    grind (arith, N.split_last, N.get_or-append_seam, accepted, ReturnMeans, type_begins)
+    grind (arith, N.split_last, N.get_or-append_seam, accepted, type_begins)
 return_step (N.ReturnInfo name byte) b e bytes h n =
-    let k = N.is_some_value _ (N.some_kind _ _ n.free) in
-    value_begins _ _ k.1 (ap (λ v. v ++ e) h.2 ∙ append_assoc h.0 (h.1 ++ byte ∷ []) e
-    ∙ ap (λ v. h.0 ++ v) (append_assoc h.1 (byte ∷ []) e)) h.3 h.4 k.1
+    let k = N.is_some_value _ (grind arith) in
+    value_begins _ _ k.1 (ap (λ v. v ++ e) h.2 ∙ append_assoc h.0 (h.1 ++ byte ∷ []) e ∙ ap (λ v. h.0 ++ v) (append_assoc h.1 (byte ∷ []) e)) h.3 h.4 k.1
 return_step (N.InReturnCell name kind part) b e bytes h n =
     with_value_means (record {
       front = h.front;
       ignored = h.ignored;
       info = h.info;
       value = h.value ++ e;
-      spelt = cc (append_assoc h.front ((h.ignored ++ h.info) ++ h.value) e, append_assoc _ h.value e);
+      spelt = grind (arith, append_assoc);
       named = h.named;
       seven = h.seven;
       type = h.type;
       begun = N.cell_step _ _ _ _ _ e bytes h.begun (record { some = n.some; whole = n.whole; free = n.free });
     })
-return_step (N.WholeReturn r) b e bytes h n = absurd (omega arith)
+return_step (N.WholeReturn r) b e bytes h n = grind arith
 
 -- ---- what a response's spelling is read as
 
-pub described_after-append : (before : Option (List Column)) (a b : List Token)
-    → described_after before (a ++ b) ≡ described_after (described_after before a) b
+pub described_after-append : (before : Option (List Column)) (a b : List Token) → described_after before (a ++ b) ≡ described_after (described_after before a) b
 described_after-append before [] b = refl
 described_after-append before (N.Metadata bytes columns ∷ a) b = described_after-append _ a b
 described_after-append before (N.NoMetadata ∷ a) b = described_after-append _ a b
@@ -235,20 +218,20 @@ some_fields f = grind arith
 
 -- the first byte of a token begins it
 first_leads : {lead : N.Lead} (byte : ℕ) → N.IsFirst lead byte → N.lead_of byte ≡ Some lead
-first_leads byte first = grind arith
+first_leads = grind arith
 
 -- the fields of a DONE say whether more follows
-more_is : {m : Bool} (fields : List ℕ) → N.SpellsMore m fields → N.more fields ≡ m
-more_is fields h = grind (arith, N.nat_tests)
+more_is : {m : N.Bool} (fields : List ℕ) → N.SpellsMore m fields → N.more fields ≡ m
+more_is = grind arith
 
 -- a byte that begins no row is free
-pub no_row : (current : Option (List Column)) → N.row_byte_fault false current ≡ None
-no_row current = grind arith
+pub no_row : (current : Option (List Column)) → N.row_byte_fault N.false current ≡ None
+no_row = grind arith
 
 -- no fault of a notice's Length, where it is long enough
 pub length_free : (room : ℕ) {n : ℕ} (tokens : List Token) (which : Bodied) (element : List ℕ) → (N.is_notice which ≡ true → 14 ≤ n) → little element ≡ n
     → N.part_fault room tokens (N.TokenLength which) element ≡ None
-length_free room tokens which element long number = grind (arith, N.nat_tests)
+length_free = grind arith
 
 -- a body has no fault
 abbrev pub IsFree : Bodied → List ℕ → Type 0
@@ -256,7 +239,7 @@ IsFree which body = (if N.is_notice which && N.not (N.holds_notice body) then So
 
 -- nor of its body, where that holds its inner lengths
 pub body_free : (which : Bodied) (body : List ℕ) → (N.is_notice which ≡ true → N.holds_notice body ≡ true) → IsFree which body
-body_free which body holds = grind arith
+body_free = grind arith
 
 -- a part by its tokens and where it is read
 abbrev pub part_at : List Token → N.Open → Part
@@ -266,16 +249,15 @@ module _ (charset : N.Charset) (room : ℕ) where
   -- a description is read in its response as by itself
   pub description_agrees : (tokens : List Token) (d : N.DescriptionPart) → 0 < (N.description room).size d
       → Agrees (N.description room) (response charset room) (N.with_described tokens) d
-  description_agrees tokens d h = grind arith
+  description_agrees = grind arith
 
   -- so is a row
   pub row_agrees : (tokens : List Token) (p : N.RowPart) → 0 < (N.row charset).size p → Agrees (N.row charset) (response charset room) (N.with_row tokens) p
-  row_agrees tokens p h = grind arith
+  row_agrees = grind arith
 
   -- and a return value
-  pub return_agrees : (tokens : List Token) (p : N.ReturnPart) → 0 < return_value.size p
-      → Agrees return_value (response charset room) (N.with_return tokens) p
-  return_agrees tokens p h = grind arith
+  pub return_agrees : (tokens : List Token) (p : N.ReturnPart) → 0 < return_value.size p → Agrees return_value (response charset room) (N.with_return tokens) p
+  return_agrees = grind arith
 
   -- bytes are read as a part of a response after another
   abbrev Leads : Part → List ℕ → Part → Type 0
@@ -283,11 +265,10 @@ module _ (charset : N.Charset) (room : ℕ) where
 
   -- the first byte of a token, and what follows it
   lead_then : {tokens : List Token} (lead : N.Lead) {rest bytes : List ℕ} {to : Part} → N.StartsToken lead rest bytes
-      → N.row_byte_fault (N.is_row_lead lead) (described_after None tokens) ≡ None → Leads (after_lead charset tokens lead) rest to
+      → N.row_byte_fault (N.is_row_lead lead) (described_after None tokens) ≡ None → Leads (N.after_lead charset tokens lead) rest to
       → Leads (after_tokens tokens) bytes to
   lead_then {tokens} lead (first, is, begins) free h =
-      let begun = first_leads _ begins in
-      let one : Leads (after_tokens tokens) (first ∷ []) (after_lead charset tokens lead) = spelt_one (omega arith) refl (cc) (cc) in
+      let one : Leads (after_tokens tokens) (first ∷ []) (N.after_lead charset tokens lead) = grind (arith, spelt_one) in
       rw is (spelt_both one h)
 
   -- so are a Length and the body after it
@@ -298,8 +279,8 @@ module _ (charset : N.Charset) (room : ℕ) where
   body_is_read {tokens} {b} element (x ∷ xs) two is f g =
       let n = length (x ∷ xs) in
       let to : (response charset room).add (part_at tokens (N.TokenLength b)) element ≡ part_at tokens (N.TokenBody b n) =
-      rw is (N.choose_false _ _ _ (N.ne_eqb n 0 (λ q. omega arith))) in
-      spelt_both (spelt_one (omega arith) two f to) (spelt_one (omega arith) refl g refl)
+      grind (arith, N.choose_false, N.ne_eqb) in
+      spelt_both (spelt_one (omega arith) two f to) (grind (arith, spelt_one))
 
   -- the same by what spells a body
   spelt_body : {tokens : List Token} {b : Bodied} {body bytes : List ℕ} → (N.is_notice b ≡ true → 14 ≤ length body)
@@ -308,26 +289,24 @@ module _ (charset : N.Charset) (room : ℕ) where
   spelt_body {tokens} {b} {body} long holds h =
       let n = length body in
       let two : little (n % 256 ∷ n / 256 ∷ []) ≡ n = omega arith in
-      rw h.0 (body_is_read (n % 256 ∷ n / 256 ∷ []) _ refl two (length_free room tokens b (n % 256 ∷ n / 256 ∷ []) long two)
-      (body_free b body holds))
+      rw h.0 (body_is_read (n % 256 ∷ n / 256 ∷ []) _ refl two (grind (arith, length_free)) (grind arith))
 
   -- so is a notice
   notice_token_is_read : {tokens : List Token} (b : Bodied) {n : Notice} {t : Token} {body rest bytes : List ℕ} → N.StartsToken (N.WithBody b) rest bytes
       → N.SpellsBody body rest → N.SpellsNotice n body → N.bodied b body ≡ t → Leads (after_tokens tokens) bytes (with_token tokens t)
   notice_token_is_read {tokens} b {n} begins s h is =
       let r = notice_is_read h in
-      lead_then (N.WithBody b) begins (no_row (described_after None tokens)) (rw (← is) (spelt_body (λ e. r.0) (λ e. r.1) s))
+      lead_then (N.WithBody b) begins (grind (arith, no_row)) (grind (arith, spelt_body))
 
   -- a token with fields of a fixed length
   fixed_is_read : {tokens : List Token} (f : N.Fixed) {t : Token} {fields bytes : List ℕ} → N.StartsToken (N.WithFields f) fields bytes
       → length fields ≡ N.fields_length f → N.fixed f fields ≡ t → Leads (after_tokens tokens) bytes (with_token tokens t)
-  fixed_is_read {tokens} f begins long is =
-      lead_then (N.WithFields f) begins (no_row (described_after None tokens)) (Spelt-step _ _ _ _ (rw long (some_fields f)) long refl (cc))
+  fixed_is_read {tokens} f begins long is = lead_then (N.WithFields f) begins (grind (arith, no_row)) (grind (arith, Spelt-step, some_fields))
 
   -- which its fields spell
   pub fixed_spelt : (current : Option (List Column)) (f : N.Fixed) {fields bytes : List ℕ} → N.StartsToken (N.WithFields f) fields bytes
       → length fields ≡ N.fields_length f → N.SpellsToken charset room current (N.fixed f fields) bytes
-  fixed_spelt current f begins long = grind arith
+  fixed_spelt = grind arith
 
   row_token_is_read : {tokens : List Token} (current : Option (List Column)) (cells : List N.Cell) {bytes : List ℕ}
       → described_after None tokens ≡ current → HasColumns current → N.SpellsRowToken charset current cells bytes
@@ -341,39 +320,32 @@ module _ (charset : N.Charset) (room : ℕ) where
   -- what spells a token is read as it
   token_is_read : {tokens : List Token} (t : Token) {bytes : List ℕ} → HasColumns (described_after None tokens)
       → N.SpellsToken charset room (described_after None tokens) t bytes → Leads (after_tokens tokens) bytes (with_token tokens t)
-  token_is_read {tokens} (N.Metadata encoded columns) some h =
-      lead_then N.AMetadata h.0 (no_row (described_after None tokens))
+  token_is_read {tokens} (N.Metadata encoded columns) some h = lead_then N.AMetadata h.0 (grind (arith, no_row))
       (spelt_inside (description_agrees _) (N.description_is_read _ _ _ h.1))
-  token_is_read {tokens} N.NoMetadata some h =
-      lead_then N.AMetadata h (no_row (described_after None tokens))
-      (Spelt-step _ _ _ _ (omega arith) refl refl refl)
+  token_is_read {tokens} N.NoMetadata some h = lead_then N.AMetadata h (grind (arith, no_row)) (Spelt-step _ _ _ _ (omega arith) refl refl refl)
   token_is_read (N.Row cells) some h = row_token_is_read _ _ refl some h
-  token_is_read {tokens} (N.PassedOver passed body) some (rest, begins, s) =
-      lead_then (N.WithBody (N.APassed passed)) begins (no_row (described_after None tokens))
+  token_is_read {tokens} (N.PassedOver passed body) some (rest, begins, s) = lead_then (N.WithBody (N.APassed passed)) begins (grind (arith, no_row))
       (spelt_body (λ e. cc) (λ e. cc) s)
-  token_is_read (N.Error n) some (rest, body, begins, s, h) =
-      notice_token_is_read N.AnError begins s h (ap N.Error (notice_is_read h).2)
-  token_is_read (N.Info n) some (rest, body, begins, s, h) =
-      notice_token_is_read N.AnInfo begins s h (ap N.Info (notice_is_read h).2)
-  token_is_read {tokens} (N.Returned r) some (rest, begins, h) =
-      lead_then N.AReturn begins (no_row (described_after None tokens))
+  token_is_read (N.Error n) some (rest, body, begins, s, h) = notice_token_is_read N.AnError begins s h (ap N.Error (notice_is_read h).2)
+  token_is_read (N.Info n) some (rest, body, begins, s, h) = notice_token_is_read N.AnInfo begins s h (ap N.Info (notice_is_read h).2)
+  token_is_read {tokens} (N.Returned r) some (rest, begins, h) = lead_then N.AReturn begins (grind (arith, no_row))
       (spelt_inside (return_agrees _) (return_is_read h))
-  token_is_read (N.Done m) some h = fixed_is_read N.ADone h.1 h.2 (ap N.Done (more_is _ h.3))
-  token_is_read (N.DoneInProc m) some h = fixed_is_read N.ADoneInProc h.1 h.2 (ap N.DoneInProc (more_is _ h.3))
+  token_is_read (N.Done m) some h = fixed_is_read N.ADone h.1 h.2 (grind arith)
+  token_is_read (N.DoneInProc m) some h = fixed_is_read N.ADoneInProc h.1 h.2 (grind (arith, more_is))
   token_is_read (N.ReturnStatus n) some h = fixed_is_read N.AStatus h.1 h.2 (cc)
 
   next_HasColumns : (current : Option (List Column)) (t : Token) (bytes : List ℕ) → HasColumns current → N.SpellsToken charset room current t bytes
       → HasColumns (described_after current (t ∷ []))
-  next_HasColumns current t bytes some h = grind arith
+  next_HasColumns = grind arith
 
   tokens_are_read : (before : List Token) (current : Option (List Column)) (ts : List Token) (bytes : List ℕ) → described_after None before ≡ current
       → HasColumns current → N.SpellsTokens charset room current ts bytes → Leads (after_tokens before) bytes (after_tokens (before ++ ts))
   tokens_are_read before current [] bytes is some h = grind (arith, N.Spelt-none, N.append-nil)
   tokens_are_read before current (t ∷ ts) bytes is some h =
-      let one : Leads (after_tokens before) h.0 (with_token before t) = token_is_read t (rw is some) (rw is h.3) in
+      let one : Leads (after_tokens before) h.0 (with_token before t) = grind (arith, token_is_read) in
       let now : described_after None (before ++ t ∷ []) ≡ described_after current (t ∷ []) = cc (described_after-append None before (t ∷ [])) in
-      let rest = tokens_are_read (before ++ t ∷ []) (described_after current (t ∷ [])) ts h.1 now (next_HasColumns _ t _ some h.3) h.4 in
-      grind (arith, token_is_read, HasColumns, next_HasColumns, N.Spelt-append, append_assoc)
+      let rest = tokens_are_read (before ++ t ∷ []) (described_after current (t ∷ [])) ts h.1 now (grind arith) h.4 in
+      grind (arith, token_is_read, next_HasColumns, N.Spelt-append, append_assoc)
 
   -- What spells a response is read as its tokens, all of it.
   pub response_is_read : {tokens : List Token} {payload : List ℕ} → N.Response charset room tokens payload
@@ -382,15 +354,13 @@ module _ (charset : N.Charset) (room : ℕ) where
 
   -- No payload spells the tokens of two responses.
   pub one_response : (a b : List Token) (payload : List ℕ) → N.Response charset room a payload → N.Response charset room b payload → a ≡ b
-  one_response a b payload h k =
-      ap (λ p. p.tokens) (N.one_state _ _ _ _ _ (response_is_read h) (response_is_read k))
+  one_response a b payload h k = ap (λ p. p.tokens) (N.one_state _ _ _ _ _ (response_is_read h) (response_is_read k))
 
   -- No response begins with an element that is refused.
   pub refused_response : (payload more' : List ℕ) (place : ℕ) (part : Part) (f : Fault) (tokens : List Token)
       → N.Longest (response charset room) N.response_start payload place part → N.IsRefused (response charset room) part (drop place payload) f
       → N.Response charset room tokens (take (place + (response charset room).size part) payload ++ more') → ⊥
-  refused_response payload more' place part f tokens l r h =
-      N.refused_for_good _ _ _ _ _ f _ _ l.spelt r
+  refused_response payload more' place part f tokens l r h = N.refused_for_good _ _ _ _ _ f _ _ l.spelt r
       (rw (N.take-add place ((response charset room).size part) payload) at (response_is_read h))
 
   -- No input begins with two accepted responses.
@@ -398,4 +368,4 @@ module _ (charset : N.Charset) (room : ℕ) where
       → N.Accepted charset size room limit b q input → (a ≡ b) × (p ≡ q)
   one_accepted size limit a b p q input h k =
       let same = N.one_message _ _ p q _ _ _ _ h.message k.message (sym h.begins ∙ k.begins) in
-      (one_response a b _ (rw same at h.response) k.response, same)
+      (grind (arith, one_response))

@@ -1,10 +1,9 @@
 -- What the bytes that lead to a part of a response spell.
-use Rattle.tds_export.proofs.Words as N
-use Rattle.tds_export.proofs.Words.{Bool, Column, IsFirst, Lead, List, None, Option, Some, SpellsTokens, Token, [], ap, arith, described_after, drop, false}
-use Rattle.tds_export.proofs.Words.{if◌then◌else◌, inl, inr, lead, length, message, passed, refl, sym, take, true, ℕ, ◌%◌, ◌&&◌, ◌*◌, ◌++◌, ◌+◌, ◌/◌, ◌<◌, ◌∙◌}
-use Rattle.tds_export.proofs.Words.{◌∷◌, ◌≡◌, ◌≤◌}
-use Rattle.tds_export.proofs.ResponseLaws.{ReturnMeans, return_step, described_after-append, fixed_spelt, part_at, IsFree, parts_within}
-use Rattle.tds_export.proofs.SomeBytes.{bytes_induct}
+use Rattle.tds_export.proofs as N
+use N.{Bool, Column, IsFirst, Lead, List, None, Option, Some, SpellsTokens, Token, [], ap, arith, described_after, drop, false, if◌then◌else◌, inl, inr, lead}
+use N.{length, message, passed, refl, sym, take, true, ℕ, ◌%◌, ◌&&◌, ◌*◌, ◌++◌, ◌+◌, ◌/◌, ◌<◌, ◌∙◌, ◌∷◌, ◌≡◌, ◌≤◌}
+use N.ResponseLaws.{ReturnMeans, return_step, described_after-append, fixed_spelt, part_at, IsFree, parts_within}
+use N.SomeBytes.{bytes_induct}
 
 -- so many of the bytes after the first n, and those after them
 piece : (body : List ℕ) (n k m : ℕ) {r : List ℕ} → n + k ≡ m → drop m body ≡ r → drop n body ≡ take k (drop n body) ++ r
@@ -12,22 +11,21 @@ piece body n k m e is = cc (N.take-append-drop k (drop n body), N.drop-drop k n 
 
 -- the byte after the first n, and those after it
 byte_at : (body : List ℕ) {n : ℕ} {r : List ℕ} → n < length body → drop (n + 1) body ≡ r → drop n body ≡ N.slice_index body n ∷ r
-byte_at body {n} h is = grind (arith, N.add-one, N.drop-cons)
+byte_at = grind (arith, N.add-one, N.drop-cons)
 
 -- a byte that counts units, these, and the bytes after them
 counted_at : (body : List ℕ) {n m : ℕ} {r : List ℕ} → n < length body → (n + 1) + 2 * N.slice_index body n ≡ m → drop m body ≡ r
     → drop n body ≡ N.slice_index body n ∷ (take (2 * N.slice_index body n) (drop (n + 1) body) ++ r)
-counted_at body {n} {m} h e is = byte_at _ h (piece _ _ _ m e is)
+counted_at = grind (arith, byte_at, piece)
 
 long : (body : List ℕ) (n k : ℕ) → n + k ≤ length body → length (take k (drop n body)) ≡ k
-long body n k h = let l = N.length-drop n body in N.length-take-le k (drop n body) (omega arith)
+long = grind (arith, N.length-drop, N.length-take-le)
 
 regroup : (head : List ℕ) (st cl : ℕ) (units message : List ℕ) {s : ℕ} (server : List ℕ) {p : ℕ} (procedure last rest : List ℕ) {body : List ℕ}
     → body ≡ head ++ (st ∷ cl ∷ (units ++ (message ++ (s ∷ (server ++ (p ∷ (procedure ++ (last ++ rest)))))))) → s ≡ length server / 2
     → p ≡ length procedure / 2
-    → body ≡ ((((((head ++ st ∷ cl ∷ []) ++ units) ++ message) ++ (length server / 2 ∷ server)) ++ (length procedure / 2 ∷ procedure)) ++ last)
-    ++ rest
-regroup head st cl units message server procedure last rest e a b = rw (← a, ← b) (e ∙ sym (simp N.append_assoc))
+    → body ≡ ((((((head ++ st ∷ cl ∷ []) ++ units) ++ message) ++ (length server / 2 ∷ server)) ++ (length procedure / 2 ∷ procedure)) ++ last) ++ rest
+regroup = grind (arith, N.append_assoc)
 
 notice_spelt : (body : List ℕ) → N.holds_notice body ≡ true → N.SpellsNotice (N.notice_of body) body
 notice_spelt body h =
@@ -51,9 +49,8 @@ notice_spelt body h =
       procedure = take (2 * p) (drop (pa + 1) body);
       last = take 4 (drop la body);
       ignored = drop (la + 4) body;
-      spelt = regroup _ _ _ _ _ _ _ _ _ (sym (N.take-append-drop 4 body) ∙ ap (λ v. take 4 body ++ v)
-          (byte_at body (omega (arith, t.0)) (byte_at body (omega (arith, t.0)) after))) s_is p_is;
-      number = (N.length-take-le 4 body (omega arith), refl);
+      spelt = regroup _ _ _ _ _ _ _ _ _ (grind (arith, N.take-append-drop, byte_at)) s_is p_is;
+      number = grind (arith, N.length-take-le);
       message = (long body 6 2 (omega arith), long body 8 (2 * u) (omega arith));
       servers = omega arith;
       procedures = omega arith;
@@ -65,7 +62,7 @@ empty_body k h = grind arith
 
 -- what a byte begins has it as its first byte
 leads_first : (byte : ℕ) {lead : Lead} → N.lead_of byte ≡ Some lead → IsFirst lead byte
-leads_first byte h = grind (arith, N.eq_true)
+leads_first = grind (arith, N.eq_true)
 
 held : (b : Bool) → ((if N.not b then Some N.BadNotice else None) ≡ None) → b ≡ true
 held b h = grind arith
@@ -73,13 +70,13 @@ held b h = grind arith
 module _ (charset : N.Charset) (room : ℕ) where
   one_more_token : (current : Option (List Column)) (ts : List Token) (a : List ℕ) (t : Token) (e : List ℕ) → SpellsTokens charset room current ts a
       → N.SpellsToken charset room (described_after current ts) t e → SpellsTokens charset room current (ts ++ t ∷ []) (a ++ e)
-  one_more_token current [] a t e h s = (e, [], cc (N.append-nil e), s, refl)
+  one_more_token current [] a t e h s = grind (arith, N.append-nil)
   one_more_token current (u ∷ ts) a t e h s = (
     h.0,
     h.1 ++ e,
     cc (N.append_assoc h.0 h.1 e),
     h.3,
-    one_more_token (described_after current (u ∷ [])) ts h.1 t e h.4 (rw (described_after-append current (u ∷ []) ts) at s),
+    one_more_token (described_after current (u ∷ [])) ts h.1 t e h.4 (grind (arith, described_after-append)),
   )
 
   -- whole tokens, the first byte of such a token, and what is after it
@@ -112,29 +109,29 @@ module _ (charset : N.Charset) (room : ℕ) where
   -- more bytes of the token that is read
   further : {tokens : List Token} {lead : Lead} {P Q : List ℕ → Type 0} {b : List ℕ} (e : List ℕ) → (h : AfterLead tokens lead P b) → Q (h.rest ++ e)
       → AfterLead tokens lead Q (b ++ e)
-  further e h q = grind (arith, N.append_assoc)
+  further = grind (arith, N.append_assoc)
 
   token_means : {tokens : List Token} (t : Token) {lead : Lead} {P : List ℕ → Type 0} {b : List ℕ} → (h : AfterLead tokens lead P b)
       → N.SpellsToken charset room (described_after None tokens) t (h.first ∷ h.rest) → PartMeans (N.with_token tokens t) b
-  token_means t h s = rw h.spelt (one_more_token _ _ _ t _ h.before s)
+  token_means = grind (arith, one_more_token)
 
   with_described_means : {tokens : List Token} (d : N.DescriptionPart) {b : List ℕ} → AfterLead tokens N.AMetadata (N.DescribedMeans room d) b
       → PartMeans (N.with_described tokens d) b
   with_described_means N.NoDescription h = token_means _ h (h.first, cc, h.begins)
-  with_described_means (N.WholeDescription x cs) h = token_means _ h ((h.first, cc, h.begins), rw h.follows.0 h.follows.1)
+  with_described_means (N.WholeDescription x cs) h = token_means _ h (grind arith)
   with_described_means d h = h
 
   row_token : {current : Option (List Column)} {columns : List Column} (nbc : Bool) (cells : List N.Cell) (first : ℕ) (rest : List ℕ)
       → current ≡ Some columns → IsFirst (row_lead nbc) first → N.RowMeans charset columns nbc (N.WholeRow cells) rest
       → N.SpellsRowToken charset current cells (first ∷ rest)
-  row_token false cells first rest e begins h = rw e (rest, inl ((first, refl, begins), h))
+  row_token false cells first rest e begins h = grind arith
   row_token true cells first rest e begins h =
       rw e (rest, inr ((first, refl, begins), record { bitmap = h.0; rest = h.1; spelt = h.2; whole = h.3; each = h.4 }))
 
   with_row_means : {tokens : List Token} (part : N.RowPart) {b : List ℕ} {columns : List Column} (nbc : Bool)
       → described_after None tokens ≡ Some columns → AfterLead tokens (row_lead nbc) (N.RowMeans charset columns nbc part) b
       → PartMeans (N.with_row tokens part) b
-  with_row_means (N.WholeRow cells) nbc e h = token_means _ h (row_token _ _ _ _ e h.begins h.follows)
+  with_row_means (N.WholeRow cells) nbc e h = token_means _ h (grind (arith, row_token))
   with_row_means part {columns} nbc e h = (columns, nbc, e, h)
 
   with_return_means : {tokens : List Token} (part : N.ReturnPart) {b : List ℕ} → AfterLead tokens N.AReturn (ReturnMeans part) b
@@ -147,26 +144,17 @@ module _ (charset : N.Charset) (room : ℕ) where
       → PartMeans (N.start_of_row tokens (N.row_start charset) current) (b ++ x ∷ [])
   row_begins tokens b x None e f h begins = cc
   row_begins tokens b x (Some columns) e f h begins =
-      with_row_means _ _ e (record {
-        front = b;
-        first = x;
-        rest = [];
-        spelt = refl;
-        before = h;
-        begins = leads_first x begins;
-        follows = N.row_start_means _ _;
-      })
+      with_row_means _ _ e (record { front = b; first = x; rest = []; spelt = refl; before = h; begins = grind arith; follows = N.row_start_means _ _ })
 
   -- the byte begins what it begins
   lead_step : (tokens : List Token) (b : List ℕ) (x : ℕ) {lead : Lead} → N.lead_of x ≡ Some lead → IsFirst lead x
       → SpellsTokens charset room None tokens b → N.row_byte_fault (N.is_row_lead lead) (described_after None tokens) ≡ None
       → PartMeans (N.after_lead charset tokens lead) (b ++ x ∷ [])
-  lead_step tokens b x begins first h free = grind (arith, row_begins)
+  lead_step = grind (arith, row_begins)
 
   byte_step : (tokens : List Token) (b : List ℕ) (x : ℕ) (begun : Option Lead) → N.lead_of x ≡ begun → SpellsTokens charset room None tokens b
       → N.lead_fault (described_after None tokens) x begun ≡ None → PartMeans (N.after_first charset tokens begun) (b ++ x ∷ [])
-  byte_step tokens b x None is h free = cc
-  byte_step tokens b x (Some lead) is h free = lead_step _ b x is (leads_first x is) h free
+  byte_step = grind (arith, lead_step, leads_first)
 
   body_means : {tokens : List Token} {k : N.Bodied} {body b : List ℕ} → (h : AfterLead tokens (N.WithBody k) (N.SpellsBody body) b) → IsFree k body
       → PartMeans (N.with_token tokens (N.bodied k body)) b
@@ -174,31 +162,22 @@ module _ (charset : N.Charset) (room : ℕ) where
     where
       spelt : (k : N.Bodied) → IsFirst (N.WithBody k) h.first → IsFree k body
           → N.SpellsToken charset room (described_after None tokens) (N.bodied k body) (h.first ∷ h.rest)
-      spelt (N.APassed passed) begins f = (h.rest, (h.first, refl, begins), h.follows)
-      spelt b begins f = (h.rest, body, (h.first, refl, begins), h.follows, notice_spelt _ (held _ f))
+      spelt (N.APassed passed) begins f = grind (arith, begins)
+      spelt b begins f = (h.rest, body, grind arith, h.follows, notice_spelt _ (held _ f))
 
   -- each element keeps the meaning
   part_step : {tokens : List Token} (at : N.Open) (b : List ℕ) {e : List ℕ} → N.AreBytes e → OpenMeans tokens at b
       → N.IsNext (N.response charset room) (part_at tokens at) e → PartMeans (N.part_add charset tokens at e) (b ++ e)
   part_step N.Between b bytes h n = grind (arith, byte_step, N.one_byte)
-  part_step (N.Describing d) b {e} bytes h n =
-      with_described_means _
-      (further e h (N.described_step _ d _ e bytes h.follows (grind arith)))
-  part_step (N.InRow part) b {e} bytes (columns, nbc, is, h) n =
-      with_row_means _ _ is
-      (further e h (N.row_step _ _ _ _ _ e bytes h.follows (grind arith)))
-  part_step (N.InReturn part) b {e} bytes h n =
-      with_return_means _
-      (further e h (return_step _ _ e bytes h.follows (grind arith)))
+  part_step (N.Describing d) b {e} bytes h n = with_described_means _ (further e h (grind (arith, N.described_step)))
+  part_step (N.InRow part) b {e} bytes (columns, nbc, is, h) n = with_row_means _ _ is (further e h (grind (arith, N.row_step)))
+  part_step (N.InReturn part) b {e} bytes h n = with_return_means _ (further e h (grind (arith, return_step)))
   part_step {tokens} (N.TokenLength k) b {e} bytes h n =
       let t = N.two_bytes e n.whole bytes in
       let read = ap (λ v. v ++ e) h.follows ∙ t.0 in
-      N.choose (λ p. PartMeans p (b ++ e)) _ _ _
-      (λ z. body_means (further e h (read ∙ ap (λ v. v % 256 ∷ v / 256 ∷ []) (N.eq_true _ 0 z), omega arith))
-      (empty_body k (rw (N.eq_true _ 0 z) at n.free)))
-      (λ z. further e h (read, t.1))
-  part_step (N.TokenBody k m) b {e} bytes h n =
-      body_means (further e h (cc, (omega arith))) n.free
+      N.choose (λ p. PartMeans p (b ++ e)) _ _ _ (λ z. body_means (further e h (read ∙ ap (λ v. v % 256 ∷ v / 256 ∷ []) (N.eq_true _ 0 z), omega arith))
+      (grind (arith, empty_body, N.eq_true))) (λ z. further e h (read, t.1))
+  part_step (N.TokenBody k m) b {e} bytes h n = body_means (further e h (cc, (omega arith))) n.free
   part_step {tokens} (N.Fields f) b {e} bytes h n =
       let to : AfterLead tokens (N.WithFields f) (λ rest. rest ≡ e) (b ++ e) = further e h (cc) in
       token_means _ to (fixed_spelt _ _ _ f (to.first, cc, to.begins) n.whole)

@@ -1,21 +1,20 @@
 -- The tokens of a response, one after another.
-use Rattle.tds_export.proofs.Words as N
-use Rattle.tds_export.proofs.Words.{Bool, SinkView, List, Progress, Report, Space, Stop, [], ap, arith, false, inl, length, refl, response, subst, sym, true, ℕ}
-use Rattle.tds_export.proofs.Words.{◌++◌, ◌+◌, ◌-◌, ◌^◌, ◌∙◌, ◌≡◌, ◌≤◌, View}
-use Rattle.tds_export.proofs.TokenSteps.{stops_further, stops_quietly, streams_both}
+use Rattle.tds_export.proofs as N
+use N.{Bool, SinkView, Progress, Report, Space, Stop, [], ap, arith, inl, refl, response, true, ℕ, ◌++◌, ◌+◌, ◌-◌, ◌^◌, ◌∙◌, ◌≡◌, ◌≤◌, View}
+use N.TokenSteps.{stops_further, stops_quietly, streams_both}
 
 -- whole tokens were read and their text put
 pub record Runs (charset : N.Charset) (u v : View) (progress : Progress) : Type 0 where
-  pub tokens : List N.Token
+  pub tokens : N.List N.Token
   pub streams : N.Streams (response charset u.area.room) N.text_so_far N.response_start u.seen v.seen u.held v.held (N.after_tokens tokens)
-  pub place_is : v.place ≡ u.place + length streams.bytes
+  pub place_is : v.place ≡ u.place + N.length streams.bytes
   pub tracks : N.Tracks progress tokens
   pub holds : N.IsHolding v.area (N.after_tokens tokens)
   pub noted : N.IsNoted v.notice tokens
 
 abbrev pub runs_none : {charset : N.Charset} {u : View} {progress : Progress} → u.held.delivered ≤ 2 ^ 64 - 1 → N.Tracks progress []
     → u.area ≡ N.empty u.area.room → N.IsNoted u.notice [] → Runs charset u u progress
-runs_none {u = u} d tracks is noted = record {
+runs_none {u} d tracks is noted = record {
   tokens = [];
   streams = record { bytes = []; spelt = N.Spelt-none _ _; takes = N.Takes-none u.seen 0; puts = ([], refl, N.Puts-none _ d) };
   place_is = omega arith;
@@ -28,7 +27,7 @@ module _ {charset : N.Charset} {u v : View} {s : Progress} (x : Runs charset u v
   -- nothing but the payload has changed
   pub runs_same : {place : ℕ} {held : SinkView} {t : Progress} {area notice : Space} → place ≡ v.place → held ≡ v.held → t ≡ s → area ≡ v.area
       → notice ≡ v.notice → Runs charset u (record v { place = place; held = held; area = area; notice = notice }) t
-  runs_same e1 e2 e3 e4 e5 = rw (e1, e2, e3, e4, e5) x
+  runs_same = grind arith
 
   module _ {charset' : N.Charset} (e : charset' ≡ charset) (f : v.area.room ≡ u.area.room) where
     -- more tokens were read
@@ -38,10 +37,7 @@ module _ {charset : N.Charset} {u v : View} {s : Progress} (x : Runs charset u v
         record {
           tokens = x.tokens ++ z.0.more;
           streams = streams_both x.streams z.0.streams;
-          place_is = omega (
-            arith,
-            N.length-append x.streams.bytes z.0.streams.bytes,
-          );
+          place_is = grind (arith, N.length-append);
           tracks = z.0.tracks;
           holds = z.0.holds;
           noted = z.1;
@@ -57,39 +53,36 @@ module _ {charset : N.Charset} {u v : View} {s : Progress} (x : Runs charset u v
 
   module _ {c : N.PayloadView} (t : N.Takes v.seen c [] 1) (o : N.IsOver c) where
     -- the message ended after the last token, which wasn't final
-    pub stops_end : {failed : Bool} → failed ≡ false → v.held.delivered ≤ 2 ^ 64 - 1 → s.is_final ≡ false
+    pub stops_end : {failed : Bool} → failed ≡ N.false → v.held.delivered ≤ 2 ^ 64 - 1 → s.is_final ≡ N.false
         → N.StepStops (response charset u.area.room) N.response_start u.seen c u.place u.held v.held v.area failed
         (record { fault = N.EndWithoutDone; place = N.Payload v.place })
     stops_end going d open_end =
         let stop : Stop = record { fault = N.EndWithoutDone; place = N.Payload v.place } in
-        stops_further x.streams x.place_is (stops_quietly refl x.holds d going
-        (N.cut_at_once _ _ v.seen c _ [] o.0 stop (omega arith)
-        (N.Ends-after v.seen c c [] [] 1 o.0 t (inl ([], N.Consumes-nil _, o.2, N.Stays-none _)))
-        (inl (o.1, (N.EndWithoutDone, rw (← x.tracks.final, open_end) refl, refl)))))
+        stops_further x.streams x.place_is (stops_quietly refl x.holds d going (N.cut_at_once _ _ v.seen c _ [] o.0 stop (omega arith)
+        (grind (arith, N.Ends-after, N.Consumes-nil, N.Stays-none)) (grind arith)))
 
     abbrev reads_whole : s.is_final ≡ true → N.ReadsWhole (response charset u.area.room) N.response_start u.seen c u.held v.held v.area
     reads_whole final = record {
       tokens = x.tokens;
       bytes = x.streams.bytes;
       spelt = x.streams.spelt;
-      takes = subst (λ l. N.Takes u.seen c l (length x.streams.bytes + 1)) (N.append-nil x.streams.bytes)
+      takes = N.subst (λ l. N.Takes u.seen c l (N.length x.streams.bytes + 1)) (N.append-nil x.streams.bytes)
           (N.Takes-trans u.seen v.seen c _ _ _ 1 (omega arith) x.streams.takes t);
       puts = x.streams.puts;
       over = o;
-      final = sym x.tracks.final ∙ final;
+      final = N.sym x.tracks.final ∙ final;
       holds = x.holds;
     }
 
     abbrev pub completes : {l : SinkView} {report : Report} → s.is_final ≡ true → N.Finishes v.held l → report ≡ record s.report { written = l.delivered }
         → N.CompletesResponse (response charset u.area.room) N.response_start u.seen c u.held l report v.area
-    completes {l = l} final f is = record {
+    completes {l} final f is = record {
       middle = v.held;
       whole = reads_whole final;
       finishes = f;
-      report_is = is
-          ∙ ap (λ (r : Report). record r { written = l.delivered }) x.tracks.report;
+      report_is = is ∙ ap (λ (r : Report). record r { written = l.delivered }) x.tracks.report;
     }
 
     pub stops_at_end : {l : SinkView} {stop : Stop} → s.is_final ≡ true → N.FinishFails v.held l stop
         → N.StopsAtEnd (response charset u.area.room) N.response_start u.seen c u.held l v.area stop
-    stops_at_end final f = record { middle = v.held; whole = reads_whole final; fails = f }
+    stops_at_end = grind (arith, reads_whole)

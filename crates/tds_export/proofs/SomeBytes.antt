@@ -1,6 +1,6 @@
 -- Lists of bytes.
-use Rattle.tds_export.proofs.Words as N
-use Rattle.tds_export.proofs.Words.{AreBytes, List, [], arith, drop, inl, inr, suc, true, zero, ℕ, ◌++◌, ◌<◌, ◌==◌, ◌^◌, ◌||◌, ◌∷◌, ◌≡◌}
+use Rattle.tds_export.proofs as N
+use N.{AreBytes, List, [], arith, inl, inr, suc, true, zero, ℕ, ◌++◌, ◌<◌, ◌==◌, ◌^◌, ◌||◌, ◌∷◌, ◌≡◌}
 
 -- each of some bytes is below 256
 pub byte_below : (xs : List ℕ) (i : ℕ) → AreBytes xs → N.slice_index xs i < 256
@@ -14,7 +14,7 @@ little_below zero i xs h = omega arith
 little_below (suc n) i xs h = grind (arith, byte_below, N.pow-suc, (little_below n (suc i) xs h))
 
 -- the bytes after some bytes
-pub AreBytes-drop : (n : ℕ) (xs : List ℕ) → AreBytes xs → AreBytes (drop n xs)
+pub AreBytes-drop : (n : ℕ) (xs : List ℕ) → AreBytes xs → AreBytes (N.drop n xs)
 AreBytes-drop zero xs h = h
 AreBytes-drop (suc n) [] h = h
 AreBytes-drop (suc n) (x ∷ xs) h = AreBytes-drop n _ h.1
@@ -29,19 +29,18 @@ AreBytes-replicate (suc n) x h = (h, AreBytes-replicate n x h)
 
 -- a number that a test names
 pub exactly : (P : ℕ → Type 0) (n m : ℕ) → (n == m) ≡ true → P m → P n
-exactly P n m h p = rw (N.eq_true n m h) p
+exactly = grind arith
 
 -- a test for one of some numbers
 pub one_of_two : (P : ℕ → Type 0) (a b n : ℕ) → (n == a || n == b) ≡ true → P a → P b → P n
-one_of_two P a b n h pa pb = elim (N.or_cases (n == a) (n == b) h) [ inl z ↦ exactly P n a z pa | inr z ↦ exactly P n b z pb ]
+one_of_two = grind arith
 
 pub one_of_four : (P : ℕ → Type 0) (a b c d n : ℕ) → (n == a || n == b || n == c || n == d) ≡ true → P a → P b → P c → P d → P n
-one_of_four P a b c d n h pa pb pc pd = grind (arith, exactly, one_of_two, N.or_cases)
+one_of_four = grind arith
 
 -- what each element of bytes keeps holds at their end
 pub bytes_induct : {S : Type 0} {g : N.Grammar S N.Fault} (P : S → List ℕ → Type 0)
     → ((s : S) (b e : List ℕ) → P s b → AreBytes e → N.IsNext g s e → P (g.add s e) (b ++ e)) → (s : S) → P s [] → (bytes : List ℕ) (t : S)
     → AreBytes bytes → N.Spelt g s bytes t → P t bytes
 bytes_induct {g} P step s begins bytes t are h =
-    N.Spelt-induct g (λ q b. AreBytes b → P q b) (λ q b e k n all. step q b e (k (N.AreBytes-front b e all)) (N.AreBytes-back b e all) n) s (λ all. begins)
-    _ t h are
+    N.Spelt-induct g (λ q b. AreBytes b → P q b) (grind (arith, N.AreBytes-front, N.AreBytes-back)) s (λ all. begins) _ t h are

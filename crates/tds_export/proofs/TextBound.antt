@@ -1,13 +1,12 @@
 -- The text so far is no longer than 64 bytes for each byte read.
-use Rattle.tds_export.proofs.Words as N
-use Rattle.tds_export.proofs.Words.{AreBytes, Bool, Cell, Column, IsNext, List, None, Null, Open, Option, Part, Result, Some, Token, [], ap, arith, choose}
-use Rattle.tds_export.proofs.Words.{codes, false, field, joined, length, length-append, map, refl, response, suc, text, true, ℕ, ◌*◌, ◌++◌, ◌+◌, ◌∷◌, ◌≡◌, ◌≤◌}
-use Rattle.tds_export.proofs.Words.{⊤, ◌==◌}
-use Rattle.tds_export.proofs.ReadingGrows.{IsFresh, lead_cases}
-use Rattle.tds_export.proofs.FieldLengths.{ReadShort, long_length, long_more, open_length, open_more, read_short}
-use Rattle.tds_export.proofs.TokenLaws.{bare, bare_body, bare_fixed, begun_after, text_after-snoc}
-use Rattle.tds_export.proofs.ResponseLaws.{part_at}
-use Rattle.tds_export.proofs.SomeBytes.{bytes_induct}
+use Rattle.tds_export.proofs as N
+use N.{AreBytes, Bool, Cell, Column, IsNext, List, None, Null, Open, Part, Some, Token, [], ap, arith, choose, codes, false, field, joined, length}
+use N.{length-append, map, response, text, true, ℕ, ◌*◌, ◌++◌, ◌+◌, ◌∷◌, ◌≡◌, ◌≤◌, ⊤, ◌==◌}
+use N.ReadingGrows.{IsFresh, lead_cases}
+use N.FieldLengths.{ReadShort, long_length, long_more, open_length, open_more, read_short}
+use N.TokenLaws.{bare, bare_body, bare_fixed, begun_after, text_after-snoc}
+use N.ResponseLaws.{part_at}
+use N.SomeBytes.{bytes_induct}
 
 -- ---- fields
 
@@ -18,7 +17,7 @@ before_last fs = length (joined (fs ++ [] ∷ []))
 -- the last field and what stands before it
 last_length : (fs : List (List ℕ)) (f : List ℕ) → length (joined (fs ++ f ∷ [])) ≡ before_last fs + length f
 last_length [] f = omega arith
-last_length (x ∷ []) f = omega (arith, length-append (x ++ codes ",") f, length-append (x ++ codes ",") [])
+last_length (x ∷ []) f = grind (arith, length-append)
 last_length (x ∷ y ∷ fs) f = omega (
   arith,
   length-append (x ++ codes ",") (joined (y ∷ (fs ++ f ∷ []))),
@@ -29,7 +28,7 @@ last_length (x ∷ y ∷ fs) f = omega (
 -- a comma at most
 before_last_most : (fs : List (List ℕ)) → before_last fs ≤ length (joined fs) + 1
 before_last_most [] = omega arith
-before_last_most (x ∷ []) = omega (arith, length-append (x ++ codes ",") [], length-append x (codes ","))
+before_last_most (x ∷ []) = grind (arith, length-append)
 before_last_most (x ∷ y ∷ fs) = omega (
   arith,
   length-append (x ++ codes ",") (joined (y ∷ fs)),
@@ -39,15 +38,14 @@ before_last_most (x ∷ y ∷ fs) = omega (
 
 -- one more field
 one_more_length : (fs : List (List ℕ)) (f : List ℕ) → length (joined (fs ++ f ∷ [])) ≤ length (joined fs) + 1 + length f
-one_more_length fs f = omega (arith, last_length fs f, before_last_most fs)
+one_more_length = grind (arith, last_length, before_last_most)
 
 -- one more cell
-one_more_cell : (cells : List Cell) (c : Cell)
-    → length (joined (map field (cells ++ c ∷ []))) ≤ length (joined (map field cells)) + 1 + length (field c)
-one_more_cell cells c = rw (N.map-append field cells (c ∷ [])) (one_more_length (map field cells) (field c))
+one_more_cell : (cells : List Cell) (c : Cell) → length (joined (map field (cells ++ c ∷ []))) ≤ length (joined (map field cells)) + 1 + length (field c)
+one_more_cell = grind (arith, N.map-append, one_more_length)
 
 -- the field that is read has at most 48 bytes more
-abbrev FieldMore : Option (List ℕ) → Option (List ℕ) → Type 0
+abbrev FieldMore : N.Option (List ℕ) → N.Option (List ℕ) → Type 0
 FieldMore None None = ⊤
 FieldMore None (Some b) = length b ≤ 48
 FieldMore (Some a) None = ⊥
@@ -56,7 +54,7 @@ FieldMore (Some a) (Some b) = length b ≤ length a + 48
 -- ---- a cell
 
 -- a scalar that is read
-value_more : (r : Result N.ScalarValue N.ValueFault) → ReadShort r → FieldMore None (N.field_so_far (N.value_part r))
+value_more : (r : N.Result N.ScalarValue N.ValueFault) → ReadShort r → FieldMore None (N.field_so_far (N.value_part r))
 value_more r h = grind arith
 
 module _ (column : ℕ) where
@@ -69,11 +67,9 @@ module _ (column : ℕ) where
   cell_more (N.Total c) bytes n = grind (arith, choose, open_length)
   cell_more (N.WholeCell x) bytes n = omega arith
   cell_more (N.ShortData c left content) bytes n = grind (arith, N.and_parts, choose, N.last_fit, long_more, open_more, N.unless_none)
-  cell_more (N.ChunkLength c total content) {e} bytes n =
-      choose (λ p. FieldMore (Some (N.open_field c content)) (N.field_so_far p)) _ _ _
+  cell_more (N.ChunkLength c total content) {e} bytes n = choose (λ p. FieldMore (Some (N.open_field c content)) (N.field_so_far p)) _ _ _
       (λ z. let fit = N.end_fit column c total content (N.little e) n.free z in let end = long_more c content fit
-      (N.fit_begins c content [] (rw (N.append-nil content) fit)) in omega arith)
-      (λ z. omega arith)
+      (N.fit_begins c content [] (rw (N.append-nil content) fit)) in omega arith) (λ z. omega arith)
   cell_more (N.ChunkData c total left content) bytes n = grind (arith, choose, open_more, N.unless_none)
 
 -- ---- a row, whose cells to come that are NULL by their bit are paid by the bitmap
@@ -94,8 +90,8 @@ abbrev row_length : N.RowPart → ℕ
 row_length part = length (N.row_so_far part) + row_pending part
 
 -- one more column
-one_null : (c : Column) (b : Bool) (ks : List (Column × Bool)) {n : ℕ} → how_many_null ks ≤ n → how_many_null ((c, b) ∷ ks) ≤ suc n
-one_null c b ks h = grind arith
+one_null : (c : Column) (b : Bool) (ks : List (Column × Bool)) {n : ℕ} → how_many_null ks ≤ n → how_many_null ((c, b) ∷ ks) ≤ N.suc n
+one_null = grind arith
 
 -- no more of them than columns
 null_most : (columns : List Column) (nulls : ℕ → Bool) (k : ℕ) → how_many_null (N.marked columns nulls k) ≤ length columns
@@ -104,16 +100,16 @@ null_most (c ∷ columns) nulls k = one_null c (nulls k) _ (null_most columns nu
 
 -- none without a bitmap
 none_null : (columns : List Column) (k : ℕ) → how_many_null (N.marked columns (λ i. false) k) ≡ 0
-none_null [] k = refl
+none_null [] k = N.refl
 none_null (c ∷ columns) k = none_null columns (k + 1)
 
 module _ (charset : N.Charset) where
   -- the cells to come begin
   next_length : (cells : List Cell) (ks : List (Column × Bool))
       → row_length (N.next_cell charset cells ks) ≤ length (joined (map field cells)) + 5 * how_many_null ks + 2
-  next_length cells [] = omega (arith, length-append (joined (map field cells)) N.line_end)
+  next_length cells [] = grind (arith, length-append, joined)
   next_length cells ((k, true) ∷ ks) = omega (arith, next_length (cells ++ Null ∷ []) ks, one_more_cell cells Null)
-  next_length cells ((k, false) ∷ ks) = rw (N.start_quiet _ _) (omega arith)
+  next_length cells ((k, false) ∷ ks) = grind (arith, N.start_quiet)
 
 -- ---- a description, whose columns pay for its header
 
@@ -157,25 +153,25 @@ grown p = length (N.text_so_far p) + pending p.at
 
 -- a row in its response
 with_row_grown : (tokens : List Token) (part : N.RowPart) → grown (N.with_row tokens part) ≤ length (text tokens) + row_length part
-with_row_grown tokens part = grind (arith, length-append, N.append-nil, begun_after, text_after-snoc)
+with_row_grown = grind (arith, length-append, N.append-nil, begun_after, text_after-snoc)
 
 -- a return value in its response
 with_return_grown : (tokens : List Token) (part : N.ReturnPart) → grown (N.with_return tokens part) ≤ length (text tokens)
-with_return_grown tokens part = grind (arith, N.append-nil, text_after-snoc, bare, begun_after, length-append)
+with_return_grown = grind (arith, N.append-nil, text_after-snoc, bare, begun_after, length-append)
 
 module _ (charset : N.Charset) (room : ℕ) where
   -- a row that begins has at most the end of its line
   row_starts : (columns : List Column) → row_length (N.row_start charset columns) ≤ 2
-  row_starts columns = omega (arith, next_length charset [] (N.marked columns (λ k. false) 0), none_null columns 0)
+  row_starts = grind (arith, next_length, none_null)
 
   -- what has just begun adds nothing
   fresh_grown : (tokens : List Token) (n : ℕ) (at : Open) → IsFresh at → grown (part_at tokens at) ≤ length (text tokens) + 64 * n
-  fresh_grown tokens n at h = grind (arith, length-append, part_at)
+  fresh_grown = grind (arith, length-append, part_at)
 
   -- each element of bytes pays for what it adds
   part_grown : {tokens : List Token} (at : Open) (e : List ℕ) → AreBytes e → IsNext (response charset room) (part_at tokens at) e
       → grown (N.part_add charset tokens at e) ≤ length (text tokens) + length (N.open_text at) + pending at + 64 * length e
-  part_grown at e bytes n = grind (
+  part_grown = grind (
     arith,
     bare_body,
     bare_fixed,
@@ -201,17 +197,12 @@ module _ (charset : N.Charset) (room : ℕ) where
   )
 
   -- each element pays for what it adds
-  grown_more : (p : Part) (e : List ℕ) → AreBytes e → IsNext (response charset room) p e
-      → grown ((response charset room).add p e) ≤ grown p + 64 * length e
-  grown_more p e bytes n = omega (arith, part_grown p.at e bytes n, length-append (text p.tokens) (N.open_text p.at))
+  grown_more : (p : Part) (e : List ℕ) → AreBytes e → IsNext (response charset room) p e → grown ((response charset room).add p e) ≤ grown p + 64 * length e
+  grown_more = grind (arith, part_grown, length-append)
 
   -- so do all elements between two states
   grown_along : {p q : Part} {bytes : List ℕ} → AreBytes bytes → N.Spelt (response charset room) p bytes q → grown q ≤ grown p + 64 * length bytes
-  grown_along {p} {q} are h = bytes_induct (λ r b. grown r ≤ grown p + 64 * length b) (λ r b e k are n. omega (
-    arith,
-    grown_more r e are n,
-    length-append b e,
-  )) p (omega arith) _ q are h
+  grown_along {p} {q} are h = bytes_induct (λ r b. grown r ≤ grown p + 64 * length b) (grind (arith, grown_more, length-append)) p (omega arith) _ q are h
 
   -- the text so far is at most 64 times as long as all that is read
   pub bounded_along : (q : Part) (bytes : List ℕ) → AreBytes bytes → N.Spelt (response charset room) N.response_start bytes q

@@ -1,24 +1,24 @@
 -- Tokens by their first bytes.
-use Rattle.tds_export.proofs.Words as N
-use Rattle.tds_export.proofs.Words.{Bool, Cell, IsNext, List, None, Option, Row, RowsPart, Some, Token, Tracks, [], ap, append_assoc, arith, before, counted}
-use Rattle.tds_export.proofs.Words.{if◌then◌else◌, length, map, refl, response, rows, subst, sym, text, true, with_row, ℕ, ◌++◌, ◌+◌, ◌==◌, ◌∙◌, ◌∷◌, ◌≡◌}
-use Rattle.tds_export.proofs.Words.{Charset, SinkView, Part, PayloadView, Takes, after_tokens, between, false, inl, inr, ◌-◌, ◌<◌, ◌^◌, ◌≤◌, columns_of, Stop}
-use Rattle.tds_export.proofs.TokenSteps.{OpenTexts, holds-snoc, quietly, row_stops, row_text, stops_further, same_text, start_text, stops_quietly, streams_both}
-use Rattle.tds_export.proofs.ResponseLaws.{described_after-append, row_agrees, inside, spelt_both, no_row}
-use Rattle.tds_export.proofs.TokenLaws.{text_after-snoc, tracks_row, with_rows}
+use Rattle.tds_export.proofs as N
+use N.{Bool, Cell, IsNext, List, None, Row, RowsPart, Some, Token, Tracks, [], ap, append_assoc, arith, before, counted, if◌then◌else◌, length, map, refl}
+use N.{response, rows, sym, text, true, with_row, ℕ, ◌++◌, ◌+◌, ◌==◌, ◌∙◌, ◌∷◌, ◌≡◌, Charset, SinkView, Part, PayloadView, Takes, after_tokens, between, inl}
+use N.{inr, ◌-◌, ◌<◌, ◌^◌, ◌≤◌, columns_of, Stop}
+use N.TokenSteps.{OpenTexts, holds-snoc, quietly, row_stops, row_text, stops_further, same_text, start_text, stops_quietly, streams_both}
+use N.ResponseLaws.{described_after-append, row_agrees, inside, spelt_both, no_row}
+use N.TokenLaws.{text_after-snoc, tracks_row, with_rows}
 
 -- a byte that is no other token's
 is_token_byte : {byte x : ℕ} → (if x == byte then None else Some (N.RefusedToken x)) ≡ None → x ≡ byte
-is_token_byte h = search (arith, h)
+is_token_byte = grind arith
 
 -- rows describe no columns
-rows_describe : {before : Option (List N.Column)} (rs : List (List Cell)) → N.described_after before (map Row rs) ≡ before
+rows_describe : {before : N.Option (List N.Column)} (rs : List (List Cell)) → N.described_after before (map Row rs) ≡ before
 rows_describe [] = refl
 rows_describe {before} (r ∷ rs) = rows_describe rs
 
 -- the lines of rows
 rows_text : (tokens : List Token) (rs : List (List Cell)) → text (tokens ++ map Row rs) ≡ text tokens ++ N.lines rs
-rows_text tokens [] = cc (N.append-nil tokens, N.append-nil (text tokens))
+rows_text tokens [] = grind (arith, N.append-nil)
 rows_text tokens (r ∷ rs) = grind (arith, N.append-nil, append_assoc, text_after-snoc, (rows_text (tokens ++ Row r ∷ []) rs))
 
 module _ (which : N.RowToken) (charset : Charset) (room : ℕ) (all : List N.Column) (tokens : List Token) where
@@ -27,35 +27,33 @@ module _ (which : N.RowToken) (charset : Charset) (room : ℕ) (all : List N.Col
   in_rows p = with_row (tokens ++ map Row p.before) p.at
 
   in_rows_text : (p : RowsPart) → N.text_so_far (in_rows p) ≡ text tokens ++ N.rows_so_far p
-  in_rows_text p = cc (row_text _ p.at, rows_text tokens p.before, append_assoc (text tokens) (N.lines p.before) (N.row_so_far p.at))
+  in_rows_text = grind (arith, row_text, rows_text, append_assoc, N.lines)
 
   module _ (known : N.described_after None tokens ≡ Some all) where
     -- an element leads from one of these to another
     abbrev Steps : RowsPart → List ℕ → RowsPart → Type 0
     Steps p e q = IsNext (response charset room) (in_rows p) e × ((response charset room).add (in_rows p) e ≡ in_rows q)
 
-    token_next : (before : List (List Cell)) (cells : List Cell)
-        → Steps (record { before = before; at = N.WholeRow cells }) (N.token_byte which ∷ [])
+    token_next : (before : List (List Cell)) (cells : List Cell) → Steps (record { before = before; at = N.WholeRow cells }) (N.token_byte which ∷ [])
         (record { before = before ++ cells ∷ []; at = N.token_start which charset all })
-    token_next before cells = grind (arith, append_assoc, described_after-append, N.map-append, rows_describe)
+    token_next = grind (arith, append_assoc, described_after-append, N.map-append, rows_describe)
 
     row_next : (ts : List Token) (at : N.RowPart) (e : List ℕ) → IsNext (N.row charset) at e → IsNext (response charset room) (with_row ts at) e
         × ((response charset room).add (with_row ts at) e ≡ with_row ts ((N.row charset).add at e))
-    row_next ts at e n = grind (arith, N.next_inside, N.next_some, inside, row_agrees)
+    row_next = grind arith
 
     element_next : {before : List (List Cell)} (p : N.RowPart) (e : List ℕ) → IsNext (rows which charset all) (record { before = before; at = p }) e
         → Steps (record { before = before; at = p }) e ((rows which charset all).add (record { before = before; at = p }) e)
-    element_next (N.WholeRow cells) [] n = absurd (omega arith)
-    element_next (N.WholeRow cells) (x ∷ []) n =
-        rw (is_token_byte n.free) (token_next _ _)
-    element_next (N.WholeRow cells) (x ∷ y ∷ r) n = absurd (omega arith)
-    element_next p e n = row_next _ p e (grind arith)
+    element_next (N.WholeRow cells) [] n = grind arith
+    element_next (N.WholeRow cells) (x ∷ []) n = rw (is_token_byte n.free) (token_next _ _)
+    element_next (N.WholeRow cells) (x ∷ y ∷ r) n = grind arith
+    element_next p e n = grind arith
 
     -- what is read of rows from their start on and put, is read of the response and put
     abbrev rows_stream : {t : RowsPart} {a b : PayloadView} {h j : SinkView}
         → N.Streams (rows which charset all) N.rows_so_far (N.rows_start which charset all) a b h j t
         → N.Streams (response charset room) N.text_so_far (with_row tokens (N.token_start which charset all)) a b h j (in_rows t)
-    rows_stream {t = t} x =
+    rows_stream {t} x =
         let s = N.rows_start which charset all in
         let begins = ap (λ ts. with_row ts (N.token_start which charset all)) (N.append-nil tokens) in
         let same = ap (λ l. l ++ x.puts.0) (ap N.text_so_far (sym begins) ∙ in_rows_text s) ∙ append_assoc (text tokens) (N.rows_so_far s) x.puts.0
@@ -73,14 +71,13 @@ tracks_rows s tokens r (q ∷ qs) k =
     let first = tracks_row k r in
     let n : (s.report.rows + 1) + length (q ∷ qs) ≡ s.report.rows + length (r ∷ q ∷ qs) = omega arith in
     rw (append_assoc tokens (Row r ∷ []) (map Row (q ∷ qs))) at
-    (subst (λ (n : ℕ). Tracks (record s { report = record s.report { rows = n } }) ((tokens ++ Row r ∷ []) ++ map Row (q ∷ qs))) n
+    (N.subst (λ (n : ℕ). Tracks (record s { report = record s.report { rows = n } }) ((tokens ++ Row r ∷ []) ++ map Row (q ∷ qs))) n
     (tracks_rows (with_rows s 1) (tokens ++ Row r ∷ []) q qs (grind arith)))
 
 -- the same, the last row named
 tracks_all : {s : N.Progress} {tokens : List Token} (earlier : List (List Cell)) (last : List Cell) {count : ℕ} → count ≡ length earlier + 1
     → N.TracksBefore s tokens → Tracks (with_rows s count) (tokens ++ map Row (earlier ++ last ∷ []))
-tracks_all {s} {tokens} earlier last counted k =
-    rw (N.length-append earlier (last ∷ []) ∙ sym counted) at (go earlier)
+tracks_all {s} {tokens} earlier last counted k = rw (N.length-append earlier (last ∷ []) ∙ sym counted) at (go earlier)
   where
     go : (earlier : List (List Cell)) → Tracks (with_rows s (length (earlier ++ last ∷ []))) (tokens ++ map Row (earlier ++ last ∷ []))
     go [] = tracks_rows s _ _ [] k
@@ -90,8 +87,7 @@ tracks_all {s} {tokens} earlier last counted k =
 rows_hold : (area : N.Space) (tokens : List Token) (rs : List (List Cell)) → N.IsHolding area (after_tokens tokens)
     → N.IsHolding area (after_tokens (tokens ++ map Row rs))
 rows_hold area tokens [] h = rw (N.append-nil tokens) h
-rows_hold area tokens (r ∷ rs) h = rw (append_assoc tokens (Row r ∷ []) (map Row rs)) at
-    (rows_hold area (tokens ++ Row r ∷ []) rs (holds-snoc _ refl h))
+rows_hold area tokens (r ∷ rs) h = rw (append_assoc tokens (Row r ∷ []) (map Row rs)) at (rows_hold area (tokens ++ Row r ∷ []) rs (holds-snoc _ refl h))
 
 -- ---- what the call that reads them gives
 
@@ -102,7 +98,7 @@ Describe tokens described = N.IsDescribed described (N.encoded_after [] tokens) 
 -- the columns that the area describes are the current ones
 pub columns_known : (tokens : List Token) {described : Bool} {bytes : List ℕ} → described ≡ true → bytes ≡ N.encoded_after [] tokens
     → Describe tokens described → N.described_after None tokens ≡ Some (columns_of bytes)
-columns_known tokens d is k = subst (Describe tokens) d k ∙ ap (λ l. Some (columns_of l)) (sym is)
+columns_known = grind arith
 
 module _ (which : N.RowToken) (charset : Charset) {columns : List N.Column} {after : SinkView} {tokens : List Token} {u : N.View} {b : PayloadView} {s :
     N.Progress}
@@ -130,8 +126,7 @@ module _ (which : N.RowToken) (charset : Charset) {columns : List N.Column} {aft
       (record u { seen = b; held = after; failed = failed }) stop
   rows_stop y =
       let x = rw shown at y in
-      stops_further (rows_stream _ _ _ _ _ (columns_known tokens described begun.holds.bytes begun.tracks.described) x.streams)
-      {middle = u.place + length x.streams.bytes} refl
+      stops_further (rows_stream _ _ _ _ _ (grind (arith, columns_known)) x.streams) {middle = u.place + length x.streams.bytes} refl
       (row_stops _ _ _ (rows_hold _ _ x.earlier begun.holds) x.stops)
 
 -- ---- tokens by their first bytes
@@ -144,12 +139,12 @@ pub record BeginsToken (charset : Charset) (room : ℕ) (tokens : List Token) (b
 
 -- a description has columns
 some_columns : {bytes : List ℕ} → N.IsDescription bytes → 0 < length (columns_of bytes)
-some_columns d = rw (N.description_shows _ _ _ d.2).0 d.2.some
+some_columns = grind arith
 
 begins_lead : {charset : Charset} {room : ℕ} {tokens : List Token} {byte : ℕ} {described : Bool} {bytes : List ℕ} {begun : N.Lead}
     → N.lead_of byte ≡ Some begun → N.IsUnder described begun → bytes ≡ N.encoded_after [] tokens → (described ≡ true → N.IsDescription bytes)
     → Describe tokens described → BeginsToken charset room tokens byte (N.in_lead charset (columns_of bytes) begun tokens)
-begins_lead e under is d k = grind (arith, columns_known, no_row, some_columns, start_text)
+begins_lead = grind (arith, columns_known, no_row, some_columns, start_text)
 
 pub begins_kind : {charset : Charset} {room : ℕ} {tokens : List Token} {byte : ℕ} {described : Bool} {bytes : List ℕ} (kind : N.TokenKind)
     → N.IsOfKind described byte kind → bytes ≡ N.encoded_after [] tokens → (described ≡ true → N.IsDescription bytes) → Describe tokens described
@@ -160,7 +155,7 @@ begins_kind kind h is d k = begins_lead h.0 h.1 is d k
 abbrev first : {charset : Charset} {room byte : ℕ} {tokens : List Token} {to : Part} {a b : PayloadView} {h : SinkView}
     → BeginsToken charset room tokens byte to
     → h.delivered ≤ 2 ^ 64 - 1 → Takes a b (byte ∷ []) 1 → N.Streams (response charset room) N.text_so_far (after_tokens tokens) a b h h to
-first {charset = charset} {room = room} {byte = byte} {tokens = tokens} {to = to} {a = a} {b = b} {h = h} begins d t = record {
+first {charset} {room} {byte} {tokens} {to} {a} {b} {h} begins d t = record {
   bytes = byte ∷ [];
   spelt = (N.reads_one _ _ a b _ _ begins.next t begins.to_is).spelt;
   takes = t;
@@ -193,26 +188,20 @@ refused : (charset : Charset) (room : ℕ) (tokens : List Token) (a b : PayloadV
     → Describe tokens described → N.IsRefusedByte described byte fault → Takes a b (byte ∷ []) 1 → N.IsBetween b
     → N.StopsReading (response charset room) (after_tokens tokens) a b place (after_tokens tokens) (record { fault = fault; place = N.Payload place })
 refused charset room tokens a b place byte described fault k (inl x) t between =
-    N.refused_at_once (response charset room) (after_tokens tokens) a b place (byte ∷ []) fault (omega arith) refl (ap (N.lead_fault _ byte) x.1
-    ∙ ap Some (sym x.0)) t between
+    N.refused_at_once (response charset room) (after_tokens tokens) a b place (byte ∷ []) fault (omega arith) refl (grind arith) t between
 refused charset room tokens a b place byte described fault k (inr x) t between =
-    let none = rw x.1 at k in
-    let first : (response charset room).fault (after_tokens tokens) (byte ∷ []) ≡ Some fault = elim x.2 [
-      | inl e ↦ rw e (ap (N.row_byte_fault true) none ∙ ap Some (sym x.0))
-      | inr e ↦ rw e (ap (N.row_byte_fault true) none ∙ ap Some (sym x.0))
-    ] in
+    let first : (response charset room).fault (after_tokens tokens) (byte ∷ []) ≡ Some fault = grind arith in
     N.refused_at_once _ _ a b _ (byte ∷ []) fault (omega arith) refl first t between
 
 module _ (charset : Charset) (room : ℕ) {place : ℕ} {tokens : List Token} {a b : PayloadView} {h : SinkView} {area : N.Space} {failed : Bool}
-    (d : h.delivered ≤ 2 ^ 64 - 1) (going : failed ≡ false) (holds : N.IsHolding area (after_tokens tokens)) where
+    (d : h.delivered ≤ 2 ^ 64 - 1) (going : failed ≡ N.false) (holds : N.IsHolding area (after_tokens tokens)) where
   -- a byte begins no token
   pub stops_at_byte : {byte : ℕ} {described : Bool} {fault : N.Fault} → Describe tokens described → N.IsRefusedByte described byte fault
       → Takes a b (byte ∷ []) 1 → N.IsBetween b
       → N.StepStops (response charset room) (after_tokens tokens) a b place h h area failed (record { fault = fault; place = N.Payload place })
-  stops_at_byte {byte = byte} {described = described} {fault = fault} k why t between =
-      stops_quietly refl holds d going (refused _ _ _ a b _ _ _ _ k why t between)
+  stops_at_byte {byte} {described} {fault} k why t between = stops_quietly refl holds d going (refused _ _ _ a b _ _ _ _ k why t between)
 
   -- the payload stopped
   pub stops_between : {stop : Stop} → N.Ends a b [] stop → (stop.fault ≡ N.MessageEnded → ⊥)
       → N.StepStops (response charset room) (after_tokens tokens) a b place h h area failed stop
-  stops_between {stop = stop} ends other = stops_quietly refl holds d going (N.cut_at_once _ _ a b _ _ _ _ (omega arith) ends (inr (other, refl)))
+  stops_between {stop} ends other = stops_quietly refl holds d going (grind (arith, N.cut_at_once))

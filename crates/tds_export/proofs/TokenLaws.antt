@@ -1,8 +1,8 @@
 -- What one more token adds to a response.
-use Rattle.tds_export.proofs.Words as N
-use Rattle.tds_export.proofs.Words.{Bool, Error, List, Metadata, NoMetadata, None, Option, Row, Some, Token, Tracks, [], arith, before, begun, false}
-use Rattle.tds_export.proofs.Words.{first_error, how_many, is_final, max, more, passed, refl, sym, text_after, true, ℕ, ◌++◌, ◌+◌, ◌<◌, ◌∙◌, ◌∷◌, ◌≡◌}
-use Rattle.tds_export.proofs.ResponseLaws.{described_after-append}
+use Rattle.tds_export.proofs as N
+use N.{Bool, Error, List, Metadata, None, Option, Row, Token, Tracks, [], arith, before, begun, false, first_error, how_many, is_final, more, passed, refl, sym}
+use N.{text_after, true, ℕ, ◌++◌, ◌+◌, ◌<◌, ◌∙◌, ◌∷◌, ◌≡◌}
+use N.ResponseLaws.{described_after-append}
 
 -- whether a set has begun after these tokens
 abbrev pub begun_after : Bool → List Token → Bool
@@ -25,7 +25,7 @@ begun_true (u ∷ ts) = begun_true ts
 -- a set has begun where there is one
 pub begun_where_sets : (ts : List Token) → begun_after false ts ≡ N.nat_lt 0 (how_many N.is_set ts)
 begun_where_sets [] = refl
-begun_where_sets (Metadata bytes columns ∷ ts) = begun_true ts ∙ sym (N.test_lt 0 _ (omega arith))
+begun_where_sets (Metadata bytes columns ∷ ts) = grind (arith, begun_true)
 begun_where_sets (t ∷ ts) = begun_where_sets ts
 
 pub how_many-snoc : (p : Token → Bool) (ts : List Token) (t : Token) → how_many p (ts ++ t ∷ []) ≡ how_many p ts + how_many p (t ∷ [])
@@ -38,18 +38,18 @@ uncounted p ts t e = simp (how_many-snoc, e, N.add_none)
 -- without an error there is no first one
 pub no_errors : (ts : List Token) → how_many N.is_error ts ≡ 0 → first_error ts ≡ None
 no_errors [] h = refl
-no_errors (Error n ∷ ts) h = absurd (omega arith)
+no_errors (Error n ∷ ts) h = grind arith
 no_errors (u ∷ ts) h = no_errors ts h
 
 -- and the next one is
-pub first_next : (ts : List Token) (n : N.Notice) → first_error ts ≡ None → first_error (ts ++ Error n ∷ []) ≡ Some n
+pub first_next : (ts : List Token) (n : N.Notice) → first_error ts ≡ None → first_error (ts ++ Error n ∷ []) ≡ N.Some n
 first_next [] n h = refl
 first_next (Error m ∷ ts) n h = cc
 first_next (u ∷ ts) n h = first_next ts n h
 
 -- after an error none is the first
 pub first_stays : (ts us : List Token) → 0 < how_many N.is_error ts → first_error (ts ++ us) ≡ first_error ts
-first_stays [] us h = absurd (omega arith)
+first_stays [] us h = grind arith
 first_stays (Error n ∷ ts) us h = refl
 first_stays (u ∷ ts) us h = first_stays ts us h
 
@@ -63,16 +63,16 @@ same_first (u ∷ ts) us h = same_first ts us h
 pub status_after-append : (before : Option ℕ) (a b : List Token)
     → N.return_status_after before (a ++ b) ≡ N.return_status_after (N.return_status_after before a) b
 status_after-append before [] b = refl
-status_after-append before (NoMetadata ∷ a) b = status_after-append _ a b
+status_after-append before (N.NoMetadata ∷ a) b = status_after-append _ a b
 status_after-append before (t ∷ a) b = status_after-append _ a b
 
 pub encoded_after-append : (before : List ℕ) (a b : List Token) → N.encoded_after before (a ++ b) ≡ N.encoded_after (N.encoded_after before a) b
 encoded_after-append before [] b = refl
 encoded_after-append before (Metadata bytes columns ∷ a) b = encoded_after-append _ a b
-encoded_after-append before (NoMetadata ∷ a) b = encoded_after-append _ a b
+encoded_after-append before (N.NoMetadata ∷ a) b = encoded_after-append _ a b
 encoded_after-append before (t ∷ a) b = encoded_after-append _ a b
 
-pub greatest_span-append : (a b : List Token) → N.greatest_span (a ++ b) ≡ max (N.greatest_span a) (N.greatest_span b)
+pub greatest_span-append : (a b : List Token) → N.greatest_span (a ++ b) ≡ N.max (N.greatest_span a) (N.greatest_span b)
 greatest_span-append [] b = omega arith
 greatest_span-append (t ∷ a) b = omega (arith, greatest_span-append a b)
 
@@ -86,7 +86,7 @@ is_final-snoc (u ∷ v ∷ ts) t = is_final-snoc (v ∷ ts) t
 -- whether a token has no text and describes nothing
 abbrev pub is_bare : Token → Bool
 is_bare (Metadata bytes columns) = false
-is_bare NoMetadata = false
+is_bare N.NoMetadata = false
 is_bare (Row cells) = false
 is_bare t = true
 
@@ -101,11 +101,11 @@ bare h = grind arith
 
 -- tokens with a body are so
 pub bare_body : (which : N.Bodied) (body : List ℕ) → is_bare (N.bodied which body) ≡ true
-bare_body which body = grind arith
+bare_body = grind arith
 
 -- and those with fields of a fixed length
 pub bare_fixed : (which : N.Fixed) (fields : List ℕ) → is_bare (N.fixed which fields) ≡ true
-bare_fixed which fields = grind arith
+bare_fixed = grind arith
 
 -- whether the report has nothing of a token
 abbrev is_quiet : Token → Bool
@@ -116,7 +116,7 @@ is_quiet t = false
 
 -- where a token begins, the tokens before it are known
 pub tracks_begun : {s : N.Progress} {ts : List Token} → Tracks s ts → N.TracksBefore (record s { is_final = false }) ts
-tracks_begun k = record { report = k.report; described = k.described; final = refl }
+tracks_begun = grind arith
 
 -- with so many rows more
 abbrev pub with_rows : N.Progress → ℕ → N.Progress
@@ -126,15 +126,14 @@ with_rows s n = record s { report = record s.report { rows = s.report.rows + n }
 pub ruleset tracked = (described_after-append, encoded_after-append, how_many-snoc, is_final-snoc, same_first, status_after-append, uncounted)
 
 module _ {s : N.Progress} {ts : List Token} (k : N.Reflects s ts false) where
-  pub tracks_quiet : (t : Token) {final : Bool} → is_quiet t ≡ true → final ≡ is_final (t ∷ [])
-      → Tracks (record s { is_final = final }) (ts ++ t ∷ [])
+  pub tracks_quiet : (t : Token) {final : Bool} → is_quiet t ≡ true → final ≡ is_final (t ∷ []) → Tracks (record s { is_final = final }) (ts ++ t ∷ [])
   tracks_quiet t is e = grind (arith, tracked)
 
   pub tracks_body : (which : N.Bodied) (body : List ℕ) → N.is_notice which ≡ false → Tracks s (ts ++ N.bodied which body ∷ [])
   tracks_body (N.APassed passed) body h = tracks_quiet _ refl k.final
   tracks_body which body h = cc
 
-  pub tracks_none : Tracks (record s { described = false }) (ts ++ NoMetadata ∷ [])
+  pub tracks_none : Tracks (record s { described = false }) (ts ++ N.NoMetadata ∷ [])
   tracks_none = grind (arith, tracked)
 
   pub tracks_metadata : (bytes : List ℕ) {columns : List N.Column} → N.columns_of bytes ≡ columns

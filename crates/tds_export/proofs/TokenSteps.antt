@@ -1,13 +1,11 @@
 -- The tokens, as they are read and their text is put.
-use Rattle.tds_export.proofs.Words as N
-use Rattle.tds_export.proofs.Words.{Bool, Charset, Column, Fault, Grammar, SinkView, IsHolding, List, Option, Part, Progress, Report, Result, PayloadView}
-use Rattle.tds_export.proofs.Words.{Space, Stop}
-use Rattle.tds_export.proofs.Words.{Takes, Token, View, [], after_tokens, ap, append-nil, arith, between, false, in_fields, in_metadata, inl, inr, length, max}
-use Rattle.tds_export.proofs.Words.{refl, response, subst, sym, text, text_so_far, true, view_of, with_row, ℕ, ◌%◌, ◌++◌, ◌+◌, ◌-◌, ◌<◌, ◌==◌, ◌^◌, ◌∙◌, ◌∷◌}
-use Rattle.tds_export.proofs.Words.{◌≡◌, ◌≤◌}
-use Rattle.tds_export.proofs.TokenLaws.{bare, bare_fixed, begun_after, begun_where_sets, encoded_after-append, greatest_span-append, is_bare, same_first}
-use Rattle.tds_export.proofs.TokenLaws.{text_after-snoc, tracks_metadata, tracks_none, tracks_quiet}
-use Rattle.tds_export.proofs.ResponseLaws.{description_agrees, row_agrees, some_fields, part_at, inside, read_inside, stop_inside}
+use Rattle.tds_export.proofs as N
+use N.{Bool, Charset, Column, Fault, Grammar, SinkView, IsHolding, List, Option, Part, Progress, Report, PayloadView, Space, Stop, Takes, Token, View, []}
+use N.{after_tokens, ap, append-nil, arith, between, false, in_metadata, inl, inr, length, max, refl, subst, sym, text, text_so_far, true, view_of, with_row, ℕ}
+use N.{◌%◌, ◌++◌, ◌+◌, ◌-◌, ◌<◌, ◌==◌, ◌^◌, ◌∙◌, ◌∷◌, ◌≡◌, ◌≤◌}
+use N.TokenLaws.{bare, bare_fixed, begun_after, begun_where_sets, encoded_after-append, greatest_span-append, is_bare, same_first, text_after-snoc}
+use N.TokenLaws.{tracks_metadata, tracks_none, tracks_quiet}
+use N.ResponseLaws.{description_agrees, row_agrees, some_fields, part_at, inside, read_inside, stop_inside}
 
 -- A token has begun: what the tokens before it left is known, and the sink goes on.
 pub record OpenTexts (tokens : List Token) (progress : Progress) (u : View) : Type 0 where
@@ -27,12 +25,12 @@ StopsQuiet charset from u b stop = N.StopsIn charset from u (record u { seen = b
 
 -- nothing more is put for the same text
 pub same_text : (p q : Part) (h : SinkView) → text_so_far p ≡ text_so_far q → h.delivered ≤ 2 ^ 64 - 1 → N.PutsText text_so_far p q h h
-same_text p q h e d = ([], simp (append-nil, e), N.Puts-none h d)
+same_text = grind (arith, append-nil, N.Puts-none)
 
 module _ {g : Grammar Part Fault} {s t : Part} {a b c : PayloadView} {h i k : SinkView} (x : N.Streams g text_so_far s a b h i t) where
   -- what is read and put in one call and then in another
   abbrev pub streams_both : {u : Part} → N.Streams g text_so_far t b c i k u → N.Streams g text_so_far s a c h k u
-  streams_both {u = u} y = record {
+  streams_both {u} y = record {
     bytes = x.bytes ++ y.bytes;
     spelt = N.Spelt-append g s _ t _ u x.spelt y.spelt;
     takes = N.takes_both a b c _ _ x.takes y.takes;
@@ -42,58 +40,47 @@ module _ {g : Grammar Part Fault} {s t : Part} {a b c : PayloadView} {h i k : Si
   -- what stops a call stops one that read on before it
   pub stops_further : {place middle : ℕ} {area : Space} {failed : Bool} {stop : Stop} → middle ≡ place + length x.bytes
       → N.StepStops g t b c middle i k area failed stop → N.StepStops g s a c place h k area failed stop
-  stops_further {place = place} {stop = stop} at (inl y) =
+  stops_further {place} {stop} at (inl y) =
       inl (
         record {
           at = y.0.at;
-          stops = N.stops_after g s t a b c _ _ _ (record { bytes = x.bytes; spelt = x.spelt; takes = x.takes })
-              (rw at at y.0.stops);
+          stops = N.stops_after g s t a b c _ _ _ (record { bytes = x.bytes; spelt = x.spelt; takes = x.takes }) (rw at at y.0.stops);
           puts = N.puts_both text_so_far s t y.0.at h i k x.puts y.0.puts;
           holds = y.0.holds;
         },
         y.1,
       )
-  stops_further {stop = stop} at (inr y) = inr (
-    record { at = y.0.at; breaks = N.breaks_after g _ s t a b c h i k _ _ x y.0.breaks; holds = y.0.holds },
-    y.1,
-  )
+  stops_further {stop} at (inr y) = inr (record { at = y.0.at; breaks = N.breaks_after g _ s t a b c h i k _ _ x y.0.breaks; holds = y.0.holds }, y.1)
 
 -- a reading that put no text stopped
 pub stops_quietly : {g : Grammar Part Fault} {place : ℕ} {s at : Part} {a b : PayloadView} {h : SinkView} {area : Space} {failed : Bool} {stop : Stop}
     → text_so_far s ≡ text_so_far at → IsHolding area at → h.delivered ≤ 2 ^ 64 - 1 → failed ≡ false → N.StopsReading g s a b place at stop
     → N.StepStops g s a b place h h area failed stop
-stops_quietly {s = s} {at = at} {h = h} same holds d going stops =
-    inl (record { at = at; stops = stops; puts = same_text s at h same d; holds = holds }, going)
+stops_quietly = grind (arith, same_text)
 
 -- a token that describes nothing leaves the area holding what it held
 pub holds-snoc : {area : Space} {tokens : List Token} (t : Token) → N.encoded_after (N.encoded_after [] tokens) (t ∷ []) ≡ N.encoded_after [] tokens
     → IsHolding area (after_tokens tokens) → IsHolding area (after_tokens (tokens ++ t ∷ []))
-holds-snoc t e h = grind (arith, encoded_after-append, greatest_span-append)
+holds-snoc = grind (arith, encoded_after-append, greatest_span-append)
 
 module _ {tokens : List Token} {s : Progress} {u : View} (begun : OpenTexts tokens s u) where
   -- the first element after the token byte stopped the call
   pub stops_first : {g : Grammar Part Fault} {at : N.Open} {a b : PayloadView} {place : ℕ} {stop : Stop} → N.description_of tokens at
-      ≡ N.encoded_after [] tokens
-      → N.open_span at ≡ 0 → N.StopsReading g (part_at tokens at) a b place (part_at tokens at) stop
+      ≡ N.encoded_after [] tokens → N.open_span at ≡ 0 → N.StopsReading g (part_at tokens at) a b place (part_at tokens at) stop
       → N.StepStops g (part_at tokens at) a b place u.held u.held u.area u.failed stop
-  stops_first same none stops = stops_quietly refl (record { bytes = cc; peak = rw none begun.holds.peak }) begun.delivered begun.going stops
+  stops_first same none stops = stops_quietly refl (grind arith) begun.delivered begun.going stops
 
   -- what was read added no error, and the notice is the same
   pub quietly : {g : Grammar Part Fault} {from : Part} {a b : PayloadView} {place place' : ℕ} {h k : SinkView} {t : Progress} {area' : Space}
       → t.report.errors ≡ s.report.errors → N.ReadsTokens g from tokens a b place place' h k t area'
       → (x : N.ReadsTokens g from tokens a b place place' h k t area') × N.IsNoted u.notice (tokens ++ x.more)
-  quietly same x = (
-    x,
-    cc (same_first _ _ (sym (ap (λ (r : Report). r.errors) x.tracks.report) ∙ same
-        ∙ ap (λ (r : Report). r.errors) begun.tracks.report)),
-  )
+  quietly same x = (x, cc (same_first _ _ (sym (ap (λ (r : Report). r.errors) x.tracks.report) ∙ same ∙ ap (λ (r : Report). r.errors) begun.tracks.report)))
 
   -- a token that has no text and describes nothing was read
   abbrev pub bare_reads : {g : Grammar Part Fault} {from : Part} {progress : Progress} {a b : PayloadView} {place place' : ℕ} (t : Token)
       (r : N.Reads g from a b (N.with_token tokens t)) → place' ≡ place + length r.bytes → text_so_far from ≡ text tokens ++ [] → is_bare t ≡ true
-      → N.Tracks progress (tokens ++ t ∷ [])
-      → N.ReadsTokens g from tokens a b place place' u.held u.held progress u.area
-  bare_reads {from = from} t r at none is tracks =
+      → N.Tracks progress (tokens ++ t ∷ []) → N.ReadsTokens g from tokens a b place place' u.held u.held progress u.area
+  bare_reads {from} t r at none is tracks =
       let so = bare is in
       let same = text_after-snoc false tokens t ∙ ap (λ l. text tokens ++ l) (so.text (begun_after false tokens)) ∙ append-nil (text tokens) in
       record {
@@ -102,8 +89,7 @@ module _ {tokens : List Token} {s : Progress} {u : View} (begun : OpenTexts toke
           bytes = r.bytes;
           spelt = r.spelt;
           takes = r.takes;
-          puts = same_text from (N.with_token tokens t) u.held (none
-              ∙ ap (λ l. l ++ []) (sym same)) begun.delivered;
+          puts = same_text from (N.with_token tokens t) u.held (none ∙ ap (λ l. l ++ []) (sym same)) begun.delivered;
         };
         place_is = at;
         tracks = tracks;
@@ -114,18 +100,14 @@ module _ (charset : Charset) {tokens : List Token} {s : Progress} {u : View} (be
   -- a token with fields of a fixed length was read
   pub fixed_reads : {progress : Progress} {which : N.Fixed} (fields : List ℕ) → place ≡ u.place + N.fields_length which
       → length fields ≡ N.fields_length which → Takes u.seen b fields (N.fields_length which) → N.Tracks progress (tokens ++ N.fixed which fields ∷ [])
-      → progress.report.errors ≡ s.report.errors → ReadsQuiet charset (in_fields which tokens) tokens u b place progress
-  fixed_reads {which} fields at len takes tracks same =
-      let next : N.IsNext (response charset u.area.room) (in_fields which tokens) fields =
-      record { some = rw len (some_fields _); whole = len; free = refl } in
-      quietly begun same (bare_reads begun _ (N.reads_one _ _ _ b _ _ next (rw len takes) refl) (rw len at) refl
+      → progress.report.errors ≡ s.report.errors → ReadsQuiet charset (N.in_fields which tokens) tokens u b place progress
+  fixed_reads {which} fields at len takes tracks same = quietly begun same (bare_reads begun _ (grind (arith, N.reads_one)) (rw len at) refl
       (bare_fixed _ _) tracks)
 
   -- a DONE or DONEPROC was read
   pub done_reads : (fields : List ℕ) → place ≡ u.place + length fields → length fields ≡ 12 → Takes u.seen b fields (length fields)
       → ReadsQuiet charset (N.in_done tokens) tokens u b place (record s { is_final = N.slice_index fields 0 % 2 == 0 })
-  done_reads fields at len takes = fixed_reads _ (rw len at at) len (rw len at takes)
-      (tracks_quiet begun.tracks _ refl (grind (arith, N.nat_tests))) refl
+  done_reads fields at len takes = fixed_reads _ (rw len at at) len (rw len at takes) (tracks_quiet begun.tracks _ refl (grind arith)) refl
 
   -- a DONEINPROC was read
   pub done_in_proc_reads : (fields : List ℕ) → place ≡ u.place + 12 → length fields ≡ 12 → Takes u.seen b fields 12
@@ -137,12 +119,12 @@ module _ (charset : Charset) {tokens : List Token} {s : Progress} {u : View} (be
 -- no text stands for a row that has begun
 pub start_text : (charset : Charset) (columns : List Column) (tokens : List Token) → 0 < length columns
     → text_so_far (N.in_row charset columns tokens) ≡ text tokens ++ []
-start_text charset [] tokens some = absurd (omega arith)
+start_text charset [] tokens some = grind arith
 start_text charset (c ∷ cs) tokens some = simp N.start_quiet
 
 -- a row's text so far in its response
 pub row_text : (tokens : List Token) (part : N.RowPart) → text_so_far (with_row tokens part) ≡ text tokens ++ N.row_so_far part
-row_text tokens part = grind (arith, append-nil, text_after-snoc)
+row_text = grind (arith, append-nil, text_after-snoc)
 
 -- before a row's text stands that of the tokens
 abbrev row_front : (tokens : List Token) (part : N.RowPart) → text tokens ++ N.row_so_far part ≡ text_so_far (with_row tokens part)
@@ -158,7 +140,7 @@ module _ (charset : Charset) (room : ℕ) {place : ℕ} {start : N.RowPart} {are
     (tokens : List Token) where
   -- a row stopped the call
   pub row_stops : IsHolding area (after_tokens tokens) → N.RowStops charset start a b place before after failed stop
-      → N.StepStops (response charset room) (with_row tokens start) a b place before after area failed stop
+      → N.StepStops (N.response charset room) (with_row tokens start) a b place before after area failed stop
   row_stops holds x =
       let agrees = row_agrees _ _ _ in
       elim x.cause [
@@ -166,18 +148,16 @@ module _ (charset : Charset) (room : ℕ) {place : ℕ} {start : N.RowPart} {are
           record {
             at = with_row tokens x.at;
             stops = stop_inside agrees y.0;
-            puts = N.puts_inside _ _ _ (inside agrees) N.row_so_far text_so_far (text tokens) (row_front tokens) start x.at
-                _ _ y.1;
-            holds = row_holds {area = area} {tokens = tokens} x.at holds;
+            puts = N.puts_inside _ _ _ (inside agrees) N.row_so_far text_so_far (text tokens) (row_front tokens) start x.at _ _ y.1;
+            holds = grind (arith, row_holds);
           },
           y.2,
         )
         | inr y ↦ inr (
           record {
             at = with_row tokens x.at;
-            breaks = N.breaks_inside _ _ _ (inside agrees) N.row_so_far text_so_far (text tokens) (row_front tokens) start a b
-                _ _ x.at stop y.0;
-            holds = rw ((inside agrees).add x.at y.0.element (N.next_some _ x.at _ y.0.next)) (row_holds _ holds);
+            breaks = N.breaks_inside _ _ _ (inside agrees) N.row_so_far text_so_far (text tokens) (row_front tokens) start a b _ _ x.at stop y.0;
+            holds = rw ((inside agrees).add x.at y.0.element (grind arith)) (row_holds _ holds);
           },
           y.1,
         )
@@ -188,19 +168,19 @@ module _ (charset : Charset) (room : ℕ) {place : ℕ} {start : N.RowPart} {are
 header_text : {progress : Progress} {tokens : List Token} (bytes : List ℕ) (columns : List Column) → N.TracksBefore progress tokens
     → text_so_far (in_metadata tokens) ++ (between (N.nat_lt 0 progress.report.sets) ++ N.header_line columns) ≡ text_so_far
     (after_tokens (tokens ++ N.Metadata bytes columns ∷ []))
-header_text bytes columns tracks = grind (arith, append-nil, begun_after, begun_where_sets, text_after-snoc)
+header_text = grind (arith, append-nil, begun_after, begun_where_sets, text_after-snoc)
 
 metadata_holds : {area old_area : Space} {tokens : List Token} (columns : List Column) (peak : area.peak ≤ max old_area.peak (length area.bytes + 0))
     → IsHolding old_area (after_tokens tokens) → IsHolding area (after_tokens (tokens ++ N.Metadata area.bytes columns ∷ []))
-metadata_holds columns peak holds = grind (arith, encoded_after-append, greatest_span-append)
+metadata_holds = grind (arith, encoded_after-append, greatest_span-append)
 
 open_text_none : (tokens : List Token) (d : N.DescriptionPart) → 0 < N.described_size d
     → text_so_far (N.with_described tokens d) ≡ text_so_far (in_metadata tokens)
-open_text_none tokens d h = grind arith
+open_text_none = grind arith
 
 open_holds : {area : Space} (tokens : List Token) {k : ℕ} (d : N.DescriptionPart) → 0 < N.described_size d → area.bytes ≡ N.description_bytes d
     → area.peak ≤ max k (N.span d) → k ≤ max (N.greatest_span tokens) 0 → IsHolding area (N.with_described tokens d)
-open_holds tokens d h e p q = grind arith
+open_holds = grind arith
 
 some_bytes : (room : ℕ) (area bytes : List ℕ) (columns : List Column) → N.Spelt (N.description room) N.BeforeCount bytes (N.WholeDescription area columns)
     → 0 < length bytes
@@ -219,8 +199,7 @@ module _ (charset : Charset) {tokens : List Token} {s : Progress} {u : View} {ar
           bytes = r.bytes;
           spelt = r.spelt;
           takes = r.takes;
-          puts = same_text (in_metadata tokens) (N.with_token tokens N.NoMetadata) _
-              (simp (text_after-snoc, append-nil)) begun.delivered;
+          puts = same_text (in_metadata tokens) (N.with_token tokens N.NoMetadata) _ (simp (text_after-snoc, append-nil)) begun.delivered;
         };
         place_is = x.place_is;
         tracks = tracks_none begun.tracks;
@@ -230,10 +209,7 @@ module _ (charset : Charset) {tokens : List Token} {s : Progress} {u : View} {ar
   -- the description is cut or refused
   pub metadata_stops : {stop : Stop} → N.StopsDescribing u.area.room N.BeforeCount u.seen b u.place u.area.peak area stop
       → N.StopsIn charset (in_metadata tokens) u (record u { seen = b; area = area }) stop
-  metadata_stops x =
-      let some = N.stops_size _ _ _ b _ _ _ x.stops in
-      stops_quietly (simp open_text_none) (open_holds _ _ some x.kept x.bound begun.holds.peak) begun.delivered begun.going
-      (stop_inside (description_agrees _ _ _) x.stops)
+  metadata_stops x = stops_quietly (grind arith) (grind (arith, open_holds)) begun.delivered begun.going (stop_inside (description_agrees _ _ _) x.stops)
 
   module _ {columns : List Column} {place : ℕ} {after : SinkView} (shown : N.columns_of area.bytes ≡ columns)
       (x : N.Describes u.area.room N.BeforeCount u.seen b u.place place u.area.peak area (N.WholeDescription area.bytes columns)) where
@@ -243,11 +219,9 @@ module _ (charset : Charset) {tokens : List Token} {s : Progress} {u : View} {ar
         (record s { report = record s.report { sets = s.report.sets + 1 }; described = true })
     metadata_reads puts =
         let r = read_inside (description_agrees _ _ _) x.reads in
-        let put = rw shown at puts in
         quietly begun refl (record {
           more = N.Metadata area.bytes columns ∷ [];
-          streams =
-              record { bytes = r.bytes; spelt = r.spelt; takes = r.takes; puts = (between _ ++ N.header_line columns, header_text _ _ begun.tracks, put) };
+          streams = record { bytes = r.bytes; spelt = r.spelt; takes = r.takes; puts = grind (arith, between, header_text) };
           place_is = x.place_is;
           tracks = tracks_metadata begun.tracks _ shown;
           holds = metadata_holds _ x.bound begun.holds;
@@ -256,7 +230,7 @@ module _ (charset : Charset) {tokens : List Token} {s : Progress} {u : View} {ar
     -- the description was read, and the writer failed at its header
     pub metadata_breaks : {stop : Stop} → length u.held.waiting < 4096 → N.IsBetween b
         → N.WritesPrefix u.held after (between (N.nat_lt 0 s.report.sets) ++ N.header_line (N.columns_of area.bytes)) stop
-        → N.StopsInWriting (response charset u.area.room) (in_metadata tokens) u.seen b u.held after area stop
+        → N.StopsInWriting (N.response charset u.area.room) (in_metadata tokens) u.seen b u.held after area stop
     metadata_breaks few between_b breaks =
         let header = between _ ++ N.header_line columns in
         let l = N.last_inside _ _ _ (inside (description_agrees _ _ _)) _ _ _ x.reads.spelt (some_bytes _ _ _ _ x.reads.spelt) in
@@ -269,13 +243,13 @@ module _ (charset : Charset) {tokens : List Token} {s : Progress} {u : View} {ar
             ahead = [];
             spelt = l.spelt;
             next = l.next;
-            takes = rw (append-nil _) (subst (λ v. Takes u.seen b v (length v)) (sym l.joined) x.reads.takes);
+            takes = grind (arith, append-nil);
             between = between_b;
             middle = u.held;
             few = few;
             puts = same_text (in_metadata tokens) (N.with_described tokens l.at) _ (sym open_text) begun.delivered;
             more = header;
-            text_is = ap (λ t. t ++ header) open_text ∙ header_text _ _ begun.tracks ∙ ap text_so_far (sym l.to_is);
+            text_is = grind (arith, header_text);
             breaks = rw shown at breaks;
           };
           holds = rw l.to_is (metadata_holds _ x.bound begun.holds);
@@ -285,13 +259,13 @@ module _ (charset : Charset) {tokens : List Token} {s : Progress} {u : View} {ar
 pub begun_in : {R W : Type 0} (remaining : R → Option (List ℕ)) (contents : W → Option (List ℕ)) {old : N.Exporter R W} {tokens : List Token}
     → N.IsRunning old → N.TracksBefore old.progress tokens → IsHolding old.description.now (after_tokens tokens) → N.IsNoted old.notice.now tokens
     → OpenTexts tokens old.progress (view_of remaining contents old)
-begun_in remaining contents running tracks holds noted = grind arith
+begun_in = grind arith
 
 -- The token was read, or that stopped, whatever the tokens before it are.
 pub step_read : {R W U : Type 0} {remaining : R → Option (List ℕ)} {contents : W → Option (List ℕ)} {from : List Token
-    → Part} {old new : N.Exporter R W} {result : Result U Stop} → N.IsRunning old → N.LeavesRun old new result
+    → Part} {old new : N.Exporter R W} {result : N.Result U Stop} → N.IsRunning old → N.LeavesRun old new result
     → ((tokens : List Token) → OpenTexts tokens old.progress (view_of remaining contents old)
     → N.MatchResult result (λ _. N.ReadsNext old.charset (from tokens) tokens (view_of remaining contents old) (view_of remaining contents new)
     new.progress) (λ stop. N.StopsIn old.charset (from tokens) (view_of remaining contents old) (view_of remaining contents new) stop))
     → N.StepRead remaining contents from old new result
-step_read {remaining = remaining} {contents = contents} running leaves reads = record { leaves = leaves; reads = grind arith }
+step_read = grind arith

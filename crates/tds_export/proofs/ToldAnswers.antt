@@ -1,25 +1,24 @@
 -- What an export answers, where its reader and writer tell their bytes.
-use Rattle.tds_export.proofs.Words as N
-use Rattle.tds_export.proofs.Words.{AreBytes, Bool, Err, ExportInput, SinkView, IsWriter, List, Ok, Option, Packet, Part, Puts, Rose, Run, PayloadView, Some}
-use Rattle.tds_export.proofs.Words.{Spelt, Stop, Tells}
-use Rattle.tds_export.proofs.Words.{[], ap, append-nil, arith, drop, false, fresh_at, grammar, grammar_of, inl, inr, length, length-append, limits, more}
-use Rattle.tds_export.proofs.Words.{payload_of, read, refl, response, response_start, run_of, subst, sym, take, text, text_put, text_so_far, true, wire_of, ℕ}
-use Rattle.tds_export.proofs.Words.{◌%◌, ◌*◌, ◌++◌, ◌+◌, ◌-◌, ◌/◌, ◌<◌, ◌∙◌, ◌∷◌, ◌≡◌, ◌≤◌}
-use Rattle.tds_export.proofs.SomeBytes.{AreBytes-append}
-use Rattle.tds_export.proofs.Peaks.{bounded, further, reached_broken, reached_stopped, reached_whole, rest_leads}
-use Rattle.tds_export.proofs.TextBound.{bounded_along}
-use Rattle.tds_export.proofs.DeviceFaults.{no_failure}
-use Rattle.tds_export.proofs.AcceptedSucceeds.{outcome_succeeds}
-use Rattle.tds_export.proofs.ResponseMeaning.{response_is_spelt}
-use Rattle.tds_export.proofs.ResponseLaws.{spelt_both}
-use Rattle.tds_export.proofs.ReadingGrows.{text_along}
-use Rattle.tds_export.proofs.PacketOutcomes.{ReaderSide, kept_at, reading_stops, start}
+use Rattle.tds_export.proofs as N
+use N.{AreBytes, Bool, ExportInput, SinkView, IsWriter, List, Ok, Packet, Part, Puts, Run, PayloadView, Some, Spelt, Stop, [], ap, append-nil, arith, drop}
+use N.{fresh_at, grammar, grammar_of, inl, inr, length, length-append, limits, more, payload_of, read, refl, response, response_start, run_of, subst, sym, take}
+use N.{text, text_put, text_so_far, wire_of, ℕ, ◌%◌, ◌*◌, ◌++◌, ◌+◌, ◌-◌, ◌/◌, ◌<◌, ◌∙◌, ◌∷◌, ◌≡◌, ◌≤◌}
+use N.Words.{Tells}
+use N.SomeBytes.{AreBytes-append}
+use N.Peaks.{bounded, further, reached_broken, reached_stopped, reached_whole, rest_leads}
+use N.TextBound.{bounded_along}
+use N.DeviceFaults.{no_failure}
+use N.AcceptedSucceeds.{outcome_succeeds}
+use N.ResponseMeaning.{response_is_spelt}
+use N.ResponseLaws.{spelt_both}
+use N.ReadingGrows.{text_along}
+use N.PacketOutcomes.{ReaderSide, kept_at, reading_stops, start}
 use native.Mathlib.Decide.{dec_le}
 
 -- ---- the text
 
-known_left : (input read : List ℕ) {new : Option (List ℕ)} → N.Consumes (Some input) new read → (left : List ℕ) × (new ≡ Some left)
-known_left input read c = grind arith
+known_left : (input read : List ℕ) {new : N.Option (List ℕ)} → N.Consumes (Some input) new read → (left : List ℕ) × (new ≡ Some left)
+known_left = grind arith
 
 -- the writer gained the first bytes of a text, and the others wait
 record Delivers (given : ExportInput) (l : SinkView) (text : List ℕ) : Type 0 where
@@ -29,17 +28,10 @@ record Delivers (given : ExportInput) (l : SinkView) (text : List ℕ) : Type 0 
   delivered : l.delivered ≡ N.counted 0 (length gained)
 
 abbrev sends : {given : ExportInput} (middle : SinkView) {l : SinkView} {put : List ℕ} (piece sent : List ℕ) → IsWriter given l
-    → Puts (fresh_at given) middle put
-    → N.Adds middle l sent piece → Delivers given l (put ++ piece)
+    → Puts (fresh_at given) middle put → N.Adds middle l sent piece → Delivers given l (put ++ piece)
 sends {given} middle {l} {put} piece sent writer p a =
     let adds = N.Adds-trans (fresh_at given) middle l p.0 sent put piece p.2 a in
-    record {
-      gained = p.0 ++ sent;
-      has = rw writer.has at adds.0;
-      all = ap (λ w. (p.0 ++ sent) ++ w) (sym writer.waiting)
-          ∙ sym adds.1;
-      delivered = adds.2;
-    }
+    record { gained = p.0 ++ sent; has = rw writer.has at adds.0; all = ap (λ w. (p.0 ++ sent) ++ w) (sym writer.waiting) ∙ sym adds.1; delivered = adds.2 }
 
 -- the payload of packets is shorter than their wire, and of bytes where that is
 payload_short : (packets : List Packet) → length (payload_of packets) ≤ length (wire_of packets)
@@ -54,8 +46,7 @@ payload_short (p ∷ packets) = omega (
 
 payload_bytes : (packets : List Packet) → AreBytes (wire_of packets) → AreBytes (payload_of packets)
 payload_bytes [] h = tt
-payload_bytes (p ∷ packets) h = AreBytes-append _ _ (N.AreBytes-back (4 ∷ p.status ∷ (8 + length p.body) / 256 ∷ (8 + length p.body) % 256 ∷ p.id) _
-    (N.AreBytes-front (N.packet_bytes p) (wire_of packets) h)) (payload_bytes packets (N.AreBytes-back (N.packet_bytes p) _ h))
+payload_bytes (p ∷ packets) h = AreBytes-append _ _ (grind (arith, N.AreBytes-back, N.AreBytes-front)) (payload_bytes packets (grind (arith, N.AreBytes-back)))
 
 -- the text so far is within 64 times the limit of the wire
 fits_at : (run : Run) (packets : List Packet) (rest : List ℕ) (place : ℕ) (part : Part) (n : ℕ) → AreBytes run.input
@@ -63,8 +54,8 @@ fits_at : (run : Run) (packets : List Packet) (rest : List ℕ) (place : ℕ) (p
     → Spelt (grammar run) response_start (take place (payload_of packets)) part → n ≤ length (text_so_far part) → n ≤ 64 * (limits run).max_wire
 fits_at run packets rest place part n are begin within spelt few =
     let payload = payload_of packets in
-    let most = bounded_along _ _ _ _ (N.AreBytes-front _ _ (rw (← N.take-append-drop place payload) at (payload_bytes packets (N.AreBytes-front
-    (wire_of packets) rest (rw begin are))))) spelt in
+    let most = bounded_along _ _ _ _ (N.AreBytes-front _ _ (rw (← N.take-append-drop place payload) at
+    (payload_bytes packets (grind (arith, N.AreBytes-front))))) spelt in
     omega (arith, payload_short packets, ap length (N.take-append-drop place payload), length-append (take place payload) (drop place payload))
 
 fits : (run : Run) (fault : N.Fault) (place : N.Place) → AreBytes run.input → N.Stops run fault place → length (text_put run) ≤ 64 * (limits run).max_wire
@@ -73,7 +64,7 @@ fits run fault place are x = grind (arith, fits_at, length-append)
 -- the count of the bytes delivered is exact
 exact : (run : Run) (delivered : ℕ) → delivered ≡ N.counted 0 (length run.gained) → length (text_put run) ≤ 64 * (limits run).max_wire
     → delivered ≡ length run.gained
-exact run delivered e few = omega (arith, length-append run.gained (N.waiting run))
+exact = grind (arith, length-append)
 
 -- ---- a run that stopped in writing
 
@@ -93,10 +84,10 @@ earlier_text charset room bytes element p q place h whole less k = elim (dec_le 
   | no above ↦
       (let n = place - length bytes in
       let sum : length bytes + n ≡ place = omega arith in
-      let few = N.length-take-le n element (omega (arith, length-append bytes element)) in
+      let few = N.length-take-le n element (grind (arith, length-append)) in
       absurd (omega (
         arith,
-        ap length (N.no_further _ _ _ p _ q h (λ i a b. omega (arith, length-append bytes element)) (rw (ap (λ v. take v
+        ap length (N.no_further _ _ _ p _ q h (grind (arith, length-append)) (rw (ap (λ v. take v
             (bytes ++ element)) (sym sum) ∙ N.take-append-add bytes element n) at k)),
       )))
 ]
@@ -120,31 +111,23 @@ broken {run} {q} at stop side writer x holds gained all =
     let payload_is = b.payload_is ∙ N.append_assoc be x.ahead (q.future []).bytes in
     let longest = N.some_longest g _ _ in
     let beyond = longest_text _ _ _ spelt (subst (λ v. N.Longest g response_start v longest.0 longest.1) payload_is longest.2) in
-    let some : 0 < length be = omega (arith, length-append x.bytes x.element) in
-    let last = N.in_last _ _ f _ _ _ q _ _ side.left x.takes b (omega (
-      arith,
-      length-append (be ++ x.ahead) (q.future []).bytes,
-      length-append be x.ahead,
-    )) in
+    let last = N.in_last _ _ f _ _ _ q _ _ side.left x.takes b (grind (arith, length-append)) in
     let early = N.some_longest g _ _ in
     let fewer : early.0 < length be = omega arith in
     let short = earlier_text _ _ _ _ at early.1 early.0 x.spelt x.next.whole fewer (subst (λ v. Spelt g response_start v early.1) (sym
-    (N.take-append-le early.0 (payload_of last.before) (payload_of (last.last ∷ [])) early.2.within)
-    ∙ ap (take early.0) (sym (ap payload_of (sym last.split) ∙ N.flat_map-append _ last.before (last.last ∷ [])) ∙ payload_is)
+    (grind (arith, N.take-append-le)) ∙ ap (take early.0) (sym (ap payload_of (sym last.split) ∙ N.flat_map-append _ last.before (last.last ∷ [])) ∙ payload_is)
     ∙ N.take-append-le early.0 be more (omega arith)) early.2.spelt)
     in
     let total : length (text_put run) ≡ 4096 * (p.1 + y.1 + 1) =
     omega (arith, ap length gained, ap length writer.waiting, length-append run.gained (N.waiting run), length-append p.0 y.0) in
-    let chunks : length (text_put run) ≡ 4096 * (length run.gained / 4096 + 1) = omega (arith, ap length gained, length-append p.0 y.0) in
-    let passes : length (text_so_far at) < length (text_put run) = omega (arith, ap length p.2.1, length-append p.0 x.middle.waiting) in
-    let text_more = sym (N.append_assoc (text_put run) (drop y.2 x.more) beyond.0) ∙ ap (λ v. (v ++ drop y.2 x.more) ++ beyond.0) all
-    ∙ ap (λ v. v ++ beyond.0) (N.append_assoc (text_so_far at) (take y.2 x.more) (drop y.2 x.more)
-    ∙ ap (λ v. text_so_far at ++ v) (N.take-append-drop y.2 x.more) ∙ x.text_is) ∙ beyond.1 in
+    let chunks : length (text_put run) ≡ 4096 * (length run.gained / 4096 + 1) = grind (arith, length-append) in
+    let passes : length (text_so_far at) < length (text_put run) = grind (arith, length-append) in
+    let text_more = sym (grind (arith, N.append_assoc)) ∙ ap (λ v. (v ++ drop y.2 x.more) ++ beyond.0) all
+    ∙ ap (λ v. v ++ beyond.0) (grind (arith, N.append_assoc, N.take-append-drop)) ∙ beyond.1 in
     let comes : N.Comes run b.packets (length be) to =
     record {
       within = omega (arith, ap length payload_is, length-append be more);
-      spelt = rw (ap (take (length be)) payload_is
-          ∙ N.take-append_seam be more) spelt;
+      spelt = rw (ap (take (length be)) payload_is ∙ N.take-append_seam be more) spelt;
     } in
     record {
       packets = b.packets;
@@ -157,7 +140,7 @@ broken {run} {q} at stop side writer x holds gained all =
       written_is = refl;
       begins = text_more;
       needed = inr (last.before, last.last, early.0, early.1, last.split, early.2, chunks, omega arith);
-      failed = subst (Rose run.given.before.writer.failures) (sym (cc) ∙ writer.failures) (N.rose _);
+      failed = subst (N.Rose run.given.before.writer.failures) (sym (cc) ∙ writer.failures) (N.rose _);
       kept = (length be, to, comes, kept_at run.given.after.areas.description to.tokens _ (drop (length be) (payload_of b.packets)) holds.bytes);
     }
 
@@ -174,13 +157,12 @@ record WholeMessage (run : Run) (tokens : List N.Token) : Type 0 where
 
 whole_message_of : {run : Run} {q : PayloadView} {old new : SinkView} → ReaderSide run q
     → (x : N.ReadsWhole (grammar run) response_start (start run) q old new run.given.after.areas.description) → WholeMessage run x.tokens
-whole_message_of {run} {q = q} side x =
-    let m = N.over_front _ _ _ _ _ q _ _ side.bytes side.left x.takes
-    x.over in
+whole_message_of {run} {q} side x =
+    let m = N.over_front _ _ _ _ _ q _ _ side.bytes side.left x.takes x.over in
     grind (arith, N.over_front, payload_bytes, N.AreBytes-front, response_is_spelt, append-nil, N.longest_cut, kept_at)
 
 text_after_tokens : (tokens : List N.Token) → text_so_far (N.after_tokens tokens) ≡ text tokens
-text_after_tokens tokens = append-nil (text tokens)
+text_after_tokens = grind (arith, append-nil)
 
 -- all of a payload
 take_payload : (l : List ℕ) → take (length l) l ≡ l
@@ -189,7 +171,7 @@ take_payload l = cc (append-nil l, N.take-append_seam l [])
 -- the last delivery failed
 failed_at_end : {run : Run} {tokens : List N.Token} → WholeMessage run tokens → text_put run ≡ text tokens → N.FailsToWrite run.given
     → N.StopsInText run N.WriteFailed (length run.gained)
-failed_at_end w same fails = grind arith
+failed_at_end = grind arith
 
 -- ---- what an export answers
 
@@ -200,7 +182,7 @@ begins_run given e = cc
 -- where its reader stands
 reader_side : {given : ExportInput} {input left gained : List ℕ} {q : PayloadView} → AreBytes input → q.left ≡ Some left → N.IsReader given q
     → ReaderSide (run_of given input left gained) q
-reader_side {left} are ql reader = record { bytes = are; left = ql; failures = reader.failures }
+reader_side = grind arith
 
 -- all of the text was put, where the whole response was read
 whole_puts : {g : N.Grammar Part N.Fault} {a q : PayloadView} {h k : SinkView} {area : N.Space} → (x : N.ReadsWhole g response_start a q h k area)
@@ -234,10 +216,7 @@ module _ (given : ExportInput) (input left : List ℕ) (q : PayloadView) (stop :
           written = exact (run_of given input left d.gained) l.delivered d.delivered (fits _ _ _ are stops);
           unwritten = cc;
           no_notice = none;
-          none_waits = λ calm. elim t.2 [
-            | inl x ↦ sym writer.waiting ∙ x.0
-            | inr x ↦ absurd (calm (rw writer.failures at (subst (λ n. Rose n l.failures) p.4.0 x)))
-          ];
+          none_waits = grind arith;
         },
       )
 
@@ -249,12 +228,11 @@ module _ (given : ExportInput) (input left : List ℕ) (q : PayloadView) (stop :
   in_text {k} {gained} writer has delivered stops is =
       let run = run_of given input left gained in
       let written = exact run _ delivered (fits run N.WriteFailed (N.Text (length gained)) are stops) in
-      grind (arith, exact, fits)
+      grind arith
 
   -- the writer broke
   stop_writing : (k : SinkView) → IsWriter given k
-      → N.StopsInWriting (grammar_of given) response_start began q (fresh_at given) k given.after.areas.description stop
-      → StopTold given input left stop k
+      → N.StopsInWriting (grammar_of given) response_start began q (fresh_at given) k given.after.areas.description stop → StopTold given input left stop k
   stop_writing k writer y =
       let x = y.breaks in
       let d = sends _ _ _ writer (rw x.puts.1 at x.puts.2) x.breaks.3 in
@@ -265,36 +243,33 @@ module _ (given : ExportInput) (input left : List ℕ) (q : PayloadView) (stop :
       → N.StopsAtEnd (grammar_of given) response_start began q (fresh_at given) k given.after.areas.description stop → StopTold given input left stop k
   stop_at_end k writer y =
       let d = sends _ _ _ writer (whole_puts y.whole) y.fails.1 in
-      in_text writer d.has d.delivered (failed_at_end (whole_message_of (reader_side are ql reader) y.whole) (simp (d.all, append-nil)) (subst
-      (Rose given.before.writer.failures) (cc) (N.rose _))) y.fails.2
+      in_text writer d.has d.delivered (failed_at_end (whole_message_of (reader_side are ql reader) y.whole) (simp (d.all, append-nil))
+      (grind (arith, N.rose))) y.fails.2
 
   -- each of these
   stopped_of : {k l : SinkView} {failed : Bool} → IsWriter given l
       → N.RunStops (grammar_of given) response_start began q 0 (fresh_at given) k given.after.areas.description failed stop
-      → (failed ≡ false → N.FlushedOrFailed k l) → (failed ≡ true → l ≡ k) → StopTold given input left stop l
+      → (failed ≡ N.false → N.FlushedOrFailed k l) → (failed ≡ N.true → l ≡ k) → StopTold given input left stop l
   stopped_of {k} {l} writer (inl (inl y)) tidy same = stop_reading writer y.0 (tidy y.1)
-  stopped_of {k} writer (inl (inr y)) tidy same = rw (same y.1) (stop_writing k (subst (IsWriter given) (same y.1) writer) y.0)
-  stopped_of {k} writer (inr y) tidy same = rw (same y.1) (stop_at_end k (subst (IsWriter given) (same y.1) writer) y.0)
+  stopped_of {k} writer (inl (inr y)) tidy same = rw (same y.1) (stop_writing k (grind arith) y.0)
+  stopped_of {k} writer (inr y) tidy same = rw (same y.1) (stop_at_end k (grind arith) y.0)
 
   -- the bound on its descriptions
   stop_bounded : {gained : List ℕ} {k : SinkView} {failed : Bool}
       → N.RunStops (grammar_of given) response_start began q 0 (fresh_at given) k given.after.areas.description failed stop
       → N.Bounded (run_of given input left gained)
   stop_bounded {gained} (inl (inl y)) = bounded _ _ are (reached_stopped _ q are ql y.0.stops) y.0.holds.peak
-  stop_bounded {gained} (inl (inr y)) =
-      bounded _ _ are (reached_broken _ q are ql y.0) y.0.holds.peak
-  stop_bounded {gained} (inr y) =
-      bounded _ _ are (reached_whole _ q are ql y.0.whole) y.0.whole.holds.peak
+  stop_bounded {gained} (inl (inr y)) = bounded _ _ are (reached_broken _ q are ql y.0) y.0.holds.peak
+  stop_bounded {gained} (inr y) = bounded _ _ are (reached_whole _ q are ql y.0.whole) y.0.whole.holds.peak
 
 -- what a run that stopped read
 stops_read : {g : N.Grammar Part N.Fault} {a q : PayloadView} {h k : SinkView} {area : N.Space} {failed : Bool} {stop : Stop}
     → N.RunStops g response_start a q 0 h k area failed stop → (read : List ℕ) × N.Consumes a.left q.left read
 stops_read h8 = grind arith
 
-pub stop_tells : {given : ExportInput} {stopped : N.Stopped} → N.StopsExport given stopped → Tells given (Err stopped)
+pub stop_tells : {given : ExportInput} {stopped : N.Stopped} → N.StopsExport given stopped → Tells given (N.Err stopped)
 unfolding Tells
-stop_tells {given} x = λ input are e.
-    let stops = rw (begins_run given e) at x.stops in
+stop_tells {given} x = λ input are e. let stops = rw (begins_run given e) at x.stops in
     let read = stops_read stops in
     let left = known_left _ _ read.1 in
     let all = stopped_of _ _ _ _ _ are left.1 x.reader x.notice x.writer stops x.tidied x.same in
@@ -304,8 +279,7 @@ stop_tells {given} x = λ input are e.
 
 pub report_tells : {given : ExportInput} {report : N.Report} → N.Reports given report → Tells given (Ok report)
 unfolding Tells
-report_tells {given} {report} x = λ input are e.
-    let z = subst (λ (a : PayloadView). (c : N.CompletesResponse (grammar_of given) response_start a x.seen
+report_tells {given} {report} x = λ input are e. let z = subst (λ (a : PayloadView). (c : N.CompletesResponse (grammar_of given) response_start a x.seen
     (fresh_at given) x.held report given.after.areas.description)
     × (given.after.areas.notice.bytes ≡ N.error_text c.whole.tokens)) (begins_run given e) (x.completes, x.notice) in
     let y = z.0 in
@@ -318,8 +292,7 @@ report_tells {given} {report} x = λ input are e.
     let same = d.all ∙ append-nil (text tokens) in
     let gained = sym (append-nil run.gained) ∙ ap (λ w. run.gained ++ w) (sym empty) ∙ same in
     let few = fits_at run whole.packets left.0 (length (payload_of whole.packets)) (N.after_tokens tokens) (length (text_put run)) are
-    whole.stands.begin whole.stands.within
-    (rw (take_payload _) whole.spelt) (omega (arith, ap length same, ap length (text_after_tokens tokens))) in
+    whole.stands.begin whole.stands.within (grind arith) (omega (arith, ap length same, ap length (text_after_tokens tokens))) in
     let written = exact run x.held.delivered d.delivered few ∙ ap length gained in
     let outcome : N.Reported run report = record {
       tokens = tokens;

@@ -1,11 +1,10 @@
 -- Worked payloads.
+use Rattle.tds_export.proofs as N
+use N.{BadText, Fault, Flt8, List, MessageEnded, None, Option, Part, Some, Windows1252, [], length, map, read, refl, replicate, response, rows, ℕ, ◌++◌, ◌-◌}
+use N.{◌∷◌, ◌≡◌}
+use N.Words.{chars, date_of, digits, encode_utf8, encode_with, is_utf8, named_kind, refused_kind, rest_length, utf16_chars}
+use N.Words.{utf8_error_len, utf8_valid_len, uuid_on_literals}
 use Prim.Native.String.{String}
-use Rattle.tds_export.proofs.Words.{completion, take, BadNotice, BadText, BadTypeInfo, BadValue, BadValueLength, Charset, DescriptionTooLong, EndWithoutDone}
-use Rattle.tds_export.proofs.Words.{Fault, Flt8, FltN, List, MessageEnded, NoColumns, None, OddText, Option, Part, PlpLength, RefusedColumn, RefusedToken}
-use Rattle.tds_export.proofs.Words.{RowWithoutColumns, Some, UnknownType, Utf8, Windows1252, [], chars, date_of, digits, encode_utf8, encode_with, fault_of}
-use Rattle.tds_export.proofs.Words.{how_many, is_return, is_utf8, length, map, named_kind, read, refl, refused_kind, replicate, response, response_start}
-use Rattle.tds_export.proofs.Words.{rest_length, rest_of, rows, state_of, text_so_far, utf16_chars, utf8_error_len, utf8_valid_len, uuid_on_literals, ℕ, ◌++◌}
-use Rattle.tds_export.proofs.Words.{◌-◌, ◌∷◌, ◌≡◌}
 use Rattle.tds_packet.proofs.Feeding.{Progress}
 use Rattle.std.specs.Prelude.{codes}
 use Rattle.std.specs.List.{concat}
@@ -15,14 +14,14 @@ use Rattle.tds_values.proofs.HexTexts.{hex}
 abbrev pub Answer : Type 0
 Answer = ℕ × List ℕ × Option Fault
 
-abbrev answer_of : Charset → ℕ → ℕ → Progress Part Fault → Answer
-answer_of charset room n p = (n - length (rest_of p), text_so_far (state_of p), fault_of (response charset room) p)
+abbrev answer_of : N.Charset → ℕ → ℕ → Progress Part Fault → Answer
+answer_of charset room n p = (n - length (N.rest_of p), N.text_so_far (N.state_of p), N.fault_of (response charset room) p)
 
-abbrev pub answer : Charset → ℕ → List ℕ → Answer
-answer charset room payload = answer_of charset room (length payload) (read (response charset room) response_start payload)
+abbrev pub answer : N.Charset → ℕ → List ℕ → Answer
+answer charset room payload = answer_of charset room (length payload) (read (response charset room) N.response_start payload)
 
 -- Each payload has the answer beside it.
-abbrev pub HaveAnswers : Charset → ℕ → List (List ℕ × Answer) → Type 0
+abbrev pub HaveAnswers : N.Charset → ℕ → List (List ℕ × Answer) → Type 0
 HaveAnswers charset room rows = map (λ row. answer charset room row.0) rows ≡ map (λ row. row.1) rows
 
 -- the beginnings of a list, the shortest first
@@ -72,38 +71,37 @@ abbrev two_columns : List ℕ
 two_columns = hex "81 02 00 00 00 00 00 00 00 38 01 61 00 00 00 00 00 00 00 38 01 62 00" ++ a_done
 
 abbrev nine_columns : List ℕ
-nine_columns =
-    nine "38" ++ a_done
+nine_columns = nine "38" ++ a_done
 
 -- descriptions, with the room and the answer
 abbrev described_in : List (ℕ × List ℕ × Answer)
 described_in =
     -- too many columns for the room
-    (1024, hex "81 FE FF", (1, [], Some DescriptionTooLong)) ∷
+    (1024, hex "81 FE FF", (1, [], Some N.DescriptionTooLong)) ∷
     -- room for the description
     (12, one_column, (31, codes "\"a\"\r\n42\r\n", None)) ∷
     -- room for all but one byte
-    (11, one_column, (10, [], Some DescriptionTooLong)) ∷
+    (11, one_column, (10, [], Some N.DescriptionTooLong)) ∷
     -- room for two columns
     (22, two_columns, (36, codes "\"a\",\"b\"\r\n", None)) ∷
     -- one byte less
-    (21, two_columns, (20, [], Some DescriptionTooLong)) ∷
+    (21, two_columns, (20, [], Some N.DescriptionTooLong)) ∷
     -- less than eight bytes a column
-    (17, two_columns, (1, [], Some DescriptionTooLong)) ∷
+    (17, two_columns, (1, [], Some N.DescriptionTooLong)) ∷
     -- room for nine columns without names
     (74, nine_columns, (88, codes "\"\",\"\",\"\",\"\",\"\",\"\",\"\",\"\",\"\"\r\n", None)) ∷
     -- one byte less
-    (73, nine_columns, (1, [], Some DescriptionTooLong)) ∷
+    (73, nine_columns, (1, [], Some N.DescriptionTooLong)) ∷
     []
 
 -- ---- payloads that stop, completed
 
 abbrev complete : ℕ → List ℕ → Progress Part Fault → Option Fault
-complete room payload p = fault_of (response Windows1252 room)
-    (read (response Windows1252 room) response_start (take (length payload - length (rest_of p)) payload ++ completion (state_of p)))
+complete room payload p = N.fault_of (response Windows1252 room)
+    (read (response Windows1252 room) N.response_start (N.take (length payload - length (N.rest_of p)) payload ++ N.completion (N.state_of p)))
 
 abbrev completed : ℕ → List ℕ → Option Fault
-completed room payload = complete room payload (read (response Windows1252 room) response_start payload)
+completed room payload = complete room payload (read (response Windows1252 room) N.response_start payload)
 
 -- Each beginning of each payload is accepted once it is completed.
 abbrev AreCompleted : List (List ℕ) → Type 0
@@ -141,46 +139,46 @@ worked :
     ) ∷
     -- tokens, descriptions and values that are refused, or cut
     -- a kind refused by name
-    (hex "81 02 00 00 00 00 00 00 00 38 01 61 00 00 00 00 00 00 00 3E 01 62 00", (13, [], Some (RefusedColumn 1 Flt8))) ∷
+    (hex "81 02 00 00 00 00 00 00 00 38 01 61 00 00 00 00 00 00 00 3E 01 62 00", (13, [], Some (N.RefusedColumn 1 Flt8))) ∷
     -- a row without columns
-    (hex "D1", (0, [], Some RowWithoutColumns)) ∷
+    (hex "D1", (0, [], Some N.RowWithoutColumns)) ∷
     -- a row after no metadata
-    (hex "81 FF FF D1", (3, [], Some RowWithoutColumns)) ∷
+    (hex "81 FF FF D1", (3, [], Some N.RowWithoutColumns)) ∷
     -- no columns
-    (hex "81 00 00", (1, [], Some NoColumns)) ∷
+    (hex "81 00 00", (1, [], Some N.NoColumns)) ∷
     -- a token that is refused
-    (hex "AD", (0, [], Some (RefusedToken 0xAD))) ∷
+    (hex "AD", (0, [], Some (N.RefusedToken 0xAD))) ∷
     -- an ERROR whose Length is too small
-    (hex "AA 05 00", (1, [], Some BadNotice)) ∷
+    (hex "AA 05 00", (1, [], Some N.BadNotice)) ∷
     -- a DONE after which more follows
-    (hex "FD 01 00 00 00 00 00 00 00 00 00 00 00", (13, [], Some EndWithoutDone)) ∷
+    (hex "FD 01 00 00 00 00 00 00 00 00 00 00 00", (13, [], Some N.EndWithoutDone)) ∷
     -- a whole number of three bytes
-    (column "26 03", (10, [], Some (BadTypeInfo 0))) ∷
+    (column "26 03", (10, [], Some (N.BadTypeInfo 0))) ∷
     -- an unknown type byte
-    (column "1F", (3, [], Some (UnknownType 0 0x1F))) ∷
+    (column "1F", (3, [], Some (N.UnknownType 0 0x1F))) ∷
     -- a floating-point type byte
-    (column "6D", (3, [], Some (RefusedColumn 0 FltN))) ∷
+    (column "6D", (3, [], Some (N.RefusedColumn 0 N.FltN))) ∷
     -- a date after the last one
-    (column "28 01 64 00 D1 03 DB B9 37", (15, codes "\"d\"\r\n", Some (BadValue 0))) ∷
+    (column "28 01 64 00 D1 03 DB B9 37", (15, codes "\"d\"\r\n", Some (N.BadValue 0))) ∷
     -- a date of four bytes
-    (column "28 01 64 00 D1 04 00", (14, codes "\"d\"\r\n", Some (BadValueLength 0))) ∷
+    (column "28 01 64 00 D1 04 00", (14, codes "\"d\"\r\n", Some (N.BadValueLength 0))) ∷
     -- the message ends after the second chunk
     (wide_chunks "04 00 00 00 00 00 00 00 01 00 00 00 3D 02 00 00 00 D8 00", (40, codes "\"d\"\r\n\"", Some MessageEnded)) ∷
     -- an odd sum at the terminator
-    (wide_chunks "FE FF FF FF FF FF FF FF 01 00 00 00 41 00 00 00 00", (34, codes "\"d\"\r\n\"", Some (OddText 0))) ∷
+    (wide_chunks "FE FF FF FF FF FF FF FF 01 00 00 00 41 00 00 00 00", (34, codes "\"d\"\r\n\"", Some (N.OddText 0))) ∷
     -- an odd total
-    (wide_chunks "03 00 00 00 00 00 00 00", (21, codes "\"d\"\r\n", Some (OddText 0))) ∷
+    (wide_chunks "03 00 00 00 00 00 00 00", (21, codes "\"d\"\r\n", Some (N.OddText 0))) ∷
     -- a chunk that passes the total
-    (byte_chunks "03 00 00 00 00 00 00 00 04 00 00 00", (24, codes "\"d\"\r\n0x", Some (PlpLength 0))) ∷
+    (byte_chunks "03 00 00 00 00 00 00 00 04 00 00 00", (24, codes "\"d\"\r\n0x", Some (N.PlpLength 0))) ∷
     -- a terminator before the total is reached
-    (byte_chunks "04 00 00 00 00 00 00 00 03 00 00 00 01 02 03 00 00 00 00", (31, codes "\"d\"\r\n0x010203", Some (PlpLength 0))) ∷
+    (byte_chunks "04 00 00 00 00 00 00 00 03 00 00 00 01 02 03 00 00 00 00", (31, codes "\"d\"\r\n0x010203", Some (N.PlpLength 0))) ∷
     -- a total that no chunks reach
-    (byte_chunks "FD FF FF FF FF FF FF FF 00 00 00 00", (24, codes "\"d\"\r\n0x", Some (PlpLength 0))) ∷
+    (byte_chunks "FD FF FF FF FF FF FF FF 00 00 00 00", (24, codes "\"d\"\r\n0x", Some (N.PlpLength 0))) ∷
     -- values in rows and return values
     -- a decimal
     (column "6A 05 05 02 01 64 00 D1 05 01 39 30 00 00" ++ a_done, (36, codes "\"d\"\r\n123.45\r\n", None)) ∷
     -- one tick more than a day has
-    (column "3D 01 64 00 D1 00 00 00 00 00 82 8B 01", (14, codes "\"d\"\r\n", Some (BadValue 0))) ∷
+    (column "3D 01 64 00 D1 00 00 00 00 00 82 8B 01", (14, codes "\"d\"\r\n", Some (N.BadValue 0))) ∷
     -- two bytes as digits
     (bytes_row "02 00 0A FF" ++ a_done, (33, codes "\"d\"\r\n0x0aff\r\n", None)) ∷
     -- no bytes
@@ -209,13 +207,13 @@ worked :
     -- a return value: no text
     (returned "26 04 04 07 00 00 00" ++ a_done, (35, [], None)) ∷
     -- a floating-point type
-    (returned "3E 04 04 07 00 00 00", (8, [], Some (RefusedColumn 65535 Flt8))) ∷
+    (returned "3E 04 04 07 00 00 00", (8, [], Some (N.RefusedColumn 65535 Flt8))) ∷
     -- an unknown type
-    (returned "1F 04 04 07 00 00 00", (8, [], Some (UnknownType 65535 31))) ∷
+    (returned "1F 04 04 07 00 00 00", (8, [], Some (N.UnknownType 65535 31))) ∷
     -- a described length of three
-    (returned "26 03 04 07 00 00 00", (16, [], Some (BadTypeInfo 65535))) ∷
+    (returned "26 03 04 07 00 00 00", (16, [], Some (N.BadTypeInfo 65535))) ∷
     -- a value of two bytes
-    (returned "26 04 02 07 00 00 00", (17, [], Some (BadValueLength 65535))) ∷
+    (returned "26 04 02 07 00 00 00", (17, [], Some (N.BadValueLength 65535))) ∷
     -- the message ends in the value
     (returned "26 04 04 07 00", (18, [], Some MessageEnded)) ∷
     -- a fixed type and no name
@@ -225,18 +223,18 @@ worked :
     × (map (λ row. answer Windows1252 row.0 row.1) described_in ≡ map (λ row. row.2) described_in)
     -- each beginning of the first response, with equal answers together
     × (map (answer Windows1252 1048576) (beginnings one_column) ≡
-    replicate 1 (0, [], Some EndWithoutDone) ++
+    replicate 1 (0, [], Some N.EndWithoutDone) ++
     replicate 2 (1, [], Some MessageEnded) ++
     replicate 7 (3, [], Some MessageEnded) ++
     replicate 1 (10, [], Some MessageEnded) ++
     replicate 2 (11, [], Some MessageEnded) ++
-    replicate 1 (13, codes "\"a\"\r\n", Some EndWithoutDone) ++
+    replicate 1 (13, codes "\"a\"\r\n", Some N.EndWithoutDone) ++
     replicate 4 (14, codes "\"a\"\r\n", Some MessageEnded) ++
-    replicate 1 (18, codes "\"a\"\r\n42\r\n", Some EndWithoutDone) ++
+    replicate 1 (18, codes "\"a\"\r\n42\r\n", Some N.EndWithoutDone) ++
     replicate 12 (19, codes "\"a\"\r\n42\r\n", Some MessageEnded) ++
     replicate 1 (31, codes "\"a\"\r\n42\r\n", None))
     -- text in UTF-8
-    × (HaveAnswers Utf8 1048576 (
+    × (HaveAnswers N.Utf8 1048576 (
     -- three characters
     (text_row "07 00 C3 A9 22 F0 9F 98 80" ++ a_done, (43, hex "22 64 22 0D 0A 22 C3 A9 22 22 F0 9F 98 80 22 0D 0A", None)) ∷
     -- a surrogate
@@ -259,8 +257,8 @@ worked :
     (hex "AC 00 00 00 00 00 00 00 00 00 00 A7 0A 00 09 04 D0 00 34 02 00 C0 80" ++ a_done, (36, [], None)) ∷
     []))
     -- a return value is counted
-    × (how_many is_return ((state_of
-    (read (response Windows1252 1048576) response_start
+    × (N.how_many N.is_return ((N.state_of
+    (read (response Windows1252 1048576) N.response_start
     (returned "26 04 04 07 00 00 00" ++ a_done))).tokens) ≡ 1)
     -- payloads that stop
     × (AreCompleted (

@@ -1,5 +1,6 @@
-use Rattle.tds_export.proofs.header.put_by_names.Goals as goal
-use Rattle.tds_export.proofs.NameTexts.{passed_piece, then_puts}
+use Rattle.tds_export.proofs as N
+use N.header.put_by_names.Goals as goal
+use N.NameTexts.{passed_piece, then_puts}
 
 pub returns-in_err-put_between : goal.returns-in_err-put_between
 returns-in_err-put_between g c = passed_piece _ c.from_residual.ensures.1 c.in_err-put_between.ensures

@@ -1,9 +1,11 @@
-use Rattle.tds_export.proofs.header.put_names.Goals as goal
-use Rattle.tds_export.proofs.Words.{ap, arith, columns_left, ◌∙◌}
-use Rattle.tds_export.proofs.NameTexts.{name_breaks, names_all, names_more, names_none}
+use Rattle.tds_export.proofs as N
+use N.header.put_names.Goals as goal
+use N.{ap, ◌∙◌}
+use N.NameTexts.{name_breaks, names_all, names_more, names_none}
 
 pub names-init : goal.names-init
-names-init g c = names_none (ap columns_left c.into_iter-column-iterator.ensures.into_iter_gives ∙ c.walk-column-items.ensures.value) (omega arith) c.requires
+names-init g c = names_none (ap N.columns_left c.into_iter-column-iterator.ensures.into_iter_gives ∙ c.walk-column-items.ensures.value) (omega N.arith)
+    c.requires
 
 pub returns-in_err-put_name : goal.returns-in_err-put_name
 returns-in_err-put_name g c = name_breaks c.in-Some.ensures.steps c.names.invariant c.count-count.ensures.value c.in_err-put_name.ensures

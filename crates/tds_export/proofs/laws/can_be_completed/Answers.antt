@@ -1,5 +1,6 @@
-use Rattle.tds_export.proofs.laws.can_be_completed.Goals as goal
-use Rattle.tds_export.proofs.CompletedResponses.{can_be_completed}
+use Rattle.tds_export.proofs as N
+use N.laws.can_be_completed.Goals as goal
+use N.CompletedResponses.{can_be_completed}
 
 pub returns : goal.returns
 returns c = can_be_completed

@@ -1,78 +1,64 @@
-use Rattle.tds_export.proofs.run.export.Goals as goal
-use Rattle.tds_export.proofs.Words.{ExportInput, Reports, Space, StopsExport, ap, arith, held, moment, refl, rules, ◌≡◌}
-use Rattle.tds_export.proofs.DeviceFaults.{blamed, no_failure}
-use Rattle.tds_export.proofs.Endings.{exports, rooms, stops_export}
-use Rattle.tds_export.proofs.ToldAnswers.{report_tells, stop_tells}
-use Rattle.tds_export.proofs.run.export.Given.{Over}
+use Rattle.tds_export.proofs as N
+use N.run.export.Goals as goal
+use N.{Space, ap, arith, refl, ◌≡◌}
+use N.DeviceFaults.{blamed, no_failure}
+use N.Endings.{exports, rooms, stops_export}
+use N.ToldAnswers.{report_tells, stop_tells}
+use N.run.export.Given.{Over}
 
 -- ---- the answer is a report
 
-abbrev reported : (g : Over) → goal.In-Ok g → ExportInput
-reported g c = let at = moment g.R.Read.remaining g.W.Write.contents in record {
+abbrev reported : (g : Over) → goal.In-Ok g → N.ExportInput
+reported g c = let at = N.moment g.R.Read.remaining g.W.Write.contents in record {
   charset = c.args.charset;
   before = at c.args.areas.now c.args.from.now c.args.to.now;
-  after = at
-      (record c.restart.new.self {
-        packet = c.read_response.new.payload.packet.now;
-        output = c.read_response.new.sink.output.now;
-        description = c.read_response.new.description;
-        token = c.read_response.new.token;
-        notice = c.read_response.new.notice;
-        small =
-            c.read_response.new.small;
-      })
-      c.read_response.new.payload.from.now c.read_response.new.sink.to.now;
+  after = at (record c.restart.new.self {
+    packet = c.read_response.new.payload.packet.now;
+    output = c.read_response.new.sink.output.now;
+    description = c.read_response.new.description;
+    token = c.read_response.new.token;
+    notice = c.read_response.new.notice;
+    small = c.read_response.new.small;
+  }) c.read_response.new.payload.from.now c.read_response.new.sink.to.now;
 }
 
-all_read : (g : Over) (c : goal.In-Ok g) → Reports (reported g c) c.in-Ok.report
+all_read : (g : Over) (c : goal.In-Ok g) → N.Reports (reported g c) c.in-Ok.report
 all_read g c =
     let emptied = rooms _ _ c.requires c.restart.ensures.emptied in
-    let limit : c.max_wire-max_wire.result ≡ c.args.areas.now.limits.max_wire = search rules in
-    exports _ _ _
-    _ _ _ _ _ _
-    c.new-payload.ensures.begun.begins emptied.0 limit c.new-sink.ensures.held emptied.1
+    let limit : c.max_wire-max_wire.result ≡ c.args.areas.now.limits.max_wire = search N.rules in
+    exports _ _ _ _ _ _ _ _ _ c.new-payload.ensures.begun.begins emptied.0 limit c.new-sink.ensures.held emptied.1
     (record { left = refl; failures = refl }) (record { has = refl; waiting = refl; failures = refl }) c.in-Ok.ensures.gives
 
 pub returns-in-Ok-clause-exports : goal.returns-in-Ok-clause-exports
 returns-in-Ok-clause-exports g c =
-    record {
-      gives = grind (arith, all_read g c);
-      tells = grind (arith, report_tells (all_read g c));
-      failed_reads = tt;
-      failed_writes = tt;
-    }
+    record { gives = grind (arith, all_read g c); tells = grind (arith, report_tells (all_read g c)); failed_reads = tt; failed_writes = tt }
 
 pub returns-in-Ok-clause-no_failure : goal.returns-in-Ok-clause-no_failure
 returns-in-Ok-clause-no_failure g c = let none = no_failure _ _ (all_read g c) in (grind (arith, none), grind (arith, none))
 
 -- ---- the answer is a stop
 
-abbrev stopped : (g : Over) → goal.After-to-in-Err-1 g → ExportInput
-stopped g c = let at = moment g.R.Read.remaining g.W.Write.contents in record {
+abbrev stopped : (g : Over) → goal.After-to-in-Err-1 g → N.ExportInput
+stopped g c = let at = N.moment g.R.Read.remaining g.W.Write.contents in record {
   charset = c.args.charset;
   before = at c.args.areas.now c.args.from.now c.args.to.now;
-  after = at
-      (record c.restart.new.self {
-        packet = c.read_response.new.payload.packet.now;
-        output = c.stop_at.new.sink.output.now;
-        description = c.read_response.new.description;
-        token = c.read_response.new.token;
-        notice = c.clear.new.self;
-        small =
-            c.read_response.new.small;
-      })
-      c.read_response.new.payload.from.now c.stop_at.new.sink.to.now;
+  after = at (record c.restart.new.self {
+    packet = c.read_response.new.payload.packet.now;
+    output = c.stop_at.new.sink.output.now;
+    description = c.read_response.new.description;
+    token = c.read_response.new.token;
+    notice = c.clear.new.self;
+    small = c.read_response.new.small;
+  }) c.read_response.new.payload.from.now c.stop_at.new.sink.to.now;
 }
 
-read_so_far : (g : Over) (c : goal.After-to-in-Err-1 g) → StopsExport (stopped g c) c.stop_at.result
+read_so_far : (g : Over) (c : goal.After-to-in-Err-1 g) → N.StopsExport (stopped g c) c.stop_at.result
 read_so_far g c =
     let emptied = rooms _ _ c.requires c.restart.ensures.emptied in
-    let limit : c.max_wire-max_wire.result ≡ c.args.areas.now.limits.max_wire = search rules in
-    stops_export
-    c.new-payload.ensures.begun.begins emptied.0 limit c.new-sink.ensures.held emptied.1 c.new-payload.ensures.begun.place
+    let limit : c.max_wire-max_wire.result ≡ c.args.areas.now.limits.max_wire = search N.rules in
+    stops_export c.new-payload.ensures.begun.begins emptied.0 limit c.new-sink.ensures.held emptied.1 c.new-payload.ensures.begun.place
     (record { left = refl; failures = refl }) (record { has = refl; waiting = refl; failures = refl }) c.in-Err.ensures.gives c.stop_at.ensures.tidied
-    (λ failed. ap (held g.W.Write.contents) (c.stop_at.ensures.failed failed)) c.stop_at.ensures.stop
-    (ap (λ (s : Space). s.bytes) c.clear.ensures.value)
+    (λ failed. ap (N.held g.W.Write.contents) (c.stop_at.ensures.failed failed)) c.stop_at.ensures.stop (ap (λ (s : Space). s.bytes) c.clear.ensures.value)
 
 pub returns-in-Err-clause-exports : goal.returns-in-Err-clause-exports
 returns-in-Err-clause-exports g c =

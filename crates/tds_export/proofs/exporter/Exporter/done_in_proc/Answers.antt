@@ -1,14 +1,14 @@
-use Rattle.tds_export.proofs.exporter.Exporter.done_in_proc.Goals as goal
-use Rattle.tds_export.proofs.Words.{passed, refl, rules}
-use Rattle.tds_export.proofs.TokenSteps.{done_in_proc_reads, stops_first, step_read}
-use Rattle.tds_export.proofs.ResponseLaws.{part_cut}
+use Rattle.tds_export.proofs as N
+use N.exporter.Exporter.done_in_proc.Goals as goal
+use N.{refl}
+use N.TokenSteps.{done_in_proc_reads, stops_first, step_read}
+use N.ResponseLaws.{part_cut}
 
 pub returns-in_err-pass : goal.returns-in_err-pass
-returns-in_err-pass g c = step_read c.requires.running (search rules) (λ tokens begun.
-    let cut = c.in_err-pass.ensures.part c.requires.running.payload.going in
-    passed _ _ _ _ c.from_residual.ensures.1 (stops_first begun refl refl (part_cut refl refl cut.fewer cut.ends cut.stop_is)))
+returns-in_err-pass g c = step_read c.requires.running (search N.rules)
+    (λ tokens begun. let cut = c.in_err-pass.ensures.part c.requires.running.payload.going in
+    N.passed _ _ _ _ c.from_residual.ensures.1 (stops_first begun refl refl (part_cut refl refl cut.fewer cut.ends cut.stop_is)))
 
 pub returns : goal.returns
-returns g c = step_read c.requires.running (search rules) (λ tokens begun.
-    let all = c.in_ok-pass.ensures.all in
+returns g c = step_read c.requires.running (search N.rules) (λ tokens begun. let all = c.in_ok-pass.ensures.all in
     done_in_proc_reads _ begun _ _ c.in_ok-pass.ensures.place all.counted all.takes)

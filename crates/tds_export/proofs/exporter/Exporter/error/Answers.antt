@@ -1,8 +1,8 @@
-use Rattle.tds_export.proofs.exporter.Exporter.error.Goals as goal
-use Rattle.tds_export.proofs.Words as N
-use Rattle.tds_export.proofs.Words.{Space, ap, arith, length, refl, subst, sym, ◌-◌, ◌<◌, ◌∙◌, ◌≡◌, ◌≤◌}
-use Rattle.tds_export.proofs.Bodies.{first_error_reads, later_error_reads, notice_stops, within_room}
-use Rattle.tds_export.proofs.TokenSteps.{step_read}
+use Rattle.tds_export.proofs as N
+use N.exporter.Exporter.error.Goals as goal
+use N.{Space, ap, refl, ◌-◌, ◌<◌, ◌∙◌, ◌≡◌, ◌≤◌}
+use N.Bodies.{first_error_reads, later_error_reads, notice_stops, within_room}
+use N.TokenSteps.{step_read}
 
 pub returns-in_err-pass_notice : goal.returns-in_err-pass_notice
 returns-in_err-pass_notice g c = step_read c.requires.running (search N.rules) (λ tokens begun.
@@ -22,16 +22,11 @@ returns g c =
     let empty = ap (λ (s : Space). s.bytes) c.clear.ensures.value in
     step_read c.requires.running (search (
       N.rules,
-      subst (λ (s : Space). s.peak ≤ s.room) (sym c.utf16_into.ensures)
-          (within_room (N.characters c.message_of.result.now) empty c.clear.ensures.peak),
-    )) (λ tokens begun.
-    let none : c.args.self.now.progress.report.errors ≡ 0 = grind (arith, N.nat_tests, c.if-self-gt0.false) in
+      N.subst (λ (s : Space). s.peak ≤ s.room) (N.sym c.utf16_into.ensures) (within_room (N.characters c.message_of.result.now) empty c.clear.ensures.peak),
+    )) (λ tokens begun. let none : c.args.self.now.progress.report.errors ≡ 0 = grind (N.arith, N.nat_tests, c.if-self-gt0.false) in
     let body = c.bytes-body.ensures.value in
-    let error = c.error_of.ensures
-    ∙ ap (λ l. N.server_error (N.notice_of l)) body in
-    let message = c.message_of.ensures.value
-    ∙ ap (λ l. (N.notice_of l).message) body in
-    rw error (first_error_reads _ begun _ none empty (ap (λ (s : Space). s.room) c.clear.ensures.value
-    ∙ c.requires.running.notice) (c.utf16_into.ensures
-    ∙ ap (λ l. N.appended cleared (N.whole_within (cleared.room - length cleared.bytes) (N.characters l))) message)
+    let error = c.error_of.ensures ∙ ap (λ l. N.server_error (N.notice_of l)) body in
+    let message = c.message_of.ensures.value ∙ ap (λ l. (N.notice_of l).message) body in
+    rw error (first_error_reads _ begun _ none empty (ap (λ (s : Space). s.room) c.clear.ensures.value ∙ c.requires.running.notice) (c.utf16_into.ensures
+    ∙ ap (λ l. N.appended cleared (N.whole_within (cleared.room - N.length cleared.bytes) (N.characters l))) message)
     (c.in_ok-take_notice.ensures.gives _ _ tokens N.AnError refl)))
