@@ -7,26 +7,21 @@ use N.{Charset, Status, Report, Stopped, Counted, Standing, Telling, Sent, Expor
 -- ---- what is known of devices
 
 known_kept : {xs : List ℕ} (a b : Option (List ℕ)) → a ≡ Some xs → N.Keeps a b → b ≡ Some xs
-known_kept None b is keeps = absurd (cc)
-known_kept (Some ys) None is keeps = absurd keeps
-known_kept (Some ys) (Some zs) is keeps = ap (λ (bs : List ℕ). Some bs) keeps ∙ is
+known_kept = grind arith
 
 -- a reader that is told to be over has no byte left, and one that is told not to be has some
 told_over : (xs : List ℕ) (a : Option (List ℕ)) → a ≡ Some xs → N.TellsEnd a N.true → xs ≡ []
-told_over xs None is told = absurd (cc)
-told_over xs (Some ys) is told = let same : ys ≡ xs = cc in sym same ∙ told.0 refl
+told_over = grind arith
 
 told_more : (xs : List ℕ) (a : Option (List ℕ)) → a ≡ Some xs → N.TellsEnd a N.false → xs ≡ [] → ⊥
-told_more xs None is told none = cc
-told_more xs (Some ys) is told none = let same : ys ≡ xs = cc in N.false≢true (told.1 (same ∙ none))
+told_more = grind arith
 
 -- a count that stayed didn't rise
 stayed : (a b c : ℕ) → b ≡ a → N.IsAnswered a c → N.Rose b c → ⊥
-stayed a b c is answered (inl x) = omega arith
-stayed a b c is answered (inr x) = omega arith
+stayed = grind arith
 
 not_one_more : (a b c : ℕ) → b ≡ a → N.IsAnswered a c → c ≡ N.one_more b → ⊥
-not_one_more a b c is answered more = omega arith
+not_one_more = grind arith
 
 -- ---- one response
 
@@ -39,66 +34,44 @@ pub record Succeeded (given : ExportInput) (sent : Sent) (rest : List ℕ) (answ
 
 module _ (given : ExportInput) (sent : Sent) (rest : List ℕ) (accepted : N.IsAccepted given.charset (N.limits_of given) sent)
     (bytes : N.AreBytes (wire_of sent.packets ++ rest)) (begins : given.before.reader.bytes ≡ Some (wire_of sent.packets ++ rest)) where
-  succeeded : (answer : Result Report Stopped) → Tells given answer → (N.FailsToRead given → ⊥) → (N.FailsToWrite given → ⊥)
-      → Succeeded given sent rest answer
+  succeeded : (answer : Result Report Stopped) → Tells given answer → (N.FailsToRead given → ⊥) → (N.FailsToWrite given → ⊥) → Succeeded given sent rest answer
   unfolding Tells
   succeeded answer tells reads writes =
       let told = tells (wire_of sent.packets ++ rest) bytes begins in
       let is = told.5 sent.tokens sent.packets
       (record { wire = wire_of sent.packets; unread = rest; begins = refl; message = accepted.message; response = accepted.response }) reads writes in
-      let all : told.0 ≡ rest = N.append_cancel_left (wire_of sent.packets) told.0 rest is.stands.begin in
-      record {
-        answer_is = is.report_is;
-        left = told.2 ∙ ap (λ (bs : List ℕ). Some bs) all;
-        text = subst (N.Appends given.before.writer.bytes given.after.writer.bytes) is.written told.3;
-        notice = is.notice;
-      }
+      grind (arith, N.append_cancel_left, given)
 
   -- of a report it is known that no device failed
   reported : (report : Report) → Tells given (Ok report) → Succeeded given sent rest (Ok report)
   unfolding Tells
-  reported report tells =
-      let none = (tells (wire_of sent.packets ++ rest) bytes begins).4.outcome.no_failure in
-      succeeded (Ok report) tells none.0 none.1
+  reported = grind (arith, succeeded)
 
 -- a report leaves the counts of failures
 counts_stay : (given : ExportInput) (report : Report) → N.ReportsExport given report
     → (given.after.reader.failures ≡ given.before.reader.failures) × (given.after.writer.failures ≡ given.before.writer.failures)
-counts_stay given report x = (
-  sym x.reader.failures ∙ x.completes.whole.takes.4.0,
-  sym x.writer.failures ∙ x.completes.finishes.3 ∙ x.completes.whole.puts.2.4.0,
-)
+counts_stay = grind arith
 
 -- ---- the notes
 
 -- texts were written, or a write failed: each count that was reached before is passed
 abbrev SaysAll : {M : Type 0} → (M → Option (List ℕ)) → Counted M → Counted M → List ℕ → Type 0
-SaysAll contents old new text = N.WritesText contents old new text
-    ⊎ ((n : ℕ) → n < N.last_count → n ≤ old.failures → n < new.failures)
+SaysAll contents old new text = N.WritesText contents old new text ⊎ ((n : ℕ) → n < N.last_count → n ≤ old.failures → n < new.failures)
 
 passed : (n a b : ℕ) → n < N.last_count → n ≤ a → N.Rose a b → n < b
-passed n a b least within (inl x) = omega arith
-passed n a b least within (inr x) = omega arith
+passed = grind arith
 
 module _ {M : Type 0} (contents : M → Option (List ℕ)) (a b c : Counted M) (s t : List ℕ) where
   says_both : N.SaysOrFails contents a b s → SaysAll contents b c t → SaysAll contents a c (s ++ t)
-  says_both (inl x) (inl y) = inl (N.Appends-trans (contents a.device) (contents b.device) (contents c.device) s t x.0 y.0, y.1 ∙ x.1)
+  says_both (inl x) (inl y) = grind (arith, N.Appends-trans)
   says_both (inl x) (inr y) = inr (λ n least within. y n least (omega arith))
-  says_both (inr x) (inl y) = inr (λ n least within. let more = passed n a.failures b.failures least within x in omega arith)
+  says_both (inr x) (inl y) = grind (arith, passed)
   says_both (inr x) (inr y) = inr (λ n least within. let more = passed n a.failures b.failures least within x in y n least (omega arith))
 
   -- the last text was written, or a write failed
   says_last : SaysAll contents a b s → N.SaysOrFails contents b c t → N.IsAnswered a.failures c.failures
       → N.Appends (contents a.device) (contents c.device) (s ++ t)
-  says_last (inl x) (inl y) answered = N.Appends-trans (contents a.device) (contents b.device) (contents c.device) s t x.0 y.0
-  says_last (inl x) (inr y) answered = absurd (stayed a.failures b.failures c.failures x.1 answered y)
-  says_last (inr x) (inl y) answered =
-      let more = x a.failures answered.1 (omega arith) in
-      absurd (omega arith)
-  says_last (inr x) (inr y) answered =
-      let more = x a.failures answered.1 (omega arith) in
-      let most = passed a.failures b.failures c.failures answered.1 (omega arith) y in
-      absurd (omega arith)
+  says_last = grind (arith, N.Appends-trans, stayed, passed)
 
 -- ---- responses
 
@@ -126,12 +99,11 @@ module _ {R W M : Type 0} (tell : Telling R W M) (charset : Charset) where
 
     same_limits : (b c : Standing R W M) → N.Sees tell N.false a b → N.IsAccepted charset (N.limits_of (given b c)) sent
     unfolding given
-    same_limits b c sees =
-        let P : N.Areas → Type 0 = λ areas. N.IsAccepted charset areas.limits sent in subst P (sym sees.looks.areas) accepted
+    same_limits = grind arith
 
     same_input : (b c : Standing R W M) → N.Sees tell N.false a b → (given b c).before.reader.bytes ≡ Some (wire_of sent.packets ++ rest)
     unfolding given
-    same_input b c sees = known_kept _ _ begins sees.looks.bytes
+    same_input b c sees = grind arith
 
     stepped : (c : Standing R W M) (report : Report) → N.ReturnsNext tell charset a c (Ok report) → Stepped a c report sent rest
     unfolding given
@@ -139,23 +111,10 @@ module _ {R W M : Type 0} (tell : Telling R W M) (charset : Charset) where
         let b = next.0 in
         let sees = next.1 in
         let returns = next.2 in
-        let step = reported (given b c) sent rest (same_limits b c sees) bytes (same_input b c sees) report returns.exports.tells in
+        let step = reported (given b c) sent rest (grind arith) bytes (grind arith) report returns.exports.tells in
         let counts = counts_stay (given b c) report returns.exports.gives in
         let report_is : report ≡ N.report_on sent = cc in
-        let lines : N.answer_lines (Ok report) c.areas.notice.bytes ≡ N.answer_lines (Ok (N.report_on sent)) (N.error_text sent.tokens) =
-        ap (λ (r : Report). N.answer_lines (Ok r) c.areas.notice.bytes) report_is ∙ ap (N.answer_lines (Ok (N.report_on sent))) step.notice in
-        record {
-          report_is = report_is;
-          left = step.left;
-          text = subst (λ (to : Counted W). N.Appends (tell.contents to.device) (tell.contents c.devices.to.device) (N.text sent.tokens))
-              sees.looks.writer step.text;
-          line = subst (λ (text : List ℕ). N.SaysOrFails tell.said a.devices.notes c.devices.notes text) lines
-              (subst (λ (notes : Counted M). N.SaysOrFails tell.said notes c.devices.notes (N.answer_lines (Ok report) c.areas.notice.bytes)) sees.notes
-              returns.lines);
-          limits = returns.kept.limits_are ∙ ap (λ (areas : N.Areas). areas.limits) sees.looks.areas;
-          reads = counts.0 ∙ sees.counts;
-          writes = counts.1 ∙ ap (λ (to : Counted W). to.failures) sees.looks.writer;
-        }
+        grind arith
 
     -- such a response doesn't stop if no device fails
     not_stopped : (c : Standing R W M) (stopped : Stopped) → N.StopsNext tell charset a c stopped
@@ -164,13 +123,10 @@ module _ {R W M : Type 0} (tell : Telling R W M) (charset : Charset) where
     not_stopped c stopped (inl next) reads writes =
         let b = next.0 in
         let sees = next.1 in
-        let step = succeeded (given b c) sent rest (same_limits b c sees) bytes (same_input b c sees) (Err stopped) next.2.exports.tells
-        (stayed a.devices.from.failures b.devices.from.failures c.devices.from.failures sees.counts reads)
-        (stayed a.devices.to.failures b.devices.to.failures c.devices.to.failures (ap (λ (to : Counted W). to.failures) sees.looks.writer) writes) in
-        let no = step.answer_is in
-        cc
-    not_stopped c stopped (inr fails) reads writes =
-        not_one_more a.devices.from.failures a.devices.from.failures c.devices.from.failures refl reads fails.0.counts
+        let step = succeeded (given b c) sent rest (grind arith) bytes (grind arith) (Err stopped) next.2.exports.tells (grind arith)
+        (grind arith) in
+        grind arith
+    not_stopped c stopped (inr fails) reads writes = grind arith
 
   -- what a run from here on delivers
   pub record Delivered (a e : Standing R W M) (reports : List Report) (stop : Option Stopped) (sents : List Sent) : Type 0 where
@@ -182,40 +138,31 @@ module _ {R W M : Type 0} (tell : Telling R W M) (charset : Charset) where
 
   -- the input is over
   over : (a e : Standing R W M) → tell.remaining a.devices.from.device ≡ Some [] → N.Sees tell N.true a e → Delivered a e [] None []
-  over a e begins sees = record {
-    reports_are = refl;
-    none_stops = refl;
-    left = known_kept _ _ begins sees.looks.bytes;
-    texts = subst (λ (to : Counted W). N.Appends (tell.contents a.devices.to.device) (tell.contents to.device) []) (sym sees.looks.writer) (N.Appends-nil _);
-    lines = inl (subst (λ (notes : Counted M). N.WritesText tell.said a.devices.notes notes []) (sym sees.notes) (N.Appends-nil _, refl));
-  }
+  over = grind (arith, known_kept, N.Appends-nil)
 
   -- no more can be counted, and the input is over too
   counted : (a e : Standing R W M) → tell.remaining a.devices.from.device ≡ Some [] → e ≡ a → Delivered a e [] None []
-  counted a e begins same = let D : Standing R W M → Type 0 = λ s. Delivered a s [] None [] in
-      subst D (sym same) (record { reports_are = refl; none_stops = refl; left = begins; texts = N.Appends-nil _; lines = inl (N.Appends-nil _, refl) })
+  counted = grind (arith, N.Appends-nil)
 
   -- an input without a byte has no response
   none_next : {a c : Standing R W M} {answer : Result Report Stopped} → tell.remaining a.devices.from.device ≡ Some []
       → N.ReturnsNext tell charset a c answer → ⊥
-  none_next {a} begins next = told_more [] (tell.remaining a.devices.from.device) begins next.1.told refl
+  none_next = grind arith
 
   -- an input without a byte ends a run
   ended : (n : ℕ) (stop : Option Stopped) (m e : Standing R W M) → N.EndsAfter tell charset n stop m e → tell.remaining m.devices.from.device ≡ Some []
       → N.IsAnswered m.devices.from.failures e.devices.from.failures → Delivered m e [] stop []
   ended n None m e (inl sees) begins reads = over m e begins sees
   ended n None m e (inr x) begins reads = counted m e begins x.1
-  ended n (Some stopped) m e (inl next) begins reads = absurd (none_next begins next)
-  ended n (Some stopped) m e (inr fails) begins reads =
-      absurd (not_one_more m.devices.from.failures m.devices.from.failures e.devices.from.failures refl reads fails.0.counts)
+  ended n (Some stopped) m e (inl next) begins reads = grind arith
+  ended n (Some stopped) m e (inr fails) begins reads = grind arith
 
   -- a run doesn't end before an accepted response
   not_ended : (s : Sent) (ss : List Sent) (k n : ℕ) (stop : Option Stopped) (m e : Standing R W M) → N.EndsAfter tell charset n stop m e → n ≡ k
       → k + length (s ∷ ss) < 2 ^ 64 → N.IsAccepted charset m.areas.limits s → N.AreBytes (N.wires_of (s ∷ ss))
       → tell.remaining m.devices.from.device ≡ Some (N.wires_of (s ∷ ss)) → N.IsAnswered m.devices.from.failures e.devices.from.failures
       → N.IsAnswered m.devices.to.failures e.devices.to.failures → ⊥
-  not_ended s ss k n None m e (inl sees) n_is fits accepted bytes begins reads writes =
-      some_wire m.areas.limits.packet_size s.packets (N.wires_of ss) accepted.message.each (told_over _ (tell.remaining m.devices.from.device) begins sees.told)
+  not_ended s ss k n None m e (inl sees) n_is fits accepted bytes begins reads writes = grind (arith, some_wire, told_over)
   not_ended s ss k n None m e (inr x) n_is fits accepted bytes begins reads writes = omega (arith, x.0)
   not_ended s ss k n (Some stopped) m e stops n_is fits accepted bytes begins reads writes =
       not_stopped m s (N.wires_of ss) accepted bytes begins e stopped stops reads writes
@@ -227,18 +174,17 @@ module _ {R W M : Type 0} (tell : Telling R W M) (charset : Charset) where
       → Delivered a e reports stop sents
   delivered [] [] k n stop a m e reported ends n_is fits accepted bytes begins reads writes =
       let E : Standing R W M → Type 0 = λ s. N.EndsAfter tell charset n stop s e in
-      ended n stop a e (subst E reported ends) begins reads
+      ended n stop a e (grind arith) begins reads
   delivered [] (s ∷ ss) k n stop a m e reported ends n_is fits accepted bytes begins reads writes =
       let E : Standing R W M → Type 0 = λ s. N.EndsAfter tell charset n stop s e in
-      absurd (not_ended s ss k n stop a e (subst E reported ends) (omega arith) fits accepted.0 bytes begins reads writes)
-  delivered (r ∷ rs) [] k n stop a m e reported ends n_is fits accepted bytes begins reads writes = absurd (none_next begins reported.1)
+      absurd (not_ended s ss k n stop a e (grind arith) (omega arith) fits accepted.0 bytes begins reads writes)
+  delivered (r ∷ rs) [] k n stop a m e reported ends n_is fits accepted bytes begins reads writes = absurd (grind arith)
   delivered (r ∷ rs) (s ∷ ss) k n stop a m e reported ends n_is fits accepted bytes begins reads writes =
       let b = reported.0 in
       let step = stepped a s (N.wires_of ss) accepted.0 bytes begins b r reported.1 in
       let A : N.Limits → Type 0 = λ limits. N.AreAccepted charset limits ss in
-      let rest = delivered rs ss (k + 1) n stop b m e reported.2 ends (omega arith) (omega arith) (subst A (sym step.limits) accepted.1)
-      (N.AreBytes-back (wire_of s.packets) (N.wires_of ss) bytes) step.left
-      (subst (λ (f : ℕ). N.IsAnswered f e.devices.from.failures) (sym step.reads) reads)
+      let rest = delivered rs ss (k + 1) n stop b m e reported.2 ends (omega arith) (omega arith) (grind arith)
+      (N.AreBytes-back (wire_of s.packets) (N.wires_of ss) bytes) step.left (subst (λ (f : ℕ). N.IsAnswered f e.devices.from.failures) (sym step.reads) reads)
       (subst (λ (f : ℕ). N.IsAnswered f e.devices.to.failures) (sym step.writes) writes) in
       record {
         reports_are = rw (step.report_is, rest.reports_are);
@@ -256,19 +202,11 @@ delivers_accepted tell charset old new status x sents accepted bytes begins fits
     let writes = subst (λ (to : Counted _). N.IsAnswered old.devices.to.failures to.failures) x.writer none.writer in
     let d = delivered tell charset x.reports sents 0 (length x.reports) x.stop old x.runs.middle x.middle x.runs.reported x.runs.ends
     (omega arith) (omega arith) accepted bytes begins reads writes in
-    let number : length x.reports ≡ length sents = ap (λ (rs : List Report). length rs) d.reports_are ∙ N.length-map sents N.report_on in
-    let last = ap N.responses_line number in
-    record {
-      left = subst (λ (from : Counted _). tell.remaining from.device ≡ Some []) (sym x.reader) d.left;
-      texts = subst (λ (to : Counted _). N.Appends (tell.contents old.devices.to.device) (tell.contents to.device) (N.texts_of sents)) (sym x.writer) d.texts;
-      lines = says_last tell.said old.devices.notes x.middle.devices.notes new.devices.notes (N.lines_of sents) (N.responses_line (length sents)) d.lines
-          (subst (λ (line : List ℕ). N.SaysOrFails tell.said x.middle.devices.notes new.devices.notes line) last x.line) none.notes;
-      status_is = x.status_is ∙ ap (N.status_of_all x.reports) d.none_stops ∙ ap (λ (rs : List Report). N.status_of_all rs None) d.reports_are;
-    }
+    grind (arith, N.length-map, says_last)
 
 -- the same of work that had memory
 pub delivers_all : {R W M : Type 0} (tell : Telling R W M) (charset : Charset) (limits : N.Limits) (before after : N.Devices R W M) (status : Status)
     → N.PerformsAll tell charset limits before after status → (status ≡ N.OutOfMemory → ⊥) → N.DeliversAccepted tell charset limits before after status
 delivers_all tell charset limits before after status (inl x) some =
     subst (λ (l : N.Limits). N.DeliversAccepted tell charset l before after status) x.made.limits_are (delivers_accepted tell charset _ _ status x.runs)
-delivers_all tell charset limits before after status (inr x) some = absurd (some x.status_is)
+delivers_all tell charset limits before after status (inr x) some = grind arith

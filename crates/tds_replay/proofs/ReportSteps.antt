@@ -24,10 +24,7 @@ Reports-snoc {R} {W} {N} tell charset a b c [] report is next =
 Reports-snoc tell charset a b c (r ∷ rs) report is next = (is.0, is.1, Reports-snoc tell charset is.0 b c rs report is.2 next)
 
 status_of_two : (a b : Bool) → (if a || (b || false) then ServerError else Done) ≡ (if b then ServerError else if a then ServerError else Done)
-status_of_two true true = refl
-status_of_two true false = refl
-status_of_two false true = refl
-status_of_two false false = refl
+status_of_two = grind arith
 
 pub status-snoc : (reports : List Report) (report : Report)
     → status_of_all (reports ++ report ∷ []) None ≡ (if has_error report then ServerError else status_of_all reports None)
@@ -36,10 +33,10 @@ status-snoc reports report =
 
 -- the status with an error, and without one
 pub with_error : (report : Report) (status : Status) → 0 < report.errors → ServerError ≡ (if has_error report then ServerError else status)
-with_error report status some = rw (ne_eqb report.errors 0 (omega arith))
+with_error = grind (arith, ne_eqb)
 
 pub without_error : (report : Report) (status : Status) → report.errors ≤ 0 → status ≡ (if has_error report then ServerError else status)
-without_error report status none = let zero : report.errors ≡ 0 = omega arith in rw zero
+without_error = grind arith
 
 -- this many reports came, and this is the status that they end with
 pub record ReportsSo {R W N : Type 0} (tell : Telling R W N) (charset : Charset) (old new : Standing R W N) (responses : ℕ) (status : Status) : Type 0
@@ -57,9 +54,9 @@ module _ {R W N : Type 0} (tell : Telling R W N) (charset : Charset) (a b : Stan
       → status' ≡ (if has_error report then ServerError else status) → IsTrue (is_intact c.areas) → ReportsSo tell charset a c (n + 1) status'
   reports_more c report status' next is intact = record {
     reports = so.reports ++ report ∷ [];
-    reported = Reports-snoc tell charset a b c so.reports report so.reported next;
-    responses_are = omega (arith, so.responses_are, length-append so.reports (report ∷ []));
-    status_is = is ∙ ap (λ (s : Status). if has_error report then ServerError else s) so.status_is ∙ sym (status-snoc so.reports report);
+    reported = grind (arith, Reports-snoc);
+    responses_are = grind (arith, length-append);
+    status_is = grind (arith, status-snoc);
     intact = intact;
   }
 
@@ -67,10 +64,10 @@ module _ {R W N : Type 0} (tell : Telling R W N) (charset : Charset) (a b : Stan
   pub runs_to : (c : Standing R W N) (stop : Option Stopped) (ran : Ran) → EndsAfter tell charset n stop b c → n ≤ 2 ^ 64 - 1 → ran.responses ≡ n
       → ran.status ≡ status_of_all so.reports stop → RunsTo tell charset a c ran
   runs_to c stop ran ends least n_is status_is =
-      let ends_after : EndsAfter tell charset (length so.reports) stop b c = subst (λ k. EndsAfter tell charset k stop b c) so.responses_are ends in (
+      let ends_after : EndsAfter tell charset (length so.reports) stop b c = grind arith in (
         so.reports,
         stop,
-        record { middle = b; reported = so.reported; ends = ends_after; counted = omega (arith, so.responses_are) },
+        record { middle = b; reported = so.reported; ends = ends_after; counted = grind arith },
         n_is ∙ so.responses_are,
         status_is,
       )

@@ -81,8 +81,7 @@ pub four_first : (a b c d e f : List ℕ) → concat (a ∷ b ∷ c ∷ d ∷ []
 four_first a b c d e f = simp (append_assoc, append-nil)
 
 -- nothing is gathered for no text
-pub nothing_gathered : {N : Type 0} (contents : N → Option (List ℕ)) (notes : Counted N) (had t : List ℕ) → t ≡ []
-    → AddsText contents notes notes had had t
+pub nothing_gathered : {N : Type 0} (contents : N → Option (List ℕ)) (notes : Counted N) (had t : List ℕ) → t ≡ [] → AddsText contents notes notes had had t
 nothing_gathered contents notes had t none = adds_all contents notes had had t (rw (none, append-nil) refl)
 
 pub no_values : (n : ℕ) → n ≡ 0 → values_line n ≡ []

@@ -1,8 +1,9 @@
 use Rattle.std.proofs.Common.{drop-drop}
 use Rattle.tds_packet.proofs.Futures.{Takes-more}
-use Rattle.tds_export.proofs.notice.pass_notice.Goals as goal
-use Rattle.tds_export.proofs.Words.{arith, buffered, drop, rules, seen, take, ◌≡◌}
-use Rattle.tds_export.proofs.Bodies.{LengthRead, body_passed}
+use Rattle.tds_export.proofs as N
+use N.notice.pass_notice.Goals as goal
+use N.{arith, buffered, drop, rules, seen, take, ◌≡◌}
+use N.Bodies.{LengthRead, body_passed}
 
 pub returns-in-Some-clause-gives : goal.returns-in-Some-clause-gives
 returns-in-Some-clause-gives g c =

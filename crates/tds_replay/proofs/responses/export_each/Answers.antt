@@ -5,8 +5,7 @@ pub responses-preserved-then-report-gt0 : goal.responses-preserved-then-report-g
 responses-preserved-then-report-gt0 g c =
     let next = rw c.in-Ok-Some.field-0-is at c.in-Ok-Some.ensures.gives in
     N.reports_more _ _ _ _ _ _ c.responses.invariant _ c.in-Ok-Some.report N.ServerError next
-    (N.with_error c.in-Ok-Some.report c.responses.status c.if-report-gt0.true)
-    c.in-Ok-Some.ensures.intact
+    (N.with_error c.in-Ok-Some.report c.responses.status c.if-report-gt0.true) c.in-Ok-Some.ensures.intact
 
 pub responses-preserved : goal.responses-preserved
 responses-preserved g c =
@@ -24,5 +23,4 @@ returns-in-Err g c =
     N.runs_to _ _ _ _ _ _ c.responses.invariant _ (N.Some c.in-Err.stopped) _ c.in-Err.ensures.gives (omega N.arith) N.refl c.status_of_fault-status.ensures
 
 pub returns : goal.returns
-returns g c =
-    N.runs_to _ _ _ _ _ _ c.responses.invariant _ N.None _ (N.inr (omega N.arith, N.refl)) (omega N.arith) N.refl c.responses.invariant.status_is
+returns g c = N.runs_to _ _ _ _ _ _ c.responses.invariant _ N.None _ (N.inr (omega N.arith, N.refl)) (omega N.arith) N.refl c.responses.invariant.status_is
