@@ -2,7 +2,7 @@
 use Rattle.std.proofs.lemmas.List.{get_or-drop}
 use Rattle.tds_cells.proofs.Words as N
 use Rattle.tds_cells.proofs.Words.{arith, false, ◌∷◌, ◌≡◌, ◌∙◌, ap, ℕ, ◌+◌, ◌-◌, ◌<◌, ◌≤◌, List, ◌++◌, length, take, drop, Column, Cursor, RowsRan, RowFormat}
-use Rattle.tds_cells.proofs.Words.{Cell}
+use Rattle.tds_cells.proofs.Words.{Cell, none_null}
 use Rattle.tds_cells.proofs.Words.{suc, Bool, sym, RunsMarked, inl, ◌⊎◌, ◌==◌, ◌≢◌, CellFormat, IsCursor, Knows, inr, true, []}
 use Rattle.tds_cells.proofs.RowFormatSteps.{known_kind, none_next}
 use Rattle.tds_cells.proofs.RunSteps.{made_more, marked_writes, rows_both, rows_none, rows_onward, used_more, unused}
@@ -94,10 +94,6 @@ rows_further {bytes = bytes} {to = to} {run = run} {more = more} text rest x y =
 }
 
 -- ---- the cells of an NBCROW
-
--- no column is NULL by its bit
-abbrev pub none_null : ℕ → Bool
-none_null k = false
 
 module _ (charset : N.Charset) (columns : List Column) where
   -- so many columns, and then so many more

@@ -2,11 +2,10 @@
 use Rattle.std.specs.Prelude.{◌≡◌, ◌⊎◌, ◌-◌, ◌<◌, ℕ, zero, suc, List, [], ◌∷◌, ◌++◌, length, take, drop}
 use Rattle.tds_values.specs.declared.charset.Charset.{Charset}
 use Rattle.tds_columns.specs.Description.{Column}
-use Rattle.tds_cells.specs.declared.nulls.WholeRows.{WholeRows}
-use Rattle.tds_cells.specs.declared.run.CellRun.{CellRun}
+use Rattle.tds_cells.specs.declared.run.RowsSpan.{RowsSpan}
 use Rattle.tds_cells.specs.declared.row_format.Cursor.{Cursor}
 use Rattle.tds_cells.specs.declared.row_format.RowFormat.{RowFormat}
-use Rattle.tds_cells.specs.MarkedRuns.{EndsFar, MarkedWritten, WritesMarked}
+use Rattle.tds_cells.specs.MarkedRuns.{CellRun, EndsFar, MarkedWritten, WritesMarked}
 use Rattle.tds_cells.specs.Rows.{NbcRow, bit, bitmap_length, token_byte}
 use Rattle.tds_cells.specs.Rows.{BeginNoRow}
 use Rattle.tds_cells.specs.RowFormats.{Knows}
@@ -27,7 +26,7 @@ WritesNbcRows charset columns (suc n) bytes text = (front : List ℕ) × (row : 
     × WritesNbcRow charset columns row line
 
 -- A run wrote the lines of the NBCROWs that it used.
-abbrev pub NbcRowsWritten : RowFormat → List ℕ → List ℕ → WholeRows → Type 0
+abbrev pub NbcRowsWritten : RowFormat → List ℕ → List ℕ → RowsSpan → Type 0
 NbcRowsWritten row_format bytes text run = (columns : List Column) → Knows row_format columns →
     WritesNbcRows row_format.charset columns run.rows (take run.used bytes) (take run.made text)
 

@@ -4,7 +4,7 @@ use Rattle.tds_values.specs.declared.kind.Kind.{Kind}
 use Rattle.tds_columns.specs.Description.{Column}
 use Rattle.tds_text.specs.Quoting.{in_line, null_field}
 use Rattle.tds_values.specs.declared.charset.Charset.{Charset}
-use Rattle.tds_cells.specs.declared.run.CellRun.{CellRun}
+use Rattle.tds_values.specs.declared.span.Span.{Span}
 use Rattle.tds_cells.specs.declared.whole.TheConstants.{CELL_ROOM, LOOKAHEAD}
 use Rattle.tds_cells.specs.declared.row_format.Cursor.{Cursor}
 use Rattle.tds_cells.specs.declared.row_format.RowFormat.{RowFormat}
@@ -12,6 +12,19 @@ use Rattle.tds_cells.specs.Cells.{cell_start, shape}
 use Rattle.tds_cells.specs.CellTexts.{IsLeft, is_last_column}
 use Rattle.tds_cells.specs.RowFormats.{IsCursor, Knows}
 use Rattle.tds_cells.specs.WholeCells.{WritesWhole}
+
+-- no column is NULL by its bit, as in a ROW
+abbrev pub none_null : ℕ → Bool
+none_null k = false
+
+-- what a run within a row did: how many bytes it used, how many it made, and where it ended
+pub record CellRun : Type 0 where
+  pub used : ℕ
+  pub made : ℕ
+  pub ahead : Cursor
+
+abbrev pub cell_run : Span → Cursor → CellRun
+cell_run span at = record { used = span.used; made = span.made; ahead = at }
 
 -- This is a cell's text in its line: that of NULL, which has no bytes, if that is its bit, and of the cell that the bytes are if it isn't.
 abbrev pub WritesNext : Charset → Bool → Kind → ℕ → Bool → List ℕ → List ℕ → Type 0

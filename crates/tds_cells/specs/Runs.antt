@@ -10,8 +10,7 @@ use Rattle.tds_columns.specs.declared.walk.Walk.{Walk}
 use Rattle.tds_text.specs.Quoting.{after_comma, line}
 use Rattle.tds_values.specs.declared.charset.Charset.{Charset}
 use Rattle.tds_values.specs.declared.span.Span.{Span}
-use Rattle.tds_cells.specs.declared.run.CellRun.{CellRun}
-use Rattle.tds_cells.specs.declared.run.RowsRun.{RowsRun}
+use Rattle.tds_cells.specs.declared.run.RowsSpan.{RowsSpan}
 use Rattle.tds_cells.specs.declared.run.KnownRun.{KnownRun}
 use Rattle.tds_cells.specs.declared.whole.TheConstants.{CELL_ROOM}
 use Rattle.tds_cells.specs.declared.row_format.Cursor.{Cursor}
@@ -19,7 +18,7 @@ use Rattle.tds_cells.specs.declared.row_format.RowFormat.{RowFormat}
 use Rattle.tds_cells.specs.Cells.{Cell, field}
 use Rattle.tds_cells.specs.Rows.{PlainRow, RowPart, RowToken, WholeRow, marked, next_cell, row_add, row_fault, row_size, row_so_far, token_byte}
 use Rattle.tds_cells.specs.Rows.{token_start}
-use Rattle.tds_cells.specs.MarkedRuns.{EndsFar, EndsLeft, MarkedWritten}
+use Rattle.tds_cells.specs.MarkedRuns.{CellRun, EndsFar, EndsLeft, MarkedWritten}
 use Rattle.tds_cells.specs.CellTexts.{IsLeft, WritesKind, whole_size}
 use Rattle.tds_cells.specs.RowFormats.{BeginsRow, IsCursor, Knows, place}
 
@@ -89,11 +88,22 @@ pub record WritesRows (charset : Charset) (all : List Column) (cells : List Cell
 
 -- ---- what a run gives, whatever the columns that its row format knows, and whatever the cells before it
 
--- A run within a row used and made no more than there is, went on if it used a byte, and not beyond its end.
+-- what a run over rows did: how many bytes it used, how many it made, how many rows it began, and where it ended
+pub record RowsRun : Type 0 where
+  pub used : ℕ
+  pub made : ℕ
+  pub rows : ℕ
+  pub ahead : Cursor
+
+abbrev pub rows_run : RowsSpan → Cursor → RowsRun
+rows_run span at = record { used = span.used; made = span.made; rows = span.rows; ahead = at }
+
+-- A run within a row used and made no more than there is, went on if it used a byte and stayed if it used none, and not beyond its end.
 pub record StaysWithin (from : Cursor) (end bytes room : ℕ) (run : CellRun) : Type 0 where
   pub used : run.used ≤ bytes
   pub made : run.made ≤ room
   pub further : 0 < run.used → from.column < run.ahead.column
+  pub stays : run.used ≡ 0 → run.ahead ≡ from
   pub before : from.column ≤ end → run.ahead.column ≤ end
 
 -- A run ended at the row's end, without room for every scalar, or before a cell that is left.

@@ -21,9 +21,9 @@ mod run;
 mod whole;
 
 pub use layout::{CellFormat, Layout};
-pub use nulls::{NBCROW, WholeRows, bitmap_size, is_null};
+pub use nulls::{NBCROW, bitmap_size, is_null};
 pub use row_format::{
     Cursor, FEW_COLUMNS, Learnt, MANY_COLUMNS, ROW, RowFormat, SOME_COLUMNS, blank,
 };
-pub use run::{CellRun, RowsRun};
+pub use run::RowsSpan;
 pub use whole::{CELL_ROOM, LOOKAHEAD, NULL_LENGTH, NULL_TOTAL, UNKNOWN_TOTAL};

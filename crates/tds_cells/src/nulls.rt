@@ -1,15 +1,16 @@
 // Cells of NBCROWs that are whole in the packet or NULL by their bit (MS-TDS, NBCROW).
 ghost use Rattle.std.specs.Prelude.{true, ◌≡◌, ◌+◌, ◌-◌, ◌*◌, ◌<◌, ◌≤◌, drop, length, take};
 ghost use Rattle.tds_cells.specs.MarkedRows.{EndsNbcRows, NbcRowsWritten};
-ghost use Rattle.tds_cells.specs.MarkedRuns.{AreClear, AreSet, EndsClear, EndsFar, EndsMarked, MarkedWritten, WritesNulls};
+ghost use Rattle.tds_cells.specs.MarkedRuns.{AreClear, AreSet, EndsClear, EndsFar, EndsMarked, MarkedWritten, WritesNulls, cell_run};
 ghost use Rattle.tds_cells.specs.Rows.{bit, bitmap_length, longest_bitmap};
 ghost use Rattle.tds_cells.specs.RowFormats.{KnowsAll};
 
 use crate::row_format::{Cursor, RowFormat};
-use crate::run::CellRun;
+use crate::run::RowsSpan;
 use crate::run::formats::write_far_alone;
 use crate::whole::{CELL_ROOM, LOOKAHEAD};
 use tds_text::write_null;
+use tds_values::Span;
 
 /// The token byte of an NBCROW (MS-TDS, NBCROW).
 pub const NBCROW: u8 = 0xD2;
@@ -111,46 +112,37 @@ fn write_nulls(bitmap: &[u8], column: u16, count: u16, most: usize, to: &mut [u8
     }
 }
 
-/// How many bytes a run over NBCROWs used, how many it made, and how many rows those are.
-#[derive(Clone, Copy)]
-pub struct WholeRows {
-    pub used: usize,
-    pub made: usize,
-    pub rows: usize,
-}
-
 impl<'a> RowFormat<'a> {
     // Writes cell after cell of an NBCROW whose columns the row format all knows, as `run_nbc` does, as long as bytes and room go
     // on far enough for any scalar.
     #[inline(always)]
     fn run_far_marked(
         &self,
-        from: Cursor<'a>,
+        at: &mut Cursor<'a>,
         bitmap: &[u8],
         bytes: &[u8],
         to: &mut [u8],
-    ) -> CellRun<'a>
+    ) -> Span
         requires known { self.now.known ≡ self.now.count }
         requires bitmap { self.now.count ≤ 8 * length bitmap.now }
         ensures used { result.used ≤ length bytes.now }
         ensures made { result.made ≤ length to.old }
-        ensures ends { EndsFar self.now (bit bitmap.now) result.ahead (drop result.used bytes.now)
+        ensures ends { EndsFar self.now (bit bitmap.now) at.new (drop result.used bytes.now)
             (length to.old - result.made) }
-        ensures cells { MarkedWritten self.now (bit bitmap.now) from.entry bytes.now to.new result }
+        ensures cells { MarkedWritten self.now (bit bitmap.now) at.old bytes.now to.new (cell_run result at.new) }
     {
         if bytes.len() < LOOKAHEAD || to.len() < CELL_ROOM {
-            return CellRun::none(from);
+            return Span { used: 0, made: 0 };
         }
         let latest = bytes.len() - LOOKAHEAD;
         let most = to.len() - CELL_ROOM;
         let mut used = 0;
         let mut made = 0;
-        let mut ahead = from;
         while used <= latest && made <= most {
-            let Some(format) = self.known_format(ahead) else {
+            let Some(format) = self.known_format(*at) else {
                 break;
             };
-            let (column, last) = (ahead.column, self.is_last(ahead));
+            let (column, last) = (at.column, self.is_last(*at));
             let mut columns = 1;
             if is_null(bitmap, column) {
                 let nulls = write_nulls(bitmap, column, self.count(), EIGHT, &mut to[made..]);
@@ -165,15 +157,15 @@ impl<'a> RowFormat<'a> {
                 used += written.used;
                 made += written.made;
             }
-            self.pass(&mut ahead, columns);
+            self.pass(at, columns);
         }
-        CellRun { used, made, ahead }
+        Span { used, made }
     }
 
     /// Writes NBCROW after NBCROW, each with the token byte of the next, as long as each of their cells is as `run_far_marked`
     /// takes it.
     #[inline(never)]
-    pub fn run_far_rows(&self, bytes: &[u8], to: &mut [u8]) -> WholeRows
+    pub fn run_far_rows(&self, bytes: &[u8], to: &mut [u8]) -> RowsSpan
         requires known { KnowsAll self.now }
         ensures used { result.used ≤ length bytes.now }
         ensures made { result.made ≤ length to.old }
@@ -183,19 +175,16 @@ impl<'a> RowFormat<'a> {
         ensures rows { NbcRowsWritten self.now bytes.now to.new result }
     {
         let size = bitmap_size(self.count());
-        let mut whole = WholeRows {
-            used: 0,
-            made: 0,
-            rows: 0,
-        };
+        let mut whole = RowsSpan::none();
         loop {
             let rest = &bytes[whole.used..];
             if rest.len() < size {
                 break;
             }
             let (bitmap, cells) = (&rest[..size], &rest[size..]);
-            let run = self.run_far_marked(self.start(), bitmap, cells, &mut to[whole.made..]);
-            if !self.is_end(run.ahead) {
+            let mut at = self.start();
+            let run = self.run_far_marked(&mut at, bitmap, cells, &mut to[whole.made..]);
+            if !self.is_end(at) {
                 break;
             }
             let after = &cells[run.used..];
@@ -213,58 +202,50 @@ impl<'a> RowFormat<'a> {
     #[inline(never)]
     fn run_marked<const KNOWN: bool>(
         &self,
-        from: Cursor<'a>,
+        at: &mut Cursor<'a>,
         bitmap: &[u8],
         bytes: &[u8],
         to: &mut [u8],
-    ) -> CellRun<'a>
+    ) -> Span
         requires known { KNOWN ≡ true → self.now.known ≡ self.now.count }
         requires bitmap { self.now.count ≤ 8 * length bitmap.now }
-        ensures ends { EndsMarked self.now (bit bitmap.now) bytes.now (length to.old) result }
-        ensures cells { MarkedWritten self.now (bit bitmap.now) from.entry bytes.now to.new result }
+        ensures ends { EndsMarked self.now (bit bitmap.now) bytes.now (length to.old) (cell_run result at.new) }
+        ensures cells { MarkedWritten self.now (bit bitmap.now) at.old bytes.now to.new (cell_run result at.new) }
     {
         let mut used = 0;
         let mut made = 0;
-        let mut ahead = from;
         let mut end = 0;
         let most = if KNOWN { EIGHT } else { 1 };
-        while to.len() - made >= CELL_ROOM && ahead.column < self.count() {
-            end = clear_end(bitmap, ahead.column, end, self.count());
-            if end == ahead.column {
+        while to.len() - made >= CELL_ROOM && at.column < self.count() {
+            end = clear_end(bitmap, at.column, end, self.count());
+            if end == at.column {
                 let nulls = write_nulls(bitmap, end, self.count(), most, &mut to[made..]);
                 made += nulls.made;
-                self.step(&mut ahead, nulls.columns);
+                self.step(at, nulls.columns);
                 continue;
             }
             let (rest, room) = (&bytes[used..], &mut to[made..]);
-            let cells = self.run_cells::<KNOWN>(ahead, end, rest, room);
+            let cells = self.run_cells::<KNOWN>(at, end, rest, room);
             if cells.used == 0 {
                 break;
             }
             used += cells.used;
             made += cells.made;
-            ahead = cells.ahead;
         }
-        CellRun { used, made, ahead }
+        Span { used, made }
     }
 
     /// Writes cell after cell of an NBCROW, as far as they are NULL by their bit or whole in these bytes, aren't in several
     /// chunks, and have room. NULLs are written here.
     #[inline(always)]
-    pub fn run_nbc(
-        &self,
-        from: Cursor<'a>,
-        bitmap: &[u8],
-        bytes: &[u8],
-        to: &mut [u8],
-    ) -> CellRun<'a>
+    pub fn run_nbc(&self, at: &mut Cursor<'a>, bitmap: &[u8], bytes: &[u8], to: &mut [u8]) -> Span
         requires bitmap { self.now.count ≤ 8 * length bitmap.now }
-        ensures ends { EndsMarked self.now (bit bitmap.now) bytes.now (length to.old) result }
-        ensures cells { MarkedWritten self.now (bit bitmap.now) from.entry bytes.now to.new result }
+        ensures ends { EndsMarked self.now (bit bitmap.now) bytes.now (length to.old) (cell_run result at.new) }
+        ensures cells { MarkedWritten self.now (bit bitmap.now) at.old bytes.now to.new (cell_run result at.new) }
     {
         if self.knows_all() {
-            return self.run_marked::<true>(from, bitmap, bytes, to);
+            return self.run_marked::<true>(at, bitmap, bytes, to);
         }
-        self.run_marked::<false>(from, bitmap, bytes, to)
+        self.run_marked::<false>(at, bitmap, bytes, to)
     }
 }

@@ -301,6 +301,7 @@ impl<'a> RowFormat<'a> {
         requires within { at.old.column + cells ≤ self.now.count }
         requires known { (at.old.column + cells ≤ self.now.known) ⊎ (cells ≤ 1) }
         ensures further { at.new.column ≡ at.old.column + cells }
+        ensures stays { cells ≡ 0 → at.new ≡ at.old }
         ensures ahead { (columns : List spec.Column) → Knows self.now columns → IsCursor self.now columns at.old →
             IsCursor self.now columns at.new }
     {

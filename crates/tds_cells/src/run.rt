@@ -4,7 +4,8 @@ ghost use Rattle.tds_cells.specs.declared.whole.TheConstants.{CELL_ROOM};
 ghost use Rattle.tds_cells.specs.FormatRuns.{NumbersEnd};
 ghost use Rattle.tds_cells.specs.Layouts.{IsLaidOut};
 ghost use Rattle.tds_cells.specs.Runs.{AloneWritten, CellsWritten, EndsLast, KnownEnds, KnownFarEnds, KnownRan, LeavesNext, RowsRan, RunEnds};
-ghost use Rattle.tds_cells.specs.Runs.{StaysWithin, comma_size};
+ghost use Rattle.tds_cells.specs.Runs.{StaysWithin, comma_size, rows_run};
+ghost use Rattle.tds_cells.specs.MarkedRuns.{cell_run};
 ghost use Rattle.tds_cells.specs.RowFormats.{AreAtCursor, KnowsAll};
 
 use crate::layout::CellFormat;
@@ -16,21 +17,25 @@ use tds_values::Span;
 
 pub(crate) mod formats;
 
-/// How many bytes a run within a row used, how many it made, and where it ended.
+/// How many bytes a run over rows used, how many it made, and how many rows it began.
 #[derive(Clone, Copy)]
-pub struct CellRun<'a> {
-    pub used: usize,
-    pub made: usize,
-    pub ahead: Cursor<'a>,
-}
-
-/// How many bytes a run over rows used, how many it made, how many rows it began, and where it ended.
-#[derive(Clone, Copy)]
-pub struct RowsRun<'a> {
+pub struct RowsSpan {
     pub used: usize,
     pub made: usize,
     pub rows: usize,
-    pub ahead: Cursor<'a>,
+}
+
+impl RowsSpan {
+    /// That of a run that took nothing.
+    pub(crate) fn none() -> RowsSpan
+        ensures { result ≡ record { used = 0; made = 0; rows = 0 } }
+    {
+        RowsSpan {
+            used: 0,
+            made: 0,
+            rows: 0,
+        }
+    }
 }
 
 /// What a run over rows did all of whose columns the row format knows: how many bytes it used, how many it made, how many rows it
@@ -79,106 +84,84 @@ fn comma_size(column: usize) -> usize
     usize::from(column > 0)
 }
 
-impl<'a> RowsRun<'a> {
-    /// A run that took nothing.
-    pub(crate) fn none(at: Cursor<'a>) -> RowsRun<'a>
-        ensures { result ≡ record { used = 0; made = 0; rows = 0; ahead = at.entry } }
-    {
-        RowsRun {
-            used: 0,
-            made: 0,
-            rows: 0,
-            ahead: at,
-        }
-    }
-}
-
-impl<'a> CellRun<'a> {
-    /// A run that took nothing.
-    pub(crate) fn none(at: Cursor<'a>) -> CellRun<'a>
-        ensures { result ≡ record { used = 0; made = 0; ahead = at.entry } }
-    {
-        CellRun {
-            used: 0,
-            made: 0,
-            ahead: at,
-        }
-    }
+// That of a run within a row that took nothing.
+fn no_span() -> Span
+    ensures { result ≡ record { used = 0; made = 0 } }
+{
+    Span { used: 0, made: 0 }
 }
 
 impl<'a> RowFormat<'a> {
     // Writes cell after cell of a row by the formats of the next ones, as far as they are whole in these bytes, aren't in several
-    // chunks and have room.
+    // chunks and have room, and steps over them.
     #[inline(always)]
     fn run_along(
         &self,
-        from: Cursor<'a>,
+        at: &mut Cursor<'a>,
         end: u16,
         formats: &[CellFormat],
         bytes: &[u8],
         to: &mut [u8],
-    ) -> CellRun<'a>
+    ) -> Span
         requires within { end ≤ self.now.count }
-        requires ahead { AreAtCursor self.now from end formats.now }
-        ensures within { StaysWithin from.entry end (length bytes.now) (length to.old) result }
-        ensures ends { result.used ≡ 0 → RunEnds self.now from.entry bytes.now (length to.old) }
-        ensures left { LeavesNext self.now from.entry (from.entry.column + length formats.now)
-            bytes.now (length to.old) result }
-        ensures cells { CellsWritten self.now from.entry bytes.now to.new result }
+        requires ahead { AreAtCursor self.now at.old end formats.now }
+        ensures within { StaysWithin at.old end (length bytes.now) (length to.old) (cell_run result at.new) }
+        ensures ends { result.used ≡ 0 → RunEnds self.now at.old bytes.now (length to.old) }
+        ensures left { LeavesNext self.now at.old (at.old.column + length formats.now)
+            bytes.now (length to.old) (cell_run result at.new) }
+        ensures cells { CellsWritten self.now at.old bytes.now to.new (cell_run result at.new) }
     {
-        let ends = self.ends_after(from, formats);
-        let run = run_formats(formats, self.charset, from.column, ends, bytes, to);
-        let mut ahead = from;
-        self.step(&mut ahead, run.cells);
-        CellRun {
+        let ends = self.ends_after(*at, formats);
+        let run = run_formats(formats, self.charset, at.column, ends, bytes, to);
+        self.step(at, run.cells);
+        Span {
             used: run.used,
             made: run.made,
-            ahead,
         }
     }
 
     // Writes the next cell of a row, which the row format doesn't know, if it is whole in these bytes, isn't in several chunks and has
     // room.
     #[inline(never)]
-    fn run_unknown(&self, from: Cursor<'a>, end: u16, bytes: &[u8], to: &mut [u8]) -> CellRun<'a>
+    fn run_unknown(&self, at: &mut Cursor<'a>, end: u16, bytes: &[u8], to: &mut [u8]) -> Span
         requires within { end ≤ self.now.count }
-        requires some { from.column < end }
-        ensures within { StaysWithin from.entry end (length bytes.now) (length to.old) result }
-        ensures ends { result.used ≡ 0 → RunEnds self.now from.entry bytes.now (length to.old) }
-        ensures cells { CellsWritten self.now from.entry bytes.now to.new result }
+        requires some { at.old.column < end }
+        ensures within { StaysWithin at.old end (length bytes.now) (length to.old) (cell_run result at.new) }
+        ensures ends { result.used ≡ 0 → RunEnds self.now at.old bytes.now (length to.old) }
+        ensures cells { CellsWritten self.now at.old bytes.now to.new (cell_run result at.new) }
     {
-        let Some(format) = self.format(from) else {
-            return CellRun::none(from);
+        let Some(format) = self.format(*at) else {
+            return no_span();
         };
         let one = [format];
-        self.run_along(from, end, &one, bytes, to)
+        self.run_along(at, end, &one, bytes, to)
     }
 
     /// Writes cell after cell of a row, as far as they are whole in these bytes, aren't in several chunks and have room, up to the
-    /// column at which it ends. `KNOWN` says that the row format knows all columns.
+    /// column at which it ends, and steps over them. `KNOWN` says that the row format knows all columns.
     #[inline(always)]
     pub fn run_cells<const KNOWN: bool>(
         &self,
-        from: Cursor<'a>,
+        at: &mut Cursor<'a>,
         end: u16,
         bytes: &[u8],
         to: &mut [u8],
-    ) -> CellRun<'a>
+    ) -> Span
         requires known { KNOWN ≡ true → self.now.known ≡ self.now.count }
         requires within { end ≤ self.now.count }
-        ensures within { StaysWithin from.entry end (length bytes.now) (length to.old) result }
-        ensures ends { result.used ≡ 0 → from.entry.column < end →
-            RunEnds self.now from.entry bytes.now (length to.old) }
-        ensures left { LeavesNext self.now from.entry (min self.now.known end) bytes.now (length to.old) result }
-        ensures cells { CellsWritten self.now from.entry bytes.now to.new result }
+        ensures within { StaysWithin at.old end (length bytes.now) (length to.old) (cell_run result at.new) }
+        ensures ends { result.used ≡ 0 → at.old.column < end →
+            RunEnds self.now at.old bytes.now (length to.old) }
+        ensures left { LeavesNext self.now at.old (min self.now.known end) bytes.now (length to.old) (cell_run result at.new) }
+        ensures cells { CellsWritten self.now at.old bytes.now to.new (cell_run result at.new) }
     {
-        if let Some(formats) = (&*self).formats(from, end) {
-            return self.run_along(from, end, formats, bytes, to);
+        if let Some(formats) = (&*self).formats(*at, end) {
+            return self.run_along(at, end, formats, bytes, to);
         }
-        if KNOWN || from.column >= end {
-            return CellRun::none(from);
+        if KNOWN || at.column >= end {
+            return no_span();
         }
-        self.run_unknown(from, end, bytes, to)
+        self.run_unknown(at, end, bytes, to)
     }
 
     /// Writes only the next cell, which is of this format. `None` if it isn't whole in these bytes, is refused or in
@@ -363,60 +346,57 @@ impl<'a> RowFormat<'a> {
 
     // Writes rows as `run_rows` does, whose columns the row format doesn't all know.
     #[inline(never)]
-    fn run_partly_known(&self, from: Cursor<'a>, bytes: &[u8], to: &mut [u8]) -> RowsRun<'a>
+    fn run_partly_known(&self, at: &mut Cursor<'a>, bytes: &[u8], to: &mut [u8]) -> RowsSpan
         requires some { 0 < self.now.count }
-        ensures ends { RunEnds self.now result.ahead (drop result.used bytes.now) (length to.old - result.made) }
-        ensures last { EndsLast self.now result.ahead.column (drop result.used bytes.now) }
-        ensures rows { RowsRan self.now from.entry bytes.now to.new result }
+        ensures ends { RunEnds self.now at.new (drop result.used bytes.now) (length to.old - result.made) }
+        ensures last { EndsLast self.now at.new.column (drop result.used bytes.now) }
+        ensures rows { RowsRan self.now at.old bytes.now to.new (rows_run result at.new) }
     {
-        let mut run = RowsRun::none(from);
+        let mut run = RowsSpan::none();
         loop {
-            if self.is_end(run.ahead) {
+            if self.is_end(*at) {
                 if !self.row_follows(&bytes[run.used..]) {
                     break;
                 }
                 run.used += 1;
                 run.rows += 1;
-                run.ahead = self.start();
+                *at = self.start();
                 continue;
             }
             let (rest, room) = (&bytes[run.used..], &mut to[run.made..]);
-            let cells = self.run_cells::<false>(run.ahead, self.count(), rest, room);
+            let cells = self.run_cells::<false>(at, self.count(), rest, room);
             if cells.used == 0 {
                 break;
             }
             run.used += cells.used;
             run.made += cells.made;
-            run.ahead = cells.ahead;
         }
         run
     }
 
     /// Writes cell after cell, as far as they are whole in these bytes, aren't in several chunks and have room, over the
-    /// ends of rows: after a whole row it goes on if the byte of the next ROW follows.
+    /// ends of rows, and steps over them: after a whole row it goes on if the byte of the next ROW follows.
     #[inline(always)]
-    pub fn run_rows(&self, from: Cursor<'a>, bytes: &[u8], to: &mut [u8]) -> RowsRun<'a>
+    pub fn run_rows(&self, at: &mut Cursor<'a>, bytes: &[u8], to: &mut [u8]) -> RowsSpan
         requires some { 0 < self.now.count }
         requires room { CELL_ROOM ≤ length to.old }
-        ensures ends { RunEnds self.now result.ahead (drop result.used bytes.now) (length to.old - result.made) }
-        ensures last { EndsLast self.now result.ahead.column (drop result.used bytes.now) }
-        ensures rows { RowsRan self.now from.entry bytes.now to.new result }
+        ensures ends { RunEnds self.now at.new (drop result.used bytes.now) (length to.old - result.made) }
+        ensures last { EndsLast self.now at.new.column (drop result.used bytes.now) }
+        ensures rows { RowsRan self.now at.old bytes.now to.new (rows_run result at.new) }
     {
         if !self.knows_all() {
-            return self.run_partly_known(from, bytes, to);
+            return self.run_partly_known(at, bytes, to);
         }
         let run = if self.only_numbers {
-            self.run_known::<true>(from.column, bytes, to)
+            self.run_known::<true>(at.column, bytes, to)
         } else {
-            self.run_known::<false>(from.column, bytes, to)
+            self.run_known::<false>(at.column, bytes, to)
         };
-        let mut ahead = from;
-        ahead.column = run.column;
-        RowsRun {
+        at.column = run.column;
+        RowsSpan {
             used: run.used,
             made: run.made,
             rows: run.rows,
-            ahead,
         }
     }
 }

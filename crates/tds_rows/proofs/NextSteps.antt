@@ -170,7 +170,7 @@ NearsAll remaining contents nulls p rows at =
 
 module _ {R W : Type 0} {remaining : R → Option (List ℕ)} {contents : W → Option (List ℕ)} {old new : Rows R W} {nulls : ℕ → Bool} {p : At} {from : Cursor}
     (in_row : IsInRow old) (nears : NearsAll remaining contents nulls p old from) where
-  pub run_near : {to : Cursor} → N.MarkedRead remaining contents nulls from old new (Ok to) → NearsAll remaining contents nulls p new to
+  pub run_near : {U : Type 0} {u : U} {to : Cursor} → N.MarkedRead remaining contents nulls from to old new (Ok u) → NearsAll remaining contents nulls p new to
   run_near x columns known =
       let kept = stays_after in_row x.leaves in
       let knows = rw kept.same.3 at known in
@@ -189,7 +189,7 @@ module _ {R W : Type 0} {remaining : R → Option (List ℕ)} {contents : W → 
       rw kept.same.3 (grind arith)
 
   -- a write of their text failed
-  pub run_stops : {stop : Stop} → N.MarkedRead remaining contents nulls from old new (Err stop) → (columns : List Column)
+  pub run_stops : {U : Type 0} {stop : Stop} {to : Cursor} → N.MarkedRead {U = U} remaining contents nulls from to old new (Err stop) → (columns : List Column)
       → Knows old.row_format.now columns
       → RowStops old.row_format.now.charset (N.nbc_row_start columns) p.seen (seen remaining new.payload.now) p.place p.held (held contents new.sink.now)
       new.sink.now.failed stop
@@ -361,14 +361,14 @@ RowsHere remaining contents p rows at count = (columns : List Column) → Knows 
 
 module _ {R W : Type 0} {remaining : R → Option (List ℕ)} {contents : W → Option (List ℕ)} {p : At} {old new : Rows R W} {from : Cursor} {count : ℕ}
     (reads : RowsHere remaining contents p old from count) where
-  pub rows_ran : {run : N.RowsRun} → N.RunRead remaining contents from old new (Ok run) → RowsHere remaining contents p new run.ahead (count + run.rows)
+  pub rows_ran : {to : Cursor} {more : ℕ} → N.RunRead remaining contents from to old new (Ok more) → RowsHere remaining contents p new to (count + more)
   rows_ran x columns known =
       let same = x.leaves.same.3 in
       let y = reads columns (rw same at known) in
       let ran = x.cells columns (rw same at known) y.0 in
       rw same (ran.0, rowing_run y.1 (grind arith))
 
-  pub rows_broke : {stop : Stop} → IsInRow old → N.RunRead remaining contents from old new (Err stop) → (columns : List Column)
+  pub rows_broke : {stop : Stop} {to : Cursor} → IsInRow old → N.RunRead remaining contents from to old new (Err stop) → (columns : List Column)
       → Knows old.row_format.now columns
       → N.RowsStop N.PlainRow old.row_format.now.charset columns p.seen (seen remaining new.payload.now) p.place p.held (held contents new.sink.now)
       new.sink.now.failed stop

@@ -4,6 +4,7 @@ use Rattle.tds_rows.proofs.Words.{false, ◌≡◌, ℕ, ◌+◌, ◌-◌, ◌�
 use Rattle.tds_rows.proofs.Words.{Column, Charset, Cell, cell_start, shape, row_so_far, WritesRows, after_cells}
 use Rattle.tds_rows.proofs.Words.{Kind, ◌^◌}
 use Rattle.tds_cells.proofs.RowTexts.{line_grows}
+use Rattle.tds_packet.specs.declared.payload.Payload.{Payload}
 use Rattle.tds_rows.proofs.RowSteps.{PutsCell, StopsCell}
 use Rattle.tds_rows.proofs.Words.{Cursor, IsCursor, RowFormat}
 use Rattle.tds_rows.proofs.Paths.{At, over}
@@ -64,9 +65,30 @@ runs_rows x takes puts at = record {
   place_is = at;
 }
 
+-- the cells of a run within a row were passed over, and its text was put
+pub run_put : {R W U : Type 0} {contents : W → N.Option (List ℕ)} {row_format : RowFormat} {nulls : ℕ → Bool}
+    {from to : Cursor} {before after : N.Sink W} {bytes text : List ℕ} {r : N.Result U Stop} (remaining : R → N.Option (List ℕ)) (old new : Payload R)
+    → ((columns : List Column) → N.Knows row_format columns → IsCursor row_format columns from → N.RunsMarked row_format columns nulls from to bytes text)
+    → N.Takes (N.seen remaining old) (N.seen remaining new) bytes 0 → N.IsBetween (N.seen remaining new) → new.place ≡ old.place + length bytes
+    → N.IsWriting before → N.PutsPiece contents before after text r
+    → N.MatchResult r (λ _. N.PutsMarkedCells remaining contents row_format nulls from to old new before after)
+    (λ stop. N.WritesPrefixOfCells remaining contents row_format nulls from old new before after stop)
+run_put {r = N.Ok u} _ _ _ writes takes _ at _ puts = λ columns knows ahead.
+    record { bytes = _; text = _; runs = writes columns knows ahead; takes = takes; puts = puts.gives; place_is = at }
+run_put {to = to} {r = N.Err stop} _ _ _ writes takes between _ going puts = λ columns knows ahead. record {
+  to = to;
+  bytes = _;
+  text = _;
+  runs = writes columns knows ahead;
+  takes = takes;
+  between = between;
+  breaks = puts.gives going.writing;
+  failed_is = puts.failed;
+}
+
 -- the cells of a run within a row were read and put
 pub marked_rows : {row_format : RowFormat} {columns : List Column} {from to : Cursor} {p q : At}
-    → over (N.PutsMarked row_format columns (λ k. false) from to) p q
+    → over (N.PutsMarked row_format columns N.none_null from to) p q
     → IsCursor row_format columns to × ((charset : N.Charset) (cells : List Cell) → row_format.charset ≡ charset → length cells ≡ from.column
     → over (N.RunsRows charset columns cells (drop from.column columns) (drop to.column columns) to.column 0) p q)
 marked_rows {p = p} {q = q} x =
@@ -75,7 +97,7 @@ marked_rows {p = p} {q = q} x =
 
 -- a write of their text failed, in the row that the run began in
 pub run_breaks : {row_format : RowFormat} {columns : List Column} {from : Cursor} {a b : N.PayloadView} {h j : N.SinkView} {place : ℕ} {failed : Bool}
-    {stop : N.Stop} (cells : List Cell) → N.WritesPrefixMarked row_format columns (λ k. false) from a b h j failed stop → length cells ≡ from.column
+    {stop : N.Stop} (cells : List Cell) → N.WritesPrefixMarked row_format columns N.none_null from a b h j failed stop → length cells ≡ from.column
     → length h.waiting < 4096 → h.delivered ≤ 2 ^ 64 - 1
     → N.RowStops row_format.charset (N.after_cells row_format.charset cells (drop from.column columns)) a b place h j failed stop
 run_breaks {row_format = row_format} {a = a} {b = b} {h = h} {j = j} {stop = stop} cells y counted few delivered =

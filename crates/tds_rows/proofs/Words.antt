@@ -72,7 +72,7 @@ pub use Rattle.tds_rows.specs.LongCells.{RefusesNumber, EndsData, added_text, St
 pub use Rattle.tds_rows.specs.LongCells.{StopsData, ReadsNumber, short_length, CutsNumber, total_fault, ending, WritesPrefixOfData, short_fault, join_stop}
 pub use Rattle.tds_rows.specs.LongCells.{opening}
 pub use Rattle.tds_rows.specs.LongCells.{FillsData, CutsData, TakesData}
-pub use Rattle.tds_rows.specs.MarkedPuts.{WritesPrefixMarked, PutsMarked}
+pub use Rattle.tds_rows.specs.MarkedPuts.{WritesPrefixMarked, WritesPrefixOfCells, PutsMarked, PutsMarkedCells}
 pub use Rattle.tds_cells.specs.MarkedRuns.{WritesColumn, WritesMarked}
 pub use Rattle.tds_cells.specs.MarkedRuns.{WritesNext}
 pub use Rattle.tds_rows.specs.PassedCells.{CellPassed, StepsOver, StopsPassing, IsGoodValue, CutsPassing, return_cell, PassesData, PassesCell, AnyData}
@@ -91,7 +91,7 @@ pub use Rattle.tds_cells.specs.Rows.{BeginNoRow}
 pub use Rattle.tds_cells.specs.RowFormats.{IsNextKind, TakesColumn, IsCursor, KnowsSome, Knows}
 pub use Rattle.tds_cells.specs.WholeCells.{WritesCell, WritesWhole}
 pub use Rattle.tds_rows.specs.declared.rows.Rows.{Rows}
-pub use Rattle.tds_cells.specs.declared.run.RowsRun.{RowsRun}
+pub use Rattle.tds_cells.specs.MarkedRuns.{RunsMarked, none_null}
 pub use Rattle.tds_cells.specs.declared.row_format.Cursor.{Cursor}
 pub use Rattle.tds_cells.specs.declared.row_format.RowFormat.{RowFormat}
 pub use Rattle.tds_values.specs.Front.{scalar_size, start_after, length_after, value_length, value_bytes, value_start}

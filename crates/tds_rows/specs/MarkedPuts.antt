@@ -27,9 +27,9 @@ pub record PutsMarked (row_format : RowFormat) (columns : List Column) (nulls : 
   pub place_is : place' ≡ place + length bytes
 
 -- The same between a payload and a sink.
-abbrev pub PutsMarkedCells : {R W : Type 0} → (R → Option (List ℕ)) → (W → Option (List ℕ)) → RowFormat → (ℕ → Bool) → Cursor → Payload R → Payload R → Sink W
-    → Sink W → Cursor → Type 0
-PutsMarkedCells remaining contents row_format nulls from old new before after to = (columns : List Column) → Knows row_format columns
+abbrev pub PutsMarkedCells : {R W : Type 0} → (R → Option (List ℕ)) → (W → Option (List ℕ)) → RowFormat → (ℕ → Bool) → Cursor → Cursor → Payload R
+    → Payload R → Sink W → Sink W → Type 0
+PutsMarkedCells remaining contents row_format nulls from to old new before after = (columns : List Column) → Knows row_format columns
     → IsCursor row_format columns from →
     PutsMarked row_format columns nulls from to (seen remaining old) (seen remaining new) old.place new.place (held contents before) (held contents after)
 

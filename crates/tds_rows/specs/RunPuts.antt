@@ -8,7 +8,6 @@ use Rattle.tds_csv.specs.declared.sink.Sink.{Sink}
 use Rattle.tds_csv.specs.Sinks.{SinkView, held}
 use Rattle.tds_csv.specs.Streaming.{Streams}
 use Rattle.tds_values.specs.declared.charset.Charset.{Charset}
-use Rattle.tds_cells.specs.declared.run.RowsRun.{RowsRun}
 use Rattle.tds_cells.specs.declared.row_format.Cursor.{Cursor}
 use Rattle.tds_cells.specs.declared.row_format.RowFormat.{RowFormat}
 use Rattle.tds_cells.specs.Cells.{Cell}
@@ -28,9 +27,10 @@ pub record RunsRows (charset : Charset) (all : List Column) (cells : List Cell) 
   pub place_is : place' ≡ place + length streams.bytes
 
 -- The same between a payload and a sink.
-abbrev pub RowsPut : {R W : Type 0} → (R → Option (List ℕ)) → (W → Option (List ℕ)) → RowFormat → Cursor → Payload R → Payload R → Sink W → Sink W
-    → RowsRun → Type 0
-RowsPut remaining contents row_format from old new before after run = (columns : List Column) → Knows row_format columns → IsCursor row_format columns from →
-    IsCursor row_format columns run.ahead × ((charset : Charset) (cells : List Cell) → row_format.charset ≡ charset → length cells ≡ from.column →
-    RunsRows charset columns cells (drop from.column columns) (drop run.ahead.column columns) run.ahead.column run.rows (seen remaining old)
+abbrev pub RowsPut : {R W : Type 0} → (R → Option (List ℕ)) → (W → Option (List ℕ)) → RowFormat → Cursor → Cursor → ℕ → Payload R → Payload R → Sink W
+    → Sink W → Type 0
+RowsPut remaining contents row_format from to count old new before after = (columns : List Column) → Knows row_format columns
+    → IsCursor row_format columns from →
+    IsCursor row_format columns to × ((charset : Charset) (cells : List Cell) → row_format.charset ≡ charset → length cells ≡ from.column →
+    RunsRows charset columns cells (drop from.column columns) (drop to.column columns) to.column count (seen remaining old)
     (seen remaining new) old.place new.place (held contents before) (held contents after))

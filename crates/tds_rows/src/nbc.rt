@@ -27,47 +27,48 @@ pub const LONGEST_BITMAP: usize = 8192;
 
 impl<'r, 't, 'p, 's, 'c, R: Read, W: Write> Rows<'r, 't, 'p, 's, 'c, R, W> {
     // Takes the next cells of an NBCROW, as many as are NULL by their bit or whole in the packet, aren't in several
-    // chunks and have room in the block, puts their text where it waits, and returns the place after them. It reads
-    // nothing and delivers nothing.
-    fn put_nulls_within(&mut self, from: Cursor<'c>, bitmap: &[u8]) -> Cursor<'c>
+    // chunks and have room in the block, puts their text where it waits, and steps over them. It reads nothing and delivers
+    // nothing.
+    fn put_nulls_within(&mut self, at: &mut Cursor<'c>, bitmap: &[u8])
         requires { IsInMarkedRow self.old bitmap.now }
         ensures stays { StaysInRow self.old self.new }
-        ensures ends { EndsLeft self.old.row_format.now (bit bitmap.now) result (buffered self.new.payload.now)
+        ensures onward { self.old.payload.now.place ≤ self.new.payload.now.place }
+        ensures ends { EndsLeft self.old.row_format.now (bit bitmap.now) at.new (buffered self.new.payload.now)
             (room_left self.new.sink.now) }
-        ensures cells { PutsMarkedCells R.remaining W.contents self.old.row_format.now (bit bitmap.now) from.entry
-            self.old.payload.now self.new.payload.now self.old.sink.now self.new.sink.now result }
+        ensures cells { PutsMarkedCells R.remaining W.contents self.old.row_format.now (bit bitmap.now) at.old at.new
+            self.old.payload.now self.new.payload.now self.old.sink.now self.new.sink.now }
     {
         let waiting = self.sink.waiting() as usize;
         let room = self.sink.room() - 1;
         let (bytes, spare) = (self.payload.buffered(), self.sink.spare(room));
-        let run = self.row_format.run_nbc(from, bitmap, bytes, spare);
+        let run = self.row_format.run_nbc(at, bitmap, bytes, spare);
         self.payload.consume(run.used);
         self.sink.commit(waiting, run.made);
-        run.ahead
     }
 
     // Takes the next cells of an NBCROW, as many as are NULL by their bit or whole in the packet, aren't in several chunks and
-    // have room in a small text, puts that text over the end of the block, and returns the place after them.
-    fn put_nulls_across(&mut self, from: Cursor<'c>, bitmap: &[u8]) -> Result<Cursor<'c>, Stop>
+    // have room in a small text, puts that text over the end of the block, and steps over them.
+    fn put_nulls_across(&mut self, at: &mut Cursor<'c>, bitmap: &[u8]) -> Result<(), Stop>
         requires { IsInMarkedRow self.old bitmap.now }
-        ensures { MarkedRead R.remaining W.contents (bit bitmap.now) from.entry self.old self.new result }
+        ensures { MarkedRead R.remaining W.contents (bit bitmap.now) at.old at.new self.old self.new result }
     {
         let mut text = [0u8; SCRATCH];
         let bytes = self.payload.buffered();
-        let run = self.row_format.run_nbc(from, bitmap, bytes, &mut text);
+        let run = self.row_format.run_nbc(at, bitmap, bytes, &mut text);
         self.put_made(run, &text)
     }
 
     // Takes the next cells of an NBCROW, as many as are NULL by their bit or whole in the packet, aren't in several chunks and
-    // have room, puts their text, and returns the place after them.
-    fn put_nulls(&mut self, from: Cursor<'c>, bitmap: &[u8]) -> Result<Cursor<'c>, Stop>
+    // have room, puts their text, and steps over them.
+    fn put_nulls(&mut self, at: &mut Cursor<'c>, bitmap: &[u8]) -> Result<(), Stop>
         requires { IsInMarkedRow self.old bitmap.now }
-        ensures { MarkedRead R.remaining W.contents (bit bitmap.now) from.entry self.old self.new result }
+        ensures { MarkedRead R.remaining W.contents (bit bitmap.now) at.old at.new self.old self.new result }
     {
         if self.sink.room() <= BLOCK_END {
-            return self.put_nulls_across(from, bitmap);
+            return self.put_nulls_across(at, bitmap);
         }
-        Ok(self.put_nulls_within(from, bitmap))
+        self.put_nulls_within(at, bitmap);
+        Ok(())
     }
 
     // Puts the lines of the next NBCROWs, as many as are whole in the packet, away from its end, with the token byte of
@@ -116,15 +117,15 @@ impl<'r, 't, 'p, 's, 'c, R: Read, W: Write> Rows<'r, 't, 'p, 's, 'c, R, W> {
             RowRead R.remaining W.contents (nbc_row_start columns) self.old self.new result }
     {
         read_into(self.payload, bitmap, bitmap_size(self.row_format.count()))?;
-        let mut ahead = self.row_format.start();
+        let mut at = self.row_format.start();
         loop {
-            let at = self.put_nulls(ahead, bitmap.bytes())?;
+            self.put_nulls(&mut at, bitmap.bytes())?;
             let Some((format, after)) = self.row_format.next(at) else {
                 return Ok(());
             };
             let null = is_null(bitmap.bytes(), at.column);
             self.put_next(at, &format, null)?;
-            ahead = after;
+            at = after;
         }
     }
 

@@ -1,5 +1,5 @@
 // The reading of rows, one or several after one another (MS-TDS, ROW).
-ghost use Rattle.std.specs.Prelude.{◌≡◌, ◌+◌, ◌<◌, ◌≤◌, ℕ, Bool, List, length, false, None, IfOk, IfSome, IsTrue};
+ghost use Rattle.std.specs.Prelude.{◌≡◌, ◌+◌, ◌<◌, ◌≤◌, ℕ, Bool, List, length, None, IfOk, IfSome, IsTrue};
 ghost use Rattle.tds_text.specs.Fields.{conversion_of};
 ghost use Rattle.tds_cells.specs.Cells.{LongShape, long_start};
 ghost use Rattle.tds_cells.specs.Layouts.{shape_of_layout};
@@ -10,22 +10,22 @@ ghost use Rattle.tds_packet.specs.Payloads.{buffered};
 ghost use Rattle.tds_rows.specs.RowSteps.{RowsRead};
 ghost use Rattle.tds_rows.specs.RunPuts.{RowsPut};
 ghost use Rattle.tds_cells.specs.CellTexts.{IsLeft};
-ghost use Rattle.tds_cells.specs.MarkedRuns.{MarkedWritten};
+ghost use Rattle.tds_cells.specs.MarkedRuns.{MarkedWritten, cell_run, none_null};
 ghost use Rattle.tds_cells.specs.Runs.{EndsLast, RunEnds};
 ghost use Rattle.tds_rows.specs.MarkedPuts.{room_left};
-ghost use Rattle.tds_rows.specs.RowRuns.{IsFurther, MarkedRead, RunRead};
+ghost use Rattle.tds_rows.specs.RowRuns.{MarkedRead, RunRead};
 ghost use Rattle.tds_cells.specs.RowFormats.{Knows};
 ghost use Rattle.tds_values.specs.Kind as kinds;
 
 use crate::cell::gathered::{LONGEST_CELL, gather_scalar, length_size};
 use crate::cell::streamed::stream_long;
 use std::io::{Read, Write};
-use tds_cells::{CELL_ROOM, CellFormat, CellRun, Cursor, Layout, ROW, RowFormat, RowsRun};
+use tds_cells::{CELL_ROOM, CellFormat, Cursor, Layout, ROW, RowFormat};
 use tds_csv::{Cp1252Joiner, HexJoiner, Joiner, Sink, Utf8Joiner, Utf16Joiner, joiners_suit};
 use tds_meter::Area;
 use tds_packet::{Fault, Payload, Stop};
 use tds_text::Content;
-use tds_values::Reach;
+use tds_values::{Reach, Span};
 
 /// The room for the text of a run that may go over the end of a block, or of a cell that no run took.
 pub(crate) const SCRATCH: usize = 256;
@@ -176,87 +176,73 @@ impl<'r, 't, 'p, 's, 'c, R: Read, W: Write> Rows<'r, 't, 'p, 's, 'c, R, W> {
         }
     }
 
-    /// Passes over the bytes of a run within a row, and puts its text, which may go over the end of the block. Returns the
-    /// place after it.
+    /// Passes over the bytes of a run within a row, and puts its text, which may go over the end of the block.
     #[inline(always)]
-    pub(crate) fn put_made(&mut self, run: CellRun<'c>, text: &[u8]) -> Result<Cursor<'c>, Stop>
+    pub(crate) fn put_made(&mut self, run: Span, text: &[u8]) -> Result<(), Stop>
         requires in_row { IsInRow self.old }
         requires used { run.used ≤ length (buffered self.old.payload.now) }
         requires made { run.made ≤ length text.now }
-        ensures place { IfOk result (λ _. self.new.payload.now.place ≡ self.old.payload.now.place + run.entry.used) }
-        ensures run { (nulls : ℕ → Bool) (from : Cursor) →
-            MarkedWritten self.old.row_format.now nulls from (buffered self.old.payload.now) text.now run.entry →
-            MarkedRead R.remaining W.contents nulls from self.old self.new result }
+        ensures { (nulls : ℕ → Bool) (from to : Cursor) →
+            MarkedWritten self.old.row_format.now nulls from (buffered self.old.payload.now) text.now (cell_run run to) →
+            MarkedRead R.remaining W.contents nulls from to self.old self.new result }
     {
         self.payload.consume(run.used);
-        self.sink.put(&text[..run.made])?;
-        Ok(run.ahead)
+        self.sink.put(&text[..run.made])
     }
 }
 
 impl<'r, 't, 'p, 's, 'c, R: Read, W: Write> Rows<'r, 't, 'p, 's, 'c, R, W> {
     // Reads the next cells, as many as are whole in the packet, aren't in several chunks and have room in the block, over the
-    // ends of rows, and puts their text where it waits. It reads nothing and delivers nothing.
-    fn put_within(&mut self, from: Cursor<'c>) -> RowsRun<'c>
+    // ends of rows, puts their text where it waits, and steps over them. Returns how many rows it began. It reads nothing and
+    // delivers nothing.
+    fn put_within(&mut self, at: &mut Cursor<'c>) -> u64
         requires in_row { IsInRow self.old }
         requires some { 0 < self.old.row_format.now.count }
         requires room { length self.old.sink.now.output.now.bytes + CELL_ROOM < 4096 }
         ensures stays { StaysInRow self.old self.new }
-        ensures place { IsFurther self.old.payload.now.place self.new.payload.now.place result }
-        ensures ends { RunEnds self.old.row_format.now result.ahead
+        ensures few { self.old.payload.now.place + result ≤ self.new.payload.now.place }
+        ensures ends { RunEnds self.old.row_format.now at.new
             (buffered self.new.payload.now) (room_left self.new.sink.now) }
-        ensures last { EndsLast self.old.row_format.now result.ahead.column (buffered self.new.payload.now) }
-        ensures rows { RowsPut R.remaining W.contents self.old.row_format.now from.entry
-            self.old.payload.now self.new.payload.now self.old.sink.now self.new.sink.now result }
+        ensures last { EndsLast self.old.row_format.now at.new.column (buffered self.new.payload.now) }
+        ensures rows { RowsPut R.remaining W.contents self.old.row_format.now at.old at.new result
+            self.old.payload.now self.new.payload.now self.old.sink.now self.new.sink.now }
     {
         let waiting = self.sink.waiting() as usize;
         let room = self.sink.room() - 1;
         let (bytes, spare) = (self.payload.buffered(), self.sink.spare(room));
-        let run = self.row_format.run_rows(from, bytes, spare);
+        let run = self.row_format.run_rows(at, bytes, spare);
         self.payload.consume(run.used);
         self.sink.commit(waiting, run.made);
-        run
+        run.rows as u64
     }
 
     // Reads the next cells of the row, as many as are whole in the packet, aren't in several chunks and have room in a small
-    // text, and puts that text over the end of the block. Does nothing at the row's end.
-    fn put_via_scratch(&mut self, from: Cursor<'c>) -> Result<RowsRun<'c>, Stop>
+    // text, puts that text over the end of the block, and steps over them.
+    fn put_via_scratch(&mut self, at: &mut Cursor<'c>) -> Result<(), Stop>
         requires { IsInRow self.old }
-        ensures { RunRead R.remaining W.contents from.entry self.old self.new result }
+        ensures { MarkedRead R.remaining W.contents none_null at.old at.new self.old self.new result }
     {
-        if self.row_format.is_end(from) {
-            return Ok(RowsRun {
-                used: 0,
-                made: 0,
-                rows: 0,
-                ahead: from,
-            });
-        }
         let mut text = [0u8; SCRATCH];
         let end = self.row_format.count();
         let bytes = self.payload.buffered();
         let run = self
             .row_format
-            .run_cells::<false>(from, end, bytes, &mut text);
-        let ahead = self.put_made(run, &text)?;
-        Ok(RowsRun {
-            used: run.used,
-            made: run.made,
-            rows: 0,
-            ahead,
-        })
+            .run_cells::<false>(at, end, bytes, &mut text);
+        self.put_made(run, &text)
     }
 
-    // Reads the next cells, as many as are whole in the packet, aren't in several chunks and have room, and puts their text.
-    fn put_run(&mut self, from: Cursor<'c>) -> Result<RowsRun<'c>, Stop>
+    // Reads the next cells, as many as are whole in the packet, aren't in several chunks and have room, puts their text, and
+    // steps over them. Returns how many rows it began.
+    fn put_run(&mut self, at: &mut Cursor<'c>) -> Result<u64, Stop>
         requires in_row { IsInRow self.old }
         requires some { 0 < self.old.row_format.now.count }
-        ensures { RunRead R.remaining W.contents from.entry self.old self.new result }
+        ensures { RunRead R.remaining W.contents at.old at.new self.old self.new result }
     {
-        if self.sink.room() <= BLOCK_END {
-            return self.put_via_scratch(from);
+        if self.sink.room() > BLOCK_END {
+            return Ok(self.put_within(at));
         }
-        Ok(self.put_within(from))
+        self.put_via_scratch(at)?;
+        Ok(0)
     }
 
     /// Reads a row cell after cell, and puts its line.
@@ -285,25 +271,24 @@ impl<'r, 't, 'p, 's, 'c, R: Read, W: Write> Rows<'r, 't, 'p, 's, 'c, R, W> {
             RowsRead R.remaining W.contents PlainRow self.old.row_format.now.charset columns
             self.old.payload.now self.new.payload.now self.old.sink.now self.new.sink.now result }
     {
-        let mut ahead = self.row_format.start();
+        let mut at = self.row_format.start();
         let mut ended: u64 = 0;
         loop {
-            let run = self.put_run(ahead)?;
-            ended += run.rows as u64;
-            ahead = run.ahead;
-            if run.used > 0 && self.sink.room() <= BLOCK_END {
+            let place = self.payload.place();
+            ended += self.put_run(&mut at)?;
+            if self.payload.place() > place && self.sink.room() <= BLOCK_END {
                 continue;
             }
-            let Some((format, after)) = self.row_format.next(ahead) else {
+            let Some((format, after)) = self.row_format.next(at) else {
                 if !self.take_token(ROW) {
                     return Ok(ended + 1);
                 }
                 ended += 1;
-                ahead = self.row_format.start();
+                at = self.row_format.start();
                 continue;
             };
-            self.put_cell(ahead, &format)?;
-            ahead = after;
+            self.put_cell(at, &format)?;
+            at = after;
         }
     }
 }

@@ -22,10 +22,10 @@ loop-used-preserved c =
             writes = λ columns knows ahead.
                 let ran = l.invariant.writes columns knows ahead in
                 let written = w.write_nulls-nulls.ensures.nulls c.args.self.now.charset columns (N.sym (w.count.ensures ∙ knows.counted)) in
-                let more : N.RunsMarked c.args.self.now columns (N.bit c.args.bitmap.now) l.ahead c.pass.new.at [] (N.take nulls.made text) = record {
+                let more : N.RunsMarked c.args.self.now columns (N.bit c.args.bitmap.now) l.at c.pass.new.at [] (N.take nulls.made text) = record {
                   count = nulls.columns;
                   ahead = c.pass.ensures.ahead columns knows ran.ahead;
-                  further = c.pass.ensures.further ∙ N.ap (λ n. l.ahead.column + n) w.columns-is;
+                  further = c.pass.ensures.further ∙ N.ap (λ n. l.at.column + n) w.columns-is;
                   writes = written;
                 } in
                 rw (N.sym (N.add-zero l.used)) (runs_more _ _ _ _ _ _ _ _ _ l.invariant.made within ran more);
@@ -45,7 +45,7 @@ loop-used-preserved c =
             room = search arith;
             writes = λ columns knows ahead.
                 let ran = l.invariant.writes columns knows ahead in
-                let further = c.pass.ensures.further ∙ N.ap (λ n. l.ahead.column + n) w.columns-is in
+                let further = c.pass.ensures.further ∙ N.ap (λ n. l.at.column + n) w.columns-is in
                 let taken = takes (c.in-Some.ensures.next columns knows ran.ahead) further (c.pass.ensures.ahead columns knows ran.ahead) in
                 let last = c.is_last-last.ensures ∙ last_one _ _ _ _ _ knows.counted taken.next in
                 let whole = rw last at (rw (N.sym (N.all_after c.args.bytes.now l.used)) at cell.writes.whole) in

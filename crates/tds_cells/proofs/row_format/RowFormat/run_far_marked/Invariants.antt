@@ -7,9 +7,9 @@ invariant-loop-used l = record {
   used : l.used ≤ N.length l.fn.bytes;
   made : l.made ≤ N.length l.to;
   room : N.length l.to ≡ N.length l.fn.to;
-  writes : (columns : N.List N.Column) → N.Knows l.fn.self columns → N.IsCursor l.fn.self columns l.fn.from
-      → N.RunsMarked l.fn.self columns (N.bit l.fn.bitmap) l.fn.from l.ahead (N.take l.used l.fn.bytes) (N.take l.made l.to);
+  writes : (columns : N.List N.Column) → N.Knows l.fn.self columns → N.IsCursor l.fn.self columns l.fn.at
+      → N.RunsMarked l.fn.self columns (N.bit l.fn.bitmap) l.fn.at l.at (N.take l.used l.fn.bytes) (N.take l.made l.to);
 }
 
 abbrev pub decreases-loop-used : goal.decreases-loop-used
-decreases-loop-used l = l.fn.self.count - l.ahead.column
+decreases-loop-used l = l.fn.self.count - l.at.column

@@ -1,18 +1,16 @@
 use Rattle.tds_cells.proofs.row_format.RowFormat.run_marked.Goals as goal
 use Rattle.tds_cells.proofs.Words as N
 use Rattle.tds_cells.proofs.Words.{◌≡◌, ◌∙◌, ◌-◌, ◌<◌, ◌≤◌, [], ap, length, arith}
-use Rattle.tds_cells.proofs.row_format.RowFormat.run_marked.Goals.{else-loop-to-test, then-loop-to-test+else-ahead-count}
-use Rattle.tds_cells.proofs.row_format.RowFormat.run_marked.Goals.{then-loop-to-test+then-ahead-count+else-end-ahead+then-cells-eq0}
 use Rattle.tds_cells.proofs.RowFormatRuns.{ends_clear, runs_clear, runs_more}
 use Rattle.tds_cells.proofs.RowFormatSteps.{none_next}
 
 -- columns that are NULL by their bit
-pub loop-to-preserved-then-end-ahead : goal.loop-to-preserved-then-end-ahead
-loop-to-preserved-then-end-ahead g c =
+pub loop-to-preserved-then-end-at : goal.loop-to-preserved-then-end-at
+loop-to-preserved-then-end-at g c =
     let l = c.loop-to in
     let nulls = c.write_nulls-nulls.result in
     let text = c.write_nulls-nulls.new.to in
-    let at = c.if-end-ahead.true in
+    let at = c.if-end-at.true in
     let within : nulls.made ≤ length text = search arith in
     record {
       used = l.invariant.used;
@@ -21,8 +19,8 @@ loop-to-preserved-then-end-ahead g c =
       clear = λ k least most. absurd (omega (arith, at));
       writes = λ columns knows ahead.
           let ran = l.invariant.writes columns knows ahead in
-          let written = c.write_nulls-nulls.ensures.nulls c.args.self.now.charset columns (N.sym (c.count-then-end-ahead.ensures ∙ knows.counted)) in
-          let more : N.RunsMarked c.args.self.now columns (N.bit c.args.bitmap.now) l.ahead c.step.new.at [] (N.take nulls.made text) = record {
+          let written = c.write_nulls-nulls.ensures.nulls c.args.self.now.charset columns (N.sym (c.count-then-end-at.ensures ∙ knows.counted)) in
+          let more : N.RunsMarked c.args.self.now columns (N.bit c.args.bitmap.now) l.at c.step.new.at [] (N.take nulls.made text) = record {
             count = nulls.columns;
             ahead = c.step.ensures.ahead columns knows ran.ahead;
             further = c.step.ensures.further;
@@ -52,23 +50,33 @@ loop-to-preserved g c =
           runs_more _ _ _ _ _ _ _ _ _ l.invariant.made some x y;
     }
 
-pub returns-clause-ends : goal.returns-clause-ends
-returns-clause-ends g c =
+pub returns-after-loop-to-clause-ends : goal.returns-after-loop-to-clause-ends
+returns-after-loop-to-clause-ends g c = record {
+  used = c.loop-to.invariant.used;
+  made = omega arith;
+  left = λ columns column left knows ahead step. N.inl (omega arith);
+}
+
+pub returns-else-at-count-clause-ends : goal.returns-else-at-count-clause-ends
+returns-else-at-count-clause-ends g c = record {
+  used = c.loop-to.invariant.used;
+  made = omega arith;
+  left = λ columns column left knows ahead step. absurd
+      (let none = none_next _ _ knows.counted (omega arith) in
+      let e = N.sym step ∙ none in omega (arith, ap length e));
+}
+
+pub returns-then-cells-eq0-clause-ends : goal.returns-then-cells-eq0-clause-ends
+returns-then-cells-eq0-clause-ends g c =
     let l = c.loop-to in
+    let ran = c.run_cells-cells.ensures in
+    let lent = N.take (length l.to - l.made) (N.drop l.made l.to) in
+    let room : length lent ≡ length c.args.to.now - l.made = omega (arith, N.length-drop l.made l.to) in
+    let end = c.clear_end-end.ensures in
+    let before : l.at.column < c.clear_end-end.result = omega arith in
+    let run = rw room at (rw (N.all_after _ l.used) at (ran.ends c.if-cells-eq0.true before)) in
     record {
       used = l.invariant.used;
       made = omega arith;
-      left = λ columns column left knows ahead step. elim c.loop-to-test.branch [
-        | else-loop-to-test w ↦ N.inl (omega arith)
-        | then-loop-to-test+else-ahead-count w ↦ absurd
-            (let none = none_next _ _ knows.counted (omega arith) in
-            let e = N.sym step ∙ none in omega (arith, ap length e))
-        | then-loop-to-test+then-ahead-count+else-end-ahead+then-cells-eq0 w ↦ (let lent = N.take (length l.to - l.made) (N.drop l.made l.to) in
-            let room : length lent ≡ length c.args.to.now - l.made =
-            omega (arith, N.length-drop l.made l.to) in
-            let end = w.clear_end-end.ensures in
-            let before : l.ahead.column < w.clear_end-end.result = omega arith in
-            let run = rw room at (rw (N.all_after _ l.used) at (w.run_cells-cells.ensures.ends w.if-cells-eq0.true before)) in
-            ends_clear _ (N.bit _) _ _ _ (end.clear _ (omega arith) before) run columns column left knows ahead step)
-      ];
+      left = rw (ran.within.stays c.if-cells-eq0.true) (ends_clear _ (N.bit _) _ _ _ (end.clear _ (omega arith) before) run);
     }

@@ -4,12 +4,12 @@ use Rattle.tds_cells.proofs.RowFormatRuns.{ran_at}
 
 pub returns-clause-ends : goal.returns-clause-ends
 returns-clause-ends c = elim c.if-self.branch [
-  | then-self w ↦ rw w.run-is (w.run_known-run.ensures.ends c.args.from.walk)
-  | else-self w ↦ rw w.run-is (w.run_known-run-else-self.ensures.ends c.args.from.walk)
+  | then-self w ↦ rw w.run-is (w.run_known-run.ensures.ends c.args.at.now.walk)
+  | else-self w ↦ rw w.run-is (w.run_known-run-else-self.ensures.ends c.args.at.now.walk)
 ]
 
 pub returns-clause-rows : goal.returns-clause-rows
 returns-clause-rows c = elim c.if-self.branch [
-  | then-self w ↦ rw (w.run-is, w.to-is) (ran_at w.run_known-run.ensures.rows c.args.from.walk)
-  | else-self w ↦ rw (w.run-is, w.to-is) (ran_at w.run_known-run-else-self.ensures.rows c.args.from.walk)
+  | then-self w ↦ rw (w.run-is, w.to-is) (ran_at w.run_known-run.ensures.rows c.args.at.now.walk)
+  | else-self w ↦ rw (w.run-is, w.to-is) (ran_at w.run_known-run-else-self.ensures.rows c.args.at.now.walk)
 ]

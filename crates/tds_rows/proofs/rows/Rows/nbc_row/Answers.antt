@@ -39,21 +39,21 @@ loop-at-init g c =
           let taken = rw (sym x.whole) at x.takes in
           let near = bitmap_nears columns x.element some whole taken x.between (sink.ready.1 sink.writing) sink.ready.2
           (omega (arith, c.in_ok-read_into.ensures.place)) in
-          (c.start-ahead.ensures.ahead columns knows, rw (c.start-ahead.ensures.first, bytes) near);
+          (c.start-at.ensures.ahead columns knows, rw (c.start-at.ensures.first, bytes) near);
     }
 
-pub returns-in_err-at-clause-row : goal.returns-in_err-at-clause-row
-returns-in_err-at-clause-row g c =
+pub returns-in_err-put_nulls-clause-row : goal.returns-in_err-put_nulls-clause-row
+returns-in_err-put_nulls-clause-row g c =
     let l = c.loop-at in
-    rw (← l.invariant.stays.same.3) (λ columns knows. N.passed _ _ _ _ c.from_residual-in_err-at.ensures.1
-    (run_stops l.invariant.stays.in_row l.invariant.reads (rw c.bytes.ensures.value at c.in_err-at.ensures) columns knows))
+    rw (← l.invariant.stays.same.3) (λ columns knows. N.passed _ _ _ _ c.from_residual-in_err-put_nulls.ensures.1
+    (run_stops l.invariant.stays.in_row l.invariant.reads (rw c.bytes.ensures.value at c.in_err-put_nulls.ensures) columns knows))
 
-pub returns-in_err-at-clause-leaves : goal.returns-in_err-at-clause-leaves
-returns-in_err-at-clause-leaves g c = grind (arith, N.common_steps)
+pub returns-in_err-put_nulls-clause-leaves : goal.returns-in_err-put_nulls-clause-leaves
+returns-in_err-put_nulls-clause-leaves g c = grind (arith, N.common_steps)
 
 pub put_next-requires : goal.put_next-requires
 put_next-requires g c =
-    let kept = stays_after c.loop-at.invariant.stays.in_row c.in_ok-at.ensures.leaves in
+    let kept = stays_after c.loop-at.invariant.stays.in_row c.in_ok-put_nulls.ensures.leaves in
     record {
       in_row = kept.in_row;
       within = omega (arith, c.in-Some.ensures.further, c.in-Some.ensures.within);
@@ -63,8 +63,8 @@ put_next-requires g c =
 pub returns-in_err-put_next-clause-row : goal.returns-in_err-put_next-clause-row
 returns-in_err-put_next-clause-row g c =
     let l = c.loop-at in
-    let kept = stays_after l.invariant.stays.in_row c.in_ok-at.ensures.leaves in
-    let nears = run_near l.invariant.stays.in_row l.invariant.reads (rw c.bytes.ensures.value at c.in_ok-at.ensures) in
+    let kept = stays_after l.invariant.stays.in_row c.in_ok-put_nulls.ensures.leaves in
+    let nears = run_near l.invariant.stays.in_row l.invariant.reads (rw c.bytes.ensures.value at c.in_ok-put_nulls.ensures) in
     let is = rw c.bytes-in-loop-at.ensures.value at (sym c.is_null-null.ensures) in
     rw (← (kept.same.3 ∙ l.invariant.stays.same.3)) (λ columns knows.
     let near = nears columns knows in
@@ -75,15 +75,15 @@ returns-in_err-put_next-clause-row g c =
 pub returns-in_err-put_next-clause-leaves : goal.returns-in_err-put_next-clause-leaves
 returns-in_err-put_next-clause-leaves g c =
     N.passed_on _ _ (λ r. N.LeavesRows c.args.self.now c.put_next.new.self r) c.from_residual-in_err-put_next.ensures.1
-    (leaves_after (stays_on c.loop-at.invariant.stays (stays_after c.loop-at.invariant.stays.in_row c.in_ok-at.ensures.leaves))
+    (leaves_after (stays_on c.loop-at.invariant.stays (stays_after c.loop-at.invariant.stays.in_row c.in_ok-put_nulls.ensures.leaves))
     c.in_err-put_next.ensures.leaves)
 
 pub loop-at-preserved : goal.loop-at-preserved
 loop-at-preserved g c =
     let l = c.loop-at in
-    let kept = stays_after l.invariant.stays.in_row c.in_ok-at.ensures.leaves in
+    let kept = stays_after l.invariant.stays.in_row c.in_ok-put_nulls.ensures.leaves in
     let done = c.in_ok-put_next.ensures in
-    let nears = run_near l.invariant.stays.in_row l.invariant.reads (rw c.bytes.ensures.value at c.in_ok-at.ensures) in
+    let nears = run_near l.invariant.stays.in_row l.invariant.reads (rw c.bytes.ensures.value at c.in_ok-put_nulls.ensures) in
     let is = rw c.bytes-in-loop-at.ensures.value at (sym c.is_null-null.ensures) in
     record {
       stays = stays_on (stays_on l.invariant.stays kept) (stays_after kept.in_row done.leaves);
@@ -99,8 +99,8 @@ loop-at-preserved g c =
 pub returns-in_default-clause-row : goal.returns-in_default-clause-row
 returns-in_default-clause-row g c =
     let l = c.loop-at in
-    let kept = stays_after l.invariant.stays.in_row c.in_ok-at.ensures.leaves in
-    let nears = run_near l.invariant.stays.in_row l.invariant.reads (rw c.bytes.ensures.value at c.in_ok-at.ensures) in
+    let kept = stays_after l.invariant.stays.in_row c.in_ok-put_nulls.ensures.leaves in
+    let nears = run_near l.invariant.stays.in_row l.invariant.reads (rw c.bytes.ensures.value at c.in_ok-put_nulls.ensures) in
     rw (← (kept.same.3 ∙ l.invariant.stays.same.3)) (λ columns knows.
     let near = nears columns knows in
     row_ends (all_put refl kept.in_row.sink.ready.2 (rw (c.in_default.ensures.taken columns knows near.0) at near.1)))

@@ -8,8 +8,8 @@ invariant-loop-at g l = record {
   stays : StaysInRow l.fn.self l.self;
   knows : KnowsSome l.self.row_format.now;
   fits : l.self.row_format.now.count ≤ 8 * length l.bitmap.bytes;
-  reads : NearsAll g.R.Read.remaining g.W.Write.contents (bit l.bitmap.bytes) (here g.R.Read.remaining g.W.Write.contents l.fn.self) l.self l.ahead;
+  reads : NearsAll g.R.Read.remaining g.W.Write.contents (bit l.bitmap.bytes) (here g.R.Read.remaining g.W.Write.contents l.fn.self) l.self l.at;
 }
 
 abbrev pub decreases-loop-at : goal.decreases-loop-at
-decreases-loop-at g l = l.self.row_format.now.count - l.ahead.column
+decreases-loop-at g l = l.self.row_format.now.count - l.at.column

@@ -1,18 +1,13 @@
-use Rattle.tds_rows.proofs.Words.{arith, passed, take}
+use Rattle.tds_rows.proofs.Words.{◌≡◌, ◌+◌, ap, arith, buffered, length, length-take-le}
+use Rattle.tds_rows.proofs.RunPuts.{run_put}
 
-pub returns-in_err-put-clause-run : Rattle.tds_rows.proofs.rows.Rows.put_made.Goals.returns-in_err-put-clause-run
-returns-in_err-put-clause-run g c = λ nulls from writes.
-    let sink = c.requires.in_row.sink in
+pub returns : Rattle.tds_rows.proofs.rows.Rows.put_made.Goals.returns
+returns g c = λ nulls from to writes.
+    let at : c.consume.new.self.place ≡ c.args.self.now.payload.now.place + length _ =
+    omega (arith, ap (λ p. p.place) c.consume.ensures.rest, length-take-le c.args.run.used (buffered c.args.self.now.payload.now) c.requires.used) in
     record {
       leaves = search arith;
-      cells = passed _ _ _ _ c.from_residual.ensures.1 (λ columns knows ahead. record {
-        to = c.args.run.ahead;
-        bytes = take _ _;
-        text = take _ _;
-        runs = writes columns knows ahead;
-        takes = c.consume.ensures.gives;
-        between = c.consume.ensures.between c.requires.in_row.payload.going;
-        breaks = c.in_err-put.ensures.gives sink.writing;
-        failed_is = c.in_err-put.ensures.failed;
-      });
+      onward = search arith;
+      cells = run_put g.R.Read.remaining c.args.self.now.payload.now c.consume.new.self writes c.consume.ensures.gives
+          (c.consume.ensures.between c.requires.in_row.payload.going) at c.requires.in_row.sink c.put.ensures;
     }

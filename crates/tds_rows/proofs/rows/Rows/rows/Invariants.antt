@@ -3,13 +3,13 @@ use Rattle.tds_rows.proofs.Words.{◌+◌, ◌-◌, ◌≤◌, StaysInRow, Knows
 use Rattle.tds_rows.proofs.NextSteps.{RowsHere}
 use Rattle.tds_rows.proofs.Paths.{here}
 
-abbrev pub invariant-loop-run : goal.invariant-loop-run
-invariant-loop-run g l = record {
+abbrev pub invariant-loop-ended : goal.invariant-loop-ended
+invariant-loop-ended g l = record {
   stays : StaysInRow l.initial.self l.self;
   knows : KnowsSome l.self.row_format.now;
   few : l.initial.self.payload.now.place + l.ended ≤ l.self.payload.now.place;
-  reads : RowsHere g.R.Read.remaining g.W.Write.contents (here g.R.Read.remaining g.W.Write.contents l.initial.self) l.self l.ahead l.ended;
+  reads : RowsHere g.R.Read.remaining g.W.Write.contents (here g.R.Read.remaining g.W.Write.contents l.initial.self) l.self l.at l.ended;
 }
 
-abbrev pub decreases-loop-run : goal.decreases-loop-run
-decreases-loop-run g l = l.self.payload.now.max_wire - l.self.payload.now.place
+abbrev pub decreases-loop-ended : goal.decreases-loop-ended
+decreases-loop-ended g l = l.self.payload.now.max_wire - l.self.payload.now.place
